@@ -1,0 +1,3 @@
+pub mod Running
+pub mod Parsing
+pub mod TreeText

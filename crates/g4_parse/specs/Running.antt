@@ -1,0 +1,153 @@
+-- The parse run over a network, as a relation.
+use Rattle.std.specs.Prelude.{◌≡◌, ◌≤◌, ◌<◌, ℕ, ◌+◌, List, [], ◌∷◌, ◌++◌, Option, Some, None, Bool, true, false, cond, ◌==◌, slice_get, length, drop, map, Contains}
+use Rattle.g4_net.specs.declared.network.Network.{Network}
+use Rattle.g4_net.specs.declared.network.State.{State}
+use Rattle.g4_net.specs.declared.network.State.TheVariants.{Decision, End, Token, Call, Predicate, Level, Action, Empty}
+use Rattle.g4_net.specs.Network.{state_at, start_of, IsFirst, written_at}
+use Rattle.g4_net.specs.Configurations.{Stack, above_bottom}
+use Rattle.g4_net.specs.Prediction.{Choice, chosen, no_viable, Here, Decides}
+use Rattle.g4_parse.specs.declared.tree.Item.{Item}
+use Rattle.g4_parse.specs.declared.tree.Item.TheVariants as items
+
+-- An open rule: its return state and level; the node so far, with its rule, alternative and place, and its children.
+pub record Frame : Type 0 where
+  pub back : ℕ
+  pub level : ℕ
+  pub rule : ℕ
+  pub alt : ℕ
+  pub at : ℕ
+  pub children : List Item
+
+-- A moment of the run: the state, the place in the token list, the open rules, newest first, and what the added rule,
+-- which has no node itself, has as its tree so far.
+pub record Run : Type 0 where
+  pub state : ℕ
+  pub place : ℕ
+  pub frames : List Frame
+  pub tree : List Item
+
+-- how a run ends: with its tree, or with the fault at which no step exists
+pub data Ending : Type 0 where
+  parsed : List Item → Ending
+  not_viable : ℕ → Ending
+  mismatch : ℕ → ℕ → Ending
+  failed_predicate : ℕ → ℕ → Ending
+  too_deep : ℕ → Ending
+
+-- the most rules that may be open
+abbrev pub deepest : ℕ
+deepest = 10000
+
+-- the value of a predicate by its number, the rules that are open, newest first, and the place
+abbrev pub Values : Type 0
+Values = ℕ → List ℕ → ℕ → Bool
+
+-- a grammar without predicates has no use for their values
+abbrev pub no_predicates : Values
+no_predicates k rules place = true
+
+-- the run's beginning
+abbrev pub beginning : Run
+beginning = record { state = 0; place = 0; frames = []; tree = [] }
+
+-- the parser's stack
+abbrev pub stack_of : Run → Stack
+stack_of r = above_bottom (map (λ f. f.back) r.frames)
+
+abbrev pub open_rules : Run → List ℕ
+open_rules r = map (λ f. f.rule) r.frames
+
+-- the newest open rule's level and number, 0 in the added rule
+abbrev pub level_of : List Frame → ℕ
+level_of [] = 0
+level_of (f ∷ fs) = f.level
+
+abbrev pub rule_of : List Frame → ℕ
+rule_of [] = 0
+rule_of (f ∷ fs) = f.rule
+
+-- the node of an open rule as it stands, closed
+abbrev pub node_of : Frame → List Item
+node_of f = items.Enter f.rule f.alt f.at ∷ f.children ++ items.Exit ∷ []
+
+-- the run with more children of the newest open rule
+abbrev pub with_children : Run → List Frame → List Item → Run
+with_children r [] more = record r { frames = []; tree = r.tree ++ more }
+with_children r (f ∷ fs) more = record r { frames = record f { children = f.children ++ more } ∷ fs }
+
+-- a token is a child of the newest open rule; the added rule keeps none
+abbrev pub with_token : Run → List Frame → Run
+with_token r [] = r
+with_token r (f ∷ fs) = with_children r (f ∷ fs) (items.Token r.place ∷ [])
+
+-- the alternative of the newest node, where one as the grammar writes it begins at the state
+abbrev pub with_alt : ℕ → List Frame → List Frame
+with_alt i [] = []
+with_alt i (f ∷ fs) = record f { alt = cond (i == 0) f.alt i } ∷ fs
+
+-- a level edge makes the node so far the first child of a new node of the same rule, which begins where that child does
+abbrev pub wrapped : ℕ → List Frame → List Frame
+wrapped i [] = []
+wrapped i (f ∷ fs) = record f { alt = i; children = node_of f } ∷ fs
+
+-- the alternative that a state begins, where no level edge will begin it
+abbrev pub begun : Network → ℕ → Option State → ℕ
+begun net t (Some (Level q u)) = 0
+begun net t (Some (Decision targets)) = written_at net t
+begun net t (Some (End rule)) = written_at net t
+begun net t (Some (Token set u)) = written_at net t
+begun net t (Some (Call rule level back)) = written_at net t
+begun net t (Some (Predicate k u)) = written_at net t
+begun net t (Some (Action u)) = written_at net t
+begun net t (Some (Empty u)) = written_at net t
+begun net t None = 0
+
+module _ (net : Network) (values : Values) (word : List ℕ) where
+  -- what the levels and predicates say at this moment
+  abbrev pub here_of : Run → Here
+  here_of r = record { level = level_of r.frames; holds = λ k. values k (open_rules r) r.place }
+
+  -- what prediction says at the decision where the run stands
+  abbrev pub Predicts : Run → Choice → Type 0
+  Predicts r c = Decides net (here_of r) r.state (stack_of r) (drop r.place word) c
+
+  -- the end of a rule closes its node, and the run goes on at the return state
+  abbrev pub ClosesBy : Run → List Frame → Run → Type 0
+  ClosesBy r [] s = ⊥
+  ClosesBy r (f ∷ fs) s = s ≡ with_children (record r { state = f.back; frames = fs }) fs (node_of f)
+
+  -- one step of the run, by the state
+  abbrev pub GoesBy : Option State → Run → Run → Type 0
+  GoesBy None r s = ⊥
+  GoesBy (Some (Decision targets)) r s = (i t : ℕ) × Predicts r (chosen i) × IsFirst net r.state i t × (s ≡ record r { state = t; frames = with_alt (begun net t (state_at net t)) r.frames })
+  GoesBy (Some (End rule)) r s = ClosesBy r r.frames s
+  GoesBy (Some (Token set t)) r s = (a : ℕ) × (slice_get word r.place ≡ Some a) × Contains set a × (s ≡ record (with_token r r.frames) { state = t; place = r.place + 1 })
+  GoesBy (Some (Call rule level back)) r s = (length r.frames < deepest)
+      × (s ≡ record r { state = start_of rule; frames = record { back = back; level = level; rule = rule; alt = written_at net (start_of rule); at = r.place; children = [] } ∷ r.frames })
+  GoesBy (Some (Predicate k t)) r s = (values k (open_rules r) r.place ≡ true) × (s ≡ record r { state = t })
+  GoesBy (Some (Level q t)) r s = s ≡ record r { state = t; frames = wrapped (written_at net r.state) r.frames }
+  GoesBy (Some (Action t)) r s = s ≡ record r { state = t }
+  GoesBy (Some (Empty t)) r s = s ≡ record r { state = t }
+
+  abbrev pub Goes : Run → Run → Type 0
+  Goes r s = GoesBy (state_at net r.state) r s
+
+  -- where no step exists: the end of the added rule, or a fault
+  abbrev pub StopsBy : Option State → Run → Ending → Type 0
+  StopsBy None r e = ⊥
+  StopsBy (Some (Decision targets)) r e = (k : ℕ) × Predicts r (no_viable k) × (e ≡ not_viable (r.place + k))
+  StopsBy (Some (End rule)) r e = (r.frames ≡ []) × (rule ≡ 0) × (e ≡ parsed r.tree)
+  StopsBy (Some (Token set t)) r e = (a : ℕ) × (slice_get word r.place ≡ Some a) × (Contains set a → ⊥) × (e ≡ mismatch r.place r.state)
+  StopsBy (Some (Call rule level back)) r e = (deepest ≤ length r.frames) × (e ≡ too_deep r.place)
+  StopsBy (Some (Predicate k t)) r e = (values k (open_rules r) r.place ≡ false) × (e ≡ failed_predicate r.place (rule_of r.frames))
+  StopsBy (Some (Level q t)) r e = ⊥
+  StopsBy (Some (Action t)) r e = ⊥
+  StopsBy (Some (Empty t)) r e = ⊥
+
+  abbrev pub Stops : Run → Ending → Type 0
+  Stops r e = StopsBy (state_at net r.state) r e
+
+  -- the run from this moment ends so
+  pub data Runs : Run → Ending → Type 0 where
+    stops : (r : Run) (e : Ending) → Stops r e → Runs r e
+    goes : (r s : Run) (e : Ending) → Goes r s → Runs s e → Runs r e

@@ -1,0 +1,10 @@
+// The parse run over a network, and the tree that it gives.
+#![tactic(auto)]
+
+mod parser;
+mod printer;
+mod tree;
+
+pub use parser::{ParseFault, parse};
+pub use printer::print;
+pub use tree::{Item, Tree};

@@ -1,0 +1,2 @@
+pub mod GrammarText
+pub mod Reading

@@ -1,0 +1,8 @@
+// The tokens of a grammar text, with their places.
+#![tactic(auto)]
+
+mod scanner;
+mod token;
+
+pub use scanner::{ScanFault, scan};
+pub use token::{Kind, Token};
