@@ -1,0 +1,13 @@
+// The outside: sources of named files, outputs of bytes, and the gate that is told of each file. What each call answers
+// is stated here; the real files and streams tell no content, those in memory tell all of it.
+#![tactic(auto)]
+
+mod memory_shelf;
+mod memory_sink;
+mod outside;
+mod ports;
+
+pub use memory_shelf::{MemFile, MemShelf};
+pub use memory_sink::MemSink;
+pub use outside::{FileShelf, OutSink};
+pub use ports::{Failed, Gate, Got, LIMIT, Open, Shelf, Sink, write_all};
