@@ -1,4 +1,5 @@
 // The numbering of token types.
+ghost use Rattle.std.specs.Prelude.{◌≤◌, All, IfOk};
 ghost use Rattle.g4_build.specs.Answers.{GivesNumbered};
 
 use g4_grammar::{Numbered, Source};
@@ -16,7 +17,8 @@ pub enum NumberFault {
 
 /// The numbered grammar of a source.
 pub fn number(alloc: Global, source: Source) -> Result<Numbered, NumberFault>
-    ensures { GivesNumbered source result }
+    ensures numbered { GivesNumbered source result }
+    ensures types { IfOk result (λ grammar. All (λ rule. rule.symbol ≤ 4096) grammar.token_rules) }
 {
     Err(NumberFault::NoMemory)
 }

@@ -1,5 +1,6 @@
 // The tokens of a file.
-ghost use Rattle.std.specs.Prelude.{◌≤◌, ◌+◌, IfOk, length};
+ghost use Rattle.std.specs.Prelude.{◌≤◌, ◌+◌, All, IfOk, length};
+ghost use Rattle.g4_net.specs.TokenList.{EndsInEnd, word_of};
 ghost use Rattle.g4_lexer.specs.Lexing.{IsLexing};
 
 use g4_base::Place;
@@ -18,8 +19,11 @@ pub enum LexFault {
 /// The tokens of a file's characters, four of EOF and one of END behind them, or the first character at which no rule
 /// matches.
 pub fn tokens(alloc: Global, rules: &[TokenRule], text: &[char]) -> Result<Tokens, LexFault>
+    requires fits { length text.now ≤ 16777216 }
+    requires types { All (λ rule. rule.symbol ≤ 4096) rules.now }
     ensures lexing { IsLexing rules.now text.now result }
     ensures few { IfOk result (λ found. length found ≤ length text.now + 5) }
+    ensures ends { IfOk result (λ found. EndsInEnd (word_of found)) }
 {
     Err(LexFault::NoMemory)
 }

@@ -42,3 +42,7 @@ pub record IsChain (net : Network) (rule loop : ℕ) : Type 0 where
   pub leads_out : (p t : ℕ) → IsOutside loop p → state_at net p ≡ Some (Empty t) → IsOutside loop t
   pub numbers : length net.written ≡ length net.states
   pub size : length net.states < 100000
+
+-- the network is a chain, whichever its start rule is
+abbrev pub IsReady : Network → Type 0
+IsReady net = (rule : ℕ) × (loop : ℕ) × IsChain net rule loop

@@ -1,4 +1,5 @@
 // The grammar that a text is.
+ghost use Rattle.std.specs.Prelude.{◌≤◌, length};
 ghost use Rattle.g4_reader.specs.Reading.{IsReading};
 
 use g4_base::{Place, Sequence};
@@ -16,6 +17,7 @@ pub enum ReadFault {
 
 /// The grammar that the text is, or the first fault of its tokens, or else its first syntax fault.
 pub fn read_grammar(alloc: Global, text: &[char]) -> Result<Source, ReadFault>
+    requires fits { length text.now ≤ 16777216 }
     ensures { IsReading text.now result }
 {
     Err(ReadFault::NoMemory)

@@ -1,0 +1,5 @@
+mod Fetched
+mod Lines
+mod Lists
+mod Prepared
+mod Written

@@ -1,0 +1,9 @@
+use Rattle.g4_tool.proofs.Lines.{as_line, found_line, stuck_line}
+use Rattle.g4_tool.proofs.files.text_line.Goals as goal
+
+pub returns-in_ok-line-in-Ok : goal.returns-in_ok-line-in-Ok
+returns-in_ok-line-in-Ok c =
+    found_line _ _ _ _ _ c.in-Ok.found _ _ c.as_slice.ensures c.as_slice-in-Ok.ensures c.in-Ok.ensures.lexing c.in_ok-line-in-Ok.ensures
+
+pub returns-in-Err-NoToken : goal.returns-in-Err-NoToken
+returns-in-Err-NoToken c = as_line _ _ _ c.no_token.ensures (stuck_line _ _ _ _ _ _ _ c.as_slice.ensures (rw c.in-Err-NoToken.field-0-is at c.in-Err-NoToken.ensures.lexing))

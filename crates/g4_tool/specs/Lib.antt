@@ -1,0 +1,10 @@
+pub mod Words
+pub mod CommandView
+pub mod Decoding
+pub mod Texts
+pub mod PrepareErrors
+pub mod Preparing
+pub mod Outcomes
+pub mod Inputs
+pub mod Report
+pub mod Writing

@@ -1,0 +1,36 @@
+-- The faults of a grammar file, from those of the stages.
+use Rattle.std.specs.Prelude.{ℕ}
+use Rattle.g4_tool.specs.declared.decode.DecodeError.{DecodeError}
+use Rattle.g4_tool.specs.declared.decode.DecodeError.TheVariants as decoding
+use Rattle.g4_reader.specs.declared.reader.ReadFault.{ReadFault}
+use Rattle.g4_reader.specs.declared.reader.ReadFault.TheVariants as reading
+use Rattle.g4_build.specs.declared.numbering.NumberFault.{NumberFault}
+use Rattle.g4_build.specs.declared.numbering.NumberFault.TheVariants as numbering
+use Rattle.g4_build.specs.declared.builder.BuildFault.{BuildFault}
+use Rattle.g4_build.specs.declared.builder.BuildFault.TheVariants as building
+use Rattle.g4_tool.specs.declared.prepare.GrammarFault.{GrammarFault}
+use Rattle.g4_tool.specs.declared.prepare.GrammarFault.TheVariants as faults
+use Rattle.g4_tool.specs.declared.prepare.PrepareError.{PrepareError}
+use Rattle.g4_tool.specs.declared.prepare.PrepareError.TheVariants as errors
+
+-- of bytes that are no text
+abbrev pub of_decode : DecodeError → PrepareError
+of_decode (decoding.NotUtf8 at) = errors.Fault (faults.NotUtf8 at)
+of_decode decoding.NoMemory = errors.NoMemory
+
+-- of a text that is no grammar
+abbrev pub of_read : ReadFault → PrepareError
+of_read (reading.Syntax place characters) = errors.Fault (faults.Syntax place characters)
+of_read reading.NoMemory = errors.NoMemory
+
+-- of a grammar that is not numbered
+abbrev pub of_number : NumberFault → PrepareError
+of_number numbering.Rules = errors.Fault faults.Rules
+of_number numbering.Types = errors.Fault faults.Types
+of_number numbering.NoMemory = errors.NoMemory
+
+-- of a numbered grammar without a network
+abbrev pub of_build : BuildFault → PrepareError
+of_build building.UnknownStart = errors.Fault faults.UnknownStart
+of_build building.States = errors.Fault faults.States
+of_build building.NoMemory = errors.NoMemory

@@ -1,0 +1,114 @@
+-- The lines of a report, as bytes.
+use Rattle.std.specs.Prelude.{◌≡◌, ℕ, ◌-◌, List, [], ◌∷◌, ◌++◌, map, Option, Some, None, cond, ◌==◌, codes, slice_get, slice_index_or, length, count_by, Bool, true, false}
+use Rattle.std.specs.List.{flat_map}
+use Rattle.std.specs.Fmt.{decimal}
+use Rattle.g4_base.specs.declared.place.Place.{Place}
+use Rattle.g4_base.specs.Place.{first_place}
+use Rattle.g4_base.specs.Shown.{shown}
+use Rattle.g4_base.specs.Symbols.{eof, end_of_list}
+use Rattle.g4_grammar.specs.declared.numbered.Numbered.{Numbered}
+use Rattle.g4_net.specs.declared.network.Network.{Network}
+use Rattle.g4_net.specs.declared.network.State.{State}
+use Rattle.g4_net.specs.declared.network.State.TheVariants.{Decision, End, Token, Call, Predicate, Level, Action, Empty}
+use Rattle.g4_net.specs.declared.token.Token as tokens
+use Rattle.g4_net.specs.Network.{state_at}
+use Rattle.g4_parse.specs.TreeText.{token_text}
+use Rattle.g4_tool.specs.declared.write.Line.{Line}
+use Rattle.g4_tool.specs.declared.write.Line.TheVariants.{ToOut, ToErr}
+
+-- `NAME: line L:C `
+abbrev pub at_place : List ℕ → Place → List ℕ
+at_place name place = name ++ (codes ": line " ++ (decimal place.line ++ (codes ":" ++ (decimal place.column ++ codes " "))))
+
+-- what is shown of a symbol: its type's literal, else its name
+abbrev pub or_nothing : Option (List ℕ) → List ℕ
+or_nothing None = []
+or_nothing (Some text) = text
+
+abbrev pub shown_symbol : Numbered → ℕ → List ℕ
+shown_symbol grammar a = cond (a == eof) (codes "EOF") (cond (a == end_of_list) (codes "EOF") (or_nothing (slice_get grammar.shown (a - 1))))
+
+-- more shown symbols, `, ` before each
+abbrev pub more_symbols : Numbered → List ℕ → List ℕ
+more_symbols grammar symbols = flat_map (λ a. codes ", " ++ shown_symbol grammar a) symbols
+
+-- what is shown of a set: its one symbol, or all of them in braces
+abbrev pub shown_set : Numbered → List ℕ → List ℕ
+shown_set grammar [] = codes "{}"
+shown_set grammar (a ∷ []) = shown_symbol grammar a
+shown_set grammar (a ∷ b ∷ more) = ((codes "{" ++ shown_symbol grammar a) ++ more_symbols grammar (b ∷ more)) ++ codes "}"
+
+-- the symbols that a state's edge takes
+abbrev pub taken_by : Option State → List ℕ
+taken_by None = []
+taken_by (Some (Token set t)) = set
+taken_by (Some (Decision targets)) = []
+taken_by (Some (End rule)) = []
+taken_by (Some (Call rule level back)) = []
+taken_by (Some (Predicate k t)) = []
+taken_by (Some (Level q t)) = []
+taken_by (Some (Action t)) = []
+taken_by (Some (Empty t)) = []
+
+-- the place and the text of the token at a place of the list
+abbrev pub place_by : Option tokens.Token → Place
+place_by None = first_place
+place_by (Some token) = token.place
+
+abbrev pub place_of_token : List tokens.Token → ℕ → Place
+place_of_token list at = place_by (slice_get list at)
+
+abbrev pub shown_by : List ℕ → Option tokens.Token → List ℕ
+shown_by text None = []
+shown_by text (Some token) = token_text text token
+
+abbrev pub text_of_token : List ℕ → List tokens.Token → ℕ → List ℕ
+text_of_token text list at = shown_by text (slice_get list at)
+
+-- the lines of a file
+abbrev pub line_of_tree : List ℕ → List ℕ → Line
+line_of_tree name tree = ToOut (((name ++ codes ": ") ++ tree) ++ codes "\n")
+
+abbrev pub mismatch_line : Numbered → Network → List ℕ → List ℕ → List tokens.Token → ℕ → ℕ → Line
+mismatch_line grammar net name text list at state =
+    ToErr (((((at_place name (place_of_token list at) ++ codes "mismatched input '") ++ text_of_token text list at) ++ codes "' expecting ") ++ shown_set grammar (taken_by (state_at net state))) ++ codes "\n")
+
+abbrev pub no_viable_line : List ℕ → List ℕ → List tokens.Token → ℕ → Line
+no_viable_line name text list at = ToErr (((at_place name (place_of_token list at) ++ codes "no viable alternative at input '") ++ text_of_token text list at) ++ codes "'\n")
+
+abbrev pub too_deep_line : List ℕ → List tokens.Token → ℕ → Line
+too_deep_line name list at = ToErr (at_place name (place_of_token list at) ++ codes "more than 10000 open rules\n")
+
+abbrev pub no_token_line : List ℕ → Place → ℕ → Line
+no_token_line name place c = ToErr (((at_place name place ++ codes "token recognition error at: '") ++ shown (c ∷ [])) ++ codes "'\n")
+
+abbrev pub not_utf8_line : List ℕ → ℕ → Line
+not_utf8_line name at = ToErr (name ++ (codes ": byte " ++ (decimal at ++ codes ": not UTF-8\n")))
+
+abbrev pub large_line : List ℕ → ℕ → Line
+large_line name size = ToErr (name ++ (codes ": file of " ++ (decimal size ++ codes " bytes\n")))
+
+abbrev pub absent_line : List ℕ → Line
+absent_line name = ToErr (name ++ codes ": not found\n")
+
+abbrev pub usage_line : Line
+usage_line = ToErr (codes "usage: g4 parse, check, atn, match or drill\n")
+
+-- the lines of a grammar's faults
+abbrev pub syntax_line : List ℕ → Place → List ℕ → Line
+syntax_line name place characters = ToErr (((at_place name place ++ codes "syntax error at '") ++ shown characters) ++ codes "'\n")
+
+abbrev pub no_rule_line : List ℕ → List ℕ → Line
+no_rule_line name start = ToErr (name ++ (codes ": no parser rule " ++ (start ++ codes "\n")))
+
+abbrev pub limit_line : List ℕ → List ℕ → Line
+limit_line name kind = ToErr (name ++ (codes ": limit " ++ (kind ++ codes "\n")))
+
+-- a line of a tree, and not of a fault
+abbrev pub is_tree : Line → Bool
+is_tree (ToOut text) = true
+is_tree (ToErr text) = false
+
+-- the closing line
+abbrev pub closing_line : List Line → Line
+closing_line lines = ToOut (codes "files " ++ (decimal (length lines) ++ (codes " accepted " ++ (decimal (count_by is_tree lines) ++ codes "\n"))))

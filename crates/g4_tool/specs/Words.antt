@@ -1,0 +1,30 @@
+-- The command lines that are understood.
+use Rattle.std.specs.Prelude.{ℕ, List, [], ◌∷◌, Bool, true, false, not, ◌==◌, ◌&&◌, nat_le, nat_lt, length, cond, codes, Option, Some, None}
+use Rattle.std.specs.List.{list_all}
+use Rattle.std.specs.Str.{bytes_eq}
+
+-- what a command line asks for: the grammar's file, its start rule, and the files to parse
+pub record Asked : Type 0 where
+  pub grammar : List ℕ
+  pub start : List ℕ
+  pub names : List (List ℕ)
+
+-- a word that is not empty and does not begin with `-`
+abbrev pub is_word : List ℕ → Bool
+is_word [] = false
+is_word (b ∷ bs) = not (b == 45)
+
+-- one to 4,096 file names
+abbrev pub are_names : List (List ℕ) → Bool
+are_names names = list_all is_word names && (nat_lt 0 (length names) && nat_le (length names) 4096)
+
+-- `parse -g GRAMMAR -s RULE FILE..`, in this order
+abbrev pub command_of : List (List ℕ) → Option Asked
+command_of (verb ∷ g ∷ grammar ∷ s ∷ start ∷ names) =
+    cond ((bytes_eq verb (codes "parse") && (bytes_eq g (codes "-g") && bytes_eq s (codes "-s"))) && (is_word grammar && (is_word start && are_names names)))
+    (Some (record { grammar = grammar; start = start; names = names })) None
+command_of [] = None
+command_of (a ∷ []) = None
+command_of (a ∷ b ∷ []) = None
+command_of (a ∷ b ∷ c ∷ []) = None
+command_of (a ∷ b ∷ c ∷ d ∷ []) = None

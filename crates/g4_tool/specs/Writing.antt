@@ -1,0 +1,45 @@
+-- What the outputs have taken of the lines of a report, and why writing ended.
+use Rattle.std.specs.Prelude.{◌≡◌, ℕ, List, [], ◌∷◌, ◌++◌, Option, Result, Ok, Err, ◌⊎◌}
+use Rattle.g4_ports.specs.Ports.{Rose, with_more, TakesFront}
+use Rattle.g4_tool.specs.declared.write.Line.{Line}
+use Rattle.g4_tool.specs.declared.write.Line.TheVariants.{ToOut, ToErr}
+use Rattle.g4_tool.specs.declared.write.WriteError.{WriteError}
+use Rattle.g4_tool.specs.declared.write.WriteError.TheVariants.{Unwritten, NoMemory}
+
+-- the bytes of the lines for out
+abbrev pub out_of : List Line → List ℕ
+out_of [] = []
+out_of ((ToOut text) ∷ lines) = text ++ out_of lines
+out_of ((ToErr text) ∷ lines) = out_of lines
+
+-- the bytes of the lines for err
+abbrev pub err_of : List Line → List ℕ
+err_of [] = []
+err_of ((ToOut text) ∷ lines) = err_of lines
+err_of ((ToErr text) ∷ lines) = text ++ err_of lines
+
+-- both outputs have taken these lines
+pub record Wrote (lines : List Line) (out_before out_now err_before err_now : Option (List ℕ)) : Type 0 where
+  pub out : out_now ≡ with_more out_before (out_of lines)
+  pub err : err_now ≡ with_more err_before (err_of lines)
+
+-- both outputs have taken a front part of their bytes of these lines
+pub record WroteFront (lines : List Line) (out_before out_now err_before err_now : Option (List ℕ)) : Type 0 where
+  pub out : TakesFront (out_of lines) out_before out_now
+  pub err : TakesFront (err_of lines) err_before err_now
+
+-- the count of faults of one output has risen, and the other's stands still
+abbrev pub OneRose : ℕ → ℕ → ℕ → ℕ → Type 0
+OneRose out_before out_now err_before err_now = (Rose out_before out_now × (err_now ≡ err_before)) ⊎ ((out_now ≡ out_before) × Rose err_before err_now)
+
+abbrev pub NoneRose : ℕ → ℕ → ℕ → ℕ → Type 0
+NoneRose out_before out_now err_before err_now = (out_now ≡ out_before) × (err_now ≡ err_before)
+
+abbrev pub WriteEnd : ℕ → ℕ → ℕ → ℕ → WriteError → Type 0
+WriteEnd out_before out_now err_before err_now Unwritten = OneRose out_before out_now err_before err_now
+WriteEnd out_before out_now err_before err_now NoMemory = NoneRose out_before out_now err_before err_now
+
+-- the counts of faults stand still, but where an output failed
+abbrev pub CountsWriting : {X : Type 0} → ℕ → ℕ → ℕ → ℕ → Result X WriteError → Type 0
+CountsWriting out_before out_now err_before err_now (Ok x) = NoneRose out_before out_now err_before err_now
+CountsWriting out_before out_now err_before err_now (Err e) = WriteEnd out_before out_now err_before err_now e

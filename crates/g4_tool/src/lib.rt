@@ -1,0 +1,13 @@
+// The tool: from a command line and named files to what is written and the status.
+#![tactic(auto)]
+
+mod decode;
+mod faults;
+mod files;
+mod inputs;
+mod prepare;
+mod tool;
+mod words;
+mod write;
+
+pub use tool::{Status, run};

@@ -1,0 +1,116 @@
+// From the bytes of a grammar file to what parses with it.
+ghost use Rattle.std.specs.Prelude.{◌≤◌, All, IfOk, length};
+ghost use Rattle.g4_tool.specs.Preparing.{IsPreparing};
+
+use crate::decode::{DecodeError, characters};
+use g4_base::{Place, Sequence};
+use g4_build::{BuildFault, NumberFault, build, number};
+use g4_grammar::Numbered;
+use g4_net::Network;
+use g4_ports::LIMIT;
+use g4_reader::{ReadFault, read_grammar};
+use std::alloc::Global;
+
+/// A numbered grammar and the network of one of its rules.
+#[derive(Drop)]
+pub struct Interpreter {
+    pub grammar: Numbered,
+    pub net: Network,
+}
+
+/// Why a grammar file gives no interpreter, in the order in which the faults are looked for.
+#[derive(Drop)]
+pub enum GrammarFault {
+    /// The longest front part that is UTF-8 has this many bytes.
+    NotUtf8(usize),
+    /// The place and the characters of the first syntax fault.
+    Syntax(Place, Sequence<char>),
+    /// More than 4,096 rules.
+    Rules,
+    /// More than 4,096 token types.
+    Types,
+    /// No parser rule has the start rule's name.
+    UnknownStart,
+    /// More than 65,536 states.
+    States,
+}
+
+/// Why preparing ended.
+#[derive(Drop)]
+pub enum PrepareError {
+    Fault(GrammarFault),
+    NoMemory,
+}
+
+impl From<DecodeError> for PrepareError {
+    ghost use Rattle.std.specs.Prelude.{◌≡◌};
+    ghost use Rattle.g4_tool.specs.PrepareErrors.{of_decode};
+
+    ghost from_gives = { λ d e. e ≡ of_decode d };
+
+    fn from(error: DecodeError) -> Self {
+        match error {
+            DecodeError::NotUtf8(at) => PrepareError::Fault(GrammarFault::NotUtf8(at)),
+            DecodeError::NoMemory => PrepareError::NoMemory,
+        }
+    }
+}
+
+impl From<ReadFault> for PrepareError {
+    ghost use Rattle.std.specs.Prelude.{◌≡◌};
+    ghost use Rattle.g4_tool.specs.PrepareErrors.{of_read};
+
+    ghost from_gives = { λ d e. e ≡ of_read d };
+
+    fn from(fault: ReadFault) -> Self {
+        match fault {
+            ReadFault::Syntax(place, characters) => {
+                PrepareError::Fault(GrammarFault::Syntax(place, characters))
+            }
+            ReadFault::NoMemory => PrepareError::NoMemory,
+        }
+    }
+}
+
+impl From<NumberFault> for PrepareError {
+    ghost use Rattle.std.specs.Prelude.{◌≡◌};
+    ghost use Rattle.g4_tool.specs.PrepareErrors.{of_number};
+
+    ghost from_gives = { λ d e. e ≡ of_number d };
+
+    fn from(fault: NumberFault) -> Self {
+        match fault {
+            NumberFault::Rules => PrepareError::Fault(GrammarFault::Rules),
+            NumberFault::Types => PrepareError::Fault(GrammarFault::Types),
+            NumberFault::NoMemory => PrepareError::NoMemory,
+        }
+    }
+}
+
+impl From<BuildFault> for PrepareError {
+    ghost use Rattle.std.specs.Prelude.{◌≡◌};
+    ghost use Rattle.g4_tool.specs.PrepareErrors.{of_build};
+
+    ghost from_gives = { λ d e. e ≡ of_build d };
+
+    fn from(fault: BuildFault) -> Self {
+        match fault {
+            BuildFault::UnknownStart => PrepareError::Fault(GrammarFault::UnknownStart),
+            BuildFault::States => PrepareError::Fault(GrammarFault::States),
+            BuildFault::NoMemory => PrepareError::NoMemory,
+        }
+    }
+}
+
+/// What parses with the grammar file of these bytes from this start rule, or the file's first fault.
+pub fn prepare(alloc: Global, bytes: &[u8], start: &str) -> Result<Interpreter, PrepareError>
+    requires { length bytes.now ≤ LIMIT }
+    ensures preparing { IsPreparing bytes.now start.now result }
+    ensures types { IfOk result (λ interpreter. All (λ rule. rule.symbol ≤ 4096) interpreter.grammar.token_rules) }
+{
+    let text = characters(alloc, bytes)?;
+    let source = read_grammar(alloc, text.as_slice())?;
+    let grammar = number(alloc, source)?;
+    let net = build(alloc, &grammar, start)?;
+    Ok(Interpreter { grammar, net })
+}
