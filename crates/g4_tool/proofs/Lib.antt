@@ -2,4 +2,5 @@ mod Fetched
 mod Lines
 mod Lists
 mod Prepared
+mod Reports
 mod Written

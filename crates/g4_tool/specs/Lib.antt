@@ -7,4 +7,6 @@ pub mod Preparing
 pub mod Outcomes
 pub mod Inputs
 pub mod Report
+pub mod Counting
+pub mod Running
 pub mod Writing

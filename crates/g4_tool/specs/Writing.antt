@@ -3,8 +3,6 @@ use Rattle.std.specs.Prelude.{◌≡◌, ℕ, List, [], ◌∷◌, ◌++◌, Opt
 use Rattle.g4_ports.specs.Ports.{Rose, with_more, TakesFront}
 use Rattle.g4_tool.specs.declared.write.Line.{Line}
 use Rattle.g4_tool.specs.declared.write.Line.TheVariants.{ToOut, ToErr}
-use Rattle.g4_tool.specs.declared.write.WriteError.{WriteError}
-use Rattle.g4_tool.specs.declared.write.WriteError.TheVariants.{Unwritten, NoMemory}
 
 -- the bytes of the lines for out
 abbrev pub out_of : List Line → List ℕ
@@ -32,14 +30,11 @@ pub record WroteFront (lines : List Line) (out_before out_now err_before err_now
 abbrev pub OneRose : ℕ → ℕ → ℕ → ℕ → Type 0
 OneRose out_before out_now err_before err_now = (Rose out_before out_now × (err_now ≡ err_before)) ⊎ ((out_now ≡ out_before) × Rose err_before err_now)
 
+-- the counts of faults of both outputs stand still
 abbrev pub NoneRose : ℕ → ℕ → ℕ → ℕ → Type 0
 NoneRose out_before out_now err_before err_now = (out_now ≡ out_before) × (err_now ≡ err_before)
 
-abbrev pub WriteEnd : ℕ → ℕ → ℕ → ℕ → WriteError → Type 0
-WriteEnd out_before out_now err_before err_now Unwritten = OneRose out_before out_now err_before err_now
-WriteEnd out_before out_now err_before err_now NoMemory = NoneRose out_before out_now err_before err_now
-
 -- the counts of faults stand still, but where an output failed
-abbrev pub CountsWriting : {X : Type 0} → ℕ → ℕ → ℕ → ℕ → Result X WriteError → Type 0
+abbrev pub CountsWriting : {X Y : Type 0} → ℕ → ℕ → ℕ → ℕ → Result X Y → Type 0
 CountsWriting out_before out_now err_before err_now (Ok x) = NoneRose out_before out_now err_before err_now
-CountsWriting out_before out_now err_before err_now (Err e) = WriteEnd out_before out_now err_before err_now e
+CountsWriting out_before out_now err_before err_now (Err e) = OneRose out_before out_now err_before err_now

@@ -6,8 +6,10 @@ mod faults;
 mod files;
 mod inputs;
 mod prepare;
+mod report;
 mod tool;
 mod words;
 mod write;
 
-pub use tool::{Status, run};
+pub use report::Status;
+pub use tool::run;

@@ -1,5 +1,5 @@
 // The command line.
-ghost use Rattle.std.specs.Prelude.{◌≡◌, ◌&&◌, codes, map, nat_le, nat_lt, option_map, string_bytes};
+ghost use Rattle.std.specs.Prelude.{◌≡◌, ◌≤◌, ◌&&◌, IfSome, IsTrue, codes, length, map, nat_le, nat_lt, option_map, string_bytes};
 ghost use Rattle.std.specs.List.{list_all};
 ghost use Rattle.std.specs.Str.{bytes_eq};
 ghost use Rattle.g4_tool.specs.Words.{are_names, command_of, is_word};
@@ -47,14 +47,16 @@ fn is_count(count: usize) -> bool
 
 // One to 4,096 file names.
 fn are_files(names: &[String]) -> bool
-    ensures { result ≡ are_names (map string_bytes names.now) }
+    ensures named { result ≡ are_names (map string_bytes names.now) }
+    ensures few { IsTrue result → length names.now ≤ 4096 }
 {
     all_are_names(names) && is_count(names.len())
 }
 
 /// The command of the words, which are `parse -g GRAMMAR -s RULE FILE..` in this order.
 pub fn read_words(words: &[String]) -> Option<Command<'_>>
-    ensures { option_map command_view result ≡ command_of (map string_bytes words.now) }
+    ensures command { option_map command_view result ≡ command_of (map string_bytes words.now) }
+    ensures few { IfSome result (λ c. length c.names.now ≤ 4096) }
 {
     if words.len() < 5 {
         return None;

@@ -4,7 +4,6 @@ ghost use Rattle.g4_tool.specs.Writing.{Wrote, WroteFront, CountsWriting};
 
 use g4_base::Text;
 use g4_ports::{Failed, Sink, write_all};
-use std::alloc::AllocError;
 
 /// A line of the report, on the one output or the other.
 #[derive(Drop)]
@@ -13,37 +12,8 @@ pub enum Line {
     ToErr(Text),
 }
 
-/// Why a report could not be written to its end.
-#[derive(Drop)]
-pub enum WriteError {
-    Unwritten,
-    NoMemory,
-}
-
-impl From<AllocError> for WriteError {
-    ghost use Rattle.std.specs.Prelude.{◌≡◌};
-    ghost use Rattle.g4_tool.specs.declared.write.WriteError.TheVariants.{NoMemory};
-
-    ghost from_gives = { λ _ e. e ≡ NoMemory };
-
-    fn from(_: AllocError) -> Self {
-        WriteError::NoMemory
-    }
-}
-
-impl From<Failed> for WriteError {
-    ghost use Rattle.std.specs.Prelude.{◌≡◌};
-    ghost use Rattle.g4_tool.specs.declared.write.WriteError.TheVariants.{Unwritten};
-
-    ghost from_gives = { λ _ e. e ≡ Unwritten };
-
-    fn from(_: Failed) -> Self {
-        WriteError::Unwritten
-    }
-}
-
 /// Writes a line.
-pub fn write_line<O: Sink, E: Sink>(line: &Line, out: &mut O, err: &mut E) -> Result<(), WriteError>
+pub fn write_line<O: Sink, E: Sink>(line: &Line, out: &mut O, err: &mut E) -> Result<(), Failed>
     ensures whole { OnOk result (Wrote (line.now ∷ []) (O.taken out.old) (O.taken out.new) (E.taken err.old) (E.taken err.new)) }
     ensures part { WroteFront (line.now ∷ []) (O.taken out.old) (O.taken out.new) (E.taken err.old) (E.taken err.new) }
     ensures counts { CountsWriting (O.faults out.old) (O.faults out.new) (E.faults err.old) (E.faults err.new) result }
@@ -60,7 +30,7 @@ pub fn write_lines<O: Sink, E: Sink>(
     lines: &[Line],
     out: &mut O,
     err: &mut E,
-) -> Result<(), WriteError>
+) -> Result<(), Failed>
     ensures whole { OnOk result (Wrote lines.now (O.taken out.old) (O.taken out.new) (E.taken err.old) (E.taken err.new)) }
     ensures part { WroteFront lines.now (O.taken out.old) (O.taken out.new) (E.taken err.old) (E.taken err.new) }
     ensures counts { CountsWriting (O.faults out.old) (O.faults out.new) (E.faults err.old) (E.faults err.new) result }
