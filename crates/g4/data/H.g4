@@ -1,0 +1,6 @@
+grammar H;
+
+r : 'hello' ID ;
+
+ID : [a-z]+ ;
+WS : [ \n]+ -> skip ;

@@ -1,0 +1,37 @@
+// The program: the real files and streams around the top call.
+#![tactic(auto)]
+
+use g4_ports::{FileShelf, Open, OutSink};
+use g4_tool::{Status, run};
+use std::env;
+use std::process::ExitCode;
+
+// The exit status of a run.
+fn number(status: Status) -> u8 {
+    match status {
+        Status::Done => 0,
+        Status::Refused => 1,
+        Status::Usage => 2,
+        Status::GrammarRefused => 3,
+        Status::Unread => 4,
+        Status::Unwritten => 5,
+        Status::NoMemory => 6,
+    }
+}
+
+// The words after the program's name. None where they are no text.
+fn words(rt: &HostRuntime) -> Option<Vec<String>> {
+    let mut args = env::args(rt).ok()?;
+    let _name = args.next();
+    args.collect(rt.alloc()).ok()
+}
+
+fn main(rt: HostRuntime) -> ExitCode {
+    // Words that are no text are no command: no words stand for them.
+    let words = words(&rt).unwrap_or(Vec::new(rt.alloc()));
+    let mut shelf = FileShelf::new(&rt);
+    let mut out = OutSink::new(rt.stdout());
+    let mut err = OutSink::new(rt.stderr());
+    let status = run(rt.alloc(), &words, &mut shelf, &mut out, &mut err, &Open);
+    ExitCode::from(number(status))
+}
