@@ -21,9 +21,15 @@ impl Place {
         ensures { result ≡ place_past self character }
     {
         if character == '\n' {
-            Place { line: self.line + 1, column: 0 }
+            Place {
+                line: self.line + 1,
+                column: 0,
+            }
         } else {
-            Place { line: self.line, column: self.column + 1 }
+            Place {
+                line: self.line,
+                column: self.column + 1,
+            }
         }
     }
 }

@@ -27,7 +27,11 @@ fn push_symbol(out: &mut String, grammar: &Numbered, symbol: u32) -> Result<(), 
     if symbol == EOF || symbol == END {
         return out.push_str("EOF");
     }
-    match grammar.shown.as_slice().get((symbol as usize).saturating_sub(1)) {
+    match grammar
+        .shown
+        .as_slice()
+        .get((symbol as usize).saturating_sub(1))
+    {
         Some(shown) => out.push_str(shown.as_str()),
         None => Ok(()),
     }
@@ -146,7 +150,12 @@ pub fn too_deep(alloc: Global, name: &str, tokens: &[Token], at: u32) -> Result<
 }
 
 /// A character at which no token begins.
-pub fn no_token(alloc: Global, name: &str, place: Place, character: char) -> Result<Line, AllocError>
+pub fn no_token(
+    alloc: Global,
+    name: &str,
+    place: Place,
+    character: char,
+) -> Result<Line, AllocError>
     ensures { IfOk result (λ line. line ≡ no_token_line name.now place character) }
 {
     let mut line = start_line(alloc, name, place)?;

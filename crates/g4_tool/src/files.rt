@@ -14,8 +14,8 @@ use crate::prepare::Interpreter;
 use crate::write::Line;
 use g4_base::Text;
 use g4_lexer::{LexFault, tokens};
-use g4_parse::{ParseFault, Tree, parse, print};
 use g4_net::Token;
+use g4_parse::{ParseFault, Tree, parse, print};
 use g4_ports::{Gate, LIMIT};
 use std::alloc::{AllocError, Global};
 

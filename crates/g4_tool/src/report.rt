@@ -66,7 +66,10 @@ fn only(alloc: Global, line: Line, status: Status) -> Result<Report, AllocError>
     ensures { IfOk result (λ report. report ≡ one_line line status) }
 {
     let lines = vec![in alloc; line]?;
-    Ok(Report { lines: Sequence::new(lines), status })
+    Ok(Report {
+        lines: Sequence::new(lines),
+        status,
+    })
 }
 
 // The line of a grammar's fault.
@@ -99,10 +102,17 @@ fn close(alloc: Global, mut lines: Vec<Line>) -> Result<Report, AllocError>
         .iter()
         .filter(|line| matches!(line, Line::ToOut(_)))
         .count();
-    let status = if accepted == files { Status::Done } else { Status::Refused };
+    let status = if accepted == files {
+        Status::Done
+    } else {
+        Status::Refused
+    };
     let closing = format!(in alloc; "files {files} accepted {accepted}\n")?;
     lines.push(Line::ToOut(Text::new(closing)))?;
-    Ok(Report { lines: Sequence::new(lines), status })
+    Ok(Report {
+        lines: Sequence::new(lines),
+        status,
+    })
 }
 
 // The report of the files, fetched in order.

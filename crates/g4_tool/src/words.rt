@@ -67,7 +67,11 @@ pub fn read_words(words: &[String]) -> Option<Command<'_>>
     let form = is_form(words[0].as_str(), words[1].as_str(), words[3].as_str());
     let named = is_name(grammar) && is_name(start) && are_files(names);
     if form && named {
-        Some(Command { grammar, start, names })
+        Some(Command {
+            grammar,
+            start,
+            names,
+        })
     } else {
         None
     }

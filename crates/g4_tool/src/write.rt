@@ -26,11 +26,7 @@ pub fn write_line<O: Sink, E: Sink>(line: &Line, out: &mut O, err: &mut E) -> Re
 }
 
 /// Writes the lines in order.
-pub fn write_lines<O: Sink, E: Sink>(
-    lines: &[Line],
-    out: &mut O,
-    err: &mut E,
-) -> Result<(), Failed>
+pub fn write_lines<O: Sink, E: Sink>(lines: &[Line], out: &mut O, err: &mut E) -> Result<(), Failed>
     ensures whole { OnOk result (Wrote lines.now (O.taken out.old) (O.taken out.new) (E.taken err.old) (E.taken err.new)) }
     ensures part { WroteFront lines.now (O.taken out.old) (O.taken out.new) (E.taken err.old) (E.taken err.new) }
     ensures counts { CountsWriting (O.faults out.old) (O.faults out.new) (E.faults err.old) (E.faults err.new) result }
