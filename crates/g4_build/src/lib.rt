@@ -3,6 +3,7 @@
 
 mod builder;
 mod numbering;
+mod state;
 
 pub use builder::{BuildFault, build};
 pub use numbering::{NumberFault, number};
