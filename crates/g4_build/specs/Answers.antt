@@ -1,9 +1,9 @@
 -- What numbering and building answer.
 use Rattle.std.specs.Prelude.{◌≡◌, ◌≤◌, ◌<◌, ℕ, ◌+◌, ◌*◌, List, [], ◌∷◌, length, map, sum_by, Bool, true, false, Result, Ok, Err}
-use Rattle.std.specs.List.{list_any}
+use Rattle.std.specs.List.{list_any, position_or_len}
 use Rattle.std.specs.Str.{bytes_eq}
 use Rattle.g4_grammar.specs.Elements.{Alternatives, added_rule, only, symbols_in_order}
-use Rattle.g4_grammar.specs.Numbering.{numbered_grammar, greatest_type, place_of}
+use Rattle.g4_grammar.specs.Numbering.{numbered_grammar, greatest_type}
 use Rattle.g4_grammar.specs.declared.source.Source.{Source}
 use Rattle.g4_grammar.specs.declared.numbered.Numbered.{Numbered}
 use Rattle.g4_grammar.specs.declared.numbered.NumberedRule.{NumberedRule}
@@ -31,7 +31,7 @@ has_parser_rule grammar name = list_any (λ rule. bytes_eq rule.name name) gramm
 
 -- the number of the rule of this name; the added rule is 0
 abbrev pub rule_number : Numbered → List ℕ → ℕ
-rule_number grammar name = place_of (λ rule. bytes_eq rule.name name) grammar.rules + 1
+rule_number grammar name = position_or_len (λ rule. bytes_eq rule.name name) grammar.rules + 1
 
 -- the alternatives of every rule of the network, the added rule first
 abbrev pub rules_of : Numbered → List ℕ → List Alternatives
