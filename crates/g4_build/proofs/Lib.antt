@@ -1,0 +1,4 @@
+pub mod Lookups
+pub mod Laid
+pub mod Chained
+pub mod Built
