@@ -1,9 +1,15 @@
 // From a grammar's source to its numbered grammar and its network.
 #![tactic(auto)]
 
+mod appearance;
 mod builder;
+mod display;
+mod halves;
+mod literal;
 mod numbering;
 mod state;
+mod symbol;
+mod token_rule;
 
 pub use builder::{BuildFault, build};
 pub use numbering::{NumberFault, number};

@@ -1,6 +1,6 @@
 -- The numbering of token types: first the literals of parser rules that need a token of their own, by first
 -- appearance, then the lexer rules, then the other token names, by first appearance.
-use Rattle.std.specs.Prelude.{ℕ, ◌+◌, ◌==◌, List, [], ◌∷◌, ◌++◌, length, map, Option, Some, None, Bool, true, false, ◌&&◌, not, cond, codes, filter, count_by}
+use Rattle.std.specs.Prelude.{ℕ, ◌+◌, ◌==◌, List, [], ◌∷◌, ◌++◌, length, map, Option, Some, None, Bool, true, false, ◌||◌, not, cond, codes, filter, count_by}
 use Rattle.std.specs.List.{filter_map, flat_map, list_any, position_or_len}
 use Rattle.std.specs.Str.{bytes_eq}
 use Rattle.g4_base.specs.Symbols.{eof}
@@ -88,7 +88,7 @@ own_literals parsers lexers = first_appearances (λ l. l.characters) [] (ruleles
 
 -- a name of a lexer rule, or EOF
 abbrev pub is_known : List LexerRule → List ℕ → Bool
-is_known lexers name = cond (bytes_eq name (codes "EOF")) true (list_any (λ rule. bytes_eq rule.name name) lexers)
+is_known lexers name = bytes_eq name (codes "EOF") || list_any (λ rule. bytes_eq rule.name name) lexers
 
 -- the token names of some elements without a rule
 abbrev pub ruleless_names : List LexerRule → List Element → List (List ℕ)
