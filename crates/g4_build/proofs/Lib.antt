@@ -2,3 +2,4 @@ pub mod Lookups
 pub mod Laid
 pub mod Chained
 pub mod Built
+pub mod Numbers

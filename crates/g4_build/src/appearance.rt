@@ -1,8 +1,9 @@
 // The literals and names of parser rules that no lexer rule stands for, by first appearance.
 ghost use Rattle.std.specs.Prelude.{◌≡◌, [], ◌∷◌, OnOk, IfOk};
-ghost use Rattle.g4_grammar.specs.Numbering.{first_appearances, has_key, is_known, own_literals, other_names, ruleless_literals, ruleless_names};
+ghost use Rattle.g4_grammar.specs.Numbering.{first_appearances, has_key, own_literals, other_names, ruleless_literals, ruleless_names};
 
 use crate::literal::{copy_of, has_rule};
+use crate::name::is_known;
 use g4_base::Text;
 use g4_grammar::{Element, LexerRule, Literal, ParserRule};
 use std::alloc::{AllocError, Global};
@@ -62,13 +63,6 @@ pub fn own_literals(
         add_literals(alloc, &mut own, lexers, rule.elements.as_slice())?;
     }
     Ok(own)
-}
-
-/// Whether the name is that of a lexer rule, or EOF.
-fn is_known(lexers: &[LexerRule], name: &str) -> bool
-    ensures { result ≡ is_known lexers.now name.now }
-{
-    name == "EOF" || lexers.iter().any(|rule| rule.name.as_str() == name)
 }
 
 /// Whether one of the texts is this name.

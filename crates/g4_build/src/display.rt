@@ -8,30 +8,30 @@ use g4_grammar::{Atom, LexElement, LexerRule, Literal};
 use std::alloc::{AllocError, Global};
 
 /// What is shown of the token of a lexer rule that is this element: a literal where the rule alone is it, else the name.
-fn shown_element(
-    alloc: Global,
-    lexers: &[LexerRule],
-    name: &str,
-    element: &LexElement,
-) -> Result<Text, AllocError>
-    ensures { IfOk result (λ text. text ≡ shown_literal lexers.now name.now (literal_of_atom element.now.atom element.now.repeated)) }
+fn shown_element<'a>(lexers: &[LexerRule], name: &'a str, element: &'a LexElement) -> &'a str
+    ensures { result.now ≡ shown_literal lexers.now name.now (literal_of_atom element.now.atom element.now.repeated) }
 {
     match &element.atom {
         Atom::Literal(literal) => {
-            let own = !element.repeated && has_rule(lexers, literal.characters.as_slice());
-            Text::copy_of(alloc, if own { literal.written.as_str() } else { name })
+            if element.repeated {
+                name
+            } else if has_rule(lexers, literal.characters.as_slice()) {
+                literal.written.as_str()
+            } else {
+                name
+            }
         }
-        Atom::Set(_) => Text::copy_of(alloc, name),
+        Atom::Set(_) => name,
     }
 }
 
 /// What is shown of a lexer rule's token.
-fn shown_rule(alloc: Global, lexers: &[LexerRule], rule: &LexerRule) -> Result<Text, AllocError>
-    ensures { IfOk result (λ text. text ≡ shown_rule lexers.now rule.now) }
+fn shown_rule<'a>(lexers: &[LexerRule], rule: &'a LexerRule) -> &'a str
+    ensures { result.now ≡ shown_rule lexers.now rule.now }
 {
     match rule.elements.as_slice() {
-        [element] => shown_element(alloc, lexers, rule.name.as_str(), element),
-        _ => Text::copy_of(alloc, rule.name.as_str()),
+        [element] => shown_element(lexers, rule.name.as_str(), element),
+        _ => rule.name.as_str(),
     }
 }
 
@@ -58,7 +58,7 @@ fn push_rules(
     ensures { OnOk result (shown.new.items ≡ shown.old.items ++ map (shown_rule lexers.now) lexers.now) }
 {
     for rule in lexers {
-        shown.push(shown_rule(alloc, lexers, rule)?)?;
+        shown.push(Text::copy_of(alloc, shown_rule(lexers, rule))?)?;
     }
     Ok(())
 }

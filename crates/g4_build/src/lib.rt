@@ -6,6 +6,7 @@ mod builder;
 mod display;
 mod halves;
 mod literal;
+mod name;
 mod numbering;
 mod state;
 mod symbol;

@@ -1,5 +1,7 @@
 // Literals, and the lexer rules that are literals.
-ghost use Rattle.std.specs.Prelude.{◌≡◌, IfOk};
+ghost use Rattle.std.specs.Prelude.{◌≡◌, ◌≤◌, IfOk, length};
+ghost use Rattle.std.specs.List.{position_or_len};
+ghost use Rattle.std.specs.Str.{bytes_eq};
 ghost use Rattle.g4_grammar.specs.Numbering.{has_rule, is_whole, literal_of_atom, stands_for};
 
 use g4_base::{Sequence, Text};
@@ -42,4 +44,24 @@ pub fn has_rule(lexers: &[LexerRule], characters: &[char]) -> bool
     ensures { result ≡ has_rule lexers.now characters.now }
 {
     lexers.iter().filter(|rule| is_whole(rule, characters)).count() == 1
+}
+
+/// The place of the lexer rule that is a literal for these characters and nothing else, or their number.
+pub fn whole_place(lexers: &[LexerRule], characters: &[char]) -> usize
+    ensures place { result ≡ position_or_len (is_whole characters.now) lexers.now }
+    ensures within { result ≤ length lexers.now }
+{
+    let place = lexers.iter().position(|rule| is_whole(rule, characters));
+    place.unwrap_or(lexers.len())
+}
+
+/// The place of the literal for these characters, or their number.
+pub fn own_place(own: &[Literal], characters: &[char]) -> usize
+    ensures place { result ≡ position_or_len (λ l. bytes_eq l.characters characters.now) own.now }
+    ensures within { result ≤ length own.now }
+{
+    let place = own
+        .iter()
+        .position(|literal| literal.characters.as_slice() == characters);
+    place.unwrap_or(own.len())
 }

@@ -2,7 +2,8 @@
 ghost use Rattle.std.specs.Prelude.{◌≡◌, ◌≤◌, ◌+◌, ◌++◌, IfOk, OnOk, length, map};
 ghost use Rattle.g4_grammar.specs.Numbering.{numbered_rule, symbol_of, symbol_of_literal, symbol_of_name};
 
-use crate::literal::{has_rule, is_whole};
+use crate::literal::{has_rule, own_place, whole_place};
+use crate::name::{is_known, other_place, rule_place};
 use g4_base::{EOF, Sequence, Text};
 use g4_grammar::{Element, LexerRule, Literal, NumberedRule, ParserRule};
 use std::alloc::{AllocError, Global};
@@ -13,16 +14,12 @@ fn symbol_of_name(own: &[Literal], lexers: &[LexerRule], others: &[Text], name: 
     ensures { result ≡ symbol_of_name own.now lexers.now others.now name.now }
 {
     if name == "EOF" {
-        return EOF;
+        EOF
+    } else if is_known(lexers, name) {
+        (own.len() + rule_place(lexers, name) + 1) as u32
+    } else {
+        (own.len() + (lexers.len() + other_place(others, name)) + 1) as u32
     }
-    let place = match lexers.iter().position(|rule| rule.name.as_str() == name) {
-        Some(place) => place,
-        None => {
-            let other = others.iter().position(|other| other.as_str() == name);
-            lexers.len() + other.unwrap_or(others.len())
-        }
-    };
-    (own.len() + place + 1) as u32
 }
 
 /// The symbol of a literal.
@@ -30,16 +27,11 @@ fn symbol_of_literal(own: &[Literal], lexers: &[LexerRule], characters: &[char])
     requires { length own.now + length lexers.now ≤ 4096 }
     ensures { result ≡ symbol_of_literal own.now lexers.now characters.now }
 {
-    let place = if has_rule(lexers, characters) {
-        let place = lexers.iter().position(|rule| is_whole(rule, characters));
-        own.len() + place.unwrap_or(lexers.len())
+    if has_rule(lexers, characters) {
+        (own.len() + whole_place(lexers, characters) + 1) as u32
     } else {
-        let place = own
-            .iter()
-            .position(|literal| literal.characters.as_slice() == characters);
-        place.unwrap_or(own.len())
-    };
-    (place + 1) as u32
+        (own_place(own, characters) + 1) as u32
+    }
 }
 
 /// The symbol of an element.
