@@ -113,22 +113,30 @@ called_at zero m zero loop listed e = inl (refl, cc)
 called_at zero m (suc r) loop listed e = inr ((λ h. absurd (omega arith)), in_replicate m r listed e)
 called_at (suc n) m zero loop listed e = inr ((λ h. absurd (omega arith)), cc)
 called_at (suc n) m (suc r) loop listed e = elim (called_at n m r loop listed e) [
-    inl h ↦ inl (omega (arith, h.0), h.1)
-  | inr h ↦ inr ((λ k. h.0 (omega arith)), h.1) ]
+  | inl h ↦ inl (omega (arith, h.0), h.1)
+  | inr h ↦ inr ((λ k. h.0 (omega arith)), h.1)
+]
 
 has_callers : (net : Network) (rules : List NumberedRule) (start : ℕ) → HasParts rules start net.states → net.states ≡ states_of rules start → net.callers ≡ callers_of (length rules) start (loop_of rules) →
     (rule t : ℕ) (listed : List ℕ) → slice_get net.callers rule ≡ Some listed → Contains listed t ↔ IsReturn net rule t
 has_callers net rules start h is callers rule t listed here =
     elim (called_at start (length rules - start) rule (loop_of rules) listed (subst (λ (xs : List (List ℕ)). slice_get xs rule ≡ Some listed) callers here)) [
-      inl e ↦ ((λ c. returns e.0 (((contains_one (loop_of rules) t).0) (subst (λ (xs : List ℕ). Contains xs t) e.1 c)))
-              , λ r. subst (λ (xs : List ℕ). Contains xs t) (sym e.1) ((contains_one (loop_of rules) t).1 (sym (only_call r).1)))
-    | inr e ↦ ((λ c. absurd (none_in (subst (λ (xs : List ℕ). Contains xs t) e.1 c)))
-              , λ r. absurd (e.0 (only_call r).0)) ]
+      | inl e ↦ (
+        (λ c. returns e.0 (((contains_one (loop_of rules) t).0) (subst (λ (xs : List ℕ). Contains xs t) e.1 c))),
+        λ r. subst (λ (xs : List ℕ). Contains xs t) (sym e.1) ((contains_one (loop_of rules) t).1 (sym (only_call r).1)),
+      )
+      | inr e ↦ (
+        (λ c. absurd (none_in (subst (λ (xs : List ℕ). Contains xs t) e.1 c))),
+        λ r. absurd (e.0 (only_call r).0),
+      )
+    ]
   where
     only_call : IsReturn net rule t → (rule ≡ start) × (t ≡ loop_of rules)
     only_call r = one_call rules start r.0 rule r.1 t (subst (λ (xs : List State). slice_get xs r.0 ≡ Some (Call rule r.1 t)) is r.2)
+
     none_in : Contains [] t → ⊥
     none_in c = omega (arith, c.1)
+
     returns : rule ≡ start → loop_of rules ≡ t → IsReturn net rule t
     returns same e = (0, 0, (has_added net rules start h).call ∙ cc)
 
@@ -169,11 +177,11 @@ added_in_order net start loop first choice turn again leave =
     let t3 : ℕ = t2 + 1 in
     let t4 : ℕ = t3 + 1 in
     lay.one_more (call start 0) (then (star true (only (then (symbol eof) empty))) (then (symbol end_of_list) empty)) 0 loop t4 loop t1 (t4 + 1) (lay.a_call start 0 0 loop first)
-      (lay.one_more (star true (only (then (symbol eof) empty))) (then (symbol end_of_list) empty) loop t3 t4 t1 t4 (t4 + 1)
-        (lay.a_star true (only (then (symbol eof) empty)) (t1 ∷ []) (t2 ∷ []) loop t1 t3 choice
-          (lay.another (then (symbol eof) empty) none t2 t1 t3 t3 [] [] (lay.one_more (symbol eof) empty t1 t2 t2 t2 t3 t3 (lay.a_token (eof ∷ []) t1 t2 turn) (lay.no_more t2 t3)) (lay.no_other t3))
-          (again, tt))
-        (lay.one_more (symbol end_of_list) empty t3 t4 t4 t4 (t4 + 1) (t4 + 1) (lay.a_token (end_of_list ∷ []) t3 t4 leave) (lay.no_more t4 (t4 + 1))))
+    (lay.one_more (star true (only (then (symbol eof) empty))) (then (symbol end_of_list) empty) loop t3 t4 t1 t4 (t4 + 1)
+    (lay.a_star true (only (then (symbol eof) empty)) (t1 ∷ []) (t2 ∷ []) loop t1 t3 choice
+    (lay.another (then (symbol eof) empty) none t2 t1 t3 t3 [] [] (lay.one_more (symbol eof) empty t1 t2 t2 t2 t3 t3 (lay.a_token (eof ∷ []) t1 t2 turn) (lay.no_more t2 t3)) (lay.no_other t3))
+    (again, tt))
+    (lay.one_more (symbol end_of_list) empty t3 t4 t4 t4 (t4 + 1) (t4 + 1) (lay.a_token (end_of_list ∷ []) t3 t4 leave) (lay.no_more t4 (t4 + 1))))
 
 -- all rules lie
 all_lie : (net : Network) (rules : List NumberedRule) (start : ℕ) → HasParts rules start net.states → ((rule : ℕ) → rule ≤ length rules → written_at net (start_of rule) ≡ 1) →
@@ -189,10 +197,10 @@ all_lie net rules start parts written =
     let size : length more ≡ length rules = length-map rules (λ rule. only (symbols_in_order rule.symbols)) in
     let from : loop ≡ 2 * length (added_rule start ∷ more) = omega (arith, size) in
     let lies : LieInOrder net (then (call start 0) (then (star true (only (then (symbol eof) empty))) (then (symbol end_of_list) empty))) 0 (loop + 1 + 1 + 1 + 1) loop (loop + 1 + 1 + 1 + 1 + 1) = added_in_order net start loop a.call
-          (a.turn_or_leave ∙ ap (λ (t : ℕ). Some (Decision ((loop + 1) ∷ t ∷ []))) e3)
-          (a.turn ∙ ap (λ (t : ℕ). Some (Token (eof ∷ []) t)) e2)
-          (subst (λ (p : ℕ). state_at net p ≡ Some (Empty loop)) e2 a.again)
-          (subst (λ (p : ℕ). state_at net p ≡ Some (Token (end_of_list ∷ []) (loop + 4))) e3 a.leave ∙ ap (λ (t : ℕ). Some (Token (end_of_list ∷ []) t)) e4) in
+    (a.turn_or_leave ∙ ap (λ (t : ℕ). Some (Decision ((loop + 1) ∷ t ∷ []))) e3)
+    (a.turn ∙ ap (λ (t : ℕ). Some (Token (eof ∷ []) t)) e2)
+    (subst (λ (p : ℕ). state_at net p ≡ Some (Empty loop)) e2 a.again)
+    (subst (λ (p : ℕ). state_at net p ≡ Some (Token (end_of_list ∷ []) (loop + 4))) e3 a.leave ∙ ap (λ (t : ℕ). Some (Token (end_of_list ∷ []) t)) e4) in
     let last : state_at net (loop + 1 + 1 + 1 + 1) ≡ Some (Empty 1) = subst (λ (p : ℕ). state_at net p ≡ Some (Empty 1)) e4 a.last in
     let one : LiesAsRule net 0 (added_rule start) loop (loop + 1 + 1 + 1 + 1 + 1) = lay.of_one 0 (loop + 1 + 1 + 1 + 1) loop (loop + 1 + 1 + 1 + 1 + 1) _ lies last (written 0 (omega arith)) in
     let others : RulesLie net 1 more (loop + 5) (length net.states) = rules_lie net 1 (loop + 5) (length net.states) rules _ parts.size parts.links parts.rest (λ j low below. written j (omega arith)) in
@@ -211,7 +219,7 @@ built grammar start net known fits h =
     let high : number ≤ length rules = known_high grammar start known in
     let size : length net.written ≡ length net.states = ap length h.written ∙ (length-map-range_with_len (written_of loop) 0 count ∙ omega (arith, parts.size)) in
     let at_start : (rule : ℕ) → rule ≤ length rules → written_at net (start_of rule) ≡ 1 = λ rule few.
-        ap (λ (xs : List ℕ). slice_index xs (start_of rule)) h.written ∙ (written_within loop count (start_of rule) (omega arith) ∙ written_start loop rule (omega arith)) in
+    ap (λ (xs : List ℕ). slice_index xs (start_of rule)) h.written ∙ (written_within loop count (start_of rule) (omega arith) ∙ written_start loop rule (omega arith)) in
     record {
       known = known;
       fits = fits;
@@ -224,12 +232,14 @@ built grammar start net known fits h =
   where
     known_high : (grammar : Numbered) (start : List ℕ) → has_parser_rule grammar start ≡ true → rule_number grammar start ≤ length grammar.rules
     known_high grammar start known = grind (arith, nat_tests, found (λ rule. bytes_eq rule.name start) grammar.rules)
+
     not_written : (rules : List NumberedRule) (count p : ℕ) → ((rule : ℕ) → rule ≤ length rules → p ≢ start_of rule) → slice_index (all_written (loop_of rules) count) p ≡ 0
     not_written rules count p other =
         let cases : (count ≤ p) ⊎ (p < count) = grind arith in
         elim cases [
-          inl past ↦ written_past (loop_of rules) count p past
-        | inr less ↦ written_within (loop_of rules) count p less ∙ written_other (loop_of rules) p (λ below even. other (p / 2) (omega arith) (omega arith)) ]
+          | inl past ↦ written_past (loop_of rules) count p past
+          | inr less ↦ written_within (loop_of rules) count p less ∙ written_other (loop_of rules) p (λ below even. other (p / 2) (omega arith) (omega arith))
+        ]
 
 -- no place, no rule of the name
 pub unknown : (grammar : Numbered) (start : List ℕ) → position (λ rule. bytes_eq rule.name start) grammar.rules ≡ None → has_parser_rule grammar start ≡ false

@@ -30,24 +30,26 @@ step_links first count rules k n (a ∷ more) from fits low high = (from, omega 
 
 body_links : (first count rules k n : ℕ) (symbols : List ℕ) → first ≤ n → n + length symbols ≤ count → 1 ≤ k → k ≤ rules → Each (IsLink first count rules) (body k n symbols)
 body_links first count rules k n [] from fits low high = tt
-body_links first count rules k n (a ∷ more) from fits low high =
-    ( step_links first count rules k (n + 1) more (omega arith) (omega arith) low high
-    , body_links first count rules k (n + 1) more (omega arith) (omega arith) low high )
+body_links first count rules k n (a ∷ more) from fits low high = (
+  step_links first count rules k (n + 1) more (omega arith) (omega arith) low high,
+  body_links first count rules k (n + 1) more (omega arith) (omega arith) low high,
+)
 
 heads_link : (first count most k n : ℕ) (rules : List NumberedRule) → first ≤ n → n + symbol_count rules ≤ count → 1 ≤ k → k + length rules ≤ most + 1 → Each (IsLink first count most) (heads k n rules)
 heads_link first count most k n [] from fits low high = tt
 heads_link first count most k n (rule ∷ rules) from fits low high =
-    let c = symbol_count-cons rule rules in
-    ( step_links first count most k n rule.symbols from (omega arith) low (omega arith)
-    , (tt, heads_link first count most (k + 1) (n + length rule.symbols) rules (omega arith) (omega arith) (omega arith) (omega arith)) )
+    let c = symbol_count-cons rule rules in (
+      step_links first count most k n rule.symbols from (omega arith) low (omega arith),
+      (tt, heads_link first count most (k + 1) (n + length rule.symbols) rules (omega arith) (omega arith) (omega arith) (omega arith)),
+    )
 
 bodies_link : (first count most k n : ℕ) (rules : List NumberedRule) → first ≤ n → n + symbol_count rules ≤ count → 1 ≤ k → k + length rules ≤ most + 1 → Each (IsLink first count most) (bodies k n rules)
 bodies_link first count most k n [] from fits low high = tt
 bodies_link first count most k n (rule ∷ rules) from fits low high =
     let c = symbol_count-cons rule rules in
     Each-append (IsLink first count most) (body k n rule.symbols) (bodies (k + 1) (n + length rule.symbols) rules)
-      (body_links first count most k n rule.symbols from (omega arith) low (omega arith))
-      (bodies_link first count most (k + 1) (n + length rule.symbols) rules (omega arith) (omega arith) (omega arith) (omega arith))
+    (body_links first count most k n rule.symbols from (omega arith) low (omega arith))
+    (bodies_link first count most (k + 1) (n + length rule.symbols) rules (omega arith) (omega arith) (omega arith) (omega arith))
 
 -- where a state of the network stands: in the added rule or outside it
 pub data Where (rules : List NumberedRule) (start p : ℕ) (s : State) : Type 0 where
@@ -70,14 +72,17 @@ stands rules start p s here =
     let a : length (head ++ links) ≡ 2 + length links = length-append head links in
     let b : length (head ++ links ++ loops) ≡ length (head ++ links) + 5 = length-append (head ++ links) loops in
     elim (slice_get-append (head ++ links ++ loops) rest p s here) [
-      inl h ↦ elim (slice_get-append (head ++ links) loops p s h.1) [
-          inl i ↦ elim (slice_get-append head links p s i.1) [
-              inl j ↦ in_head p j.0 refl j.1
-            | inr j ↦ outside (omega (arith, j.1), inl (omega (arith, i.0)))
-                (Each-at (IsLink (loop + 5) count (length rules)) links j.0 s (heads_link (loop + 5) count (length rules) 1 (loop + 5) rules (omega arith) (omega arith) (omega arith) (omega arith)) j.2) ]
-        | inr i ↦ in_body i.0 (loop_within loop i.0 s i.2) (omega (arith, i.1)) i.2 ]
-    | inr h ↦ outside (omega (arith, h.1), inr (omega (arith, h.1)))
-        (Each-at (IsLink (loop + 5) count (length rules)) rest h.0 s (bodies_link (loop + 5) count (length rules) 1 (loop + 5) rules (omega arith) (omega arith) (omega arith) (omega arith)) h.2) ]
+      | inl h ↦ elim (slice_get-append (head ++ links) loops p s h.1) [
+        | inl i ↦ elim (slice_get-append head links p s i.1) [
+          | inl j ↦ in_head p j.0 refl j.1
+          | inr j ↦ outside (omega (arith, j.1), inl (omega (arith, i.0)))
+              (Each-at (IsLink (loop + 5) count (length rules)) links j.0 s (heads_link (loop + 5) count (length rules) 1 (loop + 5) rules (omega arith) (omega arith) (omega arith) (omega arith)) j.2)
+        ]
+        | inr i ↦ in_body i.0 (loop_within loop i.0 s i.2) (omega (arith, i.1)) i.2
+      ]
+      | inr h ↦ outside (omega (arith, h.1), inr (omega (arith, h.1)))
+          (Each-at (IsLink (loop + 5) count (length rules)) rest h.0 s (bodies_link (loop + 5) count (length rules) 1 (loop + 5) rules (omega arith) (omega arith) (omega arith) (omega arith)) h.2)
+    ]
 
 -- a link outside the added rule is plain
 pub plain : (net : Network) (first rules : ℕ) (s : State) → 2 ≤ first → ((k : ℕ) → 1 ≤ k → k ≤ rules → state_at net (end_of k) ≡ Some (End k)) → IsLink first (length net.states) rules s → IsPlainBy net s
@@ -95,9 +100,10 @@ plain net first rules (Action t) low ends h = h
 -- a state outside the added rule is a link
 pub linked : (rules : List NumberedRule) (start p : ℕ) (s : State) → slice_get (states_of rules start) p ≡ Some s → IsOutside (loop_of rules) p → IsLink (loop_of rules + 5) (loop_of rules + 5 + symbol_count rules) (length rules) s
 linked rules start p s here out = elim (stands rules start p s here) [
-    in_head i less is h ↦ absurd (omega (arith, out.0))
+  | in_head i less is h ↦ absurd (omega (arith, out.0))
   | in_body i less is h ↦ absurd (elim out.1 [ inl low ↦ (let k : ⊥ = omega arith in k) | inr high ↦ (let k : ⊥ = omega arith in k) ])
-  | outside o h ↦ h ]
+  | outside o h ↦ h
+]
 
 -- the added rule alone calls
 called_head : (start loop i rule level back : ℕ) → i < 2 → slice_get (added_head start loop) i ≡ Some (Call rule level back) → (rule ≡ start) × (back ≡ loop)
@@ -115,6 +121,7 @@ called_body loop (suc (suc (suc (suc (suc i))))) rule level back less here = ome
 
 pub one_call : (rules : List NumberedRule) (start p rule level back : ℕ) → slice_get (states_of rules start) p ≡ Some (Call rule level back) → (rule ≡ start) × (back ≡ loop_of rules)
 one_call rules start p rule level back here = elim (stands rules start p (Call rule level back) here) [
-    in_head i less is h ↦ called_head start (loop_of rules) i rule level back less h
+  | in_head i less is h ↦ called_head start (loop_of rules) i rule level back less h
   | in_body i less is h ↦ absurd (called_body (loop_of rules) i rule level back less h)
-  | outside o h ↦ absurd h ]
+  | outside o h ↦ absurd h
+]

@@ -66,12 +66,12 @@ rules_lie net k n m (rule ∷ rules) rest is start left written =
     let behind = left_behind net.states (start_of k) (end_of k) (step k n rule.symbols ∷ []) (End k ∷ heads (k + 1) next rules ++ rest) (omega arith) start in
     let one = in_order net k (start_of k) n next rule.symbols (bodies (k + 1) next rules) refl here left in
     lay.a_rule k n next m (only (symbols_in_order rule.symbols)) (map (λ r. only (symbols_in_order r.symbols)) rules)
-      (lay.of_one k one.last n next (symbols_in_order rule.symbols) one.lie one.ends (written k (omega arith) (omega arith)))
-      (at_left net.states (end_of k) _ _ behind)
-      (rules_lie net (k + 1) next m rules rest (omega arith)
-        (left_behind net.states (end_of k) (start_of (k + 1)) (End k ∷ []) (heads (k + 1) next rules ++ rest) (omega arith) behind)
-        (left_behind net.states n next (body k n rule.symbols) (bodies (k + 1) next rules) (let l = length-body k n rule.symbols in omega arith) left)
-        (λ j from below. written j (omega arith) (omega arith)))
+    (lay.of_one k one.last n next (symbols_in_order rule.symbols) one.lie one.ends (written k (omega arith) (omega arith)))
+    (at_left net.states (end_of k) _ _ behind)
+    (rules_lie net (k + 1) next m rules rest (omega arith)
+    (left_behind net.states (end_of k) (start_of (k + 1)) (End k ∷ []) (heads (k + 1) next rules ++ rest) (omega arith) behind)
+    (left_behind net.states n next (body k n rule.symbols) (bodies (k + 1) next rules) (let l = length-body k n rule.symbols in omega arith) left)
+    (λ j from below. written j (omega arith) (omega arith)))
 
 -- each rule ends in its end state
 pub ends_at : (states : List State) (k n : ℕ) (rules : List NumberedRule) (rest : List State) → drop (start_of k) states ≡ heads k n rules ++ rest →
@@ -82,6 +82,7 @@ ends_at states k n (rule ∷ rules) rest start j from below =
     let behind = left_behind states (start_of k) (end_of k) (step k n rule.symbols ∷ []) (End k ∷ heads (k + 1) next rules ++ rest) (omega arith) start in
     let cases : (k ≡ j) ⊎ (k + 1 ≤ j) = grind arith in
     elim cases [
-      inl e ↦ subst (λ (i : ℕ). slice_get states (end_of i) ≡ Some (End i)) e (at_left states (end_of k) _ _ behind)
-    | inr more ↦ ends_at states (k + 1) next rules rest
-        (left_behind states (end_of k) (start_of (k + 1)) (End k ∷ []) (heads (k + 1) next rules ++ rest) (omega arith) behind) j more (omega arith) ]
+      | inl e ↦ subst (λ (i : ℕ). slice_get states (end_of i) ≡ Some (End i)) e (at_left states (end_of k) _ _ behind)
+      | inr more ↦ ends_at states (k + 1) next rules rest
+          (left_behind states (end_of k) (start_of (k + 1)) (End k ∷ []) (heads (k + 1) next rules ++ rest) (omega arith) behind) j more (omega arith)
+    ]

@@ -21,8 +21,9 @@ module _ {X : Type 0} where
   slice_get-append [] ys i x e = inr (i, omega arith, e)
   slice_get-append (y ∷ xs) ys zero x e = inl (omega arith, e)
   slice_get-append (y ∷ xs) ys (suc i) x e = elim (slice_get-append xs ys i x e) [
-      inl h ↦ inl (omega (arith, h.0), h.1)
-    | inr h ↦ inr (h.0, omega (arith, h.1), h.2) ]
+    | inl h ↦ inl (omega (arith, h.0), h.1)
+    | inr h ↦ inr (h.0, omega (arith, h.1), h.2)
+  ]
 
   -- each item has the property
   abbrev pub Each : (X → Type 0) → List X → Type 0

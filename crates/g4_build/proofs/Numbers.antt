@@ -31,10 +31,12 @@ unwrap_or-position p xs = at (position_or_len p xs) (length xs) (within p xs)
         one : (b : Bool) → position_or_len p xs ≤ length xs → cond (not b) (1 + position_or_len p xs) 0 ≤ suc (length xs)
         one true h = omega arith
         one false h = omega arith
+
     at : (n m : ℕ) → n ≤ m → unwrap_or (cond (nat_lt n m) (Some n) None) m ≡ n
     at n m h = elim (let c : (nat_lt n m ≡ true) ⊎ ((nat_lt n m ≡ false) × (m ≡ n)) = grind (arith, nat_tests) in c) [
-        inl e ↦ rw e refl
-      | inr e ↦ rw e.0 e.1 ]
+      | inl e ↦ rw e refl
+      | inr e ↦ rw e.0 e.1
+    ]
 
 -- what is shown of a rule that is a literal
 pub shown_repeated : (lexers : List LexerRule) (name : List ℕ) (atom : Atom) (repeated : Bool) (literal : Literal) → atom ≡ atoms.Literal literal → repeated ≡ true → name ≡ shown_literal lexers name (literal_of_atom atom repeated)
@@ -87,15 +89,15 @@ rule_step key pick append parsers i rule items old new all less at is made whole
 -- one more rule in its half
 pub parser_more : (rules : List Rule) (parsers new : List ParserRule) (lexers : List LexerRule) (rule : Rule) (parser : ParserRule) → rule ≡ Parser parser → new ≡ parsers ++ parser ∷ [] → AreHalves rules parsers lexers → AreHalves (rules ++ rule ∷ []) new lexers
 parser_more rules parsers new lexers rule parser e n h = record {
-    parsers_are = n ∙ (ap (λ (ps : List ParserRule). ps ++ parser ∷ []) h.parsers_are ∙ rw e (sym (filter_map-append parser_rule rules (Parser parser ∷ []))));
-    lexers_are = h.lexers_are ∙ rw e (sym (filter_map-append lexer_rule rules (Parser parser ∷ []) ∙ append-nil (filter_map lexer_rule rules)));
-  }
+  parsers_are = n ∙ (ap (λ (ps : List ParserRule). ps ++ parser ∷ []) h.parsers_are ∙ rw e (sym (filter_map-append parser_rule rules (Parser parser ∷ []))));
+  lexers_are = h.lexers_are ∙ rw e (sym (filter_map-append lexer_rule rules (Parser parser ∷ []) ∙ append-nil (filter_map lexer_rule rules)));
+}
 
 pub lexer_more : (rules : List Rule) (parsers : List ParserRule) (lexers new : List LexerRule) (rule : Rule) (lexer : LexerRule) → rule ≡ Lexer lexer → new ≡ lexers ++ lexer ∷ [] → AreHalves rules parsers lexers → AreHalves (rules ++ rule ∷ []) parsers new
 lexer_more rules parsers lexers new rule lexer e n h = record {
-    parsers_are = h.parsers_are ∙ rw e (sym (filter_map-append parser_rule rules (Lexer lexer ∷ []) ∙ append-nil (filter_map parser_rule rules)));
-    lexers_are = n ∙ (ap (λ (ls : List LexerRule). ls ++ lexer ∷ []) h.lexers_are ∙ rw e (sym (filter_map-append lexer_rule rules (Lexer lexer ∷ []))));
-  }
+  parsers_are = h.parsers_are ∙ rw e (sym (filter_map-append parser_rule rules (Lexer lexer ∷ []) ∙ append-nil (filter_map parser_rule rules)));
+  lexers_are = n ∙ (ap (λ (ls : List LexerRule). ls ++ lexer ∷ []) h.lexers_are ∙ rw e (sym (filter_map-append lexer_rule rules (Lexer lexer ∷ []))));
+}
 
 -- one more numbered item
 pub numbered_from-push : {X Y : Type 0} (f : ℕ → X → Y) (n m : ℕ) (xs : List X) (x : X) → m ≡ n + length xs → numbered_from f n (xs ++ x ∷ []) ≡ numbered_from f n xs ++ f m x ∷ []
@@ -116,8 +118,8 @@ pub symbols_below : (own : List Literal) (lexers : List LexerRule) (rules : List
 symbols_below own lexers rules few e =
     let P : TokenRule → Type 0 = λ r. r.symbol ≤ 4096 in
     subst (λ (rs : List TokenRule). All P rs) (sym e)
-      (All-append P (numbered_from literal_rule 1 own) (numbered_from token_rule (length own + 0 + 1) lexers)
-        (numbered_below literal_rule (λ n x. refl) 4096 1 own (omega arith)) (numbered_below token_rule (λ n x. refl) 4096 (length own + 0 + 1) lexers (omega arith)))
+    (All-append P (numbered_from literal_rule 1 own) (numbered_from token_rule (length own + 0 + 1) lexers)
+    (numbered_below literal_rule (λ n x. refl) 4096 1 own (omega arith)) (numbered_below token_rule (λ n x. refl) 4096 (length own + 0 + 1) lexers (omega arith)))
 
 -- the numbered grammar is the source's
 pub numbered_is : (source : Source) (parsers : List ParserRule) (lexers : List LexerRule) (own : List Literal) (others : List (List ℕ)) (grammar : Numbered) → AreHalves source.rules parsers lexers → own ≡ own_literals parsers lexers → others ≡ other_names parsers lexers →

@@ -9,7 +9,7 @@ use crate::state::states;
 use g4_base::Sequence;
 use g4_grammar::{Numbered, NumberedRule};
 use g4_net::Network;
-use std::alloc::{AllocError, AllocFailed, Global};
+use std::alloc::{AllocError, Global};
 
 /// The most states that a network has.
 const MOST_STATES: usize = 65_536;
@@ -65,7 +65,11 @@ fn written(alloc: Global, heads: usize, count: usize) -> Result<Vec<u32>, AllocE
     ensures { IfOk result (λ all. all.items ≡ all_written heads count) }
 {
     (0..count)
-        .map(|state| if state < heads && state % 2 == 0 { 1 } else { 0 })
+        .map(|state| if state < heads && state % 2 == 0 {
+            1
+        } else {
+            0
+        })
         .collect(alloc)
 }
 
@@ -138,48 +142,4 @@ pub fn build(alloc: Global, grammar: &Numbered, start: &str) -> Result<Network, 
     };
     let net = network(alloc, rules, place + 1, count)?;
     Ok(net)
-}
-
-#[cfg(test)]
-mod tests {
-    use super::build;
-    use crate::state::numbers;
-    use g4_base::{Sequence, Text};
-    use g4_grammar::{Numbered, NumberedRule};
-    use g4_net::{Network, State};
-    use std::alloc::{AllocError, Global};
-
-    fn example(alloc: Global) -> Result<Numbered, AllocError> {
-        let mut rules = Vec::new(alloc);
-        rules.push(NumberedRule {
-            name: Text::copy_of(alloc, "r")?,
-            symbols: numbers(alloc, [1, 2])?,
-        })?;
-        Ok(Numbered {
-            rules: Sequence::new(rules),
-            shown: Sequence::new(Vec::new(alloc)),
-            token_rules: Sequence::new(Vec::new(alloc)),
-        })
-    }
-
-    fn is_state(state: &State, kind: u8, first: u32, second: u32, third: u32) -> bool {
-        match state {
-            State::Call { rule, level, back } => {
-                kind == b'c' && *rule == first && *level == second && *back == third
-            }
-            State::End(rule) => kind == b'f' && *rule == first,
-            State::Token(set, target) => {
-                kind == b't' && set.as_slice() == [first] && *target == second
-            }
-            State::Decision(targets) => kind == b'd' && targets.as_slice() == [first, second],
-            State::Empty(target) => kind == b'e' && *target == first,
-            _ => false,
-        }
-    }
-
-    #[test]
-    fn example_lies_as_listed() {
-        let alloc = Global;
-        let grammar = example(alloc).unwrap();
-    }
 }

@@ -36,11 +36,7 @@ fn shown_rule<'a>(lexers: &[LexerRule], rule: &'a LexerRule) -> &'a str
 }
 
 /// Adds what is shown of the own literals.
-fn push_literals(
-    alloc: Global,
-    shown: &mut Vec<Text>,
-    own: &[Literal],
-) -> Result<(), AllocError>
+fn push_literals(alloc: Global, shown: &mut Vec<Text>, own: &[Literal]) -> Result<(), AllocError>
     ensures { OnOk result (shown.new.items ≡ shown.old.items ++ map (λ l. l.written) own.now) }
 {
     for literal in own {
@@ -50,11 +46,7 @@ fn push_literals(
 }
 
 /// Adds what is shown of the lexer rules' tokens.
-fn push_rules(
-    alloc: Global,
-    shown: &mut Vec<Text>,
-    lexers: &[LexerRule],
-) -> Result<(), AllocError>
+fn push_rules(alloc: Global, shown: &mut Vec<Text>, lexers: &[LexerRule]) -> Result<(), AllocError>
     ensures { OnOk result (shown.new.items ≡ shown.old.items ++ map (shown_rule lexers.now) lexers.now) }
 {
     for rule in lexers {

@@ -10,6 +10,8 @@ mod name;
 mod numbering;
 mod state;
 mod symbol;
+#[cfg(test)]
+mod tests;
 mod token_rule;
 
 pub use builder::{BuildFault, build};

@@ -14,7 +14,10 @@ pub fn copy_of(alloc: Global, literal: &Literal) -> Result<Literal, AllocError>
 {
     let characters = literal.characters.as_slice().to_vec(alloc)?;
     let written = Text::copy_of(alloc, literal.written.as_str())?;
-    Ok(Literal { characters: Sequence::new(characters), written })
+    Ok(Literal {
+        characters: Sequence::new(characters),
+        written,
+    })
 }
 
 /// Whether the element is a literal for these characters, taken once.
@@ -43,7 +46,11 @@ pub fn is_whole(rule: &LexerRule, characters: &[char]) -> bool
 pub fn has_rule(lexers: &[LexerRule], characters: &[char]) -> bool
     ensures { result ≡ has_rule lexers.now characters.now }
 {
-    lexers.iter().filter(|rule| is_whole(rule, characters)).count() == 1
+    lexers
+        .iter()
+        .filter(|rule| is_whole(rule, characters))
+        .count()
+        == 1
 }
 
 /// The place of the lexer rule that is a literal for these characters and nothing else, or their number.

@@ -66,7 +66,11 @@ fn numbered(
     )?;
     let shown = shown_types(alloc, own.as_slice(), lexers.as_slice(), others)?;
     let token_rules = token_rules(alloc, own, lexers)?;
-    Ok(Numbered { rules, shown, token_rules })
+    Ok(Numbered {
+        rules,
+        shown,
+        token_rules,
+    })
 }
 
 /// The numbered grammar of a source.

@@ -109,7 +109,11 @@ pub fn states(alloc: Global, rules: &[NumberedRule], start: u32) -> Result<Vec<S
 {
     let first = 2 * rules.len() as u32 + 2;
     let mut states = Vec::new(alloc);
-    states.push(State::Call { rule: start, level: 0, back: first })?;
+    states.push(State::Call {
+        rule: start,
+        level: 0,
+        back: first,
+    })?;
     states.push(State::End(0))?;
     push_heads(alloc, &mut states, first + 5, rules)?;
     push_added_body(alloc, &mut states, first)?;

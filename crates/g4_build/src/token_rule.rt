@@ -11,8 +11,15 @@ fn literal_rule(alloc: Global, symbol: u32, literal: Literal) -> Result<TokenRul
     ensures { IfOk result (λ rule. rule ≡ literal_rule symbol literal) }
 {
     let mut elements = Vec::new(alloc);
-    elements.push(LexElement { atom: Atom::Literal(literal), repeated: false })?;
-    Ok(TokenRule { symbol, skip: false, elements: Sequence::new(elements) })
+    elements.push(LexElement {
+        atom: Atom::Literal(literal),
+        repeated: false,
+    })?;
+    Ok(TokenRule {
+        symbol,
+        skip: false,
+        elements: Sequence::new(elements),
+    })
 }
 
 /// Adds what makes the tokens of own literals, whose types begin at `first`.
@@ -45,7 +52,11 @@ fn push_lexer_rules(
     let mut symbol = first;
     for rule in lexers {
         let LexerRule { elements, skip, .. } = rule;
-        rules.push(TokenRule { symbol, skip, elements })?;
+        rules.push(TokenRule {
+            symbol,
+            skip,
+            elements,
+        })?;
         symbol += 1;
     }
     Ok(())

@@ -11,5 +11,5 @@ use Rattle.g4_build.proofs.literal.whole_place.Goals as goal
 pub returns-clause-place : goal.returns-clause-place
 returns-clause-place c =
     let is : c.position-place.result ≡ position (is_whole c.args.characters.now) c.args.lexers.now =
-      position_from_yields_List (is_whole c.args.characters.now) _ _ _ c.position-place.ensures.ran (YieldsList-from_slice c.args.lexers.now cc) (λ x b q k. search (rules, tests)) in
+    position_from_yields_List (is_whole c.args.characters.now) _ _ _ c.position-place.ensures.ran (YieldsList-from_slice c.args.lexers.now cc) (λ x b q k. search (rules, tests)) in
     c.unwrap_or.ensures ∙ (ap (λ (o : Option ℕ). unwrap_or o (length c.args.lexers.now)) is ∙ unwrap_or-position _ c.args.lexers.now)

@@ -9,5 +9,5 @@ loop-rule-preserved c =
     let count = length_push c.loop-rule.yielded c.in-Some.rule in
     record {
       counted = omega arith;
-      made = numbered_more token_rule c.args.first c.loop-rule.symbol _ c.loop-rule.rules.items _ c.loop-rule.yielded c.in-Some.rule c.loop-rule.invariant.counted c.loop-rule.invariant.made c.in_ok-push.ensures.items
+      made = numbered_more token_rule c.args.first c.loop-rule.symbol _ c.loop-rule.rules.items _ c.loop-rule.yielded c.in-Some.rule c.loop-rule.invariant.counted c.loop-rule.invariant.made c.in_ok-push.ensures.items;
     }

@@ -10,5 +10,5 @@ loop-literal-preserved c =
     record {
       counted = omega arith;
       made = numbered_more literal_rule c.args.first c.loop-literal.symbol _ c.loop-literal.rules.items _ c.loop-literal.yielded c.in-Some.literal c.loop-literal.invariant.counted c.loop-literal.invariant.made
-        (rw c.in_ok-literal_rule.ensures at c.in_ok-push.ensures.items)
+          (rw c.in_ok-literal_rule.ensures at c.in_ok-push.ensures.items);
     }
