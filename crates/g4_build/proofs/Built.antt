@@ -1,25 +1,24 @@
 -- A network with the listed states is the one that the grammar has.
-use Rattle.std.proofs.Common.{◌≡◌, ◌≢◌, ℕ, zero, suc, ◌+◌, ◌-◌, ◌*◌, ◌/◌, ◌%◌, ◌<◌, ◌≤◌, ◌⊎◌, ◌↔◌, inl, inr, List, [], ◌∷◌, ◌++◌, length, map, drop, replicate, get_or, Bool, true, false, cond, not, ltb, nat_lt, nat_eq, ◌&&◌, ◌||◌, refl, sym, ◌∙◌, ap, subst, arith, append_assoc, slice_get, slice_index, Option, Some, None, Contains}
+use Rattle.std.proofs.Common.{◌≡◌, ◌≢◌, ℕ, zero, suc, ◌+◌, ◌-◌, ◌*◌, ◌/◌, ◌%◌, ◌<◌, ◌≤◌, ◌⊎◌, ◌↔◌, inl, inr, List, [], ◌∷◌, ◌++◌, length, map, drop, replicate, get_or, Bool, true, false, cond, not, nat_lt, ◌||◌, refl, sym, ◌∙◌, ap, subst, arith, append_assoc, slice_get, slice_index, Some, None, Contains}
 use Rattle.std.specs.List.{list_any, position, position_or_len, range_with_len}
 use Rattle.std.specs.Str.{bytes_eq}
 use Rattle.std.proofs.lemmas.List.{length-append, length-map, length-replicate, get_or-map, get_or_past}
 use Rattle.std.proofs.lemmas.Bool.Decides.{nat_tests}
 use Rattle.std.proofs.lemmas.List.FromFn.{length-map-range_with_len, length-range_with_len, get_or-range_with_len}
-use Rattle.std.proofs.lemmas.Option.{slice_get_within}
 use Rattle.g4_base.specs.Symbols.{eof, end_of_list}
-use Rattle.g4_grammar.specs.Elements.{symbol, symbols_in_order, only, added_rule, star, call, one_of, Alternatives, Elements, empty, then, none, or}
+use Rattle.g4_grammar.specs.Elements.{symbol, symbols_in_order, only, added_rule, star, call, Alternatives, empty, then, none}
 use Rattle.g4_grammar.specs.declared.numbered.Numbered.{Numbered}
 use Rattle.g4_grammar.specs.declared.numbered.NumberedRule.{NumberedRule}
 use Rattle.g4_net.specs.declared.network.Network.{Network}
 use Rattle.g4_net.specs.declared.network.State.{State}
 use Rattle.g4_net.specs.declared.network.State.TheVariants.{Decision, End, Token, Call, Empty}
 use Rattle.g4_net.specs.Network.{state_at, start_of, end_of, written_at, IsReturn}
-use Rattle.g4_net.specs.Chain.{IsChain, HasAddedRule, IsPlainBy, IsOutside}
-use Rattle.g4_build.specs.Answers.{IsBuilt, has_parser_rule, rule_number, rules_of, state_count}
+use Rattle.g4_net.specs.Chain.{IsChain, HasAddedRule, IsOutside}
+use Rattle.g4_build.specs.Answers.{IsBuilt, has_parser_rule, rule_number, state_count}
 use Rattle.g4_build.specs.Layout as lay
 use Rattle.g4_build.specs.Layout.{LieInOrder, LiesAsRule, RulesLie, IsNetworkOf}
-use Rattle.g4_build.specs.States.{step, body, heads, bodies, added_head, added_body, loop_of, states_of, symbol_count, written_of, all_written, callers_of, HasStates}
-use Rattle.g4_build.proofs.Lookups.{at_left, left_behind, at_part}
+use Rattle.g4_build.specs.States.{heads, bodies, added_head, added_body, loop_of, states_of, symbol_count, written_of, all_written, callers_of, HasStates}
+use Rattle.g4_build.proofs.Lookups.{left_behind, at_part}
 use Rattle.g4_build.proofs.Laid.{length-heads, length-bodies, rules_lie, ends_at}
 use Rattle.g4_build.proofs.Chained.{IsLink, linked, plain, one_call}
 

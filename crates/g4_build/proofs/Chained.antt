@@ -1,14 +1,13 @@
 -- The listed states are a chain: the added rule has the one call and the one decision.
-use Rattle.std.proofs.Common.{◌≡◌, ◌≢◌, ℕ, zero, suc, ◌+◌, ◌*◌, ◌<◌, ◌≤◌, ◌⊎◌, ◌↔◌, inl, inr, List, [], ◌∷◌, ◌++◌, length, drop, replicate, refl, sym, ◌∙◌, ap, subst, arith, append_assoc, slice_get, Some, Contains}
+use Rattle.std.proofs.Common.{◌≡◌, ℕ, zero, suc, ◌+◌, ◌*◌, ◌<◌, ◌≤◌, inl, inr, List, [], ◌∷◌, ◌++◌, length, refl, sym, subst, arith, slice_get, Some}
 use Rattle.std.proofs.lemmas.List.{length-append}
 use Rattle.std.proofs.lemmas.Option.{slice_get_within}
-use Rattle.g4_base.specs.Symbols.{eof, end_of_list}
 use Rattle.g4_grammar.specs.declared.numbered.NumberedRule.{NumberedRule}
 use Rattle.g4_net.specs.declared.network.Network.{Network}
 use Rattle.g4_net.specs.declared.network.State.{State}
 use Rattle.g4_net.specs.declared.network.State.TheVariants.{Decision, End, Token, Call, Predicate, Level, Action, Empty}
-use Rattle.g4_net.specs.Network.{state_at, start_of, end_of, IsReturn}
-use Rattle.g4_net.specs.Chain.{IsChain, HasAddedRule, IsPlainBy, IsOutside}
+use Rattle.g4_net.specs.Network.{state_at, end_of}
+use Rattle.g4_net.specs.Chain.{IsPlainBy, IsOutside}
 use Rattle.g4_build.specs.States.{step, body, heads, bodies, added_head, added_body, loop_of, states_of, symbol_count}
 use Rattle.g4_build.proofs.Lookups.{slice_get-append, Each, Each-append, Each-at}
 use Rattle.g4_build.proofs.Laid.{symbol_count-cons, length-heads}

@@ -1,17 +1,16 @@
 -- The listed states are the network of the rules.
-use Rattle.std.proofs.Common.{◌≡◌, ℕ, zero, suc, ◌+◌, ◌*◌, ◌<◌, ◌≤◌, ◌⊎◌, inl, inr, List, [], ◌∷◌, ◌++◌, map, length, drop, true, refl, sym, ◌∙◌, ap, subst, arith, append_assoc, slice_get, Some}
-use Rattle.std.proofs.lemmas.List.{length-append, append-nil}
+use Rattle.std.proofs.Common.{◌≡◌, ℕ, suc, ◌+◌, ◌*◌, ◌<◌, ◌≤◌, ◌⊎◌, inl, inr, List, [], ◌∷◌, ◌++◌, map, length, drop, refl, ap, subst, arith, slice_get, Some}
+use Rattle.std.proofs.lemmas.List.{length-append}
 use Rattle.std.proofs.lemmas.List.Sums.{sum_by-cons}
-use Rattle.g4_base.specs.Symbols.{eof, end_of_list}
-use Rattle.g4_grammar.specs.Elements.{symbol, symbols_in_order, only, added_rule, star, call, one_of, Alternatives, Elements, empty, then, none, or}
+use Rattle.g4_grammar.specs.Elements.{symbol, symbols_in_order, only, empty}
 use Rattle.g4_grammar.specs.declared.numbered.NumberedRule.{NumberedRule}
 use Rattle.g4_net.specs.declared.network.Network.{Network}
 use Rattle.g4_net.specs.declared.network.State.{State}
-use Rattle.g4_net.specs.declared.network.State.TheVariants.{Decision, End, Token, Call, Empty}
+use Rattle.g4_net.specs.declared.network.State.TheVariants.{End, Empty}
 use Rattle.g4_net.specs.Network.{state_at, start_of, end_of, written_at}
 use Rattle.g4_build.specs.Layout as lay
 use Rattle.g4_build.specs.Layout.{LieInOrder, LiesAsRule, RulesLie}
-use Rattle.g4_build.specs.States.{step, body, heads, bodies, added_head, added_body, loop_of, states_of, symbol_count}
+use Rattle.g4_build.specs.States.{step, body, heads, bodies, symbol_count}
 use Rattle.g4_build.proofs.Lookups.{at_left, left_behind}
 
 -- how many symbols a rule and those behind it have

@@ -1,9 +1,9 @@
 -- Steps of the numbering of tokens.
-use Rattle.std.proofs.Common.{◌≡◌, ℕ, zero, suc, ◌+◌, ◌<◌, ◌≤◌, ◌⊎◌, inl, inr, List, [], ◌∷◌, ◌++◌, length, drop, get_or, map, Bool, true, false, cond, not, ltb, nat_lt, Option, Some, None, refl, sym, ◌∙◌, ap, subst, arith, append_assoc, All}
-use Rattle.std.specs.List.{filter_map, flat_map, position, position_or_len}
+use Rattle.std.proofs.Common.{◌≡◌, ℕ, zero, suc, ◌+◌, ◌<◌, ◌≤◌, ◌⊎◌, inl, inr, List, [], ◌∷◌, ◌++◌, length, drop, get_or, Bool, true, false, cond, not, nat_lt, Some, None, refl, sym, ◌∙◌, ap, subst, arith, append_assoc, All}
+use Rattle.std.specs.List.{filter_map, position, position_or_len}
 use Rattle.std.specs.Option.{unwrap_or}
 use Rattle.std.proofs.lemmas.Bool.Decides.{nat_tests}
-use Rattle.std.proofs.lemmas.List.{drop_more, append-nil, length_push}
+use Rattle.std.proofs.lemmas.List.{drop_more, append-nil}
 use Rattle.std.proofs.lemmas.List.Elements.{filter_map-append, filter-append, All-append}
 use Rattle.g4_grammar.specs.Numbering.{parser_rule, lexer_rule, all_elements, first_appearances, has_key, has_rule, ruleless_literals, ruleless_names, literal_element, name_element, is_known, own_literals, other_names, numbered_of, numbered_grammar, greatest_type, numbered_from, literal_rule, token_rule, token_rules, shown_literal, literal_of_atom}
 use Rattle.g4_grammar.specs.declared.source.Source.{Source}

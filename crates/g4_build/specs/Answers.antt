@@ -1,12 +1,11 @@
 -- What numbering and building answer.
-use Rattle.std.specs.Prelude.{◌≡◌, ◌≤◌, ◌<◌, ℕ, ◌+◌, ◌*◌, List, [], ◌∷◌, length, map, sum_by, Bool, true, false, Result, Ok, Err, Some, slice_get, Contains, ◌↔◌, ◌≢◌}
+use Rattle.std.specs.Prelude.{◌≡◌, ◌≤◌, ◌<◌, ℕ, ◌+◌, ◌*◌, List, ◌∷◌, length, map, sum_by, Bool, true, false, Result, Ok, Err, Some, slice_get, Contains, ◌↔◌, ◌≢◌}
 use Rattle.std.specs.List.{list_any, position_or_len}
 use Rattle.std.specs.Str.{bytes_eq}
 use Rattle.g4_grammar.specs.Elements.{Alternatives, added_rule, only, symbols_in_order}
 use Rattle.g4_grammar.specs.Numbering.{numbered_grammar, greatest_type}
 use Rattle.g4_grammar.specs.declared.source.Source.{Source}
 use Rattle.g4_grammar.specs.declared.numbered.Numbered.{Numbered}
-use Rattle.g4_grammar.specs.declared.numbered.NumberedRule.{NumberedRule}
 use Rattle.g4_net.specs.declared.network.Network.{Network}
 use Rattle.g4_net.specs.Network.{IsReturn, start_of, written_at}
 use Rattle.g4_net.specs.Chain.{IsChain}

@@ -65,11 +65,7 @@ fn written(alloc: Global, heads: usize, count: usize) -> Result<Vec<u32>, AllocE
     ensures { IfOk result (λ all. all.items ≡ all_written heads count) }
 {
     (0..count)
-        .map(|state| if state < heads && state % 2 == 0 {
-            1
-        } else {
-            0
-        })
+        .map(|state| u32::from(state < heads && state % 2 == 0))
         .collect(alloc)
 }
 

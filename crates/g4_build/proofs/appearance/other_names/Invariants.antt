@@ -1,4 +1,4 @@
-use Rattle.std.proofs.Common.{◌≡◌, ◌≤◌, ◌+◌, ◌++◌, [], map, take, drop, length}
+use Rattle.std.proofs.Common.{◌≡◌, drop}
 use Rattle.g4_grammar.specs.Numbering.{first_appearances, ruleless_names, all_elements, other_names}
 use Rattle.g4_build.proofs.appearance.other_names.Given as goal
 

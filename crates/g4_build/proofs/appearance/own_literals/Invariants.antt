@@ -1,4 +1,4 @@
-use Rattle.std.proofs.Common.{◌≡◌, ◌≤◌, ◌+◌, ◌++◌, [], map, take, drop, length}
+use Rattle.std.proofs.Common.{◌≡◌, drop}
 use Rattle.g4_grammar.specs.Numbering.{first_appearances, ruleless_literals, all_elements, own_literals}
 use Rattle.g4_build.proofs.appearance.own_literals.Given as goal
 

@@ -1,4 +1,4 @@
-use Rattle.std.proofs.Common.{◌≡◌, ◌≤◌, ◌+◌, ◌++◌, [], map, take, drop, length}
+use Rattle.std.proofs.Common.{◌≡◌, ◌++◌, map, take}
 use Rattle.g4_build.proofs.display.push_literals.Given as goal
 
 abbrev pub invariant-loop-literal : goal.invariant-loop-literal

@@ -1,4 +1,4 @@
-use Rattle.std.proofs.Common.{◌≡◌, ◌≤◌, ◌+◌, ◌++◌, [], map, take, drop, length}
+use Rattle.std.proofs.Common.{◌≡◌, ◌++◌, map, take}
 use Rattle.g4_grammar.specs.Numbering.{shown_rule}
 use Rattle.g4_build.proofs.display.push_rules.Given as goal
 

@@ -1,5 +1,5 @@
 use Rattle.std.proofs.Common.{◌≡◌, ◌≤◌, ◌+◌, ℕ, List, length, ap, arith, rules}
-use Rattle.g4_grammar.specs.Numbering.{numbered_of, other_names, own_literals}
+use Rattle.g4_grammar.specs.Numbering.{other_names, own_literals}
 use Rattle.g4_grammar.specs.declared.source.Literal.{Literal}
 use Rattle.g4_grammar.specs.declared.source.LexerRule.{LexerRule}
 use Rattle.g4_grammar.specs.declared.source.ParserRule.{ParserRule}

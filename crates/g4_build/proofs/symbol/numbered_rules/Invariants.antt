@@ -1,4 +1,4 @@
-use Rattle.std.proofs.Common.{◌≡◌, ◌≤◌, ◌+◌, ◌++◌, [], map, take, drop, length}
+use Rattle.std.proofs.Common.{◌≡◌, map}
 use Rattle.g4_grammar.specs.Numbering.{numbered_rule}
 use Rattle.g4_build.proofs.symbol.numbered_rules.Given as goal
 

@@ -1,4 +1,4 @@
-use Rattle.std.proofs.Common.{◌≡◌, ◌≤◌, ◌+◌, ◌++◌, [], map, take, drop, length}
+use Rattle.std.proofs.Common.{◌≡◌, map, take}
 use Rattle.g4_grammar.specs.Numbering.{symbol_of}
 use Rattle.g4_build.proofs.symbol.symbols_of.Given as goal
 

@@ -1,4 +1,4 @@
-use Rattle.std.proofs.Common.{◌≡◌, ◌≤◌, ◌+◌, ◌++◌, [], map, take, drop, length}
+use Rattle.std.proofs.Common.{◌≡◌, ◌+◌, ◌++◌, length}
 use Rattle.g4_grammar.specs.Numbering.{numbered_from, literal_rule}
 use Rattle.g4_build.proofs.token_rule.push_literal_rules.Given as goal
 
