@@ -1,9 +1,7 @@
 -- How elements lie in a network: the table of states and edges, by cases. States are numbered as they are made.
-use Rattle.std.specs.Prelude.{◌≡◌, ◌≤◌, ℕ, ◌+◌, ◌*◌, List, [], ◌∷◌, ◌++◌, length, map, Bool, true, false, Some, slice_get, slice_index}
-use Rattle.g4_grammar.specs.Elements.{Element, one_of, call, predicate, at_level, action, block, optional, star, plus, Elements, empty, then, Alternatives, none, or, added_rule, only, symbols_in_order}
-use Rattle.g4_grammar.specs.declared.numbered.Numbered.{Numbered}
+use Rattle.std.specs.Prelude.{◌≡◌, ◌≤◌, ℕ, ◌+◌, ◌*◌, List, [], ◌∷◌, ◌++◌, length, Bool, true, false, Some}
+use Rattle.g4_grammar.specs.Elements.{Element, one_of, call, predicate, at_level, action, block, optional, star, plus, Elements, empty, then, Alternatives, none, or, only}
 use Rattle.g4_net.specs.declared.network.Network.{Network}
-use Rattle.g4_net.specs.declared.network.State.{State}
 use Rattle.g4_net.specs.declared.network.State.TheVariants.{Decision, End, Token, Call, Predicate, Level, Action, Empty}
 use Rattle.g4_net.specs.Network.{state_at, start_of, end_of, written_at}
 

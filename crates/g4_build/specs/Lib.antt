@@ -1,2 +1,4 @@
 pub mod Answers
+pub mod Halves
 pub mod Layout
+pub mod States

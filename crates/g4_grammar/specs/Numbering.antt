@@ -1,7 +1,7 @@
 -- The numbering of token types: first the literals of parser rules that need a token of their own, by first
 -- appearance, then the lexer rules, then the other token names, by first appearance.
-use Rattle.std.specs.Prelude.{◌≡◌, ℕ, ◌+◌, ◌==◌, List, [], ◌∷◌, ◌++◌, length, map, Option, Some, None, Bool, true, false, ◌&&◌, not, cond, codes, position, slice_get, filter, count_by, is_some, option_map}
-use Rattle.std.specs.List.{filter_map, flat_map, list_any}
+use Rattle.std.specs.Prelude.{ℕ, ◌+◌, ◌==◌, List, [], ◌∷◌, ◌++◌, length, map, Option, Some, None, Bool, true, false, ◌||◌, not, cond, codes, filter, count_by}
+use Rattle.std.specs.List.{filter_map, flat_map, list_any, position_or_len}
 use Rattle.std.specs.Str.{bytes_eq}
 use Rattle.g4_base.specs.Symbols.{eof}
 use Rattle.g4_grammar.specs.declared.source.Source.{Source}
@@ -35,8 +35,8 @@ abbrev pub lexer_rules : Source → List LexerRule
 lexer_rules source = filter_map lexer_rule source.rules
 
 -- the elements of all parser rules, in order of the text
-abbrev pub all_elements : Source → List Element
-all_elements source = flat_map (λ rule. rule.elements) (parser_rules source)
+abbrev pub all_elements : List ParserRule → List Element
+all_elements rules = flat_map (λ rule. rule.elements) rules
 
 -- the literal that is the whole content of a lexer rule
 abbrev pub literal_of_atom : Atom → Bool → Option Literal
@@ -58,8 +58,8 @@ abbrev pub is_whole : List ℕ → LexerRule → Bool
 is_whole characters rule = stands_for characters (whole_literal rule.elements)
 
 -- exactly one lexer rule is this literal: the literal names its token
-abbrev pub has_rule : Source → List ℕ → Bool
-has_rule source characters = count_by (is_whole characters) (lexer_rules source) == 1
+abbrev pub has_rule : List LexerRule → List ℕ → Bool
+has_rule lexers characters = count_by (is_whole characters) lexers == 1
 
 abbrev pub literal_element : Element → Option Literal
 literal_element (elements.Token name) = None
@@ -69,62 +69,72 @@ abbrev pub name_element : Element → Option (List ℕ)
 name_element (elements.Token name) = Some name
 name_element (elements.Literal literal) = None
 
--- the items, each key at its first appearance alone
-abbrev pub first_appearances : {X : Type 0} → (X → List ℕ) → List (List ℕ) → List X → List X
-first_appearances key seen [] = []
-first_appearances key seen (x ∷ xs) = cond (list_any (bytes_eq (key x)) seen) (first_appearances key seen xs) (x ∷ first_appearances key (key x ∷ seen) xs)
+-- one of the items found has the key
+abbrev pub has_key : {X : Type 0} → (X → List ℕ) → List X → List ℕ → Bool
+has_key key found wanted = list_any (λ x. bytes_eq (key x) wanted) found
 
--- the literals that need a token of their own
-abbrev pub own_literals : Source → List Literal
-own_literals source = first_appearances (λ l. l.characters) [] (filter (λ l. not (has_rule source l.characters)) (filter_map literal_element (all_elements source)))
+-- the items found, and then those of the list, each key at its first appearance alone
+abbrev pub first_appearances : {X : Type 0} → (X → List ℕ) → List X → List X → List X
+first_appearances key found [] = found
+first_appearances key found (x ∷ xs) = first_appearances key (cond (has_key key found (key x)) found (found ++ x ∷ [])) xs
+
+-- the literals of some elements that need a token of their own
+abbrev pub ruleless_literals : List LexerRule → List Element → List Literal
+ruleless_literals lexers elements = filter (λ l. not (has_rule lexers l.characters)) (filter_map literal_element elements)
+
+-- the literals that need a token of their own, each once
+abbrev pub own_literals : List ParserRule → List LexerRule → List Literal
+own_literals parsers lexers = first_appearances (λ l. l.characters) [] (ruleless_literals lexers (all_elements parsers))
 
 -- a name of a lexer rule, or EOF
-abbrev pub is_known : Source → List ℕ → Bool
-is_known source name = cond (bytes_eq name (codes "EOF")) true (list_any (λ rule. bytes_eq rule.name name) (lexer_rules source))
+abbrev pub is_known : List LexerRule → List ℕ → Bool
+is_known lexers name = bytes_eq name (codes "EOF") || list_any (λ rule. bytes_eq rule.name name) lexers
 
--- the token names without a rule
-abbrev pub other_names : Source → List (List ℕ)
-other_names source = first_appearances (λ n. n) [] (filter (λ n. not (is_known source n)) (filter_map name_element (all_elements source)))
+-- the token names of some elements without a rule
+abbrev pub ruleless_names : List LexerRule → List Element → List (List ℕ)
+ruleless_names lexers elements = filter (λ n. not (is_known lexers n)) (filter_map name_element elements)
 
--- the place of the first item with the property, or 0
-abbrev pub place_of : {X : Type 0} → (X → Bool) → List X → ℕ
-place_of p [] = 0
-place_of p (x ∷ xs) = cond (p x) 0 (place_of p xs + 1)
+-- the token names without a rule, each once
+abbrev pub other_names : List ParserRule → List LexerRule → List (List ℕ)
+other_names parsers lexers = first_appearances (λ n. n) [] (ruleless_names lexers (all_elements parsers))
 
--- the type of the lexer rule at this place, counted from 0
-abbrev pub rule_type : Source → ℕ → ℕ
-rule_type source k = length (own_literals source) + k + 1
+-- the type of the lexer rule at this place, counted from 0, behind so many own literals
+abbrev pub rule_type : ℕ → ℕ → ℕ
+rule_type own place = own + place + 1
 
-abbrev pub symbol_of_name : Source → List ℕ → ℕ
-symbol_of_name source name =
+-- the symbol of a name: EOF, a lexer rule's type, or the type of a name without a rule
+abbrev pub symbol_of_name : List Literal → List LexerRule → List (List ℕ) → List ℕ → ℕ
+symbol_of_name own lexers others name =
     cond (bytes_eq name (codes "EOF")) eof
-    (cond (is_known source name) (rule_type source (place_of (λ rule. bytes_eq rule.name name) (lexer_rules source)))
-    (rule_type source (length (lexer_rules source) + place_of (bytes_eq name) (other_names source))))
+    (cond (is_known lexers name) (rule_type (length own) (position_or_len (λ rule. bytes_eq rule.name name) lexers))
+    (rule_type (length own) (length lexers + position_or_len (λ other. bytes_eq other name) others)))
 
-abbrev pub symbol_of_literal : Source → List ℕ → ℕ
-symbol_of_literal source characters =
-    cond (has_rule source characters) (rule_type source (place_of (is_whole characters) (lexer_rules source)))
-    (place_of (λ l. bytes_eq l.characters characters) (own_literals source) + 1)
+-- the symbol of a literal: the type of the lexer rule that it is, or its own
+abbrev pub symbol_of_literal : List Literal → List LexerRule → List ℕ → ℕ
+symbol_of_literal own lexers characters =
+    cond (has_rule lexers characters) (rule_type (length own) (position_or_len (is_whole characters) lexers))
+    (position_or_len (λ l. bytes_eq l.characters characters) own + 1)
 
 -- the symbol of an element of a parser rule
-abbrev pub symbol_of : Source → Element → ℕ
-symbol_of source (elements.Token name) = symbol_of_name source name
-symbol_of source (elements.Literal literal) = symbol_of_literal source literal.characters
+abbrev pub symbol_of : List Literal → List LexerRule → List (List ℕ) → Element → ℕ
+symbol_of own lexers others (elements.Token name) = symbol_of_name own lexers others name
+symbol_of own lexers others (elements.Literal literal) = symbol_of_literal own lexers literal.characters
 
-abbrev pub numbered_rule : Source → ParserRule → NumberedRule
-numbered_rule source rule = record { name = rule.name; symbols = map (symbol_of source) rule.elements }
+-- a parser rule over symbols
+abbrev pub numbered_rule : List Literal → List LexerRule → List (List ℕ) → ParserRule → NumberedRule
+numbered_rule own lexers others rule = record { name = rule.name; symbols = map (symbol_of own lexers others) rule.elements }
 
 -- what is shown of a lexer rule's token: its literal as the rule writes it, else its name
-abbrev pub shown_literal : Source → List ℕ → Option Literal → List ℕ
-shown_literal source name None = name
-shown_literal source name (Some literal) = cond (has_rule source literal.characters) literal.written name
+abbrev pub shown_literal : List LexerRule → List ℕ → Option Literal → List ℕ
+shown_literal lexers name None = name
+shown_literal lexers name (Some literal) = cond (has_rule lexers literal.characters) literal.written name
 
-abbrev pub shown_rule : Source → LexerRule → List ℕ
-shown_rule source rule = shown_literal source rule.name (whole_literal rule.elements)
+abbrev pub shown_rule : List LexerRule → LexerRule → List ℕ
+shown_rule lexers rule = shown_literal lexers rule.name (whole_literal rule.elements)
 
 -- what is shown of each type from 1 on
-abbrev pub shown_types : Source → List (List ℕ)
-shown_types source = map (λ l. l.written) (own_literals source) ++ (map (shown_rule source) (lexer_rules source) ++ other_names source)
+abbrev pub shown_types : List Literal → List LexerRule → List (List ℕ) → List (List ℕ)
+shown_types own lexers others = map (λ l. l.written) own ++ (map (shown_rule lexers) lexers ++ others)
 
 -- what makes a token of an own literal, and of a lexer rule
 abbrev pub literal_rule : ℕ → Literal → TokenRule
@@ -139,17 +149,27 @@ numbered_from f n [] = []
 numbered_from f n (x ∷ xs) = f n x ∷ numbered_from f (n + 1) xs
 
 -- the token rules in the order in which they win a tie: own literals, then lexer rules
-abbrev pub token_rules : Source → List TokenRule
-token_rules source = numbered_from literal_rule 1 (own_literals source) ++ numbered_from token_rule (rule_type source 0) (lexer_rules source)
+abbrev pub token_rules : List Literal → List LexerRule → List TokenRule
+token_rules own lexers = numbered_from literal_rule 1 own ++ numbered_from token_rule (rule_type (length own) 0) lexers
+
+-- the numbered grammar of parser rules and lexer rules, whose tokens are these
+abbrev pub numbered_of : List ParserRule → List LexerRule → List Literal → List (List ℕ) → Numbered
+numbered_of parsers lexers own others = record {
+  rules = map (numbered_rule own lexers others) parsers;
+  shown = shown_types own lexers others;
+  token_rules = token_rules own lexers;
+}
 
 -- the numbered grammar of a source
 abbrev pub numbered_grammar : Source → Numbered
-numbered_grammar source = record {
-  rules = map (numbered_rule source) (parser_rules source);
-  shown = shown_types source;
-  token_rules = token_rules source;
-}
+numbered_grammar source =
+    let parsers = parser_rules source in
+    let lexers = lexer_rules source in
+    numbered_of parsers lexers (own_literals parsers lexers) (other_names parsers lexers)
 
 -- the greatest token type
 abbrev pub greatest_type : Source → ℕ
-greatest_type source = length (shown_types source)
+greatest_type source =
+    let parsers = parser_rules source in
+    let lexers = lexer_rules source in
+    length (own_literals parsers lexers) + length lexers + length (other_names parsers lexers)

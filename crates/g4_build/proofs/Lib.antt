@@ -1,0 +1,5 @@
+pub mod Lookups
+pub mod Laid
+pub mod Chained
+pub mod Built
+pub mod Numbers

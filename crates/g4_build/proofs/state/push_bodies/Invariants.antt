@@ -1,0 +1,10 @@
+use Rattle.std.proofs.Common.{◌≡◌, ◌≤◌, ◌+◌, ◌++◌, drop}
+use Rattle.g4_build.specs.States.{bodies, symbol_count}
+use Rattle.g4_build.proofs.state.push_bodies.Given as goal
+
+abbrev pub invariant-loop-rule : goal.invariant-loop-rule
+invariant-loop-rule l = record {
+  numbered : l.number ≡ l.rule-index + 1;
+  fits : l.next + symbol_count (drop l.rule-index l.rules) ≤ 65536;
+  made : l.states.items ++ bodies l.number l.next (drop l.rule-index l.rules) ≡ l.initial.states.items ++ bodies 1 l.first l.rules;
+}

@@ -1,0 +1,74 @@
+// Literals, and the lexer rules that are literals.
+ghost use Rattle.std.specs.Prelude.{◌≡◌, ◌≤◌, IfOk, length};
+ghost use Rattle.std.specs.List.{position_or_len};
+ghost use Rattle.std.specs.Str.{bytes_eq};
+ghost use Rattle.g4_grammar.specs.Numbering.{has_rule, is_whole, literal_of_atom, stands_for};
+
+use g4_base::{Sequence, Text};
+use g4_grammar::{Atom, LexElement, LexerRule, Literal};
+use std::alloc::{AllocError, Global};
+
+/// A copy of the literal.
+pub fn copy_of(alloc: Global, literal: &Literal) -> Result<Literal, AllocError>
+    ensures { IfOk result (λ copy. copy ≡ literal.now) }
+{
+    let characters = literal.characters.as_slice().to_vec(alloc)?;
+    let written = Text::copy_of(alloc, literal.written.as_str())?;
+    Ok(Literal {
+        characters: Sequence::new(characters),
+        written,
+    })
+}
+
+/// Whether the element is a literal for these characters, taken once.
+fn is_literal(element: &LexElement, characters: &[char]) -> bool
+    ensures { result ≡ stands_for characters.now (literal_of_atom element.now.atom element.now.repeated) }
+{
+    match &element.atom {
+        Atom::Literal(literal) => {
+            !element.repeated && literal.characters.as_slice() == characters
+        }
+        Atom::Set(_) => false,
+    }
+}
+
+/// Whether the lexer rule is a literal for these characters and nothing else.
+pub fn is_whole(rule: &LexerRule, characters: &[char]) -> bool
+    ensures { result ≡ is_whole characters.now rule.now }
+{
+    match rule.elements.as_slice() {
+        [element] => is_literal(element, characters),
+        _ => false,
+    }
+}
+
+/// Whether exactly one lexer rule is a literal for these characters.
+pub fn has_rule(lexers: &[LexerRule], characters: &[char]) -> bool
+    ensures { result ≡ has_rule lexers.now characters.now }
+{
+    lexers
+        .iter()
+        .filter(|rule| is_whole(rule, characters))
+        .count()
+        == 1
+}
+
+/// The place of the lexer rule that is a literal for these characters and nothing else, or their number.
+pub fn whole_place(lexers: &[LexerRule], characters: &[char]) -> usize
+    ensures place { result ≡ position_or_len (is_whole characters.now) lexers.now }
+    ensures within { result ≤ length lexers.now }
+{
+    let place = lexers.iter().position(|rule| is_whole(rule, characters));
+    place.unwrap_or(lexers.len())
+}
+
+/// The place of the literal for these characters, or their number.
+pub fn own_place(own: &[Literal], characters: &[char]) -> usize
+    ensures place { result ≡ position_or_len (λ l. bytes_eq l.characters characters.now) own.now }
+    ensures within { result ≤ length own.now }
+{
+    let place = own
+        .iter()
+        .position(|literal| literal.characters.as_slice() == characters);
+    place.unwrap_or(own.len())
+}
