@@ -39,6 +39,7 @@ record HasParts (rules : List NumberedRule) (start : ℕ) (states : List State) 
   rest : drop (loop_of rules + 5) states ≡ bodies 1 (loop_of rules + 5) rules
   size : length states ≡ loop_of rules + 5 + symbol_count rules
 
+-- the listed states have these parts
 has_parts : (rules : List NumberedRule) (start : ℕ) (states : List State) → states ≡ states_of rules start → HasParts rules start states
 has_parts rules start states is =
     let loop : ℕ = loop_of rules in
@@ -57,6 +58,7 @@ has_parts rules start states is =
     let t : drop loop states ≡ turns ++ rest = left_behind states 2 loop links (turns ++ rest) (omega arith) l in
     record { whole = whole; links = l; turns = t; rest = left_behind states loop (loop + 5) turns rest (omega arith) t; size = omega arith }
 
+-- the added rule stands where its call and its loop are
 has_added : (net : Network) (rules : List NumberedRule) (start : ℕ) → HasParts rules start net.states → HasAddedRule net start (loop_of rules)
 has_added net rules start h =
     let loop : ℕ = loop_of rules in
@@ -75,6 +77,7 @@ has_added net rules start h =
 has_ends : (net : Network) (rules : List NumberedRule) (start : ℕ) → HasParts rules start net.states → (k : ℕ) → 1 ≤ k → k ≤ length rules → state_at net (end_of k) ≡ Some (End k)
 has_ends net rules start h k low high = ends_at net.states 1 (loop_of rules + 5) rules _ h.links k low (omega arith)
 
+-- the listed states are a chain
 is_chain : (net : Network) (rules : List NumberedRule) (start count : ℕ) → HasParts rules start net.states → net.states ≡ states_of rules start → 1 ≤ start → start ≤ length rules → length net.states ≤ 65536 → length net.written ≡ length net.states → IsChain net start (loop_of rules)
 is_chain net rules start count h is low high few written =
     record {
@@ -101,6 +104,7 @@ contains_one x t = (to, λ e. (0, omega arith, e))
     to (zero, less, e) = e
     to (suc k, less, e) = absurd (omega arith)
 
+-- a list of empty lists has no other
 in_replicate : (n i : ℕ) (listed : List ℕ) → slice_get (replicate n []) i ≡ Some listed → listed ≡ []
 in_replicate zero i listed e = absurd (let k : ⊥ = cc in k)
 in_replicate (suc n) zero listed e = cc
@@ -116,6 +120,7 @@ called_at (suc n) m (suc r) loop listed e = elim (called_at n m r loop listed e)
   | inr h ↦ inr ((λ k. h.0 (omega arith)), h.1)
 ]
 
+-- the callers listed are the return states of each rule's calls
 has_callers : (net : Network) (rules : List NumberedRule) (start : ℕ) → HasParts rules start net.states → net.states ≡ states_of rules start → net.callers ≡ callers_of (length rules) start (loop_of rules) →
     (rule t : ℕ) (listed : List ℕ) → slice_get net.callers rule ≡ Some listed → Contains listed t ↔ IsReturn net rule t
 has_callers net rules start h is callers rule t listed here =
@@ -139,6 +144,7 @@ has_callers net rules start h is callers rule t listed here =
     returns : rule ≡ start → loop_of rules ≡ t → IsReturn net rule t
     returns same e = (0, 0, (has_added net rules start h).call ∙ cc)
 
+-- callers are listed for the added rule and for each other
 length-callers : (rules start loop : ℕ) → start ≤ rules → length (callers_of rules start loop) ≡ rules + 1
 length-callers rules start loop few =
     let a : length (callers_of rules start loop) ≡ length (replicate {A = List ℕ} start []) + length {A = List ℕ} ((loop ∷ []) ∷ replicate {A = List ℕ} (rules - start) []) = length-append (replicate start []) ((loop ∷ []) ∷ replicate (rules - start) []) in
@@ -153,14 +159,17 @@ written_within heads count p less =
     let at : get_or (range_with_len 0 count) p 0 ≡ p = get_or-range_with_len 0 count p 0 less ∙ omega arith in
     get_or-map (written_of heads) (range_with_len 0 count) p 0 0 within ∙ ap (written_of heads) at
 
+-- nothing is written past the states
 written_past : (heads count p : ℕ) → count ≤ p → slice_index (all_written heads count) p ≡ 0
 written_past heads count p past = get_or_past (all_written heads count) p 0 (omega (arith, length-map-range_with_len (written_of heads) 0 count))
 
+-- one is written at a rule's start
 written_start : (heads rule : ℕ) → start_of rule < heads → written_of heads (start_of rule) ≡ 1
 written_start heads rule less =
     let even : 2 * rule % 2 ≡ 0 = omega arith in
     grind (arith, nat_tests)
 
+-- nothing is written elsewhere
 written_other : (heads p : ℕ) → (p < heads → p % 2 ≡ 0 → ⊥) → written_of heads p ≡ 0
 written_other heads p never =
     let cases : (heads ≤ p) ⊎ ((p < heads) × (p % 2 ≢ 0)) = grind arith in

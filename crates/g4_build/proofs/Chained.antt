@@ -23,10 +23,12 @@ IsLink first count rules (Predicate k t) = ⊥
 IsLink first count rules (Level q t) = ⊥
 IsLink first count rules (Action t) = ⊥
 
+-- the state before the last symbols of a rule is a link
 step_links : (first count rules k n : ℕ) (symbols : List ℕ) → first ≤ n → n + length symbols ≤ count → 1 ≤ k → k ≤ rules → IsLink first count rules (step k n symbols)
 step_links first count rules k n [] from fits low high = (k, low, high, refl)
 step_links first count rules k n (a ∷ more) from fits low high = (from, omega arith)
 
+-- the states behind a rule's symbols are links
 body_links : (first count rules k n : ℕ) (symbols : List ℕ) → first ≤ n → n + length symbols ≤ count → 1 ≤ k → k ≤ rules → Each (IsLink first count rules) (body k n symbols)
 body_links first count rules k n [] from fits low high = tt
 body_links first count rules k n (a ∷ more) from fits low high = (
@@ -34,6 +36,7 @@ body_links first count rules k n (a ∷ more) from fits low high = (
   body_links first count rules k (n + 1) more (omega arith) (omega arith) low high,
 )
 
+-- the starts and ends of rules are links
 heads_link : (first count most k n : ℕ) (rules : List NumberedRule) → first ≤ n → n + symbol_count rules ≤ count → 1 ≤ k → k + length rules ≤ most + 1 → Each (IsLink first count most) (heads k n rules)
 heads_link first count most k n [] from fits low high = tt
 heads_link first count most k n (rule ∷ rules) from fits low high =
@@ -42,6 +45,7 @@ heads_link first count most k n (rule ∷ rules) from fits low high =
       (tt, heads_link first count most (k + 1) (n + length rule.symbols) rules (omega arith) (omega arith) (omega arith) (omega arith)),
     )
 
+-- the bodies of rules are links
 bodies_link : (first count most k n : ℕ) (rules : List NumberedRule) → first ≤ n → n + symbol_count rules ≤ count → 1 ≤ k → k + length rules ≤ most + 1 → Each (IsLink first count most) (bodies k n rules)
 bodies_link first count most k n [] from fits low high = tt
 bodies_link first count most k n (rule ∷ rules) from fits low high =
@@ -56,9 +60,11 @@ pub data Where (rules : List NumberedRule) (start p : ℕ) (s : State) : Type 0 
   in_body : (i : ℕ) → i < 5 → p ≡ loop_of rules + i → slice_get (added_body (loop_of rules)) i ≡ Some s → Where rules start p s
   outside : IsOutside (loop_of rules) p → IsLink (loop_of rules + 5) (loop_of rules + 5 + symbol_count rules) (length rules) s → Where rules start p s
 
+-- the added rule has five states behind its call
 loop_within : (loop i : ℕ) (s : State) → slice_get (added_body loop) i ≡ Some s → i < 5
 loop_within loop i s here = slice_get_within (added_body loop) i s here
 
+-- each state stands in the added rule or outside it
 pub stands : (rules : List NumberedRule) (start p : ℕ) (s : State) → slice_get (states_of rules start) p ≡ Some s → Where rules start p s
 stands rules start p s here =
     let loop : ℕ = loop_of rules in
@@ -110,6 +116,7 @@ called_head start loop zero rule level back less here = (cc, cc)
 called_head start loop (suc zero) rule level back less here = cc
 called_head start loop (suc (suc i)) rule level back less here = absurd (omega arith)
 
+-- no state behind the call of the added rule calls
 called_body : (loop i rule level back : ℕ) → i < 5 → slice_get (added_body loop) i ≡ Some (Call rule level back) → ⊥
 called_body loop zero rule level back less here = cc
 called_body loop (suc zero) rule level back less here = cc
@@ -118,6 +125,7 @@ called_body loop (suc (suc (suc zero))) rule level back less here = cc
 called_body loop (suc (suc (suc (suc zero)))) rule level back less here = cc
 called_body loop (suc (suc (suc (suc (suc i))))) rule level back less here = omega arith
 
+-- the one call is that of the start rule, which returns to the loop
 pub one_call : (rules : List NumberedRule) (start p rule level back : ℕ) → slice_get (states_of rules start) p ≡ Some (Call rule level back) → (rule ≡ start) × (back ≡ loop_of rules)
 one_call rules start p rule level back here = elim (stands rules start p (Call rule level back) here) [
   | in_head i less is h ↦ called_head start (loop_of rules) i rule level back less h

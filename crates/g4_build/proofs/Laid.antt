@@ -22,6 +22,7 @@ pub length-body : (k n : ℕ) (symbols : List ℕ) → length (body k n symbols)
 length-body k n [] = refl
 length-body k n (a ∷ more) = ap suc (length-body k (n + 1) more)
 
+-- as many states as symbols lie in the bodies
 pub length-bodies : (k n : ℕ) (rules : List NumberedRule) → length (bodies k n rules) ≡ symbol_count rules
 length-bodies k n [] = refl
 length-bodies k n (rule ∷ rules) =
@@ -42,6 +43,7 @@ record Lay (net : Network) (k s n m : ℕ) (symbols : List ℕ) : Type 0 where
   lie : LieInOrder net (symbols_in_order symbols) s last n m
   ends : state_at net last ≡ Some (Empty (end_of k))
 
+-- the symbols of a rule lie in order
 in_order : (net : Network) (k s n m : ℕ) (symbols : List ℕ) (rest : List State) → m ≡ n + length symbols → state_at net s ≡ Some (step k n symbols) → drop n net.states ≡ body k n symbols ++ rest → Lay net k s n m symbols
 in_order net k s n m [] rest is here left =
     let e : n ≡ m = omega arith in

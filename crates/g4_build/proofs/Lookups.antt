@@ -29,10 +29,12 @@ module _ {X : Type 0} where
   Each P [] = Unit {0}
   Each P (x ∷ xs) = P x × Each P xs
 
+  -- the property holds of two lists
   pub Each-append : (P : X → Type 0) (xs ys : List X) → Each P xs → Each P ys → Each P (xs ++ ys)
   Each-append P [] ys h k = k
   Each-append P (x ∷ xs) ys h k = (h.0, Each-append P xs ys h.1 k)
 
+  -- the property holds of the item at a place
   pub Each-at : (P : X → Type 0) (xs : List X) (i : ℕ) (x : X) → Each P xs → slice_get xs i ≡ Some x → P x
   Each-at P [] i x h e = absurd (let k : ⊥ = cc in k)
   Each-at P (y ∷ xs) zero x h e = let is : y ≡ x = cc in subst P is h.0

@@ -38,25 +38,29 @@ unwrap_or-position p xs = at (position_or_len p xs) (length xs) (within p xs)
       | inr e ↦ rw e.0 e.1
     ]
 
--- what is shown of a rule that is a literal
+-- what is shown of a rule that is a literal: repeated, it is the name
 pub shown_repeated : (lexers : List LexerRule) (name : List ℕ) (atom : Atom) (repeated : Bool) (literal : Literal) → atom ≡ atoms.Literal literal → repeated ≡ true → name ≡ shown_literal lexers name (literal_of_atom atom repeated)
 shown_repeated lexers name atom repeated literal e r = rw (e, r) refl
 
+-- once and with no other such rule, it is the literal
 pub shown_own : (lexers : List LexerRule) (name : List ℕ) (atom : Atom) (repeated : Bool) (literal : Literal) → atom ≡ atoms.Literal literal → repeated ≡ false → has_rule lexers literal.characters ≡ true → literal.written ≡ shown_literal lexers name (literal_of_atom atom repeated)
 shown_own lexers name atom repeated literal e r h = rw (e, r, h) refl
 
+-- with another such rule, it is the name
 pub shown_other : (lexers : List LexerRule) (name : List ℕ) (atom : Atom) (repeated : Bool) (literal : Literal) → atom ≡ atoms.Literal literal → repeated ≡ false → has_rule lexers literal.characters ≡ false → name ≡ shown_literal lexers name (literal_of_atom atom repeated)
 shown_other lexers name atom repeated literal e r h = rw (e, r, h) refl
 
--- an element that is a literal, where a rule is that literal, where it was found before, and where it is new
+-- an element that is a literal: where a rule is that literal, nothing is added
 pub literal_ruled : (lexers : List LexerRule) (own : List Literal) (element : Element) (literal : Literal) → element ≡ elements.Literal literal → has_rule lexers literal.characters ≡ true →
     own ≡ first_appearances (λ l. l.characters) own (ruleless_literals lexers (element ∷ []))
 literal_ruled lexers own element literal e h = rw (e, h) refl
 
+-- where it was found before, nothing is added
 pub literal_found : (lexers : List LexerRule) (own : List Literal) (element : Element) (literal : Literal) → element ≡ elements.Literal literal → has_rule lexers literal.characters ≡ false → has_key (λ l. l.characters) own literal.characters ≡ true →
     own ≡ first_appearances (λ l. l.characters) own (ruleless_literals lexers (element ∷ []))
 literal_found lexers own element literal e h k = rw (e, h, k) refl
 
+-- where it is new, it is added
 pub literal_new : (lexers : List LexerRule) (own : List Literal) (element : Element) (literal : Literal) → element ≡ elements.Literal literal → has_rule lexers literal.characters ≡ false → has_key (λ l. l.characters) own literal.characters ≡ false →
     own ++ literal ∷ [] ≡ first_appearances (λ l. l.characters) own (ruleless_literals lexers (element ∷ []))
 literal_new lexers own element literal e h k = rw (e, h, k) refl
@@ -66,11 +70,13 @@ pub first_appearances-append : {X : Type 0} (key : X → List ℕ) (seen xs ys :
 first_appearances-append key seen [] ys = refl
 first_appearances-append key seen (x ∷ xs) ys = first_appearances-append key (cond (has_key key seen (key x)) seen (seen ++ x ∷ [])) xs ys
 
+-- the literals without a rule in two lists of elements
 pub ruleless_literals-append : (lexers : List LexerRule) (xs ys : List Element) → ruleless_literals lexers (xs ++ ys) ≡ ruleless_literals lexers xs ++ ruleless_literals lexers ys
 ruleless_literals-append lexers xs ys =
     let test : Literal → Bool = λ l. not (has_rule lexers l.characters) in
     rw (filter_map-append literal_element xs ys) (filter-append test (filter_map literal_element xs) (filter_map literal_element ys))
 
+-- the names without a rule in two lists of elements
 pub ruleless_names-append : (lexers : List LexerRule) (xs ys : List Element) → ruleless_names lexers (xs ++ ys) ≡ ruleless_names lexers xs ++ ruleless_names lexers ys
 ruleless_names-append lexers xs ys =
     let test : List ℕ → Bool = λ n. not (is_known lexers n) in
@@ -93,6 +99,7 @@ parser_more rules parsers new lexers rule parser e n h = record {
   lexers_are = h.lexers_are ∙ rw e (sym (filter_map-append lexer_rule rules (Parser parser ∷ []) ∙ append-nil (filter_map lexer_rule rules)));
 }
 
+-- one more lexer rule in its half
 pub lexer_more : (rules : List Rule) (parsers : List ParserRule) (lexers new : List LexerRule) (rule : Rule) (lexer : LexerRule) → rule ≡ Lexer lexer → new ≡ lexers ++ lexer ∷ [] → AreHalves rules parsers lexers → AreHalves (rules ++ rule ∷ []) parsers new
 lexer_more rules parsers lexers new rule lexer e n h = record {
   parsers_are = h.parsers_are ∙ rw e (sym (filter_map-append parser_rule rules (Lexer lexer ∷ []) ∙ append-nil (filter_map parser_rule rules)));
@@ -104,6 +111,7 @@ pub numbered_from-push : {X Y : Type 0} (f : ℕ → X → Y) (n m : ℕ) (xs : 
 numbered_from-push f n m [] x e = let is : n ≡ m = omega arith in ap (λ (k : ℕ). f k x ∷ []) is
 numbered_from-push f n m (y ∷ xs) x e = ap (λ (zs : List _). f n y ∷ zs) (numbered_from-push f (n + 1) m xs x (omega arith))
 
+-- one more numbered item behind others
 pub numbered_more : {X Y : Type 0} (f : ℕ → X → Y) (first number : ℕ) (old now new : List Y) (seen : List X) (x : X) → number ≡ first + length seen → now ≡ old ++ numbered_from f first seen → new ≡ now ++ f number x ∷ [] → new ≡ old ++ numbered_from f first (seen ++ x ∷ [])
 numbered_more f first number old now new seen x e h n =
     n ∙ (ap (λ (ys : List _). ys ++ f number x ∷ []) h ∙ (append_assoc old (numbered_from f first seen) (f number x ∷ []) ∙ ap (λ (ys : List _). old ++ ys) (sym (numbered_from-push f first number seen x e))))
@@ -114,6 +122,7 @@ numbered_below f is most n [] few k d less = absurd (omega arith)
 numbered_below f is most n (x ∷ xs) few zero d less = let e : (f n x).symbol ≡ n = is n x in omega arith
 numbered_below f is most n (x ∷ xs) few (suc k) d less = numbered_below f is most (n + 1) xs (omega arith) k d (omega arith)
 
+-- the symbols of the token rules are token types
 pub symbols_below : (own : List Literal) (lexers : List LexerRule) (rules : List TokenRule) → length own + length lexers ≤ 4096 → rules ≡ token_rules own lexers → All (λ r. r.symbol ≤ 4096) rules
 symbols_below own lexers rules few e =
     let P : TokenRule → Type 0 = λ r. r.symbol ≤ 4096 in
@@ -129,6 +138,7 @@ numbered_is source parsers lexers own others grammar h o n g =
     g ∙ (ap (λ (ls : List Literal). numbered_of parsers lexers ls others) o ∙ (ap (λ (ns : List (List ℕ)). numbered_of parsers lexers (own_literals parsers lexers) ns) n ∙
     (ap (λ (ps : List ParserRule). whole ps lexers) h.parsers_are ∙ ap (λ (ls : List LexerRule). whole (filter_map parser_rule source.rules) ls) h.lexers_are)))
 
+-- the greatest type is the source's
 pub greatest_is : (source : Source) (parsers : List ParserRule) (lexers : List LexerRule) (own : List Literal) (others : List (List ℕ)) → AreHalves source.rules parsers lexers → own ≡ own_literals parsers lexers → others ≡ other_names parsers lexers →
     length own + length lexers + length others ≡ greatest_type source
 greatest_is source parsers lexers own others h o n =

@@ -21,6 +21,7 @@ CausesNumberFault source number_faults.Rules = 4096 < length source.rules
 CausesNumberFault source number_faults.Types = (length source.rules ≤ 4096) × (4096 < greatest_type source)
 CausesNumberFault source number_faults.NoMemory = Unit {0}
 
+-- numbering gives exactly the source's numbered grammar, or a fault with its cause
 abbrev pub GivesNumbered : Source → Result Numbered NumberFault → Type 0
 GivesNumbered source (Ok grammar) = (length source.rules ≤ 4096) × (greatest_type source ≤ 4096) × (grammar ≡ numbered_grammar source)
 GivesNumbered source (Err fault) = CausesNumberFault source fault
@@ -58,6 +59,7 @@ pub record IsBuilt (grammar : Numbered) (start : List ℕ) (net : Network) : Typ
   pub every_rule : length net.callers ≡ length grammar.rules + 1
   pub unwritten : (p : ℕ) → ((rule : ℕ) → rule ≤ length grammar.rules → p ≢ start_of rule) → written_at net p ≡ 0
 
+-- building gives the network that the grammar has, or a fault with its cause
 abbrev pub GivesNetwork : Numbered → List ℕ → Result Network BuildFault → Type 0
 GivesNetwork grammar start (Ok net) = IsBuilt grammar start net
 GivesNetwork grammar start (Err fault) = CausesBuildFault grammar start fault

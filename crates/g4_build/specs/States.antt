@@ -50,8 +50,7 @@ states_of rules start =
     let loop = loop_of rules in
     added_head start loop ++ heads 1 (loop + 5) rules ++ added_body loop ++ bodies 1 (loop + 5) rules
 
--- what is written of a state: the one alternative of a rule begins at its start, where the starts and ends are the states
--- before this number
+-- what is written of a state, the first so many being starts and ends: the one alternative of a rule begins at its start
 abbrev pub written_of : ℕ → ℕ → ℕ
 written_of heads state = if (nat_lt state heads && (state % 2 == 0)) then 1 else 0
 

@@ -19,18 +19,21 @@ use Rattle.g4_grammar.specs.declared.numbered.Numbered.{Numbered}
 use Rattle.g4_grammar.specs.declared.numbered.NumberedRule.{NumberedRule}
 use Rattle.g4_grammar.specs.declared.numbered.TokenRule.{TokenRule}
 
--- the parser rules and the lexer rules, each in order of the text
+-- a rule, where it is a parser rule
 abbrev pub parser_rule : Rule → Option ParserRule
 parser_rule (Parser rule) = Some rule
 parser_rule (Lexer rule) = None
 
+-- a rule, where it is a lexer rule
 abbrev pub lexer_rule : Rule → Option LexerRule
 lexer_rule (Parser rule) = None
 lexer_rule (Lexer rule) = Some rule
 
+-- the parser rules in order of the text
 abbrev pub parser_rules : Source → List ParserRule
 parser_rules source = filter_map parser_rule source.rules
 
+-- the lexer rules in order of the text
 abbrev pub lexer_rules : Source → List LexerRule
 lexer_rules source = filter_map lexer_rule source.rules
 
@@ -38,12 +41,13 @@ lexer_rules source = filter_map lexer_rule source.rules
 abbrev pub all_elements : List ParserRule → List Element
 all_elements rules = flat_map (λ rule. rule.elements) rules
 
--- the literal that is the whole content of a lexer rule
+-- the literal that an atom is, taken once
 abbrev pub literal_of_atom : Atom → Bool → Option Literal
 literal_of_atom (atoms.Literal literal) false = Some literal
 literal_of_atom (atoms.Literal literal) true = None
 literal_of_atom (atoms.Set ranges) repeated = None
 
+-- the literal that is the whole of these elements, taken once
 abbrev pub whole_literal : List LexElement → Option Literal
 whole_literal [] = None
 whole_literal (e ∷ []) = literal_of_atom e.atom e.repeated
@@ -54,6 +58,7 @@ abbrev pub stands_for : List ℕ → Option Literal → Bool
 stands_for characters None = false
 stands_for characters (Some literal) = bytes_eq literal.characters characters
 
+-- the lexer rule is this literal and nothing else
 abbrev pub is_whole : List ℕ → LexerRule → Bool
 is_whole characters rule = stands_for characters (whole_literal rule.elements)
 
@@ -61,10 +66,12 @@ is_whole characters rule = stands_for characters (whole_literal rule.elements)
 abbrev pub has_rule : List LexerRule → List ℕ → Bool
 has_rule lexers characters = count_by (is_whole characters) lexers == 1
 
+-- an element, where it is a literal
 abbrev pub literal_element : Element → Option Literal
 literal_element (elements.Token name) = None
 literal_element (elements.Literal literal) = Some literal
 
+-- an element, where it is a token name
 abbrev pub name_element : Element → Option (List ℕ)
 name_element (elements.Token name) = Some name
 name_element (elements.Literal literal) = None
@@ -124,11 +131,12 @@ symbol_of own lexers others (elements.Literal literal) = symbol_of_literal own l
 abbrev pub numbered_rule : List Literal → List LexerRule → List (List ℕ) → ParserRule → NumberedRule
 numbered_rule own lexers others rule = record { name = rule.name; symbols = map (symbol_of own lexers others) rule.elements }
 
--- what is shown of a lexer rule's token: its literal as the rule writes it, else its name
+-- a literal as its rule writes it, where that rule alone is the literal, else the rule's name
 abbrev pub shown_literal : List LexerRule → List ℕ → Option Literal → List ℕ
 shown_literal lexers name None = name
 shown_literal lexers name (Some literal) = cond (has_rule lexers literal.characters) literal.written name
 
+-- what is shown of a lexer rule's token
 abbrev pub shown_rule : List LexerRule → LexerRule → List ℕ
 shown_rule lexers rule = shown_literal lexers rule.name (whole_literal rule.elements)
 
@@ -136,10 +144,11 @@ shown_rule lexers rule = shown_literal lexers rule.name (whole_literal rule.elem
 abbrev pub shown_types : List Literal → List LexerRule → List (List ℕ) → List (List ℕ)
 shown_types own lexers others = map (λ l. l.written) own ++ (map (shown_rule lexers) lexers ++ others)
 
--- what makes a token of an own literal, and of a lexer rule
+-- what makes a token of an own literal
 abbrev pub literal_rule : ℕ → Literal → TokenRule
 literal_rule type literal = record { symbol = type; skip = false; elements = record { atom = atoms.Literal literal; repeated = false } ∷ [] }
 
+-- what makes a token of a lexer rule
 abbrev pub token_rule : ℕ → LexerRule → TokenRule
 token_rule type rule = record { symbol = type; skip = rule.skip; elements = rule.elements }
 
