@@ -76,6 +76,7 @@ fn set_piece(alloc: Global, behind: &[char]) -> Result<Piece, AllocError>
 }
 
 fn arguments_piece(behind: &[char]) -> Piece
+    requires fits { length behind.now ≤ 16777216 }
     ensures value { result ≡ arguments_piece behind.now }
     ensures within { IsWithin (length behind.now) result }
 {
@@ -86,6 +87,7 @@ fn arguments_piece(behind: &[char]) -> Piece
 }
 
 fn action_piece(behind: &[char]) -> Piece
+    requires fits { length behind.now ≤ 16777216 }
     ensures value { result ≡ action_piece behind.now }
     ensures within { IsWithin (length behind.now) result }
 {
@@ -123,6 +125,7 @@ fn sign_piece(c: char, behind: &[char]) -> Piece
 }
 
 fn marked_piece(alloc: Global, statement: Statement, c: char, behind: &[char]) -> Result<Piece, AllocError>
+    requires fits { length behind.now ≤ 16777216 }
     ensures value { IfOk result (λ p. p ≡ marked_piece statement c behind.now) }
     ensures within { IfOk result (IsWithin (length behind.now)) }
 {
@@ -153,6 +156,7 @@ fn number_length(text: &[char]) -> usize
 
 /// The piece that begins with the character, with what stands behind it.
 pub fn read_piece(alloc: Global, statement: Statement, c: char, behind: &[char]) -> Result<Piece, AllocError>
+    requires fits { length behind.now ≤ 16777216 }
     ensures value { IfOk result (λ p. p ≡ piece statement c behind.now) }
     ensures within { IfOk result (IsWithin (length behind.now)) }
 {

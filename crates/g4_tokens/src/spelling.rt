@@ -42,15 +42,14 @@ pub fn read_spelling(alloc: Global, close: char, text: &[char]) -> Result<Option
     let mut at = 0;
     while at < text.len() {
         let c = text[at];
-        at += 1;
         if c == close {
-            return Ok(Some(Spelling { characters: Sequence::new(characters), taken: at }));
+            return Ok(Some(Spelling { characters: Sequence::new(characters), taken: at + 1 }));
         }
-        let Some(found) = unit(close, c, &text[at..]) else {
+        let Some(found) = unit(close, c, &text[at + 1..]) else {
             return Ok(None);
         };
         characters.push(Spelled { character: found.character, escaped: c == '\\' })?;
-        at += found.taken;
+        at += 1 + found.taken;
     }
     Ok(None)
 }
