@@ -1,5 +1,5 @@
 -- Characters that are passed over are dropped.
-use Rattle.std.proofs.Common.{◌≡◌, ℕ, zero, suc, ◌+◌, List, [], ◌∷◌, ◌++◌, drop, take, refl, ap, ◌∙◌, sym, arith, add-zero, ◌<◌, ◌-◌, length, get_or, append_assoc, Some, false, ◌==◌, ◌≢◌}
+use Rattle.std.proofs.Common.{◌≡◌, ℕ, zero, suc, ◌+◌, List, [], ◌∷◌, ◌++◌, drop, take, refl, ap, ◌∙◌, sym, arith, add-zero, ◌<◌, ◌-◌, length, get_or, append_assoc, Result, Ok, Err, Some, false, ◌==◌, ◌≢◌}
 use Rattle.std.proofs.lemmas.Bool.Decides.{nat_tests}
 use Rattle.g4_tokens.specs.declared.escape.Escape.{Escape}
 use Rattle.std.proofs.lemmas.List.{drop_more, drop-drop, take_rest}
@@ -7,7 +7,13 @@ use Rattle.g4_grammar.specs.declared.source.Range.{Range}
 use Rattle.g4_base.specs.declared.place.Place.{Place}
 use Rattle.g4_base.specs.Place.{place_after, place_past}
 use Rattle.g4_tokens.specs.Nesting.{nesting_end_from, closes, depth_behind, passed}
-use Rattle.g4_tokens.specs.Scanning.{scanned_from}
+use Rattle.g4_tokens.specs.Scanning.{scanned_from, behind_tokens, Opened}
+use Rattle.g4_tokens.specs.Pieces.{piece}
+use Rattle.g4_tokens.specs.Statements.{behind_token}
+use Rattle.g4_tokens.specs.declared.token.Kind.{Kind}
+use Rattle.g4_tokens.specs.declared.token.Token.{Token}
+use Rattle.g4_tokens.specs.declared.piece.Piece.{Piece}
+use Rattle.g4_tokens.specs.declared.piece.Piece.TheVariants.{Gap, Formed, Faulty}
 use Rattle.g4_tokens.specs.Sets.{ranges_from, range_of, more_of}
 use Rattle.g4_tokens.specs.Spellings.{spelling_from, unit}
 use Rattle.g4_tokens.specs.declared.spelling.Spelled.{Spelled}
@@ -101,3 +107,56 @@ pub scanned_skip : (k : ℕ) (s : Statement) (place : Place) (index : ℕ) (text
 scanned_skip zero s place index text = rw add-zero refl
 scanned_skip (suc k) s place index [] = refl
 scanned_skip (suc k) s place index (c ∷ cs) = scanned_skip k s (place_past place c) (index + 1) cs ∙ ap (λ m. scanned_from 0 s (place_after (place_past place c) (take k cs)) m (drop k cs)) (add_suc index k)
+
+-- the characters of a piece
+pub word_is : (text : List ℕ) (at c more : ℕ) → at < length text → c ≡ get_or text at c → take (at + 1 + more - at) (drop at text) ≡ c ∷ take more (take (length text - (at + 1)) (drop (at + 1) text))
+word_is text at c more h read =
+    let behind : List ℕ = take (length text - (at + 1)) (drop (at + 1) text) in
+    let count : at + 1 + more - at ≡ suc more = omega arith in
+    ap (λ n. take n (drop at text)) count ∙ ap (take (suc more)) (from_index text at c h read)
+
+-- what is left behind a piece
+pub beyond : (text : List ℕ) (at more : ℕ) → drop more (take (length text - (at + 1)) (drop (at + 1) text)) ≡ drop (at + 1 + more) text
+beyond text at more = ap (drop more) (take_rest text (at + 1)) ∙ drop-drop more (at + 1) text
+
+gap_step : (s : Statement) (place : Place) (index c more : ℕ) (cs : List ℕ) → piece s c cs ≡ Gap more → scanned_from 0 s place index (c ∷ cs) ≡ scanned_from more s (place_past place c) (index + 1) cs
+gap_step s place index c more cs is = rw (is, scanned_from) refl
+
+-- the tokens behind a gap
+pub scanned_gap : (s : Statement) (place next : Place) (at c more : ℕ) (text : List ℕ) → at < length text → c ≡ get_or text at c → piece s c (take (length text - (at + 1)) (drop (at + 1) text)) ≡ Gap more → next ≡ place_after place (take (at + 1 + more - at) (drop at text)) → scanned_from 0 s next (at + 1 + more) (drop (at + 1 + more) text) ≡ scanned_from 0 s place at (drop at text)
+scanned_gap s place next at c more text h read is next_is =
+    let behind : List ℕ = take (length text - (at + 1)) (drop (at + 1) text) in
+    let begun : scanned_from 0 s place at (drop at text) ≡ scanned_from 0 s place at (c ∷ behind) = ap (scanned_from 0 s place at) (from_index text at c h read) in
+    let step = gap_step s place at c more behind is in
+    let skipped = scanned_skip more s (place_past place c) (at + 1) behind in
+    let moved : next ≡ place_after (place_past place c) (take more behind) = next_is ∙ ap (place_after place) (word_is text at c more h read) in
+    let left = beyond text at more in
+    cc
+
+token_step : (s : Statement) (place : Place) (index c more : ℕ) (kind : Kind) (cs : List ℕ) → piece s c cs ≡ Formed kind more → scanned_from 0 s place index (c ∷ cs) ≡ behind_tokens (record { kind = kind; place = place; start = index; end = index + 1 + more } ∷ []) (scanned_from more (behind_token s kind (c ∷ take more cs)) (place_past place c) (index + 1) cs)
+token_step s place index c more kind cs is = rw (is, scanned_from) refl
+
+-- the tokens behind a token
+pub scanned_token : (s after : Statement) (place next : Place) (at c more : ℕ) (kind : Kind) (text : List ℕ) → at < length text → c ≡ get_or text at c → piece s c (take (length text - (at + 1)) (drop (at + 1) text)) ≡ Formed kind more → after ≡ behind_token s kind (take (at + 1 + more - at) (drop at text)) → next ≡ place_after place (take (at + 1 + more - at) (drop at text)) → behind_tokens (record { kind = kind; place = place; start = at; end = at + 1 + more } ∷ []) (scanned_from 0 after next (at + 1 + more) (drop (at + 1 + more) text)) ≡ scanned_from 0 s place at (drop at text)
+scanned_token s after place next at c more kind text h read is after_is next_is =
+    let behind : List ℕ = take (length text - (at + 1)) (drop (at + 1) text) in
+    let begun : scanned_from 0 s place at (drop at text) ≡ scanned_from 0 s place at (c ∷ behind) = ap (scanned_from 0 s place at) (from_index text at c h read) in
+    let step = token_step s place at c more kind behind is in
+    let follows : after ≡ behind_token s kind (c ∷ take more behind) = after_is ∙ ap (behind_token s kind) (word_is text at c more h read) in
+    let skipped = scanned_skip more after (place_past place c) (at + 1) behind in
+    let moved : next ≡ place_after (place_past place c) (take more behind) = next_is ∙ ap (place_after place) (word_is text at c more h read) in
+    let left = beyond text at more in
+    cc
+
+-- tokens behind tokens
+pub behind_more : (before more : List Token) (rest : Result (List Token) Opened) → behind_tokens (before ++ more) rest ≡ behind_tokens before (behind_tokens more rest)
+behind_more before more (Ok tokens) = ap Ok (append_assoc before more tokens)
+behind_more before more (Err opened) = refl
+
+fault_step : (s : Statement) (place : Place) (index c : ℕ) (cs : List ℕ) → piece s c cs ≡ Faulty → scanned_from 0 s place index (c ∷ cs) ≡ Err (record { place = place; index = index })
+fault_step s place index c cs is = rw (is, scanned_from) refl
+
+-- the fault at a piece
+pub scanned_fault : (s : Statement) (place : Place) (at c : ℕ) (text : List ℕ) → at < length text → c ≡ get_or text at c → piece s c (take (length text - (at + 1)) (drop (at + 1) text)) ≡ Faulty → scanned_from 0 s place at (drop at text) ≡ Err (record { place = place; index = at })
+scanned_fault s place at c text h read is =
+    ap (scanned_from 0 s place at) (from_index text at c h read) ∙ fault_step s place at c (take (length text - (at + 1)) (drop (at + 1) text)) is

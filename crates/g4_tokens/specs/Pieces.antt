@@ -28,8 +28,7 @@ name_piece letter behind = Formed (if is_upper letter then Upper else Lower) (pr
 
 -- a literal that spells the characters: there must be one
 abbrev pub literal_of : List Spelled → ℕ → Piece
-literal_of [] taken = Faulty
-literal_of (s ∷ ss) taken = Formed (Literal (map (λ spelled. spelled.character) (s ∷ ss))) taken
+literal_of characters taken = if length characters == 0 then Faulty else Formed (Literal (map (λ spelled. spelled.character) characters)) taken
 
 -- a literal, told by what stands behind its first quote
 abbrev pub literal_piece : List ℕ → Piece

@@ -57,9 +57,10 @@ fn place_after(place: Place, characters: &[char]) -> Place
     place
 }
 
-/// The tokens from the index on, where the first of them stands at the start of a text.
+/// The tokens from the index on, at which the first line begins.
 fn scan_from(alloc: Global, text: &[char], start: usize) -> Result<Sequence<Token>, ScanFault>
     requires fits { length text.now ≤ 16777216 }
+    requires within { start ≤ length text.now }
     ensures { GivesTokens (scanned_from 0 unread first_place start (drop start text.now)) result }
 {
     let mut tokens = Vec::new(alloc);
@@ -67,17 +68,23 @@ fn scan_from(alloc: Global, text: &[char], start: usize) -> Result<Sequence<Toke
     let mut place = Place::START;
     let mut at = start;
     while at < text.len() {
-        let more = match read_piece(alloc, statement, text[at], &text[at + 1..])? {
-            Piece::Gap(more) => more,
+        let c = text[at];
+        match read_piece(alloc, statement, c, &text[at + 1..])? {
+            Piece::Gap(more) => {
+                let end = at + 1 + more;
+                place = place_after(place, &text[at..end]);
+                at = end;
+            }
             Piece::Formed(kind, more) => {
-                statement = statement.behind(&kind, &text[at..at + 1 + more]);
-                tokens.push(Token { kind, place, start: at, end: at + 1 + more })?;
-                more
+                let end = at + 1 + more;
+                let word = &text[at..end];
+                statement = statement.behind(&kind, word);
+                tokens.push(Token { kind, place, start: at, end })?;
+                place = place_after(place, word);
+                at = end;
             }
             Piece::Faulty => return Err(ScanFault::Syntax(place, at)),
-        };
-        place = place_after(place, &text[at..at + 1 + more]);
-        at += 1 + more;
+        }
     }
     Ok(Sequence::new(tokens))
 }
