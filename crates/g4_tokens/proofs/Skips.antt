@@ -1,5 +1,5 @@
 -- Characters that are passed over are dropped.
-use Rattle.std.proofs.Common.{◌≡◌, ℕ, zero, suc, ◌+◌, List, [], ◌∷◌, ◌++◌, drop, take, refl, ap, ◌∙◌, sym, arith, add-zero, ◌<◌, ◌-◌, length, get_or, append_assoc, Result, Ok, Err, Some, false, ◌==◌, ◌≢◌}
+use Rattle.std.proofs.Common.{◌≡◌, ℕ, zero, suc, ◌+◌, List, [], ◌∷◌, ◌++◌, drop, take, refl, ap, ◌∙◌, sym, arith, add-zero, ◌<◌, ◌-◌, length, get_or, append_assoc, Result, Ok, Err, Some, false, ◌==◌, ◌≢◌, ◌≤◌, subst}
 use Rattle.std.proofs.lemmas.Bool.Decides.{nat_tests}
 use Rattle.g4_tokens.specs.declared.escape.Escape.{Escape}
 use Rattle.std.proofs.lemmas.List.{drop_more, drop-drop, take_rest}
@@ -8,7 +8,7 @@ use Rattle.g4_base.specs.declared.place.Place.{Place}
 use Rattle.g4_base.specs.Place.{place_after, place_past}
 use Rattle.g4_tokens.specs.Nesting.{nesting_end_from, closes, depth_behind, passed}
 use Rattle.g4_tokens.specs.Scanning.{scanned_from, behind_tokens, Opened}
-use Rattle.g4_tokens.specs.Pieces.{piece}
+use Rattle.g4_tokens.specs.Pieces.{piece, IsWithin}
 use Rattle.g4_tokens.specs.Statements.{behind_token}
 use Rattle.g4_tokens.specs.declared.token.Kind.{Kind}
 use Rattle.g4_tokens.specs.declared.token.Token.{Token}
@@ -160,3 +160,11 @@ fault_step s place index c cs is = rw (is, scanned_from) refl
 pub scanned_fault : (s : Statement) (place : Place) (at c : ℕ) (text : List ℕ) → at < length text → c ≡ get_or text at c → piece s c (take (length text - (at + 1)) (drop (at + 1) text)) ≡ Faulty → scanned_from 0 s place at (drop at text) ≡ Err (record { place = place; index = at })
 scanned_fault s place at c text h read is =
     ap (scanned_from 0 s place at) (from_index text at c h read) ∙ fault_step s place at c (take (length text - (at + 1)) (drop (at + 1) text)) is
+
+-- a gap within what stands behind its first character
+pub gap_within : (most more : ℕ) (found : Piece) → found ≡ Gap more → IsWithin most found → more ≤ most
+gap_within most more found is within = let P : Piece → Type 0 = IsWithin most in subst P is within
+
+-- a token within what stands behind its first character
+pub token_within : (most more : ℕ) (kind : Kind) (found : Piece) → found ≡ Formed kind more → IsWithin most found → more ≤ most
+token_within most more kind found is within = let P : Piece → Type 0 = IsWithin most in subst P is within

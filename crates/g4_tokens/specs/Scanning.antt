@@ -25,9 +25,10 @@ scanned_from skip s place index [] = Ok []
 scanned_from (suc skip) s place index (c ∷ cs) = scanned_from skip s (place_past place c) (index + 1) cs
 scanned_from zero s place index (c ∷ cs) =
     elim (piece s c cs) [
-        Gap more ↦ scanned_from more s (place_past place c) (index + 1) cs
+      | Gap more ↦ scanned_from more s (place_past place c) (index + 1) cs
       | Formed kind more ↦ behind_tokens (record { kind = kind; place = place; start = index; end = index + 1 + more } ∷ []) (scanned_from more (behind_token s kind (c ∷ take more cs)) (place_past place c) (index + 1) cs)
-      | Faulty ↦ Err (record { place = place; index = index }) ]
+      | Faulty ↦ Err (record { place = place; index = index })
+    ]
 
 -- the tokens of a text: a byte order mark before it has no column
 abbrev pub scanned : List ℕ → Result (List Token) Opened

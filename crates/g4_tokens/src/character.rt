@@ -9,7 +9,10 @@ use unicode::properties::{GeneralCategory, is_alphabetic};
 pub fn is_upper(c: char) -> bool
     ensures { result ≡ is_upper c }
 {
-    matches!(GeneralCategory::for_char(c), GeneralCategory::UppercaseLetter)
+    matches!(
+        GeneralCategory::for_char(c),
+        GeneralCategory::UppercaseLetter
+    )
 }
 
 /// Whether the character is a letter, a digit or `_`.

@@ -101,7 +101,10 @@ fn itself(close: char, c: char) -> Option<Escape>
     if c.is_ascii_alphanumeric() || breaks(close, c) {
         None
     } else {
-        Some(Escape { character: c, taken: 1 })
+        Some(Escape {
+            character: c,
+            taken: 1,
+        })
     }
 }
 
@@ -110,7 +113,10 @@ fn short_escape(close: char, c: char) -> Option<Escape>
     ensures short { IfSome result (λ e. e.taken ≤ 1) }
 {
     match control(c) {
-        Some(character) => Some(Escape { character, taken: 1 }),
+        Some(character) => Some(Escape {
+            character,
+            taken: 1,
+        }),
         None => itself(close, c),
     }
 }

@@ -78,7 +78,11 @@ fn passed(opening: char, closing: char, c: char, behind: &[char]) -> usize
     ensures value { result ≡ passed opening closing c behind.now }
     ensures within { result ≤ length behind.now }
 {
-    if c == closing || c == opening { 0 } else { whole(c, behind) }
+    if c == closing || c == opening {
+        0
+    } else {
+        whole(c, behind)
+    }
 }
 
 /// How many characters there are up to the one that closes, that included.

@@ -45,7 +45,11 @@ fn name_piece(letter: char, behind: &[char]) -> Piece
     ensures value { result ≡ name_piece letter behind.now }
     ensures within { IsWithin (length behind.now) result }
 {
-    let kind = if is_upper(letter) { Kind::Upper } else { Kind::Lower };
+    let kind = if is_upper(letter) {
+        Kind::Upper
+    } else {
+        Kind::Lower
+    };
     Piece::Formed(kind, name_length(behind))
 }
 
@@ -124,7 +128,12 @@ fn sign_piece(c: char, behind: &[char]) -> Piece
     }
 }
 
-fn marked_piece(alloc: Global, statement: Statement, c: char, behind: &[char]) -> Result<Piece, AllocError>
+fn marked_piece(
+    alloc: Global,
+    statement: Statement,
+    c: char,
+    behind: &[char],
+) -> Result<Piece, AllocError>
     requires fits { length behind.now ≤ 16777216 }
     ensures value { IfOk result (λ p. p ≡ marked_piece statement c behind.now) }
     ensures within { IfOk result (IsWithin (length behind.now)) }
@@ -155,7 +164,12 @@ fn number_length(text: &[char]) -> usize
 }
 
 /// The piece that begins with the character, with what stands behind it.
-pub fn read_piece(alloc: Global, statement: Statement, c: char, behind: &[char]) -> Result<Piece, AllocError>
+pub fn read_piece(
+    alloc: Global,
+    statement: Statement,
+    c: char,
+    behind: &[char],
+) -> Result<Piece, AllocError>
     requires fits { length behind.now ≤ 16777216 }
     ensures value { IfOk result (λ p. p ≡ piece statement c behind.now) }
     ensures within { IfOk result (IsWithin (length behind.now)) }

@@ -30,8 +30,20 @@ fn range_at(first: Spelled, behind: &[Spelled]) -> (Range, usize)
     ensures within { result.1 ≤ length behind.now }
 {
     match range_end(behind) {
-        Some(last) => (Range { first: first.character, last }, 2),
-        None => (Range { first: first.character, last: first.character }, 0),
+        Some(last) => (
+            Range {
+                first: first.character,
+                last,
+            },
+            2,
+        ),
+        None => (
+            Range {
+                first: first.character,
+                last: first.character,
+            },
+            0,
+        ),
     }
 }
 

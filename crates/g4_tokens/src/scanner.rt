@@ -79,7 +79,12 @@ fn scan_from(alloc: Global, text: &[char], start: usize) -> Result<Sequence<Toke
                 let end = at + 1 + more;
                 let word = &text[at..end];
                 statement = statement.behind(&kind, word);
-                tokens.push(Token { kind, place, start: at, end })?;
+                tokens.push(Token {
+                    kind,
+                    place,
+                    start: at,
+                    end,
+                })?;
                 place = place_after(place, word);
                 at = end;
             }

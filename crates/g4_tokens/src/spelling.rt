@@ -29,12 +29,19 @@ fn unit(close: char, c: char, behind: &[char]) -> Option<Escape>
     } else if c == '\\' {
         read_escape(close, behind)
     } else {
-        Some(Escape { character: c, taken: 0 })
+        Some(Escape {
+            character: c,
+            taken: 0,
+        })
     }
 }
 
 /// What the text spells up to the character that closes: none where nothing closes it, or at a bad escape.
-pub fn read_spelling(alloc: Global, close: char, text: &[char]) -> Result<Option<Spelling>, AllocError>
+pub fn read_spelling(
+    alloc: Global,
+    close: char,
+    text: &[char],
+) -> Result<Option<Spelling>, AllocError>
     ensures value { IfOk result (λ s. s ≡ spelling close text.now) }
     ensures within { IfOk result (λ s. IfSome s (λ found. found.taken ≤ length text.now)) }
 {
@@ -43,12 +50,18 @@ pub fn read_spelling(alloc: Global, close: char, text: &[char]) -> Result<Option
     while at < text.len() {
         let c = text[at];
         if c == close {
-            return Ok(Some(Spelling { characters: Sequence::new(characters), taken: at + 1 }));
+            return Ok(Some(Spelling {
+                characters: Sequence::new(characters),
+                taken: at + 1,
+            }));
         }
         let Some(found) = unit(close, c, &text[at + 1..]) else {
             return Ok(None);
         };
-        characters.push(Spelled { character: found.character, escaped: c == '\\' })?;
+        characters.push(Spelled {
+            character: found.character,
+            escaped: c == '\\',
+        })?;
         at += 1 + found.taken;
     }
     Ok(None)

@@ -33,14 +33,20 @@ impl Statement {
     pub fn unread() -> Self
         ensures { result ≡ unread }
     {
-        Statement { named: Named::NoName, in_body: false }
+        Statement {
+            named: Named::NoName,
+            in_body: false,
+        }
     }
 
     fn with_name(self, name: Named) -> Self
         ensures { result ≡ record self { named = name_behind self.named name } }
     {
         match self.named {
-            Named::NoName => Statement { named: name, in_body: self.in_body },
+            Named::NoName => Statement {
+                named: name,
+                in_body: self.in_body,
+            },
             _ => self,
         }
     }
@@ -51,7 +57,10 @@ impl Statement {
     {
         match kind {
             Kind::Semicolon => Statement::unread(),
-            Kind::Colon => Statement { named: self.named, in_body: true },
+            Kind::Colon => Statement {
+                named: self.named,
+                in_body: true,
+            },
             Kind::Upper => self.with_name(Named::UpperName),
             Kind::Lower => {
                 if is_modifier(word) {
