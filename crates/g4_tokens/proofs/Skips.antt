@@ -1,5 +1,5 @@
 -- Characters that are passed over are dropped.
-use Rattle.std.proofs.Common.{◌≡◌, ℕ, zero, suc, ◌+◌, List, [], ◌∷◌, ◌++◌, drop, take, refl, ap, ◌∙◌, sym, arith, add-zero, ◌<◌, ◌-◌, length, get_or, append_assoc, Result, Ok, Err, Some, false, ◌==◌, ◌≢◌, ◌≤◌, subst}
+use Rattle.std.proofs.Common.{◌≡◌, ℕ, zero, suc, ◌+◌, List, [], ◌∷◌, ◌++◌, drop, take, refl, ap, ◌∙◌, arith, add-zero, ◌<◌, ◌-◌, length, get_or, append_assoc, Result, Ok, Err, Some, false, ◌==◌, ◌≢◌, ◌≤◌, subst}
 use Rattle.std.proofs.lemmas.Bool.Decides.{nat_tests}
 use Rattle.g4_tokens.specs.declared.escape.Escape.{Escape}
 use Rattle.std.proofs.lemmas.List.{drop_more, drop-drop, take_rest}

@@ -4,7 +4,6 @@ use Rattle.g4_base.specs.declared.place.Place.{Place}
 use Rattle.g4_base.specs.Place.{first_place, place_past}
 use Rattle.g4_tokens.specs.Pieces.{piece}
 use Rattle.g4_tokens.specs.Statements.{unread, behind_token}
-use Rattle.g4_tokens.specs.declared.piece.Piece.{Piece}
 use Rattle.g4_tokens.specs.declared.piece.Piece.TheVariants.{Gap, Formed, Faulty}
 use Rattle.g4_tokens.specs.declared.statement.Statement.{Statement}
 use Rattle.g4_tokens.specs.declared.token.Token.{Token}

@@ -55,6 +55,10 @@ fn push_token(out: &mut String, token: &Token) -> Result<(), AllocError> {
 fn table(alloc: Global, text: &str) -> Result<String, AllocError> {
     let characters = characters(alloc, text)?;
     let mut out = String::new(alloc);
+    if characters.len() > 16_777_216 {
+        out.push_str("too long")?;
+        return Ok(out);
+    }
     match scan(alloc, &characters) {
         Ok(tokens) => {
             for token in tokens.as_slice() {

@@ -1,4 +1,4 @@
-use Rattle.std.proofs.Common.{ℕ, arith, ◌∙◌, sym, length-drop, length-take}
+use Rattle.std.proofs.Common.{ℕ, arith, ◌∙◌, length-drop, length-take}
 use Rattle.g4_tokens.proofs.Skips.{nesting_more}
 use Rattle.g4_tokens.proofs.nesting.nesting_end.Goals as goal
 

@@ -1,5 +1,4 @@
-use Rattle.std.proofs.Common.{◌≡◌, ◌≤◌, ◌+◌, ◌-◌, ℕ, [], ◌∷◌, length, take, drop, arith, sym, ap, ◌∙◌, length-take, length-drop}
-use Rattle.g4_base.specs.Place.{place_after}
+use Rattle.std.proofs.Common.{◌≡◌, ◌+◌, ℕ, [], ◌∷◌, drop, arith, sym, ap, ◌∙◌, length-take, length-drop}
 use Rattle.g4_tokens.specs.Scanning.{scanned_from, behind_tokens}
 use Rattle.g4_tokens.specs.declared.token.Token.{Token}
 use Rattle.g4_tokens.proofs.Skips.{scanned_gap, scanned_token, behind_more, gap_within, token_within}
