@@ -1,5 +1,5 @@
 -- What scanning answers.
-use Rattle.std.specs.Prelude.{◌≡◌, ℕ, List, Result, Ok, Err}
+use Rattle.std.specs.Prelude.{◌≡◌, List, Result, Ok, Err}
 use Rattle.g4_tokens.specs.declared.token.Token.{Token}
 use Rattle.g4_tokens.specs.declared.scanner.ScanFault.{ScanFault}
 use Rattle.g4_tokens.specs.declared.scanner.ScanFault.TheVariants.{Syntax, NoMemory}

@@ -1,2 +1,10 @@
 pub mod Answers
+pub mod Characters
+pub mod Comments
+pub mod Escapes
+pub mod Nesting
+pub mod Pieces
 pub mod Scanning
+pub mod Sets
+pub mod Spellings
+pub mod Statements

@@ -1,0 +1,53 @@
+-- Where actions and arguments end.
+use Rattle.std.specs.Prelude.{ℕ, zero, suc, ◌+◌, ◌-◌, Bool, false, List, [], ◌∷◌, Option, Some, None, length, drop, unwrap_or, ◌==◌, ◌&&◌, ◌||◌, if◌then◌else◌}
+use Rattle.std.specs.List.{prefix_len}
+use Rattle.g4_tokens.specs.Characters.{begins, is_in_line}
+use Rattle.g4_tokens.specs.Comments.{comment_end}
+
+-- how many characters there are up to the quote that closes on this line, that included, behind so many; the first is
+-- escaped where a backslash stands before it
+abbrev pub quote_end_from : ℕ → Bool → ℕ → List ℕ → Option ℕ
+quote_end_from quote escaped taken [] = None
+quote_end_from quote escaped taken (c ∷ cs) =
+    if c == 10 then None
+    else (if escaped then quote_end_from quote false (taken + 1) cs
+    else (if c == quote then Some (taken + 1) else quote_end_from quote (c == 92) (taken + 1) cs))
+
+-- how many characters a quoted text takes behind its first quote: none where no quote closes it on its line
+abbrev pub quoted : ℕ → List ℕ → ℕ
+quoted quote behind = unwrap_or (quote_end_from quote false 0 behind) 0
+
+-- how many characters a comment takes behind its first `/`: none where no comment begins there, and all where it doesn't end
+abbrev pub commented : List ℕ → ℕ
+commented behind =
+    if begins 47 behind then prefix_len is_in_line behind
+    else (if begins 42 behind then elim (comment_end (drop 1 behind)) [ Some taken ↦ taken + 1 | None ↦ length behind ] else 0)
+
+-- how many characters the quoted text or the comment that begins with this one takes behind it
+abbrev pub whole : ℕ → List ℕ → ℕ
+whole c behind = if c == 34 || c == 39 then quoted c behind else (if c == 47 then commented behind else 0)
+
+-- the character closes what nothing that is open inside keeps open
+abbrev pub closes : ℕ → ℕ → ℕ → Bool
+closes closing depth c = (c == closing) && (depth == 0)
+
+-- how many are open inside, behind the character
+abbrev pub depth_behind : ℕ → ℕ → ℕ → ℕ → ℕ
+depth_behind opening closing depth c = if c == closing then depth - 1 else (if c == opening then depth + 1 else depth)
+
+-- how many characters behind this one are no part of the nesting
+abbrev pub passed : ℕ → ℕ → ℕ → List ℕ → ℕ
+passed opening closing c behind = if c == closing || c == opening then 0 else whole c behind
+
+-- how many characters there are up to the one that closes, that included, behind so many, where so many are open inside;
+-- the first characters are passed over
+abbrev pub nesting_end_from : ℕ → ℕ → ℕ → ℕ → ℕ → List ℕ → Option ℕ
+nesting_end_from opening closing depth skip taken [] = None
+nesting_end_from opening closing depth (suc skip) taken (c ∷ cs) = nesting_end_from opening closing depth skip (taken + 1) cs
+nesting_end_from opening closing depth zero taken (c ∷ cs) =
+    if closes closing depth c then Some (taken + 1)
+    else nesting_end_from opening closing (depth_behind opening closing depth c) (passed opening closing c cs) (taken + 1) cs
+
+-- how many characters there are up to the one that closes, that included
+abbrev pub nesting_end : ℕ → ℕ → List ℕ → Option ℕ
+nesting_end opening closing text = nesting_end_from opening closing 0 0 0 text
