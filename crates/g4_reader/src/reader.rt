@@ -1,9 +1,17 @@
 // The grammar that a text is.
+ghost use Rattle.std.specs.Prelude.{◌≡◌, ◌<◌, ◌≤◌, IfOk, length, slice_get};
 ghost use Rattle.g4_reader.specs.Reading.{IsReading};
+ghost use Rattle.g4_reader.specs.Stages.{GivesReading, ReadsName, ReadsRule, at_grammar, name_at, reading_from};
 
-use g4_base::{Place, Sequence};
-use g4_grammar::Source;
-use std::alloc::{AllocError, Global};
+use crate::fault::{fault_at, opened_fault};
+use crate::lexer_rule::lexer_rule;
+use crate::parser_rule::parser_rule;
+use crate::sign::is_semicolon;
+use crate::spelling::{is_word_at, written};
+use g4_base::{Place, Sequence, Text};
+use g4_grammar::{Rule, Source};
+use g4_tokens::{Kind, ScanFault, Token, scan};
+use std::alloc::{AllocError, AllocFailed, Global};
 
 /// Why a text is no grammar.
 #[derive(Drop)]
@@ -14,9 +22,108 @@ pub enum ReadFault {
     NoMemory,
 }
 
+impl From<AllocError> for ReadFault {
+    ghost use Rattle.std.specs.Prelude.{◌≡◌};
+    ghost use Rattle.g4_reader.specs.declared.reader.ReadFault.TheVariants.{NoMemory};
+
+    ghost from_gives = { λ _ e. e ≡ NoMemory };
+
+    fn from(_: AllocError) -> Self {
+        ReadFault::NoMemory
+    }
+}
+
+impl<T: Drop> From<AllocFailed<T>> for ReadFault {
+    ghost use Rattle.std.specs.Prelude.{◌≡◌};
+    ghost use Rattle.g4_reader.specs.declared.reader.ReadFault.TheVariants.{NoMemory};
+
+    ghost from_gives = { λ _ e. e ≡ NoMemory };
+
+    fn from(_: AllocFailed<T>) -> Self {
+        ReadFault::NoMemory
+    }
+}
+
+/// The word that a grammar text begins with.
+const GRAMMAR: [char; 7] = ['g', 'r', 'a', 'm', 'm', 'a', 'r'];
+
+/// The text of the name at the index, if one of either case stands there.
+fn name_at(alloc: Global, text: &[char], tokens: &[Token], at: usize) -> Result<Option<Text>, AllocError>
+    ensures { IfOk result (λ name. name ≡ name_at text.now (slice_get tokens.now at)) }
+{
+    let Some(token) = tokens.get(at) else {
+        return Ok(None);
+    };
+    match token.kind {
+        Kind::Lower | Kind::Upper => Ok(Some(written(alloc, text, token)?)),
+        _ => Ok(None),
+    }
+}
+
+/// The name of the grammar, whose three tokens stand before the rules.
+fn grammar_name(alloc: Global, text: &[char], tokens: &[Token]) -> Result<Text, ReadFault>
+    requires fits { length text.now ≤ 16777216 }
+    ensures { ReadsName text.now tokens.now result }
+{
+    if !is_word_at(text, tokens, 0, &GRAMMAR) {
+        return Err(fault_at(alloc, text, tokens, 0));
+    }
+    let Some(name) = name_at(alloc, text, tokens, 1)? else {
+        return Err(fault_at(alloc, text, tokens, 1));
+    };
+    if !is_semicolon(tokens, 2) {
+        return Err(fault_at(alloc, text, tokens, 2));
+    }
+    Ok(name)
+}
+
+/// The rule at the index, and the index behind it.
+fn rule(alloc: Global, text: &[char], tokens: &[Token], at: usize) -> Result<(Rule, usize), ReadFault>
+    requires fits { length text.now ≤ 16777216 }
+    requires within { at < length tokens.now }
+    ensures { ReadsRule text.now tokens.now at result }
+{
+    let token = &tokens[at];
+    match token.kind {
+        Kind::Lower => {
+            let name = written(alloc, text, token)?;
+            let (rule, next) = parser_rule(alloc, text, tokens, at + 1, name)?;
+            Ok((Rule::Parser(rule), next))
+        }
+        Kind::Upper => {
+            let name = written(alloc, text, token)?;
+            let (rule, next) = lexer_rule(alloc, text, tokens, at + 1, name)?;
+            Ok((Rule::Lexer(rule), next))
+        }
+        _ => Err(fault_at(alloc, text, tokens, at)),
+    }
+}
+
+/// The grammar that the tokens are, or their first syntax fault.
+fn read_tokens(alloc: Global, text: &[char], tokens: &[Token]) -> Result<Source, ReadFault>
+    requires fits { length text.now ≤ 16777216 }
+    ensures { GivesReading (reading_from text.now at_grammar tokens.now) result }
+{
+    let name = grammar_name(alloc, text, tokens)?;
+    let mut rules = Vec::new(alloc);
+    let mut next = 3;
+    while next < tokens.len() {
+        let (rule, behind) = rule(alloc, text, tokens, next)?;
+        rules.push(rule)?;
+        next = behind;
+    }
+    let rules = Sequence::new(rules);
+    Ok(Source { name, rules })
+}
+
 /// The grammar that the text is, or the first fault of its tokens, or else its first syntax fault.
 pub fn read_grammar(alloc: Global, text: &[char]) -> Result<Source, ReadFault>
+    requires fits { length text.now ≤ 16777216 }
     ensures { IsReading text.now result }
 {
-    Err(ReadFault::NoMemory)
+    match scan(alloc, text) {
+        Ok(tokens) => read_tokens(alloc, text, tokens.as_slice()),
+        Err(ScanFault::Syntax(place, index)) => Err(opened_fault(alloc, place, text, index)),
+        Err(ScanFault::NoMemory) => Err(ReadFault::NoMemory),
+    }
 }
