@@ -1,5 +1,5 @@
 -- How the reading of a grammar text goes on, a token at a time.
-use Rattle.std.specs.Prelude.{◌≡◌, ℕ, ◌≤◌, length, drop, List, [], ◌∷◌, ◌++◌, Bool, true, false, Option, Some, None, Result, Ok, Err, codes, if◌then◌else◌, ◌||◌, ◌&&◌, bytes_eq}
+use Rattle.std.specs.Prelude.{◌≡◌, ℕ, ◌≤◌, ◌<◌, length, drop, List, [], ◌∷◌, ◌++◌, Bool, true, false, Option, Some, None, Result, Ok, Err, codes, if◌then◌else◌, ◌||◌, ◌&&◌, bytes_eq}
 use Rattle.g4_tokens.specs.declared.token.Token.{Token}
 use Rattle.g4_tokens.specs.declared.token.Kind.{Kind}
 use Rattle.g4_tokens.specs.declared.token.Kind.TheVariants as kinds
@@ -230,4 +230,11 @@ ReadsLexerRule text tokens at name result =
 
 -- the call reads a rule
 abbrev pub ReadsRule : List ℕ → List Token → ℕ → Result (Rule × ℕ) ReadFault → Type 0
-ReadsRule text tokens at result = Reads text tokens at at_rule (λ source rule. at_rule (with_rule source rule)) result
+ReadsRule text tokens at (Ok read) =
+    (at < read.1) × (read.1 ≤ length tokens) × ((source : Source) → reading_from text (at_rule source) (drop at tokens) ≡ reading_from text (at_rule (with_rule source read.0)) (drop read.1 tokens))
+ReadsRule text tokens at (Err fault) = (source : Source) → EndsWith (reading_from text (at_rule source) (drop at tokens)) fault
+
+-- the call reads the rules up to the end of the text
+abbrev pub ReadsRules : List ℕ → List Token → ℕ → Result (List Rule) ReadFault → Type 0
+ReadsRules text tokens at (Ok rules) = (name : List ℕ) → reading_from text (at_rule (record { name = name; rules = [] })) (drop at tokens) ≡ Ok (record { name = name; rules = rules })
+ReadsRules text tokens at (Err fault) = (name : List ℕ) → EndsWith (reading_from text (at_rule (record { name = name; rules = [] })) (drop at tokens)) fault

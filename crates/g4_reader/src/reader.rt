@@ -1,7 +1,7 @@
 // The grammar that a text is.
 ghost use Rattle.std.specs.Prelude.{◌≡◌, ◌<◌, ◌≤◌, IfOk, length, slice_get};
 ghost use Rattle.g4_reader.specs.Reading.{IsReading};
-ghost use Rattle.g4_reader.specs.Stages.{GivesReading, ReadsName, ReadsRule, at_grammar, name_at, reading_from};
+ghost use Rattle.g4_reader.specs.Stages.{GivesReading, ReadsName, ReadsRule, ReadsRules, at_grammar, name_at, reading_from};
 
 use crate::fault::{fault_at, opened_fault};
 use crate::lexer_rule::lexer_rule;
@@ -46,6 +46,9 @@ impl<T: Drop> From<AllocFailed<T>> for ReadFault {
 
 /// The word that a grammar text begins with.
 const GRAMMAR: [char; 7] = ['g', 'r', 'a', 'm', 'm', 'a', 'r'];
+
+/// How many tokens stand before the rules.
+const BEFORE_RULES: usize = 3;
 
 /// The text of the name at the index, if one of either case stands there.
 fn name_at(alloc: Global, text: &[char], tokens: &[Token], at: usize) -> Result<Option<Text>, AllocError>
@@ -99,20 +102,29 @@ fn rule(alloc: Global, text: &[char], tokens: &[Token], at: usize) -> Result<(Ru
     }
 }
 
+/// The rules from the index on to the end of the text.
+fn rules(alloc: Global, text: &[char], tokens: &[Token], at: usize) -> Result<Sequence<Rule>, ReadFault>
+    requires fits { length text.now ≤ 16777216 }
+    requires within { at ≤ length tokens.now }
+    ensures { ReadsRules text.now tokens.now at result }
+{
+    let mut rules = Vec::new(alloc);
+    let mut next = at;
+    while next < tokens.len() {
+        let (rule, behind) = rule(alloc, text, tokens, next)?;
+        rules.push(rule)?;
+        next = behind;
+    }
+    Ok(Sequence::new(rules))
+}
+
 /// The grammar that the tokens are, or their first syntax fault.
 fn read_tokens(alloc: Global, text: &[char], tokens: &[Token]) -> Result<Source, ReadFault>
     requires fits { length text.now ≤ 16777216 }
     ensures { GivesReading (reading_from text.now at_grammar tokens.now) result }
 {
     let name = grammar_name(alloc, text, tokens)?;
-    let mut rules = Vec::new(alloc);
-    let mut next = 3;
-    while next < tokens.len() {
-        let (rule, behind) = rule(alloc, text, tokens, next)?;
-        rules.push(rule)?;
-        next = behind;
-    }
-    let rules = Sequence::new(rules);
+    let rules = rules(alloc, text, tokens, BEFORE_RULES)?;
     Ok(Source { name, rules })
 }
 
