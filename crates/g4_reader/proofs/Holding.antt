@@ -115,7 +115,7 @@ close_lexer w source name es skip t (body, command, o, are, command_is) k =
     let rule : LexerRule = record { name = name; elements = es; skip = skip } in
     let is : IsLexerRule (o.head ∷ o.colon ∷ (body ++ (command ++ t ∷ []))) rule = record { head = o.head; colon = o.colon; body = body; command = command; close = t; parts = refl; upper = o.head_is; named = o.named; colon_is = o.colon_is; elements_are = are; command_is = command_is; close_is = k } in
     let parts : w ++ t ∷ [] ≡ o.before ++ o.head ∷ o.colon ∷ (body ++ (command ++ t ∷ [])) =
-      ap (λ v. v ++ t ∷ []) o.parts ∙ append_assoc o.before (o.head ∷ o.colon ∷ (body ++ command)) (t ∷ []) ∙ ap (λ v. o.before ++ o.head ∷ o.colon ∷ v) (append_assoc body command (t ∷ [])) in
+    ap (λ v. v ++ t ∷ []) o.parts ∙ append_assoc o.before (o.head ∷ o.colon ∷ (body ++ command)) (t ∷ []) ∙ ap (λ v. o.before ++ o.head ∷ o.colon ∷ v) (append_assoc body command (t ∷ [])) in
     subst (λ v. IsGrammarText v (with_rule source (Lexer rule))) (sym parts) (with_rule_is o.before (o.head ∷ o.colon ∷ (body ++ (command ++ t ∷ []))) source (Lexer rule) o.before_is is)
 
 -- where `->` may come, so may the rule's end

@@ -70,8 +70,10 @@ parser_rule_passes source word rest rule is =
   where
     begins : (kind : Kind) → kind ≡ kinds.Lower → next_at_rule source (bytes_of is.head) kind ≡ Some (at_parser_colon source rule.name)
     begins kind k = rw (k, ← is.named) refl
+
     colon : (kind : Kind) → kind ≡ kinds.Colon → if_so (is_colon kind) (at_element source rule.name []) ≡ Some (at_element source rule.name [])
     colon kind k = rw k refl
+
     close : (kind : Kind) → kind ≡ kinds.Semicolon → next_at_element source rule.name rule.elements (element_of kind (bytes_of is.close)) kind ≡ Some (at_rule (with_rule source (Parser rule)))
     close kind k = rw k refl
 
@@ -133,8 +135,10 @@ ending_passes source name es true command close rest (arrow, skip, parts, a, (l,
   where
     begins : (kind : Kind) → kind ≡ kinds.Arrow → next_at_atom source name es (atom_of kind (bytes_of arrow)) kind ≡ Some (at_skip source name es)
     begins kind k = rw k refl
+
     ends : (kind : Kind) → kind ≡ kinds.Semicolon → if_so (is_semicolon kind) (behind_lexer_rule source name es true) ≡ Some (behind_lexer_rule source name es true)
     ends kind k = rw k refl
+
     named : (t : Spelled) → IsWord (codes "skip") t → (later : Stage) → if_so (is_word (codes "skip") t) later ≡ Some later
     named t is later = ap (λ test. if_so test later) (word_passes (codes "skip") t is)
 
@@ -152,6 +156,7 @@ lexer_rule_passes source word rest rule is =
   where
     begins : (kind : Kind) → kind ≡ kinds.Upper → next_at_rule source (bytes_of is.head) kind ≡ Some (at_lexer_colon source rule.name)
     begins kind k = rw (k, ← is.named) refl
+
     colon : (kind : Kind) → kind ≡ kinds.Colon → if_so (is_colon kind) (at_atom source rule.name []) ≡ Some (at_atom source rule.name [])
     colon kind k = rw k refl
 
@@ -178,6 +183,7 @@ text_passes tokens source is =
     named : (kind : Kind) → (kind ≡ kinds.Lower) ⊎ (kind ≡ kinds.Upper) → if_so (is_lower kind || is_upper kind) (at_name_end (bytes_of is.head)) ≡ Some (at_name_end source.name)
     named kind (inl k) = rw (k, ← is.named) refl
     named kind (inr k) = rw (k, ← is.named) refl
+
     ends : (kind : Kind) → kind ≡ kinds.Semicolon → if_so (is_semicolon kind) (at_rule (record { name = source.name; rules = [] })) ≡ Some (at_rule (record { name = source.name; rules = [] }))
     ends kind k = rw k refl
 

@@ -170,6 +170,7 @@ name_next text name tokens i is = rw add-one (read_on text _ _ tokens i (there (
     by_kind kinds.Lower bytes is = cc
     by_kind kinds.Upper bytes is = cc
     by_kind _ bytes is = absurd (cc)
+
     there : (o : Option Token) → Some name ≡ name_at text o → next_at text at_name o ≡ Some (at_name_end name)
     there None is = absurd (cc)
     there (Some t) is = by_kind t.kind (bytes_of (spelled_token text t)) is
@@ -182,6 +183,7 @@ name_none text tokens i is = read_stuck text _ tokens i (there (slice_get tokens
     by_kind kinds.Lower bytes is = absurd (cc)
     by_kind kinds.Upper bytes is = absurd (cc)
     by_kind _ bytes is = refl
+
     there : (o : Option Token) → None ≡ name_at text o → next_at text at_name o ≡ None
     there None is = refl
     there (Some t) is = by_kind t.kind (bytes_of (spelled_token text t)) is

@@ -16,7 +16,12 @@ use std::alloc::{AllocError, Global};
 const SKIP: [char; 4] = ['s', 'k', 'i', 'p'];
 
 /// The literal or the set at the index, if one stands there.
-fn atom_at(alloc: Global, text: &[char], tokens: &[Token], at: usize) -> Result<Option<Atom>, AllocError>
+fn atom_at(
+    alloc: Global,
+    text: &[char],
+    tokens: &[Token],
+    at: usize,
+) -> Result<Option<Atom>, AllocError>
     ensures { IfOk result (λ a. a ≡ atom_at text.now (slice_get tokens.now at)) }
 {
     let Some(token) = tokens.get(at) else {
@@ -59,7 +64,12 @@ fn lex_elements(
 }
 
 /// Whether `-> skip` stands at the index, and the index behind it.
-fn command(alloc: Global, text: &[char], tokens: &[Token], at: usize) -> Result<(bool, usize), ReadFault>
+fn command(
+    alloc: Global,
+    text: &[char],
+    tokens: &[Token],
+    at: usize,
+) -> Result<(bool, usize), ReadFault>
     requires fits { length text.now ≤ 16777216 }
     requires within { at ≤ length tokens.now }
     ensures { ReadsCommand text.now tokens.now at result }

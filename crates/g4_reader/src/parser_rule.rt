@@ -13,7 +13,12 @@ use g4_tokens::{Kind, Token};
 use std::alloc::{AllocError, Global};
 
 /// The element at the index, if one stands there: an upper-case name or a literal.
-fn element_at(alloc: Global, text: &[char], tokens: &[Token], at: usize) -> Result<Option<Element>, AllocError>
+fn element_at(
+    alloc: Global,
+    text: &[char],
+    tokens: &[Token],
+    at: usize,
+) -> Result<Option<Element>, AllocError>
     ensures { IfOk result (λ e. e ≡ element_at text.now (slice_get tokens.now at)) }
 {
     let Some(token) = tokens.get(at) else {

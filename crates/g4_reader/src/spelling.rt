@@ -36,12 +36,20 @@ pub(crate) fn is_word(text: &[char], token: &Token, spelling: &[char]) -> bool
 }
 
 /// The literal that the token is, which stands for these characters.
-pub(crate) fn literal(alloc: Global, text: &[char], token: &Token, characters: &[char]) -> Result<Literal, AllocError>
+pub(crate) fn literal(
+    alloc: Global,
+    text: &[char],
+    token: &Token,
+    characters: &[char],
+) -> Result<Literal, AllocError>
     ensures { IfOk result (λ l. l ≡ record { characters = characters.now; written = bytes_of (spelled_token text.now token.now) }) }
 {
     let characters = Sequence::new(characters.to_vec(alloc)?);
     let written = written(alloc, text, token)?;
-    Ok(Literal { characters, written })
+    Ok(Literal {
+        characters,
+        written,
+    })
 }
 
 /// Whether the name with this spelling stands at the index.

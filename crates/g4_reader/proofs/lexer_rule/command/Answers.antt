@@ -21,7 +21,10 @@ returns c =
     let stands : passes test (slice_get c.args.tokens.now (c.args.at + 1)) ≡ true = sym c.is_word_at.ensures ∙ c.if-not-is_word_at.false in
     let within = within_from-passes test c.args.tokens.now (c.args.at + 1) stands in
     let two : c.args.at + 1 + 1 ≡ c.args.at + 2 = omega arith in
-    λ name elements.
-    (omega arith, omega (arith, within), λ source. arrow_next c.args.text.now source name elements c.args.tokens.now c.args.at (sym c.is_arrow.ensures ∙ c.if-not-is_arrow.false)
-    ∙ sign_read c.args.text.now (at_skip source name elements) (at_lexer_end source name elements true) test c.args.tokens.now (c.args.at + 1) (λ t. refl) stands
-    ∙ ap (λ n. reading_from c.args.text.now (at_lexer_end source name elements true) (drop n c.args.tokens.now)) two)
+    λ name elements. (
+      omega arith,
+      omega (arith, within),
+      λ source. arrow_next c.args.text.now source name elements c.args.tokens.now c.args.at (sym c.is_arrow.ensures ∙ c.if-not-is_arrow.false)
+          ∙ sign_read c.args.text.now (at_skip source name elements) (at_lexer_end source name elements true) test c.args.tokens.now (c.args.at + 1) (λ t. refl) stands
+          ∙ ap (λ n. reading_from c.args.text.now (at_lexer_end source name elements true) (drop n c.args.tokens.now)) two,
+    )

@@ -12,16 +12,23 @@ loop-elements-preserved c =
     let text = c.args.text.now in
     let tokens = c.args.tokens.now in
     elim c.if-repeated.branch [
-      then-repeated w ↦
-        let stands : passes (λ t. is_plus t.kind) (slice_get tokens (i + 1)) ≡ true = sym c.is_plus-repeated.ensures ∙ w.if-repeated.true in
-        let within_plus = within_from-passes (λ t. is_plus t.kind) tokens (i + 1) stands in
-        (omega (arith, c.loop-elements.invariant.0), omega (arith, within_plus), λ source name. c.loop-elements.invariant.2 source name
-        ∙ atom_next text source name c.loop-elements.elements.items c.in-Some.atom tokens i e
-        ∙ rw (c.in_ok-push.ensures.items, w.next-is, w.if-repeated.true) (plus_next text source name c.loop-elements.elements.items c.in-Some.atom tokens (i + 1) stands))
-      | else-repeated w ↦
-        (omega (arith, c.loop-elements.invariant.0), omega (arith, within), λ source name. c.loop-elements.invariant.2 source name
-        ∙ atom_next text source name c.loop-elements.elements.items c.in-Some.atom tokens i e
-        ∙ rw (c.in_ok-push.ensures.items, w.next-is, w.if-repeated.false) (plus_none text source name c.loop-elements.elements.items c.in-Some.atom tokens (i + 1) (sym c.is_plus-repeated.ensures ∙ w.if-repeated.false))) ]
+      | then-repeated w ↦
+          let stands : passes (λ t. is_plus t.kind) (slice_get tokens (i + 1)) ≡ true = sym c.is_plus-repeated.ensures ∙ w.if-repeated.true in
+          let within_plus = within_from-passes (λ t. is_plus t.kind) tokens (i + 1) stands in (
+            omega (arith, c.loop-elements.invariant.0),
+            omega (arith, within_plus),
+            λ source name. c.loop-elements.invariant.2 source name
+                ∙ atom_next text source name c.loop-elements.elements.items c.in-Some.atom tokens i e
+                ∙ rw (c.in_ok-push.ensures.items, w.next-is, w.if-repeated.true) (plus_next text source name c.loop-elements.elements.items c.in-Some.atom tokens (i + 1) stands),
+          )
+      | else-repeated w ↦ (
+        omega (arith, c.loop-elements.invariant.0),
+        omega (arith, within),
+        λ source name. c.loop-elements.invariant.2 source name
+            ∙ atom_next text source name c.loop-elements.elements.items c.in-Some.atom tokens i e
+            ∙ rw (c.in_ok-push.ensures.items, w.next-is, w.if-repeated.false) (plus_none text source name c.loop-elements.elements.items c.in-Some.atom tokens (i + 1) (sym c.is_plus-repeated.ensures ∙ w.if-repeated.false)),
+      )
+    ]
 
 pub returns : goal.returns
 returns c =

@@ -42,8 +42,11 @@ pub returns : goal.returns
 returns c =
     let within = within_from-passes (λ t. is_semicolon t.kind) c.args.tokens.now c.in_ok-skip.end (sym c.is_semicolon.ensures ∙ c.if-not-is_semicolon.false) in
     let elements = c.in_ok-elements.ensures c.args.name in
-    let skip = c.in_ok-skip.ensures c.args.name c.in_ok-elements.elements in
-    (omega (arith, elements.0, skip.0), within, λ source. sign_read c.args.text.now (at_lexer_colon source c.args.name) (at_atom source c.args.name []) (λ t. is_colon t.kind) c.args.tokens.now c.args.at (λ t. refl) (sym c.is_colon.ensures ∙ c.if-not-is_colon.false)
-    ∙ elements.2 source
-    ∙ skip.2 source
-    ∙ sign_read c.args.text.now (at_lexer_end source c.args.name c.in_ok-elements.elements c.in_ok-skip.skip) (behind_lexer_rule source c.args.name c.in_ok-elements.elements c.in_ok-skip.skip) (λ t. is_semicolon t.kind) c.args.tokens.now c.in_ok-skip.end (λ t. refl) (sym c.is_semicolon.ensures ∙ c.if-not-is_semicolon.false))
+    let skip = c.in_ok-skip.ensures c.args.name c.in_ok-elements.elements in (
+      omega (arith, elements.0, skip.0),
+      within,
+      λ source. sign_read c.args.text.now (at_lexer_colon source c.args.name) (at_atom source c.args.name []) (λ t. is_colon t.kind) c.args.tokens.now c.args.at (λ t. refl) (sym c.is_colon.ensures ∙ c.if-not-is_colon.false)
+          ∙ elements.2 source
+          ∙ skip.2 source
+          ∙ sign_read c.args.text.now (at_lexer_end source c.args.name c.in_ok-elements.elements c.in_ok-skip.skip) (behind_lexer_rule source c.args.name c.in_ok-elements.elements c.in_ok-skip.skip) (λ t. is_semicolon t.kind) c.args.tokens.now c.in_ok-skip.end (λ t. refl) (sym c.is_semicolon.ensures ∙ c.if-not-is_semicolon.false),
+    )

@@ -31,7 +31,10 @@ overflow_add-result c = omega (arith, within_from-passes (λ t. is_semicolon t.k
 pub returns : goal.returns
 returns c =
     let within = within_from-passes (λ t. is_semicolon t.kind) c.args.tokens.now c.in_ok-elements.end (sym c.is_semicolon.ensures ∙ c.if-not-is_semicolon.false) in
-    let elements = c.in_ok-elements.ensures c.args.name in
-    (omega (arith, elements.0), within, λ source. sign_read c.args.text.now (at_parser_colon source c.args.name) (at_element source c.args.name []) (λ t. is_colon t.kind) c.args.tokens.now c.args.at (λ t. refl) (sym c.is_colon.ensures ∙ c.if-not-is_colon.false)
-    ∙ elements.2 source
-    ∙ sign_read c.args.text.now (at_parser_end source c.args.name c.in_ok-elements.elements) (behind_parser_rule source c.args.name c.in_ok-elements.elements) (λ t. is_semicolon t.kind) c.args.tokens.now c.in_ok-elements.end (λ t. refl) (sym c.is_semicolon.ensures ∙ c.if-not-is_semicolon.false))
+    let elements = c.in_ok-elements.ensures c.args.name in (
+      omega (arith, elements.0),
+      within,
+      λ source. sign_read c.args.text.now (at_parser_colon source c.args.name) (at_element source c.args.name []) (λ t. is_colon t.kind) c.args.tokens.now c.args.at (λ t. refl) (sym c.is_colon.ensures ∙ c.if-not-is_colon.false)
+          ∙ elements.2 source
+          ∙ sign_read c.args.text.now (at_parser_end source c.args.name c.in_ok-elements.elements) (behind_parser_rule source c.args.name c.in_ok-elements.elements) (λ t. is_semicolon t.kind) c.args.tokens.now c.in_ok-elements.end (λ t. refl) (sym c.is_semicolon.ensures ∙ c.if-not-is_semicolon.false),
+    )

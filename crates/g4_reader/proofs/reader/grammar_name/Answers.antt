@@ -21,7 +21,9 @@ returns-then-not-is_semicolon c =
 
 pub returns : goal.returns
 returns c =
-    let stands = sym c.is_semicolon.ensures ∙ c.if-not-is_semicolon.false in
-    (within_from-passes (λ t. is_semicolon t.kind) c.args.tokens.now 2 stands, sign_read c.args.text.now at_grammar at_name (λ t. is_word (codes "grammar") (spelled_token c.args.text.now t)) c.args.tokens.now 0 (λ t. refl) (sym c.is_word_at.ensures ∙ c.if-not-is_word_at.false)
-    ∙ name_next c.args.text.now c.in-Some.name c.args.tokens.now 1 (sym c.in-Some.is ∙ c.in_ok-name.ensures)
-    ∙ sign_read c.args.text.now (at_name_end c.in-Some.name) (at_rule (record { name = c.in-Some.name; rules = [] })) (λ t. is_semicolon t.kind) c.args.tokens.now 2 (λ t. refl) stands)
+    let stands = sym c.is_semicolon.ensures ∙ c.if-not-is_semicolon.false in (
+      within_from-passes (λ t. is_semicolon t.kind) c.args.tokens.now 2 stands,
+      sign_read c.args.text.now at_grammar at_name (λ t. is_word (codes "grammar") (spelled_token c.args.text.now t)) c.args.tokens.now 0 (λ t. refl) (sym c.is_word_at.ensures ∙ c.if-not-is_word_at.false)
+          ∙ name_next c.args.text.now c.in-Some.name c.args.tokens.now 1 (sym c.in-Some.is ∙ c.in_ok-name.ensures)
+          ∙ sign_read c.args.text.now (at_name_end c.in-Some.name) (at_rule (record { name = c.in-Some.name; rules = [] })) (λ t. is_semicolon t.kind) c.args.tokens.now 2 (λ t. refl) stands,
+    )

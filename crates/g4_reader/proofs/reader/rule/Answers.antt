@@ -15,10 +15,13 @@ returns-in_err-rule-in-Lower c =
 pub returns-in_ok-rule-in-Lower : goal.returns-in_ok-rule-in-Lower
 returns-in_ok-rule-in-Lower c =
     let is : slice_get c.args.tokens.now c.args.at ≡ Some c.index-tokens-at.result = slice_get_read c.args.tokens.now _ c.args.at _ refl c.requires.within c.index-tokens-at.is in
-    let read = c.in_ok-rule-in-Lower.ensures in
-    (omega (arith, read.0), read.1, λ source. lower_next c.args.text.now source c.args.tokens.now c.args.at c.index-tokens-at.result is (sym c.in-Lower.is)
-    ∙ ap (λ name. reading_from c.args.text.now (at_parser_colon source name) (drop (c.args.at + 1) c.args.tokens.now)) (sym c.in_ok-name-in-Lower.ensures)
-    ∙ read.2 source)
+    let read = c.in_ok-rule-in-Lower.ensures in (
+      omega (arith, read.0),
+      read.1,
+      λ source. lower_next c.args.text.now source c.args.tokens.now c.args.at c.index-tokens-at.result is (sym c.in-Lower.is)
+          ∙ ap (λ name. reading_from c.args.text.now (at_parser_colon source name) (drop (c.args.at + 1) c.args.tokens.now)) (sym c.in_ok-name-in-Lower.ensures)
+          ∙ read.2 source,
+    )
 
 pub returns-in_err-rule-in-Upper : goal.returns-in_err-rule-in-Upper
 returns-in_err-rule-in-Upper c =
@@ -29,10 +32,13 @@ returns-in_err-rule-in-Upper c =
 pub returns-in_ok-rule-in-Upper : goal.returns-in_ok-rule-in-Upper
 returns-in_ok-rule-in-Upper c =
     let is : slice_get c.args.tokens.now c.args.at ≡ Some c.index-tokens-at.result = slice_get_read c.args.tokens.now _ c.args.at _ refl c.requires.within c.index-tokens-at.is in
-    let read = c.in_ok-rule-in-Upper.ensures in
-    (omega (arith, read.0), read.1, λ source. upper_next c.args.text.now source c.args.tokens.now c.args.at c.index-tokens-at.result is (sym c.in-Upper.is)
-    ∙ ap (λ name. reading_from c.args.text.now (at_lexer_colon source name) (drop (c.args.at + 1) c.args.tokens.now)) (sym c.in_ok-name-in-Upper.ensures)
-    ∙ read.2 source)
+    let read = c.in_ok-rule-in-Upper.ensures in (
+      omega (arith, read.0),
+      read.1,
+      λ source. upper_next c.args.text.now source c.args.tokens.now c.args.at c.index-tokens-at.result is (sym c.in-Upper.is)
+          ∙ ap (λ name. reading_from c.args.text.now (at_lexer_colon source name) (drop (c.args.at + 1) c.args.tokens.now)) (sym c.in_ok-name-in-Upper.ensures)
+          ∙ read.2 source,
+    )
 
 pub returns-in_default : goal.returns-in_default
 returns-in_default c =
