@@ -3,7 +3,6 @@ use Rattle.std.proofs.Common.{◌≡◌, ℕ, List, [], ◌∷◌, ◌++◌, Boo
 use Rattle.std.specs.Prelude.{if◌then◌else◌}
 use Rattle.std.proofs.lemmas.List.{append-nil}
 use Rattle.std.proofs.lemmas.Slice.Eq.{bytes_eq-Decides}
-use Rattle.g4_tokens.specs.declared.token.Token.{Token}
 use Rattle.g4_tokens.specs.declared.token.Kind.{Kind}
 use Rattle.g4_tokens.specs.declared.token.Kind.TheVariants as kinds
 use Rattle.g4_grammar.specs.declared.source.Source.{Source}
@@ -16,9 +15,9 @@ use Rattle.g4_grammar.specs.declared.source.Element.TheVariants as elements
 use Rattle.g4_grammar.specs.declared.source.LexElement.{LexElement}
 use Rattle.g4_grammar.specs.declared.source.Atom.{Atom}
 use Rattle.g4_grammar.specs.declared.source.Atom.TheVariants as atoms
-use Rattle.g4_reader.specs.GrammarText.{Spelled, bytes_of, spelled, spelled_token, IsWord, IsLiteral, AreInOrder, IsElement, IsParserRule, IsAtom, IsRepeat, IsLexElement, IsCommand, IsLexerRule, IsRule, IsGrammarText, Begins}
-use Rattle.g4_reader.specs.Stages.{Stage, at_grammar, at_name, at_name_end, at_rule, at_parser_colon, at_element, at_parser_end, at_lexer_colon, at_atom, at_plus, at_command, at_skip, at_lexer_end, next, next_at_rule, next_at_atom, next_at_command, next_at_element, if_so, is_colon, is_semicolon, is_arrow, is_plus, is_lower, is_upper, is_word, with_atom, with_rule, behind_parser_rule, behind_lexer_rule, element_of, atom_of, grammar_at}
-use Rattle.g4_reader.proofs.Holding.{after, Holds, Holds-next, Holds-after, Begins-from, text_from}
+use Rattle.g4_reader.specs.GrammarText.{Spelled, bytes_of, IsWord, AreInOrder, IsElement, IsParserRule, IsAtom, IsRepeat, IsLexElement, IsCommand, IsLexerRule, IsRule, IsGrammarText, Begins}
+use Rattle.g4_reader.specs.Stages.{Stage, at_grammar, at_name, at_name_end, at_rule, at_parser_colon, at_element, at_lexer_colon, at_atom, at_plus, at_skip, at_lexer_end, next, next_at_rule, next_at_atom, next_at_element, if_so, is_colon, is_semicolon, is_plus, is_lower, is_upper, is_word, with_atom, with_rule, behind_lexer_rule, element_of, atom_of}
+use Rattle.g4_reader.proofs.Holding.{after}
 
 -- a token that may come leads on
 pub after-next : (stage : Stage) (t : Spelled) (ts : List Spelled) (later : Stage) → next stage t ≡ Some later → after stage (t ∷ ts) ≡ after later ts

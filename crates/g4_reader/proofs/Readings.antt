@@ -1,11 +1,11 @@
 -- What the reading of a text's tokens says of the text.
-use Rattle.std.proofs.Common.{◌≡◌, ◌≢◌, ℕ, List, [], ◌∷◌, ◌++◌, map, ◌⊎◌, inl, inr, refl, sym, ◌∙◌, ap, subst, append_assoc, Option, Some, None, Result, Ok, Err}
-use Rattle.std.proofs.lemmas.List.{append-nil, map-append}
+use Rattle.std.proofs.Common.{◌≡◌, ◌≢◌, ℕ, List, [], ◌∷◌, ◌++◌, inl, inr, refl, sym, ◌∙◌, ap, subst, Option, Some, None, Result, Ok, Err}
+use Rattle.std.proofs.lemmas.List.{append-nil}
 use Rattle.g4_tokens.specs.declared.token.Token.{Token}
 use Rattle.g4_tokens.specs.Scanning.{Opened, scanned}
 use Rattle.g4_grammar.specs.declared.source.Source.{Source}
-use Rattle.g4_reader.specs.GrammarText.{Spelled, spelled, spelled_token, IsGrammarText, Begins}
-use Rattle.g4_reader.specs.Reading.{Fault, fault_at, opened_fault, Ends, IsFirstFault, IsGrammar, IsFaultOf, IsReading}
+use Rattle.g4_reader.specs.GrammarText.{Spelled, spelled, spelled_token, IsGrammarText}
+use Rattle.g4_reader.specs.Reading.{Fault, fault_at, opened_fault, Ends, IsFirstFault, IsReading}
 use Rattle.g4_reader.specs.Stages.{Stage, at_grammar, at_rule, next, grammar_at, result_of, reading_from, GivesReading}
 use Rattle.g4_reader.specs.declared.reader.ReadFault.{ReadFault}
 use Rattle.g4_reader.specs.declared.reader.ReadFault.TheVariants.{Syntax, NoMemory}
@@ -161,3 +161,24 @@ reading_is text (Err NoMemory) h n = absurd (n refl)
 -- a text has one reading
 pub one_reading : (text : List ℕ) (a b : Result Source ReadFault) → IsReading text a → IsReading text b → a ≢ Err NoMemory → b ≢ Err NoMemory → a ≡ b
 one_reading text a b is also n m = reading_is text a is n ∙ sym (reading_is text b also m)
+
+-- the answer tells the result
+answer_gives : (result : Result Source Fault) → GivesReading result (answer result)
+unfolding answer
+answer_gives (Ok source) = refl
+answer_gives (Err fault) = refl
+
+-- the answer needs no memory
+answer_told : (result : Result Source Fault) → answer result ≢ Err NoMemory
+unfolding answer
+answer_told (Ok source) e = cc
+answer_told (Err fault) e = cc
+
+-- a text has a reading
+pub some_reading : (text : List ℕ) → (result : Result Source ReadFault) × IsReading text result × (result ≢ Err NoMemory)
+unfolding answer
+some_reading text = by_tokens (scanned text) refl
+  where
+    by_tokens : (o : Result (List Token) Opened) → scanned text ≡ o → (result : Result Source ReadFault) × IsReading text result × (result ≢ Err NoMemory)
+    by_tokens (Ok tokens) e = (answer (reading_from text at_grammar tokens), IsReading-from text tokens (answer (reading_from text at_grammar tokens)) e (answer_gives (reading_from text at_grammar tokens)), answer_told (reading_from text at_grammar tokens))
+    by_tokens (Err opened) e = (answer (Err (opened_fault text opened)), inl (opened, e, refl), answer_told (Err (opened_fault text opened)))

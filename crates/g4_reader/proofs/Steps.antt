@@ -1,5 +1,5 @@
 -- How reading goes on at an index of the tokens.
-use Rattle.std.proofs.Common.{◌≡◌, ℕ, zero, suc, ◌+◌, ◌≤◌, List, [], ◌∷◌, ◌++◌, Bool, true, false, ◌||◌, length, drop, refl, sym, ◌∙◌, ap, subst, arith, add-one, Option, Some, None, Result, Ok, Err, slice_get, codes}
+use Rattle.std.proofs.Common.{◌≡◌, ℕ, zero, suc, ◌+◌, ◌≤◌, List, [], ◌∷◌, ◌++◌, Bool, true, false, ◌||◌, length, drop, refl, sym, ◌∙◌, ap, arith, add-one, Option, Some, None, Result, Ok, Err, slice_get}
 use Rattle.std.proofs.lemmas.List.{drop_all}
 use Rattle.g4_tokens.specs.declared.token.Token.{Token}
 use Rattle.g4_tokens.specs.declared.token.Kind.{Kind}
@@ -8,9 +8,9 @@ use Rattle.g4_grammar.specs.declared.source.Source.{Source}
 use Rattle.g4_grammar.specs.declared.source.Element.{Element}
 use Rattle.g4_grammar.specs.declared.source.LexElement.{LexElement}
 use Rattle.g4_grammar.specs.declared.source.Atom.{Atom}
-use Rattle.g4_reader.specs.GrammarText.{Spelled, spelled_token, bytes_of}
+use Rattle.g4_reader.specs.GrammarText.{spelled_token, bytes_of}
 use Rattle.g4_reader.specs.Reading.{Fault, fault_at}
-use Rattle.g4_reader.specs.Stages.{Stage, at_grammar, at_name, at_name_end, at_rule, at_parser_colon, at_element, at_parser_end, at_lexer_colon, at_atom, at_plus, at_command, at_skip, at_lexer_end, next, next_at_rule, next_at_atom, next_at_command, next_at_element, if_so, passes, is_semicolon, is_arrow, is_plus, is_lower, is_upper, is_word, with_atom, element_at, element_of, atom_at, atom_of, name_at, name_of, grammar_at, result_of, reading_from, IsFault, EndsWith}
+use Rattle.g4_reader.specs.Stages.{Stage, at_name, at_name_end, at_rule, at_parser_colon, at_element, at_parser_end, at_lexer_colon, at_atom, at_plus, at_command, at_skip, at_lexer_end, next, next_at_rule, if_so, passes, is_arrow, is_plus, is_lower, is_upper, with_atom, element_at, atom_at, name_at, name_of, grammar_at, result_of, reading_from, IsFault, EndsWith}
 use Rattle.g4_reader.specs.declared.reader.ReadFault.{ReadFault}
 use Rattle.g4_reader.specs.declared.reader.ReadFault.TheVariants.{Syntax, NoMemory}
 

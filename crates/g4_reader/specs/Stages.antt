@@ -34,7 +34,7 @@ pub data Stage : Type 0 where
   at_skip : Source → List ℕ → List LexElement → Stage
   at_lexer_end : Source → List ℕ → List LexElement → Bool → Stage
 
--- whether a kind is this one
+-- whether a kind is that of lower-case names
 abbrev pub is_lower : Kind → Bool
 is_lower kinds.Lower = true
 is_lower _ = false

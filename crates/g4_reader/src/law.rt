@@ -9,3 +9,8 @@ ghost use Rattle.g4_reader.specs.declared.reader.ReadFault.TheVariants.{NoMemory
 pub fn one_reading()
     ensures { (text : List ℕ) (a b : Result Source ReadFault) → IsReading text a → IsReading text b → a ≢ Err NoMemory → b ≢ Err NoMemory → a ≡ b }
 {}
+
+/// Each text has a reading: it is a grammar or it has a first fault.
+pub fn some_reading()
+    ensures { (text : List ℕ) → (result : Result Source ReadFault) × IsReading text result × (result ≢ Err NoMemory) }
+{}

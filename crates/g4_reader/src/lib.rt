@@ -9,5 +9,5 @@ mod reader;
 mod sign;
 mod spelling;
 
-pub use law::one_reading;
+pub use law::{one_reading, some_reading};
 pub use reader::{ReadFault, read_grammar};

@@ -1,4 +1,4 @@
-use Rattle.std.proofs.Common.{◌+◌, [], refl, sym, ◌∙◌, arith}
+use Rattle.std.proofs.Common.{[], refl, sym, ◌∙◌, arith}
 use Rattle.std.proofs.lemmas.Result.{err_from_is_err_and}
 use Rattle.g4_reader.specs.Stages.{at_parser_colon, at_element, at_parser_end, behind_parser_rule, is_colon, is_semicolon}
 use Rattle.g4_reader.proofs.Steps.{sign_read, sign_stuck, within_from-passes, ends_with, ends_alike}

@@ -1,4 +1,3 @@
-use Rattle.std.proofs.Common.{[], ◌∙◌}
 use Rattle.std.proofs.lemmas.Result.{err_from_is_err_and}
 use Rattle.g4_reader.proofs.Steps.{ends_alike}
 use Rattle.g4_reader.proofs.reader.read_tokens.Goals as goal

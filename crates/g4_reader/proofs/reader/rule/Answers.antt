@@ -1,7 +1,6 @@
-use Rattle.std.proofs.Common.{◌≡◌, ◌+◌, [], ◌∷◌, Some, slice_get, refl, sym, ◌∙◌, ap, arith, drop}
+use Rattle.std.proofs.Common.{◌≡◌, ◌+◌, Some, slice_get, refl, sym, ◌∙◌, ap, arith, drop}
 use Rattle.std.proofs.lemmas.Option.{slice_get_read}
 use Rattle.std.proofs.lemmas.Result.{err_from_is_err_and}
-use Rattle.g4_reader.specs.GrammarText.{spelled_token, bytes_of}
 use Rattle.g4_reader.specs.Stages.{at_parser_colon, at_lexer_colon, reading_from}
 use Rattle.g4_reader.proofs.Steps.{lower_next, upper_next, rule_stuck, ends_with, ends_alike}
 use Rattle.g4_reader.proofs.reader.rule.Goals as goal

@@ -1,4 +1,4 @@
-use Rattle.std.proofs.Common.{[], ◌∙◌}
+use Rattle.std.proofs.Common.{◌∙◌}
 use Rattle.std.proofs.lemmas.Result.{err_from_is_err_and}
 use Rattle.g4_reader.proofs.Steps.{rules_end, ends_alike}
 use Rattle.g4_reader.proofs.reader.rules.Goals as goal
