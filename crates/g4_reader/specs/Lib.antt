@@ -1,2 +1,3 @@
 pub mod GrammarText
 pub mod Reading
+pub mod Stages

@@ -1,0 +1,5 @@
+use Rattle.g4_reader.proofs.Readings as readings
+use Rattle.g4_reader.proofs.law.some_reading.Goals as goal
+
+pub returns : goal.returns
+returns c = readings.some_reading
