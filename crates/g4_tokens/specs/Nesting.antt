@@ -1,8 +1,9 @@
 -- Where actions and arguments end.
-use Rattle.std.specs.Prelude.{ℕ, zero, suc, ◌+◌, ◌-◌, Bool, false, List, [], ◌∷◌, Option, Some, None, length, drop, unwrap_or, ◌==◌, ◌&&◌, ◌||◌, if◌then◌else◌}
+use Rattle.std.specs.Prelude.{◌≡◌, ℕ, zero, suc, ◌+◌, ◌-◌, ◌<◌, ◌≤◌, slice_index, Bool, false, List, [], ◌∷◌, Option, Some, None, length, drop, unwrap_or, ◌==◌, ◌&&◌, ◌||◌, if◌then◌else◌}
 use Rattle.std.specs.List.{prefix_len}
 use Rattle.g4_tokens.specs.Characters.{begins, is_in_line}
 use Rattle.g4_tokens.specs.Comments.{comment_end}
+use Rattle.g4_tokens.specs.declared.quote.Unclosed.{Unclosed}
 
 -- how many characters there are up to the quote that closes on this line, that included, behind so many; the first is
 -- escaped where a backslash stands before it
@@ -16,6 +17,15 @@ quote_end_from quote escaped taken (c ∷ cs) =
 -- how many characters a quoted text takes behind its first quote: none where no quote closes it on its line
 abbrev pub quoted : ℕ → List ℕ → ℕ
 quoted quote behind = unwrap_or (quote_end_from quote false 0 behind) 0
+
+-- from the one index up to the other, no quote of this kind is closed on its line
+abbrev pub IsUnclosed : ℕ → List ℕ → ℕ → ℕ → Type 0
+IsUnclosed quote text at until = (j : ℕ) → at ≤ j → j < until → slice_index text j ≡ quote → quote_end_from quote false 0 (drop (j + 1) text) ≡ None
+
+-- from the index on, no quotes are closed on their lines up to these indices
+pub record AreUnclosed (text : List ℕ) (at : ℕ) (unclosed : Unclosed) : Type 0 where
+  pub single_ones : IsUnclosed 39 text at unclosed.single
+  pub double_ones : IsUnclosed 34 text at unclosed.double
 
 -- how many characters a comment takes behind its first `/`: none where no comment begins there, and all where it doesn't end
 abbrev pub commented : List ℕ → ℕ

@@ -6,6 +6,7 @@ mod comment;
 mod escape;
 mod nesting;
 mod piece;
+mod quote;
 mod ranges;
 mod scanner;
 mod spelling;

@@ -1,29 +1,10 @@
 // Where actions and arguments end.
-ghost use Rattle.std.specs.Prelude.{◌≡◌, ◌≤◌, ◌<◌, ◌+◌, ◌^◌, length, IfSome, false};
-ghost use Rattle.g4_tokens.specs.Nesting.{quote_end_from, commented, whole, closes, depth_behind, passed, nesting_end};
+ghost use Rattle.std.specs.Prelude.{◌≡◌, ◌≤◌, ◌<◌, ◌+◌, ◌^◌, length, drop, slice_index, IfSome};
+ghost use Rattle.g4_tokens.specs.Nesting.{commented, closes, depth_behind, passed, nesting_end, AreUnclosed};
 
 use crate::character::{begins, line_length};
 use crate::comment::comment_end;
-
-fn quote_end(quote: char, text: &[char]) -> Option<usize>
-    ensures value { result ≡ quote_end_from quote false 0 text.now }
-    ensures within { IfSome result (λ taken. taken ≤ length text.now) }
-{
-    let mut escaped = false;
-    for (at, c) in text.iter().enumerate() {
-        if *c == '\n' {
-            return None;
-        }
-        if escaped {
-            escaped = false;
-        } else if *c == quote {
-            return Some(at + 1);
-        } else {
-            escaped = *c == '\\';
-        }
-    }
-    None
-}
+use crate::quote::{Unclosed, quoted_at};
 
 fn commented(behind: &[char]) -> usize
     ensures value { result ≡ commented behind.now }
@@ -38,19 +19,6 @@ fn commented(behind: &[char]) -> usize
     match comment_end(&behind[1..]) {
         Some(taken) => taken + 1,
         None => behind.len(),
-    }
-}
-
-fn whole(c: char, behind: &[char]) -> usize
-    ensures value { result ≡ whole c behind.now }
-    ensures within { result ≤ length behind.now }
-{
-    if c == '"' || c == '\'' {
-        quote_end(c, behind).unwrap_or(0)
-    } else if c == '/' {
-        commented(behind)
-    } else {
-        0
     }
 }
 
@@ -74,14 +42,46 @@ fn depth_behind(opening: char, closing: char, depth: usize, c: char) -> usize
     }
 }
 
-fn passed(opening: char, closing: char, c: char, behind: &[char]) -> usize
-    ensures value { result ≡ passed opening closing c behind.now }
-    ensures within { result ≤ length behind.now }
+/// How many characters behind this one, which stands at the index, are no part of the nesting.
+fn passed(
+    opening: char,
+    closing: char,
+    c: char,
+    text: &[char],
+    at: usize,
+    unclosed: Unclosed,
+) -> (usize, Unclosed)
+    requires within { at < length text.now }
+    requires here { slice_index text.now at ≡ c }
+    requires known { AreUnclosed text.now at unclosed }
+    ensures value { result.0 ≡ passed opening closing c (drop (at + 1) text.now) }
+    ensures within { at + 1 + result.0 ≤ length text.now }
+    ensures known { AreUnclosed text.now at result.1 }
 {
     if c == closing || c == opening {
-        0
+        (0, unclosed)
+    } else if c == '"' {
+        let (taken, double) = quoted_at('"', text, at, unclosed.double);
+        (
+            taken,
+            Unclosed {
+                single: unclosed.single,
+                double,
+            },
+        )
+    } else if c == '\'' {
+        let (taken, single) = quoted_at('\'', text, at, unclosed.single);
+        (
+            taken,
+            Unclosed {
+                single,
+                double: unclosed.double,
+            },
+        )
+    } else if c == '/' {
+        (commented(&text[at + 1..]), unclosed)
     } else {
-        whole(c, behind)
+        (0, unclosed)
     }
 }
 
@@ -91,6 +91,10 @@ pub fn nesting_end(opening: char, closing: char, text: &[char]) -> Option<usize>
     ensures value { result ≡ nesting_end opening closing text.now }
     ensures within { IfSome result (λ taken. taken ≤ length text.now) }
 {
+    let mut unclosed = Unclosed {
+        single: 0,
+        double: 0,
+    };
     let mut depth: usize = 0;
     let mut at = 0;
     while at < text.len() {
@@ -98,7 +102,8 @@ pub fn nesting_end(opening: char, closing: char, text: &[char]) -> Option<usize>
         if closes(closing, depth, c) {
             return Some(at + 1);
         }
-        let more = passed(opening, closing, c, &text[at + 1..]);
+        let (more, known) = passed(opening, closing, c, text, at, unclosed);
+        unclosed = known;
         depth = depth_behind(opening, closing, depth, c);
         at += 1 + more;
     }
