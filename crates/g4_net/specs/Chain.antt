@@ -1,5 +1,5 @@
 -- A network whose only call and only decision are those of the added rule.
-use Rattle.std.specs.Prelude.{◌≡◌, ◌≤◌, ◌<◌, ◌⊎◌, ℕ, ◌+◌, List, [], ◌∷◌, length, Some}
+use Rattle.std.specs.Prelude.{◌≡◌, ◌≤◌, ◌<◌, ◌⊎◌, ℕ, ◌+◌, List, [], ◌∷◌, length, Some, Contains}
 use Rattle.g4_base.specs.Symbols.{eof, end_of_list}
 use Rattle.g4_net.specs.declared.network.Network.{Network}
 use Rattle.g4_net.specs.declared.network.State.{State}
@@ -40,6 +40,8 @@ pub record IsChain (net : Network) (rule loop : ℕ) : Type 0 where
   -- a token edge outside the added rule stays outside it
   pub stays : (p t : ℕ) (set : List ℕ) → IsOutside loop p → state_at net p ≡ Some (Token set t) → IsOutside loop t
   pub leads_out : (p t : ℕ) → IsOutside loop p → state_at net p ≡ Some (Empty t) → IsOutside loop t
+  -- no token edge outside the added rule takes END
+  pub leaves_end : (p t : ℕ) (set : List ℕ) → IsOutside loop p → state_at net p ≡ Some (Token set t) → Contains set end_of_list → ⊥
   pub numbers : length net.written ≡ length net.states
   pub size : length net.states < 100000
 
