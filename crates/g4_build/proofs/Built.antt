@@ -7,6 +7,7 @@ use Rattle.std.proofs.lemmas.Bool.Decides.{nat_tests}
 use Rattle.std.proofs.lemmas.List.FromFn.{length-map-range_with_len, length-range_with_len, get_or-range_with_len}
 use Rattle.g4_base.specs.Symbols.{eof, end_of_list}
 use Rattle.g4_grammar.specs.Elements.{symbol, symbols_in_order, only, added_rule, star, call, Alternatives, empty, then, none}
+use Rattle.g4_grammar.specs.Numbering.{SpeakOfNamed}
 use Rattle.g4_grammar.specs.declared.numbered.Numbered.{Numbered}
 use Rattle.g4_grammar.specs.declared.numbered.NumberedRule.{NumberedRule}
 use Rattle.g4_net.specs.declared.network.Network.{Network}
@@ -77,9 +78,17 @@ has_added net rules start h =
 has_ends : (net : Network) (rules : List NumberedRule) (start : ℕ) → HasParts rules start net.states → (k : ℕ) → 1 ≤ k → k ≤ length rules → state_at net (end_of k) ≡ Some (End k)
 has_ends net rules start h k low high = ends_at net.states 1 (loop_of rules + 5) rules _ h.links k low (omega arith)
 
+-- a set of one symbol that is a type or EOF lacks END
+no_end : (set : List ℕ) → (a : ℕ) × (set ≡ a ∷ []) × (a ≤ eof) → Contains set end_of_list → ⊥
+no_end set (a, is, low) among = lacks (subst (λ (xs : List ℕ). Contains xs end_of_list) is among)
+  where
+    lacks : Contains (a ∷ []) end_of_list → ⊥
+    lacks (zero, less, e) = omega arith
+    lacks (suc k, less, e) = omega arith
+
 -- the listed states are a chain
-is_chain : (net : Network) (rules : List NumberedRule) (start count : ℕ) → HasParts rules start net.states → net.states ≡ states_of rules start → 1 ≤ start → start ≤ length rules → length net.states ≤ 65536 → length net.written ≡ length net.states → IsChain net start (loop_of rules)
-is_chain net rules start count h is low high few written =
+is_chain : (net : Network) (rules : List NumberedRule) (start count : ℕ) → SpeakOfNamed rules → HasParts rules start net.states → net.states ≡ states_of rules start → 1 ≤ start → start ≤ length rules → length net.states ≤ 65536 → length net.written ≡ length net.states → IsChain net start (loop_of rules)
+is_chain net rules start count named h is low high few written =
     record {
       added = has_added net rules start h;
       rule_from = low;
@@ -87,6 +96,7 @@ is_chain net rules start count h is low high few written =
       others = λ p s out here. plain net (loop_of rules + 5) (length rules) s (omega arith) (has_ends net rules start h) (link p s out here);
       stays = λ p t set out here. let l = link p (Token set t) out here in (omega (arith, l.0), inr (omega (arith, l.0)));
       leads_out = λ p t out here. let l = link p (Empty t) out here in (omega (arith, l.1, l.3), inl (omega (arith, l.2, l.3)));
+      leaves_end = λ p t set out here among. no_end set (link p (Token set t) out here).2 among;
       numbers = written;
       size = omega arith;
     }
@@ -94,7 +104,7 @@ is_chain net rules start count h is low high few written =
     link : (p : ℕ) (s : State) → IsOutside (loop_of rules) p → state_at net p ≡ Some s → IsLink (loop_of rules + 5) (length net.states) (length rules) s
     link p s out here =
         let e : loop_of rules + 5 + symbol_count rules ≡ length net.states = sym h.size in
-        subst (λ (n : ℕ). IsLink (loop_of rules + 5) n (length rules) s) e (linked rules start p s (subst (λ (xs : List State). slice_get xs p ≡ Some s) is here) out)
+        subst (λ (n : ℕ). IsLink (loop_of rules + 5) n (length rules) s) e (linked rules start p s named (subst (λ (xs : List State). slice_get xs p ≡ Some s) is here) out)
 
 -- a list of one has that one
 contains_one : (x t : ℕ) → Contains (x ∷ []) t ↔ (x ≡ t)
@@ -121,9 +131,9 @@ called_at (suc n) m (suc r) loop listed e = elim (called_at n m r loop listed e)
 ]
 
 -- the callers listed are the return states of each rule's calls
-has_callers : (net : Network) (rules : List NumberedRule) (start : ℕ) → HasParts rules start net.states → net.states ≡ states_of rules start → net.callers ≡ callers_of (length rules) start (loop_of rules) →
+has_callers : (net : Network) (rules : List NumberedRule) (start : ℕ) → SpeakOfNamed rules → HasParts rules start net.states → net.states ≡ states_of rules start → net.callers ≡ callers_of (length rules) start (loop_of rules) →
     (rule t : ℕ) (listed : List ℕ) → slice_get net.callers rule ≡ Some listed → Contains listed t ↔ IsReturn net rule t
-has_callers net rules start h is callers rule t listed here =
+has_callers net rules start named h is callers rule t listed here =
     elim (called_at start (length rules - start) rule (loop_of rules) listed (subst (λ (xs : List (List ℕ)). slice_get xs rule ≡ Some listed) callers here)) [
       | inl e ↦ (
         (λ c. returns e.0 (((contains_one (loop_of rules) t).0) (subst (λ (xs : List ℕ). Contains xs t) e.1 c))),
@@ -136,7 +146,7 @@ has_callers net rules start h is callers rule t listed here =
     ]
   where
     only_call : IsReturn net rule t → (rule ≡ start) × (t ≡ loop_of rules)
-    only_call r = one_call rules start r.0 rule r.1 t (subst (λ (xs : List State). slice_get xs r.0 ≡ Some (Call rule r.1 t)) is r.2)
+    only_call r = one_call rules start r.0 rule r.1 t named (subst (λ (xs : List State). slice_get xs r.0 ≡ Some (Call rule r.1 t)) is r.2)
 
     none_in : Contains [] t → ⊥
     none_in c = omega (arith, c.1)
@@ -216,8 +226,8 @@ all_lie net rules start parts written =
     subst (λ (n : ℕ). RulesLie net 0 (added_rule start ∷ more) n (length net.states)) from whole
 
 -- a network with these states is built
-pub built : (grammar : Numbered) (start : List ℕ) (net : Network) → has_parser_rule grammar start ≡ true → state_count grammar ≤ 65536 → HasStates grammar.rules (rule_number grammar start) (state_count grammar) net → IsBuilt grammar start net
-built grammar start net known fits h =
+pub built : (grammar : Numbered) (start : List ℕ) (net : Network) → SpeakOfNamed grammar.rules → has_parser_rule grammar start ≡ true → state_count grammar ≤ 65536 → HasStates grammar.rules (rule_number grammar start) (state_count grammar) net → IsBuilt grammar start net
+built grammar start net named known fits h =
     let rules : List NumberedRule = grammar.rules in
     let number : ℕ = rule_number grammar start in
     let loop : ℕ = loop_of rules in
@@ -232,8 +242,8 @@ built grammar start net known fits h =
       known = known;
       fits = fits;
       network = record { lie = all_lie net rules number parts at_start; written = size };
-      chain = is_chain net rules number count parts h.states low high (omega (arith, parts.size)) size;
-      callers = has_callers net rules number parts h.states h.callers;
+      chain = is_chain net rules number count named parts h.states low high (omega (arith, parts.size)) size;
+      callers = has_callers net rules number named parts h.states h.callers;
       every_rule = ap length h.callers ∙ length-callers (length rules) number loop high;
       unwritten = λ p other. ap (λ (xs : List ℕ). slice_index xs p) h.written ∙ not_written rules count p other;
     }
@@ -272,10 +282,10 @@ pub counted : (grammar : Numbered) → loop_of grammar.rules + 5 + symbol_count 
 counted grammar = omega arith
 
 -- what the code makes of a rule's place and a count is built
-pub built_at : (grammar : Numbered) (start : List ℕ) (place count : ℕ) (net : Network) → position (λ rule. bytes_eq rule.name start) grammar.rules ≡ Some place →
+pub built_at : (grammar : Numbered) (start : List ℕ) (place count : ℕ) (net : Network) → SpeakOfNamed grammar.rules → position (λ rule. bytes_eq rule.name start) grammar.rules ≡ Some place →
     count ≡ loop_of grammar.rules + 5 + symbol_count grammar.rules → count ≤ 65536 → HasStates grammar.rules (place + 1) count net → IsBuilt grammar start net
-built_at grammar start place count net e all few h =
+built_at grammar start place count net named e all few h =
     let k = known_at grammar start place e in
     let same : count ≡ state_count grammar = all ∙ counted grammar in
     let least : state_count grammar ≤ 65536 = omega arith in
-    built grammar start net k.0 least (subst (λ (n : ℕ). HasStates grammar.rules n (state_count grammar) net) k.1 (subst (λ (n : ℕ). HasStates grammar.rules (place + 1) n net) same h))
+    built grammar start net named k.0 least (subst (λ (n : ℕ). HasStates grammar.rules n (state_count grammar) net) k.1 (subst (λ (n : ℕ). HasStates grammar.rules (place + 1) n net) same h))

@@ -2,6 +2,7 @@
 ghost use Rattle.std.specs.Prelude.{◌≡◌, ◌≤◌, ◌<◌, ◌+◌, ◌*◌, ◌++◌, ◌==◌, ◌↔◌, [], IfOk, OnOk, IsTrue, MatchOption, length, replicate};
 ghost use Rattle.std.specs.List.{position};
 ghost use Rattle.std.specs.Str.{bytes_eq};
+ghost use Rattle.g4_grammar.specs.Numbering.{SpeakOfNamed};
 ghost use Rattle.g4_build.specs.Answers.{GivesNetwork};
 ghost use Rattle.g4_build.specs.States.{all_written, callers_of, loop_of, states_of, symbol_count, HasStates};
 
@@ -127,6 +128,7 @@ fn network(
 
 /// The network of a numbered grammar whose added rule calls the rule of this name.
 pub fn build(alloc: Global, grammar: &Numbered, start: &str) -> Result<Network, BuildFault>
+    requires { SpeakOfNamed grammar.now.rules }
     ensures { GivesNetwork grammar.now start.now result }
 {
     let rules = grammar.rules.as_slice();

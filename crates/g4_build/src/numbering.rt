@@ -1,6 +1,6 @@
 // The numbering of token types.
 ghost use Rattle.std.specs.Prelude.{◌≡◌, ◌≤◌, ◌+◌, ◌↔◌, All, IfOk, IsTrue, length};
-ghost use Rattle.g4_grammar.specs.Numbering.{numbered_of};
+ghost use Rattle.g4_grammar.specs.Numbering.{SpeakOfNamed, numbered_of};
 ghost use Rattle.g4_build.specs.Answers.{GivesNumbered};
 
 use crate::appearance::{other_names, own_literals};
@@ -77,6 +77,7 @@ fn numbered(
 pub fn number(alloc: Global, source: Source) -> Result<Numbered, NumberFault>
     ensures numbered { GivesNumbered source result }
     ensures types { IfOk result (λ grammar. All (λ rule. rule.symbol ≤ 4096) grammar.token_rules) }
+    ensures named { IfOk result (λ grammar. SpeakOfNamed grammar.rules) }
 {
     if source.rules.len() > MOST {
         return Err(NumberFault::Rules);

@@ -1,6 +1,6 @@
 -- The numbering of token types: first the literals of parser rules that need a token of their own, by first
 -- appearance, then the lexer rules, then the other token names, by first appearance.
-use Rattle.std.specs.Prelude.{ℕ, ◌+◌, ◌==◌, List, [], ◌∷◌, ◌++◌, length, map, Option, Some, None, Bool, true, false, ◌||◌, not, cond, codes, filter, count_by}
+use Rattle.std.specs.Prelude.{◌≤◌, ℕ, ◌+◌, ◌==◌, List, [], ◌∷◌, ◌++◌, length, map, Option, Some, None, Bool, true, false, ◌||◌, not, cond, codes, filter, count_by}
 use Rattle.std.specs.List.{filter_map, flat_map, list_any, position_or_len}
 use Rattle.std.specs.Str.{bytes_eq}
 use Rattle.g4_base.specs.Symbols.{eof}
@@ -182,3 +182,13 @@ greatest_type source =
     let parsers = parser_rules source in
     let lexers = lexer_rules source in
     length (own_literals parsers lexers) + length lexers + length (other_names parsers lexers)
+
+-- each of the symbols is a token type or EOF
+abbrev pub AreNamed : List ℕ → Type 0
+AreNamed [] = Unit {0}
+AreNamed (a ∷ more) = (a ≤ eof) × AreNamed more
+
+-- the rules speak of token types and EOF alone
+abbrev pub SpeakOfNamed : List NumberedRule → Type 0
+SpeakOfNamed [] = Unit {0}
+SpeakOfNamed (rule ∷ rules) = AreNamed rule.symbols × SpeakOfNamed rules

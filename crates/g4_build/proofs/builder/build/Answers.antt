@@ -15,5 +15,5 @@ returns-in_default-state_count c =
 pub returns : goal.returns
 returns c =
     let counts = rw c.as_slice-rules.ensures at c.in-Some-state_count.ensures in
-    built_at c.args.grammar.now c.args.start.now c.in-Some.place c.in-Some-state_count.count c.in_ok-net.net
+    built_at c.args.grammar.now c.args.start.now c.in-Some.place c.in-Some-state_count.count c.in_ok-net.net c.requires
     (rw c.as_slice-rules.ensures at (sym c.place_of.ensures ∙ c.in-Some.is)) counts.0 counts.1 (rw c.as_slice-rules.ensures at c.in_ok-net.ensures)

@@ -5,6 +5,7 @@ use Rattle.g4_grammar.specs.declared.source.LexerRule.{LexerRule}
 use Rattle.g4_grammar.specs.declared.source.ParserRule.{ParserRule}
 use Rattle.g4_grammar.specs.declared.numbered.Numbered.{Numbered}
 use Rattle.g4_build.specs.Halves.{AreHalves}
+use Rattle.g4_build.proofs.Named.{grammar_named}
 use Rattle.g4_build.proofs.Numbers.{greatest_is, numbered_is, symbols_below}
 use Rattle.g4_build.proofs.numbering.number.Goals as goal
 
@@ -28,3 +29,11 @@ returns-clause-types c =
     let others : List (List ℕ) = c.in_ok-others.others.items in
     let few : length own + length lexers + length others ≤ 4096 = rw (c.as_slice-5.ensures.value, c.as_slice-6.ensures.value, c.as_slice-7.ensures.value) at (c.if-not-types_fit.ensures.0 (search rules)) in
     symbols_below own lexers c.in_ok-grammar.grammar.token_rules (omega arith) (ap (λ (g : Numbered). g.token_rules) c.in_ok-grammar.ensures)
+
+pub returns-clause-named : goal.returns-clause-named
+returns-clause-named c =
+    let lexers : List LexerRule = c.in_ok-halves.halves.lexers.items in
+    let own : List Literal = c.in_ok-own.own.items in
+    let others : List (List ℕ) = c.in_ok-others.others.items in
+    let few : length own + length lexers + length others ≤ 4096 = rw (c.as_slice-5.ensures.value, c.as_slice-6.ensures.value, c.as_slice-7.ensures.value) at (c.if-not-types_fit.ensures.0 (search rules)) in
+    grammar_named c.in_ok-halves.halves.parsers.items lexers own others c.in_ok-grammar.grammar few c.in_ok-grammar.ensures
