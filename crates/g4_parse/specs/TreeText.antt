@@ -12,7 +12,7 @@ use Rattle.g4_parse.specs.declared.tree.Item.TheVariants as items
 abbrev pub token_text : List ℕ → Token → List ℕ
 token_text text token = cond (nat_le eof token.symbol) (codes "<EOF>") (shown (characters_of text token))
 
--- a space between children: before what comes next, where that begins a child
+-- a space before the next item, where that begins a child
 abbrev pub gap : List Item → List ℕ
 gap [] = []
 gap (items.Enter rule alt at ∷ more) = codes " "
@@ -36,14 +36,16 @@ is_enter (items.Enter rule alt at) = true
 is_enter (items.Token at) = false
 is_enter items.Exit = false
 
+-- the name of a rule that was looked up, nothing where it is absent
 abbrev pub name_by : Option NumberedRule → List ℕ
 name_by None = []
 name_by (Some rule) = rule.name
 
--- the name of a rule, which count from 1
+-- the name of a rule by its number; rules count from 1
 abbrev pub name_of : List NumberedRule → ℕ → List ℕ
 name_of rules rule = name_by (slice_get rules (rule - 1))
 
+-- a token that was looked up, as it is shown, nothing where it is absent
 abbrev pub text_by : List ℕ → Option Token → List ℕ
 text_by text None = []
 text_by text (Some token) = token_text text token
