@@ -1,10 +1,12 @@
 // The parse run over a network, and the tree that it gives.
 #![tactic(auto)]
 
+mod law;
 mod parser;
 mod printer;
 mod tree;
 
+pub use law::one_ending;
 pub use parser::{ParseFault, parse};
 pub use printer::print;
 pub use tree::{Item, Tree};

@@ -1,0 +1,2 @@
+mod OneChoice
+mod OneEnding
