@@ -8,5 +8,5 @@ mod tree;
 
 pub use law::one_ending;
 pub use parser::{ParseFault, parse};
-pub use printer::print;
+pub use printer::{print, push_token};
 pub use tree::{Item, Tree};

@@ -20,7 +20,13 @@ fn push_token_text(out: &mut String, text: &[char], token: &Token) -> Result<(),
     push_shown(out, &text[start..end])
 }
 
-fn push_token(out: &mut String, tokens: &[Token], text: &[char], at: u32) -> Result<(), AllocError>
+/// Writes the token at a place of the list as it is shown, nothing where there is none.
+pub fn push_token(
+    out: &mut String,
+    tokens: &[Token],
+    text: &[char],
+    at: u32,
+) -> Result<(), AllocError>
     ensures { OnOk result (string_bytes out.new ≡ string_bytes out.old ++ text_by text.now (slice_get tokens.now at)) }
 {
     match tokens.get(at as usize) {

@@ -12,7 +12,7 @@ use Rattle.g4_net.specs.declared.network.State.{State}
 use Rattle.g4_net.specs.declared.network.State.TheVariants.{Decision, End, Token, Call, Predicate, Level, Action, Empty}
 use Rattle.g4_net.specs.declared.token.Token as tokens
 use Rattle.g4_net.specs.Network.{state_at}
-use Rattle.g4_parse.specs.TreeText.{token_text}
+use Rattle.g4_parse.specs.TreeText.{text_by}
 use Rattle.g4_tool.specs.declared.write.Line.{Line}
 use Rattle.g4_tool.specs.declared.write.Line.TheVariants.{ToOut, ToErr}
 
@@ -58,12 +58,8 @@ place_by (Some token) = token.place
 abbrev pub place_of_token : List tokens.Token → ℕ → Place
 place_of_token list at = place_by (slice_get list at)
 
-abbrev pub shown_by : List ℕ → Option tokens.Token → List ℕ
-shown_by text None = []
-shown_by text (Some token) = token_text text token
-
 abbrev pub text_of_token : List ℕ → List tokens.Token → ℕ → List ℕ
-text_of_token text list at = shown_by text (slice_get list at)
+text_of_token text list at = text_by text (slice_get list at)
 
 -- the lines of a file
 abbrev pub line_of_tree : List ℕ → List ℕ → Line

@@ -1,14 +1,14 @@
 // The lines of faults.
 ghost use Rattle.std.specs.Prelude.{◌≡◌, ◌++◌, IfOk, OnOk, string_bytes, codes, ◌-◌, slice_get, drop, ◌∷◌, []};
 ghost use Rattle.std.specs.Fmt.{decimal};
-ghost use Rattle.g4_parse.specs.TreeText.{token_text};
 ghost use Rattle.g4_net.specs.Network.{state_at};
-ghost use Rattle.g4_tool.specs.Texts.{at_place, shown_symbol, more_symbols, shown_set, taken_by, place_of_token, text_of_token, mismatch_line, no_viable_line, too_deep_line, no_token_line, not_utf8_line, large_line, absent_line, usage_line, syntax_line, no_rule_line, limit_line};
+ghost use Rattle.g4_tool.specs.Texts.{at_place, shown_symbol, more_symbols, shown_set, taken_by, place_of_token, mismatch_line, no_viable_line, too_deep_line, no_token_line, not_utf8_line, large_line, absent_line, usage_line, syntax_line, no_rule_line, limit_line};
 
 use crate::write::Line;
 use g4_base::{END, EOF, Place, Text, push_shown};
 use g4_grammar::Numbered;
 use g4_net::{Network, State, Token};
+use g4_parse::push_token;
 use std::alloc::{AllocError, Global};
 
 // `NAME: line L:C `
@@ -80,27 +80,6 @@ fn place_at(tokens: &[Token], at: u32) -> Place
     }
 }
 
-// A token as it is shown: its characters, and EOF and END as `<EOF>`.
-fn push_token_text(out: &mut String, text: &[char], token: &Token) -> Result<(), AllocError>
-    ensures { OnOk result (string_bytes out.new ≡ string_bytes out.old ++ token_text text.now token.now) }
-{
-    if token.symbol >= EOF {
-        return out.push_str("<EOF>");
-    }
-    let end = token.end.min(text.len());
-    let start = token.start.min(end);
-    push_shown(out, &text[start..end])
-}
-
-fn push_token(out: &mut String, text: &[char], tokens: &[Token], at: u32) -> Result<(), AllocError>
-    ensures { OnOk result (string_bytes out.new ≡ string_bytes out.old ++ text_of_token text.now tokens.now at) }
-{
-    match tokens.get(at as usize) {
-        Some(token) => push_token_text(out, text, token),
-        None => Ok(()),
-    }
-}
-
 /// A token that a state does not take.
 pub fn mismatch(
     alloc: Global,
@@ -116,7 +95,7 @@ pub fn mismatch(
 {
     let mut line = start_line(alloc, name, place_at(tokens, at))?;
     line.push_str("mismatched input '")?;
-    push_token(&mut line, text, tokens, at)?;
+    push_token(&mut line, tokens, text, at)?;
     line.push_str("' expecting ")?;
     push_set(&mut line, grammar, set_at(net, state))?;
     line.push_str("\n")?;
@@ -135,7 +114,7 @@ pub fn no_viable(
 {
     let mut line = start_line(alloc, name, place_at(tokens, at))?;
     line.push_str("no viable alternative at input '")?;
-    push_token(&mut line, text, tokens, at)?;
+    push_token(&mut line, tokens, text, at)?;
     line.push_str("'\n")?;
     Ok(Line::ToErr(Text::new(line)))
 }
