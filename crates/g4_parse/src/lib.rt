@@ -3,7 +3,9 @@
 
 mod law;
 mod parser;
+mod predict;
 mod printer;
+mod state;
 mod tree;
 
 pub use law::one_ending;

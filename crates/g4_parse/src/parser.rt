@@ -1,12 +1,19 @@
 // The parse run.
-ghost use Rattle.std.specs.Prelude.{◌<◌, ◌^◌, ℕ, length};
-ghost use Rattle.g4_net.specs.Chain.{IsChain};
+ghost use Rattle.std.specs.Prelude.{◌≡◌, ◌<◌, ◌*◌, ◌^◌, ◌↔◌, ℕ, List, [], Some, IsTrue, OnOk, length};
+ghost use Rattle.g4_net.specs.Chain.{HasAddedRule, IsChain};
+ghost use Rattle.g4_net.specs.declared.network.Network.{Network as Net};
+ghost use Rattle.g4_net.specs.declared.network.State.TheVariants.{Call, Decision, End, Token as Taking};
+ghost use Rattle.g4_net.specs.Network.{state_at};
 ghost use Rattle.g4_net.specs.TokenList.{word_of, EndsInEnd};
 ghost use Rattle.g4_parse.specs.Parsing.{IsParse};
+ghost use Rattle.g4_parse.specs.Running.{Run, beginning, with_token};
+ghost use Rattle.g4_parse.specs.Standing.{StandsFor, IsTurnBy, IsUnderway, HasEnded};
 
-use crate::Tree;
-use g4_net::{Network, Token};
-use std::alloc::{AllocError, Global};
+use crate::predict::predict;
+use crate::state::{is_in_set, state_of};
+use crate::{Item, Tree};
+use g4_net::{Network, State, Token};
+use std::alloc::{AllocError, AllocFailed, Global};
 
 /// Why a token list has no tree.
 #[derive(Drop)]
@@ -20,6 +27,171 @@ pub enum ParseFault {
     NoMemory,
 }
 
+impl From<AllocError> for ParseFault {
+    ghost use Rattle.std.specs.Prelude.{◌≡◌};
+    ghost use Rattle.g4_parse.specs.declared.parser.ParseFault.TheVariants.{NoMemory};
+
+    ghost from_gives = { λ _ e. e ≡ NoMemory };
+
+    fn from(_: AllocError) -> Self {
+        ParseFault::NoMemory
+    }
+}
+
+impl<T: Drop> From<AllocFailed<T>> for ParseFault {
+    ghost use Rattle.std.specs.Prelude.{◌≡◌};
+    ghost use Rattle.g4_parse.specs.declared.parser.ParseFault.TheVariants.{NoMemory};
+
+    ghost from_gives = { λ _ e. e ≡ NoMemory };
+
+    fn from(_: AllocFailed<T>) -> Self {
+        ParseFault::NoMemory
+    }
+}
+
+/// The most rules that may be open.
+const DEEPEST: usize = 10_000;
+
+/// An open rule: the state to which it returns.
+#[derive(Clone, Copy)]
+struct Open {
+    back: u32,
+}
+
+/// A moment of the run: where it stands, the open rules, newest last, and the tree so far.
+#[derive(Drop)]
+struct Parser {
+    state: u32,
+    place: u32,
+    open_rules: Vec<Open>,
+    items: Vec<Item>,
+}
+
+impl Parser {
+    /// The run's beginning.
+    fn new(alloc: Global) -> Self
+        ensures { StandsFor result beginning }
+    {
+        Parser {
+            state: 0,
+            place: 0,
+            open_rules: Vec::new(alloc),
+            items: Vec::new(alloc),
+        }
+    }
+
+    /// Whether the run stands at the end of a rule with no rule open.
+    fn has_ended(&self, net: &Network) -> bool
+        requires { self.now.state < length net.now.states }
+        ensures { IsTrue result ↔ HasEnded net.now self.now }
+    {
+        self.open_rules.is_empty() && matches!(state_of(net, self.state), State::End(_))
+    }
+
+    /// Opens a rule.
+    fn call(&mut self, net: &Network, rule: u32, back: u32) -> Result<(), ParseFault>
+        requires starts { 2 * rule < length net.now.written }
+        requires fits { 2 * rule < 2 ^ 32 }
+        ensures { (word : List ℕ) (level : ℕ) (r : Run) → StandsFor self.old r → IsTurnBy net.now word (Some (Call rule level back)) r self.new result }
+    {
+        if self.open_rules.len() >= DEEPEST {
+            return Err(ParseFault::TooDeep { at: self.place });
+        }
+        let start = 2 * rule;
+        let alt = net.written.as_slice()[start as usize];
+        self.open_rules.push(Open { back })?;
+        self.items.push(Item::Enter {
+            rule,
+            alt,
+            at: self.place,
+        })?;
+        self.state = start;
+        Ok(())
+    }
+
+    /// Writes the next token as a child of the newest open rule. The added rule keeps none.
+    fn keep(&mut self) -> Result<(), AllocError>
+        ensures place { self.new.place ≡ self.old.place }
+        ensures kept { OnOk result ((r : Run) → StandsFor self.old r → StandsFor self.new (with_token r r.frames)) }
+    {
+        if !self.open_rules.is_empty() {
+            self.items.push(Item::Token(self.place))?;
+        }
+        Ok(())
+    }
+
+    /// Takes the next token.
+    fn take(&mut self, set: &[u32], target: u32, tokens: &[Token]) -> Result<(), ParseFault>
+        requires more { self.old.place < length tokens.now }
+        requires few { length tokens.now < 2 ^ 32 }
+        ensures { (net : Net) (r : Run) → StandsFor self.old r → IsTurnBy net (word_of tokens.now) (Some (Taking set.now target)) r self.new result }
+    {
+        let symbol = tokens[self.place as usize].symbol;
+        if !is_in_set(set, symbol) {
+            return Err(ParseFault::Mismatch {
+                at: self.place,
+                state: self.state,
+            });
+        }
+        self.keep()?;
+        self.place += 1;
+        self.state = target;
+        Ok(())
+    }
+
+    /// Goes to the alternative that prediction says, at the added rule's decision.
+    fn choose(&mut self, net: &Network, targets: &[u32], tokens: &[Token]) -> Result<(), ParseFault>
+        requires added { (rule : ℕ) × HasAddedRule net.now rule self.old.state }
+        requires decides { state_at net.now self.old.state ≡ Some (Decision targets.now) }
+        requires none_open { self.old.open_rules.items ≡ [] }
+        requires more { self.old.place < length tokens.now }
+        ensures { (r : Run) → StandsFor self.old r → IsTurnBy net.now (word_of tokens.now) (Some (Decision targets.now)) r self.new result }
+    {
+        match predict(net, self.state, targets, tokens, self.place) {
+            Some(alternative) => {
+                self.state = targets[alternative];
+                Ok(())
+            }
+            None => Err(ParseFault::NoViable { at: self.place }),
+        }
+    }
+
+    /// Closes the newest open rule.
+    fn close(&mut self) -> Result<(), ParseFault>
+        requires { 0 < length self.old.open_rules.items }
+        ensures { (net : Net) (word : List ℕ) (rule : ℕ) (r : Run) → StandsFor self.old r → IsTurnBy net word (Some (End rule)) r self.new result }
+    {
+        let Some(open) = self.open_rules.pop() else {
+            unreachable!()
+        };
+        self.items.push(Item::Exit)?;
+        self.state = open.back;
+        Ok(())
+    }
+
+    /// One step of the run.
+    fn turn(&mut self, net: &Network, tokens: &[Token]) -> Result<(), ParseFault>
+        requires underway { IsUnderway net.now (length tokens.now) self.old }
+        requires goes_on { HasEnded net.now self.old → ⊥ }
+        requires few { length tokens.now < 2 ^ 32 }
+        ensures { (r : Run) → StandsFor self.old r → IsTurnBy net.now (word_of tokens.now) (state_at net.now r.state) r self.new result }
+    {
+        match state_of(net, self.state) {
+            State::Call { rule, back, .. } => self.call(net, *rule, *back),
+            State::Token(set, target) => self.take(set.as_slice(), *target, tokens),
+            State::Decision(targets) => self.choose(net, targets.as_slice(), tokens),
+            State::End(_) => self.close(),
+            State::Empty(target) => {
+                self.state = *target;
+                Ok(())
+            }
+            State::Predicate(..) => unreachable!(),
+            State::Level(..) => unreachable!(),
+            State::Action(_) => unreachable!(),
+        }
+    }
+}
+
 /// The tree of a token list, or the fault at which the run ends.
 pub fn parse(alloc: Global, net: &Network, tokens: &[Token]) -> Result<Tree, ParseFault>
     requires chain { (rule : ℕ) × (loop : ℕ) × IsChain net.now rule loop }
@@ -27,5 +199,9 @@ pub fn parse(alloc: Global, net: &Network, tokens: &[Token]) -> Result<Tree, Par
     requires few { length tokens.now < 2 ^ 32 }
     ensures { IsParse net.now (word_of tokens.now) result }
 {
-    Err(ParseFault::NoMemory)
+    let mut parser = Parser::new(alloc);
+    while !parser.has_ended(net) {
+        parser.turn(net, tokens)?;
+    }
+    Ok(Tree::new(parser.items))
 }

@@ -1,0 +1,6 @@
+use Rattle.std.proofs.Common.{refl}
+use Rattle.g4_parse.proofs.Turns.{closes}
+use Rattle.g4_parse.proofs.parser.Parser.close.Goals as goal
+
+pub returns : goal.returns
+returns c = λ net word rule r h. closes net word r r.frames c.args.self.now _ c.in-Some.open c.pop.new.self.items refl h c.in-Some.ensures.items refl refl refl c.in_ok-push.ensures.items

@@ -1,0 +1,64 @@
+-- Which moment of the run the parser stands for, and what one turn of it does.
+use Rattle.std.specs.Prelude.{◌≡◌, ◌<◌, ◌^◌, ℕ, List, [], ◌∷◌, ◌++◌, Option, Some, None, Result, Ok, Err, ⊤, length}
+use Rattle.g4_net.specs.declared.network.Network.{Network}
+use Rattle.g4_net.specs.declared.network.State.{State}
+use Rattle.g4_net.specs.declared.network.State.TheVariants.{Decision, End, Token, Call, Predicate, Level, Action, Empty}
+use Rattle.g4_net.specs.Network.{state_at, start_of}
+use Rattle.g4_net.specs.Chain.{HasAddedRule}
+use Rattle.g4_parse.specs.declared.tree.Item.{Item}
+use Rattle.g4_parse.specs.declared.tree.Item.TheVariants as items
+use Rattle.g4_parse.specs.declared.parser.ParseFault.{ParseFault}
+use Rattle.g4_parse.specs.declared.parser.ParseFault.TheVariants.{NoViable, Mismatch, TooDeep, NoMemory}
+use Rattle.g4_parse.specs.declared.parser.Open.{Open}
+use Rattle.g4_parse.specs.declared.parser.Parser.{Parser}
+use Rattle.g4_parse.specs.Running.{Frame, Run, Ending, not_viable, mismatch, too_deep, no_predicates, GoesBy, StopsBy}
+
+-- the open rules, newest last
+abbrev pub opened : List Frame → List Open
+opened [] = []
+opened (f ∷ fs) = opened fs ++ record { back = f.back } ∷ []
+
+-- the tree so far and then the open rules' nodes so far, as one flat list
+abbrev pub flat : List Frame → List Item → List Item
+flat [] tree = tree
+flat (f ∷ fs) tree = flat fs tree ++ (items.Enter f.rule f.alt f.at ∷ f.children)
+
+-- the parser stands for this moment
+pub record StandsFor (p : Parser) (r : Run) : Type 0 where
+  pub state : p.state ≡ r.state
+  pub place : p.place ≡ r.place
+  pub rules : p.open_rules.items ≡ opened r.frames
+  pub items : p.items.items ≡ flat r.frames r.tree
+
+-- the run stops at this moment with the fault, unless memory ran out
+abbrev pub IsFaultBy : Network → List ℕ → Option State → Run → ParseFault → Type 0
+IsFaultBy net word state r (NoViable at) = StopsBy net no_predicates word state r (not_viable at)
+IsFaultBy net word state r (Mismatch at from) = StopsBy net no_predicates word state r (mismatch at from)
+IsFaultBy net word state r (TooDeep at) = StopsBy net no_predicates word state r (too_deep at)
+IsFaultBy net word state r NoMemory = Unit {0}
+
+-- from this moment the run goes by the state to one for which the parser stands, or it stops with the fault
+abbrev pub IsTurnBy : Network → List ℕ → Option State → Run → Parser → Result ⊤ ParseFault → Type 0
+IsTurnBy net word state r p (Ok done) = (s : Run) × GoesBy net no_predicates word state r s × StandsFor p s
+IsTurnBy net word state r p (Err fault) = IsFaultBy net word state r fault
+
+-- What holds of a run over a chain at each state, the token list having n tokens: a call's start is a state, a token or
+-- a decision has a token left, the decision is the added rule's, and only the added rule ends with no rule open.
+abbrev pub IsFitBy : Network → ℕ → Option State → Run → Type 0
+IsFitBy net n None r = ⊥
+IsFitBy net n (Some (Decision targets)) r = (rule : ℕ) × HasAddedRule net rule r.state × (r.frames ≡ []) × (r.place < n)
+IsFitBy net n (Some (End rule)) r = r.frames ≡ [] → rule ≡ 0
+IsFitBy net n (Some (Token set t)) r = r.place < n
+IsFitBy net n (Some (Call rule level back)) r = (start_of rule < length net.written) × (start_of rule < 2 ^ 32)
+IsFitBy net n (Some (Predicate k t)) r = ⊥
+IsFitBy net n (Some (Level q t)) r = ⊥
+IsFitBy net n (Some (Action t)) r = ⊥
+IsFitBy net n (Some (Empty t)) r = Unit {0}
+
+-- the parser stands for a moment of a run over a chain
+abbrev pub IsUnderway : Network → ℕ → Parser → Type 0
+IsUnderway net n p = (r : Run) × StandsFor p r × IsFitBy net n (state_at net r.state) r
+
+-- the parser stands at the end of a rule with no rule open
+abbrev pub HasEnded : Network → Parser → Type 0
+HasEnded net p = (p.open_rules.items ≡ []) × ((rule : ℕ) × (state_at net p.state ≡ Some (End rule)))

@@ -1,0 +1,21 @@
+// The states of a network and the sets of their edges.
+ghost use Rattle.std.specs.Prelude.{◌≡◌, ◌<◌, ◌↔◌, Some, IsTrue, length};
+ghost use Rattle.std.specs.List.{Contains};
+ghost use Rattle.g4_net.specs.Network.{state_at};
+
+use g4_net::{Network, State};
+
+/// The state of this number.
+pub fn state_of(net: &Network, number: u32) -> &State
+    requires { number < length net.now.states }
+    ensures { state_at net.now number ≡ Some result.now }
+{
+    &net.states.as_slice()[number as usize]
+}
+
+/// Whether the set has the symbol.
+pub fn is_in_set(set: &[u32], symbol: u32) -> bool
+    ensures { IsTrue result ↔ Contains set.now symbol }
+{
+    set.contains(&symbol)
+}
