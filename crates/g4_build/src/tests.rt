@@ -1,4 +1,7 @@
 // What is numbered and built of small grammars, worked out by hand.
+ghost use Rattle.std.specs.Prelude.{IfOk};
+ghost use Rattle.g4_grammar.specs.Numbering.{SpeakOfNamed};
+
 use crate::{BuildFault, build, number};
 use g4_base::{Sequence, Text};
 use g4_grammar::{
@@ -155,7 +158,9 @@ fn network_text(alloc: Global, net: &Network) -> Result<String, AllocError> {
     Ok(text)
 }
 
-fn numbered(alloc: Global, source: Source) -> Result<Numbered, AllocError> {
+fn numbered(alloc: Global, source: Source) -> Result<Numbered, AllocError>
+    ensures { IfOk result (λ grammar. SpeakOfNamed grammar.rules) }
+{
     match number(alloc, source) {
         Ok(grammar) => Ok(grammar),
         Err(_) => Err(AllocError),

@@ -1,5 +1,5 @@
 -- The tokens of a file.
-use Rattle.std.specs.Prelude.{◌≡◌, ℕ, ◌+◌, List, [], ◌∷◌, ◌++◌, length, take, drop, Bool, true, false, cond, Result, Ok, Err}
+use Rattle.std.specs.Prelude.{◌≡◌, ℕ, ◌+◌, List, [], ◌∷◌, ◌++◌, length, take, drop, cond, Result, Ok, Err}
 use Rattle.g4_base.specs.declared.place.Place.{Place}
 use Rattle.g4_base.specs.Place.{first_place, place_after}
 use Rattle.g4_base.specs.Symbols.{eof, end_of_list}
@@ -45,11 +45,13 @@ pub data Lexes (rules : List TokenRule) : Position → List ℕ → Result (List
       Lexes rules (position_after p (take n text)) (drop n text) more → Lexes rules p text (with_match rule p (take n text) more)
   no_token : (p : Position) (c : ℕ) (text : List ℕ) → NoMatch rules (c ∷ text) → Lexes rules p (c ∷ text) (Err (record { place = p.place; character = c }))
 
--- what stands behind the tokens of a file: four of EOF and one of END, at its end
+-- what stands behind the tokens of a file that ends at the position: four of EOF and one of END
+abbrev pub closing_at : Position → List Token
+closing_at end = token_at eof end [] ∷ token_at eof end [] ∷ token_at eof end [] ∷ token_at eof end [] ∷ token_at end_of_list end [] ∷ []
+
+-- what stands behind the tokens of a file, at its end
 abbrev pub closing_tokens : List ℕ → List Token
-closing_tokens text =
-    let end = position_after first_position text in
-    token_at eof end [] ∷ token_at eof end [] ∷ token_at eof end [] ∷ token_at eof end [] ∷ token_at end_of_list end [] ∷ []
+closing_tokens text = closing_at (position_after first_position text)
 
 -- what a fault says of the file
 abbrev pub IsLexFault : List TokenRule → List ℕ → LexFault → Type 0

@@ -1,5 +1,5 @@
 -- What the elements of a lexer rule match, by cases, over characters; and the best match at the front of a text.
-use Rattle.std.specs.Prelude.{◌≡◌, ◌≤◌, ◌<◌, ℕ, List, [], ◌∷◌, ◌++◌, length, take, Bool, true, false, Contains, Some, slice_get}
+use Rattle.std.specs.Prelude.{◌≡◌, ◌≤◌, ℕ, List, [], ◌∷◌, ◌++◌, length, take, Bool, true, false, Contains, Some, slice_get}
 use Rattle.g4_grammar.specs.declared.source.Range.{Range}
 use Rattle.g4_grammar.specs.declared.source.Atom.{Atom}
 use Rattle.g4_grammar.specs.declared.source.Atom.TheVariants.{Literal, Set}

@@ -1,12 +1,14 @@
 // The tokens of a file.
-ghost use Rattle.std.specs.Prelude.{◌≤◌, ◌+◌, All, IfOk, length};
+ghost use Rattle.std.specs.Prelude.{◌≡◌, ◌≤◌, ◌<◌, ◌^◌, ◌+◌, ◌++◌, All, IfOk, length};
+ghost use Rattle.g4_base.specs.Place.{place_after};
 ghost use Rattle.g4_net.specs.TokenList.{EndsInEnd, word_of};
-ghost use Rattle.g4_lexer.specs.Lexing.{IsLexing};
+ghost use Rattle.g4_lexer.specs.Lexing.{IsLexing, closing_at};
 
-use g4_base::Place;
+use crate::best::best;
+use g4_base::{END, EOF, Place, Sequence};
 use g4_grammar::TokenRule;
-use g4_net::Tokens;
-use std::alloc::{AllocError, Global};
+use g4_net::{Token, Tokens};
+use std::alloc::{AllocError, AllocFailed, Global};
 
 /// Why a file has no tokens.
 #[derive(Drop)]
@@ -14,6 +16,56 @@ pub enum LexFault {
     /// The place of a character at which no rule matches one character or more, and that character.
     NoToken(Place, char),
     NoMemory,
+}
+
+impl From<AllocError> for LexFault {
+    ghost use Rattle.std.specs.Prelude.{◌≡◌};
+    ghost use Rattle.g4_lexer.specs.declared.lexer.LexFault.TheVariants.{NoMemory};
+
+    ghost from_gives = { λ _ e. e ≡ NoMemory };
+
+    fn from(_: AllocError) -> Self {
+        LexFault::NoMemory
+    }
+}
+
+impl<T: Drop> From<AllocFailed<T>> for LexFault {
+    ghost use Rattle.std.specs.Prelude.{◌≡◌};
+    ghost use Rattle.g4_lexer.specs.declared.lexer.LexFault.TheVariants.{NoMemory};
+
+    ghost from_gives = { λ _ e. e ≡ NoMemory };
+
+    fn from(_: AllocFailed<T>) -> Self {
+        LexFault::NoMemory
+    }
+}
+
+/// The place behind the characters.
+fn place_behind(place: Place, characters: &[char]) -> Place
+    requires lines { place.line + length characters.now < 2 ^ 32 }
+    requires columns { place.column + length characters.now < 2 ^ 32 }
+    ensures { result ≡ place_after place characters.now }
+{
+    let mut behind = place;
+    for character in characters {
+        behind = behind.past(*character);
+    }
+    behind
+}
+
+/// Adds four tokens of EOF and one of END at the end of the file.
+fn close(found: &mut Vec<Token>, place: Place, end: usize) -> Result<(), AllocError>
+    ensures { IfOk result (λ _. found.new.items ≡ found.old.items ++ closing_at (record { index = end; place = place })) }
+{
+    for symbol in [EOF, EOF, EOF, EOF, END] {
+        found.push(Token {
+            symbol,
+            place,
+            start: end,
+            end,
+        })?;
+    }
+    Ok(())
 }
 
 /// The tokens of a file's characters, four of EOF and one of END behind them, or the first character at which no rule
@@ -25,5 +77,27 @@ pub fn tokens(alloc: Global, rules: &[TokenRule], text: &[char]) -> Result<Token
     ensures few { IfOk result (λ found. length found ≤ length text.now + 5) }
     ensures ends { IfOk result (λ found. EndsInEnd (word_of found)) }
 {
-    Err(LexFault::NoMemory)
+    let mut found = Vec::new(alloc);
+    let mut start = 0;
+    let mut place = Place::START;
+    while start < text.len() {
+        let rest = &text[start..];
+        let Some(matched) = best(alloc, rules, rest)? else {
+            return Err(LexFault::NoToken(place, rest[0]));
+        };
+        let rule = &rules[matched.rule];
+        let end = start + matched.length;
+        if !rule.skip {
+            found.push(Token {
+                symbol: rule.symbol,
+                place,
+                start,
+                end,
+            })?;
+        }
+        place = place_behind(place, &rest[..matched.length]);
+        start = end;
+    }
+    close(&mut found, place, start)?;
+    Ok(Sequence::new(found))
 }
