@@ -1,9 +1,8 @@
 -- The parser's lists and the open rules of the run.
-use Rattle.std.proofs.Common.{◌≡◌, ◌+◌, ◌<◌, ◌++◌, ◌∷◌, [], ℕ, suc, List, length, refl, sym, ◌∙◌, ap, append_assoc, arith, length-append}
+use Rattle.std.proofs.Common.{◌≡◌, ◌++◌, ◌∷◌, [], List, length, refl, sym, append_assoc, arith, length-append}
 use Rattle.g4_parse.specs.declared.tree.Item.{Item}
 use Rattle.g4_parse.specs.declared.tree.Item.TheVariants as items
-use Rattle.g4_parse.specs.declared.parser.Open.{Open}
-use Rattle.g4_parse.specs.Running.{Frame, Run, with_children, with_token, node_of}
+use Rattle.g4_parse.specs.Running.{Frame, Run, with_children, node_of}
 use Rattle.g4_parse.specs.Standing.{opened, flat}
 
 -- as many rules are open

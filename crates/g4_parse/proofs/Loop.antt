@@ -1,16 +1,16 @@
 -- Prediction at the added rule's loop looks at one symbol.
-use Rattle.std.proofs.Common.{◌≡◌, ◌+◌, ◌<◌, ◌⊎◌, inl, inr, ℕ, zero, suc, List, [], ◌∷◌, Bool, true, false, length, get_or, refl, sym, ◌∙◌, ap, subst, arith}
-use Rattle.std.specs.Prelude.{Option, Some, None, slice_get, slice_index, ◌↔◌}
+use Rattle.std.proofs.Common.{◌≡◌, ◌+◌, ◌<◌, ◌⊎◌, inl, inr, ℕ, zero, suc, List, [], ◌∷◌, Bool, true, false, refl, sym, ◌∙◌, ap, subst, arith}
+use Rattle.std.specs.Prelude.{Option, Some, None, slice_get, slice_index}
 use Rattle.std.specs.List.{Contains}
 use Rattle.g4_base.specs.Symbols.{eof, end_of_list}
 use Rattle.g4_net.specs.declared.network.Network.{Network}
 use Rattle.g4_net.specs.declared.network.State.{State}
 use Rattle.g4_net.specs.declared.network.State.TheVariants.{Decision, End, Token, Call, Predicate, Level, Action, Empty}
-use Rattle.g4_net.specs.Configurations.{Stack, Config, config, at, wildcard, HasExactly}
+use Rattle.g4_net.specs.Configurations.{Stack, Config, config, wildcard, HasExactly}
 use Rattle.g4_net.specs.Network.{state_at, IsFirst}
 use Rattle.g4_net.specs.Leads.{Returns, LeadsBy, Leads, Reaches, here, further}
-use Rattle.g4_net.specs.Lookahead.{IsKeptBy, IsKept, Rest, Firsts, Start, TakesBy, Targets, Next, IsEmpty, IsOnly}
-use Rattle.g4_net.specs.Prediction.{Verdict, answer, error_at, Led, ended, Looked, Path, Judges, nothing_left, one_left, SllFrom, Sll, Any, Choice, chosen, no_viable, IsTestBy, HasTests, Here, Decides, by_answer, by_error}
+use Rattle.g4_net.specs.Lookahead.{IsKeptBy, IsKept, Start, TakesBy, Next, IsEmpty, IsOnly}
+use Rattle.g4_net.specs.Prediction.{Verdict, answer, error_at, ended, Path, nothing_left, one_left, Any, Choice, chosen, no_viable, IsTestBy, HasTests, Here, Decides, by_answer, by_error}
 use Rattle.g4_net.specs.Chain.{HasAddedRule}
 use Rattle.g4_parse.specs.Viable.{IsTaken, IsViable}
 

@@ -12,10 +12,10 @@ use Rattle.g4_parse.specs.declared.tree.Item.{Item}
 use Rattle.g4_parse.specs.declared.parser.ParseFault.{ParseFault}
 use Rattle.g4_parse.specs.declared.parser.ParseFault.TheVariants.{NoViable, Mismatch, TooDeep, NoMemory}
 use Rattle.g4_parse.specs.declared.parser.Parser.{Parser}
-use Rattle.g4_parse.specs.Running.{Frame, Run, Ending, parsed, not_viable, mismatch, too_deep, beginning, no_predicates, Goes, StopsBy, Runs, stops, goes}
+use Rattle.g4_parse.specs.Running.{Frame, Run, Ending, parsed, not_viable, mismatch, too_deep, beginning, no_predicates, StopsBy, Runs, stops, goes}
 use Rattle.g4_parse.specs.Parsing.{Ends, IsParseFault, IsParse}
 use Rattle.g4_parse.specs.Standing.{StandsFor, IsFitBy, IsFaultBy, IsTurnBy, IsUnderway, HasEnded, flat}
-use Rattle.g4_parse.proofs.Stages.{Stage, measure, measure_at, advances, falls, fits, begins, fit_within}
+use Rattle.g4_parse.proofs.Stages.{Stage, measure_at, advances, falls, fits, begins, fit_within}
 use Rattle.g4_parse.proofs.Turns.{none_opened}
 use Rattle.g4_parse.proofs.Words.{length_word}
 

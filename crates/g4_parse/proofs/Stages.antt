@@ -1,5 +1,5 @@
 -- The stages of a run over a chain.
-use Rattle.std.proofs.Common.{◌≡◌, ◌+◌, ◌*◌, ◌-◌, ◌<◌, ◌≤◌, ◌++◌, ◌∷◌, [], ◌⊎◌, inl, inr, ℕ, zero, suc, List, length, refl, sym, ◌∙◌, ap, subst, arith, length-append}
+use Rattle.std.proofs.Common.{◌≡◌, ◌+◌, ◌*◌, ◌-◌, ◌<◌, ◌≤◌, ◌++◌, ◌∷◌, [], inl, inr, ℕ, zero, suc, List, length, refl, sym, ◌∙◌, ap, subst, arith, length-append}
 use Rattle.std.specs.Prelude.{Option, Some, None, slice_get}
 use Rattle.std.specs.List.{Contains}
 use Rattle.std.proofs.lemmas.Option.{slice_get_within}
@@ -8,10 +8,10 @@ use Rattle.g4_net.specs.declared.network.Network.{Network}
 use Rattle.g4_net.specs.declared.network.State.{State}
 use Rattle.g4_net.specs.declared.network.State.TheVariants.{Decision, End, Token, Call, Predicate, Level, Action, Empty}
 use Rattle.g4_net.specs.Network.{state_at, start_of, written_at, IsFirst}
-use Rattle.g4_net.specs.Chain.{HasAddedRule, IsChain, IsOutside, IsPlainBy}
+use Rattle.g4_net.specs.Chain.{HasAddedRule, IsChain, IsOutside}
 use Rattle.g4_net.specs.TokenList.{EndsInEnd}
 use Rattle.g4_parse.specs.declared.tree.Item.TheVariants as items
-use Rattle.g4_parse.specs.Running.{Frame, Run, beginning, no_predicates, GoesBy, Goes, ClosesBy, with_children, with_token, with_alt, begun, node_of}
+use Rattle.g4_parse.specs.Running.{Frame, Run, beginning, no_predicates, GoesBy, Goes, ClosesBy, with_token, with_alt, begun}
 use Rattle.g4_parse.specs.Standing.{IsFitBy}
 use Rattle.g4_parse.proofs.Loop.{first_cases, one_member}
 

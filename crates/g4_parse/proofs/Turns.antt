@@ -1,6 +1,6 @@
 -- What a turn of the parser is in the run.
-use Rattle.std.proofs.Common.{◌≡◌, ◌+◌, ◌<◌, ◌++◌, ◌∷◌, [], ℕ, suc, List, length, get_or, drop, refl, sym, ◌∙◌, ap, subst, arith, length-append}
-use Rattle.std.specs.Prelude.{Option, Some, None, Result, ⊤, slice_get}
+use Rattle.std.proofs.Common.{◌≡◌, ◌+◌, ◌<◌, ◌++◌, ◌∷◌, [], ℕ, List, length, get_or, drop, refl, sym, ◌∙◌, ap, subst, arith, length-append}
+use Rattle.std.specs.Prelude.{Option, Some, Result, ⊤}
 use Rattle.std.proofs.lemmas.Option.{slice_get-get_or}
 use Rattle.g4_net.specs.declared.network.Network.{Network}
 use Rattle.g4_net.specs.declared.network.State.{State}
@@ -15,7 +15,7 @@ use Rattle.g4_parse.specs.declared.parser.Parser.{Parser}
 use Rattle.g4_parse.specs.declared.parser.ParseFault.{ParseFault}
 use Rattle.g4_parse.specs.Running.{Frame, Run, no_predicates, Predicts, GoesBy, ClosesBy, with_children, with_alt, begun, node_of, here_of, stack_of}
 use Rattle.g4_parse.specs.Standing.{StandsFor, IsTurnBy, opened, flat}
-use Rattle.g4_parse.proofs.Flat.{flat_more, flat_node, length_opened, opened_more, place_more, state_more}
+use Rattle.g4_parse.proofs.Flat.{flat_more, flat_node, opened_more, place_more, state_more}
 
 -- lists that end alike are alike
 same_last : (xs ys : List Open) (x y : Open) → xs ++ x ∷ [] ≡ ys ++ y ∷ [] → (xs ≡ ys) × (x ≡ y)

@@ -11,7 +11,7 @@ use Rattle.g4_parse.specs.declared.parser.ParseFault.{ParseFault}
 use Rattle.g4_parse.specs.declared.parser.ParseFault.TheVariants.{NoViable, Mismatch, TooDeep, NoMemory}
 use Rattle.g4_parse.specs.declared.parser.Open.{Open}
 use Rattle.g4_parse.specs.declared.parser.Parser.{Parser}
-use Rattle.g4_parse.specs.Running.{Frame, Run, Ending, not_viable, mismatch, too_deep, no_predicates, GoesBy, StopsBy}
+use Rattle.g4_parse.specs.Running.{Frame, Run, not_viable, mismatch, too_deep, no_predicates, GoesBy, StopsBy}
 
 -- the open rules, newest last
 abbrev pub opened : List Frame → List Open

@@ -1,4 +1,4 @@
-use Rattle.std.proofs.Common.{◌≡◌, List, refl, sym, subst}
+use Rattle.std.proofs.Common.{List, refl, sym, subst}
 use Rattle.g4_net.specs.TokenList.{word_of}
 use Rattle.g4_parse.specs.declared.tree.Item.{Item}
 use Rattle.g4_parse.specs.Running.{parsed}

@@ -1,10 +1,9 @@
-use Rattle.std.proofs.Common.{◌≡◌, ◌∷◌, ◌+◌, ℕ, suc, List, get_or, drop, subst, sym}
+use Rattle.std.proofs.Common.{◌≡◌, ◌∷◌, ◌+◌, ℕ, suc, List, get_or, drop}
 use Rattle.std.specs.Prelude.{Option, Some, None, MatchOption}
-use Rattle.g4_base.specs.declared.place.Place.{Place}
 use Rattle.g4_net.specs.declared.network.Network.{Network}
 use Rattle.g4_net.specs.declared.token.Token.{Token}
 use Rattle.g4_net.specs.Configurations.{Stack}
-use Rattle.g4_net.specs.Prediction.{Here, Choice, Decides, chosen, no_viable}
+use Rattle.g4_net.specs.Prediction.{Here, Decides, chosen, no_viable}
 use Rattle.g4_net.specs.TokenList.{word_of}
 use Rattle.g4_parse.proofs.Loop.{choice_of, decides_by_one}
 use Rattle.g4_parse.proofs.Words.{word_from}

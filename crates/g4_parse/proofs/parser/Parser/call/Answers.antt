@@ -1,7 +1,6 @@
-use Rattle.std.proofs.Common.{◌≡◌, ◌*◌, ◌≤◌, ◌<◌, ◌∷◌, ◌++◌, [], ℕ, List, length, refl, ◌∙◌, ap, arith}
+use Rattle.std.proofs.Common.{◌<◌, ◌∷◌, [], length, refl, ap, arith}
 use Rattle.g4_net.specs.Network.{start_of, written_at}
-use Rattle.g4_parse.specs.Running.{Run, deepest}
-use Rattle.g4_parse.specs.Standing.{StandsFor}
+use Rattle.g4_parse.specs.Running.{deepest}
 use Rattle.g4_parse.proofs.Flat.{length_opened}
 use Rattle.g4_parse.proofs.parser.Parser.call.Goals as goal
 

@@ -1,10 +1,8 @@
-use Rattle.std.proofs.Common.{◌≡◌, ◌+◌, ℕ, List, IsTrue, get_or, refl, sym, ◌∙◌, ap, subst, arith}
+use Rattle.std.proofs.Common.{◌≡◌, ◌+◌, IsTrue, get_or, refl}
 use Rattle.std.specs.Prelude.{Some, slice_get}
-use Rattle.std.specs.List.{Contains}
-use Rattle.g4_base.specs.declared.place.Place.{Place}
 use Rattle.g4_net.specs.declared.token.Token.{Token}
 use Rattle.g4_net.specs.TokenList.{word_of}
-use Rattle.g4_parse.specs.Running.{Run, with_token}
+use Rattle.g4_parse.specs.Running.{with_token}
 use Rattle.g4_parse.proofs.Words.{word_get}
 use Rattle.g4_parse.proofs.parser.Parser.take.Goals as goal
 

@@ -1,7 +1,7 @@
-use Rattle.std.proofs.Common.{◌≡◌, ◌∙◌, ℕ, List, ap, sym, refl}
-use Rattle.std.specs.Prelude.{Option, Some, Ok}
+use Rattle.std.proofs.Common.{◌∙◌, ℕ, List, ap, sym, refl}
+use Rattle.std.specs.Prelude.{Some, Ok}
 use Rattle.g4_net.specs.declared.network.State.{State}
-use Rattle.g4_net.specs.declared.network.State.TheVariants.{Call, Token, Decision, End, Empty}
+use Rattle.g4_net.specs.declared.network.State.TheVariants.{Call, Token, End, Empty}
 use Rattle.g4_net.specs.TokenList.{word_of}
 use Rattle.g4_parse.specs.Running.{Run}
 use Rattle.g4_parse.proofs.Turns.{turned}
