@@ -1,9 +1,9 @@
 -- The symbols of parser rules are token types or EOF.
-use Rattle.std.proofs.Common.{◌≡◌, ℕ, zero, suc, ◌+◌, ◌≤◌, List, [], ◌∷◌, length, map, Bool, true, false, cond, not, codes, sym, subst, ap, arith}
-use Rattle.std.specs.List.{position_or_len, list_any}
+use Rattle.std.proofs.Common.{◌≡◌, ℕ, suc, ◌+◌, ◌≤◌, List, [], ◌∷◌, length, map, Bool, true, false, cond, not, codes, sym, subst, ap, arith}
+use Rattle.std.specs.List.{position_or_len}
 use Rattle.std.specs.Str.{bytes_eq}
 use Rattle.g4_base.specs.Symbols.{eof}
-use Rattle.g4_grammar.specs.Numbering.{symbol_of, symbol_of_name, symbol_of_literal, numbered_rule, numbered_of, is_known, has_rule, is_whole, rule_type, AreNamed, SpeakOfNamed}
+use Rattle.g4_grammar.specs.Numbering.{symbol_of, numbered_rule, numbered_of, is_known, has_rule, is_whole, rule_type, AreNamed, SpeakOfNamed}
 use Rattle.g4_grammar.specs.declared.numbered.Numbered.{Numbered}
 use Rattle.g4_grammar.specs.declared.numbered.NumberedRule.{NumberedRule}
 use Rattle.g4_grammar.specs.declared.source.Element.{Element}

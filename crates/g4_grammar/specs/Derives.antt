@@ -1,6 +1,6 @@
 -- What an element derives: words of symbols, by cases. Levels are ignored.
 use Rattle.std.specs.Prelude.{◌≡◌, ℕ, List, [], ◌∷◌, ◌++◌, Bool, Some, slice_get, Contains}
-use Rattle.g4_grammar.specs.Elements.{Element, one_of, call, predicate, at_level, action, block, optional, star, plus, Elements, empty, then, Alternatives, none, or}
+use Rattle.g4_grammar.specs.Elements.{Element, one_of, call, predicate, at_level, action, block, optional, star, plus, Elements, empty, then, Alternatives, or}
 
 mutual
   -- the element derives the word, rule k being alternatives k of the list

@@ -1,5 +1,5 @@
 -- Configurations: a state, an alternative, and a stack of return states.
-use Rattle.std.specs.Prelude.{◌≡◌, ℕ, List, [], Bool, true, false, ◌↔◌, Contains}
+use Rattle.std.specs.Prelude.{ℕ, List, [], Bool, true, false, ◌↔◌, Contains}
 
 -- Return states, newest first. Below them is a mark: the wildcard `#`, or else `$`, the bottom of the parser's own stack.
 pub record Stack : Type 0 where
