@@ -1,8 +1,8 @@
 -- Reading the files one by one.
-use Rattle.std.proofs.Common.{◌≡◌, ℕ, ◌+◌, ◌≤◌, ◌<◌, List, [], ◌∷◌, ◌++◌, length, take, drop, Option, Some, None, Result, Ok, Err, get_or, refl, sym, ap, ◌∙◌}
-use Rattle.std.proofs.lemmas.List.{append_assoc, append-nil, drop_more, drop-map}
+use Rattle.std.proofs.Common.{◌≡◌, ℕ, ◌+◌, ◌<◌, List, [], ◌∷◌, ◌++◌, length, drop, None, Result, Ok, Err, get_or, refl, sym, ap, ◌∙◌}
+use Rattle.std.proofs.lemmas.List.{append_assoc, drop_more}
 use Rattle.g4_tool.specs.declared.inputs.Input.{Input}
-use Rattle.g4_tool.specs.Inputs.{Files, inputs_of, fetch_next, then_more, input_of}
+use Rattle.g4_tool.specs.Inputs.{Files, inputs_of, fetch_next, then_more}
 
 -- inputs that stand before what is still to read
 abbrev pub with_front : List Input → Result (List Input) (List ℕ) → Result (List Input) (List ℕ)

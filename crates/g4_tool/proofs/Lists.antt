@@ -1,5 +1,5 @@
 -- Lists under `map`, and their first items.
-use Rattle.std.proofs.Common.{◌≡◌, ◌≤◌, ℕ, List, [], ◌∷◌, length, map, drop, get_or, Bool, true, false, ◌&&◌, nat_lt, nat_le, refl, sym, ◌∙◌, ap, arith, String, string_bytes, Global}
+use Rattle.std.proofs.Common.{◌≡◌, ◌≤◌, List, [], ◌∷◌, length, map, drop, get_or, Bool, ◌&&◌, nat_lt, nat_le, refl, sym, ◌∙◌, ap, arith, String, string_bytes, Global}
 use Rattle.std.specs.List.{list_all}
 use Rattle.std.proofs.lemmas.List.{length-map}
 use Rattle.g4_tool.specs.Words.{is_word, are_names}

@@ -1,5 +1,5 @@
 -- The faults of a grammar file, from those of the stages.
-use Rattle.std.proofs.Common.{◌≡◌, ℕ, List, Result, Ok, Err, subst, sym}
+use Rattle.std.proofs.Common.{◌≡◌, ℕ, List, Ok, Err, subst, sym}
 use Rattle.g4_grammar.specs.declared.source.Source.{Source}
 use Rattle.g4_grammar.specs.declared.numbered.Numbered.{Numbered}
 use Rattle.g4_reader.specs.Reading.{IsReading}
@@ -14,7 +14,7 @@ use Rattle.g4_tool.specs.declared.decode.DecodeError.{DecodeError}
 use Rattle.g4_tool.specs.declared.decode.DecodeError.TheVariants as decoding
 use Rattle.g4_tool.specs.Decoding.{AreCharacters, IsDecodeFault}
 use Rattle.g4_tool.specs.PrepareErrors.{of_decode, of_read, of_number, of_build}
-use Rattle.g4_tool.specs.Preparing.{IsPrepareError, HasFault, not_utf8, no_grammar, many_rules, many_types, no_start, many_states}
+use Rattle.g4_tool.specs.Preparing.{IsPrepareError, not_utf8, no_grammar, many_rules, many_types, no_start, many_states}
 
 -- bytes that are no text
 pub decode_exit : (bytes start : List ℕ) (d : DecodeError) → IsDecodeFault bytes d → IsPrepareError bytes start (of_decode d)

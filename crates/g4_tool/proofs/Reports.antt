@@ -1,6 +1,6 @@
 -- The reports that the stages make.
-use Rattle.std.proofs.Common.{◌≡◌, ◌<◌, ◌≤◌, ℕ, List, [], ◌∷◌, length, map, get_or, Result, Ok, Err, Option, Some, None, IfSome, subst, sym, ap, ◌∙◌, arith, refl, String, string_bytes, Global}
-use Rattle.std.proofs.lemmas.List.{length-map, get_or-map}
+use Rattle.std.proofs.Common.{◌≡◌, ◌<◌, ◌≤◌, ℕ, List, [], length, map, get_or, Ok, Err, Option, Some, None, IfSome, subst, sym, ap, ◌∙◌, String, string_bytes, Global}
+use Rattle.std.proofs.lemmas.List.{get_or-map}
 use Rattle.g4_ports.specs.Ports.{limit, IsFileOf}
 use Rattle.g4_ports.specs.declared.ports.Got.{Got}
 use Rattle.g4_grammar.specs.declared.numbered.Numbered.{Numbered}
@@ -9,13 +9,12 @@ use Rattle.g4_tool.specs.Words.{Asked, command_of}
 use Rattle.g4_tool.specs.declared.prepare.GrammarFault.{GrammarFault}
 use Rattle.g4_tool.specs.Inputs.{Files, inputs_of}
 use Rattle.g4_tool.specs.Outcomes.{AreFileLines}
-use Rattle.g4_tool.specs.Preparing.{HasFault, HasNetwork}
+use Rattle.g4_tool.specs.Preparing.{HasFault}
 use Rattle.g4_tool.specs.Texts.{absent_line, large_line, usage_line}
-use Rattle.g4_tool.specs.Report.{one_line, whole_report, fault_line, IsFilesReport, IsGrammarReport, IsCommandReport, IsReport, no_command, file_absent, files_parsed, refused, accepted, grammar_absent, grammar_large, grammar_fetched}
+use Rattle.g4_tool.specs.Report.{one_line, whole_report, fault_line, IsFilesReport, IsGrammarReport, IsCommandReport, IsReport, no_command, file_absent, files_parsed, refused, grammar_absent, grammar_large, grammar_fetched}
 use Rattle.g4_tool.specs.declared.inputs.Input.{Input}
 use Rattle.g4_tool.specs.declared.write.Line.{Line}
 use Rattle.g4_tool.specs.declared.report.Report.{Report}
-use Rattle.g4_tool.specs.declared.report.Status.{Status}
 use Rattle.g4_tool.specs.declared.report.Status.TheVariants as statuses
 
 -- every file was fetched, and has its line

@@ -1,5 +1,5 @@
 -- The outcome of a file, as its line: a function of the grammar, its network and the file's bytes alone.
-use Rattle.std.specs.Prelude.{◌≡◌, ℕ, List, [], ◌∷◌, ◌++◌, Result, Ok, Err}
+use Rattle.std.specs.Prelude.{◌≡◌, ℕ, List, [], ◌∷◌, Ok, Err}
 use Rattle.std.specs.Str.{IsValidUpTo}
 use Rattle.g4_base.specs.declared.place.Place.{Place}
 use Rattle.g4_grammar.specs.declared.numbered.Numbered.{Numbered}

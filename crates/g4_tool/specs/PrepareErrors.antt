@@ -1,5 +1,4 @@
 -- The faults of a grammar file, from those of the stages.
-use Rattle.std.specs.Prelude.{ℕ}
 use Rattle.g4_tool.specs.declared.decode.DecodeError.{DecodeError}
 use Rattle.g4_tool.specs.declared.decode.DecodeError.TheVariants as decoding
 use Rattle.g4_reader.specs.declared.reader.ReadFault.{ReadFault}
@@ -8,7 +7,6 @@ use Rattle.g4_build.specs.declared.numbering.NumberFault.{NumberFault}
 use Rattle.g4_build.specs.declared.numbering.NumberFault.TheVariants as numbering
 use Rattle.g4_build.specs.declared.builder.BuildFault.{BuildFault}
 use Rattle.g4_build.specs.declared.builder.BuildFault.TheVariants as building
-use Rattle.g4_tool.specs.declared.prepare.GrammarFault.{GrammarFault}
 use Rattle.g4_tool.specs.declared.prepare.GrammarFault.TheVariants as faults
 use Rattle.g4_tool.specs.declared.prepare.PrepareError.{PrepareError}
 use Rattle.g4_tool.specs.declared.prepare.PrepareError.TheVariants as errors

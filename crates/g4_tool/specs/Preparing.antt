@@ -1,5 +1,5 @@
 -- What a grammar file is prepared to.
-use Rattle.std.specs.Prelude.{◌≡◌, ℕ, List, Result, Ok, Err}
+use Rattle.std.specs.Prelude.{ℕ, List, Result, Ok, Err}
 use Rattle.std.specs.Str.{IsValidUpTo}
 use Rattle.g4_base.specs.declared.place.Place.{Place}
 use Rattle.g4_grammar.specs.declared.source.Source.{Source}

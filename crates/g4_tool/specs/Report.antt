@@ -1,5 +1,5 @@
 -- The report of a command line over files by their names: the lines for out and err, and the status.
-use Rattle.std.specs.Prelude.{◌≡◌, ◌≤◌, ◌<◌, ◌==◌, ℕ, List, [], ◌∷◌, ◌++◌, length, count_by, Option, Some, None, Result, Ok, Err, cond, codes}
+use Rattle.std.specs.Prelude.{◌≡◌, ◌≤◌, ◌<◌, ◌==◌, ℕ, List, [], ◌∷◌, ◌++◌, length, count_by, Some, None, Ok, Err, cond, codes}
 use Rattle.g4_grammar.specs.declared.numbered.Numbered.{Numbered}
 use Rattle.g4_net.specs.declared.network.Network.{Network}
 use Rattle.g4_ports.specs.Ports.{limit}

@@ -1,5 +1,5 @@
 -- The lines of a report, as bytes.
-use Rattle.std.specs.Prelude.{◌≡◌, ℕ, ◌-◌, List, [], ◌∷◌, ◌++◌, map, Option, Some, None, cond, ◌==◌, codes, slice_get, slice_index_or, length, count_by, Bool, true, false}
+use Rattle.std.specs.Prelude.{ℕ, ◌-◌, List, [], ◌∷◌, ◌++◌, Option, Some, None, cond, ◌==◌, codes, slice_get, length, count_by, Bool, true, false}
 use Rattle.std.specs.List.{flat_map}
 use Rattle.std.specs.Fmt.{decimal}
 use Rattle.g4_base.specs.declared.place.Place.{Place}

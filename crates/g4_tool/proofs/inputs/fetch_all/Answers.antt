@@ -1,8 +1,8 @@
-use Rattle.std.proofs.Common.{rules, ◌≡◌, ◌<◌, List, [], ℕ, length, map, get_or, sym, ap, subst, ◌∙◌, string_bytes, IfSome, Global, arith}
+use Rattle.std.proofs.Common.{rules, ◌<◌, List, [], ℕ, length, map, sym, ap, subst, ◌∙◌, string_bytes, IfSome, Global, arith}
 use Rattle.std.proofs.lemmas.List.{length-map, get_or-map, drop-map}
 use Rattle.g4_ports.specs.Ports.{IsFileOf}
 use Rattle.g4_ports.specs.declared.ports.Got.TheVariants.{Absent}
-use Rattle.g4_tool.specs.Inputs.{Files, inputs_of}
+use Rattle.g4_tool.specs.Inputs.{inputs_of}
 use Rattle.g4_tool.proofs.Fetched.{absent_at, with_front}
 use Rattle.g4_tool.proofs.inputs.fetch_all.Goals as goal
 

@@ -1,4 +1,3 @@
-use Rattle.std.proofs.Common.{rules}
 use Rattle.std.proofs.lemmas.Result.{err_from_is_err_and}
 use Rattle.g4_tool.proofs.Prepared.{lent, decode_exit, read_exit, number_exit, build_exit}
 use Rattle.g4_tool.proofs.prepare.prepare.Goals as goal

@@ -1,4 +1,4 @@
-use Rattle.std.proofs.Common.{◌≡◌, ◌&&◌, ◌∙◌, nat_le, nat_lt, string_bytes, length, sym, ap, Global, Bool}
+use Rattle.std.proofs.Common.{◌&&◌, ◌∙◌, nat_le, nat_lt, length, sym, ap, Bool}
 use Rattle.g4_tool.proofs.Lists.{are_names-map}
 use Rattle.g4_tool.proofs.words.are_files.Goals as goal
 

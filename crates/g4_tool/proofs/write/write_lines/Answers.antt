@@ -1,4 +1,4 @@
-use Rattle.std.proofs.Common.{◌<◌, length, arith, rules, ◌∙◌}
+use Rattle.std.proofs.Common.{◌<◌, length, rules, ◌∙◌}
 use Rattle.g4_tool.proofs.Written.{front_with_item, wrote_with_item}
 use Rattle.g4_tool.proofs.write.write_lines.Goals as goal
 
