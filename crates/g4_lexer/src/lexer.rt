@@ -1,6 +1,5 @@
 // The tokens of a file.
 ghost use Rattle.std.specs.Prelude.{◌≡◌, ◌≤◌, ◌<◌, ◌^◌, ◌+◌, ◌++◌, All, IfOk, length};
-ghost use Rattle.g4_base.specs.Place.{place_after};
 ghost use Rattle.g4_net.specs.TokenList.{EndsInEnd, word_of};
 ghost use Rattle.g4_lexer.specs.Lexing.{IsLexing, closing_at};
 
@@ -38,19 +37,6 @@ impl<T: Drop> From<AllocFailed<T>> for LexFault {
     fn from(_: AllocFailed<T>) -> Self {
         LexFault::NoMemory
     }
-}
-
-/// The place behind the characters.
-fn place_behind(place: Place, characters: &[char]) -> Place
-    requires lines { place.line + length characters.now < 2 ^ 32 }
-    requires columns { place.column + length characters.now < 2 ^ 32 }
-    ensures { result ≡ place_after place characters.now }
-{
-    let mut behind = place;
-    for character in characters {
-        behind = behind.past(*character);
-    }
-    behind
 }
 
 /// Adds four tokens of EOF and one of END at the end of the file.
@@ -95,7 +81,7 @@ pub fn tokens(alloc: Global, rules: &[TokenRule], text: &[char]) -> Result<Token
                 end,
             })?;
         }
-        place = place_behind(place, &rest[..matched.length]);
+        place = place.behind(&rest[..matched.length]);
         start = end;
     }
     close(&mut found, place, start)?;

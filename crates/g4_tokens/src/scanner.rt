@@ -1,6 +1,6 @@
 // The tokens of a grammar text.
 ghost use Rattle.std.specs.Prelude.{◌≡◌, ◌<◌, ◌≤◌, ◌+◌, ◌^◌, length, drop};
-ghost use Rattle.g4_base.specs.Place.{first_place, place_after};
+ghost use Rattle.g4_base.specs.Place.{first_place};
 ghost use Rattle.g4_tokens.specs.Scanning.{scanned, scanned_from};
 ghost use Rattle.g4_tokens.specs.Statements.{unread};
 ghost use Rattle.g4_tokens.specs.Answers.{GivesTokens};
@@ -42,21 +42,6 @@ impl<T: Drop> From<AllocFailed<T>> for ScanFault {
     }
 }
 
-/// The place behind some characters.
-fn place_after(place: Place, characters: &[char]) -> Place
-    requires lines { place.line + length characters.now < 2 ^ 32 }
-    requires columns { place.column + length characters.now < 2 ^ 32 }
-    ensures value { result ≡ place_after place characters.now }
-    ensures lines { result.line ≤ place.line + length characters.now }
-    ensures columns { result.column ≤ place.column + length characters.now }
-{
-    let mut place = place;
-    for c in characters {
-        place = place.past(*c);
-    }
-    place
-}
-
 /// The tokens from the index on, at which the first line begins.
 fn scan_from(alloc: Global, text: &[char], start: usize) -> Result<Sequence<Token>, ScanFault>
     requires fits { length text.now ≤ 16777216 }
@@ -72,7 +57,7 @@ fn scan_from(alloc: Global, text: &[char], start: usize) -> Result<Sequence<Toke
         match read_piece(alloc, statement, c, &text[at + 1..])? {
             Piece::Gap(more) => {
                 let end = at + 1 + more;
-                place = place_after(place, &text[at..end]);
+                place = place.behind(&text[at..end]);
                 at = end;
             }
             Piece::Formed(kind, more) => {
@@ -85,7 +70,7 @@ fn scan_from(alloc: Global, text: &[char], start: usize) -> Result<Sequence<Toke
                     start: at,
                     end,
                 })?;
-                place = place_after(place, word);
+                place = place.behind(word);
                 at = end;
             }
             Piece::Faulty => return Err(ScanFault::Syntax(place, at)),

@@ -144,9 +144,9 @@ pub fn file_lines<G: Gate>(
     let mut lines = Vec::new(alloc);
     for (file, name) in names.iter().enumerate() {
         gate.enter(0, file as u32);
-        let line = file_line(alloc, interpreter, name.as_str(), &inputs[file])?;
+        let line = file_line(alloc, interpreter, name.as_str(), &inputs[file]);
         gate.leave(0, file as u32);
-        lines.push(line)?;
+        lines.push(line?)?;
     }
     Ok(lines)
 }

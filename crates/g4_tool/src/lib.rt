@@ -7,6 +7,8 @@ mod files;
 mod inputs;
 mod prepare;
 mod report;
+#[cfg(test)]
+mod tests;
 mod tool;
 mod words;
 mod write;

@@ -21,11 +21,19 @@ pub fn run<S: Shelf, O: Sink, E: Sink, G: Gate>(
     gate: &G,
 ) -> Status
     // Where nothing fails, both outputs have taken the whole report, and the status is its own.
-    ensures whole { (files : Files) → S.told shelf.old ≡ Some files → ¬ (Rose (S.faults shelf.old) (S.faults shelf.new)) → ¬ (Rose (O.faults out.old) (O.faults out.new)) → ¬ (Rose (E.faults err.old) (E.faults err.new)) → result ≢ Status.NoMemory → HasReported files (map string_bytes words.now) result (O.taken out.old) (O.taken out.new) (E.taken err.old) (E.taken err.new) }
+    ensures whole { (files : Files) → S.told shelf.old ≡ Some files
+        → ¬ (Rose (S.faults shelf.old) (S.faults shelf.new))
+        → ¬ (Rose (O.faults out.old) (O.faults out.new))
+        → ¬ (Rose (E.faults err.old) (E.faults err.new))
+        → result ≢ Status.NoMemory
+        → HasReported files (map string_bytes words.now) result (O.taken out.old) (O.taken out.new) (E.taken err.old) (E.taken err.new) }
     // Whatever fails, each output has taken a front part of its bytes of the report.
-    ensures part { (files : Files) → S.told shelf.old ≡ Some files → HasReportedFront files (map string_bytes words.now) (O.taken out.old) (O.taken out.new) (E.taken err.old) (E.taken err.new) }
+    ensures part { (files : Files) → S.told shelf.old ≡ Some files
+        → HasReportedFront files (map string_bytes words.now) (O.taken out.old) (O.taken out.new) (E.taken err.old) (E.taken err.new) }
     // Each status has its cause, whether the files are told or not.
-    ensures causes { HasCauses (command_of (map string_bytes words.now) ≡ None) (O.faults out.old) (O.faults out.new) (E.faults err.old) (E.faults err.new) (S.faults shelf.old) (S.faults shelf.new) (S.misses shelf.old) (S.misses shelf.new) result }
+    ensures causes { HasCauses (command_of (map string_bytes words.now) ≡ None)
+        (O.faults out.old) (O.faults out.new) (E.faults err.old) (E.faults err.new)
+        (S.faults shelf.old) (S.faults shelf.new) (S.misses shelf.old) (S.misses shelf.new) result }
 {
     match make_report(alloc, shelf, words, gate) {
         Ok(report) => match write_lines(report.lines.as_slice(), out, err) {
@@ -34,171 +42,5 @@ pub fn run<S: Shelf, O: Sink, E: Sink, G: Gate>(
         },
         Err(Stopped::Failed) => Status::Unread,
         Err(Stopped::NoMemory) => Status::NoMemory,
-    }
-}
-
-#[cfg(test)]
-mod tests {
-    use super::*;
-    use g4_base::{Sequence, Text};
-    use g4_ports::{MemFile, MemShelf, MemSink, Open};
-    use std::test::Fail;
-
-    const HELLO: &str = "grammar H; r : 'hello' ID ; ID : [a-z]+ ; WS : [ \\n]+ -> skip ;";
-
-    fn shelf_of(
-        alloc: Global,
-        grammar: &str,
-        text: &str,
-        failing: Vec<u64>,
-    ) -> Result<MemShelf, Fail> {
-        let mut files = Vec::new(alloc);
-        for (name, content) in [("X.g4", grammar), ("f", text)] {
-            files.push(MemFile {
-                name: Text::copy_of(alloc, name)?,
-                bytes: Sequence::new(content.as_bytes().to_vec(alloc)?),
-            })?;
-        }
-        Ok(MemShelf {
-            files,
-            failing,
-            calls: 0,
-            faults: 0,
-            misses: 0,
-        })
-    }
-
-    fn words_of(alloc: Global, line: &str) -> Result<Vec<String>, Fail> {
-        let mut words = Vec::new(alloc);
-        for word in line.split_whitespace() {
-            words.push(String::from_str(alloc, word)?)?;
-        }
-        Ok(words)
-    }
-
-    // A run over the grammar and the text, on outputs that take three bytes a put: what was written, and the status.
-    fn ran(
-        alloc: Global,
-        line: &str,
-        grammar: &str,
-        text: &str,
-    ) -> Result<(MemSink, MemSink, Status), Fail> {
-        let mut shelf = shelf_of(alloc, grammar, text, Vec::new(alloc))?;
-        let mut out = MemSink::new(alloc, 200, Vec::new(alloc), 3)?;
-        let mut err = MemSink::new(alloc, 200, Vec::new(alloc), 3)?;
-        let words = words_of(alloc, line)?;
-        let status = run(alloc, &words, &mut shelf, &mut out, &mut err, &Open);
-        Ok((out, err, status))
-    }
-
-    #[test]
-    fn reports(rt: HostRuntime) -> Result<(), Fail> {
-        let parse = "parse -g X.g4 -s r f";
-        for (line, grammar, text, out, err, status) in [
-            (
-                parse,
-                HELLO,
-                "hello parrt",
-                "f: (r hello parrt)\nfiles 1 accepted 1\n",
-                "",
-                Status::Done,
-            ),
-            (
-                parse,
-                HELLO,
-                "hello",
-                "files 1 accepted 0\n",
-                "f: line 1:5 mismatched input '<EOF>' expecting ID\n",
-                Status::Refused,
-            ),
-            (
-                parse,
-                HELLO,
-                "hello x\ny",
-                "files 1 accepted 0\n",
-                "f: line 2:0 no viable alternative at input 'y'\n",
-                Status::Refused,
-            ),
-            (
-                parse,
-                HELLO,
-                "hello X",
-                "files 1 accepted 0\n",
-                "f: line 1:6 token recognition error at: 'X'\n",
-                Status::Refused,
-            ),
-            (
-                parse,
-                "grammar X; r : ;;",
-                "a",
-                "",
-                "X.g4: line 1:16 syntax error at ';'\n",
-                Status::GrammarRefused,
-            ),
-            (
-                parse,
-                "grammar X; r : ;",
-                "",
-                "f: r\nfiles 1 accepted 1\n",
-                "",
-                Status::Done,
-            ),
-            (
-                "parse -g X.g4 -s q f",
-                HELLO,
-                "",
-                "",
-                "X.g4: no parser rule q\n",
-                Status::GrammarRefused,
-            ),
-            (
-                "parse -g X.g4 -s r f g",
-                HELLO,
-                "",
-                "",
-                "g: not found\n",
-                Status::Unread,
-            ),
-            (
-                "parse -g Y.g4 -s r f",
-                HELLO,
-                "",
-                "",
-                "Y.g4: not found\n",
-                Status::Unread,
-            ),
-            (
-                "parse -g X.g4 -s r",
-                HELLO,
-                "",
-                "",
-                "usage: g4 parse, check, atn, match or drill\n",
-                Status::Usage,
-            ),
-        ] {
-            let (written, told, ended) = ran(rt.alloc(), line, grammar, text)?;
-            assert_eq!(rt; written.bytes(), out.as_bytes(), "{line} {text}");
-            assert_eq!(rt; told.bytes(), err.as_bytes(), "{line} {text}");
-            assert_eq!(rt; ended, status, "{line} {text}");
-        }
-        Ok(())
-    }
-
-    // A put and a fetch that fail: what was taken is a front part, and the status says which.
-    #[test]
-    fn failures(rt: HostRuntime) -> Result<(), Fail> {
-        let alloc = rt.alloc();
-        let words = words_of(alloc, "parse -g X.g4 -s r f f")?;
-        let mut shelf = shelf_of(alloc, HELLO, "hello x", Vec::new(alloc))?;
-        let mut out = MemSink::new(alloc, 200, vec![in alloc; 1]?, 100)?;
-        let mut err = MemSink::new(alloc, 200, Vec::new(alloc), 100)?;
-        let status = run(alloc, &words, &mut shelf, &mut out, &mut err, &Open);
-        assert_eq!(rt; status, Status::Unwritten);
-        assert_eq!(rt; out.bytes(), b"f: (r hello x)\n".as_slice());
-        let mut shelf = shelf_of(alloc, HELLO, "hello x", vec![in alloc; 0]?)?;
-        let status = run(alloc, &words, &mut shelf, &mut out, &mut err, &Open);
-        assert_eq!(rt; status, Status::Unread);
-        assert_eq!(rt; err.bytes(), b"".as_slice());
-        Ok(())
     }
 }

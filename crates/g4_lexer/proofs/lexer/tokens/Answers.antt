@@ -5,16 +5,16 @@ use Rattle.g4_lexer.proofs.Onward.{next_token, next_skip, stuck_at, types_more, 
 use Rattle.g4_lexer.proofs.lexer.tokens.Goals as goal
 use Rattle.g4_lexer.proofs.lexer.tokens.Goals.{then-not-rule+in_ok-push, else-not-rule}
 
-pub place_behind-place-requires-clause-lines : goal.place_behind-place-requires-clause-lines
-place_behind-place-requires-clause-lines c =
+pub behind-place-requires-clause-lines : goal.behind-place-requires-clause-lines
+behind-place-requires-clause-lines c =
     let text = c.args.text.now in
     let start = c.loop-start.start in
     let n = c.in-Some.matched.length in
     let best = best_read c.args.rules.now text start c.in-Some.matched.rule n c.index-rules-matched.result (rw c.in-Some.is at c.in_ok-matched.ensures.best) c.index-rules-matched.is in
     omega (arith, line_reached c.args.rules.now text _ start _ c.loop-start.invariant.reached, ends_within c.args.rules.now text _ start n _ _ _ c.loop-start.invariant.reached best, take_short n (take (length text - start) (drop start text)))
 
-pub place_behind-place-requires-clause-columns : goal.place_behind-place-requires-clause-columns
-place_behind-place-requires-clause-columns c =
+pub behind-place-requires-clause-columns : goal.behind-place-requires-clause-columns
+behind-place-requires-clause-columns c =
     let text = c.args.text.now in
     let start = c.loop-start.start in
     let n = c.in-Some.matched.length in
@@ -45,13 +45,13 @@ loop-start-preserved c =
     elim c.if-not-rule.branch [
       | then-not-rule+in_ok-push w ↦
           let found_is = ap (λ v. v.items) w.found-is ∙ w.in_ok-push.ensures.items in record {
-            reached = next_token c.args.rules.now text _ _ start n k _ _ rule c.loop-start.invariant.reached best (search rules) found_is c.place_behind-place.ensures;
+            reached = next_token c.args.rules.now text _ _ start n k _ _ rule c.loop-start.invariant.reached best (search rules) found_is c.behind-place.ensures.value;
             few = omega (arith, c.loop-start.invariant.few, best.matches.some, ap length found_is, length-append c.loop-start.found.items);
             types = types_more c.args.rules.now _ _ k rule _ c.requires.types within c.index-rules-matched.is refl found_is c.loop-start.invariant.types;
           }
       | else-not-rule w ↦
           let found_is = ap (λ v. v.items) w.found-is in record {
-            reached = next_skip c.args.rules.now text _ _ start n k _ _ rule c.loop-start.invariant.reached best (search rules) found_is c.place_behind-place.ensures;
+            reached = next_skip c.args.rules.now text _ _ start n k _ _ rule c.loop-start.invariant.reached best (search rules) found_is c.behind-place.ensures.value;
             few = omega (arith, c.loop-start.invariant.few, best.matches.some, ap length found_is);
             types = rw found_is c.loop-start.invariant.types;
           }
