@@ -14,6 +14,7 @@ pub record Position : Type 0 where
   pub index : ℕ
   pub place : Place
 
+-- the start of a file
 abbrev pub first_position : Position
 first_position = record { index = 0; place = first_place }
 
@@ -30,6 +31,7 @@ pub record Stuck : Type 0 where
   pub place : Place
   pub character : ℕ
 
+-- the tokens with one before them
 abbrev pub then_token : Token → Result (List Token) Stuck → Result (List Token) Stuck
 then_token token (Ok more) = Ok (token ∷ more)
 then_token token (Err stuck) = Err stuck

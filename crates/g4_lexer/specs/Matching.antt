@@ -20,6 +20,7 @@ pub data MatchesTurns (atom : Atom) : List ℕ → Type 0 where
   one_turn : (w : List ℕ) → MatchesAtom atom w → MatchesTurns atom w
   more_turns : (u v w : List ℕ) → MatchesAtom atom u → MatchesTurns atom v → w ≡ u ++ v → MatchesTurns atom w
 
+-- the turns of an element: one or more where it is repeated, else one
 abbrev pub MatchesBy : Atom → Bool → List ℕ → Type 0
 MatchesBy atom true w = MatchesTurns atom w
 MatchesBy atom false w = MatchesAtom atom w

@@ -6,6 +6,7 @@ pub record Stack : Type 0 where
   pub returns : List ℕ
   pub wild : Bool
 
+-- a configuration: a state, the alternative that it began with, and a stack
 pub record Config : Type 0 where
   pub state : ℕ
   pub alt : ℕ
@@ -19,6 +20,7 @@ wildcard = record { returns = []; wild = true }
 abbrev pub above_bottom : List ℕ → Stack
 above_bottom returns = record { returns = returns; wild = false }
 
+-- the configuration of a state, an alternative and a stack
 abbrev pub config : ℕ → ℕ → Stack → Config
 config p i s = record { state = p; alt = i; stack = s }
 

@@ -54,14 +54,16 @@ beginning = record { state = 0; place = 0; frames = []; tree = [] }
 abbrev pub stack_of : Run → Stack
 stack_of r = above_bottom (map (λ f. f.back) r.frames)
 
+-- the open rules by their numbers, newest first
 abbrev pub open_rules : Run → List ℕ
 open_rules r = map (λ f. f.rule) r.frames
 
--- the newest open rule's level and number, 0 in the added rule
+-- the newest open rule's level, 0 in the added rule
 abbrev pub level_of : List Frame → ℕ
 level_of [] = 0
 level_of (f ∷ fs) = f.level
 
+-- the newest open rule's number, 0 in the added rule
 abbrev pub rule_of : List Frame → ℕ
 rule_of [] = 0
 rule_of (f ∷ fs) = f.rule
@@ -129,6 +131,7 @@ module _ (net : Network) (values : Values) (word : List ℕ) where
   GoesBy (Some (Action t)) r s = s ≡ record r { state = t }
   GoesBy (Some (Empty t)) r s = s ≡ record r { state = t }
 
+  -- one step of the run
   abbrev pub Goes : Run → Run → Type 0
   Goes r s = GoesBy (state_at net r.state) r s
 
@@ -144,6 +147,7 @@ module _ (net : Network) (values : Values) (word : List ℕ) where
   StopsBy (Some (Action t)) r e = ⊥
   StopsBy (Some (Empty t)) r e = ⊥
 
+  -- the run ends here, so
   abbrev pub Stops : Run → Ending → Type 0
   Stops r e = StopsBy (state_at net r.state) r e
 

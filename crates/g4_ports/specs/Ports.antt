@@ -27,6 +27,7 @@ IsSized Failed = Unit {0}
 IsSized (TooLarge n) = limit < n
 IsSized NoMemory = Unit {0}
 
+-- the count of faults rises where reading failed, and stands still otherwise
 abbrev pub CountsFaults : ℕ → ℕ → Got → Type 0
 CountsFaults before now (Bytes bytes) = now ≡ before
 CountsFaults before now Absent = now ≡ before
@@ -34,6 +35,7 @@ CountsFaults before now Failed = Rose before now
 CountsFaults before now (TooLarge n) = now ≡ before
 CountsFaults before now NoMemory = now ≡ before
 
+-- the count of misses rises where a file is absent or past the limit, and stands still otherwise
 abbrev pub CountsMisses : ℕ → ℕ → Got → Type 0
 CountsMisses before now (Bytes bytes) = now ≡ before
 CountsMisses before now Absent = Rose before now

@@ -17,6 +17,7 @@ IsStatus usage misses_before misses_now Unread = Rose misses_before misses_now
 IsStatus usage misses_before misses_now Unwritten = ⊥
 IsStatus usage misses_before misses_now NoMemory = ⊥
 
+-- the count of faults where there is no report
 abbrev pub StopCounts : ℕ → ℕ → Stopped → Type 0
 StopCounts before now stops.Failed = Rose before now
 StopCounts before now stops.NoMemory = now ≡ before

@@ -14,6 +14,7 @@ abbrev pub IsDecodeFault : List ℕ → DecodeError → Type 0
 IsDecodeFault bytes (NotUtf8 at) = IsValidUpTo bytes at
 IsDecodeFault bytes NoMemory = Unit {0}
 
+-- the call answers with the characters of the bytes, or with how many of them are text, unless memory runs out
 abbrev pub IsDecoding : {X : Type 0} → (X → List ℕ) → List ℕ → Result X DecodeError → Type 0
 IsDecoding view bytes (Ok x) = AreCharacters bytes (view x)
 IsDecoding view bytes (Err e) = IsDecodeFault bytes e

@@ -14,10 +14,12 @@ Files = List ℕ → Option (List ℕ)
 abbrev pub input_of : List ℕ → Input
 input_of bytes = cond (nat_lt limit (length bytes)) (TooLarge (length bytes)) (Bytes bytes)
 
+-- an input before more of them
 abbrev pub then_more : Input → Result (List Input) (List ℕ) → Result (List Input) (List ℕ)
 then_more input (Ok inputs) = Ok (input ∷ inputs)
 then_more input (Err name) = Err name
 
+-- what is fetched of a name, and then of more
 abbrev pub fetch_next : List ℕ → Option (List ℕ) → Result (List Input) (List ℕ) → Result (List Input) (List ℕ)
 fetch_next name None more = Err name
 fetch_next name (Some bytes) more = then_more (input_of bytes) more
@@ -33,6 +35,7 @@ FetchFails inputs names (Absent place) = inputs ≡ Err (slice_index_or names pl
 FetchFails inputs names Failed = Unit {0}
 FetchFails inputs names NoMemory = Unit {0}
 
+-- the call answers with the inputs of all the names, or with the first that is absent, unless a fault or want of memory ends it
 abbrev pub GivesInputs : {X : Type 0} → (X → List Input) → Result (List Input) (List ℕ) → List (List ℕ) → Result X FetchError → Type 0
 GivesInputs view inputs names (Ok x) = inputs ≡ Ok (view x)
 GivesInputs view inputs names (Err e) = FetchFails inputs names e
@@ -43,6 +46,7 @@ IsPlace count (Absent place) = place < count
 IsPlace count Failed = Unit {0}
 IsPlace count NoMemory = Unit {0}
 
+-- there are as many inputs as names, or the absent name is one of them
 abbrev pub IsWithin : {X : Type 0} → (X → ℕ) → ℕ → Result X FetchError → Type 0
 IsWithin size count (Ok x) = count ≡ size x
 IsWithin size count (Err e) = IsPlace count e
@@ -58,6 +62,7 @@ FaultsEnd before now (Absent place) = now ≡ before
 FaultsEnd before now Failed = Rose before now
 FaultsEnd before now NoMemory = now ≡ before
 
+-- the count of faults after fetching
 abbrev pub CountsFetching : {X : Type 0} → ℕ → ℕ → Result X FetchError → Type 0
 CountsFetching before now (Ok x) = now ≡ before
 CountsFetching before now (Err e) = FaultsEnd before now e
@@ -68,6 +73,7 @@ MissesEnd before now (Absent place) = Rose before now
 MissesEnd before now Failed = before ≤ now
 MissesEnd before now NoMemory = before ≤ now
 
+-- the count of misses after fetching
 abbrev pub CountsMissing : {X : Type 0} → ℕ → ℕ → Result X FetchError → Type 0
 CountsMissing before now (Ok x) = before ≤ now
 CountsMissing before now (Err e) = MissesEnd before now e

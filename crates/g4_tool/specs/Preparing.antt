@@ -38,6 +38,7 @@ pub data HasFault (bytes start : List ℕ) : GrammarFault → Type 0 where
   many_states : (text : List ℕ) (source : Source) (grammar : Numbered) → AreCharacters bytes text → IsReading text (Ok source) → GivesNumbered source (Ok grammar) →
       GivesNetwork grammar start (Err building.States) → HasFault bytes start faults.States
 
+-- what an error says of the file
 abbrev pub IsPrepareError : List ℕ → List ℕ → PrepareError → Type 0
 IsPrepareError bytes start (errors.Fault fault) = HasFault bytes start fault
 IsPrepareError bytes start errors.NoMemory = Unit {0}

@@ -20,11 +20,12 @@ use Rattle.g4_tool.specs.declared.write.Line.TheVariants.{ToOut, ToErr}
 abbrev pub at_place : List ℕ → Place → List ℕ
 at_place name place = name ++ (codes ": line " ++ (decimal place.line ++ (codes ":" ++ (decimal place.column ++ codes " "))))
 
--- what is shown of a symbol: its type's literal, else its name
+-- a text, or nothing
 abbrev pub or_nothing : Option (List ℕ) → List ℕ
 or_nothing None = []
 or_nothing (Some text) = text
 
+-- what is shown of a symbol: EOF, or its type's literal, else its name
 abbrev pub shown_symbol : Numbered → ℕ → List ℕ
 shown_symbol grammar a = cond (a == eof) (codes "EOF") (cond (a == end_of_list) (codes "EOF") (or_nothing (slice_get grammar.shown (a - 1))))
 
@@ -50,53 +51,65 @@ taken_by (Some (Level q t)) = []
 taken_by (Some (Action t)) = []
 taken_by (Some (Empty t)) = []
 
--- the place and the text of the token at a place of the list
+-- the place of a token that was looked up, the start where there is none
 abbrev pub place_by : Option tokens.Token → Place
 place_by None = first_place
 place_by (Some token) = token.place
 
+-- the place of the token at a place of the list
 abbrev pub place_of_token : List tokens.Token → ℕ → Place
 place_of_token list at = place_by (slice_get list at)
 
+-- what is shown of the token at a place of the list
 abbrev pub text_of_token : List ℕ → List tokens.Token → ℕ → List ℕ
 text_of_token text list at = text_by text (slice_get list at)
 
--- the lines of a file
+-- the line of a tree
 abbrev pub line_of_tree : List ℕ → List ℕ → Line
 line_of_tree name tree = ToOut (((name ++ codes ": ") ++ tree) ++ codes "\n")
 
+-- the line of a token that a state does not take
 abbrev pub mismatch_line : Numbered → Network → List ℕ → List ℕ → List tokens.Token → ℕ → ℕ → Line
 mismatch_line grammar net name text list at state =
     ToErr (((((at_place name (place_of_token list at) ++ codes "mismatched input '") ++ text_of_token text list at) ++ codes "' expecting ") ++ shown_set grammar (taken_by (state_at net state))) ++ codes "\n")
 
+-- the line of a token with which no alternative goes on
 abbrev pub no_viable_line : List ℕ → List ℕ → List tokens.Token → ℕ → Line
 no_viable_line name text list at = ToErr (((at_place name (place_of_token list at) ++ codes "no viable alternative at input '") ++ text_of_token text list at) ++ codes "'\n")
 
+-- the line of a call with too many rules open
 abbrev pub too_deep_line : List ℕ → List tokens.Token → ℕ → Line
 too_deep_line name list at = ToErr (at_place name (place_of_token list at) ++ codes "more than 10000 open rules\n")
 
+-- the line of a character at which no token begins
 abbrev pub no_token_line : List ℕ → Place → ℕ → Line
 no_token_line name place c = ToErr (((at_place name place ++ codes "token recognition error at: '") ++ shown (c ∷ [])) ++ codes "'\n")
 
+-- the line of bytes that are no UTF-8 text
 abbrev pub not_utf8_line : List ℕ → ℕ → Line
 not_utf8_line name at = ToErr (name ++ (codes ": byte " ++ (decimal at ++ codes ": not UTF-8\n")))
 
+-- the line of a file past the limit
 abbrev pub large_line : List ℕ → ℕ → Line
 large_line name size = ToErr (name ++ (codes ": file of " ++ (decimal size ++ codes " bytes\n")))
 
+-- the line of a name that no file has
 abbrev pub absent_line : List ℕ → Line
 absent_line name = ToErr (name ++ codes ": not found\n")
 
+-- the line of words that are no command
 abbrev pub usage_line : Line
 usage_line = ToErr (codes "usage: g4 parse, check, atn, match or drill\n")
 
--- the lines of a grammar's faults
+-- the line of a token with which no grammar text goes on
 abbrev pub syntax_line : List ℕ → Place → List ℕ → Line
 syntax_line name place characters = ToErr (((at_place name place ++ codes "syntax error at '") ++ shown characters) ++ codes "'\n")
 
+-- the line of a start rule that the grammar has not
 abbrev pub no_rule_line : List ℕ → List ℕ → Line
 no_rule_line name start = ToErr (name ++ (codes ": no parser rule " ++ (start ++ codes "\n")))
 
+-- the line of a limit that the grammar passes
 abbrev pub limit_line : List ℕ → List ℕ → Line
 limit_line name kind = ToErr (name ++ (codes ": limit " ++ (kind ++ codes "\n")))
 

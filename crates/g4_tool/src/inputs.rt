@@ -39,7 +39,8 @@ pub fn fetch_all<S: Shelf>(
     names: &[String],
 ) -> Result<Vec<Input>, FetchError>
     ensures keeps { S.told shelf.new ≡ S.told shelf.old }
-    ensures content { (files : Files) → S.told shelf.old ≡ Some files → GivesInputs (λ v. v.items) (inputs_of files (map string_bytes names.now)) (map string_bytes names.now) result }
+    ensures content { (files : Files) → S.told shelf.old ≡ Some files
+        → GivesInputs (λ v. v.items) (inputs_of files (map string_bytes names.now)) (map string_bytes names.now) result }
     ensures places { IsWithin (λ v. length v.items) (length names.now) result }
     ensures small { IfOk result (λ v. All IsSmall v.items) }
     ensures counts_faults { CountsFetching (S.faults shelf.old) (S.faults shelf.new) result }

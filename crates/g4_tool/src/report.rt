@@ -126,8 +126,10 @@ fn report_files<S: Shelf, G: Gate>(
     requires chain { IsReady interpreter.now.net }
     requires types { All (λ rule. rule.symbol ≤ 4096) interpreter.now.grammar.token_rules }
     requires few { length names.now ≤ 4096 }
-    ensures content { (files : Files) → S.told shelf.old ≡ Some files → IfOk result (IsFilesReport files (map string_bytes names.now) interpreter.now.grammar interpreter.now.net) }
-    ensures counts { CountsReport ⊥ (S.faults shelf.old) (S.faults shelf.new) (S.misses shelf.old) (S.misses shelf.new) result }
+    ensures content { (files : Files) → S.told shelf.old ≡ Some files
+        → IfOk result (IsFilesReport files (map string_bytes names.now) interpreter.now.grammar interpreter.now.net) }
+    ensures counts { CountsReport ⊥
+        (S.faults shelf.old) (S.faults shelf.new) (S.misses shelf.old) (S.misses shelf.new) result }
 {
     match fetch_all(alloc, shelf, names) {
         Ok(inputs) => {
@@ -168,8 +170,10 @@ fn report_grammar<S: Shelf, G: Gate>(
 ) -> Result<Report, Stopped>
     requires small { length bytes.now ≤ LIMIT }
     requires few { length command.now.names.now ≤ 4096 }
-    ensures content { (files : Files) → S.told shelf.old ≡ Some files → IfOk result (IsGrammarReport files (command_view command.now) bytes.now) }
-    ensures counts { CountsReport ⊥ (S.faults shelf.old) (S.faults shelf.new) (S.misses shelf.old) (S.misses shelf.new) result }
+    ensures content { (files : Files) → S.told shelf.old ≡ Some files
+        → IfOk result (IsGrammarReport files (command_view command.now) bytes.now) }
+    ensures counts { CountsReport ⊥
+        (S.faults shelf.old) (S.faults shelf.new) (S.misses shelf.old) (S.misses shelf.new) result }
 {
     match prepare(alloc, bytes, command.start) {
         Ok(interpreter) => {
@@ -192,8 +196,10 @@ fn report_command<S: Shelf, G: Gate>(
     gate: &G,
 ) -> Result<Report, Stopped>
     requires few { length command.now.names.now ≤ 4096 }
-    ensures content { (files : Files) → S.told shelf.old ≡ Some files → IfOk result (IsCommandReport files (command_view command.now)) }
-    ensures counts { CountsReport ⊥ (S.faults shelf.old) (S.faults shelf.new) (S.misses shelf.old) (S.misses shelf.new) result }
+    ensures content { (files : Files) → S.told shelf.old ≡ Some files
+        → IfOk result (IsCommandReport files (command_view command.now)) }
+    ensures counts { CountsReport ⊥
+        (S.faults shelf.old) (S.faults shelf.new) (S.misses shelf.old) (S.misses shelf.new) result }
 {
     match shelf.fetch(alloc, command.grammar) {
         Got::Bytes(octets) => {
@@ -222,8 +228,10 @@ pub fn make_report<S: Shelf, G: Gate>(
     words: &[String],
     gate: &G,
 ) -> Result<Report, Stopped>
-    ensures content { (files : Files) → S.told shelf.old ≡ Some files → IfOk result (IsReport files (map string_bytes words.now)) }
-    ensures counts { CountsReport (command_of (map string_bytes words.now) ≡ None) (S.faults shelf.old) (S.faults shelf.new) (S.misses shelf.old) (S.misses shelf.new) result }
+    ensures content { (files : Files) → S.told shelf.old ≡ Some files
+        → IfOk result (IsReport files (map string_bytes words.now)) }
+    ensures counts { CountsReport (command_of (map string_bytes words.now) ≡ None)
+        (S.faults shelf.old) (S.faults shelf.new) (S.misses shelf.old) (S.misses shelf.new) result }
 {
     match read_words(words) {
         Some(command) => {
