@@ -2,8 +2,10 @@
 // what an element derives, and how token types are numbered.
 #![tactic(auto)]
 
+mod element;
 mod numbered;
 mod source;
 
+pub use element::{Alternative, Element, Elements, Repeat};
 pub use numbered::{Numbered, NumberedRule, TokenRule};
-pub use source::{Atom, Element, LexElement, LexerRule, Literal, ParserRule, Range, Rule, Source};
+pub use source::{Atom, LexerAlternative, LexerRule, Literal, ParserRule, Range, Rule, Source};

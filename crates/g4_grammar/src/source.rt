@@ -1,4 +1,5 @@
 // A grammar as its text gives it.
+use crate::Elements;
 use g4_base::{Sequence, Text};
 
 /// A grammar: its name, and its rules in order of the text.
@@ -15,19 +16,35 @@ pub enum Rule {
     Lexer(LexerRule),
 }
 
-/// A parser rule: one alternative, its elements in order.
+/// A parser rule: its alternatives in order.
 #[derive(Drop)]
 pub struct ParserRule {
     pub name: Text,
-    pub elements: Sequence<Element>,
+    pub alternatives: Sequence<Elements<Atom>>,
 }
 
-/// An element of a parser rule.
+/// A lexer rule: its alternatives in order.
 #[derive(Drop)]
-pub enum Element {
+pub struct LexerRule {
+    pub name: Text,
+    pub alternatives: Sequence<LexerAlternative>,
+}
+
+/// An alternative of a lexer rule. Where `skip` holds, what it matches is dropped.
+#[derive(Drop)]
+pub struct LexerAlternative {
+    pub elements: Elements<Atom>,
+    pub skip: bool,
+}
+
+/// An element of a rule that has no others in it. A parser rule has tokens and literals, a lexer rule literals and sets.
+#[derive(Drop)]
+pub enum Atom {
     /// A token by its name.
     Token(Text),
     Literal(Literal),
+    /// One character of these ranges.
+    Set(Sequence<Range>),
 }
 
 /// A literal: the characters that it stands for, and its text as written, quotes included.
@@ -35,29 +52,6 @@ pub enum Element {
 pub struct Literal {
     pub characters: Sequence<char>,
     pub written: Text,
-}
-
-/// A lexer rule: one alternative, its elements in order, and whether its tokens are dropped.
-#[derive(Drop)]
-pub struct LexerRule {
-    pub name: Text,
-    pub elements: Sequence<LexElement>,
-    pub skip: bool,
-}
-
-/// An element of a lexer rule, `repeated` where a `+` follows it.
-#[derive(Drop)]
-pub struct LexElement {
-    pub atom: Atom,
-    pub repeated: bool,
-}
-
-/// What one turn of an element of a lexer rule matches.
-#[derive(Drop)]
-pub enum Atom {
-    Literal(Literal),
-    /// One character of these ranges.
-    Set(Sequence<Range>),
 }
 
 /// The characters from the first to the last, both included. None where the first is past the last.
