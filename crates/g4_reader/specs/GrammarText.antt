@@ -8,12 +8,14 @@ use Rattle.g4_grammar.specs.declared.source.Rule.{Rule}
 use Rattle.g4_grammar.specs.declared.source.Rule.TheVariants.{Parser, Lexer}
 use Rattle.g4_grammar.specs.declared.source.ParserRule.{ParserRule}
 use Rattle.g4_grammar.specs.declared.source.LexerRule.{LexerRule}
+use Rattle.g4_grammar.specs.declared.source.LexerAlternative.{LexerAlternative}
 use Rattle.g4_grammar.specs.declared.source.Literal.{Literal}
-use Rattle.g4_grammar.specs.declared.source.Element.{Element}
-use Rattle.g4_grammar.specs.declared.source.Element.TheVariants as elements
-use Rattle.g4_grammar.specs.declared.source.LexElement.{LexElement}
 use Rattle.g4_grammar.specs.declared.source.Atom.{Atom}
 use Rattle.g4_grammar.specs.declared.source.Atom.TheVariants as atoms
+use Rattle.g4_grammar.specs.declared.element.Repeat.{Repeat}
+use Rattle.g4_grammar.specs.declared.element.Repeat.TheVariants.{Once, Star, Plus}
+use Rattle.g4_grammar.specs.Elements.{Element, atom, Elements, empty, then, Alternatives, or, only, either}
+use Rattle.g4_grammar.specs.Trees.{repeated}
 
 -- a token as the grammar of grammars sees it: its kind and its characters
 pub record Spelled : Type 0 where
@@ -49,12 +51,51 @@ abbrev pub AreInOrder : {X : Type 0} → (List Spelled → X → Type 0) → Lis
 AreInOrder Is word [] = word ≡ []
 AreInOrder Is word (x ∷ xs) = (first : List Spelled) × (others : List Spelled) × (word ≡ first ++ others) × Is first x × AreInOrder Is others xs
 
--- an element of a parser rule: an upper-case name or a literal
-abbrev pub IsElement : List Spelled → Element → Type 0
-IsElement word (elements.Token name) = (token : Spelled) × (word ≡ token ∷ []) × (token.kind ≡ kinds.Upper) × (name ≡ bytes_of token)
-IsElement word (elements.Literal literal) = (token : Spelled) × (word ≡ token ∷ []) × IsLiteral token literal
+-- an atom of a parser rule: an upper-case name or a literal
+abbrev pub IsParserAtom : Spelled → Atom → Type 0
+IsParserAtom token (atoms.Token name) = (token.kind ≡ kinds.Upper) × (name ≡ bytes_of token)
+IsParserAtom token (atoms.Literal literal) = IsLiteral token literal
+IsParserAtom token (atoms.Set ranges) = ⊥
 
--- a parser rule: a lower-case name, `:`, elements and `;`
+-- an atom of a lexer rule: a literal or a set
+abbrev pub IsLexerAtom : Spelled → Atom → Type 0
+IsLexerAtom token (atoms.Token name) = ⊥
+IsLexerAtom token (atoms.Literal literal) = IsLiteral token literal
+IsLexerAtom token (atoms.Set ranges) = token.kind ≡ kinds.Set ranges
+
+-- `*` or `+`
+abbrev pub IsSign : Spelled → Repeat → Type 0
+IsSign token Once = ⊥
+IsSign token Star = token.kind ≡ kinds.Star
+IsSign token Plus = token.kind ≡ kinds.Plus
+
+-- `*`, `+` or nothing
+abbrev pub IsSuffix : List Spelled → Repeat → Type 0
+IsSuffix word Once = word ≡ []
+IsSuffix word Star = (sign : Spelled) × (word ≡ sign ∷ []) × IsSign sign Star
+IsSuffix word Plus = (sign : Spelled) × (word ≡ sign ∷ []) × IsSign sign Plus
+
+mutual
+  -- An element: an atom; an atom with `*` or `+`, which is a block of one alternative; or alternatives in brackets, and
+  -- perhaps `*` or `+`.
+  pub data IsElement (IsAtom : Spelled → Atom → Type 0) : List Spelled → Element Atom → Type 0 where
+    an_atom : (token : Spelled) (a : Atom) → IsAtom token a → IsElement IsAtom (token ∷ []) (atom a)
+    a_repeated_atom : (token sign : Spelled) (a : Atom) (repeat : Repeat) → IsAtom token a → IsSign sign repeat → IsElement IsAtom (token ∷ sign ∷ []) (repeated repeat (only (then (atom a) empty)))
+    a_block : (open close : Spelled) (body suffix word : List Spelled) (xs : Alternatives Atom) (repeat : Repeat) → open.kind ≡ kinds.LeftParenthesis → AreAlternatives IsAtom body xs →
+        close.kind ≡ kinds.RightParenthesis → IsSuffix suffix repeat → word ≡ open ∷ (body ++ close ∷ suffix) → IsElement IsAtom word (repeated repeat xs)
+
+  -- elements one after another
+  pub data AreElements (IsAtom : Spelled → Atom → Type 0) : List Spelled → Elements Atom → Type 0 where
+    no_element : AreElements IsAtom [] empty
+    one_element_more : (first others word : List Spelled) (x : Element Atom) (xs : Elements Atom) → IsElement IsAtom first x → AreElements IsAtom others xs → word ≡ first ++ others → AreElements IsAtom word (then x xs)
+
+  -- alternatives with `|` between them
+  pub data AreAlternatives (IsAtom : Spelled → Atom → Type 0) : List Spelled → Alternatives Atom → Type 0 where
+    the_last : (word : List Spelled) (x : Elements Atom) → AreElements IsAtom word x → AreAlternatives IsAtom word (only x)
+    one_before : (bar : Spelled) (first others word : List Spelled) (x : Elements Atom) (xs : Alternatives Atom) → AreElements IsAtom first x → bar.kind ≡ kinds.Bar →
+        AreAlternatives IsAtom others xs → word ≡ first ++ bar ∷ others → AreAlternatives IsAtom word (or x xs)
+
+-- a parser rule: a lower-case name, `:`, alternatives and `;`
 pub record IsParserRule (word : List Spelled) (rule : ParserRule) : Type 0 where
   pub head : Spelled
   pub colon : Spelled
@@ -64,41 +105,36 @@ pub record IsParserRule (word : List Spelled) (rule : ParserRule) : Type 0 where
   pub lower : head.kind ≡ kinds.Lower
   pub named : rule.name ≡ bytes_of head
   pub colon_is : colon.kind ≡ kinds.Colon
-  pub elements_are : AreInOrder IsElement body rule.elements
+  pub alternatives_are : AreAlternatives IsParserAtom body (either rule.alternatives)
   pub close_is : close.kind ≡ kinds.Semicolon
 
--- what one turn of an element of a lexer rule matches: a literal or a set
-abbrev pub IsAtom : Spelled → Atom → Type 0
-IsAtom token (atoms.Literal literal) = IsLiteral token literal
-IsAtom token (atoms.Set ranges) = token.kind ≡ kinds.Set ranges
-
--- `+` where the element is repeated, and otherwise nothing
-abbrev pub IsRepeat : List Spelled → Bool → Type 0
-IsRepeat word false = word ≡ []
-IsRepeat word true = (plus : Spelled) × (word ≡ plus ∷ []) × (plus.kind ≡ kinds.Plus)
-
--- an element of a lexer rule: a literal or a set, and perhaps `+`
-abbrev pub IsLexElement : List Spelled → LexElement → Type 0
-IsLexElement word element = (token : Spelled) × (sign : List Spelled) × (word ≡ token ∷ sign) × IsAtom token element.atom × IsRepeat sign element.repeated
-
--- `-> skip` where the rule's tokens are dropped, and otherwise nothing
+-- `-> skip` where what the alternative matches is dropped, and otherwise nothing
 abbrev pub IsCommand : List Spelled → Bool → Type 0
 IsCommand word false = word ≡ []
 IsCommand word true = (arrow : Spelled) × (command : Spelled) × (word ≡ arrow ∷ command ∷ []) × (arrow.kind ≡ kinds.Arrow) × IsWord (codes "skip") command
 
--- a lexer rule: an upper-case name, `:`, elements, perhaps `-> skip`, and `;`
+-- an alternative of a lexer rule: elements, and perhaps `-> skip`
+abbrev pub IsLexerAlternative : List Spelled → LexerAlternative → Type 0
+IsLexerAlternative word x = (body : List Spelled) × (command : List Spelled) × (word ≡ body ++ command) × AreElements IsLexerAtom body x.elements × IsCommand command x.skip
+
+-- alternatives of a lexer rule with `|` between them
+abbrev pub AreLexerAlternatives : List Spelled → List LexerAlternative → Type 0
+AreLexerAlternatives word [] = ⊥
+AreLexerAlternatives word (x ∷ []) = IsLexerAlternative word x
+AreLexerAlternatives word (x ∷ y ∷ more) =
+    (bar : Spelled) × (first : List Spelled) × (others : List Spelled) × (word ≡ first ++ bar ∷ others) × IsLexerAlternative first x × (bar.kind ≡ kinds.Bar) × AreLexerAlternatives others (y ∷ more)
+
+-- a lexer rule: an upper-case name, `:`, alternatives and `;`
 pub record IsLexerRule (word : List Spelled) (rule : LexerRule) : Type 0 where
   pub head : Spelled
   pub colon : Spelled
   pub body : List Spelled
-  pub command : List Spelled
   pub close : Spelled
-  pub parts : word ≡ head ∷ colon ∷ (body ++ (command ++ close ∷ []))
+  pub parts : word ≡ head ∷ colon ∷ (body ++ close ∷ [])
   pub upper : head.kind ≡ kinds.Upper
   pub named : rule.name ≡ bytes_of head
   pub colon_is : colon.kind ≡ kinds.Colon
-  pub elements_are : AreInOrder IsLexElement body rule.elements
-  pub command_is : IsCommand command rule.skip
+  pub alternatives_are : AreLexerAlternatives body rule.alternatives
   pub close_is : close.kind ≡ kinds.Semicolon
 
 -- a rule of either kind

@@ -14,7 +14,7 @@ use Rattle.g4_tokens.specs.declared.piece.Piece.TheVariants.{Gap, Formed, Faulty
 use Rattle.g4_tokens.specs.declared.spelling.Spelled.{Spelled}
 use Rattle.g4_tokens.specs.declared.statement.Statement.{Statement}
 use Rattle.g4_tokens.specs.declared.token.Kind.{Kind}
-use Rattle.g4_tokens.specs.declared.token.Kind.TheVariants.{Lower, Upper, Literal, Set, Arguments, Action, Number, Colon, Semicolon, Plus, Arrow, Sign, Stray}
+use Rattle.g4_tokens.specs.declared.token.Kind.TheVariants.{Lower, Upper, Literal, Set, Arguments, Action, Number, Colon, Semicolon, Plus, Star, Bar, LeftParenthesis, RightParenthesis, Arrow, Sign, Stray}
 
 -- a comment, or a stray `/`, told by what stands behind the `/`
 abbrev pub slash_piece : List ℕ → Piece
@@ -46,15 +46,19 @@ arguments_piece behind = elim (nesting_end 91 93 behind) [ Some taken ↦ Formed
 abbrev pub action_piece : List ℕ → Piece
 action_piece behind = elim (nesting_end 123 125 behind) [ Some taken ↦ Formed Action taken | None ↦ Faulty ]
 
--- one of `|()?*~=#,@<>`
+-- one of `?~=#,@<>`
 abbrev pub is_lone_sign : ℕ → Bool
-is_lone_sign c = list_any (λ sign. sign == c) (codes "|()?*~=#,@<>")
+is_lone_sign c = list_any (λ sign. sign == c) (codes "?~=#,@<>")
 
 -- what a character is that is no part of a longer sign
 abbrev pub lone_sign : ℕ → Kind
 lone_sign c =
     if c == 59 then Semicolon
-    else (if is_lone_sign c then Sign else Stray)
+    else (if c == 42 then Star
+    else (if c == 124 then Bar
+    else (if c == 40 then LeftParenthesis
+    else (if c == 41 then RightParenthesis
+    else (if is_lone_sign c then Sign else Stray)))))
 
 -- a sign, or a stray character, with what stands behind it
 abbrev pub sign_piece : ℕ → List ℕ → Piece

@@ -106,7 +106,11 @@ fn lone_sign(c: char) -> Kind
 {
     match c {
         ';' => Kind::Semicolon,
-        '|' | '(' | ')' | '?' | '*' | '~' | '=' | '#' | ',' | '@' | '<' | '>' => Kind::Sign,
+        '*' => Kind::Star,
+        '|' => Kind::Bar,
+        '(' => Kind::LeftParenthesis,
+        ')' => Kind::RightParenthesis,
+        '?' | '~' | '=' | '#' | ',' | '@' | '<' | '>' => Kind::Sign,
         _ => Kind::Stray,
     }
 }

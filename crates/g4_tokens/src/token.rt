@@ -22,6 +22,11 @@ pub enum Kind {
     Colon,
     Semicolon,
     Plus,
+    Star,
+    /// `|`.
+    Bar,
+    LeftParenthesis,
+    RightParenthesis,
     /// `->`.
     Arrow,
     /// Any other sign.
