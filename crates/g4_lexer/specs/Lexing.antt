@@ -4,6 +4,7 @@ use Rattle.g4_base.specs.declared.place.Place.{Place}
 use Rattle.g4_base.specs.Place.{first_place, place_after}
 use Rattle.g4_base.specs.Symbols.{eof, end_of_list}
 use Rattle.g4_grammar.specs.declared.numbered.TokenRule.{TokenRule}
+use Rattle.g4_grammar.specs.declared.source.LexerAlternative.{LexerAlternative}
 use Rattle.g4_net.specs.declared.token.Token.{Token}
 use Rattle.g4_lexer.specs.declared.lexer.LexFault.{LexFault}
 use Rattle.g4_lexer.specs.declared.lexer.LexFault.TheVariants.{NoToken, NoMemory}
@@ -36,15 +37,15 @@ abbrev pub then_token : Token → Result (List Token) Stuck → Result (List Tok
 then_token token (Ok more) = Ok (token ∷ more)
 then_token token (Err stuck) = Err stuck
 
--- the tokens of a match, none where its rule is skipped
-abbrev pub with_match : TokenRule → Position → List ℕ → Result (List Token) Stuck → Result (List Token) Stuck
-with_match rule p w more = cond rule.skip more (then_token (token_at rule.symbol p w) more)
+-- the tokens of a match by an alternative of a rule, none where what it matches is dropped
+abbrev pub with_match : TokenRule → LexerAlternative → Position → List ℕ → Result (List Token) Stuck → Result (List Token) Stuck
+with_match rule alternative p w more = cond alternative.skip more (then_token (token_at rule.symbol p w) more)
 
 -- the tokens of the text that begins at the position, by one best match after another
 pub data Lexes (rules : List TokenRule) : Position → List ℕ → Result (List Token) Stuck → Type 0 where
   at_end : (p : Position) → Lexes rules p [] (Ok [])
-  a_match : (p : Position) (text : List ℕ) (k n : ℕ) (rule : TokenRule) (more : Result (List Token) Stuck) → IsBest rules text k rule n →
-      Lexes rules (position_after p (take n text)) (drop n text) more → Lexes rules p text (with_match rule p (take n text) more)
+  a_match : (p : Position) (text : List ℕ) (k i n : ℕ) (rule : TokenRule) (alternative : LexerAlternative) (more : Result (List Token) Stuck) → IsBest rules text k i rule alternative n →
+      Lexes rules (position_after p (take n text)) (drop n text) more → Lexes rules p text (with_match rule alternative p (take n text) more)
   no_token : (p : Position) (c : ℕ) (text : List ℕ) → NoMatch rules (c ∷ text) → Lexes rules p (c ∷ text) (Err (record { place = p.place; character = c }))
 
 -- what stands behind the tokens of a file that ends at the position: four of EOF and one of END

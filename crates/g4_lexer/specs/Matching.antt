@@ -1,48 +1,30 @@
--- What the elements of a lexer rule match, by cases, over characters; and the best match at the front of a text.
-use Rattle.std.specs.Prelude.{◌≡◌, ◌≤◌, ℕ, List, [], ◌∷◌, ◌++◌, length, take, Bool, true, false, Contains, Some, slice_get}
-use Rattle.g4_grammar.specs.declared.source.Range.{Range}
-use Rattle.g4_grammar.specs.declared.source.Atom.{Atom}
-use Rattle.g4_grammar.specs.declared.source.Atom.TheVariants.{Literal, Set}
-use Rattle.g4_grammar.specs.declared.source.LexElement.{LexElement}
+-- What the alternatives of a lexer rule match, over characters; and the best match at the front of a text.
+use Rattle.std.specs.Prelude.{◌≡◌, ◌≤◌, ℕ, List, [], length, take, Some, slice_get}
+use Rattle.g4_grammar.specs.declared.source.LexerAlternative.{LexerAlternative}
 use Rattle.g4_grammar.specs.declared.numbered.TokenRule.{TokenRule}
+use Rattle.g4_grammar.specs.Characters.{ReadsCharacters}
+use Rattle.g4_grammar.specs.Derives.{DerivesAll}
 
--- the character is in one of the ranges
-abbrev pub IsInSet : List Range → ℕ → Type 0
-IsInSet ranges c = (r : Range) × Contains ranges r × (r.first ≤ c) × (c ≤ r.last)
-
--- one turn: a literal matches its characters, a set one character of it
-abbrev pub MatchesAtom : Atom → List ℕ → Type 0
-MatchesAtom (Literal literal) w = w ≡ literal.characters
-MatchesAtom (Set ranges) w = (c : ℕ) × (w ≡ c ∷ []) × IsInSet ranges c
-
--- one turn or more
-pub data MatchesTurns (atom : Atom) : List ℕ → Type 0 where
-  one_turn : (w : List ℕ) → MatchesAtom atom w → MatchesTurns atom w
-  more_turns : (u v w : List ℕ) → MatchesAtom atom u → MatchesTurns atom v → w ≡ u ++ v → MatchesTurns atom w
-
--- the turns of an element: one or more where it is repeated, else one
-abbrev pub MatchesBy : Atom → Bool → List ℕ → Type 0
-MatchesBy atom true w = MatchesTurns atom w
-MatchesBy atom false w = MatchesAtom atom w
-
--- the elements match the characters, one after another
-pub data Matches : List LexElement → List ℕ → Type 0 where
-  nothing : Matches [] []
-  one_more : (e : LexElement) (es : List LexElement) (u v w : List ℕ) → MatchesBy e.atom e.repeated u → Matches es v → w ≡ u ++ v → Matches (e ∷ es) w
-
--- the rule matches the first n characters of the text, n being 1 or more
-pub record MatchesFront (rule : TokenRule) (text : List ℕ) (n : ℕ) : Type 0 where
+-- the alternative matches the first n characters of the text, n being 1 or more
+pub record MatchesFront (alternative : LexerAlternative) (text : List ℕ) (n : ℕ) : Type 0 where
   pub some : 1 ≤ n
   pub within : n ≤ length text
-  pub matches : Matches rule.elements (take n text)
+  pub matches : DerivesAll ReadsCharacters [] alternative.elements (take n text)
 
--- No rule matches more characters, and of those that match as many this one stands first.
-pub record IsBest (rules : List TokenRule) (text : List ℕ) (k : ℕ) (rule : TokenRule) (n : ℕ) : Type 0 where
-  pub at : slice_get rules k ≡ Some rule
-  pub matches : MatchesFront rule text n
-  pub longest : (j m : ℕ) (other : TokenRule) → slice_get rules j ≡ Some other → MatchesFront other text m → m ≤ n
-  pub first : (j : ℕ) (other : TokenRule) → slice_get rules j ≡ Some other → MatchesFront other text n → k ≤ j
+-- alternative i of rule k, both counted from 0
+pub record IsAlternative (rules : List TokenRule) (k i : ℕ) (rule : TokenRule) (alternative : LexerAlternative) : Type 0 where
+  pub rule_is : slice_get rules k ≡ Some rule
+  pub alternative_is : slice_get rule.alternatives i ≡ Some alternative
+
+-- No alternative matches more characters; of those that match as many this one is of the rule that stands first, and of
+-- those of that rule it stands first.
+pub record IsBest (rules : List TokenRule) (text : List ℕ) (k i : ℕ) (rule : TokenRule) (alternative : LexerAlternative) (n : ℕ) : Type 0 where
+  pub at : IsAlternative rules k i rule alternative
+  pub matches : MatchesFront alternative text n
+  pub longest : (j h m : ℕ) (other : TokenRule) (choice : LexerAlternative) → IsAlternative rules j h other choice → MatchesFront choice text m → m ≤ n
+  pub first_rule : (j h : ℕ) (other : TokenRule) (choice : LexerAlternative) → IsAlternative rules j h other choice → MatchesFront choice text n → k ≤ j
+  pub first_alternative : (h : ℕ) (choice : LexerAlternative) → IsAlternative rules k h rule choice → MatchesFront choice text n → i ≤ h
 
 -- no rule matches one character or more
 abbrev pub NoMatch : List TokenRule → List ℕ → Type 0
-NoMatch rules text = (k n : ℕ) (rule : TokenRule) → slice_get rules k ≡ Some rule → MatchesFront rule text n → ⊥
+NoMatch rules text = (k i n : ℕ) (rule : TokenRule) (alternative : LexerAlternative) → IsAlternative rules k i rule alternative → MatchesFront alternative text n → ⊥

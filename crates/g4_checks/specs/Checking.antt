@@ -1,0 +1,33 @@
+-- The faults that are looked for in a grammar's rules.
+use Rattle.std.specs.Prelude.{◌≡◌, ℕ, List, [], ◌∷◌, ◌++◌, Result, Ok, Err, ⊤}
+use Rattle.g4_grammar.specs.declared.source.Rule.{Rule}
+use Rattle.g4_grammar.specs.declared.source.Rule.TheVariants.{Parser, Lexer}
+use Rattle.g4_grammar.specs.Loops.{RuleHasEmptyLoop}
+use Rattle.g4_checks.specs.declared.checking.CheckFault.{CheckFault}
+use Rattle.g4_checks.specs.declared.checking.CheckFault.TheVariants.{EmptyLoop, NoMemory}
+
+-- the name of a rule
+abbrev pub name_of : Rule → List ℕ
+name_of (Parser rule) = rule.name
+name_of (Lexer rule) = rule.name
+
+-- none of the rules has a loop that can be empty
+abbrev pub HaveNoEmptyLoop : List Rule → Type 0
+HaveNoEmptyLoop [] = Unit {0}
+HaveNoEmptyLoop (rule ∷ rules) = (RuleHasEmptyLoop rule → ⊥) × HaveNoEmptyLoop rules
+
+-- the first of the rules that has a loop that can be empty has this name
+pub record IsFirstWithEmptyLoop (rules : List Rule) (name : List ℕ) : Type 0 where
+  pub before : List Rule
+  pub rule : Rule
+  pub behind : List Rule
+  pub parts : rules ≡ before ++ rule ∷ behind
+  pub none_before : HaveNoEmptyLoop before
+  pub has_loop : RuleHasEmptyLoop rule
+  pub named : name ≡ name_of rule
+
+-- the call answers that no rule has such a loop, or with the first that has, unless memory runs out
+abbrev pub IsChecked : List Rule → Result ⊤ CheckFault → Type 0
+IsChecked rules (Ok _) = HaveNoEmptyLoop rules
+IsChecked rules (Err (EmptyLoop name)) = IsFirstWithEmptyLoop rules name
+IsChecked rules (Err NoMemory) = Unit {0}

