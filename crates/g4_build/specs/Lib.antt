@@ -1,4 +1,3 @@
 pub mod Answers
-pub mod Halves
 pub mod Layout
-pub mod States
+pub mod Size

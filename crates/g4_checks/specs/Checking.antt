@@ -1,8 +1,8 @@
 -- The faults that are looked for in a grammar's rules.
-use Rattle.std.specs.Prelude.{◌≡◌, ℕ, List, [], ◌∷◌, ◌++◌, Result, Ok, Err, ⊤}
+use Rattle.std.specs.Prelude.{◌≡◌, ℕ, List, ◌∷◌, ◌++◌, Result, Ok, Err, ⊤}
 use Rattle.g4_grammar.specs.declared.source.Rule.{Rule}
 use Rattle.g4_grammar.specs.declared.source.Rule.TheVariants.{Parser, Lexer}
-use Rattle.g4_grammar.specs.Loops.{RuleHasEmptyLoop}
+use Rattle.g4_grammar.specs.Loops.{RuleHasEmptyLoop, HaveNoEmptyLoop}
 use Rattle.g4_checks.specs.declared.checking.CheckFault.{CheckFault}
 use Rattle.g4_checks.specs.declared.checking.CheckFault.TheVariants.{EmptyLoop, NoMemory}
 
@@ -10,11 +10,6 @@ use Rattle.g4_checks.specs.declared.checking.CheckFault.TheVariants.{EmptyLoop, 
 abbrev pub name_of : Rule → List ℕ
 name_of (Parser rule) = rule.name
 name_of (Lexer rule) = rule.name
-
--- none of the rules has a loop that can be empty
-abbrev pub HaveNoEmptyLoop : List Rule → Type 0
-HaveNoEmptyLoop [] = Unit {0}
-HaveNoEmptyLoop (rule ∷ rules) = (RuleHasEmptyLoop rule → ⊥) × HaveNoEmptyLoop rules
 
 -- the first of the rules that has a loop that can be empty has this name
 pub record IsFirstWithEmptyLoop (rules : List Rule) (name : List ℕ) : Type 0 where

@@ -1,3 +1,4 @@
+pub mod Blocks
 pub mod Characters
 pub mod Derives
 pub mod Elements

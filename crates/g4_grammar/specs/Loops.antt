@@ -5,7 +5,9 @@ use Rattle.g4_grammar.specs.declared.source.Rule.TheVariants.{Parser, Lexer}
 use Rattle.g4_grammar.specs.declared.source.Atom.{Atom}
 use Rattle.g4_grammar.specs.declared.source.LexerAlternative.{LexerAlternative}
 use Rattle.g4_grammar.specs.Elements.{Element, atom, call, block, optional, star, plus, Elements, empty, then, Alternatives, none, or}
-use Rattle.g4_grammar.specs.Derives.{DerivesOne}
+use Rattle.g4_grammar.specs.Derives.{DerivesOne, ReadsSymbols}
+use Rattle.g4_grammar.specs.Numbering.{alternatives_of_rule}
+use Rattle.g4_grammar.specs.declared.numbered.NumberedRule.{NumberedRule}
 use Rattle.g4_grammar.specs.Characters.{ReadsCharacters}
 
 module _ {A : Type 0} (Reads : A → List ℕ → Type 0) (rules : List (Alternatives A)) where
@@ -51,3 +53,13 @@ LexerHasEmptyLoop (x ∷ xs) = OneHasEmptyLoop ReadsCharacters [] x.elements ⊎
 abbrev pub RuleHasEmptyLoop : Rule → Type 0
 RuleHasEmptyLoop (Parser rule) = AnyHasEmptyLoop ReadsOneSymbol [] rule.alternatives
 RuleHasEmptyLoop (Lexer rule) = LexerHasEmptyLoop rule.alternatives
+
+-- none of the rules has a loop whose body derives the empty word
+abbrev pub HaveNoEmptyLoop : List Rule → Type 0
+HaveNoEmptyLoop [] = Unit {0}
+HaveNoEmptyLoop (rule ∷ rules) = (RuleHasEmptyLoop rule → ⊥) × HaveNoEmptyLoop rules
+
+-- the same of numbered rules, over their symbols
+abbrev pub NumberedHaveNoEmptyLoop : List NumberedRule → Type 0
+NumberedHaveNoEmptyLoop [] = Unit {0}
+NumberedHaveNoEmptyLoop (rule ∷ rules) = (SomeHasEmptyLoop ReadsSymbols [] (alternatives_of_rule rule) → ⊥) × NumberedHaveNoEmptyLoop rules

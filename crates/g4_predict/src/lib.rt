@@ -1,0 +1,6 @@
+// Adaptive LL prediction over lists of single stacks: SLL first, full stacks where SLL says that the stack matters.
+#![tactic(auto)]
+
+mod decision;
+
+pub use decision::{DecideFault, decide};
