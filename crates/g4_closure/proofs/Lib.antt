@@ -1,0 +1,4 @@
+mod Added
+mod Closing
+mod Exact
+mod Sets
