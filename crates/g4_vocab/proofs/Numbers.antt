@@ -5,15 +5,13 @@ use Rattle.std.specs.Option.{unwrap_or}
 use Rattle.std.proofs.lemmas.Bool.Decides.{nat_tests}
 use Rattle.std.proofs.lemmas.List.{drop_more, append-nil}
 use Rattle.std.proofs.lemmas.List.Elements.{filter_map-append, filter-append, All-append}
-use Rattle.g4_grammar.specs.Numbering.{parser_rule, lexer_rule, all_elements, first_appearances, has_key, has_rule, ruleless_literals, ruleless_names, literal_element, name_element, is_known, own_literals, other_names, numbered_of, numbered_grammar, greatest_type, numbered_from, literal_rule, token_rule, token_rules, shown_literal, literal_of_atom}
+use Rattle.g4_grammar.specs.Numbering.{parser_rule, lexer_rule, first_appearances, has_key, has_rule, ruleless_literals, ruleless_names, literal_atom, name_atom, is_known, own_literals, other_names, numbered_of, numbered_grammar, greatest_type, numbered_from, literal_rule, token_rule, token_rules}
 use Rattle.g4_grammar.specs.declared.source.Source.{Source}
 use Rattle.g4_grammar.specs.declared.source.Rule.{Rule}
 use Rattle.g4_grammar.specs.declared.source.Rule.TheVariants.{Parser, Lexer}
 use Rattle.g4_grammar.specs.declared.source.ParserRule.{ParserRule}
 use Rattle.g4_grammar.specs.declared.source.LexerRule.{LexerRule}
 use Rattle.g4_grammar.specs.declared.source.Literal.{Literal}
-use Rattle.g4_grammar.specs.declared.source.Element.{Element}
-use Rattle.g4_grammar.specs.declared.source.Element.TheVariants as elements
 use Rattle.g4_grammar.specs.declared.source.Atom.{Atom}
 use Rattle.g4_grammar.specs.declared.source.Atom.TheVariants as atoms
 use Rattle.g4_grammar.specs.declared.numbered.Numbered.{Numbered}
@@ -38,59 +36,43 @@ unwrap_or-position p xs = at (position_or_len p xs) (length xs) (within p xs)
       | inr e ↦ rw e.0 e.1
     ]
 
--- what is shown of a rule that is a literal: repeated, it is the name
-pub shown_repeated : (lexers : List LexerRule) (name : List ℕ) (atom : Atom) (repeated : Bool) (literal : Literal) → atom ≡ atoms.Literal literal → repeated ≡ true → name ≡ shown_literal lexers name (literal_of_atom atom repeated)
-shown_repeated lexers name atom repeated literal e r = rw (e, r) refl
-
--- once and with no other such rule, it is the literal
-pub shown_own : (lexers : List LexerRule) (name : List ℕ) (atom : Atom) (repeated : Bool) (literal : Literal) → atom ≡ atoms.Literal literal → repeated ≡ false → has_rule lexers literal.characters ≡ true → literal.written ≡ shown_literal lexers name (literal_of_atom atom repeated)
-shown_own lexers name atom repeated literal e r h = rw (e, r, h) refl
-
--- with another such rule, it is the name
-pub shown_other : (lexers : List LexerRule) (name : List ℕ) (atom : Atom) (repeated : Bool) (literal : Literal) → atom ≡ atoms.Literal literal → repeated ≡ false → has_rule lexers literal.characters ≡ false → name ≡ shown_literal lexers name (literal_of_atom atom repeated)
-shown_other lexers name atom repeated literal e r h = rw (e, r, h) refl
-
--- an element that is a literal: where a rule is that literal, nothing is added
-pub literal_ruled : (lexers : List LexerRule) (own : List Literal) (element : Element) (literal : Literal) → element ≡ elements.Literal literal → has_rule lexers literal.characters ≡ true →
-    own ≡ first_appearances (λ l. l.characters) own (ruleless_literals lexers (element ∷ []))
-literal_ruled lexers own element literal e h = rw (e, h) refl
+-- an atom that is a literal: where a rule is that literal, nothing is added
+pub literal_ruled : (lexers : List LexerRule) (own : List Literal) (atom : Atom) (literal : Literal) → atom ≡ atoms.Literal literal → has_rule lexers literal.characters ≡ true →
+    own ≡ first_appearances (λ l. l.characters) own (ruleless_literals lexers (atom ∷ []))
+literal_ruled lexers own atom literal e h = rw (e, h) refl
 
 -- where it was found before, nothing is added
-pub literal_found : (lexers : List LexerRule) (own : List Literal) (element : Element) (literal : Literal) → element ≡ elements.Literal literal → has_rule lexers literal.characters ≡ false → has_key (λ l. l.characters) own literal.characters ≡ true →
-    own ≡ first_appearances (λ l. l.characters) own (ruleless_literals lexers (element ∷ []))
-literal_found lexers own element literal e h k = rw (e, h, k) refl
+pub literal_found : (lexers : List LexerRule) (own : List Literal) (atom : Atom) (literal : Literal) → atom ≡ atoms.Literal literal → has_rule lexers literal.characters ≡ false → has_key (λ l. l.characters) own literal.characters ≡ true →
+    own ≡ first_appearances (λ l. l.characters) own (ruleless_literals lexers (atom ∷ []))
+literal_found lexers own atom literal e h k = rw (e, h, k) refl
 
 -- where it is new, it is added
-pub literal_new : (lexers : List LexerRule) (own : List Literal) (element : Element) (literal : Literal) → element ≡ elements.Literal literal → has_rule lexers literal.characters ≡ false → has_key (λ l. l.characters) own literal.characters ≡ false →
-    own ++ literal ∷ [] ≡ first_appearances (λ l. l.characters) own (ruleless_literals lexers (element ∷ []))
-literal_new lexers own element literal e h k = rw (e, h, k) refl
+pub literal_new : (lexers : List LexerRule) (own : List Literal) (atom : Atom) (literal : Literal) → atom ≡ atoms.Literal literal → has_rule lexers literal.characters ≡ false → has_key (λ l. l.characters) own literal.characters ≡ false →
+    own ++ literal ∷ [] ≡ first_appearances (λ l. l.characters) own (ruleless_literals lexers (atom ∷ []))
+literal_new lexers own atom literal e h k = rw (e, h, k) refl
 
 -- the first appearances in two lists
 pub first_appearances-append : {X : Type 0} (key : X → List ℕ) (seen xs ys : List X) → first_appearances key seen (xs ++ ys) ≡ first_appearances key (first_appearances key seen xs) ys
 first_appearances-append key seen [] ys = refl
 first_appearances-append key seen (x ∷ xs) ys = first_appearances-append key (cond (has_key key seen (key x)) seen (seen ++ x ∷ [])) xs ys
 
--- the literals without a rule in two lists of elements
-pub ruleless_literals-append : (lexers : List LexerRule) (xs ys : List Element) → ruleless_literals lexers (xs ++ ys) ≡ ruleless_literals lexers xs ++ ruleless_literals lexers ys
+-- the literals without a rule in two lists of atoms
+pub ruleless_literals-append : (lexers : List LexerRule) (xs ys : List Atom) → ruleless_literals lexers (xs ++ ys) ≡ ruleless_literals lexers xs ++ ruleless_literals lexers ys
 ruleless_literals-append lexers xs ys =
     let test : Literal → Bool = λ l. not (has_rule lexers l.characters) in
-    rw (filter_map-append literal_element xs ys) (filter-append test (filter_map literal_element xs) (filter_map literal_element ys))
+    rw (filter_map-append literal_atom xs ys) (filter-append test (filter_map literal_atom xs) (filter_map literal_atom ys))
 
--- the names without a rule in two lists of elements
-pub ruleless_names-append : (lexers : List LexerRule) (xs ys : List Element) → ruleless_names lexers (xs ++ ys) ≡ ruleless_names lexers xs ++ ruleless_names lexers ys
+-- the names without a rule in two lists of atoms
+pub ruleless_names-append : (lexers : List LexerRule) (xs ys : List Atom) → ruleless_names lexers (xs ++ ys) ≡ ruleless_names lexers xs ++ ruleless_names lexers ys
 ruleless_names-append lexers xs ys =
     let test : List ℕ → Bool = λ n. not (is_known lexers n) in
-    rw (filter_map-append name_element xs ys) (filter-append test (filter_map name_element xs) (filter_map name_element ys))
+    rw (filter_map-append name_atom xs ys) (filter-append test (filter_map name_atom xs) (filter_map name_atom ys))
 
--- one more rule's elements
-pub rule_step : {X : Type 0} (key : X → List ℕ) (pick : List Element → List X) → ((xs ys : List Element) → pick (xs ++ ys) ≡ pick xs ++ pick ys) →
-    (parsers : List ParserRule) (i : ℕ) (rule : ParserRule) (items : List Element) (old new all : List X) → i < length parsers → rule ≡ get_or parsers i rule → items ≡ rule.elements → new ≡ first_appearances key old (pick items) →
-    first_appearances key old (pick (all_elements (drop i parsers))) ≡ all → first_appearances key new (pick (all_elements (drop (i + 1) parsers))) ≡ all
-rule_step key pick append parsers i rule items old new all less at is made whole =
-    let rest : List Element = all_elements (drop (i + 1) parsers) in
-    let here : drop i parsers ≡ rule ∷ drop (i + 1) parsers = drop_more parsers i rule less ∙ ap (λ (r : ParserRule). r ∷ drop (i + 1) parsers) (sym at) in
-    let joined : pick (all_elements (drop i parsers)) ≡ pick items ++ pick rest = ap (λ (rs : List ParserRule). pick (all_elements rs)) here ∙ (append rule.elements rest ∙ ap (λ (es : List Element). pick es ++ pick rest) (sym is)) in
-    ap (λ (f : List _). first_appearances key f (pick rest)) made ∙ (sym (first_appearances-append key old (pick items) (pick rest)) ∙ (ap (first_appearances key old) (sym joined) ∙ whole))
+-- one more atom
+pub atom_step : {X : Type 0} (key : X → List ℕ) (pick : List Atom → List X) → ((xs ys : List Atom) → pick (xs ++ ys) ≡ pick xs ++ pick ys) →
+    (first : Atom) (others : List Atom) (old new all : List X) → new ≡ first_appearances key old (pick (first ∷ [])) → first_appearances key old (pick (first ∷ others)) ≡ all → first_appearances key new (pick others) ≡ all
+atom_step key pick append first others old new all made whole =
+    ap (λ (f : List _). first_appearances key f (pick others)) made ∙ (sym (first_appearances-append key old (pick (first ∷ [])) (pick others)) ∙ (ap (first_appearances key old) (sym (append (first ∷ []) others)) ∙ whole))
 
 -- one more rule in its half
 pub parser_more : (rules : List Rule) (parsers new : List ParserRule) (lexers : List LexerRule) (rule : Rule) (parser : ParserRule) → rule ≡ Parser parser → new ≡ parsers ++ parser ∷ [] → AreHalves rules parsers lexers → AreHalves (rules ++ rule ∷ []) new lexers

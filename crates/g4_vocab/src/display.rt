@@ -1,36 +1,20 @@
 // What is shown of each token type.
 ghost use Rattle.std.specs.Prelude.{◌≡◌, ◌++◌, IfOk, OnOk, map};
-ghost use Rattle.g4_grammar.specs.Numbering.{literal_of_atom, shown_literal, shown_rule, shown_types};
+ghost use Rattle.g4_grammar.specs.Numbering.{shown_rule, shown_types};
 
-use crate::literal::has_rule;
+use crate::literal::{has_rule, whole_literal};
 use g4_base::{Sequence, Text};
-use g4_grammar::{Atom, LexElement, LexerRule, Literal};
+use g4_grammar::{LexerRule, Literal};
 use std::alloc::{AllocError, Global};
 
-/// What is shown of the token of a lexer rule that is this element: a literal where the rule alone is it, else the name.
-fn shown_element<'a>(lexers: &[LexerRule], name: &'a str, element: &'a LexElement) -> &'a str
-    ensures { result.now ≡ shown_literal lexers.now name.now (literal_of_atom element.now.atom element.now.repeated) }
-{
-    match &element.atom {
-        Atom::Literal(literal) => {
-            if element.repeated {
-                name
-            } else if has_rule(lexers, literal.characters.as_slice()) {
-                literal.written.as_str()
-            } else {
-                name
-            }
-        }
-        Atom::Set(_) => name,
-    }
-}
-
-/// What is shown of a lexer rule's token.
+/// What is shown of a lexer rule's token: a literal where the rule alone is it, else the name.
 fn shown_rule<'a>(lexers: &[LexerRule], rule: &'a LexerRule) -> &'a str
     ensures { result.now ≡ shown_rule lexers.now rule.now }
 {
-    match rule.elements.as_slice() {
-        [element] => shown_element(lexers, rule.name.as_str(), element),
+    match whole_literal(rule.alternatives.as_slice()) {
+        Some(literal) if has_rule(lexers, literal.characters.as_slice()) => {
+            literal.written.as_str()
+        }
         _ => rule.name.as_str(),
     }
 }

@@ -2,14 +2,13 @@
 #![tactic(auto)]
 
 mod appearance;
+mod atoms;
 mod display;
 mod halves;
 mod literal;
 mod name;
 mod numbering;
 mod symbol;
-#[cfg(test)]
-mod tests;
 mod token_rule;
 
 pub use numbering::{NumberFault, number};

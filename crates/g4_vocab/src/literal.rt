@@ -1,11 +1,12 @@
 // Literals, and the lexer rules that are literals.
-ghost use Rattle.std.specs.Prelude.{◌≡◌, ◌≤◌, IfOk, length};
+ghost use Rattle.std.specs.Prelude.{◌≡◌, ◌≤◌, IfOk, MatchOption, None, Some, length, map};
 ghost use Rattle.std.specs.List.{position_or_len};
 ghost use Rattle.std.specs.Str.{bytes_eq};
-ghost use Rattle.g4_grammar.specs.Numbering.{has_rule, is_whole, literal_of_atom, stands_for};
+ghost use Rattle.g4_grammar.specs.Trees.{element_of, in_order};
+ghost use Rattle.g4_grammar.specs.Numbering.{has_rule, is_whole, whole_elements, whole_literal};
 
 use g4_base::{Sequence, Text};
-use g4_grammar::{Atom, LexElement, LexerRule, Literal};
+use g4_grammar::{Atom, Element, LexerAlternative, LexerRule, Literal};
 use std::alloc::{AllocError, Global};
 
 /// A copy of the literal.
@@ -20,15 +21,23 @@ pub fn copy_of(alloc: Global, literal: &Literal) -> Result<Literal, AllocError>
     })
 }
 
-/// Whether the element is a literal for these characters, taken once.
-fn is_literal(element: &LexElement, characters: &[char]) -> bool
-    ensures { result ≡ stands_for characters.now (literal_of_atom element.now.atom element.now.repeated) }
+/// The literal that is the whole of these elements.
+fn whole_elements(elements: &[Element<Atom>]) -> Option<&Literal>
+    ensures { MatchOption result (whole_elements (in_order (map element_of elements.now)) ≡ None) (λ l. whole_elements (in_order (map element_of elements.now)) ≡ Some l.now) }
 {
-    match &element.atom {
-        Atom::Literal(literal) => {
-            !element.repeated && literal.characters.as_slice() == characters
-        }
-        Atom::Set(_) => false,
+    match elements {
+        [Element::Atom(Atom::Literal(literal))] => Some(literal),
+        _ => None,
+    }
+}
+
+/// The literal that is the whole of these alternatives.
+pub fn whole_literal(alternatives: &[LexerAlternative]) -> Option<&Literal>
+    ensures { MatchOption result (whole_literal alternatives.now ≡ None) (λ l. whole_literal alternatives.now ≡ Some l.now) }
+{
+    match alternatives {
+        [alternative] => whole_elements(alternative.elements.as_slice()),
+        _ => None,
     }
 }
 
@@ -36,9 +45,9 @@ fn is_literal(element: &LexElement, characters: &[char]) -> bool
 pub fn is_whole(rule: &LexerRule, characters: &[char]) -> bool
     ensures { result ≡ is_whole characters.now rule.now }
 {
-    match rule.elements.as_slice() {
-        [element] => is_literal(element, characters),
-        _ => false,
+    match whole_literal(rule.alternatives.as_slice()) {
+        Some(literal) => literal.characters.as_slice() == characters,
+        None => false,
     }
 }
 

@@ -1,15 +1,18 @@
 // The numbering of token types.
 ghost use Rattle.std.specs.Prelude.{◌≡◌, ◌≤◌, ◌+◌, ◌↔◌, All, IfOk, IsTrue, length};
-ghost use Rattle.g4_grammar.specs.Numbering.{SpeakOfNamed, numbered_of};
+ghost use Rattle.g4_grammar.specs.Blocks.{HaveAlternatives, NumberedHaveAlternatives};
+ghost use Rattle.g4_grammar.specs.Loops.{HaveNoEmptyLoop, NumberedHaveNoEmptyLoop};
+ghost use Rattle.g4_grammar.specs.Numbering.{SpeakOfNamed, numbered_of, other_names, own_literals};
 ghost use Rattle.g4_vocab.specs.Answers.{GivesNumbered};
 
 use crate::appearance::{other_names, own_literals};
+use crate::atoms::all_atoms;
 use crate::display::shown_types;
 use crate::halves::{Halves, halves_of};
 use crate::symbol::numbered_rules;
 use crate::token_rule::token_rules;
 use g4_base::Text;
-use g4_grammar::{LexerRule, Literal, Numbered, Source};
+use g4_grammar::{LexerRule, Literal, Numbered, ParserRule, Source};
 use std::alloc::{AllocError, Global};
 
 /// The most rules that a grammar has, and the most token types.
@@ -34,6 +37,28 @@ impl From<AllocError> for NumberFault {
     fn from(_: AllocError) -> Self {
         NumberFault::NoMemory
     }
+}
+
+/// What the parser rules have tokens of, without a lexer rule: literals and names, by first appearance.
+#[derive(Drop)]
+struct Ruleless {
+    own: Vec<Literal>,
+    others: Vec<Text>,
+}
+
+/// What the parser rules have tokens of, without a lexer rule.
+fn find_ruleless(
+    alloc: Global,
+    parsers: &[ParserRule],
+    lexers: &[LexerRule],
+) -> Result<Ruleless, AllocError>
+    ensures own { IfOk result (λ r. r.own.items ≡ own_literals parsers.now lexers.now) }
+    ensures others { IfOk result (λ r. r.others.items ≡ other_names parsers.now lexers.now) }
+{
+    let atoms = all_atoms(alloc, parsers)?;
+    let own = own_literals(alloc, atoms.as_slice(), lexers)?;
+    let others = other_names(alloc, atoms.as_slice(), lexers)?;
+    Ok(Ruleless { own, others })
 }
 
 /// Whether there are no more types than are allowed.
@@ -78,14 +103,19 @@ pub fn number(alloc: Global, source: Source) -> Result<Numbered, NumberFault>
     ensures numbered { GivesNumbered source result }
     ensures types { IfOk result (λ grammar. All (λ rule. rule.symbol ≤ 4096) grammar.token_rules) }
     ensures named { IfOk result (λ grammar. SpeakOfNamed grammar.rules) }
+    ensures full { HaveAlternatives source.rules → IfOk result (λ grammar. NumberedHaveAlternatives grammar.rules) }
+    ensures loops { HaveNoEmptyLoop source.rules → IfOk result (λ grammar. NumberedHaveNoEmptyLoop grammar.rules) }
 {
     if source.rules.len() > MOST {
         return Err(NumberFault::Rules);
     }
     let Source { rules, .. } = source;
     let halves = halves_of(alloc, rules.into_vec())?;
-    let own = own_literals(alloc, halves.parsers.as_slice(), halves.lexers.as_slice())?;
-    let others = other_names(alloc, halves.parsers.as_slice(), halves.lexers.as_slice())?;
+    let Ruleless { own, others } = find_ruleless(
+        alloc,
+        halves.parsers.as_slice(),
+        halves.lexers.as_slice(),
+    )?;
     if !types_fit(own.as_slice(), halves.lexers.as_slice(), others.as_slice()) {
         return Err(NumberFault::Types);
     }

@@ -1,11 +1,15 @@
 // The symbols of a parser rule's elements.
-ghost use Rattle.std.specs.Prelude.{◌≡◌, ◌≤◌, ◌+◌, ◌++◌, IfOk, OnOk, length, map};
+ghost use Rattle.std.specs.Prelude.{◌≡◌, ◌≤◌, ◌+◌, IfOk, length, map};
+ghost use Rattle.g4_grammar.specs.Elements.{in_order_over, over};
+ghost use Rattle.g4_grammar.specs.Trees.{element_of, in_order};
 ghost use Rattle.g4_grammar.specs.Numbering.{numbered_rule, symbol_of, symbol_of_literal, symbol_of_name};
 
 use crate::literal::{has_rule, own_place, whole_place};
 use crate::name::{is_known, other_place, rule_place};
 use g4_base::{EOF, Sequence, Text};
-use g4_grammar::{Element, LexerRule, Literal, NumberedRule, ParserRule};
+use g4_grammar::{
+    Alternative, Atom, Element, Elements, LexerRule, Literal, NumberedRule, ParserRule,
+};
 use std::alloc::{AllocError, Global};
 
 /// The symbol of a token name.
@@ -34,35 +38,80 @@ fn symbol_of_literal(own: &[Literal], lexers: &[LexerRule], characters: &[char])
     }
 }
 
-/// The symbol of an element.
-fn symbol_of(own: &[Literal], lexers: &[LexerRule], others: &[Text], element: &Element) -> u32
+/// The symbol of an atom.
+fn symbol_of(own: &[Literal], lexers: &[LexerRule], others: &[Text], atom: &Atom) -> u32
     requires { length own.now + length lexers.now + length others.now ≤ 4096 }
-    ensures { result ≡ symbol_of own.now lexers.now others.now element.now }
+    ensures { result ≡ symbol_of own.now lexers.now others.now atom.now }
 {
-    match element {
-        Element::Token(name) => symbol_of_name(own, lexers, others, name.as_str()),
-        Element::Literal(literal) => {
-            symbol_of_literal(own, lexers, literal.characters.as_slice())
-        }
+    match atom {
+        Atom::Token(name) => symbol_of_name(own, lexers, others, name.as_str()),
+        Atom::Literal(literal) => symbol_of_literal(own, lexers, literal.characters.as_slice()),
+        Atom::Set(_) => 0,
     }
 }
 
-/// The symbols of some elements.
-fn symbols_of(
+/// The element over symbols.
+#[cycle(numbered)]
+fn numbered_element(
     alloc: Global,
     own: &[Literal],
     lexers: &[LexerRule],
     others: &[Text],
-    elements: &[Element],
-) -> Result<Sequence<u32>, AllocError>
+    element: &Element<Atom>,
+) -> Result<Element<u32>, AllocError>
     requires { length own.now + length lexers.now + length others.now ≤ 4096 }
-    ensures { IfOk result (λ symbols. symbols ≡ map (symbol_of own.now lexers.now others.now) elements.now) }
+    ensures { IfOk result (λ e. element_of e ≡ over (symbol_of own.now lexers.now others.now) (element_of element.now)) }
 {
-    let mut symbols = Vec::new(alloc);
-    for element in elements {
-        symbols.push(symbol_of(own, lexers, others, element))?;
+    match element {
+        Element::Atom(atom) => Ok(Element::Atom(symbol_of(own, lexers, others, atom))),
+        Element::Block(repeat, alternatives) => {
+            let mut all = Vec::new(alloc);
+            for alternative in alternatives {
+                let elements = alternative.elements.as_slice();
+                let elements = numbered_elements(alloc, own, lexers, others, elements)?;
+                all.push(Alternative { elements })?;
+            }
+            Ok(Element::Block(*repeat, all))
+        }
     }
-    Ok(Sequence::new(symbols))
+}
+
+/// The elements over symbols.
+#[cycle(numbered)]
+fn numbered_elements(
+    alloc: Global,
+    own: &[Literal],
+    lexers: &[LexerRule],
+    others: &[Text],
+    elements: &[Element<Atom>],
+) -> Result<Vec<Element<u32>>, AllocError>
+    requires { length own.now + length lexers.now + length others.now ≤ 4096 }
+    ensures { IfOk result (λ es. in_order (map element_of es.items) ≡ in_order_over (symbol_of own.now lexers.now others.now) (in_order (map element_of elements.now))) }
+{
+    let mut all = Vec::new(alloc);
+    for element in elements {
+        all.push(numbered_element(alloc, own, lexers, others, element)?)?;
+    }
+    Ok(all)
+}
+
+/// The alternatives of a rule over symbols.
+fn numbered_alternatives(
+    alloc: Global,
+    own: &[Literal],
+    lexers: &[LexerRule],
+    others: &[Text],
+    alternatives: &[Elements<Atom>],
+) -> Result<Sequence<Elements<u32>>, AllocError>
+    requires { length own.now + length lexers.now + length others.now ≤ 4096 }
+    ensures { IfOk result (λ all. all ≡ map (in_order_over (symbol_of own.now lexers.now others.now)) alternatives.now) }
+{
+    let mut all = Vec::new(alloc);
+    for alternative in alternatives {
+        let elements = numbered_elements(alloc, own, lexers, others, alternative.as_slice())?;
+        all.push(Elements::new(elements))?;
+    }
+    Ok(Sequence::new(all))
 }
 
 /// The parser rules over symbols.
@@ -78,9 +127,10 @@ pub fn numbered_rules(
 {
     let mut rules = Vec::new(alloc);
     for rule in parsers {
-        let ParserRule { name, elements } = rule;
-        let symbols = symbols_of(alloc, own, lexers, others, elements.as_slice())?;
-        rules.push(NumberedRule { name, symbols })?;
+        let ParserRule { name, alternatives } = rule;
+        let written = alternatives.as_slice();
+        let alternatives = numbered_alternatives(alloc, own, lexers, others, written)?;
+        rules.push(NumberedRule { name, alternatives })?;
     }
     Ok(Sequence::new(rules))
 }

@@ -3,7 +3,7 @@ ghost use Rattle.std.specs.Prelude.{◌≡◌, ◌≤◌, ◌+◌, ◌++◌, IfO
 ghost use Rattle.g4_grammar.specs.Numbering.{literal_rule, numbered_from, token_rule, token_rules};
 
 use g4_base::Sequence;
-use g4_grammar::{Atom, LexElement, LexerRule, Literal, TokenRule};
+use g4_grammar::{Atom, Element, Elements, LexerAlternative, LexerRule, Literal, TokenRule};
 use std::alloc::{AllocError, Global};
 
 /// What makes a token of an own literal.
@@ -11,14 +11,15 @@ fn literal_rule(alloc: Global, symbol: u32, literal: Literal) -> Result<TokenRul
     ensures { IfOk result (λ rule. rule ≡ literal_rule symbol literal) }
 {
     let mut elements = Vec::new(alloc);
-    elements.push(LexElement {
-        atom: Atom::Literal(literal),
-        repeated: false,
+    elements.push(Element::Atom(Atom::Literal(literal)))?;
+    let mut alternatives = Vec::new(alloc);
+    alternatives.push(LexerAlternative {
+        elements: Elements::new(elements),
+        skip: false,
     })?;
     Ok(TokenRule {
         symbol,
-        skip: false,
-        elements: Sequence::new(elements),
+        alternatives: Sequence::new(alternatives),
     })
 }
 
@@ -51,11 +52,10 @@ fn push_lexer_rules(
 {
     let mut symbol = first;
     for rule in lexers {
-        let LexerRule { elements, skip, .. } = rule;
+        let LexerRule { alternatives, .. } = rule;
         rules.push(TokenRule {
             symbol,
-            skip,
-            elements,
+            alternatives,
         })?;
         symbol += 1;
     }
