@@ -1,5 +1,5 @@
 mod Flat
-mod Loop
+mod Measure
 mod OneChoice
 mod OneEnding
 mod Onward

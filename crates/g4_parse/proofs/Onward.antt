@@ -1,12 +1,12 @@
 -- From the run's beginning to where the parser stands.
-use Rattle.std.proofs.Common.{◌≡◌, ◌<◌, [], ℕ, List, length, refl, sym, ◌∙◌, ap, subst, arith}
+use Rattle.std.proofs.Common.{◌≡◌, ◌<◌, [], ℕ, List, length, reverse, refl, sym, ◌∙◌, ap, subst, arith}
 use Rattle.std.specs.Prelude.{Option, Some, Result, Ok, Err, IsErrAnd}
 use Rattle.g4_net.specs.declared.network.Network.{Network}
 use Rattle.g4_net.specs.declared.network.State.{State}
 use Rattle.g4_net.specs.declared.network.State.TheVariants.{End}
 use Rattle.g4_net.specs.declared.token.Token.{Token}
 use Rattle.g4_net.specs.Network.{state_at}
-use Rattle.g4_net.specs.Chain.{IsChain}
+use Rattle.g4_net.specs.AddedRule.{IsRunnable}
 use Rattle.g4_net.specs.TokenList.{word_of, EndsInEnd}
 use Rattle.g4_parse.specs.declared.tree.Item.{Item}
 use Rattle.g4_parse.specs.declared.parser.ParseFault.{ParseFault}
@@ -14,16 +14,18 @@ use Rattle.g4_parse.specs.declared.parser.ParseFault.TheVariants.{NoViable, Mism
 use Rattle.g4_parse.specs.declared.parser.Parser.{Parser}
 use Rattle.g4_parse.specs.Running.{Frame, Run, Ending, parsed, not_viable, mismatch, too_deep, beginning, no_predicates, StopsBy, Runs, stops, goes}
 use Rattle.g4_parse.specs.Parsing.{Ends, IsParseFault, IsParse}
-use Rattle.g4_parse.specs.Standing.{StandsFor, IsFitBy, IsFaultBy, IsTurnBy, IsUnderway, HasEnded, flat}
-use Rattle.g4_parse.proofs.Stages.{Stage, measure_at, advances, falls, fits, begins, fit_within}
+use Rattle.g4_parse.specs.Standing.{StandsFor, IsFitBy, IsFaultBy, IsTurnBy, IsUnderway, HasEnded, backs, flat}
+use Rattle.g4_parse.proofs.Flat.{reverse_returns}
+use Rattle.g4_parse.proofs.Measure.{measure_at, falls}
+use Rattle.g4_parse.proofs.Stages.{Stage, advances, fits, begins}
 use Rattle.g4_parse.proofs.Turns.{none_opened}
 use Rattle.g4_parse.proofs.Words.{length_word}
 
--- The parser stands for a moment of the run over a chain, and the run ends as it does from this moment.
+-- The parser stands for a moment of the run, and the run ends as it does from this moment.
 pub record Onward (net : Network) (word : List ℕ) (p : Parser) : Type 0 where
   pub rule : ℕ
   pub loop : ℕ
-  pub chain : IsChain net rule loop
+  pub ready : IsRunnable net rule loop
   pub ends : EndsInEnd word
   pub run : Run
   pub stands : StandsFor p run
@@ -31,27 +33,25 @@ pub record Onward (net : Network) (word : List ℕ) (p : Parser) : Type 0 where
   pub onward : (e : Ending) → Runs net no_predicates word run e → Runs net no_predicates word beginning e
 
 -- the beginning
-pub begun_onward : (net : Network) (rule loop : ℕ) (word : List ℕ) (p : Parser) → IsChain net rule loop → EndsInEnd word → StandsFor p beginning → Onward net word p
-begun_onward net rule loop word p chain ends stands = record {
+pub begun_onward : (net : Network) (rule loop : ℕ) (word : List ℕ) (p : Parser) → IsRunnable net rule loop → EndsInEnd word → StandsFor p beginning → Onward net word p
+begun_onward net rule loop word p ready ends stands = record {
   rule = rule;
   loop = loop;
-  chain = chain;
+  ready = ready;
   ends = ends;
   run = beginning;
   stands = stands;
-  stage = begins net rule loop chain word ends;
+  stage = begins net rule loop ready word ends;
   onward = λ e runs. runs;
 }
 
 -- its state is in range
 pub state_within : (net : Network) (word : List ℕ) (p : Parser) → Onward net word p → p.state < length net.states
-state_within net word p o =
-    let within : o.run.state < length net.states = fit_within net (length word) o.run (state_at net o.run.state) refl (fits net o.rule o.loop o.chain word o.ends o.run o.stage) in
-    omega (arith, o.stands.state)
+state_within net word p o = let within = o.stage.state_in in omega (arith, o.stands.state)
 
 -- the parser can take its turn
 pub underway : (net : Network) (tokens : List Token) (p : Parser) → Onward net (word_of tokens) p → IsUnderway net (length tokens) p
-underway net tokens p o = (o.run, o.stands, subst (λ (n : ℕ). IsFitBy net n (state_at net o.run.state) o.run) (length_word tokens) (fits net o.rule o.loop o.chain (word_of tokens) o.ends o.run o.stage))
+underway net tokens p o = (o.run, o.stands, subst (λ (n : ℕ). IsFitBy net n (state_at net o.run.state) o.run) (length_word tokens) (fits net o.rule o.loop o.ready (word_of tokens) o.ends o.run o.stage))
 
 -- a turn leads on
 pub turn_onward : (net : Network) (word : List ℕ) (p q : Parser) → Onward net word p → ((r : Run) → StandsFor p r → IsTurnBy net word (state_at net r.state) r q (Ok tt)) → Onward net word q
@@ -60,20 +60,23 @@ turn_onward net word p q o turn =
     record {
       rule = o.rule;
       loop = o.loop;
-      chain = o.chain;
+      ready = o.ready;
       ends = o.ends;
       run = step.0;
       stands = step.2;
-      stage = advances net o.rule o.loop o.chain word o.ends o.run step.0 o.stage step.1;
+      stage = advances net o.rule o.loop o.ready word o.ends o.run step.0 o.stage step.1;
       onward = λ e runs. o.onward e (goes o.run step.0 e step.1 runs);
     }
 
--- and goes down
-pub turn_falls : (net : Network) (tokens : List Token) (p q : Parser) → Onward net (word_of tokens) p → ((r : Run) → StandsFor p r → IsTurnBy net (word_of tokens) (state_at net r.state) r q (Ok tt)) → measure_at net (length tokens) q.place q.state < measure_at net (length tokens) p.place p.state
+-- and makes the measure fall
+pub turn_falls : (net : Network) (tokens : List Token) (p q : Parser) → Onward net (word_of tokens) p → ((r : Run) → StandsFor p r → IsTurnBy net (word_of tokens) (state_at net r.state) r q (Ok tt)) →
+    measure_at net (length tokens) q.place q.state (reverse q.returns.items) < measure_at net (length tokens) p.place p.state (reverse p.returns.items)
 turn_falls net tokens p q o turn =
     let step = turn o.run o.stands in
-    let less : measure_at net (length (word_of tokens)) step.0.place step.0.state < measure_at net (length (word_of tokens)) o.run.place o.run.state = falls net o.rule o.loop o.chain (word_of tokens) o.ends o.run step.0 o.stage step.1 in
-    rw (← length_word tokens, step.2.place, step.2.state, o.stands.place, o.stands.state) less
+    let less : measure_at net (length (word_of tokens)) step.0.place step.0.state (backs step.0.frames) < measure_at net (length (word_of tokens)) o.run.place o.run.state (backs o.run.frames) = falls net o.rule o.loop o.ready (word_of tokens) o.ends o.run step.0 o.stage step.1 in
+    let after : reverse q.returns.items ≡ backs step.0.frames = ap reverse step.2.returns ∙ reverse_returns step.0.frames in
+    let before : reverse p.returns.items ≡ backs o.run.frames = ap reverse o.stands.returns ∙ reverse_returns o.run.frames in
+    rw (← length_word tokens, step.2.place, step.2.state, after, o.stands.place, o.stands.state, before) less
 
 -- a fault at a moment is one of the whole run
 fault_onward : (net : Network) (word : List ℕ) (r : Run) (fault : ParseFault) → ((e : Ending) → Runs net no_predicates word r e → Runs net no_predicates word beginning e) → IsFaultBy net word (state_at net r.state) r fault → IsParseFault net word fault
@@ -89,9 +92,9 @@ turn_fails net word p q fault o turn = fault_onward net word o.run fault o.onwar
 -- at the end of the added rule the items are the tree
 pub ended_onward : (net : Network) (word : List ℕ) (p : Parser) → Onward net word p → HasEnded net p → Ends net word (parsed p.items.items)
 ended_onward net word p o (none, (rule, at_end)) =
-    let empty : o.run.frames ≡ [] = none_opened o.run.frames (sym o.stands.rules ∙ none) in
+    let empty : o.run.frames ≡ [] = none_opened o.run.frames (sym o.stands.returns ∙ none) in
     let at_run : state_at net o.run.state ≡ Some (End rule) = ap (λ (n : ℕ). state_at net n) (sym o.stands.state) ∙ at_end in
-    let fit : IsFitBy net (length word) (Some (End rule)) o.run = subst (λ (s : Option State). IsFitBy net (length word) s o.run) at_run (fits net o.rule o.loop o.chain word o.ends o.run o.stage) in
+    let fit : IsFitBy net (length word) (Some (End rule)) o.run = subst (λ (s : Option State). IsFitBy net (length word) s o.run) at_run (fits net o.rule o.loop o.ready word o.ends o.run o.stage) in
     let stop : StopsBy net no_predicates word (state_at net o.run.state) o.run (parsed o.run.tree) = subst (λ (s : Option State). StopsBy net no_predicates word s o.run (parsed o.run.tree)) (sym at_run) (empty, fit empty, refl) in
     let tree : p.items.items ≡ o.run.tree = o.stands.items ∙ ap (λ (fs : List Frame). flat fs o.run.tree) empty in
     subst (λ (t : List Item). Ends net word (parsed t)) (sym tree) (o.onward (parsed o.run.tree) (stops o.run (parsed o.run.tree) stop))

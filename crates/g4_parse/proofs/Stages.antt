@@ -1,19 +1,20 @@
--- The stages of a run over a chain.
-use Rattle.std.proofs.Common.{◌≡◌, ◌+◌, ◌*◌, ◌-◌, ◌<◌, ◌≤◌, ◌++◌, ◌∷◌, [], inl, inr, ℕ, zero, suc, List, length, refl, sym, ◌∙◌, ap, subst, arith, length-append}
+-- What holds at every moment of a run over a network that can be parsed with.
+use Rattle.std.proofs.Common.{◌≡◌, ◌+◌, ◌<◌, ◌≤◌, ◌⊎◌, ◌++◌, ◌∷◌, [], inl, inr, ℕ, zero, suc, List, length, All, refl, sym, ◌∙◌, ap, subst, arith, length-append}
 use Rattle.std.specs.Prelude.{Option, Some, None, slice_get}
 use Rattle.std.specs.List.{Contains}
-use Rattle.std.proofs.lemmas.Option.{slice_get_within}
+use Rattle.std.proofs.lemmas.Option.{slice_get_within, get_or_from_slice_get, slice_get-get_or}
+use Rattle.std.proofs.lemmas.List.Elements.{All-cons, All-head, All-tail}
 use Rattle.g4_base.specs.Symbols.{eof, end_of_list}
 use Rattle.g4_net.specs.declared.network.Network.{Network}
 use Rattle.g4_net.specs.declared.network.State.{State}
 use Rattle.g4_net.specs.declared.network.State.TheVariants.{Decision, End, Token, Call, Predicate, Level, Action, Empty}
-use Rattle.g4_net.specs.Network.{state_at, start_of, written_at, IsFirst}
-use Rattle.g4_net.specs.Chain.{HasAddedRule, IsChain, IsOutside}
+use Rattle.g4_net.specs.Network.{state_at, start_of, IsFirst}
+use Rattle.g4_net.specs.Leads.{IsTarget}
+use Rattle.g4_net.specs.AddedRule.{HasAddedRule, IsInside, IsOutside, IsApart, IsRunnable, AreApart, StandsApart}
 use Rattle.g4_net.specs.TokenList.{EndsInEnd}
-use Rattle.g4_parse.specs.declared.tree.Item.TheVariants as items
-use Rattle.g4_parse.specs.Running.{Frame, Run, beginning, no_predicates, GoesBy, Goes, ClosesBy, with_token, with_alt, begun}
-use Rattle.g4_parse.specs.Standing.{IsFitBy}
-use Rattle.g4_parse.proofs.Loop.{first_cases, one_member}
+use Rattle.g4_parse.specs.Running.{Frame, Run, beginning, deepest, no_predicates, GoesBy, Goes, ClosesBy, with_children, with_token, with_alt, begun, node_of}
+use Rattle.g4_parse.specs.Standing.{backs, IsFitBy}
+use Rattle.g4_parse.proofs.Flat.{state_more, place_more}
 
 -- a symbol other than the last does not stand at the last place
 last_place : (front : List ℕ) (x i a : ℕ) → slice_get (front ++ x ∷ []) i ≡ Some a → (a ≡ x → ⊥) → i < length front
@@ -28,238 +29,279 @@ before_end word i a (front, same, once) e n =
     let within : i < length front = last_place front end_of_list i a (subst (λ (w : List ℕ). slice_get w i ≡ Some a) same e) n in
     omega (arith, ap length same, length-append front (end_of_list ∷ []))
 
--- past its end a list has no element
-slice_get_none : (xs : List State) (i : ℕ) → slice_get xs i ≡ None → length xs ≤ i
-slice_get_none [] i e = omega arith
-slice_get_none (x ∷ xs) zero e = cc
-slice_get_none (x ∷ xs) (suc i) e = omega (arith, slice_get_none xs i e)
+-- a list of one has that one
+one_member : (x y : ℕ) → Contains (x ∷ []) y → y ≡ x
+one_member x y (zero, within, p) = sym p
+one_member x y (suc k, within, p) = absurd (omega arith)
 
--- where a run over a chain may stand, the token list having n tokens
-pub data Stage (net : Network) (loop n : ℕ) (r : Run) : Type 0 where
-  calls : r.state ≡ 0 → r.frames ≡ [] → r.place < n → Stage net loop n r
-  inside : (f : Frame) → IsOutside loop r.state → r.state < length net.states → r.frames ≡ f ∷ [] → f.back ≡ loop → r.place < n → Stage net loop n r
-  decides : r.state ≡ loop → r.frames ≡ [] → r.place < n → Stage net loop n r
-  takes_eof : r.state ≡ loop + 1 → r.frames ≡ [] → r.place < n → Stage net loop n r
-  took_eof : r.state ≡ loop + 2 → r.frames ≡ [] → r.place < n → Stage net loop n r
-  takes_end : r.state ≡ loop + 3 → r.frames ≡ [] → r.place < n → Stage net loop n r
-  took_end : r.state ≡ loop + 4 → r.frames ≡ [] → Stage net loop n r
-  ended : r.state ≡ 1 → r.frames ≡ [] → Stage net loop n r
+-- a state with return states: without any it is of the added rule, and otherwise it is not, the return states being so
+abbrev pub IsStackFor : ℕ → ℕ → List ℕ → Type 0
+IsStackFor loop p [] = IsInside loop p
+IsStackFor loop p (t ∷ rest) = IsOutside loop p × IsStackFor loop t rest
 
--- how many steps at most a state goes before a token
-rank : Option State → ℕ
-rank None = 0
-rank (Some (Decision targets)) = 2
-rank (Some (End rule)) = 3
-rank (Some (Token set t)) = 1
-rank (Some (Call rule level back)) = 5
-rank (Some (Predicate k t)) = 0
-rank (Some (Level q t)) = 0
-rank (Some (Action t)) = 0
-rank (Some (Empty t)) = 4
+-- what holds at a moment, the token list having n tokens
+pub record Stage (net : Network) (loop n : ℕ) (r : Run) : Type 0 where
+  pub state_in : r.state < length net.states
+  pub backs_in : All (λ t. t < length net.states) (backs r.frames)
+  pub stack : IsStackFor loop r.state (backs r.frames)
+  pub short : length r.frames ≤ deepest
+  -- a token is left, but behind END
+  pub more : (r.state ≡ loop + 4 → ⊥) → (r.state ≡ 1 → ⊥) → r.place < n
 
-rank_most : (o : Option State) → rank o ≤ 5
-unfolding rank
-rank_most None = omega arith
-rank_most (Some (Decision targets)) = omega arith
-rank_most (Some (End rule)) = omega arith
-rank_most (Some (Token set t)) = omega arith
-rank_most (Some (Call rule level back)) = omega arith
-rank_most (Some (Predicate k t)) = omega arith
-rank_most (Some (Level q t)) = omega arith
-rank_most (Some (Action t)) = omega arith
-rank_most (Some (Empty t)) = omega arith
+-- other alternatives and more children open no rule
+pub backs_alt : (i : ℕ) (fs : List Frame) → backs (with_alt i fs) ≡ backs fs
+backs_alt i [] = refl
+backs_alt i (f ∷ fs) = refl
 
--- the measure of a run: what is left of the token list, and the steps before the next token
-pub measure_at : Network → ℕ → ℕ → ℕ → ℕ
-measure_at net n place state = 6 * (n - place) + rank (state_at net state)
+pub backs_more : (r : Run) (fs : List Frame) (more : List _) → backs (with_children r fs more).frames ≡ backs fs
+backs_more r [] more = refl
+backs_more r (f ∷ fs) more = refl
 
-abbrev pub measure : Network → ℕ → Run → ℕ
-measure net n r = measure_at net n r.place r.state
+backs_token : (r : Run) (fs : List Frame) → r.frames ≡ fs → backs (with_token r fs).frames ≡ backs fs
+backs_token r [] e = ap backs e
+backs_token r (f ∷ fs) e = refl
 
-module _ (net : Network) (rule loop : ℕ) (chain : IsChain net rule loop) (word : List ℕ) (ends : EndsInEnd word) where
-  -- a step from a known state
-  goes_at : (r s : Run) (p : ℕ) (o : Option State) → r.state ≡ p → state_at net p ≡ o → Goes net no_predicates word r s → GoesBy net no_predicates word o r s
-  goes_at r s p o q e = subst (λ (x : Option State). GoesBy net no_predicates word x r s) (ap (λ (k : ℕ). state_at net k) q ∙ e)
+length_alt : (i : ℕ) (fs : List Frame) → length (with_alt i fs) ≡ length fs
+length_alt i [] = refl
+length_alt i (f ∷ fs) = refl
 
-  -- a token edge in the start rule leads to a place and a state in it
-  inside_takes : (r s : Run) (f : Frame) (set : List ℕ) (t : ℕ) → IsOutside loop r.state → r.frames ≡ f ∷ [] → f.back ≡ loop → state_at net r.state ≡ Some (Token set t) → GoesBy net no_predicates word (Some (Token set t)) r s → Stage net loop (length word) s
-  inside_takes r s f set t out fs back at (a, read, has, after) =
-      let fits : (2 ≤ t) × (t < length net.states) = chain.others r.state (Token set t) out at in
-      let more : r.place + 1 < length word = before_end word r.place a ends read (λ last. chain.leaves_end r.state t set out at (subst (Contains set) last has)) in
-      let kept : (with_token r r.frames).frames ≡ (with_token r (f ∷ [])).frames = ap (λ (gs : List Frame). (with_token r gs).frames) fs in
-      subst (Stage net loop (length word)) (sym after) (inside (record f { children = f.children ++ items.Token r.place ∷ [] }) (chain.stays r.state t set out at) fits.1 kept back more)
+length_more : (r : Run) (fs : List Frame) (more : List _) → length (with_children r fs more).frames ≡ length fs
+length_more r [] more = refl
+length_more r (f ∷ fs) more = refl
 
-  -- a step of the start rule
-  inside_steps : (r s : Run) (f : Frame) (o : Option State) → IsOutside loop r.state → r.frames ≡ f ∷ [] → f.back ≡ loop → r.place < length word → state_at net r.state ≡ o → GoesBy net no_predicates word o r s → Stage net loop (length word) s
-  inside_steps r s f None out fs back more at g = absurd g
-  inside_steps r s f (Some (Decision targets)) out fs back more at g = absurd (chain.others r.state (Decision targets) out at)
-  inside_steps r s f (Some (End k)) out fs back more at g =
-      let closed : ClosesBy net no_predicates word r (f ∷ []) s = subst (λ (gs : List Frame). ClosesBy net no_predicates word r gs s) fs g in
-      subst (Stage net loop (length word)) (sym closed) (decides back refl more)
-  inside_steps r s f (Some (Token set t)) out fs back more at g = inside_takes r s f set t out fs back at g
-  inside_steps r s f (Some (Call k level b)) out fs back more at g = absurd (chain.others r.state (Call k level b) out at)
-  inside_steps r s f (Some (Predicate k t)) out fs back more at g = absurd (chain.others r.state (Predicate k t) out at)
-  inside_steps r s f (Some (Level q t)) out fs back more at g = absurd (chain.others r.state (Level q t) out at)
-  inside_steps r s f (Some (Action t)) out fs back more at g = absurd (chain.others r.state (Action t) out at)
-  inside_steps r s f (Some (Empty t)) out fs back more at g =
-      let fits : (2 ≤ t) × ((k : ℕ) × (state_at net t ≡ Some (End k))) = chain.others r.state (Empty t) out at in
-      subst (Stage net loop (length word)) (sym g) (inside f (chain.leads_out r.state t out at) (slice_get_within net.states t (End fits.1.0) fits.1.1) fs back more)
+length_token : (r : Run) (fs : List Frame) → r.frames ≡ fs → length (with_token r fs).frames ≡ length fs
+length_token r [] e = ap length e
+length_token r (f ∷ fs) e = refl
 
-  -- the start rule's first state is outside the added rule
-  start_outside : IsOutside loop (start_of rule)
-  start_outside = (omega (arith, chain.rule_from), inl (omega (arith, chain.start)))
+-- no state is both of the added rule and of another
+never_both : (loop p : ℕ) → 2 ≤ loop → IsInside loop p → IsOutside loop p → ⊥
+never_both loop p from (inl e) (two, split) = omega arith
+never_both loop p from (inr (inl e)) (two, split) = omega arith
+never_both loop p from (inr (inr (low, high))) (two, inl less) = omega arith
+never_both loop p from (inr (inr (low, high))) (two, inr less) = omega arith
 
-  start_within : start_of rule < length net.states
-  start_within = omega (arith, chain.start, slice_get_within net.states loop (Decision ((loop + 1) ∷ (loop + 3) ∷ [])) chain.added.turn_or_leave)
+module _ (net : Network) (rule loop : ℕ) (ready : IsRunnable net rule loop) where
+  apart : IsApart net rule loop
+  apart = ready.apart
 
-  -- the frames after a token in the added rule
-  none_kept : (r : Run) → r.frames ≡ [] → (with_token r r.frames).frames ≡ []
-  none_kept r none = ap (λ (gs : List Frame). (with_token r gs).frames) none ∙ none
+  added : HasAddedRule net rule loop
+  added = ready.apart.added
 
-  -- a step leads from stage to stage
-  pub advances : (r s : Run) → Stage net loop (length word) r → Goes net no_predicates word r s → Stage net loop (length word) s
-  advances r s (calls q none more) g =
-      let step = goes_at r s 0 (Some (Call rule 0 loop)) q chain.added.call g in
-      let opened_rule : Frame = record { back = loop; level = 0; rule = rule; alt = written_at net (start_of rule); at = r.place; children = [] } in
-      subst (Stage net loop (length word)) (sym step.1) (inside opened_rule start_outside start_within (ap (λ (fs : List Frame). opened_rule ∷ fs) none) refl more)
-  advances r s (inside f out within fs back more) g = inside_steps r s f (state_at net r.state) out fs back more refl g
-  advances r s (decides q none more) g =
-      let step = goes_at r s loop (Some (Decision ((loop + 1) ∷ (loop + 3) ∷ []))) q chain.added.turn_or_leave g in
-      let first : IsFirst net loop step.0 step.1 = subst (λ (p : ℕ). IsFirst net p step.0 step.1) q step.3 in
-      let after : with_alt (begun net step.1 (state_at net step.1)) r.frames ≡ [] = ap (with_alt (begun net step.1 (state_at net step.1))) none in
-      elim (first_cases net rule loop chain.added step.0 step.1 first) [
-        | inl w ↦ subst (Stage net loop (length word)) (sym step.4) (takes_eof w.1 after more)
-        | inr w ↦ subst (Stage net loop (length word)) (sym step.4) (takes_end w.1 after more)
+  -- the states of the added rule, one by one
+  pub data Inside (p : ℕ) : Type 0 where
+    at_call : p ≡ 0 → state_at net p ≡ Some (Call rule 0 loop) → Inside p
+    at_last : p ≡ 1 → state_at net p ≡ Some (End 0) → Inside p
+    at_loop : p ≡ loop → state_at net p ≡ Some (Decision ((loop + 1) ∷ (loop + 3) ∷ [])) → Inside p
+    at_eof : p ≡ loop + 1 → state_at net p ≡ Some (Token (eof ∷ []) (loop + 2)) → Inside p
+    behind_eof : p ≡ loop + 2 → state_at net p ≡ Some (Empty loop) → Inside p
+    at_end : p ≡ loop + 3 → state_at net p ≡ Some (Token (end_of_list ∷ []) (loop + 4)) → Inside p
+    behind_end : p ≡ loop + 4 → state_at net p ≡ Some (Empty 1) → Inside p
+
+  inside_cases : (p : ℕ) → IsInside loop p → Inside p
+  inside_cases p (inl e) = at_call e (ap (λ (q : ℕ). state_at net q) e ∙ ready.apart.added.call)
+  inside_cases p (inr (inl e)) = at_last e (ap (λ (q : ℕ). state_at net q) e ∙ ready.apart.added.end)
+  inside_cases p (inr (inr (low, high))) = elim (let split : (p ≡ loop) ⊎ ((p ≡ loop + 1) ⊎ ((p ≡ loop + 2) ⊎ ((p ≡ loop + 3) ⊎ (p ≡ loop + 4)))) = grind arith in split) [
+    | inl e ↦ at_loop e (ap (λ (q : ℕ). state_at net q) e ∙ ready.apart.added.turn_or_leave)
+    | inr f ↦ elim f [
+      | inl e ↦ at_eof e (ap (λ (q : ℕ). state_at net q) e ∙ ready.apart.added.turn)
+      | inr g ↦ elim g [
+        | inl e ↦ behind_eof e (ap (λ (q : ℕ). state_at net q) e ∙ ready.apart.added.again)
+        | inr h ↦ elim h [
+          | inl e ↦ at_end e (ap (λ (q : ℕ). state_at net q) e ∙ ready.apart.added.leave)
+          | inr e ↦ behind_end e (ap (λ (q : ℕ). state_at net q) e ∙ ready.apart.added.last)
+        ]
       ]
-  advances r s (takes_eof q none more) g =
-      let step = goes_at r s (loop + 1) (Some (Token (eof ∷ []) (loop + 2))) q chain.added.turn g in
-      let is_eof : step.0 ≡ eof = one_member eof step.0 step.2 in
-      subst (Stage net loop (length word)) (sym step.3) (took_eof refl (none_kept r none) (before_end word r.place step.0 ends step.1 (λ last. absurd (omega arith))))
-  advances r s (took_eof q none more) g =
-      let step = goes_at r s (loop + 2) (Some (Empty loop)) q chain.added.again g in
-      subst (Stage net loop (length word)) (sym step) (decides refl none more)
-  advances r s (takes_end q none more) g =
-      let step = goes_at r s (loop + 3) (Some (Token (end_of_list ∷ []) (loop + 4))) q chain.added.leave g in
-      subst (Stage net loop (length word)) (sym step.3) (took_end refl (none_kept r none))
-  advances r s (took_end q none) g =
-      let step = goes_at r s (loop + 4) (Some (Empty 1)) q chain.added.last g in
-      subst (Stage net loop (length word)) (sym step) (ended refl none)
-  advances r s (ended q none) g =
-      let step = goes_at r s 1 (Some (End 0)) q chain.added.end g in
-      absurd (subst (λ (gs : List Frame). ClosesBy net no_predicates word r gs s) none step)
+    ]
+  ]
 
-  -- a step that takes no token leads to a state of lower rank
-  falls_by : (r s : Run) (n : ℕ) (o u : Option State) → state_at net r.state ≡ o → state_at net s.state ≡ u → s.place ≡ r.place → rank u < rank o → measure net n s < measure net n r
-  unfolding measure_at
-  falls_by r s n o u a b same less =
-      let before : rank (state_at net r.state) ≡ rank o = ap rank a in
-      let after : rank (state_at net s.state) ≡ rank u = ap rank b in
-      let left : n - s.place ≡ n - r.place = ap (λ (k : ℕ). n - k) same in
-      omega arith
+  -- the two targets of its loop
+  two_targets : (x y t : ℕ) → Contains (x ∷ y ∷ []) t → (t ≡ x) ⊎ (t ≡ y)
+  two_targets x y t (zero, within, p) = inl (sym p)
+  two_targets x y t (suc zero, within, p) = inr (sym p)
+  two_targets x y t (suc (suc k), within, p) = absurd (omega arith)
 
-  -- one that takes a token leaves one token less
-  falls_taken : (r s : Run) (n t : ℕ) (set : List ℕ) → state_at net r.state ≡ Some (Token set t) → s.place ≡ r.place + 1 → r.place < n → measure net n s < measure net n r
-  unfolding measure_at rank
-  falls_taken r s n t set a next more =
-      let before : rank (state_at net r.state) ≡ 1 = ap rank a in
-      let most : rank (state_at net s.state) ≤ 5 = rank_most (state_at net s.state) in
-      omega arith
+  -- the added rule leads to itself
+  inside_target : (p t : ℕ) (s : State) → Inside p → state_at net p ≡ Some s → IsTarget s t → IsInside loop t
+  inside_target p t s (at_call e at) is to = let same : s ≡ Call rule 0 loop = cc in let target : t ≡ loop = subst (λ (x : State). IsTarget x t) same to in inr (inr (omega arith, omega arith))
+  inside_target p t s (at_last e at) is to = let same : s ≡ End 0 = cc in absurd (subst (λ (x : State). IsTarget x t) same to)
+  inside_target p t s (at_loop e at) is to =
+      let same : s ≡ Decision ((loop + 1) ∷ (loop + 3) ∷ []) = cc in
+      elim (two_targets (loop + 1) (loop + 3) t (subst (λ (x : State). IsTarget x t) same to)) [ inl a ↦ inr (inr (omega arith, omega arith)) | inr b ↦ inr (inr (omega arith, omega arith)) ]
+  inside_target p t s (at_eof e at) is to = let same : s ≡ Token (eof ∷ []) (loop + 2) = cc in let target : t ≡ loop + 2 = subst (λ (x : State). IsTarget x t) same to in inr (inr (omega arith, omega arith))
+  inside_target p t s (behind_eof e at) is to = let same : s ≡ Empty loop = cc in let target : t ≡ loop = subst (λ (x : State). IsTarget x t) same to in inr (inr (omega arith, omega arith))
+  inside_target p t s (at_end e at) is to = let same : s ≡ Token (end_of_list ∷ []) (loop + 4) = cc in let target : t ≡ loop + 4 = subst (λ (x : State). IsTarget x t) same to in inr (inr (omega arith, omega arith))
+  inside_target p t s (behind_end e at) is to = let same : s ≡ Empty 1 = cc in let target : t ≡ 1 = subst (λ (x : State). IsTarget x t) same to in inr (inl target)
 
-  -- no state of the start rule calls
-  outside_rank : (p : ℕ) (o : Option State) → IsOutside loop p → state_at net p ≡ o → rank o < 5
-  unfolding rank
-  outside_rank p None out at = omega arith
-  outside_rank p (Some (Decision targets)) out at = omega arith
-  outside_rank p (Some (End k)) out at = omega arith
-  outside_rank p (Some (Token set t)) out at = omega arith
-  outside_rank p (Some (Call k level back)) out at = absurd (chain.others p (Call k level back) out at)
-  outside_rank p (Some (Predicate k t)) out at = omega arith
-  outside_rank p (Some (Level q t)) out at = omega arith
-  outside_rank p (Some (Action t)) out at = omega arith
-  outside_rank p (Some (Empty t)) out at = omega arith
+  -- an edge keeps the return states
+  target_stack : (p t : ℕ) (s : State) (returns : List ℕ) → state_at net p ≡ Some s → IsTarget s t → IsStackFor loop p returns → IsStackFor loop t returns
+  target_stack p t s [] is to h = inside_target p t s (inside_cases p h) is to
+  target_stack p t s (u ∷ rest) is to h = (ready.apart.targets p t s h.0 is to, h.1)
 
-  -- a step of the start rule goes down
-  inside_falls : (r s : Run) (f : Frame) (o : Option State) → IsOutside loop r.state → r.frames ≡ f ∷ [] → f.back ≡ loop → r.place < length word → state_at net r.state ≡ o → GoesBy net no_predicates word o r s → measure net (length word) s < measure net (length word) r
-  unfolding rank
-  inside_falls r s f None out fs back more at g = absurd g
-  inside_falls r s f (Some (Decision targets)) out fs back more at g = absurd (chain.others r.state (Decision targets) out at)
-  inside_falls r s f (Some (End k)) out fs back more at g =
-      let closed : ClosesBy net no_predicates word r (f ∷ []) s = subst (λ (gs : List Frame). ClosesBy net no_predicates word r gs s) fs g in
-      falls_by r s (length word) (Some (End k)) (Some (Decision ((loop + 1) ∷ (loop + 3) ∷ []))) at (ap (λ (x : Run). state_at net x.state) closed ∙ ap (λ (p : ℕ). state_at net p) back ∙ chain.added.turn_or_leave) (ap (λ (x : Run). x.place) closed) (omega arith)
-  inside_falls r s f (Some (Token set t)) out fs back more at g = falls_taken r s (length word) t set at (ap (λ (x : Run). x.place) g.3) more
-  inside_falls r s f (Some (Call k level b)) out fs back more at g = absurd (chain.others r.state (Call k level b) out at)
-  inside_falls r s f (Some (Predicate k t)) out fs back more at g = absurd (chain.others r.state (Predicate k t) out at)
-  inside_falls r s f (Some (Level q t)) out fs back more at g = absurd (chain.others r.state (Level q t) out at)
-  inside_falls r s f (Some (Action t)) out fs back more at g = absurd (chain.others r.state (Action t) out at)
-  inside_falls r s f (Some (Empty t)) out fs back more at g =
-      let fits : (2 ≤ t) × ((k : ℕ) × (state_at net t ≡ Some (End k))) = chain.others r.state (Empty t) out at in
-      falls_by r s (length word) (Some (Empty t)) (Some (End fits.1.0)) at (ap (λ (x : Run). state_at net x.state) g ∙ fits.1.1) (ap (λ (x : Run). x.place) g) (omega arith)
+  -- a call adds one
+  inside_call : (p called level back : ℕ) → Inside p → state_at net p ≡ Some (Call called level back) → IsOutside loop (start_of called) × IsInside loop back
+  inside_call p called level back (at_call e at) is =
+      let same : called ≡ rule = cc in
+      let to : back ≡ loop = cc in
+      (subst (λ (k : ℕ). IsOutside loop (start_of k)) (sym same) ready.apart.start, inr (inr (omega arith, omega arith)))
+  inside_call p called level back (at_last e at) is = cc
+  inside_call p called level back (at_loop e at) is = cc
+  inside_call p called level back (at_eof e at) is = cc
+  inside_call p called level back (behind_eof e at) is = cc
+  inside_call p called level back (at_end e at) is = cc
+  inside_call p called level back (behind_end e at) is = cc
 
-  -- every step goes down
-  pub falls : (r s : Run) → Stage net loop (length word) r → Goes net no_predicates word r s → measure net (length word) s < measure net (length word) r
-  unfolding rank
-  falls r s (calls q none more) g =
-      let step = goes_at r s 0 (Some (Call rule 0 loop)) q chain.added.call g in
-      falls_by r s (length word) (Some (Call rule 0 loop)) (state_at net (start_of rule)) (ap (λ (p : ℕ). state_at net p) q ∙ chain.added.call) (ap (λ (x : Run). state_at net x.state) step.1) (ap (λ (x : Run). x.place) step.1) (outside_rank (start_of rule) (state_at net (start_of rule)) start_outside refl)
-  falls r s (inside f out within fs back more) g = inside_falls r s f (state_at net r.state) out fs back more refl g
-  falls r s (decides q none more) g =
-      let step = goes_at r s loop (Some (Decision ((loop + 1) ∷ (loop + 3) ∷ []))) q chain.added.turn_or_leave g in
-      let first : IsFirst net loop step.0 step.1 = subst (λ (p : ℕ). IsFirst net p step.0 step.1) q step.3 in
-      let stood : state_at net r.state ≡ Some (Decision ((loop + 1) ∷ (loop + 3) ∷ [])) = ap (λ (p : ℕ). state_at net p) q ∙ chain.added.turn_or_leave in
-      let place : s.place ≡ r.place = ap (λ (x : Run). x.place) step.4 in
-      let state : state_at net s.state ≡ state_at net step.1 = ap (λ (x : Run). state_at net x.state) step.4 in
-      elim (first_cases net rule loop chain.added step.0 step.1 first) [
-        | inl w ↦ falls_by r s (length word) (Some (Decision ((loop + 1) ∷ (loop + 3) ∷ []))) (Some (Token (eof ∷ []) (loop + 2))) stood (state ∙ ap (λ (p : ℕ). state_at net p) w.1 ∙ chain.added.turn) place (omega arith)
-        | inr w ↦ falls_by r s (length word) (Some (Decision ((loop + 1) ∷ (loop + 3) ∷ []))) (Some (Token (end_of_list ∷ []) (loop + 4))) stood (state ∙ ap (λ (p : ℕ). state_at net p) w.1 ∙ chain.added.leave) place (omega arith)
-      ]
-  falls r s (takes_eof q none more) g =
-      let step = goes_at r s (loop + 1) (Some (Token (eof ∷ []) (loop + 2))) q chain.added.turn g in
-      falls_taken r s (length word) (loop + 2) (eof ∷ []) (ap (λ (p : ℕ). state_at net p) q ∙ chain.added.turn) (ap (λ (x : Run). x.place) step.3) more
-  falls r s (took_eof q none more) g =
-      let step = goes_at r s (loop + 2) (Some (Empty loop)) q chain.added.again g in
-      falls_by r s (length word) (Some (Empty loop)) (Some (Decision ((loop + 1) ∷ (loop + 3) ∷ []))) (ap (λ (p : ℕ). state_at net p) q ∙ chain.added.again) (ap (λ (x : Run). state_at net x.state) step ∙ chain.added.turn_or_leave) (ap (λ (x : Run). x.place) step) (omega arith)
-  falls r s (takes_end q none more) g =
-      let step = goes_at r s (loop + 3) (Some (Token (end_of_list ∷ []) (loop + 4))) q chain.added.leave g in
-      falls_taken r s (length word) (loop + 4) (end_of_list ∷ []) (ap (λ (p : ℕ). state_at net p) q ∙ chain.added.leave) (ap (λ (x : Run). x.place) step.3) more
-  falls r s (took_end q none) g =
-      let step = goes_at r s (loop + 4) (Some (Empty 1)) q chain.added.last g in
-      falls_by r s (length word) (Some (Empty 1)) (Some (End 0)) (ap (λ (p : ℕ). state_at net p) q ∙ chain.added.last) (ap (λ (x : Run). state_at net x.state) step ∙ chain.added.end) (ap (λ (x : Run). x.place) step) (omega arith)
-  falls r s (ended q none) g =
-      let step = goes_at r s 1 (Some (End 0)) q chain.added.end g in
-      absurd (subst (λ (gs : List Frame). ClosesBy net no_predicates word r gs s) none step)
+  call_stack : (p called level back : ℕ) (returns : List ℕ) → state_at net p ≡ Some (Call called level back) → IsStackFor loop p returns → IsStackFor loop (start_of called) (back ∷ returns)
+  call_stack p called level back [] is h = inside_call p called level back (inside_cases p h) is
+  call_stack p called level back (u ∷ rest) is h = (ready.apart.calls p called level back h.0 is, (ready.apart.targets p back (Call called level back) h.0 is refl, h.1))
 
-  -- a state of the start rule is one that the parser takes
-  inside_fits : (r : Run) (f : Frame) (o : Option State) → IsOutside loop r.state → r.state < length net.states → r.frames ≡ f ∷ [] → r.place < length word → state_at net r.state ≡ o → IsFitBy net (length word) o r
-  inside_fits r f None out within fs more at = absurd (omega (arith, slice_get_none net.states r.state at))
-  inside_fits r f (Some (Decision targets)) out within fs more at = absurd (chain.others r.state (Decision targets) out at)
-  inside_fits r f (Some (End k)) out within fs more at = λ none. absurd (omega (arith, ap length (sym none ∙ fs)))
-  inside_fits r f (Some (Token set t)) out within fs more at = more
-  inside_fits r f (Some (Call k level b)) out within fs more at = absurd (chain.others r.state (Call k level b) out at)
-  inside_fits r f (Some (Predicate k t)) out within fs more at = absurd (chain.others r.state (Predicate k t) out at)
-  inside_fits r f (Some (Level q t)) out within fs more at = absurd (chain.others r.state (Level q t) out at)
-  inside_fits r f (Some (Action t)) out within fs more at = absurd (chain.others r.state (Action t) out at)
-  inside_fits r f (Some (Empty t)) out within fs more at = tt
+  -- only the added rule ends with no return state
+  inside_end : (p ended : ℕ) → Inside p → state_at net p ≡ Some (End ended) → ended ≡ 0
+  inside_end p ended (at_call e at) is = cc
+  inside_end p ended (at_last e at) is = cc
+  inside_end p ended (at_loop e at) is = cc
+  inside_end p ended (at_eof e at) is = cc
+  inside_end p ended (behind_eof e at) is = cc
+  inside_end p ended (at_end e at) is = cc
+  inside_end p ended (behind_end e at) is = cc
 
-  -- what is fit at a known state
-  fit_at : (r : Run) (p : ℕ) (o : Option State) → r.state ≡ p → state_at net p ≡ o → IsFitBy net (length word) o r → IsFitBy net (length word) (state_at net r.state) r
-  fit_at r p o q e = subst (λ (x : Option State). IsFitBy net (length word) x r) (sym (ap (λ (k : ℕ). state_at net k) q ∙ e))
+  -- a token that is taken is not END, but where the run goes behind END
+  takes_end : (p t a : ℕ) (set returns : List ℕ) → state_at net p ≡ Some (Token set t) → IsStackFor loop p returns → Contains set a → (t ≡ loop + 4 → ⊥) → a ≡ end_of_list → ⊥
+  takes_end p t a set (u ∷ rest) is h has other e = ready.apart.leaves_end p t set h.0 is (subst (Contains set) e has)
+  takes_end p t a set [] is h has other e = of_inside (inside_cases p h)
+    where
+      of_inside : Inside p → ⊥
+      of_inside (at_call f at) = cc
+      of_inside (at_last f at) = cc
+      of_inside (at_loop f at) = cc
+      of_inside (at_eof f at) = let same : set ≡ eof ∷ [] = cc in let found : a ≡ eof = one_member eof a (subst (λ (xs : List ℕ). Contains xs a) same has) in omega arith
+      of_inside (behind_eof f at) = cc
+      of_inside (at_end f at) = other cc
+      of_inside (behind_end f at) = cc
 
-  -- at each stage the parser can take its turn
-  pub fits : (r : Run) → Stage net loop (length word) r → IsFitBy net (length word) (state_at net r.state) r
-  fits r (calls q none more) = fit_at r 0 (Some (Call rule 0 loop)) q chain.added.call (omega (arith, start_within, chain.numbers), omega (arith, start_within, chain.size))
-  fits r (inside f out within fs back more) = inside_fits r f (state_at net r.state) out within fs more refl
-  fits r (decides q none more) = fit_at r loop (Some (Decision ((loop + 1) ∷ (loop + 3) ∷ []))) q chain.added.turn_or_leave (rule, subst (HasAddedRule net rule) (sym q) chain.added, none, more)
-  fits r (takes_eof q none more) = fit_at r (loop + 1) (Some (Token (eof ∷ []) (loop + 2))) q chain.added.turn more
-  fits r (took_eof q none more) = fit_at r (loop + 2) (Some (Empty loop)) q chain.added.again tt
-  fits r (takes_end q none more) = fit_at r (loop + 3) (Some (Token (end_of_list ∷ []) (loop + 4))) q chain.added.leave more
-  fits r (took_end q none) = fit_at r (loop + 4) (Some (Empty 1)) q chain.added.last tt
-  fits r (ended q none) = fit_at r 1 (Some (End 0)) q chain.added.end (λ none. refl)
+  -- the state of the added rule's last edge
+  at_last_edge : (p : ℕ) → p ≡ loop + 4 → state_at net p ≡ Some (Empty 1)
+  at_last_edge p e = ap (λ (q : ℕ). state_at net q) e ∙ ready.apart.added.last
 
-  -- it begins with the call, the word having at least one symbol
-  pub begins : Stage net loop (length word) beginning
-  begins = calls refl refl (omega (arith, ap length ends.1, length-append ends.0 (end_of_list ∷ [])))
+  at_end_of_all : (p : ℕ) → p ≡ 1 → state_at net p ≡ Some (End 0)
+  at_end_of_all p e = ap (λ (q : ℕ). state_at net q) e ∙ ready.apart.added.end
 
--- a state that is fit is in range
-pub fit_within : (net : Network) (n : ℕ) (r : Run) (o : Option State) → state_at net r.state ≡ o → IsFitBy net n o r → r.state < length net.states
-fit_within net n r None at fit = absurd fit
-fit_within net n r (Some s) at fit = slice_get_within net.states r.state s at
+  -- which return states stand apart
+  are_apart : (p : ℕ) (returns : List ℕ) → IsStackFor loop p returns → AreApart loop returns
+  are_apart p [] h = tt
+  are_apart p (t ∷ []) h = tt
+  are_apart p (t ∷ u ∷ more) h = (h.1.0, are_apart t (u ∷ more) h.1)
+
+  stands_apart : (p : ℕ) (returns : List ℕ) → IsStackFor loop p returns → StandsApart loop p returns
+  stands_apart p returns h = record { alone = alone returns h; apart = are_apart p returns h }
+    where
+      alone : (returns : List ℕ) → IsStackFor loop p returns → IsInside loop p → returns ≡ []
+      alone [] h i = refl
+      alone (t ∷ rest) h i = absurd (never_both loop p ready.apart.loop_from i h.0)
+
+  module _ (word : List ℕ) (ends : EndsInEnd word) where
+    -- the beginning
+    pub begins : Stage net loop (length word) beginning
+    begins = record {
+      state_in = slice_get_within net.states 0 (Call rule 0 loop) ready.apart.added.call;
+      backs_in = λ k d less. absurd (omega arith);
+      stack = inl refl;
+      short = omega arith;
+      more = λ a b. let e = ends.1 in omega (arith, ap length e, length-append ends.0 (end_of_list ∷ []));
+    }
+
+    -- a token is left at a state that is none of the last two
+    left : (r : Run) (s : State) → Stage net loop (length word) r → state_at net r.state ≡ Some s → (s ≡ Empty 1 → ⊥) → (s ≡ End 0 → ⊥) → r.place < length word
+    left r s h is a b = h.more (λ e. a (let at = at_last_edge r.state e in cc)) (λ e. b (let at = at_end_of_all r.state e in cc))
+
+    -- going along an edge that takes no token
+    moves : (r : Run) (s : State) (t : ℕ) (frames : List Frame) (after : Run) → Stage net loop (length word) r → state_at net r.state ≡ Some s → IsTarget s t → after.state ≡ t → after.place ≡ r.place → backs after.frames ≡ backs r.frames → length after.frames ≡ length r.frames → ((t ≡ 1 → ⊥) → r.place < length word) → Stage net loop (length word) after
+    moves r s t frames after h is to a b c d more = record {
+      state_in = let less = ready.well_formed.targets r.state t s is to in omega (arith, a);
+      backs_in = subst (λ (bs : List ℕ). All (λ t. t < length net.states) bs) (sym c) h.backs_in;
+      stack = subst (λ (bs : List ℕ). IsStackFor loop after.state bs) (sym c) (subst (λ (p : ℕ). IsStackFor loop p (backs r.frames)) (sym a) (target_stack r.state t s (backs r.frames) is to h.stack));
+      short = let few = h.short in omega (arith, d);
+      more = λ x y. let less = more (λ e. y (a ∙ e)) in omega (arith, b);
+    }
+
+    -- closing a rule
+    closes : (r : Run) (ended : ℕ) (fs : List Frame) (s : Run) → r.frames ≡ fs → Stage net loop (length word) r → state_at net r.state ≡ Some (End ended) → ClosesBy net no_predicates word r fs s → Stage net loop (length word) s
+    closes r ended [] s e h is g = absurd g
+    closes r ended (f ∷ fs) s e h is g =
+        let open_backs : backs r.frames ≡ f.back ∷ backs fs = ap backs e in
+        let all : All (λ t. t < length net.states) (f.back ∷ backs fs) = subst (λ (bs : List ℕ). All (λ t. t < length net.states) bs) open_backs h.backs_in in
+        let stack : IsStackFor loop r.state (f.back ∷ backs fs) = subst (λ (bs : List ℕ). IsStackFor loop r.state bs) open_backs h.stack in
+        let after : Run = record { state = f.back; place = r.place; frames = fs; tree = r.tree } in
+        let state : s.state ≡ f.back = ap (λ (x : Run). x.state) g ∙ state_more after fs (node_of f) in
+        let place : s.place ≡ r.place = ap (λ (x : Run). x.place) g ∙ place_more after fs (node_of f) in
+        let returns : backs s.frames ≡ backs fs = ap (λ (x : Run). backs x.frames) g ∙ backs_more after fs (node_of f) in
+        let count : length s.frames ≡ length fs = ap (λ (x : Run). length x.frames) g ∙ length_more after fs (node_of f) in
+        record {
+          state_in = let less = All-head (λ t. t < length net.states) f.back (backs fs) all in omega (arith, state);
+          backs_in = subst (λ (bs : List ℕ). All (λ t. t < length net.states) bs) (sym returns) (All-tail (λ t. t < length net.states) f.back (backs fs) all);
+          stack = subst (λ (bs : List ℕ). IsStackFor loop s.state bs) (sym returns) (subst (λ (p : ℕ). IsStackFor loop p (backs fs)) (sym state) stack.1);
+          short = let few = h.short in omega (arith, count, ap length e);
+          more = λ x y. let less = h.more (λ e. absurd (let at = at_last_edge r.state e in cc)) (λ e. absurd (let two = stack.0.0 in omega arith)) in omega (arith, place);
+        }
+
+    -- a step
+    advances_by : (r s : Run) (o : Option State) → state_at net r.state ≡ o → Stage net loop (length word) r → GoesBy net no_predicates word o r s → Stage net loop (length word) s
+    advances_by r s None is h g = absurd g
+    advances_by r s (Some (Decision targets)) is h (i, t, says, first, e) =
+        moves r (Decision targets) t r.frames s h is (first_in targets i t is first) (ap (λ (x : Run). x.state) e) (ap (λ (x : Run). x.place) e)
+        (ap (λ (x : Run). backs x.frames) e ∙ backs_alt (begun net t (state_at net t)) r.frames) (ap (λ (x : Run). length x.frames) e ∙ length_alt (begun net t (state_at net t)) r.frames)
+        (λ x. left r (Decision targets) h is (λ e. cc) (λ e. cc))
+      where
+        first_in : (targets : List ℕ) (i t : ℕ) → state_at net r.state ≡ Some (Decision targets) → IsFirst net r.state i t → Contains targets t
+        first_in targets i t is (us, k, at, has, num) =
+            let same : us ≡ targets = cc in
+            let got : slice_get targets k ≡ Some t = subst (λ (xs : List ℕ). slice_get xs k ≡ Some t) same has in
+            (k, slice_get_within targets k t got, get_or_from_slice_get targets k t t got)
+    advances_by r s (Some (End ended)) is h g = closes r ended r.frames s refl h is g
+    advances_by r s (Some (Token set t)) is h (a, next, has, e) = record {
+      state_in = let less = ready.well_formed.targets r.state t (Token set t) is refl in omega (arith, ap (λ (x : Run). x.state) e);
+      backs_in = subst (λ (bs : List ℕ). All (λ t. t < length net.states) bs) (sym returns) h.backs_in;
+      stack = subst (λ (bs : List ℕ). IsStackFor loop s.state bs) (sym returns) (subst (λ (p : ℕ). IsStackFor loop p (backs r.frames)) (sym (ap (λ (x : Run). x.state) e)) (target_stack r.state t (Token set t) (backs r.frames) is refl h.stack));
+      short = let few = h.short in omega (arith, ap (λ (x : Run). length x.frames) e, length_token r r.frames refl);
+      more = λ x y. let less = before_end word r.place a ends next (takes_end r.state t a set (backs r.frames) is h.stack has (λ u. x (ap (λ (z : Run). z.state) e ∙ u))) in omega (arith, ap (λ (x : Run). x.place) e);
+    }
+      where
+        returns : backs s.frames ≡ backs r.frames
+        returns = ap (λ (x : Run). backs x.frames) e ∙ backs_token r r.frames refl
+    advances_by r s (Some (Call called level back)) is h (room, e) = record {
+      state_in = let less = ready.well_formed.starts r.state level called back is in omega (arith, ap (λ (x : Run). x.state) e);
+      backs_in = subst (λ (bs : List ℕ). All (λ t. t < length net.states) bs) (sym (ap (λ (x : Run). backs x.frames) e)) (All-cons (λ t. t < length net.states) back (backs r.frames) (ready.well_formed.targets r.state back (Call called level back) is refl) h.backs_in);
+      stack = subst (λ (x : Run). IsStackFor loop x.state (backs x.frames)) (sym e) (call_stack r.state called level back (backs r.frames) is h.stack);
+      short = omega (arith, ap (λ (x : Run). length x.frames) e);
+      more = λ x y. let less = left r (Call called level back) h is (λ e. cc) (λ e. cc) in omega (arith, ap (λ (x : Run). x.place) e);
+    }
+    advances_by r s (Some (Predicate k t)) is h g = absurd (ready.untested r.state (Predicate k t) is)
+    advances_by r s (Some (Level q t)) is h g = absurd (ready.untested r.state (Level q t) is)
+    advances_by r s (Some (Action t)) is h g = absurd (ready.untested r.state (Action t) is)
+    advances_by r s (Some (Empty t)) is h e =
+        moves r (Empty t) t r.frames s h is refl (ap (λ (x : Run). x.state) e) (ap (λ (x : Run). x.place) e) (ap (λ (x : Run). backs x.frames) e) (ap (λ (x : Run). length x.frames) e)
+        (λ x. left r (Empty t) h is (λ u. x cc) (λ u. cc))
+
+    pub advances : (r s : Run) → Stage net loop (length word) r → Goes net no_predicates word r s → Stage net loop (length word) s
+    advances r s h g = advances_by r s (state_at net r.state) refl h g
+
+    -- what each state asks
+    fits_by : (r : Run) (o : Option State) → state_at net r.state ≡ o → Stage net loop (length word) r → IsFitBy net (length word) o r
+    fits_by r None is h = let within = h.state_in in absurd (past within)
+      where
+        past : r.state < length net.states → ⊥
+        past less = let at = slice_get-get_or net.states r.state (Empty 0) less in cc
+    fits_by r (Some (Decision targets)) is h = record { rule = rule; loop = loop; runnable = ready; apart = stands_apart r.state (backs r.frames) h.stack; within = h.backs_in; more = left r (Decision targets) h is (λ e. cc) (λ e. cc) }
+    fits_by r (Some (End ended)) is h = λ e. inside_end r.state ended (inside_cases r.state (subst (λ (fs : List Frame). IsStackFor loop r.state (backs fs)) e h.stack)) is
+    fits_by r (Some (Token set t)) is h = left r (Token set t) h is (λ e. cc) (λ e. cc)
+    fits_by r (Some (Call called level back)) is h =
+        let less = ready.well_formed.starts r.state level called back is in
+        let same = ready.numbers in
+        let few = ready.few in
+        (omega arith, omega arith)
+    fits_by r (Some (Predicate k t)) is h = ready.untested r.state (Predicate k t) is
+    fits_by r (Some (Level q t)) is h = ready.untested r.state (Level q t) is
+    fits_by r (Some (Action t)) is h = ready.untested r.state (Action t) is
+    fits_by r (Some (Empty t)) is h = tt
+
+    pub fits : (r : Run) → Stage net loop (length word) r → IsFitBy net (length word) (state_at net r.state) r
+    fits r h = fits_by r (state_at net r.state) refl h

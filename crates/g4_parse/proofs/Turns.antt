@@ -1,24 +1,31 @@
 -- What a turn of the parser is in the run.
-use Rattle.std.proofs.Common.{◌≡◌, ◌+◌, ◌<◌, ◌++◌, ◌∷◌, [], ℕ, List, length, get_or, drop, refl, sym, ◌∙◌, ap, subst, arith, length-append}
-use Rattle.std.specs.Prelude.{Option, Some, Result, ⊤}
-use Rattle.std.proofs.lemmas.Option.{slice_get-get_or}
+use Rattle.std.proofs.Common.{◌≡◌, ◌+◌, ◌-◌, ◌<◌, ◌≤◌, ◌++◌, ◌∷◌, [], ℕ, List, length, get_or, take, drop, All, reverse, false, cond, ◌==◌, refl, sym, ◌∙◌, ap, subst, arith, length-append}
+use Rattle.std.specs.Prelude.{Option, Some, Result, Ok, Err, IsErrAnd, ⊤, slice_get}
+use Rattle.std.proofs.lemmas.Option.{slice_get_within, get_or_from_slice_get}
+use Rattle.std.proofs.lemmas.List.Elements.{All-append, All-cons, All-head, All-tail, Contains-get_or}
+use Rattle.std.proofs.Math.Seq.{take-append_seam}
+use Rattle.std.proofs.lemmas.Bool.{false_from_ne_true}
+use Rattle.std.proofs.lemmas.Bool.Decides.{nat_tests}
 use Rattle.g4_net.specs.declared.network.Network.{Network}
 use Rattle.g4_net.specs.declared.network.State.{State}
 use Rattle.g4_net.specs.declared.network.State.TheVariants.{Decision}
-use Rattle.g4_net.specs.Configurations.{Stack}
 use Rattle.g4_net.specs.Network.{state_at, IsFirst}
-use Rattle.g4_net.specs.Prediction.{Here, Decides, chosen}
+use Rattle.g4_net.specs.Prediction.{chosen, no_viable}
+use Rattle.g4_net.specs.Leads.{WellFormed}
+use Rattle.g4_predict.specs.Deciding.{Chooses, IsDecideFault}
+use Rattle.g4_predict.specs.declared.decision.DecideFault.{DecideFault}
+use Rattle.g4_predict.specs.declared.decision.DecideFault.TheVariants as deciding
+use Rattle.g4_parse.specs.Deciding.{of_decide}
 use Rattle.g4_parse.specs.declared.tree.Item.{Item}
 use Rattle.g4_parse.specs.declared.tree.Item.TheVariants as items
-use Rattle.g4_parse.specs.declared.parser.Open.{Open}
 use Rattle.g4_parse.specs.declared.parser.Parser.{Parser}
 use Rattle.g4_parse.specs.declared.parser.ParseFault.{ParseFault}
-use Rattle.g4_parse.specs.Running.{Frame, Run, no_predicates, Predicts, GoesBy, ClosesBy, with_children, with_alt, begun, node_of, here_of, stack_of}
-use Rattle.g4_parse.specs.Standing.{StandsFor, IsTurnBy, opened, flat}
-use Rattle.g4_parse.proofs.Flat.{flat_more, flat_node, opened_more, place_more, state_more}
+use Rattle.g4_parse.specs.Running.{Frame, Run, not_viable, no_predicates, Predicts, GoesBy, ClosesBy, with_children, with_alt, with_begun, begun, node_of, here_of}
+use Rattle.g4_parse.specs.Standing.{StandsFor, IsFaultBy, IsTurnBy, backs, returns_of, enters_of, flat}
+use Rattle.g4_parse.proofs.Flat.{flat_more, flat_node, returns_more, enters_more, place_more, state_more, returns_alt, enters_alt, reverse_returns}
 
 -- lists that end alike are alike
-same_last : (xs ys : List Open) (x y : Open) → xs ++ x ∷ [] ≡ ys ++ y ∷ [] → (xs ≡ ys) × (x ≡ y)
+same_last : (xs ys : List ℕ) (x y : ℕ) → xs ++ x ∷ [] ≡ ys ++ y ∷ [] → (xs ≡ ys) × (x ≡ y)
 same_last [] [] x y e = (refl, cc)
 same_last [] (b ∷ ys) x y e = absurd (omega (arith, ap length e, length-append ys (y ∷ [])))
 same_last (a ∷ xs) [] x y e = absurd (omega (arith, ap length e, length-append xs (x ∷ [])))
@@ -28,47 +35,124 @@ same_last (a ∷ xs) (b ∷ ys) x y e =
     let same : (xs ≡ ys) × (x ≡ y) = same_last xs ys x y tail in
     (cc, same.1)
 
+-- all but the last
+without_last : (xs : List ℕ) (x : ℕ) → take (length (xs ++ x ∷ []) - 1) (xs ++ x ∷ []) ≡ xs
+without_last xs x = let n : length (xs ++ x ∷ []) - 1 ≡ length xs = omega (arith, length-append xs (x ∷ [])) in ap (λ (k : ℕ). take k (xs ++ x ∷ [])) n ∙ front xs (x ∷ [])
+  where
+    front : (xs ys : List ℕ) → take (length xs) (xs ++ ys) ≡ xs
+    front xs ys = take-append_seam xs ys
+
+-- the last
+last_of : (xs : List ℕ) (x : ℕ) → slice_get (xs ++ x ∷ []) (length (xs ++ x ∷ []) - 1) ≡ Some x
+last_of xs x = let n : length (xs ++ x ∷ []) - 1 ≡ length xs = omega (arith, length-append xs (x ∷ [])) in ap (λ (k : ℕ). slice_get (xs ++ x ∷ []) k) n ∙ at_seam xs
+  where
+    at_seam : (ys : List ℕ) → slice_get (ys ++ x ∷ []) (length ys) ≡ Some x
+    at_seam [] = refl
+    at_seam (y ∷ ys) = at_seam ys
+
 -- no rule is open where none is listed
-pub none_opened : (fs : List Frame) → opened fs ≡ [] → fs ≡ []
+pub none_opened : (fs : List Frame) → returns_of fs ≡ [] → fs ≡ []
 none_opened [] e = refl
-none_opened (f ∷ fs) e = absurd (omega (arith, ap length e, length-append (opened fs) (record { back = f.back } ∷ [])))
+none_opened (f ∷ fs) e = absurd (omega (arith, ap length e, length-append (returns_of fs) (f.back ∷ [])))
 
 -- Popping the newest open rule and writing Exit is a step of the run.
-pub closes : (net : Network) (word : List ℕ) (r : Run) (fs : List Frame) (p q : Parser) (o : Open) (rest : List Open) → r.frames ≡ fs → StandsFor p r → p.open_rules.items ≡ rest ++ o ∷ [] → q.state ≡ o.back → q.place ≡ p.place → q.open_rules.items ≡ rest → q.items.items ≡ p.items.items ++ items.Exit ∷ [] → (s : Run) × ClosesBy net no_predicates word r fs s × StandsFor q s
-closes net word r [] p q o rest same h popped a b d e =
-    let none : rest ++ o ∷ [] ≡ [] = sym popped ∙ h.rules ∙ ap opened same in
-    absurd (omega (arith, ap length none, length-append rest (o ∷ [])))
-closes net word r (f ∷ fs) p q o rest same h popped a b d e =
-    let back : Run = record { state = f.back; place = r.place; frames = fs; tree = r.tree } in
-    let last : (opened fs ≡ rest) × (record { back = f.back } ≡ o) = same_last (opened fs) rest (record { back = f.back }) o (sym (ap opened same) ∙ sym h.rules ∙ popped) in (
-      with_children back fs (node_of f),
+pub closes : (net : Network) (word : List ℕ) (r : Run) (fs : List Frame) (p q : Parser) (back : ℕ) (rest : List ℕ) → r.frames ≡ fs → StandsFor p r → p.returns.items ≡ rest ++ back ∷ [] → q.state ≡ back → q.place ≡ p.place → q.returns.items ≡ rest → q.enters.items ≡ take (length p.enters.items - 1) p.enters.items → q.items.items ≡ p.items.items ++ items.Exit ∷ [] → (s : Run) × ClosesBy net no_predicates word r fs s × StandsFor q s
+closes net word r [] p q back rest same h popped a b d d_too e =
+    let none : rest ++ back ∷ [] ≡ [] = sym popped ∙ h.returns ∙ ap returns_of same in
+    absurd (omega (arith, ap length none, length-append rest (back ∷ [])))
+closes net word r (f ∷ fs) p q back rest same h popped a b d d_too e =
+    let after : Run = record { state = f.back; place = r.place; frames = fs; tree = r.tree } in
+    let last : (returns_of fs ≡ rest) × (f.back ≡ back) = same_last (returns_of fs) rest f.back back (sym (ap returns_of same) ∙ sym h.returns ∙ popped) in
+    let entered : p.enters.items ≡ enters_of fs r.tree ++ length (flat fs r.tree) ∷ [] = h.enters ∙ ap (λ (gs : List Frame). enters_of gs r.tree) same in
+    let left : take (length p.enters.items - 1) p.enters.items ≡ enters_of fs r.tree = ap (λ (xs : List ℕ). take (length xs - 1) xs) entered ∙ without_last (enters_of fs r.tree) (length (flat fs r.tree)) in (
+      with_children after fs (node_of f),
       refl,
       record {
-        state = a ∙ sym (ap (λ (x : Open). x.back) last.1) ∙ sym (state_more back fs (node_of f));
-        place = b ∙ h.place ∙ sym (place_more back fs (node_of f));
-        rules = d ∙ sym last.0 ∙ sym (opened_more back fs (node_of f));
-        items = e ∙ ap (λ (xs : List Item). xs ++ items.Exit ∷ []) (h.items ∙ ap (λ (gs : List Frame). flat gs r.tree) same) ∙ sym (flat_node f (flat fs r.tree)) ∙ sym (flat_more back fs (node_of f));
+        state = a ∙ sym last.1 ∙ sym (state_more after fs (node_of f));
+        place = b ∙ h.place ∙ sym (place_more after fs (node_of f));
+        returns = d ∙ sym last.0 ∙ sym (returns_more after fs (node_of f));
+        enters = d_too ∙ left ∙ sym (enters_more after fs (node_of f));
+        items = e ∙ ap (λ (xs : List Item). xs ++ items.Exit ∷ []) (h.items ∙ ap (λ (gs : List Frame). flat gs r.tree) same) ∙ sym (flat_node f (flat fs r.tree)) ∙ sym (flat_more after fs (node_of f));
       },
     )
 
+-- an alternative other than 0 is the node's
+alt_is : (i alt : ℕ) → (i ≡ 0 → ⊥) → cond (i == 0) alt i ≡ i
+alt_is i alt n = let other : (i == 0) ≡ false = false_from_ne_true (i == 0) (λ e. n (grind (arith, nat_tests))) in rw other refl
+
+-- Writing the alternative of the newest open rule's node, where its place is the last of those listed.
+pub begins_alt : (r : Run) (fs : List Frame) (p q : Parser) (i enter : ℕ) → r.frames ≡ fs → (i ≡ 0 → ⊥) → StandsFor p r → Some enter ≡ slice_get p.enters.items (length p.enters.items - 1) → q.state ≡ p.state → q.place ≡ p.place → q.returns.items ≡ p.returns.items → q.enters.items ≡ p.enters.items →
+    ((before after : List Item) (rule alt at : ℕ) → p.items.items ≡ before ++ items.Enter rule alt at ∷ after → enter ≡ length before → q.items.items ≡ before ++ items.Enter rule i at ∷ after) → StandsFor q (with_begun i r)
+begins_alt r [] p q i enter same n h last a b c d e =
+    let none : p.enters.items ≡ [] = h.enters ∙ ap (λ (gs : List Frame). enters_of gs r.tree) same in
+    let no_last : Some enter ≡ slice_get {X = ℕ} [] (length p.enters.items - 1) = last ∙ ap (λ (xs : List ℕ). slice_get xs (length p.enters.items - 1)) none in
+    absurd (let w = slice_get_within {A = ℕ} [] (length p.enters.items - 1) enter (sym no_last) in omega arith)
+begins_alt r (f ∷ fs) p q i enter same n h last a b c d e =
+    let entered : p.enters.items ≡ enters_of fs r.tree ++ length (flat fs r.tree) ∷ [] = h.enters ∙ ap (λ (gs : List Frame). enters_of gs r.tree) same in
+    let found : Some enter ≡ Some (length (flat fs r.tree)) = last ∙ ap (λ (xs : List ℕ). slice_get xs (length xs - 1)) entered ∙ last_of (enters_of fs r.tree) (length (flat fs r.tree)) in
+    let at_enter : enter ≡ length (flat fs r.tree) = cc in
+    let written : q.items.items ≡ flat fs r.tree ++ items.Enter f.rule i f.at ∷ f.children = e (flat fs r.tree) f.children f.rule f.alt f.at (h.items ∙ ap (λ (gs : List Frame). flat gs r.tree) same) at_enter in
+    let shown : flat (with_alt i r.frames) r.tree ≡ flat fs r.tree ++ items.Enter f.rule i f.at ∷ f.children = ap (λ (gs : List Frame). flat (with_alt i gs) r.tree) same ∙ ap (λ (j : ℕ). flat fs r.tree ++ items.Enter f.rule j f.at ∷ f.children) (alt_is i f.alt n) in
+    record {
+      state = a ∙ h.state;
+      place = b ∙ h.place;
+      returns = c ∙ h.returns ∙ sym (returns_alt i r.frames);
+      enters = d ∙ h.enters ∙ sym (enters_alt i r.frames r.tree);
+      items = written ∙ sym shown;
+    }
+
+-- what is chosen at the parser's state is what prediction says in the run
+predicted : (net : Network) (word : List ℕ) (r : Run) (p : Parser) (i : ℕ) → StandsFor p r → Chooses net p.state (reverse p.returns.items) (drop p.place word) (chosen i) → Predicts net no_predicates word r (chosen i)
+predicted net word r p i h says =
+    let stack : reverse p.returns.items ≡ backs r.frames = ap reverse h.returns ∙ reverse_returns r.frames in
+    let said : Chooses net r.state (backs r.frames) (drop r.place word) (chosen i) = rw (← h.state, ← h.place, ← stack) says in
+    said (here_of net no_predicates word r)
+
 -- Going to the alternative that prediction says is a step of the run.
-pub chooses : (net : Network) (word : List ℕ) (r : Run) (p q : Parser) (targets : List ℕ) (k : ℕ) → StandsFor p r → p.open_rules.items ≡ [] → state_at net p.state ≡ Some (Decision targets) → k < length targets → ((about : Here) (z : Stack) → Decides net about p.state z (drop p.place word) (chosen (k + 1))) → q.state ≡ get_or targets k 0 → q.place ≡ p.place → q.open_rules.items ≡ p.open_rules.items → q.items.items ≡ p.items.items → (s : Run) × GoesBy net no_predicates word (Some (Decision targets)) r s × StandsFor q s
-chooses net word r p q targets k h none at_d within says a b d e =
-    let t : ℕ = get_or targets k 0 in
-    let empty : r.frames ≡ [] = none_opened r.frames (sym h.rules ∙ none) in
-    let predicted : Predicts net no_predicates word r (chosen (k + 1)) = rw (← h.state, ← h.place) (says (here_of net no_predicates word r) (stack_of r)) in
-    let first : IsFirst net r.state (k + 1) t = (targets, k, ap (λ (n : ℕ). state_at net n) (sym h.state) ∙ at_d, slice_get-get_or targets k 0 within, refl) in
-    let same : with_alt (begun net t (state_at net t)) r.frames ≡ r.frames = ap (with_alt (begun net t (state_at net t))) empty ∙ sym empty in (
-      record { state = t; place = r.place; frames = with_alt (begun net t (state_at net t)) r.frames; tree = r.tree },
-      (k + 1, t, predicted, first, refl),
-      record {
-        state = a;
-        place = b ∙ h.place;
-        rules = d ∙ h.rules ∙ ap opened (sym same);
-        items = e ∙ h.items ∙ ap (λ (gs : List Frame). flat gs r.tree) (sym same);
-      },
-    )
+pub chooses : (net : Network) (word : List ℕ) (r : Run) (p q : Parser) (targets : List ℕ) (i t : ℕ) → StandsFor p r → Chooses net p.state (reverse p.returns.items) (drop p.place word) (chosen i) → IsFirst net p.state i t → StandsFor q (record (with_begun (begun net t (state_at net t)) r) { state = t }) → (s : Run) × GoesBy net no_predicates word (Some (Decision targets)) r s × StandsFor q s
+chooses net word r p q targets i t h says first after = (
+  record (with_begun (begun net t (state_at net t)) r) { state = t },
+  (i, t, predicted net word r p i h says, subst (λ (n : ℕ). IsFirst net n i t) h.state first, refl),
+  after,
+)
 
 -- a turn by the state where the parser stands is one by the state of the moment
 pub turned : (net : Network) (word : List ℕ) (r : Run) (p q : Parser) (s : State) (x : Result ⊤ ParseFault) → StandsFor p r → state_at net p.state ≡ Some s → IsTurnBy net word (Some s) r q x → IsTurnBy net word (state_at net r.state) r q x
 turned net word r p q s x h at_s = subst (λ (o : Option State). IsTurnBy net word o r q x) (sym at_s ∙ ap (λ (n : ℕ). state_at net n) h.state)
+
+-- what all return states are newest first they are newest last
+pub all_returns : (P : ℕ → Type 0) (fs : List Frame) → All P (backs fs) → All P (returns_of fs)
+all_returns P [] h = h
+all_returns P (f ∷ fs) h = All-append P (returns_of fs) (f.back ∷ []) (all_returns P fs (All-tail P f.back (backs fs) h)) (All-cons P f.back [] (All-head P f.back (backs fs) h) (λ k d less. absurd (omega arith)))
+
+-- an alternative of a decision is one of its targets
+pub first_of : (net : Network) (d i t : ℕ) (targets : List ℕ) → state_at net d ≡ Some (Decision targets) → IsFirst net d i t → (i - 1 < length targets) × (get_or targets (i - 1) 0 ≡ t) × (1 ≤ i)
+first_of net d i t targets at_d (us, k, at_u, has, is) =
+    let same : us ≡ targets = cc in
+    let got : slice_get targets k ≡ Some t = subst (λ (xs : List ℕ). slice_get xs k ≡ Some t) same has in
+    let place : i - 1 ≡ k = omega arith in
+    let within = slice_get_within targets k t got in
+    (omega arith, ap (λ (n : ℕ). get_or targets n 0) place ∙ get_or_from_slice_get targets k t 0 got, omega arith)
+
+-- a target of a decision is a state
+pub state_within : (net : Network) (d : ℕ) (targets : List ℕ) (k : ℕ) → WellFormed net → state_at net d ≡ Some (Decision targets) → k < length targets → get_or targets k 0 < length net.states
+state_within net d targets k well at_d less = well.targets d (get_or targets k 0) (Decision targets) at_d (Contains-get_or targets k 0 less)
+
+-- where prediction finds no alternative the run stops
+pub decides_fault : (net : Network) (word : List ℕ) (r : Run) (p : Parser) (targets : List ℕ) (fault : DecideFault) → StandsFor p r → IsDecideFault net p.state (reverse p.returns.items) (drop p.place word) p.place fault → IsFaultBy net word (Some (Decision targets)) r (of_decide fault)
+decides_fault net word r p targets (deciding.NoViable at) h (k, says, is) =
+    let stack : reverse p.returns.items ≡ backs r.frames = ap reverse h.returns ∙ reverse_returns r.frames in
+    let said : Chooses net r.state (backs r.frames) (drop r.place word) (no_viable k) = rw (← h.state, ← h.place, ← stack) says in
+    (k, said (here_of net no_predicates word r), ap not_viable (is ∙ ap (λ (n : ℕ). n + k) h.place))
+decides_fault net word r p targets deciding.NoMemory h is = tt
+
+-- a turn that answers with this fault
+pub fails_with : (net : Network) (word : List ℕ) (o : Option State) (r : Run) (q : Parser) (fault : ParseFault) (x : Result ⊤ ParseFault) → IsErrAnd x (λ e. e ≡ fault) → IsFaultBy net word o r fault → IsTurnBy net word o r q x
+fails_with net word o r q fault (Ok done) is h = absurd is
+fails_with net word o r q fault (Err e) is h = subst (IsFaultBy net word o r) (sym is) h
+
+-- the parser at another state stands for the moment at that state
+pub moved_to : (p : Parser) (r s : Run) (t : ℕ) → r ≡ s → StandsFor p r → StandsFor (record p { state = t }) (record s { state = t })
+moved_to p r s t same h =
+    let k : StandsFor p s = subst (StandsFor p) same h in
+    record { state = refl; place = k.place; returns = k.returns; enters = k.enters; items = k.items }

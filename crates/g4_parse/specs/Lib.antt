@@ -1,5 +1,5 @@
+pub mod Deciding
 pub mod Running
 pub mod Parsing
 pub mod TreeText
-pub mod Viable
 pub mod Standing

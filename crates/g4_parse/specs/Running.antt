@@ -87,6 +87,10 @@ abbrev pub with_alt : ℕ → List Frame → List Frame
 with_alt i [] = []
 with_alt i (f ∷ fs) = record f { alt = cond (i == 0) f.alt i } ∷ fs
 
+-- the run whose newest node has this alternative, where one begins
+abbrev pub with_begun : ℕ → Run → Run
+with_begun i r = record r { frames = with_alt i r.frames }
+
 -- a level edge makes the node so far the first child of a new node of the same rule, which begins where that child does
 abbrev pub wrapped : ℕ → List Frame → List Frame
 wrapped i [] = []

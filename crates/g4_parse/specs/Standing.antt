@@ -1,33 +1,42 @@
 -- Which moment of the run the parser stands for, and what one turn of it does.
-use Rattle.std.specs.Prelude.{◌≡◌, ◌<◌, ◌^◌, ℕ, List, [], ◌∷◌, ◌++◌, Option, Some, None, Result, Ok, Err, ⊤, length}
+use Rattle.std.specs.Prelude.{◌≡◌, ◌<◌, ◌^◌, ℕ, List, [], ◌∷◌, ◌++◌, Option, Some, None, Result, Ok, Err, ⊤, length, map, All}
 use Rattle.g4_net.specs.declared.network.Network.{Network}
 use Rattle.g4_net.specs.declared.network.State.{State}
 use Rattle.g4_net.specs.declared.network.State.TheVariants.{Decision, End, Token, Call, Predicate, Level, Action, Empty}
 use Rattle.g4_net.specs.Network.{state_at, start_of}
-use Rattle.g4_net.specs.Chain.{HasAddedRule}
+use Rattle.g4_net.specs.AddedRule.{IsRunnable, StandsApart}
 use Rattle.g4_parse.specs.declared.tree.Item.{Item}
 use Rattle.g4_parse.specs.declared.tree.Item.TheVariants as items
 use Rattle.g4_parse.specs.declared.parser.ParseFault.{ParseFault}
 use Rattle.g4_parse.specs.declared.parser.ParseFault.TheVariants.{NoViable, Mismatch, TooDeep, NoMemory}
-use Rattle.g4_parse.specs.declared.parser.Open.{Open}
 use Rattle.g4_parse.specs.declared.parser.Parser.{Parser}
 use Rattle.g4_parse.specs.Running.{Frame, Run, not_viable, mismatch, too_deep, no_predicates, GoesBy, StopsBy}
 
--- the open rules, newest last
-abbrev pub opened : List Frame → List Open
-opened [] = []
-opened (f ∷ fs) = opened fs ++ record { back = f.back } ∷ []
+-- the return states of the open rules, newest first
+abbrev pub backs : List Frame → List ℕ
+backs frames = map (λ f. f.back) frames
+
+-- the return states of the open rules, newest last
+abbrev pub returns_of : List Frame → List ℕ
+returns_of [] = []
+returns_of (f ∷ fs) = returns_of fs ++ f.back ∷ []
 
 -- the tree so far and then the open rules' nodes so far, as one flat list
 abbrev pub flat : List Frame → List Item → List Item
 flat [] tree = tree
 flat (f ∷ fs) tree = flat fs tree ++ (items.Enter f.rule f.alt f.at ∷ f.children)
 
+-- where the nodes of the open rules begin in that list, newest last
+abbrev pub enters_of : List Frame → List Item → List ℕ
+enters_of [] tree = []
+enters_of (f ∷ fs) tree = enters_of fs tree ++ length (flat fs tree) ∷ []
+
 -- the parser stands for this moment
 pub record StandsFor (p : Parser) (r : Run) : Type 0 where
   pub state : p.state ≡ r.state
   pub place : p.place ≡ r.place
-  pub rules : p.open_rules.items ≡ opened r.frames
+  pub returns : p.returns.items ≡ returns_of r.frames
+  pub enters : p.enters.items ≡ enters_of r.frames r.tree
   pub items : p.items.items ≡ flat r.frames r.tree
 
 -- the run stops at this moment with the fault, unless memory ran out
@@ -42,11 +51,20 @@ abbrev pub IsTurnBy : Network → List ℕ → Option State → Run → Parser �
 IsTurnBy net word state r p (Ok done) = (s : Run) × GoesBy net no_predicates word state r s × StandsFor p s
 IsTurnBy net word state r p (Err fault) = IsFaultBy net word state r fault
 
--- What holds of a run over a chain at each state, the token list having n tokens: a call's start is a state, a token or
--- a decision has a token left, the decision is the added rule's, and only the added rule ends with no rule open.
+-- what prediction asks at a decision, the token list having n tokens
+pub record IsDecisionFit (net : Network) (n : ℕ) (r : Run) : Type 0 where
+  pub rule : ℕ
+  pub loop : ℕ
+  pub runnable : IsRunnable net rule loop
+  pub apart : StandsApart loop r.state (backs r.frames)
+  pub within : All (λ t. t < length net.states) (backs r.frames)
+  pub more : r.place < n
+
+-- What holds of a run at each state, the token list having n tokens: a call's start is a state, a token or a decision has
+-- a token left, and only the added rule ends with no rule open.
 abbrev pub IsFitBy : Network → ℕ → Option State → Run → Type 0
 IsFitBy net n None r = ⊥
-IsFitBy net n (Some (Decision targets)) r = (rule : ℕ) × HasAddedRule net rule r.state × (r.frames ≡ []) × (r.place < n)
+IsFitBy net n (Some (Decision targets)) r = IsDecisionFit net n r
 IsFitBy net n (Some (End rule)) r = r.frames ≡ [] → rule ≡ 0
 IsFitBy net n (Some (Token set t)) r = r.place < n
 IsFitBy net n (Some (Call rule level back)) r = (start_of rule < length net.written) × (start_of rule < 2 ^ 32)
@@ -55,10 +73,14 @@ IsFitBy net n (Some (Level q t)) r = ⊥
 IsFitBy net n (Some (Action t)) r = ⊥
 IsFitBy net n (Some (Empty t)) r = Unit {0}
 
--- the parser stands for a moment of a run over a chain
+-- the parser stands for a moment of a run
 abbrev pub IsUnderway : Network → ℕ → Parser → Type 0
 IsUnderway net n p = (r : Run) × StandsFor p r × IsFitBy net n (state_at net r.state) r
 
+-- the parser stands for a moment at a decision
+abbrev pub IsDeciding : Network → ℕ → Parser → Type 0
+IsDeciding net n p = (r : Run) × StandsFor p r × IsDecisionFit net n r
+
 -- the parser stands at the end of a rule with no rule open
 abbrev pub HasEnded : Network → Parser → Type 0
-HasEnded net p = (p.open_rules.items ≡ []) × ((rule : ℕ) × (state_at net p.state ≡ Some (End rule)))
+HasEnded net p = (p.returns.items ≡ []) × ((rule : ℕ) × (state_at net p.state ≡ Some (End rule)))

@@ -3,7 +3,6 @@
 
 mod law;
 mod parser;
-mod predict;
 mod printer;
 mod state;
 mod tree;

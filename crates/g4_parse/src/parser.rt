@@ -1,18 +1,20 @@
 // The parse run.
-ghost use Rattle.std.specs.Prelude.{◌≡◌, ◌<◌, ◌*◌, ◌^◌, ◌↔◌, ℕ, List, [], Some, IsTrue, OnOk, length};
-ghost use Rattle.g4_net.specs.Chain.{HasAddedRule, IsChain};
+ghost use Rattle.std.specs.Prelude.{◌≡◌, ◌<◌, ◌*◌, ◌^◌, ◌++◌, ◌∷◌, ◌↔◌, ℕ, List, Some, IsTrue, OnOk, length};
+ghost use Rattle.g4_net.specs.AddedRule.{IsReady};
 ghost use Rattle.g4_net.specs.declared.network.Network.{Network as Net};
 ghost use Rattle.g4_net.specs.declared.network.State.TheVariants.{Call, Decision, End, Token as Taking};
 ghost use Rattle.g4_net.specs.Network.{state_at};
 ghost use Rattle.g4_net.specs.TokenList.{word_of, EndsInEnd};
+ghost use Rattle.g4_parse.specs.declared.tree.Item.{Item as Node};
+ghost use Rattle.g4_parse.specs.declared.tree.Item.TheVariants.{Enter};
 ghost use Rattle.g4_parse.specs.Parsing.{IsParse};
-ghost use Rattle.g4_parse.specs.Running.{Run, beginning, with_token};
-ghost use Rattle.g4_parse.specs.Standing.{StandsFor, IsTurnBy, IsUnderway, HasEnded};
+ghost use Rattle.g4_parse.specs.Running.{Run, beginning, with_begun, with_token};
+ghost use Rattle.g4_parse.specs.Standing.{StandsFor, IsTurnBy, IsDeciding, IsUnderway, HasEnded};
 
-use crate::predict::predict;
-use crate::state::{is_in_set, state_of};
+use crate::state::{begun, is_in_set, state_of};
 use crate::{Item, Tree};
 use g4_net::{Network, State, Token};
+use g4_predict::{DecideFault, decide};
 use std::alloc::{AllocError, AllocFailed, Global};
 
 /// Why a token list has no tree.
@@ -49,21 +51,31 @@ impl<T: Drop> From<AllocFailed<T>> for ParseFault {
     }
 }
 
+impl From<DecideFault> for ParseFault {
+    ghost use Rattle.std.specs.Prelude.{◌≡◌};
+    ghost use Rattle.g4_parse.specs.Deciding.{of_decide};
+
+    ghost from_gives = { λ d e. e ≡ of_decide d };
+
+    fn from(fault: DecideFault) -> Self {
+        match fault {
+            DecideFault::NoViable { at } => ParseFault::NoViable { at },
+            DecideFault::NoMemory => ParseFault::NoMemory,
+        }
+    }
+}
+
 /// The most rules that may be open.
 const DEEPEST: usize = 10_000;
 
-/// An open rule: the state to which it returns.
-#[derive(Clone, Copy)]
-struct Open {
-    back: u32,
-}
-
-/// A moment of the run: where it stands, the open rules, newest last, and the tree so far.
+/// A moment of the run: where it stands, the return states of the open rules and where their nodes begin among the items,
+/// newest last, and the tree so far.
 #[derive(Drop)]
 struct Parser {
     state: u32,
     place: u32,
-    open_rules: Vec<Open>,
+    returns: Vec<u32>,
+    enters: Vec<usize>,
     items: Vec<Item>,
 }
 
@@ -75,7 +87,8 @@ impl Parser {
         Parser {
             state: 0,
             place: 0,
-            open_rules: Vec::new(alloc),
+            returns: Vec::new(alloc),
+            enters: Vec::new(alloc),
             items: Vec::new(alloc),
         }
     }
@@ -85,7 +98,7 @@ impl Parser {
         requires { self.now.state < length net.now.states }
         ensures { IsTrue result ↔ HasEnded net.now self.now }
     {
-        self.open_rules.is_empty() && matches!(state_of(net, self.state), State::End(_))
+        self.returns.is_empty() && matches!(state_of(net, self.state), State::End(_))
     }
 
     /// Opens a rule.
@@ -94,12 +107,13 @@ impl Parser {
         requires fits { 2 * rule < 2 ^ 32 }
         ensures { (word : List ℕ) (level : ℕ) (r : Run) → StandsFor self.old r → IsTurnBy net.now word (Some (Call rule level back)) r self.new result }
     {
-        if self.open_rules.len() >= DEEPEST {
+        if self.returns.len() >= DEEPEST {
             return Err(ParseFault::TooDeep { at: self.place });
         }
         let start = 2 * rule;
         let alt = net.written.as_slice()[start as usize];
-        self.open_rules.push(Open { back })?;
+        self.returns.push(back)?;
+        self.enters.push(self.items.len())?;
         self.items.push(Item::Enter {
             rule,
             alt,
@@ -114,7 +128,7 @@ impl Parser {
         ensures place { self.new.place ≡ self.old.place }
         ensures kept { OnOk result ((r : Run) → StandsFor self.old r → StandsFor self.new (with_token r r.frames)) }
     {
-        if !self.open_rules.is_empty() {
+        if !self.returns.is_empty() {
             self.items.push(Item::Token(self.place))?;
         }
         Ok(())
@@ -139,47 +153,83 @@ impl Parser {
         Ok(())
     }
 
-    /// Goes to the alternative that prediction says, at the added rule's decision.
-    fn choose(&mut self, net: &Network, targets: &[u32], tokens: &[Token]) -> Result<(), ParseFault>
-        requires added { (rule : ℕ) × HasAddedRule net.now rule self.old.state }
+    /// Gives the node at the place among the items another alternative.
+    fn set_alternative(&mut self, enter: usize, alternative: u32)
+        ensures others { self.new ≡ record self.old { items = self.new.items } }
+        ensures items { (before after : List Node) (rule alt at : ℕ) → self.old.items.items ≡ before ++ Enter rule alt at ∷ after → enter ≡ length before → self.new.items.items ≡ before ++ Enter rule alternative at ∷ after }
+    {
+        if enter < self.items.len() {
+            if let Item::Enter { rule, at, .. } = self.items[enter] {
+                self.items[enter] = Item::Enter {
+                    rule,
+                    alt: alternative,
+                    at,
+                };
+            }
+        }
+    }
+
+    /// Writes the alternative of the newest open rule's node, where one as the grammar writes it begins.
+    fn begin_alternative(&mut self, alternative: u32)
+        ensures { (r : Run) → StandsFor self.old r → StandsFor self.new (with_begun alternative r) }
+    {
+        if alternative == 0 {
+            return;
+        }
+        if let Some(enter) = self.enters.last() {
+            let enter = *enter;
+            self.set_alternative(enter, alternative);
+        }
+    }
+
+    /// Goes to the alternative that prediction says.
+    fn choose(
+        &mut self,
+        alloc: Global,
+        net: &Network,
+        targets: &[u32],
+        tokens: &[Token],
+    ) -> Result<(), ParseFault>
+        requires deciding { IsDeciding net.now (length tokens.now) self.old }
         requires decides { state_at net.now self.old.state ≡ Some (Decision targets.now) }
-        requires none_open { self.old.open_rules.items ≡ [] }
-        requires more { self.old.place < length tokens.now }
+        requires ends { EndsInEnd (word_of tokens.now) }
+        requires few { length tokens.now < 2 ^ 32 }
         ensures { (r : Run) → StandsFor self.old r → IsTurnBy net.now (word_of tokens.now) (Some (Decision targets.now)) r self.new result }
     {
-        match predict(net, self.state, targets, tokens, self.place) {
-            Some(alternative) => {
-                self.state = targets[alternative];
-                Ok(())
-            }
-            None => Err(ParseFault::NoViable { at: self.place }),
-        }
+        let returns = self.returns.as_slice();
+        let alternative = decide(alloc, net, self.state, returns, tokens, self.place)?;
+        let target = targets[alternative as usize - 1];
+        self.begin_alternative(begun(net, target));
+        self.state = target;
+        Ok(())
     }
 
     /// Closes the newest open rule.
     fn close(&mut self) -> Result<(), ParseFault>
-        requires { 0 < length self.old.open_rules.items }
+        requires { 0 < length self.old.returns.items }
         ensures { (net : Net) (word : List ℕ) (rule : ℕ) (r : Run) → StandsFor self.old r → IsTurnBy net word (Some (End rule)) r self.new result }
     {
-        let Some(open) = self.open_rules.pop() else {
+        let Some(back) = self.returns.pop() else {
             unreachable!()
         };
+        self.enters.pop();
         self.items.push(Item::Exit)?;
-        self.state = open.back;
+        self.state = back;
         Ok(())
     }
 
     /// One step of the run.
-    fn turn(&mut self, net: &Network, tokens: &[Token]) -> Result<(), ParseFault>
+    fn turn(&mut self, alloc: Global, net: &Network, tokens: &[Token]) -> Result<(), ParseFault>
         requires underway { IsUnderway net.now (length tokens.now) self.old }
         requires goes_on { HasEnded net.now self.old → ⊥ }
+        requires ends { EndsInEnd (word_of tokens.now) }
         requires few { length tokens.now < 2 ^ 32 }
         ensures { (r : Run) → StandsFor self.old r → IsTurnBy net.now (word_of tokens.now) (state_at net.now r.state) r self.new result }
     {
         match state_of(net, self.state) {
             State::Call { rule, back, .. } => self.call(net, *rule, *back),
             State::Token(set, target) => self.take(set.as_slice(), *target, tokens),
-            State::Decision(targets) => self.choose(net, targets.as_slice(), tokens),
+            State::Decision(targets) => self.choose(alloc, net, targets.as_slice(), tokens),
             State::End(_) => self.close(),
             State::Empty(target) => {
                 self.state = *target;
@@ -194,14 +244,14 @@ impl Parser {
 
 /// The tree of a token list, or the fault at which the run ends.
 pub fn parse(alloc: Global, net: &Network, tokens: &[Token]) -> Result<Tree, ParseFault>
-    requires chain { (rule : ℕ) × (loop : ℕ) × IsChain net.now rule loop }
+    requires ready { IsReady net.now }
     requires ends { EndsInEnd (word_of tokens.now) }
     requires few { length tokens.now < 2 ^ 32 }
     ensures { IsParse net.now (word_of tokens.now) result }
 {
     let mut parser = Parser::new(alloc);
-    while !parser.has_ended(net) {
-        parser.turn(net, tokens)?;
+    'run: while !parser.has_ended(net) {
+        parser.turn(alloc, net, tokens)?;
     }
     Ok(Tree::new(parser.items))
 }

@@ -1,5 +1,5 @@
 // The alternative that prediction says at a decision.
-ghost use Rattle.std.specs.Prelude.{◌≡◌, ◌<◌, ◌≤◌, ◌^◌, ℕ, List, Some, All, length, drop};
+ghost use Rattle.std.specs.Prelude.{◌≡◌, ◌<◌, ◌≤◌, ◌^◌, ℕ, List, Some, All, length, drop, reverse};
 ghost use Rattle.g4_net.specs.AddedRule.{IsRunnable, StandsApart};
 ghost use Rattle.g4_net.specs.declared.network.State.TheVariants.{Decision};
 ghost use Rattle.g4_net.specs.Network.{state_at};
@@ -29,7 +29,7 @@ impl From<AllocError> for DecideFault {
 }
 
 /// The alternative, counted from 1, that prediction says at a decision, with the return states of the parser's stack, newest
-/// first, on the tokens from a place on.
+/// last, on the tokens from a place on.
 pub fn decide(
     alloc: Global,
     net: &Network,
@@ -38,14 +38,19 @@ pub fn decide(
     tokens: &[Token],
     from: u32,
 ) -> Result<u32, DecideFault>
-    requires runnable { (rule : ℕ) × (loop : ℕ) × IsRunnable net.now rule loop × StandsApart loop decision returns.now }
+    requires runnable { (rule : ℕ) × (loop : ℕ) × IsRunnable net.now rule loop × StandsApart loop decision (reverse returns.now) }
     requires within { All (λ t. t < length net.now.states) returns.now }
     requires decides { (targets : List ℕ) × (state_at net.now decision ≡ Some (Decision targets)) }
     requires ends { EndsInEnd (word_of tokens.now) }
     requires more { from < length tokens.now }
     requires few { length tokens.now < 2 ^ 32 }
-    ensures { IsDecided net.now decision returns.now (drop from (word_of tokens.now)) from result }
+    ensures { IsDecided net.now decision (reverse returns.now) (drop from (word_of tokens.now)) from result }
 {
-    let _ = (alloc, net, decision, returns, tokens, from);
+    let _ = alloc;
+    let _ = net;
+    let _ = decision;
+    let _ = returns;
+    let _ = tokens;
+    let _ = from;
     Err(DecideFault::NoMemory)
 }

@@ -6,23 +6,23 @@ use Rattle.g4_parse.specs.Parsing.{Ends}
 use Rattle.g4_parse.proofs.Onward.{begun_onward, state_within, underway, turn_onward, turn_falls, turn_fails, parse_fails, ended_onward}
 use Rattle.g4_parse.proofs.parser.parse.Goals as goal
 
-pub loop-parser-init : goal.loop-parser-init
-loop-parser-init c = begun_onward c.args.net.now c.requires.chain.0 c.requires.chain.1 (word_of c.args.tokens.now) c.new-parser.result c.requires.chain.2 c.requires.ends c.new-parser.ensures
+pub run-init : goal.run-init
+run-init c = begun_onward c.args.net.now c.requires.ready.0 c.requires.ready.1 (word_of c.args.tokens.now) c.new-parser.result c.requires.ready.2 c.requires.ends c.new-parser.ensures
 
 pub has_ended-requires : goal.has_ended-requires
-has_ended-requires c = state_within c.args.net.now (word_of c.args.tokens.now) c.loop-parser.parser c.loop-parser.invariant
+has_ended-requires c = state_within c.args.net.now (word_of c.args.tokens.now) c.run.parser c.run.invariant
 
 pub turn-requires-clause-underway : goal.turn-requires-clause-underway
-turn-requires-clause-underway c = underway c.args.net.now c.args.tokens.now c.loop-parser.parser c.loop-parser.invariant
+turn-requires-clause-underway c = underway c.args.net.now c.args.tokens.now c.run.parser c.run.invariant
 
-pub loop-parser-smaller : goal.loop-parser-smaller
-loop-parser-smaller c = turn_falls c.args.net.now c.args.tokens.now c.loop-parser.parser c.turn.new.self c.loop-parser.invariant c.in_ok-turn.ensures
+pub run-smaller : goal.run-smaller
+run-smaller c = turn_falls c.args.net.now c.args.tokens.now c.run.parser c.turn.new.self c.run.invariant c.in_ok-turn.ensures
 
-pub loop-parser-preserved : goal.loop-parser-preserved
-loop-parser-preserved c = turn_onward c.args.net.now (word_of c.args.tokens.now) c.loop-parser.parser c.turn.new.self c.loop-parser.invariant c.in_ok-turn.ensures
+pub run-preserved : goal.run-preserved
+run-preserved c = turn_onward c.args.net.now (word_of c.args.tokens.now) c.run.parser c.turn.new.self c.run.invariant c.in_ok-turn.ensures
 
 pub returns-in_err-turn : goal.returns-in_err-turn
-returns-in_err-turn c = parse_fails c.args.net.now (word_of c.args.tokens.now) c.from_residual.result c.in_err-turn.field-0.0 c.from_residual.ensures.1 (turn_fails c.args.net.now (word_of c.args.tokens.now) c.loop-parser.parser c.turn.new.self c.in_err-turn.field-0.0 c.loop-parser.invariant c.in_err-turn.ensures)
+returns-in_err-turn c = parse_fails c.args.net.now (word_of c.args.tokens.now) c.from_residual.result c.in_err-turn.field-0.0 c.from_residual.ensures.1 (turn_fails c.args.net.now (word_of c.args.tokens.now) c.run.parser c.turn.new.self c.in_err-turn.field-0.0 c.run.invariant c.in_err-turn.ensures)
 
 pub returns : goal.returns
-returns c = subst (λ (t : List Item). Ends c.args.net.now (word_of c.args.tokens.now) (parsed t)) (sym c.new.ensures) (ended_onward c.args.net.now (word_of c.args.tokens.now) c.loop-parser.parser c.loop-parser.invariant (c.loop-parser-test.ensures.0 refl))
+returns c = subst (λ (t : List Item). Ends c.args.net.now (word_of c.args.tokens.now) (parsed t)) (sym c.new.ensures) (ended_onward c.args.net.now (word_of c.args.tokens.now) c.run.parser c.run.invariant (c.run-test.ensures.0 refl))

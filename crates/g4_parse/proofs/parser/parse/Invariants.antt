@@ -1,11 +1,11 @@
-use Rattle.std.proofs.Common.{length}
+use Rattle.std.proofs.Common.{length, reverse}
 use Rattle.g4_net.specs.TokenList.{word_of}
-use Rattle.g4_parse.proofs.Stages.{measure_at}
+use Rattle.g4_parse.proofs.Measure.{measure_at}
 use Rattle.g4_parse.proofs.Onward.{Onward}
 use Rattle.g4_parse.proofs.parser.parse.Given as goal
 
-abbrev pub invariant-loop-parser : goal.invariant-loop-parser
-invariant-loop-parser l = Onward l.net (word_of l.tokens) l.parser
+abbrev pub invariant-run : goal.invariant-run
+invariant-run l = Onward l.net (word_of l.tokens) l.parser
 
-abbrev pub decreases-loop-parser : goal.decreases-loop-parser
-decreases-loop-parser l = measure_at l.net (length l.tokens) l.parser.place l.parser.state
+abbrev pub decreases-run : goal.decreases-run
+decreases-run l = measure_at l.net (length l.tokens) l.parser.place l.parser.state (reverse l.parser.returns.items)

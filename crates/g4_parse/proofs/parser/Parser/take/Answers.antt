@@ -27,7 +27,8 @@ returns c = λ net r h.
       record {
         state = refl;
         place = cc (h.place, c.in_ok-keep.ensures.place);
-        rules = kept.rules;
+        returns = kept.returns;
+        enters = kept.enters;
         items = kept.items;
       },
     )

@@ -19,4 +19,4 @@ returns-in-Token c = λ r h. turned c.args.net.now (word_of c.args.tokens.now) r
 pub returns-in-Empty : goal.returns-in-Empty
 returns-in-Empty c = λ r h.
     let after : Run = record { state = c.in-Empty.target; place = r.place; frames = r.frames; tree = r.tree } in
-    turned c.args.net.now (word_of c.args.tokens.now) r c.args.self.now _ (Empty c.in-Empty.target) (Ok tt) h (c.state_of.ensures ∙ ap (λ (s : State). Some s) c.in-Empty.is) (after, refl, record { state = refl; place = h.place; rules = h.rules; items = h.items })
+    turned c.args.net.now (word_of c.args.tokens.now) r c.args.self.now _ (Empty c.in-Empty.target) (Ok tt) h (c.state_of.ensures ∙ ap (λ (s : State). Some s) c.in-Empty.is) (after, refl, record { state = refl; place = h.place; returns = h.returns; enters = h.enters; items = h.items })
