@@ -1,23 +1,27 @@
 -- A grammar text is read to its end.
 use Rattle.std.proofs.Common.{◌≡◌, ℕ, List, [], ◌∷◌, ◌++◌, Bool, true, false, ◌&&◌, ◌||◌, ◌⊎◌, inl, inr, refl, sym, ◌∙◌, ap, subst, append_assoc, Option, Some, None, codes, bytes_eq}
-use Rattle.std.specs.Prelude.{if◌then◌else◌}
+use Rattle.std.proofs.Math.Bool.{and-false}
 use Rattle.std.proofs.lemmas.List.{append-nil}
 use Rattle.std.proofs.lemmas.Slice.Eq.{bytes_eq-Decides}
 use Rattle.g4_tokens.specs.declared.token.Kind.{Kind}
 use Rattle.g4_tokens.specs.declared.token.Kind.TheVariants as kinds
 use Rattle.g4_grammar.specs.declared.source.Source.{Source}
 use Rattle.g4_grammar.specs.declared.source.Rule.{Rule}
-use Rattle.g4_grammar.specs.declared.source.Rule.TheVariants.{Parser, Lexer}
+use Rattle.g4_grammar.specs.declared.source.Rule.TheVariants as rules
 use Rattle.g4_grammar.specs.declared.source.ParserRule.{ParserRule}
 use Rattle.g4_grammar.specs.declared.source.LexerRule.{LexerRule}
-use Rattle.g4_grammar.specs.declared.source.Element.{Element}
-use Rattle.g4_grammar.specs.declared.source.Element.TheVariants as elements
-use Rattle.g4_grammar.specs.declared.source.LexElement.{LexElement}
+use Rattle.g4_grammar.specs.declared.source.LexerAlternative.{LexerAlternative}
 use Rattle.g4_grammar.specs.declared.source.Atom.{Atom}
 use Rattle.g4_grammar.specs.declared.source.Atom.TheVariants as atoms
-use Rattle.g4_reader.specs.GrammarText.{Spelled, bytes_of, IsWord, AreInOrder, IsElement, IsParserRule, IsAtom, IsRepeat, IsLexElement, IsCommand, IsLexerRule, IsRule, IsGrammarText, Begins}
-use Rattle.g4_reader.specs.Stages.{Stage, at_grammar, at_name, at_name_end, at_rule, at_parser_colon, at_element, at_lexer_colon, at_atom, at_plus, at_skip, at_lexer_end, next, next_at_rule, next_at_atom, next_at_element, if_so, is_colon, is_semicolon, is_plus, is_lower, is_upper, is_word, with_atom, with_rule, behind_lexer_rule, element_of, atom_of}
-use Rattle.g4_reader.proofs.Holding.{after}
+use Rattle.g4_grammar.specs.declared.element.Repeat.{Repeat}
+use Rattle.g4_grammar.specs.declared.element.Repeat.TheVariants.{Once, Star, Plus}
+use Rattle.g4_grammar.specs.Elements.{Element, Elements, empty, then, Alternatives, none, or, either}
+use Rattle.g4_grammar.specs.Trees.{in_order}
+use Rattle.g4_reader.specs.GrammarText.{Spelled, bytes_of, IsWord, IsParserAtom, IsLexerAtom, IsSuffix, AreInOrder, IsElement, an_atom, a_repeated_atom, a_block, AreElements, no_element, one_element_more, AreAlternatives, the_last, one_before, IsParserRule, IsCommand, IsLexerAlternative, AreLexerAlternatives, IsLexerRule, IsRule, IsGrammarText, Begins}
+use Rattle.g4_reader.specs.Stages.{Around, in_parser_rule, in_lexer_rule, in_brackets, Operand, lone, bracketed, Stage, at_grammar, at_name, at_name_end, at_rule, at_colon, at_element, at_sign, at_skip, at_bar, next, next_at_rule, next_at_element, next_at_bar, next_at_sign, if_so, is_colon, is_semicolon, is_lower, is_upper, is_word, repeat_of, as_often, with_rule, with_alternative, atom_of}
+use Rattle.g4_reader.specs.declared.atom.RuleKind.{RuleKind}
+use Rattle.g4_reader.specs.declared.atom.RuleKind.TheVariants.{Parser, Lexer}
+use Rattle.g4_reader.proofs.Holding.{after, IsAtom}
 
 -- a token that may come leads on
 pub after-next : (stage : Stage) (t : Spelled) (ts : List Spelled) (later : Stage) → next stage t ≡ Some later → after stage (t ∷ ts) ≡ after later ts
@@ -27,142 +31,273 @@ after-next stage t ts later e = ap (λ (o : Option Stage). elim o [ None ↦ Non
 pub after-stuck : (stage : Stage) (t : Spelled) (ts : List Spelled) → next stage t ≡ None → after stage (t ∷ ts) ≡ None
 after-stuck stage t ts e = ap (λ (o : Option Stage). elim o [ None ↦ None | Some between ↦ after between ts ]) e
 
--- a literal or a set is no `+`
-atom_no_plus : (kind : Kind) (token : Spelled) (atom : Atom) → token.kind ≡ kind → IsAtom token atom → is_plus kind ≡ false
-atom_no_plus kinds.Plus token (atoms.Literal literal) k is = absurd (cc (k, is.0))
-atom_no_plus kinds.Plus token (atoms.Set ranges) k is = absurd (cc (k, is))
-atom_no_plus _ token atom k is = refl
-
 -- the word passes its test
 word_passes : (spelling : List ℕ) (t : Spelled) → IsWord spelling t → is_word spelling t ≡ true
 word_passes spelling t (l, w) = ap (λ kind. is_lower kind && bytes_eq t.characters spelling) l ∙ (bytes_eq-Decides t.characters spelling).1 w
 
--- an element of a parser rule is read
-element_passes : (source : Source) (name : List ℕ) (es : List Element) (word rest : List Spelled) (e : Element) → IsElement word e → after (at_element source name es) (word ++ rest) ≡ after (at_element source name (es ++ e ∷ [])) rest
-element_passes source name es word rest (elements.Token written) (t, parts, k, is) =
-    subst (λ w. after (at_element source name es) (w ++ rest) ≡ after (at_element source name (es ++ elements.Token written ∷ [])) rest) (sym parts) (after-next (at_element source name es) t rest _ (there t.kind k))
-  where
-    there : (kind : Kind) → kind ≡ kinds.Upper → next_at_element source name es (element_of kind (bytes_of t)) kind ≡ Some (at_element source name (es ++ elements.Token written ∷ []))
-    there kind k = rw (k, is) refl
-element_passes source name es word rest (elements.Literal literal) (t, parts, (k, is)) =
-    subst (λ w. after (at_element source name es) (w ++ rest) ≡ after (at_element source name (es ++ elements.Literal literal ∷ [])) rest) (sym parts) (after-next (at_element source name es) t rest _ (there t.kind k))
-  where
-    there : (kind : Kind) → kind ≡ kinds.Literal literal.characters → next_at_element source name es (element_of kind (bytes_of t)) kind ≡ Some (at_element source name (es ++ elements.Literal literal ∷ []))
-    there kind k = rw (k, ← is) refl
+-- the elements of an alternative, in order
+abbrev pub listed : Elements Atom → List (Element Atom)
+listed empty = []
+listed (then x xs) = x ∷ listed xs
 
--- the elements of a parser rule are read
-elements_pass : (source : Source) (name : List ℕ) (es : List Element) (word rest : List Spelled) (more : List Element) → AreInOrder IsElement word more → after (at_element source name es) (word ++ rest) ≡ after (at_element source name (es ++ more)) rest
-elements_pass source name es word rest [] h = rw (h, append-nil) refl
-elements_pass source name es word rest (e ∷ more) (first, others, parts, is, are) =
-    rw (parts, append_assoc) (element_passes source name es first (others ++ rest) e is ∙ elements_pass source name (es ++ e ∷ []) others rest more are ∙ ap (λ l. after (at_element source name l) rest) (append_assoc es (e ∷ []) more))
+-- they are the elements of their list
+in_order-listed : (xs : Elements Atom) → in_order (listed xs) ≡ xs
+in_order-listed empty = refl
+in_order-listed (then x xs) = ap (λ (ys : Elements Atom). then x ys) (in_order-listed xs)
 
--- a parser rule is read
-parser_rule_passes : (source : Source) (word rest : List Spelled) (rule : ParserRule) → IsParserRule word rule → after (at_rule source) (word ++ rest) ≡ after (at_rule (with_rule source (Parser rule))) rest
-parser_rule_passes source word rest rule is =
-    let name = rule.name in
-    subst (λ w. after (at_rule source) (w ++ rest) ≡ after (at_rule (with_rule source (Parser rule))) rest) (sym is.parts)
-    (after-next (at_rule source) is.head (is.colon ∷ ((is.body ++ is.close ∷ []) ++ rest)) (at_parser_colon source name) (begins is.head.kind is.lower)
-    ∙ after-next (at_parser_colon source name) is.colon ((is.body ++ is.close ∷ []) ++ rest) (at_element source name []) (colon is.colon.kind is.colon_is)
-    ∙ ap (after (at_element source name [])) (append_assoc is.body (is.close ∷ []) rest)
-    ∙ elements_pass source name [] is.body (is.close ∷ rest) rule.elements is.elements_are
-    ∙ after-next (at_element source name rule.elements) is.close rest _ (close is.close.kind is.close_is))
-  where
-    begins : (kind : Kind) → kind ≡ kinds.Lower → next_at_rule source (bytes_of is.head) kind ≡ Some (at_parser_colon source rule.name)
-    begins kind k = rw (k, ← is.named) refl
+-- the alternatives of a block, in order
+abbrev pub sides : Alternatives Atom → List (Elements Atom)
+sides none = []
+sides (or x xs) = x ∷ sides xs
 
-    colon : (kind : Kind) → kind ≡ kinds.Colon → if_so (is_colon kind) (at_element source rule.name []) ≡ Some (at_element source rule.name [])
-    colon kind k = rw k refl
+-- they are the alternatives of their list
+either-sides : (xs : Alternatives Atom) → either (sides xs) ≡ xs
+either-sides none = refl
+either-sides (or x xs) = ap (λ (ys : Alternatives Atom). or x ys) (either-sides xs)
 
-    close : (kind : Kind) → kind ≡ kinds.Semicolon → next_at_element source rule.name rule.elements (element_of kind (bytes_of is.close)) kind ≡ Some (at_rule (with_rule source (Parser rule)))
-    close kind k = rw k refl
+-- and their list is that of which they are
+sides-either : (xs : List (Elements Atom)) → sides (either xs) ≡ xs
+sides-either [] = refl
+sides-either (x ∷ xs) = ap (λ (ys : List (Elements Atom)). x ∷ ys) (sides-either xs)
 
--- tokens that begin with no `+`
+-- tokens that begin with neither `*` nor `+`
 abbrev BeginsPlain : List Spelled → Type 0
 BeginsPlain [] = ⊥
-BeginsPlain (t ∷ ts) = is_plus t.kind ≡ false
+BeginsPlain (t ∷ ts) = repeat_of t.kind ≡ Once
 
--- a literal or a set is read
-atom_passes : (source : Source) (name : List ℕ) (es : List LexElement) (t : Spelled) (rest : List Spelled) (atom : Atom) → IsAtom t atom → after (at_atom source name es) (t ∷ rest) ≡ after (at_plus source name es atom) rest
-atom_passes source name es t rest (atoms.Literal literal) (k, is) = after-next (at_atom source name es) t rest _ (there t.kind k)
+-- a token that is an atom in a rule
+atom_of-is : (rule : RuleKind) (t : Spelled) (a : Atom) → IsAtom rule t a → atom_of rule t.kind (bytes_of t) ≡ Some a
+atom_of-is Parser t (atoms.Token name) (k, is) = there t.kind k
   where
-    there : (kind : Kind) → kind ≡ kinds.Literal literal.characters → next_at_atom source name es (atom_of kind (bytes_of t)) kind ≡ Some (at_plus source name es (atoms.Literal literal))
+    there : (kind : Kind) → kind ≡ kinds.Upper → atom_of Parser kind (bytes_of t) ≡ Some (atoms.Token name)
+    there kind k = rw (k, is) refl
+atom_of-is Parser t (atoms.Literal literal) (k, is) = there t.kind k
+  where
+    there : (kind : Kind) → kind ≡ kinds.Literal literal.characters → atom_of Parser kind (bytes_of t) ≡ Some (atoms.Literal literal)
     there kind k = rw (k, ← is) refl
-atom_passes source name es t rest (atoms.Set ranges) k = after-next (at_atom source name es) t rest _ (there t.kind k)
+atom_of-is Parser t (atoms.Set ranges) is = absurd is
+atom_of-is Lexer t (atoms.Token name) is = absurd is
+atom_of-is Lexer t (atoms.Literal literal) (k, is) = there t.kind k
   where
-    there : (kind : Kind) → kind ≡ kinds.Set ranges → next_at_atom source name es (atom_of kind (bytes_of t)) kind ≡ Some (at_plus source name es (atoms.Set ranges))
+    there : (kind : Kind) → kind ≡ kinds.Literal literal.characters → atom_of Lexer kind (bytes_of t) ≡ Some (atoms.Literal literal)
+    there kind k = rw (k, ← is) refl
+atom_of-is Lexer t (atoms.Set ranges) k = there t.kind k
+  where
+    there : (kind : Kind) → kind ≡ kinds.Set ranges → atom_of Lexer kind (bytes_of t) ≡ Some (atoms.Set ranges)
     there kind k = rw k refl
 
--- before anything but `+` an element stands once
-once_passes : (source : Source) (name : List ℕ) (es : List LexElement) (atom : Atom) (rest : List Spelled) → BeginsPlain rest → after (at_plus source name es atom) rest ≡ after (at_atom source name (with_atom es atom false)) rest
-once_passes source name es atom [] h = absurd h
-once_passes source name es atom (t ∷ ts) h = ap (λ (o : Option Stage). elim o [ None ↦ None | Some between ↦ after between ts ]) (there (is_plus t.kind) h)
-  where
-    there : (test : Bool) → test ≡ false → (if test then Some (at_atom source name (with_atom es atom true)) else next_at_atom source name (with_atom es atom false) (atom_of t.kind (bytes_of t)) t.kind) ≡ next_at_atom source name (with_atom es atom false) (atom_of t.kind (bytes_of t)) t.kind
-    there test e = rw e refl
+-- an atom is neither `*` nor `+`
+atom_plain : (rule : RuleKind) (t : Spelled) (a : Atom) → IsAtom rule t a → repeat_of t.kind ≡ Once
+atom_plain Parser t (atoms.Token name) (k, is) = ap repeat_of k
+atom_plain Parser t (atoms.Literal literal) (k, is) = ap repeat_of k
+atom_plain Parser t (atoms.Set ranges) is = absurd is
+atom_plain Lexer t (atoms.Token name) is = absurd is
+atom_plain Lexer t (atoms.Literal literal) (k, is) = ap repeat_of k
+atom_plain Lexer t (atoms.Set ranges) k = ap repeat_of k
 
--- an element of a lexer rule is read before anything but `+`
-lex_element_passes : (source : Source) (name : List ℕ) (es : List LexElement) (word rest : List Spelled) (e : LexElement) (repeated : Bool) → e.repeated ≡ repeated → BeginsPlain rest → (t : Spelled) (mark : List Spelled) → word ≡ t ∷ mark → IsAtom t e.atom → IsRepeat mark repeated → after (at_atom source name es) (word ++ rest) ≡ after (at_atom source name (with_atom es e.atom repeated)) rest
-lex_element_passes source name es word rest e false r plain t mark parts is none =
-    subst (λ w. after (at_atom source name es) (w ++ rest) ≡ after (at_atom source name (with_atom es e.atom false)) rest) (sym (parts ∙ ap (λ m. t ∷ m) none)) (atom_passes source name es t rest e.atom is ∙ once_passes source name es e.atom rest plain)
-lex_element_passes source name es word rest e true r plain t mark parts is (plus, one, k) =
-    subst (λ w. after (at_atom source name es) (w ++ rest) ≡ after (at_atom source name (with_atom es e.atom true)) rest) (sym (parts ∙ ap (λ m. t ∷ m) one)) (atom_passes source name es t (plus ∷ rest) e.atom is ∙ after-next (at_plus source name es e.atom) plus rest _ (there plus.kind k))
+-- elements begin with neither
+elements_plain : (rule : RuleKind) (Is : Spelled → Atom → Type 0) (atomic : (t : Spelled) (a : Atom) → Is t a → IsAtom rule t a) (word rest : List Spelled) (xs : Elements Atom) → AreElements Is word xs → BeginsPlain rest → BeginsPlain (word ++ rest)
+elements_plain rule Is atomic _ rest _ no_element plain = plain
+elements_plain rule Is atomic _ rest _ (one_element_more first others word x xs is are parts) plain = subst (λ w. BeginsPlain (w ++ rest)) (sym parts) (begins first x is)
   where
-    there : (kind : Kind) → kind ≡ kinds.Plus → (if is_plus kind then Some (at_atom source name (with_atom es e.atom true)) else next_at_atom source name (with_atom es e.atom false) (atom_of kind (bytes_of plus)) kind) ≡ Some (at_atom source name (with_atom es e.atom true))
+    begins : (first : List Spelled) (x : Element Atom) → IsElement Is first x → BeginsPlain ((first ++ others) ++ rest)
+    begins _ _ (an_atom token a is) = atom_plain rule token a (atomic token a is)
+    begins _ _ (a_repeated_atom token sign a repeat is sign_is) = atom_plain rule token a (atomic token a is)
+    begins _ _ (a_block left right body suffix word xs repeat left_is are right_is suffix_is parts) = subst (λ w. BeginsPlain ((w ++ others) ++ rest)) (sym parts) (ap repeat_of left_is)
+
+-- an atom is read
+atom_passes : (rule : RuleKind) (around : Around) (es : List (Element Atom)) (t : Spelled) (rest : List Spelled) (a : Atom) → IsAtom rule t a → after (at_element rule around es) (t ∷ rest) ≡ after (at_sign rule around es (lone a)) rest
+atom_passes rule around es t rest a is = after-next (at_element rule around es) t rest _ (ap (λ (o : Option Atom). next_at_element rule around es o t.kind) (atom_of-is rule t a is))
+
+-- where neither `*` nor `+` stands, the element before stands once
+once_passes : (rule : RuleKind) (around : Around) (es : List (Element Atom)) (operand : Operand) (rest : List Spelled) → BeginsPlain rest → after (at_sign rule around es operand) rest ≡ after (at_element rule around (es ++ as_often operand Once ∷ [])) rest
+once_passes rule around es operand [] h = absurd h
+once_passes rule around es operand (t ∷ ts) h = ap (λ (o : Option Stage). elim o [ None ↦ None | Some between ↦ after between ts ]) (ap (λ (repeat : Repeat). next_at_sign rule around es operand repeat t) h)
+
+-- `*`, `+` or nothing is read
+suffix_passes : (rule : RuleKind) (around : Around) (es : List (Element Atom)) (operand : Operand) (suffix rest : List Spelled) (repeat : Repeat) → IsSuffix suffix repeat → BeginsPlain rest → after (at_sign rule around es operand) (suffix ++ rest) ≡ after (at_element rule around (es ++ as_often operand repeat ∷ [])) rest
+suffix_passes rule around es operand suffix rest Once is plain = ap (λ w. after (at_sign rule around es operand) (w ++ rest)) is ∙ once_passes rule around es operand rest plain
+suffix_passes rule around es operand suffix rest Star (sign, one, k) plain =
+    ap (λ w. after (at_sign rule around es operand) (w ++ rest)) one ∙ after-next (at_sign rule around es operand) sign rest _ (ap (λ (kind : Kind). next_at_sign rule around es operand (repeat_of kind) sign) k)
+suffix_passes rule around es operand suffix rest Plus (sign, one, k) plain =
+    ap (λ w. after (at_sign rule around es operand) (w ++ rest)) one ∙ after-next (at_sign rule around es operand) sign rest _ (ap (λ (kind : Kind). next_at_sign rule around es operand (repeat_of kind) sign) k)
+
+-- `(` where an element may come
+left_at_element : (rule : RuleKind) (around : Around) (es : List (Element Atom)) (t : Spelled) (kind : Kind) → kind ≡ kinds.LeftParenthesis → next_at_element rule around es (atom_of rule kind (bytes_of t)) kind ≡ Some (at_element rule (in_brackets around es []) [])
+left_at_element Parser around es t kind k = rw k refl
+left_at_element Lexer around es t kind k = rw k refl
+
+-- `|` behind the elements of an alternative
+bar_at_element : (rule : RuleKind) (around : Around) (es : List (Element Atom)) (t : Spelled) (kind : Kind) → kind ≡ kinds.Bar → next_at_element rule around es (atom_of rule kind (bytes_of t)) kind ≡ Some (at_element rule (with_alternative around es false) [])
+bar_at_element Parser around es t kind k = rw (k, and-false) refl
+bar_at_element Lexer around es t kind k = rw (k, and-false) refl
+
+-- `)` behind the elements of the last alternative
+right_at_element : (rule : RuleKind) (around : Around) (outer : List (Element Atom)) (before : List (Elements Atom)) (es : List (Element Atom)) (t : Spelled) (kind : Kind) → kind ≡ kinds.RightParenthesis → next_at_element rule (in_brackets around outer before) es (atom_of rule kind (bytes_of t)) kind ≡ Some (at_sign rule around outer (bracketed (either (before ++ in_order es ∷ []))))
+right_at_element Parser around outer before es t kind k = rw k refl
+right_at_element Lexer around outer before es t kind k = rw k refl
+
+mutual
+  -- an element is read
+  element_passes : (rule : RuleKind) (Is : Spelled → Atom → Type 0) (atomic : (t : Spelled) (a : Atom) → Is t a → IsAtom rule t a) (around : Around) (es : List (Element Atom)) (word rest : List Spelled) (x : Element Atom) → IsElement Is word x → BeginsPlain rest → after (at_element rule around es) (word ++ rest) ≡ after (at_element rule around (es ++ x ∷ [])) rest
+  element_passes rule Is atomic around es _ rest _ (an_atom token a is) plain = atom_passes rule around es token rest a (atomic token a is) ∙ once_passes rule around es (lone a) rest plain
+  element_passes rule Is atomic around es _ rest _ (a_repeated_atom token sign a Once is sign_is) plain = absurd sign_is
+  element_passes rule Is atomic around es _ rest _ (a_repeated_atom token sign a Star is sign_is) plain =
+      atom_passes rule around es token (sign ∷ rest) a (atomic token a is) ∙ suffix_passes rule around es (lone a) (sign ∷ []) rest Star (sign, refl, sign_is) plain
+  element_passes rule Is atomic around es _ rest _ (a_repeated_atom token sign a Plus is sign_is) plain =
+      atom_passes rule around es token (sign ∷ rest) a (atomic token a is) ∙ suffix_passes rule around es (lone a) (sign ∷ []) rest Plus (sign, refl, sign_is) plain
+  element_passes rule Is atomic around es _ rest _ (a_block left right body suffix word xs repeat left_is are right_is suffix_is parts) plain =
+      ap (λ w. after (at_element rule around es) (w ++ rest)) parts
+      ∙ after-next (at_element rule around es) left ((body ++ right ∷ suffix) ++ rest) (at_element rule (in_brackets around es []) []) (left_at_element rule around es left left.kind left_is)
+      ∙ ap (after (at_element rule (in_brackets around es []) [])) (append_assoc body (right ∷ suffix) rest)
+      ∙ alternatives_pass rule Is atomic around es [] body (suffix ++ rest) xs right are right_is
+      ∙ ap (λ (ys : Alternatives Atom). after (at_sign rule around es (bracketed ys)) (suffix ++ rest)) (either-sides xs)
+      ∙ suffix_passes rule around es (bracketed xs) suffix rest repeat suffix_is plain
+
+  -- elements are read
+  elements_pass : (rule : RuleKind) (Is : Spelled → Atom → Type 0) (atomic : (t : Spelled) (a : Atom) → Is t a → IsAtom rule t a) (around : Around) (es : List (Element Atom)) (word rest : List Spelled) (xs : Elements Atom) → AreElements Is word xs → BeginsPlain rest → after (at_element rule around es) (word ++ rest) ≡ after (at_element rule around (es ++ listed xs)) rest
+  elements_pass rule Is atomic around es _ rest _ no_element plain = ap (λ (l : List (Element Atom)). after (at_element rule around l) rest) (sym (append-nil es))
+  elements_pass rule Is atomic around es _ rest _ (one_element_more first others word x xs is are parts) plain =
+      ap (λ w. after (at_element rule around es) w) (ap (λ w. w ++ rest) parts ∙ append_assoc first others rest)
+      ∙ element_passes rule Is atomic around es first (others ++ rest) x is (elements_plain rule Is atomic others rest xs are plain)
+      ∙ elements_pass rule Is atomic around (es ++ x ∷ []) others rest xs are plain
+      ∙ ap (λ (l : List (Element Atom)). after (at_element rule around l) rest) (append_assoc es (x ∷ []) (listed xs))
+
+  -- alternatives in brackets are read
+  alternatives_pass : (rule : RuleKind) (Is : Spelled → Atom → Type 0) (atomic : (t : Spelled) (a : Atom) → Is t a → IsAtom rule t a) (around : Around) (outer : List (Element Atom)) (before : List (Elements Atom)) (word rest : List Spelled) (xs : Alternatives Atom) (right : Spelled) → AreAlternatives Is word xs → right.kind ≡ kinds.RightParenthesis → after (at_element rule (in_brackets around outer before) []) (word ++ right ∷ rest) ≡ after (at_sign rule around outer (bracketed (either (before ++ sides xs)))) rest
+  alternatives_pass rule Is atomic around outer before _ rest _ right (the_last word x are) k =
+      elements_pass rule Is atomic (in_brackets around outer before) [] word (right ∷ rest) x are (ap repeat_of k)
+      ∙ after-next (at_element rule (in_brackets around outer before) (listed x)) right rest _ (right_at_element rule around outer before (listed x) right right.kind k)
+      ∙ ap (λ (y : Elements Atom). after (at_sign rule around outer (bracketed (either (before ++ y ∷ [])))) rest) (in_order-listed x)
+  alternatives_pass rule Is atomic around outer before _ rest _ right (one_before bar first others word x xs is bar_is are parts) k =
+      ap (after (at_element rule (in_brackets around outer before) [])) (ap (λ w. w ++ right ∷ rest) parts ∙ append_assoc first (bar ∷ others) (right ∷ rest))
+      ∙ elements_pass rule Is atomic (in_brackets around outer before) [] first (bar ∷ (others ++ right ∷ rest)) x is (ap repeat_of bar_is)
+      ∙ after-next (at_element rule (in_brackets around outer before) (listed x)) bar (others ++ right ∷ rest) _ (bar_at_element rule (in_brackets around outer before) (listed x) bar bar.kind bar_is)
+      ∙ ap (λ (y : Elements Atom). after (at_element rule (in_brackets around outer (before ++ y ∷ [])) []) (others ++ right ∷ rest)) (in_order-listed x)
+      ∙ alternatives_pass rule Is atomic around outer (before ++ x ∷ []) others rest xs right are k
+      ∙ ap (λ (l : List (Elements Atom)). after (at_sign rule around outer (bracketed (either l))) rest) (append_assoc before (x ∷ []) (sides xs))
+
+-- the stage behind a parser rule with these alternatives
+abbrev behind_parser : Source → List ℕ → List (Elements Atom) → Stage
+behind_parser source name alternatives = at_rule (with_rule source (rules.Parser (record { name = name; alternatives = alternatives })))
+
+-- the alternatives of a parser rule are read
+parser_alternatives_pass : (source : Source) (name : List ℕ) (before : List (Elements Atom)) (word rest : List Spelled) (xs : Alternatives Atom) (close : Spelled) → AreAlternatives IsParserAtom word xs → close.kind ≡ kinds.Semicolon → after (at_element Parser (in_parser_rule source name before) []) (word ++ close ∷ rest) ≡ after (behind_parser source name (before ++ sides xs)) rest
+parser_alternatives_pass source name before _ rest _ close (the_last word x are) k =
+    elements_pass Parser IsParserAtom (λ t a is. is) (in_parser_rule source name before) [] word (close ∷ rest) x are (ap repeat_of k)
+    ∙ after-next (at_element Parser (in_parser_rule source name before) (listed x)) close rest _ (there close.kind k)
+    ∙ ap (λ (y : Elements Atom). after (behind_parser source name (before ++ y ∷ [])) rest) (in_order-listed x)
+  where
+    there : (kind : Kind) → kind ≡ kinds.Semicolon → next_at_element Parser (in_parser_rule source name before) (listed x) (atom_of Parser kind (bytes_of close)) kind ≡ Some (behind_parser source name (before ++ in_order (listed x) ∷ []))
     there kind k = rw k refl
+parser_alternatives_pass source name before _ rest _ close (one_before bar first others word x xs is bar_is are parts) k =
+    ap (after (at_element Parser (in_parser_rule source name before) [])) (ap (λ w. w ++ close ∷ rest) parts ∙ append_assoc first (bar ∷ others) (close ∷ rest))
+    ∙ elements_pass Parser IsParserAtom (λ t a is. is) (in_parser_rule source name before) [] first (bar ∷ (others ++ close ∷ rest)) x is (ap repeat_of bar_is)
+    ∙ after-next (at_element Parser (in_parser_rule source name before) (listed x)) bar (others ++ close ∷ rest) _ (bar_at_element Parser (in_parser_rule source name before) (listed x) bar bar.kind bar_is)
+    ∙ ap (λ (y : Elements Atom). after (at_element Parser (in_parser_rule source name (before ++ y ∷ [])) []) (others ++ close ∷ rest)) (in_order-listed x)
+    ∙ parser_alternatives_pass source name (before ++ x ∷ []) others rest xs close are k
+    ∙ ap (λ (l : List (Elements Atom)). after (behind_parser source name l) rest) (append_assoc before (x ∷ []) (sides xs))
 
--- the elements of a lexer rule begin with no `+`
-elements_plain : (word rest : List Spelled) (es : List LexElement) → AreInOrder IsLexElement word es → BeginsPlain rest → BeginsPlain (word ++ rest)
-elements_plain word rest [] h plain = subst (λ w. BeginsPlain (w ++ rest)) (sym h) plain
-elements_plain word rest (e ∷ es) (first, others, parts, (t, mark, split, is, repeat), are) plain =
-    subst (λ w. BeginsPlain (w ++ rest)) (sym (parts ∙ ap (λ w. w ++ others) split)) (atom_no_plus t.kind t e.atom refl is)
-
--- the elements of a lexer rule are read before anything but `+`
-lex_elements_pass : (source : Source) (name : List ℕ) (es : List LexElement) (word rest : List Spelled) (more : List LexElement) → BeginsPlain rest → AreInOrder IsLexElement word more → after (at_atom source name es) (word ++ rest) ≡ after (at_atom source name (es ++ more)) rest
-lex_elements_pass source name es word rest [] plain h = rw (h, append-nil) refl
-lex_elements_pass source name es word rest (e ∷ more) plain (first, others, parts, (t, mark, split, is, repeat), are) =
-    rw (parts, append_assoc) (lex_element_passes source name es first (others ++ rest) e e.repeated refl (elements_plain others rest more are plain) t mark split is repeat ∙ lex_elements_pass source name (es ++ e ∷ []) others rest more plain are ∙ ap (λ l. after (at_atom source name l) rest) (append_assoc es (e ∷ []) more))
-
--- the end of a lexer rule is read
-ending_passes : (source : Source) (name : List ℕ) (es : List LexElement) (skip : Bool) (command : List Spelled) (close : Spelled) (rest : List Spelled) → IsCommand command skip → close.kind ≡ kinds.Semicolon → BeginsPlain (command ++ close ∷ rest) × (after (at_atom source name es) (command ++ close ∷ rest) ≡ after (behind_lexer_rule source name es skip) rest)
-ending_passes source name es false command close rest none k =
-    subst (λ w. BeginsPlain (w ++ close ∷ rest) × (after (at_atom source name es) (w ++ close ∷ rest) ≡ after (behind_lexer_rule source name es false) rest)) (sym none) (ap is_plus k, after-next (at_atom source name es) close rest _ (there close.kind k))
-  where
-    there : (kind : Kind) → kind ≡ kinds.Semicolon → next_at_atom source name es (atom_of kind (bytes_of close)) kind ≡ Some (behind_lexer_rule source name es false)
-    there kind k = rw k refl
-ending_passes source name es true command close rest (arrow, skip, parts, a, (l, w)) k =
-    subst (λ w. BeginsPlain (w ++ close ∷ rest) × (after (at_atom source name es) (w ++ close ∷ rest) ≡ after (behind_lexer_rule source name es true) rest)) (sym parts) (ap is_plus a, after-next (at_atom source name es) arrow (skip ∷ close ∷ rest) (at_skip source name es) (begins arrow.kind a) ∙ after-next (at_skip source name es) skip (close ∷ rest) (at_lexer_end source name es true) (named skip (l, w) (at_lexer_end source name es true)) ∙ after-next (at_lexer_end source name es true) close rest _ (ends close.kind k))
-  where
-    begins : (kind : Kind) → kind ≡ kinds.Arrow → next_at_atom source name es (atom_of kind (bytes_of arrow)) kind ≡ Some (at_skip source name es)
-    begins kind k = rw k refl
-
-    ends : (kind : Kind) → kind ≡ kinds.Semicolon → if_so (is_semicolon kind) (behind_lexer_rule source name es true) ≡ Some (behind_lexer_rule source name es true)
-    ends kind k = rw k refl
-
-    named : (t : Spelled) → IsWord (codes "skip") t → (later : Stage) → if_so (is_word (codes "skip") t) later ≡ Some later
-    named t is later = ap (λ test. if_so test later) (word_passes (codes "skip") t is)
-
--- a lexer rule is read
-lexer_rule_passes : (source : Source) (word rest : List Spelled) (rule : LexerRule) → IsLexerRule word rule → after (at_rule source) (word ++ rest) ≡ after (at_rule (with_rule source (Lexer rule))) rest
-lexer_rule_passes source word rest rule is =
+-- a parser rule is read
+parser_rule_passes : (source : Source) (word rest : List Spelled) (rule : ParserRule) → IsParserRule word rule → after (at_rule source) (word ++ rest) ≡ after (at_rule (with_rule source (rules.Parser rule))) rest
+parser_rule_passes source word rest rule is =
     let name = rule.name in
-    let ending = ending_passes source name rule.elements rule.skip is.command is.close rest is.command_is is.close_is in
-    subst (λ w. after (at_rule source) (w ++ rest) ≡ after (at_rule (with_rule source (Lexer rule))) rest) (sym is.parts)
-    (after-next (at_rule source) is.head (is.colon ∷ ((is.body ++ (is.command ++ is.close ∷ [])) ++ rest)) (at_lexer_colon source name) (begins is.head.kind is.upper)
-    ∙ after-next (at_lexer_colon source name) is.colon ((is.body ++ (is.command ++ is.close ∷ [])) ++ rest) (at_atom source name []) (colon is.colon.kind is.colon_is)
-    ∙ ap (after (at_atom source name [])) (append_assoc is.body (is.command ++ is.close ∷ []) rest ∙ ap (λ w. is.body ++ w) (append_assoc is.command (is.close ∷ []) rest))
-    ∙ lex_elements_pass source name [] is.body (is.command ++ is.close ∷ rest) rule.elements ending.0 is.elements_are
-    ∙ ending.1)
+    subst (λ w. after (at_rule source) (w ++ rest) ≡ after (at_rule (with_rule source (rules.Parser rule))) rest) (sym is.parts)
+    (after-next (at_rule source) is.head (is.colon ∷ ((is.body ++ is.close ∷ []) ++ rest)) (at_colon Parser source name) (begins is.head.kind is.lower)
+    ∙ after-next (at_colon Parser source name) is.colon ((is.body ++ is.close ∷ []) ++ rest) (at_element Parser (in_parser_rule source name []) []) (colon is.colon.kind is.colon_is)
+    ∙ ap (after (at_element Parser (in_parser_rule source name []) [])) (append_assoc is.body (is.close ∷ []) rest)
+    ∙ parser_alternatives_pass source name [] is.body rest (either rule.alternatives) is.close is.alternatives_are is.close_is
+    ∙ ap (λ (l : List (Elements Atom)). after (behind_parser source name l) rest) (sides-either rule.alternatives))
   where
-    begins : (kind : Kind) → kind ≡ kinds.Upper → next_at_rule source (bytes_of is.head) kind ≡ Some (at_lexer_colon source rule.name)
+    begins : (kind : Kind) → kind ≡ kinds.Lower → next_at_rule source (bytes_of is.head) kind ≡ Some (at_colon Parser source rule.name)
     begins kind k = rw (k, ← is.named) refl
 
-    colon : (kind : Kind) → kind ≡ kinds.Colon → if_so (is_colon kind) (at_atom source rule.name []) ≡ Some (at_atom source rule.name [])
+    colon : (kind : Kind) → kind ≡ kinds.Colon → if_so (is_colon kind) (at_element Parser (in_parser_rule source rule.name []) []) ≡ Some (at_element Parser (in_parser_rule source rule.name []) [])
+    colon kind k = rw k refl
+
+-- `|` or `;`, which stands behind an alternative of a lexer rule
+abbrev IsDue : Spelled → Type 0
+IsDue t = (t.kind ≡ kinds.Bar) ⊎ (t.kind ≡ kinds.Semicolon)
+
+-- it is neither `*` nor `+`
+due_plain : (t : Spelled) → IsDue t → repeat_of t.kind ≡ Once
+due_plain t (inl k) = ap repeat_of k
+due_plain t (inr k) = ap repeat_of k
+
+-- the alternatives of a lexer rule with one more
+abbrev with_lexer : Source → List ℕ → List LexerAlternative → Elements Atom → Bool → Around
+with_lexer source name before elements skip = in_lexer_rule source name (before ++ record { elements = elements; skip = skip } ∷ [])
+
+-- the end of an alternative of a lexer rule is read
+command_passes : (source : Source) (name : List ℕ) (before : List LexerAlternative) (es : List (Element Atom)) (skip : Bool) (command : List Spelled) (t : Spelled) (rest : List Spelled) → IsCommand command skip → IsDue t → BeginsPlain (command ++ t ∷ rest) × (after (at_element Lexer (in_lexer_rule source name before) es) (command ++ t ∷ rest) ≡ after (at_bar Lexer (with_lexer source name before (in_order es) skip)) (t ∷ rest))
+command_passes source name before es false command t rest is due =
+    subst (λ w. BeginsPlain (w ++ t ∷ rest) × (after (at_element Lexer (in_lexer_rule source name before) es) (w ++ t ∷ rest) ≡ after (at_bar Lexer (with_lexer source name before (in_order es) false)) (t ∷ rest))) (sym is) (due_plain t due, ap (λ (o : Option Stage). elim o [ None ↦ None | Some between ↦ after between rest ]) (there t.kind due))
+  where
+    there : (kind : Kind) → (kind ≡ kinds.Bar) ⊎ (kind ≡ kinds.Semicolon) → next_at_element Lexer (in_lexer_rule source name before) es (atom_of Lexer kind (bytes_of t)) kind ≡ next_at_bar Lexer (with_lexer source name before (in_order es) false) kind
+    there kind (inl k) = rw k refl
+    there kind (inr k) = rw k refl
+command_passes source name before es true command t rest (arrow, skip, parts, a, is) due =
+    let around = in_lexer_rule source name before in
+    subst (λ w. BeginsPlain (w ++ t ∷ rest) × (after (at_element Lexer (in_lexer_rule source name before) es) (w ++ t ∷ rest) ≡ after (at_bar Lexer (with_lexer source name before (in_order es) true)) (t ∷ rest))) (sym parts) (
+      ap repeat_of a,
+      after-next (at_element Lexer around es) arrow (skip ∷ t ∷ rest) (at_skip Lexer around es) (begins arrow.kind a)
+          ∙ after-next (at_skip Lexer around es) skip (t ∷ rest) (at_bar Lexer (with_lexer source name before (in_order es) true)) (ap (λ test. if_so test (at_bar Lexer (with_lexer source name before (in_order es) true))) (word_passes (codes "skip") skip is)),
+    )
+  where
+    begins : (kind : Kind) → kind ≡ kinds.Arrow → next_at_element Lexer (in_lexer_rule source name before) es (atom_of Lexer kind (bytes_of arrow)) kind ≡ Some (at_skip Lexer (in_lexer_rule source name before) es)
+    begins kind k = rw k refl
+
+-- an alternative of a lexer rule is read
+lexer_alternative_passes : (source : Source) (name : List ℕ) (before : List LexerAlternative) (word rest : List Spelled) (x : LexerAlternative) (t : Spelled) → IsLexerAlternative word x → IsDue t → after (at_element Lexer (in_lexer_rule source name before) []) (word ++ t ∷ rest) ≡ after (at_bar Lexer (in_lexer_rule source name (before ++ x ∷ []))) (t ∷ rest)
+lexer_alternative_passes source name before word rest x t (body, command, parts, are, is) due =
+    let ending = command_passes source name before (listed x.elements) x.skip command t rest is due in
+    ap (after (at_element Lexer (in_lexer_rule source name before) [])) (ap (λ w. w ++ t ∷ rest) parts ∙ append_assoc body command (t ∷ rest))
+    ∙ elements_pass Lexer IsLexerAtom (λ t a is. is) (in_lexer_rule source name before) [] body (command ++ t ∷ rest) x.elements are ending.0
+    ∙ ending.1
+    ∙ ap (λ (y : Elements Atom). after (at_bar Lexer (with_lexer source name before y x.skip)) (t ∷ rest)) (in_order-listed x.elements)
+
+-- the stage behind a lexer rule with these alternatives
+abbrev behind_lexer : Source → List ℕ → List LexerAlternative → Stage
+behind_lexer source name alternatives = at_rule (with_rule source (rules.Lexer (record { name = name; alternatives = alternatives })))
+
+-- the alternatives of a lexer rule are read
+lexer_alternatives_pass : (source : Source) (name : List ℕ) (before : List LexerAlternative) (word rest : List Spelled) (xs : List LexerAlternative) (close : Spelled) → AreLexerAlternatives word xs → close.kind ≡ kinds.Semicolon → after (at_element Lexer (in_lexer_rule source name before) []) (word ++ close ∷ rest) ≡ after (behind_lexer source name (before ++ xs)) rest
+lexer_alternatives_pass source name before word rest [] close are k = absurd are
+lexer_alternatives_pass source name before word rest (x ∷ []) close is k =
+    lexer_alternative_passes source name before word rest x close is (inr k) ∙ after-next (at_bar Lexer (in_lexer_rule source name (before ++ x ∷ []))) close rest _ (there close.kind k)
+  where
+    there : (kind : Kind) → kind ≡ kinds.Semicolon → next_at_bar Lexer (in_lexer_rule source name (before ++ x ∷ [])) kind ≡ Some (behind_lexer source name (before ++ x ∷ []))
+    there kind k = rw k refl
+lexer_alternatives_pass source name before word rest (x ∷ y ∷ more) close (bar, first, others, parts, is, bar_is, are) k =
+    ap (after (at_element Lexer (in_lexer_rule source name before) [])) (ap (λ w. w ++ close ∷ rest) parts ∙ append_assoc first (bar ∷ others) (close ∷ rest))
+    ∙ lexer_alternative_passes source name before first (others ++ close ∷ rest) x bar is (inl bar_is)
+    ∙ after-next (at_bar Lexer (in_lexer_rule source name (before ++ x ∷ []))) bar (others ++ close ∷ rest) _ (there bar.kind bar_is)
+    ∙ lexer_alternatives_pass source name (before ++ x ∷ []) others rest (y ∷ more) close are k
+    ∙ ap (λ (l : List LexerAlternative). after (behind_lexer source name l) rest) (append_assoc before (x ∷ []) (y ∷ more))
+  where
+    there : (kind : Kind) → kind ≡ kinds.Bar → next_at_bar Lexer (in_lexer_rule source name (before ++ x ∷ [])) kind ≡ Some (at_element Lexer (in_lexer_rule source name (before ++ x ∷ [])) [])
+    there kind k = rw k refl
+
+-- a lexer rule is read
+lexer_rule_passes : (source : Source) (word rest : List Spelled) (rule : LexerRule) → IsLexerRule word rule → after (at_rule source) (word ++ rest) ≡ after (at_rule (with_rule source (rules.Lexer rule))) rest
+lexer_rule_passes source word rest rule is =
+    let name = rule.name in
+    subst (λ w. after (at_rule source) (w ++ rest) ≡ after (at_rule (with_rule source (rules.Lexer rule))) rest) (sym is.parts)
+    (after-next (at_rule source) is.head (is.colon ∷ ((is.body ++ is.close ∷ []) ++ rest)) (at_colon Lexer source name) (begins is.head.kind is.upper)
+    ∙ after-next (at_colon Lexer source name) is.colon ((is.body ++ is.close ∷ []) ++ rest) (at_element Lexer (in_lexer_rule source name []) []) (colon is.colon.kind is.colon_is)
+    ∙ ap (after (at_element Lexer (in_lexer_rule source name []) [])) (append_assoc is.body (is.close ∷ []) rest)
+    ∙ lexer_alternatives_pass source name [] is.body rest rule.alternatives is.close is.alternatives_are is.close_is)
+  where
+    begins : (kind : Kind) → kind ≡ kinds.Upper → next_at_rule source (bytes_of is.head) kind ≡ Some (at_colon Lexer source rule.name)
+    begins kind k = rw (k, ← is.named) refl
+
+    colon : (kind : Kind) → kind ≡ kinds.Colon → if_so (is_colon kind) (at_element Lexer (in_lexer_rule source rule.name []) []) ≡ Some (at_element Lexer (in_lexer_rule source rule.name []) [])
     colon kind k = rw k refl
 
 -- a rule is read
 rule_passes : (source : Source) (word rest : List Spelled) (rule : Rule) → IsRule word rule → after (at_rule source) (word ++ rest) ≡ after (at_rule (with_rule source rule)) rest
-rule_passes source word rest (Parser rule) is = parser_rule_passes source word rest rule is
-rule_passes source word rest (Lexer rule) is = lexer_rule_passes source word rest rule is
+rule_passes source word rest (rules.Parser rule) is = parser_rule_passes source word rest rule is
+rule_passes source word rest (rules.Lexer rule) is = lexer_rule_passes source word rest rule is
 
 -- rules are read
 rules_pass : (name : List ℕ) (rules : List Rule) (word : List Spelled) (more : List Rule) → AreInOrder IsRule word more → after (at_rule (record { name = name; rules = rules })) word ≡ Some (at_rule (record { name = name; rules = rules ++ more }))

@@ -1,16 +1,20 @@
 -- How reading goes on at an index of the tokens.
-use Rattle.std.proofs.Common.{◌≡◌, ℕ, zero, suc, ◌+◌, ◌≤◌, List, [], ◌∷◌, ◌++◌, Bool, true, false, ◌||◌, length, drop, refl, sym, ◌∙◌, ap, arith, add-one, Option, Some, None, Result, Ok, Err, slice_get}
+use Rattle.std.proofs.Common.{◌≡◌, ℕ, zero, suc, ◌+◌, ◌≤◌, List, [], ◌∷◌, ◌++◌, Bool, true, false, ◌||◌, length, drop, refl, sym, ◌∙◌, ap, arith, add-one, add-zero, Option, Some, None, Result, Ok, Err, slice_get}
+use Rattle.std.proofs.Math.Bool.{and-false}
 use Rattle.std.proofs.lemmas.List.{drop_all}
 use Rattle.g4_tokens.specs.declared.token.Token.{Token}
 use Rattle.g4_tokens.specs.declared.token.Kind.{Kind}
 use Rattle.g4_tokens.specs.declared.token.Kind.TheVariants as kinds
 use Rattle.g4_grammar.specs.declared.source.Source.{Source}
-use Rattle.g4_grammar.specs.declared.source.Element.{Element}
-use Rattle.g4_grammar.specs.declared.source.LexElement.{LexElement}
 use Rattle.g4_grammar.specs.declared.source.Atom.{Atom}
+use Rattle.g4_grammar.specs.declared.element.Repeat.{Repeat}
+use Rattle.g4_grammar.specs.declared.element.Repeat.TheVariants.{Once, Star, Plus}
+use Rattle.g4_grammar.specs.Elements.{Element}
 use Rattle.g4_reader.specs.GrammarText.{spelled_token, bytes_of}
 use Rattle.g4_reader.specs.Reading.{Fault, fault_at}
-use Rattle.g4_reader.specs.Stages.{Stage, at_name, at_name_end, at_rule, at_parser_colon, at_element, at_parser_end, at_lexer_colon, at_atom, at_plus, at_command, at_skip, at_lexer_end, next, next_at_rule, if_so, passes, is_arrow, is_plus, is_lower, is_upper, with_atom, element_at, atom_at, name_at, name_of, grammar_at, result_of, reading_from, IsFault, EndsWith}
+use Rattle.g4_reader.specs.Stages.{Around, in_brackets, Operand, lone, Stage, at_name, at_name_end, at_rule, at_colon, at_element, at_sign, at_command, at_skip, at_bar, at_close, next, next_at_rule, next_at_element, if_so, passes, is_arrow, is_bar, is_left_parenthesis, is_lower, is_upper, atom_of, as_often, length_of, repeat_at, atom_at, name_at, name_of, has_commands, with_alternative, grammar_at, result_of, reading_from, IsFault, EndsWith, LeadsTo}
+use Rattle.g4_reader.specs.declared.atom.RuleKind.{RuleKind}
+use Rattle.g4_reader.specs.declared.atom.RuleKind.TheVariants.{Parser, Lexer}
 use Rattle.g4_reader.specs.declared.reader.ReadFault.{ReadFault}
 use Rattle.g4_reader.specs.declared.reader.ReadFault.TheVariants.{Syntax, NoMemory}
 
@@ -86,79 +90,97 @@ pub ends_alike : (reading other : Result Source Fault) (answer : ReadFault) → 
 ends_alike reading other (Syntax place characters) e is = e ∙ is
 ends_alike reading other NoMemory e is = tt
 
--- an element at the index is read
-pub element_next : (text : List ℕ) (source : Source) (name : List ℕ) (es : List Element) (e : Element) (tokens : List Token) (i : ℕ) → Some e ≡ element_at text (slice_get tokens i) → reading_from text (at_element source name es) (drop i tokens) ≡ reading_from text (at_element source name (es ++ e ∷ [])) (drop (i + 1) tokens)
-element_next text source name es e tokens i is = rw add-one (read_on text _ _ tokens i (there (slice_get tokens i) is))
+-- an atom at the index is read
+pub atom_next : (text : List ℕ) (rule : RuleKind) (around : Around) (es : List (Element Atom)) (a : Atom) (tokens : List Token) (i : ℕ) → Some a ≡ atom_at rule text (slice_get tokens i) → LeadsTo text tokens i (at_element rule around es) (at_sign rule around es (lone a)) (i + 1)
+atom_next text rule around es a tokens i is = rw add-one (read_on text _ _ tokens i (there (slice_get tokens i) is))
   where
-    there : (o : Option Token) → Some e ≡ element_at text o → next_at text (at_element source name es) o ≡ Some (at_element source name (es ++ e ∷ []))
+    there : (o : Option Token) → Some a ≡ atom_at rule text o → next_at text (at_element rule around es) o ≡ Some (at_sign rule around es (lone a))
     there None is = absurd (cc)
     there (Some t) is = rw (← is) refl
 
--- where no element stands at the index, the rule's end is due
-pub element_none : (text : List ℕ) (source : Source) (name : List ℕ) (es : List Element) (tokens : List Token) (i : ℕ) → None ≡ element_at text (slice_get tokens i) → reading_from text (at_element source name es) (drop i tokens) ≡ reading_from text (at_parser_end source name es) (drop i tokens)
-element_none text source name es tokens i is = read_alike text _ _ tokens i (there (slice_get tokens i) is) refl
+-- an atom lies within the tokens
+pub within_from-atom : (text : List ℕ) (rule : RuleKind) (a : Atom) (tokens : List Token) (i : ℕ) → Some a ≡ atom_at rule text (slice_get tokens i) → i + 1 ≤ length tokens
+within_from-atom text rule a [] i is = absurd (cc)
+within_from-atom text rule a (t ∷ ts) zero is = omega arith
+within_from-atom text rule a (t ∷ ts) (suc i) is = omega (arith, within_from-atom text rule a ts i is)
+
+-- where neither an atom nor `(` stands at the index, what stands behind an alternative is due
+pub element_none : (text : List ℕ) (rule : RuleKind) (around : Around) (es : List (Element Atom)) (tokens : List Token) (i : ℕ) → None ≡ atom_at rule text (slice_get tokens i) → passes (λ t. is_left_parenthesis t.kind) (slice_get tokens i) ≡ false → LeadsTo text tokens i (at_element rule around es) (at_command rule around es) i
+element_none text rule around es tokens i is other = read_alike text _ _ tokens i (there (slice_get tokens i) is other) refl
   where
-    there : (o : Option Token) → None ≡ element_at text o → next_at text (at_element source name es) o ≡ next_at text (at_parser_end source name es) o
+    there : (o : Option Token) → None ≡ atom_at rule text o → passes (λ t. is_left_parenthesis t.kind) o ≡ false → next_at text (at_element rule around es) o ≡ next_at text (at_command rule around es) o
+    there None is other = refl
+    there (Some t) is other = rw (← is, other) refl
+
+-- a `(` where an element may come
+pub left_next : (rule : RuleKind) (around : Around) (es : List (Element Atom)) (kind : Kind) (bytes : List ℕ) → is_left_parenthesis kind ≡ true → next_at_element rule around es (atom_of rule kind bytes) kind ≡ Some (at_element rule (in_brackets around es []) [])
+left_next Parser around es kinds.LeftParenthesis bytes e = refl
+left_next Lexer around es kinds.LeftParenthesis bytes e = refl
+left_next rule around es _ bytes e = absurd (cc)
+
+-- a `(` at the index is read
+pub bracket_next : (text : List ℕ) (rule : RuleKind) (around : Around) (es : List (Element Atom)) (tokens : List Token) (i : ℕ) → passes (λ t. is_left_parenthesis t.kind) (slice_get tokens i) ≡ true → LeadsTo text tokens i (at_element rule around es) (at_element rule (in_brackets around es []) []) (i + 1)
+bracket_next text rule around es tokens i is = rw add-one (read_on text _ _ tokens i (there (slice_get tokens i) is))
+  where
+    there : (o : Option Token) → passes (λ t. is_left_parenthesis t.kind) o ≡ true → next_at text (at_element rule around es) o ≡ Some (at_element rule (in_brackets around es []) [])
+    there None is = absurd (cc)
+    there (Some t) is = left_next rule around es t.kind (bytes_of (spelled_token text t)) is
+
+-- a sign at the index says how often the element before it stands
+pub sign_at : (text : List ℕ) (rule : RuleKind) (around : Around) (es : List (Element Atom)) (operand : Operand) (tokens : List Token) (i : ℕ) (repeat : Repeat) → repeat ≡ repeat_at (slice_get tokens i) → LeadsTo text tokens i (at_sign rule around es operand) (at_element rule around (es ++ as_often operand repeat ∷ [])) (i + length_of repeat)
+sign_at text rule around es operand tokens i Once is = rw add-zero (read_alike text _ _ tokens i (there (slice_get tokens i) is) refl)
+  where
+    there : (o : Option Token) → Once ≡ repeat_at o → next_at text (at_sign rule around es operand) o ≡ next_at text (at_element rule around (es ++ as_often operand Once ∷ [])) o
     there None is = refl
     there (Some t) is = rw (← is) refl
-
--- an element lies within the tokens
-pub within_from-element : (text : List ℕ) (e : Element) (tokens : List Token) (i : ℕ) → Some e ≡ element_at text (slice_get tokens i) → i + 1 ≤ length tokens
-within_from-element text e [] i is = absurd (cc)
-within_from-element text e (t ∷ ts) zero is = omega arith
-within_from-element text e (t ∷ ts) (suc i) is = omega (arith, within_from-element text e ts i is)
-
--- a literal or a set at the index is read
-pub atom_next : (text : List ℕ) (source : Source) (name : List ℕ) (es : List LexElement) (a : Atom) (tokens : List Token) (i : ℕ) → Some a ≡ atom_at text (slice_get tokens i) → reading_from text (at_atom source name es) (drop i tokens) ≡ reading_from text (at_plus source name es a) (drop (i + 1) tokens)
-atom_next text source name es a tokens i is = rw add-one (read_on text _ _ tokens i (there (slice_get tokens i) is))
+sign_at text rule around es operand tokens i Star is = rw add-one (read_on text _ _ tokens i (there (slice_get tokens i) is))
   where
-    there : (o : Option Token) → Some a ≡ atom_at text o → next_at text (at_atom source name es) o ≡ Some (at_plus source name es a)
+    there : (o : Option Token) → Star ≡ repeat_at o → next_at text (at_sign rule around es operand) o ≡ Some (at_element rule around (es ++ as_often operand Star ∷ []))
+    there None is = absurd (cc)
+    there (Some t) is = rw (← is) refl
+sign_at text rule around es operand tokens i Plus is = rw add-one (read_on text _ _ tokens i (there (slice_get tokens i) is))
+  where
+    there : (o : Option Token) → Plus ≡ repeat_at o → next_at text (at_sign rule around es operand) o ≡ Some (at_element rule around (es ++ as_often operand Plus ∷ []))
     there None is = absurd (cc)
     there (Some t) is = rw (← is) refl
 
--- where neither stands at the index, `->` or the rule's end is due
-pub atom_none : (text : List ℕ) (source : Source) (name : List ℕ) (es : List LexElement) (tokens : List Token) (i : ℕ) → None ≡ atom_at text (slice_get tokens i) → reading_from text (at_atom source name es) (drop i tokens) ≡ reading_from text (at_command source name es) (drop i tokens)
-atom_none text source name es tokens i is = read_alike text _ _ tokens i (there (slice_get tokens i) is) refl
+-- a `->` at the index is read where one may stand
+pub arrow_next : (text : List ℕ) (rule : RuleKind) (around : Around) (es : List (Element Atom)) (tokens : List Token) (i : ℕ) → has_commands around ≡ true → passes (λ t. is_arrow t.kind) (slice_get tokens i) ≡ true → LeadsTo text tokens i (at_command rule around es) (at_skip rule around es) (i + 1)
+arrow_next text rule around es tokens i has is = rw add-one (read_on text _ _ tokens i (there (slice_get tokens i) is))
   where
-    there : (o : Option Token) → None ≡ atom_at text o → next_at text (at_atom source name es) o ≡ next_at text (at_command source name es) o
+    there : (o : Option Token) → passes (λ t. is_arrow t.kind) o ≡ true → next_at text (at_command rule around es) o ≡ Some (at_skip rule around es)
+    there None is = absurd (cc)
+    there (Some t) is = rw (has, is) refl
+
+-- without it the alternative ends
+pub arrow_none : (text : List ℕ) (rule : RuleKind) (around : Around) (es : List (Element Atom)) (tokens : List Token) (i : ℕ) → passes (λ t. is_arrow t.kind) (slice_get tokens i) ≡ false → LeadsTo text tokens i (at_command rule around es) (at_bar rule (with_alternative around es false)) i
+arrow_none text rule around es tokens i is = read_alike text _ _ tokens i (there (slice_get tokens i) is) refl
+  where
+    there : (o : Option Token) → passes (λ t. is_arrow t.kind) o ≡ false → next_at text (at_command rule around es) o ≡ next_at text (at_bar rule (with_alternative around es false)) o
     there None is = refl
-    there (Some t) is = rw (← is) refl
+    there (Some t) is = rw (is, and-false) refl
 
--- a literal or a set lies within the tokens
-pub within_from-atom : (text : List ℕ) (a : Atom) (tokens : List Token) (i : ℕ) → Some a ≡ atom_at text (slice_get tokens i) → i + 1 ≤ length tokens
-within_from-atom text a [] i is = absurd (cc)
-within_from-atom text a (t ∷ ts) zero is = omega arith
-within_from-atom text a (t ∷ ts) (suc i) is = omega (arith, within_from-atom text a ts i is)
-
--- a `+` at the index repeats the element before it
-pub plus_next : (text : List ℕ) (source : Source) (name : List ℕ) (es : List LexElement) (a : Atom) (tokens : List Token) (i : ℕ) → passes (λ t. is_plus t.kind) (slice_get tokens i) ≡ true → reading_from text (at_plus source name es a) (drop i tokens) ≡ reading_from text (at_atom source name (with_atom es a true)) (drop (i + 1) tokens)
-plus_next text source name es a tokens i is = rw add-one (read_on text _ _ tokens i (there (slice_get tokens i) is))
+-- where no `->` may stand, the alternative ends
+pub command_none : (text : List ℕ) (rule : RuleKind) (around : Around) (es : List (Element Atom)) (tokens : List Token) (i : ℕ) → has_commands around ≡ false → LeadsTo text tokens i (at_command rule around es) (at_bar rule (with_alternative around es false)) i
+command_none text rule around es tokens i has = read_alike text _ _ tokens i (there (slice_get tokens i)) refl
   where
-    there : (o : Option Token) → passes (λ t. is_plus t.kind) o ≡ true → next_at text (at_plus source name es a) o ≡ Some (at_atom source name (with_atom es a true))
+    there : (o : Option Token) → next_at text (at_command rule around es) o ≡ next_at text (at_bar rule (with_alternative around es false)) o
+    there None = refl
+    there (Some t) = rw has refl
+
+-- a `|` at the index is read
+pub bar_next : (text : List ℕ) (rule : RuleKind) (around : Around) (tokens : List Token) (i : ℕ) → passes (λ t. is_bar t.kind) (slice_get tokens i) ≡ true → LeadsTo text tokens i (at_bar rule around) (at_element rule around []) (i + 1)
+bar_next text rule around tokens i is = rw add-one (read_on text _ _ tokens i (there (slice_get tokens i) is))
+  where
+    there : (o : Option Token) → passes (λ t. is_bar t.kind) o ≡ true → next_at text (at_bar rule around) o ≡ Some (at_element rule around [])
     there None is = absurd (cc)
     there (Some t) is = rw is refl
 
--- without it the element stands once
-pub plus_none : (text : List ℕ) (source : Source) (name : List ℕ) (es : List LexElement) (a : Atom) (tokens : List Token) (i : ℕ) → passes (λ t. is_plus t.kind) (slice_get tokens i) ≡ false → reading_from text (at_plus source name es a) (drop i tokens) ≡ reading_from text (at_atom source name (with_atom es a false)) (drop i tokens)
-plus_none text source name es a tokens i is = read_alike text _ _ tokens i (there (slice_get tokens i) is) refl
+-- without it what closes the alternatives is due
+pub bar_none : (text : List ℕ) (rule : RuleKind) (around : Around) (tokens : List Token) (i : ℕ) → passes (λ t. is_bar t.kind) (slice_get tokens i) ≡ false → LeadsTo text tokens i (at_bar rule around) (at_close rule around) i
+bar_none text rule around tokens i is = read_alike text _ _ tokens i (there (slice_get tokens i) is) refl
   where
-    there : (o : Option Token) → passes (λ t. is_plus t.kind) o ≡ false → next_at text (at_plus source name es a) o ≡ next_at text (at_atom source name (with_atom es a false)) o
-    there None is = refl
-    there (Some t) is = rw is refl
-
--- a `->` at the index is read
-pub arrow_next : (text : List ℕ) (source : Source) (name : List ℕ) (es : List LexElement) (tokens : List Token) (i : ℕ) → passes (λ t. is_arrow t.kind) (slice_get tokens i) ≡ true → reading_from text (at_command source name es) (drop i tokens) ≡ reading_from text (at_skip source name es) (drop (i + 1) tokens)
-arrow_next text source name es tokens i is = rw add-one (read_on text _ _ tokens i (there (slice_get tokens i) is))
-  where
-    there : (o : Option Token) → passes (λ t. is_arrow t.kind) o ≡ true → next_at text (at_command source name es) o ≡ Some (at_skip source name es)
-    there None is = absurd (cc)
-    there (Some t) is = rw is refl
-
--- without it the rule's end is due
-pub arrow_none : (text : List ℕ) (source : Source) (name : List ℕ) (es : List LexElement) (tokens : List Token) (i : ℕ) → passes (λ t. is_arrow t.kind) (slice_get tokens i) ≡ false → reading_from text (at_command source name es) (drop i tokens) ≡ reading_from text (at_lexer_end source name es false) (drop i tokens)
-arrow_none text source name es tokens i is = read_alike text _ _ tokens i (there (slice_get tokens i) is) refl
-  where
-    there : (o : Option Token) → passes (λ t. is_arrow t.kind) o ≡ false → next_at text (at_command source name es) o ≡ next_at text (at_lexer_end source name es false) o
+    there : (o : Option Token) → passes (λ t. is_bar t.kind) o ≡ false → next_at text (at_bar rule around) o ≡ next_at text (at_close rule around) o
     there None is = refl
     there (Some t) is = rw is refl
 
@@ -193,17 +215,17 @@ pub rules_end : (text : List ℕ) (source : Source) (tokens : List Token) (i : �
 rules_end text source tokens i h = rw (drop_all i tokens h) (reading_from-end text (at_rule source))
 
 -- the name of a parser rule is read
-pub lower_next : (text : List ℕ) (source : Source) (tokens : List Token) (i : ℕ) (t : Token) → slice_get tokens i ≡ Some t → kinds.Lower ≡ t.kind → reading_from text (at_rule source) (drop i tokens) ≡ reading_from text (at_parser_colon source (bytes_of (spelled_token text t))) (drop (i + 1) tokens)
+pub lower_next : (text : List ℕ) (source : Source) (tokens : List Token) (i : ℕ) (t : Token) → slice_get tokens i ≡ Some t → kinds.Lower ≡ t.kind → reading_from text (at_rule source) (drop i tokens) ≡ reading_from text (at_colon Parser source (bytes_of (spelled_token text t))) (drop (i + 1) tokens)
 lower_next text source tokens i t is k = rw add-one (read_on text _ _ tokens i (rw is (there t.kind k)))
   where
-    there : (kind : Kind) → kinds.Lower ≡ kind → next_at_rule source (bytes_of (spelled_token text t)) kind ≡ Some (at_parser_colon source (bytes_of (spelled_token text t)))
+    there : (kind : Kind) → kinds.Lower ≡ kind → next_at_rule source (bytes_of (spelled_token text t)) kind ≡ Some (at_colon Parser source (bytes_of (spelled_token text t)))
     there kind e = rw (← e) refl
 
 -- the name of a lexer rule is read
-pub upper_next : (text : List ℕ) (source : Source) (tokens : List Token) (i : ℕ) (t : Token) → slice_get tokens i ≡ Some t → kinds.Upper ≡ t.kind → reading_from text (at_rule source) (drop i tokens) ≡ reading_from text (at_lexer_colon source (bytes_of (spelled_token text t))) (drop (i + 1) tokens)
+pub upper_next : (text : List ℕ) (source : Source) (tokens : List Token) (i : ℕ) (t : Token) → slice_get tokens i ≡ Some t → kinds.Upper ≡ t.kind → reading_from text (at_rule source) (drop i tokens) ≡ reading_from text (at_colon Lexer source (bytes_of (spelled_token text t))) (drop (i + 1) tokens)
 upper_next text source tokens i t is k = rw add-one (read_on text _ _ tokens i (rw is (there t.kind k)))
   where
-    there : (kind : Kind) → kinds.Upper ≡ kind → next_at_rule source (bytes_of (spelled_token text t)) kind ≡ Some (at_lexer_colon source (bytes_of (spelled_token text t)))
+    there : (kind : Kind) → kinds.Upper ≡ kind → next_at_rule source (bytes_of (spelled_token text t)) kind ≡ Some (at_colon Lexer source (bytes_of (spelled_token text t)))
     there kind e = rw (← e) refl
 
 -- where no name stands, no rule begins

@@ -81,8 +81,8 @@ mutual
   pub data IsElement (IsAtom : Spelled → Atom → Type 0) : List Spelled → Element Atom → Type 0 where
     an_atom : (token : Spelled) (a : Atom) → IsAtom token a → IsElement IsAtom (token ∷ []) (atom a)
     a_repeated_atom : (token sign : Spelled) (a : Atom) (repeat : Repeat) → IsAtom token a → IsSign sign repeat → IsElement IsAtom (token ∷ sign ∷ []) (repeated repeat (only (then (atom a) empty)))
-    a_block : (open close : Spelled) (body suffix word : List Spelled) (xs : Alternatives Atom) (repeat : Repeat) → open.kind ≡ kinds.LeftParenthesis → AreAlternatives IsAtom body xs →
-        close.kind ≡ kinds.RightParenthesis → IsSuffix suffix repeat → word ≡ open ∷ (body ++ close ∷ suffix) → IsElement IsAtom word (repeated repeat xs)
+    a_block : (left right : Spelled) (body suffix word : List Spelled) (xs : Alternatives Atom) (repeat : Repeat) → left.kind ≡ kinds.LeftParenthesis → AreAlternatives IsAtom body xs →
+        right.kind ≡ kinds.RightParenthesis → IsSuffix suffix repeat → word ≡ left ∷ (body ++ right ∷ suffix) → IsElement IsAtom word (repeated repeat xs)
 
   -- elements one after another
   pub data AreElements (IsAtom : Spelled → Atom → Type 0) : List Spelled → Elements Atom → Type 0 where

@@ -1,13 +1,16 @@
 // The grammar that a text is.
 #![tactic(auto)]
 
+mod atom;
+mod element;
 mod fault;
 mod law;
-mod lexer_rule;
-mod parser_rule;
 mod reader;
+mod rule;
 mod sign;
 mod spelling;
+#[cfg(test)]
+mod tests;
 
 pub use law::{one_reading, some_reading};
 pub use reader::{ReadFault, read_grammar};

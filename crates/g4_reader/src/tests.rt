@@ -1,0 +1,175 @@
+// Texts and what they are, worked out by hand.
+use crate::read_grammar;
+use crate::reader::ReadFault;
+use g4_grammar::{Alternative, Atom, Element, Repeat, Rule};
+use std::alloc::{AllocError, Global};
+use std::fmt::Write;
+use std::test::Fail;
+
+fn push_atom(out: &mut String, atom: &Atom) -> Result<(), AllocError> {
+    match atom {
+        Atom::Token(name) => out.push_str(name.as_str()),
+        Atom::Literal(literal) => out.push_str(literal.written.as_str()),
+        Atom::Set(ranges) => {
+            out.push('[')?;
+            for range in ranges.as_slice() {
+                out.push(range.first)?;
+                out.push(range.last)?;
+            }
+            out.push(']')
+        }
+    }
+}
+
+#[cycle(shown)]
+fn push_element(out: &mut String, element: &Element<Atom>) -> Result<(), AllocError> {
+    match element {
+        Element::Atom(atom) => push_atom(out, atom),
+        Element::Block(repeat, alternatives) => {
+            out.push('(')?;
+            for alternative in alternatives {
+                push_alternative(out, alternative)?;
+            }
+            out.push_str(match repeat {
+                Repeat::Once => ")",
+                Repeat::Star => ")*",
+                Repeat::Plus => ")+",
+            })
+        }
+    }
+}
+
+#[cycle(shown)]
+fn push_alternative(out: &mut String, alternative: &Alternative<Atom>) -> Result<(), AllocError> {
+    out.push('|')?;
+    for element in &alternative.elements {
+        out.push(' ')?;
+        push_element(out, element)?;
+    }
+    Ok(())
+}
+
+fn push_elements(out: &mut String, elements: &[Element<Atom>]) -> Result<(), AllocError> {
+    out.push_str(" |")?;
+    for element in elements {
+        out.push(' ')?;
+        push_element(out, element)?;
+    }
+    Ok(())
+}
+
+fn push_rule(out: &mut String, rule: &Rule) -> Result<(), AllocError> {
+    match rule {
+        Rule::Parser(rule) => {
+            let name = rule.name.as_str();
+            write!(out, "; {name}:")?;
+            for elements in rule.alternatives.as_slice() {
+                push_elements(out, elements.as_slice())?;
+            }
+        }
+        Rule::Lexer(rule) => {
+            let name = rule.name.as_str();
+            write!(out, "; {name}:")?;
+            for alternative in rule.alternatives.as_slice() {
+                push_elements(out, alternative.elements.as_slice())?;
+                if alternative.skip {
+                    out.push_str(" skip")?;
+                }
+            }
+        }
+    }
+    Ok(())
+}
+
+/// What the text is, on one line.
+fn shown(alloc: Global, characters: &[char]) -> Result<String, Fail> {
+    if characters.len() > 16_777_216 {
+        return Ok(String::from_str(alloc, "too long")?);
+    }
+    let mut out = String::new(alloc);
+    match read_grammar(alloc, characters) {
+        Ok(source) => {
+            out.push_str(source.name.as_str())?;
+            for rule in source.rules.as_slice() {
+                push_rule(&mut out, rule)?;
+            }
+        }
+        Err(ReadFault::NoMemory) => out.push_str("no memory")?,
+        Err(ReadFault::Syntax(place, characters)) => {
+            let column = place.column;
+            write!(out, "{column} ")?;
+            for character in characters.as_slice() {
+                out.push(*character)?;
+            }
+        }
+    }
+    Ok(out)
+}
+
+#[test]
+fn reads_what_texts_are(rt: HostRuntime) -> Result<(), Fail> {
+    let alloc = rt.alloc();
+    let texts = [
+        ("grammar g;", "g"),
+        ("grammar g; r : A 'x' ;", "g; r: | A 'x'"),
+        ("grammar g; r : ;", "g; r: |"),
+        ("grammar g; r : | A | ;", "g; r: | | A |"),
+        ("grammar g; r : A* 'x'+ B ;", "g; r: | (| A)* (| 'x')+ B"),
+        (
+            "grammar g; r : (A | B C)* ( ) (|A)+ ;",
+            "g; r: | (| A| B C)* (|) (|| A)+",
+        ),
+        ("grammar g; r : ((A)*)+ | B ;", "g; r: | (| (| A)*)+ | B"),
+        (
+            "grammar G; T : 'x'+ [ab] -> skip | ('y' | [c]*)* ;",
+            "G; T: | (| 'x')+ [aabb] skip | (| 'y'| (| [cc])*)*",
+        ),
+        (
+            "grammar G; T : -> skip | ; s : T ;",
+            "G; T: | skip |; s: | T",
+        ),
+        ("grammar g; r : A** ;", "17 *"),
+        ("grammar g; r : A*? ;", "17 ?"),
+        ("grammar g; r : A? ;", "16 ?"),
+        ("grammar g; r : * ;", "15 *"),
+        ("grammar g; r : (A ;", "18 ;"),
+        ("grammar g; r : A) ;", "16 )"),
+        ("grammar g; r : A -> skip ;", "17 ->"),
+        ("grammar g; r : s ;", "15 s"),
+        ("grammar g; T : ('x' -> skip) ;", "20 ->"),
+        ("grammar g; T : U ;", "15 U"),
+        ("grammar g; T : 'x' -> more ;", "22 more"),
+        ("grammar g; T : 'x' -> skip 'y' ;", "27 'y'"),
+        ("grammar ;", "8 ;"),
+        ("grammars g;", "0 grammars"),
+        ("grammar g; r : (A", "17 <EOF>"),
+    ];
+    for (text, expected) in texts {
+        let characters: Vec<char> = text.chars().collect(alloc)?;
+        assert_eq!(rt; shown(alloc, &characters)?.as_str(), expected, "{text}");
+    }
+    Ok(())
+}
+
+/// A grammar text with so many brackets, one in another.
+fn nested(alloc: Global, count: usize) -> Result<Vec<char>, AllocError> {
+    let mut characters: Vec<char> = "grammar g; r :".chars().collect(alloc)?;
+    for _ in 0..count {
+        characters.push('(')?;
+    }
+    for _ in 0..count {
+        characters.push(')')?;
+    }
+    characters.push(';')?;
+    Ok(characters)
+}
+
+#[test]
+fn reads_brackets_as_deep_as_they_may_be(rt: HostRuntime) -> Result<(), Fail> {
+    let alloc = rt.alloc();
+    let deep = shown(alloc, &nested(alloc, 4096)?)?;
+    let deeper = shown(alloc, &nested(alloc, 4097)?)?;
+    assert_eq!(rt; deep.len(), 7 + 4 * 4096);
+    assert_eq!(rt; deeper.as_str(), "no memory");
+    Ok(())
+}
