@@ -1,6 +1,7 @@
 // The faults of a grammar's rules.
 ghost use Rattle.g4_checks.specs.Checking.{IsChecked};
 
+use crate::rule::{has_empty_loop, name};
 use g4_base::Text;
 use g4_grammar::Source;
 use std::alloc::{AllocError, Global};
@@ -28,7 +29,10 @@ impl From<AllocError> for CheckFault {
 pub fn check(alloc: Global, source: &Source) -> Result<(), CheckFault>
     ensures { IsChecked source.now.rules result }
 {
-    let _ = alloc;
-    let _ = source;
-    Err(CheckFault::NoMemory)
+    for rule in source.rules.as_slice() {
+        if has_empty_loop(rule) {
+            return Err(CheckFault::EmptyLoop(Text::copy_of(alloc, name(rule))?));
+        }
+    }
+    Ok(())
 }

@@ -2,5 +2,9 @@
 #![tactic(auto)]
 
 mod checking;
+mod found;
+mod rule;
+#[cfg(test)]
+mod tests;
 
 pub use checking::{CheckFault, check};

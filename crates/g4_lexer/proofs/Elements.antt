@@ -1,62 +1,208 @@
--- The counts that a rule's elements match, found one element after another.
-use Rattle.std.proofs.Common.{◌≡◌, ℕ, ◌+◌, ◌-◌, ◌≤◌, ◌↔◌, List, [], ◌∷◌, ◌++◌, length, take, drop, Bool, refl, sym, ap, ◌∙◌, subst, arith}
-use Rattle.std.proofs.lemmas.List.{length-take, length-drop}
-use Rattle.g4_grammar.specs.declared.source.LexElement.{LexElement}
-use Rattle.g4_lexer.specs.Matching.{MatchesBy, Matches, nothing, one_more}
-use Rattle.g4_lexer.specs.Counts.{Has, IsPart, IsEnd}
+-- The ends of elements, found from those of what they are made of.
+use Rattle.std.proofs.Common.{◌≡◌, ℕ, ◌-◌, ◌≤◌, ◌⊎◌, ◌↔◌, inl, inr, List, [], ◌++◌, length, take, drop, true, refl, sym, ap, ◌∙◌, subst, append-nil, arith}
+use Rattle.g4_grammar.specs.declared.source.Atom.{Atom}
+use Rattle.g4_grammar.specs.Characters.{ReadsCharacters}
+use Rattle.g4_grammar.specs.Elements.{Element, atom, block, star, plus, Elements, empty, then, Alternatives, none, or}
+use Rattle.g4_grammar.specs.Derives.{Derives, DerivesAll, DerivesOne, an_atom, a_block, turns, nothing, one_more, this, another}
+use Rattle.g4_lexer.specs.declared.counts.Counts.{Counts}
+use Rattle.g4_lexer.specs.Counts.{Has, Fits, IsNone, IsEnd, Adds, Closes}
+use Rattle.g4_lexer.proofs.Counted.{Has_below}
 use Rattle.g4_lexer.proofs.Parts.{part_join, part_split}
-use Rattle.g4_lexer.proofs.Turns.{Has_below}
+use Rattle.g4_lexer.proofs.Turns.{no_part, part_none}
 
--- the front of a text as a part of it
-front_part : (P : List ℕ → Type 0) (text : List ℕ) (n : ℕ) → IsPart P text 0 n → P (take n text)
-front_part P text n p = let e : n - 0 ≡ n = omega arith in subst (λ k. P (take k text)) e p.matched
+-- the words of an element
+abbrev pub Words : Element Atom → List ℕ → Type 0
+Words x w = Derives ReadsCharacters [] x w
 
-part_front : (P : List ℕ → Type 0) (text : List ℕ) (n : ℕ) → n ≤ length text → P (take n text) → IsPart P text 0 n
-part_front P text n within p = let e : n - 0 ≡ n = omega arith in record { ordered = omega arith; within = within; matched = subst (λ k. P (take k text)) (sym e) p }
+-- the words of elements one after another
+abbrev pub WordsInOrder : Elements Atom → List ℕ → Type 0
+WordsInOrder xs w = DerivesAll ReadsCharacters [] xs w
 
-module _ (elements : List LexElement) (text : List ℕ) where
-  -- The elements match a front of the text exactly where the rest of them match on from a count that is found.
-  pub record Counted (found : List Bool) (rest : List LexElement) : Type 0 where
-    pub all : (n : ℕ) → n ≤ length text → Matches elements (take n text) → IsEnd (Matches rest) text found n
-    pub only : (n : ℕ) → IsEnd (Matches rest) text found n → Matches elements (take n text)
+-- the words of alternatives
+abbrev pub WordsOfEither : Alternatives Atom → List ℕ → Type 0
+WordsOfEither xs w = DerivesOne ReadsCharacters [] xs w
 
-  -- at first all elements are left, and 0 is found
-  pub counted_none : (found : List Bool) → ((n : ℕ) → Has found n ↔ (n ≡ 0)) → Counted found elements
-  counted_none found is = record {
-    all = λ n within m. (0, (is 0).1 refl, part_front (Matches elements) text n within m);
-    only = λ n e. front_part (Matches elements) text n (subst (λ k. IsPart (Matches elements) text k n) ((is e.0).0 e.1) e.2);
-  }
+-- ends of what is matched in other words
+end_as : (P Q : List ℕ → Type 0) (text : List ℕ) (starts : Counts) → ((w : List ℕ) → P w → Q w) → (n : ℕ) → IsEnd P text starts n → IsEnd Q text starts n
+end_as P Q text starts is n e = (e.0, e.1, record { ordered = e.2.ordered; within = e.2.within; matched = is _ e.2.matched })
 
-  -- the element's ends are found in place of the element
-  pub counted_more : (found new : List Bool) (e : LexElement) (es : List LexElement) → Counted found (e ∷ es) → ((n : ℕ) → Has new n ↔ IsEnd (MatchesBy e.atom e.repeated) text found n) → Counted new es
-  counted_more found new e es w is = record {
-    all = λ n within m. let before = w.all n within m in onward n before.0 before.1 before.2 _ refl before.2.matched;
-    only = λ n after.
-        let before = (is after.0).0 after.1 in
-        w.only n (before.0, before.1, part_join (MatchesBy e.atom e.repeated) (Matches es) (Matches (e ∷ es)) text before.0 after.0 n (λ u v p q. one_more e es u v (u ++ v) p q refl) before.2 after.2);
-  }
-    where
-      onward : (n from : ℕ) → Has found from → IsPart (Matches (e ∷ es)) text from n → (w : List ℕ) → take (n - from) (drop from text) ≡ w → Matches (e ∷ es) w → IsEnd (Matches es) text new n
-      onward n from h p x q (one_more e es u v w m ms s) =
-          let parts = part_split (MatchesBy e.atom e.repeated) (Matches es) text from n u v p.ordered p.within (q ∙ s) m ms in
-          (parts.0, (is parts.0).1 (from, h, parts.1), parts.2)
+-- what is matched in other words
+adds_as : (P Q : List ℕ → Type 0) (text : List ℕ) (starts old new : Counts) → ((w : List ℕ) → P w → Q w) → ((w : List ℕ) → Q w → P w) → Adds P text starts old new → Adds Q text starts old new
+adds_as P Q text starts old new to from a = record {
+  members = λ n. (
+    λ h. elim ((a.members n).0 h) [ inl before ↦ inl before | inr e ↦ inr (end_as P Q text starts to n e) ],
+    λ e. elim e [ inl before ↦ (a.members n).1 (inl before) | inr e ↦ (a.members n).1 (inr (end_as Q P text starts from n e)) ],
+  );
+  first = a.first;
+  fits = a.fits;
+}
 
-  matches_nothing : (w : List ℕ) → Matches [] w → w ≡ []
-  matches_nothing w nothing = refl
+-- what is found apart is added
+adds_found : (P : List ℕ → Type 0) (text : List ℕ) (starts old found new : Counts) → ((n : ℕ) → Has found n ↔ IsEnd P text starts n) → ((n : ℕ) → Has new n ↔ (Has old n ⊎ Has found n)) → new.first ≡ old.first → Fits new text → Adds P text starts old new
+adds_found P text starts old found new is members first fits = record {
+  members = λ n. (
+    λ h. elim ((members n).0 h) [ inl before ↦ inl before | inr f ↦ inr ((is n).0 f) ],
+    λ e. elim e [ inl before ↦ (members n).1 (inl before) | inr e ↦ (members n).1 (inr ((is n).1 e)) ],
+  );
+  first = first;
+  fits = fits;
+}
 
-  -- at last no elements are left, and the counts are found
-  pub counted_all : (found : List Bool) → Counted found [] → length found ≤ length text + 1 → (n : ℕ) → Has found n ↔ ((n ≤ length text) × Matches elements (take n text))
-  counted_all found w bound n = (to, from)
-    where
-      to : Has found n → (n ≤ length text) × Matches elements (take n text)
-      to h =
-          let within : n ≤ length text = omega (arith, Has_below found n h) in
-          let none : n - n ≡ 0 = omega arith in
-          (within, w.only n (n, h, record { ordered = omega arith; within = within; matched = subst (λ k. Matches [] (take k (drop n text))) (sym none) nothing }))
+derives_atom : (a : Atom) (w : List ℕ) → Words (atom a) w → ReadsCharacters a w
+derives_atom a w (an_atom b v reads) = reads
 
-      from : (n ≤ length text) × Matches elements (take n text) → Has found n
-      from m =
-          let e = w.all n m.0 m.1 in
-          let none : length (take (n - e.0) (drop e.0 text)) ≡ 0 = ap length (matches_nothing _ e.2.matched) in
-          let same : e.0 ≡ n = omega (arith, none, length-take (n - e.0) (drop e.0 text), length-drop e.0 text, e.2.ordered, e.2.within) in
-          subst (Has found) same e.1
+-- an atom
+pub adds_atom : (a : Atom) (text : List ℕ) (starts old new : Counts) → Adds (ReadsCharacters a) text starts old new → Adds (Derives ReadsCharacters [] (atom a)) text starts old new
+adds_atom a text starts old new = adds_as (ReadsCharacters a) (Words (atom a)) text starts old new (an_atom a) (derives_atom a)
+
+derives_block : (xs : Alternatives Atom) (w : List ℕ) → Words (block xs) w → WordsOfEither xs w
+derives_block xs w (a_block ys v one) = one
+
+-- a block
+pub adds_block : (xs : Alternatives Atom) (text : List ℕ) (starts old new : Counts) → Adds (DerivesOne ReadsCharacters [] xs) text starts old new → Adds (Derives ReadsCharacters [] (block xs)) text starts old new
+adds_block xs text starts old new = adds_as (WordsOfEither xs) (Words (block xs)) text starts old new (a_block xs) (derives_block xs)
+
+-- a star: its turns are walked from a copy of the starts
+pub adds_star : (xs : Alternatives Atom) (text : List ℕ) (starts clear copy turned old new : Counts) → IsNone clear → ((n : ℕ) → Has copy n ↔ (Has clear n ⊎ Has starts n)) → Closes (Derives ReadsCharacters [] (star true xs)) text copy turned →
+    ((n : ℕ) → Has new n ↔ (Has old n ⊎ Has turned n)) → new.first ≡ old.first → Fits new text → Adds (Derives ReadsCharacters [] (star true xs)) text starts old new
+adds_star xs text starts clear copy turned old new is_none copied closes members first fits =
+    adds_found (Words (star true xs)) text starts old turned new (λ n. (
+      λ h. let e = (closes.members n).0 h in (e.0, elim ((copied e.0).0 e.1) [ inl h' ↦ absurd (is_none e.0 h') | inr s ↦ s ], e.2),
+      λ e. (closes.members n).1 (e.0, (copied e.0).1 (inr e.1), e.2),
+    )) members first fits
+
+-- a plus: its turns are walked from the ends of the first
+pub adds_plus : (xs : Alternatives Atom) (text : List ℕ) (starts clear once turned old new : Counts) → IsNone clear → Adds (DerivesOne ReadsCharacters [] xs) text starts clear once → Closes (Derives ReadsCharacters [] (star true xs)) text once turned →
+    ((n : ℕ) → Has new n ↔ (Has old n ⊎ Has turned n)) → new.first ≡ old.first → Fits new text → Adds (Derives ReadsCharacters [] (plus true xs)) text starts old new
+adds_plus xs text starts clear once turned old new is_none adds closes members first fits =
+    adds_found (Words (plus true xs)) text starts old turned new (λ n. (to n, from n)) members first fits
+  where
+    to : (n : ℕ) → Has turned n → IsEnd (Words (plus true xs)) text starts n
+    to n h =
+        let e = (closes.members n).0 h in
+        elim ((adds.members e.0).0 e.1) [
+          | inl h' ↦ absurd (is_none e.0 h')
+          | inr s ↦ (s.0, s.1, part_join (WordsOfEither xs) (Words (star true xs)) (Words (plus true xs)) text s.0 e.0 n (λ u v p q. turns true xs u v (u ++ v) p q refl) s.2 e.2)
+        ]
+
+    onward : (n start : ℕ) → Has starts start → start ≤ n → n ≤ length text → (w : List ℕ) → take (n - start) (drop start text) ≡ w → Words (plus true xs) w → Has turned n
+    onward n start h below within x is (turns g ys u v w one more e) =
+        let parts = part_split (WordsOfEither xs) (Words (star true xs)) text start n u v below within (is ∙ e) one more in
+        (closes.members n).1 (parts.0, (adds.members parts.0).1 (inr (start, h, parts.1)), parts.2)
+
+    from : (n : ℕ) → IsEnd (Words (plus true xs)) text starts n → Has turned n
+    from n e = onward n e.0 e.1 e.2.ordered e.2.within _ refl e.2.matched
+
+-- The ends of some alternatives are added: those of the rest are still to be added.
+pub record EitherLeft (text : List ℕ) (starts old : Counts) (all : Alternatives Atom) (ends : Counts) (rest : Alternatives Atom) : Type 0 where
+  pub to : (n : ℕ) → Has ends n ⊎ IsEnd (DerivesOne ReadsCharacters [] rest) text starts n → Has old n ⊎ IsEnd (DerivesOne ReadsCharacters [] all) text starts n
+  pub from : (n : ℕ) → Has old n ⊎ IsEnd (DerivesOne ReadsCharacters [] all) text starts n → Has ends n ⊎ IsEnd (DerivesOne ReadsCharacters [] rest) text starts n
+  pub first : ends.first ≡ old.first
+  pub fits : Fits ends text
+
+-- at first all alternatives are left
+pub either_none : (text : List ℕ) (starts old : Counts) (all : Alternatives Atom) → Fits old text → EitherLeft text starts old all old all
+either_none text starts old all fits = record { to = λ n h. h; from = λ n h. h; first = refl; fits = fits }
+
+one_of_or : (x : Elements Atom) (xs : Alternatives Atom) (w : List ℕ) → WordsOfEither (or x xs) w → WordsInOrder x w ⊎ WordsOfEither xs w
+one_of_or x xs w (this y ys v d) = inl d
+one_of_or x xs w (another y ys v d) = inr d
+
+none_of_none : (w : List ℕ) → WordsOfEither none w → ⊥
+none_of_none w d = elim d [ ]
+
+-- the ends of one more alternative are added
+pub either_more : (text : List ℕ) (starts old : Counts) (all : Alternatives Atom) (ends new : Counts) (x : Elements Atom) (xs : Alternatives Atom) → EitherLeft text starts old all ends (or x xs) → Adds (DerivesAll ReadsCharacters [] x) text starts ends new → EitherLeft text starts old all new xs
+either_more text starts old all ends new x xs w adds = record {
+  to = λ n h. w.to n (elim h [
+    | inl m ↦ elim ((adds.members n).0 m) [ inl before ↦ inl before | inr e ↦ inr (end_as (WordsInOrder x) (WordsOfEither (or x xs)) text starts (this x xs) n e) ]
+    | inr e ↦ inr (end_as (WordsOfEither xs) (WordsOfEither (or x xs)) text starts (another x xs) n e)
+  ]);
+  from = λ n h. elim (w.from n h) [
+    | inl m ↦ inl ((adds.members n).1 (inl m))
+    | inr e ↦ elim (one_of_or x xs _ e.2.matched) [
+      | inl d ↦ inl ((adds.members n).1 (inr (e.0, e.1, record { ordered = e.2.ordered; within = e.2.within; matched = d })))
+      | inr d ↦ inr (e.0, e.1, record { ordered = e.2.ordered; within = e.2.within; matched = d })
+    ]
+  ];
+  first = adds.first ∙ w.first;
+  fits = adds.fits;
+}
+
+-- at last no alternatives are left
+pub either_all : (text : List ℕ) (starts old : Counts) (all : Alternatives Atom) (ends : Counts) → EitherLeft text starts old all ends none → Adds (DerivesOne ReadsCharacters [] all) text starts old ends
+either_all text starts old all ends w = record {
+  members = λ n. (λ h. w.to n (inl h), λ h. elim (w.from n h) [ inl m ↦ m | inr e ↦ absurd (none_of_none _ e.2.matched) ]);
+  first = w.first;
+  fits = w.fits;
+}
+
+all_of_empty : (w : List ℕ) → WordsInOrder empty w → w ≡ []
+all_of_empty w nothing = refl
+
+-- what no elements match from the counts of a set ends there
+ends_of_empty : (text : List ℕ) (starts : Counts) → Fits starts text → (n : ℕ) → Has starts n ↔ IsEnd (WordsInOrder empty) text starts n
+ends_of_empty text starts within n = (
+  λ h. (n, h, part_none (WordsInOrder empty) text n (omega (arith, within, Has_below starts n h)) nothing),
+  λ e. subst (Has starts) (no_part text e.0 n e.2.ordered e.2.within (all_of_empty _ e.2.matched)) e.1,
+)
+
+-- no elements
+pub adds_empty : (text : List ℕ) (starts old new : Counts) → Fits starts text → ((n : ℕ) → Has new n ↔ (Has old n ⊎ Has starts n)) → new.first ≡ old.first → Fits new text → Adds (DerivesAll ReadsCharacters [] empty) text starts old new
+adds_empty text starts old new within members first fits =
+    adds_found (WordsInOrder empty) text starts old starts new (ends_of_empty text starts within) members first fits
+
+only_one : (x : Element Atom) (w : List ℕ) → Words x w → WordsInOrder (then x empty) w
+only_one x w d = one_more x empty w [] w d nothing (sym (append-nil w))
+
+from_only : (x : Element Atom) (w : List ℕ) → WordsInOrder (then x empty) w → Words x w
+from_only x w (one_more y ys u v z d rest e) = subst (Words x) (sym (e ∙ ap (λ t. u ++ t) (all_of_empty v rest) ∙ append-nil u)) d
+
+-- one element
+pub adds_only : (x : Element Atom) (text : List ℕ) (starts old new : Counts) → Adds (Derives ReadsCharacters [] x) text starts old new → Adds (DerivesAll ReadsCharacters [] (then x empty)) text starts old new
+adds_only x text starts old new = adds_as (Words x) (WordsInOrder (then x empty)) text starts old new (only_one x) (from_only x)
+
+-- Some elements are matched: from where they end the rest match on to where all end.
+pub record InOrderLeft (text : List ℕ) (starts : Counts) (all : Elements Atom) (found : Counts) (rest : Elements Atom) : Type 0 where
+  pub to : (n : ℕ) → IsEnd (DerivesAll ReadsCharacters [] rest) text found n → IsEnd (DerivesAll ReadsCharacters [] all) text starts n
+  pub from : (n : ℕ) → IsEnd (DerivesAll ReadsCharacters [] all) text starts n → IsEnd (DerivesAll ReadsCharacters [] rest) text found n
+  pub first : found.first ≡ starts.first
+  pub fits : Fits found text
+
+-- at first all elements are left
+in_order_none : (text : List ℕ) (starts : Counts) (all : Elements Atom) → Fits starts text → InOrderLeft text starts all starts all
+in_order_none text starts all fits = record { to = λ n e. e; from = λ n e. e; first = refl; fits = fits }
+
+-- one more element is matched
+pub in_order_more : (text : List ℕ) (starts : Counts) (all : Elements Atom) (found clear new : Counts) (x : Element Atom) (xs : Elements Atom) → InOrderLeft text starts all found (then x xs) → IsNone clear → clear.first ≡ starts.first → Adds (Derives ReadsCharacters [] x) text found clear new → InOrderLeft text starts all new xs
+in_order_more text starts all found clear new x xs w is_none begins adds = record {
+  to = λ n e. elim ((adds.members e.0).0 e.1) [
+    | inl h' ↦ absurd (is_none e.0 h')
+    | inr s ↦ w.to n (s.0, s.1, part_join (Words x) (WordsInOrder xs) (WordsInOrder (then x xs)) text s.0 e.0 n (λ u v p q. one_more x xs u v (u ++ v) p q refl) s.2 e.2)
+  ];
+  from = λ n e. let s = w.from n e in onward n s.0 s.1 s.2.ordered s.2.within _ refl s.2.matched;
+  first = adds.first ∙ begins;
+  fits = adds.fits;
+}
+  where
+    onward : (n start : ℕ) → Has found start → start ≤ n → n ≤ length text → (w : List ℕ) → take (n - start) (drop start text) ≡ w → WordsInOrder (then x xs) w → IsEnd (WordsInOrder xs) text new n
+    onward n start h below within z is (one_more y ys u v w d rest e) =
+        let parts = part_split (Words x) (WordsInOrder xs) text start n u v below within (is ∙ e) d rest in
+        (parts.0, (adds.members parts.0).1 (inr (start, h, parts.1)), parts.2)
+
+-- the first element is matched
+pub in_order_first : (text : List ℕ) (starts clear new : Counts) (x : Element Atom) (xs : Elements Atom) → Fits starts text → IsNone clear → clear.first ≡ starts.first → Adds (Derives ReadsCharacters [] x) text starts clear new → InOrderLeft text starts (then x xs) new xs
+in_order_first text starts clear new x xs fits is_none begins adds = in_order_more text starts (then x xs) starts clear new x xs (in_order_none text starts (then x xs) fits) is_none begins adds
+
+-- at last no elements are left
+pub in_order_all : (text : List ℕ) (starts old : Counts) (all : Elements Atom) (found new : Counts) → InOrderLeft text starts all found empty → ((n : ℕ) → Has new n ↔ (Has old n ⊎ Has found n)) → new.first ≡ old.first → Fits new text → Adds (DerivesAll ReadsCharacters [] all) text starts old new
+in_order_all text starts old all found new w members first fits =
+    adds_found (WordsInOrder all) text starts old found new (λ n. (λ h. w.to n ((ends_of_empty text found w.fits n).0 h), λ e. (ends_of_empty text found w.fits n).1 (w.from n e))) members first fits
+
+-- where no end is found, nothing is added
+pub in_order_stuck : (text : List ℕ) (starts old : Counts) (all : Elements Atom) (found : Counts) (rest : Elements Atom) → InOrderLeft text starts all found rest → IsNone found → Fits old text → Adds (DerivesAll ReadsCharacters [] all) text starts old old
+in_order_stuck text starts old all found rest w is_none fits = record {
+  members = λ n. (λ h. inl h, λ h. elim h [ inl m ↦ m | inr e ↦ (let s = w.from n e in absurd (is_none s.0 s.1)) ]);
+  first = refl;
+  fits = fits;
+}

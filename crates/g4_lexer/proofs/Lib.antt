@@ -1,5 +1,7 @@
 pub mod BestBelow
+pub mod Counted
 pub mod Elements
+pub mod Nodes
 pub mod Onward
 pub mod Parts
 pub mod Starts

@@ -1,6 +1,6 @@
 -- How far the tokens of a text are found.
-use Rattle.std.proofs.Common.{◌≡◌, ℕ, zero, suc, ◌+◌, ◌-◌, ◌≤◌, ◌<◌, true, false, cond, List, [], ◌∷◌, ◌++◌, length, take, drop, Ok, Err, Result, All, Contains, refl, sym, ap, ◌∙◌, subst, append_assoc, append-nil, get_or, arith}
-use Rattle.std.proofs.lemmas.Option.{get_or_from_slice_get}
+use Rattle.std.proofs.Common.{◌≡◌, ℕ, zero, suc, ◌+◌, ◌-◌, ◌≤◌, ◌<◌, Bool, true, false, cond, List, [], ◌∷◌, ◌++◌, length, take, drop, Ok, Err, Result, All, Contains, refl, sym, ap, ◌∙◌, subst, append_assoc, append-nil, get_or, arith}
+use Rattle.std.proofs.lemmas.Option.{get_or_from_slice_get, slice_get_within}
 use Rattle.std.proofs.lemmas.List.{drop_more, take_rest, length-take-le, length-drop, drop-drop, take_all, drop_all}
 use Rattle.std.proofs.lemmas.List.Elements.{All-push}
 use Rattle.std.proofs.Math.Seq.{take-add}
@@ -10,7 +10,8 @@ use Rattle.g4_grammar.specs.declared.numbered.TokenRule.{TokenRule}
 use Rattle.g4_net.specs.declared.token.Token.{Token}
 use Rattle.g4_net.specs.TokenList.{word_of, EndsInEnd}
 use Rattle.g4_base.specs.Symbols.{eof, end_of_list}
-use Rattle.g4_lexer.specs.Matching.{IsBest, NoMatch}
+use Rattle.g4_lexer.specs.Matching.{NoMatch}
+use Rattle.g4_lexer.specs.Best.{IsBestOfAll}
 use Rattle.g4_lexer.specs.Lexing.{Lexes, at_end, a_match, no_token, Position, Stuck, first_position, token_at, then_token, with_match, closing_at, closing_tokens}
 
 -- the place behind two pieces end to end
@@ -61,11 +62,9 @@ module _ (rules : List TokenRule) (text : List ℕ) where
   pub column_reached : (found : List Token) (start : ℕ) (place : Place) → Reached found start place → place.column ≤ start
   column_reached found start place r = omega (arith, ap (λ (p : Place). p.column) r.place_is, column_after first_place (take start text), length-take-le start text r.within)
 
-  -- the best match of the rest, with its rule as it is read
-  pub best_read : (start k n : ℕ) (rule : TokenRule) → ((r : TokenRule) × IsBest rules (take (length text - start) (drop start text)) k r n) → rule ≡ get_or rules k rule → IsBest rules (drop start text) k rule n
-  best_read start k n rule (r, best) read =
-      let same : r ≡ rule = sym (get_or_from_slice_get rules k r rule best.at) ∙ sym read in
-      subst (λ w. IsBest rules w k rule n) (take_rest text start) (subst (λ (x : TokenRule). IsBest rules (take (length text - start) (drop start text)) k x n) same best)
+  -- the best match of the rest, as the code has the rest
+  pub best_read : (start symbol n : ℕ) (skip : Bool) → IsBestOfAll rules (take (length text - start) (drop start text)) symbol n skip → IsBestOfAll rules (drop start text) symbol n skip
+  best_read start symbol n skip best = subst (λ (w : List ℕ). IsBestOfAll rules w symbol n skip) (take_rest text start) best
 
   -- at first no tokens are found
   pub reached_none : Reached [] 0 first_place
@@ -81,43 +80,44 @@ module _ (rules : List TokenRule) (text : List ℕ) where
       ap (λ (p : Place). place_after p (take n (drop start text))) is ∙ sym (place_after-append first_place (take start text) (take n (drop start text))) ∙ ap (λ w. place_after first_place w) (sym (take-add start n text))
 
   -- a match at the index, seen from behind it
-  behind : (start n k : ℕ) (place : Place) (rule : TokenRule) (more : Result (List Token) Stuck) → IsBest rules (drop start text) k rule n → Lexes rules (record { index = start + n; place = place_after place (take n (drop start text)) }) (drop (start + n) text) more → Lexes rules (record { index = start; place = place }) (drop start text) (with_match rule (record { index = start; place = place }) (take n (drop start text)) more)
-  behind start n k place rule more best l =
-      let long : length (take n (drop start text)) ≡ n = length-take-le n (drop start text) best.matches.within in
-      a_match (record { index = start; place = place }) (drop start text) k n rule more best
+  behind : (start n symbol : ℕ) (skip : Bool) (place : Place) (more : Result (List Token) Stuck) (b : IsBestOfAll rules (drop start text) symbol n skip) → Lexes rules (record { index = start + n; place = place_after place (take n (drop start text)) }) (drop (start + n) text) more →
+      Lexes rules (record { index = start; place = place }) (drop start text) (with_match b.rule b.alternative (record { index = start; place = place }) (take n (drop start text)) more)
+  behind start n symbol skip place more b l =
+      let long : length (take n (drop start text)) ≡ n = length-take-le n (drop start text) b.best.matches.within in
+      a_match (record { index = start; place = place }) (drop start text) b.k b.i n b.rule b.alternative more b.best
       (subst (λ i. Lexes rules (record { index = start + i; place = place_after place (take n (drop start text)) }) (drop n (drop start text)) more) (sym long)
       (subst (λ w. Lexes rules (record { index = start + n; place = place_after place (take n (drop start text)) }) w more) (sym (drop-drop n start text)) l))
 
-  within_behind : (start n k : ℕ) (rule : TokenRule) → start ≤ length text → IsBest rules (drop start text) k rule n → start + n ≤ length text
-  within_behind start n k rule within best = omega (arith, best.matches.within, length-drop start text)
+  within_behind : (start n symbol : ℕ) (skip : Bool) → start ≤ length text → IsBestOfAll rules (drop start text) symbol n skip → start + n ≤ length text
+  within_behind start n symbol skip within b = omega (arith, b.best.matches.within, length-drop start text)
 
   -- the next token is found
-  pub reached_token : (found : List Token) (start n k : ℕ) (place : Place) (rule : TokenRule) → Reached found start place → IsBest rules (drop start text) k rule n → rule.skip ≡ false → Reached (found ++ record { symbol = rule.symbol; place = place; start = start; end = start + n } ∷ []) (start + n) (place_after place (take n (drop start text)))
-  reached_token found start n k place rule r best skip = record {
-    within = within_behind start n k rule r.within best;
+  pub reached_token : (found : List Token) (start n symbol : ℕ) (skip : Bool) (place : Place) → Reached found start place → IsBestOfAll rules (drop start text) symbol n skip → skip ≡ false → Reached (found ++ record { symbol = symbol; place = place; start = start; end = start + n } ∷ []) (start + n) (place_after place (take n (drop start text)))
+  reached_token found start n symbol skip place r b kept = record {
+    within = within_behind start n symbol skip r.within b;
     place_is = place_behind start n place r.place_is;
     onward = λ more l.
-        let token : Token = record { symbol = rule.symbol; place = place; start = start; end = start + n } in
+        let token : Token = record { symbol = symbol; place = place; start = start; end = start + n } in
         let w = take n (drop start text) in
         let at : Position = record { index = start; place = place } in
-        let kept : with_match rule at w more ≡ then_token (token_at rule.symbol at w) more = ap (λ b. cond b more (then_token (token_at rule.symbol at w) more)) skip in
-        let long : length w ≡ n = length-take-le n (drop start text) best.matches.within in
-        let same : token_at rule.symbol at w ≡ token = ap (λ i. record { symbol = rule.symbol; place = place; start = start; end = start + i }) long in
-        let all : with_tokens found (with_match rule at w more) ≡ with_tokens (found ++ token ∷ []) more =
-        ap (λ (m : Result (List Token) Stuck). with_tokens found m) (kept ∙ ap (λ (t : Token). then_token t more) same) ∙ with_tokens-then_token found token more in
-        subst (λ (m : Result (List Token) Stuck). Lexes rules first_position text m) all (r.onward (with_match rule at w more) (behind start n k place rule more best l));
+        let shown : with_match b.rule b.alternative at w more ≡ then_token (token_at b.rule.symbol at w) more = ap (λ s. cond s more (then_token (token_at b.rule.symbol at w) more)) (sym b.skip_is ∙ kept) in
+        let long : length w ≡ n = length-take-le n (drop start text) b.best.matches.within in
+        let same : token_at b.rule.symbol at w ≡ token = ap (λ i. record { symbol = b.rule.symbol; place = place; start = start; end = start + i }) long ∙ ap (λ s. record { symbol = s; place = place; start = start; end = start + n }) (sym b.symbol_is) in
+        let all : with_tokens found (with_match b.rule b.alternative at w more) ≡ with_tokens (found ++ token ∷ []) more =
+        ap (λ (m : Result (List Token) Stuck). with_tokens found m) (shown ∙ ap (λ (t : Token). then_token t more) same) ∙ with_tokens-then_token found token more in
+        subst (λ (m : Result (List Token) Stuck). Lexes rules first_position text m) all (r.onward (with_match b.rule b.alternative at w more) (behind start n symbol skip place more b l));
   }
 
   -- a match is skipped
-  pub reached_skip : (found : List Token) (start n k : ℕ) (place : Place) (rule : TokenRule) → Reached found start place → IsBest rules (drop start text) k rule n → rule.skip ≡ true → Reached found (start + n) (place_after place (take n (drop start text)))
-  reached_skip found start n k place rule r best skip = record {
-    within = within_behind start n k rule r.within best;
+  pub reached_skip : (found : List Token) (start n symbol : ℕ) (skip : Bool) (place : Place) → Reached found start place → IsBestOfAll rules (drop start text) symbol n skip → skip ≡ true → Reached found (start + n) (place_after place (take n (drop start text)))
+  reached_skip found start n symbol skip place r b is = record {
+    within = within_behind start n symbol skip r.within b;
     place_is = place_behind start n place r.place_is;
     onward = λ more l.
         let w = take n (drop start text) in
         let at : Position = record { index = start; place = place } in
-        let dropped : with_match rule at w more ≡ more = ap (λ b. cond b more (then_token (token_at rule.symbol at w) more)) skip in
-        subst (λ (m : Result (List Token) Stuck). Lexes rules first_position text (with_tokens found m)) dropped (r.onward (with_match rule at w more) (behind start n k place rule more best l));
+        let dropped : with_match b.rule b.alternative at w more ≡ more = ap (λ s. cond s more (then_token (token_at b.rule.symbol at w) more)) (sym b.skip_is ∙ is) in
+        subst (λ (m : Result (List Token) Stuck). Lexes rules first_position text (with_tokens found m)) dropped (r.onward (with_match b.rule b.alternative at w more) (behind start n symbol skip place more b l));
   }
 
   -- no rule matches at the index
@@ -137,20 +137,20 @@ module _ (rules : List TokenRule) (text : List ℕ) where
       )
 
   -- the next token is found, as the code has it
-  pub next_token : (found found' : List Token) (start n k : ℕ) (place place' : Place) (rule : TokenRule) → Reached found start place → IsBest rules (drop start text) k rule n → rule.skip ≡ false →
-      found' ≡ found ++ record { symbol = rule.symbol; place = place; start = start; end = start + n } ∷ [] → place' ≡ place_after place (take n (take (length text - start) (drop start text))) → Reached found' (start + n) place'
-  next_token found found' start n k place place' rule r best skip found_is place_is =
+  pub next_token : (found found' : List Token) (start n symbol : ℕ) (skip : Bool) (place place' : Place) → Reached found start place → IsBestOfAll rules (drop start text) symbol n skip → skip ≡ false →
+      found' ≡ found ++ record { symbol = symbol; place = place; start = start; end = start + n } ∷ [] → place' ≡ place_after place (take n (take (length text - start) (drop start text))) → Reached found' (start + n) place'
+  next_token found found' start n symbol skip place place' r best kept found_is place_is =
       subst (λ (ts : List Token). Reached ts (start + n) place') (sym found_is)
-      (subst (λ (p : Place). Reached (found ++ record { symbol = rule.symbol; place = place; start = start; end = start + n } ∷ []) (start + n) p) (sym (place_is ∙ ap (λ w. place_after place (take n w)) (take_rest text start)))
-      (reached_token found start n k place rule r best skip))
+      (subst (λ (p : Place). Reached (found ++ record { symbol = symbol; place = place; start = start; end = start + n } ∷ []) (start + n) p) (sym (place_is ∙ ap (λ w. place_after place (take n w)) (take_rest text start)))
+      (reached_token found start n symbol skip place r best kept))
 
   -- a match is skipped, as the code has it
-  pub next_skip : (found found' : List Token) (start n k : ℕ) (place place' : Place) (rule : TokenRule) → Reached found start place → IsBest rules (drop start text) k rule n → rule.skip ≡ true →
+  pub next_skip : (found found' : List Token) (start n symbol : ℕ) (skip : Bool) (place place' : Place) → Reached found start place → IsBestOfAll rules (drop start text) symbol n skip → skip ≡ true →
       found' ≡ found → place' ≡ place_after place (take n (take (length text - start) (drop start text))) → Reached found' (start + n) place'
-  next_skip found found' start n k place place' rule r best skip found_is place_is =
+  next_skip found found' start n symbol skip place place' r best is found_is place_is =
       subst (λ (ts : List Token). Reached ts (start + n) place') (sym found_is)
       (subst (λ (p : Place). Reached found (start + n) p) (sym (place_is ∙ ap (λ w. place_after place (take n w)) (take_rest text start)))
-      (reached_skip found start n k place rule r best skip))
+      (reached_skip found start n symbol skip place r best is))
 
   -- no rule matches at the index, as the code has it
   pub stuck_at : (found : List Token) (start x : ℕ) (place : Place) → Reached found start place → start < length text → x ≡ get_or (take (length text - start) (drop start text)) 0 x →
@@ -162,8 +162,8 @@ module _ (rules : List TokenRule) (text : List ℕ) where
       reached_stuck found start x place (drop (start + 1) text) r whole (subst (λ (w : List ℕ). NoMatch rules w) (take_rest text start ∙ whole) none)
 
   -- a match ends within the text
-  pub ends_within : (found : List Token) (start n k : ℕ) (place : Place) (rule : TokenRule) → Reached found start place → IsBest rules (drop start text) k rule n → start + n ≤ length text
-  ends_within found start n k place rule r best = within_behind start n k rule r.within best
+  pub ends_within : (found : List Token) (start n symbol : ℕ) (skip : Bool) (place : Place) → Reached found start place → IsBestOfAll rules (drop start text) symbol n skip → start + n ≤ length text
+  ends_within found start n symbol skip place r best = within_behind start n symbol skip r.within best
 
 -- a front part of so many items has no more
 pub take_short : (n : ℕ) (xs : List ℕ) → length (take n xs) ≤ n
@@ -197,9 +197,9 @@ ends_in_end tokens found end is types =
     (word_of found ++ eof ∷ eof ∷ eof ∷ eof ∷ [], word_closed found end, low_lacks (word_of found ++ eof ∷ eof ∷ eof ∷ eof ∷ []) (word_low found types))
 
 -- one more token of a rule whose symbol is a token type
-pub types_more : (rules : List TokenRule) (found found' : List Token) (k : ℕ) (rule : TokenRule) (token : Token) → All (λ (r : TokenRule). r.symbol ≤ 4096) rules → k < length rules → rule ≡ get_or rules k rule → token.symbol ≡ rule.symbol →
+pub types_more : (rules : List TokenRule) (text : List ℕ) (found found' : List Token) (symbol n : ℕ) (skip : Bool) (token : Token) → All (λ (r : TokenRule). r.symbol ≤ 4096) rules → IsBestOfAll rules text symbol n skip → token.symbol ≡ symbol →
     found' ≡ found ++ token ∷ [] → All (λ (t : Token). t.symbol ≤ 4096) found → All (λ (t : Token). t.symbol ≤ 4096) found'
-types_more rules found found' k rule token types within is symbol found_is so_far =
-    let low : (get_or rules k rule).symbol ≤ 4096 = types k rule within in
-    let same : rule.symbol ≡ (get_or rules k rule).symbol = ap (λ (r : TokenRule). r.symbol) is in
-    subst (λ (ts : List Token). All (λ (t : Token). t.symbol ≤ 4096) ts) (sym found_is) (All-push (λ (t : Token). t.symbol ≤ 4096) found token so_far (omega arith))
+types_more rules text found found' symbol n skip token types b is found_is so_far =
+    let low : (get_or rules b.k b.rule).symbol ≤ 4096 = types b.k b.rule (slice_get_within rules b.k b.rule b.best.at.rule_is) in
+    let same : (get_or rules b.k b.rule).symbol ≡ b.rule.symbol = ap (λ (r : TokenRule). r.symbol) (get_or_from_slice_get rules b.k b.rule b.rule b.best.at.rule_is) in
+    subst (λ (ts : List Token). All (λ (t : Token). t.symbol ≤ 4096) ts) (sym found_is) (All-push (λ (t : Token). t.symbol ≤ 4096) found token so_far (omega (arith, low, same, is, b.symbol_is)))

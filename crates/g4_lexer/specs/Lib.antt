@@ -1,3 +1,4 @@
+pub mod Best
 pub mod Counts
 pub mod Lexing
 pub mod Matching

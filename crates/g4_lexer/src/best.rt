@@ -1,59 +1,103 @@
 // The best match at the front of a text.
-ghost use Rattle.std.specs.Prelude.{◌≡◌, ◌≤◌, ◌<◌, ◌↔◌, ℕ, length, take, IfOk, IfSome, MatchOption};
-ghost use Rattle.g4_grammar.specs.declared.numbered.TokenRule.{TokenRule};
-ghost use Rattle.g4_lexer.specs.Matching.{Matches, IsBest, NoMatch};
-ghost use Rattle.g4_lexer.specs.Counts.{Has, IsLongest};
+ghost use Rattle.std.specs.Prelude.{◌≡◌, ◌≤◌, length, IfOk, MatchOption};
+ghost use Rattle.g4_lexer.specs.Matching.{NoMatch};
+ghost use Rattle.g4_lexer.specs.Counts.{IsStart};
+ghost use Rattle.g4_lexer.specs.Best.{IsLongest, IsBestOfRule, IsBestOfAll};
 
 use crate::counts::Counts;
-use crate::ends::ends;
-use g4_grammar::{LexElement, TokenRule};
+use crate::ends::add_elements;
+use g4_grammar::{LexerAlternative, TokenRule};
 use std::alloc::{AllocError, Global};
 
-/// A match at the front of a text: the index of its rule, and how many characters it matches.
+/// The best match of an alternative of one rule: how many characters it matches, 0 where no alternative matches one,
+/// and whether they are dropped.
+#[derive(Clone, Copy)]
+struct Choice {
+    length: usize,
+    skip: bool,
+}
+
+/// The best match at the front of a text: the type of its token, how many characters it matches, and whether they are
+/// dropped.
 #[derive(Clone, Copy)]
 pub struct Match {
-    pub rule: usize,
+    pub symbol: u32,
     pub length: usize,
+    pub skip: bool,
 }
 
-/// How many characters the elements can match at the front of the text.
-fn counts(alloc: Global, elements: &[LexElement], text: &[char]) -> Result<Counts, AllocError>
-    requires { length text.now ≤ 16777216 }
-    ensures { IfOk result (λ found. (n : ℕ) → Has found.marks.items n ↔ ((n ≤ length text.now) × Matches elements.now (take n text.now))) }
+/// The most characters that the alternative matches at the front of the text, 0 where it matches none.
+fn longest(
+    alloc: Global,
+    alternative: &LexerAlternative,
+    text: &[char],
+    start: &Counts,
+) -> Result<usize, AllocError>
+    requires fits { length text.now ≤ 16777216 }
+    requires start { IsStart start.now }
+    ensures { IfOk result (λ n. IsLongest alternative.now text.now n) }
 {
-    let mut found = Counts::new(alloc);
-    found.add(0)?;
-    for element in elements {
-        found = ends(alloc, element, text, &found)?;
-    }
-    Ok(found)
-}
-
-/// The most characters that the rule matches at the front of the text, 0 where it matches none.
-fn longest(alloc: Global, rule: &TokenRule, text: &[char]) -> Result<usize, AllocError>
-    requires { length text.now ≤ 16777216 }
-    ensures { IfOk result (λ n. IsLongest rule.now text.now n) }
-{
-    let found = counts(alloc, rule.elements.as_slice(), text)?;
-    match found.greatest() {
+    let mut ends = Counts::new(alloc, 0);
+    add_elements(
+        alloc,
+        &mut ends,
+        alternative.elements.as_slice(),
+        text,
+        start,
+    )?;
+    match ends.greatest() {
         Some(count) => Ok(count),
         None => Ok(0),
     }
 }
 
+/// The longest match of the rule at the front of the text, of those as long the one of the alternative that stands
+/// first.
+fn best_of_rule(
+    alloc: Global,
+    rule: &TokenRule,
+    text: &[char],
+    start: &Counts,
+) -> Result<Choice, AllocError>
+    requires fits { length text.now ≤ 16777216 }
+    requires start { IsStart start.now }
+    ensures { IfOk result (λ b. IsBestOfRule rule.now text.now b.length b.skip) }
+{
+    let mut best = Choice {
+        length: 0,
+        skip: false,
+    };
+    for alternative in rule.alternatives.as_slice() {
+        let length = longest(alloc, alternative, text, start)?;
+        if length > best.length {
+            best = Choice {
+                length,
+                skip: alternative.skip,
+            };
+        }
+    }
+    Ok(best)
+}
+
 /// The longest match at the front of the text, of those as long the one whose rule stands first.
 pub fn best(alloc: Global, rules: &[TokenRule], text: &[char]) -> Result<Option<Match>, AllocError>
     requires { length text.now ≤ 16777216 }
-    ensures within { IfOk result (λ found. IfSome found (λ b. b.rule < length rules.now)) }
-    ensures best { IfOk result (λ found. MatchOption found (NoMatch rules.now text.now) (λ b. (rule : TokenRule) × IsBest rules.now text.now b.rule rule b.length)) }
+    ensures { IfOk result (λ found. MatchOption found (NoMatch rules.now text.now) (λ b. IsBestOfAll rules.now text.now b.symbol b.length b.skip)) }
 {
-    let mut best = Match { rule: 0, length: 0 };
-    for (index, rule) in rules.iter().enumerate() {
-        let length = longest(alloc, rule, text)?;
-        if length > best.length {
+    let mut start = Counts::new(alloc, 0);
+    start.set_only(0)?;
+    let mut best = Match {
+        symbol: 0,
+        length: 0,
+        skip: false,
+    };
+    for rule in rules {
+        let choice = best_of_rule(alloc, rule, text, &start)?;
+        if choice.length > best.length {
             best = Match {
-                rule: index,
-                length,
+                symbol: rule.symbol,
+                length: choice.length,
+                skip: choice.skip,
             };
         }
     }

@@ -1,19 +1,25 @@
-// The ends of an element's matches.
-ghost use Rattle.std.specs.Prelude.{◌≡◌, ◌+◌, ◌≤◌, ◌↔◌, ◌⊎◌, ℕ, length, IfOk, OnOk, max};
-ghost use Rattle.g4_lexer.specs.Matching.{MatchesAtom, MatchesTurns, MatchesBy};
-ghost use Rattle.g4_lexer.specs.Counts.{Has, IsPart, IsEnd};
+// The ends of the matches of elements.
+ghost use Rattle.std.specs.Prelude.{◌≡◌, ◌+◌, ◌≤◌, ◌↔◌, ◌⊎◌, ℕ, [], length, map, OnOk, true};
+ghost use Rattle.g4_grammar.specs.Characters.{ReadsCharacters};
+ghost use Rattle.g4_grammar.specs.Elements.{star, either};
+ghost use Rattle.g4_grammar.specs.Trees.{element_of, alternative_of, in_order, repeated};
+ghost use Rattle.g4_grammar.specs.Derives.{Derives, DerivesAll, DerivesOne};
+ghost use Rattle.g4_lexer.specs.Counts.{Has, Fits, HasRoom, IsPart, IsEnd, Adds, Closes};
 
 use crate::counts::Counts;
 use crate::turn::turn;
-use g4_grammar::{Atom, LexElement};
+use g4_grammar::{Alternative, Atom, Element, Repeat};
 use std::alloc::{AllocError, Global};
 
-/// Adds the end of the turn that begins at a count, if the atom matches there.
+/// Adds the end of the match that begins at a count, if the atom matches there.
 fn add_turn(ends: &mut Counts, atom: &Atom, text: &[char], start: usize) -> Result<(), AllocError>
     requires fits { length text.now ≤ 16777216 }
     requires within { start ≤ length text.now }
-    ensures members { OnOk result ((n : ℕ) → Has ends.new.marks.items n ↔ (Has ends.old.marks.items n ⊎ IsPart (MatchesAtom atom.now) text.now start n)) }
-    ensures bound { OnOk result (length ends.new.marks.items ≤ max (length ends.old.marks.items) (length text.now + 1)) }
+    requires room { Fits ends.old text.now }
+    requires ordered { ends.old.first ≤ start }
+    ensures members { OnOk result ((n : ℕ) → Has ends.new n ↔ (Has ends.old n ⊎ IsPart (ReadsCharacters atom.now) text.now start n)) }
+    ensures room { OnOk result (Fits ends.new text.now) }
+    ensures first { OnOk result (ends.new.first ≡ ends.old.first) }
 {
     match turn(atom, &text[start..]) {
         Some(length) => ends.add(start + length),
@@ -21,65 +27,148 @@ fn add_turn(ends: &mut Counts, atom: &Atom, text: &[char], start: usize) -> Resu
     }
 }
 
-/// The ends of one turn from each start.
-fn ends_of_one(
-    alloc: Global,
+/// Adds the ends of the atom's matches from each start.
+fn add_atom(
+    ends: &mut Counts,
     atom: &Atom,
     text: &[char],
     starts: &Counts,
-) -> Result<Counts, AllocError>
+) -> Result<(), AllocError>
     requires fits { length text.now ≤ 16777216 }
-    requires bound { length starts.now.marks.items ≤ length text.now + 1 }
-    ensures members { IfOk result (λ ends. (n : ℕ) → Has ends.marks.items n ↔ IsEnd (MatchesAtom atom.now) text.now starts.now.marks.items n) }
-    ensures bound { IfOk result (λ ends. length ends.marks.items ≤ length text.now + 1) }
+    requires room { HasRoom text.now starts.now ends.old }
+    ensures { OnOk result (Adds (ReadsCharacters atom.now) text.now starts.now ends.old ends.new) }
 {
-    let mut ends = Counts::new(alloc);
-    for start in 0..starts.bound() {
+    for start in starts.first()..starts.bound() {
         if starts.has(start) {
-            add_turn(&mut ends, atom, text, start)?;
+            add_turn(ends, atom, text, start)?;
         }
     }
-    Ok(ends)
+    Ok(())
 }
 
-/// The ends of one turn or more from each start.
-fn ends_of_turns(
+/// Adds to the ends of some turns of the alternatives those of more turns.
+#[cycle(ends)]
+fn add_turns(
     alloc: Global,
-    atom: &Atom,
+    ends: &mut Counts,
+    alternatives: &[Alternative<Atom>],
     text: &[char],
-    starts: &Counts,
-) -> Result<Counts, AllocError>
+) -> Result<(), AllocError>
     requires fits { length text.now ≤ 16777216 }
-    requires bound { length starts.now.marks.items ≤ length text.now + 1 }
-    ensures members { IfOk result (λ ends. (n : ℕ) → Has ends.marks.items n ↔ IsEnd (MatchesTurns atom.now) text.now starts.now.marks.items n) }
-    ensures bound { IfOk result (λ ends. length ends.marks.items ≤ length text.now + 1) }
+    requires room { Fits ends.old text.now }
+    ensures { OnOk result (Closes (Derives ReadsCharacters [] (star true (either (map alternative_of alternatives.now)))) text.now ends.old ends.new) }
 {
-    let mut ends = Counts::new(alloc);
-    let mut start = 0;
-    while start < starts.bound() || start < ends.bound() {
-        if starts.has(start) || ends.has(start) {
-            add_turn(&mut ends, atom, text, start)?;
+    let mut here = Counts::new(alloc, 0);
+    let mut count = ends.first();
+    while count < ends.bound() {
+        if ends.has(count) {
+            here.set_only(count)?;
+            add_either(alloc, ends, alternatives, text, &here)?;
         }
-        start += 1;
+        count += 1;
     }
-    Ok(ends)
+    Ok(())
 }
 
-/// The ends of an element's matches from each start.
-pub fn ends(
+/// Adds the ends of the alternatives' matches from each start.
+#[cycle(ends)]
+fn add_either(
     alloc: Global,
-    element: &LexElement,
+    ends: &mut Counts,
+    alternatives: &[Alternative<Atom>],
     text: &[char],
     starts: &Counts,
-) -> Result<Counts, AllocError>
+) -> Result<(), AllocError>
     requires fits { length text.now ≤ 16777216 }
-    requires bound { length starts.now.marks.items ≤ length text.now + 1 }
-    ensures members { IfOk result (λ ends. (n : ℕ) → Has ends.marks.items n ↔ IsEnd (MatchesBy element.now.atom element.now.repeated) text.now starts.now.marks.items n) }
-    ensures bound { IfOk result (λ ends. length ends.marks.items ≤ length text.now + 1) }
+    requires room { HasRoom text.now starts.now ends.old }
+    ensures { OnOk result (Adds (DerivesOne ReadsCharacters [] (either (map alternative_of alternatives.now))) text.now starts.now ends.old ends.new) }
 {
-    if element.repeated {
-        ends_of_turns(alloc, &element.atom, text, starts)
-    } else {
-        ends_of_one(alloc, &element.atom, text, starts)
+    for alternative in alternatives {
+        add_elements(alloc, ends, alternative.elements.as_slice(), text, starts)?;
     }
+    Ok(())
+}
+
+/// Adds the ends of the element's matches from each start.
+#[cycle(ends)]
+fn add_element(
+    alloc: Global,
+    ends: &mut Counts,
+    element: &Element<Atom>,
+    text: &[char],
+    starts: &Counts,
+) -> Result<(), AllocError>
+    requires fits { length text.now ≤ 16777216 }
+    requires room { HasRoom text.now starts.now ends.old }
+    ensures { OnOk result (Adds (Derives ReadsCharacters [] (element_of element.now)) text.now starts.now ends.old ends.new) }
+{
+    match element {
+        Element::Atom(atom) => add_atom(ends, atom, text, starts),
+        Element::Block(repeat, alternatives) => {
+            add_block(alloc, ends, *repeat, alternatives.as_slice(), text, starts)
+        }
+    }
+}
+
+/// Adds the ends of the block's matches from each start.
+#[cycle(ends)]
+fn add_block(
+    alloc: Global,
+    ends: &mut Counts,
+    repeat: Repeat,
+    alternatives: &[Alternative<Atom>],
+    text: &[char],
+    starts: &Counts,
+) -> Result<(), AllocError>
+    requires fits { length text.now ≤ 16777216 }
+    requires room { HasRoom text.now starts.now ends.old }
+    ensures { OnOk result (Adds (Derives ReadsCharacters [] (repeated repeat (either (map alternative_of alternatives.now)))) text.now starts.now ends.old ends.new) }
+{
+    match repeat {
+        Repeat::Once => add_either(alloc, ends, alternatives, text, starts),
+        Repeat::Star => {
+            let mut turns = Counts::new(alloc, starts.first());
+            turns.add_all(starts)?;
+            add_turns(alloc, &mut turns, alternatives, text)?;
+            ends.add_all(&turns)
+        }
+        Repeat::Plus => {
+            let mut turns = Counts::new(alloc, starts.first());
+            add_either(alloc, &mut turns, alternatives, text, starts)?;
+            add_turns(alloc, &mut turns, alternatives, text)?;
+            ends.add_all(&turns)
+        }
+    }
+}
+
+/// Adds the ends of the matches of elements one after another, from each start.
+#[cycle(ends)]
+pub fn add_elements(
+    alloc: Global,
+    ends: &mut Counts,
+    elements: &[Element<Atom>],
+    text: &[char],
+    starts: &Counts,
+) -> Result<(), AllocError>
+    requires fits { length text.now ≤ 16777216 }
+    requires room { HasRoom text.now starts.now ends.old }
+    ensures { OnOk result (Adds (DerivesAll ReadsCharacters [] (in_order (map element_of elements.now))) text.now starts.now ends.old ends.new) }
+{
+    let Some((first, more)) = elements.split_first() else {
+        return ends.add_all(starts);
+    };
+    if more.is_empty() {
+        return add_element(alloc, ends, first, text, starts);
+    }
+    let mut found = Counts::new(alloc, starts.first());
+    add_element(alloc, &mut found, first, text, starts)?;
+    for element in more {
+        if found.is_empty() {
+            return Ok(());
+        }
+        let mut next = Counts::new(alloc, starts.first());
+        add_element(alloc, &mut next, element, text, &found)?;
+        found = next;
+    }
+    ends.add_all(&found)
 }

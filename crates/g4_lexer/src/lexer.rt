@@ -71,11 +71,10 @@ pub fn tokens(alloc: Global, rules: &[TokenRule], text: &[char]) -> Result<Token
         let Some(matched) = best(alloc, rules, rest)? else {
             return Err(LexFault::NoToken(place, rest[0]));
         };
-        let rule = &rules[matched.rule];
         let end = start + matched.length;
-        if !rule.skip {
+        if !matched.skip {
             found.push(Token {
-                symbol: rule.symbol,
+                symbol: matched.symbol,
                 place,
                 start,
                 end,

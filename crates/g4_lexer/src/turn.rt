@@ -1,6 +1,6 @@
 // One turn of an atom.
 ghost use Rattle.std.specs.Prelude.{◌≡◌, ◌↔◌, ℕ, Some, IsTrue};
-ghost use Rattle.g4_lexer.specs.Matching.{IsInSet};
+ghost use Rattle.g4_grammar.specs.Characters.{IsInSet};
 ghost use Rattle.g4_lexer.specs.Counts.{IsTurn};
 
 use g4_grammar::{Atom, Range};
@@ -12,11 +12,12 @@ fn is_in_set(ranges: &[Range], character: char) -> bool
     ranges.iter().any(|range| range.first <= character && character <= range.last)
 }
 
-/// How many characters one turn of the atom matches at the front of the text, if it matches there.
+/// How many characters the atom matches at the front of the text, if it matches there.
 pub fn turn(atom: &Atom, text: &[char]) -> Option<usize>
     ensures { (n : ℕ) → (result ≡ Some n) ↔ IsTurn atom.now text.now n }
 {
     match atom {
+        Atom::Token(_) => None,
         Atom::Literal(literal) => {
             let characters = literal.characters.as_slice();
             if text.starts_with(characters) {

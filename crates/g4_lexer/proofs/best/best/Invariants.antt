@@ -1,10 +1,5 @@
-use Rattle.std.proofs.Common.{◌<◌, ◌≤◌, length}
-use Rattle.g4_lexer.proofs.BestBelow.{IsBestBelow}
+use Rattle.g4_lexer.proofs.BestBelow.{RulesBelow}
 use Rattle.g4_lexer.proofs.best.best.Given as goal
 
-abbrev pub invariant-loop-index : goal.invariant-loop-index
-invariant-loop-index l = record {
-  best : IsBestBelow l.rules l.text l.index l.best.rule l.best.length;
-  passed : l.best.rule ≤ l.index;
-  within : 1 ≤ l.best.length → l.best.rule < length l.rules;
-}
+abbrev pub invariant-loop-rule : goal.invariant-loop-rule
+invariant-loop-rule l = RulesBelow l.rules l.text l.rule-index l.best.symbol l.best.length l.best.skip

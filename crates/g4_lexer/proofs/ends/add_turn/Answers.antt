@@ -7,7 +7,7 @@ overflow_add-start c =
     let within = simp (length-take, length-drop) at ((c.in-Some.ensures c.in-Some.length).0 refl).0 in
     grind (arith, within)
 
-pub returns-in-Some-clause-bound : goal.returns-in-Some-clause-bound
-returns-in-Some-clause-bound c =
+pub returns-in-Some-clause-room : goal.returns-in-Some-clause-room
+returns-in-Some-clause-room c =
     let within = simp (length-take, length-drop) at ((c.in-Some.ensures c.in-Some.length).0 refl).0 in
     grind (arith, within)

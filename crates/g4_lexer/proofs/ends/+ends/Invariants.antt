@@ -1,0 +1,21 @@
+use Rattle.std.proofs.Common.{◌-◌, ◌+◌, ◌≤◌, length, map, drop}
+use Rattle.g4_grammar.specs.Elements.{either}
+use Rattle.g4_grammar.specs.Trees.{element_of, alternative_of, in_order}
+use Rattle.g4_lexer.proofs.Elements.{EitherLeft, InOrderLeft}
+use Rattle.g4_lexer.proofs.Turns.{Walked}
+use Rattle.g4_lexer.proofs.ends.+ends.Given as goal
+
+abbrev pub invariant-add_either-loop-alternative : goal.invariant-add_either-loop-alternative
+invariant-add_either-loop-alternative l = EitherLeft l.text l.starts l.initial.ends (either (map alternative_of l.alternatives)) l.ends (either (map alternative_of (drop l.alternative-index l.alternatives)))
+
+abbrev pub invariant-add_elements-loop-element : goal.invariant-add_elements-loop-element
+invariant-add_elements-loop-element l = InOrderLeft l.text l.starts (in_order (map element_of l.elements)) l.found (in_order (map element_of (drop l.element-index l.more)))
+
+abbrev pub invariant-add_turns-loop-count : goal.invariant-add_turns-loop-count
+invariant-add_turns-loop-count l = record {
+  walked : Walked (either (map alternative_of l.alternatives)) l.text l.initial.ends l.ends l.count;
+  ordered : l.ends.first ≤ l.count;
+}
+
+abbrev pub decreases-add_turns-loop-count : goal.decreases-add_turns-loop-count
+decreases-add_turns-loop-count l = (length l.text + 1) - l.count
