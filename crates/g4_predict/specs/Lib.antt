@@ -1,1 +1,4 @@
+pub mod Comparing
 pub mod Deciding
+pub mod EndOfList
+pub mod Verdicts

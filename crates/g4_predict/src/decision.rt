@@ -1,11 +1,13 @@
 // The alternative that prediction says at a decision.
-ghost use Rattle.std.specs.Prelude.{◌≡◌, ◌<◌, ◌≤◌, ◌^◌, ℕ, List, Some, All, length, drop, reverse};
+ghost use Rattle.std.specs.Prelude.{◌≡◌, ◌<◌, ◌≤◌, ◌^◌, ℕ, List, Some, All, length, drop, IfOk, reverse};
 ghost use Rattle.g4_net.specs.AddedRule.{IsRunnable, StandsApart};
 ghost use Rattle.g4_net.specs.declared.network.State.TheVariants.{Decision};
 ghost use Rattle.g4_net.specs.Network.{state_at};
 ghost use Rattle.g4_net.specs.TokenList.{EndsInEnd, word_of};
 ghost use Rattle.g4_predict.specs.Deciding.{IsDecided};
 
+use crate::full::{self, Settled};
+use crate::sll::{self, Verdict};
 use g4_net::{Network, Token};
 use std::alloc::{AllocError, Global};
 
@@ -28,6 +30,15 @@ impl From<AllocError> for DecideFault {
     }
 }
 
+/// The return states the other way.
+fn newest_first(alloc: Global, returns: &[u32]) -> Result<Vec<u32>, AllocError>
+    ensures { IfOk result (λ stack. stack.items ≡ reverse returns.now) }
+{
+    let mut stack = returns.to_vec(alloc)?;
+    stack.reverse();
+    Ok(stack)
+}
+
 /// The alternative, counted from 1, that prediction says at a decision, with the return states of the parser's stack, newest
 /// last, on the tokens from a place on.
 pub fn decide(
@@ -46,11 +57,16 @@ pub fn decide(
     requires few { length tokens.now < 2 ^ 32 }
     ensures { IsDecided net.now decision (reverse returns.now) (drop from (word_of tokens.now)) from result }
 {
-    let _ = alloc;
-    let _ = net;
-    let _ = decision;
-    let _ = returns;
-    let _ = tokens;
-    let _ = from;
-    Err(DecideFault::NoMemory)
+    let rest = &tokens[from as usize..];
+    match sll::simulate(alloc, net, decision, rest)? {
+        Verdict::Answer(alternative) => Ok(alternative),
+        Verdict::ErrorAt(k) => Err(DecideFault::NoViable { at: from + k }),
+        Verdict::Sensitive(_) => {
+            let stack = newest_first(alloc, returns)?;
+            match full::simulate(alloc, net, decision, stack.as_slice(), rest)? {
+                Settled::Chosen(alternative) => Ok(alternative),
+                Settled::NoViable(k) => Err(DecideFault::NoViable { at: from + k }),
+            }
+        }
+    }
 }

@@ -1,0 +1,127 @@
+-- What the verdicts mean for the choice of a decision.
+use Rattle.std.proofs.Common.{◌≡◌, All, reverse, ℕ, ◌+◌, ◌-◌, ◌<◌, ◌≤◌, List, [], ◌∷◌, ◌++◌, take, drop, length, Option, Some, None, refl, sym, ◌∙◌, ap, subst, arith, Contains, length-append, length-drop}
+use Rattle.std.proofs.lemmas.List.{take_rest, drop-map, drop-append-le, length-map}
+use Rattle.std.proofs.lemmas.List.Elements.{Contains-push, All-append, All-cons, All-head, All-tail}
+use Rattle.std.proofs.lemmas.Grind.{reverse_onto}
+use Rattle.g4_base.specs.Symbols.{end_of_list}
+use Rattle.g4_net.specs.declared.network.Network.{Network}
+use Rattle.g4_net.specs.declared.network.State.{State}
+use Rattle.g4_net.specs.declared.network.State.TheVariants.{Decision, End, Token, Call, Predicate, Level, Action, Empty}
+use Rattle.g4_net.specs.declared.token.Token as tokens
+use Rattle.g4_net.specs.AddedRule.{IsRunnable, StandsApart}
+use Rattle.g4_net.specs.Configurations.{wildcard, above_bottom}
+use Rattle.g4_net.specs.Lookahead.{Start}
+use Rattle.g4_net.specs.Network.{state_at, IsFirst}
+use Rattle.g4_net.specs.Prediction.{Any, Path, answer, error_at, Sll, Full, chosen, no_viable, IsTestBy, HasTests, by_answer, by_error, by_full}
+use Rattle.g4_net.specs.TokenList.{word_of, EndsInEnd}
+use Rattle.g4_predict.specs.declared.sll.Verdict as said
+use Rattle.g4_predict.specs.declared.sll.Verdict.TheVariants.{Answer, ErrorAt, Sensitive}
+use Rattle.g4_predict.specs.declared.full.Settled.{Settled}
+use Rattle.g4_predict.specs.declared.full.Settled.TheVariants.{Chosen, NoViable}
+use Rattle.g4_predict.specs.Deciding.{Chooses}
+use Rattle.g4_predict.specs.Verdicts.{verdict_of, choice_of}
+use Rattle.g4_predict.proofs.Settling.{begins_start, sll_tells, full_shows}
+
+-- the tokens from a place on
+abbrev pub from_on : ℕ → List tokens.Token → List tokens.Token
+from_on from ts = take (length ts - from) (drop from ts)
+
+-- their word
+pub word_from : (from : ℕ) (ts : List tokens.Token) → word_of (from_on from ts) ≡ drop from (word_of ts)
+word_from from ts = ap (λ (xs : List tokens.Token). word_of xs) (take_rest ts from) ∙ sym (drop-map (λ (t : tokens.Token). t.symbol) from ts)
+
+-- END is ahead from each place before the end
+ahead : (from : ℕ) (w : List ℕ) → EndsInEnd w → from < length w → Contains (drop from w) end_of_list
+ahead from w (front, is, once) less =
+    let long : length w ≡ length front + 1 = ap length is ∙ length-append front (end_of_list ∷ []) in
+    let below : from ≤ length front = omega arith in
+    let split : drop from w ≡ drop from front ++ end_of_list ∷ [] = ap (drop from) is ∙ drop-append-le from front (end_of_list ∷ []) below in
+    subst (λ (v : List ℕ). Contains v end_of_list) (sym split) (Contains-push (drop from front) end_of_list)
+
+pub ends_ahead : (from : ℕ) (ts : List tokens.Token) → EndsInEnd (word_of ts) → from < length ts → Contains (word_of (from_on from ts)) end_of_list
+ends_ahead from ts ends less =
+    let long : length (word_of ts) ≡ length ts = length-map ts (λ (t : tokens.Token). t.symbol) in
+    subst (λ (v : List ℕ). Contains v end_of_list) (sym (word_from from ts)) (ahead from (word_of ts) ends (omega arith))
+
+-- no state of a network without predicates and levels is a test
+no_test : (net : Network) (rule loop p : ℕ) → IsRunnable net rule loop → (o : Option State) → state_at net p ≡ o → IsTestBy o → ⊥
+no_test net rule loop p r (Some (Predicate k t)) is h = r.untested p (Predicate k t) is
+no_test net rule loop p r (Some (Level q t)) is h = r.untested p (Level q t) is
+no_test net rule loop p r (Some (Decision ts)) is h = h
+no_test net rule loop p r (Some (End rule')) is h = h
+no_test net rule loop p r (Some (Token set t)) is h = h
+no_test net rule loop p r (Some (Call rule' level back)) is h = h
+no_test net rule loop p r (Some (Action t)) is h = h
+no_test net rule loop p r (Some (Empty t)) is h = h
+no_test net rule loop p r None is h = h
+
+untested : (net : Network) (rule loop d : ℕ) → IsRunnable net rule loop → HasTests net d → ⊥
+untested net rule loop d r (i, t, first, test) = no_test net rule loop t r (state_at net t) refl test
+
+-- what the caller knows of the network
+abbrev pub Ready : Network → ℕ → List ℕ → Type 0
+Ready net d returns = (rule : ℕ) × (loop : ℕ) × IsRunnable net rule loop × StandsApart loop d returns
+
+-- what SLL said of the tokens from a place on
+abbrev pub Said : Network → ℕ → ℕ → List tokens.Token → said.Verdict → Type 0
+Said net d from ts v = (path : Path) × Sll net d (word_of (from_on from ts)) (verdict_of v) path
+
+-- and full stacks
+abbrev pub Settles : Network → ℕ → List ℕ → ℕ → List tokens.Token → Settled → Type 0
+Settles net d returns from ts s = Full net d Any (above_bottom returns) (word_of (from_on from ts)) (choice_of s)
+
+-- the word from a place on is as long as what is left
+long : (from : ℕ) (ts : List tokens.Token) → from < length ts → from + length (word_of (from_on from ts)) ≡ length ts
+long from ts less =
+    let a : length (word_of (from_on from ts)) ≡ length (drop from ts) = ap length (ap (λ (xs : List tokens.Token). word_of xs) (take_rest ts from)) ∙ length-map (drop from ts) (λ (t : tokens.Token). t.symbol) in
+    let b : length (drop from ts) ≡ length ts - from = length-drop from ts in
+    omega arith
+
+pub answered : (net : Network) (d from i : ℕ) (returns : List ℕ) (ts : List tokens.Token) (v : said.Verdict) → Ready net d returns → v ≡ Answer i → Said net d from ts v → Chooses net d returns (drop from (word_of ts)) (chosen i) × ((t : ℕ) × IsFirst net d i t)
+answered net d from i returns ts v (rule, loop, runnable, apart) is told =
+    let (path, sll) = subst (Said net d from ts) is told in
+    let w = word_of (from_on from ts) in (
+      subst (λ (u : List ℕ). Chooses net d returns u (chosen i)) (word_from from ts) (λ here. by_answer i path (untested net rule loop d runnable) sll),
+      sll_tells net d (Start net d Any wildcard) (begins_start net d wildcard) w 0 (length w) (omega arith) (answer i) path.looked sll.1,
+    )
+
+pub failed : (net : Network) (d from k : ℕ) (returns : List ℕ) (ts : List tokens.Token) (v : said.Verdict) → Ready net d returns → v ≡ ErrorAt k → Said net d from ts v → Chooses net d returns (drop from (word_of ts)) (no_viable k)
+failed net d from k returns ts v (rule, loop, runnable, apart) is told =
+    let (path, sll) = subst (Said net d from ts) is told in
+    subst (λ (u : List ℕ). Chooses net d returns u (no_viable k)) (word_from from ts) (λ here. by_error k path (untested net rule loop d runnable) sll)
+
+pub failed_within : (net : Network) (d from k : ℕ) (ts : List tokens.Token) (v : said.Verdict) → from < length ts → v ≡ ErrorAt k → Said net d from ts v → from + k < length ts
+failed_within net d from k ts v less is told =
+    let (path, sll) = subst (Said net d from ts) is told in
+    let w = word_of (from_on from ts) in
+    let below : k < length w = sll_tells net d (Start net d Any wildcard) (begins_start net d wildcard) w 0 (length w) (omega arith) (error_at k) path.looked sll.1 in
+    let all = long from ts less in
+    omega arith
+
+pub settled_on : (net : Network) (d from k i : ℕ) (returns : List ℕ) (ts : List tokens.Token) (v : said.Verdict) (s : Settled) → Ready net d returns → v ≡ Sensitive k → Said net d from ts v → s ≡ Chosen i → Settles net d returns from ts s → Chooses net d returns (drop from (word_of ts)) (chosen i) × ((t : ℕ) × IsFirst net d i t)
+settled_on net d from k i returns ts v s (rule, loop, runnable, apart) is told same settled =
+    let (path, sll) = subst (Said net d from ts) is told in
+    let full = subst (Settles net d returns from ts) same settled in
+    let w = word_of (from_on from ts) in (
+      subst (λ (u : List ℕ). Chooses net d returns u (chosen i)) (word_from from ts) (λ here. by_full k path (chosen i) (untested net rule loop d runnable) sll full),
+      full_shows net d (Start net d Any (above_bottom returns)) (begins_start net d (above_bottom returns)) w 0 (length w) (omega arith) (chosen i) full,
+    )
+
+pub settled_none : (net : Network) (d from k j : ℕ) (returns : List ℕ) (ts : List tokens.Token) (v : said.Verdict) (s : Settled) → Ready net d returns → v ≡ Sensitive k → Said net d from ts v → s ≡ NoViable j → Settles net d returns from ts s → Chooses net d returns (drop from (word_of ts)) (no_viable j)
+settled_none net d from k j returns ts v s (rule, loop, runnable, apart) is told same settled =
+    let (path, sll) = subst (Said net d from ts) is told in
+    let full = subst (Settles net d returns from ts) same settled in
+    subst (λ (u : List ℕ). Chooses net d returns u (no_viable j)) (word_from from ts) (λ here. by_full k path (no_viable j) (untested net rule loop d runnable) sll full)
+
+pub settled_within : (net : Network) (d from j : ℕ) (returns : List ℕ) (ts : List tokens.Token) (s : Settled) → from < length ts → s ≡ NoViable j → Settles net d returns from ts s → from + j < length ts
+settled_within net d from j returns ts s less same settled =
+    let full = subst (Settles net d returns from ts) same settled in
+    let w = word_of (from_on from ts) in
+    let below : j < length w = full_shows net d (Start net d Any (above_bottom returns)) (begins_start net d (above_bottom returns)) w 0 (length w) (omega arith) (no_viable j) full in
+    let all = long from ts less in
+    omega arith
+
+-- what all numbers of a list are, they are the other way
+pub all_reverse : (P : ℕ → Type 0) (xs : List ℕ) → All P xs → All P (reverse xs)
+all_reverse P [] all = all
+all_reverse P (x ∷ xs) all = subst (λ (ys : List ℕ). All P ys) (sym (reverse_onto xs x [])) (All-append P (reverse xs) (x ∷ []) (all_reverse P xs (All-tail P x xs all)) (All-cons P x [] (All-head P x xs all) (λ k d less. absurd (omega arith))))

@@ -1,0 +1,6 @@
+mod Apart
+mod Choosing
+mod Comparing
+mod Judging
+mod Looking
+mod Settling

@@ -1,0 +1,16 @@
+use Rattle.g4_predict.proofs.Looking.{simulating_start, simulating_next, simulated}
+use Rattle.g4_predict.proofs.sll.simulate.Goals as goal
+
+pub loop-k-init : goal.loop-k-init
+loop-k-init c =
+    simulating_start c.args.net.now c.args.decision c.args.tokens.now c.in_ok-configurations.configurations.items c.requires.ready c.in_ok-configurations.ensures.members c.in_ok-configurations.ensures.within c.requires.ends
+
+pub loop-k-preserved : goal.loop-k-preserved
+loop-k-preserved c =
+    simulating_next c.args.net.now c.args.decision c.args.tokens.now c.loop-k.k _ c.loop-k.configurations.items c.as_slice.result.now c.in_ok-configurations-2.configurations.items c.as_slice-in-loop-k.result.now
+    c.as_slice.ensures.value c.as_slice-in-loop-k.ensures.value c.loop-k-test.true c.in_ok-configurations-2.ensures.members c.in_ok-configurations-2.ensures.within c.in_default.ensures c.loop-k.invariant
+
+pub returns-in-Some : goal.returns-in-Some
+returns-in-Some c =
+    simulated c.args.net.now c.args.decision c.args.tokens.now c.loop-k.k _ c.loop-k.configurations.items c.as_slice.result.now c.in_ok-configurations-2.configurations.items c.as_slice-in-loop-k.result.now c.in-Some.verdict
+    c.as_slice.ensures.value c.as_slice-in-loop-k.ensures.value c.loop-k-test.true c.in_ok-configurations-2.ensures.members c.in-Some.ensures c.loop-k.invariant
