@@ -1,2 +1,5 @@
+mod Full
+mod Loops
 mod Named
+pub mod Nodes
 mod Numbers

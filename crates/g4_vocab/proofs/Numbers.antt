@@ -1,11 +1,11 @@
 -- Steps of the numbering of tokens.
-use Rattle.std.proofs.Common.{◌≡◌, ℕ, zero, suc, ◌+◌, ◌<◌, ◌≤◌, ◌⊎◌, inl, inr, List, [], ◌∷◌, ◌++◌, length, drop, get_or, Bool, true, false, cond, not, nat_lt, Some, None, refl, sym, ◌∙◌, ap, subst, arith, append_assoc, All}
+use Rattle.std.proofs.Common.{◌≡◌, ℕ, zero, suc, ◌+◌, ◌≤◌, ◌⊎◌, inl, inr, List, [], ◌∷◌, ◌++◌, length, Bool, true, false, cond, not, nat_lt, Some, None, refl, sym, ◌∙◌, ap, subst, arith, append_assoc, All}
 use Rattle.std.specs.List.{filter_map, position, position_or_len}
 use Rattle.std.specs.Option.{unwrap_or}
 use Rattle.std.proofs.lemmas.Bool.Decides.{nat_tests}
-use Rattle.std.proofs.lemmas.List.{drop_more, append-nil}
+use Rattle.std.proofs.lemmas.List.{append-nil}
 use Rattle.std.proofs.lemmas.List.Elements.{filter_map-append, filter-append, All-append}
-use Rattle.g4_grammar.specs.Numbering.{parser_rule, lexer_rule, first_appearances, has_key, has_rule, ruleless_literals, ruleless_names, literal_atom, name_atom, is_known, own_literals, other_names, numbered_of, numbered_grammar, greatest_type, numbered_from, literal_rule, token_rule, token_rules}
+use Rattle.g4_grammar.specs.Numbering.{parser_rule, lexer_rule, first_appearances, has_key, has_rule, ruleless_literals, ruleless_names, literal_atom, name_atom, is_known, own_literals, other_names, numbered_of, numbered_grammar, greatest_type, numbered_from, literal_rule, token_rule, token_rules, whole_literal, shown_rule}
 use Rattle.g4_grammar.specs.declared.source.Source.{Source}
 use Rattle.g4_grammar.specs.declared.source.Rule.{Rule}
 use Rattle.g4_grammar.specs.declared.source.Rule.TheVariants.{Parser, Lexer}
@@ -127,3 +127,11 @@ greatest_is source parsers lexers own others h o n =
     let whole : List ParserRule → List LexerRule → ℕ = λ ps ls. length (own_literals ps ls) + length ls + length (other_names ps ls) in
     ap (λ (ls : List Literal). length ls + length lexers + length others) o ∙ (ap (λ (ns : List (List ℕ)). length (own_literals parsers lexers) + length lexers + length ns) n ∙
     (ap (λ (ps : List ParserRule). whole ps lexers) h.parsers_are ∙ ap (λ (ls : List LexerRule). whole (filter_map parser_rule source.rules) ls) h.lexers_are))
+
+-- a rule that alone is a literal is shown as it
+pub shown_as_literal : (lexers : List LexerRule) (rule : LexerRule) (literal : Literal) → whole_literal rule.alternatives ≡ Some literal → has_rule lexers literal.characters ≡ true → literal.written ≡ shown_rule lexers rule
+shown_as_literal lexers rule literal is alone = rw (is, alone) refl
+
+-- one of several rules that are a literal is shown by its name
+pub shown_as_name : (lexers : List LexerRule) (rule : LexerRule) (literal : Literal) → whole_literal rule.alternatives ≡ Some literal → has_rule lexers literal.characters ≡ false → rule.name ≡ shown_rule lexers rule
+shown_as_name lexers rule literal is several = rw (is, several) refl

@@ -1,5 +1,5 @@
 -- What numbering answers.
-use Rattle.std.specs.Prelude.{◌≡◌, ◌≤◌, ◌<◌, ℕ, length, Result, Ok, Err}
+use Rattle.std.specs.Prelude.{◌≡◌, ◌≤◌, ◌<◌, length, Result, Ok, Err}
 use Rattle.g4_grammar.specs.Numbering.{numbered_grammar, greatest_type}
 use Rattle.g4_grammar.specs.declared.source.Source.{Source}
 use Rattle.g4_grammar.specs.declared.numbered.Numbered.{Numbered}

@@ -12,10 +12,14 @@ fn shown_rule<'a>(lexers: &[LexerRule], rule: &'a LexerRule) -> &'a str
     ensures { result.now ≡ shown_rule lexers.now rule.now }
 {
     match whole_literal(rule.alternatives.as_slice()) {
-        Some(literal) if has_rule(lexers, literal.characters.as_slice()) => {
-            literal.written.as_str()
+        Some(literal) => {
+            if has_rule(lexers, literal.characters.as_slice()) {
+                literal.written.as_str()
+            } else {
+                rule.name.as_str()
+            }
         }
-        _ => rule.name.as_str(),
+        None => rule.name.as_str(),
     }
 }
 

@@ -9,6 +9,8 @@ mod literal;
 mod name;
 mod numbering;
 mod symbol;
+#[cfg(test)]
+mod tests;
 mod token_rule;
 
 pub use numbering::{NumberFault, number};

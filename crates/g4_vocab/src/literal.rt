@@ -3,7 +3,7 @@ ghost use Rattle.std.specs.Prelude.{◌≡◌, ◌≤◌, IfOk, MatchOption, Non
 ghost use Rattle.std.specs.List.{position_or_len};
 ghost use Rattle.std.specs.Str.{bytes_eq};
 ghost use Rattle.g4_grammar.specs.Trees.{element_of, in_order};
-ghost use Rattle.g4_grammar.specs.Numbering.{has_rule, is_whole, whole_elements, whole_literal};
+ghost use Rattle.g4_grammar.specs.Numbering.{has_rule, is_whole, literal_atom, literal_element, whole_elements, whole_literal};
 
 use g4_base::{Sequence, Text};
 use g4_grammar::{Atom, Element, LexerAlternative, LexerRule, Literal};
@@ -21,12 +21,33 @@ pub fn copy_of(alloc: Global, literal: &Literal) -> Result<Literal, AllocError>
     })
 }
 
+/// The literal that the atom is.
+fn literal_atom(atom: &Atom) -> Option<&Literal>
+    ensures { MatchOption result (literal_atom atom.now ≡ None) (λ l. literal_atom atom.now ≡ Some l.now) }
+{
+    match atom {
+        Atom::Literal(literal) => Some(literal),
+        _ => None,
+    }
+}
+
+/// The literal that the element is.
+#[tactic(auto, using(g4_grammar::proofs::Trees::of_atom, crate::proofs::Nodes::block_is_none))]
+fn literal_element(element: &Element<Atom>) -> Option<&Literal>
+    ensures { MatchOption result (literal_element (element_of element.now) ≡ None) (λ l. literal_element (element_of element.now) ≡ Some l.now) }
+{
+    match element {
+        Element::Atom(atom) => literal_atom(atom),
+        Element::Block(..) => None,
+    }
+}
+
 /// The literal that is the whole of these elements.
 fn whole_elements(elements: &[Element<Atom>]) -> Option<&Literal>
     ensures { MatchOption result (whole_elements (in_order (map element_of elements.now)) ≡ None) (λ l. whole_elements (in_order (map element_of elements.now)) ≡ Some l.now) }
 {
     match elements {
-        [Element::Atom(Atom::Literal(literal))] => Some(literal),
+        [element] => literal_element(element),
         _ => None,
     }
 }
