@@ -1,3 +1,6 @@
 pub mod Answers
+pub mod Drafts
 pub mod Layout
+pub mod Rules
 pub mod Size
+pub mod Trees

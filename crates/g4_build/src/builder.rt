@@ -1,12 +1,16 @@
 // The network of a numbered grammar.
-ghost use Rattle.std.specs.Prelude.{◌≡◌};
+ghost use Rattle.std.specs.Prelude.{◌≡◌, ◌≤◌, ◌+◌, ◌*◌, ◌↔◌, IsTrue, length, sum_by};
 ghost use Rattle.std.specs.List.{position};
 ghost use Rattle.std.specs.Str.{bytes_eq};
 ghost use Rattle.g4_build.specs.Answers.{GivesNetwork};
+ghost use Rattle.g4_build.specs.Size.{states_of_rule};
 ghost use Rattle.g4_grammar.specs.Blocks.{NumberedHaveAlternatives};
 ghost use Rattle.g4_grammar.specs.Loops.{NumberedHaveNoEmptyLoop};
-ghost use Rattle.g4_grammar.specs.Numbering.{SpeakOfNamed};
+ghost use Rattle.g4_grammar.specs.Numbering.{SpeakOfNamed, alternatives_of_rule};
 
+use crate::calls::rules_call_none;
+use crate::count::past_rules;
+use crate::drawing::draw;
 use g4_grammar::{Numbered, NumberedRule};
 use g4_net::Network;
 use std::alloc::{AllocError, Global};
@@ -42,6 +46,16 @@ fn place_of(rules: &[NumberedRule], name: &str) -> Option<usize>
     rules.iter().position(|rule| rule.name.as_str() == name)
 }
 
+/// Whether the network of the rules has no more states than it may.
+fn fits(rules: &[NumberedRule]) -> bool
+    ensures { IsTrue result ↔ 2 * length rules.now + 7 + sum_by (λ r. states_of_rule (alternatives_of_rule r)) rules.now ≤ 65536 }
+{
+    if rules.len() > (MOST_STATES - 7) / 2 {
+        return false;
+    }
+    past_rules(MOST_STATES - 7 - 2 * rules.len(), rules).is_some()
+}
+
 /// The network of a numbered grammar whose added rule calls the rule of this name.
 pub fn build(alloc: Global, grammar: &Numbered, start: &str) -> Result<Network, BuildFault>
     requires named { SpeakOfNamed grammar.now.rules }
@@ -49,10 +63,14 @@ pub fn build(alloc: Global, grammar: &Numbered, start: &str) -> Result<Network, 
     requires loops { NumberedHaveNoEmptyLoop grammar.now.rules }
     ensures { GivesNetwork grammar.now start.now result }
 {
-    let _ = (
-        alloc,
-        place_of(grammar.rules.as_slice(), start),
-        MOST_STATES,
-    );
-    Err(BuildFault::NoMemory)
+    let rules = grammar.rules.as_slice();
+    let Some(place) = place_of(rules, start) else {
+        return Err(BuildFault::UnknownStart);
+    };
+    if !fits(rules) {
+        return Err(BuildFault::States);
+    }
+    rules_call_none(rules);
+    let net = draw(alloc, rules, place as u32 + 1)?;
+    Ok(net)
 }

@@ -1,4 +1,5 @@
 pub mod Blocks
+pub mod Calls
 pub mod Characters
 pub mod Derives
 pub mod Elements

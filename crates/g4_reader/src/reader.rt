@@ -1,5 +1,6 @@
 // The grammar that a text is.
 ghost use Rattle.std.specs.Prelude.{◌≡◌, ◌+◌, ◌<◌, ◌≤◌, IfOk, length, slice_get};
+ghost use Rattle.g4_grammar.specs.Blocks.{HaveAlternatives};
 ghost use Rattle.g4_reader.specs.Reading.{IsReading};
 ghost use Rattle.g4_reader.specs.Stages.{GivesReading, IsWithin, ReadsName, ReadsRule, ReadsRules, at_grammar, name_at, reading_from};
 
@@ -146,7 +147,8 @@ fn read_tokens(alloc: Global, text: &[char], tokens: &[Token]) -> Result<Source,
 /// The grammar that the text is, or the first fault of its tokens, or else its first syntax fault.
 pub fn read_grammar(alloc: Global, text: &[char]) -> Result<Source, ReadFault>
     requires fits { length text.now ≤ 16777216 }
-    ensures { IsReading text.now result }
+    ensures reading { IsReading text.now result }
+    ensures full { IfOk result (λ source. HaveAlternatives source.rules) }
 {
     match scan(alloc, text) {
         Ok(tokens) => read_tokens(alloc, text, tokens.as_slice()),

@@ -1,0 +1,129 @@
+// The states of rules, and the numbers of their alternatives.
+ghost use Rattle.std.specs.Prelude.{◌≡◌, ◌≤◌, ◌<◌, ◌+◌, ◌-◌, ◌*◌, ◌++◌, ℕ, List, [], ◌∷◌, map, IfOk, OnOk, length, replicate, slice_get, slice_index, slice_set, sum_by};
+ghost use Rattle.g4_grammar.specs.Blocks.{EachIsFull, IsSome, NumberedHaveAlternatives, AreFullAlternatives};
+ghost use Rattle.g4_grammar.specs.Numbering.{alternatives_of_rule};
+ghost use Rattle.g4_net.specs.Network.{start_of};
+ghost use Rattle.g4_build.specs.Drafts.{Among};
+ghost use Rattle.g4_build.specs.Rules.{marked, RuleIsLaid, HaveLaid};
+ghost use Rattle.g4_build.specs.Size.{states_of_rule};
+ghost use Rattle.g4_build.specs.Trees.{over_symbols, bodies_of};
+
+use crate::draft::{Bodies, lay_bodies, lay_run, link};
+use g4_base::Sequence;
+use g4_grammar::{Elements, NumberedRule};
+use g4_net::State;
+use std::alloc::{AllocError, Global};
+
+/// Adds so many zeros.
+pub fn pad(written: &mut Vec<u32>, count: usize) -> Result<(), AllocError>
+    ensures { OnOk result (written.new.items ≡ written.old.items ++ replicate count 0) }
+{
+    for _ in 0..count {
+        written.push(0)?;
+    }
+    Ok(())
+}
+
+/// Numbers the alternatives that begin at these states, from 1 on.
+fn mark(written: &mut Vec<u32>, firsts: &[u32])
+    requires within { (p : ℕ) → Among firsts.now p → p < length written.old.items }
+    requires few { length firsts.now ≤ 65536 }
+    ensures { written.new.items ≡ marked 1 firsts.now written.old.items }
+{
+    let mut number = 1;
+    for first in firsts {
+        written[*first as usize] = number;
+        number += 1;
+    }
+}
+
+/// Lays a rule of one alternative from its start to its end.
+fn lay_lone(
+    alloc: Global,
+    states: &mut Vec<State>,
+    written: &mut Vec<u32>,
+    rule: u32,
+    alternative: &Elements<u32>,
+) -> Result<(), AllocError>
+    requires full { EachIsFull (bodies_of (alternative.now ∷ [])) }
+    requires numbered { length written.old.items ≡ length states.old.items }
+    requires rule { start_of rule < length states.old.items }
+    requires room { length states.old.items + states_of_rule (bodies_of (alternative.now ∷ [])) ≤ 65536 }
+    ensures { OnOk result (RuleIsLaid states.old.items states.new.items written.old.items written.new.items rule (bodies_of (alternative.now ∷ []))) }
+{
+    let start = 2 * rule;
+    let last = lay_run(alloc, states, alternative.as_slice(), start)?;
+    states[last as usize] = State::Empty(start + 1);
+    pad(written, states.len() - written.len())?;
+    written[start as usize] = 1;
+    Ok(())
+}
+
+/// Lays a rule of several alternatives from its start to its end.
+fn lay_several(
+    alloc: Global,
+    states: &mut Vec<State>,
+    written: &mut Vec<u32>,
+    rule: u32,
+    alternatives: &[Elements<u32>],
+) -> Result<(), AllocError>
+    requires full { EachIsFull (bodies_of alternatives.now) }
+    requires several { 2 ≤ length alternatives.now }
+    requires numbered { length written.old.items ≡ length states.old.items }
+    requires rule { start_of rule < length states.old.items }
+    requires blank { slice_index written.old.items (start_of rule) ≡ 0 }
+    requires room { length states.old.items + states_of_rule (bodies_of alternatives.now) ≤ 65536 }
+    ensures { OnOk result (RuleIsLaid states.old.items states.new.items written.old.items written.new.items rule (bodies_of alternatives.now)) }
+{
+    let start = 2 * rule;
+    let bodies = lay_bodies(alloc, states, alternatives)?;
+    let Bodies { firsts, lasts } = bodies;
+    pad(written, states.len() - written.len())?;
+    mark(written, firsts.as_slice());
+    states[start as usize] = State::Decision(Sequence::new(firsts));
+    link(states, lasts.as_slice(), start + 1);
+    Ok(())
+}
+
+/// Lays a rule from its start to its end.
+fn lay_rule(
+    alloc: Global,
+    states: &mut Vec<State>,
+    written: &mut Vec<u32>,
+    rule: u32,
+    alternatives: &[Elements<u32>],
+) -> Result<(), AllocError>
+    requires full { AreFullAlternatives (map over_symbols alternatives.now) }
+    requires numbered { length written.old.items ≡ length states.old.items }
+    requires rule { start_of rule < length states.old.items }
+    requires blank { slice_index written.old.items (start_of rule) ≡ 0 }
+    requires room { length states.old.items + states_of_rule (bodies_of alternatives.now) ≤ 65536 }
+    ensures { OnOk result (RuleIsLaid states.old.items states.new.items written.old.items written.new.items rule (bodies_of alternatives.now)) }
+{
+    match alternatives {
+        [one] => lay_lone(alloc, states, written, rule, one),
+        several => lay_several(alloc, states, written, rule, several),
+    }
+}
+
+/// Lays the rules, the first of them being rule 1.
+pub fn lay_rules(
+    alloc: Global,
+    states: &mut Vec<State>,
+    written: &mut Vec<u32>,
+    rules: &[NumberedRule],
+) -> Result<(), AllocError>
+    requires full { NumberedHaveAlternatives rules.now }
+    requires numbered { length written.old.items ≡ length states.old.items }
+    requires heads { 2 * length rules.now + 2 ≤ length states.old.items }
+    requires blank { (p : ℕ) → 1 ≤ p → slice_index written.old.items p ≡ 0 }
+    requires room { length states.old.items + sum_by (λ r. states_of_rule (alternatives_of_rule r)) rules.now ≤ 65536 }
+    ensures { OnOk result (HaveLaid states.old.items states.new.items written.old.items written.new.items (length rules.now + 1) rules.now []) }
+{
+    let mut number = 1;
+    for rule in rules {
+        lay_rule(alloc, states, written, number, rule.alternatives.as_slice())?;
+        number += 1;
+    }
+    Ok(())
+}
