@@ -1,5 +1,5 @@
 -- A network that is drawn is the one that the grammar has.
-use Rattle.std.proofs.Common.{◌≡◌, ℕ, ◌+◌, ◌*◌, ◌<◌, ◌≤◌, ◌⊎◌, ◌↔◌, inl, inr, List, ◌∷◌, length, map, Bool, true, false, refl, sym, ◌∙◌, ap, subst, arith, Some, sum_by, IsTrue}
+use Rattle.std.proofs.Common.{◌≡◌, ℕ, ◌+◌, ◌*◌, ◌<◌, ◌≤◌, ◌⊎◌, ◌↔◌, inl, inr, List, ◌∷◌, length, map, Bool, true, false, subst, arith, Some, sum_by, IsTrue}
 use Rattle.std.specs.List.{position}
 use Rattle.std.specs.Str.{bytes_eq}
 use Rattle.g4_grammar.specs.Blocks.{NumberedHaveAlternatives}
@@ -10,7 +10,7 @@ use Rattle.g4_grammar.specs.Numbering.{SpeakOfNamed, alternatives_of_rule}
 use Rattle.g4_grammar.specs.declared.numbered.Numbered.{Numbered}
 use Rattle.g4_grammar.specs.declared.numbered.NumberedRule.{NumberedRule}
 use Rattle.g4_net.specs.declared.network.Network.{Network}
-use Rattle.g4_build.specs.Answers.{IsBuilt, rule_number, rules_of}
+use Rattle.g4_build.specs.Answers.{IsBuilt, rules_of}
 use Rattle.g4_build.specs.Layout.{IsNetworkOf}
 use Rattle.g4_build.specs.Rules.{IsDrawn}
 use Rattle.g4_build.specs.Size.{states_of_rule}
@@ -29,9 +29,9 @@ pub few_enough : (b : Bool) (n : ℕ) → b ≡ true → IsTrue b ↔ n ≤ 6553
 few_enough b n is test = test.0 is
 
 -- what is drawn from the place of the start rule is built
-pub built : (grammar : Numbered) (start : List ℕ) (place : ℕ) (rules : List NumberedRule) (net : Network) → SpeakOfNamed grammar.rules → NumberedHaveAlternatives grammar.rules → NumberedCallNone grammar.rules → NumberedHaveNoEmptyLoop grammar.rules →
+pub built : (grammar : Numbered) (start : List ℕ) (place : ℕ) (rules : List NumberedRule) (net : Network) → SpeakOfNamed grammar.rules → NumberedHaveAlternatives grammar.rules → NumberedHaveNoEmptyLoop grammar.rules → NumberedCallNone rules →
     rules ≡ grammar.rules → position (λ rule. bytes_eq rule.name start) grammar.rules ≡ Some place → 2 * length rules + 7 + sum_by (λ r. states_of_rule (alternatives_of_rule r)) rules ≤ 65536 → IsDrawn rules (place + 1) net → IsBuilt grammar start net
-built grammar start place rules net named full calls loops same at few is =
+built grammar start place rules net named full loops quiet same at few is =
     let known = known_at grammar start place at in
     let drawn : IsDrawn grammar.rules (place + 1) net = subst (λ (xs : List NumberedRule). IsDrawn xs (place + 1) net) same is in
     let fits : 2 * length grammar.rules + 7 + sum_by (λ r. states_of_rule (alternatives_of_rule r)) grammar.rules ≤ 65536 =
@@ -41,7 +41,7 @@ built grammar start place rules net named full calls loops same at few is =
       known = known.0;
       fits = fits;
       network = network;
-      runnable = runnable grammar start net named full calls loops (omega (arith, known.1, known.2)) network (omega (arith, drawn.size)) drawn.every_rule drawn.callers;
+      runnable = runnable grammar start net named full (subst NumberedCallNone same quiet) loops (omega (arith, known.1, known.2)) network (omega (arith, drawn.size)) drawn.every_rule drawn.callers;
       every_rule = drawn.every_rule;
       unwritten = drawn.unwritten;
     }

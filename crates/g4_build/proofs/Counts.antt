@@ -1,6 +1,6 @@
 -- The states of elements of the code, a layer at a time.
 use Rattle.std.specs.Option.{MatchOption, SomeIff}
-use Rattle.std.proofs.Common.{◌≡◌, ℕ, ◌+◌, ◌-◌, Option, Some, None, ◌<◌, ◌≤◌, ◌⊎◌, inl, inr, List, [], ◌∷◌, length, map, drop, get_or, refl, sym, ◌∙◌, ap, subst, arith, sum_by, Vec, Global}
+use Rattle.std.proofs.Common.{◌≡◌, ℕ, ◌+◌, ◌-◌, Option, Some, None, ◌<◌, ◌≤◌, ◌⊎◌, inl, inr, List, [], ◌∷◌, length, map, drop, get_or, refl, sym, ◌∙◌, ap, arith, sum_by, Vec, Global}
 use Rattle.std.proofs.lemmas.List.{at_drop_more}
 use Rattle.std.proofs.lemmas.List.Sums.{sum_by-cons}
 use Rattle.g4_grammar.specs.declared.element.Repeat.{Repeat}
@@ -9,7 +9,7 @@ use Rattle.g4_grammar.specs.declared.element.Element.TheVariants as nodes
 use Rattle.g4_grammar.specs.declared.element.Alternative.{Alternative as Side, out-Alternative}
 use Rattle.g4_grammar.specs.declared.numbered.NumberedRule.{NumberedRule}
 use Rattle.g4_grammar.specs.Numbering.{alternatives_of_rule}
-use Rattle.g4_grammar.specs.Elements.{Element, Elements, block}
+use Rattle.g4_grammar.specs.Elements.{Elements, block}
 use Rattle.g4_grammar.specs.Trees.{element_of, in_order, repeated}
 use Rattle.g4_build.specs.Size.{states_of, states_in_order, states_of_bodies, states_of_rule}
 use Rattle.g4_build.specs.Trees.{over_symbols, tree_of, side_of, run_of, sides_of, bodies_of}

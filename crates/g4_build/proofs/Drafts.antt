@@ -1,17 +1,16 @@
 -- States that are filled and made lie by the table.
-use Rattle.std.proofs.Common.{◌≡◌, ◌≢◌, ℕ, zero, suc, ◌+◌, ◌<◌, ◌≤◌, ◌⊎◌, inl, inr, List, [], ◌∷◌, ◌++◌, length, true, refl, sym, ◌∙◌, ap, subst, arith, get_or, slice_get, Some, None, append_assoc}
+use Rattle.std.proofs.Common.{◌≡◌, ◌≢◌, ℕ, zero, suc, ◌+◌, ◌<◌, ◌≤◌, ◌⊎◌, inl, inr, List, [], ◌∷◌, ◌++◌, length, true, refl, sym, ◌∙◌, ap, subst, arith, get_or, slice_get, Some}
 use Rattle.std.proofs.Math.ListN.{set}
 use Rattle.std.proofs.lemmas.List.{length-set, length-append}
-use Rattle.std.proofs.lemmas.Option.{slice_get_within}
-use Rattle.g4_grammar.specs.Elements.{Element, Elements, Alternatives, empty, then, none, or, only, Basic, symbol, block, star, plus}
+use Rattle.g4_grammar.specs.Elements.{Alternatives, Basic, symbol, block, star, plus}
 use Rattle.g4_net.specs.declared.network.Network.{Network}
 use Rattle.g4_net.specs.declared.network.State.{State}
-use Rattle.g4_net.specs.declared.network.State.TheVariants.{Decision, End, Token, Call, Empty}
+use Rattle.g4_net.specs.declared.network.State.TheVariants.{Decision, Token, Call, Empty}
 use Rattle.g4_net.specs.Network.{state_at}
-use Rattle.g4_build.specs.Drafts.{Among, linked, CallsNoMore, Grows, Shares, IsLaid, AreLaid, SharesBut, AreBeside, starred, choice_of, repeated_once, joined}
+use Rattle.g4_build.specs.Drafts.{Among, linked, CallsNoMore, Grows, Shares, IsLaid, AreBeside, starred, choice_of, repeated_once, joined}
 use Rattle.g4_build.specs.Layout as lay
 use Rattle.g4_build.specs.Layout.{Lies, LieInOrder, LieSideBySide, AllLeadTo}
-use Rattle.g4_build.specs.Size.{states_of, states_in_order, states_of_bodies}
+use Rattle.g4_build.specs.Size.{states_of, states_of_bodies}
 use Rattle.g4_build.proofs.Lists.{get_set_same, get_set_other, set_cases, get_left, get_right, append_cases, same_or_not}
 
 -- the state is no call

@@ -1,20 +1,20 @@
 -- The parts of a network of rules.
-use Rattle.std.proofs.Common.{◌≡◌, ◌≢◌, ℕ, zero, suc, ◌+◌, ◌-◌, ◌*◌, ◌<◌, ◌≤◌, ◌⊎◌, ◌↔◌, inl, inr, List, [], ◌∷◌, ◌++◌, length, map, drop, replicate, true, false, cond, ◌==◌, refl, sym, ◌∙◌, ap, subst, arith, get_or, slice_get, slice_index, Some, None, Contains, sum_by}
+use Rattle.std.proofs.Common.{◌≡◌, ◌≢◌, ℕ, zero, suc, ◌+◌, ◌*◌, ◌<◌, ◌≤◌, ◌⊎◌, ◌↔◌, inl, inr, List, [], ◌∷◌, ◌++◌, length, map, replicate, true, cond, ◌==◌, refl, sym, ◌∙◌, ap, subst, arith, get_or, slice_get, slice_index, Some, Contains, sum_by}
 use Rattle.std.proofs.Math.ListN.{set}
 use Rattle.std.proofs.lemmas.List.{length-append, length-set, length-map, get_or_past}
 use Rattle.std.proofs.lemmas.Bool.Decides.{nat_tests}
 use Rattle.std.proofs.lemmas.Option.{slice_get_within}
 use Rattle.g4_base.specs.Symbols.{eof, end_of_list}
-use Rattle.g4_grammar.specs.Elements.{Element, Elements, Alternatives, empty, then, none, or, only, Basic, added_rule, symbol, star, call}
+use Rattle.g4_grammar.specs.Elements.{empty, then, none, only, added_rule, symbol, star, call}
 use Rattle.g4_grammar.specs.Numbering.{alternatives_of_rule}
 use Rattle.g4_grammar.specs.declared.numbered.NumberedRule.{NumberedRule}
 use Rattle.g4_net.specs.declared.network.Network.{Network}
 use Rattle.g4_net.specs.declared.network.State.{State}
 use Rattle.g4_net.specs.declared.network.State.TheVariants.{Decision, End, Token, Call, Empty}
-use Rattle.g4_net.specs.Network.{state_at, start_of, end_of, written_at, IsFirst, IsReturn}
+use Rattle.g4_net.specs.Network.{state_at, end_of, written_at}
 use Rattle.g4_build.specs.Layout as lay
 use Rattle.g4_build.specs.Layout.{Lies, LieInOrder, LieSideBySide, LiesAsRule, RulesLie, IsNetworkOf}
-use Rattle.g4_build.specs.Rules.{HasHeads, HasCallers, IsDrawn, added_states, HaveLaid, SharesRules, StartsNone, HaveEnds, IsNoFirst}
+use Rattle.g4_build.specs.Rules.{HasHeads, HasCallers, IsDrawn, added_states, HaveLaid, SharesRules, IsNoFirst}
 use Rattle.g4_build.specs.Size.{states_of_rule}
 use Rattle.g4_build.proofs.Lists.{get_set_same, get_set_other, set_cases, get_left, get_right, append_cases, same_or_not, length_pushed}
 use Rattle.g4_build.proofs.RulesLaid.{zeros}

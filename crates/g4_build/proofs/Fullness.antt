@@ -1,7 +1,7 @@
 -- Trees whose atoms are symbols have alternatives where the trees before had.
 use Rattle.std.proofs.Common.{ℕ, List, [], ◌∷◌, map}
 use Rattle.g4_grammar.specs.Blocks.{IsSome, IsFull, AreFull, EachIsFull, AreFullAlternatives}
-use Rattle.g4_grammar.specs.Elements.{Element, atom, call, block, optional, star, plus, Elements, empty, then, Alternatives, none, or, either, Basic, over, in_order_over, either_over}
+use Rattle.g4_grammar.specs.Elements.{Element, atom, call, block, optional, star, plus, Elements, empty, then, Alternatives, none, or, either, over, in_order_over, either_over}
 use Rattle.g4_build.specs.Trees.{over_symbols}
 
 module _ {A B : Type 0} (f : A → B) where

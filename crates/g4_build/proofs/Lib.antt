@@ -1,19 +1,20 @@
-mod Added
-mod Built
-mod Counts
-mod Drafts
-mod Drawn
-mod Fullness
-mod Lists
-mod Named
-mod Onward
-mod PlainStates
-mod PlainTrees
-mod Rules
-mod RulesLaid
-mod Runnable
-mod Runs
-mod Settled
-mod Spans
-mod Trees
-mod Weights
+pub mod Trees
+pub mod Counts
+pub mod Lists
+pub mod Drafts
+pub mod Runs
+pub mod Weights
+pub mod Fullness
+pub mod RulesLaid
+pub mod Drawn
+pub mod Named
+pub mod Runnable
+pub mod Built
+pub mod Spans
+pub mod Settled
+pub mod PlainTrees
+pub mod PlainStates
+pub mod Onward
+pub mod Added
+pub mod Rules
+pub mod Quiet

@@ -1,23 +1,23 @@
 -- Rules that are laid, and the numbers of their alternatives.
-use Rattle.std.proofs.Common.{◌≡◌, ◌≢◌, ℕ, zero, suc, ◌+◌, ◌-◌, ◌*◌, ◌<◌, ◌≤◌, ◌⊎◌, inl, inr, List, [], ◌∷◌, ◌++◌, length, map, drop, replicate, refl, sym, ◌∙◌, ap, subst, arith, get_or, slice_get, slice_index, Some, sum_by}
+use Rattle.std.proofs.Common.{◌≡◌, ◌≢◌, ℕ, zero, suc, ◌+◌, ◌-◌, ◌<◌, ◌≤◌, ◌⊎◌, inl, inr, List, [], ◌∷◌, ◌++◌, length, map, drop, replicate, refl, sym, ◌∙◌, ap, subst, arith, get_or, slice_get, slice_index, Some}
 use Rattle.std.proofs.Math.ListN.{set}
 use Rattle.g4_grammar.specs.Blocks.{AreFullAlternatives, NumberedHaveAlternatives}
-use Rattle.std.proofs.lemmas.List.{length-append, at_drop_more, length-set, length-replicate, append-nil, get_or-set_same, get_or-set_other, get_or_append_left, get_or-append_right, get_or-replicate}
+use Rattle.std.proofs.lemmas.List.{length-append, at_drop_more, length-set, length-replicate, append-nil, get_or-set_same, get_or-set_other, get_or_append_left, get_or-append_right}
 use Rattle.std.proofs.lemmas.List.Sums.{sum_by-cons}
-use Rattle.g4_grammar.specs.Elements.{Element, Elements, Alternatives, empty, then, none, or, only, Basic}
+use Rattle.g4_grammar.specs.Elements.{Elements, Alternatives, only, Basic}
 use Rattle.g4_grammar.specs.Numbering.{alternatives_of_rule}
 use Rattle.g4_grammar.specs.declared.numbered.NumberedRule.{NumberedRule}
 use Rattle.g4_net.specs.declared.network.Network.{Network}
 use Rattle.g4_net.specs.declared.network.State.{State}
-use Rattle.g4_net.specs.declared.network.State.TheVariants.{Decision, End, Token, Call, Empty}
-use Rattle.g4_net.specs.Network.{state_at, start_of, end_of, written_at, IsFirst}
-use Rattle.g4_build.specs.Drafts.{Among, linked, CallsNoMore, Grows, Shares, AreLaid, SharesBut, IsRising, AreBeside}
+use Rattle.g4_net.specs.declared.network.State.TheVariants.{Decision, Empty}
+use Rattle.g4_net.specs.Network.{start_of, end_of, written_at}
+use Rattle.g4_build.specs.Drafts.{Among, linked, AreLaid, IsRising, AreBeside}
 use Rattle.g4_build.specs.Layout as lay
 use Rattle.g4_build.specs.Layout.{LieInOrder, LieSideBySide, AllLeadTo, AreWritten, LiesAsRule, RulesLie}
-use Rattle.g4_build.specs.Rules.{marked, SharesRule, RuleIsLaid, IsBefore, SharesRules, StartsNone, HaveEnds, HaveLaid}
+use Rattle.g4_build.specs.Rules.{marked, SharesRule, RuleIsLaid, IsBefore, SharesRules, HaveLaid}
 use Rattle.g4_build.specs.Size.{states_in_order, states_of_bodies, states_of_rule}
-use Rattle.g4_build.proofs.Lists.{get_set_same, get_set_other, same_or_not}
-use Rattle.g4_build.proofs.Drafts.{IsNoCall, set_calls, among_or_not, IsClosed, closed, HasClosed, has_closed, closed_grows}
+use Rattle.g4_build.proofs.Lists.{get_set_same, get_set_other}
+use Rattle.g4_build.proofs.Drafts.{IsNoCall, set_calls, IsClosed, closed, has_closed, closed_grows}
 
 -- padding keeps the numbers
 pub padded_left : (w : List ℕ) (k p : ℕ) → p < length w → get_or (w ++ replicate k 0) p 0 ≡ get_or w p 0

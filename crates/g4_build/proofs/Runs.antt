@@ -1,17 +1,16 @@
 -- Elements one after another and alternatives side by side, as far as they are laid.
-use Rattle.std.proofs.Common.{◌≡◌, ◌≢◌, ℕ, zero, suc, ◌+◌, ◌<◌, ◌≤◌, ◌⊎◌, inl, inr, List, [], ◌∷◌, ◌++◌, length, refl, sym, ◌∙◌, ap, subst, arith, slice_get, Some, append_assoc, Result, Ok, Err, IfOk}
+use Rattle.std.proofs.Common.{◌≡◌, ◌≢◌, ℕ, zero, suc, ◌+◌, ◌<◌, ◌≤◌, ◌⊎◌, inl, inr, List, [], ◌∷◌, ◌++◌, length, refl, ◌∙◌, subst, arith, slice_get, Some, append_assoc, Result, Ok, Err, IfOk}
 use Rattle.std.proofs.lemmas.List.{length-append, append-nil}
 use Rattle.g4_grammar.specs.Elements.{Element, Elements, Alternatives, empty, then, none, or, only, Basic, block}
 use Rattle.g4_net.specs.declared.network.Network.{Network}
 use Rattle.g4_net.specs.declared.network.State.{State}
-use Rattle.g4_net.specs.declared.network.State.TheVariants.{Call, Empty}
-use Rattle.g4_net.specs.Network.{state_at}
-use Rattle.g4_build.specs.Drafts.{Among, CallsNoMore, Grows, Shares, IsLaid, AreLaid, SharesBut, IsRising, AreBeside}
+use Rattle.g4_net.specs.declared.network.State.TheVariants.{Empty}
+use Rattle.g4_build.specs.Drafts.{Among, Grows, Shares, IsLaid, AreLaid, SharesBut, IsRising, AreBeside}
 use Rattle.g4_build.specs.Layout as lay
 use Rattle.g4_build.specs.Layout.{Lies, LieInOrder, LieSideBySide}
 use Rattle.g4_build.specs.Size.{states_of, states_in_order, states_of_bodies}
-use Rattle.g4_build.proofs.Lists.{get_left, same_or_not}
-use Rattle.g4_build.proofs.Drafts.{IsNoCall, append_calls, among_more, more_among, last_among}
+use Rattle.g4_build.proofs.Lists.{get_left}
+use Rattle.g4_build.proofs.Drafts.{IsNoCall, append_calls, among_more}
 
 -- the elements before the rest lie from s to t
 pub record HasLaid (old now : List State) (s t : ℕ) (all rest : Elements Basic) : Type 0 where

@@ -7,7 +7,7 @@ use Rattle.g4_grammar.specs.declared.element.Repeat.TheVariants.{Once, Star, Plu
 use Rattle.g4_grammar.specs.declared.element.Element.{Element as Node}
 use Rattle.g4_grammar.specs.declared.element.Element.TheVariants as nodes
 use Rattle.g4_grammar.specs.declared.element.Alternative.{Alternative as Side, out-Alternative}
-use Rattle.g4_grammar.specs.Elements.{Element, Elements, empty, then, Alternatives, none, or, only, either, Basic, one_of, symbol, over, in_order_over, either_over}
+use Rattle.g4_grammar.specs.Elements.{Elements, empty, then, Alternatives, none, or, only, either, Basic, one_of, symbol, over, either_over}
 use Rattle.g4_grammar.specs.Trees.{element_of, alternative_of, in_order, repeated}
 use Rattle.g4_grammar.proofs.Trees.{of_atom, of_block, of_alternative}
 use Rattle.g4_build.specs.Trees.{over_symbols, tree_of, side_of, run_of, sides_of, bodies_of}

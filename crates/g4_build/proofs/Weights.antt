@@ -2,7 +2,7 @@
 use Rattle.std.proofs.Common.{ℕ, zero, suc, ◌+◌, ◌≤◌, List, [], ◌∷◌, drop, arith}
 use Rattle.g4_grammar.specs.declared.element.Element.{Element as Node}
 use Rattle.g4_grammar.specs.declared.element.Alternative.{Alternative as Side}
-use Rattle.g4_build.specs.Trees.{tree_of, side_of, run_of, sides_of}
+use Rattle.g4_build.specs.Trees.{run_of, sides_of}
 use Rattle.g4_grammar.specs.Elements.{Element, atom, call, block, optional, star, plus, Elements, empty, then, Alternatives, none, or, Basic}
 
 abbrev mutual

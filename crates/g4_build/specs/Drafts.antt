@@ -1,12 +1,12 @@
 -- States while they are made. A state where something ends is open: it is filled once it is known what follows.
-use Rattle.std.specs.Prelude.{◌≡◌, ◌≢◌, ◌≤◌, ◌<◌, ◌⊎◌, ℕ, ◌+◌, List, [], ◌∷◌, ◌++◌, length, Some, slice_get, slice_index, slice_set}
+use Rattle.std.specs.Prelude.{◌≡◌, ◌≢◌, ◌≤◌, ◌<◌, ◌⊎◌, ℕ, ◌+◌, List, [], ◌∷◌, ◌++◌, length, Some, slice_get, slice_set}
 use Rattle.g4_grammar.specs.Elements.{Element, Elements, Alternatives, Basic}
 use Rattle.g4_net.specs.declared.network.Network.{Network}
 use Rattle.g4_net.specs.declared.network.State.{State}
-use Rattle.g4_net.specs.declared.network.State.TheVariants.{Decision, End, Call, Empty}
-use Rattle.g4_net.specs.Network.{state_at, start_of, end_of, written_at, IsFirst}
-use Rattle.g4_build.specs.Layout.{Lies, LieInOrder, LieSideBySide, LiesAsRule}
-use Rattle.g4_build.specs.Size.{states_of, states_in_order, states_of_bodies, states_of_rule}
+use Rattle.g4_net.specs.declared.network.State.TheVariants.{Decision, Call, Empty}
+use Rattle.g4_net.specs.Network.{state_at}
+use Rattle.g4_build.specs.Layout.{Lies, LieInOrder, LieSideBySide}
+use Rattle.g4_build.specs.Size.{states_of, states_in_order, states_of_bodies}
 
 -- the list has the number
 abbrev pub Among : List ℕ → ℕ → Type 0

@@ -1,5 +1,5 @@
 -- The states and numbers of rules while they are made.
-use Rattle.std.specs.Prelude.{◌≡◌, ◌≢◌, ◌≤◌, ◌<◌, ◌⊎◌, ℕ, ◌+◌, ◌*◌, List, [], ◌∷◌, ◌++◌, length, map, sum_by, Some, slice_get, slice_index, slice_set, true, false, Contains, ◌↔◌}
+use Rattle.std.specs.Prelude.{◌≡◌, ◌≢◌, ◌≤◌, ◌<◌, ◌⊎◌, ℕ, ◌+◌, ◌*◌, List, [], ◌∷◌, length, map, sum_by, Some, slice_get, slice_index, slice_set, Contains, ◌↔◌}
 use Rattle.g4_base.specs.Symbols.{eof, end_of_list}
 use Rattle.g4_grammar.specs.Elements.{Alternatives, Basic, added_rule}
 use Rattle.g4_grammar.specs.Numbering.{alternatives_of_rule}

@@ -8,7 +8,6 @@ ghost use Rattle.g4_grammar.specs.Blocks.{NumberedHaveAlternatives};
 ghost use Rattle.g4_grammar.specs.Loops.{NumberedHaveNoEmptyLoop};
 ghost use Rattle.g4_grammar.specs.Numbering.{SpeakOfNamed, alternatives_of_rule};
 
-use crate::calls::rules_call_none;
 use crate::count::past_rules;
 use crate::drawing::draw;
 use g4_grammar::{Numbered, NumberedRule};
@@ -47,7 +46,7 @@ fn place_of(rules: &[NumberedRule], name: &str) -> Option<usize>
 }
 
 /// Whether the network of the rules has no more states than it may.
-fn fits(rules: &[NumberedRule]) -> bool
+pub fn fits(rules: &[NumberedRule]) -> bool
     ensures { IsTrue result ↔ 2 * length rules.now + 7 + sum_by (λ r. states_of_rule (alternatives_of_rule r)) rules.now ≤ 65536 }
 {
     if rules.len() > (MOST_STATES - 7) / 2 {
@@ -70,7 +69,6 @@ pub fn build(alloc: Global, grammar: &Numbered, start: &str) -> Result<Network, 
     if !fits(rules) {
         return Err(BuildFault::States);
     }
-    rules_call_none(rules);
     let net = draw(alloc, rules, place as u32 + 1)?;
     Ok(net)
 }

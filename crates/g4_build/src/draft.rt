@@ -1,7 +1,8 @@
 // The states of elements while they are made. A state where something ends is filled once it is known what follows.
 ghost use Rattle.std.specs.Prelude.{◌≡◌, ◌≤◌, ◌<◌, ◌+◌, ◌++◌, ℕ, List, [], ◌∷◌, true, slice_set, IfOk, OnOk, length, All};
 ghost use Rattle.g4_grammar.specs.Blocks.{IsFull, AreFull, EachIsFull, IsSome};
-ghost use Rattle.g4_grammar.specs.Elements.{block, star, plus};
+ghost use Rattle.g4_grammar.specs.Calls.{EachCallsNone};
+ghost use Rattle.g4_grammar.specs.Elements.{block, star, plus, either};
 ghost use Rattle.g4_net.specs.declared.network.State.TheVariants.{Token, Empty};
 ghost use Rattle.g4_build.specs.Drafts.{Among, choice_of, linked, starred, repeated_once, joined, IsLaid, AreLaid, AreBeside};
 ghost use Rattle.g4_build.specs.Size.{states_of, states_in_order, states_of_bodies};
@@ -247,6 +248,7 @@ pub fn lay_bodies(
     requires room { length states.old.items + states_of_bodies (bodies_of alternatives.now) ≤ 65536 }
     ensures many { IfOk result (λ bodies. length bodies.firsts.items ≡ length alternatives.now) }
     ensures laid { IfOk result (λ bodies. AreBeside states.old.items states.new.items bodies.firsts.items bodies.lasts.items (bodies_of alternatives.now)) }
+    ensures quiet { IfOk result (λ _. EachCallsNone (either alternatives.now)) }
 {
     let mut firsts = Vec::new(alloc);
     let mut lasts = Vec::new(alloc);

@@ -1,6 +1,7 @@
 // The network of rules: heads, the added rule, the rules, and who calls them.
 ghost use Rattle.std.specs.Prelude.{◌≡◌, ◌≤◌, ◌<◌, ◌+◌, ◌*◌, ◌++◌, ◌==◌, ℕ, List, [], ◌∷◌, cond, IfOk, OnOk, length, slice_set, sum_by};
 ghost use Rattle.g4_grammar.specs.Blocks.{NumberedHaveAlternatives};
+ghost use Rattle.g4_grammar.specs.Calls.{NumberedCallNone};
 ghost use Rattle.g4_grammar.specs.Numbering.{alternatives_of_rule};
 ghost use Rattle.g4_net.specs.declared.network.State.TheVariants.{Call};
 ghost use Rattle.g4_build.specs.Rules.{HasHeads, HasCallers, IsDrawn, added_states};
@@ -81,7 +82,8 @@ pub fn draw(alloc: Global, rules: &[NumberedRule], start: u32) -> Result<Network
     requires low { 1 ≤ start }
     requires high { start ≤ length rules.now }
     requires room { 2 * length rules.now + 7 + sum_by (λ r. states_of_rule (alternatives_of_rule r)) rules.now ≤ 65536 }
-    ensures { IfOk result (λ net. IsDrawn rules.now start net) }
+    ensures drawn { IfOk result (λ net. IsDrawn rules.now start net) }
+    ensures quiet { IfOk result (λ _. NumberedCallNone rules.now) }
 {
     let count = rules.len() as u32 + 1;
     let mut states = heads(alloc, count)?;

@@ -2,12 +2,13 @@
 #![tactic(auto)]
 
 mod builder;
-mod calls;
 mod count;
 mod draft;
 mod drawing;
 mod law;
 mod rule;
+#[cfg(test)]
+mod tests;
 
 pub use builder::{BuildFault, build};
 pub use law::every_network_is_runnable;

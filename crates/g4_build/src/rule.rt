@@ -1,6 +1,8 @@
 // The states of rules, and the numbers of their alternatives.
 ghost use Rattle.std.specs.Prelude.{◌≡◌, ◌≤◌, ◌<◌, ◌+◌, ◌-◌, ◌*◌, ◌++◌, ℕ, List, [], ◌∷◌, map, IfOk, OnOk, length, replicate, slice_get, slice_index, slice_set, sum_by};
 ghost use Rattle.g4_grammar.specs.Blocks.{EachIsFull, IsSome, NumberedHaveAlternatives, AreFullAlternatives};
+ghost use Rattle.g4_grammar.specs.Calls.{CallNone, EachCallsNone, NumberedCallNone};
+ghost use Rattle.g4_grammar.specs.Elements.{either};
 ghost use Rattle.g4_grammar.specs.Numbering.{alternatives_of_rule};
 ghost use Rattle.g4_net.specs.Network.{start_of};
 ghost use Rattle.g4_build.specs.Drafts.{Among};
@@ -49,7 +51,8 @@ fn lay_lone(
     requires numbered { length written.old.items ≡ length states.old.items }
     requires rule { start_of rule < length states.old.items }
     requires room { length states.old.items + states_of_rule (bodies_of (alternative.now ∷ [])) ≤ 65536 }
-    ensures { OnOk result (RuleIsLaid states.old.items states.new.items written.old.items written.new.items rule (bodies_of (alternative.now ∷ []))) }
+    ensures laid { OnOk result (RuleIsLaid states.old.items states.new.items written.old.items written.new.items rule (bodies_of (alternative.now ∷ []))) }
+    ensures quiet { OnOk result (CallNone alternative.now) }
 {
     let start = 2 * rule;
     let last = lay_run(alloc, states, alternative.as_slice(), start)?;
@@ -73,7 +76,8 @@ fn lay_several(
     requires rule { start_of rule < length states.old.items }
     requires blank { slice_index written.old.items (start_of rule) ≡ 0 }
     requires room { length states.old.items + states_of_rule (bodies_of alternatives.now) ≤ 65536 }
-    ensures { OnOk result (RuleIsLaid states.old.items states.new.items written.old.items written.new.items rule (bodies_of alternatives.now)) }
+    ensures laid { OnOk result (RuleIsLaid states.old.items states.new.items written.old.items written.new.items rule (bodies_of alternatives.now)) }
+    ensures quiet { OnOk result (EachCallsNone (either alternatives.now)) }
 {
     let start = 2 * rule;
     let bodies = lay_bodies(alloc, states, alternatives)?;
@@ -98,7 +102,8 @@ fn lay_rule(
     requires rule { start_of rule < length states.old.items }
     requires blank { slice_index written.old.items (start_of rule) ≡ 0 }
     requires room { length states.old.items + states_of_rule (bodies_of alternatives.now) ≤ 65536 }
-    ensures { OnOk result (RuleIsLaid states.old.items states.new.items written.old.items written.new.items rule (bodies_of alternatives.now)) }
+    ensures laid { OnOk result (RuleIsLaid states.old.items states.new.items written.old.items written.new.items rule (bodies_of alternatives.now)) }
+    ensures quiet { OnOk result (EachCallsNone (either alternatives.now)) }
 {
     match alternatives {
         [one] => lay_lone(alloc, states, written, rule, one),
@@ -118,7 +123,8 @@ pub fn lay_rules(
     requires heads { 2 * length rules.now + 2 ≤ length states.old.items }
     requires blank { (p : ℕ) → 1 ≤ p → slice_index written.old.items p ≡ 0 }
     requires room { length states.old.items + sum_by (λ r. states_of_rule (alternatives_of_rule r)) rules.now ≤ 65536 }
-    ensures { OnOk result (HaveLaid states.old.items states.new.items written.old.items written.new.items (length rules.now + 1) rules.now []) }
+    ensures laid { OnOk result (HaveLaid states.old.items states.new.items written.old.items written.new.items (length rules.now + 1) rules.now []) }
+    ensures quiet { OnOk result (NumberedCallNone rules.now) }
 {
     let mut number = 1;
     for rule in rules {

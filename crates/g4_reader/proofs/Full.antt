@@ -25,7 +25,7 @@ module _ (IsAtom : Spelled → Atom → Type 0) where
     element_full : (word : List Spelled) (x : Element Atom) → IsElement IsAtom word x → IsFull x
     element_full _ _ (an_atom token a is) = tt
     element_full _ _ (a_repeated_atom token sign a repeat is signs) = repeated_full repeat (only (then (atom a) empty)) tt ((tt, tt), tt)
-    element_full word _ (a_block open close body suffix _ xs repeat opens are closes suffixed parts) = repeated_full repeat xs (alternatives_some body xs are) (alternatives_full body xs are)
+    element_full word _ (a_block opening closing body suffix _ xs repeat opens are closes suffixed parts) = repeated_full repeat xs (alternatives_some body xs are) (alternatives_full body xs are)
 
     elements_full : (word : List Spelled) (xs : Elements Atom) → AreElements IsAtom word xs → AreFull xs
     elements_full _ _ no_element = tt

@@ -5,16 +5,20 @@ use Rattle.g4_grammar.specs.declared.numbered.Numbered.{Numbered}
 use Rattle.g4_reader.specs.Reading.{IsReading}
 use Rattle.g4_reader.specs.declared.reader.ReadFault.{ReadFault}
 use Rattle.g4_reader.specs.declared.reader.ReadFault.TheVariants as reading
-use Rattle.g4_build.specs.Answers.{GivesNumbered, GivesNetwork}
-use Rattle.g4_build.specs.declared.numbering.NumberFault.{NumberFault}
-use Rattle.g4_build.specs.declared.numbering.NumberFault.TheVariants as numbering
+use Rattle.g4_vocab.specs.Answers.{GivesNumbered}
+use Rattle.g4_vocab.specs.declared.numbering.NumberFault.{NumberFault}
+use Rattle.g4_vocab.specs.declared.numbering.NumberFault.TheVariants as numbering
+use Rattle.g4_checks.specs.Checking.{IsChecked}
+use Rattle.g4_checks.specs.declared.checking.CheckFault.{CheckFault}
+use Rattle.g4_checks.specs.declared.checking.CheckFault.TheVariants as checking
+use Rattle.g4_build.specs.Answers.{GivesNetwork}
 use Rattle.g4_build.specs.declared.builder.BuildFault.{BuildFault}
 use Rattle.g4_build.specs.declared.builder.BuildFault.TheVariants as building
 use Rattle.g4_tool.specs.declared.decode.DecodeError.{DecodeError}
 use Rattle.g4_tool.specs.declared.decode.DecodeError.TheVariants as decoding
 use Rattle.g4_tool.specs.Decoding.{AreCharacters, IsDecodeFault}
-use Rattle.g4_tool.specs.PrepareErrors.{of_decode, of_read, of_number, of_build}
-use Rattle.g4_tool.specs.Preparing.{IsPrepareError, not_utf8, no_grammar, many_rules, many_types, no_start, many_states}
+use Rattle.g4_tool.specs.PrepareErrors.{of_decode, of_read, of_number, of_check, of_build}
+use Rattle.g4_tool.specs.Preparing.{IsPrepareError, not_utf8, no_grammar, many_rules, many_types, an_empty_loop, no_start, many_states}
 
 -- bytes that are no text
 pub decode_exit : (bytes start : List ℕ) (d : DecodeError) → IsDecodeFault bytes d → IsPrepareError bytes start (of_decode d)
@@ -36,9 +40,14 @@ number_exit bytes start text source is read numbering.Rules h = many_rules text 
 number_exit bytes start text source is read numbering.Types h = many_types text source is read h
 number_exit bytes start text source is read numbering.NoMemory h = tt
 
+-- a grammar with a loop that can be empty
+pub check_exit : (bytes start text : List ℕ) (source : Source) (grammar : Numbered) → AreCharacters bytes text → IsReading text (Ok source) → GivesNumbered source (Ok grammar) → (d : CheckFault) → IsChecked source.rules (Err d) → IsPrepareError bytes start (of_check d)
+check_exit bytes start text source grammar is read numbered (checking.EmptyLoop rule) h = an_empty_loop text source grammar rule is read numbered h
+check_exit bytes start text source grammar is read numbered checking.NoMemory h = tt
+
 -- a numbered grammar without a network
-pub build_exit : (bytes start text : List ℕ) (source : Source) (grammar : Numbered) → AreCharacters bytes text → IsReading text (Ok source) → GivesNumbered source (Ok grammar) →
+pub build_exit : (bytes start text : List ℕ) (source : Source) (grammar : Numbered) → AreCharacters bytes text → IsReading text (Ok source) → GivesNumbered source (Ok grammar) → IsChecked source.rules (Ok tt) →
     (d : BuildFault) → GivesNetwork grammar start (Err d) → IsPrepareError bytes start (of_build d)
-build_exit bytes start text source grammar is read numbered building.UnknownStart h = no_start text source grammar is read numbered h
-build_exit bytes start text source grammar is read numbered building.States h = many_states text source grammar is read numbered h
-build_exit bytes start text source grammar is read numbered building.NoMemory h = tt
+build_exit bytes start text source grammar is read numbered checked building.UnknownStart h = no_start text source grammar is read numbered checked h
+build_exit bytes start text source grammar is read numbered checked building.States h = many_states text source grammar is read numbered checked h
+build_exit bytes start text source grammar is read numbered checked building.NoMemory h = tt

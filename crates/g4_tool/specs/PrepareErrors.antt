@@ -3,8 +3,10 @@ use Rattle.g4_tool.specs.declared.decode.DecodeError.{DecodeError}
 use Rattle.g4_tool.specs.declared.decode.DecodeError.TheVariants as decoding
 use Rattle.g4_reader.specs.declared.reader.ReadFault.{ReadFault}
 use Rattle.g4_reader.specs.declared.reader.ReadFault.TheVariants as reading
-use Rattle.g4_build.specs.declared.numbering.NumberFault.{NumberFault}
-use Rattle.g4_build.specs.declared.numbering.NumberFault.TheVariants as numbering
+use Rattle.g4_vocab.specs.declared.numbering.NumberFault.{NumberFault}
+use Rattle.g4_vocab.specs.declared.numbering.NumberFault.TheVariants as numbering
+use Rattle.g4_checks.specs.declared.checking.CheckFault.{CheckFault}
+use Rattle.g4_checks.specs.declared.checking.CheckFault.TheVariants as checking
 use Rattle.g4_build.specs.declared.builder.BuildFault.{BuildFault}
 use Rattle.g4_build.specs.declared.builder.BuildFault.TheVariants as building
 use Rattle.g4_tool.specs.declared.prepare.GrammarFault.TheVariants as faults
@@ -26,6 +28,11 @@ abbrev pub of_number : NumberFault → PrepareError
 of_number numbering.Rules = errors.Fault faults.Rules
 of_number numbering.Types = errors.Fault faults.Types
 of_number numbering.NoMemory = errors.NoMemory
+
+-- of a grammar that cannot be run
+abbrev pub of_check : CheckFault → PrepareError
+of_check (checking.EmptyLoop name) = errors.Fault (faults.EmptyLoop name)
+of_check checking.NoMemory = errors.NoMemory
 
 -- of a numbered grammar without a network
 abbrev pub of_build : BuildFault → PrepareError

@@ -7,8 +7,11 @@ use Rattle.g4_grammar.specs.declared.numbered.Numbered.{Numbered}
 use Rattle.g4_net.specs.declared.network.Network.{Network}
 use Rattle.g4_reader.specs.Reading.{IsReading}
 use Rattle.g4_reader.specs.declared.reader.ReadFault.TheVariants as reading
-use Rattle.g4_build.specs.Answers.{GivesNumbered, GivesNetwork}
-use Rattle.g4_build.specs.declared.numbering.NumberFault.TheVariants as numbering
+use Rattle.g4_vocab.specs.Answers.{GivesNumbered}
+use Rattle.g4_vocab.specs.declared.numbering.NumberFault.TheVariants as numbering
+use Rattle.g4_checks.specs.Checking.{IsChecked}
+use Rattle.g4_checks.specs.declared.checking.CheckFault.TheVariants as checking
+use Rattle.g4_build.specs.Answers.{GivesNetwork}
 use Rattle.g4_build.specs.declared.builder.BuildFault.TheVariants as building
 use Rattle.g4_tool.specs.Decoding.{AreCharacters}
 use Rattle.g4_tool.specs.declared.prepare.Interpreter.{Interpreter}
@@ -24,6 +27,7 @@ pub record HasNetwork (bytes start : List ℕ) (grammar : Numbered) (net : Netwo
   pub characters : AreCharacters bytes text
   pub reading : IsReading text (Ok source)
   pub numbering : GivesNumbered source (Ok grammar)
+  pub checking : IsChecked source.rules (Ok tt)
   pub network : GivesNetwork grammar start (Ok net)
 
 -- The grammar file of these bytes has this fault: the first in the order of the stages.
@@ -33,9 +37,11 @@ pub data HasFault (bytes start : List ℕ) : GrammarFault → Type 0 where
       HasFault bytes start (faults.Syntax place characters)
   many_rules : (text : List ℕ) (source : Source) → AreCharacters bytes text → IsReading text (Ok source) → GivesNumbered source (Err numbering.Rules) → HasFault bytes start faults.Rules
   many_types : (text : List ℕ) (source : Source) → AreCharacters bytes text → IsReading text (Ok source) → GivesNumbered source (Err numbering.Types) → HasFault bytes start faults.Types
-  no_start : (text : List ℕ) (source : Source) (grammar : Numbered) → AreCharacters bytes text → IsReading text (Ok source) → GivesNumbered source (Ok grammar) →
+  an_empty_loop : (text : List ℕ) (source : Source) (grammar : Numbered) (rule : List ℕ) → AreCharacters bytes text → IsReading text (Ok source) → GivesNumbered source (Ok grammar) →
+      IsChecked source.rules (Err (checking.EmptyLoop rule)) → HasFault bytes start (faults.EmptyLoop rule)
+  no_start : (text : List ℕ) (source : Source) (grammar : Numbered) → AreCharacters bytes text → IsReading text (Ok source) → GivesNumbered source (Ok grammar) → IsChecked source.rules (Ok tt) →
       GivesNetwork grammar start (Err building.UnknownStart) → HasFault bytes start faults.UnknownStart
-  many_states : (text : List ℕ) (source : Source) (grammar : Numbered) → AreCharacters bytes text → IsReading text (Ok source) → GivesNumbered source (Ok grammar) →
+  many_states : (text : List ℕ) (source : Source) (grammar : Numbered) → AreCharacters bytes text → IsReading text (Ok source) → GivesNumbered source (Ok grammar) → IsChecked source.rules (Ok tt) →
       GivesNetwork grammar start (Err building.States) → HasFault bytes start faults.States
 
 -- what an error says of the file

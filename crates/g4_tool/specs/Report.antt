@@ -4,7 +4,7 @@ use Rattle.g4_grammar.specs.declared.numbered.Numbered.{Numbered}
 use Rattle.g4_net.specs.declared.network.Network.{Network}
 use Rattle.g4_ports.specs.Ports.{limit}
 use Rattle.g4_tool.specs.Words.{Asked, command_of}
-use Rattle.g4_tool.specs.Texts.{usage_line, absent_line, large_line, not_utf8_line, syntax_line, no_rule_line, limit_line, closing_line, is_tree}
+use Rattle.g4_tool.specs.Texts.{usage_line, absent_line, large_line, not_utf8_line, syntax_line, no_rule_line, limit_line, empty_loop_line, closing_line, is_tree}
 use Rattle.g4_tool.specs.Preparing.{HasNetwork, HasFault}
 use Rattle.g4_tool.specs.Inputs.{Files, inputs_of}
 use Rattle.g4_tool.specs.Outcomes.{AreFileLines}
@@ -26,6 +26,7 @@ fault_line name start (faults.NotUtf8 at) = not_utf8_line name at
 fault_line name start (faults.Syntax place characters) = syntax_line name place characters
 fault_line name start faults.Rules = limit_line name (codes "rules 4096")
 fault_line name start faults.Types = limit_line name (codes "types 4096")
+fault_line name start (faults.EmptyLoop rule) = empty_loop_line name rule
 fault_line name start faults.UnknownStart = no_rule_line name start
 fault_line name start faults.States = limit_line name (codes "states 65536")
 

@@ -105,6 +105,10 @@ usage_line = ToErr (codes "usage: g4 parse, check, atn, match or drill\n")
 abbrev pub syntax_line : List ℕ → Place → List ℕ → Line
 syntax_line name place characters = ToErr (((at_place name place ++ codes "syntax error at '") ++ shown characters) ++ codes "'\n")
 
+-- the line of a rule with a loop that can be empty
+abbrev pub empty_loop_line : List ℕ → List ℕ → Line
+empty_loop_line name rule = ToErr (name ++ (codes ": rule " ++ (rule ++ codes " has a loop that can be empty\n")))
+
 -- the line of a start rule that the grammar has not
 abbrev pub no_rule_line : List ℕ → List ℕ → Line
 no_rule_line name start = ToErr (name ++ (codes ": no parser rule " ++ (start ++ codes "\n")))

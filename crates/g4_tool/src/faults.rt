@@ -2,7 +2,7 @@
 ghost use Rattle.std.specs.Prelude.{◌≡◌, ◌++◌, IfOk, OnOk, string_bytes, codes, ◌-◌, slice_get, drop, ◌∷◌, []};
 ghost use Rattle.std.specs.Fmt.{decimal};
 ghost use Rattle.g4_net.specs.Network.{state_at};
-ghost use Rattle.g4_tool.specs.Texts.{at_place, shown_symbol, more_symbols, shown_set, taken_by, place_of_token, mismatch_line, no_viable_line, too_deep_line, no_token_line, not_utf8_line, large_line, absent_line, usage_line, syntax_line, no_rule_line, limit_line};
+ghost use Rattle.g4_tool.specs.Texts.{at_place, shown_symbol, more_symbols, shown_set, taken_by, place_of_token, mismatch_line, no_viable_line, too_deep_line, no_token_line, not_utf8_line, large_line, absent_line, usage_line, syntax_line, empty_loop_line, no_rule_line, limit_line};
 
 use crate::write::Line;
 use g4_base::{END, EOF, Place, Text, push_shown};
@@ -186,6 +186,13 @@ pub fn syntax(
     push_shown(&mut line, characters)?;
     line.push_str("'\n")?;
     Ok(Line::ToErr(Text::new(line)))
+}
+
+/// A rule with a loop that can be empty.
+pub fn empty_loop(alloc: Global, name: &str, rule: &str) -> Result<Line, AllocError>
+    ensures { IfOk result (λ line. line ≡ empty_loop_line name.now rule.now) }
+{
+    Ok(Line::ToErr(Text::new(format!(in alloc; "{name}: rule {rule} has a loop that can be empty\n")?)))
 }
 
 /// A start rule that the grammar has not.

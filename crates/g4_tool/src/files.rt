@@ -1,6 +1,6 @@
 // The lines of the files: of each its tree, or its first fault.
 ghost use Rattle.std.specs.Prelude.{◌≡◌, ◌≤◌, ◌<◌, ◌^◌, All, IfOk, length, map, string_bytes};
-ghost use Rattle.g4_net.specs.Chain.{IsReady};
+ghost use Rattle.g4_net.specs.AddedRule.{IsReady};
 ghost use Rattle.g4_net.specs.TokenList.{EndsInEnd, word_of};
 ghost use Rattle.g4_parse.specs.TreeText.{tree_text};
 ghost use Rattle.g4_tool.specs.Texts.{line_of_tree};

@@ -3,12 +3,14 @@ ghost use Rattle.std.specs.Prelude.{◌≤◌, All, IfOk, length};
 ghost use Rattle.g4_tool.specs.Preparing.{IsPreparing};
 
 use crate::decode::{DecodeError, characters};
-use g4_base::{Place, Sequence};
-use g4_build::{BuildFault, NumberFault, build, number};
+use g4_base::{Place, Sequence, Text};
+use g4_build::{BuildFault, build};
+use g4_checks::{CheckFault, check};
 use g4_grammar::Numbered;
 use g4_net::Network;
 use g4_ports::LIMIT;
 use g4_reader::{ReadFault, read_grammar};
+use g4_vocab::{NumberFault, number};
 use std::alloc::Global;
 
 /// A numbered grammar and the network of one of its rules.
@@ -29,6 +31,8 @@ pub enum GrammarFault {
     Rules,
     /// More than 4,096 token types.
     Types,
+    /// The name of the first rule with a loop that can be empty.
+    EmptyLoop(Text),
     /// No parser rule has the start rule's name.
     UnknownStart,
     /// More than 65,536 states.
@@ -87,6 +91,20 @@ impl From<NumberFault> for PrepareError {
     }
 }
 
+impl From<CheckFault> for PrepareError {
+    ghost use Rattle.std.specs.Prelude.{◌≡◌};
+    ghost use Rattle.g4_tool.specs.PrepareErrors.{of_check};
+
+    ghost from_gives = { λ d e. e ≡ of_check d };
+
+    fn from(fault: CheckFault) -> Self {
+        match fault {
+            CheckFault::EmptyLoop(name) => PrepareError::Fault(GrammarFault::EmptyLoop(name)),
+            CheckFault::NoMemory => PrepareError::NoMemory,
+        }
+    }
+}
+
 impl From<BuildFault> for PrepareError {
     ghost use Rattle.std.specs.Prelude.{◌≡◌};
     ghost use Rattle.g4_tool.specs.PrepareErrors.{of_build};
@@ -110,7 +128,9 @@ pub fn prepare(alloc: Global, bytes: &[u8], start: &str) -> Result<Interpreter, 
 {
     let text = characters(alloc, bytes)?;
     let source = read_grammar(alloc, text.as_slice())?;
+    let checked = check(alloc, &source);
     let grammar = number(alloc, source)?;
+    checked?;
     let net = build(alloc, &grammar, start)?;
     Ok(Interpreter { grammar, net })
 }

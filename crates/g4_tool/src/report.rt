@@ -1,13 +1,13 @@
 // The report of a command line: its lines and its status, made before any of it is written.
 ghost use Rattle.std.specs.Prelude.{◌≡◌, ◌≤◌, All, IfOk, IfSome, None, Some, length, map, string_bytes};
-ghost use Rattle.g4_net.specs.Chain.{IsReady};
+ghost use Rattle.g4_net.specs.AddedRule.{IsReady};
 ghost use Rattle.g4_tool.specs.Counting.{CountsReport};
 ghost use Rattle.g4_tool.specs.CommandView.{command_view};
 ghost use Rattle.g4_tool.specs.Inputs.{Files};
 ghost use Rattle.g4_tool.specs.Report.{IsCommandReport, IsFilesReport, IsGrammarReport, IsReport, fault_line, one_line, whole_report};
 ghost use Rattle.g4_tool.specs.Words.{command_of};
 
-use crate::faults::{absent, large, limit, no_rule, not_utf8, syntax, usage};
+use crate::faults::{absent, empty_loop, large, limit, no_rule, not_utf8, syntax, usage};
 use crate::files::file_lines;
 use crate::inputs::{FetchError, fetch_all};
 use crate::prepare::{GrammarFault, Interpreter, PrepareError, prepare};
@@ -88,6 +88,7 @@ fn line_of_fault(
         }
         GrammarFault::Rules => limit(alloc, name, "rules 4096"),
         GrammarFault::Types => limit(alloc, name, "types 4096"),
+        GrammarFault::EmptyLoop(rule) => empty_loop(alloc, name, rule.as_str()),
         GrammarFault::UnknownStart => no_rule(alloc, name, start),
         GrammarFault::States => limit(alloc, name, "states 65536"),
     }

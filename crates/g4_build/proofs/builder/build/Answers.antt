@@ -13,5 +13,5 @@ returns-then-not-fits c = (
 )
 
 pub returns : goal.returns
-returns c = built c.args.grammar.now c.args.start.now c.in-Some.place c.as_slice-rules.result.now c.in_ok-net.net c.requires.named c.requires.full (rw c.as_slice-rules.ensures at c.rules_call_none.ensures) c.requires.loops c.as_slice-rules.ensures
-    (rw c.as_slice-rules.ensures at (sym c.place_of.ensures ∙ c.in-Some.is)) (few_enough _ _ c.if-not-fits.false c.fits.ensures) c.in_ok-net.ensures
+returns c = built c.args.grammar.now c.args.start.now c.in-Some.place c.as_slice-rules.result.now c.in_ok-net.net c.requires.named c.requires.full c.requires.loops c.in_ok-net.ensures.quiet c.as_slice-rules.ensures
+    (rw c.as_slice-rules.ensures at (sym c.place_of.ensures ∙ c.in-Some.is)) (few_enough _ _ c.if-not-fits.false c.fits.ensures) c.in_ok-net.ensures.drawn

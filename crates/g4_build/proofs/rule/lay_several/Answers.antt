@@ -21,8 +21,8 @@ mark-requires-clause-few c =
     let count = count_other_rule c.args.alternatives.now (inr c.requires.several) in
     omega (arith, c.requires.room, ap length c.as_slice.ensures.value)
 
-pub returns : goal.returns
-returns c =
+pub returns-clause-laid : goal.returns-clause-laid
+returns-clause-laid c =
     let laid = c.in_ok-bodies.ensures.laid in
     let many = c.in_ok-bodies.ensures.many in
     several_rule _ c.lay_bodies.new.states.items _ _ _ _ (c.len.result - c.len-2.result) c.in_ok-bodies.bodies.firsts.items c.in_ok-bodies.bodies.lasts.items _ c.requires.rule c.requires.numbered c.requires.blank laid (omega (arith, many, c.requires.several))
