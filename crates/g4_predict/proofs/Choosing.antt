@@ -38,6 +38,7 @@ ahead from w (front, is, once) less =
     let split : drop from w ≡ drop from front ++ end_of_list ∷ [] = ap (drop from) is ∙ drop-append-le from front (end_of_list ∷ []) below in
     subst (λ (v : List ℕ). Contains v end_of_list) (sym split) (Contains-push (drop from front) end_of_list)
 
+-- the same of the tokens
 pub ends_ahead : (from : ℕ) (ts : List tokens.Token) → EndsInEnd (word_of ts) → from < length ts → Contains (word_of (from_on from ts)) end_of_list
 ends_ahead from ts ends less =
     let long : length (word_of ts) ≡ length ts = length-map ts (λ (t : tokens.Token). t.symbol) in
@@ -55,6 +56,7 @@ no_test net rule loop p r (Some (Action t)) is h = h
 no_test net rule loop p r (Some (Empty t)) is h = h
 no_test net rule loop p r None is h = h
 
+-- so no decision of it has first predicates
 untested : (net : Network) (rule loop d : ℕ) → IsRunnable net rule loop → HasTests net d → ⊥
 untested net rule loop d r (i, t, first, test) = no_test net rule loop t r (state_at net t) refl test
 
@@ -77,6 +79,7 @@ long from ts less =
     let b : length (drop from ts) ≡ length ts - from = length-drop from ts in
     omega arith
 
+-- SLL's answer is the choice, and one of the decision's alternatives
 pub answered : (net : Network) (d from i : ℕ) (returns : List ℕ) (ts : List tokens.Token) (v : said.Verdict) → Ready net d returns → v ≡ Answer i → Said net d from ts v → Chooses net d returns (drop from (word_of ts)) (chosen i) × ((t : ℕ) × IsFirst net d i t)
 answered net d from i returns ts v (rule, loop, runnable, apart) is told =
     let (path, sll) = subst (Said net d from ts) is told in
@@ -85,11 +88,13 @@ answered net d from i returns ts v (rule, loop, runnable, apart) is told =
       sll_tells net d (Start net d Any wildcard) (begins_start net d wildcard) w 0 (length w) (omega arith) (answer i) path.looked sll.1,
     )
 
+-- SLL's error is the choice
 pub failed : (net : Network) (d from k : ℕ) (returns : List ℕ) (ts : List tokens.Token) (v : said.Verdict) → Ready net d returns → v ≡ ErrorAt k → Said net d from ts v → Chooses net d returns (drop from (word_of ts)) (no_viable k)
 failed net d from k returns ts v (rule, loop, runnable, apart) is told =
     let (path, sll) = subst (Said net d from ts) is told in
     subst (λ (u : List ℕ). Chooses net d returns u (no_viable k)) (word_from from ts) (λ here. by_error k path (untested net rule loop d runnable) sll)
 
+-- and is at one of the tokens
 pub failed_within : (net : Network) (d from k : ℕ) (ts : List tokens.Token) (v : said.Verdict) → from < length ts → v ≡ ErrorAt k → Said net d from ts v → from + k < length ts
 failed_within net d from k ts v less is told =
     let (path, sll) = subst (Said net d from ts) is told in
@@ -98,6 +103,7 @@ failed_within net d from k ts v less is told =
     let all = long from ts less in
     omega arith
 
+-- where SLL says that the stack matters, the alternative of full stacks is the choice, and one of the decision's
 pub settled_on : (net : Network) (d from k i : ℕ) (returns : List ℕ) (ts : List tokens.Token) (v : said.Verdict) (s : Settled) → Ready net d returns → v ≡ Sensitive k → Said net d from ts v → s ≡ Chosen i → Settles net d returns from ts s → Chooses net d returns (drop from (word_of ts)) (chosen i) × ((t : ℕ) × IsFirst net d i t)
 settled_on net d from k i returns ts v s (rule, loop, runnable, apart) is told same settled =
     let (path, sll) = subst (Said net d from ts) is told in
@@ -107,12 +113,14 @@ settled_on net d from k i returns ts v s (rule, loop, runnable, apart) is told s
       full_shows net d (Start net d Any (above_bottom returns)) (begins_start net d (above_bottom returns)) w 0 (length w) (omega arith) (chosen i) full,
     )
 
+-- and their error is the choice
 pub settled_none : (net : Network) (d from k j : ℕ) (returns : List ℕ) (ts : List tokens.Token) (v : said.Verdict) (s : Settled) → Ready net d returns → v ≡ Sensitive k → Said net d from ts v → s ≡ NoViable j → Settles net d returns from ts s → Chooses net d returns (drop from (word_of ts)) (no_viable j)
 settled_none net d from k j returns ts v s (rule, loop, runnable, apart) is told same settled =
     let (path, sll) = subst (Said net d from ts) is told in
     let full = subst (Settles net d returns from ts) same settled in
     subst (λ (u : List ℕ). Chooses net d returns u (no_viable j)) (word_from from ts) (λ here. by_full k path (no_viable j) (untested net rule loop d runnable) sll full)
 
+-- and is at one of the tokens
 pub settled_within : (net : Network) (d from j : ℕ) (returns : List ℕ) (ts : List tokens.Token) (s : Settled) → from < length ts → s ≡ NoViable j → Settles net d returns from ts s → from + j < length ts
 settled_within net d from j returns ts s less same settled =
     let full = subst (Settles net d returns from ts) same settled in

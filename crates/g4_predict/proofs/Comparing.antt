@@ -67,12 +67,14 @@ clash_is xs c d in_c w = (c.state, c.alt, d.alt, w.apart, (c.stack, in_c), λ s.
     from : All (OffersStack xs (config c.state d.alt c.stack) c) xs
     from = subst (λ (e : Config). All (OffersStack xs e c) xs) d_is w.from
 
+-- a configuration that clashes with another makes a conflict
 pub conflict_of : (xs : List Config) → Any (Clashes xs) xs → Conflict (Contains xs)
 conflict_of xs h =
     let (c, in_c, clash) = of_any (Clashes xs) xs h in
     let (d, in_d, w) = of_any (ClashesWith xs c) xs clash.with_one in
     clash_is xs c d in_c w
 
+-- and the other way
 pub of_conflict : (xs : List Config) → Conflict (Contains xs) → Any (Clashes xs) xs
 of_conflict xs (p, i, j, ne, (z, has), same) =
     any_of (Clashes xs) xs (config p i z) has (record {
@@ -85,11 +87,13 @@ of_conflict xs (p, i, j, ne, (z, has), same) =
       });
     })
 
+-- a configuration whose state is its alternative's alone makes a lone state
 pub lone_of : (xs : List Config) → Any (IsLone xs) xs → LoneState (Contains xs)
 lone_of xs h =
     let (c, in_c, l) = of_any (IsLone xs) xs h in
     (c.state, c.alt, (c.stack, in_c), λ j s i. of_all (StandsBy c) xs l.alone (config c.state j s) i refl)
 
+-- and the other way
 pub of_lone : (xs : List Config) → LoneState (Contains xs) → Any (IsLone xs) xs
 of_lone xs (p, i, (s, has), alone) =
     any_of (IsLone xs) xs (config p i s) has (record {
@@ -100,11 +104,13 @@ of_lone xs (p, i, (s, has), alone) =
 same_or_not : (m n : ℕ) → (m ≡ n) ⊎ (m ≢ n)
 same_or_not m n = grind arith
 
+-- one of another alternative than the first makes several
 pub several_of : (xs : List Config) (first : Config) → Contains xs first → Any (IsOther first) xs → Several xs
 several_of xs first in_first h =
     let (c, in_c, other) = of_any (IsOther first) xs h in
     record { two = (c, first, in_c, in_first, other) }
 
+-- and the other way
 pub of_several : (xs : List Config) (first : Config) → Several xs → Any (IsOther first) xs
 of_several xs first several =
     let (c, d, in_c, in_d, apart) = several.two in
@@ -113,6 +119,7 @@ of_several xs first several =
       | inr other ↦ any_of (IsOther first) xs c in_c other
     ]
 
+-- with none of another alternative the first's is the only one
 pub only_of : (xs : List Config) (first : Config) → Contains xs first → (Any (IsOther first) xs → ⊥) → IsOnly (Contains xs) first.alt
 only_of xs first in_first none = record {
   some = (first, in_first);
@@ -122,11 +129,13 @@ only_of xs first in_first none = record {
   ];
 }
 
+-- and with some there is no only one
 pub not_only : (xs : List Config) (first : Config) → Contains xs first → Any (IsOther first) xs → (i : ℕ) → IsOnly (Contains xs) i → ⊥
 not_only xs first in_first h i only =
     let (c, in_c, other) = of_any (IsOther first) xs h in
     other (only.all c in_c ∙ sym (only.all first in_first))
 
+-- several alternatives with each stack are alike
 pub alike_of : (xs : List Config) → Several xs → All (HasAllStacks xs) xs → Alike (Contains xs)
 alike_of xs several each = record {
   several = several.two;
@@ -136,6 +145,7 @@ alike_of xs several each = record {
     to : (p : ℕ) (c d : Config) → Contains xs d → (s : Stack) → Contains xs (config p c.alt s) → Contains xs (config p d.alt s)
     to p c d in_d s h = has_of xs d (config p c.alt s) (of_all (HasAlso xs d) xs (each_of xs d (of_all (HasAllStacks xs) xs each d in_d)) (config p c.alt s) h)
 
+-- and the other way
 pub of_alike : (xs : List Config) → Alike (Contains xs) → All (HasAllStacks xs) xs
 of_alike xs alike =
     all_of (HasAllStacks xs) xs

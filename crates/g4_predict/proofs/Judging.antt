@@ -18,24 +18,30 @@ abbrev pub Within : (Config → Type 0) → (Config → Type 0) → Type 0
 Within C D = (c : Config) → C c → D c
 
 module _ (D E : Config → Type 0) (to : Within D E) (from : Within E D) where
+  -- nothing is left of both
   empty_same : IsEmpty D → IsEmpty E
   empty_same e c h = e c (from c h)
 
+  -- one alternative is left of both
   only_same : (i : ℕ) → IsOnly D i → IsOnly E i
   only_same i h = record { some = (h.some.0, to h.some.0 h.some.1); all = λ c x. h.all c (from c x) }
 
+  -- both have a conflict
   conflict_same : Conflict D → Conflict E
   conflict_same (p, i, j, ne, (s, has), same) = (p, i, j, ne, (s, to _ has), λ r. ((λ x. to _ ((same r).0 (from _ x))), λ x. to _ ((same r).1 (from _ x))))
 
+  -- both have a lone state
   lone_same : LoneState D → LoneState E
   lone_same (p, i, (s, has), alone) = (p, i, (s, to _ has), λ j r x. alone j r (from _ x))
 
+  -- both are alike
   alike_same : Alike D → Alike E
   alike_same h = record {
     several = let (c, d, in_c, in_d, ne) = h.several in (c, d, to c in_c, to d in_d, ne);
     same = λ c d e in_c in_d in_e r. let s = h.same c d e (from c in_c) (from d in_d) (from e in_e) r in ((λ x. to _ (s.0 (from _ x))), λ x. to _ (s.1 (from _ x)));
   }
 
+  -- both have the same least alternative
   least_same : (i : ℕ) → IsLeast D i → IsLeast E i
   least_same i h = record { some = (h.some.0, to h.some.0 h.some.1, h.some.2); least = λ c x. h.least c (from c x) }
 

@@ -39,6 +39,7 @@ pub record IsLooking (net : Network) (z : Stack) (tokens : List Token) (k : ℕ)
   pub within : All (IsWithin net) xs
   pub ahead : Contains (word_of (drop k tokens)) end_of_list
 
+-- it holds of the start set
 pub looking_start : (net : Network) (d : ℕ) (z : Stack) (tokens : List Token) (xs : List Config) → (rule : ℕ) × (loop : ℕ) × IsRunnable net rule loop × StandsApart loop d z.returns → HasExactly xs (Start net d Any z) → All (IsWithin net) xs → Contains (word_of tokens) end_of_list → IsLooking net z tokens 0 xs
 looking_start net d z tokens xs (rule, loop, runnable, apart) has within ends = record {
   rule = rule;
@@ -50,8 +51,8 @@ looking_start net d z tokens xs (rule, loop, runnable, apart) has within ends = 
 }
 
 -- the next list, should it go on
-pub looking_next : (net : Network) (z : Stack) (tokens : List Token) (k : ℕ) (t : Token) (xs ys : List Config) → k < length tokens → HasExactly ys (Next net (Contains xs) (get_or tokens k t).symbol) → All (IsWithin net) ys → (((p : ℕ) (y : Stack) → ((c : Config) → Contains ys c → (c.state ≡ p) × (c.stack ≡ y)) → ⊥)) → IsLooking net z tokens k xs → IsLooking net z tokens (k + 1) ys
-looking_next net z tokens k t xs ys less has within open' h = record {
+pub looking_next : (net : Network) (z : Stack) (tokens : List Token) (k : ℕ) (t : Token) (xs ys : List Config) → k < length tokens → HasExactly ys (Next net (Contains xs) (get_or tokens k t).symbol) → All (IsWithin net) ys → ((p : ℕ) (y : Stack) → ((c : Config) → Contains ys c → (c.state ≡ p) × (c.stack ≡ y)) → ⊥) → IsLooking net z tokens k xs → IsLooking net z tokens (k + 1) ys
+looking_next net z tokens k t xs ys less has within spread h = record {
   rule = h.rule;
   loop = h.loop;
   runnable = h.runnable;
@@ -69,7 +70,7 @@ looking_next net z tokens k t xs ys less has within open' h = record {
     at_end : a ≡ end_of_list → ⊥
     at_end is =
         let has' : HasExactly ys (Next net (Contains xs) end_of_list) = subst (λ (b : ℕ). HasExactly ys (Next net (Contains xs) b)) is has in
-        open' 1 (record { returns = []; wild = z.wild }) (λ c i. last net h.rule h.loop z.wild (Contains xs) h.runnable.apart h.stands c ((has' c).0 i))
+        spread 1 (record { returns = []; wild = z.wild }) (λ c i. last net h.rule h.loop z.wild (Contains xs) h.runnable.apart h.stands c ((has' c).0 i))
 
 -- the tokens do not run out
 pub not_past : (net : Network) (z : Stack) (tokens : List Token) (k : ℕ) (xs : List Config) → length tokens ≤ k → IsLooking net z tokens k xs → ⊥
@@ -83,12 +84,14 @@ pub record IsSimulating (net : Network) (d : ℕ) (tokens : List Token) (k : ℕ
   pub looking : IsLooking net wildcard tokens k xs
   pub says : (v : Verdict) (looked : List Looked) → SllFrom net (Contains xs) (word_of (drop k tokens)) k v looked → (path : Path) × Sll net d (word_of tokens) v path
 
+-- it holds of the start set
 pub simulating_start : (net : Network) (d : ℕ) (tokens : List Token) (xs : List Config) → (rule : ℕ) × (loop : ℕ) × IsRunnable net rule loop → HasExactly xs (Start net d Any wildcard) → All (IsWithin net) xs → Contains (word_of tokens) end_of_list → IsSimulating net d tokens 0 xs
 simulating_start net d tokens xs (rule, loop, runnable) has within ends = record {
   looking = looking_start net d wildcard tokens xs (rule, loop, runnable, record { alone = λ i. refl; apart = tt }) has within ends;
   says = λ v looked h. (record { start = xs; looked = looked }, (has, sll_same net (Contains xs) (Start net d Any wildcard) (λ c. (has c).0) (λ c. (has c).1) (word_of tokens) 0 v looked h));
 }
 
+-- it holds of the next set, where SLL goes on after it
 pub simulating_next : (net : Network) (d : ℕ) (tokens : List Token) (k : ℕ) (t : Token) (xs lent_xs ys lent_ys : List Config) → lent_xs ≡ xs → lent_ys ≡ ys → k < length tokens → HasExactly ys (Next net (Contains lent_xs) (get_or tokens k t).symbol) → All (IsWithin net) ys → GoesOn (Contains lent_ys) → IsSimulating net d tokens k xs → IsSimulating net d tokens (k + 1) ys
 simulating_next net d tokens k t xs lent_xs ys lent_ys same_xs same_ys less has' within g' h = record {
   looking = looking_next net wildcard tokens k t xs ys less has within (λ p y one. settled_sll p y (Contains ys) one g) h.looking;
@@ -105,6 +108,7 @@ simulating_next net d tokens k t xs lent_xs ys lent_ys same_xs same_ys less has'
     g : GoesOn (Contains ys)
     g = subst (λ (zs : List Config). GoesOn (Contains zs)) same_ys g'
 
+-- what SLL ends with at the next set is its verdict
 pub simulated : (net : Network) (d : ℕ) (tokens : List Token) (k : ℕ) (t : Token) (xs lent_xs ys lent_ys : List Config) (v : said.Verdict) → lent_xs ≡ xs → lent_ys ≡ ys → k < length tokens → HasExactly ys (Next net (Contains lent_xs) (get_or tokens k t).symbol) → EndsWith (Contains lent_ys) k v → IsSimulating net d tokens k xs → (path : Path) × Sll net d (word_of tokens) (verdict_of v) path
 simulated net d tokens k t xs lent_xs ys lent_ys v same_xs same_ys less has' e' h =
     let has = subst (λ (zs : List Config). HasExactly ys (Next net (Contains zs) (get_or tokens k t).symbol)) same_xs has' in
@@ -117,12 +121,14 @@ pub record IsSettling (net : Network) (d : ℕ) (z : Stack) (tokens : List Token
   pub looking : IsLooking net z tokens k xs
   pub says : (c : Choice) → FullFrom net (Contains xs) (word_of (drop k tokens)) k c → Full net d Any z (word_of tokens) c
 
+-- it holds of the start set
 pub settling_start : (net : Network) (d : ℕ) (z : Stack) (tokens : List Token) (xs : List Config) → (rule : ℕ) × (loop : ℕ) × IsRunnable net rule loop × StandsApart loop d z.returns → HasExactly xs (Start net d Any z) → All (IsWithin net) xs → Contains (word_of tokens) end_of_list → IsSettling net d z tokens 0 xs
 settling_start net d z tokens xs ready has within ends = record {
   looking = looking_start net d z tokens xs ready has within ends;
   says = λ c h. full_same net (Contains xs) (Start net d Any z) (λ x. (has x).0) (λ x. (has x).1) (word_of tokens) 0 c h;
 }
 
+-- it holds of the next set, where full stacks go on after it
 pub settling_next : (net : Network) (d : ℕ) (z : Stack) (tokens : List Token) (k : ℕ) (t : Token) (xs lent_xs ys lent_ys : List Config) → lent_xs ≡ xs → lent_ys ≡ ys → k < length tokens → HasExactly ys (Next net (Contains lent_xs) (get_or tokens k t).symbol) → All (IsWithin net) ys → GoesOnFull (Contains lent_ys) → IsSettling net d z tokens k xs → IsSettling net d z tokens (k + 1) ys
 settling_next net d z tokens k t xs lent_xs ys lent_ys same_xs same_ys less has' within g' h = record {
   looking = looking_next net z tokens k t xs ys less has within (λ p y one. settled_full p y (Contains ys) one g) h.looking;
@@ -139,6 +145,7 @@ settling_next net d z tokens k t xs lent_xs ys lent_ys same_xs same_ys less has'
     g : GoesOnFull (Contains ys)
     g = subst (λ (zs : List Config). GoesOnFull (Contains zs)) same_ys g'
 
+-- what full stacks end with at the next set is their choice
 pub settled : (net : Network) (d : ℕ) (z : Stack) (tokens : List Token) (k : ℕ) (t : Token) (xs lent_xs ys lent_ys : List Config) (s : Settled) → lent_xs ≡ xs → lent_ys ≡ ys → k < length tokens → HasExactly ys (Next net (Contains lent_xs) (get_or tokens k t).symbol) → SettlesWith (Contains lent_ys) k s → IsSettling net d z tokens k xs → Full net d Any z (word_of tokens) (choice_of s)
 settled net d z tokens k t xs lent_xs ys lent_ys s same_xs same_ys less has' e' h =
     let has = subst (λ (zs : List Config). HasExactly ys (Next net (Contains zs) (get_or tokens k t).symbol)) same_xs has' in

@@ -65,9 +65,11 @@ settled_full p z D one g = g.some (all_the_same D g.several clash)
 abbrev pub Begins : Network → ℕ → (Config → Type 0) → Type 0
 Begins net d C = (c : Config) → C c → (t : ℕ) × IsFirst net d c.alt t
 
+-- so it is in the start set
 pub begins_start : (net : Network) (d : ℕ) (z : Stack) → Begins net d (Start net d Any z)
 begins_start net d z e (c, (_, first, _), r, k) = (c.state, subst (λ (i : ℕ). IsFirst net d i c.state) (reached_keeps net c e r).0 first)
 
+-- and in the next set, if in this one
 pub begins_next : (net : Network) (d a : ℕ) (C : Config → Type 0) → Begins net d C → Begins net d (Next net C a)
 begins_next net d a C h e (b, (c, i, t, is), r, k) =
     let first = h c i in
@@ -80,11 +82,13 @@ Tells net d bound (answer i) = (t : ℕ) × IsFirst net d i t
 Tells net d bound (error_at k) = k < bound
 Tells net d bound (sensitive k) = k < bound
 
+-- the only alternative that is left is one of the decision's
 only_first : (net : Network) (d i : ℕ) (D : Config → Type 0) → Begins net d D → IsOnly D i → (t : ℕ) × IsFirst net d i t
 only_first net d i D h o =
     let first = h o.some.0 o.some.1 in
     (first.0, subst (λ (j : ℕ). IsFirst net d j first.0) (o.all o.some.0 o.some.1) first.1)
 
+-- a verdict on such a set tells it, if what is said later does
 judge_tells : (net : Network) (d k a bound : ℕ) (D : Config → Type 0) (Later : Verdict → List Looked → Type 0) → k < bound → Begins net d D → ((v : Verdict) (more : List Looked) → Later v more → Tells net d bound v) → (v : Verdict) (looked : List Looked) → Judges D k a Later v looked → Tells net d bound v
 judge_tells net d k a bound D Later less h later _ _ (prediction.nothing_left e) = less
 judge_tells net d k a bound D Later less h later _ _ (prediction.one_left i o) = only_first net d i D h o
@@ -103,6 +107,7 @@ abbrev pub Shows : Network → ℕ → ℕ → Choice → Type 0
 Shows net d bound (chosen i) = (t : ℕ) × IsFirst net d i t
 Shows net d bound (no_viable k) = k < bound
 
+-- a choice on such a set shows it, if what is said later does
 settles_shows : (net : Network) (d k bound : ℕ) (D : Config → Type 0) (Later : Choice → Type 0) → k < bound → Begins net d D → ((c : Choice) → Later c → Shows net d bound c) → (c : Choice) → Settles D k Later c → Shows net d bound c
 settles_shows net d k bound D Later less h later _ (prediction.none_left e) = less
 settles_shows net d k bound D Later less h later _ (prediction.one_left i o) = only_first net d i D h o

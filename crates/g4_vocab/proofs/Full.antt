@@ -29,10 +29,12 @@ module _ {A B : Type 0} (f : A → B) where
     full_over (star greedy xs) h = (some_over xs h.0, each_over xs h.1)
     full_over (plus greedy xs) h = (some_over xs h.0, each_over xs h.1)
 
+    -- the same of elements
     in_order_full : (xs : Elements A) → AreFull xs → AreFull (in_order_over f xs)
     in_order_full empty h = tt
     in_order_full (then x xs) h = (full_over x h.0, in_order_full xs h.1)
 
+    -- the same of alternatives
     each_over : (xs : Alternatives A) → EachIsFull xs → EachIsFull (either_over f xs)
     each_over none h = tt
     each_over (or x xs) h = (in_order_full x h.0, each_over xs h.1)

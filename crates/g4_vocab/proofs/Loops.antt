@@ -30,10 +30,12 @@ module _ {A B : Type 0} (f : A → B) (Before : A → List ℕ → Type 0) (Afte
     read_back (star greedy xs) w d = star_back greedy xs (either_over f xs) w (λ (u : List ℕ) k. one_back xs u k) d
     read_back (plus greedy xs) w (turns g ys u v t d ds e) = turns greedy xs u v w (one_back xs u d) (star_back greedy xs (either_over f xs) v (λ (s : List ℕ) k. one_back xs s k) ds) e
 
+    -- the same of elements
     all_back : (xs : Elements A) (w : List ℕ) → DerivesAll After [] (in_order_over f xs) w → DerivesAll Before [] xs w
     all_back empty w nothing = nothing
     all_back (then x xs) w (one_more y ys u v t d ds e) = one_more x xs u v w (read_back x u d) (all_back xs v ds) e
 
+    -- the same of alternatives
     one_back : (xs : Alternatives A) (w : List ℕ) → DerivesOne After [] (either_over f xs) w → DerivesOne Before [] xs w
     one_back none w d = elim d [ ]
     one_back (or x xs) w (this y ys v d) = this x xs w (all_back x w d)
@@ -51,11 +53,13 @@ module _ {A B : Type 0} (f : A → B) (Before : A → List ℕ → Type 0) (Afte
     loop_back (plus greedy xs) (inl d) = inl (one_back xs [] d)
     loop_back (plus greedy xs) (inr h) = inr (some_back xs h)
 
+    -- the same of elements
     in_order_back : (xs : Elements A) → OneHasEmptyLoop After [] (in_order_over f xs) → OneHasEmptyLoop Before [] xs
     in_order_back empty h = h
     in_order_back (then x xs) (inl h) = inl (loop_back x h)
     in_order_back (then x xs) (inr h) = inr (in_order_back xs h)
 
+    -- the same of alternatives
     some_back : (xs : Alternatives A) → SomeHasEmptyLoop After [] (either_over f xs) → SomeHasEmptyLoop Before [] xs
     some_back none h = h
     some_back (or x xs) (inl h) = inl (in_order_back x h)

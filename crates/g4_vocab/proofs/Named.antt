@@ -56,18 +56,22 @@ module _ (f : Atom → ℕ) (low : (a : Atom) → f a ≤ eof) where
     named (star greedy xs) = either_named xs
     named (plus greedy xs) = either_named xs
 
+    -- the same of elements
     in_order_named : (xs : Elements Atom) → AreNamed (atoms_in_order (in_order_over f xs))
     in_order_named empty = tt
     in_order_named (then x xs) = named-append (atoms (over f x)) (atoms_in_order (in_order_over f xs)) (named x) (in_order_named xs)
 
+    -- the same of alternatives
     either_named : (xs : Alternatives Atom) → AreNamed (atoms_of_either (either_over f xs))
     either_named none = tt
     either_named (or x xs) = named-append (atoms_in_order (in_order_over f x)) (atoms_of_either (either_over f xs)) (in_order_named x) (either_named xs)
 
+  -- the same of the alternatives of a rule
   alternatives_named : (xs : List (Elements Atom)) → AreNamed (flat_map atoms_in_order (map (in_order_over f) xs))
   alternatives_named [] = tt
   alternatives_named (x ∷ xs) = named-append (atoms_in_order (in_order_over f x)) (flat_map atoms_in_order (map (in_order_over f) xs)) (in_order_named x) (alternatives_named xs)
 
+-- the numbered parser rules speak of types and EOF alone
 rules_named : (own : List Literal) (lexers : List LexerRule) (others : List (List ℕ)) (parsers : List ParserRule) → length own + length lexers + length others ≤ 4096 → SpeakOfNamed (map (numbered_rule own lexers others) parsers)
 rules_named own lexers others [] few = tt
 rules_named own lexers others (rule ∷ rules) few = (alternatives_named (symbol_of own lexers others) (λ a. symbol_low own lexers others a few) rule.alternatives, rules_named own lexers others rules few)
