@@ -192,7 +192,9 @@ pub fn syntax(
 pub fn empty_loop(alloc: Global, name: &str, rule: &str) -> Result<Line, AllocError>
     ensures { IfOk result (λ line. line ≡ empty_loop_line name.now rule.now) }
 {
-    Ok(Line::ToErr(Text::new(format!(in alloc; "{name}: rule {rule} has a loop that can be empty\n")?)))
+    Ok(Line::ToErr(Text::new(format!(in alloc;
+        "{name}: rule {rule} has a loop that can be empty\n"
+    )?)))
 }
 
 /// A start rule that the grammar has not.
