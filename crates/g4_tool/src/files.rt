@@ -46,7 +46,7 @@ fn tokens_line(
     text: &[char],
     tokens: &[Token],
 ) -> Result<Line, AllocError>
-    requires chain { IsReady interpreter.now.net }
+    requires ready { IsReady interpreter.now.net }
     requires ends { EndsInEnd (word_of tokens.now) }
     requires few { length tokens.now < 2 ^ 32 }
     ensures { IfOk result (IsTokensLine interpreter.now.grammar interpreter.now.net name.now text.now tokens.now) }
@@ -71,7 +71,7 @@ fn text_line(
     name: &str,
     text: &[char],
 ) -> Result<Line, AllocError>
-    requires chain { IsReady interpreter.now.net }
+    requires ready { IsReady interpreter.now.net }
     requires types { All (λ rule. rule.symbol ≤ 4096) interpreter.now.grammar.token_rules }
     requires few { length text.now ≤ LIMIT }
     ensures { IfOk result (IsTextLine interpreter.now.grammar interpreter.now.net name.now text.now) }
@@ -93,7 +93,7 @@ fn bytes_line(
     name: &str,
     bytes: &[u8],
 ) -> Result<Line, AllocError>
-    requires chain { IsReady interpreter.now.net }
+    requires ready { IsReady interpreter.now.net }
     requires types { All (λ rule. rule.symbol ≤ 4096) interpreter.now.grammar.token_rules }
     requires small { length bytes.now ≤ LIMIT }
     ensures { IfOk result (IsBytesLine interpreter.now.grammar interpreter.now.net name.now bytes.now) }
@@ -115,7 +115,7 @@ fn file_line(
     name: &str,
     input: &Input,
 ) -> Result<Line, AllocError>
-    requires chain { IsReady interpreter.now.net }
+    requires ready { IsReady interpreter.now.net }
     requires types { All (λ rule. rule.symbol ≤ 4096) interpreter.now.grammar.token_rules }
     requires small { IsSmall input.now }
     ensures { IfOk result (IsFileLine interpreter.now.grammar interpreter.now.net name.now input.now) }
@@ -134,7 +134,7 @@ pub fn file_lines<G: Gate>(
     inputs: &[Input],
     gate: &G,
 ) -> Result<Vec<Line>, AllocError>
-    requires chain { IsReady interpreter.now.net }
+    requires ready { IsReady interpreter.now.net }
     requires types { All (λ rule. rule.symbol ≤ 4096) interpreter.now.grammar.token_rules }
     requires small { All IsSmall inputs.now }
     requires paired { length names.now ≡ length inputs.now }

@@ -124,7 +124,7 @@ fn report_files<S: Shelf, G: Gate>(
     interpreter: &Interpreter,
     gate: &G,
 ) -> Result<Report, Stopped>
-    requires chain { IsReady interpreter.now.net }
+    requires ready { IsReady interpreter.now.net }
     requires types { All (λ rule. rule.symbol ≤ 4096) interpreter.now.grammar.token_rules }
     requires few { length names.now ≤ 4096 }
     ensures content { (files : Files) → S.told shelf.old ≡ Some files
