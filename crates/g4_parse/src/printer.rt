@@ -150,7 +150,7 @@ mod tests {
         for name in names.split_whitespace() {
             rules.push(NumberedRule {
                 name: Text::copy_of(alloc, name)?,
-                symbols: Sequence::new(Vec::new(alloc)),
+                alternatives: Sequence::new(Vec::new(alloc)),
             })?;
         }
         Ok(rules)
