@@ -7,7 +7,8 @@ use Rattle.g4_grammar.specs.declared.source.Rule.{Rule}
 use Rattle.g4_grammar.specs.Characters.{ReadsCharacters}
 use Rattle.g4_grammar.specs.Elements.{Elements}
 use Rattle.g4_grammar.specs.Loops.{OneHasEmptyLoop, ReadsOneSymbol, AnyHasEmptyLoop, LexerHasEmptyLoop, RuleHasEmptyLoop, HaveNoEmptyLoop}
-use Rattle.g4_checks.specs.Checking.{IsFirstWithEmptyLoop, name_of}
+use Rattle.g4_checks.specs.Checking.{IsFirstWithEmptyLoop}
+use Rattle.g4_grammar.specs.Rules.{rule_name}
 
 -- What is passed of a list has no such item: the list has one where the rest has.
 pub record NoneYet {X : Type 0} (HasOne : List X → Type 0) (all : List X) (i : ℕ) : Type 0 where
@@ -60,7 +61,7 @@ pub none_of_all : (rules : List Rule) (i : ℕ) → length rules ≤ i → HaveN
 none_of_all rules i past clear = subst HaveNoEmptyLoop (take_all i rules past) clear
 
 -- the first rule with such a loop
-pub first_found : (rules : List Rule) (i : ℕ) (rule : Rule) (name : List ℕ) → i < length rules → rule ≡ get_or rules i rule → HaveNoEmptyLoop (take i rules) → RuleHasEmptyLoop rule → name ≡ name_of rule → IsFirstWithEmptyLoop rules name
+pub first_found : (rules : List Rule) (i : ℕ) (rule : Rule) (name : List ℕ) → i < length rules → rule ≡ get_or rules i rule → HaveNoEmptyLoop (take i rules) → RuleHasEmptyLoop rule → name ≡ rule_name rule → IsFirstWithEmptyLoop rules name
 first_found rules i rule name within item clear looped named = record {
   before = take i rules;
   rule = rule;

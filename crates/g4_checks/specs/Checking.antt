@@ -1,15 +1,10 @@
 -- The faults that are looked for in a grammar's rules.
 use Rattle.std.specs.Prelude.{◌≡◌, ℕ, List, ◌∷◌, ◌++◌, Result, Ok, Err, ⊤}
 use Rattle.g4_grammar.specs.declared.source.Rule.{Rule}
-use Rattle.g4_grammar.specs.declared.source.Rule.TheVariants.{Parser, Lexer}
+use Rattle.g4_grammar.specs.Rules.{rule_name}
 use Rattle.g4_grammar.specs.Loops.{RuleHasEmptyLoop, HaveNoEmptyLoop}
 use Rattle.g4_checks.specs.declared.checking.CheckFault.{CheckFault}
 use Rattle.g4_checks.specs.declared.checking.CheckFault.TheVariants.{EmptyLoop, NoMemory}
-
--- the name of a rule
-abbrev pub name_of : Rule → List ℕ
-name_of (Parser rule) = rule.name
-name_of (Lexer rule) = rule.name
 
 -- the first of the rules that has a loop that can be empty has this name
 pub record IsFirstWithEmptyLoop (rules : List Rule) (name : List ℕ) : Type 0 where
@@ -19,7 +14,7 @@ pub record IsFirstWithEmptyLoop (rules : List Rule) (name : List ℕ) : Type 0 w
   pub parts : rules ≡ before ++ rule ∷ behind
   pub none_before : HaveNoEmptyLoop before
   pub has_loop : RuleHasEmptyLoop rule
-  pub named : name ≡ name_of rule
+  pub named : name ≡ rule_name rule
 
 -- the call answers that no rule has such a loop, or with the first that has, unless memory runs out
 abbrev pub IsChecked : List Rule → Result ⊤ CheckFault → Type 0

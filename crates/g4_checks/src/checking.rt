@@ -1,7 +1,7 @@
 // The faults of a grammar's rules.
 ghost use Rattle.g4_checks.specs.Checking.{IsChecked};
 
-use crate::rule::{has_empty_loop, name};
+use crate::rule::has_empty_loop;
 use g4_base::Text;
 use g4_grammar::Source;
 use std::alloc::{AllocError, Global};
@@ -31,7 +31,7 @@ pub fn check(alloc: Global, source: &Source) -> Result<(), CheckFault>
 {
     for rule in source.rules.as_slice() {
         if has_empty_loop(rule) {
-            return Err(CheckFault::EmptyLoop(Text::copy_of(alloc, name(rule))?));
+            return Err(CheckFault::EmptyLoop(Text::copy_of(alloc, rule.name())?));
         }
     }
     Ok(())

@@ -1,20 +1,9 @@
 // Whether a rule has a loop that can be empty.
-ghost use Rattle.std.specs.Prelude.{◌≡◌, ◌↔◌, [], IsTrue};
+ghost use Rattle.std.specs.Prelude.{◌↔◌, [], IsTrue};
 ghost use Rattle.g4_grammar.specs.Loops.{ReadsOneSymbol, AnyHasEmptyLoop, LexerHasEmptyLoop, RuleHasEmptyLoop};
-ghost use Rattle.g4_checks.specs.Checking.{name_of};
 
 use crate::found::{Kind, of_elements};
 use g4_grammar::{LexerRule, ParserRule, Rule};
-
-/// The name of a rule.
-pub fn name(rule: &Rule) -> &str
-    ensures { result.now ≡ name_of rule.now }
-{
-    match rule {
-        Rule::Parser(rule) => rule.name.as_str(),
-        Rule::Lexer(rule) => rule.name.as_str(),
-    }
-}
 
 /// Whether an alternative of the parser rule has a loop that can be empty.
 fn parser_has_empty_loop(rule: &ParserRule) -> bool

@@ -1,4 +1,7 @@
 // A grammar as its text gives it.
+ghost use Rattle.std.specs.Prelude.{◌≡◌};
+ghost use Rattle.g4_grammar.specs.Rules.{rule_name};
+
 use crate::Elements;
 use g4_base::{Sequence, Text};
 
@@ -14,6 +17,18 @@ pub struct Source {
 pub enum Rule {
     Parser(ParserRule),
     Lexer(LexerRule),
+}
+
+impl Rule {
+    /// The name of the rule.
+    pub fn name(&self) -> &str
+        ensures { result.now ≡ rule_name self.now }
+    {
+        match self {
+            Rule::Parser(rule) => rule.name.as_str(),
+            Rule::Lexer(rule) => rule.name.as_str(),
+        }
+    }
 }
 
 /// A parser rule: its alternatives in order.
