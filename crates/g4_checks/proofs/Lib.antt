@@ -1,3 +1,4 @@
 pub mod Empty
 pub mod Nodes
-pub mod Rules
+pub mod OneCheck
+mod Rules

@@ -3,8 +3,10 @@
 
 mod checking;
 mod found;
+mod law;
 mod rule;
 #[cfg(test)]
 mod tests;
 
 pub use checking::{CheckFault, check};
+pub use law::one_check;

@@ -3,3 +3,5 @@ mod Loops
 mod Named
 pub mod Nodes
 mod Numbers
+mod OneNaming
+mod Repeats

@@ -1,5 +1,5 @@
 // What is numbered of small grammars, worked out by hand.
-use crate::number;
+use crate::{NameFault, check_names, number};
 use g4_base::{Sequence, Text};
 use g4_grammar::{
     Alternative, Atom, Element, Elements, LexerAlternative, LexerRule, Literal, Numbered,
@@ -163,5 +163,43 @@ fn numbers_nested_elements(rt: HostRuntime) -> Result<(), Fail> {
     };
     let wanted = "r: ( 2 | 4 | )* 1 | 4 4097 3 ( 1 | 2 | ) | 'b' 'a' ID FOO 1 2 3- ";
     assert_eq!(rt; text.as_str(), wanted);
+    Ok(())
+}
+
+// A grammar whose rules have these names, which are of letters.
+fn named(alloc: Global, names: &str) -> Result<Source, AllocError> {
+    let mut rules = Vec::new(alloc);
+    for name in names.split_whitespace() {
+        rules.push(lexer_rule(alloc, name, literal(alloc, "a")?, false)?)?;
+    }
+    Ok(Source {
+        name: Text::copy_of(alloc, "H")?,
+        rules: Sequence::new(rules),
+    })
+}
+
+// Names in order, and the name that is told, none where each stands once.
+const NAMES: [(&str, &str); 7] = [
+    ("", ""),
+    ("A", ""),
+    ("A B AB BA a b", ""),
+    ("A A", "A"),
+    ("A B B A", "A"),
+    ("A B C B C", "B"),
+    ("A A A B B", "A"),
+];
+
+#[test]
+fn tells_the_first_name_that_stands_twice(rt: HostRuntime) -> Result<(), Fail> {
+    let alloc = rt.alloc();
+    for (names, wanted) in NAMES {
+        let source = named(alloc, names)?;
+        let told = match check_names(alloc, &source) {
+            Ok(()) => Text::copy_of(alloc, "")?,
+            Err(NameFault::RuleTwice(name)) => name,
+            Err(NameFault::NoMemory) => Text::copy_of(alloc, "no memory")?,
+        };
+        assert_eq!(rt; told.as_str(), wanted, "{names}");
+    }
     Ok(())
 }
