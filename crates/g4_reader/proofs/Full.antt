@@ -1,5 +1,5 @@
 -- Each block of a grammar that a text is has an alternative.
-use Rattle.std.proofs.Common.{◌≡◌, ℕ, List, [], ◌∷◌, Result, Ok, Err, IfOk}
+use Rattle.std.proofs.Common.{ℕ, List, [], ◌∷◌, Result, Ok, Err, IfOk}
 use Rattle.g4_grammar.specs.declared.element.Repeat.{Repeat}
 use Rattle.g4_grammar.specs.declared.element.Repeat.TheVariants.{Once, Star, Plus}
 use Rattle.g4_grammar.specs.declared.source.Source.{Source}
@@ -47,5 +47,5 @@ rules_full word (Lexer rule ∷ rules) (first, others, parts, is, more) = rules_
 
 -- the grammar that a text is
 pub reading_full : (text : List ℕ) (result : Result Source ReadFault) → IsReading text result → IfOk result (λ source. HaveAlternatives source.rules)
-reading_full text (Ok source) (tokens, scans, is) = rules_full is.body source.rules is.rules_are
+reading_full text (Ok source) (tokens, scans, is, good) = rules_full is.body source.rules is.rules_are
 reading_full text (Err fault) is = tt

@@ -1,16 +1,19 @@
 -- What the reading of a text's tokens says of the text.
-use Rattle.std.proofs.Common.{◌≡◌, ◌≢◌, ℕ, List, [], ◌∷◌, ◌++◌, inl, inr, refl, sym, ◌∙◌, ap, subst, Option, Some, None, Result, Ok, Err}
-use Rattle.std.proofs.lemmas.List.{append-nil}
+use Rattle.std.proofs.Common.{◌≡◌, ◌≢◌, ℕ, List, [], ◌∷◌, ◌++◌, ◌⊎◌, inl, inr, refl, sym, ◌∙◌, ap, subst, take, drop, append_assoc, Option, Some, None, Result, Ok, Err}
+use Rattle.std.proofs.lemmas.List.{append-nil, append_cancel_right, map-append, take-append-drop}
+use Rattle.g4_base.specs.declared.place.Place.{Place}
 use Rattle.g4_tokens.specs.declared.token.Token.{Token}
 use Rattle.g4_tokens.specs.Scanning.{Opened, scanned}
 use Rattle.g4_grammar.specs.declared.source.Source.{Source}
-use Rattle.g4_reader.specs.GrammarText.{Spelled, spelled, spelled_token, IsGrammarText}
-use Rattle.g4_reader.specs.Reading.{Fault, fault_at, opened_fault, Ends, IsFirstFault, IsReading}
-use Rattle.g4_reader.specs.Stages.{Stage, at_grammar, at_rule, next, grammar_at, result_of, reading_from, GivesReading}
+use Rattle.g4_reader.specs.GrammarText.{Spelled, spelled, spelled_token, IsGrammarText, Begins}
+use Rattle.g4_reader.specs.Reading.{Fault, fault_at, opened_fault, Ends, HasNoBadSet, IsFirstBadSet, IsFirstFault, IsReading}
+use Rattle.g4_reader.specs.Sets.{first_bad_set, good_or_bad, with_good_sets}
+use Rattle.g4_reader.specs.Stages.{Stage, at_grammar, at_rule, next, grammar_at, result_of, reading_from, IsFirstOf, IsReadingOf}
 use Rattle.g4_reader.specs.declared.reader.ReadFault.{ReadFault}
-use Rattle.g4_reader.specs.declared.reader.ReadFault.TheVariants.{Syntax, NoMemory}
+use Rattle.g4_reader.specs.declared.reader.ReadFault.TheVariants.{Syntax, BadSet, NoMemory}
 use Rattle.g4_reader.proofs.Holding.{after, Holds, Holds-next, Holds-after, Begins-from, text_from}
 use Rattle.g4_reader.proofs.Passing.{after-next, after-stuck, after-append, text_passes, Begins-after}
+use Rattle.g4_reader.proofs.Sets.{first_bad_from, no_bad_from, first_bad_is, none_found}
 use Rattle.g4_reader.proofs.Steps.{reading_from-next, reading_from-stuck, reading_from-end}
 
 -- no reading goes on from this stage with these tokens
@@ -22,24 +25,24 @@ IsStuck text stage (t ∷ ts) = next stage (spelled_token text t) ≡ None
 abbrev pub EndsIn : List ℕ → Stage → List Token → Source → Type 0
 EndsIn text stage tokens source = (later : Stage) × (after stage (spelled text tokens) ≡ Some later) × (grammar_at later ≡ Some source)
 
--- a reading that stops at a fault
-abbrev pub StopsAt : List ℕ → Stage → List Token → Fault → Type 0
-StopsAt text stage tokens fault = (before : List Token) × (others : List Token) × (later : Stage) × (tokens ≡ before ++ others) × (after stage (spelled text before) ≡ Some later) × IsStuck text later others × (fault ≡ fault_at text others)
+-- a reading that stops at the others of the tokens
+abbrev pub StopsAt : List ℕ → Stage → List Token → List Token → Type 0
+StopsAt text stage tokens others = (before : List Token) × (later : Stage) × (tokens ≡ before ++ others) × (after stage (spelled text before) ≡ Some later) × IsStuck text later others
 
 -- what a result of a reading says
-abbrev pub Tells : List ℕ → Stage → List Token → Result Source Fault → Type 0
+abbrev pub Tells : List ℕ → Stage → List Token → Result Source (List Token) → Type 0
 Tells text stage tokens (Ok source) = EndsIn text stage tokens source
-Tells text stage tokens (Err fault) = StopsAt text stage tokens fault
+Tells text stage tokens (Err others) = StopsAt text stage tokens others
 
 -- what a reading that goes on says, with one more token before
-tells_next : (text : List ℕ) (stage later : Stage) (t : Token) (ts : List Token) (result : Result Source Fault) → next stage (spelled_token text t) ≡ Some later → Tells text later ts result → Tells text stage (t ∷ ts) result
+tells_next : (text : List ℕ) (stage later : Stage) (t : Token) (ts : List Token) (result : Result Source (List Token)) → next stage (spelled_token text t) ≡ Some later → Tells text later ts result → Tells text stage (t ∷ ts) result
 tells_next text stage later t ts (Ok source) is (last, e, end) = (last, after-next stage (spelled_token text t) (spelled text ts) later is ∙ e, end)
-tells_next text stage later t ts (Err fault) is (before, others, last, parts, e, stuck, at) =
-    (t ∷ before, others, last, ap (λ l. t ∷ l) parts, after-next stage (spelled_token text t) (spelled text before) later is ∙ e, stuck, at)
+tells_next text stage later t ts (Err others) is (before, last, parts, e, stuck) =
+    (t ∷ before, last, ap (λ l. t ∷ l) parts, after-next stage (spelled_token text t) (spelled text before) later is ∙ e, stuck)
 
 -- what the end of the text says
-tells_end : (text : List ℕ) (stage : Stage) (o : Option Source) → grammar_at stage ≡ o → Tells text stage [] (result_of o (fault_at text []))
-tells_end text stage None e = ([], [], stage, refl, refl, e, refl)
+tells_end : (text : List ℕ) (stage : Stage) (o : Option Source) → grammar_at stage ≡ o → Tells text stage [] (result_of o [])
+tells_end text stage None e = ([], stage, refl, refl, e)
 tells_end text stage (Some source) e = (stage, refl, e)
 
 -- what the result of a reading says
@@ -48,7 +51,7 @@ reading_tells text stage [] = subst (Tells text stage []) (sym (reading_from-end
 reading_tells text stage (t ∷ ts) = by_next (next stage (spelled_token text t)) refl (λ later. reading_tells text later ts)
   where
     by_next : (o : Option Stage) → next stage (spelled_token text t) ≡ o → ((later : Stage) → Tells text later ts (reading_from text later ts)) → Tells text stage (t ∷ ts) (reading_from text stage (t ∷ ts))
-    by_next None e further = subst (Tells text stage (t ∷ ts)) (sym (reading_from-stuck text stage t ts e)) ([], t ∷ ts, stage, refl, refl, e, refl)
+    by_next None e further = subst (Tells text stage (t ∷ ts)) (sym (reading_from-stuck text stage t ts e)) ([], stage, refl, refl, e)
     by_next (Some later) e further = subst (Tells text stage (t ∷ ts)) (sym (reading_from-next text stage later t ts e)) (tells_next text stage later t ts (reading_from text later ts) e (further later))
 
 -- the tokens behind which a reading stands
@@ -81,22 +84,102 @@ ends_from text before (t ∷ ts) later e stuck =
     none_some : {stage : Stage} → None ≡ Some stage → ⊥
     none_some e = cc
 
--- a reading that stops at a fault stops at the first
-pub first_fault_from : (text : List ℕ) (tokens : List Token) (fault : Fault) → StopsAt text at_grammar tokens fault → IsFirstFault text tokens fault
-first_fault_from text tokens fault (before, others, later, parts, e, stuck, at) = record {
-  before = before;
+-- the tokens at which a reading stops: a grammar text begins with those before, and none goes on
+pub record IsStop (text : List ℕ) (tokens others : List Token) : Type 0 where
+  pub before : List Token
+  pub parts : tokens ≡ before ++ others
+  pub begins : Begins (spelled text before)
+  pub ends : Ends (spelled text before) (spelled text others)
+
+-- where a reading stops no grammar text goes on
+pub stop_from : (text : List ℕ) (tokens others : List Token) → reading_from text at_grammar tokens ≡ Err others → IsStop text tokens others
+stop_from text tokens others e =
+    let told : StopsAt text at_grammar tokens others = subst (Tells text at_grammar tokens) e (reading_tells text at_grammar tokens) in record {
+      before = told.0;
+      parts = told.2;
+      begins = Begins-from (spelled text told.0) told.1 (holds_from (spelled text told.0) told.1 told.3);
+      ends = ends_from text told.0 others told.1 told.3 told.4;
+    }
+
+-- tokens with which a grammar text begins, begin as it does
+begins_before : (before behind : List Spelled) → Begins (before ++ behind) → Begins before
+begins_before before behind (more, source, is) = (behind ++ more, source, subst (λ w. IsGrammarText w source) (append_assoc before behind more) is)
+
+-- a grammar text begins with the first tokens of those with which one begins
+spelled_begins : (text : List ℕ) (before behind : List Token) → Begins (spelled text (before ++ behind)) → Begins (spelled text before)
+spelled_begins text before behind begins = begins_before (spelled text before) (spelled text behind) (subst Begins (map-append (spelled_token text) before behind) begins)
+
+-- the first bad set of tokens with which a grammar text begins
+bad_begun : (text : List ℕ) (tokens behind : List Token) (place : Place) → Begins (spelled text tokens) → first_bad_set tokens ≡ Some place → IsFirstBadSet text (tokens ++ behind) place
+bad_begun text tokens behind place begins e =
+    let first = first_bad_from tokens place e in
+    let parts : tokens ≡ (first.before ++ first.set ∷ []) ++ first.behind = first.parts ∙ sym (append_assoc first.before (first.set ∷ []) first.behind) in record {
+      before = first.before;
+      set = first.set;
+      behind = first.behind ++ behind;
+      parts = ap (λ l. l ++ behind) first.parts ∙ append_assoc first.before (first.set ∷ first.behind) behind;
+      begins = spelled_begins text (first.before ++ first.set ∷ []) first.behind (subst (λ l. Begins (spelled text l)) parts begins);
+      good_before = first.good_before;
+      is_bad = first.is_bad;
+      is = first.is;
+    }
+
+-- a grammar text begins as itself
+text_begins : (text : List ℕ) (tokens : List Token) (source : Source) → IsGrammarText (spelled text tokens) source → Begins (spelled text tokens)
+text_begins text tokens source is = ([], source, subst (λ w. IsGrammarText w source) (sym (append-nil (spelled text tokens))) is)
+
+-- the grammar that is read
+read_grammar_is : (text : List ℕ) (tokens : List Token) (source : Source) → reading_from text at_grammar tokens ≡ Ok source → IsGrammarText (spelled text tokens) source
+read_grammar_is text tokens source e = grammar_from text tokens source (subst (Tells text at_grammar tokens) e (reading_tells text at_grammar tokens))
+
+-- a grammar that is read, in which a bad set is found or none
+pub read_to_end : (text : List ℕ) (tokens : List Token) (source : Source) → reading_from text at_grammar tokens ≡ Ok source → IsReadingOf text tokens (with_good_sets source tokens)
+read_to_end text tokens source e = by_found (first_bad_set tokens) refl
+  where
+    by_found : (o : Option Place) → first_bad_set tokens ≡ o → IsReadingOf text tokens (good_or_bad source o)
+    by_found None is = (read_grammar_is text tokens source e, no_bad_from tokens is)
+    by_found (Some place) is =
+        subst (λ l. IsFirstBadSet text l place) (append-nil tokens) (bad_begun text tokens [] place (text_begins text tokens source (read_grammar_is text tokens source e)) is)
+
+-- a fault of a reading that stops, in the tokens before which no bad set is found
+fault_first : (text : List ℕ) (tokens others : List Token) (stop : IsStop text tokens others) → first_bad_set stop.before ≡ None → IsFirstFault text tokens (fault_at text others)
+fault_first text tokens others stop none = record {
+  before = stop.before;
   others = others;
-  parts = parts;
-  begins = Begins-from (spelled text before) later (holds_from (spelled text before) later e);
-  ends = ends_from text before others later e stuck;
-  is = at;
+  parts = stop.parts;
+  begins = stop.begins;
+  ends = stop.ends;
+  good_before = no_bad_from stop.before none;
+  is = refl;
 }
 
+-- a reading that stops, in the tokens before which a bad set is found or none
+read_to_stop : (text : List ℕ) (tokens others : List Token) (stop : IsStop text tokens others) (fault : ReadFault) → IsFirstOf text (first_bad_set stop.before) others fault → IsReadingOf text tokens (Err fault)
+read_to_stop text tokens others stop fault is = by_found (first_bad_set stop.before) refl fault is
+  where
+    by_found : (o : Option Place) → first_bad_set stop.before ≡ o → (fault : ReadFault) → IsFirstOf text o others fault → IsReadingOf text tokens (Err fault)
+    by_found (Some place) found fault is =
+        subst (λ f. IsReadingOf text tokens (Err f)) (sym is) (subst (λ l. IsFirstBadSet text l place) (sym stop.parts) (bad_begun text stop.before others place stop.begins found))
+    by_found None found (Syntax place characters) is = subst (IsFirstFault text tokens) is (fault_first text tokens others stop found)
+    by_found None found (BadSet place) is = absurd is
+    by_found None found NoMemory is = tt
+
+-- tokens from an index on, and those before
+before_index : (tokens : List Token) (i : ℕ) (before : List Token) → tokens ≡ before ++ drop i tokens → before ≡ take i tokens
+before_index tokens i before parts = append_cancel_right before (take i tokens) (drop i tokens) (sym parts ∙ sym (take-append-drop i tokens))
+
+-- a reading that stops at an index
+pub read_to_index : (text : List ℕ) (tokens : List Token) (i : ℕ) (fault : ReadFault) → reading_from text at_grammar tokens ≡ Err (drop i tokens) → IsFirstOf text (first_bad_set (take i tokens)) (drop i tokens) fault → IsReadingOf text tokens (Err fault)
+read_to_index text tokens i fault e is =
+    let stop = stop_from text tokens (drop i tokens) e in
+    read_to_stop text tokens (drop i tokens) stop fault (subst (λ l. IsFirstOf text (first_bad_set l) (drop i tokens) fault) (sym (before_index tokens i stop.before stop.parts)) is)
+
 -- a result of the reading of a text's tokens is a reading of the text
-pub IsReading-from : (text : List ℕ) (tokens : List Token) (result : Result Source ReadFault) → scanned text ≡ Ok tokens → GivesReading (reading_from text at_grammar tokens) result → IsReading text result
-IsReading-from text tokens (Ok source) s e = (tokens, s, grammar_from text tokens source (subst (Tells text at_grammar tokens) e (reading_tells text at_grammar tokens)))
-IsReading-from text tokens (Err (Syntax place characters)) s e = inr (tokens, s, first_fault_from text tokens _ (subst (Tells text at_grammar tokens) e (reading_tells text at_grammar tokens)))
-IsReading-from text tokens (Err NoMemory) s e = tt
+pub IsReading-from : (text : List ℕ) (tokens : List Token) (result : Result Source ReadFault) → scanned text ≡ Ok tokens → IsReadingOf text tokens result → IsReading text result
+IsReading-from text tokens (Ok source) s is = (tokens, s, is.0, is.1)
+IsReading-from text tokens (Err (Syntax place characters)) s is = inr (tokens, s, is)
+IsReading-from text tokens (Err (BadSet place)) s is = (tokens, s, is)
+IsReading-from text tokens (Err NoMemory) s is = tt
 
 -- a reading goes through the tokens that may come
 read_through : (text : List ℕ) (stage later : Stage) (before others : List Token) → after stage (spelled text before) ≡ Some later → reading_from text stage (before ++ others) ≡ reading_from text later others
@@ -111,8 +194,8 @@ read_through text stage later (t ∷ ts) others e = by_next (next stage (spelled
     by_next (Some between) is e further = reading_from-next text stage between t (ts ++ others) is ∙ further between e
 
 -- a stuck reading stops
-stuck_reading : (text : List ℕ) (stage : Stage) (others : List Token) → IsStuck text stage others → reading_from text stage others ≡ Err (fault_at text others)
-stuck_reading text stage [] stuck = reading_from-end text stage ∙ ap (λ o. result_of o (fault_at text [])) stuck
+stuck_reading : (text : List ℕ) (stage : Stage) (others : List Token) → IsStuck text stage others → reading_from text stage others ≡ Err others
+stuck_reading text stage [] stuck = reading_from-end text stage ∙ ap (λ o. result_of o []) stuck
 stuck_reading text stage (t ∷ ts) stuck = reading_from-stuck text stage t ts stuck
 
 -- a grammar text is read as its grammar
@@ -133,52 +216,159 @@ stuck_from text before (t ∷ ts) stage h ends = by_next (next stage (spelled_to
     by_next None e = e
     by_next (Some later) e = absurd (ends (Begins-from (spelled text before ++ spelled_token text t ∷ []) later (Holds-next (spelled text before) stage (spelled_token text t) later h e)))
 
--- the first fault is that of the reading
-fault_reading : (text : List ℕ) (tokens : List Token) (fault : Fault) → IsFirstFault text tokens fault → reading_from text at_grammar tokens ≡ Err fault
+-- the first fault is where the reading stops
+fault_reading : (text : List ℕ) (tokens : List Token) (fault : Fault) (first : IsFirstFault text tokens fault) → reading_from text at_grammar tokens ≡ Err first.others
 fault_reading text tokens fault first =
     let there = Begins-after (spelled text first.before) first.begins in
     let stuck = stuck_from text first.before first.others there.0 (holds_from (spelled text first.before) there.0 there.1) first.ends in
-    ap (reading_from text at_grammar) first.parts ∙ read_through text at_grammar there.0 first.before first.others there.1 ∙ stuck_reading text there.0 first.others stuck ∙ ap (λ f. Err f) (sym first.is)
+    ap (reading_from text at_grammar) first.parts ∙ read_through text at_grammar there.0 first.before first.others there.1 ∙ stuck_reading text there.0 first.others stuck
 
--- the answer that tells a result
-answer : Result Source Fault → Result Source ReadFault
-answer (Ok source) = Ok source
-answer (Err fault) = Err (Syntax fault.place fault.characters)
+-- a token stands in one of two lists, one behind the other
+token_in : (u v before : List Token) (t : Token) (behind : List Token) → u ++ v ≡ before ++ t ∷ behind → ((more : List Token) × (u ≡ before ++ t ∷ more)) ⊎ ((more : List Token) × (before ≡ u ++ more) × (v ≡ more ++ t ∷ behind))
+token_in [] v before t behind e = inr (before, refl, e)
+token_in (x ∷ xs) v [] t behind e = inl (xs, ap (λ y. y ∷ xs) (heads e))
+  where
+    heads : {a b : Token} {us ws : List Token} → a ∷ us ≡ b ∷ ws → a ≡ b
+    heads e = cc
+token_in (x ∷ xs) v (y ∷ ys) t behind e = by_place (token_in xs v ys t behind (tails e))
+  where
+    heads : {a b : Token} {us ws : List Token} → a ∷ us ≡ b ∷ ws → a ≡ b
+    heads e = cc
 
--- the answer at these tokens of the text
-answer_at : List ℕ → Result (List Token) Opened → Result Source ReadFault
-answer_at text (Ok tokens) = answer (reading_from text at_grammar tokens)
-answer_at text (Err opened) = answer (Err (opened_fault text opened))
+    tails : {a b : Token} {us ws : List Token} → a ∷ us ≡ b ∷ ws → us ≡ ws
+    tails e = cc
 
--- a reading that memory sufficed for is the answer
-reading_is : (text : List ℕ) (result : Result Source ReadFault) → IsReading text result → result ≢ Err NoMemory → result ≡ answer_at text (scanned text)
-unfolding answer answer_at
-reading_is text (Ok source) (tokens, s, is) n = ap answer (sym (grammar_reading text tokens source is)) ∙ ap (answer_at text) (sym s)
-reading_is text (Err (Syntax place characters)) (inl (opened, s, is)) n = ap (λ f. answer (Err f)) is ∙ ap (answer_at text) (sym s)
-reading_is text (Err (Syntax place characters)) (inr (tokens, s, first)) n = ap answer (sym (fault_reading text tokens _ first)) ∙ ap (answer_at text) (sym s)
-reading_is text (Err NoMemory) h n = absurd (n refl)
+    by_place : ((more : List Token) × (xs ≡ ys ++ t ∷ more)) ⊎ ((more : List Token) × (ys ≡ xs ++ more) × (v ≡ more ++ t ∷ behind)) → ((more : List Token) × (x ∷ xs ≡ y ∷ (ys ++ t ∷ more))) ⊎ ((more : List Token) × (y ∷ ys ≡ x ∷ (xs ++ more)) × (v ≡ more ++ t ∷ behind))
+    by_place (inl (more, is)) = inl (more, ap (λ l. x ∷ l) is ∙ ap (λ z. z ∷ (ys ++ t ∷ more)) (heads e))
+    by_place (inr (more, is, rest)) = inr (more, ap (λ l. y ∷ l) is ∙ ap (λ z. z ∷ (xs ++ more)) (sym (heads e)), rest)
+
+-- a grammar text does not begin with tokens where none goes on, and more behind them
+no_text_behind : (text : List ℕ) (before more : List Token) (t : Token) (others behind : List Token) → others ≡ more ++ t ∷ behind → Ends (spelled text before) (spelled text others) → ¬ (Begins (spelled text ((before ++ more) ++ t ∷ [])))
+no_text_behind text before [] t others behind e ends begins =
+    let goes : Ends (spelled text before) (spelled text (t ∷ behind)) = subst (λ l. Ends (spelled text before) (spelled text l)) e ends in
+    goes (subst Begins (map-append (spelled_token text) before (t ∷ [])) (subst (λ l. Begins (spelled text (l ++ t ∷ []))) (append-nil before) begins))
+no_text_behind text before (m ∷ ms) t others behind e ends begins =
+    let goes : Ends (spelled text before) (spelled text (m ∷ (ms ++ t ∷ behind))) = subst (λ l. Ends (spelled text before) (spelled text l)) e ends in
+    let split : (before ++ m ∷ ms) ++ t ∷ [] ≡ (before ++ m ∷ []) ++ (ms ++ t ∷ []) = append_assoc before (m ∷ ms) (t ∷ []) ∙ sym (append_assoc before (m ∷ []) (ms ++ t ∷ [])) in
+    goes (subst Begins (map-append (spelled_token text) before (m ∷ [])) (spelled_begins text (before ++ m ∷ []) (ms ++ t ∷ []) (subst (λ l. Begins (spelled text l)) split begins)))
+
+-- nothing and something are not alike
+none_some : {X : Type 0} {x : X} → None ≡ Some x → ⊥
+none_some e = cc
+
+-- a reading does not both end in a grammar and stop
+ok_err : (reading : Result Source (List Token)) (source : Source) (others : List Token) → reading ≡ Ok source → reading ≡ Err others → ⊥
+ok_err reading source others e f = cc
+
+-- where no set of the tokens is bad, none is the first
+no_first : (text : List ℕ) (tokens : List Token) (place : Place) → HasNoBadSet tokens → ¬ (IsFirstBadSet text tokens place)
+no_first text tokens place good first =
+    none_some (sym (none_found tokens good) ∙ ap first_bad_set first.parts ∙ first_bad_is first.before first.set first.behind first.good_before first.is_bad)
+
+-- a first fault and a first bad set do not stand in one text
+one_first : (text : List ℕ) (tokens : List Token) (fault : Fault) (place : Place) → IsFirstFault text tokens fault → ¬ (IsFirstBadSet text tokens place)
+one_first text tokens fault place first bad = by_place (token_in first.before first.others bad.before bad.set bad.behind (sym first.parts ∙ bad.parts))
+  where
+    by_place : ((more : List Token) × (first.before ≡ bad.before ++ bad.set ∷ more)) ⊎ ((more : List Token) × (bad.before ≡ first.before ++ more) × (first.others ≡ more ++ bad.set ∷ bad.behind)) → ⊥
+    by_place (inl (more, is)) = none_some (sym (none_found first.before first.good_before) ∙ ap first_bad_set is ∙ first_bad_is bad.before bad.set more bad.good_before bad.is_bad)
+    by_place (inr (more, is, rest)) = no_text_behind text first.before more bad.set first.others bad.behind rest first.ends (subst (λ l. Begins (spelled text (l ++ bad.set ∷ []))) is bad.begins)
+
+-- a text's grammar is one
+one_grammar : (text : List ℕ) (tokens : List Token) (a b : Source) → IsGrammarText (spelled text tokens) a → IsGrammarText (spelled text tokens) b → a ≡ b
+one_grammar text tokens a b is also = oks (reading_from text at_grammar tokens) (grammar_reading text tokens a is) (grammar_reading text tokens b also)
+  where
+    oks : (reading : Result Source (List Token)) → reading ≡ Ok a → reading ≡ Ok b → a ≡ b
+    oks reading e f = cc
+
+-- a text's first fault is one
+one_fault : (text : List ℕ) (tokens : List Token) (a b : Fault) → IsFirstFault text tokens a → IsFirstFault text tokens b → a ≡ b
+one_fault text tokens a b is also = is.is ∙ ap (fault_at text) (errs (reading_from text at_grammar tokens) (fault_reading text tokens a is) (fault_reading text tokens b also)) ∙ sym also.is
+  where
+    errs : (reading : Result Source (List Token)) → reading ≡ Err is.others → reading ≡ Err also.others → is.others ≡ also.others
+    errs reading e f = cc
+
+-- a text's first bad set is one
+one_bad_set : (text : List ℕ) (tokens : List Token) (a b : Place) → IsFirstBadSet text tokens a → IsFirstBadSet text tokens b → a ≡ b
+one_bad_set text tokens a b is also = is.is ∙ somes (sym (found a is) ∙ found b also) ∙ sym also.is
+  where
+    somes : {x y : Place} → Some x ≡ Some y → x ≡ y
+    somes e = cc
+
+    found : (place : Place) (first : IsFirstBadSet text tokens place) → first_bad_set tokens ≡ Some first.set.place
+    found place first = ap first_bad_set first.parts ∙ first_bad_is first.before first.set first.behind first.good_before first.is_bad
+
+-- a grammar text has no first fault
+no_fault : (text : List ℕ) (tokens : List Token) (source : Source) (fault : Fault) → IsGrammarText (spelled text tokens) source → ¬ (IsFirstFault text tokens fault)
+no_fault text tokens source fault is first = ok_err (reading_from text at_grammar tokens) source first.others (grammar_reading text tokens source is) (fault_reading text tokens fault first)
+
+-- the answer that tells a fault
+told : Fault → Result Source ReadFault
+told fault = Err (Syntax fault.place fault.characters)
+
+-- tokens have one reading
+one_reading_of : (text : List ℕ) (tokens : List Token) (a b : Result Source ReadFault) → IsReadingOf text tokens a → IsReadingOf text tokens b → a ≢ Err NoMemory → b ≢ Err NoMemory → a ≡ b
+unfolding told
+one_reading_of text tokens (Ok x) (Ok y) is also n m = ap (λ s. Ok s) (one_grammar text tokens x y is.0 also.0)
+one_reading_of text tokens (Ok x) (Err (Syntax p c)) is also n m = absurd (no_fault text tokens x _ is.0 also)
+one_reading_of text tokens (Ok x) (Err (BadSet p)) is also n m = absurd (no_first text tokens p is.1 also)
+one_reading_of text tokens (Err (Syntax p c)) (Ok y) is also n m = absurd (no_fault text tokens y _ also.0 is)
+one_reading_of text tokens (Err (Syntax p c)) (Err (Syntax q d)) is also n m = ap told (one_fault text tokens _ _ is also)
+one_reading_of text tokens (Err (Syntax p c)) (Err (BadSet q)) is also n m = absurd (one_first text tokens _ q is also)
+one_reading_of text tokens (Err (BadSet p)) (Ok y) is also n m = absurd (no_first text tokens p also.1 is)
+one_reading_of text tokens (Err (BadSet p)) (Err (Syntax q d)) is also n m = absurd (one_first text tokens _ p also is)
+one_reading_of text tokens (Err (BadSet p)) (Err (BadSet q)) is also n m = ap (λ r. Err (BadSet r)) (one_bad_set text tokens p q is also)
+one_reading_of text tokens (Err NoMemory) b is also n m = absurd (n refl)
+one_reading_of text tokens a (Err NoMemory) is also n m = absurd (m refl)
+
+-- what a reading is, by what scanning the text gives
+abbrev ReadingAt : List ℕ → Result (List Token) Opened → Result Source ReadFault → Type 0
+ReadingAt text (Ok tokens) result = IsReadingOf text tokens result
+ReadingAt text (Err opened) result = result ≡ Err (Syntax (opened_fault text opened).place (opened_fault text opened).characters)
+
+-- a reading that memory sufficed for
+reading_at : (text : List ℕ) (result : Result Source ReadFault) → IsReading text result → result ≢ Err NoMemory → ReadingAt text (scanned text) result
+unfolding told
+reading_at text (Ok source) (tokens, s, is, good) n = subst (λ o. ReadingAt text o (Ok source)) (sym s) (is, good)
+reading_at text (Err (Syntax place characters)) (inl (opened, s, is)) n = subst (λ o. ReadingAt text o (Err (Syntax place characters))) (sym s) (ap told is)
+reading_at text (Err (Syntax place characters)) (inr (tokens, s, first)) n = subst (λ o. ReadingAt text o (Err (Syntax place characters))) (sym s) first
+reading_at text (Err (BadSet place)) (tokens, s, first) n = subst (λ o. ReadingAt text o (Err (BadSet place))) (sym s) first
+reading_at text (Err NoMemory) h n = absurd (n refl)
 
 -- a text has one reading
 pub one_reading : (text : List ℕ) (a b : Result Source ReadFault) → IsReading text a → IsReading text b → a ≢ Err NoMemory → b ≢ Err NoMemory → a ≡ b
-one_reading text a b is also n m = reading_is text a is n ∙ sym (reading_is text b also m)
+one_reading text a b is also n m = by_tokens (scanned text) (reading_at text a is n) (reading_at text b also m)
+  where
+    by_tokens : (o : Result (List Token) Opened) → ReadingAt text o a → ReadingAt text o b → a ≡ b
+    by_tokens (Ok tokens) is also = one_reading_of text tokens a b is also n m
+    by_tokens (Err opened) is also = is ∙ sym also
 
--- the answer tells the result
-answer_gives : (result : Result Source Fault) → GivesReading result (answer result)
-unfolding answer
-answer_gives (Ok source) = refl
-answer_gives (Err fault) = refl
+-- a fault that is told is not that of memory
+told_not : (fault : Fault) → told fault ≢ Err NoMemory
+unfolding told
+told_not fault e = cc
 
--- the answer needs no memory
-answer_told : (result : Result Source Fault) → answer result ≢ Err NoMemory
-unfolding answer
-answer_told (Ok source) e = cc
-answer_told (Err fault) e = cc
+-- the reading of tokens with which a text ends or stops
+reading_of : (text : List ℕ) (tokens : List Token) (reading : Result Source (List Token)) → reading_from text at_grammar tokens ≡ reading → (result : Result Source ReadFault) × IsReadingOf text tokens result × (result ≢ Err NoMemory)
+unfolding told
+reading_of text tokens (Ok source) e = (with_good_sets source tokens, read_to_end text tokens source e, by_found (first_bad_set tokens))
+  where
+    by_found : (o : Option Place) → good_or_bad source o ≢ Err NoMemory
+    by_found None e = cc
+    by_found (Some place) e = cc
+reading_of text tokens (Err others) e = by_found (first_bad_set stop.before) refl
+  where
+    stop : IsStop text tokens others
+    stop = stop_from text tokens others e
+
+    by_found : (o : Option Place) → first_bad_set stop.before ≡ o → (result : Result Source ReadFault) × IsReadingOf text tokens result × (result ≢ Err NoMemory)
+    by_found None found = (told (fault_at text others), fault_first text tokens others stop found, told_not (fault_at text others))
+    by_found (Some place) found = (Err (BadSet place), subst (λ l. IsFirstBadSet text l place) (sym stop.parts) (bad_begun text stop.before others place stop.begins found), λ e. cc)
 
 -- a text has a reading
 pub some_reading : (text : List ℕ) → (result : Result Source ReadFault) × IsReading text result × (result ≢ Err NoMemory)
-unfolding answer
+unfolding told
 some_reading text = by_tokens (scanned text) refl
   where
     by_tokens : (o : Result (List Token) Opened) → scanned text ≡ o → (result : Result Source ReadFault) × IsReading text result × (result ≢ Err NoMemory)
-    by_tokens (Ok tokens) e = (answer (reading_from text at_grammar tokens), IsReading-from text tokens (answer (reading_from text at_grammar tokens)) e (answer_gives (reading_from text at_grammar tokens)), answer_told (reading_from text at_grammar tokens))
-    by_tokens (Err opened) e = (answer (Err (opened_fault text opened)), inl (opened, e, refl), answer_told (Err (opened_fault text opened)))
+    by_tokens (Ok tokens) e = let r = reading_of text tokens (reading_from text at_grammar tokens) refl in (r.0, IsReading-from text tokens r.0 e r.1, r.2)
+    by_tokens (Err opened) e = (told (opened_fault text opened), inl (opened, e, refl), told_not (opened_fault text opened))

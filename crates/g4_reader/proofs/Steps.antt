@@ -11,12 +11,11 @@ use Rattle.g4_grammar.specs.declared.element.Repeat.{Repeat}
 use Rattle.g4_grammar.specs.declared.element.Repeat.TheVariants.{Once, Star, Plus}
 use Rattle.g4_grammar.specs.Elements.{Element}
 use Rattle.g4_reader.specs.GrammarText.{spelled_token, bytes_of}
-use Rattle.g4_reader.specs.Reading.{Fault, fault_at}
-use Rattle.g4_reader.specs.Stages.{Around, in_brackets, Operand, lone, Stage, at_name, at_name_end, at_rule, at_colon, at_element, at_sign, at_command, at_skip, at_bar, at_close, next, next_at_rule, next_at_element, if_so, passes, is_arrow, is_bar, is_left_parenthesis, is_lower, is_upper, atom_of, as_often, length_of, repeat_at, atom_at, name_at, name_of, has_commands, with_alternative, grammar_at, result_of, reading_from, IsFault, EndsWith, LeadsTo}
+use Rattle.g4_reader.specs.Stages.{Around, in_brackets, Operand, lone, Stage, at_name, at_name_end, at_rule, at_colon, at_element, at_sign, at_command, at_skip, at_bar, at_close, next, next_at_rule, next_at_element, if_so, passes, is_arrow, is_bar, is_left_parenthesis, is_lower, is_upper, atom_of, as_often, length_of, repeat_at, atom_at, name_at, name_of, has_commands, with_alternative, grammar_at, result_of, reading_from, StopsWith, LeadsTo}
 use Rattle.g4_reader.specs.declared.atom.RuleKind.{RuleKind}
 use Rattle.g4_reader.specs.declared.atom.RuleKind.TheVariants.{Parser, Lexer}
-use Rattle.g4_reader.specs.declared.reader.ReadFault.{ReadFault}
-use Rattle.g4_reader.specs.declared.reader.ReadFault.TheVariants.{Syntax, NoMemory}
+use Rattle.g4_reader.specs.declared.stop.Stop.{Stop}
+use Rattle.g4_reader.specs.declared.stop.Stop.TheVariants as stops
 
 -- the stage behind the token at an index, if one stands there and may come
 abbrev pub next_at : List ℕ → Stage → Option Token → Option Stage
@@ -29,12 +28,12 @@ unfolding reading_from
 reading_from-next text stage later token others e = rw (e, reading_from) refl
 
 -- a token that may not come is the fault
-pub reading_from-stuck : (text : List ℕ) (stage : Stage) (token : Token) (others : List Token) → next stage (spelled_token text token) ≡ None → reading_from text stage (token ∷ others) ≡ Err (fault_at text (token ∷ others))
+pub reading_from-stuck : (text : List ℕ) (stage : Stage) (token : Token) (others : List Token) → next stage (spelled_token text token) ≡ None → reading_from text stage (token ∷ others) ≡ Err (token ∷ others)
 unfolding reading_from
 reading_from-stuck text stage token others e = rw (e, reading_from) refl
 
 -- at the end of the text there is a grammar or a fault
-pub reading_from-end : (text : List ℕ) (stage : Stage) → reading_from text stage [] ≡ result_of (grammar_at stage) (fault_at text [])
+pub reading_from-end : (text : List ℕ) (stage : Stage) → reading_from text stage [] ≡ result_of (grammar_at stage) []
 unfolding reading_from
 reading_from-end text stage = refl
 
@@ -45,7 +44,7 @@ read_on text stage later (t ∷ ts) zero e = reading_from-next text stage later 
 read_on text stage later (t ∷ ts) (suc i) e = read_on text stage later ts i e
 
 -- where no token may come at an index, the fault stands there
-pub read_stuck : (text : List ℕ) (stage : Stage) (tokens : List Token) (i : ℕ) → next_at text stage (slice_get tokens i) ≡ None → grammar_at stage ≡ None → reading_from text stage (drop i tokens) ≡ Err (fault_at text (drop i tokens))
+pub read_stuck : (text : List ℕ) (stage : Stage) (tokens : List Token) (i : ℕ) → next_at text stage (slice_get tokens i) ≡ None → grammar_at stage ≡ None → reading_from text stage (drop i tokens) ≡ Err (drop i tokens)
 read_stuck text stage [] zero e n = rw (reading_from-end, n) refl
 read_stuck text stage [] (suc i) e n = rw (reading_from-end, n) refl
 read_stuck text stage (t ∷ ts) zero e n = reading_from-stuck text stage t ts e
@@ -54,8 +53,8 @@ read_stuck text stage (t ∷ ts) (suc i) e n = read_stuck text stage ts i e n
 -- two stages at which the same may come, and neither of which may end the text, read alike
 pub read_alike : (text : List ℕ) (stage other : Stage) (tokens : List Token) (i : ℕ) → next_at text stage (slice_get tokens i) ≡ next_at text other (slice_get tokens i) → grammar_at stage ≡ grammar_at other → reading_from text stage (drop i tokens) ≡ reading_from text other (drop i tokens)
 unfolding reading_from
-read_alike text stage other [] zero e n = ap (λ g. result_of g (fault_at text [])) n
-read_alike text stage other [] (suc i) e n = ap (λ g. result_of g (fault_at text [])) n
+read_alike text stage other [] zero e n = ap (λ g. result_of g []) n
+read_alike text stage other [] (suc i) e n = ap (λ g. result_of g []) n
 read_alike text stage other (t ∷ ts) zero e n = rw (e, reading_from) refl
 read_alike text stage other (t ∷ ts) (suc i) e n = read_alike text stage other ts i e n
 
@@ -70,7 +69,7 @@ sign_read text stage later test tokens i h e =
     rw add-one (read_on text stage later tokens i (sign_next text stage later test (slice_get tokens i) h ∙ ap (λ b. if_so b later) e))
 
 -- where the sign doesn't stand, the fault does
-pub sign_stuck : (text : List ℕ) (stage later : Stage) (test : Token → Bool) (tokens : List Token) (i : ℕ) → ((t : Token) → next stage (spelled_token text t) ≡ if_so (test t) later) → passes test (slice_get tokens i) ≡ false → grammar_at stage ≡ None → reading_from text stage (drop i tokens) ≡ Err (fault_at text (drop i tokens))
+pub sign_stuck : (text : List ℕ) (stage later : Stage) (test : Token → Bool) (tokens : List Token) (i : ℕ) → ((t : Token) → next stage (spelled_token text t) ≡ if_so (test t) later) → passes test (slice_get tokens i) ≡ false → grammar_at stage ≡ None → reading_from text stage (drop i tokens) ≡ Err (drop i tokens)
 sign_stuck text stage later test tokens i h e n =
     read_stuck text stage tokens i (sign_next text stage later test (slice_get tokens i) h ∙ ap (λ b. if_so b later) e) n
 
@@ -80,15 +79,10 @@ within_from-passes test [] i e = absurd (cc)
 within_from-passes test (t ∷ ts) zero e = omega arith
 within_from-passes test (t ∷ ts) (suc i) e = omega (arith, within_from-passes test ts i e)
 
--- what a fault says of a reading that ends with it
-pub ends_with : (reading : Result Source Fault) (fault : Fault) (answer : ReadFault) → reading ≡ Err fault → IsFault fault answer → EndsWith reading answer
-ends_with reading fault (Syntax place characters) e is = e ∙ ap (λ f. Err f) is
-ends_with reading fault NoMemory e is = tt
-
--- a reading that is another ends as that does
-pub ends_alike : (reading other : Result Source Fault) (answer : ReadFault) → reading ≡ other → EndsWith other answer → EndsWith reading answer
-ends_alike reading other (Syntax place characters) e is = e ∙ is
-ends_alike reading other NoMemory e is = tt
+-- a reading that is another stops as that does
+pub stops_alike : (tokens : List Token) (reading other : Result Source (List Token)) (stop : Stop) → reading ≡ other → StopsWith tokens other stop → StopsWith tokens reading stop
+stops_alike tokens reading other (stops.At index) e is = e ∙ is
+stops_alike tokens reading other stops.NoMemory e is = tt
 
 -- an atom at the index is read
 pub atom_next : (text : List ℕ) (rule : RuleKind) (around : Around) (es : List (Element Atom)) (a : Atom) (tokens : List Token) (i : ℕ) → Some a ≡ atom_at rule text (slice_get tokens i) → LeadsTo text tokens i (at_element rule around es) (at_sign rule around es (lone a)) (i + 1)
@@ -198,7 +192,7 @@ name_next text name tokens i is = rw add-one (read_on text _ _ tokens i (there (
     there (Some t) is = by_kind t.kind (bytes_of (spelled_token text t)) is
 
 -- where none stands, the fault does
-pub name_none : (text : List ℕ) (tokens : List Token) (i : ℕ) → None ≡ name_at text (slice_get tokens i) → reading_from text at_name (drop i tokens) ≡ Err (fault_at text (drop i tokens))
+pub name_none : (text : List ℕ) (tokens : List Token) (i : ℕ) → None ≡ name_at text (slice_get tokens i) → reading_from text at_name (drop i tokens) ≡ Err (drop i tokens)
 name_none text tokens i is = read_stuck text _ tokens i (there (slice_get tokens i) is) refl
   where
     by_kind : (kind : Kind) (bytes : List ℕ) → None ≡ name_of kind bytes → if_so (is_lower kind || is_upper kind) (at_name_end bytes) ≡ None
@@ -229,7 +223,7 @@ upper_next text source tokens i t is k = rw add-one (read_on text _ _ tokens i (
     there kind e = rw (← e) refl
 
 -- where no name stands, no rule begins
-pub rule_stuck : (text : List ℕ) (source : Source) (tokens : List Token) (i : ℕ) (t : Token) → slice_get tokens i ≡ Some t → (t.kind ≡ kinds.Lower → ⊥) → (t.kind ≡ kinds.Upper → ⊥) → reading_from text (at_rule source) (drop i tokens) ≡ Err (fault_at text (drop i tokens))
+pub rule_stuck : (text : List ℕ) (source : Source) (tokens : List Token) (i : ℕ) (t : Token) → slice_get tokens i ≡ Some t → (t.kind ≡ kinds.Lower → ⊥) → (t.kind ≡ kinds.Upper → ⊥) → reading_from text (at_rule source) (drop i tokens) ≡ Err (drop i tokens)
 rule_stuck text source [] i t is no_lower no_upper = absurd (cc)
 rule_stuck text source (u ∷ us) (suc i) t is no_lower no_upper = rule_stuck text source us i t is no_lower no_upper
 rule_stuck text source (u ∷ us) zero t is no_lower no_upper =

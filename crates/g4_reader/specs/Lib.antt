@@ -1,3 +1,4 @@
 pub mod GrammarText
 pub mod Reading
+pub mod Sets
 pub mod Stages

@@ -1,6 +1,7 @@
 -- How the reading of a grammar text goes on, a token at a time.
 use Rattle.std.specs.Prelude.{◌≡◌, ℕ, ◌≤◌, ◌<◌, length, map, drop, List, [], ◌∷◌, ◌++◌, Bool, true, false, Option, Some, None, Result, Ok, Err, codes, if◌then◌else◌, ◌||◌, ◌&&◌, bytes_eq, slice_get}
 use Rattle.std.proofs.Common.{Vec, Global}
+use Rattle.g4_base.specs.declared.place.Place.{Place}
 use Rattle.g4_tokens.specs.declared.token.Token.{Token}
 use Rattle.g4_tokens.specs.declared.token.Kind.{Kind}
 use Rattle.g4_tokens.specs.declared.token.Kind.TheVariants as kinds
@@ -18,12 +19,14 @@ use Rattle.g4_grammar.specs.declared.element.Repeat.{Repeat}
 use Rattle.g4_grammar.specs.declared.element.Repeat.TheVariants.{Once, Star, Plus}
 use Rattle.g4_grammar.specs.Elements.{Element, atom, Elements, Alternatives, only, either}
 use Rattle.g4_grammar.specs.Trees.{in_order, repeated, element_of, alternative_of}
-use Rattle.g4_reader.specs.GrammarText.{Spelled, spelled_token, bytes_of}
-use Rattle.g4_reader.specs.Reading.{Fault, fault_at}
+use Rattle.g4_reader.specs.GrammarText.{Spelled, spelled, spelled_token, bytes_of, IsGrammarText}
+use Rattle.g4_reader.specs.Reading.{Fault, fault_at, HasNoBadSet, IsFirstBadSet, IsFirstFault}
 use Rattle.g4_reader.specs.declared.atom.RuleKind.{RuleKind}
 use Rattle.g4_reader.specs.declared.atom.RuleKind.TheVariants.{Parser, Lexer}
 use Rattle.g4_reader.specs.declared.reader.ReadFault.{ReadFault}
-use Rattle.g4_reader.specs.declared.reader.ReadFault.TheVariants.{Syntax, NoMemory}
+use Rattle.g4_reader.specs.declared.reader.ReadFault.TheVariants as faults
+use Rattle.g4_reader.specs.declared.stop.Stop.{Stop}
+use Rattle.g4_reader.specs.declared.stop.Stop.TheVariants as stops
 
 -- what stands around an alternative: a rule of this name behind a grammar, with the alternatives before; or brackets, with
 -- what stands around them, the elements before them and the alternatives in them
@@ -209,31 +212,45 @@ abbrev pub grammar_at : Stage → Option Source
 grammar_at (at_rule source) = Some source
 grammar_at _ = None
 
--- the grammar, or the fault
-abbrev pub result_of : Option Source → Fault → Result Source Fault
-result_of (Some source) fault = Ok source
-result_of None fault = Err fault
+-- the grammar, or the tokens at which none goes on
+abbrev pub result_of : Option Source → List Token → Result Source (List Token)
+result_of (Some source) others = Ok source
+result_of None others = Err others
 
--- what reading these tokens of the text gives from the stage on: the grammar, or the first fault
-unfoldable pub reading_from : List ℕ → Stage → List Token → Result Source Fault
-reading_from text stage [] = result_of (grammar_at stage) (fault_at text [])
+-- what reading these tokens of the text gives from the stage on: the grammar, or the tokens at which none goes on
+unfoldable pub reading_from : List ℕ → Stage → List Token → Result Source (List Token)
+reading_from text stage [] = result_of (grammar_at stage) []
 reading_from text stage (token ∷ others) =
-    elim (next stage (spelled_token text token)) [ None ↦ Err (fault_at text (token ∷ others)) | Some later ↦ reading_from text later others ]
+    elim (next stage (spelled_token text token)) [ None ↦ Err (token ∷ others) | Some later ↦ reading_from text later others ]
 
 -- the call's fault is this one, unless memory runs out
 abbrev pub IsFault : Fault → ReadFault → Type 0
-IsFault fault (Syntax place characters) = fault ≡ record { place = place; characters = characters }
-IsFault fault NoMemory = Unit {0}
+IsFault fault (faults.Syntax place characters) = fault ≡ record { place = place; characters = characters }
+IsFault fault (faults.BadSet place) = ⊥
+IsFault fault faults.NoMemory = Unit {0}
 
--- the reading ends with the call's fault, unless memory runs out
-abbrev pub EndsWith : Result Source Fault → ReadFault → Type 0
-EndsWith reading (Syntax place characters) = reading ≡ Err (record { place = place; characters = characters })
-EndsWith reading NoMemory = Unit {0}
+-- the call's fault is the bad set, if there is one, and otherwise stands in front of these tokens
+abbrev pub IsFirstOf : List ℕ → Option Place → List Token → ReadFault → Type 0
+IsFirstOf text (Some place) others fault = fault ≡ faults.BadSet place
+IsFirstOf text None others fault = IsFault (fault_at text others) fault
 
--- the call answers with this grammar or fault, unless memory runs out
-abbrev pub GivesReading : Result Source Fault → Result Source ReadFault → Type 0
-GivesReading reading (Ok source) = reading ≡ Ok source
-GivesReading reading (Err fault) = EndsWith reading fault
+-- the call answers with the grammar that the tokens of the text are, or with their first fault or bad set, whichever stands
+-- first, unless memory runs out
+abbrev pub IsReadingOf : List ℕ → List Token → Result Source ReadFault → Type 0
+IsReadingOf text tokens (Ok source) = IsGrammarText (spelled text tokens) source × HasNoBadSet tokens
+IsReadingOf text tokens (Err (faults.Syntax place characters)) = IsFirstFault text tokens (record { place = place; characters = characters })
+IsReadingOf text tokens (Err (faults.BadSet place)) = IsFirstBadSet text tokens place
+IsReadingOf text tokens (Err faults.NoMemory) = Unit {0}
+
+-- the reading of the tokens stops at the call's index, unless memory runs out
+abbrev pub StopsWith : List Token → Result Source (List Token) → Stop → Type 0
+StopsWith tokens reading (stops.At index) = reading ≡ Err (drop index tokens)
+StopsWith tokens reading stops.NoMemory = Unit {0}
+
+-- the call reads the tokens to this grammar or stops where the reading does, unless memory runs out
+abbrev pub GivesReading : List Token → Result Source (List Token) → Result Source Stop → Type 0
+GivesReading tokens reading (Ok source) = reading ≡ Ok source
+GivesReading tokens reading (Err stop) = StopsWith tokens reading stop
 
 -- the atom that stands at the index in a rule
 abbrev pub atom_at : RuleKind → List ℕ → Option Token → Option Atom
@@ -257,9 +274,9 @@ name_at text None = None
 name_at text (Some token) = name_of token.kind (bytes_of (spelled_token text token))
 
 -- the call reads the three tokens before the rules
-abbrev pub ReadsName : List ℕ → List Token → Result (List ℕ) ReadFault → Type 0
+abbrev pub ReadsName : List ℕ → List Token → Result (List ℕ) Stop → Type 0
 ReadsName text tokens (Ok name) = (3 ≤ length tokens) × (reading_from text at_grammar tokens ≡ reading_from text (at_rule (record { name = name; rules = [] })) (drop 3 tokens))
-ReadsName text tokens (Err fault) = EndsWith (reading_from text at_grammar tokens) fault
+ReadsName text tokens (Err stop) = StopsWith tokens (reading_from text at_grammar tokens) stop
 
 -- the call reads up to an index from this one on
 abbrev pub IsWithin : {X : Type 0} → List Token → ℕ → X × ℕ → Type 0
@@ -275,9 +292,9 @@ abbrev pub LeadsTo : List ℕ → List Token → ℕ → Stage → Stage → ℕ
 LeadsTo text tokens at from to next = reading_from text from (drop at tokens) ≡ reading_from text to (drop next tokens)
 
 -- the call reads on from a stage at an index to the stage that its result makes, at the index that it gives
-abbrev pub Reads : {X : Type 0} → List ℕ → List Token → ℕ → Stage → (X → Stage) → Result (X × ℕ) ReadFault → Type 0
+abbrev pub Reads : {X : Type 0} → List ℕ → List Token → ℕ → Stage → (X → Stage) → Result (X × ℕ) Stop → Type 0
 Reads text tokens at from to (Ok read) = LeadsTo text tokens at from (to read.0) read.1
-Reads text tokens at from to (Err fault) = EndsWith (reading_from text from (drop at tokens)) fault
+Reads text tokens at from to (Err stop) = StopsWith tokens (reading_from text from (drop at tokens)) stop
 
 -- the call reads an element, or none begins at the index
 abbrev pub ReadsOne : RuleKind → List ℕ → List Token → ℕ → Around → List (Element Atom) → Option (Node Atom × ℕ) → Type 0
@@ -290,63 +307,63 @@ ReadsLone rule text tokens at None = atom_at rule text (slice_get tokens at) ≡
 ReadsLone rule text tokens at (Some read) = (around : Around) (elements : List (Element Atom)) → ReadsOne rule text tokens at around elements (Some read)
 
 -- the call reads an element at the index, whatever stands around it, or none begins there
-abbrev pub ReadsElement : RuleKind → List ℕ → List Token → ℕ → Result (Option (Node Atom × ℕ)) ReadFault → Type 0
+abbrev pub ReadsElement : RuleKind → List ℕ → List Token → ℕ → Result (Option (Node Atom × ℕ)) Stop → Type 0
 ReadsElement rule text tokens at (Ok read) = (around : Around) (elements : List (Element Atom)) → ReadsOne rule text tokens at around elements read
-ReadsElement rule text tokens at (Err fault) = (around : Around) (elements : List (Element Atom)) → EndsWith (reading_from text (at_element rule around elements) (drop at tokens)) fault
+ReadsElement rule text tokens at (Err stop) = (around : Around) (elements : List (Element Atom)) → StopsWith tokens (reading_from text (at_element rule around elements) (drop at tokens)) stop
 
 -- the call reads a block
-abbrev pub ReadsBlock : RuleKind → List ℕ → List Token → ℕ → Result (Node Atom × ℕ) ReadFault → Type 0
+abbrev pub ReadsBlock : RuleKind → List ℕ → List Token → ℕ → Result (Node Atom × ℕ) Stop → Type 0
 ReadsBlock rule text tokens at result =
     (around : Around) (elements : List (Element Atom)) → Reads text tokens at (at_element rule around elements) (λ x. at_element rule around (elements ++ element_of x ∷ [])) result
 
 -- the call reads the elements of an alternative
-abbrev pub ReadsElements : RuleKind → List ℕ → List Token → ℕ → Result (Vec (Node Atom) Global × ℕ) ReadFault → Type 0
+abbrev pub ReadsElements : RuleKind → List ℕ → List Token → ℕ → Result (Vec (Node Atom) Global × ℕ) Stop → Type 0
 ReadsElements rule text tokens at result =
     (around : Around) → Reads text tokens at (at_element rule around []) (λ (xs : Vec (Node Atom) Global). at_command rule around (map element_of xs.items)) result
 
 -- the call reads the alternatives in brackets
-abbrev pub ReadsAlternatives : RuleKind → List ℕ → List Token → ℕ → Result (Vec (Side Atom) Global × ℕ) ReadFault → Type 0
+abbrev pub ReadsAlternatives : RuleKind → List ℕ → List Token → ℕ → Result (Vec (Side Atom) Global × ℕ) Stop → Type 0
 ReadsAlternatives rule text tokens at result =
     (around : Around) (outer : List (Element Atom)) →
     Reads text tokens at (at_element rule (in_brackets around outer []) []) (λ (xs : Vec (Side Atom) Global). at_close rule (in_brackets around outer (map alternative_of xs.items))) result
 
 -- the call reads the alternatives of a parser rule
-abbrev pub ReadsParserAlternatives : List ℕ → List Token → ℕ → Result (List (Elements Atom) × ℕ) ReadFault → Type 0
+abbrev pub ReadsParserAlternatives : List ℕ → List Token → ℕ → Result (List (Elements Atom) × ℕ) Stop → Type 0
 ReadsParserAlternatives text tokens at result =
     (source : Source) (name : List ℕ) →
     Reads text tokens at (at_element Parser (in_parser_rule source name []) []) (λ xs. at_close Parser (in_parser_rule source name xs)) result
 
 -- the call reads a parser rule of this name from its `:` on
-abbrev pub ReadsParserRule : List ℕ → List Token → ℕ → List ℕ → Result (ParserRule × ℕ) ReadFault → Type 0
+abbrev pub ReadsParserRule : List ℕ → List Token → ℕ → List ℕ → Result (ParserRule × ℕ) Stop → Type 0
 ReadsParserRule text tokens at name result = (source : Source) → Reads text tokens at (at_colon Parser source name) (λ rule. at_rule (with_rule source (rules.Parser rule))) result
 
 -- the call reads `-> skip` or nothing behind the elements of an alternative
-abbrev pub ReadsCommand : List ℕ → List Token → ℕ → Result (Bool × ℕ) ReadFault → Type 0
+abbrev pub ReadsCommand : List ℕ → List Token → ℕ → Result (Bool × ℕ) Stop → Type 0
 ReadsCommand text tokens at result =
     (source : Source) (name : List ℕ) (before : List LexerAlternative) (elements : List (Element Atom)) →
     Reads text tokens at (at_command Lexer (in_lexer_rule source name before) elements) (λ skip. at_bar Lexer (with_alternative (in_lexer_rule source name before) elements skip)) result
 
 -- the call reads an alternative of a lexer rule
-abbrev pub ReadsLexerAlternative : List ℕ → List Token → ℕ → Result (LexerAlternative × ℕ) ReadFault → Type 0
+abbrev pub ReadsLexerAlternative : List ℕ → List Token → ℕ → Result (LexerAlternative × ℕ) Stop → Type 0
 ReadsLexerAlternative text tokens at result =
     (source : Source) (name : List ℕ) (before : List LexerAlternative) →
     Reads text tokens at (at_element Lexer (in_lexer_rule source name before) []) (λ x. at_bar Lexer (in_lexer_rule source name (before ++ x ∷ []))) result
 
 -- the call reads the alternatives of a lexer rule
-abbrev pub ReadsLexerAlternatives : List ℕ → List Token → ℕ → Result (List LexerAlternative × ℕ) ReadFault → Type 0
+abbrev pub ReadsLexerAlternatives : List ℕ → List Token → ℕ → Result (List LexerAlternative × ℕ) Stop → Type 0
 ReadsLexerAlternatives text tokens at result =
     (source : Source) (name : List ℕ) →
     Reads text tokens at (at_element Lexer (in_lexer_rule source name []) []) (λ xs. at_close Lexer (in_lexer_rule source name xs)) result
 
 -- the call reads a lexer rule of this name from its `:` on
-abbrev pub ReadsLexerRule : List ℕ → List Token → ℕ → List ℕ → Result (LexerRule × ℕ) ReadFault → Type 0
+abbrev pub ReadsLexerRule : List ℕ → List Token → ℕ → List ℕ → Result (LexerRule × ℕ) Stop → Type 0
 ReadsLexerRule text tokens at name result = (source : Source) → Reads text tokens at (at_colon Lexer source name) (λ rule. at_rule (with_rule source (rules.Lexer rule))) result
 
 -- the call reads a rule
-abbrev pub ReadsRule : List ℕ → List Token → ℕ → Result (Rule × ℕ) ReadFault → Type 0
+abbrev pub ReadsRule : List ℕ → List Token → ℕ → Result (Rule × ℕ) Stop → Type 0
 ReadsRule text tokens at result = (source : Source) → Reads text tokens at (at_rule source) (λ rule. at_rule (with_rule source rule)) result
 
 -- the call reads the rules up to the end of the text
-abbrev pub ReadsRules : List ℕ → List Token → ℕ → Result (List Rule) ReadFault → Type 0
+abbrev pub ReadsRules : List ℕ → List Token → ℕ → Result (List Rule) Stop → Type 0
 ReadsRules text tokens at (Ok rules) = (name : List ℕ) → reading_from text (at_rule (record { name = name; rules = [] })) (drop at tokens) ≡ Ok (record { name = name; rules = rules })
-ReadsRules text tokens at (Err fault) = (name : List ℕ) → EndsWith (reading_from text (at_rule (record { name = name; rules = [] })) (drop at tokens)) fault
+ReadsRules text tokens at (Err stop) = (name : List ℕ) → StopsWith tokens (reading_from text (at_rule (record { name = name; rules = [] })) (drop at tokens)) stop

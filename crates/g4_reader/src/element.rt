@@ -4,9 +4,8 @@ ghost use Rattle.g4_grammar.specs.Trees.{element_of};
 ghost use Rattle.g4_reader.specs.Stages.{repeat_at, length_of, as_often, lone, is_left_parenthesis, passes, GoesOn, IsWithin, ReadsLone, ReadsBlock, ReadsElement, ReadsElements, ReadsAlternatives};
 
 use crate::atom::{RuleKind, atom_at};
-use crate::fault::fault_at;
-use crate::reader::ReadFault;
 use crate::sign::{is_bar, is_left_parenthesis, is_right_parenthesis};
+use crate::stop::Stop;
 use g4_grammar::{Alternative, Atom, Element, Repeat};
 use g4_tokens::{Kind, Token};
 use std::alloc::{AllocError, Global};
@@ -72,8 +71,7 @@ fn element(
     tokens: &[Token],
     at: usize,
     depth: u32,
-) -> Result<Option<(Element<Atom>, usize)>, ReadFault>
-    requires fits { length text.now ≤ 16777216 }
+) -> Result<Option<(Element<Atom>, usize)>, Stop>
     requires within { at ≤ length tokens.now }
     ensures within { IfOk result (GoesOn tokens.now at) }
     ensures reads { ReadsElement kind text.now tokens.now at result }
@@ -95,19 +93,18 @@ fn block(
     tokens: &[Token],
     at: usize,
     depth: u32,
-) -> Result<(Element<Atom>, usize), ReadFault>
-    requires fits { length text.now ≤ 16777216 }
+) -> Result<(Element<Atom>, usize), Stop>
     requires within { at + 1 ≤ length tokens.now }
     requires opens { passes (λ token. is_left_parenthesis token.kind) (slice_get tokens.now at) ≡ true }
     ensures within { IfOk result (IsWithin tokens.now (at + 1)) }
     ensures reads { ReadsBlock kind text.now tokens.now at result }
 {
     if depth >= MOST_OPEN {
-        return Err(ReadFault::NoMemory);
+        return Err(Stop::NoMemory);
     }
     let (alternatives, close) = alternatives(alloc, kind, text, tokens, at + 1, depth + 1)?;
     if !is_right_parenthesis(tokens, close) {
-        return Err(fault_at(alloc, text, tokens, close));
+        return Err(Stop::At(close));
     }
     let (repeat, next) = repeat_at(tokens, close + 1);
     Ok((Element::Block(repeat, alternatives), next))
@@ -122,8 +119,7 @@ pub(crate) fn elements(
     tokens: &[Token],
     at: usize,
     depth: u32,
-) -> Result<(Vec<Element<Atom>>, usize), ReadFault>
-    requires fits { length text.now ≤ 16777216 }
+) -> Result<(Vec<Element<Atom>>, usize), Stop>
     requires within { at ≤ length tokens.now }
     ensures within { IfOk result (IsWithin tokens.now at) }
     ensures reads { ReadsElements kind text.now tokens.now at result }
@@ -146,8 +142,7 @@ fn alternatives(
     tokens: &[Token],
     at: usize,
     depth: u32,
-) -> Result<(Vec<Alternative<Atom>>, usize), ReadFault>
-    requires fits { length text.now ≤ 16777216 }
+) -> Result<(Vec<Alternative<Atom>>, usize), Stop>
     requires within { at ≤ length tokens.now }
     ensures within { IfOk result (IsWithin tokens.now at) }
     ensures reads { ReadsAlternatives kind text.now tokens.now at result }

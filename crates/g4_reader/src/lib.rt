@@ -7,8 +7,10 @@ mod fault;
 mod law;
 mod reader;
 mod rule;
+mod set;
 mod sign;
 mod spelling;
+mod stop;
 #[cfg(test)]
 mod tests;
 

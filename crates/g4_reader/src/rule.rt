@@ -5,10 +5,9 @@ ghost use Rattle.g4_reader.specs.Stages.{passes, is_word, IsWithin, ReadsCommand
 
 use crate::atom::RuleKind;
 use crate::element::elements;
-use crate::fault::fault_at;
-use crate::reader::ReadFault;
 use crate::sign::{is_arrow, is_bar, is_colon, is_semicolon};
 use crate::spelling::is_word_at;
+use crate::stop::Stop;
 use g4_base::{Sequence, Text};
 use g4_grammar::{Atom, Elements, LexerAlternative, LexerRule, ParserRule};
 use g4_tokens::Token;
@@ -23,8 +22,7 @@ fn parser_alternatives(
     text: &[char],
     tokens: &[Token],
     at: usize,
-) -> Result<(Sequence<Elements<Atom>>, usize), ReadFault>
-    requires fits { length text.now ≤ 16777216 }
+) -> Result<(Sequence<Elements<Atom>>, usize), Stop>
     requires within { at ≤ length tokens.now }
     ensures within { IfOk result (IsWithin tokens.now at) }
     ensures reads { ReadsParserAlternatives text.now tokens.now at result }
@@ -48,29 +46,22 @@ pub(crate) fn parser_rule(
     tokens: &[Token],
     at: usize,
     name: Text,
-) -> Result<(ParserRule, usize), ReadFault>
-    requires fits { length text.now ≤ 16777216 }
+) -> Result<(ParserRule, usize), Stop>
     ensures within { IfOk result (IsWithin tokens.now at) }
     ensures reads { ReadsParserRule text.now tokens.now at name result }
 {
     if !is_colon(tokens, at) {
-        return Err(fault_at(alloc, text, tokens, at));
+        return Err(Stop::At(at));
     }
     let (alternatives, end) = parser_alternatives(alloc, text, tokens, at + 1)?;
     if !is_semicolon(tokens, end) {
-        return Err(fault_at(alloc, text, tokens, end));
+        return Err(Stop::At(end));
     }
     Ok((ParserRule { name, alternatives }, end + 1))
 }
 
 /// Whether `-> skip` stands at the index, and the index behind it.
-fn command(
-    alloc: Global,
-    text: &[char],
-    tokens: &[Token],
-    at: usize,
-) -> Result<(bool, usize), ReadFault>
-    requires fits { length text.now ≤ 16777216 }
+fn command(alloc: Global, text: &[char], tokens: &[Token], at: usize) -> Result<(bool, usize), Stop>
     requires within { at ≤ length tokens.now }
     ensures within { IfOk result (IsWithin tokens.now at) }
     ensures reads { ReadsCommand text.now tokens.now at result }
@@ -79,7 +70,7 @@ fn command(
         return Ok((false, at));
     }
     if !is_word_at(text, tokens, at + 1, &SKIP) {
-        return Err(fault_at(alloc, text, tokens, at + 1));
+        return Err(Stop::At(at + 1));
     }
     Ok((true, at + 2))
 }
@@ -90,8 +81,7 @@ fn lexer_alternative(
     text: &[char],
     tokens: &[Token],
     at: usize,
-) -> Result<(LexerAlternative, usize), ReadFault>
-    requires fits { length text.now ≤ 16777216 }
+) -> Result<(LexerAlternative, usize), Stop>
     requires within { at ≤ length tokens.now }
     ensures within { IfOk result (IsWithin tokens.now at) }
     ensures reads { ReadsLexerAlternative text.now tokens.now at result }
@@ -108,8 +98,7 @@ fn lexer_alternatives(
     text: &[char],
     tokens: &[Token],
     at: usize,
-) -> Result<(Sequence<LexerAlternative>, usize), ReadFault>
-    requires fits { length text.now ≤ 16777216 }
+) -> Result<(Sequence<LexerAlternative>, usize), Stop>
     requires within { at ≤ length tokens.now }
     ensures within { IfOk result (IsWithin tokens.now at) }
     ensures reads { ReadsLexerAlternatives text.now tokens.now at result }
@@ -133,17 +122,16 @@ pub(crate) fn lexer_rule(
     tokens: &[Token],
     at: usize,
     name: Text,
-) -> Result<(LexerRule, usize), ReadFault>
-    requires fits { length text.now ≤ 16777216 }
+) -> Result<(LexerRule, usize), Stop>
     ensures within { IfOk result (IsWithin tokens.now at) }
     ensures reads { ReadsLexerRule text.now tokens.now at name result }
 {
     if !is_colon(tokens, at) {
-        return Err(fault_at(alloc, text, tokens, at));
+        return Err(Stop::At(at));
     }
     let (alternatives, end) = lexer_alternatives(alloc, text, tokens, at + 1)?;
     if !is_semicolon(tokens, end) {
-        return Err(fault_at(alloc, text, tokens, end));
+        return Err(Stop::At(end));
     }
     Ok((LexerRule { name, alternatives }, end + 1))
 }

@@ -95,6 +95,10 @@ fn shown(alloc: Global, characters: &[char]) -> Result<String, Fail> {
             }
         }
         Err(ReadFault::NoMemory) => out.push_str("no memory")?,
+        Err(ReadFault::BadSet(place)) => {
+            let column = place.column;
+            write!(out, "{column} bad set")?;
+        }
         Err(ReadFault::Syntax(place, characters)) => {
             let column = place.column;
             write!(out, "{column} ")?;
@@ -143,6 +147,17 @@ fn reads_what_texts_are(rt: HostRuntime) -> Result<(), Fail> {
         ("grammar ;", "8 ;"),
         ("grammars g;", "0 grammars"),
         ("grammar g; r : (A", "17 <EOF>"),
+        ("grammar G; A : [a-a] ;", "G; A: | [aa]"),
+        ("grammar G; A : [] ;", "15 bad set"),
+        ("grammar G; A : [z-a] ;", "15 bad set"),
+        ("grammar G; A : [a-z] [b-a] ;", "21 bad set"),
+        ("grammar G; A : [a-zb-a] | [] ;", "15 bad set"),
+        ("grammar G; A : [] ; B : C ;", "15 bad set"),
+        ("grammar G; A : ([] ;", "16 bad set"),
+        ("grammar G; A : B [] ;", "15 B"),
+        ("grammar G; A : 'a' [] [", "22 ["),
+        ("grammar g; r : [] ;", "15 []"),
+        ("grammar g; r : A ; A [] : 'a' ;", "21 []"),
     ];
     for (text, expected) in texts {
         let characters: Vec<char> = text.chars().collect(alloc)?;

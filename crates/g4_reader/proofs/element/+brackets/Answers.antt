@@ -4,14 +4,14 @@ use Rattle.g4_grammar.specs.Trees.{element_of, alternative_of}
 use Rattle.g4_grammar.proofs.Trees.{of_block}
 use Rattle.g4_grammar.specs.Elements.{either}
 use Rattle.g4_reader.specs.Stages.{in_brackets, at_close, bracketed, behind, is_bar, is_right_parenthesis, passes}
-use Rattle.g4_reader.proofs.Steps.{bracket_next, sign_at, sign_read, sign_stuck, within_from-passes, ends_with, ends_alike}
+use Rattle.g4_reader.proofs.Steps.{bracket_next, sign_at, sign_read, sign_stuck, within_from-passes, stops_alike}
 use Rattle.g4_reader.proofs.Alternatives.{next_alternative, last_alternative, element_of-push, alternative_of-push, ReadsLone-element}
 use Rattle.g4_reader.proofs.element.+brackets.Goals as goal
 
 pub alternatives-returns-in_err-elements-clause-reads : goal.alternatives-returns-in_err-elements-clause-reads
 alternatives-returns-in_err-elements-clause-reads t c =
     let p = err_from_is_err_and c.from_residual.result c.from_residual.ensures.1 in
-    rw (p.1, p.2) (λ around outer. ends_alike _ _ _ (c.loop-alternatives.invariant.2 around outer) (c.in_err-elements.ensures.reads (in_brackets around outer (map alternative_of c.loop-alternatives.alternatives.items))))
+    rw (p.1, p.2) (λ around outer. stops_alike _ _ _ _ (c.loop-alternatives.invariant.2 around outer) (c.in_err-elements.ensures.reads (in_brackets around outer (map alternative_of c.loop-alternatives.alternatives.items))))
 
 pub alternatives-returns-then-not-is_bar-clause-reads : goal.alternatives-returns-then-not-is_bar-clause-reads
 alternatives-returns-then-not-is_bar-clause-reads t c =
@@ -42,15 +42,15 @@ alternatives-loop-alternatives-preserved t c =
 pub block-returns-in_err-alternatives-clause-reads : goal.block-returns-in_err-alternatives-clause-reads
 block-returns-in_err-alternatives-clause-reads t c =
     let p = err_from_is_err_and c.from_residual.result c.from_residual.ensures.1 in
-    rw (p.1, p.2) (λ around elements. ends_alike _ _ _ (bracket_next c.args.text.now c.args.kind around elements c.args.tokens.now c.args.at c.requires.opens) (c.in_err-alternatives.ensures.reads around elements))
+    rw (p.1, p.2) (λ around elements. stops_alike _ _ _ _ (bracket_next c.args.text.now c.args.kind around elements c.args.tokens.now c.args.at c.requires.opens) (c.in_err-alternatives.ensures.reads around elements))
 
 pub block-returns-then-not-is_right_parenthesis-clause-reads : goal.block-returns-then-not-is_right_parenthesis-clause-reads
 block-returns-then-not-is_right_parenthesis-clause-reads t c =
     λ around elements.
     let inside = in_brackets around elements (map alternative_of c.in_ok-alternatives.alternatives.items) in
-    ends_with _ _ _ (bracket_next c.args.text.now c.args.kind around elements c.args.tokens.now c.args.at c.requires.opens
+    bracket_next c.args.text.now c.args.kind around elements c.args.tokens.now c.args.at c.requires.opens
     ∙ c.in_ok-alternatives.ensures.reads around elements
-    ∙ sign_stuck c.args.text.now (at_close c.args.kind inside) (behind c.args.kind inside) (λ t. is_right_parenthesis t.kind) c.args.tokens.now c.in_ok-alternatives.close (λ t. refl) (sym c.is_right_parenthesis.ensures ∙ c.if-not-is_right_parenthesis.true) refl) c.fault_at.ensures
+    ∙ sign_stuck c.args.text.now (at_close c.args.kind inside) (behind c.args.kind inside) (λ t. is_right_parenthesis t.kind) c.args.tokens.now c.in_ok-alternatives.close (λ t. refl) (sym c.is_right_parenthesis.ensures ∙ c.if-not-is_right_parenthesis.true) refl
 
 pub block-repeat_at-repeat-requires : goal.block-repeat_at-repeat-requires
 block-repeat_at-repeat-requires t c = record {
@@ -78,7 +78,7 @@ element-returns-clause-reads t c =
 pub elements-returns-in_err-element-clause-reads : goal.elements-returns-in_err-element-clause-reads
 elements-returns-in_err-element-clause-reads t c =
     let p = err_from_is_err_and c.from_residual.result c.from_residual.ensures.1 in
-    rw (p.1, p.2) (λ around. ends_alike _ _ _ (c.loop-elements.invariant.2 around) (c.in_err-element.ensures.reads around (map element_of c.loop-elements.elements.items)))
+    rw (p.1, p.2) (λ around. stops_alike _ _ _ _ (c.loop-elements.invariant.2 around) (c.in_err-element.ensures.reads around (map element_of c.loop-elements.elements.items)))
 
 pub elements-loop-elements-preserved : goal.elements-loop-elements-preserved
 elements-loop-elements-preserved t c =

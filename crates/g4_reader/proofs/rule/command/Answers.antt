@@ -3,7 +3,7 @@ use Rattle.g4_tokens.specs.declared.token.Token.{Token}
 use Rattle.g4_reader.specs.GrammarText.{spelled_token}
 use Rattle.g4_reader.specs.Stages.{in_lexer_rule, at_skip, at_bar, with_alternative, is_word, passes, reading_from}
 use Rattle.g4_reader.specs.declared.atom.RuleKind.TheVariants.{Lexer}
-use Rattle.g4_reader.proofs.Steps.{arrow_next, arrow_none, sign_read, sign_stuck, within_from-passes, ends_with}
+use Rattle.g4_reader.proofs.Steps.{arrow_next, arrow_none, sign_read, sign_stuck, within_from-passes}
 use Rattle.g4_reader.proofs.rule.command.Goals as goal
 
 pub returns-then-not-is_arrow-clause-reads : goal.returns-then-not-is_arrow-clause-reads
@@ -14,8 +14,8 @@ pub returns-then-not-is_word_at-clause-reads : goal.returns-then-not-is_word_at-
 returns-then-not-is_word_at-clause-reads c =
     λ source name before elements.
     let around = in_lexer_rule source name before in
-    ends_with _ _ _ (arrow_next c.args.text.now Lexer around elements c.args.tokens.now c.args.at refl (sym c.is_arrow.ensures ∙ c.if-not-is_arrow.false)
-    ∙ sign_stuck c.args.text.now (at_skip Lexer around elements) (at_bar Lexer (with_alternative around elements true)) (λ t. is_word (codes "skip") (spelled_token c.args.text.now t)) c.args.tokens.now (c.args.at + 1) (λ t. refl) (sym c.is_word_at.ensures ∙ c.if-not-is_word_at.true) refl) c.fault_at.ensures
+    arrow_next c.args.text.now Lexer around elements c.args.tokens.now c.args.at refl (sym c.is_arrow.ensures ∙ c.if-not-is_arrow.false)
+    ∙ sign_stuck c.args.text.now (at_skip Lexer around elements) (at_bar Lexer (with_alternative around elements true)) (λ t. is_word (codes "skip") (spelled_token c.args.text.now t)) c.args.tokens.now (c.args.at + 1) (λ t. refl) (sym c.is_word_at.ensures ∙ c.if-not-is_word_at.true) refl
 
 pub returns-clause-within : goal.returns-clause-within
 returns-clause-within c =

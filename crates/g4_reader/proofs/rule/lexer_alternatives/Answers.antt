@@ -2,13 +2,13 @@ use Rattle.std.proofs.Common.{◌≡◌, ◌∷◌, [], ◌++◌, true, sym, ◌
 use Rattle.std.proofs.lemmas.Result.{err_from_is_err_and}
 use Rattle.g4_reader.specs.Stages.{in_lexer_rule, is_bar, passes}
 use Rattle.g4_reader.specs.declared.atom.RuleKind.TheVariants.{Lexer}
-use Rattle.g4_reader.proofs.Steps.{bar_next, bar_none, within_from-passes, ends_alike}
+use Rattle.g4_reader.proofs.Steps.{bar_next, bar_none, within_from-passes, stops_alike}
 use Rattle.g4_reader.proofs.rule.lexer_alternatives.Goals as goal
 
 pub returns-in_err-alternative-clause-reads : goal.returns-in_err-alternative-clause-reads
 returns-in_err-alternative-clause-reads c =
     let p = err_from_is_err_and c.from_residual.result c.from_residual.ensures.1 in
-    rw (p.1, p.2) (λ source name. ends_alike _ _ _ (c.loop-alternatives.invariant.2 source name) (c.in_err-alternative.ensures.reads source name c.loop-alternatives.alternatives.items))
+    rw (p.1, p.2) (λ source name. stops_alike _ _ _ _ (c.loop-alternatives.invariant.2 source name) (c.in_err-alternative.ensures.reads source name c.loop-alternatives.alternatives.items))
 
 pub returns-then-not-is_bar-clause-reads : goal.returns-then-not-is_bar-clause-reads
 returns-then-not-is_bar-clause-reads c =

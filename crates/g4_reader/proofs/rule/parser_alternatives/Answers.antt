@@ -3,14 +3,14 @@ use Rattle.std.proofs.lemmas.Result.{err_from_is_err_and}
 use Rattle.g4_grammar.specs.Trees.{element_of}
 use Rattle.g4_reader.specs.Stages.{in_parser_rule, is_bar, passes}
 use Rattle.g4_reader.specs.declared.atom.RuleKind.TheVariants.{Parser}
-use Rattle.g4_reader.proofs.Steps.{within_from-passes, ends_alike}
+use Rattle.g4_reader.proofs.Steps.{within_from-passes, stops_alike}
 use Rattle.g4_reader.proofs.Alternatives.{next_alternative, last_alternative}
 use Rattle.g4_reader.proofs.rule.parser_alternatives.Goals as goal
 
 pub returns-in_err-elements-clause-reads : goal.returns-in_err-elements-clause-reads
 returns-in_err-elements-clause-reads c =
     let p = err_from_is_err_and c.from_residual.result c.from_residual.ensures.1 in
-    rw (p.1, p.2) (λ source name. ends_alike _ _ _ (c.loop-alternatives.invariant.2 source name) (c.in_err-elements.ensures.reads (in_parser_rule source name c.loop-alternatives.alternatives.items)))
+    rw (p.1, p.2) (λ source name. stops_alike _ _ _ _ (c.loop-alternatives.invariant.2 source name) (c.in_err-elements.ensures.reads (in_parser_rule source name c.loop-alternatives.alternatives.items)))
 
 pub returns-then-not-is_bar-clause-reads : goal.returns-then-not-is_bar-clause-reads
 returns-then-not-is_bar-clause-reads c =
