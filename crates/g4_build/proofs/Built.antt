@@ -10,8 +10,10 @@ use Rattle.g4_grammar.specs.Numbering.{SpeakOfNamed, alternatives_of_rule}
 use Rattle.g4_grammar.specs.declared.numbered.Numbered.{Numbered}
 use Rattle.g4_grammar.specs.declared.numbered.NumberedRule.{NumberedRule}
 use Rattle.g4_net.specs.declared.network.Network.{Network}
+use Rattle.g4_net.specs.Network.{written_at}
 use Rattle.g4_build.specs.Answers.{IsBuilt, rules_of}
-use Rattle.g4_build.specs.Layout.{IsNetworkOf}
+use Rattle.g4_build.specs.Decisions.{AreNarrow}
+use Rattle.g4_build.specs.Layout.{BeginsAny, IsNetworkOf}
 use Rattle.g4_build.specs.Rules.{IsDrawn}
 use Rattle.g4_build.specs.Size.{states_of_rule}
 use Rattle.g4_build.proofs.Named.{known_at}
@@ -30,8 +32,8 @@ few_enough b n is test = test.0 is
 
 -- what is drawn from the place of the start rule is built
 pub built : (grammar : Numbered) (start : List ℕ) (place : ℕ) (rules : List NumberedRule) (net : Network) → SpeakOfNamed grammar.rules → NumberedHaveAlternatives grammar.rules → NumberedHaveNoEmptyLoop grammar.rules → NumberedCallNone rules →
-    rules ≡ grammar.rules → position (λ rule. bytes_eq rule.name start) grammar.rules ≡ Some place → 2 * length rules + 7 + sum_by (λ r. states_of_rule (alternatives_of_rule r)) rules ≤ 65536 → IsDrawn rules (place + 1) net → IsBuilt grammar start net
-built grammar start place rules net named full loops quiet same at few is =
+    AreNarrow grammar → rules ≡ grammar.rules → position (λ rule. bytes_eq rule.name start) grammar.rules ≡ Some place → 2 * length rules + 7 + sum_by (λ r. states_of_rule (alternatives_of_rule r)) rules ≤ 65536 → IsDrawn rules (place + 1) net → IsBuilt grammar start net
+built grammar start place rules net named full loops quiet narrow same at few is =
     let known = known_at grammar start place at in
     let drawn : IsDrawn grammar.rules (place + 1) net = subst (λ (xs : List NumberedRule). IsDrawn xs (place + 1) net) same is in
     let fits : 2 * length grammar.rules + 7 + sum_by (λ r. states_of_rule (alternatives_of_rule r)) grammar.rules ≤ 65536 =
@@ -39,9 +41,11 @@ built grammar start place rules net named full loops quiet same at few is =
     let network : IsNetworkOf (rules_of grammar start) net = subst (λ (k : ℕ). IsNetworkOf (added_rule k ∷ map alternatives_of_rule grammar.rules) net) known.1 drawn.network in
     record {
       known = known.0;
+      narrow = narrow;
       fits = fits;
       network = network;
       runnable = runnable grammar start net named full (subst NumberedCallNone same quiet) loops (omega (arith, known.1, known.2)) network (omega (arith, drawn.size)) drawn.every_rule drawn.callers;
       every_rule = drawn.every_rule;
-      unwritten = drawn.unwritten;
+      callers = drawn.returns;
+      unwritten = subst (λ (k : ℕ). (p : ℕ) → (BeginsAny net 0 (added_rule k ∷ map alternatives_of_rule grammar.rules) p → ⊥) → written_at net p ≡ 0) known.1 drawn.unwritten;
     }

@@ -5,18 +5,19 @@ use Rattle.std.proofs.lemmas.List.{length-append, length-set, length-map, get_or
 use Rattle.std.proofs.lemmas.Bool.Decides.{nat_tests}
 use Rattle.std.proofs.lemmas.Option.{slice_get_within}
 use Rattle.g4_base.specs.Symbols.{eof, end_of_list}
-use Rattle.g4_grammar.specs.Elements.{empty, then, none, only, added_rule, symbol, star, call}
+use Rattle.g4_grammar.specs.Elements.{Alternatives, Basic, empty, then, none, only, added_rule, symbol, star, call}
 use Rattle.g4_grammar.specs.Numbering.{alternatives_of_rule}
 use Rattle.g4_grammar.specs.declared.numbered.NumberedRule.{NumberedRule}
 use Rattle.g4_net.specs.declared.network.Network.{Network}
 use Rattle.g4_net.specs.declared.network.State.{State}
 use Rattle.g4_net.specs.declared.network.State.TheVariants.{Decision, End, Token, Call, Empty}
-use Rattle.g4_net.specs.Network.{state_at, end_of, written_at}
+use Rattle.g4_net.specs.Network.{state_at, start_of, end_of, written_at}
 use Rattle.g4_build.specs.Layout as lay
-use Rattle.g4_build.specs.Layout.{Lies, LieInOrder, LieSideBySide, LiesAsRule, RulesLie, IsNetworkOf}
-use Rattle.g4_build.specs.Rules.{HasHeads, HasCallers, IsDrawn, added_states, HaveLaid, SharesRules, IsNoFirst}
+use Rattle.g4_build.specs.Layout.{Lies, LieInOrder, LieSideBySide, LiesAsRule, BeginsOne, BeginsAny, RulesLie, IsNetworkOf}
+use Rattle.g4_build.specs.Rules.{HasHeads, HasCallers, IsDrawn, added_states, HaveLaid, SharesRules, StartsNone}
 use Rattle.g4_build.specs.Size.{states_of_rule}
 use Rattle.g4_build.proofs.Lists.{get_set_same, get_set_other, set_cases, get_left, get_right, append_cases, same_or_not, length_pushed}
+use Rattle.g4_build.proofs.Callers.{callers_are}
 use Rattle.g4_build.proofs.RulesLaid.{zeros}
 
 -- no heads
@@ -180,6 +181,33 @@ only_call rules start s0 s1 s2 w1 w2 k made q rule level t e =
       | inr h ↦ absurd (added_plain (length s0) h.0 rule level t h.1)
     ]
 
+-- no later state is a call
+later_calls : (rules : List NumberedRule) (start : ℕ) (s0 s1 s2 : List State) (w1 w2 : List ℕ) (k : ℕ) → HasMade rules start s0 s1 s2 w1 w2 k → (q rule level t : ℕ) → slice_get s2 (suc q) ≡ Some (Call rule level t) → ⊥
+later_calls rules start s0 s1 s2 w1 w2 k made q rule level t e =
+    elim (append_cases (set s0 0 (Call start 0 (length s0))) (added_states (length s0)) (suc q) (Call rule level t) (sym (ap (λ (xs : List State). slice_get xs (suc q)) made.added) ∙ made.laid.calls (suc q) rule level t e)) [
+      | inl h ↦ made.heads.uncalled (suc q) rule level t (sym (get_set_other s0 0 (suc q) (Call start 0 (length s0)) (λ z. omega arith)) ∙ h)
+      | inr h ↦ added_plain (length s0) h.0 rule level t h.1
+    ]
+
+-- nothing is written of a rule's start where no alternative begins
+start_unwritten : {net : Network} {rule n m : ℕ} {rules : List (Alternatives Basic)} → RulesLie net rule rules n m → (p : ℕ) → (BeginsAny net rule rules p → ⊥) →
+    (written_at net p ≡ 0) ⊎ ((j : ℕ) → rule ≤ j → j < rule + length rules → p ≢ start_of j)
+start_unwritten (lay.no_rule rule n) p clean = inr (λ j low high e. omega arith)
+start_unwritten (lay.a_rule rule n k m xs more l last rest) p clean = elim (same_or_not p (start_of rule)) [
+  | inl here ↦ inl (of_start l here (λ h. clean (inl h)))
+  | inr ne ↦ elim (start_unwritten rest p (λ h. clean (inr h))) [
+    | inl is ↦ inl is
+    | inr elsewhere ↦ inr (λ j low high e. elim (same_or_not j rule) [
+      | inl same ↦ ne (e ∙ ap start_of same)
+      | inr apart ↦ elsewhere j (omega arith) (omega arith) e
+    ])
+  ]
+]
+  where
+    of_start : {net : Network} {rule n m : ℕ} {xs : Alternatives Basic} {p : ℕ} → LiesAsRule net rule xs n m → p ≡ start_of rule → (BeginsOne net rule xs p → ⊥) → written_at net p ≡ 0
+    of_start (lay.of_one rule last n m x l leads w) here clean = absurd (clean here)
+    of_start {net} (lay.of_several rule n m xs firsts lasts two is l a w z) here clean = ap (written_at net) here ∙ z
+
 -- the network is drawn
 pub drawn : (rules : List NumberedRule) (start : ℕ) (s0 s1 s2 : List State) (w1 w2 : List ℕ) (k back : ℕ) (callers : List (List ℕ)) → HasHeads (length rules + 1) s0 → s1 ≡ set s0 0 (Call start 0 (length s0)) ++ added_states (length s0) →
     w1 ≡ 1 ∷ replicate k 0 → HaveLaid s1 s2 w1 w2 (length rules + 1) rules [] → back ≡ 2 * (length rules + 1) → HasCallers (length rules + 1) start back callers → IsDrawn rules start (record { states = s2; callers = callers; written = w2 })
@@ -219,7 +247,8 @@ drawn rules start s0 s1 s2 w1 w2 k back callers heads added blank laid back_at l
           λ r. absurd (e.0 (only_call rules start s0 s1 s2 w1 w2 k made r.0 rule r.1 t r.2).0),
         )
       ];
-      unwritten = λ p clean. clear net shares p clean;
+      returns = callers_are callers s2 start back (length rules + 1) listed (calls start back refl refl size0 (at_call rules start s0 s1 s2 w1 w2 k made)) (later_calls rules start s0 s1 s2 w1 w2 k made);
+      unwritten = λ p clean. clear net (λ q. refl) shares rest p clean;
     }
   where
     calls : (rule t : ℕ) → rule ≡ start → back ≡ t → length s0 ≡ 2 * length rules + 2 → slice_get s2 0 ≡ Some (Call start 0 (length s0)) → slice_get s2 0 ≡ Some (Call rule 0 t)
@@ -237,11 +266,18 @@ drawn rules start s0 s1 s2 w1 w2 k back callers heads added blank laid back_at l
     tail zero ne = absurd (ne refl)
     tail (suc p) ne = zeros k p
 
-    clear : (net : Network) → SharesRules net s2 w2 (length rules + 1) (length s1) → (p : ℕ) → IsNoFirst net (length rules) p → slice_index w2 p ≡ 0
-    clear net shares p clean = elim (cut p (length s1)) [
-      | inl early ↦ laid.still p early (λ j low below. (clean j (omega arith)).0) ∙ (ap (λ (w : List ℕ). slice_index w p) blank ∙ tail p (λ e. (clean 0 (omega arith)).0 (e ∙ refl)))
+    early : (p : ℕ) → p < length s1 → p ≢ 0 → StartsNone (length rules + 1) p → slice_index w2 p ≡ 0
+    early p less ne elsewhere = laid.still p less elsewhere ∙ (ap (λ (w : List ℕ). slice_index w p) blank ∙ tail p ne)
+
+    clear : (net : Network) → ((p : ℕ) → written_at net p ≡ slice_index w2 p) → SharesRules net s2 w2 (length rules + 1) (length s1) → RulesLie net 1 (map alternatives_of_rule rules) (length s1) (length s2) →
+        (p : ℕ) → (BeginsAny net 0 (added_rule start ∷ map alternatives_of_rule rules) p → ⊥) → slice_index w2 p ≡ 0
+    clear net same shares lie p clean = elim (cut p (length s1)) [
+      | inl less ↦ elim (start_unwritten lie p (λ h. clean (inr h))) [
+        | inl zero_written ↦ sym (same p) ∙ zero_written
+        | inr elsewhere ↦ early p less (λ e. clean (inl e)) (λ j low below. elsewhere j low (omega (arith, length-map rules alternatives_of_rule)))
+      ]
       | inr late ↦ elim (cut p (length s2)) [
-        | inl less ↦ sym (shares.numbers p (inr late) less) ∙ laid.unwritten net shares p late less (λ j i low below. (clean j (omega arith)).1 i)
+        | inl less ↦ sym (shares.numbers p (inr late) less) ∙ laid.unwritten net shares p late less (λ h. clean (inr h))
         | inr past ↦ get_or_past w2 p 0 (omega (arith, laid.numbered))
       ]
     ]

@@ -4,8 +4,10 @@ pub mod Lists
 pub mod Drafts
 pub mod Runs
 pub mod Weights
+pub mod Widths
 pub mod Fullness
 pub mod RulesLaid
+pub mod Callers
 pub mod Drawn
 pub mod Named
 pub mod Runnable
@@ -18,3 +20,4 @@ pub mod Onward
 pub mod Added
 pub mod Rules
 pub mod Quiet
+pub mod OneNetwork

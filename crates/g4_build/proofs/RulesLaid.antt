@@ -10,10 +10,10 @@ use Rattle.g4_grammar.specs.declared.numbered.NumberedRule.{NumberedRule}
 use Rattle.g4_net.specs.declared.network.Network.{Network}
 use Rattle.g4_net.specs.declared.network.State.{State}
 use Rattle.g4_net.specs.declared.network.State.TheVariants.{Decision, Empty}
-use Rattle.g4_net.specs.Network.{start_of, end_of, written_at}
+use Rattle.g4_net.specs.Network.{start_of, end_of, written_at, IsFirst}
 use Rattle.g4_build.specs.Drafts.{Among, linked, AreLaid, IsRising, AreBeside}
 use Rattle.g4_build.specs.Layout as lay
-use Rattle.g4_build.specs.Layout.{LieInOrder, LieSideBySide, AllLeadTo, AreWritten, LiesAsRule, RulesLie}
+use Rattle.g4_build.specs.Layout.{LieInOrder, LieSideBySide, AllLeadTo, AreWritten, BeginsOne, BeginsAny, LiesAsRule, RulesLie}
 use Rattle.g4_build.specs.Rules.{marked, SharesRule, RuleIsLaid, IsBefore, SharesRules, HaveLaid}
 use Rattle.g4_build.specs.Size.{states_in_order, states_of_bodies, states_of_rule}
 use Rattle.g4_build.proofs.Lists.{get_set_same, get_set_other}
@@ -110,6 +110,13 @@ lone_rule old mid new blank written rule last k x below even laid is wide marks 
     number : (p : ℕ) → p ≢ start_of rule → get_or written p 0 ≡ get_or (blank ++ replicate k 0) p 0
     number p ne = ap (λ (w : List ℕ). get_or w p 0) marks ∙ get_or-set_other (blank ++ replicate k 0) (start_of rule) p 1 0 ne
 
+-- an alternative of a rule of several begins at each first state of its decision
+begins_several : {net : Network} {xs : Alternatives Basic} {firsts lasts : List ℕ} {n m : ℕ} → LieSideBySide net xs firsts lasts n m → 2 ≤ length firsts →
+    (rule p : ℕ) → ((i : ℕ) × IsFirst net (start_of rule) i p) → BeginsOne net rule xs p
+begins_several (lay.no_other n) two rule p h = absurd (omega arith)
+begins_several (lay.another x xs last n k m firsts lasts l (lay.no_other j)) two rule p h = absurd (omega arith)
+begins_several (lay.another x xs last n k m firsts lasts l (lay.another y more d n' k' m' fs ls l' ls')) two rule p h = h
+
 -- a rule of several alternatives is laid
 pub several_rule : (old mid new : List State) (blank written : List ℕ) (rule k : ℕ) (firsts lasts : List ℕ) (xs : Alternatives Basic) → start_of rule < length old → length blank ≡ length old → slice_index blank (start_of rule) ≡ 0 →
     AreBeside old mid firsts lasts xs → 2 ≤ length firsts → states_of_rule xs ≡ states_of_bodies xs →
@@ -139,7 +146,8 @@ several_rule old mid new blank written rule k firsts lasts xs below even clear l
           (shares.numbers (start_of rule) (inl refl) (omega arith) ∙ (number (start_of rule) (λ h. omega (arith, (inside (start_of rule) h).0)) ∙ (padded_left blank k (start_of rule) (omega arith) ∙ clear)));
       unwritten = λ net shares p low less none.
           let has = has_closed net old mid new (start_of rule) d firsts lasts xs (end_of rule) [] (length mid) below laid closing (omega arith) (λ p place less ne. shares.same p place less) in
-          shares.numbers p (inr low) less ∙ (number p (λ h. let place = at_place firsts p h in none (place.0 + 1) (firsts, place.0, has.start, place.1, refl)) ∙ padded_right blank k p (omega arith));
+          shares.numbers p (inr low) less ∙
+          (number p (λ h. let place = at_place firsts p h in none (begins_several has.sides several rule p (place.0 + 1, (firsts, place.0, has.start, place.1, refl)))) ∙ padded_right blank k p (omega arith));
     }
   where
     inside : (p : ℕ) → Among firsts p → (length old ≤ p) × (p < length mid)
@@ -159,6 +167,7 @@ none_have old blank all even =
       numbered = even;
       still = λ p less apart. refl;
       lie = λ net shares ends m lie. lie;
+      begins = λ net p h. h;
       unwritten = λ net shares p low high none. absurd (omega arith);
     }
 
@@ -182,10 +191,11 @@ more_have old now new blank wnow wnew rule next all rest r low up high room so_f
           so_far.lie net (before net shares) ends m
           (lay.a_rule rule (length now) (length new) m (alternatives_of_rule r) (map alternatives_of_rule rest) (one.lies net (here net shares)) (ends rule low high)
           (subst (λ (k : ℕ). RulesLie net k (map alternatives_of_rule rest) (length new) m) up lie));
+      begins = λ net p h. so_far.begins net p (inr (subst (λ (k : ℕ). BeginsAny net k (map alternatives_of_rule rest) p) up h));
       unwritten = λ net shares p from less none.
           elim (split p) [
-            | inl early ↦ so_far.unwritten net (before net shares) p from early (λ j i one_up below. none j i one_up (omega arith))
-            | inr late ↦ one.unwritten net (here net shares) p late less (λ i. none rule i low (omega arith))
+            | inl early ↦ so_far.unwritten net (before net shares) p from early none
+            | inr late ↦ one.unwritten net (here net shares) p late less (λ h. none (so_far.begins net p (inl h)))
           ];
     }
   where

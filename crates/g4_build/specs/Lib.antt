@@ -1,6 +1,9 @@
 pub mod Answers
+pub mod Callers
+pub mod Decisions
 pub mod Drafts
 pub mod Layout
+pub mod LexerSize
 pub mod Rules
 pub mod Size
 pub mod Trees

@@ -7,9 +7,10 @@ use Rattle.g4_grammar.specs.declared.numbered.NumberedRule.{NumberedRule}
 use Rattle.g4_net.specs.declared.network.Network.{Network}
 use Rattle.g4_net.specs.declared.network.State.{State}
 use Rattle.g4_net.specs.declared.network.State.TheVariants.{Decision, End, Token, Call, Empty}
-use Rattle.g4_net.specs.Network.{state_at, start_of, end_of, written_at, IsFirst, IsReturn}
+use Rattle.g4_net.specs.Network.{state_at, start_of, end_of, written_at, IsReturn}
 use Rattle.g4_build.specs.Drafts.{CallsNoMore, Grows}
-use Rattle.g4_build.specs.Layout.{LiesAsRule, RulesLie, IsNetworkOf}
+use Rattle.g4_build.specs.Callers.{callers_of}
+use Rattle.g4_build.specs.Layout.{LiesAsRule, BeginsOne, BeginsAny, RulesLie, IsNetworkOf}
 use Rattle.g4_build.specs.Size.{states_of_rule}
 
 -- the numbers, those at the listed places counting up from i
@@ -22,14 +23,14 @@ pub record SharesRule (net : Network) (states : List State) (written : List ℕ)
   pub same : (p : ℕ) → (p ≡ start_of rule) ⊎ (n ≤ p) → p < length states → state_at net p ≡ slice_get states p
   pub numbers : (p : ℕ) → (p ≡ start_of rule) ⊎ (n ≤ p) → p < length states → written_at net p ≡ slice_index written p
 
--- the rule lies, its other states being new, and nothing is written of those that begin no alternative of it
+-- the rule lies, its other states being new, and nothing is written of those where no alternative of it begins
 pub record RuleIsLaid (old new : List State) (blank written : List ℕ) (rule : ℕ) (xs : Alternatives Basic) : Type 0 where
   pub size : length new ≡ length old + states_of_rule xs
   pub grown : Grows old new (start_of rule)
   pub numbered : length written ≡ length new
   pub kept : (p : ℕ) → p < length old → p ≢ start_of rule → slice_index written p ≡ slice_index blank p
   pub lies : (net : Network) → SharesRule net new written rule (length old) → LiesAsRule net rule xs (length old) (length new)
-  pub unwritten : (net : Network) → SharesRule net new written rule (length old) → (p : ℕ) → length old ≤ p → p < length new → ((i : ℕ) → IsFirst net (start_of rule) i p → ⊥) → written_at net p ≡ 0
+  pub unwritten : (net : Network) → SharesRule net new written rule (length old) → (p : ℕ) → length old ≤ p → p < length new → (BeginsOne net rule xs p → ⊥) → written_at net p ≡ 0
 
 -- a state of a rule's start and end, or from n on, of the rules before this one
 abbrev pub IsBefore : ℕ → ℕ → ℕ → Type 0
@@ -48,7 +49,8 @@ StartsNone rule p = (j : ℕ) → 1 ≤ j → j < rule → p ≢ start_of j
 abbrev pub HaveEnds : Network → ℕ → Type 0
 HaveEnds net count = (j : ℕ) → 1 ≤ j → j ≤ count → state_at net (end_of j) ≡ Some (End j)
 
--- the rules before this one lie, their other states being new, and nothing is written of those that begin no alternative
+-- The rules before this one lie, the rest being the last of all; their other states are new, and nothing is written of
+-- those where no alternative begins.
 pub record HaveLaid (old now : List State) (blank written : List ℕ) (rule : ℕ) (all rest : List NumberedRule) : Type 0 where
   pub size : length now + sum_by (λ r. states_of_rule (alternatives_of_rule r)) rest ≡ length old + sum_by (λ r. states_of_rule (alternatives_of_rule r)) all
   pub longer : length old ≤ length now
@@ -58,8 +60,9 @@ pub record HaveLaid (old now : List State) (blank written : List ℕ) (rule : �
   pub still : (p : ℕ) → p < length old → StartsNone rule p → slice_index written p ≡ slice_index blank p
   pub lie : (net : Network) → SharesRules net now written rule (length old) → HaveEnds net (length all) → (m : ℕ) → RulesLie net rule (map alternatives_of_rule rest) (length now) m →
       RulesLie net 1 (map alternatives_of_rule all) (length old) m
+  pub begins : (net : Network) (p : ℕ) → BeginsAny net rule (map alternatives_of_rule rest) p → BeginsAny net 1 (map alternatives_of_rule all) p
   pub unwritten : (net : Network) → SharesRules net now written rule (length old) → (p : ℕ) → length old ≤ p → p < length now →
-      ((j i : ℕ) → 1 ≤ j → j < rule → IsFirst net (start_of j) i p → ⊥) → written_at net p ≡ 0
+      (BeginsAny net 1 (map alternatives_of_rule all) p → ⊥) → written_at net p ≡ 0
 
 -- the starts and ends of so many rules, the starts being open
 pub record HasHeads (count : ℕ) (states : List State) : Type 0 where
@@ -77,14 +80,11 @@ pub record HasCallers (count rule back : ℕ) (callers : List (List ℕ)) : Type
   pub size : length callers ≡ count
   pub listed : (r : ℕ) (returns : List ℕ) → slice_get callers r ≡ Some returns → ((r ≡ rule) × (returns ≡ back ∷ [])) ⊎ ((r ≢ rule) × (returns ≡ []))
 
--- no alternative of the first so many rules begins at the state
-abbrev pub IsNoFirst : Network → ℕ → ℕ → Type 0
-IsNoFirst net count p = (rule : ℕ) → rule ≤ count → (p ≢ start_of rule) × ((i : ℕ) → IsFirst net (start_of rule) i p → ⊥)
-
 -- the network of the rules, the added rule calling this one
 pub record IsDrawn (rules : List NumberedRule) (start : ℕ) (net : Network) : Type 0 where
   pub network : IsNetworkOf (added_rule start ∷ map alternatives_of_rule rules) net
   pub size : length net.states ≡ 2 * length rules + 7 + sum_by (λ r. states_of_rule (alternatives_of_rule r)) rules
   pub every_rule : length net.callers ≡ length rules + 1
   pub callers : (rule t : ℕ) (listed : List ℕ) → slice_get net.callers rule ≡ Some listed → Contains listed t ↔ IsReturn net rule t
-  pub unwritten : (p : ℕ) → IsNoFirst net (length rules) p → written_at net p ≡ 0
+  pub returns : net.callers ≡ callers_of net.states (length rules + 1)
+  pub unwritten : (p : ℕ) → (BeginsAny net 0 (added_rule start ∷ map alternatives_of_rule rules) p → ⊥) → written_at net p ≡ 0

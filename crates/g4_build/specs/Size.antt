@@ -2,34 +2,54 @@
 use Rattle.std.specs.Prelude.{ℕ, ◌+◌}
 use Rattle.g4_grammar.specs.Elements.{Element, atom, call, block, optional, star, plus, Elements, empty, then, Alternatives, none, or, Basic}
 
+-- the state where a block of several alternatives ends
+abbrev pub more_if_several : {A : Type 0} → Alternatives A → ℕ
+more_if_several none = 0
+more_if_several (or x none) = 0
+more_if_several (or x (or y more)) = 1
+
 abbrev mutual
-  -- the states of an element: the one where it ends, and those in between
-  pub states_of : Element Basic → ℕ
-  states_of (atom a) = 1
-  states_of (call rule level) = 1
-  states_of (block xs) = states_of_rule xs + more_if_several xs
-  states_of (optional greedy xs) = states_of_bodies xs + 2
-  states_of (star greedy xs) = states_of_bodies xs + 1
-  states_of (plus greedy xs) = states_of_bodies xs + 2
+  -- the states of an element, where an atom makes so many: the one where it ends, and those in between
+  pub states_by : {A : Type 0} → (A → ℕ) → Element A → ℕ
+  states_by weight (atom a) = weight a
+  states_by weight (call rule level) = 1
+  states_by weight (block xs) = states_of_rule_by weight xs + more_if_several xs
+  states_by weight (optional greedy xs) = states_of_bodies_by weight xs + 2
+  states_by weight (star greedy xs) = states_of_bodies_by weight xs + 1
+  states_by weight (plus greedy xs) = states_of_bodies_by weight xs + 2
 
   -- the states of elements one after another
-  pub states_in_order : Elements Basic → ℕ
-  states_in_order empty = 0
-  states_in_order (then x xs) = states_of x + states_in_order xs
+  pub states_in_order_by : {A : Type 0} → (A → ℕ) → Elements A → ℕ
+  states_in_order_by weight empty = 0
+  states_in_order_by weight (then x xs) = states_by weight x + states_in_order_by weight xs
 
   -- the states of bodies side by side: of each its first, and those of its elements
-  pub states_of_bodies : Alternatives Basic → ℕ
-  states_of_bodies none = 0
-  states_of_bodies (or x xs) = 1 + states_in_order x + states_of_bodies xs
+  pub states_of_bodies_by : {A : Type 0} → (A → ℕ) → Alternatives A → ℕ
+  states_of_bodies_by weight none = 0
+  states_of_bodies_by weight (or x xs) = 1 + states_in_order_by weight x + states_of_bodies_by weight xs
 
   -- the states of a rule's alternatives but for its start and end: one begins at the start, several are bodies
-  pub states_of_rule : Alternatives Basic → ℕ
-  states_of_rule none = 0
-  states_of_rule (or x none) = states_in_order x
-  states_of_rule (or x (or y more)) = 1 + states_in_order x + states_of_bodies (or y more)
+  pub states_of_rule_by : {A : Type 0} → (A → ℕ) → Alternatives A → ℕ
+  states_of_rule_by weight none = 0
+  states_of_rule_by weight (or x none) = states_in_order_by weight x
+  states_of_rule_by weight (or x (or y more)) = 1 + states_in_order_by weight x + states_of_bodies_by weight (or y more)
 
-  -- the state where a block of several alternatives ends
-  pub more_if_several : Alternatives Basic → ℕ
-  more_if_several none = 0
-  more_if_several (or x none) = 0
-  more_if_several (or x (or y more)) = 1
+-- an atom over symbols makes one state
+abbrev pub one_state : {A : Type 0} → A → ℕ
+one_state a = 1
+
+-- the states of an element over symbols
+abbrev pub states_of : Element Basic → ℕ
+states_of x = states_by one_state x
+
+-- the states of elements over symbols, one after another
+abbrev pub states_in_order : Elements Basic → ℕ
+states_in_order xs = states_in_order_by one_state xs
+
+-- the states of bodies over symbols, side by side
+abbrev pub states_of_bodies : Alternatives Basic → ℕ
+states_of_bodies xs = states_of_bodies_by one_state xs
+
+-- the states of the alternatives of a rule over symbols
+abbrev pub states_of_rule : Alternatives Basic → ℕ
+states_of_rule xs = states_of_rule_by one_state xs

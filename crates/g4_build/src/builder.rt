@@ -10,18 +10,21 @@ ghost use Rattle.g4_grammar.specs.Numbering.{SpeakOfNamed, alternatives_of_rule}
 
 use crate::count::past_rules;
 use crate::drawing::draw;
+use crate::width::some_rule_is_wide;
 use g4_grammar::{Numbered, NumberedRule};
 use g4_net::Network;
 use std::alloc::{AllocError, Global};
 
 /// The most states that a network has.
-const MOST_STATES: usize = 65_536;
+pub const MOST_STATES: usize = 65_536;
 
 /// Why a numbered grammar has no network.
 #[derive(Drop)]
 pub enum BuildFault {
     /// No parser rule has the name.
     UnknownStart,
+    /// A decision with more than 1,024 alternatives, leave counted.
+    Alternatives,
     /// More than 65,536 states.
     States,
     NoMemory,
@@ -66,6 +69,9 @@ pub fn build(alloc: Global, grammar: &Numbered, start: &str) -> Result<Network, 
     let Some(place) = place_of(rules, start) else {
         return Err(BuildFault::UnknownStart);
     };
+    if some_rule_is_wide(rules) {
+        return Err(BuildFault::Alternatives);
+    }
     if !fits(rules) {
         return Err(BuildFault::States);
     }

@@ -1,19 +1,21 @@
-// How many states a grammar's network has, as far as a network may have so many.
-ghost use Rattle.std.specs.Prelude.{◌≡◌, ◌<◌, ◌+◌, MatchOption, sum_by};
-ghost use Rattle.g4_grammar.specs.Elements.{block};
+// How many states a grammar's networks have, as far as a network may have so many.
+ghost use Rattle.std.specs.Prelude.{◌≡◌, ◌<◌, ◌+◌, MatchOption, map, sum_by};
+ghost use Rattle.g4_grammar.specs.Elements.{block, either};
 ghost use Rattle.g4_grammar.specs.Numbering.{alternatives_of_rule};
-ghost use Rattle.g4_build.specs.Size.{states_of, states_in_order, states_of_bodies, states_of_rule};
-ghost use Rattle.g4_build.specs.Trees.{tree_of, run_of, sides_of, bodies_of};
+ghost use Rattle.g4_grammar.specs.Trees.{element_of, alternative_of, in_order};
+ghost use Rattle.g4_build.specs.LexerSize.{states_of_token_rule};
+ghost use Rattle.g4_build.specs.Size.{states_by, states_in_order_by, states_of_bodies_by, states_of_rule, states_of_rule_by};
 
-use g4_grammar::{Alternative, Element, Elements, NumberedRule, Repeat};
+use crate::atomic::{Atomic, Body};
+use g4_grammar::{Alternative, Element, NumberedRule, Repeat, TokenRule};
 
 /// How many of the spare states are left beyond those of an element, where they suffice.
 #[cycle(count)]
-fn past_element(spare: usize, element: &Element<u32>) -> Option<usize>
-    ensures { MatchOption result (spare < states_of (tree_of element.now)) (λ left. left + states_of (tree_of element.now) ≡ spare) }
+fn past_element<A: Atomic>(spare: usize, element: &Element<A>) -> Option<usize>
+    ensures { MatchOption result (spare < states_by A.states (element_of element.now)) (λ left. left + states_by A.states (element_of element.now) ≡ spare) }
 {
     match element {
-        Element::Atom(_) => spare.checked_sub(1),
+        Element::Atom(atom) => spare.checked_sub(atom.states()),
         Element::Block(repeat, alternatives) => match repeat {
             Repeat::Once => past_block(spare, alternatives.as_slice()),
             Repeat::Star => past_sides(spare, alternatives.as_slice())?.checked_sub(1),
@@ -24,8 +26,8 @@ fn past_element(spare: usize, element: &Element<u32>) -> Option<usize>
 
 /// The same beyond a block of these alternatives.
 #[cycle(count)]
-fn past_block(spare: usize, alternatives: &[Alternative<u32>]) -> Option<usize>
-    ensures { MatchOption result (spare < states_of (block (sides_of alternatives.now))) (λ left. left + states_of (block (sides_of alternatives.now)) ≡ spare) }
+fn past_block<A: Atomic>(spare: usize, alternatives: &[Alternative<A>]) -> Option<usize>
+    ensures { MatchOption result (spare < states_by A.states (block (either (map alternative_of alternatives.now)))) (λ left. left + states_by A.states (block (either (map alternative_of alternatives.now))) ≡ spare) }
 {
     match alternatives {
         [] => Some(spare),
@@ -36,8 +38,8 @@ fn past_block(spare: usize, alternatives: &[Alternative<u32>]) -> Option<usize>
 
 /// The same beyond alternatives side by side.
 #[cycle(count)]
-fn past_sides(spare: usize, alternatives: &[Alternative<u32>]) -> Option<usize>
-    ensures { MatchOption result (spare < states_of_bodies (sides_of alternatives.now)) (λ left. left + states_of_bodies (sides_of alternatives.now) ≡ spare) }
+fn past_sides<A: Atomic>(spare: usize, alternatives: &[Alternative<A>]) -> Option<usize>
+    ensures { MatchOption result (spare < states_of_bodies_by A.states (either (map alternative_of alternatives.now))) (λ left. left + states_of_bodies_by A.states (either (map alternative_of alternatives.now)) ≡ spare) }
 {
     let mut left = spare;
     for alternative in alternatives {
@@ -48,8 +50,8 @@ fn past_sides(spare: usize, alternatives: &[Alternative<u32>]) -> Option<usize>
 
 /// The same beyond elements one after another.
 #[cycle(count)]
-fn past_run(spare: usize, elements: &[Element<u32>]) -> Option<usize>
-    ensures { MatchOption result (spare < states_in_order (run_of elements.now)) (λ left. left + states_in_order (run_of elements.now) ≡ spare) }
+fn past_run<A: Atomic>(spare: usize, elements: &[Element<A>]) -> Option<usize>
+    ensures { MatchOption result (spare < states_in_order_by A.states (in_order (map element_of elements.now))) (λ left. left + states_in_order_by A.states (in_order (map element_of elements.now)) ≡ spare) }
 {
     let mut left = spare;
     for element in elements {
@@ -59,22 +61,22 @@ fn past_run(spare: usize, elements: &[Element<u32>]) -> Option<usize>
 }
 
 /// The same beyond the alternatives of a rule.
-fn past_rule(spare: usize, alternatives: &[Elements<u32>]) -> Option<usize>
-    ensures { MatchOption result (spare < states_of_rule (bodies_of alternatives.now)) (λ left. left + states_of_rule (bodies_of alternatives.now) ≡ spare) }
+fn past_rule<A: Atomic, B: Body<A>>(spare: usize, alternatives: &[B]) -> Option<usize>
+    ensures { MatchOption result (spare < states_of_rule_by A.states (either (map B.tree alternatives.now))) (λ left. left + states_of_rule_by A.states (either (map B.tree alternatives.now)) ≡ spare) }
 {
     match alternatives {
-        [one] => past_run(spare, one.as_slice()),
+        [one] => past_run(spare, one.elements()),
         several => past_bodies(spare, several),
     }
 }
 
 /// The same beyond alternatives of a rule side by side.
-fn past_bodies(spare: usize, alternatives: &[Elements<u32>]) -> Option<usize>
-    ensures { MatchOption result (spare < states_of_bodies (bodies_of alternatives.now)) (λ left. left + states_of_bodies (bodies_of alternatives.now) ≡ spare) }
+fn past_bodies<A: Atomic, B: Body<A>>(spare: usize, alternatives: &[B]) -> Option<usize>
+    ensures { MatchOption result (spare < states_of_bodies_by A.states (either (map B.tree alternatives.now))) (λ left. left + states_of_bodies_by A.states (either (map B.tree alternatives.now)) ≡ spare) }
 {
     let mut left = spare;
     for alternative in alternatives {
-        left = past_run(left.checked_sub(1)?, alternative.as_slice())?;
+        left = past_run(left.checked_sub(1)?, alternative.elements())?;
     }
     Some(left)
 }
@@ -82,6 +84,17 @@ fn past_bodies(spare: usize, alternatives: &[Elements<u32>]) -> Option<usize>
 /// The same beyond the alternatives of all rules.
 pub fn past_rules(spare: usize, rules: &[NumberedRule]) -> Option<usize>
     ensures { MatchOption result (spare < sum_by (λ rule. states_of_rule (alternatives_of_rule rule)) rules.now) (λ left. left + sum_by (λ rule. states_of_rule (alternatives_of_rule rule)) rules.now ≡ spare) }
+{
+    let mut left = spare;
+    for rule in rules {
+        left = past_rule(left, rule.alternatives.as_slice())?;
+    }
+    Some(left)
+}
+
+/// The same beyond the alternatives of all token rules, whose states are the lexer's.
+pub fn past_token_rules(spare: usize, rules: &[TokenRule]) -> Option<usize>
+    ensures { MatchOption result (spare < sum_by states_of_token_rule rules.now) (λ left. left + sum_by states_of_token_rule rules.now ≡ spare) }
 {
     let mut left = spare;
     for rule in rules {

@@ -5,8 +5,8 @@ use Rattle.g4_grammar.specs.Elements.{Alternatives, Basic, block}
 use Rattle.g4_grammar.specs.declared.element.Repeat.TheVariants.{Once, Star, Plus}
 use Rattle.g4_build.specs.Drafts.{AreLaid}
 use Rattle.g4_net.specs.declared.network.State.TheVariants.{Token, Empty}
-use Rattle.g4_build.specs.Size.{states_of, states_in_order, states_of_bodies}
-use Rattle.g4_build.specs.Trees.{tree_of, run_of}
+use Rattle.g4_build.specs.Size.{states_of, states_in_order, states_of_bodies, one_state}
+use Rattle.g4_build.specs.Trees.{tree_of, side_of, run_of}
 use Rattle.g4_build.proofs.Counts.{count_several}
 use Rattle.g4_build.proofs.Drafts.{symbol_laid, joined_laid, star_laid, plus_laid}
 use Rattle.g4_build.proofs.Runs.{more_laid, all_laid, lone_laid, more_sides_at, all_sides, on_ok}
@@ -30,20 +30,20 @@ lay_block-returns-in-len1 t c =
 pub lay_block-lay_sides-requires : goal.lay_block-lay_sides-requires
 lay_block-lay_sides-requires t c =
     let many = some_sides c.args.alternatives.now c.requires.full.0 in
-    let count = count_several c.args.alternatives.now (grind arith) in
+    let count = count_several one_state side_of c.args.alternatives.now (grind arith) in
     (omega (arith, c.decreases), (c.requires.full.1, omega (arith, c.requires.room)))
 
 pub lay_block-join-requires-clause-room : goal.lay_block-join-requires-clause-room
 lay_block-join-requires-clause-room t c =
     let many = some_sides c.args.alternatives.now c.requires.full.0 in
-    let count = count_several c.args.alternatives.now (grind arith) in
+    let count = count_several one_state side_of c.args.alternatives.now (grind arith) in
     omega (arith, c.requires.room, c.in_ok-bodies-in_default.ensures.laid.size)
 
 pub lay_block-returns-in_ok-last-in_default : goal.lay_block-returns-in_ok-last-in_default
 lay_block-returns-in_ok-last-in_default t c =
     let many = some_sides c.args.alternatives.now c.requires.full.0 in
     let more : 2 ≤ length c.args.alternatives.now = grind arith in
-    let count = count_several c.args.alternatives.now more in
+    let count = count_several one_state side_of c.args.alternatives.now more in
     joined_laid _ _ _ _ _ _ _ _ c.requires.from c.in_ok-bodies-in_default.ensures.laid (omega (arith, c.in_ok-bodies-in_default.ensures.many)) count c.in_ok-last-in_default.ensures.0 c.in_ok-last-in_default.ensures.1
 
 pub lay_element-lay_symbol-requires-clause-room : goal.lay_element-lay_symbol-requires-clause-room

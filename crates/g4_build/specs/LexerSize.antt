@@ -1,0 +1,26 @@
+-- How many states the network of a lexer has.
+use Rattle.std.specs.Prelude.{ℕ, ◌+◌, ◌*◌, List, length, map, sum_by}
+use Rattle.g4_grammar.specs.declared.source.Atom.{Atom}
+use Rattle.g4_grammar.specs.declared.source.Atom.TheVariants.{Token, Literal, Set}
+use Rattle.g4_grammar.specs.declared.source.LexerAlternative.{LexerAlternative}
+use Rattle.g4_grammar.specs.declared.numbered.TokenRule.{TokenRule}
+use Rattle.g4_grammar.specs.Elements.{Alternatives, either}
+use Rattle.g4_build.specs.Size.{states_of_rule_by}
+
+-- a literal makes a state for each of its characters, any other atom one
+abbrev pub states_of_atom : Atom → ℕ
+states_of_atom (Token name) = 1
+states_of_atom (Literal literal) = length literal.characters
+states_of_atom (Set ranges) = 1
+
+-- the alternatives of a lexer rule, commands aside
+abbrev pub lexer_bodies : List LexerAlternative → Alternatives Atom
+lexer_bodies alternatives = either (map (λ (x : LexerAlternative). x.elements) alternatives)
+
+-- the states of a token rule but for its start and end
+abbrev pub states_of_token_rule : TokenRule → ℕ
+states_of_token_rule rule = states_of_rule_by states_of_atom (lexer_bodies rule.alternatives)
+
+-- how many states the lexer's network has: two a rule, and those of each rule's alternatives
+abbrev pub lexer_state_count : List TokenRule → ℕ
+lexer_state_count rules = 2 * length rules + sum_by states_of_token_rule rules
