@@ -1,7 +1,7 @@
 -- How far the tokens of a text are found.
-use Rattle.std.proofs.Common.{◌≡◌, ℕ, zero, suc, ◌+◌, ◌-◌, ◌≤◌, ◌<◌, Bool, true, false, cond, List, [], ◌∷◌, ◌++◌, length, take, drop, Ok, Err, Result, All, Contains, refl, sym, ap, ◌∙◌, subst, append_assoc, append-nil, get_or, arith}
+use Rattle.std.proofs.Common.{◌≡◌, ℕ, zero, suc, ◌+◌, ◌-◌, ◌≤◌, ◌<◌, Bool, true, false, List, [], ◌∷◌, ◌++◌, length, take, drop, Ok, Err, Result, All, Contains, refl, sym, ap, ◌∙◌, subst, append_assoc, append-nil, get_or, arith}
 use Rattle.std.proofs.lemmas.Option.{get_or_from_slice_get, slice_get_within}
-use Rattle.std.proofs.lemmas.List.{drop_more, take_rest, length-take-le, length-drop, drop-drop, take_all, drop_all}
+use Rattle.std.proofs.lemmas.List.{drop_more, take_rest, length-append, length-take-le, length-drop, drop-drop, take_all, drop_all}
 use Rattle.std.proofs.lemmas.List.Elements.{All-push}
 use Rattle.std.proofs.Math.Seq.{take-add}
 use Rattle.g4_base.specs.declared.place.Place.{Place}
@@ -12,7 +12,7 @@ use Rattle.g4_net.specs.TokenList.{word_of, EndsInEnd}
 use Rattle.g4_base.specs.Symbols.{eof, end_of_list}
 use Rattle.g4_lexer.specs.Matching.{NoMatch}
 use Rattle.g4_lexer.specs.Best.{IsBestOfAll}
-use Rattle.g4_lexer.specs.Lexing.{Lexes, at_end, a_match, no_token, Position, Stuck, first_position, token_at, then_token, with_match, closing_at, closing_tokens}
+use Rattle.g4_lexer.specs.Lexing.{LexesWithin, at_end, a_kept_match, a_dropped_match, one_too_many, no_match, Position, Stuck, no_token, too_many, first_position, position_after, token_at, then_token, closing_at, closing_tokens}
 
 -- the place behind two pieces end to end
 pub place_after-append : (p : Place) (u v : List ℕ) → place_after p (u ++ v) ≡ place_after (place_after p u) v
@@ -49,11 +49,36 @@ with_tokens-then_token tokens token (Ok more) = ap Ok (sym (append_assoc tokens 
 with_tokens-then_token tokens token (Err stuck) = refl
 
 module _ (rules : List TokenRule) (text : List ℕ) where
-  -- The tokens up to an index are found: what lexes the rest, with these tokens in front, lexes the text.
+  -- the best match of the rest, as the code has the rest
+  pub best_read : (start symbol n : ℕ) (skip : Bool) → IsBestOfAll rules (take (length text - start) (drop start text)) symbol n skip → IsBestOfAll rules (drop start text) symbol n skip
+  best_read start symbol n skip best = subst (λ (w : List ℕ). IsBestOfAll rules w symbol n skip) (take_rest text start) best
+
+  -- the place behind a match
+  place_behind : (start n : ℕ) (place : Place) → place ≡ place_after first_place (take start text) → place_after place (take n (drop start text)) ≡ place_after first_place (take (start + n) text)
+  place_behind start n place is =
+      ap (λ (p : Place). place_after p (take n (drop start text))) is ∙ sym (place_after-append first_place (take start text) (take n (drop start text))) ∙ ap (λ w. place_after first_place w) (sym (take-add start n text))
+
+  within_behind : (start n symbol : ℕ) (skip : Bool) → start ≤ length text → IsBestOfAll rules (drop start text) symbol n skip → start + n ≤ length text
+  within_behind start n symbol skip within b = omega (arith, b.best.matches.within, length-drop start text)
+
+  -- what lexes the text behind a match, by its index, lexes what the match leaves
+  behind : (left start n symbol : ℕ) (skip : Bool) (place : Place) (more : Result (List Token) Stuck) → IsBestOfAll rules (drop start text) symbol n skip →
+      LexesWithin rules left (record { index = start + n; place = place_after place (take n (drop start text)) }) (drop (start + n) text) more →
+      LexesWithin rules left (position_after (record { index = start; place = place }) (take n (drop start text))) (drop n (drop start text)) more
+  behind left start n symbol skip place more b l =
+      let long : length (take n (drop start text)) ≡ n = length-take-le n (drop start text) b.best.matches.within in
+      subst (λ i. LexesWithin rules left (record { index = start + i; place = place_after place (take n (drop start text)) }) (drop n (drop start text)) more) (sym long)
+      (subst (λ w. LexesWithin rules left (record { index = start + n; place = place_after place (take n (drop start text)) }) w more) (sym (drop-drop n start text)) l)
+
+module _ (rules : List TokenRule) (text : List ℕ) (room : ℕ) where
+  -- The tokens up to an index are found: what lexes the rest with the room that is left, with these tokens in front,
+  -- lexes the text.
   pub record Reached (found : List Token) (start : ℕ) (place : Place) : Type 0 where
     pub within : start ≤ length text
     pub place_is : place ≡ place_after first_place (take start text)
-    pub onward : (more : Result (List Token) Stuck) → Lexes rules (record { index = start; place = place }) (drop start text) more → Lexes rules first_position text (with_tokens found more)
+    pub left : ℕ
+    pub room_is : length found + left ≡ room
+    pub onward : (more : Result (List Token) Stuck) → LexesWithin rules left (record { index = start; place = place }) (drop start text) more → LexesWithin rules room first_position text (with_tokens found more)
 
   -- the lines and columns of the text are at most as many as its characters
   pub line_reached : (found : List Token) (start : ℕ) (place : Place) → Reached found start place → place.line ≤ 1 + start
@@ -62,87 +87,78 @@ module _ (rules : List TokenRule) (text : List ℕ) where
   pub column_reached : (found : List Token) (start : ℕ) (place : Place) → Reached found start place → place.column ≤ start
   column_reached found start place r = omega (arith, ap (λ (p : Place). p.column) r.place_is, column_after first_place (take start text), length-take-le start text r.within)
 
-  -- the best match of the rest, as the code has the rest
-  pub best_read : (start symbol n : ℕ) (skip : Bool) → IsBestOfAll rules (take (length text - start) (drop start text)) symbol n skip → IsBestOfAll rules (drop start text) symbol n skip
-  best_read start symbol n skip best = subst (λ (w : List ℕ). IsBestOfAll rules w symbol n skip) (take_rest text start) best
-
   -- at first no tokens are found
   pub reached_none : Reached [] 0 first_place
   reached_none = record {
     within = omega arith;
     place_is = refl;
-    onward = λ more l. subst (λ (m : Result (List Token) Stuck). Lexes rules first_position text m) (with_no_tokens more) l;
+    left = room;
+    room_is = omega arith;
+    onward = λ more l. subst (λ (m : Result (List Token) Stuck). LexesWithin rules room first_position text m) (with_no_tokens more) l;
   }
-
-  -- the place behind a match
-  place_behind : (start n : ℕ) (place : Place) → place ≡ place_after first_place (take start text) → place_after place (take n (drop start text)) ≡ place_after first_place (take (start + n) text)
-  place_behind start n place is =
-      ap (λ (p : Place). place_after p (take n (drop start text))) is ∙ sym (place_after-append first_place (take start text) (take n (drop start text))) ∙ ap (λ w. place_after first_place w) (sym (take-add start n text))
-
-  -- a match at the index, seen from behind it
-  behind : (start n symbol : ℕ) (skip : Bool) (place : Place) (more : Result (List Token) Stuck) (b : IsBestOfAll rules (drop start text) symbol n skip) → Lexes rules (record { index = start + n; place = place_after place (take n (drop start text)) }) (drop (start + n) text) more →
-      Lexes rules (record { index = start; place = place }) (drop start text) (with_match b.rule b.alternative (record { index = start; place = place }) (take n (drop start text)) more)
-  behind start n symbol skip place more b l =
-      let long : length (take n (drop start text)) ≡ n = length-take-le n (drop start text) b.best.matches.within in
-      a_match (record { index = start; place = place }) (drop start text) b.k b.i n b.rule b.alternative more b.best
-      (subst (λ i. Lexes rules (record { index = start + i; place = place_after place (take n (drop start text)) }) (drop n (drop start text)) more) (sym long)
-      (subst (λ w. Lexes rules (record { index = start + n; place = place_after place (take n (drop start text)) }) w more) (sym (drop-drop n start text)) l))
-
-  within_behind : (start n symbol : ℕ) (skip : Bool) → start ≤ length text → IsBestOfAll rules (drop start text) symbol n skip → start + n ≤ length text
-  within_behind start n symbol skip within b = omega (arith, b.best.matches.within, length-drop start text)
 
   -- the next token is found
-  pub reached_token : (found : List Token) (start n symbol : ℕ) (skip : Bool) (place : Place) → Reached found start place → IsBestOfAll rules (drop start text) symbol n skip → skip ≡ false → Reached (found ++ record { symbol = symbol; place = place; start = start; end = start + n } ∷ []) (start + n) (place_after place (take n (drop start text)))
-  reached_token found start n symbol skip place r b kept = record {
-    within = within_behind start n symbol skip r.within b;
-    place_is = place_behind start n place r.place_is;
-    onward = λ more l.
-        let token : Token = record { symbol = symbol; place = place; start = start; end = start + n } in
-        let w = take n (drop start text) in
-        let at : Position = record { index = start; place = place } in
-        let shown : with_match b.rule b.alternative at w more ≡ then_token (token_at b.rule.symbol at w) more = ap (λ s. cond s more (then_token (token_at b.rule.symbol at w) more)) (sym b.skip_is ∙ kept) in
-        let long : length w ≡ n = length-take-le n (drop start text) b.best.matches.within in
-        let same : token_at b.rule.symbol at w ≡ token = ap (λ i. record { symbol = b.rule.symbol; place = place; start = start; end = start + i }) long ∙ ap (λ s. record { symbol = s; place = place; start = start; end = start + n }) (sym b.symbol_is) in
-        let all : with_tokens found (with_match b.rule b.alternative at w more) ≡ with_tokens (found ++ token ∷ []) more =
-        ap (λ (m : Result (List Token) Stuck). with_tokens found m) (shown ∙ ap (λ (t : Token). then_token t more) same) ∙ with_tokens-then_token found token more in
-        subst (λ (m : Result (List Token) Stuck). Lexes rules first_position text m) all (r.onward (with_match b.rule b.alternative at w more) (behind start n symbol skip place more b l));
-  }
+  reached_token : (found : List Token) (start n symbol : ℕ) (skip : Bool) (place : Place) → Reached found start place → IsBestOfAll rules (drop start text) symbol n skip → skip ≡ false → length found < room → Reached (found ++ record { symbol = symbol; place = place; start = start; end = start + n } ∷ []) (start + n) (place_after place (take n (drop start text)))
+  reached_token found start n symbol skip place r b kept free =
+      let token : Token = record { symbol = symbol; place = place; start = start; end = start + n } in
+      let some : suc (r.left - 1) ≡ r.left = omega (arith, r.room_is) in record {
+        within = within_behind rules text start n symbol skip r.within b;
+        place_is = place_behind rules text start n place r.place_is;
+        left = r.left - 1;
+        room_is = omega (arith, r.room_is, length-append found (token ∷ []));
+        onward = λ more l.
+            let w = take n (drop start text) in
+            let at : Position = record { index = start; place = place } in
+            let long : length w ≡ n = length-take-le n (drop start text) b.best.matches.within in
+            let same : token_at b.rule.symbol at w ≡ token = ap (λ i. record { symbol = b.rule.symbol; place = place; start = start; end = start + i }) long ∙ ap (λ s. record { symbol = s; place = place; start = start; end = start + n }) (sym b.symbol_is) in
+            let all : with_tokens found (then_token (token_at b.rule.symbol at w) more) ≡ with_tokens (found ++ token ∷ []) more =
+            ap (λ (t : Token). with_tokens found (then_token t more)) same ∙ with_tokens-then_token found token more in
+            let match = a_kept_match (r.left - 1) at (drop start text) b.k b.i n b.rule b.alternative more b.best (sym b.skip_is ∙ kept) (behind rules text (r.left - 1) start n symbol skip place more b l) in
+            subst (λ (m : Result (List Token) Stuck). LexesWithin rules room first_position text m) all (r.onward (then_token (token_at b.rule.symbol at w) more) (subst (λ i. LexesWithin rules i at (drop start text) (then_token (token_at b.rule.symbol at w) more)) some match));
+      }
 
   -- a match is skipped
-  pub reached_skip : (found : List Token) (start n symbol : ℕ) (skip : Bool) (place : Place) → Reached found start place → IsBestOfAll rules (drop start text) symbol n skip → skip ≡ true → Reached found (start + n) (place_after place (take n (drop start text)))
+  reached_skip : (found : List Token) (start n symbol : ℕ) (skip : Bool) (place : Place) → Reached found start place → IsBestOfAll rules (drop start text) symbol n skip → skip ≡ true → Reached found (start + n) (place_after place (take n (drop start text)))
   reached_skip found start n symbol skip place r b is = record {
-    within = within_behind start n symbol skip r.within b;
-    place_is = place_behind start n place r.place_is;
+    within = within_behind rules text start n symbol skip r.within b;
+    place_is = place_behind rules text start n place r.place_is;
+    left = r.left;
+    room_is = r.room_is;
     onward = λ more l.
-        let w = take n (drop start text) in
         let at : Position = record { index = start; place = place } in
-        let dropped : with_match b.rule b.alternative at w more ≡ more = ap (λ s. cond s more (then_token (token_at b.rule.symbol at w) more)) (sym b.skip_is ∙ is) in
-        subst (λ (m : Result (List Token) Stuck). Lexes rules first_position text (with_tokens found m)) dropped (r.onward (with_match b.rule b.alternative at w more) (behind start n symbol skip place more b l));
+        r.onward more (a_dropped_match r.left at (drop start text) b.k b.i n b.rule b.alternative more b.best (sym b.skip_is ∙ is) (behind rules text r.left start n symbol skip place more b l));
   }
 
   -- no rule matches at the index
-  pub reached_stuck : (found : List Token) (start c : ℕ) (place : Place) (rest : List ℕ) → Reached found start place → drop start text ≡ c ∷ rest → NoMatch rules (c ∷ rest) → Lexes rules first_position text (Err (record { place = place; character = c }))
+  reached_stuck : (found : List Token) (start c : ℕ) (place : Place) (rest : List ℕ) → Reached found start place → drop start text ≡ c ∷ rest → NoMatch rules (c ∷ rest) → LexesWithin rules room first_position text (Err (no_token place c))
   reached_stuck found start c place rest r is none =
-      r.onward (Err (record { place = place; character = c })) (subst (λ w. Lexes rules (record { index = start; place = place }) w (Err (record { place = place; character = c }))) (sym is) (no_token (record { index = start; place = place }) c rest none))
+      r.onward (Err (no_token place c)) (subst (λ w. LexesWithin rules r.left (record { index = start; place = place }) w (Err (no_token place c))) (sym is) (no_match r.left (record { index = start; place = place }) c rest none))
+
+  -- a token begins at the index for which there is no room
+  pub reached_full : (found : List Token) (start n symbol : ℕ) (skip : Bool) (place : Place) → Reached found start place → IsBestOfAll rules (drop start text) symbol n skip → skip ≡ false → room ≤ length found → LexesWithin rules room first_position text (Err (too_many place))
+  reached_full found start n symbol skip place r b kept full =
+      let at : Position = record { index = start; place = place } in
+      let none : zero ≡ r.left = omega (arith, r.room_is) in
+      r.onward (Err (too_many place)) (subst (λ i. LexesWithin rules i at (drop start text) (Err (too_many place))) none (one_too_many at (drop start text) b.k b.i n b.rule b.alternative b.best (sym b.skip_is ∙ kept)))
 
   -- the end is reached: the tokens are found, and the place is that of the end
-  pub reached_end : (found : List Token) (start : ℕ) (place : Place) → Reached found start place → length text ≤ start → Lexes rules first_position text (Ok found) × (closing_at (record { index = start; place = place }) ≡ closing_tokens text)
+  pub reached_end : (found : List Token) (start : ℕ) (place : Place) → Reached found start place → length text ≤ start → LexesWithin rules room first_position text (Ok found) × (closing_at (record { index = start; place = place }) ≡ closing_tokens text)
   reached_end found start place r past =
       let last : start ≡ 0 + length text = omega (arith, r.within) in
       let over : start ≡ length text = omega (arith, r.within) in
       let whole : place ≡ place_after first_place text = r.place_is ∙ ap (λ w. place_after first_place w) (take_all start text past) in
-      let l = r.onward (Ok []) (subst (λ w. Lexes rules (record { index = start; place = place }) w (Ok [])) (sym (drop_all start text past)) (at_end (record { index = start; place = place }))) in (
-        subst (λ (tokens : List Token). Lexes rules first_position text (Ok tokens)) (append-nil found) l,
+      let l = r.onward (Ok []) (subst (λ w. LexesWithin rules r.left (record { index = start; place = place }) w (Ok [])) (sym (drop_all start text past)) (at_end r.left (record { index = start; place = place }))) in (
+        subst (λ (tokens : List Token). LexesWithin rules room first_position text (Ok tokens)) (append-nil found) l,
         ap (λ i. closing_at (record { index = i; place = place })) last ∙ ap (λ (p : Place). closing_at (record { index = 0 + length text; place = p })) whole,
       )
 
   -- the next token is found, as the code has it
-  pub next_token : (found found' : List Token) (start n symbol : ℕ) (skip : Bool) (place place' : Place) → Reached found start place → IsBestOfAll rules (drop start text) symbol n skip → skip ≡ false →
+  pub next_token : (found found' : List Token) (start n symbol : ℕ) (skip : Bool) (place place' : Place) → Reached found start place → IsBestOfAll rules (drop start text) symbol n skip → skip ≡ false → length found < room →
       found' ≡ found ++ record { symbol = symbol; place = place; start = start; end = start + n } ∷ [] → place' ≡ place_after place (take n (take (length text - start) (drop start text))) → Reached found' (start + n) place'
-  next_token found found' start n symbol skip place place' r best kept found_is place_is =
+  next_token found found' start n symbol skip place place' r best kept free found_is place_is =
       subst (λ (ts : List Token). Reached ts (start + n) place') (sym found_is)
       (subst (λ (p : Place). Reached (found ++ record { symbol = symbol; place = place; start = start; end = start + n } ∷ []) (start + n) p) (sym (place_is ∙ ap (λ w. place_after place (take n w)) (take_rest text start)))
-      (reached_token found start n symbol skip place r best kept))
+      (reached_token found start n symbol skip place r best kept free))
 
   -- a match is skipped, as the code has it
   pub next_skip : (found found' : List Token) (start n symbol : ℕ) (skip : Bool) (place place' : Place) → Reached found start place → IsBestOfAll rules (drop start text) symbol n skip → skip ≡ true →
@@ -154,7 +170,7 @@ module _ (rules : List TokenRule) (text : List ℕ) where
 
   -- no rule matches at the index, as the code has it
   pub stuck_at : (found : List Token) (start x : ℕ) (place : Place) → Reached found start place → start < length text → x ≡ get_or (take (length text - start) (drop start text)) 0 x →
-      NoMatch rules (take (length text - start) (drop start text)) → Lexes rules first_position text (Err (record { place = place; character = x }))
+      NoMatch rules (take (length text - start) (drop start text)) → LexesWithin rules room first_position text (Err (no_token place x))
   stuck_at found start x place r less is none =
       let split : drop start text ≡ get_or text start x ∷ drop (start + 1) text = drop_more text start x less in
       let same : x ≡ get_or text start x = is ∙ ap (λ (w : List ℕ). get_or w 0 x) (take_rest text start) ∙ ap (λ (w : List ℕ). get_or w 0 x) split in
@@ -163,7 +179,7 @@ module _ (rules : List TokenRule) (text : List ℕ) where
 
   -- a match ends within the text
   pub ends_within : (found : List Token) (start n symbol : ℕ) (skip : Bool) (place : Place) → Reached found start place → IsBestOfAll rules (drop start text) symbol n skip → start + n ≤ length text
-  ends_within found start n symbol skip place r best = within_behind start n symbol skip r.within best
+  ends_within found start n symbol skip place r best = within_behind rules text start n symbol skip r.within best
 
 -- a front part of so many items has no more
 pub take_short : (n : ℕ) (xs : List ℕ) → length (take n xs) ≤ n

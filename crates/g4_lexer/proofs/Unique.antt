@@ -1,11 +1,13 @@
 -- A text has at most one lexing.
-use Rattle.std.proofs.Common.{◌≡◌, ℕ, List, [], ◌∷◌, take, drop, Some, Ok, Err, Result, refl, sym, ap, ◌∙◌, subst, arith}
+use Rattle.std.proofs.Common.{◌≡◌, ◌≢◌, ℕ, zero, suc, true, false, true≢false, List, [], ◌∷◌, ◌++◌, take, drop, Some, Ok, Err, Result, refl, sym, ap, ◌∙◌, subst, arith}
 use Rattle.std.specs.List.{slice_get}
 use Rattle.g4_grammar.specs.declared.source.LexerAlternative.{LexerAlternative}
 use Rattle.g4_grammar.specs.declared.numbered.TokenRule.{TokenRule}
 use Rattle.g4_net.specs.declared.token.Token.{Token}
 use Rattle.g4_lexer.specs.Matching.{MatchesFront, IsAlternative, IsBest, NoMatch}
-use Rattle.g4_lexer.specs.Lexing.{Lexes, at_end, a_match, no_token, Position, Stuck, position_after, with_match}
+use Rattle.g4_lexer.specs.declared.lexer.LexFault.{LexFault}
+use Rattle.g4_lexer.specs.declared.lexer.LexFault.TheVariants.{NoToken, Tokens, NoMemory}
+use Rattle.g4_lexer.specs.Lexing.{LexesWithin, at_end, a_kept_match, a_dropped_match, one_too_many, no_match, Position, Stuck, no_token, too_many, position_after, token_at, then_token, closing_tokens, first_position, IsLexingWithin}
 
 -- two answers of one look-up are one
 pub same_answer : {X : Type 0} (xs : List X) (k : ℕ) (x y : X) → slice_get xs k ≡ Some x → slice_get xs k ≡ Some y → x ≡ y
@@ -43,35 +45,82 @@ no_best rules text k i n rule alternative none b = none k i n rule alternative b
 none_of_empty : (rules : List TokenRule) (k i n : ℕ) (rule : TokenRule) (alternative : LexerAlternative) → IsBest rules [] k i rule alternative n → ⊥
 none_of_empty rules k i n rule alternative b = omega (arith, b.matches.some, b.matches.within)
 
+-- a best match is kept or dropped, not both
+not_both : (rules : List TokenRule) (text : List ℕ) (j h k i n m : ℕ) (r s : TokenRule) (a b : LexerAlternative) → IsBest rules text j h r a n → IsBest rules text k i s b m → a.skip ≡ false → b.skip ≡ true → ⊥
+not_both rules text j h k i n m r s a b x y kept dropped = absurd (true≢false (sym dropped ∙ ap (λ (c : LexerAlternative). c.skip) (sym (one_best rules text j h k i n m r s a b x y).alternative) ∙ kept))
+
 module _ (rules : List TokenRule) where
   -- the empty text has no tokens
-  only_end : (p : Position) (b : Result (List Token) Stuck) → Lexes rules p [] b → Ok [] ≡ b
-  only_end p b (at_end q) = refl
-  only_end p b (a_match q text k i n rule alternative more best rest) = absurd (none_of_empty rules k i n rule alternative best)
+  only_end : (room : ℕ) (p : Position) (b : Result (List Token) Stuck) → LexesWithin rules room p [] b → Ok [] ≡ b
+  only_end room p b (at_end r q) = refl
+  only_end room p b (a_kept_match r q text k i n rule alternative more best kept rest) = absurd (none_of_empty rules k i n rule alternative best)
+  only_end room p b (a_dropped_match r q text k i n rule alternative more best dropped rest) = absurd (none_of_empty rules k i n rule alternative best)
+  only_end room p b (one_too_many q text k i n rule alternative best kept) = absurd (none_of_empty rules k i n rule alternative best)
 
-  -- where a match is the best, a lexing goes on behind it
-  only_match : (p : Position) (text : List ℕ) (k i n : ℕ) (rule : TokenRule) (alternative : LexerAlternative) (b : Result (List Token) Stuck) → IsBest rules text k i rule alternative n → Lexes rules p text b →
-      (more : Result (List Token) Stuck) × Lexes rules (position_after p (take n text)) (drop n text) more × (with_match rule alternative p (take n text) more ≡ b)
-  only_match p text k i n rule alternative b best (at_end q) = absurd (none_of_empty rules k i n rule alternative best)
-  only_match p text k i n rule alternative b best (a_match q t j h m other choice more best' rest) =
+  -- where the best match is kept and there is room for it, a lexing goes on behind it
+  only_kept : (room : ℕ) (p : Position) (text : List ℕ) (k i n : ℕ) (rule : TokenRule) (alternative : LexerAlternative) (b : Result (List Token) Stuck) → IsBest rules text k i rule alternative n → alternative.skip ≡ false → LexesWithin rules (suc room) p text b →
+      (more : Result (List Token) Stuck) × LexesWithin rules room (position_after p (take n text)) (drop n text) more × (then_token (token_at rule.symbol p (take n text)) more ≡ b)
+  only_kept room p text k i n rule alternative b best kept (at_end r q) = absurd (none_of_empty rules k i n rule alternative best)
+  only_kept room p text k i n rule alternative b best kept (a_kept_match r q t j h m other choice more best' kept' rest) =
       let same = one_best rules t j h k i m n other rule choice alternative best' best in (
         more,
-        subst (λ l. Lexes rules (position_after q (take l t)) (drop l t) more) same.length rest,
-        ap (λ (r : TokenRule). with_match r alternative q (take n t) more) (sym same.rule)
-            ∙ ap (λ (a : LexerAlternative). with_match other a q (take n t) more) (sym same.alternative)
-            ∙ ap (λ l. with_match other choice q (take l t) more) (sym same.length),
+        subst (λ l. LexesWithin rules r (position_after q (take l t)) (drop l t) more) same.length rest,
+        ap (λ (s : TokenRule). then_token (token_at s.symbol q (take n t)) more) (sym same.rule) ∙ ap (λ l. then_token (token_at other.symbol q (take l t)) more) (sym same.length),
       )
-  only_match p text k i n rule alternative b best (no_token q c t none) = absurd (no_best rules (c ∷ t) k i n rule alternative none best)
+  only_kept room p text k i n rule alternative b best kept (a_dropped_match r q t j h m other choice more best' dropped rest) = absurd (not_both rules t k i j h n m rule other alternative choice best best' kept dropped)
+  only_kept room p text k i n rule alternative b best kept (no_match r q c t none) = absurd (no_best rules (c ∷ t) k i n rule alternative none best)
+
+  -- where the best match is dropped, a lexing goes on behind it
+  only_dropped : (room : ℕ) (p : Position) (text : List ℕ) (k i n : ℕ) (rule : TokenRule) (alternative : LexerAlternative) (b : Result (List Token) Stuck) → IsBest rules text k i rule alternative n → alternative.skip ≡ true → LexesWithin rules room p text b →
+      LexesWithin rules room (position_after p (take n text)) (drop n text) b
+  only_dropped room p text k i n rule alternative b best dropped (at_end r q) = absurd (none_of_empty rules k i n rule alternative best)
+  only_dropped room p text k i n rule alternative b best dropped (a_kept_match r q t j h m other choice more best' kept rest) = absurd (not_both rules t j h k i m n other rule choice alternative best' best kept dropped)
+  only_dropped room p text k i n rule alternative b best dropped (a_dropped_match r q t j h m other choice more best' dropped' rest) =
+      subst (λ l. LexesWithin rules r (position_after q (take l t)) (drop l t) more) (one_best rules t j h k i m n other rule choice alternative best' best).length rest
+  only_dropped room p text k i n rule alternative b best dropped (one_too_many q t j h m other choice best' kept) = absurd (not_both rules t j h k i m n other rule choice alternative best' best kept dropped)
+  only_dropped room p text k i n rule alternative b best dropped (no_match r q c t none) = absurd (no_best rules (c ∷ t) k i n rule alternative none best)
+
+  -- where the best match is kept and there is no room for it, a lexing tells its place
+  only_too_many : (p : Position) (text : List ℕ) (k i n : ℕ) (rule : TokenRule) (alternative : LexerAlternative) (b : Result (List Token) Stuck) → IsBest rules text k i rule alternative n → alternative.skip ≡ false → LexesWithin rules zero p text b → Err (too_many p.place) ≡ b
+  only_too_many p text k i n rule alternative b best kept (at_end r q) = absurd (none_of_empty rules k i n rule alternative best)
+  only_too_many p text k i n rule alternative b best kept (a_dropped_match r q t j h m other choice more best' dropped rest) = absurd (not_both rules t k i j h n m rule other alternative choice best best' kept dropped)
+  only_too_many p text k i n rule alternative b best kept (one_too_many q t j h m other choice best' kept') = refl
+  only_too_many p text k i n rule alternative b best kept (no_match r q c t none) = absurd (no_best rules (c ∷ t) k i n rule alternative none best)
 
   -- where no rule matches, a lexing is stuck
-  only_stuck : (p : Position) (c : ℕ) (text : List ℕ) (b : Result (List Token) Stuck) → NoMatch rules (c ∷ text) → Lexes rules p (c ∷ text) b → Err (record { place = p.place; character = c }) ≡ b
-  only_stuck p c text b none (a_match q t k i n rule alternative more best rest) = absurd (no_best rules (c ∷ text) k i n rule alternative none best)
-  only_stuck p c text b none (no_token q d t none') = refl
+  only_stuck : (room : ℕ) (p : Position) (c : ℕ) (text : List ℕ) (b : Result (List Token) Stuck) → NoMatch rules (c ∷ text) → LexesWithin rules room p (c ∷ text) b → Err (no_token p.place c) ≡ b
+  only_stuck room p c text b none (a_kept_match r q t k i n rule alternative more best kept rest) = absurd (no_best rules (c ∷ text) k i n rule alternative none best)
+  only_stuck room p c text b none (a_dropped_match r q t k i n rule alternative more best dropped rest) = absurd (no_best rules (c ∷ text) k i n rule alternative none best)
+  only_stuck room p c text b none (one_too_many q t k i n rule alternative best kept) = absurd (no_best rules (c ∷ text) k i n rule alternative none best)
+  only_stuck room p c text b none (no_match r q d t none') = refl
 
   -- a text has at most one lexing from a position
-  pub one_lexing : (p : Position) (text : List ℕ) (a b : Result (List Token) Stuck) → Lexes rules p text a → Lexes rules p text b → a ≡ b
-  one_lexing p text a b (at_end q) other = only_end q b other
-  one_lexing p text a b (a_match q t k i n rule alternative more best rest) other =
-      let next = only_match q t k i n rule alternative b best other in
-      ap (λ (m : Result (List Token) Stuck). with_match rule alternative q (take n t) m) (one_lexing (position_after q (take n t)) (drop n t) more next.0 rest next.1) ∙ next.2
-  one_lexing p text a b (no_token q c t none) other = only_stuck q c t b none other
+  pub one_lexing : (room : ℕ) (p : Position) (text : List ℕ) (a b : Result (List Token) Stuck) → LexesWithin rules room p text a → LexesWithin rules room p text b → a ≡ b
+  one_lexing room p text a b (at_end r q) other = only_end r q b other
+  one_lexing room p text a b (a_kept_match r q t k i n rule alternative more best kept rest) other =
+      let next = only_kept r q t k i n rule alternative b best kept other in
+      ap (λ (m : Result (List Token) Stuck). then_token (token_at rule.symbol q (take n t)) m) (one_lexing r (position_after q (take n t)) (drop n t) more next.0 rest next.1) ∙ next.2
+  one_lexing room p text a b (a_dropped_match r q t k i n rule alternative more best dropped rest) other =
+      one_lexing r (position_after q (take n t)) (drop n t) a b rest (only_dropped r q t k i n rule alternative b best dropped other)
+  one_lexing room p text a b (one_too_many q t k i n rule alternative best kept) other = only_too_many q t k i n rule alternative b best kept other
+  one_lexing room p text a b (no_match r q c t none) other = only_stuck r q c t b none other
+
+  -- what a lexing makes of the text is its answer
+  abbrev answer_of : List ℕ → Result (List Token) Stuck → Result (List Token) LexFault
+  answer_of text (Ok tokens) = Ok (tokens ++ closing_tokens text)
+  answer_of text (Err (no_token place character)) = Err (NoToken place character)
+  answer_of text (Err (too_many place)) = Err (Tokens place)
+
+  -- an answer other than that memory ran out is that of a lexing
+  answered : (room : ℕ) (text : List ℕ) (a : Result (List Token) LexFault) → IsLexingWithin room rules text a → a ≢ Err NoMemory → (l : Result (List Token) Stuck) × LexesWithin rules room first_position text l × (a ≡ answer_of text l)
+  answered room text (Ok found) is other = (Ok is.0, is.1, ap Ok is.2)
+  answered room text (Err (NoToken place character)) is other = (Err (no_token place character), is, refl)
+  answered room text (Err (Tokens place)) is other = (Err (too_many place), is, refl)
+  answered room text (Err NoMemory) is other = absurd (other refl)
+
+  -- a text has at most one answer, unless memory runs out
+  pub one_answer : (room : ℕ) (text : List ℕ) (a b : Result (List Token) LexFault) → IsLexingWithin room rules text a → IsLexingWithin room rules text b → a ≢ Err NoMemory → b ≢ Err NoMemory → a ≡ b
+  one_answer room text a b is is' some some' =
+      let l = answered room text a is some in
+      let m = answered room text b is' some' in
+      l.2 ∙ ap (λ (r : Result (List Token) Stuck). answer_of text r) (one_lexing room first_position text l.0 m.0 l.1 m.1) ∙ sym m.2

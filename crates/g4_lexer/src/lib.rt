@@ -11,5 +11,5 @@ mod lexer;
 mod tests;
 mod turn;
 
-pub use law::one_lexing;
-pub use lexer::{LexFault, tokens};
+pub use law::{one_lexing, one_lexing_within};
+pub use lexer::{LexFault, MOST_TOKENS, tokens};

@@ -1,9 +1,11 @@
 // Texts and their tokens by rules with nested blocks, worked out by hand.
+use crate::lexer::tokens_within;
 use crate::{LexFault, tokens};
 use g4_base::{Sequence, Text};
 use g4_grammar::{
     Alternative, Atom, Element, Elements, LexerAlternative, Literal, Range, Repeat, TokenRule,
 };
+use g4_net::Tokens;
 use std::alloc::{AllocError, Global};
 use std::fmt::Write;
 use std::test::Fail;
@@ -126,14 +128,10 @@ fn rules(alloc: Global) -> Result<Vec<TokenRule>, AllocError> {
     Ok(rules)
 }
 
-/// The tokens of the text, or the character at which none matches.
-fn table(alloc: Global, rules: &[TokenRule], text: &str) -> Result<String, AllocError> {
-    let characters: Vec<char> = text.chars().collect(alloc)?;
+/// The tokens, or the fault.
+fn written(alloc: Global, lexed: &Result<Tokens, LexFault>) -> Result<String, AllocError> {
     let mut out = String::new(alloc);
-    if characters.len() > 16_777_216 || !rules.iter().all(|rule| rule.symbol <= 4096) {
-        return Ok(out);
-    }
-    match tokens(alloc, rules, &characters) {
+    match lexed {
         Ok(found) => {
             for token in found.as_slice() {
                 let line = token.place.line;
@@ -147,12 +145,35 @@ fn table(alloc: Global, rules: &[TokenRule], text: &str) -> Result<String, Alloc
         Err(LexFault::NoToken(place, character)) => {
             let line = place.line;
             let column = place.column;
-            let code = character as u32;
+            let code = *character as u32;
             write!(out, "fault {line}:{column} {code}")?;
+        }
+        Err(LexFault::Tokens(place)) => {
+            let line = place.line;
+            let column = place.column;
+            write!(out, "past {line}:{column}")?;
         }
         Err(LexFault::NoMemory) => out.push_str("no memory")?,
     }
     Ok(out)
+}
+
+/// What the text is lexed to, with as much room as a file has, or with so much.
+fn lexed(
+    alloc: Global,
+    rules: &[TokenRule],
+    text: &str,
+    room: Option<usize>,
+) -> Result<String, AllocError> {
+    let characters: Vec<char> = text.chars().collect(alloc)?;
+    if characters.len() > 16_777_216 || !rules.iter().all(|rule| rule.symbol <= 4096) {
+        return Ok(String::new(alloc));
+    }
+    let found = match room {
+        Some(room) => tokens_within(alloc, rules, &characters, room),
+        None => tokens(alloc, rules, &characters),
+    };
+    written(alloc, &found)
 }
 
 const TABLE: &[(&str, &str)] = &[
@@ -172,11 +193,44 @@ const TABLE: &[(&str, &str)] = &[
     ("  12 ", "fault 1:2 49"),
 ];
 
+/// Texts, how many tokens may be made of them, and what they are lexed to.
+const ROOMS: &[(&str, usize, &str)] = &[
+    (
+        "if 12. ab",
+        3,
+        "1 1:0 0..2; 3 1:3 3..6; 2 1:7 7..9; 4097 1:9 9..9; 4097 1:9 9..9; 4097 1:9 9..9; 4097 1:9 9..9; 4098 1:9 9..9; ",
+    ),
+    ("if 12. ab", 2, "past 1:7"),
+    (
+        "x if x  x",
+        1,
+        "1 1:2 2..4; 4097 1:9 9..9; 4097 1:9 9..9; 4097 1:9 9..9; 4097 1:9 9..9; 4098 1:9 9..9; ",
+    ),
+    (
+        " ",
+        0,
+        "4097 1:1 1..1; 4097 1:1 1..1; 4097 1:1 1..1; 4097 1:1 1..1; 4098 1:1 1..1; ",
+    ),
+    ("if\nab", 2, "past 2:0"),
+    ("if < ab", 1, "fault 1:3 60"),
+    ("if ab <", 1, "past 1:3"),
+];
+
 #[test]
 fn lexes_texts(rt: HostRuntime) -> Result<(), Fail> {
     let rules = rules(rt.alloc())?;
     for (text, wanted) in TABLE {
-        let found = table(rt.alloc(), rules.as_slice(), text)?;
+        let found = lexed(rt.alloc(), rules.as_slice(), text, None)?;
+        assert_eq!(rt; found.as_str(), *wanted, "at {text}");
+    }
+    Ok(())
+}
+
+#[test]
+fn makes_so_many_tokens(rt: HostRuntime) -> Result<(), Fail> {
+    let rules = rules(rt.alloc())?;
+    for (text, room, wanted) in ROOMS {
+        let found = lexed(rt.alloc(), rules.as_slice(), text, Some(*room))?;
         assert_eq!(rt; found.as_str(), *wanted, "at {text}");
     }
     Ok(())
