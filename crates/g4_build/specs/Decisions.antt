@@ -1,4 +1,5 @@
--- The decisions that the table of forms makes, and how many alternatives they have, leave counted.
+-- The decisions that the table of forms makes of a grammar's rules, and how many alternatives they have, leave counted.
+-- That of the added rule has two.
 use Rattle.std.specs.Prelude.{◌≡◌, ◌≤◌, ◌<◌, ◌⊎◌, ℕ, ◌+◌, List, [], ◌∷◌}
 use Rattle.g4_grammar.specs.Elements.{Element, atom, call, block, optional, star, plus, Elements, empty, then, Alternatives, none, or}
 use Rattle.g4_grammar.specs.Numbering.{alternatives_of_rule}

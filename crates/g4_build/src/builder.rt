@@ -58,7 +58,8 @@ pub fn fits(rules: &[NumberedRule]) -> bool
     past_rules(MOST_STATES - 7 - 2 * rules.len(), rules).is_some()
 }
 
-/// The network of a numbered grammar whose added rule calls the rule of this name.
+/// The network of a numbered grammar whose added rule calls the rule of this name. Of the faults that a grammar has, the
+/// answer is the first in their order.
 pub fn build(alloc: Global, grammar: &Numbered, start: &str) -> Result<Network, BuildFault>
     requires named { SpeakOfNamed grammar.now.rules }
     requires full { NumberedHaveAlternatives grammar.now.rules }
