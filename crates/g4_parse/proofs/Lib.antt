@@ -1,7 +1,7 @@
 mod Flat
 mod Measure
 mod OneChoice
-mod OneEnding
+pub mod OneEnding
 mod Onward
 mod Stages
 mod Turns

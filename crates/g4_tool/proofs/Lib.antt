@@ -1,6 +1,11 @@
 mod Fetched
 mod Lines
 mod Lists
+mod Meanings
+mod OneLine
+mod OnePrepared
+mod OneReport
+mod OneStage
 mod Prepared
 mod Reports
 mod Written

@@ -3,13 +3,12 @@ use Rattle.std.proofs.Common.{◌≡◌, ◌<◌, ◌≤◌, ℕ, List, [], leng
 use Rattle.std.proofs.lemmas.List.{get_or-map}
 use Rattle.g4_ports.specs.Ports.{limit, IsFileOf}
 use Rattle.g4_ports.specs.declared.ports.Got.{Got}
-use Rattle.g4_grammar.specs.declared.numbered.Numbered.{Numbered}
-use Rattle.g4_net.specs.declared.network.Network.{Network}
 use Rattle.g4_tool.specs.Words.{Asked, command_of}
+use Rattle.g4_tool.specs.declared.prepare.Interpreter.{Interpreter}
 use Rattle.g4_tool.specs.declared.prepare.GrammarFault.{GrammarFault}
 use Rattle.g4_tool.specs.Inputs.{Files, inputs_of}
 use Rattle.g4_tool.specs.Outcomes.{AreFileLines}
-use Rattle.g4_tool.specs.Preparing.{HasFault}
+use Rattle.g4_tool.specs.Preparing.{IsPrepared}
 use Rattle.g4_tool.specs.Texts.{absent_line, large_line, usage_line}
 use Rattle.g4_tool.specs.Report.{one_line, whole_report, fault_line, IsFilesReport, IsGrammarReport, IsCommandReport, IsReport, no_command, file_absent, files_parsed, refused, grammar_absent, grammar_large, grammar_fetched}
 use Rattle.g4_tool.specs.declared.inputs.Input.{Input}
@@ -18,11 +17,11 @@ use Rattle.g4_tool.specs.declared.report.Report.{Report}
 use Rattle.g4_tool.specs.declared.report.Status.TheVariants as statuses
 
 -- every file was fetched, and has its line
-pub parsed_report : (files : Files) (names : List (List ℕ)) (grammar : Numbered) (net : Network) (inputs slice : List Input) (lines : List Line) (report : Report) →
-    report ≡ whole_report lines → slice ≡ inputs → inputs_of files names ≡ Ok inputs → AreFileLines grammar net names slice lines → IsFilesReport files names grammar net report
-parsed_report files names grammar net inputs slice lines report report_is slice_is fetched are =
-    subst (λ (r : Report). IsFilesReport files names grammar net r) (sym report_is)
-    (files_parsed inputs lines fetched (subst (λ (is : List Input). AreFileLines grammar net names is lines) slice_is are))
+pub parsed_report : (files : Files) (names : List (List ℕ)) (interpreter : Interpreter) (inputs slice : List Input) (lines : List Line) (report : Report) →
+    report ≡ whole_report lines → slice ≡ inputs → inputs_of files names ≡ Ok inputs → AreFileLines interpreter names slice lines → IsFilesReport files names interpreter report
+parsed_report files names interpreter inputs slice lines report report_is slice_is fetched are =
+    subst (λ (r : Report). IsFilesReport files names interpreter r) (sym report_is)
+    (files_parsed inputs lines fetched (subst (λ (is : List Input). AreFileLines interpreter names is lines) slice_is are))
 
 -- the name at a place
 pub name_at : (names : List (String Global)) (place : ℕ) (s : String Global) (name : List ℕ) → place < length names → s ≡ get_or names place s → name ≡ string_bytes {Z = Global} s →
@@ -31,16 +30,16 @@ name_at names place s name within s_is name_is =
     get_or-map (string_bytes {Z = Global}) names place s [] within ∙ ap (λ x. string_bytes {Z = Global} x) (sym s_is) ∙ sym name_is
 
 -- the first absent file
-pub absent_report : (files : Files) (names : List (String Global)) (grammar : Numbered) (net : Network) (place : ℕ) (s : String Global) (name : List ℕ) (line : Line) (report : Report) →
+pub absent_report : (files : Files) (names : List (String Global)) (interpreter : Interpreter) (place : ℕ) (s : String Global) (name : List ℕ) (line : Line) (report : Report) →
     place < length names → s ≡ get_or names place s → name ≡ string_bytes {Z = Global} s → line ≡ absent_line name → report ≡ one_line line statuses.Unread →
-    inputs_of files (map (string_bytes {Z = Global}) names) ≡ Err (get_or (map (string_bytes {Z = Global}) names) place []) → IsFilesReport files (map (string_bytes {Z = Global}) names) grammar net report
-absent_report files names grammar net place s name line report within s_is name_is line_is report_is fetched =
-    subst (λ (r : Report). IsFilesReport files (map (string_bytes {Z = Global}) names) grammar net r) (sym (report_is ∙ ap (λ l. one_line l statuses.Unread) line_is))
+    inputs_of files (map (string_bytes {Z = Global}) names) ≡ Err (get_or (map (string_bytes {Z = Global}) names) place []) → IsFilesReport files (map (string_bytes {Z = Global}) names) interpreter report
+absent_report files names interpreter place s name line report within s_is name_is line_is report_is fetched =
+    subst (λ (r : Report). IsFilesReport files (map (string_bytes {Z = Global}) names) interpreter r) (sym (report_is ∙ ap (λ l. one_line l statuses.Unread) line_is))
     (file_absent name (fetched ∙ ap (λ n. Err n) (name_at names place s name within s_is name_is)))
 
 -- a grammar with a fault
 pub fault_report : (files : Files) (asked : Asked) (bytes : List ℕ) (fault : GrammarFault) (report : Report) →
-    report ≡ one_line (fault_line asked.grammar asked.start fault) statuses.GrammarRefused → HasFault bytes asked.start fault → IsGrammarReport files asked bytes report
+    report ≡ one_line (fault_line asked.grammar asked.start fault) statuses.GrammarRefused → IsPrepared bytes asked.start (Err fault) → IsGrammarReport files asked bytes report
 fault_report files asked bytes fault report report_is has = subst (λ (r : Report). IsGrammarReport files asked bytes r) (sym report_is) (refused fault has)
 
 -- what a told file answers

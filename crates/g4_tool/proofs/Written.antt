@@ -4,7 +4,7 @@ use Rattle.std.proofs.lemmas.List.{append_assoc, append-nil, take-append-drop, t
 use Rattle.g4_ports.specs.Ports.{with_more, TakesFront}
 use Rattle.g4_tool.specs.declared.write.Line.{Line}
 use Rattle.g4_tool.specs.declared.write.Line.TheVariants.{ToOut, ToErr}
-use Rattle.g4_tool.specs.Writing.{out_of, err_of, Wrote, WroteFront}
+use Rattle.g4_tool.specs.Writing.{out_of, err_of, Wrote, WrotePiece, WroteFront}
 
 pub out_of-append : (xs ys : List Line) → out_of (xs ++ ys) ≡ out_of xs ++ out_of ys
 out_of-append [] ys = refl
@@ -29,18 +29,6 @@ then_more : (o m n : Option (List ℕ)) (xs ys zs : List ℕ) → zs ≡ xs ++ y
 then_more o m n xs ys zs all first second =
     second ∙ ap (λ t. with_more t ys) first ∙ with_more-append o xs ys ∙ ap (λ t. with_more o t) (sym all)
 
-then_front : (o m n : Option (List ℕ)) (xs ys zs : List ℕ) → zs ≡ xs ++ ys → m ≡ with_more o xs → TakesFront ys m n → TakesFront zs o n
-then_front o m n xs ys zs all first (front, rest, text, taken) = (
-  xs ++ front,
-  rest,
-  all ∙ ap (λ t. xs ++ t) text ∙ sym (append_assoc xs front rest),
-  then_more o m n xs front (xs ++ front) refl first taken,
-)
-
-front_only : (o n : Option (List ℕ)) (xs ys zs : List ℕ) → zs ≡ xs ++ ys → TakesFront xs o n → TakesFront zs o n
-front_only o n xs ys zs all (front, rest, text, taken) =
-    (front, rest ++ ys, all ∙ ap (λ t. t ++ ys) text ∙ append_assoc front rest ys, taken)
-
 pub wrote_nothing : (o e : Option (List ℕ)) → Wrote [] o o e e
 wrote_nothing o e = record { out = with_more-none o; err = with_more-none e }
 
@@ -50,52 +38,90 @@ wrote_to_out text o o' e taken = record { out = taken ∙ ap (λ t. with_more o 
 pub wrote_to_err : (text : List ℕ) (o e e' : Option (List ℕ)) → e' ≡ with_more e text → Wrote (ToErr text ∷ []) o o e e'
 wrote_to_err text o e e' taken = record { err = taken ∙ ap (λ t. with_more e t) (sym (append-nil text)); out = with_more-none o }
 
--- nothing taken is a front
-pub front_nothing : (lines : List Line) (o e : Option (List ℕ)) → WroteFront lines o o e e
-front_nothing lines o e = record { out = ([], out_of lines, refl, with_more-none o); err = ([], err_of lines, refl, with_more-none e) }
-
-pub front_to_out : (text : List ℕ) (o o' e : Option (List ℕ)) → TakesFront text o o' → WroteFront (ToOut text ∷ []) o o' e e
-front_to_out text o o' e taken = record { out = front_only o o' text [] (text ++ []) refl taken; err = ([], [], refl, with_more-none e) }
-
-pub front_to_err : (text : List ℕ) (o e e' : Option (List ℕ)) → TakesFront text e e' → WroteFront (ToErr text ∷ []) o o e e'
-front_to_err text o e e' taken = record { err = front_only e e' text [] (text ++ []) refl taken; out = ([], [], refl, with_more-none o) }
-
 pub wrote_then : (xs ys : List Line) (o o' o'' e e' e'' : Option (List ℕ)) → Wrote xs o o' e e' → Wrote ys o' o'' e' e'' → Wrote (xs ++ ys) o o'' e e''
 wrote_then xs ys o o' o'' e e' e'' first second = record {
   out = then_more o o' o'' (out_of xs) (out_of ys) _ (out_of-append xs ys) first.out second.out;
   err = then_more e e' e'' (err_of xs) (err_of ys) _ (err_of-append xs ys) first.err second.err;
 }
 
-pub wrote_then_front : (xs ys : List Line) (o o' o'' e e' e'' : Option (List ℕ)) → Wrote xs o o' e e' → WroteFront ys o' o'' e' e'' → WroteFront (xs ++ ys) o o'' e e''
-wrote_then_front xs ys o o' o'' e e' e'' first second = record {
-  out = then_front o o' o'' (out_of xs) (out_of ys) _ (out_of-append xs ys) first.out second.out;
-  err = then_front e e' e'' (err_of xs) (err_of ys) _ (err_of-append xs ys) first.err second.err;
-}
+-- nothing of a line
+no_piece : (lines : List Line) (o e : Option (List ℕ)) → WrotePiece lines o o e e
+no_piece [] o e = (refl, refl)
+no_piece ((ToOut text) ∷ more) o e = (([], text, refl, with_more-none o), refl)
+no_piece ((ToErr text) ∷ more) o e = (refl, ([], text, refl, with_more-none e))
 
--- a front of the first lines is a front of all
-pub front_of_more : (xs ys : List Line) (o o' e e' : Option (List ℕ)) → WroteFront xs o o' e e' → WroteFront (xs ++ ys) o o' e e'
-front_of_more xs ys o o' e e' first = record {
-  out = front_only o o' (out_of xs) (out_of ys) _ (out_of-append xs ys) first.out;
-  err = front_only e e' (err_of xs) (err_of ys) _ (err_of-append xs ys) first.err;
-}
+-- nothing taken is a front
+pub front_nothing : (lines : List Line) (o e : Option (List ℕ)) → WroteFront lines o o e e
+front_nothing lines o e = record { whole = []; rest = lines; parts = refl; out = o; err = e; first = wrote_nothing o e; piece = no_piece lines o e }
+
+-- a front of the first line, where that goes to out
+pub front_to_out : (text : List ℕ) (o o' e : Option (List ℕ)) → TakesFront text o o' → WroteFront (ToOut text ∷ []) o o' e e
+front_to_out text o o' e taken = record { whole = []; rest = ToOut text ∷ []; parts = refl; out = o; err = e; first = wrote_nothing o e; piece = (taken, refl) }
+
+-- a front of the first line, where that goes to err
+pub front_to_err : (text : List ℕ) (o e e' : Option (List ℕ)) → TakesFront text e e' → WroteFront (ToErr text ∷ []) o o e e'
+front_to_err text o e e' taken = record { whole = []; rest = ToErr text ∷ []; parts = refl; out = o; err = e; first = wrote_nothing o e; piece = (refl, taken) }
+
+-- a line that goes to out, of which a piece was put
+pub piece_to_out : (line : Line) (text piece : List ℕ) (o o' e : Option (List ℕ)) → line ≡ ToOut text → piece ≡ text → TakesFront piece o o' → WroteFront (line ∷ []) o o' e e
+piece_to_out line text piece o o' e line_is piece_is taken =
+    subst (λ (l : Line). WroteFront (l ∷ []) o o' e e) (sym line_is) (front_to_out text o o' e (subst (λ (t : List ℕ). TakesFront t o o') piece_is taken))
+
+-- a line that goes to err, of which a piece was put
+pub piece_to_err : (line : Line) (text piece : List ℕ) (o e e' : Option (List ℕ)) → line ≡ ToErr text → piece ≡ text → TakesFront piece e e' → WroteFront (line ∷ []) o o e e'
+piece_to_err line text piece o e e' line_is piece_is taken =
+    subst (λ (l : Line). WroteFront (l ∷ []) o o e e') (sym line_is) (front_to_err text o e e' (subst (λ (t : List ℕ). TakesFront t e e') piece_is taken))
 
 -- all of it is a front of it
 pub wrote_is_front : (xs : List Line) (o o' e e' : Option (List ℕ)) → Wrote xs o o' e e' → WroteFront xs o o' e e'
-wrote_is_front xs o o' e e' all = record {
-  out = (out_of xs, [], sym (append-nil (out_of xs)), all.out);
-  err = (err_of xs, [], sym (append-nil (err_of xs)), all.err);
-}
+wrote_is_front xs o o' e e' all = record { whole = xs; rest = []; parts = sym (append-nil xs); out = o'; err = e'; first = all; piece = (refl, refl) }
+
+-- a piece of the first of these lines, more standing behind, or nothing where there is none and nothing behind was taken
+piece_of_more : (x : Line) (xs ys : List Line) (o o' e e' : Option (List ℕ)) → WrotePiece (x ∷ xs) o o' e e' → WrotePiece ((x ∷ xs) ++ ys) o o' e e'
+piece_of_more (ToOut text) xs ys o o' e e' piece = piece
+piece_of_more (ToErr text) xs ys o o' e e' piece = piece
 
 -- the lines before one, that line, and those behind it
 take_then_drop : (xs : List Line) (k : ℕ) (x : Line) → k < length xs → x ≡ get_or xs k x → xs ≡ take k xs ++ x ∷ drop (k + 1) xs
 take_then_drop xs k x within is = sym (take-append-drop k xs) ∙ ap (λ ys. take k xs ++ ys) (drop_more xs k x within ∙ ap (λ y. y ∷ drop (k + 1) xs) (sym is))
 
+-- one line is not two
+longer : (x w v : Line) (more : List Line) → x ∷ [] ≡ w ∷ v ∷ more → ⊥
+longer x w v more e = cc
+
+-- a front of one line, after all lines before it, is a front of all
+front_behind : (xs ys : List Line) (x : Line) (o o' o'' e e' e'' : Option (List ℕ)) → Wrote xs o o' e e' → WroteFront (x ∷ []) o' o'' e' e'' → WroteFront (xs ++ x ∷ ys) o o'' e e''
+front_behind xs ys x o o' o'' e e' e'' first f = by_parts f.whole f.rest f.parts f.out f.err f.first f.piece
+  where
+    by_parts : (whole rest : List Line) → x ∷ [] ≡ whole ++ rest → (m n : Option (List ℕ)) → Wrote whole o' m e' n → WrotePiece rest m o'' n e'' → WroteFront (xs ++ x ∷ ys) o o'' e e''
+    by_parts [] rest parts m n wrote piece = record {
+      whole = xs;
+      rest = x ∷ ys;
+      parts = refl;
+      out = m;
+      err = n;
+      first = subst (λ zs. Wrote zs o m e n) (append-nil xs) (wrote_then xs [] o o' m e e' n first wrote);
+      piece = piece_of_more x [] ys m o'' n e'' (subst (λ zs. WrotePiece zs m o'' n e'') (sym parts) piece);
+    }
+    by_parts (w ∷ []) [] parts m n wrote piece = record {
+      whole = xs ++ x ∷ [];
+      rest = ys;
+      parts = sym (append_assoc xs (x ∷ []) ys);
+      out = o'';
+      err = e'';
+      first =
+          wrote_then xs (x ∷ []) o o' o'' e e' e'' first
+          (subst (λ zs. Wrote zs o' o'' e' e'') (sym parts) (subst (λ p. Wrote (w ∷ []) o' p e' e'') (sym piece.0) (subst (λ q. Wrote (w ∷ []) o' m e' q) (sym piece.1) wrote)));
+      piece = no_piece ys o'' e'';
+    }
+    by_parts (w ∷ []) (r ∷ rest) parts m n wrote piece = absurd (longer x w r rest parts)
+    by_parts (w ∷ v ∷ more) rest parts m n wrote piece = absurd (longer x w v (more ++ rest) parts)
+
 -- a front of the line here, after all lines before it, is a front of all
 pub front_with_item : (xs : List Line) (k : ℕ) (x : Line) (o o' o'' e e' e'' : Option (List ℕ)) → k < length xs → x ≡ get_or xs k x →
     Wrote (take k xs) o o' e e' → WroteFront (x ∷ []) o' o'' e' e'' → WroteFront xs o o'' e e''
 front_with_item xs k x o o' o'' e e' e'' within is first second =
-    subst (λ ys. WroteFront ys o o'' e e'') (sym (take_then_drop xs k x within is))
-    (wrote_then_front (take k xs) (x ∷ drop (k + 1) xs) o o' o'' e e' e'' first (front_of_more (x ∷ []) (drop (k + 1) xs) o' o'' e' e'' second))
+    subst (λ ys. WroteFront ys o o'' e e'') (sym (take_then_drop xs k x within is)) (front_behind (take k xs) (drop (k + 1) xs) x o o' o'' e e' e'' first second)
 
 -- the line here, after all lines before it
 pub wrote_with_item : (xs : List Line) (k : ℕ) (x : Line) (o o' o'' e e' e'' : Option (List ℕ)) → k < length xs → x ≡ get_or xs k x →

@@ -3,10 +3,12 @@ pub mod CommandView
 pub mod Decoding
 pub mod Texts
 pub mod PrepareErrors
+pub mod Stages
 pub mod Preparing
 pub mod Outcomes
 pub mod Inputs
 pub mod Report
+pub mod Causes
 pub mod Counting
 pub mod Running
 pub mod Writing

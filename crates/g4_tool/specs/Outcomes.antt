@@ -1,50 +1,74 @@
--- The outcome of a file, as its line: a function of the grammar, its network and the file's bytes alone.
-use Rattle.std.specs.Prelude.{◌≡◌, ℕ, List, [], ◌∷◌, Ok, Err}
-use Rattle.std.specs.Str.{IsValidUpTo}
-use Rattle.g4_base.specs.declared.place.Place.{Place}
-use Rattle.g4_grammar.specs.declared.numbered.Numbered.{Numbered}
-use Rattle.g4_net.specs.declared.network.Network.{Network}
+-- The outcome of a file, as its line: a function of the interpreter and the file's bytes alone.
+use Rattle.std.specs.Prelude.{◌≡◌, ℕ, List, [], ◌∷◌, Result, Ok, Err}
 use Rattle.g4_net.specs.declared.token.Token.{Token}
 use Rattle.g4_net.specs.TokenList.{word_of}
 use Rattle.g4_lexer.specs.Lexing.{IsLexing}
+use Rattle.g4_lexer.specs.declared.lexer.LexFault.{LexFault}
 use Rattle.g4_lexer.specs.declared.lexer.LexFault.TheVariants as lexing
 use Rattle.g4_parse.specs.declared.tree.Item.{Item}
+use Rattle.g4_parse.specs.declared.parser.ParseFault.{ParseFault}
 use Rattle.g4_parse.specs.declared.parser.ParseFault.TheVariants as parsing
 use Rattle.g4_parse.specs.Parsing.{IsParse}
 use Rattle.g4_parse.specs.TreeText.{tree_text}
-use Rattle.g4_tool.specs.Decoding.{AreCharacters}
-use Rattle.g4_tool.specs.Texts.{line_of_tree, mismatch_line, no_viable_line, too_deep_line, no_token_line, not_utf8_line, large_line}
+use Rattle.g4_tool.specs.Decoding.{IsDecoding}
+use Rattle.g4_tool.specs.Texts.{line_of_tree, mismatch_line, no_viable_line, too_deep_line, no_token_line, many_tokens_line, not_utf8_line, large_line}
+use Rattle.g4_tool.specs.declared.decode.DecodeError.{DecodeError}
+use Rattle.g4_tool.specs.declared.decode.DecodeError.TheVariants as decoding
 use Rattle.g4_tool.specs.declared.inputs.Input.{Input}
 use Rattle.g4_tool.specs.declared.inputs.Input.TheVariants.{Bytes, TooLarge}
+use Rattle.g4_tool.specs.declared.prepare.Interpreter.{Interpreter}
 use Rattle.g4_tool.specs.declared.write.Line.{Line}
 
--- The line of a token list: its tree's, or its fault's.
-pub data IsTokensLine (grammar : Numbered) (net : Network) (name text : List ℕ) (tokens : List Token) : Line → Type 0 where
-  a_tree : (tree : List Item) → IsParse net (word_of tokens) (Ok tree) → IsTokensLine grammar net name text tokens (line_of_tree name (tree_text grammar.rules tokens text tree))
-  a_mismatch : (at state : ℕ) → IsParse net (word_of tokens) (Err (parsing.Mismatch at state)) → IsTokensLine grammar net name text tokens (mismatch_line grammar net name text tokens at state)
-  not_viable : (at : ℕ) → IsParse net (word_of tokens) (Err (parsing.NoViable at)) → IsTokensLine grammar net name text tokens (no_viable_line name text tokens at)
-  too_deep : (at : ℕ) → IsParse net (word_of tokens) (Err (parsing.TooDeep at)) → IsTokensLine grammar net name text tokens (too_deep_line name tokens at)
+module _ (interpreter : Interpreter) (name : List ℕ) where
+  -- the line tells the run's tree or its fault
+  abbrev pub TellsParse : List ℕ → List Token → Result (List Item) ParseFault → Line → Type 0
+  TellsParse text tokens (Ok tree) line = line ≡ line_of_tree name (tree_text interpreter.grammar.rules tokens text tree)
+  TellsParse text tokens (Err (parsing.Mismatch at state)) line = line ≡ mismatch_line interpreter.grammar interpreter.net name text tokens at state
+  TellsParse text tokens (Err (parsing.NoViable at)) line = line ≡ no_viable_line name text tokens at
+  TellsParse text tokens (Err (parsing.TooDeep at)) line = line ≡ too_deep_line name tokens at
+  TellsParse text tokens (Err parsing.NoMemory) line = ⊥
 
--- The line of a file's characters: that of its tokens, or of the character at which no token begins.
-pub data IsTextLine (grammar : Numbered) (net : Network) (name text : List ℕ) : Line → Type 0 where
-  of_tokens : (tokens : List Token) (line : Line) → IsLexing grammar.token_rules text (Ok tokens) → IsTokensLine grammar net name text tokens line → IsTextLine grammar net name text line
-  no_token : (place : Place) (character : ℕ) → IsLexing grammar.token_rules text (Err (lexing.NoToken place character)) → IsTextLine grammar net name text (no_token_line name place character)
+  -- The line of a token list: that of the run over it.
+  pub record IsTokensLine (text : List ℕ) (tokens : List Token) (line : Line) : Type 0 where
+    pub result : Result (List Item) ParseFault
+    pub is : IsParse interpreter.net (word_of tokens) result
+    pub tells : TellsParse text tokens result line
 
--- The line of a file: that of its characters, or of bytes that are none.
-pub data IsBytesLine (grammar : Numbered) (net : Network) (name bytes : List ℕ) : Line → Type 0 where
-  of_text : (text : List ℕ) (line : Line) → AreCharacters bytes text → IsTextLine grammar net name text line → IsBytesLine grammar net name bytes line
-  no_text : (at : ℕ) → IsValidUpTo bytes at → IsBytesLine grammar net name bytes (not_utf8_line name at)
+  -- the line tells what becomes of the tokens, or why there are none
+  abbrev pub TellsLexing : List ℕ → Result (List Token) LexFault → Line → Type 0
+  TellsLexing text (Ok tokens) line = IsTokensLine text tokens line
+  TellsLexing text (Err (lexing.NoToken place character)) line = line ≡ no_token_line name place character
+  TellsLexing text (Err (lexing.Tokens place)) line = line ≡ many_tokens_line name place
+  TellsLexing text (Err lexing.NoMemory) line = ⊥
 
--- the line of what was fetched under a name
-abbrev pub IsFileLine : Numbered → Network → List ℕ → Input → Line → Type 0
-IsFileLine grammar net name (Bytes bytes) line = IsBytesLine grammar net name bytes line
-IsFileLine grammar net name (TooLarge size) line = line ≡ large_line name size
+  -- The line of a file's characters: that of its lexing.
+  pub record IsTextLine (text : List ℕ) (line : Line) : Type 0 where
+    pub result : Result (List Token) LexFault
+    pub is : IsLexing interpreter.grammar.token_rules text result
+    pub tells : TellsLexing text result line
+
+  -- the line tells what becomes of the characters, or that the bytes are none
+  abbrev pub TellsDecoding : Result (List ℕ) DecodeError → Line → Type 0
+  TellsDecoding (Ok text) line = IsTextLine text line
+  TellsDecoding (Err (decoding.NotUtf8 at)) line = line ≡ not_utf8_line name at
+  TellsDecoding (Err decoding.NoMemory) line = ⊥
+
+  -- The line of a file's bytes: that of its characters.
+  pub record IsBytesLine (bytes : List ℕ) (line : Line) : Type 0 where
+    pub result : Result (List ℕ) DecodeError
+    pub is : IsDecoding (λ text. text) bytes result
+    pub tells : TellsDecoding result line
+
+  -- the line of what was fetched under the name
+  abbrev pub IsFileLine : Input → Line → Type 0
+  IsFileLine (Bytes bytes) line = IsBytesLine bytes line
+  IsFileLine (TooLarge size) line = line ≡ large_line name size
 
 -- a line for each file, in order
-abbrev pub AreFileLines : Numbered → Network → List (List ℕ) → List Input → List Line → Type 0
-AreFileLines grammar net [] [] [] = Unit {0}
-AreFileLines grammar net (name ∷ names) (input ∷ inputs) (line ∷ lines) = IsFileLine grammar net name input line × AreFileLines grammar net names inputs lines
-AreFileLines grammar net [] (input ∷ inputs) lines = ⊥
-AreFileLines grammar net [] [] (line ∷ lines) = ⊥
-AreFileLines grammar net (name ∷ names) [] lines = ⊥
-AreFileLines grammar net (name ∷ names) (input ∷ inputs) [] = ⊥
+abbrev pub AreFileLines : Interpreter → List (List ℕ) → List Input → List Line → Type 0
+AreFileLines interpreter [] [] [] = Unit {0}
+AreFileLines interpreter (name ∷ names) (input ∷ inputs) (line ∷ lines) = IsFileLine interpreter name input line × AreFileLines interpreter names inputs lines
+AreFileLines interpreter [] (input ∷ inputs) lines = ⊥
+AreFileLines interpreter [] [] (line ∷ lines) = ⊥
+AreFileLines interpreter (name ∷ names) [] lines = ⊥
+AreFileLines interpreter (name ∷ names) (input ∷ inputs) [] = ⊥

@@ -3,6 +3,8 @@ use Rattle.g4_tool.specs.declared.decode.DecodeError.{DecodeError}
 use Rattle.g4_tool.specs.declared.decode.DecodeError.TheVariants as decoding
 use Rattle.g4_reader.specs.declared.reader.ReadFault.{ReadFault}
 use Rattle.g4_reader.specs.declared.reader.ReadFault.TheVariants as reading
+use Rattle.g4_vocab.specs.declared.twice.NameFault.{NameFault}
+use Rattle.g4_vocab.specs.declared.twice.NameFault.TheVariants as naming
 use Rattle.g4_vocab.specs.declared.numbering.NumberFault.{NumberFault}
 use Rattle.g4_vocab.specs.declared.numbering.NumberFault.TheVariants as numbering
 use Rattle.g4_checks.specs.declared.checking.CheckFault.{CheckFault}
@@ -21,7 +23,13 @@ of_decode decoding.NoMemory = errors.NoMemory
 -- of a text that is no grammar
 abbrev pub of_read : ReadFault → PrepareError
 of_read (reading.Syntax place characters) = errors.Fault (faults.Syntax place characters)
+of_read (reading.BadSet place) = errors.Fault (faults.BadSet place)
 of_read reading.NoMemory = errors.NoMemory
+
+-- of a grammar with a rule that stands twice
+abbrev pub of_name : NameFault → PrepareError
+of_name (naming.RuleTwice name) = errors.Fault (faults.RuleTwice name)
+of_name naming.NoMemory = errors.NoMemory
 
 -- of a grammar that is not numbered
 abbrev pub of_number : NumberFault → PrepareError
@@ -37,5 +45,6 @@ of_check checking.NoMemory = errors.NoMemory
 -- of a numbered grammar without a network
 abbrev pub of_build : BuildFault → PrepareError
 of_build building.UnknownStart = errors.Fault faults.UnknownStart
+of_build building.Alternatives = errors.Fault faults.Alternatives
 of_build building.States = errors.Fault faults.States
 of_build building.NoMemory = errors.NoMemory

@@ -1,55 +1,51 @@
 -- What a grammar file is prepared to.
-use Rattle.std.specs.Prelude.{ℕ, List, Result, Ok, Err}
-use Rattle.std.specs.Str.{IsValidUpTo}
-use Rattle.g4_base.specs.declared.place.Place.{Place}
+use Rattle.std.specs.Prelude.{◌≡◌, ◌≤◌, ◌<◌, ℕ, List, Result, Ok, Err}
 use Rattle.g4_grammar.specs.declared.source.Source.{Source}
 use Rattle.g4_grammar.specs.declared.numbered.Numbered.{Numbered}
 use Rattle.g4_net.specs.declared.network.Network.{Network}
 use Rattle.g4_reader.specs.Reading.{IsReading}
-use Rattle.g4_reader.specs.declared.reader.ReadFault.TheVariants as reading
+use Rattle.g4_vocab.specs.Names.{HasOwnNames}
 use Rattle.g4_vocab.specs.Answers.{GivesNumbered}
-use Rattle.g4_vocab.specs.declared.numbering.NumberFault.TheVariants as numbering
 use Rattle.g4_checks.specs.Checking.{IsChecked}
-use Rattle.g4_checks.specs.declared.checking.CheckFault.TheVariants as checking
 use Rattle.g4_build.specs.Answers.{GivesNetwork}
-use Rattle.g4_build.specs.declared.builder.BuildFault.TheVariants as building
-use Rattle.g4_tool.specs.Decoding.{AreCharacters}
+use Rattle.g4_build.specs.LexerSize.{lexer_state_count}
+use Rattle.g4_tool.specs.Decoding.{IsDecoding}
+use Rattle.g4_tool.specs.PrepareErrors.{of_decode, of_read, of_name, of_number, of_check, of_build}
+use Rattle.g4_tool.specs.Stages.{Gives, Then}
 use Rattle.g4_tool.specs.declared.prepare.Interpreter.{Interpreter}
 use Rattle.g4_tool.specs.declared.prepare.GrammarFault.{GrammarFault}
 use Rattle.g4_tool.specs.declared.prepare.GrammarFault.TheVariants as faults
 use Rattle.g4_tool.specs.declared.prepare.PrepareError.{PrepareError}
 use Rattle.g4_tool.specs.declared.prepare.PrepareError.TheVariants as errors
 
--- The grammar file of these bytes has this numbered grammar, and the start rule this network.
-pub record HasNetwork (bytes start : List ℕ) (grammar : Numbered) (net : Network) : Type 0 where
-  pub text : List ℕ
-  pub source : Source
-  pub characters : AreCharacters bytes text
-  pub reading : IsReading text (Ok source)
-  pub numbering : GivesNumbered source (Ok grammar)
-  pub checking : IsChecked source.rules (Ok tt)
-  pub network : GivesNetwork grammar start (Ok net)
+-- the grammar and its network, where the lexer's network has no more than 65,536 states
+abbrev pub FromNetwork : Numbered → Network → Result Interpreter GrammarFault → Type 0
+FromNetwork grammar net (Ok interpreter) = (lexer_state_count grammar.token_rules ≤ 65536) × (interpreter ≡ record { grammar = grammar; net = net })
+FromNetwork grammar net (Err fault) = (65536 < lexer_state_count grammar.token_rules) × (fault ≡ faults.States)
 
--- The grammar file of these bytes has this fault: the first in the order of the stages.
-pub data HasFault (bytes start : List ℕ) : GrammarFault → Type 0 where
-  not_utf8 : (at : ℕ) → IsValidUpTo bytes at → HasFault bytes start (faults.NotUtf8 at)
-  no_grammar : (text : List ℕ) (place : Place) (characters : List ℕ) → AreCharacters bytes text → IsReading text (Err (reading.Syntax place characters)) →
-      HasFault bytes start (faults.Syntax place characters)
-  many_rules : (text : List ℕ) (source : Source) → AreCharacters bytes text → IsReading text (Ok source) → GivesNumbered source (Err numbering.Rules) → HasFault bytes start faults.Rules
-  many_types : (text : List ℕ) (source : Source) → AreCharacters bytes text → IsReading text (Ok source) → GivesNumbered source (Err numbering.Types) → HasFault bytes start faults.Types
-  an_empty_loop : (text : List ℕ) (source : Source) (grammar : Numbered) (rule : List ℕ) → AreCharacters bytes text → IsReading text (Ok source) → GivesNumbered source (Ok grammar) →
-      IsChecked source.rules (Err (checking.EmptyLoop rule)) → HasFault bytes start (faults.EmptyLoop rule)
-  no_start : (text : List ℕ) (source : Source) (grammar : Numbered) → AreCharacters bytes text → IsReading text (Ok source) → GivesNumbered source (Ok grammar) → IsChecked source.rules (Ok tt) →
-      GivesNetwork grammar start (Err building.UnknownStart) → HasFault bytes start faults.UnknownStart
-  many_states : (text : List ℕ) (source : Source) (grammar : Numbered) → AreCharacters bytes text → IsReading text (Ok source) → GivesNumbered source (Ok grammar) → IsChecked source.rules (Ok tt) →
-      GivesNetwork grammar start (Err building.States) → HasFault bytes start faults.States
+-- a numbered grammar: its network from the start rule, and then the lexer's
+abbrev pub FromGrammar : List ℕ → Numbered → Result Interpreter GrammarFault → Type 0
+FromGrammar start grammar = Then (Gives (GivesNetwork grammar start) of_build) (FromNetwork grammar)
+
+-- a grammar as written: its names, its numbers, whether it can be run, and then its network
+abbrev pub FromSource : List ℕ → Source → Result Interpreter GrammarFault → Type 0
+FromSource start source =
+    Then (Gives (HasOwnNames source.rules) of_name) (λ _. Then (Gives (GivesNumbered source) of_number) (λ grammar. Then (Gives (IsChecked source.rules) of_check) (λ _. FromGrammar start grammar)))
+
+-- a text: the grammar that it is, and what that gives
+abbrev pub FromText : List ℕ → List ℕ → Result Interpreter GrammarFault → Type 0
+FromText start text = Then (Gives (IsReading text) of_read) (FromSource start)
+
+-- the grammar file of these bytes gives this interpreter from the start rule, or its first fault in the order of the stages
+abbrev pub IsPrepared : List ℕ → List ℕ → Result Interpreter GrammarFault → Type 0
+IsPrepared bytes start = Then (Gives (IsDecoding (λ text. text) bytes) of_decode) (FromText start)
 
 -- what an error says of the file
 abbrev pub IsPrepareError : List ℕ → List ℕ → PrepareError → Type 0
-IsPrepareError bytes start (errors.Fault fault) = HasFault bytes start fault
+IsPrepareError bytes start (errors.Fault fault) = IsPrepared bytes start (Err fault)
 IsPrepareError bytes start errors.NoMemory = Unit {0}
 
--- the call answers with the grammar and network of the file or its fault, unless memory runs out
+-- the call answers with what the file gives, unless memory runs out
 abbrev pub IsPreparing : List ℕ → List ℕ → Result Interpreter PrepareError → Type 0
-IsPreparing bytes start (Ok interpreter) = HasNetwork bytes start interpreter.grammar interpreter.net
+IsPreparing bytes start (Ok interpreter) = IsPrepared bytes start (Ok interpreter)
 IsPreparing bytes start (Err error) = IsPrepareError bytes start error

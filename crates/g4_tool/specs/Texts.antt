@@ -85,6 +85,10 @@ too_deep_line name list at = ToErr (at_place name (place_of_token list at) ++ co
 abbrev pub no_token_line : List ℕ → Place → ℕ → Line
 no_token_line name place c = ToErr (((at_place name place ++ codes "token recognition error at: '") ++ shown (c ∷ [])) ++ codes "'\n")
 
+-- the line of a file with too many tokens: where the first of them past the limit begins
+abbrev pub many_tokens_line : List ℕ → Place → Line
+many_tokens_line name place = ToErr (at_place name place ++ codes "more than 1000000 tokens\n")
+
 -- the line of bytes that are no UTF-8 text
 abbrev pub not_utf8_line : List ℕ → ℕ → Line
 not_utf8_line name at = ToErr (name ++ (codes ": byte " ++ (decimal at ++ codes ": not UTF-8\n")))
@@ -104,6 +108,14 @@ usage_line = ToErr (codes "usage: g4 parse, check, atn, match or drill\n")
 -- the line of a token with which no grammar text goes on
 abbrev pub syntax_line : List ℕ → Place → List ℕ → Line
 syntax_line name place characters = ToErr (((at_place name place ++ codes "syntax error at '") ++ shown characters) ++ codes "'\n")
+
+-- the line of a set that is empty or has a range that runs backward
+abbrev pub bad_set_line : List ℕ → Place → Line
+bad_set_line name place = ToErr (at_place name place ++ codes "bad character set\n")
+
+-- the line of a rule whose name a rule behind it has
+abbrev pub twice_line : List ℕ → List ℕ → Line
+twice_line name rule = ToErr (name ++ (codes ": rule " ++ (rule ++ codes " stands twice\n")))
 
 -- the line of a rule with a loop that can be empty
 abbrev pub empty_loop_line : List ℕ → List ℕ → Line

@@ -21,10 +21,21 @@ pub record Wrote (lines : List Line) (out_before out_now err_before err_now : Op
   pub out : out_now ≡ with_more out_before (out_of lines)
   pub err : err_now ≡ with_more err_before (err_of lines)
 
--- both outputs have taken a front part of their bytes of these lines
+-- one output has taken a front part of the first of these lines, where there is one, and the other nothing
+abbrev pub WrotePiece : List Line → Option (List ℕ) → Option (List ℕ) → Option (List ℕ) → Option (List ℕ) → Type 0
+WrotePiece [] out_before out_now err_before err_now = (out_now ≡ out_before) × (err_now ≡ err_before)
+WrotePiece ((ToOut text) ∷ lines) out_before out_now err_before err_now = TakesFront text out_before out_now × (err_now ≡ err_before)
+WrotePiece ((ToErr text) ∷ lines) out_before out_now err_before err_now = (out_now ≡ out_before) × TakesFront text err_before err_now
+
+-- The outputs have taken some of the lines, those that stand first, and a front part of the next; of those behind it nothing.
 pub record WroteFront (lines : List Line) (out_before out_now err_before err_now : Option (List ℕ)) : Type 0 where
-  pub out : TakesFront (out_of lines) out_before out_now
-  pub err : TakesFront (err_of lines) err_before err_now
+  pub whole : List Line
+  pub rest : List Line
+  pub parts : lines ≡ whole ++ rest
+  pub out : Option (List ℕ)
+  pub err : Option (List ℕ)
+  pub first : Wrote whole out_before out err_before err
+  pub piece : WrotePiece rest out out_now err err_now
 
 -- the count of faults of one output has risen, and the other's stands still
 abbrev pub OneRose : ℕ → ℕ → ℕ → ℕ → Type 0

@@ -2,7 +2,7 @@
 ghost use Rattle.std.specs.Prelude.{◌≡◌, ◌++◌, IfOk, OnOk, string_bytes, codes, ◌-◌, slice_get, drop, ◌∷◌, []};
 ghost use Rattle.std.specs.Fmt.{decimal};
 ghost use Rattle.g4_net.specs.Network.{state_at};
-ghost use Rattle.g4_tool.specs.Texts.{at_place, shown_symbol, more_symbols, shown_set, taken_by, place_of_token, mismatch_line, no_viable_line, too_deep_line, no_token_line, not_utf8_line, large_line, absent_line, usage_line, syntax_line, empty_loop_line, no_rule_line, limit_line};
+ghost use Rattle.g4_tool.specs.Texts.{at_place, shown_symbol, more_symbols, shown_set, taken_by, place_of_token, mismatch_line, no_viable_line, too_deep_line, no_token_line, many_tokens_line, not_utf8_line, large_line, absent_line, usage_line, syntax_line, bad_set_line, twice_line, empty_loop_line, no_rule_line, limit_line};
 
 use crate::write::Line;
 use g4_base::{END, EOF, Place, Text, push_shown};
@@ -144,6 +144,15 @@ pub fn no_token(
     Ok(Line::ToErr(Text::new(line)))
 }
 
+/// A file with too many tokens, and where the first past the limit begins.
+pub fn many_tokens(alloc: Global, name: &str, place: Place) -> Result<Line, AllocError>
+    ensures { IfOk result (λ line. line ≡ many_tokens_line name.now place) }
+{
+    let mut line = start_line(alloc, name, place)?;
+    line.push_str("more than 1000000 tokens\n")?;
+    Ok(Line::ToErr(Text::new(line)))
+}
+
 /// Bytes that are no UTF-8 text.
 pub fn not_utf8(alloc: Global, name: &str, at: usize) -> Result<Line, AllocError>
     ensures { IfOk result (λ line. line ≡ not_utf8_line name.now at) }
@@ -186,6 +195,22 @@ pub fn syntax(
     push_shown(&mut line, characters)?;
     line.push_str("'\n")?;
     Ok(Line::ToErr(Text::new(line)))
+}
+
+/// A character set that is empty or has a range that runs backward.
+pub fn bad_set(alloc: Global, name: &str, place: Place) -> Result<Line, AllocError>
+    ensures { IfOk result (λ line. line ≡ bad_set_line name.now place) }
+{
+    let mut line = start_line(alloc, name, place)?;
+    line.push_str("bad character set\n")?;
+    Ok(Line::ToErr(Text::new(line)))
+}
+
+/// A rule whose name a rule behind it has.
+pub fn twice(alloc: Global, name: &str, rule: &str) -> Result<Line, AllocError>
+    ensures { IfOk result (λ line. line ≡ twice_line name.now rule.now) }
+{
+    Ok(Line::ToErr(Text::new(format!(in alloc; "{name}: rule {rule} stands twice\n")?)))
 }
 
 /// A rule with a loop that can be empty.

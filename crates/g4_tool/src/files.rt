@@ -8,7 +8,7 @@ ghost use Rattle.g4_tool.specs.Inputs.{IsSmall};
 ghost use Rattle.g4_tool.specs.Outcomes.{AreFileLines, IsBytesLine, IsFileLine, IsTextLine, IsTokensLine};
 
 use crate::decode::{DecodeError, characters};
-use crate::faults::{large, mismatch, no_token, no_viable, not_utf8, too_deep};
+use crate::faults::{large, many_tokens, mismatch, no_token, no_viable, not_utf8, too_deep};
 use crate::inputs::Input;
 use crate::prepare::Interpreter;
 use crate::write::Line;
@@ -49,7 +49,7 @@ fn tokens_line(
     requires ready { IsReady interpreter.now.net }
     requires ends { EndsInEnd (word_of tokens.now) }
     requires few { length tokens.now < 2 ^ 32 }
-    ensures { IfOk result (IsTokensLine interpreter.now.grammar interpreter.now.net name.now text.now tokens.now) }
+    ensures { IfOk result (IsTokensLine interpreter.now name.now text.now tokens.now) }
 {
     let grammar = &interpreter.grammar;
     let net = &interpreter.net;
@@ -74,7 +74,7 @@ fn text_line(
     requires ready { IsReady interpreter.now.net }
     requires types { All (λ rule. rule.symbol ≤ 4096) interpreter.now.grammar.token_rules }
     requires few { length text.now ≤ LIMIT }
-    ensures { IfOk result (IsTextLine interpreter.now.grammar interpreter.now.net name.now text.now) }
+    ensures { IfOk result (IsTextLine interpreter.now name.now text.now) }
 {
     match tokens(alloc, interpreter.grammar.token_rules.as_slice(), text) {
         Ok(found) => {
@@ -82,6 +82,7 @@ fn text_line(
             Ok(line)
         }
         Err(LexFault::NoToken(place, character)) => no_token(alloc, name, place, character),
+        Err(LexFault::Tokens(place)) => many_tokens(alloc, name, place),
         Err(LexFault::NoMemory) => Err(AllocError),
     }
 }
@@ -96,7 +97,7 @@ fn bytes_line(
     requires ready { IsReady interpreter.now.net }
     requires types { All (λ rule. rule.symbol ≤ 4096) interpreter.now.grammar.token_rules }
     requires small { length bytes.now ≤ LIMIT }
-    ensures { IfOk result (IsBytesLine interpreter.now.grammar interpreter.now.net name.now bytes.now) }
+    ensures { IfOk result (IsBytesLine interpreter.now name.now bytes.now) }
 {
     match characters(alloc, bytes) {
         Ok(text) => {
@@ -118,7 +119,7 @@ fn file_line(
     requires ready { IsReady interpreter.now.net }
     requires types { All (λ rule. rule.symbol ≤ 4096) interpreter.now.grammar.token_rules }
     requires small { IsSmall input.now }
-    ensures { IfOk result (IsFileLine interpreter.now.grammar interpreter.now.net name.now input.now) }
+    ensures { IfOk result (IsFileLine interpreter.now name.now input.now) }
 {
     match input {
         Input::Bytes(octets) => bytes_line(alloc, interpreter, name, octets.as_slice()),
@@ -139,7 +140,7 @@ pub fn file_lines<G: Gate>(
     requires small { All IsSmall inputs.now }
     requires paired { length names.now ≡ length inputs.now }
     requires few { length names.now ≤ 4096 }
-    ensures { IfOk result (λ lines. AreFileLines interpreter.now.grammar interpreter.now.net (map string_bytes names.now) inputs.now lines.items) }
+    ensures { IfOk result (λ lines. AreFileLines interpreter.now (map string_bytes names.now) inputs.now lines.items) }
 {
     let mut lines = Vec::new(alloc);
     for (file, name) in names.iter().enumerate() {

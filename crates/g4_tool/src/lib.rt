@@ -5,6 +5,7 @@ mod decode;
 mod faults;
 mod files;
 mod inputs;
+mod law;
 mod prepare;
 mod report;
 #[cfg(test)]
@@ -13,5 +14,6 @@ mod tool;
 mod words;
 mod write;
 
+pub use law::one_report;
 pub use report::Status;
 pub use tool::run;

@@ -1,16 +1,17 @@
 // From the bytes of a grammar file to what parses with it.
 ghost use Rattle.std.specs.Prelude.{◌≤◌, All, IfOk, length};
+ghost use Rattle.g4_net.specs.AddedRule.{IsReady};
 ghost use Rattle.g4_tool.specs.Preparing.{IsPreparing};
 
 use crate::decode::{DecodeError, characters};
 use g4_base::{Place, Sequence, Text};
-use g4_build::{BuildFault, build};
+use g4_build::{BuildFault, build, lexer_network_fits};
 use g4_checks::{CheckFault, check};
 use g4_grammar::Numbered;
 use g4_net::Network;
 use g4_ports::LIMIT;
 use g4_reader::{ReadFault, read_grammar};
-use g4_vocab::{NumberFault, number};
+use g4_vocab::{NameFault, NumberFault, check_names, number};
 use std::alloc::Global;
 
 /// A numbered grammar and the network of one of its rules.
@@ -27,6 +28,10 @@ pub enum GrammarFault {
     NotUtf8(usize),
     /// The place and the characters of the first syntax fault.
     Syntax(Place, Sequence<char>),
+    /// The place of the first character set that is empty or has a range that runs backward.
+    BadSet(Place),
+    /// The name of the first rule whose name a rule behind it has.
+    RuleTwice(Text),
     /// More than 4,096 rules.
     Rules,
     /// More than 4,096 token types.
@@ -35,7 +40,9 @@ pub enum GrammarFault {
     EmptyLoop(Text),
     /// No parser rule has the start rule's name.
     UnknownStart,
-    /// More than 65,536 states.
+    /// More than 1,024 alternatives of a decision.
+    Alternatives,
+    /// More than 65,536 states of the network or of the lexer's.
     States,
 }
 
@@ -71,7 +78,22 @@ impl From<ReadFault> for PrepareError {
             ReadFault::Syntax(place, characters) => {
                 PrepareError::Fault(GrammarFault::Syntax(place, characters))
             }
+            ReadFault::BadSet(place) => PrepareError::Fault(GrammarFault::BadSet(place)),
             ReadFault::NoMemory => PrepareError::NoMemory,
+        }
+    }
+}
+
+impl From<NameFault> for PrepareError {
+    ghost use Rattle.std.specs.Prelude.{◌≡◌};
+    ghost use Rattle.g4_tool.specs.PrepareErrors.{of_name};
+
+    ghost from_gives = { λ d e. e ≡ of_name d };
+
+    fn from(fault: NameFault) -> Self {
+        match fault {
+            NameFault::RuleTwice(name) => PrepareError::Fault(GrammarFault::RuleTwice(name)),
+            NameFault::NoMemory => PrepareError::NoMemory,
         }
     }
 }
@@ -114,6 +136,7 @@ impl From<BuildFault> for PrepareError {
     fn from(fault: BuildFault) -> Self {
         match fault {
             BuildFault::UnknownStart => PrepareError::Fault(GrammarFault::UnknownStart),
+            BuildFault::Alternatives => PrepareError::Fault(GrammarFault::Alternatives),
             BuildFault::States => PrepareError::Fault(GrammarFault::States),
             BuildFault::NoMemory => PrepareError::NoMemory,
         }
@@ -124,13 +147,18 @@ impl From<BuildFault> for PrepareError {
 pub fn prepare(alloc: Global, bytes: &[u8], start: &str) -> Result<Interpreter, PrepareError>
     requires { length bytes.now ≤ LIMIT }
     ensures preparing { IsPreparing bytes.now start.now result }
+    ensures ready { IfOk result (λ interpreter. IsReady interpreter.net) }
     ensures types { IfOk result (λ interpreter. All (λ rule. rule.symbol ≤ 4096) interpreter.grammar.token_rules) }
 {
     let text = characters(alloc, bytes)?;
     let source = read_grammar(alloc, text.as_slice())?;
+    check_names(alloc, &source)?;
     let checked = check(alloc, &source);
     let grammar = number(alloc, source)?;
     checked?;
     let net = build(alloc, &grammar, start)?;
+    if !lexer_network_fits(grammar.token_rules.as_slice()) {
+        return Err(PrepareError::Fault(GrammarFault::States));
+    }
     Ok(Interpreter { grammar, net })
 }

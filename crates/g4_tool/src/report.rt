@@ -1,13 +1,17 @@
 // The report of a command line: its lines and its status, made before any of it is written.
 ghost use Rattle.std.specs.Prelude.{◌≡◌, ◌≤◌, All, IfOk, IfSome, None, Some, length, map, string_bytes};
+ghost use Rattle.std.specs.List.{list_all};
 ghost use Rattle.g4_net.specs.AddedRule.{IsReady};
 ghost use Rattle.g4_tool.specs.Counting.{CountsReport};
 ghost use Rattle.g4_tool.specs.CommandView.{command_view};
 ghost use Rattle.g4_tool.specs.Inputs.{Files};
-ghost use Rattle.g4_tool.specs.Report.{IsCommandReport, IsFilesReport, IsGrammarReport, IsReport, fault_line, one_line, whole_report};
+ghost use Rattle.g4_tool.specs.Report.{IsCommandReport, IsFilesReport, IsGrammarReport, IsReport, fault_line, one_line, status_of, whole_report};
+ghost use Rattle.g4_tool.specs.Texts.{is_tree};
 ghost use Rattle.g4_tool.specs.Words.{command_of};
 
-use crate::faults::{absent, empty_loop, large, limit, no_rule, not_utf8, syntax, usage};
+use crate::faults::{
+    absent, bad_set, empty_loop, large, limit, no_rule, not_utf8, syntax, twice, usage,
+};
 use crate::files::file_lines;
 use crate::inputs::{FetchError, fetch_all};
 use crate::prepare::{GrammarFault, Interpreter, PrepareError, prepare};
@@ -86,11 +90,37 @@ fn line_of_fault(
         GrammarFault::Syntax(place, characters) => {
             syntax(alloc, name, *place, characters.as_slice())
         }
+        GrammarFault::BadSet(place) => bad_set(alloc, name, *place),
+        GrammarFault::RuleTwice(rule) => twice(alloc, name, rule.as_str()),
         GrammarFault::Rules => limit(alloc, name, "rules 4096"),
         GrammarFault::Types => limit(alloc, name, "types 4096"),
         GrammarFault::EmptyLoop(rule) => empty_loop(alloc, name, rule.as_str()),
         GrammarFault::UnknownStart => no_rule(alloc, name, start),
+        GrammarFault::Alternatives => limit(alloc, name, "alternatives 1024"),
         GrammarFault::States => limit(alloc, name, "states 65536"),
+    }
+}
+
+fn is_tree(line: &Line) -> bool
+    ensures { result ≡ is_tree line.now }
+{
+    matches!(line, Line::ToOut(_))
+}
+
+fn all_are_trees(lines: &[Line]) -> bool
+    ensures { result ≡ list_all is_tree lines.now }
+{
+    lines.iter().all(|line| is_tree(line))
+}
+
+// Done where each line is a tree's.
+fn status_of(lines: &[Line]) -> Status
+    ensures { result ≡ status_of lines.now }
+{
+    if all_are_trees(lines) {
+        Status::Done
+    } else {
+        Status::Refused
     }
 }
 
@@ -99,15 +129,8 @@ fn close(alloc: Global, mut lines: Vec<Line>) -> Result<Report, AllocError>
     ensures { IfOk result (λ report. report ≡ whole_report lines.items) }
 {
     let files = lines.len();
-    let accepted = lines
-        .iter()
-        .filter(|line| matches!(line, Line::ToOut(_)))
-        .count();
-    let status = if accepted == files {
-        Status::Done
-    } else {
-        Status::Refused
-    };
+    let accepted = lines.iter().filter(|line| is_tree(line)).count();
+    let status = status_of(&lines);
     let closing = format!(in alloc; "files {files} accepted {accepted}\n")?;
     lines.push(Line::ToOut(Text::new(closing)))?;
     Ok(Report {
@@ -128,7 +151,7 @@ fn report_files<S: Shelf, G: Gate>(
     requires types { All (λ rule. rule.symbol ≤ 4096) interpreter.now.grammar.token_rules }
     requires few { length names.now ≤ 4096 }
     ensures content { (files : Files) → S.told shelf.old ≡ Some files
-        → IfOk result (IsFilesReport files (map string_bytes names.now) interpreter.now.grammar interpreter.now.net) }
+        → IfOk result (IsFilesReport files (map string_bytes names.now) interpreter.now) }
     ensures counts { CountsReport ⊥
         (S.faults shelf.old) (S.faults shelf.new) (S.misses shelf.old) (S.misses shelf.new) result }
 {

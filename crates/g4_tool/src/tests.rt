@@ -50,7 +50,7 @@ fn ran(
 const PARSE: &str = "parse -g X.g4 -s r f";
 
 // Words, grammar and text, and what they give: out, err and the status.
-const REPORTS: [(&str, &str, &str, &str, &str, Status); 17] = [
+const REPORTS: [(&str, &str, &str, &str, &str, Status); 20] = [
     (
         PARSE,
         HELLO,
@@ -137,6 +137,30 @@ const REPORTS: [(&str, &str, &str, &str, &str, Status); 17] = [
         "a",
         "",
         "X.g4: rule A has a loop that can be empty\n",
+        Status::GrammarRefused,
+    ),
+    (
+        PARSE,
+        "grammar X; r : A ; A : [a-z] [z-a] ; r : ;;",
+        "a",
+        "",
+        "X.g4: line 1:29 bad character set\n",
+        Status::GrammarRefused,
+    ),
+    (
+        PARSE,
+        "grammar X; r : ('a'*)* ; A : 'a' ; B : 'b' ; A : 'c' ; B : 'd' ;",
+        "a",
+        "",
+        "X.g4: rule A stands twice\n",
+        Status::GrammarRefused,
+    ),
+    (
+        "parse -g X.g4 -s q f",
+        "grammar X; r : ('a'*)* ;",
+        "a",
+        "",
+        "X.g4: rule r has a loop that can be empty\n",
         Status::GrammarRefused,
     ),
     (

@@ -2,6 +2,7 @@
 ghost use Rattle.std.specs.Prelude.{◌≡◌, ◌≢◌, None, Some, map, string_bytes};
 ghost use Rattle.g4_ports.specs.Ports.{Rose};
 ghost use Rattle.g4_tool.specs.Inputs.{Files};
+ghost use Rattle.g4_tool.specs.Causes.{ComesExactly, IsComplete};
 ghost use Rattle.g4_tool.specs.Running.{HasCauses, HasReported, HasReportedFront};
 ghost use Rattle.g4_tool.specs.Words.{command_of};
 
@@ -27,7 +28,21 @@ pub fn run<S: Shelf, O: Sink, E: Sink, G: Gate>(
         → ¬ (Rose (E.faults err.old) (E.faults err.new))
         → result ≢ Status.NoMemory
         → HasReported files (map string_bytes words.now) result (O.taken out.old) (O.taken out.new) (E.taken err.old) (E.taken err.new) }
-    // Whatever fails, each output has taken a front part of its bytes of the report.
+    // Then too each status comes exactly where what it means holds.
+    ensures exactly { (files : Files) → S.told shelf.old ≡ Some files
+        → ¬ (Rose (S.faults shelf.old) (S.faults shelf.new))
+        → ¬ (Rose (O.faults out.old) (O.faults out.new))
+        → ¬ (Rose (E.faults err.old) (E.faults err.new))
+        → result ≢ Status.NoMemory
+        → ComesExactly files (map string_bytes words.now) result }
+    // Then too a command with all its files, whose grammar is without fault, is Done or Refused.
+    ensures complete { (files : Files) → S.told shelf.old ≡ Some files
+        → ¬ (Rose (S.faults shelf.old) (S.faults shelf.new))
+        → ¬ (Rose (O.faults out.old) (O.faults out.new))
+        → ¬ (Rose (E.faults err.old) (E.faults err.new))
+        → result ≢ Status.NoMemory
+        → IsComplete files (map string_bytes words.now) result }
+    // Whatever fails, the outputs have taken nothing, or lines of the report up to some place and nothing behind it.
     ensures part { (files : Files) → S.told shelf.old ≡ Some files
         → HasReportedFront files (map string_bytes words.now) (O.taken out.old) (O.taken out.new) (E.taken err.old) (E.taken err.new) }
     // Each status has its cause, whether the files are told or not.

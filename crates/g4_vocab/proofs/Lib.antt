@@ -3,5 +3,5 @@ mod Loops
 mod Named
 pub mod Nodes
 mod Numbers
-mod OneNaming
+pub mod OneNaming
 mod Repeats

@@ -3,7 +3,7 @@ use Rattle.g4_tool.proofs.Reports.{fault_report}
 use Rattle.g4_tool.proofs.report.report_grammar.Goals as goal
 
 pub returns-in_ok-report-in-Ok-clause-content : goal.returns-in_ok-report-in-Ok-clause-content
-returns-in_ok-report-in-Ok-clause-content g c = λ files told. accepted _ _ _ c.in-Ok.ensures.preparing (c.in_ok-report-in-Ok.ensures.content files told)
+returns-in_ok-report-in-Ok-clause-content g c = λ files told. accepted _ _ c.in-Ok.ensures.preparing (c.in_ok-report-in-Ok.ensures.content files told)
 
 pub returns-in_ok-report-in-Err-Fault-clause-content : goal.returns-in_ok-report-in-Err-Fault-clause-content
 returns-in_ok-report-in-Err-Fault-clause-content g c = λ files told.

@@ -1,0 +1,123 @@
+-- A grammar file gives at most one thing.
+use Rattle.std.proofs.Common.{◌≡◌, ◌<◌, ◌⊎◌, inl, inr, ℕ, List, length, subst, Bool, true, false, Ok, Err, ap, sym, ◌∙◌, refl, arith}
+use Rattle.std.specs.Str.{IsUtf8, IsValidUpTo}
+use Rattle.std.proofs.lemmas.List.{take_all}
+use Rattle.g4_grammar.specs.declared.source.Source.{Source}
+use Rattle.g4_grammar.specs.declared.numbered.Numbered.{Numbered}
+use Rattle.g4_net.specs.declared.network.Network.{Network}
+use Rattle.g4_reader.specs.Reading.{IsReading}
+use Rattle.g4_reader.specs.declared.reader.ReadFault.TheVariants as reading
+use Rattle.g4_reader.proofs.Readings.{one_reading}
+use Rattle.g4_vocab.specs.Names.{HasOwnNames}
+use Rattle.g4_vocab.specs.Answers.{GivesNumbered}
+use Rattle.g4_vocab.specs.declared.twice.NameFault.TheVariants as naming
+use Rattle.g4_vocab.specs.declared.numbering.NumberFault.TheVariants as numbering
+use Rattle.g4_vocab.proofs.OneNaming.{one_naming}
+use Rattle.g4_checks.specs.Checking.{IsChecked}
+use Rattle.g4_checks.specs.declared.checking.CheckFault.TheVariants as checking
+use Rattle.g4_checks.proofs.OneCheck.{one_check}
+use Rattle.g4_build.specs.Answers.{GivesNetwork}
+use Rattle.g4_build.specs.declared.builder.BuildFault.TheVariants as building
+use Rattle.g4_build.proofs.OneNetwork.{one_network}
+use Rattle.g4_tool.specs.declared.decode.DecodeError.TheVariants as decoding
+use Rattle.g4_tool.specs.Decoding.{IsDecoding}
+use Rattle.g4_tool.specs.PrepareErrors.{of_decode, of_read, of_name, of_number, of_check, of_build}
+use Rattle.g4_tool.specs.Stages.{Gives, Then}
+use Rattle.g4_tool.specs.Preparing.{FromNetwork, FromGrammar, FromSource, FromText, IsPrepared}
+use Rattle.g4_tool.proofs.OneStage.{IsSingle, IsSingleBeside, one_gift, one_then}
+
+-- a text has no byte at which it ends being one
+not_both_texts : (bytes : List ℕ) (at : ℕ) → IsUtf8 bytes → IsValidUpTo bytes at → ⊥
+not_both_texts bytes at utf8 up = up.longest (length bytes) up.short (subst IsUtf8 (sym (take_all (length bytes) bytes (omega arith))) utf8)
+
+-- bytes end being text at one byte
+one_end : (bytes : List ℕ) (at to : ℕ) → IsValidUpTo bytes at → IsValidUpTo bytes to → at ≡ to
+one_end bytes at to p q = elim (compared at to) [ inl less ↦ absurd (p.longest to less q.front) | inr others ↦ elim others [ inl same ↦ same | inr more ↦ absurd (q.longest at more p.front) ] ]
+  where
+    compared : (a b : ℕ) → (a < b) ⊎ ((a ≡ b) ⊎ (b < a))
+    compared a b = grind arith
+
+-- bytes have at most one decoding
+pub one_decoding : (bytes : List ℕ) → IsSingleBeside decoding.NoMemory (IsDecoding (λ (text : List ℕ). text) bytes)
+one_decoding bytes (Ok t) (Ok u) h k n m = ap (λ x. Ok x) (h.same ∙ sym k.same)
+one_decoding bytes (Ok t) (Err (decoding.NotUtf8 at)) h k n m = absurd (not_both_texts bytes at h.utf8 k)
+one_decoding bytes (Err (decoding.NotUtf8 at)) (Ok u) h k n m = absurd (not_both_texts bytes at k.utf8 h)
+one_decoding bytes (Err (decoding.NotUtf8 at)) (Err (decoding.NotUtf8 to)) h k n m = ap (λ x. Err (decoding.NotUtf8 x)) (one_end bytes at to h k)
+one_decoding bytes (Err decoding.NoMemory) b h k n m = absurd (n refl)
+one_decoding bytes (Ok t) (Err decoding.NoMemory) h k n m = absurd (m refl)
+one_decoding bytes (Err (decoding.NotUtf8 at)) (Err decoding.NoMemory) h k n m = absurd (m refl)
+
+-- a source has at most one numbering
+one_numbering : (source : Source) → IsSingleBeside numbering.NoMemory (GivesNumbered source)
+one_numbering source (Ok g) (Ok h) p q n m = ap (λ x. Ok x) (p.2 ∙ sym q.2)
+one_numbering source (Ok g) (Err numbering.Rules) p q n m = absurd (omega (arith, p.0, q))
+one_numbering source (Ok g) (Err numbering.Types) p q n m = absurd (omega (arith, p.1, q.1))
+one_numbering source (Ok g) (Err numbering.NoMemory) p q n m = absurd (m refl)
+one_numbering source (Err numbering.Rules) (Ok h) p q n m = absurd (omega (arith, p, q.0))
+one_numbering source (Err numbering.Rules) (Err numbering.Rules) p q n m = refl
+one_numbering source (Err numbering.Rules) (Err numbering.Types) p q n m = absurd (omega (arith, p, q.0))
+one_numbering source (Err numbering.Rules) (Err numbering.NoMemory) p q n m = absurd (m refl)
+one_numbering source (Err numbering.Types) (Ok h) p q n m = absurd (omega (arith, p.1, q.1))
+one_numbering source (Err numbering.Types) (Err numbering.Rules) p q n m = absurd (omega (arith, p.0, q))
+one_numbering source (Err numbering.Types) (Err numbering.Types) p q n m = refl
+one_numbering source (Err numbering.Types) (Err numbering.NoMemory) p q n m = absurd (m refl)
+one_numbering source (Err numbering.NoMemory) b p q n m = absurd (n refl)
+
+-- what holds and fails is not both
+not_both : (b : Bool) → b ≡ true → b ≡ false → ⊥
+not_both b p q = cc
+
+-- a grammar and a start rule have at most one network, or fault
+one_build : (grammar : Numbered) (start : List ℕ) → IsSingleBeside building.NoMemory (GivesNetwork grammar start)
+one_build grammar start (Ok a) (Ok b) p q n m = ap (λ x. Ok x) (one_network grammar start a b p q)
+one_build grammar start (Ok a) (Err building.UnknownStart) p q n m = absurd (not_both _ p.known q)
+one_build grammar start (Ok a) (Err building.Alternatives) p q n m = absurd (omega (arith, p.narrow q.1.0 q.1.1, q.1.2))
+one_build grammar start (Ok a) (Err building.States) p q n m = absurd (omega (arith, p.fits, q.2))
+one_build grammar start (Ok a) (Err building.NoMemory) p q n m = absurd (m refl)
+one_build grammar start (Err building.UnknownStart) (Ok b) p q n m = absurd (not_both _ q.known p)
+one_build grammar start (Err building.UnknownStart) (Err building.UnknownStart) p q n m = refl
+one_build grammar start (Err building.UnknownStart) (Err building.Alternatives) p q n m = absurd (not_both _ q.0 p)
+one_build grammar start (Err building.UnknownStart) (Err building.States) p q n m = absurd (not_both _ q.0 p)
+one_build grammar start (Err building.UnknownStart) (Err building.NoMemory) p q n m = absurd (m refl)
+one_build grammar start (Err building.Alternatives) (Ok b) p q n m = absurd (omega (arith, q.narrow p.1.0 p.1.1, p.1.2))
+one_build grammar start (Err building.Alternatives) (Err building.UnknownStart) p q n m = absurd (not_both _ p.0 q)
+one_build grammar start (Err building.Alternatives) (Err building.Alternatives) p q n m = refl
+one_build grammar start (Err building.Alternatives) (Err building.States) p q n m = absurd (omega (arith, q.1 p.1.0 p.1.1, p.1.2))
+one_build grammar start (Err building.Alternatives) (Err building.NoMemory) p q n m = absurd (m refl)
+one_build grammar start (Err building.States) (Ok b) p q n m = absurd (omega (arith, q.fits, p.2))
+one_build grammar start (Err building.States) (Err building.UnknownStart) p q n m = absurd (not_both _ p.0 q)
+one_build grammar start (Err building.States) (Err building.Alternatives) p q n m = absurd (omega (arith, p.1 q.1.0 q.1.1, q.1.2))
+one_build grammar start (Err building.States) (Err building.States) p q n m = refl
+one_build grammar start (Err building.States) (Err building.NoMemory) p q n m = absurd (m refl)
+one_build grammar start (Err building.NoMemory) b p q n m = absurd (n refl)
+
+-- a network goes with at most one lexer's network
+one_from_network : (grammar : Numbered) (net : Network) → IsSingle (FromNetwork grammar net)
+one_from_network grammar net (Ok a) (Ok b) p q = ap (λ x. Ok x) (p.1 ∙ sym q.1)
+one_from_network grammar net (Ok a) (Err g) p q = absurd (omega (arith, p.0, q.0))
+one_from_network grammar net (Err f) (Ok b) p q = absurd (omega (arith, p.0, q.0))
+one_from_network grammar net (Err f) (Err g) p q = ap (λ x. Err x) (p.1 ∙ sym q.1)
+
+-- a grammar gives at most one thing
+one_from_grammar : (start : List ℕ) (grammar : Numbered) → IsSingle (FromGrammar start grammar)
+one_from_grammar start grammar =
+    one_then (Gives (GivesNetwork grammar start) of_build) (FromNetwork grammar) (one_gift (GivesNetwork grammar start) of_build building.NoMemory refl (one_build grammar start)) (one_from_network grammar)
+
+-- a source gives at most one thing
+one_from_source : (start : List ℕ) (source : Source) → IsSingle (FromSource start source)
+one_from_source start source =
+    one_then (Gives (HasOwnNames source.rules) of_name) (λ _. Then (Gives (GivesNumbered source) of_number) (λ grammar. Then (Gives (IsChecked source.rules) of_check) (λ _. FromGrammar start grammar)))
+    (one_gift (HasOwnNames source.rules) of_name naming.NoMemory refl (one_naming source.rules))
+    (λ _. one_then (Gives (GivesNumbered source) of_number) (λ grammar. Then (Gives (IsChecked source.rules) of_check) (λ _. FromGrammar start grammar))
+    (one_gift (GivesNumbered source) of_number numbering.NoMemory refl (one_numbering source))
+    (λ grammar. one_then (Gives (IsChecked source.rules) of_check) (λ _. FromGrammar start grammar) (one_gift (IsChecked source.rules) of_check checking.NoMemory refl (one_check source.rules)) (λ _. one_from_grammar start grammar)))
+
+-- a text gives at most one thing
+one_from_text : (start text : List ℕ) → IsSingle (FromText start text)
+one_from_text start text = one_then (Gives (IsReading text) of_read) (FromSource start) (one_gift (IsReading text) of_read reading.NoMemory refl (one_reading text)) (one_from_source start)
+
+-- a grammar file gives at most one thing
+pub one_prepared : (bytes start : List ℕ) → IsSingle (IsPrepared bytes start)
+one_prepared bytes start =
+    one_then (Gives (IsDecoding (λ (text : List ℕ). text) bytes) of_decode) (FromText start)
+    (one_gift (IsDecoding (λ (text : List ℕ). text) bytes) of_decode decoding.NoMemory refl (one_decoding bytes)) (one_from_text start)
