@@ -3,8 +3,8 @@
 
 use g4_ports::{FileShelf, Open, OutSink};
 use g4_tool::{Status, run};
-use std::env;
 use std::process::ExitCode;
+use std::{env, io};
 
 // The exit status of a run.
 fn number(status: Status) -> u8 {
@@ -19,16 +19,23 @@ fn number(status: Status) -> u8 {
     }
 }
 
-// The words after the program's name. None where they are no text.
-fn words(rt: &HostRuntime) -> Option<Vec<String>> {
-    let mut args = env::args(rt).ok()?;
+// The words after the program's name.
+fn words(rt: &HostRuntime) -> Result<Vec<String>, io::Error> {
+    let mut args = env::args(rt)?;
     let _name = args.next();
-    args.collect(rt.alloc()).ok()
+    let words = args.collect(rt.alloc())?;
+    Ok(words)
 }
 
 fn main(rt: HostRuntime) -> ExitCode {
-    // Words that are no text are no command: no words stand for them.
-    let words = words(&rt).unwrap_or(Vec::new(rt.alloc()));
+    let words = match words(&rt) {
+        Ok(words) => words,
+        Err(e) if e.kind() == io::ErrorKind::OutOfMemory => {
+            return ExitCode::from(number(Status::NoMemory));
+        }
+        // Words that are no text are no command: no words stand for them.
+        Err(_) => Vec::new(rt.alloc()),
+    };
     let mut shelf = FileShelf::new(&rt);
     let mut out = OutSink::new(rt.stdout());
     let mut err = OutSink::new(rt.stderr());
