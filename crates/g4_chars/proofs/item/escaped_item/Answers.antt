@@ -1,0 +1,13 @@
+use Rattle.std.proofs.Common.{◌≡◌, ◌+◌, ◌-◌, ap, ◌∙◌, sym, take, drop, arith}
+use Rattle.g4_chars.specs.declared.item.Item.TheVariants.{Named}
+use Rattle.g4_chars.specs.Properties.{property_named}
+use Rattle.g4_chars.specs.SetText.{escaped_item}
+use Rattle.g4_chars.proofs.item.escaped_item.Goals as goal
+
+pub returns-in-Property : goal.returns-in-Property
+returns-in-Property c =
+    let n = c.in-Property.length in
+    let behind = c.args.behind.now in
+    let count : 2 + n - 2 ≡ n = omega arith in
+    ap (Named c.in-Property.complement) (c.property_named.ensures ∙ ap (λ k. property_named (take k (drop 2 behind))) count)
+    ∙ ap (λ m. escaped_item m behind) (sym c.in-Property.is)

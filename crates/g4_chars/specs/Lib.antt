@@ -1,0 +1,7 @@
+pub mod Building
+pub mod CharSets
+pub mod Escapes
+pub mod Properties
+pub mod PropertyNames
+pub mod Reading
+pub mod SetText

@@ -1,0 +1,21 @@
+// Sets of Unicode characters, and the reading of what stands between the brackets of a set.
+#![tactic(auto)]
+
+mod building;
+mod char_set;
+mod escape;
+mod item;
+mod law;
+mod names;
+mod part;
+mod property;
+mod range;
+mod set_text;
+#[cfg(test)]
+mod tests;
+
+pub use char_set::CharSet;
+pub use escape::{Context, Escape, Meaning, read_escape};
+pub use law::{one_form, one_reading};
+pub use range::Range;
+pub use set_text::{SetFault, read_set};
