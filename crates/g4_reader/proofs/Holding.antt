@@ -1,6 +1,7 @@
 -- What the tokens are that bring a reading to a stage.
 use Rattle.std.proofs.Common.{◌≡◌, ℕ, List, [], ◌∷◌, ◌++◌, Bool, true, false, ◌&&◌, ◌||◌, ◌⊎◌, inl, inr, refl, sym, ◌∙◌, ap, subst, append_assoc, Option, Some, None, codes, bytes_eq}
 use Rattle.std.specs.Prelude.{if◌then◌else◌}
+use Rattle.std.specs.Str.{chars}
 use Rattle.std.proofs.lemmas.List.{append-nil}
 use Rattle.std.proofs.lemmas.Slice.Eq.{bytes_eq-Decides}
 use Rattle.g4_tokens.specs.declared.token.Kind.{Kind}
@@ -16,7 +17,9 @@ use Rattle.g4_grammar.specs.declared.element.Repeat.{Repeat}
 use Rattle.g4_grammar.specs.declared.element.Repeat.TheVariants.{Once, Star, Plus}
 use Rattle.g4_grammar.specs.Elements.{Element, Elements, only, either}
 use Rattle.g4_grammar.specs.Trees.{in_order}
-use Rattle.g4_reader.specs.GrammarText.{Spelled, bytes_of, IsWord, IsParserAtom, IsLexerAtom, IsSuffix, AreInOrder, IsElement, an_atom, a_repeated_atom, a_block, AreElements, no_element, one_element_more, AreAlternatives, the_last, one_before, IsParserRule, IsCommand, IsLexerAlternative, AreLexerAlternatives, IsLexerRule, IsRule, IsGrammarText, Begins}
+use Rattle.g4_reader.specs.GrammarText.{Spelled, IsWord, IsParserAtom, IsLexerAtom, IsSuffix, AreInOrder, IsElement, an_atom, a_repeated_atom, a_block, AreElements, no_element, one_element_more, AreAlternatives, the_last, one_before, IsParserRule, IsCommand, IsLexerAlternative, AreLexerAlternatives, IsLexerRule, IsRule, IsGrammarText, Begins}
+use Rattle.g4_reader.specs.SetText.{content}
+use Rattle.g4_reader.proofs.SetText.{is_set}
 use Rattle.g4_reader.specs.Stages.{Around, in_parser_rule, in_lexer_rule, in_brackets, Operand, lone, Stage, at_grammar, at_name, at_name_end, at_rule, at_colon, at_element, at_sign, at_command, at_skip, at_bar, at_close, next, next_at_rule, next_at_element, next_at_command, next_at_bar, next_at_sign, if_so, is_colon, is_semicolon, is_bar, is_left_parenthesis, is_right_parenthesis, is_arrow, is_lower, is_upper, is_word, repeat_of, as_often, with_rule, with_alternative, in_rule, has_commands, closes, behind, atom_of, grammar_at}
 use Rattle.g4_reader.specs.declared.atom.RuleKind.{RuleKind}
 use Rattle.g4_reader.specs.declared.atom.RuleKind.TheVariants.{Parser, Lexer}
@@ -50,7 +53,7 @@ pub record IsOpen (w : List Spelled) (kind : Kind) (source : Source) (name : Lis
   pub parts : w ≡ before ++ head ∷ colon ∷ body
   pub before_is : IsGrammarText before source
   pub head_is : head.kind ≡ kind
-  pub named : name ≡ bytes_of head
+  pub named : name ≡ head.bytes
   pub colon_is : colon.kind ≡ kinds.Colon
 
 -- one more token of the body
@@ -73,7 +76,7 @@ pub record IsNamed (w : List Spelled) (kind : Kind) (source : Source) (name : Li
   pub parts : w ≡ before ++ head ∷ []
   pub before_is : IsGrammarText before source
   pub head_is : head.kind ≡ kind
-  pub named : name ≡ bytes_of head
+  pub named : name ≡ head.bytes
 
 -- the `:` behind the name
 IsNamed-push : (w : List Spelled) (kind : Kind) (source : Source) (name : List ℕ) (t : Spelled) → IsNamed w kind source name → t.kind ≡ kinds.Colon → IsOpen (w ++ t ∷ []) kind source name []
@@ -141,7 +144,7 @@ IsOperand rule u operand = (suffix : List Spelled) (repeat : Repeat) → IsSuffi
 abbrev pub Holds : List Spelled → Stage → Type 0
 Holds w at_grammar = w ≡ []
 Holds w at_name = (k : Spelled) × (w ≡ k ∷ []) × IsWord (codes "grammar") k
-Holds w (at_name_end name) = (k : Spelled) × (h : Spelled) × (w ≡ k ∷ h ∷ []) × IsWord (codes "grammar") k × ((h.kind ≡ kinds.Lower) ⊎ (h.kind ≡ kinds.Upper)) × (name ≡ bytes_of h)
+Holds w (at_name_end name) = (k : Spelled) × (h : Spelled) × (w ≡ k ∷ h ∷ []) × IsWord (codes "grammar") k × ((h.kind ≡ kinds.Lower) ⊎ (h.kind ≡ kinds.Upper)) × (name ≡ h.bytes)
 Holds w (at_rule source) = IsGrammarText w source
 Holds w (at_colon rule source name) = IsNamed w (name_kind rule) source name
 Holds w (at_element rule around es) = IsBehind rule around es w
@@ -342,11 +345,11 @@ both_true false b e = absurd (cc)
 -- a token that passes the test of a word is that word
 word_is : (spelling : List ℕ) (t : Spelled) → is_word spelling t ≡ true → IsWord spelling t
 word_is spelling t e =
-    let both = both_true (is_lower t.kind) (bytes_eq t.characters spelling) e in
-    (lower_kind t.kind both.0, (bytes_eq-Decides t.characters spelling).0 both.1)
+    let both = both_true (is_lower t.kind) (bytes_eq t.bytes spelling) e in
+    (lower_kind t.kind both.0, (bytes_eq-Decides t.bytes spelling).0 both.1)
 
 -- a step where a rule may begin
-rule_step : (w : List Spelled) (source : Source) (t : Spelled) (later : Stage) (kind : Kind) → t.kind ≡ kind → IsGrammarText w source → next_at_rule source (bytes_of t) kind ≡ Some later → Holds (w ++ t ∷ []) later
+rule_step : (w : List Spelled) (source : Source) (t : Spelled) (later : Stage) (kind : Kind) → t.kind ≡ kind → IsGrammarText w source → next_at_rule source t.bytes kind ≡ Some later → Holds (w ++ t ∷ []) later
 rule_step w source t later kinds.Lower k g e = subst (Holds (w ++ t ∷ [])) (some_is e) (record { before = w; head = t; parts = refl; before_is = g; head_is = k; named = refl })
 rule_step w source t later kinds.Upper k g e = subst (Holds (w ++ t ∷ [])) (some_is e) (record { before = w; head = t; parts = refl; before_is = g; head_is = k; named = refl })
 rule_step w source t later _ k g e = absurd (cc)
@@ -380,11 +383,11 @@ command_step w rule around es t later b e = by_test (has_commands around && is_a
     by_test false is e = bar_step w rule (with_alternative around es false) t later (ends rule around es w b) e
 
 -- a token that is an atom
-IsAtom-from : (rule : RuleKind) (kind : Kind) (t : Spelled) (a : Atom) → t.kind ≡ kind → atom_of rule kind (bytes_of t) ≡ Some a → IsAtom rule t a
-IsAtom-from Parser (kinds.Literal characters) t a k e = subst (IsAtom Parser t) (some_is e) (k, refl)
-IsAtom-from Lexer (kinds.Literal characters) t a k e = subst (IsAtom Lexer t) (some_is e) (k, refl)
+IsAtom-from : (rule : RuleKind) (kind : Kind) (t : Spelled) (a : Atom) → t.kind ≡ kind → atom_of rule kind t.bytes ≡ Some a → IsAtom rule t a
+IsAtom-from Parser kinds.Literal t a k e = subst (IsAtom Parser t) (some_is e) (k, refl, refl)
+IsAtom-from Lexer kinds.Literal t a k e = subst (IsAtom Lexer t) (some_is e) (k, refl, refl)
 IsAtom-from Parser kinds.Upper t a k e = subst (IsAtom Parser t) (some_is e) (k, refl)
-IsAtom-from Lexer (kinds.Set ranges) t a k e = subst (IsAtom Lexer t) (some_is e) k
+IsAtom-from Lexer kinds.Set t a k e = subst (IsAtom Lexer t) (some_is e) (k, is_set (content (chars t.bytes)))
 IsAtom-from Parser _ t a k e = absurd (cc)
 IsAtom-from Lexer _ t a k e = absurd (cc)
 
@@ -395,14 +398,14 @@ IsOperand-lone rule t a is suffix Star (sign, one, k) = subst (λ v. IsElement (
 IsOperand-lone rule t a is suffix Plus (sign, one, k) = subst (λ v. IsElement (IsAtom rule) (t ∷ v) (as_often (lone a) Plus)) (sym one) (a_repeated_atom t sign a Plus is k)
 
 -- a step where an element may come
-element_step : (w : List Spelled) (rule : RuleKind) (around : Around) (es : List (Element Atom)) (t : Spelled) (later : Stage) → IsBehind rule around es w → next_at_element rule around es (atom_of rule t.kind (bytes_of t)) t.kind ≡ Some later → Holds (w ++ t ∷ []) later
-element_step w rule around es t later b e = by_atom (atom_of rule t.kind (bytes_of t)) refl e
+element_step : (w : List Spelled) (rule : RuleKind) (around : Around) (es : List (Element Atom)) (t : Spelled) (later : Stage) → IsBehind rule around es w → next_at_element rule around es (atom_of rule t.kind t.bytes) t.kind ≡ Some later → Holds (w ++ t ∷ []) later
+element_step w rule around es t later b e = by_atom (atom_of rule t.kind t.bytes) refl e
   where
     by_test : (test : Bool) → is_left_parenthesis t.kind ≡ test → (if test then Some (at_element rule (in_brackets around es []) []) else next_at_command rule around es t.kind) ≡ Some later → Holds (w ++ t ∷ []) later
     by_test true is e = subst (Holds (w ++ t ∷ [])) (some_is e) (opens rule around es w t b (left_kind t.kind is))
     by_test false is e = command_step w rule around es t later b e
 
-    by_atom : (o : Option Atom) → atom_of rule t.kind (bytes_of t) ≡ o → next_at_element rule around es o t.kind ≡ Some later → Holds (w ++ t ∷ []) later
+    by_atom : (o : Option Atom) → atom_of rule t.kind t.bytes ≡ o → next_at_element rule around es o t.kind ≡ Some later → Holds (w ++ t ∷ []) later
     by_atom (Some a) is e = subst (Holds (w ++ t ∷ [])) (some_is e) (w, t ∷ [], refl, b, IsOperand-lone rule t a (IsAtom-from rule t.kind t a refl is))
     by_atom None is e = by_test (is_left_parenthesis t.kind) refl e
 
@@ -479,9 +482,9 @@ Holds-after w (t ∷ ts) stage later h e = by_next (next stage t) refl e (λ bet
     by_next None is e further = absurd (cc)
     by_next (Some between) is e further = subst (λ v. Holds v later) (append_assoc w (t ∷ []) ts) (further between (Holds-next w stage t between h is) e)
 
--- a token of this kind with these characters
+-- a token of this kind with these bytes
 abbrev token : Kind → List ℕ → Spelled
-token kind characters = record { kind = kind; characters = characters }
+token kind bytes = record { kind = kind; bytes = bytes }
 
 -- what closes the alternatives, and what is around them
 abbrev closing : Around → List Spelled

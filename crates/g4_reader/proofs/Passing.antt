@@ -3,8 +3,10 @@ use Rattle.std.proofs.Common.{◌≡◌, ℕ, List, [], ◌∷◌, ◌++◌, Boo
 use Rattle.std.proofs.Math.Bool.{and-false}
 use Rattle.std.proofs.lemmas.List.{append-nil}
 use Rattle.std.proofs.lemmas.Slice.Eq.{bytes_eq-Decides}
+use Rattle.std.specs.Str.{chars}
 use Rattle.g4_tokens.specs.declared.token.Kind.{Kind}
 use Rattle.g4_tokens.specs.declared.token.Kind.TheVariants as kinds
+use Rattle.g4_grammar.specs.declared.source.Range.{Range}
 use Rattle.g4_grammar.specs.declared.source.Source.{Source}
 use Rattle.g4_grammar.specs.declared.source.Rule.{Rule}
 use Rattle.g4_grammar.specs.declared.source.Rule.TheVariants as rules
@@ -17,7 +19,9 @@ use Rattle.g4_grammar.specs.declared.element.Repeat.{Repeat}
 use Rattle.g4_grammar.specs.declared.element.Repeat.TheVariants.{Once, Star, Plus}
 use Rattle.g4_grammar.specs.Elements.{Element, Elements, empty, then, Alternatives, none, or, either}
 use Rattle.g4_grammar.specs.Trees.{in_order}
-use Rattle.g4_reader.specs.GrammarText.{Spelled, bytes_of, IsWord, IsParserAtom, IsLexerAtom, IsSuffix, AreInOrder, IsElement, an_atom, a_repeated_atom, a_block, AreElements, no_element, one_element_more, AreAlternatives, the_last, one_before, IsParserRule, IsCommand, IsLexerAlternative, AreLexerAlternatives, IsLexerRule, IsRule, IsGrammarText, Begins}
+use Rattle.g4_reader.specs.GrammarText.{Spelled, IsWord, IsParserAtom, IsLexerAtom, IsSuffix, AreInOrder, IsElement, an_atom, a_repeated_atom, a_block, AreElements, no_element, one_element_more, AreAlternatives, the_last, one_before, IsParserRule, IsCommand, IsLexerAlternative, AreLexerAlternatives, IsLexerRule, IsRule, IsGrammarText, Begins}
+use Rattle.g4_reader.specs.SetText.{content}
+use Rattle.g4_reader.proofs.SetText.{ranges_are}
 use Rattle.g4_reader.specs.Stages.{Around, in_parser_rule, in_lexer_rule, in_brackets, Operand, lone, bracketed, Stage, at_grammar, at_name, at_name_end, at_rule, at_colon, at_element, at_sign, at_skip, at_bar, next, next_at_rule, next_at_element, next_at_bar, next_at_sign, if_so, is_colon, is_semicolon, is_lower, is_upper, is_word, repeat_of, as_often, with_rule, with_alternative, atom_of}
 use Rattle.g4_reader.specs.declared.atom.RuleKind.{RuleKind}
 use Rattle.g4_reader.specs.declared.atom.RuleKind.TheVariants.{Parser, Lexer}
@@ -33,7 +37,7 @@ after-stuck stage t ts e = ap (λ (o : Option Stage). elim o [ None ↦ None | S
 
 -- the word passes its test
 word_passes : (spelling : List ℕ) (t : Spelled) → IsWord spelling t → is_word spelling t ≡ true
-word_passes spelling t (l, w) = ap (λ kind. is_lower kind && bytes_eq t.characters spelling) l ∙ (bytes_eq-Decides t.characters spelling).1 w
+word_passes spelling t (l, w) = ap (λ kind. is_lower kind && bytes_eq t.bytes spelling) l ∙ (bytes_eq-Decides t.bytes spelling).1 w
 
 -- the elements of an alternative, in order
 abbrev pub listed : Elements Atom → List (Element Atom)
@@ -66,34 +70,34 @@ BeginsPlain [] = ⊥
 BeginsPlain (t ∷ ts) = repeat_of t.kind ≡ Once
 
 -- a token that is an atom in a rule
-atom_of-is : (rule : RuleKind) (t : Spelled) (a : Atom) → IsAtom rule t a → atom_of rule t.kind (bytes_of t) ≡ Some a
+atom_of-is : (rule : RuleKind) (t : Spelled) (a : Atom) → IsAtom rule t a → atom_of rule t.kind t.bytes ≡ Some a
 atom_of-is Parser t (atoms.Token name) (k, is) = there t.kind k
   where
-    there : (kind : Kind) → kind ≡ kinds.Upper → atom_of Parser kind (bytes_of t) ≡ Some (atoms.Token name)
+    there : (kind : Kind) → kind ≡ kinds.Upper → atom_of Parser kind t.bytes ≡ Some (atoms.Token name)
     there kind k = rw (k, is) refl
-atom_of-is Parser t (atoms.Literal literal) (k, is) = there t.kind k
+atom_of-is Parser t (atoms.Literal literal) (k, is, written) = there t.kind k
   where
-    there : (kind : Kind) → kind ≡ kinds.Literal literal.characters → atom_of Parser kind (bytes_of t) ≡ Some (atoms.Literal literal)
-    there kind k = rw (k, ← is) refl
+    there : (kind : Kind) → kind ≡ kinds.Literal → atom_of Parser kind t.bytes ≡ Some (atoms.Literal literal)
+    there kind k = rw (k, ← is, ← written) refl
 atom_of-is Parser t (atoms.Set ranges) is = absurd is
 atom_of-is Lexer t (atoms.Token name) is = absurd is
-atom_of-is Lexer t (atoms.Literal literal) (k, is) = there t.kind k
+atom_of-is Lexer t (atoms.Literal literal) (k, is, written) = there t.kind k
   where
-    there : (kind : Kind) → kind ≡ kinds.Literal literal.characters → atom_of Lexer kind (bytes_of t) ≡ Some (atoms.Literal literal)
-    there kind k = rw (k, ← is) refl
-atom_of-is Lexer t (atoms.Set ranges) k = there t.kind k
+    there : (kind : Kind) → kind ≡ kinds.Literal → atom_of Lexer kind t.bytes ≡ Some (atoms.Literal literal)
+    there kind k = rw (k, ← is, ← written) refl
+atom_of-is Lexer t (atoms.Set ranges) (k, is) = there t.kind k
   where
-    there : (kind : Kind) → kind ≡ kinds.Set ranges → atom_of Lexer kind (bytes_of t) ≡ Some (atoms.Set ranges)
-    there kind k = rw k refl
+    there : (kind : Kind) → kind ≡ kinds.Set → atom_of Lexer kind t.bytes ≡ Some (atoms.Set ranges)
+    there kind k = rw k (ap (λ (r : List Range). Some (atoms.Set r)) (sym (ranges_are (content (chars t.bytes)) ranges is)))
 
 -- an atom is neither `*` nor `+`
 atom_plain : (rule : RuleKind) (t : Spelled) (a : Atom) → IsAtom rule t a → repeat_of t.kind ≡ Once
 atom_plain Parser t (atoms.Token name) (k, is) = ap repeat_of k
-atom_plain Parser t (atoms.Literal literal) (k, is) = ap repeat_of k
+atom_plain Parser t (atoms.Literal literal) (k, is, written) = ap repeat_of k
 atom_plain Parser t (atoms.Set ranges) is = absurd is
 atom_plain Lexer t (atoms.Token name) is = absurd is
-atom_plain Lexer t (atoms.Literal literal) (k, is) = ap repeat_of k
-atom_plain Lexer t (atoms.Set ranges) k = ap repeat_of k
+atom_plain Lexer t (atoms.Literal literal) (k, is, written) = ap repeat_of k
+atom_plain Lexer t (atoms.Set ranges) (k, is) = ap repeat_of k
 
 -- elements begin with neither
 elements_plain : (rule : RuleKind) (Is : Spelled → Atom → Type 0) (atomic : (t : Spelled) (a : Atom) → Is t a → IsAtom rule t a) (word rest : List Spelled) (xs : Elements Atom) → AreElements Is word xs → BeginsPlain rest → BeginsPlain (word ++ rest)
@@ -123,17 +127,17 @@ suffix_passes rule around es operand suffix rest Plus (sign, one, k) plain =
     ap (λ w. after (at_sign rule around es operand) (w ++ rest)) one ∙ after-next (at_sign rule around es operand) sign rest _ (ap (λ (kind : Kind). next_at_sign rule around es operand (repeat_of kind) sign) k)
 
 -- `(` where an element may come
-left_at_element : (rule : RuleKind) (around : Around) (es : List (Element Atom)) (t : Spelled) (kind : Kind) → kind ≡ kinds.LeftParenthesis → next_at_element rule around es (atom_of rule kind (bytes_of t)) kind ≡ Some (at_element rule (in_brackets around es []) [])
+left_at_element : (rule : RuleKind) (around : Around) (es : List (Element Atom)) (t : Spelled) (kind : Kind) → kind ≡ kinds.LeftParenthesis → next_at_element rule around es (atom_of rule kind t.bytes) kind ≡ Some (at_element rule (in_brackets around es []) [])
 left_at_element Parser around es t kind k = rw k refl
 left_at_element Lexer around es t kind k = rw k refl
 
 -- `|` behind the elements of an alternative
-bar_at_element : (rule : RuleKind) (around : Around) (es : List (Element Atom)) (t : Spelled) (kind : Kind) → kind ≡ kinds.Bar → next_at_element rule around es (atom_of rule kind (bytes_of t)) kind ≡ Some (at_element rule (with_alternative around es false) [])
+bar_at_element : (rule : RuleKind) (around : Around) (es : List (Element Atom)) (t : Spelled) (kind : Kind) → kind ≡ kinds.Bar → next_at_element rule around es (atom_of rule kind t.bytes) kind ≡ Some (at_element rule (with_alternative around es false) [])
 bar_at_element Parser around es t kind k = rw (k, and-false) refl
 bar_at_element Lexer around es t kind k = rw (k, and-false) refl
 
 -- `)` behind the elements of the last alternative
-right_at_element : (rule : RuleKind) (around : Around) (outer : List (Element Atom)) (before : List (Elements Atom)) (es : List (Element Atom)) (t : Spelled) (kind : Kind) → kind ≡ kinds.RightParenthesis → next_at_element rule (in_brackets around outer before) es (atom_of rule kind (bytes_of t)) kind ≡ Some (at_sign rule around outer (bracketed (either (before ++ in_order es ∷ []))))
+right_at_element : (rule : RuleKind) (around : Around) (outer : List (Element Atom)) (before : List (Elements Atom)) (es : List (Element Atom)) (t : Spelled) (kind : Kind) → kind ≡ kinds.RightParenthesis → next_at_element rule (in_brackets around outer before) es (atom_of rule kind t.bytes) kind ≡ Some (at_sign rule around outer (bracketed (either (before ++ in_order es ∷ []))))
 right_at_element Parser around outer before es t kind k = rw k refl
 right_at_element Lexer around outer before es t kind k = rw k refl
 
@@ -188,7 +192,7 @@ parser_alternatives_pass source name before _ rest _ close (the_last word x are)
     ∙ after-next (at_element Parser (in_parser_rule source name before) (listed x)) close rest _ (there close.kind k)
     ∙ ap (λ (y : Elements Atom). after (behind_parser source name (before ++ y ∷ [])) rest) (in_order-listed x)
   where
-    there : (kind : Kind) → kind ≡ kinds.Semicolon → next_at_element Parser (in_parser_rule source name before) (listed x) (atom_of Parser kind (bytes_of close)) kind ≡ Some (behind_parser source name (before ++ in_order (listed x) ∷ []))
+    there : (kind : Kind) → kind ≡ kinds.Semicolon → next_at_element Parser (in_parser_rule source name before) (listed x) (atom_of Parser kind close.bytes) kind ≡ Some (behind_parser source name (before ++ in_order (listed x) ∷ []))
     there kind k = rw k refl
 parser_alternatives_pass source name before _ rest _ close (one_before bar first others word x xs is bar_is are parts) k =
     ap (after (at_element Parser (in_parser_rule source name before) [])) (ap (λ w. w ++ close ∷ rest) parts ∙ append_assoc first (bar ∷ others) (close ∷ rest))
@@ -209,7 +213,7 @@ parser_rule_passes source word rest rule is =
     ∙ parser_alternatives_pass source name [] is.body rest (either rule.alternatives) is.close is.alternatives_are is.close_is
     ∙ ap (λ (l : List (Elements Atom)). after (behind_parser source name l) rest) (sides-either rule.alternatives))
   where
-    begins : (kind : Kind) → kind ≡ kinds.Lower → next_at_rule source (bytes_of is.head) kind ≡ Some (at_colon Parser source rule.name)
+    begins : (kind : Kind) → kind ≡ kinds.Lower → next_at_rule source is.head.bytes kind ≡ Some (at_colon Parser source rule.name)
     begins kind k = rw (k, ← is.named) refl
 
     colon : (kind : Kind) → kind ≡ kinds.Colon → if_so (is_colon kind) (at_element Parser (in_parser_rule source rule.name []) []) ≡ Some (at_element Parser (in_parser_rule source rule.name []) [])
@@ -233,7 +237,7 @@ command_passes : (source : Source) (name : List ℕ) (before : List LexerAlterna
 command_passes source name before es false command t rest is due =
     subst (λ w. BeginsPlain (w ++ t ∷ rest) × (after (at_element Lexer (in_lexer_rule source name before) es) (w ++ t ∷ rest) ≡ after (at_bar Lexer (with_lexer source name before (in_order es) false)) (t ∷ rest))) (sym is) (due_plain t due, ap (λ (o : Option Stage). elim o [ None ↦ None | Some between ↦ after between rest ]) (there t.kind due))
   where
-    there : (kind : Kind) → (kind ≡ kinds.Bar) ⊎ (kind ≡ kinds.Semicolon) → next_at_element Lexer (in_lexer_rule source name before) es (atom_of Lexer kind (bytes_of t)) kind ≡ next_at_bar Lexer (with_lexer source name before (in_order es) false) kind
+    there : (kind : Kind) → (kind ≡ kinds.Bar) ⊎ (kind ≡ kinds.Semicolon) → next_at_element Lexer (in_lexer_rule source name before) es (atom_of Lexer kind t.bytes) kind ≡ next_at_bar Lexer (with_lexer source name before (in_order es) false) kind
     there kind (inl k) = rw k refl
     there kind (inr k) = rw k refl
 command_passes source name before es true command t rest (arrow, skip, parts, a, is) due =
@@ -244,7 +248,7 @@ command_passes source name before es true command t rest (arrow, skip, parts, a,
           ∙ after-next (at_skip Lexer around es) skip (t ∷ rest) (at_bar Lexer (with_lexer source name before (in_order es) true)) (ap (λ test. if_so test (at_bar Lexer (with_lexer source name before (in_order es) true))) (word_passes (codes "skip") skip is)),
     )
   where
-    begins : (kind : Kind) → kind ≡ kinds.Arrow → next_at_element Lexer (in_lexer_rule source name before) es (atom_of Lexer kind (bytes_of arrow)) kind ≡ Some (at_skip Lexer (in_lexer_rule source name before) es)
+    begins : (kind : Kind) → kind ≡ kinds.Arrow → next_at_element Lexer (in_lexer_rule source name before) es (atom_of Lexer kind arrow.bytes) kind ≡ Some (at_skip Lexer (in_lexer_rule source name before) es)
     begins kind k = rw k refl
 
 -- an alternative of a lexer rule is read
@@ -288,7 +292,7 @@ lexer_rule_passes source word rest rule is =
     ∙ ap (after (at_element Lexer (in_lexer_rule source name []) [])) (append_assoc is.body (is.close ∷ []) rest)
     ∙ lexer_alternatives_pass source name [] is.body rest rule.alternatives is.close is.alternatives_are is.close_is)
   where
-    begins : (kind : Kind) → kind ≡ kinds.Upper → next_at_rule source (bytes_of is.head) kind ≡ Some (at_colon Lexer source rule.name)
+    begins : (kind : Kind) → kind ≡ kinds.Upper → next_at_rule source is.head.bytes kind ≡ Some (at_colon Lexer source rule.name)
     begins kind k = rw (k, ← is.named) refl
 
     colon : (kind : Kind) → kind ≡ kinds.Colon → if_so (is_colon kind) (at_element Lexer (in_lexer_rule source rule.name []) []) ≡ Some (at_element Lexer (in_lexer_rule source rule.name []) [])
@@ -314,7 +318,7 @@ text_passes tokens source is =
     ∙ after-next (at_name_end source.name) is.close is.body (at_rule (record { name = source.name; rules = [] })) (ends is.close.kind is.close_is)
     ∙ rules_pass source.name [] is.body source.rules is.rules_are)
   where
-    named : (kind : Kind) → (kind ≡ kinds.Lower) ⊎ (kind ≡ kinds.Upper) → if_so (is_lower kind || is_upper kind) (at_name_end (bytes_of is.head)) ≡ Some (at_name_end source.name)
+    named : (kind : Kind) → (kind ≡ kinds.Lower) ⊎ (kind ≡ kinds.Upper) → if_so (is_lower kind || is_upper kind) (at_name_end is.head.bytes) ≡ Some (at_name_end source.name)
     named kind (inl k) = rw (k, ← is.named) refl
     named kind (inr k) = rw (k, ← is.named) refl
 

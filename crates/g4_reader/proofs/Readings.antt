@@ -1,18 +1,22 @@
 -- What the reading of a text's tokens says of the text.
 use Rattle.std.proofs.Common.{◌≡◌, ◌≢◌, ℕ, List, [], ◌∷◌, ◌++◌, ◌⊎◌, inl, inr, refl, sym, ◌∙◌, ap, subst, take, drop, append_assoc, Option, Some, None, Result, Ok, Err}
 use Rattle.std.proofs.lemmas.List.{append-nil, append_cancel_right, map-append, take-append-drop}
+use Rattle.std.specs.Str.{IsUtf8, IsValidUpTo}
 use Rattle.g4_base.specs.declared.place.Place.{Place}
 use Rattle.g4_tokens.specs.declared.token.Token.{Token}
-use Rattle.g4_tokens.specs.Scanning.{Opened, scanned}
+use Rattle.g4_tokens.specs.Answers.{HasTokens}
+use Rattle.g4_tokens.specs.declared.position.Position.{Position}
 use Rattle.g4_grammar.specs.declared.source.Source.{Source}
 use Rattle.g4_reader.specs.GrammarText.{Spelled, spelled, spelled_token, IsGrammarText, Begins}
 use Rattle.g4_reader.specs.Reading.{Fault, fault_at, opened_fault, Ends, HasNoBadSet, IsFirstBadSet, IsFirstFault, IsReading}
 use Rattle.g4_reader.specs.Sets.{first_bad_set, good_or_bad, with_good_sets}
-use Rattle.g4_reader.specs.Stages.{Stage, at_grammar, at_rule, next, grammar_at, result_of, reading_from, IsFirstOf, IsReadingOf}
+use Rattle.g4_reader.specs.Stages.{Stage, at_grammar, at_rule, next, grammar_at, result_of, reading_from, IsFirstOf, IsGoodOrBad, IsReadingOf}
 use Rattle.g4_reader.specs.declared.reader.ReadFault.{ReadFault}
-use Rattle.g4_reader.specs.declared.reader.ReadFault.TheVariants.{Syntax, BadSet, NoMemory}
+use Rattle.g4_reader.specs.declared.reader.ReadFault.TheVariants.{NotUtf8, Syntax, BadSet, NoMemory}
 use Rattle.g4_reader.proofs.Holding.{after, Holds, Holds-next, Holds-after, Begins-from, text_from}
 use Rattle.g4_reader.proofs.Passing.{after-next, after-stuck, after-append, text_passes, Begins-after}
+use Rattle.g4_reader.proofs.Scans.{IsCut, cut_utf8, one_cut, some_cut}
+use Rattle.g4_reader.proofs.Utf8.{utf8_or_not, not_both, one_point}
 use Rattle.g4_reader.proofs.Sets.{first_bad_from, no_bad_from, first_bad_is, none_found}
 use Rattle.g4_reader.proofs.Steps.{reading_from-next, reading_from-stuck, reading_from-end}
 
@@ -110,9 +114,9 @@ spelled_begins : (text : List ℕ) (before behind : List Token) → Begins (spel
 spelled_begins text before behind begins = begins_before (spelled text before) (spelled text behind) (subst Begins (map-append (spelled_token text) before behind) begins)
 
 -- the first bad set of tokens with which a grammar text begins
-bad_begun : (text : List ℕ) (tokens behind : List Token) (place : Place) → Begins (spelled text tokens) → first_bad_set tokens ≡ Some place → IsFirstBadSet text (tokens ++ behind) place
+bad_begun : (text : List ℕ) (tokens behind : List Token) (place : Place) → Begins (spelled text tokens) → first_bad_set text tokens ≡ Some place → IsFirstBadSet text (tokens ++ behind) place
 bad_begun text tokens behind place begins e =
-    let first = first_bad_from tokens place e in
+    let first = first_bad_from text tokens place e in
     let parts : tokens ≡ (first.before ++ first.set ∷ []) ++ first.behind = first.parts ∙ sym (append_assoc first.before (first.set ∷ []) first.behind) in record {
       before = first.before;
       set = first.set;
@@ -133,35 +137,47 @@ read_grammar_is : (text : List ℕ) (tokens : List Token) (source : Source) → 
 read_grammar_is text tokens source e = grammar_from text tokens source (subst (Tells text at_grammar tokens) e (reading_tells text at_grammar tokens))
 
 -- a grammar that is read, in which a bad set is found or none
-pub read_to_end : (text : List ℕ) (tokens : List Token) (source : Source) → reading_from text at_grammar tokens ≡ Ok source → IsReadingOf text tokens (with_good_sets source tokens)
-read_to_end text tokens source e = by_found (first_bad_set tokens) refl
+pub read_to_end : (text : List ℕ) (tokens : List Token) (source : Source) → reading_from text at_grammar tokens ≡ Ok source → IsReadingOf text tokens (with_good_sets text source tokens)
+read_to_end text tokens source e = by_found (first_bad_set text tokens) refl
   where
-    by_found : (o : Option Place) → first_bad_set tokens ≡ o → IsReadingOf text tokens (good_or_bad source o)
-    by_found None is = (read_grammar_is text tokens source e, no_bad_from tokens is)
+    by_found : (o : Option Place) → first_bad_set text tokens ≡ o → IsReadingOf text tokens (good_or_bad source o)
+    by_found None is = (read_grammar_is text tokens source e, no_bad_from text tokens is)
     by_found (Some place) is =
         subst (λ l. IsFirstBadSet text l place) (append-nil tokens) (bad_begun text tokens [] place (text_begins text tokens source (read_grammar_is text tokens source e)) is)
 
+-- what is given for a reading of the tokens, unless memory runs out, is one
+pub reading_given : (text : List ℕ) (tokens : List Token) (given result : Result Source ReadFault) → IsReadingOf text tokens given → IsGoodOrBad given result → IsReadingOf text tokens result
+reading_given text tokens given (Ok source) is same = subst (IsReadingOf text tokens) (sym same) is
+reading_given text tokens given (Err (NotUtf8 at)) is same = subst (IsReadingOf text tokens) (sym same) is
+reading_given text tokens given (Err (Syntax place characters)) is same = subst (IsReadingOf text tokens) (sym same) is
+reading_given text tokens given (Err (BadSet place)) is same = subst (IsReadingOf text tokens) (sym same) is
+reading_given text tokens given (Err NoMemory) is same = tt
+
 -- a fault of a reading that stops, in the tokens before which no bad set is found
-fault_first : (text : List ℕ) (tokens others : List Token) (stop : IsStop text tokens others) → first_bad_set stop.before ≡ None → IsFirstFault text tokens (fault_at text others)
+fault_first : (text : List ℕ) (tokens others : List Token) (stop : IsStop text tokens others) → first_bad_set text stop.before ≡ None → IsFirstFault text tokens (fault_at text others)
 fault_first text tokens others stop none = record {
   before = stop.before;
   others = others;
   parts = stop.parts;
   begins = stop.begins;
   ends = stop.ends;
-  good_before = no_bad_from stop.before none;
+  good_before = no_bad_from text stop.before none;
   is = refl;
 }
 
 -- a reading that stops, in the tokens before which a bad set is found or none
-read_to_stop : (text : List ℕ) (tokens others : List Token) (stop : IsStop text tokens others) (fault : ReadFault) → IsFirstOf text (first_bad_set stop.before) others fault → IsReadingOf text tokens (Err fault)
-read_to_stop text tokens others stop fault is = by_found (first_bad_set stop.before) refl fault is
+read_to_stop : (text : List ℕ) (tokens others : List Token) (stop : IsStop text tokens others) (fault : ReadFault) → IsFirstOf text (first_bad_set text stop.before) others fault → IsReadingOf text tokens (Err fault)
+read_to_stop text tokens others stop fault is = by_found (first_bad_set text stop.before) refl fault is
   where
-    by_found : (o : Option Place) → first_bad_set stop.before ≡ o → (fault : ReadFault) → IsFirstOf text o others fault → IsReadingOf text tokens (Err fault)
-    by_found (Some place) found fault is =
+    by_found : (o : Option Place) → first_bad_set text stop.before ≡ o → (fault : ReadFault) → IsFirstOf text o others fault → IsReadingOf text tokens (Err fault)
+    by_found (Some place) found NoMemory is = tt
+    by_found (Some place) found (Syntax p c) is = absurd (cc)
+    by_found (Some place) found (NotUtf8 at) is = absurd (cc)
+    by_found (Some place) found (BadSet other) is =
         subst (λ f. IsReadingOf text tokens (Err f)) (sym is) (subst (λ l. IsFirstBadSet text l place) (sym stop.parts) (bad_begun text stop.before others place stop.begins found))
     by_found None found (Syntax place characters) is = subst (IsFirstFault text tokens) is (fault_first text tokens others stop found)
     by_found None found (BadSet place) is = absurd is
+    by_found None found (NotUtf8 at) is = absurd is
     by_found None found NoMemory is = tt
 
 -- tokens from an index on, and those before
@@ -169,16 +185,17 @@ before_index : (tokens : List Token) (i : ℕ) (before : List Token) → tokens 
 before_index tokens i before parts = append_cancel_right before (take i tokens) (drop i tokens) (sym parts ∙ sym (take-append-drop i tokens))
 
 -- a reading that stops at an index
-pub read_to_index : (text : List ℕ) (tokens : List Token) (i : ℕ) (fault : ReadFault) → reading_from text at_grammar tokens ≡ Err (drop i tokens) → IsFirstOf text (first_bad_set (take i tokens)) (drop i tokens) fault → IsReadingOf text tokens (Err fault)
+pub read_to_index : (text : List ℕ) (tokens : List Token) (i : ℕ) (fault : ReadFault) → reading_from text at_grammar tokens ≡ Err (drop i tokens) → IsFirstOf text (first_bad_set text (take i tokens)) (drop i tokens) fault → IsReadingOf text tokens (Err fault)
 read_to_index text tokens i fault e is =
     let stop = stop_from text tokens (drop i tokens) e in
-    read_to_stop text tokens (drop i tokens) stop fault (subst (λ l. IsFirstOf text (first_bad_set l) (drop i tokens) fault) (sym (before_index tokens i stop.before stop.parts)) is)
+    read_to_stop text tokens (drop i tokens) stop fault (subst (λ l. IsFirstOf text (first_bad_set text l) (drop i tokens) fault) (sym (before_index tokens i stop.before stop.parts)) is)
 
 -- a result of the reading of a text's tokens is a reading of the text
-pub IsReading-from : (text : List ℕ) (tokens : List Token) (result : Result Source ReadFault) → scanned text ≡ Ok tokens → IsReadingOf text tokens result → IsReading text result
+pub IsReading-from : (text : List ℕ) (tokens : List Token) (result : Result Source ReadFault) → HasTokens text tokens → IsReadingOf text tokens result → IsReading text result
 IsReading-from text tokens (Ok source) s is = (tokens, s, is.0, is.1)
 IsReading-from text tokens (Err (Syntax place characters)) s is = inr (tokens, s, is)
 IsReading-from text tokens (Err (BadSet place)) s is = (tokens, s, is)
+IsReading-from text tokens (Err (NotUtf8 at)) s is = absurd is
 IsReading-from text tokens (Err NoMemory) s is = tt
 
 -- a reading goes through the tokens that may come
@@ -261,16 +278,16 @@ ok_err : (reading : Result Source (List Token)) (source : Source) (others : List
 ok_err reading source others e f = cc
 
 -- where no set of the tokens is bad, none is the first
-no_first : (text : List ℕ) (tokens : List Token) (place : Place) → HasNoBadSet tokens → ¬ (IsFirstBadSet text tokens place)
+no_first : (text : List ℕ) (tokens : List Token) (place : Place) → HasNoBadSet text tokens → ¬ (IsFirstBadSet text tokens place)
 no_first text tokens place good first =
-    none_some (sym (none_found tokens good) ∙ ap first_bad_set first.parts ∙ first_bad_is first.before first.set first.behind first.good_before first.is_bad)
+    none_some (sym (none_found text tokens good) ∙ ap (first_bad_set text) first.parts ∙ first_bad_is text first.before first.set first.behind first.good_before first.is_bad)
 
 -- a first fault and a first bad set do not stand in one text
 one_first : (text : List ℕ) (tokens : List Token) (fault : Fault) (place : Place) → IsFirstFault text tokens fault → ¬ (IsFirstBadSet text tokens place)
 one_first text tokens fault place first bad = by_place (token_in first.before first.others bad.before bad.set bad.behind (sym first.parts ∙ bad.parts))
   where
     by_place : ((more : List Token) × (first.before ≡ bad.before ++ bad.set ∷ more)) ⊎ ((more : List Token) × (bad.before ≡ first.before ++ more) × (first.others ≡ more ++ bad.set ∷ bad.behind)) → ⊥
-    by_place (inl (more, is)) = none_some (sym (none_found first.before first.good_before) ∙ ap first_bad_set is ∙ first_bad_is bad.before bad.set more bad.good_before bad.is_bad)
+    by_place (inl (more, is)) = none_some (sym (none_found text first.before first.good_before) ∙ ap (first_bad_set text) is ∙ first_bad_is text bad.before bad.set more bad.good_before bad.is_bad)
     by_place (inr (more, is, rest)) = no_text_behind text first.before more bad.set first.others bad.behind rest first.ends (subst (λ l. Begins (spelled text (l ++ bad.set ∷ []))) is bad.begins)
 
 -- a text's grammar is one
@@ -294,8 +311,8 @@ one_bad_set text tokens a b is also = is.is ∙ somes (sym (found a is) ∙ foun
     somes : {x y : Place} → Some x ≡ Some y → x ≡ y
     somes e = cc
 
-    found : (place : Place) (first : IsFirstBadSet text tokens place) → first_bad_set tokens ≡ Some first.set.place
-    found place first = ap first_bad_set first.parts ∙ first_bad_is first.before first.set first.behind first.good_before first.is_bad
+    found : (place : Place) (first : IsFirstBadSet text tokens place) → first_bad_set text tokens ≡ Some first.set.place
+    found place first = ap (first_bad_set text) first.parts ∙ first_bad_is text first.before first.set first.behind first.good_before first.is_bad
 
 -- a grammar text has no first fault
 no_fault : (text : List ℕ) (tokens : List Token) (source : Source) (fault : Fault) → IsGrammarText (spelled text tokens) source → ¬ (IsFirstFault text tokens fault)
@@ -317,30 +334,43 @@ one_reading_of text tokens (Err (Syntax p c)) (Err (BadSet q)) is also n m = abs
 one_reading_of text tokens (Err (BadSet p)) (Ok y) is also n m = absurd (no_first text tokens p also.1 is)
 one_reading_of text tokens (Err (BadSet p)) (Err (Syntax q d)) is also n m = absurd (one_first text tokens _ p also is)
 one_reading_of text tokens (Err (BadSet p)) (Err (BadSet q)) is also n m = ap (λ r. Err (BadSet r)) (one_bad_set text tokens p q is also)
+one_reading_of text tokens (Err (NotUtf8 at)) b is also n m = absurd is
+one_reading_of text tokens a (Err (NotUtf8 at)) is also n m = absurd also
 one_reading_of text tokens (Err NoMemory) b is also n m = absurd (n refl)
 one_reading_of text tokens a (Err NoMemory) is also n m = absurd (m refl)
 
--- what a reading is, by what scanning the text gives
-abbrev ReadingAt : List ℕ → Result (List Token) Opened → Result Source ReadFault → Type 0
-ReadingAt text (Ok tokens) result = IsReadingOf text tokens result
-ReadingAt text (Err opened) result = result ≡ Err (Syntax (opened_fault text opened).place (opened_fault text opened).characters)
+-- what a reading is, by how the bytes are cut
+abbrev ReadingAt : List ℕ → List Token ⊎ Position → Result Source ReadFault → Type 0
+ReadingAt bytes (inl tokens) result = IsReadingOf bytes tokens result
+ReadingAt bytes (inr at) result = result ≡ told (opened_fault bytes at)
+
+-- what a reading is, of bytes that are a text or not
+abbrev ReadingBy : List ℕ → Result Source ReadFault → Type 0
+ReadingBy bytes result = ((at : ℕ) × IsValidUpTo bytes at × (result ≡ Err (NotUtf8 at))) ⊎ ((x : List Token ⊎ Position) × IsCut bytes x × ReadingAt bytes x result)
 
 -- a reading that memory sufficed for
-reading_at : (text : List ℕ) (result : Result Source ReadFault) → IsReading text result → result ≢ Err NoMemory → ReadingAt text (scanned text) result
+reading_by : (bytes : List ℕ) (result : Result Source ReadFault) → IsReading bytes result → result ≢ Err NoMemory → ReadingBy bytes result
 unfolding told
-reading_at text (Ok source) (tokens, s, is, good) n = subst (λ o. ReadingAt text o (Ok source)) (sym s) (is, good)
-reading_at text (Err (Syntax place characters)) (inl (opened, s, is)) n = subst (λ o. ReadingAt text o (Err (Syntax place characters))) (sym s) (ap told is)
-reading_at text (Err (Syntax place characters)) (inr (tokens, s, first)) n = subst (λ o. ReadingAt text o (Err (Syntax place characters))) (sym s) first
-reading_at text (Err (BadSet place)) (tokens, s, first) n = subst (λ o. ReadingAt text o (Err (BadSet place))) (sym s) first
-reading_at text (Err NoMemory) h n = absurd (n refl)
+reading_by bytes (Ok source) (tokens, s, is, good) n = inr (inl tokens, s, (is, good))
+reading_by bytes (Err (NotUtf8 at)) valid n = inl (at, valid, refl)
+reading_by bytes (Err (Syntax place characters)) (inl (opened, s, is)) n = inr (inr opened, s, ap told is)
+reading_by bytes (Err (Syntax place characters)) (inr (tokens, s, first)) n = inr (inl tokens, s, first)
+reading_by bytes (Err (BadSet place)) (tokens, s, first) n = inr (inl tokens, s, first)
+reading_by bytes (Err NoMemory) h n = absurd (n refl)
 
--- a text has one reading
-pub one_reading : (text : List ℕ) (a b : Result Source ReadFault) → IsReading text a → IsReading text b → a ≢ Err NoMemory → b ≢ Err NoMemory → a ≡ b
-one_reading text a b is also n m = by_tokens (scanned text) (reading_at text a is n) (reading_at text b also m)
+-- bytes have one reading
+pub one_reading : (bytes : List ℕ) (a b : Result Source ReadFault) → IsReading bytes a → IsReading bytes b → a ≢ Err NoMemory → b ≢ Err NoMemory → a ≡ b
+one_reading bytes a b is also n m = by_both (reading_by bytes a is n) (reading_by bytes b also m)
   where
-    by_tokens : (o : Result (List Token) Opened) → ReadingAt text o a → ReadingAt text o b → a ≡ b
-    by_tokens (Ok tokens) is also = one_reading_of text tokens a b is also n m
-    by_tokens (Err opened) is also = is ∙ sym also
+    by_cut : (x : List Token ⊎ Position) → ReadingAt bytes x a → ReadingAt bytes x b → a ≡ b
+    by_cut (inl tokens) is also = one_reading_of bytes tokens a b is also n m
+    by_cut (inr at) is also = is ∙ sym also
+
+    by_both : ReadingBy bytes a → ReadingBy bytes b → a ≡ b
+    by_both (inl (at, valid, is)) (inl (other, alike, also)) = is ∙ ap (λ (k : ℕ). Err (NotUtf8 k)) (one_point bytes at other valid alike) ∙ sym also
+    by_both (inl (at, valid, is)) (inr (y, cut, also)) = absurd (not_both bytes at (cut_utf8 bytes y cut) valid)
+    by_both (inr (x, cut, is)) (inl (other, valid, also)) = absurd (not_both bytes other (cut_utf8 bytes x cut) valid)
+    by_both (inr (x, cut, is)) (inr (y, alike, also)) = by_cut y (subst (λ (z : List Token ⊎ Position). ReadingAt bytes z a) (one_cut bytes x y cut alike) is) also
 
 -- a fault that is told is not that of memory
 told_not : (fault : Fault) → told fault ≢ Err NoMemory
@@ -350,25 +380,29 @@ told_not fault e = cc
 -- the reading of tokens with which a text ends or stops
 reading_of : (text : List ℕ) (tokens : List Token) (reading : Result Source (List Token)) → reading_from text at_grammar tokens ≡ reading → (result : Result Source ReadFault) × IsReadingOf text tokens result × (result ≢ Err NoMemory)
 unfolding told
-reading_of text tokens (Ok source) e = (with_good_sets source tokens, read_to_end text tokens source e, by_found (first_bad_set tokens))
+reading_of text tokens (Ok source) e = (with_good_sets text source tokens, read_to_end text tokens source e, by_found (first_bad_set text tokens))
   where
     by_found : (o : Option Place) → good_or_bad source o ≢ Err NoMemory
     by_found None e = cc
     by_found (Some place) e = cc
-reading_of text tokens (Err others) e = by_found (first_bad_set stop.before) refl
+reading_of text tokens (Err others) e = by_found (first_bad_set text stop.before) refl
   where
     stop : IsStop text tokens others
     stop = stop_from text tokens others e
 
-    by_found : (o : Option Place) → first_bad_set stop.before ≡ o → (result : Result Source ReadFault) × IsReadingOf text tokens result × (result ≢ Err NoMemory)
+    by_found : (o : Option Place) → first_bad_set text stop.before ≡ o → (result : Result Source ReadFault) × IsReadingOf text tokens result × (result ≢ Err NoMemory)
     by_found None found = (told (fault_at text others), fault_first text tokens others stop found, told_not (fault_at text others))
     by_found (Some place) found = (Err (BadSet place), subst (λ l. IsFirstBadSet text l place) (sym stop.parts) (bad_begun text stop.before others place stop.begins found), λ e. cc)
 
--- a text has a reading
-pub some_reading : (text : List ℕ) → (result : Result Source ReadFault) × IsReading text result × (result ≢ Err NoMemory)
+-- bytes have a reading
+pub some_reading : (bytes : List ℕ) → (result : Result Source ReadFault) × IsReading bytes result × (result ≢ Err NoMemory)
 unfolding told
-some_reading text = by_tokens (scanned text) refl
+some_reading bytes = by_utf8 (utf8_or_not bytes)
   where
-    by_tokens : (o : Result (List Token) Opened) → scanned text ≡ o → (result : Result Source ReadFault) × IsReading text result × (result ≢ Err NoMemory)
-    by_tokens (Ok tokens) e = let r = reading_of text tokens (reading_from text at_grammar tokens) refl in (r.0, IsReading-from text tokens r.0 e r.1, r.2)
-    by_tokens (Err opened) e = (told (opened_fault text opened), inl (opened, e, refl), told_not (opened_fault text opened))
+    by_cut : (x : List Token ⊎ Position) → IsCut bytes x → (result : Result Source ReadFault) × IsReading bytes result × (result ≢ Err NoMemory)
+    by_cut (inl tokens) s = let r = reading_of bytes tokens (reading_from bytes at_grammar tokens) refl in (r.0, IsReading-from bytes tokens r.0 s r.1, r.2)
+    by_cut (inr opened) s = (told (opened_fault bytes opened), inl (opened, s, refl), told_not (opened_fault bytes opened))
+
+    by_utf8 : IsUtf8 bytes ⊎ ((at : ℕ) × IsValidUpTo bytes at) → (result : Result Source ReadFault) × IsReading bytes result × (result ≢ Err NoMemory)
+    by_utf8 (inl utf8) = let cut = some_cut bytes utf8 in by_cut cut.0 cut.1
+    by_utf8 (inr (at, valid)) = (Err (NotUtf8 at), valid, λ e. cc)

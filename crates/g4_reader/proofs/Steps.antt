@@ -10,12 +10,17 @@ use Rattle.g4_grammar.specs.declared.source.Atom.{Atom}
 use Rattle.g4_grammar.specs.declared.element.Repeat.{Repeat}
 use Rattle.g4_grammar.specs.declared.element.Repeat.TheVariants.{Once, Star, Plus}
 use Rattle.g4_grammar.specs.Elements.{Element}
-use Rattle.g4_reader.specs.GrammarText.{spelled_token, bytes_of}
+use Rattle.g4_reader.specs.GrammarText.{spelled_token, bytes_of, characters_of}
+use Rattle.g4_reader.specs.Reading.{fault_at}
 use Rattle.g4_reader.specs.Stages.{Around, in_brackets, Operand, lone, Stage, at_name, at_name_end, at_rule, at_colon, at_element, at_sign, at_command, at_skip, at_bar, at_close, next, next_at_rule, next_at_element, if_so, passes, is_arrow, is_bar, is_left_parenthesis, is_lower, is_upper, atom_of, as_often, length_of, repeat_at, atom_at, name_at, name_of, has_commands, with_alternative, grammar_at, result_of, reading_from, StopsWith, LeadsTo}
 use Rattle.g4_reader.specs.declared.atom.RuleKind.{RuleKind}
 use Rattle.g4_reader.specs.declared.atom.RuleKind.TheVariants.{Parser, Lexer}
 use Rattle.g4_reader.specs.declared.stop.Stop.{Stop}
 use Rattle.g4_reader.specs.declared.stop.Stop.TheVariants as stops
+
+-- a token that stands nowhere
+abbrev pub blank : Token
+blank = record { kind = kinds.Lower; place = record { line = 0; column = 0 }; start = 0; end = 0 }
 
 -- the stage behind the token at an index, if one stands there and may come
 abbrev pub next_at : List ℕ → Stage → Option Token → Option Stage
@@ -118,7 +123,7 @@ bracket_next text rule around es tokens i is = rw add-one (read_on text _ _ toke
   where
     there : (o : Option Token) → passes (λ t. is_left_parenthesis t.kind) o ≡ true → next_at text (at_element rule around es) o ≡ Some (at_element rule (in_brackets around es []) [])
     there None is = absurd (cc)
-    there (Some t) is = left_next rule around es t.kind (bytes_of (spelled_token text t)) is
+    there (Some t) is = left_next rule around es t.kind (bytes_of text t) is
 
 -- a sign at the index says how often the element before it stands
 pub sign_at : (text : List ℕ) (rule : RuleKind) (around : Around) (es : List (Element Atom)) (operand : Operand) (tokens : List Token) (i : ℕ) (repeat : Repeat) → repeat ≡ repeat_at (slice_get tokens i) → LeadsTo text tokens i (at_sign rule around es operand) (at_element rule around (es ++ as_often operand repeat ∷ [])) (i + length_of repeat)
@@ -189,7 +194,7 @@ name_next text name tokens i is = rw add-one (read_on text _ _ tokens i (there (
 
     there : (o : Option Token) → Some name ≡ name_at text o → next_at text at_name o ≡ Some (at_name_end name)
     there None is = absurd (cc)
-    there (Some t) is = by_kind t.kind (bytes_of (spelled_token text t)) is
+    there (Some t) is = by_kind t.kind (bytes_of text t) is
 
 -- where none stands, the fault does
 pub name_none : (text : List ℕ) (tokens : List Token) (i : ℕ) → None ≡ name_at text (slice_get tokens i) → reading_from text at_name (drop i tokens) ≡ Err (drop i tokens)
@@ -202,24 +207,24 @@ name_none text tokens i is = read_stuck text _ tokens i (there (slice_get tokens
 
     there : (o : Option Token) → None ≡ name_at text o → next_at text at_name o ≡ None
     there None is = refl
-    there (Some t) is = by_kind t.kind (bytes_of (spelled_token text t)) is
+    there (Some t) is = by_kind t.kind (bytes_of text t) is
 
 -- at the end of the text the rules are those read
 pub rules_end : (text : List ℕ) (source : Source) (tokens : List Token) (i : ℕ) → length tokens ≤ i → reading_from text (at_rule source) (drop i tokens) ≡ Ok source
 rules_end text source tokens i h = rw (drop_all i tokens h) (reading_from-end text (at_rule source))
 
 -- the name of a parser rule is read
-pub lower_next : (text : List ℕ) (source : Source) (tokens : List Token) (i : ℕ) (t : Token) → slice_get tokens i ≡ Some t → kinds.Lower ≡ t.kind → reading_from text (at_rule source) (drop i tokens) ≡ reading_from text (at_colon Parser source (bytes_of (spelled_token text t))) (drop (i + 1) tokens)
+pub lower_next : (text : List ℕ) (source : Source) (tokens : List Token) (i : ℕ) (t : Token) → slice_get tokens i ≡ Some t → kinds.Lower ≡ t.kind → reading_from text (at_rule source) (drop i tokens) ≡ reading_from text (at_colon Parser source (bytes_of text t)) (drop (i + 1) tokens)
 lower_next text source tokens i t is k = rw add-one (read_on text _ _ tokens i (rw is (there t.kind k)))
   where
-    there : (kind : Kind) → kinds.Lower ≡ kind → next_at_rule source (bytes_of (spelled_token text t)) kind ≡ Some (at_colon Parser source (bytes_of (spelled_token text t)))
+    there : (kind : Kind) → kinds.Lower ≡ kind → next_at_rule source (bytes_of text t) kind ≡ Some (at_colon Parser source (bytes_of text t))
     there kind e = rw (← e) refl
 
 -- the name of a lexer rule is read
-pub upper_next : (text : List ℕ) (source : Source) (tokens : List Token) (i : ℕ) (t : Token) → slice_get tokens i ≡ Some t → kinds.Upper ≡ t.kind → reading_from text (at_rule source) (drop i tokens) ≡ reading_from text (at_colon Lexer source (bytes_of (spelled_token text t))) (drop (i + 1) tokens)
+pub upper_next : (text : List ℕ) (source : Source) (tokens : List Token) (i : ℕ) (t : Token) → slice_get tokens i ≡ Some t → kinds.Upper ≡ t.kind → reading_from text (at_rule source) (drop i tokens) ≡ reading_from text (at_colon Lexer source (bytes_of text t)) (drop (i + 1) tokens)
 upper_next text source tokens i t is k = rw add-one (read_on text _ _ tokens i (rw is (there t.kind k)))
   where
-    there : (kind : Kind) → kinds.Upper ≡ kind → next_at_rule source (bytes_of (spelled_token text t)) kind ≡ Some (at_colon Lexer source (bytes_of (spelled_token text t)))
+    there : (kind : Kind) → kinds.Upper ≡ kind → next_at_rule source (bytes_of text t) kind ≡ Some (at_colon Lexer source (bytes_of text t))
     there kind e = rw (← e) refl
 
 -- where no name stands, no rule begins
@@ -230,7 +235,27 @@ rule_stuck text source (u ∷ us) zero t is no_lower no_upper =
     let same : u ≡ t = cc in
     reading_from-stuck text (at_rule source) u us (there u.kind (λ e. no_lower (ap (λ (v : Token). v.kind) (sym same) ∙ e)) (λ e. no_upper (ap (λ (v : Token). v.kind) (sym same) ∙ e)))
   where
-    there : (kind : Kind) → (kind ≡ kinds.Lower → ⊥) → (kind ≡ kinds.Upper → ⊥) → next_at_rule source (bytes_of (spelled_token text u)) kind ≡ None
+    there : (kind : Kind) → (kind ≡ kinds.Lower → ⊥) → (kind ≡ kinds.Upper → ⊥) → next_at_rule source (bytes_of text u) kind ≡ None
     there kinds.Lower l n = absurd (l refl)
     there kinds.Upper l n = absurd (n refl)
     there _ l n = refl
+
+-- the fault at a token that stands at the index
+pub fault_here : (text : List ℕ) (tokens : List Token) (i : ℕ) (t : Token) → slice_get tokens i ≡ Some t → fault_at text (drop i tokens) ≡ record { place = t.place; characters = characters_of text t }
+fault_here text [] i t is = absurd (nothing i is)
+  where
+    nothing : (i : ℕ) → slice_get [] i ≡ Some t → ⊥
+    nothing zero e = cc
+    nothing (suc i) e = cc
+fault_here text (u ∷ us) zero t is = ap (λ (v : Token). record { place = v.place; characters = characters_of text v }) (somes is)
+  where
+    somes : Some u ≡ Some t → u ≡ t
+    somes e = cc
+fault_here text (u ∷ us) (suc i) t is = fault_here text us i t is
+
+-- the fault behind all tokens
+pub fault_behind : (text : List ℕ) (tokens : List Token) (i : ℕ) → slice_get tokens i ≡ None → fault_at text (drop i tokens) ≡ fault_at text []
+fault_behind text [] zero is = refl
+fault_behind text [] (suc i) is = refl
+fault_behind text (u ∷ us) zero is = absurd (cc)
+fault_behind text (u ∷ us) (suc i) is = fault_behind text us i is

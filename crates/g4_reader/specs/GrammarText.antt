@@ -1,5 +1,7 @@
 -- Which tokens are a grammar text, and which grammar they are.
-use Rattle.std.specs.Prelude.{◌≡◌, ℕ, ◌-◌, List, [], ◌∷◌, ◌++◌, take, drop, map, Bool, true, false, ◌⊎◌, codes, encode_utf8_all}
+use Rattle.std.specs.Prelude.{◌≡◌, ℕ, ◌-◌, List, [], ◌∷◌, ◌++◌, take, drop, map, Bool, true, false, ◌⊎◌, codes}
+use Rattle.std.specs.Str.{chars}
+use Rattle.g4_tokens.specs.Spelling.{literal_spelling}
 use Rattle.g4_tokens.specs.declared.token.Token.{Token}
 use Rattle.g4_tokens.specs.declared.token.Kind.{Kind}
 use Rattle.g4_tokens.specs.declared.token.Kind.TheVariants as kinds
@@ -16,35 +18,36 @@ use Rattle.g4_grammar.specs.declared.element.Repeat.{Repeat}
 use Rattle.g4_grammar.specs.declared.element.Repeat.TheVariants.{Once, Star, Plus}
 use Rattle.g4_grammar.specs.Elements.{Element, atom, Elements, empty, then, Alternatives, or, only, either}
 use Rattle.g4_grammar.specs.Trees.{repeated}
+use Rattle.g4_reader.specs.SetText.{content, IsSet}
 
--- a token as the grammar of grammars sees it: its kind and its characters
+-- a token as the grammar of grammars sees it: its kind and its bytes
 pub record Spelled : Type 0 where
   pub kind : Kind
-  pub characters : List ℕ
+  pub bytes : List ℕ
+
+-- the bytes of a token
+abbrev pub bytes_of : List ℕ → Token → List ℕ
+bytes_of text token = take (token.end - token.start) (drop token.start text)
 
 -- the characters of a token
 abbrev pub characters_of : List ℕ → Token → List ℕ
-characters_of text token = take (token.end - token.start) (drop token.start text)
+characters_of text token = chars (bytes_of text token)
 
--- a token of the text, with its characters
+-- a token of the text, with its bytes
 abbrev pub spelled_token : List ℕ → Token → Spelled
-spelled_token text token = record { kind = token.kind; characters = characters_of text token }
+spelled_token text token = record { kind = token.kind; bytes = bytes_of text token }
 
--- the tokens of the text, each with its characters
+-- the tokens of the text, each with its bytes
 abbrev pub spelled : List ℕ → List Token → List Spelled
 spelled text tokens = map (spelled_token text) tokens
 
--- the bytes of a token
-abbrev pub bytes_of : Spelled → List ℕ
-bytes_of token = encode_utf8_all token.characters
-
 -- the name with this spelling, `grammar` or `skip`
 abbrev pub IsWord : List ℕ → Spelled → Type 0
-IsWord spelling token = (token.kind ≡ kinds.Lower) × (token.characters ≡ spelling)
+IsWord spelling token = (token.kind ≡ kinds.Lower) × (token.bytes ≡ spelling)
 
 -- a literal: the characters that it stands for, and its text as written
 abbrev pub IsLiteral : Spelled → Literal → Type 0
-IsLiteral token literal = (token.kind ≡ kinds.Literal literal.characters) × (literal.written ≡ bytes_of token)
+IsLiteral token literal = (token.kind ≡ kinds.Literal) × (literal.characters ≡ literal_spelling (chars token.bytes)) × (literal.written ≡ token.bytes)
 
 -- the tokens are parts, one behind another, which are these things in order
 abbrev pub AreInOrder : {X : Type 0} → (List Spelled → X → Type 0) → List Spelled → List X → Type 0
@@ -53,7 +56,7 @@ AreInOrder Is word (x ∷ xs) = (first : List Spelled) × (others : List Spelled
 
 -- an atom of a parser rule: an upper-case name or a literal
 abbrev pub IsParserAtom : Spelled → Atom → Type 0
-IsParserAtom token (atoms.Token name) = (token.kind ≡ kinds.Upper) × (name ≡ bytes_of token)
+IsParserAtom token (atoms.Token name) = (token.kind ≡ kinds.Upper) × (name ≡ token.bytes)
 IsParserAtom token (atoms.Literal literal) = IsLiteral token literal
 IsParserAtom token (atoms.Set ranges) = ⊥
 
@@ -61,7 +64,7 @@ IsParserAtom token (atoms.Set ranges) = ⊥
 abbrev pub IsLexerAtom : Spelled → Atom → Type 0
 IsLexerAtom token (atoms.Token name) = ⊥
 IsLexerAtom token (atoms.Literal literal) = IsLiteral token literal
-IsLexerAtom token (atoms.Set ranges) = token.kind ≡ kinds.Set ranges
+IsLexerAtom token (atoms.Set ranges) = (token.kind ≡ kinds.Set) × IsSet (content (chars token.bytes)) ranges
 
 -- `*` or `+`
 abbrev pub IsSign : Spelled → Repeat → Type 0
@@ -103,7 +106,7 @@ pub record IsParserRule (word : List Spelled) (rule : ParserRule) : Type 0 where
   pub close : Spelled
   pub parts : word ≡ head ∷ colon ∷ (body ++ close ∷ [])
   pub lower : head.kind ≡ kinds.Lower
-  pub named : rule.name ≡ bytes_of head
+  pub named : rule.name ≡ head.bytes
   pub colon_is : colon.kind ≡ kinds.Colon
   pub alternatives_are : AreAlternatives IsParserAtom body (either rule.alternatives)
   pub close_is : close.kind ≡ kinds.Semicolon
@@ -132,7 +135,7 @@ pub record IsLexerRule (word : List Spelled) (rule : LexerRule) : Type 0 where
   pub close : Spelled
   pub parts : word ≡ head ∷ colon ∷ (body ++ close ∷ [])
   pub upper : head.kind ≡ kinds.Upper
-  pub named : rule.name ≡ bytes_of head
+  pub named : rule.name ≡ head.bytes
   pub colon_is : colon.kind ≡ kinds.Colon
   pub alternatives_are : AreLexerAlternatives body rule.alternatives
   pub close_is : close.kind ≡ kinds.Semicolon
@@ -151,7 +154,7 @@ pub record IsGrammarText (tokens : List Spelled) (source : Source) : Type 0 wher
   pub parts : tokens ≡ keyword ∷ head ∷ close ∷ body
   pub keyword_is : IsWord (codes "grammar") keyword
   pub head_is : (head.kind ≡ kinds.Lower) ⊎ (head.kind ≡ kinds.Upper)
-  pub named : source.name ≡ bytes_of head
+  pub named : source.name ≡ head.bytes
   pub close_is : close.kind ≡ kinds.Semicolon
   pub rules_are : AreInOrder IsRule body source.rules
 

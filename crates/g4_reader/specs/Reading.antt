@@ -1,24 +1,21 @@
 -- What reading a grammar text answers.
-use Rattle.std.specs.Prelude.{◌≡◌, ℕ, ◌<◌, List, [], ◌∷◌, ◌++◌, take, drop, Result, Ok, Err, ◌⊎◌, codes, if◌then◌else◌, ◌==◌, All, Any}
+use Rattle.std.specs.Prelude.{◌≡◌, ℕ, List, [], ◌∷◌, ◌++◌, take, drop, Result, Ok, Err, ◌⊎◌, codes, All}
+use Rattle.std.specs.Str.{IsValidUpTo, chars}
 use Rattle.g4_base.specs.declared.place.Place.{Place}
 use Rattle.g4_base.specs.Place.{first_place, place_after}
+use Rattle.g4_tokens.specs.declared.position.Position.{Position}
 use Rattle.g4_tokens.specs.declared.token.Token.{Token}
 use Rattle.g4_tokens.specs.declared.token.Kind.TheVariants.{Set}
-use Rattle.g4_tokens.specs.Scanning.{Opened, scanned}
-use Rattle.g4_grammar.specs.declared.source.Range.{Range}
+use Rattle.g4_tokens.specs.Answers.{HasTokens, HasFault, unmarked}
 use Rattle.g4_grammar.specs.declared.source.Source.{Source}
 use Rattle.g4_reader.specs.GrammarText.{Spelled, IsGrammarText, Begins, spelled, characters_of}
+use Rattle.g4_reader.specs.SetText.{content, IsBad}
 use Rattle.g4_reader.specs.declared.reader.ReadFault.{ReadFault}
-use Rattle.g4_reader.specs.declared.reader.ReadFault.TheVariants.{Syntax, BadSet, NoMemory}
-
--- the text without the byte order mark that it may begin with
-abbrev pub without_mark : List ℕ → List ℕ
-without_mark [] = []
-without_mark (c ∷ cs) = if c == 65279 then cs else c ∷ cs
+use Rattle.g4_reader.specs.declared.reader.ReadFault.TheVariants.{NotUtf8, Syntax, BadSet, NoMemory}
 
 -- the place behind the text
 abbrev pub end_of : List ℕ → Place
-end_of text = place_after first_place (without_mark text)
+end_of text = place_after first_place (unmarked (chars text))
 
 -- a syntax fault: where it stands, and its characters
 pub record Fault : Type 0 where
@@ -30,8 +27,8 @@ abbrev pub fault_at : List ℕ → List Token → Fault
 fault_at text [] = record { place = end_of text; characters = codes "<EOF>" }
 fault_at text (token ∷ _) = record { place = token.place; characters = characters_of text token }
 
--- what is opened and doesn't close, or holds a bad escape: the one character that opens it
-abbrev pub opened_fault : List ℕ → Opened → Fault
+-- what opens there and doesn't close, or holds a bad escape: the character that opens it, which is one byte
+abbrev pub opened_fault : List ℕ → Position → Fault
 opened_fault text opened = record { place = opened.place; characters = take 1 (drop opened.index text) }
 
 -- no grammar text goes on behind the first tokens with the first of the others, or, there being no others, the tokens are none
@@ -39,17 +36,13 @@ abbrev pub Ends : List Spelled → List Spelled → Type 0
 Ends before [] = (source : Source) → ¬ (IsGrammarText before source)
 Ends before (token ∷ _) = ¬ (Begins (before ++ token ∷ []))
 
--- the range runs backward: no character is in it
-abbrev pub RunsBackward : Range → Type 0
-RunsBackward range = range.last < range.first
-
--- the token is a set that is empty or has a range that runs backward
-abbrev pub IsBadSet : Token → Type 0
-IsBadSet token = (ranges : List Range) × (token.kind ≡ Set ranges) × ((ranges ≡ []) ⊎ Any RunsBackward ranges)
+-- the token is a bad set
+abbrev pub IsBadSet : List ℕ → Token → Type 0
+IsBadSet text token = (token.kind ≡ Set) × IsBad (content (characters_of text token))
 
 -- none of the tokens is a bad set
-abbrev pub HasNoBadSet : List Token → Type 0
-HasNoBadSet tokens = All (λ token. ¬ (IsBadSet token)) tokens
+abbrev pub HasNoBadSet : List ℕ → List Token → Type 0
+HasNoBadSet text tokens = All (λ token. ¬ (IsBadSet text token)) tokens
 
 -- the place of the first bad set of the tokens: a grammar text begins with the tokens before it and with it
 pub record IsFirstBadSet (text : List ℕ) (tokens : List Token) (place : Place) : Type 0 where
@@ -58,8 +51,8 @@ pub record IsFirstBadSet (text : List ℕ) (tokens : List Token) (place : Place)
   pub behind : List Token
   pub parts : tokens ≡ before ++ set ∷ behind
   pub begins : Begins (spelled text (before ++ set ∷ []))
-  pub good_before : HasNoBadSet before
-  pub is_bad : IsBadSet set
+  pub good_before : HasNoBadSet text before
+  pub is_bad : IsBadSet text set
   pub is : place ≡ set.place
 
 -- the first syntax fault of the tokens: a grammar text begins with those before it, and none goes on with it; no set before
@@ -70,21 +63,22 @@ pub record IsFirstFault (text : List ℕ) (tokens : List Token) (fault : Fault) 
   pub parts : tokens ≡ before ++ others
   pub begins : Begins (spelled text before)
   pub ends : Ends (spelled text before) (spelled text others)
-  pub good_before : HasNoBadSet before
+  pub good_before : HasNoBadSet text before
   pub is : fault ≡ fault_at text others
 
 -- the text's tokens are a grammar text, which is this grammar, and no set of them is bad
 abbrev pub IsGrammar : List ℕ → Source → Type 0
-IsGrammar text source = (tokens : List Token) × (scanned text ≡ Ok tokens) × IsGrammarText (spelled text tokens) source × HasNoBadSet tokens
+IsGrammar bytes source = (tokens : List Token) × HasTokens bytes tokens × IsGrammarText (spelled bytes tokens) source × HasNoBadSet bytes tokens
 
 -- the fault of the text that has no tokens, or the first syntax fault of its tokens
 abbrev pub IsFaultOf : List ℕ → Fault → Type 0
-IsFaultOf text fault = ((opened : Opened) × (scanned text ≡ Err opened) × (fault ≡ opened_fault text opened)) ⊎ ((tokens : List Token) × (scanned text ≡ Ok tokens) × IsFirstFault text tokens fault)
+IsFaultOf bytes fault = ((opened : Position) × HasFault bytes opened × (fault ≡ opened_fault bytes opened)) ⊎ ((tokens : List Token) × HasTokens bytes tokens × IsFirstFault bytes tokens fault)
 
--- the call answers with the grammar that the text is, or with its first fault or bad set, whichever stands first, unless
--- memory runs out
+-- the call answers with the grammar that the bytes are, or tells how far they are a text where they are none, or tells the
+-- text's first fault or bad set, whichever stands first, unless memory runs out
 abbrev pub IsReading : List ℕ → Result Source ReadFault → Type 0
-IsReading text (Ok source) = IsGrammar text source
-IsReading text (Err (Syntax place characters)) = IsFaultOf text (record { place = place; characters = characters })
-IsReading text (Err (BadSet place)) = (tokens : List Token) × (scanned text ≡ Ok tokens) × IsFirstBadSet text tokens place
-IsReading text (Err NoMemory) = Unit {0}
+IsReading bytes (Ok source) = IsGrammar bytes source
+IsReading bytes (Err (NotUtf8 at)) = IsValidUpTo bytes at
+IsReading bytes (Err (Syntax place characters)) = IsFaultOf bytes (record { place = place; characters = characters })
+IsReading bytes (Err (BadSet place)) = (tokens : List Token) × HasTokens bytes tokens × IsFirstBadSet bytes tokens place
+IsReading bytes (Err NoMemory) = Unit {0}

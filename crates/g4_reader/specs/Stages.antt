@@ -2,6 +2,8 @@
 use Rattle.std.specs.Prelude.{◌≡◌, ℕ, ◌≤◌, ◌<◌, length, map, drop, List, [], ◌∷◌, ◌++◌, Bool, true, false, Option, Some, None, Result, Ok, Err, codes, if◌then◌else◌, ◌||◌, ◌&&◌, bytes_eq, slice_get}
 use Rattle.std.proofs.Common.{Vec, Global}
 use Rattle.g4_base.specs.declared.place.Place.{Place}
+use Rattle.std.specs.Str.{chars}
+use Rattle.g4_tokens.specs.Spelling.{literal_spelling}
 use Rattle.g4_tokens.specs.declared.token.Token.{Token}
 use Rattle.g4_tokens.specs.declared.token.Kind.{Kind}
 use Rattle.g4_tokens.specs.declared.token.Kind.TheVariants as kinds
@@ -20,6 +22,8 @@ use Rattle.g4_grammar.specs.declared.element.Repeat.TheVariants.{Once, Star, Plu
 use Rattle.g4_grammar.specs.Elements.{Element, atom, Elements, Alternatives, only, either}
 use Rattle.g4_grammar.specs.Trees.{in_order, repeated, element_of, alternative_of}
 use Rattle.g4_reader.specs.GrammarText.{Spelled, spelled, spelled_token, bytes_of, IsGrammarText}
+use Rattle.g4_reader.specs.Members.{ranges_of}
+use Rattle.g4_reader.specs.SetText.{content}
 use Rattle.g4_reader.specs.Reading.{Fault, fault_at, HasNoBadSet, IsFirstBadSet, IsFirstFault}
 use Rattle.g4_reader.specs.declared.atom.RuleKind.{RuleKind}
 use Rattle.g4_reader.specs.declared.atom.RuleKind.TheVariants.{Parser, Lexer}
@@ -102,7 +106,7 @@ is_arrow _ = false
 
 -- whether a token is the name with this spelling
 abbrev pub is_word : List ℕ → Spelled → Bool
-is_word spelling token = is_lower token.kind && bytes_eq token.characters spelling
+is_word spelling token = is_lower token.kind && bytes_eq token.bytes spelling
 
 -- whether the index has a token, and that token passes the test
 abbrev pub passes : (Token → Bool) → Option Token → Bool
@@ -111,9 +115,9 @@ passes test (Some token) = test token
 
 -- the atom that a token of this kind and these bytes is in a rule
 abbrev pub atom_of : RuleKind → Kind → List ℕ → Option Atom
-atom_of kind (kinds.Literal characters) bytes = Some (atoms.Literal (record { characters = characters; written = bytes }))
+atom_of kind kinds.Literal bytes = Some (atoms.Literal (record { characters = literal_spelling (chars bytes); written = bytes }))
 atom_of Parser kinds.Upper bytes = Some (atoms.Token bytes)
-atom_of Lexer (kinds.Set ranges) bytes = Some (atoms.Set ranges)
+atom_of Lexer kinds.Set bytes = Some (atoms.Set (ranges_of (content (chars bytes))))
 atom_of _ _ bytes = None
 
 -- how often a sign of this kind lets an element stand
@@ -190,17 +194,17 @@ next_at_element rule around elements None kind = if is_left_parenthesis kind the
 
 -- the stage behind a token that says how often an element stands
 abbrev pub next_at_sign : RuleKind → Around → List (Element Atom) → Operand → Repeat → Spelled → Option Stage
-next_at_sign rule around elements operand Once token = next_at_element rule around (elements ++ as_often operand Once ∷ []) (atom_of rule token.kind (bytes_of token)) token.kind
+next_at_sign rule around elements operand Once token = next_at_element rule around (elements ++ as_often operand Once ∷ []) (atom_of rule token.kind token.bytes) token.kind
 next_at_sign rule around elements operand repeat token = Some (at_element rule around (elements ++ as_often operand repeat ∷ []))
 
 -- the stage behind a token, where one may come
 abbrev pub next : Stage → Spelled → Option Stage
 next at_grammar token = if_so (is_word (codes "grammar") token) at_name
-next at_name token = if_so (is_lower token.kind || is_upper token.kind) (at_name_end (bytes_of token))
+next at_name token = if_so (is_lower token.kind || is_upper token.kind) (at_name_end token.bytes)
 next (at_name_end name) token = if_so (is_semicolon token.kind) (at_rule (record { name = name; rules = [] }))
-next (at_rule source) token = next_at_rule source (bytes_of token) token.kind
+next (at_rule source) token = next_at_rule source token.bytes token.kind
 next (at_colon rule source name) token = if_so (is_colon token.kind) (at_element rule (in_rule rule source name) [])
-next (at_element rule around elements) token = next_at_element rule around elements (atom_of rule token.kind (bytes_of token)) token.kind
+next (at_element rule around elements) token = next_at_element rule around elements (atom_of rule token.kind token.bytes) token.kind
 next (at_sign rule around elements operand) token = next_at_sign rule around elements operand (repeat_of token.kind) token
 next (at_command rule around elements) token = next_at_command rule around elements token.kind
 next (at_skip rule around elements) token = if_so (is_word (codes "skip") token) (at_bar rule (with_alternative around elements true))
@@ -227,19 +231,27 @@ reading_from text stage (token ∷ others) =
 abbrev pub IsFault : Fault → ReadFault → Type 0
 IsFault fault (faults.Syntax place characters) = fault ≡ record { place = place; characters = characters }
 IsFault fault (faults.BadSet place) = ⊥
+IsFault fault (faults.NotUtf8 at) = ⊥
 IsFault fault faults.NoMemory = Unit {0}
 
 -- the call's fault is the bad set, if there is one, and otherwise stands in front of these tokens
 abbrev pub IsFirstOf : List ℕ → Option Place → List Token → ReadFault → Type 0
+IsFirstOf text (Some place) others faults.NoMemory = Unit {0}
 IsFirstOf text (Some place) others fault = fault ≡ faults.BadSet place
 IsFirstOf text None others fault = IsFault (fault_at text others) fault
+
+-- the call gives this, unless memory runs out
+abbrev pub IsGoodOrBad : Result Source ReadFault → Result Source ReadFault → Type 0
+IsGoodOrBad given (Err faults.NoMemory) = Unit {0}
+IsGoodOrBad given result = result ≡ given
 
 -- the call answers with the grammar that the tokens of the text are, or with their first fault or bad set, whichever stands
 -- first, unless memory runs out
 abbrev pub IsReadingOf : List ℕ → List Token → Result Source ReadFault → Type 0
-IsReadingOf text tokens (Ok source) = IsGrammarText (spelled text tokens) source × HasNoBadSet tokens
+IsReadingOf text tokens (Ok source) = IsGrammarText (spelled text tokens) source × HasNoBadSet text tokens
 IsReadingOf text tokens (Err (faults.Syntax place characters)) = IsFirstFault text tokens (record { place = place; characters = characters })
 IsReadingOf text tokens (Err (faults.BadSet place)) = IsFirstBadSet text tokens place
+IsReadingOf text tokens (Err (faults.NotUtf8 at)) = ⊥
 IsReadingOf text tokens (Err faults.NoMemory) = Unit {0}
 
 -- the reading of the tokens stops at the call's index, unless memory runs out
@@ -255,7 +267,7 @@ GivesReading tokens reading (Err stop) = StopsWith tokens reading stop
 -- the atom that stands at the index in a rule
 abbrev pub atom_at : RuleKind → List ℕ → Option Token → Option Atom
 atom_at rule text None = None
-atom_at rule text (Some token) = atom_of rule token.kind (bytes_of (spelled_token text token))
+atom_at rule text (Some token) = atom_of rule token.kind (bytes_of text token)
 
 -- how often an element stands by the sign at the index
 abbrev pub repeat_at : Option Token → Repeat
@@ -271,7 +283,7 @@ name_of _ bytes = None
 -- the name that stands at the index
 abbrev pub name_at : List ℕ → Option Token → Option (List ℕ)
 name_at text None = None
-name_at text (Some token) = name_of token.kind (bytes_of (spelled_token text token))
+name_at text (Some token) = name_of token.kind (bytes_of text token)
 
 -- the call reads the three tokens before the rules
 abbrev pub ReadsName : List ℕ → List Token → Result (List ℕ) Stop → Type 0

@@ -1,9 +1,12 @@
 // The atoms of rules.
 ghost use Rattle.std.specs.Prelude.{◌≡◌, IfOk, slice_get};
-ghost use Rattle.g4_reader.specs.Stages.{atom_at};
+ghost use Rattle.g4_reader.specs.GrammarText.{bytes_of};
+ghost use Rattle.g4_reader.specs.Parts.{IsPart, AreParts};
+ghost use Rattle.g4_reader.specs.Stages.{atom_at, atom_of};
+ghost use Rattle.g4_reader.specs.declared.atom.RuleKind.TheVariants.{Parser, Lexer};
 
-use crate::spelling::{literal, written};
-use g4_base::Sequence;
+use crate::set::ranges;
+use crate::spelling::{literal, token_at, written};
 use g4_grammar::Atom;
 use g4_tokens::{Kind, Token};
 use std::alloc::{AllocError, Global};
@@ -17,32 +20,72 @@ pub(crate) enum RuleKind {
     Lexer,
 }
 
-/// The atom that stands at the index in a rule of this kind, if one does.
-pub(crate) fn atom_at(
-    alloc: Global,
-    kind: RuleKind,
-    text: &[char],
-    tokens: &[Token],
-    at: usize,
-) -> Result<Option<Atom>, AllocError>
-    ensures { IfOk result (λ a. a ≡ atom_at kind text.now (slice_get tokens.now at)) }
+/// The atom that the token is in a parser rule, if it is one.
+fn parser_atom(alloc: Global, text: &str, token: &Token) -> Result<Option<Atom>, AllocError>
+    requires part { IsPart text.now token.now }
+    ensures { IfOk result (λ a. a ≡ atom_of Parser token.now.kind (bytes_of text.now token.now)) }
 {
-    let Some(token) = tokens.get(at) else {
-        return Ok(None);
-    };
-    match (kind, &token.kind) {
-        (RuleKind::Parser, Kind::Upper) => {
+    match token.kind {
+        Kind::Upper => {
             let name = written(alloc, text, token)?;
             Ok(Some(Atom::Token(name)))
         }
-        (RuleKind::Lexer, Kind::Set(ranges)) => {
-            let ranges = ranges.as_slice().to_vec(alloc)?;
-            Ok(Some(Atom::Set(Sequence::new(ranges))))
-        }
-        (_, Kind::Literal(characters)) => {
-            let literal = literal(alloc, text, token, characters.as_slice())?;
+        Kind::Literal => {
+            let literal = literal(alloc, text, token)?;
             Ok(Some(Atom::Literal(literal)))
         }
         _ => Ok(None),
     }
+}
+
+/// The atom that the token is in a lexer rule, if it is one.
+fn lexer_atom(alloc: Global, text: &str, token: &Token) -> Result<Option<Atom>, AllocError>
+    requires part { IsPart text.now token.now }
+    ensures { IfOk result (λ a. a ≡ atom_of Lexer token.now.kind (bytes_of text.now token.now)) }
+{
+    match token.kind {
+        Kind::Set => {
+            let ranges = ranges(alloc, text, token)?;
+            Ok(Some(Atom::Set(ranges)))
+        }
+        Kind::Literal => {
+            let literal = literal(alloc, text, token)?;
+            Ok(Some(Atom::Literal(literal)))
+        }
+        _ => Ok(None),
+    }
+}
+
+/// The atom that the token is in a rule of this kind, if it is one.
+fn atom_of(
+    alloc: Global,
+    kind: RuleKind,
+    text: &str,
+    token: &Token,
+) -> Result<Option<Atom>, AllocError>
+    requires part { IsPart text.now token.now }
+    ensures { IfOk result (λ a. a ≡ atom_of kind token.now.kind (bytes_of text.now token.now)) }
+{
+    match kind {
+        RuleKind::Parser => parser_atom(alloc, text, token),
+        RuleKind::Lexer => lexer_atom(alloc, text, token),
+    }
+}
+
+/// The atom that stands at the index in a rule of this kind, if one does.
+pub(crate) fn atom_at(
+    alloc: Global,
+    kind: RuleKind,
+    text: &str,
+    tokens: &[Token],
+    at: usize,
+) -> Result<Option<Atom>, AllocError>
+    requires parts { AreParts text.now tokens.now }
+    ensures { IfOk result (λ a. a ≡ atom_at kind text.now (slice_get tokens.now at)) }
+{
+    let Some(token) = token_at(tokens, at) else {
+        return Ok(None);
+    };
+    let atom = atom_of(alloc, kind, text, &token)?;
+    Ok(atom)
 }

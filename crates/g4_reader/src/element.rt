@@ -2,6 +2,7 @@
 ghost use Rattle.std.specs.Prelude.{◌≡◌, ◌+◌, ◌≤◌, IfOk, length, slice_get, true};
 ghost use Rattle.g4_grammar.specs.Trees.{element_of};
 ghost use Rattle.g4_reader.specs.Stages.{repeat_at, length_of, as_often, lone, is_left_parenthesis, passes, GoesOn, IsWithin, ReadsLone, ReadsBlock, ReadsElement, ReadsElements, ReadsAlternatives};
+ghost use Rattle.g4_reader.specs.Parts.{AreParts};
 
 use crate::atom::{RuleKind, atom_at};
 use crate::sign::{is_bar, is_left_parenthesis, is_right_parenthesis};
@@ -47,10 +48,11 @@ fn as_often(alloc: Global, atom: Atom, repeat: Repeat) -> Result<Element<Atom>, 
 fn lone(
     alloc: Global,
     kind: RuleKind,
-    text: &[char],
+    text: &str,
     tokens: &[Token],
     at: usize,
 ) -> Result<Option<(Element<Atom>, usize)>, AllocError>
+    requires parts { AreParts text.now tokens.now }
     ensures within { IfOk result (GoesOn tokens.now at) }
     ensures reads { IfOk result (ReadsLone kind text.now tokens.now at) }
 {
@@ -67,11 +69,12 @@ fn lone(
 fn element(
     alloc: Global,
     kind: RuleKind,
-    text: &[char],
+    text: &str,
     tokens: &[Token],
     at: usize,
     depth: u32,
 ) -> Result<Option<(Element<Atom>, usize)>, Stop>
+    requires parts { AreParts text.now tokens.now }
     requires within { at ≤ length tokens.now }
     ensures within { IfOk result (GoesOn tokens.now at) }
     ensures reads { ReadsElement kind text.now tokens.now at result }
@@ -89,11 +92,12 @@ fn element(
 fn block(
     alloc: Global,
     kind: RuleKind,
-    text: &[char],
+    text: &str,
     tokens: &[Token],
     at: usize,
     depth: u32,
 ) -> Result<(Element<Atom>, usize), Stop>
+    requires parts { AreParts text.now tokens.now }
     requires within { at + 1 ≤ length tokens.now }
     requires opens { passes (λ token. is_left_parenthesis token.kind) (slice_get tokens.now at) ≡ true }
     ensures within { IfOk result (IsWithin tokens.now (at + 1)) }
@@ -115,11 +119,12 @@ fn block(
 pub(crate) fn elements(
     alloc: Global,
     kind: RuleKind,
-    text: &[char],
+    text: &str,
     tokens: &[Token],
     at: usize,
     depth: u32,
 ) -> Result<(Vec<Element<Atom>>, usize), Stop>
+    requires parts { AreParts text.now tokens.now }
     requires within { at ≤ length tokens.now }
     ensures within { IfOk result (IsWithin tokens.now at) }
     ensures reads { ReadsElements kind text.now tokens.now at result }
@@ -138,11 +143,12 @@ pub(crate) fn elements(
 fn alternatives(
     alloc: Global,
     kind: RuleKind,
-    text: &[char],
+    text: &str,
     tokens: &[Token],
     at: usize,
     depth: u32,
 ) -> Result<(Vec<Alternative<Atom>>, usize), Stop>
+    requires parts { AreParts text.now tokens.now }
     requires within { at ≤ length tokens.now }
     ensures within { IfOk result (IsWithin tokens.now at) }
     ensures reads { ReadsAlternatives kind text.now tokens.now at result }

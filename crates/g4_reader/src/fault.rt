@@ -1,20 +1,24 @@
 // The syntax faults of a text.
-ghost use Rattle.std.specs.Prelude.{◌≡◌, ◌≤◌, drop, take, length};
-ghost use Rattle.g4_reader.specs.Reading.{end_of, without_mark, fault_at, opened_fault};
+ghost use Rattle.std.specs.Prelude.{◌≡◌, ◌≤◌, [], IfOk, drop, take, length};
+ghost use Rattle.g4_base.specs.Place.{first_place, place_after};
+ghost use Rattle.g4_tokens.specs.Answers.{unmarked};
+ghost use Rattle.g4_reader.specs.GrammarText.{characters_of};
+ghost use Rattle.g4_reader.specs.Parts.{IsPart, AreParts};
+ghost use Rattle.g4_reader.specs.Reading.{end_of, fault_at, opened_fault};
 ghost use Rattle.g4_reader.specs.Stages.{IsFault};
 
 use crate::reader::ReadFault;
-use crate::spelling::characters;
+use crate::spelling::{characters, token_at};
 use g4_base::{Place, Sequence};
 use g4_tokens::Token;
-use std::alloc::Global;
+use std::alloc::{AllocError, Global};
 
 /// The characters of the fault at the end of a text.
 const END: [char; 5] = ['<', 'E', 'O', 'F', '>'];
 
 /// The text without the byte order mark that it may begin with.
-fn without_mark(text: &[char]) -> &[char]
-    ensures { result.now ≡ without_mark text.now }
+fn unmarked(text: &[char]) -> &[char]
+    ensures { result.now ≡ unmarked text.now }
 {
     match text {
         ['\u{feff}', others @ ..] => others,
@@ -22,20 +26,29 @@ fn without_mark(text: &[char]) -> &[char]
     }
 }
 
-/// The place behind the text.
-fn end_of(text: &[char]) -> Place
-    requires fits { length text.now ≤ 16777216 }
-    ensures { result ≡ end_of text.now }
+/// The place behind the characters.
+fn place_behind(characters: &[char]) -> Place
+    requires fits { length characters.now ≤ 16777216 }
+    ensures { result ≡ place_after first_place characters.now }
 {
     let mut place = Place::START;
-    for character in without_mark(text) {
+    for character in characters {
         place = place.past(*character);
     }
     place
 }
 
+/// The place behind the text.
+fn end_of(alloc: Global, text: &str) -> Result<Place, AllocError>
+    requires fits { length text.now ≤ 16777216 }
+    ensures { IfOk result (λ place. place ≡ end_of text.now) }
+{
+    let characters: Vec<char> = text.chars().collect(alloc)?;
+    Ok(place_behind(unmarked(&characters)))
+}
+
 /// The fault at the place, with these characters.
-pub(crate) fn syntax(alloc: Global, place: Place, characters: &[char]) -> ReadFault
+fn syntax(alloc: Global, place: Place, characters: &[char]) -> ReadFault
     ensures { IsFault (record { place = place; characters = characters.now }) result }
 {
     match characters.to_vec(alloc) {
@@ -44,23 +57,46 @@ pub(crate) fn syntax(alloc: Global, place: Place, characters: &[char]) -> ReadFa
     }
 }
 
-/// The fault at the token with this index, or at the end of the text.
-pub(crate) fn fault_at(alloc: Global, text: &[char], tokens: &[Token], at: usize) -> ReadFault
-    requires fits { length text.now ≤ 16777216 }
-    ensures { IsFault (fault_at text.now (drop at tokens.now)) result }
+/// The fault at the token.
+fn token_fault(alloc: Global, text: &str, token: &Token) -> ReadFault
+    requires part { IsPart text.now token.now }
+    ensures { IsFault (record { place = token.now.place; characters = characters_of text.now token.now }) result }
 {
-    match tokens.get(at) {
-        Some(token) => syntax(alloc, token.place, characters(text, token)),
-        None => syntax(alloc, end_of(text), &END),
+    match characters(alloc, text, token) {
+        Ok(characters) => ReadFault::Syntax(token.place, Sequence::new(characters)),
+        Err(_) => ReadFault::NoMemory,
     }
 }
 
-/// The fault of what is opened by the character at the index, at the place.
-pub(crate) fn opened_fault(alloc: Global, place: Place, text: &[char], index: usize) -> ReadFault
-    ensures { IsFault (opened_fault text.now (record { place = place; index = index })) result }
+/// The fault at the end of the text.
+fn end_fault(alloc: Global, text: &str) -> ReadFault
+    requires fits { length text.now ≤ 16777216 }
+    ensures { IsFault (fault_at text.now []) result }
 {
-    match text.get(index) {
-        Some(character) => syntax(alloc, place, &[*character]),
+    match end_of(alloc, text) {
+        Ok(place) => syntax(alloc, place, &END),
+        Err(_) => ReadFault::NoMemory,
+    }
+}
+
+/// The fault at the token with this index, or at the end of the text.
+pub(crate) fn fault_at(alloc: Global, text: &str, tokens: &[Token], at: usize) -> ReadFault
+    requires parts { AreParts text.now tokens.now }
+    requires fits { length text.now ≤ 16777216 }
+    ensures { IsFault (fault_at text.now (drop at tokens.now)) result }
+{
+    match token_at(tokens, at) {
+        Some(token) => token_fault(alloc, text, &token),
+        None => end_fault(alloc, text),
+    }
+}
+
+/// The fault of what is opened by the byte at the index, at the place.
+pub(crate) fn opened_fault(alloc: Global, place: Place, bytes: &[u8], index: usize) -> ReadFault
+    ensures { IsFault (opened_fault bytes.now (record { place = place; index = index })) result }
+{
+    match bytes.get(index) {
+        Some(byte) => syntax(alloc, place, &[char::from(*byte)]),
         None => syntax(alloc, place, &[]),
     }
 }

@@ -2,6 +2,7 @@
 ghost use Rattle.std.specs.Prelude.{◌≡◌, ◌≤◌, IfOk, length, slice_get};
 ghost use Rattle.g4_reader.specs.GrammarText.{spelled_token};
 ghost use Rattle.g4_reader.specs.Stages.{passes, is_word, IsWithin, ReadsCommand, ReadsParserAlternatives, ReadsParserRule, ReadsLexerAlternative, ReadsLexerAlternatives, ReadsLexerRule};
+ghost use Rattle.g4_reader.specs.Parts.{AreParts};
 
 use crate::atom::RuleKind;
 use crate::element::elements;
@@ -14,15 +15,16 @@ use g4_tokens::Token;
 use std::alloc::Global;
 
 /// The name behind `->`.
-const SKIP: [char; 4] = ['s', 'k', 'i', 'p'];
+const SKIP: &str = "skip";
 
 /// The alternatives of a parser rule from the index on, and the index behind them.
 fn parser_alternatives(
     alloc: Global,
-    text: &[char],
+    text: &str,
     tokens: &[Token],
     at: usize,
 ) -> Result<(Sequence<Elements<Atom>>, usize), Stop>
+    requires parts { AreParts text.now tokens.now }
     requires within { at ≤ length tokens.now }
     ensures within { IfOk result (IsWithin tokens.now at) }
     ensures reads { ReadsParserAlternatives text.now tokens.now at result }
@@ -42,11 +44,12 @@ fn parser_alternatives(
 /// The parser rule of this name whose `:` stands at the index, and the index behind it.
 pub(crate) fn parser_rule(
     alloc: Global,
-    text: &[char],
+    text: &str,
     tokens: &[Token],
     at: usize,
     name: Text,
 ) -> Result<(ParserRule, usize), Stop>
+    requires parts { AreParts text.now tokens.now }
     ensures within { IfOk result (IsWithin tokens.now at) }
     ensures reads { ReadsParserRule text.now tokens.now at name result }
 {
@@ -61,7 +64,8 @@ pub(crate) fn parser_rule(
 }
 
 /// Whether `-> skip` stands at the index, and the index behind it.
-fn command(alloc: Global, text: &[char], tokens: &[Token], at: usize) -> Result<(bool, usize), Stop>
+fn command(alloc: Global, text: &str, tokens: &[Token], at: usize) -> Result<(bool, usize), Stop>
+    requires parts { AreParts text.now tokens.now }
     requires within { at ≤ length tokens.now }
     ensures within { IfOk result (IsWithin tokens.now at) }
     ensures reads { ReadsCommand text.now tokens.now at result }
@@ -69,7 +73,7 @@ fn command(alloc: Global, text: &[char], tokens: &[Token], at: usize) -> Result<
     if !is_arrow(tokens, at) {
         return Ok((false, at));
     }
-    if !is_word_at(text, tokens, at + 1, &SKIP) {
+    if !is_word_at(text, tokens, at + 1, SKIP) {
         return Err(Stop::At(at + 1));
     }
     Ok((true, at + 2))
@@ -78,10 +82,11 @@ fn command(alloc: Global, text: &[char], tokens: &[Token], at: usize) -> Result<
 /// The alternative of a lexer rule at the index, and the index behind it.
 fn lexer_alternative(
     alloc: Global,
-    text: &[char],
+    text: &str,
     tokens: &[Token],
     at: usize,
 ) -> Result<(LexerAlternative, usize), Stop>
+    requires parts { AreParts text.now tokens.now }
     requires within { at ≤ length tokens.now }
     ensures within { IfOk result (IsWithin tokens.now at) }
     ensures reads { ReadsLexerAlternative text.now tokens.now at result }
@@ -95,10 +100,11 @@ fn lexer_alternative(
 /// The alternatives of a lexer rule from the index on, and the index behind them.
 fn lexer_alternatives(
     alloc: Global,
-    text: &[char],
+    text: &str,
     tokens: &[Token],
     at: usize,
 ) -> Result<(Sequence<LexerAlternative>, usize), Stop>
+    requires parts { AreParts text.now tokens.now }
     requires within { at ≤ length tokens.now }
     ensures within { IfOk result (IsWithin tokens.now at) }
     ensures reads { ReadsLexerAlternatives text.now tokens.now at result }
@@ -118,11 +124,12 @@ fn lexer_alternatives(
 /// The lexer rule of this name whose `:` stands at the index, and the index behind it.
 pub(crate) fn lexer_rule(
     alloc: Global,
-    text: &[char],
+    text: &str,
     tokens: &[Token],
     at: usize,
     name: Text,
 ) -> Result<(LexerRule, usize), Stop>
+    requires parts { AreParts text.now tokens.now }
     ensures within { IfOk result (IsWithin tokens.now at) }
     ensures reads { ReadsLexerRule text.now tokens.now at name result }
 {

@@ -1,50 +1,64 @@
 // How the tokens of a text are spelled.
 ghost use Rattle.std.specs.Prelude.{◌≡◌, IfOk, slice_get};
-ghost use Rattle.g4_reader.specs.GrammarText.{characters_of, spelled_token, bytes_of};
+ghost use Rattle.std.specs.Str.{chars};
+ghost use Rattle.g4_tokens.specs.Spelling.{literal_spelling};
+ghost use Rattle.g4_reader.specs.GrammarText.{bytes_of, characters_of, spelled_token};
+ghost use Rattle.g4_reader.specs.Parts.{IsPart, AreParts};
 ghost use Rattle.g4_reader.specs.Stages.{is_word, passes};
 
-use g4_base::{Sequence, Text};
+use g4_base::Text;
 use g4_grammar::Literal;
-use g4_tokens::{Kind, Token};
+use g4_tokens::{Kind, Token, literal_characters};
 use std::alloc::{AllocError, Global};
 
-/// The characters of a token, as far as the text has them.
-pub(crate) fn characters<'a>(text: &'a [char], token: &Token) -> &'a [char]
-    ensures { result.now ≡ characters_of text.now token.now }
+/// The token at the index, if one stands there.
+pub(crate) fn token_at(tokens: &[Token], at: usize) -> Option<Token>
+    ensures { result ≡ slice_get tokens.now at }
 {
-    let end = token.end.min(text.len());
-    let start = token.start.min(end);
-    &text[start..end]
+    tokens.get(at).copied()
+}
+
+/// The text of a token in place.
+pub(crate) fn part<'a>(text: &'a str, token: &Token) -> &'a str
+    requires part { IsPart text.now token.now }
+    ensures { result.now ≡ bytes_of text.now token.now }
+{
+    &text[token.start..token.end]
+}
+
+/// The characters of a token.
+pub(crate) fn characters(alloc: Global, text: &str, token: &Token) -> Result<Vec<char>, AllocError>
+    requires part { IsPart text.now token.now }
+    ensures { IfOk result (λ c. c.items ≡ characters_of text.now token.now) }
+{
+    let characters = part(text, token).chars().collect(alloc)?;
+    Ok(characters)
 }
 
 /// The text of a token.
-pub(crate) fn written(alloc: Global, text: &[char], token: &Token) -> Result<Text, AllocError>
-    ensures { IfOk result (λ t. t ≡ bytes_of (spelled_token text.now token.now)) }
+pub(crate) fn written(alloc: Global, text: &str, token: &Token) -> Result<Text, AllocError>
+    requires part { IsPart text.now token.now }
+    ensures { IfOk result (λ t. t ≡ bytes_of text.now token.now) }
 {
-    let mut bytes = String::new(alloc);
-    for character in characters(text, token) {
-        bytes.push(*character)?;
-    }
-    Ok(Text::new(bytes))
+    let written = Text::copy_of(alloc, part(text, token))?;
+    Ok(written)
 }
 
 /// Whether the token is the name with this spelling.
-pub(crate) fn is_word(text: &[char], token: &Token, spelling: &[char]) -> bool
+pub(crate) fn is_word(text: &str, token: &Token, spelling: &str) -> bool
+    requires part { IsPart text.now token.now }
     ensures { result ≡ is_word spelling.now (spelled_token text.now token.now) }
 {
-    matches!(token.kind, Kind::Lower) && characters(text, token) == spelling
+    matches!(token.kind, Kind::Lower) && part(text, token) == spelling
 }
 
-/// The literal that the token is, which stands for these characters.
-pub(crate) fn literal(
-    alloc: Global,
-    text: &[char],
-    token: &Token,
-    characters: &[char],
-) -> Result<Literal, AllocError>
-    ensures { IfOk result (λ l. l ≡ record { characters = characters.now; written = bytes_of (spelled_token text.now token.now) }) }
+/// The literal that the token is.
+pub(crate) fn literal(alloc: Global, text: &str, token: &Token) -> Result<Literal, AllocError>
+    requires part { IsPart text.now token.now }
+    ensures { IfOk result (λ l. l ≡ record { characters = literal_spelling (characters_of text.now token.now); written = bytes_of text.now token.now }) }
 {
-    let characters = Sequence::new(characters.to_vec(alloc)?);
+    let spelling = characters(alloc, text, token)?;
+    let characters = literal_characters(alloc, &spelling)?;
     let written = written(alloc, text, token)?;
     Ok(Literal {
         characters,
@@ -53,11 +67,12 @@ pub(crate) fn literal(
 }
 
 /// Whether the name with this spelling stands at the index.
-pub(crate) fn is_word_at(text: &[char], tokens: &[Token], at: usize, spelling: &[char]) -> bool
+pub(crate) fn is_word_at(text: &str, tokens: &[Token], at: usize, spelling: &str) -> bool
+    requires parts { AreParts text.now tokens.now }
     ensures { result ≡ passes (λ token. is_word spelling.now (spelled_token text.now token)) (slice_get tokens.now at) }
 {
-    match tokens.get(at) {
-        Some(token) => is_word(text, token, spelling),
+    match token_at(tokens, at) {
+        Some(token) => is_word(text, &token, spelling),
         None => false,
     }
 }

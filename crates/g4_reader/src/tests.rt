@@ -82,12 +82,12 @@ fn push_rule(out: &mut String, rule: &Rule) -> Result<(), AllocError> {
 }
 
 /// What the text is, on one line.
-fn shown(alloc: Global, characters: &[char]) -> Result<String, Fail> {
-    if characters.len() > 16_777_216 {
+fn shown(alloc: Global, bytes: &[u8]) -> Result<String, Fail> {
+    if bytes.len() > 16_777_216 {
         return Ok(String::from_str(alloc, "too long")?);
     }
     let mut out = String::new(alloc);
-    match read_grammar(alloc, characters) {
+    match read_grammar(alloc, bytes) {
         Ok(source) => {
             out.push_str(source.name.as_str())?;
             for rule in source.rules.as_slice() {
@@ -95,6 +95,7 @@ fn shown(alloc: Global, characters: &[char]) -> Result<String, Fail> {
             }
         }
         Err(ReadFault::NoMemory) => out.push_str("no memory")?,
+        Err(ReadFault::NotUtf8(at)) => write!(out, "{at} no text")?,
         Err(ReadFault::BadSet(place)) => {
             let column = place.column;
             write!(out, "{column} bad set")?;
@@ -126,7 +127,7 @@ fn reads_what_texts_are(rt: HostRuntime) -> Result<(), Fail> {
         ("grammar g; r : ((A)*)+ | B ;", "g; r: | (| (| A)*)+ | B"),
         (
             "grammar G; T : 'x'+ [ab] -> skip | ('y' | [c]*)* ;",
-            "G; T: | (| 'x')+ [aabb] skip | (| 'y'| (| [cc])*)*",
+            "G; T: | (| 'x')+ [ab] skip | (| 'y'| (| [cc])*)*",
         ),
         (
             "grammar G; T : -> skip | ; s : T ;",
@@ -158,32 +159,58 @@ fn reads_what_texts_are(rt: HostRuntime) -> Result<(), Fail> {
         ("grammar G; A : 'a' [] [", "22 ["),
         ("grammar g; r : [] ;", "15 []"),
         ("grammar g; r : A ; A [] : 'a' ;", "21 []"),
+        ("grammar G; A : [c-eb\\u0062\\n-] ;", "G; A: | [\n\n--be]"),
+        ("grammar G; A : [\\p{Zl}] ;", "G; A: | [\u{2028}\u{2028}]"),
+        ("grammar G; A : [a\\p{Letters}] ;", "15 bad set"),
+        ("grammar é; ß : Ä 'ü' ;", "é; ß: | Ä 'ü'"),
+        ("grammar é; ß : 'ü' ? ;", "19 ?"),
+        ("grammar é; ß : ü ;", "15 ü"),
+        ("grammar é; ß : 'ü", "15 '"),
+        ("\u{feff}grammar é", "9 <EOF>"),
     ];
     for (text, expected) in texts {
-        let characters: Vec<char> = text.chars().collect(alloc)?;
-        assert_eq!(rt; shown(alloc, &characters)?.as_str(), expected, "{text}");
+        assert_eq!(rt; shown(alloc, text.as_bytes())?.as_str(), expected, "{text}");
     }
     Ok(())
 }
 
+#[test]
+fn tells_how_far_bytes_are_a_text(rt: HostRuntime) -> Result<(), Fail> {
+    let alloc = rt.alloc();
+    assert_eq!(rt;
+        shown(alloc, b"grammar g; \xC3\xA9\xC3")?.as_str(),
+        "13 no text"
+    );
+    assert_eq!(rt; shown(alloc, b"grammar '\xFF")?.as_str(), "9 no text");
+    Ok(())
+}
+
+#[test]
+fn reads_a_property(rt: HostRuntime) -> Result<(), Fail> {
+    let alloc = rt.alloc();
+    let upper = shown(alloc, "grammar G; A : [\\p{Lu}] ;".as_bytes())?;
+    assert!(rt; upper.as_str().starts_with("G; A: | [AZÀÖØÞ"));
+    Ok(())
+}
+
 /// A grammar text with so many brackets, one in another.
-fn nested(alloc: Global, count: usize) -> Result<Vec<char>, AllocError> {
-    let mut characters: Vec<char> = "grammar g; r :".chars().collect(alloc)?;
+fn nested(alloc: Global, count: usize) -> Result<String, AllocError> {
+    let mut text = String::from_str(alloc, "grammar g; r :")?;
     for _ in 0..count {
-        characters.push('(')?;
+        text.push('(')?;
     }
     for _ in 0..count {
-        characters.push(')')?;
+        text.push(')')?;
     }
-    characters.push(';')?;
-    Ok(characters)
+    text.push(';')?;
+    Ok(text)
 }
 
 #[test]
 fn reads_brackets_as_deep_as_they_may_be(rt: HostRuntime) -> Result<(), Fail> {
     let alloc = rt.alloc();
-    let deep = shown(alloc, &nested(alloc, 4096)?)?;
-    let deeper = shown(alloc, &nested(alloc, 4097)?)?;
+    let deep = shown(alloc, nested(alloc, 4096)?.as_bytes())?;
+    let deeper = shown(alloc, nested(alloc, 4097)?.as_bytes())?;
     assert_eq!(rt; deep.len(), 7 + 4 * 4096);
     assert_eq!(rt; deeper.as_str(), "no memory");
     Ok(())

@@ -1,10 +1,13 @@
 pub mod Answers
 pub mod Characters
 pub mod Comments
-pub mod Escapes
+pub mod Enclosed
+pub mod Ends
 pub mod Nesting
 pub mod Pieces
+pub mod Positions
+pub mod Readings
 pub mod Scanning
-pub mod Sets
-pub mod Spellings
+pub mod Spans
+pub mod Spelling
 pub mod Statements

@@ -1,5 +1,5 @@
 -- Where actions and arguments end.
-use Rattle.std.specs.Prelude.{◌≡◌, ℕ, zero, suc, ◌+◌, ◌-◌, ◌<◌, ◌≤◌, slice_index, Bool, false, List, [], ◌∷◌, Option, Some, None, length, drop, unwrap_or, ◌==◌, ◌&&◌, ◌||◌, if◌then◌else◌}
+use Rattle.std.specs.Prelude.{◌≡◌, ℕ, ◌+◌, ◌<◌, ◌≤◌, slice_index, Bool, true, false, List, [], ◌∷◌, Option, Some, None, length, drop, unwrap_or, ◌-◌, ◌==◌, ◌&&◌, ◌||◌, if◌then◌else◌}
 use Rattle.std.specs.List.{prefix_len}
 use Rattle.g4_tokens.specs.Characters.{begins, is_in_line}
 use Rattle.g4_tokens.specs.Comments.{comment_end}
@@ -37,6 +37,13 @@ commented behind =
 abbrev pub whole : ℕ → List ℕ → ℕ
 whole c behind = if c == 34 || c == 39 then quoted c behind else (if c == 47 then commented behind else 0)
 
+-- the text has so many characters up to the bracket that closes, that included: nested brackets are balanced, and quoted
+-- texts and comments are passed over whole
+pub data Nests (opening closing : ℕ) : List ℕ → ℕ → Type 0 where
+  closed : (c : ℕ) (cs : List ℕ) → (c == closing) ≡ true → Nests opening closing (c ∷ cs) 1
+  nested : (c n m : ℕ) (cs : List ℕ) → (c == closing) ≡ false → (c == opening) ≡ true → Nests opening closing cs n → Nests opening closing (drop n cs) m → Nests opening closing (c ∷ cs) (1 + n + m)
+  passed : (c n : ℕ) (cs : List ℕ) → (c == closing) ≡ false → (c == opening) ≡ false → Nests opening closing (drop (whole c cs) cs) n → Nests opening closing (c ∷ cs) (1 + whole c cs + n)
+
 -- the character closes what nothing that is open inside keeps open
 abbrev pub closes : ℕ → ℕ → ℕ → Bool
 closes closing depth c = (c == closing) && (depth == 0)
@@ -46,18 +53,5 @@ abbrev pub depth_behind : ℕ → ℕ → ℕ → ℕ → ℕ
 depth_behind opening closing depth c = if c == closing then depth - 1 else (if c == opening then depth + 1 else depth)
 
 -- how many characters behind this one are no part of the nesting
-abbrev pub passed : ℕ → ℕ → ℕ → List ℕ → ℕ
-passed opening closing c behind = if c == closing || c == opening then 0 else whole c behind
-
--- how many characters there are up to the one that closes, that included, behind so many, where so many are open inside;
--- the first characters are passed over
-abbrev pub nesting_end_from : ℕ → ℕ → ℕ → ℕ → ℕ → List ℕ → Option ℕ
-nesting_end_from opening closing depth skip taken [] = None
-nesting_end_from opening closing depth (suc skip) taken (c ∷ cs) = nesting_end_from opening closing depth skip (taken + 1) cs
-nesting_end_from opening closing depth zero taken (c ∷ cs) =
-    if closes closing depth c then Some (taken + 1)
-    else nesting_end_from opening closing (depth_behind opening closing depth c) (passed opening closing c cs) (taken + 1) cs
-
--- how many characters there are up to the one that closes, that included
-abbrev pub nesting_end : ℕ → ℕ → List ℕ → Option ℕ
-nesting_end opening closing text = nesting_end_from opening closing 0 0 0 text
+abbrev pub passed_over : ℕ → ℕ → ℕ → List ℕ → ℕ
+passed_over opening closing c behind = if c == closing || c == opening then 0 else whole c behind

@@ -1,90 +1,127 @@
 -- The pieces of a grammar text: tokens, and what stands between them.
-use Rattle.std.specs.Prelude.{ℕ, ◌+◌, ◌≤◌, Bool, List, Some, None, map, length, drop, ◌==◌, if◌then◌else◌, codes}
+use Rattle.std.specs.Prelude.{◌≡◌, ℕ, ◌+◌, ◌≤◌, Bool, List, Some, drop, ◌==◌, if◌then◌else◌}
 use Rattle.std.specs.Char.{is_ascii_digit}
-use Rattle.std.specs.List.{list_any, prefix_len}
+use Rattle.std.specs.List.{prefix_len}
 use Rattle.unicode.specs.Binary.{is_alphabetic}
+use Rattle.g4_chars.specs.declared.escape.Context.TheVariants as Context
 use Rattle.g4_tokens.specs.Characters.{begins, is_blank, is_in_line, is_name_part, is_upper}
 use Rattle.g4_tokens.specs.Comments.{comment_end}
-use Rattle.g4_tokens.specs.Nesting.{nesting_end}
-use Rattle.g4_tokens.specs.Sets.{ranges}
-use Rattle.g4_tokens.specs.Spellings.{spelling}
-use Rattle.g4_tokens.specs.Statements.{holds_sets}
+use Rattle.g4_tokens.specs.Enclosed.{Encloses}
+use Rattle.g4_tokens.specs.Nesting.{Nests}
 use Rattle.g4_tokens.specs.declared.piece.Piece.{Piece}
 use Rattle.g4_tokens.specs.declared.piece.Piece.TheVariants.{Gap, Formed, Faulty}
-use Rattle.g4_tokens.specs.declared.spelling.Spelled.{Spelled}
-use Rattle.g4_tokens.specs.declared.statement.Statement.{Statement}
 use Rattle.g4_tokens.specs.declared.token.Kind.{Kind}
-use Rattle.g4_tokens.specs.declared.token.Kind.TheVariants.{Lower, Upper, Literal, Set, Arguments, Action, Number, Colon, Semicolon, Plus, Star, Bar, LeftParenthesis, RightParenthesis, Arrow, Sign, Stray}
+use Rattle.g4_tokens.specs.declared.token.Kind.TheVariants.{Lower, Upper, Literal, Set, Arguments, Action, Number, LeftBrace, RightBrace, Colon, DoubleColon, Semicolon, Bar, LeftParenthesis, RightParenthesis, Question, Star, Plus, PlusEquals, Dot, DoubleDot, Tilde, Equals, Hash, Arrow, Comma, At, Less, Greater, Stray}
+
+-- a piece that something closes
+pub data Closing : Type 0 where
+  comment : Closing
+  literal : Closing
+  set : Closing
+  arguments : Closing
+  action : Closing
+
+-- what begins at a character: a piece that this one and those behind it tell, or one that something must close
+pub data Opening : Type 0 where
+  told : Piece → Opening
+  up_to : Closing → Opening
+
+-- a comment's `*/` ends so many characters behind its `/`
+pub data EndsComment (behind : List ℕ) : ℕ → Type 0 where
+  ends : (taken : ℕ) → comment_end (drop 1 behind) ≡ Some taken → EndsComment behind (taken + 1)
+
+-- the piece ends so many characters behind its first: between the quotes of a literal something stands
+abbrev pub IsEnd : Closing → List ℕ → ℕ → Type 0
+IsEnd comment behind more = EndsComment behind more
+IsEnd literal behind more = Encloses Context.Literal 39 behind more × (2 ≤ more)
+IsEnd set behind more = Encloses Context.Set 93 behind more
+IsEnd arguments behind more = Nests 91 93 behind more
+IsEnd action behind more = Nests 123 125 behind more
+
+-- the piece with so many characters behind its first
+abbrev pub closed_piece : Closing → ℕ → Piece
+closed_piece comment more = Gap more
+closed_piece literal more = Formed Literal more
+closed_piece set more = Formed Set more
+closed_piece arguments more = Formed Arguments more
+closed_piece action more = Formed Action more
+
+-- the piece that begins so, with what stands behind its first character: it is faulty if nothing closes it
+pub data IsPiece : Opening → List ℕ → Piece → Type 0 where
+  at_once : (piece : Piece) (behind : List ℕ) → IsPiece (told piece) behind piece
+  with_end : (closing : Closing) (behind : List ℕ) (more : ℕ) → IsEnd closing behind more → IsPiece (up_to closing) behind (closed_piece closing more)
+  endless : (closing : Closing) (behind : List ℕ) → ((more : ℕ) → IsEnd closing behind more → ⊥) → IsPiece (up_to closing) behind Faulty
 
 -- a comment, or a stray `/`, told by what stands behind the `/`
-abbrev pub slash_piece : List ℕ → Piece
-slash_piece behind =
-    if begins 47 behind then Gap (prefix_len is_in_line behind)
-    else (if begins 42 behind then elim (comment_end (drop 1 behind)) [ Some taken ↦ Gap (taken + 1) | None ↦ Faulty ] else Formed Stray 0)
+abbrev pub slash_opening : List ℕ → Opening
+slash_opening behind =
+    if begins 47 behind then told (Gap (prefix_len is_in_line behind))
+    else (if begins 42 behind then up_to comment else told (Formed Stray 0))
 
 -- a name that begins with the letter
 abbrev pub name_piece : ℕ → List ℕ → Piece
 name_piece letter behind = Formed (if is_upper letter then Upper else Lower) (prefix_len is_name_part behind)
 
--- a literal that spells the characters: there must be one
-abbrev pub literal_of : List Spelled → ℕ → Piece
-literal_of characters taken = if length characters == 0 then Faulty else Formed (Literal (map (λ spelled. spelled.character) characters)) taken
-
--- a literal, told by what stands behind its first quote
-abbrev pub literal_piece : List ℕ → Piece
-literal_piece behind = elim (spelling 39 behind) [ Some s ↦ literal_of s.characters s.taken | None ↦ Faulty ]
-
--- a set, told by what stands behind its bracket
-abbrev pub set_piece : List ℕ → Piece
-set_piece behind = elim (spelling 93 behind) [ Some s ↦ Formed (Set (ranges s.characters)) s.taken | None ↦ Faulty ]
-
--- arguments, told by what stands behind their bracket
-abbrev pub arguments_piece : List ℕ → Piece
-arguments_piece behind = elim (nesting_end 91 93 behind) [ Some taken ↦ Formed Arguments taken | None ↦ Faulty ]
-
--- an action, told by what stands behind its brace
-abbrev pub action_piece : List ℕ → Piece
-action_piece behind = elim (nesting_end 123 125 behind) [ Some taken ↦ Formed Action taken | None ↦ Faulty ]
-
--- one of `?~=#,@<>`
-abbrev pub is_lone_sign : ℕ → Bool
-is_lone_sign c = list_any (λ sign. sign == c) (codes "?~=#,@<>")
+-- one of `=`, `#`, `,`, `@`, `<` and `>`, or a stray character
+abbrev pub comparison : ℕ → Kind
+comparison c =
+    if c == 61 then Equals
+    else (if c == 35 then Hash
+    else (if c == 44 then Comma
+    else (if c == 64 then At
+    else (if c == 60 then Less
+    else (if c == 62 then Greater else Stray)))))
 
 -- what a character is that is no part of a longer sign
 abbrev pub lone_sign : ℕ → Kind
 lone_sign c =
     if c == 59 then Semicolon
-    else (if c == 42 then Star
     else (if c == 124 then Bar
     else (if c == 40 then LeftParenthesis
     else (if c == 41 then RightParenthesis
-    else (if is_lone_sign c then Sign else Stray)))))
+    else (if c == 63 then Question
+    else (if c == 42 then Star
+    else (if c == 126 then Tilde else comparison c))))))
 
--- a sign, or a stray character, with what stands behind it
+-- a sign, or a stray character, with what stands behind it: of two signs the longer
 abbrev pub sign_piece : ℕ → List ℕ → Piece
 sign_piece c behind =
-    if c == 58 then (if begins 58 behind then Formed Sign 1 else Formed Colon 0)
-    else (if c == 43 then (if begins 61 behind then Formed Sign 1 else Formed Plus 0)
+    if c == 58 then (if begins 58 behind then Formed DoubleColon 1 else Formed Colon 0)
+    else (if c == 43 then (if begins 61 behind then Formed PlusEquals 1 else Formed Plus 0)
     else (if c == 45 then (if begins 62 behind then Formed Arrow 1 else Formed Stray 0)
-    else (if c == 46 then (if begins 46 behind then Formed Sign 1 else Formed Sign 0)
+    else (if c == 46 then (if begins 46 behind then Formed DoubleDot 1 else Formed Dot 0)
     else Formed (lone_sign c) 0)))
 
--- the piece that begins with a character that is no letter, digit or blank
-abbrev pub marked_piece : Statement → ℕ → List ℕ → Piece
-marked_piece s c behind =
-    if c == 47 then slash_piece behind
-    else (if c == 39 then literal_piece behind
-    else (if c == 91 then (if holds_sets s then set_piece behind else arguments_piece behind)
-    else (if c == 123 then action_piece behind
-    else sign_piece c behind)))
+-- a set or arguments
+abbrev pub bracket_opening : Bool → Opening
+bracket_opening sets = if sets then up_to set else up_to arguments
 
--- the piece that begins with the character, with what stands behind it
-abbrev pub piece : Statement → ℕ → List ℕ → Piece
-piece s c behind =
-    if is_blank c then Gap 0
-    else (if is_alphabetic c then name_piece c behind
-    else (if is_ascii_digit c then Formed Number (prefix_len is_ascii_digit behind)
-    else marked_piece s c behind))
+-- a left brace or an action
+abbrev pub left_brace_opening : Bool → Opening
+left_brace_opening names_braces = if names_braces then told (Formed LeftBrace 0) else up_to action
+
+-- a right brace, if a left one is open
+abbrev pub right_brace_piece : Bool → Piece
+right_brace_piece in_braces = if in_braces then Formed RightBrace 0 else Formed Stray 0
+
+-- what begins with a character that is no letter, digit or blank
+abbrev pub marked_opening : Bool → Bool → Bool → ℕ → List ℕ → Opening
+marked_opening sets names_braces in_braces c behind =
+    if c == 47 then slash_opening behind
+    else (if c == 39 then up_to literal
+    else (if c == 91 then bracket_opening sets
+    else (if c == 123 then left_brace_opening names_braces
+    else (if c == 125 then told (right_brace_piece in_braces)
+    else told (sign_piece c behind)))))
+
+-- what begins with the character, before what stands behind it: whether a `[` begins a set, whether a `{` is a brace, and
+-- whether a `}` is one
+abbrev pub opening : Bool → Bool → Bool → ℕ → List ℕ → Opening
+opening sets names_braces in_braces c behind =
+    if is_blank c then told (Gap 0)
+    else (if is_alphabetic c then told (name_piece c behind)
+    else (if is_ascii_digit c then told (Formed Number (prefix_len is_ascii_digit behind))
+    else marked_opening sets names_braces in_braces c behind))
 
 -- the piece has at most so many characters behind its first
 abbrev pub IsWithin : ℕ → Piece → Type 0

@@ -1,35 +1,40 @@
 -- The tokens of a grammar text.
-use Rattle.std.specs.Prelude.{ℕ, zero, suc, ◌+◌, List, [], ◌∷◌, ◌++◌, Result, Ok, Err, take, ◌==◌, if◌then◌else◌}
-use Rattle.g4_base.specs.declared.place.Place.{Place}
-use Rattle.g4_base.specs.Place.{first_place, place_past}
-use Rattle.g4_tokens.specs.Pieces.{piece}
-use Rattle.g4_tokens.specs.Statements.{unread, behind_token}
+use Rattle.std.specs.Prelude.{ℕ, ◌+◌, List, [], ◌∷◌, take, drop}
+use Rattle.g4_base.specs.Place.{first_place}
+use Rattle.g4_tokens.specs.Pieces.{IsPiece, opening}
+use Rattle.g4_tokens.specs.Positions.{byte_count, position_past}
+use Rattle.g4_tokens.specs.Statements.{Word, in_lexer_rule, names_braces, in_braces}
+use Rattle.g4_tokens.specs.declared.piece.Piece.{Piece}
 use Rattle.g4_tokens.specs.declared.piece.Piece.TheVariants.{Gap, Formed, Faulty}
-use Rattle.g4_tokens.specs.declared.statement.Statement.{Statement}
+use Rattle.g4_tokens.specs.declared.position.Position.{Position}
+use Rattle.g4_tokens.specs.declared.token.Kind.{Kind}
 use Rattle.g4_tokens.specs.declared.token.Token.{Token}
 
--- where what doesn't close, or holds a bad escape, is opened: its place and its index in the text
-pub record Opened : Type 0 where
-  pub place : Place
-  pub index : ℕ
+-- the piece that begins with the character, behind these tokens and before these characters
+abbrev pub PieceAt : List Word → ℕ → List ℕ → Piece → Type 0
+PieceAt words c behind piece = IsPiece (opening (in_lexer_rule words) (names_braces words) (in_braces words) c behind) behind piece
 
--- the tokens with these before them
-abbrev pub behind_tokens : List Token → Result (List Token) Opened → Result (List Token) Opened
-behind_tokens before (Ok tokens) = Ok (before ++ tokens)
-behind_tokens before (Err opened) = Err opened
+-- the token of this kind that is these characters
+abbrev pub token_at : Kind → Position → List ℕ → Token
+token_at kind p characters = record { kind = kind; place = p.place; start = p.index; end = p.index + byte_count characters }
 
--- the tokens of the rest of a text in this statement, at this place and index; the first characters are passed over
-abbrev pub scanned_from : ℕ → Statement → Place → ℕ → List ℕ → Result (List Token) Opened
-scanned_from skip s place index [] = Ok []
-scanned_from (suc skip) s place index (c ∷ cs) = scanned_from skip s (place_past place c) (index + 1) cs
-scanned_from zero s place index (c ∷ cs) =
-    elim (piece s c cs) [
-      | Gap more ↦ scanned_from more s (place_past place c) (index + 1) cs
-      | Formed kind more ↦ behind_tokens (record { kind = kind; place = place; start = index; end = index + 1 + more } ∷ []) (scanned_from more (behind_token s kind (c ∷ take more cs)) (place_past place c) (index + 1) cs)
-      | Faulty ↦ Err (record { place = place; index = index })
-    ]
+-- behind these tokens and at this position, the text is cut into blanks, comments and these tokens
+pub data AreTokens : List Word → Position → List ℕ → List Token → Type 0 where
+  at_end : (words : List Word) (p : Position) → AreTokens words p [] []
+  behind_gap : (words : List Word) (p : Position) (c more : ℕ) (cs : List ℕ) (tokens : List Token) → PieceAt words c cs (Gap more) →
+      AreTokens words (position_past p (c ∷ take more cs)) (drop more cs) tokens → AreTokens words p (c ∷ cs) tokens
+  with_token : (words : List Word) (p : Position) (c more : ℕ) (kind : Kind) (cs : List ℕ) (tokens : List Token) → PieceAt words c cs (Formed kind more) →
+      AreTokens (record { kind = kind; characters = c ∷ take more cs } ∷ words) (position_past p (c ∷ take more cs)) (drop more cs) tokens →
+      AreTokens words p (c ∷ cs) (token_at kind p (c ∷ take more cs) ∷ tokens)
 
--- the tokens of a text: a byte order mark before it has no column
-abbrev pub scanned : List ℕ → Result (List Token) Opened
-scanned [] = Ok []
-scanned (c ∷ cs) = if c == 65279 then scanned_from 0 unread first_place 1 cs else scanned_from 0 unread first_place 0 (c ∷ cs)
+-- behind these tokens and at this position, the first piece that is faulty opens at that one
+pub data IsFaultyAt : List Word → Position → List ℕ → Position → Type 0 where
+  right_here : (words : List Word) (p : Position) (c : ℕ) (cs : List ℕ) → PieceAt words c cs Faulty → IsFaultyAt words p (c ∷ cs) p
+  past_gap : (words : List Word) (p at : Position) (c more : ℕ) (cs : List ℕ) → PieceAt words c cs (Gap more) →
+      IsFaultyAt words (position_past p (c ∷ take more cs)) (drop more cs) at → IsFaultyAt words p (c ∷ cs) at
+  past_token : (words : List Word) (p at : Position) (c more : ℕ) (kind : Kind) (cs : List ℕ) → PieceAt words c cs (Formed kind more) →
+      IsFaultyAt (record { kind = kind; characters = c ∷ take more cs } ∷ words) (position_past p (c ∷ take more cs)) (drop more cs) at → IsFaultyAt words p (c ∷ cs) at
+
+-- the start of a text with so many bytes before it
+abbrev pub start_at : ℕ → Position
+start_at index = record { place = first_place; index = index }

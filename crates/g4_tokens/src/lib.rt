@@ -3,11 +3,12 @@
 
 mod character;
 mod comment;
-mod escape;
+mod enclosed;
+mod law;
 mod nesting;
 mod piece;
+mod position;
 mod quote;
-mod ranges;
 mod scanner;
 mod spelling;
 mod statement;
@@ -15,5 +16,7 @@ mod statement;
 mod tests;
 mod token;
 
+pub use law::one_scan;
 pub use scanner::{ScanFault, scan};
+pub use spelling::literal_characters;
 pub use token::{Kind, Token};

@@ -1,6 +1,7 @@
 // Where actions and arguments end.
 ghost use Rattle.std.specs.Prelude.{◌≡◌, ◌≤◌, ◌<◌, ◌+◌, ◌^◌, length, drop, slice_index, IfSome};
-ghost use Rattle.g4_tokens.specs.Nesting.{commented, closes, depth_behind, passed, nesting_end, AreUnclosed};
+ghost use Rattle.g4_tokens.specs.Nesting.{commented, closes, depth_behind, passed_over, Nests, AreUnclosed};
+ghost use Rattle.g4_tokens.specs.Ends.{Finds};
 
 use crate::character::{begins, line_length};
 use crate::comment::comment_end;
@@ -54,7 +55,7 @@ fn passed(
     requires within { at < length text.now }
     requires here { slice_index text.now at ≡ c }
     requires known { AreUnclosed text.now at unclosed }
-    ensures value { result.0 ≡ passed opening closing c (drop (at + 1) text.now) }
+    ensures value { result.0 ≡ passed_over opening closing c (drop (at + 1) text.now) }
     ensures within { at + 1 + result.0 ≤ length text.now }
     ensures known { AreUnclosed text.now at result.1 }
 {
@@ -88,7 +89,7 @@ fn passed(
 /// How many characters there are up to the one that closes, that included.
 pub fn nesting_end(opening: char, closing: char, text: &[char]) -> Option<usize>
     requires fits { length text.now ≤ 16777216 }
-    ensures value { result ≡ nesting_end opening closing text.now }
+    ensures end { Finds (Nests opening closing text.now) result }
     ensures within { IfSome result (λ taken. taken ≤ length text.now) }
 {
     let mut unclosed = Unclosed {

@@ -1,44 +1,52 @@
 // The pieces of a grammar text: tokens, and what stands between them.
-ghost use Rattle.std.specs.Prelude.{◌≡◌, ◌≤◌, length, IfOk};
+ghost use Rattle.std.specs.Prelude.{◌≡◌, ◌≤◌, length};
 ghost use Rattle.std.specs.List.{prefix_len};
 ghost use Rattle.std.specs.Char.{is_ascii_digit};
-ghost use Rattle.g4_tokens.specs.Pieces.{slash_piece, name_piece, literal_piece, set_piece, arguments_piece, action_piece, lone_sign, sign_piece, marked_piece, piece, IsWithin};
+ghost use Rattle.g4_tokens.specs.Pieces.{told, up_to, comment, literal, set, arguments, action, IsPiece, slash_opening, name_piece, comparison, lone_sign, sign_piece, bracket_opening, left_brace_opening, right_brace_piece, marked_opening, opening, IsWithin};
+ghost use Rattle.g4_tokens.specs.Readings.{holds_sets};
 
 use crate::Kind;
 use crate::character::{begins, is_blank, is_upper, line_length, name_length};
 use crate::comment::comment_end;
+use crate::enclosed::enclosed;
 use crate::nesting::nesting_end;
-use crate::ranges::ranges;
-use crate::spelling::read_spelling;
 use crate::statement::Statement;
-use g4_base::Sequence;
-use std::alloc::{AllocError, Global};
+use g4_chars::Context;
 use unicode::properties::is_alphabetic;
 
 /// A piece of a text, with how many characters it has behind its first.
-#[derive(Drop)]
+#[derive(Clone, Copy)]
 pub enum Piece {
     /// A blank or a comment.
     Gap(usize),
+    /// A token.
     Formed(Kind, usize),
     /// What doesn't close, or holds a bad escape.
     Faulty,
 }
 
+fn comment_piece(behind: &[char]) -> Piece
+    requires star { 1 ≤ length behind.now }
+    ensures value { IsPiece (up_to comment) behind.now result }
+    ensures within { IsWithin (length behind.now) result }
+{
+    match comment_end(&behind[1..]) {
+        Some(taken) => Piece::Gap(taken + 1),
+        None => Piece::Faulty,
+    }
+}
+
 fn slash_piece(behind: &[char]) -> Piece
-    ensures value { result ≡ slash_piece behind.now }
+    ensures value { IsPiece (slash_opening behind.now) behind.now result }
     ensures within { IsWithin (length behind.now) result }
 {
     if begins('/', behind) {
         return Piece::Gap(line_length(behind));
     }
-    if !begins('*', behind) {
-        return Piece::Formed(Kind::Stray, 0);
+    if begins('*', behind) {
+        return comment_piece(behind);
     }
-    match comment_end(&behind[1..]) {
-        Some(taken) => Piece::Gap(taken + 1),
-        None => Piece::Faulty,
-    }
+    Piece::Formed(Kind::Stray, 0)
 }
 
 fn name_piece(letter: char, behind: &[char]) -> Piece
@@ -53,35 +61,35 @@ fn name_piece(letter: char, behind: &[char]) -> Piece
     Piece::Formed(kind, name_length(behind))
 }
 
-fn literal_piece(alloc: Global, behind: &[char]) -> Result<Piece, AllocError>
-    ensures value { IfOk result (λ p. p ≡ literal_piece behind.now) }
-    ensures within { IfOk result (IsWithin (length behind.now)) }
+fn literal_piece(behind: &[char]) -> Piece
+    ensures value { IsPiece (up_to literal) behind.now result }
+    ensures within { IsWithin (length behind.now) result }
 {
-    let Some(found) = read_spelling(alloc, '\'', behind)? else {
-        return Ok(Piece::Faulty);
-    };
-    let spelled = found.characters.as_slice();
-    if spelled.is_empty() {
-        return Ok(Piece::Faulty);
+    match enclosed(Context::Literal, '\'', behind) {
+        Some(taken) => {
+            if taken > 1 {
+                Piece::Formed(Kind::Literal, taken)
+            } else {
+                Piece::Faulty
+            }
+        }
+        None => Piece::Faulty,
     }
-    let characters = spelled.iter().map(|s| s.character).collect(alloc)?;
-    Ok(Piece::Formed(Kind::Literal(Sequence::new(characters)), found.taken))
 }
 
-fn set_piece(alloc: Global, behind: &[char]) -> Result<Piece, AllocError>
-    ensures value { IfOk result (λ p. p ≡ set_piece behind.now) }
-    ensures within { IfOk result (IsWithin (length behind.now)) }
+fn set_piece(behind: &[char]) -> Piece
+    ensures value { IsPiece (up_to set) behind.now result }
+    ensures within { IsWithin (length behind.now) result }
 {
-    let Some(found) = read_spelling(alloc, ']', behind)? else {
-        return Ok(Piece::Faulty);
-    };
-    let ranges = ranges(alloc, found.characters.as_slice())?;
-    Ok(Piece::Formed(Kind::Set(ranges), found.taken))
+    match enclosed(Context::Set, ']', behind) {
+        Some(taken) => Piece::Formed(Kind::Set, taken),
+        None => Piece::Faulty,
+    }
 }
 
 fn arguments_piece(behind: &[char]) -> Piece
     requires fits { length behind.now ≤ 16777216 }
-    ensures value { result ≡ arguments_piece behind.now }
+    ensures value { IsPiece (up_to arguments) behind.now result }
     ensures within { IsWithin (length behind.now) result }
 {
     match nesting_end('[', ']', behind) {
@@ -92,7 +100,7 @@ fn arguments_piece(behind: &[char]) -> Piece
 
 fn action_piece(behind: &[char]) -> Piece
     requires fits { length behind.now ≤ 16777216 }
-    ensures value { result ≡ action_piece behind.now }
+    ensures value { IsPiece (up_to action) behind.now result }
     ensures within { IsWithin (length behind.now) result }
 {
     match nesting_end('{', '}', behind) {
@@ -101,17 +109,32 @@ fn action_piece(behind: &[char]) -> Piece
     }
 }
 
+fn comparison(c: char) -> Kind
+    ensures { result ≡ comparison c }
+{
+    match c {
+        '=' => Kind::Equals,
+        '#' => Kind::Hash,
+        ',' => Kind::Comma,
+        '@' => Kind::At,
+        '<' => Kind::Less,
+        '>' => Kind::Greater,
+        _ => Kind::Stray,
+    }
+}
+
 fn lone_sign(c: char) -> Kind
     ensures { result ≡ lone_sign c }
 {
     match c {
         ';' => Kind::Semicolon,
-        '*' => Kind::Star,
         '|' => Kind::Bar,
         '(' => Kind::LeftParenthesis,
         ')' => Kind::RightParenthesis,
-        '?' | '~' | '=' | '#' | ',' | '@' | '<' | '>' => Kind::Sign,
-        _ => Kind::Stray,
+        '?' => Kind::Question,
+        '*' => Kind::Star,
+        '~' => Kind::Tilde,
+        _ => comparison(c),
     }
 }
 
@@ -120,42 +143,65 @@ fn sign_piece(c: char, behind: &[char]) -> Piece
     ensures within { IsWithin (length behind.now) result }
 {
     match c {
-        ':' if begins(':', behind) => Piece::Formed(Kind::Sign, 1),
+        ':' if begins(':', behind) => Piece::Formed(Kind::DoubleColon, 1),
         ':' => Piece::Formed(Kind::Colon, 0),
-        '+' if begins('=', behind) => Piece::Formed(Kind::Sign, 1),
+        '+' if begins('=', behind) => Piece::Formed(Kind::PlusEquals, 1),
         '+' => Piece::Formed(Kind::Plus, 0),
         '-' if begins('>', behind) => Piece::Formed(Kind::Arrow, 1),
         '-' => Piece::Formed(Kind::Stray, 0),
-        '.' if begins('.', behind) => Piece::Formed(Kind::Sign, 1),
-        '.' => Piece::Formed(Kind::Sign, 0),
+        '.' if begins('.', behind) => Piece::Formed(Kind::DoubleDot, 1),
+        '.' => Piece::Formed(Kind::Dot, 0),
         _ => Piece::Formed(lone_sign(c), 0),
     }
 }
 
-fn marked_piece(
-    alloc: Global,
-    statement: Statement,
-    c: char,
-    behind: &[char],
-) -> Result<Piece, AllocError>
+fn bracket_piece(sets: bool, behind: &[char]) -> Piece
     requires fits { length behind.now ≤ 16777216 }
-    ensures value { IfOk result (λ p. p ≡ marked_piece statement c behind.now) }
-    ensures within { IfOk result (IsWithin (length behind.now)) }
+    ensures value { IsPiece (bracket_opening sets) behind.now result }
+    ensures within { IsWithin (length behind.now) result }
 {
-    if c == '/' {
-        Ok(slash_piece(behind))
-    } else if c == '\'' {
-        literal_piece(alloc, behind)
-    } else if c == '[' {
-        if statement.holds_sets() {
-            set_piece(alloc, behind)
-        } else {
-            Ok(arguments_piece(behind))
-        }
-    } else if c == '{' {
-        Ok(action_piece(behind))
+    if sets {
+        set_piece(behind)
     } else {
-        Ok(sign_piece(c, behind))
+        arguments_piece(behind)
+    }
+}
+
+fn left_brace_piece(names_braces: bool, behind: &[char]) -> Piece
+    requires fits { length behind.now ≤ 16777216 }
+    ensures value { IsPiece (left_brace_opening names_braces) behind.now result }
+    ensures within { IsWithin (length behind.now) result }
+{
+    if names_braces {
+        Piece::Formed(Kind::LeftBrace, 0)
+    } else {
+        action_piece(behind)
+    }
+}
+
+fn right_brace_piece(in_braces: bool) -> Piece
+    ensures value { result ≡ right_brace_piece in_braces }
+    ensures within { IsWithin 0 result }
+{
+    if in_braces {
+        Piece::Formed(Kind::RightBrace, 0)
+    } else {
+        Piece::Formed(Kind::Stray, 0)
+    }
+}
+
+fn marked_piece(statement: Statement, c: char, behind: &[char]) -> Piece
+    requires fits { length behind.now ≤ 16777216 }
+    ensures value { IsPiece (marked_opening (holds_sets statement) statement.names_braces statement.in_braces c behind.now) behind.now result }
+    ensures within { IsWithin (length behind.now) result }
+{
+    match c {
+        '/' => slash_piece(behind),
+        '\'' => literal_piece(behind),
+        '[' => bracket_piece(statement.holds_sets(), behind),
+        '{' => left_brace_piece(statement.names_braces, behind),
+        '}' => right_brace_piece(statement.in_braces),
+        _ => sign_piece(c, behind),
     }
 }
 
@@ -168,23 +214,18 @@ fn number_length(text: &[char]) -> usize
 }
 
 /// The piece that begins with the character, with what stands behind it.
-pub fn read_piece(
-    alloc: Global,
-    statement: Statement,
-    c: char,
-    behind: &[char],
-) -> Result<Piece, AllocError>
+pub fn read_piece(statement: Statement, c: char, behind: &[char]) -> Piece
     requires fits { length behind.now ≤ 16777216 }
-    ensures value { IfOk result (λ p. p ≡ piece statement c behind.now) }
-    ensures within { IfOk result (IsWithin (length behind.now)) }
+    ensures value { IsPiece (opening (holds_sets statement) statement.names_braces statement.in_braces c behind.now) behind.now result }
+    ensures within { IsWithin (length behind.now) result }
 {
     if is_blank(c) {
-        Ok(Piece::Gap(0))
+        Piece::Gap(0)
     } else if is_alphabetic(c) {
-        Ok(name_piece(c, behind))
+        name_piece(c, behind)
     } else if c.is_ascii_digit() {
-        Ok(Piece::Formed(Kind::Number, number_length(behind)))
+        Piece::Formed(Kind::Number, number_length(behind))
     } else {
-        marked_piece(alloc, statement, c, behind)
+        marked_piece(statement, c, behind)
     }
 }

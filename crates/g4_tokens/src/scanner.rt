@@ -1,21 +1,25 @@
 // The tokens of a grammar text.
-ghost use Rattle.std.specs.Prelude.{◌≡◌, ◌<◌, ◌≤◌, ◌+◌, ◌^◌, length, drop};
-ghost use Rattle.g4_base.specs.Place.{first_place};
-ghost use Rattle.g4_tokens.specs.Scanning.{scanned, scanned_from};
-ghost use Rattle.g4_tokens.specs.Statements.{unread};
-ghost use Rattle.g4_tokens.specs.Answers.{GivesTokens};
+ghost use Rattle.std.specs.Prelude.{◌≡◌, ◌<◌, ◌≤◌, ◌+◌, ◌^◌, length, drop, IfOk};
+ghost use Rattle.std.specs.Str.{chars};
+ghost use Rattle.g4_tokens.specs.Scanning.{start_at};
+ghost use Rattle.g4_tokens.specs.Spans.{AreInOrder, AreTexts};
+ghost use Rattle.g4_tokens.specs.Answers.{AnswersRest, IsScan, start_of, unmarked};
 
+use crate::Token;
 use crate::character::begins;
 use crate::piece::{Piece, read_piece};
+use crate::position::Position;
 use crate::statement::Statement;
-use crate::{Kind, Token};
 use g4_base::{Place, Sequence};
 use std::alloc::{AllocError, AllocFailed, Global};
+use std::str;
 
-/// Why a text has no tokens.
+/// Why bytes have no tokens.
 #[derive(Drop)]
 pub enum ScanFault {
-    /// The place and the index of the character that opens what doesn't close, or what holds a bad escape.
+    /// The longest front part that is UTF-8 has this many bytes.
+    NotUtf8(usize),
+    /// The place and the byte's index of the character that opens what doesn't close, or what holds a bad escape.
     Syntax(Place, usize),
     NoMemory,
 }
@@ -42,49 +46,75 @@ impl<T: Drop> From<AllocFailed<T>> for ScanFault {
     }
 }
 
-/// The tokens from the index on, at which the first line begins.
-fn scan_from(alloc: Global, text: &[char], start: usize) -> Result<Sequence<Token>, ScanFault>
+/// The tokens of a text that begins at the index.
+fn scan_from(alloc: Global, text: &[char], index: usize) -> Result<Sequence<Token>, ScanFault>
     requires fits { length text.now ≤ 16777216 }
-    requires within { start ≤ length text.now }
-    ensures { GivesTokens (scanned_from 0 unread first_place start (drop start text.now)) result }
+    requires marked { index ≤ 3 }
+    ensures { AnswersRest (start_at index) text.now result }
 {
     let mut tokens = Vec::new(alloc);
     let mut statement = Statement::unread();
-    let mut place = Place::START;
-    let mut at = start;
+    let mut position = Position {
+        place: Place::START,
+        index,
+    };
+    let mut at = 0;
     while at < text.len() {
-        let c = text[at];
-        match read_piece(alloc, statement, c, &text[at + 1..])? {
+        match read_piece(statement, text[at], &text[at + 1..]) {
             Piece::Gap(more) => {
                 let end = at + 1 + more;
-                place = place.behind(&text[at..end]);
+                position = position.past(&text[at..end]);
                 at = end;
             }
             Piece::Formed(kind, more) => {
                 let end = at + 1 + more;
                 let word = &text[at..end];
-                statement = statement.behind(&kind, word);
+                let next = position.past(word);
+                statement = statement.past(kind, word);
                 tokens.push(Token {
                     kind,
-                    place,
-                    start: at,
-                    end,
+                    place: position.place,
+                    start: position.index,
+                    end: next.index,
                 })?;
-                place = place.behind(word);
+                position = next;
                 at = end;
             }
-            Piece::Faulty => return Err(ScanFault::Syntax(place, at)),
+            Piece::Faulty => return Err(ScanFault::Syntax(position.place, position.index)),
         }
     }
     Ok(Sequence::new(tokens))
 }
 
-/// The tokens of a grammar text in order, or the first literal, set, arguments, action or comment that doesn't close,
-/// or literal or set that holds a bad escape.
-pub fn scan(alloc: Global, text: &[char]) -> Result<Sequence<Token>, ScanFault>
+/// The tokens of a text, which a byte order mark may stand before.
+fn scan_characters(alloc: Global, text: &[char]) -> Result<Sequence<Token>, ScanFault>
     requires fits { length text.now ≤ 16777216 }
-    ensures { GivesTokens (scanned text.now) result }
+    ensures { AnswersRest (start_of text.now) (unmarked text.now) result }
 {
-    let start = if begins('\u{FEFF}', text) { 1 } else { 0 };
-    scan_from(alloc, text, start)
+    match text {
+        ['\u{FEFF}', behind @ ..] => scan_from(alloc, behind, 3),
+        _ => scan_from(alloc, text, 0),
+    }
+}
+
+/// The tokens of a grammar text in order.
+///
+/// # Errors
+/// - `NotUtf8`: the bytes are no text.
+/// - `Syntax`: the first literal, set, arguments, action or comment that doesn't close, or literal or set that holds a bad
+///   escape.
+/// - `NoMemory`: memory runs out.
+pub fn scan(alloc: Global, bytes: &[u8]) -> Result<Sequence<Token>, ScanFault>
+    requires fits { length bytes.now ≤ 16777216 }
+    ensures value { IsScan bytes.now result }
+    ensures spans { IfOk result (AreInOrder 0 (length bytes.now)) }
+    ensures texts { IfOk result (AreTexts bytes.now) }
+{
+    match str::from_utf8(bytes) {
+        Ok(text) => {
+            let characters: Vec<char> = text.chars().collect(alloc)?;
+            scan_characters(alloc, &characters)
+        }
+        Err(e) => Err(ScanFault::NotUtf8(e.valid_up_to())),
+    }
 }

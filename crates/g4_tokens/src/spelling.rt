@@ -1,68 +1,82 @@
-// What literals and sets spell.
-ghost use Rattle.std.specs.Prelude.{◌≡◌, ◌≤◌, length, IfOk, IfSome};
-ghost use Rattle.g4_tokens.specs.Spellings.{unit, spelling};
+// What literals stand for.
+ghost use Rattle.std.specs.Prelude.{◌≡◌, ◌≤◌, length, drop, IfOk, IfSome};
+ghost use Rattle.g4_tokens.specs.Spelling.{meant, escaped, spelled, literal_spelling, spelling_from};
 
-use crate::escape::{Escape, breaks, read_escape};
 use g4_base::Sequence;
-use std::alloc::{AllocError, AllocFailed, Global};
+use g4_chars::{Context, Meaning, read_escape};
+use std::alloc::{AllocError, Global};
 
-/// A character that is spelled, and whether a backslash spells it.
+/// A character that is spelled, and how many characters behind the first belong to it.
 #[derive(Clone, Copy)]
-pub struct Spelled {
+pub struct SpelledCharacter {
     pub character: char,
-    pub escaped: bool,
+    pub more: usize,
 }
 
-/// The characters that are spelled up to what closes them, and how many characters that takes, what closes them included.
-#[derive(Drop)]
-pub struct Spelling {
-    pub characters: Sequence<Spelled>,
-    pub taken: usize,
-}
-
-fn unit(close: char, c: char, behind: &[char]) -> Option<Escape>
-    ensures value { result ≡ unit close c behind.now }
-    ensures within { IfSome result (λ e. e.taken ≤ length behind.now) }
+fn meant(meaning: Meaning) -> Option<char>
+    ensures { result ≡ meant meaning }
 {
-    if breaks(close, c) {
+    match meaning {
+        Meaning::Character(c) => Some(c),
+        Meaning::Property { .. } => None,
+    }
+}
+
+fn escaped(behind: &[char]) -> Option<SpelledCharacter>
+    ensures value { result ≡ escaped behind.now }
+    ensures within { IfSome result (λ s. s.more ≤ length behind.now) }
+{
+    let escape = read_escape(Context::Literal, behind)?;
+    let character = meant(escape.meaning)?;
+    Some(SpelledCharacter {
+        character,
+        more: escape.taken,
+    })
+}
+
+fn spelled(c: char, behind: &[char]) -> Option<SpelledCharacter>
+    ensures value { result ≡ spelled c behind.now }
+    ensures within { IfSome result (λ s. s.more ≤ length behind.now) }
+{
+    if c == '\'' {
         None
     } else if c == '\\' {
-        read_escape(close, behind)
+        escaped(behind)
     } else {
-        Some(Escape {
+        Some(SpelledCharacter {
             character: c,
-            taken: 0,
+            more: 0,
         })
     }
 }
 
-/// What the text spells up to the character that closes: none where nothing closes it, or at a bad escape.
-pub fn read_spelling(
-    alloc: Global,
-    close: char,
-    text: &[char],
-) -> Result<Option<Spelling>, AllocError>
-    ensures value { IfOk result (λ s. s ≡ spelling close text.now) }
-    ensures within { IfOk result (λ s. IfSome s (λ found. found.taken ≤ length text.now)) }
+/// What a text spells up to the quote that closes, or a bad escape.
+fn spelling(alloc: Global, text: &[char]) -> Result<Sequence<char>, AllocError>
+    ensures { IfOk result (λ s. s ≡ spelling_from 0 text.now) }
 {
     let mut characters = Vec::new(alloc);
     let mut at = 0;
     while at < text.len() {
-        let c = text[at];
-        if c == close {
-            return Ok(Some(Spelling {
-                characters: Sequence::new(characters),
-                taken: at + 1,
-            }));
-        }
-        let Some(found) = unit(close, c, &text[at + 1..]) else {
-            return Ok(None);
+        let Some(found) = spelled(text[at], &text[at + 1..]) else {
+            break;
         };
-        characters.push(Spelled {
-            character: found.character,
-            escaped: c == '\\',
-        })?;
-        at += 1 + found.taken;
+        characters.push(found.character)?;
+        at += 1 + found.more;
     }
-    Ok(None)
+    Ok(Sequence::new(characters))
+}
+
+/// The characters that a literal stands for, told by its text with its quotes; of a text that is no literal, those up to
+/// what makes it none.
+///
+/// # Errors
+/// Memory runs out.
+pub fn literal_characters(alloc: Global, text: &[char]) -> Result<Sequence<char>, AllocError>
+    ensures { IfOk result (λ s. s ≡ literal_spelling text.now) }
+{
+    let behind = match text {
+        [_, behind @ ..] => behind,
+        [] => text,
+    };
+    spelling(alloc, behind)
 }

@@ -1,42 +1,73 @@
 // A token of a grammar text.
-use g4_base::{Place, Sequence};
-use g4_grammar::Range;
+use g4_base::Place;
 
 /// What a token is.
-#[derive(Drop)]
+#[derive(Clone, Copy, Debug, PartialEq, Eq)]
 pub enum Kind {
     /// A name whose first letter is no upper-case letter.
     Lower,
     /// A name whose first letter is an upper-case letter.
     Upper,
-    /// A literal, with the characters that it stands for.
-    Literal(Sequence<char>),
-    /// A set of characters, with its ranges in order of the text.
-    Set(Sequence<Range>),
-    /// `[..]` elsewhere than in a lexer rule.
+    /// `'..'` on one line.
+    Literal,
+    /// `[..]` in the body of a rule with an upper-case name.
+    Set,
+    /// `[..]` elsewhere.
     Arguments,
     /// `{..}` with its braces balanced.
     Action,
     /// Decimal digits.
     Number,
+    /// `{` behind `options`, `tokens` or `channels`.
+    LeftBrace,
+    /// The `}` of such a brace.
+    RightBrace,
+    /// `:`.
     Colon,
+    /// `::`.
+    DoubleColon,
+    /// `;`.
     Semicolon,
-    Plus,
-    Star,
     /// `|`.
     Bar,
+    /// `(`.
     LeftParenthesis,
+    /// `)`.
     RightParenthesis,
+    /// `?`.
+    Question,
+    /// `*`.
+    Star,
+    /// `+`.
+    Plus,
+    /// `+=`.
+    PlusEquals,
+    /// `.`.
+    Dot,
+    /// `..`.
+    DoubleDot,
+    /// `~`.
+    Tilde,
+    /// `=`.
+    Equals,
+    /// `#`.
+    Hash,
     /// `->`.
     Arrow,
-    /// Any other sign.
-    Sign,
+    /// `,`.
+    Comma,
+    /// `@`.
+    At,
+    /// `<`.
+    Less,
+    /// `>`.
+    Greater,
     /// A character at which no token begins.
     Stray,
 }
 
-/// A token: its kind, its place, and its characters from `start` up to `end`, `end` left out.
-#[derive(Drop)]
+/// A token: its kind, its place, and its bytes from `start` up to `end`, `end` left out.
+#[derive(Clone, Copy, Debug, PartialEq, Eq)]
 pub struct Token {
     pub kind: Kind,
     pub place: Place,

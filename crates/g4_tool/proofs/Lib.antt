@@ -2,6 +2,7 @@ mod Fetched
 mod Lines
 mod Lists
 mod Meanings
+mod OneDecoding
 mod OneLine
 mod OnePrepared
 mod OneReport

@@ -21,7 +21,7 @@ use Rattle.g4_tool.specs.declared.prepare.Interpreter.{Interpreter}
 use Rattle.g4_tool.specs.declared.write.Line.{Line}
 use Rattle.g4_tool.specs.Outcomes.{TellsParse, IsTokensLine, TellsLexing, IsTextLine, TellsDecoding, IsBytesLine, IsFileLine, AreFileLines}
 use Rattle.g4_tool.proofs.OneStage.{IsSingleBeside}
-use Rattle.g4_tool.proofs.OnePrepared.{one_decoding}
+use Rattle.g4_tool.proofs.OneDecoding.{one_decoding}
 
 -- what a run's ending is as a result
 abbrev result_of : Ending → Result (List Item) ParseFault

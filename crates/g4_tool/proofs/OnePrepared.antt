@@ -1,7 +1,5 @@
 -- A grammar file gives at most one thing.
-use Rattle.std.proofs.Common.{◌≡◌, ◌<◌, ◌⊎◌, inl, inr, ℕ, List, length, subst, Bool, true, false, Ok, Err, ap, sym, ◌∙◌, refl, arith}
-use Rattle.std.specs.Str.{IsUtf8, IsValidUpTo}
-use Rattle.std.proofs.lemmas.List.{take_all}
+use Rattle.std.proofs.Common.{◌≡◌, ℕ, List, Bool, true, false, Ok, Err, ap, sym, ◌∙◌, refl, arith}
 use Rattle.g4_grammar.specs.declared.source.Source.{Source}
 use Rattle.g4_grammar.specs.declared.numbered.Numbered.{Numbered}
 use Rattle.g4_net.specs.declared.network.Network.{Network}
@@ -19,33 +17,10 @@ use Rattle.g4_checks.proofs.OneCheck.{one_check}
 use Rattle.g4_build.specs.Answers.{GivesNetwork}
 use Rattle.g4_build.specs.declared.builder.BuildFault.TheVariants as building
 use Rattle.g4_build.proofs.OneNetwork.{one_network}
-use Rattle.g4_tool.specs.declared.decode.DecodeError.TheVariants as decoding
-use Rattle.g4_tool.specs.Decoding.{IsDecoding}
-use Rattle.g4_tool.specs.PrepareErrors.{of_decode, of_read, of_name, of_number, of_check, of_build}
+use Rattle.g4_tool.specs.PrepareErrors.{of_read, of_name, of_number, of_check, of_build}
 use Rattle.g4_tool.specs.Stages.{Gives, Then}
-use Rattle.g4_tool.specs.Preparing.{FromNetwork, FromGrammar, FromSource, FromText, IsPrepared}
+use Rattle.g4_tool.specs.Preparing.{FromNetwork, FromGrammar, FromSource, IsPrepared}
 use Rattle.g4_tool.proofs.OneStage.{IsSingle, IsSingleBeside, one_gift, one_then}
-
--- a text has no byte at which it ends being one
-not_both_texts : (bytes : List ℕ) (at : ℕ) → IsUtf8 bytes → IsValidUpTo bytes at → ⊥
-not_both_texts bytes at utf8 up = up.longest (length bytes) up.short (subst IsUtf8 (sym (take_all (length bytes) bytes (omega arith))) utf8)
-
--- bytes end being text at one byte
-one_end : (bytes : List ℕ) (at to : ℕ) → IsValidUpTo bytes at → IsValidUpTo bytes to → at ≡ to
-one_end bytes at to p q = elim (compared at to) [ inl less ↦ absurd (p.longest to less q.front) | inr others ↦ elim others [ inl same ↦ same | inr more ↦ absurd (q.longest at more p.front) ] ]
-  where
-    compared : (a b : ℕ) → (a < b) ⊎ ((a ≡ b) ⊎ (b < a))
-    compared a b = grind arith
-
--- bytes have at most one decoding
-pub one_decoding : (bytes : List ℕ) → IsSingleBeside decoding.NoMemory (IsDecoding (λ (text : List ℕ). text) bytes)
-one_decoding bytes (Ok t) (Ok u) h k n m = ap (λ x. Ok x) (h.same ∙ sym k.same)
-one_decoding bytes (Ok t) (Err (decoding.NotUtf8 at)) h k n m = absurd (not_both_texts bytes at h.utf8 k)
-one_decoding bytes (Err (decoding.NotUtf8 at)) (Ok u) h k n m = absurd (not_both_texts bytes at k.utf8 h)
-one_decoding bytes (Err (decoding.NotUtf8 at)) (Err (decoding.NotUtf8 to)) h k n m = ap (λ x. Err (decoding.NotUtf8 x)) (one_end bytes at to h k)
-one_decoding bytes (Err decoding.NoMemory) b h k n m = absurd (n refl)
-one_decoding bytes (Ok t) (Err decoding.NoMemory) h k n m = absurd (m refl)
-one_decoding bytes (Err (decoding.NotUtf8 at)) (Err decoding.NoMemory) h k n m = absurd (m refl)
 
 -- a source has at most one numbering
 one_numbering : (source : Source) → IsSingleBeside numbering.NoMemory (GivesNumbered source)
@@ -112,12 +87,6 @@ one_from_source start source =
     (one_gift (GivesNumbered source) of_number numbering.NoMemory refl (one_numbering source))
     (λ grammar. one_then (Gives (IsChecked source.rules) of_check) (λ _. FromGrammar start grammar) (one_gift (IsChecked source.rules) of_check checking.NoMemory refl (one_check source.rules)) (λ _. one_from_grammar start grammar)))
 
--- a text gives at most one thing
-one_from_text : (start text : List ℕ) → IsSingle (FromText start text)
-one_from_text start text = one_then (Gives (IsReading text) of_read) (FromSource start) (one_gift (IsReading text) of_read reading.NoMemory refl (one_reading text)) (one_from_source start)
-
 -- a grammar file gives at most one thing
 pub one_prepared : (bytes start : List ℕ) → IsSingle (IsPrepared bytes start)
-one_prepared bytes start =
-    one_then (Gives (IsDecoding (λ (text : List ℕ). text) bytes) of_decode) (FromText start)
-    (one_gift (IsDecoding (λ (text : List ℕ). text) bytes) of_decode decoding.NoMemory refl (one_decoding bytes)) (one_from_text start)
+one_prepared bytes start = one_then (Gives (IsReading bytes) of_read) (FromSource start) (one_gift (IsReading bytes) of_read reading.NoMemory refl (one_reading bytes)) (one_from_source start)

@@ -1,6 +1,4 @@
 -- The faults of a grammar file, from those of the stages.
-use Rattle.g4_tool.specs.declared.decode.DecodeError.{DecodeError}
-use Rattle.g4_tool.specs.declared.decode.DecodeError.TheVariants as decoding
 use Rattle.g4_reader.specs.declared.reader.ReadFault.{ReadFault}
 use Rattle.g4_reader.specs.declared.reader.ReadFault.TheVariants as reading
 use Rattle.g4_vocab.specs.declared.twice.NameFault.{NameFault}
@@ -15,13 +13,9 @@ use Rattle.g4_tool.specs.declared.prepare.GrammarFault.TheVariants as faults
 use Rattle.g4_tool.specs.declared.prepare.PrepareError.{PrepareError}
 use Rattle.g4_tool.specs.declared.prepare.PrepareError.TheVariants as errors
 
--- of bytes that are no text
-abbrev pub of_decode : DecodeError → PrepareError
-of_decode (decoding.NotUtf8 at) = errors.Fault (faults.NotUtf8 at)
-of_decode decoding.NoMemory = errors.NoMemory
-
--- of a text that is no grammar
+-- of bytes that are no grammar
 abbrev pub of_read : ReadFault → PrepareError
+of_read (reading.NotUtf8 at) = errors.Fault (faults.NotUtf8 at)
 of_read (reading.Syntax place characters) = errors.Fault (faults.Syntax place characters)
 of_read (reading.BadSet place) = errors.Fault (faults.BadSet place)
 of_read reading.NoMemory = errors.NoMemory

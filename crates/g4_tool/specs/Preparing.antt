@@ -9,8 +9,7 @@ use Rattle.g4_vocab.specs.Answers.{GivesNumbered}
 use Rattle.g4_checks.specs.Checking.{IsChecked}
 use Rattle.g4_build.specs.Answers.{GivesNetwork}
 use Rattle.g4_build.specs.LexerSize.{lexer_state_count}
-use Rattle.g4_tool.specs.Decoding.{IsDecoding}
-use Rattle.g4_tool.specs.PrepareErrors.{of_decode, of_read, of_name, of_number, of_check, of_build}
+use Rattle.g4_tool.specs.PrepareErrors.{of_read, of_name, of_number, of_check, of_build}
 use Rattle.g4_tool.specs.Stages.{Gives, Then}
 use Rattle.g4_tool.specs.declared.prepare.Interpreter.{Interpreter}
 use Rattle.g4_tool.specs.declared.prepare.GrammarFault.{GrammarFault}
@@ -32,13 +31,9 @@ abbrev pub FromSource : List ℕ → Source → Result Interpreter GrammarFault 
 FromSource start source =
     Then (Gives (HasOwnNames source.rules) of_name) (λ _. Then (Gives (GivesNumbered source) of_number) (λ grammar. Then (Gives (IsChecked source.rules) of_check) (λ _. FromGrammar start grammar)))
 
--- a text: the grammar that it is, and what that gives
-abbrev pub FromText : List ℕ → List ℕ → Result Interpreter GrammarFault → Type 0
-FromText start text = Then (Gives (IsReading text) of_read) (FromSource start)
-
 -- the grammar file of these bytes gives this interpreter from the start rule, or its first fault in the order of the stages
 abbrev pub IsPrepared : List ℕ → List ℕ → Result Interpreter GrammarFault → Type 0
-IsPrepared bytes start = Then (Gives (IsDecoding (λ text. text) bytes) of_decode) (FromText start)
+IsPrepared bytes start = Then (Gives (IsReading bytes) of_read) (FromSource start)
 
 -- what an error says of the file
 abbrev pub IsPrepareError : List ℕ → List ℕ → PrepareError → Type 0

@@ -3,7 +3,6 @@ ghost use Rattle.std.specs.Prelude.{◌≤◌, All, IfOk, length};
 ghost use Rattle.g4_net.specs.AddedRule.{IsReady};
 ghost use Rattle.g4_tool.specs.Preparing.{IsPreparing};
 
-use crate::decode::{DecodeError, characters};
 use g4_base::{Place, Sequence, Text};
 use g4_build::{BuildFault, build, lexer_network_fits};
 use g4_checks::{CheckFault, check};
@@ -53,20 +52,6 @@ pub enum PrepareError {
     NoMemory,
 }
 
-impl From<DecodeError> for PrepareError {
-    ghost use Rattle.std.specs.Prelude.{◌≡◌};
-    ghost use Rattle.g4_tool.specs.PrepareErrors.{of_decode};
-
-    ghost from_gives = { λ d e. e ≡ of_decode d };
-
-    fn from(error: DecodeError) -> Self {
-        match error {
-            DecodeError::NotUtf8(at) => PrepareError::Fault(GrammarFault::NotUtf8(at)),
-            DecodeError::NoMemory => PrepareError::NoMemory,
-        }
-    }
-}
-
 impl From<ReadFault> for PrepareError {
     ghost use Rattle.std.specs.Prelude.{◌≡◌};
     ghost use Rattle.g4_tool.specs.PrepareErrors.{of_read};
@@ -75,6 +60,7 @@ impl From<ReadFault> for PrepareError {
 
     fn from(fault: ReadFault) -> Self {
         match fault {
+            ReadFault::NotUtf8(at) => PrepareError::Fault(GrammarFault::NotUtf8(at)),
             ReadFault::Syntax(place, characters) => {
                 PrepareError::Fault(GrammarFault::Syntax(place, characters))
             }
@@ -150,8 +136,7 @@ pub fn prepare(alloc: Global, bytes: &[u8], start: &str) -> Result<Interpreter, 
     ensures ready { IfOk result (λ interpreter. IsReady interpreter.net) }
     ensures types { IfOk result (λ interpreter. All (λ rule. rule.symbol ≤ 4096) interpreter.grammar.token_rules) }
 {
-    let text = characters(alloc, bytes)?;
-    let source = read_grammar(alloc, text.as_slice())?;
+    let source = read_grammar(alloc, bytes)?;
     check_names(alloc, &source)?;
     let checked = check(alloc, &source);
     let grammar = number(alloc, source)?;

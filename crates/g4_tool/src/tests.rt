@@ -50,7 +50,7 @@ fn ran(
 const PARSE: &str = "parse -g X.g4 -s r f";
 
 // Words, grammar and text, and what they give: out, err and the status.
-const REPORTS: [(&str, &str, &str, &str, &str, Status); 20] = [
+const REPORTS: [(&str, &str, &str, &str, &str, Status); 21] = [
     (
         PARSE,
         HELLO,
@@ -96,6 +96,14 @@ const REPORTS: [(&str, &str, &str, &str, &str, Status); 20] = [
         "grammar X; r : A 'if' ; A : [\\t\\u0041-C]+ ;",
         "\tCif",
         "f: (r \\tC if)\nfiles 1 accepted 1\n",
+        "",
+        Status::Done,
+    ),
+    (
+        PARSE,
+        "grammar X; r : A ; A : [\\p{Lu}\\-]+ ;",
+        "É-A",
+        "f: (r É-A)\nfiles 1 accepted 1\n",
         "",
         Status::Done,
     ),

@@ -42,13 +42,13 @@ alternatives-loop-alternatives-preserved t c =
 pub block-returns-in_err-alternatives-clause-reads : goal.block-returns-in_err-alternatives-clause-reads
 block-returns-in_err-alternatives-clause-reads t c =
     let p = err_from_is_err_and c.from_residual.result c.from_residual.ensures.1 in
-    rw (p.1, p.2) (λ around elements. stops_alike _ _ _ _ (bracket_next c.args.text.now c.args.kind around elements c.args.tokens.now c.args.at c.requires.opens) (c.in_err-alternatives.ensures.reads around elements))
+    rw (p.1, p.2) (λ around elements. stops_alike _ _ _ _ (bracket_next c.args.text.now c.args.kind around elements c.args.tokens.now c.args.at c.requires.1.1.1.1) (c.in_err-alternatives.ensures.reads around elements))
 
 pub block-returns-then-not-is_right_parenthesis-clause-reads : goal.block-returns-then-not-is_right_parenthesis-clause-reads
 block-returns-then-not-is_right_parenthesis-clause-reads t c =
     λ around elements.
     let inside = in_brackets around elements (map alternative_of c.in_ok-alternatives.alternatives.items) in
-    bracket_next c.args.text.now c.args.kind around elements c.args.tokens.now c.args.at c.requires.opens
+    bracket_next c.args.text.now c.args.kind around elements c.args.tokens.now c.args.at c.requires.1.1.1.1
     ∙ c.in_ok-alternatives.ensures.reads around elements
     ∙ sign_stuck c.args.text.now (at_close c.args.kind inside) (behind c.args.kind inside) (λ t. is_right_parenthesis t.kind) c.args.tokens.now c.in_ok-alternatives.close (λ t. refl) (sym c.is_right_parenthesis.ensures ∙ c.if-not-is_right_parenthesis.true) refl
 
@@ -61,7 +61,7 @@ pub block-returns-clause-reads : goal.block-returns-clause-reads
 block-returns-clause-reads t c =
     λ around elements.
     let inside = in_brackets around elements (map alternative_of c.in_ok-alternatives.alternatives.items) in
-    rw (of_block, c.repeat_at-repeat.ensures.behind) (bracket_next c.args.text.now c.args.kind around elements c.args.tokens.now c.args.at c.requires.opens
+    rw (of_block, c.repeat_at-repeat.ensures.behind) (bracket_next c.args.text.now c.args.kind around elements c.args.tokens.now c.args.at c.requires.1.1.1.1
     ∙ c.in_ok-alternatives.ensures.reads around elements
     ∙ sign_read c.args.text.now (at_close c.args.kind inside) (behind c.args.kind inside) (λ t. is_right_parenthesis t.kind) c.args.tokens.now c.in_ok-alternatives.close (λ t. refl) (sym c.is_right_parenthesis.ensures ∙ c.if-not-is_right_parenthesis.false)
     ∙ sign_at c.args.text.now c.args.kind around elements (bracketed (either (map alternative_of c.in_ok-alternatives.alternatives.items))) c.args.tokens.now (c.in_ok-alternatives.close + 1) c.repeat_at-repeat.result.0 c.repeat_at-repeat.ensures.repeat)

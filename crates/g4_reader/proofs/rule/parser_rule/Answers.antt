@@ -13,7 +13,7 @@ pub overflow_add-at : goal.overflow_add-at
 overflow_add-at c = omega (arith, within_from-passes (λ t. is_colon t.kind) c.args.tokens.now c.args.at (sym c.is_colon.ensures ∙ c.if-not-is_colon.false))
 
 pub parser_alternatives-requires : goal.parser_alternatives-requires
-parser_alternatives-requires c = record { within = within_from-passes (λ t. is_colon t.kind) c.args.tokens.now c.args.at (sym c.is_colon.ensures ∙ c.if-not-is_colon.false) }
+parser_alternatives-requires c = record { parts = c.requires.parts; within = within_from-passes (λ t. is_colon t.kind) c.args.tokens.now c.args.at (sym c.is_colon.ensures ∙ c.if-not-is_colon.false) }
 
 pub returns-in_err-alternatives-clause-reads : goal.returns-in_err-alternatives-clause-reads
 returns-in_err-alternatives-clause-reads c =

@@ -1,5 +1,6 @@
 use Rattle.std.proofs.Common.{◌≡◌, ◌≤◌, ◌-◌, length, drop}
-use Rattle.g4_tokens.specs.Nesting.{nesting_end, nesting_end_from, AreUnclosed}
+use Rattle.g4_tokens.specs.Nesting.{AreUnclosed}
+use Rattle.g4_tokens.proofs.Ends.{nesting_end, nesting_end_from}
 use Rattle.g4_tokens.proofs.nesting.nesting_end.Given as goal
 
 abbrev pub invariant-loop-at : goal.invariant-loop-at

@@ -1,0 +1,25 @@
+-- The pieces that are found.
+use Rattle.std.proofs.Common.{◌≡◌, ℕ, ◌<◌, List, Some, None, drop, subst, sym, ◌∙◌, arith}
+use Rattle.g4_chars.specs.declared.escape.Context.TheVariants.{Literal}
+use Rattle.g4_tokens.specs.Comments.{comment_end}
+use Rattle.g4_tokens.specs.Enclosed.{Encloses}
+use Rattle.g4_tokens.specs.Pieces.{Opening, told, EndsComment, ends, IsEnd, literal, IsPiece, at_once}
+use Rattle.g4_tokens.specs.declared.piece.Piece.{Piece}
+use Rattle.g4_tokens.proofs.Ends.{one_enclosed}
+
+-- a piece that what begins it tells
+pub told_piece : (opening : Opening) (behind : List ℕ) (piece : Piece) → opening ≡ told piece → IsPiece opening behind piece
+told_piece opening behind piece is = subst (λ (o : Opening). IsPiece o behind piece) (sym is) (at_once piece behind)
+
+none_is : (n : ℕ) → None ≡ Some n → ⊥
+none_is n is = cc
+
+-- a comment that nothing ends
+pub no_comment : (behind : List ℕ) (more : ℕ) → comment_end (drop 1 behind) ≡ None → EndsComment behind more → ⊥
+no_comment behind _ none (ends taken is) = none_is taken (sym none ∙ is)
+
+-- a literal with nothing between its quotes
+pub no_literal : (behind : List ℕ) (taken more : ℕ) → Encloses Literal 39 behind taken → taken < 2 → IsEnd literal behind more → ⊥
+no_literal behind taken more first few is =
+    let same = one_enclosed Literal 39 taken more behind first is.0 in
+    omega (arith, same, is.1)
