@@ -1,5 +1,5 @@
 -- Sets have one form, and texts have one reading.
-use Rattle.std.proofs.Common.{◌≡◌, ◌≢◌, ℕ, ◌+◌, ◌≤◌, inl, inr, List, [], ◌∷◌, drop, Bool, true, false, cond, ◌==◌, Option, Some, None, Result, Ok, Err, option_map, unwrap_or, is_some, refl, sym, ap, subst, ◌∙◌, arith, true≢false}
+use Rattle.std.proofs.Common.{◌≡◌, ◌≢◌, ℕ, ◌+◌, ◌≤◌, ◌⊎◌, inl, inr, List, [], ◌∷◌, drop, Bool, true, false, cond, ◌==◌, Option, Some, None, Result, Ok, Err, option_map, unwrap_or, is_some, refl, sym, ap, subst, ◌∙◌, arith, true≢false}
 use Rattle.std.proofs.lemmas.Bool.{cases_lt}
 use Rattle.std.proofs.lemmas.Bool.Decides.{nat_tests}
 use Rattle.g4_chars.specs.declared.escape.Escape.{Escape}
@@ -15,7 +15,7 @@ use Rattle.g4_chars.specs.declared.set_text.SetFault.TheVariants.{BadEscape, Bad
 use Rattle.g4_chars.specs.CharSets.{Has, HaveSame, RiseFrom, IsCanonical}
 use Rattle.g4_chars.specs.Escapes.{escape}
 use Rattle.g4_chars.specs.Reading.{item_at, items_from, items, range_end, parts_from, parts}
-use Rattle.g4_chars.specs.SetText.{escaped_item, AreItems, no_item, a_character, an_escape, HasBadEscape, at_once, behind_a_character, behind_an_escape, EndRange, AreParts, no_part, a_range, one_character, a_property, are_sound, HoldsIn, IsReading}
+use Rattle.g4_chars.specs.SetText.{escaped_item, AreItems, no_item, a_character, an_escape, HasBadEscape, at_once, behind_a_character, behind_an_escape, EndRange, AreParts, no_part, a_range, one_character, a_property, are_sound, HoldsIn, HoldSome, Spells, IsFault, IsReading}
 use Rattle.g4_chars.proofs.Ranges.{rise_past}
 use Rattle.g4_chars.proofs.Reading.{items_skip, items_step}
 use Rattle.g4_chars.proofs.Grammar.{end_shape}
@@ -118,20 +118,31 @@ same_parts text is js ps qs a b p q = sym (parts_listed is ps p) ∙ ap parts (s
 not_both : (text : List ℕ) (is : List Item) → AreItems text is → HasBadEscape text → ⊥
 not_both text is a bad = let both : Some is ≡ None = sym (items_listed text is a) ∙ none_listed text bad in absurd cc
 
+-- a text that spells a set is no bad set
+good_or_bad : (text : List ℕ) (set : List Range) → Spells text set → IsFault text BadSet → ⊥
+good_or_bad text set (is, ps, are, made, sound, some, canonical, have) (js, qs, also, also_made, bad) = by_cause bad
+  where
+    same : ps ≡ qs
+    same = same_parts text is js ps qs are also made also_made
+
+    by_cause : (are_sound qs ≡ false) ⊎ (HoldSome qs → ⊥) → ⊥
+    by_cause (inl unsound) = true≢false (sym sound ∙ ap are_sound same ∙ unsound)
+    by_cause (inr none) = none (subst HoldSome same some)
+
 -- a text has one reading
 pub one_reading : (text : List ℕ) (a b : Result (List Range) SetFault) → IsReading text a → IsReading text b → a ≢ Err NoMemory → b ≢ Err NoMemory → a ≡ b
 one_reading text (Ok s) (Ok t) a b x y =
     let same = same_parts text a.0 b.0 a.1 b.1 a.2 b.2 a.3 b.3 in
     let P : List Part → ℕ → Type 0 = λ ps c. HoldsIn ps c in
-    ap Ok (one_form s t a.5 b.5 (λ c. (λ h. (b.6 c).1 (subst (λ ps. P ps c) same ((a.6 c).0 h)), λ h. (a.6 c).1 (subst (λ ps. P ps c) (sym same) ((b.6 c).0 h)))))
+    ap Ok (one_form s t a.6 b.6 (λ c. (λ h. (b.7 c).1 (subst (λ ps. P ps c) same ((a.7 c).0 h)), λ h. (a.7 c).1 (subst (λ ps. P ps c) (sym same) ((b.7 c).0 h)))))
 one_reading text (Ok s) (Err BadEscape) a b x y = absurd (not_both text a.0 a.2 b)
-one_reading text (Ok s) (Err BadSet) a b x y = absurd (true≢false (sym a.4 ∙ ap are_sound (same_parts text a.0 b.0 a.1 b.1 a.2 b.2 a.3 b.3) ∙ b.4))
+one_reading text (Ok s) (Err BadSet) a b x y = absurd (good_or_bad text s a b)
 one_reading text (Ok s) (Err NoMemory) a b x y = absurd (y refl)
 one_reading text (Err BadEscape) (Ok t) a b x y = absurd (not_both text b.0 b.2 a)
 one_reading text (Err BadEscape) (Err BadEscape) a b x y = refl
 one_reading text (Err BadEscape) (Err BadSet) a b x y = absurd (not_both text b.0 b.2 a)
 one_reading text (Err BadEscape) (Err NoMemory) a b x y = absurd (y refl)
-one_reading text (Err BadSet) (Ok t) a b x y = absurd (true≢false (sym b.4 ∙ ap are_sound (same_parts text b.0 a.0 b.1 a.1 b.2 a.2 b.3 a.3) ∙ a.4))
+one_reading text (Err BadSet) (Ok t) a b x y = absurd (good_or_bad text t b a)
 one_reading text (Err BadSet) (Err BadEscape) a b x y = absurd (not_both text a.0 a.2 b)
 one_reading text (Err BadSet) (Err BadSet) a b x y = refl
 one_reading text (Err BadSet) (Err NoMemory) a b x y = absurd (y refl)

@@ -1,5 +1,5 @@
 -- What lists of ranges hold, and how they rise.
-use Rattle.std.proofs.Common.{◌≡◌, ℕ, zero, suc, ◌+◌, ◌-◌, ◌<◌, ◌≤◌, ◌⊎◌, ◌↔◌, inl, inr, List, [], ◌∷◌, ◌++◌, length, get_or, min, max, Bool, true, false, cond, nat_lt, nat_le, refl, sym, subst, arith}
+use Rattle.std.proofs.Common.{◌≡◌, ℕ, zero, suc, ◌+◌, ◌-◌, ◌<◌, ◌≤◌, ◌⊎◌, ◌↔◌, inl, inr, List, [], ◌∷◌, ◌++◌, length, get_or, min, max, Bool, true, false, cond, ◌==◌, IsTrue, nat_lt, nat_le, refl, sym, subst, arith}
 use Rattle.std.proofs.lemmas.Bool.{cases_lt}
 use Rattle.std.proofs.lemmas.Bool.Decides.{nat_tests}
 use Rattle.std.specs.List.{All}
@@ -162,6 +162,20 @@ pub rise_scalar : (n : ℕ) (rs : List Range) (c : ℕ) → RiseFrom n rs → Ha
 rise_scalar n [] c rise h = absurd h
 rise_scalar n (r ∷ rs) c rise (inl w) = elim rise.1.1 [ inl low ↦ inl (omega (arith, w.1)) | inr high ↦ inr (omega (arith, w.0, high.0), omega (arith, w.1, high.1)) ]
 rise_scalar n (r ∷ rs) c rise (inr h) = rise_scalar (r.last + 2) rs c rise.2 h
+
+-- a list that is not empty holds the first character of its first range
+first_held : (r : Range) (rs : List Range) → IsCanonical (r ∷ rs) → Has (r ∷ rs) r.first
+first_held r rs rise = inl (omega arith, rise.1.0)
+
+-- a list of ranges holds nothing exactly where it is empty
+pub none_held : (rs : List Range) → IsCanonical rs → IsTrue (length rs == 0) ↔ ((c : ℕ) → Has rs c → ⊥)
+none_held [] rise = (λ yes c h. h, λ none. refl)
+none_held (r ∷ rs) rise = (λ wrong. absurd (grind (arith, wrong)), λ none. absurd (none r.first (first_held r rs rise)))
+
+-- and otherwise something
+pub some_held : (rs : List Range) → IsCanonical rs → (((c : ℕ) → Has rs c → ⊥) → ⊥) → (c : ℕ) × Has rs c
+some_held [] rise some = absurd (some (λ c h. h))
+some_held (r ∷ rs) rise some = (r.first, first_held r rs rise)
 
 pub gaps_ranges : (start : ℕ) (rs : List Range) → AreRanges (gaps start rs)
 gaps_ranges start [] = scalars_ranges start 0x110000

@@ -53,10 +53,9 @@ abbrev pub is_sound : Part → Bool
 is_sound (Span first last) = nat_le first last
 is_sound (Class complement property) = is_some property
 
--- there is a part, and each is sound
+-- no range runs backward, and each property is known
 abbrev pub are_sound : List Part → Bool
-are_sound [] = false
-are_sound (p ∷ ps) = list_all is_sound (p ∷ ps)
+are_sound ps = list_all is_sound ps
 
 -- the character is in the range, or has the property, or has it not where the complement is meant
 abbrev pub Holds : Part → ℕ → Type 0
@@ -69,14 +68,19 @@ abbrev pub HoldsIn : List Part → ℕ → Type 0
 HoldsIn [] c = ⊥
 HoldsIn (p ∷ ps) c = Holds p c ⊎ HoldsIn ps c
 
--- the text spells the set: its parts are sound, and the set has their characters and no others
-abbrev pub Spells : List ℕ → List Range → Type 0
-Spells text set = (is : List Item) × (ps : List Part) × AreItems text is × AreParts is ps × (are_sound ps ≡ true) × IsCanonical set × ((c : ℕ) → Has set c ↔ HoldsIn ps c)
+-- some character is in one of the parts
+abbrev pub HoldSome : List Part → Type 0
+HoldSome ps = (c : ℕ) × HoldsIn ps c
 
--- the text is refused for this fault
+-- the text spells the set: its parts are sound and hold some character, and the set has their characters and no others
+abbrev pub Spells : List ℕ → List Range → Type 0
+Spells text set = (is : List Item) × (ps : List Part) × AreItems text is × AreParts is ps × (are_sound ps ≡ true) × HoldSome ps × IsCanonical set × ((c : ℕ) → Has set c ↔ HoldsIn ps c)
+
+-- the text is refused for this fault: a bad escape; else a range that runs backward, a property that is not known or a set
+-- that is empty, as no character is in any of its parts
 abbrev pub IsFault : List ℕ → SetFault → Type 0
 IsFault text BadEscape = HasBadEscape text
-IsFault text BadSet = (is : List Item) × (ps : List Part) × AreItems text is × AreParts is ps × (are_sound ps ≡ false)
+IsFault text BadSet = (is : List Item) × (ps : List Part) × AreItems text is × AreParts is ps × ((are_sound ps ≡ false) ⊎ (HoldSome ps → ⊥))
 IsFault text NoMemory = ⊤
 
 -- the text of a set is read: as the set that it spells, or with the fault that it has

@@ -78,6 +78,13 @@ impl CharSet {
         &self.ranges
     }
 
+    /// Whether no character is in the set.
+    pub fn is_empty(&self) -> bool
+        ensures { IsTrue result ↔ ((c : ℕ) → Has self.now c → ⊥) }
+    {
+        self.ranges().is_empty()
+    }
+
     /// Whether the character is in the set.
     pub fn contains(&self, c: char) -> bool
         ensures { IsTrue result ↔ Has self.now c }

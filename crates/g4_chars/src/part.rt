@@ -1,6 +1,6 @@
 // The parts of a set: the ranges and properties that its items make.
 ghost use Rattle.std.specs.Prelude.{◌≡◌, ◌≤◌, ◌++◌, ℕ, ◌⊎◌, ◌↔◌, length, not, true, IfOk, IfSome, OnOk, IsTrue};
-ghost use Rattle.std.specs.List.{All, list_all};
+ghost use Rattle.std.specs.List.{All};
 ghost use Rattle.g4_chars.specs.CharSets.{Has, IsScalar, IsRange, IsCanonical};
 ghost use Rattle.ucd_sets.specs.Sets.{in_set};
 ghost use Rattle.ucd_table.specs.Rows.{AreRanges};
@@ -114,20 +114,11 @@ fn is_sound(part: &Part) -> bool
     }
 }
 
-fn all_sound(parts: &[Part]) -> bool
-    ensures { result ≡ list_all is_sound parts.now }
-{
-    parts.iter().all(|part| is_sound(part))
-}
-
-/// Whether there is a part, no range runs backward, and each property is known.
+/// Whether no range runs backward, and each property is known.
 pub fn are_sound(parts: &[Part]) -> bool
     ensures { result ≡ are_sound parts.now }
 {
-    match parts {
-        [] => false,
-        [_, ..] => all_sound(parts),
-    }
+    parts.iter().all(|part| is_sound(part))
 }
 
 /// Adds the scalar values of ranges of code points.

@@ -11,7 +11,7 @@ use std::alloc::{AllocError, Global};
 pub enum SetFault {
     /// The text has a bad escape.
     BadEscape,
-    /// The set is empty, a range runs backward, or no property has a name that is used.
+    /// The set has no character, a range runs backward, or no property has a name that is used.
     BadSet,
     /// Memory did not suffice.
     NoMemory,
@@ -31,7 +31,7 @@ impl From<AllocError> for SetFault {
 /// The set that the text between two brackets spells.
 ///
 /// # Errors
-/// A bad escape; else an empty set, a range that runs backward or a name that no property has; no memory.
+/// A bad escape; else a set without a character, a range that runs backward or a name that no property has; no memory.
 pub fn read_set(alloc: Global, text: &[char]) -> Result<CharSet, SetFault>
     ensures { IsReading text.now result }
 {
@@ -43,5 +43,8 @@ pub fn read_set(alloc: Global, text: &[char]) -> Result<CharSet, SetFault>
         return Err(SetFault::BadSet);
     }
     let set = set_of(alloc, &parts)?;
+    if set.is_empty() {
+        return Err(SetFault::BadSet);
+    }
     Ok(set)
 }

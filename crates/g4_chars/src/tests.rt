@@ -5,7 +5,7 @@ use std::test::Fail;
 /// A text, some characters of its set, and some that are not in it.
 type Case = (&'static str, &'static str, &'static str);
 
-static CASES: [Case; 25] = [
+static CASES: [Case; 24] = [
     ("a", "a", "bA"),
     ("abc", "abc", "d"),
     ("a-c", "abc", "d-`"),
@@ -30,11 +30,12 @@ static CASES: [Case; 25] = [
     ("\\p{Old_Italic}", "\u{10300}", "a"),
     ("\\p{White_Space}", " \t\u{A0}\u{2028}", "a\u{200B}"),
     ("\\p{C}", "\0\u{AD}\u{E000}\u{378}", "a"),
-    ("\\p{Cs}", "", "a\u{D7FF}\u{E000}"),
 ];
 
-static FAULTS: [(&str, SetFault); 19] = [
+static FAULTS: [(&str, SetFault); 21] = [
     ("", SetFault::BadSet),
+    ("\\p{Cs}", SetFault::BadSet),
+    ("\\p{Cs}\\p{Cs}", SetFault::BadSet),
     ("b-a", SetFault::BadSet),
     ("a--", SetFault::BadSet),
     ("\\p{greek}", SetFault::BadSet),

@@ -1,15 +1,15 @@
 -- What the ranges of a set are, and which sets are bad.
-use Rattle.std.proofs.Common.{◌≡◌, ◌≢◌, ℕ, ◌<◌, List, [], ◌∷◌, drop, map, Bool, true, false, not, ◌&&◌, ◌||◌, inl, inr, ◌↔◌, Option, Some, None, option_map, unwrap_or, refl, sym, ap, ◌∙◌, arith}
+use Rattle.std.proofs.Common.{◌≡◌, ◌≢◌, ℕ, ◌<◌, List, [], ◌∷◌, drop, map, Bool, true, false, not, ◌&&◌, ◌||◌, inl, inr, ◌⊎◌, ◌↔◌, Option, Some, None, option_map, unwrap_or, refl, sym, ap, subst, true≢false, ◌∙◌, arith}
 use Rattle.std.specs.Option.{is_none}
 use Rattle.std.specs.Prelude.{◌==◌, if◌then◌else◌}
 use Rattle.std.proofs.lemmas.Bool.{and_parts, eqb-true, leb-true, le-leb}
 use Rattle.std.proofs.lemmas.Bool.Decides.{nat_tests}
 use Rattle.std.proofs.Math.Bool.{or-true}
 use Rattle.ucd_sets.specs.Sets.{in_set}
-use Rattle.g4_chars.specs.CharSets.{IsScalar, Has}
+use Rattle.g4_chars.specs.CharSets.{IsScalar, IsCanonical, Has}
 use Rattle.g4_chars.specs.Escapes.{escape, is_scalar}
 use Rattle.g4_chars.specs.Reading.{items, items_from, parts, range_end}
-use Rattle.g4_chars.specs.SetText.{escaped_item, Spells, AreItems, no_item, a_character, an_escape, HasBadEscape, at_once, behind_a_character, behind_an_escape, EndRange, AreParts, no_part, a_range, one_character, a_property, are_sound, Holds, HoldsIn}
+use Rattle.g4_chars.specs.SetText.{escaped_item, Spells, AreItems, no_item, a_character, an_escape, HasBadEscape, at_once, behind_a_character, behind_an_escape, EndRange, AreParts, no_part, a_range, one_character, a_property, are_sound, Holds, HoldsIn, HoldSome}
 use Rattle.g4_chars.specs.declared.escape.Context.TheVariants.{Set}
 use Rattle.g4_chars.specs.declared.escape.Escape.{Escape}
 use Rattle.g4_chars.specs.declared.item.Found.{Found}
@@ -21,7 +21,7 @@ use Rattle.g4_chars.specs.declared.range.Range.{Range as CharsRange}
 use Rattle.g4_chars.proofs.Grammar.{items_are, bad_is, parts_are}
 use Rattle.g4_chars.proofs.Reading.{items_skip}
 use Rattle.g4_grammar.specs.declared.source.Range.{Range}
-use Rattle.g4_reader.specs.Members.{holds, holds_in, ranges_in, set_of_parts, set_of_items, set_of, ranges_of}
+use Rattle.g4_reader.specs.Members.{holds, holds_in, ranges_in, unless_empty, set_of_parts, set_of_items, set_of, ranges_of}
 use Rattle.g4_reader.specs.SetText.{in_grammar, IsSet, IsBad}
 use Rattle.g4_reader.proofs.Ranges.{IsOfScalars, one_canonical, ranges_rise, ranges_have}
 
@@ -168,19 +168,50 @@ ranges_hold ps c =
     let have = ranges_have (holds_in ps) 0 0x110000 c (of_scalars ps) in
     (λ h. holds_in_from ps c (have.0 h).2, λ h. have.1 (omega arith, scalar_below c (holds_in_scalar ps c h), holds_in_passes ps c h))
 
--- sound parts are the ranges of a set
-sound_spells : (text : List ℕ) (is : List Item) → items text ≡ Some is → are_sound (parts is) ≡ true → Spells text (ranges_in (parts is))
-sound_spells text is e sound = (is, parts is, items_are 0 text is e, parts_are 0 is, sound, ranges_rise (holds_in (parts is)) 0 0x110000 (of_scalars (parts is)), ranges_hold (parts is))
+-- the ranges in parts are those of a set
+ranges_canonical : (ps : List Part) → IsCanonical (ranges_in ps)
+ranges_canonical ps = ranges_rise (holds_in ps) 0 0x110000 (of_scalars ps)
+
+-- sound parts that hold a character are the ranges of a set
+sound_spells : (text : List ℕ) (is : List Item) → items text ≡ Some is → are_sound (parts is) ≡ true → HoldSome (parts is) → Spells text (ranges_in (parts is))
+sound_spells text is e sound some = (is, parts is, items_are 0 text is e, parts_are 0 is, sound, some, ranges_canonical (parts is), ranges_hold (parts is))
+
+-- ranges with a character are some
+kept : (spans : List CharsRange) (c : ℕ) → Has spans c → unless_empty (map in_grammar spans) ≡ Some (map in_grammar spans)
+kept [] c h = absurd h
+kept (span ∷ spans) c h = refl
+
+-- ranges without a character are none
+none_kept : (spans : List CharsRange) → IsCanonical spans → ((c : ℕ) → Has spans c → ⊥) → unless_empty (map in_grammar spans) ≡ None
+none_kept [] rise none = refl
+none_kept (span ∷ spans) rise none = absurd (none span.first (inl (omega arith, rise.1.0)))
+
+-- the ranges of parts that hold a character
+some_ranges : (ps : List Part) → HoldSome ps → unless_empty (map in_grammar (ranges_in ps)) ≡ Some (map in_grammar (ranges_in ps))
+some_ranges ps (c, h) = kept (ranges_in ps) c ((ranges_hold ps c).1 h)
+
+-- parts that hold no character have no ranges
+no_ranges : (ps : List Part) → (HoldSome ps → ⊥) → unless_empty (map in_grammar (ranges_in ps)) ≡ None
+no_ranges ps none = none_kept (ranges_in ps) (ranges_canonical ps) (λ c h. none (c, (ranges_hold ps c).0 h))
 
 -- a set that is spelled is listed
 pub spelled_set : (text : List ℕ) (set : List CharsRange) → Spells text set → set_of text ≡ Some (map in_grammar set)
-spelled_set text set (is, ps, are, made, sound, canonical, have) =
-    let same : ranges_in ps ≡ set = one_canonical (ranges_in ps) set (ranges_rise (holds_in ps) 0 0x110000 (of_scalars ps)) canonical (λ c. (λ h. (have c).1 ((ranges_hold ps c).0 h), λ h. (ranges_hold ps c).1 ((have c).0 h))) in
-    ap set_of_items (items_one text is are) ∙ ap set_of_parts (parts_one is ps made) ∙ ap (λ (b : Bool). if b then Some (map in_grammar (ranges_in ps)) else None) sound ∙ ap (λ (l : List CharsRange). Some (map in_grammar l)) same
+spelled_set text set (is, ps, are, made, sound, some, canonical, have) =
+    let same : ranges_in ps ≡ set = one_canonical (ranges_in ps) set (ranges_canonical ps) canonical (λ c. (λ h. (have c).1 ((ranges_hold ps c).0 h), λ h. (ranges_hold ps c).1 ((have c).0 h))) in
+    ap set_of_items (items_one text is are)
+    ∙ ap set_of_parts (parts_one is ps made)
+    ∙ ap (λ (b : Bool). if b then unless_empty (map in_grammar (ranges_in ps)) else None) sound
+    ∙ some_ranges ps some
+    ∙ ap (λ (l : List CharsRange). Some (map in_grammar l)) same
 
 -- a bad set is not listed
 pub bad_set : (text : List ℕ) → IsBad text → set_of text ≡ None
-bad_set text (inl (is, ps, are, made, unsound)) = ap set_of_items (items_one text is are) ∙ ap set_of_parts (parts_one is ps made) ∙ ap (λ (b : Bool). if b then Some (map in_grammar (ranges_in ps)) else None) unsound
+bad_set text (inl (is, ps, are, made, bad)) = ap set_of_items (items_one text is are) ∙ ap set_of_parts (parts_one is ps made) ∙ by_cause bad (are_sound ps) refl
+  where
+    by_cause : (are_sound ps ≡ false) ⊎ (HoldSome ps → ⊥) → (b : Bool) → are_sound ps ≡ b → (if b then unless_empty (map in_grammar (ranges_in ps)) else None) ≡ None
+    by_cause (inl unsound) true sound = absurd (true≢false (sym sound ∙ unsound))
+    by_cause (inr none) true sound = no_ranges ps none
+    by_cause cause false unsound = refl
 bad_set text (inr bad) = ap set_of_items (bad_one text bad)
 
 -- what the text of a set is
@@ -192,9 +223,17 @@ IsListed text (Some ranges) = (set : List CharsRange) × Spells text set × (ran
 listed : (text : List ℕ) → IsListed text (set_of text)
 listed text = by_items (items text) refl
   where
-    by_sound : (is : List Item) → items text ≡ Some is → (b : Bool) → are_sound (parts is) ≡ b → IsListed text (if b then Some (map in_grammar (ranges_in (parts is))) else None)
-    by_sound is e true sound = (ranges_in (parts is), sound_spells text is e sound, refl)
-    by_sound is e false unsound = inl (is, parts is, items_are 0 text is e, parts_are 0 is, unsound)
+    by_ranges : (is : List Item) → items text ≡ Some is → are_sound (parts is) ≡ true → (spans : List CharsRange) → ranges_in (parts is) ≡ spans → IsListed text (unless_empty (map in_grammar spans))
+    by_ranges is e sound [] none = inl (is, parts is, items_are 0 text is e, parts_are 0 is, inr (λ some. subst (λ (l : List CharsRange). Has l some.0) none ((ranges_hold (parts is) some.0).1 some.1)))
+    by_ranges is e sound (span ∷ spans) are = (
+      span ∷ spans,
+      subst (Spells text) are (sound_spells text is e sound (span.first, (ranges_hold (parts is) span.first).0 (subst (λ (l : List CharsRange). Has l span.first) (sym are) (inl (omega arith, (subst IsCanonical are (ranges_canonical (parts is))).1.0))))),
+      refl,
+    )
+
+    by_sound : (is : List Item) → items text ≡ Some is → (b : Bool) → are_sound (parts is) ≡ b → IsListed text (if b then unless_empty (map in_grammar (ranges_in (parts is))) else None)
+    by_sound is e true sound = by_ranges is e sound (ranges_in (parts is)) refl
+    by_sound is e false unsound = inl (is, parts is, items_are 0 text is e, parts_are 0 is, inl unsound)
 
     by_items : (o : Option (List Item)) → items text ≡ o → IsListed text (set_of_items o)
     by_items None e = inr (bad_is 0 text e)

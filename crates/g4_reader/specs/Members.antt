@@ -36,9 +36,14 @@ ranges_from test start (suc count) = if test start then with_first start (ranges
 abbrev pub ranges_in : List Part → List Span
 ranges_in ps = ranges_from (holds_in ps) 0 0x110000
 
--- the ranges of these parts, if they are sound
+-- the ranges, if there is one
+abbrev pub unless_empty : List Range → Option (List Range)
+unless_empty [] = None
+unless_empty (r ∷ rs) = Some (r ∷ rs)
+
+-- the ranges of these parts, if they are sound and hold a character
 abbrev pub set_of_parts : List Part → Option (List Range)
-set_of_parts ps = if are_sound ps then Some (map in_grammar (ranges_in ps)) else None
+set_of_parts ps = if are_sound ps then unless_empty (map in_grammar (ranges_in ps)) else None
 
 -- the ranges of a set with these items
 abbrev pub set_of_items : Option (List Item) → Option (List Range)

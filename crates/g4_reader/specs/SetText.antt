@@ -13,8 +13,8 @@ content text = drop 1 (take (length text - 1) text)
 abbrev pub in_grammar : Span → Range
 in_grammar span = record { first = span.first; last = span.last }
 
--- a set with this content is bad: it is empty, has a range that runs backward or names no property that is known, or has a
--- bad escape
+-- a set with this content is bad: it has no character, has a range that runs backward or names no property that is known, or
+-- has a bad escape
 abbrev pub IsBad : List ℕ → Type 0
 IsBad text = IsFault text BadSet ⊎ IsFault text BadEscape
 

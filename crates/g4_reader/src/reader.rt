@@ -207,7 +207,7 @@ fn read_text(alloc: Global, text: &str) -> Result<Source, ReadFault>
 /// - `NotUtf8`: the bytes are no text.
 /// - `Syntax`: a literal, set, arguments, action or comment doesn't close, or a literal or set holds a bad escape; or the
 ///   first token with which no grammar text begins stands before all bad sets.
-/// - `BadSet`: the first set that is empty, has a range that runs backward or names an unknown property stands before.
+/// - `BadSet`: the first set that has no character, a range that runs backward or an unknown property stands before.
 /// - `NoMemory`: memory runs out.
 pub fn read_grammar(alloc: Global, bytes: &[u8]) -> Result<Source, ReadFault>
     requires fits { length bytes.now ≤ 16777216 }

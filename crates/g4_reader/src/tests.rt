@@ -151,6 +151,7 @@ fn reads_what_texts_are(rt: HostRuntime) -> Result<(), Fail> {
         ("grammar G; A : [a-a] ;", "G; A: | [aa]"),
         ("grammar G; A : [] ;", "15 bad set"),
         ("grammar G; A : [z-a] ;", "15 bad set"),
+        ("grammar G; A : [\\p{Cs}] ;", "15 bad set"),
         ("grammar G; A : [a-z] [b-a] ;", "21 bad set"),
         ("grammar G; A : [a-zb-a] | [] ;", "15 bad set"),
         ("grammar G; A : [] ; B : C ;", "15 bad set"),

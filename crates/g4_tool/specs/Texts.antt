@@ -109,7 +109,7 @@ usage_line = ToErr (codes "usage: g4 parse, check, atn, match or drill\n")
 abbrev pub syntax_line : List ℕ → Place → List ℕ → Line
 syntax_line name place characters = ToErr (((at_place name place ++ codes "syntax error at '") ++ shown characters) ++ codes "'\n")
 
--- the line of a set that is empty or has a range that runs backward
+-- the line of a set that is empty, has a range that runs backward or names an unknown property
 abbrev pub bad_set_line : List ℕ → Place → Line
 bad_set_line name place = ToErr (at_place name place ++ codes "bad character set\n")
 

@@ -197,7 +197,7 @@ pub fn syntax(
     Ok(Line::ToErr(Text::new(line)))
 }
 
-/// A character set that is empty or has a range that runs backward.
+/// A character set that is empty, has a range that runs backward or names an unknown property.
 pub fn bad_set(alloc: Global, name: &str, place: Place) -> Result<Line, AllocError>
     ensures { IfOk result (λ line. line ≡ bad_set_line name.now place) }
 {

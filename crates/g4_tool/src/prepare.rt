@@ -27,7 +27,7 @@ pub enum GrammarFault {
     NotUtf8(usize),
     /// The place and the characters of the first syntax fault.
     Syntax(Place, Sequence<char>),
-    /// The place of the first character set that is empty or has a range that runs backward.
+    /// The place of the first character set that is empty, has a range that runs backward or names an unknown property.
     BadSet(Place),
     /// The name of the first rule whose name a rule behind it has.
     RuleTwice(Text),
