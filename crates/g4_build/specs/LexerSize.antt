@@ -1,8 +1,8 @@
 -- How many states the network of a lexer has.
 use Rattle.std.specs.Prelude.{ℕ, ◌+◌, ◌*◌, List, length, map, sum_by}
-use Rattle.g4_grammar.specs.declared.source.Atom.{Atom}
-use Rattle.g4_grammar.specs.declared.source.Atom.TheVariants.{Token, Literal, Set}
-use Rattle.g4_grammar.specs.declared.source.LexerAlternative.{LexerAlternative}
+use Rattle.g4_grammar.specs.declared.grammar.Atom.{Atom}
+use Rattle.g4_grammar.specs.declared.grammar.Atom.TheVariants.{Token, Literal, Set}
+use Rattle.g4_grammar.specs.declared.grammar.LexerAlternative.{LexerAlternative}
 use Rattle.g4_grammar.specs.declared.numbered.TokenRule.{TokenRule}
 use Rattle.g4_grammar.specs.Elements.{Alternatives, either}
 use Rattle.g4_build.specs.Size.{states_of_rule_by}

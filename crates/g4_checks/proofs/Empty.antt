@@ -1,6 +1,6 @@
 -- Which elements derive the empty word, and which have a loop that can be empty, by what they are made of.
 use Rattle.std.proofs.Common.{◌≡◌, ℕ, ◌⊎◌, ◌↔◌, inl, inr, List, [], ◌∷◌, ◌++◌, Bool, true, false, ◌||◌, ◌&&◌, IsTrue, refl, sym, ◌∙◌, subst}
-use Rattle.g4_grammar.specs.declared.source.Atom.{Atom}
+use Rattle.g4_grammar.specs.declared.grammar.Atom.{Atom}
 use Rattle.g4_grammar.specs.Elements.{Element, atom, block, star, plus, Elements, empty, then, Alternatives, none, or}
 use Rattle.g4_grammar.specs.Derives.{Derives, DerivesAll, DerivesOne, an_atom, a_block, no_turn, turns, nothing, one_more, this, another}
 use Rattle.g4_grammar.specs.Loops.{HasEmptyLoop, OneHasEmptyLoop, SomeHasEmptyLoop}

@@ -1,7 +1,7 @@
 -- What is found of the elements and alternatives of the code.
 use Rattle.std.proofs.Common.{◌≡◌, ℕ, ◌+◌, ◌<◌, ◌≤◌, ◌↔◌, List, [], ◌∷◌, length, map, drop, get_or, Bool, true, false, ◌||◌, ◌&&◌, IsTrue, Vec, Global, sym, ap, ◌∙◌, subst}
 use Rattle.std.proofs.lemmas.List.{drop_more, drop_all}
-use Rattle.g4_grammar.specs.declared.source.Atom.{Atom}
+use Rattle.g4_grammar.specs.declared.grammar.Atom.{Atom}
 use Rattle.g4_grammar.specs.declared.element.Repeat.{Repeat}
 use Rattle.g4_grammar.specs.declared.element.Repeat.TheVariants.{Once, Star, Plus}
 use Rattle.g4_grammar.specs.declared.element.Element.{Element as Node}

@@ -1,7 +1,7 @@
 -- What is told of the rules of a grammar is one answer.
 use Rattle.std.proofs.Common.{◌≡◌, ◌≢◌, ℕ, List, [], ◌∷◌, ◌++◌, Result, Ok, Err, ap, sym, subst, ◌∙◌, refl}
 use Rattle.std.specs.Prelude.{⊤}
-use Rattle.g4_grammar.specs.declared.source.Rule.{Rule}
+use Rattle.g4_grammar.specs.declared.grammar.Rule.{Rule}
 use Rattle.g4_grammar.specs.Loops.{RuleHasEmptyLoop, HaveNoEmptyLoop}
 use Rattle.g4_grammar.specs.Rules.{rule_name}
 use Rattle.g4_checks.specs.Checking.{IsChecked, IsFirstWithEmptyLoop}

@@ -1,9 +1,9 @@
 -- Rules with a loop that can be empty, and the first of them.
 use Rattle.std.proofs.Common.{◌≡◌, ℕ, ◌+◌, ◌<◌, ◌≤◌, ◌⊎◌, ◌↔◌, inl, inr, List, [], ◌∷◌, ◌++◌, length, take, drop, get_or, sym, ap, ◌∙◌, subst}
 use Rattle.std.proofs.lemmas.List.{drop_more, drop_all, take_more, take_all, take-append-drop}
-use Rattle.g4_grammar.specs.declared.source.Atom.{Atom}
-use Rattle.g4_grammar.specs.declared.source.LexerAlternative.{LexerAlternative}
-use Rattle.g4_grammar.specs.declared.source.Rule.{Rule}
+use Rattle.g4_grammar.specs.declared.grammar.Atom.{Atom}
+use Rattle.g4_grammar.specs.declared.grammar.LexerAlternative.{LexerAlternative}
+use Rattle.g4_grammar.specs.declared.grammar.Rule.{Rule}
 use Rattle.g4_grammar.specs.Characters.{ReadsCharacters}
 use Rattle.g4_grammar.specs.Elements.{Elements}
 use Rattle.g4_grammar.specs.Loops.{OneHasEmptyLoop, ReadsOneSymbol, AnyHasEmptyLoop, LexerHasEmptyLoop, RuleHasEmptyLoop, HaveNoEmptyLoop}

@@ -1,6 +1,6 @@
 -- The faults that are looked for in a grammar's rules.
 use Rattle.std.specs.Prelude.{◌≡◌, ℕ, List, ◌∷◌, ◌++◌, Result, Ok, Err, ⊤}
-use Rattle.g4_grammar.specs.declared.source.Rule.{Rule}
+use Rattle.g4_grammar.specs.declared.grammar.Rule.{Rule}
 use Rattle.g4_grammar.specs.Rules.{rule_name}
 use Rattle.g4_grammar.specs.Loops.{RuleHasEmptyLoop, HaveNoEmptyLoop}
 use Rattle.g4_checks.specs.declared.checking.CheckFault.{CheckFault}

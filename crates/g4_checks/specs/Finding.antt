@@ -1,6 +1,6 @@
 -- What is found of the elements of a rule.
 use Rattle.std.specs.Prelude.{◌↔◌, ℕ, List, IsTrue}
-use Rattle.g4_grammar.specs.declared.source.Atom.{Atom}
+use Rattle.g4_grammar.specs.declared.grammar.Atom.{Atom}
 use Rattle.g4_grammar.specs.Characters.{ReadsCharacters}
 use Rattle.g4_grammar.specs.Loops.{ReadsOneSymbol}
 use Rattle.g4_checks.specs.declared.found.Kind.{Kind}

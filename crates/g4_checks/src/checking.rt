@@ -3,7 +3,7 @@ ghost use Rattle.g4_checks.specs.Checking.{IsChecked};
 
 use crate::rule::has_empty_loop;
 use g4_base::Text;
-use g4_grammar::Source;
+use g4_grammar::Grammar;
 use std::alloc::{AllocError, Global};
 
 /// Why a grammar cannot be run.
@@ -26,10 +26,10 @@ impl From<AllocError> for CheckFault {
 }
 
 /// Looks for the first rule, in order of the text, that has a loop whose body derives the empty word.
-pub fn check(alloc: Global, source: &Source) -> Result<(), CheckFault>
-    ensures { IsChecked source.now.rules result }
+pub fn check(alloc: Global, grammar: &Grammar) -> Result<(), CheckFault>
+    ensures { IsChecked grammar.now.rules result }
 {
-    for rule in source.rules.as_slice() {
+    for rule in grammar.rules.as_slice() {
         if has_empty_loop(rule) {
             return Err(CheckFault::EmptyLoop(Text::copy_of(alloc, rule.name())?));
         }

@@ -1,6 +1,6 @@
 // What holds of all checks.
 ghost use Rattle.std.specs.Prelude.{◌≡◌, ◌≢◌, List, Result, ⊤};
-ghost use Rattle.g4_grammar.specs.declared.source.Rule.{Rule};
+ghost use Rattle.g4_grammar.specs.declared.grammar.Rule.{Rule};
 ghost use Rattle.g4_checks.specs.Checking.{IsChecked};
 ghost use Rattle.g4_checks.specs.declared.checking.CheckFault.{CheckFault};
 ghost use Rattle.g4_checks.specs.declared.checking.CheckFault.TheVariants.{NoMemory};

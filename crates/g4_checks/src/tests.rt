@@ -2,8 +2,8 @@
 use crate::{CheckFault, check};
 use g4_base::{Sequence, Text};
 use g4_grammar::{
-    Alternative, Atom, Element, Elements, LexerAlternative, LexerRule, Literal, ParserRule, Repeat,
-    Rule, Source,
+    Alternative, Atom, Element, Elements, Grammar, LexerAlternative, LexerRule, Literal,
+    ParserRule, Repeat, Rule,
 };
 use std::alloc::{AllocError, Global};
 use std::test::Fail;
@@ -76,11 +76,11 @@ fn fault(alloc: Global, shapes: [&str; 3]) -> Result<String, AllocError> {
         rule(alloc, "B", second)?,
         rule(alloc, "c", third)?,
     ]?;
-    let source = Source {
+    let grammar = Grammar {
         name: Text::copy_of(alloc, "X")?,
         rules: Sequence::new(rules),
     };
-    match check(alloc, &source) {
+    match check(alloc, &grammar) {
         Ok(()) => String::from_str(alloc, "none"),
         Err(CheckFault::EmptyLoop(name)) => String::from_str(alloc, name.as_str()),
         Err(CheckFault::NoMemory) => String::from_str(alloc, "no memory"),

@@ -1,6 +1,6 @@
 -- The ends of elements, found from those of what they are made of.
 use Rattle.std.proofs.Common.{◌≡◌, ℕ, ◌-◌, ◌≤◌, ◌⊎◌, ◌↔◌, inl, inr, List, [], ◌++◌, length, take, drop, true, refl, sym, ap, ◌∙◌, subst, append-nil, arith}
-use Rattle.g4_grammar.specs.declared.source.Atom.{Atom}
+use Rattle.g4_grammar.specs.declared.grammar.Atom.{Atom}
 use Rattle.g4_grammar.specs.Characters.{ReadsCharacters}
 use Rattle.g4_grammar.specs.Elements.{Element, atom, block, star, plus, Elements, empty, then, Alternatives, none, or}
 use Rattle.g4_grammar.specs.Derives.{Derives, DerivesAll, DerivesOne, an_atom, a_block, turns, nothing, one_more, this, another}

@@ -1,7 +1,7 @@
 -- The ends of any number of turns of some alternatives, found by a walk over the ends so far.
 use Rattle.std.proofs.Common.{◌≡◌, ℕ, ◌+◌, ◌-◌, ◌<◌, ◌≤◌, inl, inr, List, [], ◌++◌, length, take, drop, true, refl, sym, ap, ◌∙◌, subst, append_assoc, append-nil, arith}
 use Rattle.std.proofs.lemmas.List.{length-take, length-drop}
-use Rattle.g4_grammar.specs.declared.source.Atom.{Atom}
+use Rattle.g4_grammar.specs.declared.grammar.Atom.{Atom}
 use Rattle.g4_grammar.specs.Characters.{ReadsCharacters}
 use Rattle.g4_grammar.specs.Elements.{Alternatives, star}
 use Rattle.g4_grammar.specs.Derives.{Derives, DerivesOne, no_turn, a_turn}

@@ -1,6 +1,6 @@
 -- The longest match of an alternative, the best of a rule, and the best of all rules.
 use Rattle.std.specs.Prelude.{◌≡◌, ◌≤◌, ℕ, List, Bool, Some, slice_get}
-use Rattle.g4_grammar.specs.declared.source.LexerAlternative.{LexerAlternative}
+use Rattle.g4_grammar.specs.declared.grammar.LexerAlternative.{LexerAlternative}
 use Rattle.g4_grammar.specs.declared.numbered.TokenRule.{TokenRule}
 use Rattle.g4_lexer.specs.Matching.{MatchesFront, IsBest}
 

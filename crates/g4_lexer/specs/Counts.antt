@@ -1,6 +1,6 @@
 -- Sets of counts of characters, and the parts of a text between two counts.
 use Rattle.std.specs.Prelude.{◌≡◌, ◌+◌, ◌≤◌, ◌↔◌, ◌⊎◌, ℕ, ◌-◌, List, length, take, drop, true, false, slice_index_or}
-use Rattle.g4_grammar.specs.declared.source.Atom.{Atom}
+use Rattle.g4_grammar.specs.declared.grammar.Atom.{Atom}
 use Rattle.g4_grammar.specs.Characters.{ReadsCharacters}
 use Rattle.g4_lexer.specs.declared.counts.Counts.{Counts}
 

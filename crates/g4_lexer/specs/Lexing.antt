@@ -4,7 +4,7 @@ use Rattle.g4_base.specs.declared.place.Place.{Place}
 use Rattle.g4_base.specs.Place.{first_place, place_after}
 use Rattle.g4_base.specs.Symbols.{eof, end_of_list}
 use Rattle.g4_grammar.specs.declared.numbered.TokenRule.{TokenRule}
-use Rattle.g4_grammar.specs.declared.source.LexerAlternative.{LexerAlternative}
+use Rattle.g4_grammar.specs.declared.grammar.LexerAlternative.{LexerAlternative}
 use Rattle.g4_net.specs.declared.token.Token.{Token}
 use Rattle.g4_lexer.specs.declared.lexer.LexFault.{LexFault}
 use Rattle.g4_lexer.specs.declared.lexer.LexFault.TheVariants.{NoToken, Tokens, NoMemory}

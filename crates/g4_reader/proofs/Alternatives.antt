@@ -2,7 +2,7 @@
 use Rattle.std.proofs.Common.{◌≡◌, ℕ, ◌+◌, List, [], ◌∷◌, ◌++◌, true, false, map, sym, ◌∙◌, ap, slice_get, Option, Some, None, Vec, Global}
 use Rattle.std.proofs.lemmas.List.{map-append}
 use Rattle.g4_tokens.specs.declared.token.Token.{Token}
-use Rattle.g4_grammar.specs.declared.source.Atom.{Atom}
+use Rattle.g4_grammar.specs.declared.grammar.Atom.{Atom}
 use Rattle.g4_grammar.specs.declared.element.Element.{Element as Node}
 use Rattle.g4_grammar.specs.declared.element.Alternative.{Alternative as Side, roll-Alternative}
 use Rattle.g4_grammar.specs.Elements.{Element, Elements}

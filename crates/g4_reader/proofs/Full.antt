@@ -2,10 +2,10 @@
 use Rattle.std.proofs.Common.{ℕ, List, [], ◌∷◌, Result, Ok, Err, IfOk}
 use Rattle.g4_grammar.specs.declared.element.Repeat.{Repeat}
 use Rattle.g4_grammar.specs.declared.element.Repeat.TheVariants.{Once, Star, Plus}
-use Rattle.g4_grammar.specs.declared.source.Source.{Source}
-use Rattle.g4_grammar.specs.declared.source.Rule.{Rule}
-use Rattle.g4_grammar.specs.declared.source.Rule.TheVariants.{Parser, Lexer}
-use Rattle.g4_grammar.specs.declared.source.Atom.{Atom}
+use Rattle.g4_grammar.specs.declared.grammar.Grammar.{Grammar}
+use Rattle.g4_grammar.specs.declared.grammar.Rule.{Rule}
+use Rattle.g4_grammar.specs.declared.grammar.Rule.TheVariants.{Parser, Lexer}
+use Rattle.g4_grammar.specs.declared.grammar.Atom.{Atom}
 use Rattle.g4_grammar.specs.Elements.{Element, Elements, Alternatives, only, then, atom, empty}
 use Rattle.g4_grammar.specs.Trees.{repeated}
 use Rattle.g4_grammar.specs.Blocks.{IsSome, IsFull, AreFull, EachIsFull, HaveAlternatives}
@@ -46,6 +46,6 @@ rules_full word (Parser rule ∷ rules) (first, others, parts, is, more) = ((alt
 rules_full word (Lexer rule ∷ rules) (first, others, parts, is, more) = rules_full others rules more
 
 -- the grammar that a text is
-pub reading_full : (text : List ℕ) (result : Result Source ReadFault) → IsReading text result → IfOk result (λ source. HaveAlternatives source.rules)
+pub reading_full : (text : List ℕ) (result : Result Grammar ReadFault) → IsReading text result → IfOk result (λ source. HaveAlternatives source.rules)
 reading_full text (Ok source) (tokens, scans, is, good) = rules_full is.body source.rules is.rules_are
 reading_full text (Err fault) is = tt

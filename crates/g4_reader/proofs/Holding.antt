@@ -6,13 +6,13 @@ use Rattle.std.proofs.lemmas.List.{append-nil}
 use Rattle.std.proofs.lemmas.Slice.Eq.{bytes_eq-Decides}
 use Rattle.g4_tokens.specs.declared.token.Kind.{Kind}
 use Rattle.g4_tokens.specs.declared.token.Kind.TheVariants as kinds
-use Rattle.g4_grammar.specs.declared.source.Source.{Source}
-use Rattle.g4_grammar.specs.declared.source.Rule.{Rule}
-use Rattle.g4_grammar.specs.declared.source.Rule.TheVariants as rules
-use Rattle.g4_grammar.specs.declared.source.ParserRule.{ParserRule}
-use Rattle.g4_grammar.specs.declared.source.LexerRule.{LexerRule}
-use Rattle.g4_grammar.specs.declared.source.LexerAlternative.{LexerAlternative}
-use Rattle.g4_grammar.specs.declared.source.Atom.{Atom}
+use Rattle.g4_grammar.specs.declared.grammar.Grammar.{Grammar}
+use Rattle.g4_grammar.specs.declared.grammar.Rule.{Rule}
+use Rattle.g4_grammar.specs.declared.grammar.Rule.TheVariants as rules
+use Rattle.g4_grammar.specs.declared.grammar.ParserRule.{ParserRule}
+use Rattle.g4_grammar.specs.declared.grammar.LexerRule.{LexerRule}
+use Rattle.g4_grammar.specs.declared.grammar.LexerAlternative.{LexerAlternative}
+use Rattle.g4_grammar.specs.declared.grammar.Atom.{Atom}
 use Rattle.g4_grammar.specs.declared.element.Repeat.{Repeat}
 use Rattle.g4_grammar.specs.declared.element.Repeat.TheVariants.{Once, Star, Plus}
 use Rattle.g4_grammar.specs.Elements.{Element, Elements, only, either}
@@ -31,7 +31,7 @@ AreInOrder-push Is w u (y ∷ ys) x (first, others, e, y_is, rest) is =
     (first, others ++ u, ap (λ v. v ++ u) e ∙ append_assoc first others u, y_is, AreInOrder-push Is others u ys x rest is)
 
 -- a grammar text with one more rule
-with_rule_is : (v u : List Spelled) (source : Source) (rule : Rule) → IsGrammarText v source → IsRule u rule → IsGrammarText (v ++ u) (with_rule source rule)
+with_rule_is : (v u : List Spelled) (source : Grammar) (rule : Rule) → IsGrammarText v source → IsRule u rule → IsGrammarText (v ++ u) (with_rule source rule)
 with_rule_is v u source rule g is = record {
   keyword = g.keyword;
   head = g.head;
@@ -46,7 +46,7 @@ with_rule_is v u source rule g is = record {
 }
 
 -- a rule of which the name, `:` and a part of the body stand behind a grammar text
-pub record IsOpen (w : List Spelled) (kind : Kind) (source : Source) (name : List ℕ) (body : List Spelled) : Type 0 where
+pub record IsOpen (w : List Spelled) (kind : Kind) (source : Grammar) (name : List ℕ) (body : List Spelled) : Type 0 where
   pub before : List Spelled
   pub head : Spelled
   pub colon : Spelled
@@ -57,7 +57,7 @@ pub record IsOpen (w : List Spelled) (kind : Kind) (source : Source) (name : Lis
   pub colon_is : colon.kind ≡ kinds.Colon
 
 -- one more token of the body
-IsOpen-push : (w : List Spelled) (kind : Kind) (source : Source) (name : List ℕ) (body : List Spelled) (t : Spelled) → IsOpen w kind source name body → IsOpen (w ++ t ∷ []) kind source name (body ++ t ∷ [])
+IsOpen-push : (w : List Spelled) (kind : Kind) (source : Grammar) (name : List ℕ) (body : List Spelled) (t : Spelled) → IsOpen w kind source name body → IsOpen (w ++ t ∷ []) kind source name (body ++ t ∷ [])
 IsOpen-push w kind source name body t o = record {
   before = o.before;
   head = o.head;
@@ -70,7 +70,7 @@ IsOpen-push w kind source name body t o = record {
 }
 
 -- a rule of which only the name stands behind a grammar text
-pub record IsNamed (w : List Spelled) (kind : Kind) (source : Source) (name : List ℕ) : Type 0 where
+pub record IsNamed (w : List Spelled) (kind : Kind) (source : Grammar) (name : List ℕ) : Type 0 where
   pub before : List Spelled
   pub head : Spelled
   pub parts : w ≡ before ++ head ∷ []
@@ -79,7 +79,7 @@ pub record IsNamed (w : List Spelled) (kind : Kind) (source : Source) (name : Li
   pub named : name ≡ head.bytes
 
 -- the `:` behind the name
-IsNamed-push : (w : List Spelled) (kind : Kind) (source : Source) (name : List ℕ) (t : Spelled) → IsNamed w kind source name → t.kind ≡ kinds.Colon → IsOpen (w ++ t ∷ []) kind source name []
+IsNamed-push : (w : List Spelled) (kind : Kind) (source : Grammar) (name : List ℕ) (t : Spelled) → IsNamed w kind source name → t.kind ≡ kinds.Colon → IsOpen (w ++ t ∷ []) kind source name []
 IsNamed-push w kind source name t o k = record {
   before = o.before;
   head = o.head;
@@ -194,7 +194,7 @@ opens rule around es w t b k =
     starts rule (in_brackets around es []) (w ++ t ∷ []) (b.before, b.body, t, [], ap (λ v. v ++ t ∷ []) b.parts ∙ append_assoc b.before b.body (t ∷ []), b.before_is, b.are, k, refl)
 
 -- more tokens of the body
-IsOpen-append : (w : List Spelled) (kind : Kind) (source : Source) (name : List ℕ) (body u : List Spelled) → IsOpen w kind source name body → IsOpen (w ++ u) kind source name (body ++ u)
+IsOpen-append : (w : List Spelled) (kind : Kind) (source : Grammar) (name : List ℕ) (body u : List Spelled) → IsOpen w kind source name body → IsOpen (w ++ u) kind source name (body ++ u)
 IsOpen-append w kind source name body u o = record {
   before = o.before;
   head = o.head;
@@ -274,14 +274,14 @@ IsEnded-lexer word xs e =
     subst (λ l. AreLexerAlternatives word l) (sym e.list) (subst (λ v. AreLexerAlternatives v (e.before ++ e.last ∷ [])) (sym e.parts) (AreLexerAlternatives-from e.first e.others e.before e.last e.before_are e.last_is))
 
 -- the `;` of a parser rule
-close_parser : (w : List Spelled) (source : Source) (name : List ℕ) (alternatives : List (Elements Atom)) (body : List Spelled) (t : Spelled) → IsOpen w kinds.Lower source name body → IsEnded (AreElements IsParserAtom) body alternatives → t.kind ≡ kinds.Semicolon → IsGrammarText (w ++ t ∷ []) (with_rule source (rules.Parser (record { name = name; alternatives = alternatives })))
+close_parser : (w : List Spelled) (source : Grammar) (name : List ℕ) (alternatives : List (Elements Atom)) (body : List Spelled) (t : Spelled) → IsOpen w kinds.Lower source name body → IsEnded (AreElements IsParserAtom) body alternatives → t.kind ≡ kinds.Semicolon → IsGrammarText (w ++ t ∷ []) (with_rule source (rules.Parser (record { name = name; alternatives = alternatives })))
 close_parser w source name alternatives body t o are k =
     let rule : ParserRule = record { name = name; alternatives = alternatives } in
     let is : IsParserRule (o.head ∷ o.colon ∷ (body ++ t ∷ [])) rule = record { head = o.head; colon = o.colon; body = body; close = t; parts = refl; lower = o.head_is; named = o.named; colon_is = o.colon_is; alternatives_are = IsEnded-either IsParserAtom body alternatives are; close_is = k } in
     subst (λ v. IsGrammarText v (with_rule source (rules.Parser rule))) (sym (ap (λ v. v ++ t ∷ []) o.parts ∙ append_assoc o.before (o.head ∷ o.colon ∷ body) (t ∷ []))) (with_rule_is o.before (o.head ∷ o.colon ∷ (body ++ t ∷ [])) source (rules.Parser rule) o.before_is is)
 
 -- the `;` of a lexer rule
-close_lexer : (w : List Spelled) (source : Source) (name : List ℕ) (alternatives : List LexerAlternative) (body : List Spelled) (t : Spelled) → IsOpen w kinds.Upper source name body → IsEnded IsLexerAlternative body alternatives → t.kind ≡ kinds.Semicolon → IsGrammarText (w ++ t ∷ []) (with_rule source (rules.Lexer (record { name = name; alternatives = alternatives })))
+close_lexer : (w : List Spelled) (source : Grammar) (name : List ℕ) (alternatives : List LexerAlternative) (body : List Spelled) (t : Spelled) → IsOpen w kinds.Upper source name body → IsEnded IsLexerAlternative body alternatives → t.kind ≡ kinds.Semicolon → IsGrammarText (w ++ t ∷ []) (with_rule source (rules.Lexer (record { name = name; alternatives = alternatives })))
 close_lexer w source name alternatives body t o are k =
     let rule : LexerRule = record { name = name; alternatives = alternatives } in
     let is : IsLexerRule (o.head ∷ o.colon ∷ (body ++ t ∷ [])) rule = record { head = o.head; colon = o.colon; body = body; close = t; parts = refl; upper = o.head_is; named = o.named; colon_is = o.colon_is; alternatives_are = IsEnded-lexer body alternatives are; close_is = k } in
@@ -349,7 +349,7 @@ word_is spelling t e =
     (lower_kind t.kind both.0, (bytes_eq-Decides t.bytes spelling).0 both.1)
 
 -- a step where a rule may begin
-rule_step : (w : List Spelled) (source : Source) (t : Spelled) (later : Stage) (kind : Kind) → t.kind ≡ kind → IsGrammarText w source → next_at_rule source t.bytes kind ≡ Some later → Holds (w ++ t ∷ []) later
+rule_step : (w : List Spelled) (source : Grammar) (t : Spelled) (later : Stage) (kind : Kind) → t.kind ≡ kind → IsGrammarText w source → next_at_rule source t.bytes kind ≡ Some later → Holds (w ++ t ∷ []) later
 rule_step w source t later kinds.Lower k g e = subst (Holds (w ++ t ∷ [])) (some_is e) (record { before = w; head = t; parts = refl; before_is = g; head_is = k; named = refl })
 rule_step w source t later kinds.Upper k g e = subst (Holds (w ++ t ∷ [])) (some_is e) (record { before = w; head = t; parts = refl; before_is = g; head_is = k; named = refl })
 rule_step w source t later _ k g e = absurd (cc)
@@ -438,7 +438,7 @@ sign_step w v u rule around es operand t later parts b is e = by_repeat (repeat_
     by_repeat Plus r e = elim (IsSign-from t.kind t Plus refl r) [ inl o ↦ absurd (cc) | inr suffix ↦ signed Plus suffix e ]
 
 -- the first alternative of a rule begins behind `:`
-colon_step : (w : List Spelled) (rule : RuleKind) (source : Source) (name : List ℕ) (t : Spelled) → IsNamed w (name_kind rule) source name → t.kind ≡ kinds.Colon → Holding false rule (in_rule rule source name) (w ++ t ∷ [])
+colon_step : (w : List Spelled) (rule : RuleKind) (source : Grammar) (name : List ℕ) (t : Spelled) → IsNamed w (name_kind rule) source name → t.kind ≡ kinds.Colon → Holding false rule (in_rule rule source name) (w ++ t ∷ [])
 colon_step w Parser source name t o k = ([], IsNamed-push w kinds.Lower source name t o k, refl, refl)
 colon_step w Lexer source name t o k = ([], IsNamed-push w kinds.Upper source name t o k, refl, refl)
 
@@ -508,7 +508,7 @@ rest_of (at_close rule around) = closing around
 
 -- some grammar is read to its end behind these tokens
 abbrev IsLed : Stage → List Spelled → Type 0
-IsLed stage word = (source : Source) × (after stage word ≡ Some (at_rule source))
+IsLed stage word = (source : Grammar) × (after stage word ≡ Some (at_rule source))
 
 -- behind an element
 sign_ends : (rule : RuleKind) (around : Around) (es : List (Element Atom)) (operand : Operand) → IsLed (at_sign rule around es operand) (closing around)
@@ -574,6 +574,6 @@ Begins-from w stage h =
     (rest_of stage, rest.0, Holds-after w (rest_of stage) stage (at_rule rest.0) h rest.1)
 
 -- the tokens that bring the reading to an end are a grammar text
-pub text_from : (w : List Spelled) (stage : Stage) (source : Source) → Holds w stage → grammar_at stage ≡ Some source → IsGrammarText w source
+pub text_from : (w : List Spelled) (stage : Stage) (source : Grammar) → Holds w stage → grammar_at stage ≡ Some source → IsGrammarText w source
 text_from w (at_rule found) source h e = subst (IsGrammarText w) (some_is e) h
 text_from w _ source h e = absurd (cc)

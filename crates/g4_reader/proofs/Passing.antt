@@ -6,15 +6,15 @@ use Rattle.std.proofs.lemmas.Slice.Eq.{bytes_eq-Decides}
 use Rattle.std.specs.Str.{chars}
 use Rattle.g4_tokens.specs.declared.token.Kind.{Kind}
 use Rattle.g4_tokens.specs.declared.token.Kind.TheVariants as kinds
-use Rattle.g4_grammar.specs.declared.source.Range.{Range}
-use Rattle.g4_grammar.specs.declared.source.Source.{Source}
-use Rattle.g4_grammar.specs.declared.source.Rule.{Rule}
-use Rattle.g4_grammar.specs.declared.source.Rule.TheVariants as rules
-use Rattle.g4_grammar.specs.declared.source.ParserRule.{ParserRule}
-use Rattle.g4_grammar.specs.declared.source.LexerRule.{LexerRule}
-use Rattle.g4_grammar.specs.declared.source.LexerAlternative.{LexerAlternative}
-use Rattle.g4_grammar.specs.declared.source.Atom.{Atom}
-use Rattle.g4_grammar.specs.declared.source.Atom.TheVariants as atoms
+use Rattle.g4_grammar.specs.declared.grammar.Range.{Range}
+use Rattle.g4_grammar.specs.declared.grammar.Grammar.{Grammar}
+use Rattle.g4_grammar.specs.declared.grammar.Rule.{Rule}
+use Rattle.g4_grammar.specs.declared.grammar.Rule.TheVariants as rules
+use Rattle.g4_grammar.specs.declared.grammar.ParserRule.{ParserRule}
+use Rattle.g4_grammar.specs.declared.grammar.LexerRule.{LexerRule}
+use Rattle.g4_grammar.specs.declared.grammar.LexerAlternative.{LexerAlternative}
+use Rattle.g4_grammar.specs.declared.grammar.Atom.{Atom}
+use Rattle.g4_grammar.specs.declared.grammar.Atom.TheVariants as atoms
 use Rattle.g4_grammar.specs.declared.element.Repeat.{Repeat}
 use Rattle.g4_grammar.specs.declared.element.Repeat.TheVariants.{Once, Star, Plus}
 use Rattle.g4_grammar.specs.Elements.{Element, Elements, empty, then, Alternatives, none, or, either}
@@ -182,11 +182,11 @@ mutual
       ∙ ap (λ (l : List (Elements Atom)). after (at_sign rule around outer (bracketed (either l))) rest) (append_assoc before (x ∷ []) (sides xs))
 
 -- the stage behind a parser rule with these alternatives
-abbrev behind_parser : Source → List ℕ → List (Elements Atom) → Stage
+abbrev behind_parser : Grammar → List ℕ → List (Elements Atom) → Stage
 behind_parser source name alternatives = at_rule (with_rule source (rules.Parser (record { name = name; alternatives = alternatives })))
 
 -- the alternatives of a parser rule are read
-parser_alternatives_pass : (source : Source) (name : List ℕ) (before : List (Elements Atom)) (word rest : List Spelled) (xs : Alternatives Atom) (close : Spelled) → AreAlternatives IsParserAtom word xs → close.kind ≡ kinds.Semicolon → after (at_element Parser (in_parser_rule source name before) []) (word ++ close ∷ rest) ≡ after (behind_parser source name (before ++ sides xs)) rest
+parser_alternatives_pass : (source : Grammar) (name : List ℕ) (before : List (Elements Atom)) (word rest : List Spelled) (xs : Alternatives Atom) (close : Spelled) → AreAlternatives IsParserAtom word xs → close.kind ≡ kinds.Semicolon → after (at_element Parser (in_parser_rule source name before) []) (word ++ close ∷ rest) ≡ after (behind_parser source name (before ++ sides xs)) rest
 parser_alternatives_pass source name before _ rest _ close (the_last word x are) k =
     elements_pass Parser IsParserAtom (λ t a is. is) (in_parser_rule source name before) [] word (close ∷ rest) x are (ap repeat_of k)
     ∙ after-next (at_element Parser (in_parser_rule source name before) (listed x)) close rest _ (there close.kind k)
@@ -203,7 +203,7 @@ parser_alternatives_pass source name before _ rest _ close (one_before bar first
     ∙ ap (λ (l : List (Elements Atom)). after (behind_parser source name l) rest) (append_assoc before (x ∷ []) (sides xs))
 
 -- a parser rule is read
-parser_rule_passes : (source : Source) (word rest : List Spelled) (rule : ParserRule) → IsParserRule word rule → after (at_rule source) (word ++ rest) ≡ after (at_rule (with_rule source (rules.Parser rule))) rest
+parser_rule_passes : (source : Grammar) (word rest : List Spelled) (rule : ParserRule) → IsParserRule word rule → after (at_rule source) (word ++ rest) ≡ after (at_rule (with_rule source (rules.Parser rule))) rest
 parser_rule_passes source word rest rule is =
     let name = rule.name in
     subst (λ w. after (at_rule source) (w ++ rest) ≡ after (at_rule (with_rule source (rules.Parser rule))) rest) (sym is.parts)
@@ -229,11 +229,11 @@ due_plain t (inl k) = ap repeat_of k
 due_plain t (inr k) = ap repeat_of k
 
 -- the alternatives of a lexer rule with one more
-abbrev with_lexer : Source → List ℕ → List LexerAlternative → Elements Atom → Bool → Around
+abbrev with_lexer : Grammar → List ℕ → List LexerAlternative → Elements Atom → Bool → Around
 with_lexer source name before elements skip = in_lexer_rule source name (before ++ record { elements = elements; skip = skip } ∷ [])
 
 -- the end of an alternative of a lexer rule is read
-command_passes : (source : Source) (name : List ℕ) (before : List LexerAlternative) (es : List (Element Atom)) (skip : Bool) (command : List Spelled) (t : Spelled) (rest : List Spelled) → IsCommand command skip → IsDue t → BeginsPlain (command ++ t ∷ rest) × (after (at_element Lexer (in_lexer_rule source name before) es) (command ++ t ∷ rest) ≡ after (at_bar Lexer (with_lexer source name before (in_order es) skip)) (t ∷ rest))
+command_passes : (source : Grammar) (name : List ℕ) (before : List LexerAlternative) (es : List (Element Atom)) (skip : Bool) (command : List Spelled) (t : Spelled) (rest : List Spelled) → IsCommand command skip → IsDue t → BeginsPlain (command ++ t ∷ rest) × (after (at_element Lexer (in_lexer_rule source name before) es) (command ++ t ∷ rest) ≡ after (at_bar Lexer (with_lexer source name before (in_order es) skip)) (t ∷ rest))
 command_passes source name before es false command t rest is due =
     subst (λ w. BeginsPlain (w ++ t ∷ rest) × (after (at_element Lexer (in_lexer_rule source name before) es) (w ++ t ∷ rest) ≡ after (at_bar Lexer (with_lexer source name before (in_order es) false)) (t ∷ rest))) (sym is) (due_plain t due, ap (λ (o : Option Stage). elim o [ None ↦ None | Some between ↦ after between rest ]) (there t.kind due))
   where
@@ -252,7 +252,7 @@ command_passes source name before es true command t rest (arrow, skip, parts, a,
     begins kind k = rw k refl
 
 -- an alternative of a lexer rule is read
-lexer_alternative_passes : (source : Source) (name : List ℕ) (before : List LexerAlternative) (word rest : List Spelled) (x : LexerAlternative) (t : Spelled) → IsLexerAlternative word x → IsDue t → after (at_element Lexer (in_lexer_rule source name before) []) (word ++ t ∷ rest) ≡ after (at_bar Lexer (in_lexer_rule source name (before ++ x ∷ []))) (t ∷ rest)
+lexer_alternative_passes : (source : Grammar) (name : List ℕ) (before : List LexerAlternative) (word rest : List Spelled) (x : LexerAlternative) (t : Spelled) → IsLexerAlternative word x → IsDue t → after (at_element Lexer (in_lexer_rule source name before) []) (word ++ t ∷ rest) ≡ after (at_bar Lexer (in_lexer_rule source name (before ++ x ∷ []))) (t ∷ rest)
 lexer_alternative_passes source name before word rest x t (body, command, parts, are, is) due =
     let ending = command_passes source name before (listed x.elements) x.skip command t rest is due in
     ap (after (at_element Lexer (in_lexer_rule source name before) [])) (ap (λ w. w ++ t ∷ rest) parts ∙ append_assoc body command (t ∷ rest))
@@ -261,11 +261,11 @@ lexer_alternative_passes source name before word rest x t (body, command, parts,
     ∙ ap (λ (y : Elements Atom). after (at_bar Lexer (with_lexer source name before y x.skip)) (t ∷ rest)) (in_order-listed x.elements)
 
 -- the stage behind a lexer rule with these alternatives
-abbrev behind_lexer : Source → List ℕ → List LexerAlternative → Stage
+abbrev behind_lexer : Grammar → List ℕ → List LexerAlternative → Stage
 behind_lexer source name alternatives = at_rule (with_rule source (rules.Lexer (record { name = name; alternatives = alternatives })))
 
 -- the alternatives of a lexer rule are read
-lexer_alternatives_pass : (source : Source) (name : List ℕ) (before : List LexerAlternative) (word rest : List Spelled) (xs : List LexerAlternative) (close : Spelled) → AreLexerAlternatives word xs → close.kind ≡ kinds.Semicolon → after (at_element Lexer (in_lexer_rule source name before) []) (word ++ close ∷ rest) ≡ after (behind_lexer source name (before ++ xs)) rest
+lexer_alternatives_pass : (source : Grammar) (name : List ℕ) (before : List LexerAlternative) (word rest : List Spelled) (xs : List LexerAlternative) (close : Spelled) → AreLexerAlternatives word xs → close.kind ≡ kinds.Semicolon → after (at_element Lexer (in_lexer_rule source name before) []) (word ++ close ∷ rest) ≡ after (behind_lexer source name (before ++ xs)) rest
 lexer_alternatives_pass source name before word rest [] close are k = absurd are
 lexer_alternatives_pass source name before word rest (x ∷ []) close is k =
     lexer_alternative_passes source name before word rest x close is (inr k) ∙ after-next (at_bar Lexer (in_lexer_rule source name (before ++ x ∷ []))) close rest _ (there close.kind k)
@@ -283,7 +283,7 @@ lexer_alternatives_pass source name before word rest (x ∷ y ∷ more) close (b
     there kind k = rw k refl
 
 -- a lexer rule is read
-lexer_rule_passes : (source : Source) (word rest : List Spelled) (rule : LexerRule) → IsLexerRule word rule → after (at_rule source) (word ++ rest) ≡ after (at_rule (with_rule source (rules.Lexer rule))) rest
+lexer_rule_passes : (source : Grammar) (word rest : List Spelled) (rule : LexerRule) → IsLexerRule word rule → after (at_rule source) (word ++ rest) ≡ after (at_rule (with_rule source (rules.Lexer rule))) rest
 lexer_rule_passes source word rest rule is =
     let name = rule.name in
     subst (λ w. after (at_rule source) (w ++ rest) ≡ after (at_rule (with_rule source (rules.Lexer rule))) rest) (sym is.parts)
@@ -299,7 +299,7 @@ lexer_rule_passes source word rest rule is =
     colon kind k = rw k refl
 
 -- a rule is read
-rule_passes : (source : Source) (word rest : List Spelled) (rule : Rule) → IsRule word rule → after (at_rule source) (word ++ rest) ≡ after (at_rule (with_rule source rule)) rest
+rule_passes : (source : Grammar) (word rest : List Spelled) (rule : Rule) → IsRule word rule → after (at_rule source) (word ++ rest) ≡ after (at_rule (with_rule source rule)) rest
 rule_passes source word rest (rules.Parser rule) is = parser_rule_passes source word rest rule is
 rule_passes source word rest (rules.Lexer rule) is = lexer_rule_passes source word rest rule is
 
@@ -310,7 +310,7 @@ rules_pass name rules word (rule ∷ more) (first, others, parts, is, are) =
     rw parts (rule_passes (record { name = name; rules = rules }) first others rule is ∙ rules_pass name (rules ++ rule ∷ []) others more are ∙ ap (λ l. Some (at_rule (record { name = name; rules = l }))) (append_assoc rules (rule ∷ []) more))
 
 -- a grammar text is read to its end
-pub text_passes : (tokens : List Spelled) (source : Source) → IsGrammarText tokens source → after at_grammar tokens ≡ Some (at_rule source)
+pub text_passes : (tokens : List Spelled) (source : Grammar) → IsGrammarText tokens source → after at_grammar tokens ≡ Some (at_rule source)
 text_passes tokens source is =
     subst (λ w. after at_grammar w ≡ Some (at_rule source)) (sym is.parts)
     (after-next at_grammar is.keyword (is.head ∷ is.close ∷ is.body) at_name (ap (λ test. if_so test at_name) (word_passes (codes "grammar") is.keyword is.keyword_is))

@@ -6,7 +6,7 @@ use Rattle.g4_base.specs.declared.place.Place.{Place}
 use Rattle.g4_tokens.specs.declared.token.Token.{Token}
 use Rattle.g4_tokens.specs.Answers.{HasTokens}
 use Rattle.g4_tokens.specs.declared.position.Position.{Position}
-use Rattle.g4_grammar.specs.declared.source.Source.{Source}
+use Rattle.g4_grammar.specs.declared.grammar.Grammar.{Grammar}
 use Rattle.g4_reader.specs.GrammarText.{Spelled, spelled, spelled_token, IsGrammarText, Begins}
 use Rattle.g4_reader.specs.Reading.{Fault, fault_at, opened_fault, Ends, HasNoBadSet, IsFirstBadSet, IsFirstFault, IsReading}
 use Rattle.g4_reader.specs.Sets.{first_bad_set, good_or_bad, with_good_sets}
@@ -26,7 +26,7 @@ IsStuck text stage [] = grammar_at stage ≡ None
 IsStuck text stage (t ∷ ts) = next stage (spelled_token text t) ≡ None
 
 -- a reading that ends in a grammar
-abbrev pub EndsIn : List ℕ → Stage → List Token → Source → Type 0
+abbrev pub EndsIn : List ℕ → Stage → List Token → Grammar → Type 0
 EndsIn text stage tokens source = (later : Stage) × (after stage (spelled text tokens) ≡ Some later) × (grammar_at later ≡ Some source)
 
 -- a reading that stops at the others of the tokens
@@ -34,18 +34,18 @@ abbrev pub StopsAt : List ℕ → Stage → List Token → List Token → Type 0
 StopsAt text stage tokens others = (before : List Token) × (later : Stage) × (tokens ≡ before ++ others) × (after stage (spelled text before) ≡ Some later) × IsStuck text later others
 
 -- what a result of a reading says
-abbrev pub Tells : List ℕ → Stage → List Token → Result Source (List Token) → Type 0
+abbrev pub Tells : List ℕ → Stage → List Token → Result Grammar (List Token) → Type 0
 Tells text stage tokens (Ok source) = EndsIn text stage tokens source
 Tells text stage tokens (Err others) = StopsAt text stage tokens others
 
 -- what a reading that goes on says, with one more token before
-tells_next : (text : List ℕ) (stage later : Stage) (t : Token) (ts : List Token) (result : Result Source (List Token)) → next stage (spelled_token text t) ≡ Some later → Tells text later ts result → Tells text stage (t ∷ ts) result
+tells_next : (text : List ℕ) (stage later : Stage) (t : Token) (ts : List Token) (result : Result Grammar (List Token)) → next stage (spelled_token text t) ≡ Some later → Tells text later ts result → Tells text stage (t ∷ ts) result
 tells_next text stage later t ts (Ok source) is (last, e, end) = (last, after-next stage (spelled_token text t) (spelled text ts) later is ∙ e, end)
 tells_next text stage later t ts (Err others) is (before, last, parts, e, stuck) =
     (t ∷ before, last, ap (λ l. t ∷ l) parts, after-next stage (spelled_token text t) (spelled text before) later is ∙ e, stuck)
 
 -- what the end of the text says
-tells_end : (text : List ℕ) (stage : Stage) (o : Option Source) → grammar_at stage ≡ o → Tells text stage [] (result_of o [])
+tells_end : (text : List ℕ) (stage : Stage) (o : Option Grammar) → grammar_at stage ≡ o → Tells text stage [] (result_of o [])
 tells_end text stage None e = ([], stage, refl, refl, e)
 tells_end text stage (Some source) e = (stage, refl, e)
 
@@ -67,7 +67,7 @@ one_stage : (tokens : List Spelled) (stage other : Stage) → after at_grammar t
 one_stage tokens stage other e f = cc
 
 -- a text that is read to its end is a grammar text
-pub grammar_from : (text : List ℕ) (tokens : List Token) (source : Source) → EndsIn text at_grammar tokens source → IsGrammarText (spelled text tokens) source
+pub grammar_from : (text : List ℕ) (tokens : List Token) (source : Grammar) → EndsIn text at_grammar tokens source → IsGrammarText (spelled text tokens) source
 grammar_from text tokens source (later, e, end) = text_from (spelled text tokens) later source (holds_from (spelled text tokens) later e) end
 
 -- no grammar text goes on where a reading is stuck
@@ -76,7 +76,7 @@ ends_from text before [] later e stuck =
     λ source is. let same : at_rule source ≡ later = one_stage (spelled text before) (at_rule source) later (text_passes (spelled text before) source is) e in
     absurd (none_some (sym stuck ∙ ap grammar_at (sym same)))
   where
-    none_some : {source : Source} → None ≡ Some source → ⊥
+    none_some : {source : Grammar} → None ≡ Some source → ⊥
     none_some e = cc
 ends_from text before (t ∷ ts) later e stuck =
     λ begins.
@@ -129,15 +129,15 @@ bad_begun text tokens behind place begins e =
     }
 
 -- a grammar text begins as itself
-text_begins : (text : List ℕ) (tokens : List Token) (source : Source) → IsGrammarText (spelled text tokens) source → Begins (spelled text tokens)
+text_begins : (text : List ℕ) (tokens : List Token) (source : Grammar) → IsGrammarText (spelled text tokens) source → Begins (spelled text tokens)
 text_begins text tokens source is = ([], source, subst (λ w. IsGrammarText w source) (sym (append-nil (spelled text tokens))) is)
 
 -- the grammar that is read
-read_grammar_is : (text : List ℕ) (tokens : List Token) (source : Source) → reading_from text at_grammar tokens ≡ Ok source → IsGrammarText (spelled text tokens) source
+read_grammar_is : (text : List ℕ) (tokens : List Token) (source : Grammar) → reading_from text at_grammar tokens ≡ Ok source → IsGrammarText (spelled text tokens) source
 read_grammar_is text tokens source e = grammar_from text tokens source (subst (Tells text at_grammar tokens) e (reading_tells text at_grammar tokens))
 
 -- a grammar that is read, in which a bad set is found or none
-pub read_to_end : (text : List ℕ) (tokens : List Token) (source : Source) → reading_from text at_grammar tokens ≡ Ok source → IsReadingOf text tokens (with_good_sets text source tokens)
+pub read_to_end : (text : List ℕ) (tokens : List Token) (source : Grammar) → reading_from text at_grammar tokens ≡ Ok source → IsReadingOf text tokens (with_good_sets text source tokens)
 read_to_end text tokens source e = by_found (first_bad_set text tokens) refl
   where
     by_found : (o : Option Place) → first_bad_set text tokens ≡ o → IsReadingOf text tokens (good_or_bad source o)
@@ -146,7 +146,7 @@ read_to_end text tokens source e = by_found (first_bad_set text tokens) refl
         subst (λ l. IsFirstBadSet text l place) (append-nil tokens) (bad_begun text tokens [] place (text_begins text tokens source (read_grammar_is text tokens source e)) is)
 
 -- what is given for a reading of the tokens, unless memory runs out, is one
-pub reading_given : (text : List ℕ) (tokens : List Token) (given result : Result Source ReadFault) → IsReadingOf text tokens given → IsGoodOrBad given result → IsReadingOf text tokens result
+pub reading_given : (text : List ℕ) (tokens : List Token) (given result : Result Grammar ReadFault) → IsReadingOf text tokens given → IsGoodOrBad given result → IsReadingOf text tokens result
 reading_given text tokens given (Ok source) is same = subst (IsReadingOf text tokens) (sym same) is
 reading_given text tokens given (Err (NotUtf8 at)) is same = subst (IsReadingOf text tokens) (sym same) is
 reading_given text tokens given (Err (Syntax place characters)) is same = subst (IsReadingOf text tokens) (sym same) is
@@ -191,7 +191,7 @@ read_to_index text tokens i fault e is =
     read_to_stop text tokens (drop i tokens) stop fault (subst (λ l. IsFirstOf text (first_bad_set text l) (drop i tokens) fault) (sym (before_index tokens i stop.before stop.parts)) is)
 
 -- a result of the reading of a text's tokens is a reading of the text
-pub IsReading-from : (text : List ℕ) (tokens : List Token) (result : Result Source ReadFault) → HasTokens text tokens → IsReadingOf text tokens result → IsReading text result
+pub IsReading-from : (text : List ℕ) (tokens : List Token) (result : Result Grammar ReadFault) → HasTokens text tokens → IsReadingOf text tokens result → IsReading text result
 IsReading-from text tokens (Ok source) s is = (tokens, s, is.0, is.1)
 IsReading-from text tokens (Err (Syntax place characters)) s is = inr (tokens, s, is)
 IsReading-from text tokens (Err (BadSet place)) s is = (tokens, s, is)
@@ -216,7 +216,7 @@ stuck_reading text stage [] stuck = reading_from-end text stage ∙ ap (λ o. re
 stuck_reading text stage (t ∷ ts) stuck = reading_from-stuck text stage t ts stuck
 
 -- a grammar text is read as its grammar
-grammar_reading : (text : List ℕ) (tokens : List Token) (source : Source) → IsGrammarText (spelled text tokens) source → reading_from text at_grammar tokens ≡ Ok source
+grammar_reading : (text : List ℕ) (tokens : List Token) (source : Grammar) → IsGrammarText (spelled text tokens) source → reading_from text at_grammar tokens ≡ Ok source
 grammar_reading text tokens source is =
     ap (reading_from text at_grammar) (sym (append-nil tokens)) ∙ read_through text at_grammar (at_rule source) tokens [] (text_passes (spelled text tokens) source is) ∙ reading_from-end text (at_rule source)
 
@@ -224,7 +224,7 @@ grammar_reading text tokens source is =
 stuck_from : (text : List ℕ) (before others : List Token) (stage : Stage) → Holds (spelled text before) stage → Ends (spelled text before) (spelled text others) → IsStuck text stage others
 stuck_from text before [] stage h ends = by_end (grammar_at stage) refl
   where
-    by_end : (o : Option Source) → grammar_at stage ≡ o → grammar_at stage ≡ None
+    by_end : (o : Option Grammar) → grammar_at stage ≡ o → grammar_at stage ≡ None
     by_end None e = e
     by_end (Some source) e = absurd (ends source (text_from (spelled text before) stage source h e))
 stuck_from text before (t ∷ ts) stage h ends = by_next (next stage (spelled_token text t)) refl
@@ -274,7 +274,7 @@ none_some : {X : Type 0} {x : X} → None ≡ Some x → ⊥
 none_some e = cc
 
 -- a reading does not both end in a grammar and stop
-ok_err : (reading : Result Source (List Token)) (source : Source) (others : List Token) → reading ≡ Ok source → reading ≡ Err others → ⊥
+ok_err : (reading : Result Grammar (List Token)) (source : Grammar) (others : List Token) → reading ≡ Ok source → reading ≡ Err others → ⊥
 ok_err reading source others e f = cc
 
 -- where no set of the tokens is bad, none is the first
@@ -291,17 +291,17 @@ one_first text tokens fault place first bad = by_place (token_in first.before fi
     by_place (inr (more, is, rest)) = no_text_behind text first.before more bad.set first.others bad.behind rest first.ends (subst (λ l. Begins (spelled text (l ++ bad.set ∷ []))) is bad.begins)
 
 -- a text's grammar is one
-one_grammar : (text : List ℕ) (tokens : List Token) (a b : Source) → IsGrammarText (spelled text tokens) a → IsGrammarText (spelled text tokens) b → a ≡ b
+one_grammar : (text : List ℕ) (tokens : List Token) (a b : Grammar) → IsGrammarText (spelled text tokens) a → IsGrammarText (spelled text tokens) b → a ≡ b
 one_grammar text tokens a b is also = oks (reading_from text at_grammar tokens) (grammar_reading text tokens a is) (grammar_reading text tokens b also)
   where
-    oks : (reading : Result Source (List Token)) → reading ≡ Ok a → reading ≡ Ok b → a ≡ b
+    oks : (reading : Result Grammar (List Token)) → reading ≡ Ok a → reading ≡ Ok b → a ≡ b
     oks reading e f = cc
 
 -- a text's first fault is one
 one_fault : (text : List ℕ) (tokens : List Token) (a b : Fault) → IsFirstFault text tokens a → IsFirstFault text tokens b → a ≡ b
 one_fault text tokens a b is also = is.is ∙ ap (fault_at text) (errs (reading_from text at_grammar tokens) (fault_reading text tokens a is) (fault_reading text tokens b also)) ∙ sym also.is
   where
-    errs : (reading : Result Source (List Token)) → reading ≡ Err is.others → reading ≡ Err also.others → is.others ≡ also.others
+    errs : (reading : Result Grammar (List Token)) → reading ≡ Err is.others → reading ≡ Err also.others → is.others ≡ also.others
     errs reading e f = cc
 
 -- a text's first bad set is one
@@ -315,15 +315,15 @@ one_bad_set text tokens a b is also = is.is ∙ somes (sym (found a is) ∙ foun
     found place first = ap (first_bad_set text) first.parts ∙ first_bad_is text first.before first.set first.behind first.good_before first.is_bad
 
 -- a grammar text has no first fault
-no_fault : (text : List ℕ) (tokens : List Token) (source : Source) (fault : Fault) → IsGrammarText (spelled text tokens) source → ¬ (IsFirstFault text tokens fault)
+no_fault : (text : List ℕ) (tokens : List Token) (source : Grammar) (fault : Fault) → IsGrammarText (spelled text tokens) source → ¬ (IsFirstFault text tokens fault)
 no_fault text tokens source fault is first = ok_err (reading_from text at_grammar tokens) source first.others (grammar_reading text tokens source is) (fault_reading text tokens fault first)
 
 -- the answer that tells a fault
-told : Fault → Result Source ReadFault
+told : Fault → Result Grammar ReadFault
 told fault = Err (Syntax fault.place fault.characters)
 
 -- tokens have one reading
-one_reading_of : (text : List ℕ) (tokens : List Token) (a b : Result Source ReadFault) → IsReadingOf text tokens a → IsReadingOf text tokens b → a ≢ Err NoMemory → b ≢ Err NoMemory → a ≡ b
+one_reading_of : (text : List ℕ) (tokens : List Token) (a b : Result Grammar ReadFault) → IsReadingOf text tokens a → IsReadingOf text tokens b → a ≢ Err NoMemory → b ≢ Err NoMemory → a ≡ b
 unfolding told
 one_reading_of text tokens (Ok x) (Ok y) is also n m = ap (λ s. Ok s) (one_grammar text tokens x y is.0 also.0)
 one_reading_of text tokens (Ok x) (Err (Syntax p c)) is also n m = absurd (no_fault text tokens x _ is.0 also)
@@ -340,16 +340,16 @@ one_reading_of text tokens (Err NoMemory) b is also n m = absurd (n refl)
 one_reading_of text tokens a (Err NoMemory) is also n m = absurd (m refl)
 
 -- what a reading is, by how the bytes are cut
-abbrev ReadingAt : List ℕ → List Token ⊎ Position → Result Source ReadFault → Type 0
+abbrev ReadingAt : List ℕ → List Token ⊎ Position → Result Grammar ReadFault → Type 0
 ReadingAt bytes (inl tokens) result = IsReadingOf bytes tokens result
 ReadingAt bytes (inr at) result = result ≡ told (opened_fault bytes at)
 
 -- what a reading is, of bytes that are a text or not
-abbrev ReadingBy : List ℕ → Result Source ReadFault → Type 0
+abbrev ReadingBy : List ℕ → Result Grammar ReadFault → Type 0
 ReadingBy bytes result = ((at : ℕ) × IsValidUpTo bytes at × (result ≡ Err (NotUtf8 at))) ⊎ ((x : List Token ⊎ Position) × IsCut bytes x × ReadingAt bytes x result)
 
 -- a reading that memory sufficed for
-reading_by : (bytes : List ℕ) (result : Result Source ReadFault) → IsReading bytes result → result ≢ Err NoMemory → ReadingBy bytes result
+reading_by : (bytes : List ℕ) (result : Result Grammar ReadFault) → IsReading bytes result → result ≢ Err NoMemory → ReadingBy bytes result
 unfolding told
 reading_by bytes (Ok source) (tokens, s, is, good) n = inr (inl tokens, s, (is, good))
 reading_by bytes (Err (NotUtf8 at)) valid n = inl (at, valid, refl)
@@ -359,7 +359,7 @@ reading_by bytes (Err (BadSet place)) (tokens, s, first) n = inr (inl tokens, s,
 reading_by bytes (Err NoMemory) h n = absurd (n refl)
 
 -- bytes have one reading
-pub one_reading : (bytes : List ℕ) (a b : Result Source ReadFault) → IsReading bytes a → IsReading bytes b → a ≢ Err NoMemory → b ≢ Err NoMemory → a ≡ b
+pub one_reading : (bytes : List ℕ) (a b : Result Grammar ReadFault) → IsReading bytes a → IsReading bytes b → a ≢ Err NoMemory → b ≢ Err NoMemory → a ≡ b
 one_reading bytes a b is also n m = by_both (reading_by bytes a is n) (reading_by bytes b also m)
   where
     by_cut : (x : List Token ⊎ Position) → ReadingAt bytes x a → ReadingAt bytes x b → a ≡ b
@@ -378,7 +378,7 @@ unfolding told
 told_not fault e = cc
 
 -- the reading of tokens with which a text ends or stops
-reading_of : (text : List ℕ) (tokens : List Token) (reading : Result Source (List Token)) → reading_from text at_grammar tokens ≡ reading → (result : Result Source ReadFault) × IsReadingOf text tokens result × (result ≢ Err NoMemory)
+reading_of : (text : List ℕ) (tokens : List Token) (reading : Result Grammar (List Token)) → reading_from text at_grammar tokens ≡ reading → (result : Result Grammar ReadFault) × IsReadingOf text tokens result × (result ≢ Err NoMemory)
 unfolding told
 reading_of text tokens (Ok source) e = (with_good_sets text source tokens, read_to_end text tokens source e, by_found (first_bad_set text tokens))
   where
@@ -390,19 +390,19 @@ reading_of text tokens (Err others) e = by_found (first_bad_set text stop.before
     stop : IsStop text tokens others
     stop = stop_from text tokens others e
 
-    by_found : (o : Option Place) → first_bad_set text stop.before ≡ o → (result : Result Source ReadFault) × IsReadingOf text tokens result × (result ≢ Err NoMemory)
+    by_found : (o : Option Place) → first_bad_set text stop.before ≡ o → (result : Result Grammar ReadFault) × IsReadingOf text tokens result × (result ≢ Err NoMemory)
     by_found None found = (told (fault_at text others), fault_first text tokens others stop found, told_not (fault_at text others))
     by_found (Some place) found = (Err (BadSet place), subst (λ l. IsFirstBadSet text l place) (sym stop.parts) (bad_begun text stop.before others place stop.begins found), λ e. cc)
 
 -- bytes have a reading
-pub some_reading : (bytes : List ℕ) → (result : Result Source ReadFault) × IsReading bytes result × (result ≢ Err NoMemory)
+pub some_reading : (bytes : List ℕ) → (result : Result Grammar ReadFault) × IsReading bytes result × (result ≢ Err NoMemory)
 unfolding told
 some_reading bytes = by_utf8 (utf8_or_not bytes)
   where
-    by_cut : (x : List Token ⊎ Position) → IsCut bytes x → (result : Result Source ReadFault) × IsReading bytes result × (result ≢ Err NoMemory)
+    by_cut : (x : List Token ⊎ Position) → IsCut bytes x → (result : Result Grammar ReadFault) × IsReading bytes result × (result ≢ Err NoMemory)
     by_cut (inl tokens) s = let r = reading_of bytes tokens (reading_from bytes at_grammar tokens) refl in (r.0, IsReading-from bytes tokens r.0 s r.1, r.2)
     by_cut (inr opened) s = (told (opened_fault bytes opened), inl (opened, s, refl), told_not (opened_fault bytes opened))
 
-    by_utf8 : IsUtf8 bytes ⊎ ((at : ℕ) × IsValidUpTo bytes at) → (result : Result Source ReadFault) × IsReading bytes result × (result ≢ Err NoMemory)
+    by_utf8 : IsUtf8 bytes ⊎ ((at : ℕ) × IsValidUpTo bytes at) → (result : Result Grammar ReadFault) × IsReading bytes result × (result ≢ Err NoMemory)
     by_utf8 (inl utf8) = let cut = some_cut bytes utf8 in by_cut cut.0 cut.1
     by_utf8 (inr (at, valid)) = (Err (NotUtf8 at), valid, λ e. cc)

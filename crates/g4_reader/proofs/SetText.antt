@@ -20,7 +20,7 @@ use Rattle.g4_chars.specs.declared.part.Part.TheVariants.{Span, Class}
 use Rattle.g4_chars.specs.declared.range.Range.{Range as CharsRange}
 use Rattle.g4_chars.proofs.Grammar.{items_are, bad_is, parts_are}
 use Rattle.g4_chars.proofs.Reading.{items_skip}
-use Rattle.g4_grammar.specs.declared.source.Range.{Range}
+use Rattle.g4_grammar.specs.declared.grammar.Range.{Range}
 use Rattle.g4_reader.specs.Members.{holds, holds_in, ranges_in, unless_empty, set_of_parts, set_of_items, set_of, ranges_of}
 use Rattle.g4_reader.specs.SetText.{in_grammar, IsSet, IsBad}
 use Rattle.g4_reader.proofs.Ranges.{IsOfScalars, one_canonical, ranges_rise, ranges_have}

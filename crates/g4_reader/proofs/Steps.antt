@@ -5,8 +5,8 @@ use Rattle.std.proofs.lemmas.List.{drop_all}
 use Rattle.g4_tokens.specs.declared.token.Token.{Token}
 use Rattle.g4_tokens.specs.declared.token.Kind.{Kind}
 use Rattle.g4_tokens.specs.declared.token.Kind.TheVariants as kinds
-use Rattle.g4_grammar.specs.declared.source.Source.{Source}
-use Rattle.g4_grammar.specs.declared.source.Atom.{Atom}
+use Rattle.g4_grammar.specs.declared.grammar.Grammar.{Grammar}
+use Rattle.g4_grammar.specs.declared.grammar.Atom.{Atom}
 use Rattle.g4_grammar.specs.declared.element.Repeat.{Repeat}
 use Rattle.g4_grammar.specs.declared.element.Repeat.TheVariants.{Once, Star, Plus}
 use Rattle.g4_grammar.specs.Elements.{Element}
@@ -85,7 +85,7 @@ within_from-passes test (t ∷ ts) zero e = omega arith
 within_from-passes test (t ∷ ts) (suc i) e = omega (arith, within_from-passes test ts i e)
 
 -- a reading that is another stops as that does
-pub stops_alike : (tokens : List Token) (reading other : Result Source (List Token)) (stop : Stop) → reading ≡ other → StopsWith tokens other stop → StopsWith tokens reading stop
+pub stops_alike : (tokens : List Token) (reading other : Result Grammar (List Token)) (stop : Stop) → reading ≡ other → StopsWith tokens other stop → StopsWith tokens reading stop
 stops_alike tokens reading other (stops.At index) e is = e ∙ is
 stops_alike tokens reading other stops.NoMemory e is = tt
 
@@ -210,25 +210,25 @@ name_none text tokens i is = read_stuck text _ tokens i (there (slice_get tokens
     there (Some t) is = by_kind t.kind (bytes_of text t) is
 
 -- at the end of the text the rules are those read
-pub rules_end : (text : List ℕ) (source : Source) (tokens : List Token) (i : ℕ) → length tokens ≤ i → reading_from text (at_rule source) (drop i tokens) ≡ Ok source
+pub rules_end : (text : List ℕ) (source : Grammar) (tokens : List Token) (i : ℕ) → length tokens ≤ i → reading_from text (at_rule source) (drop i tokens) ≡ Ok source
 rules_end text source tokens i h = rw (drop_all i tokens h) (reading_from-end text (at_rule source))
 
 -- the name of a parser rule is read
-pub lower_next : (text : List ℕ) (source : Source) (tokens : List Token) (i : ℕ) (t : Token) → slice_get tokens i ≡ Some t → kinds.Lower ≡ t.kind → reading_from text (at_rule source) (drop i tokens) ≡ reading_from text (at_colon Parser source (bytes_of text t)) (drop (i + 1) tokens)
+pub lower_next : (text : List ℕ) (source : Grammar) (tokens : List Token) (i : ℕ) (t : Token) → slice_get tokens i ≡ Some t → kinds.Lower ≡ t.kind → reading_from text (at_rule source) (drop i tokens) ≡ reading_from text (at_colon Parser source (bytes_of text t)) (drop (i + 1) tokens)
 lower_next text source tokens i t is k = rw add-one (read_on text _ _ tokens i (rw is (there t.kind k)))
   where
     there : (kind : Kind) → kinds.Lower ≡ kind → next_at_rule source (bytes_of text t) kind ≡ Some (at_colon Parser source (bytes_of text t))
     there kind e = rw (← e) refl
 
 -- the name of a lexer rule is read
-pub upper_next : (text : List ℕ) (source : Source) (tokens : List Token) (i : ℕ) (t : Token) → slice_get tokens i ≡ Some t → kinds.Upper ≡ t.kind → reading_from text (at_rule source) (drop i tokens) ≡ reading_from text (at_colon Lexer source (bytes_of text t)) (drop (i + 1) tokens)
+pub upper_next : (text : List ℕ) (source : Grammar) (tokens : List Token) (i : ℕ) (t : Token) → slice_get tokens i ≡ Some t → kinds.Upper ≡ t.kind → reading_from text (at_rule source) (drop i tokens) ≡ reading_from text (at_colon Lexer source (bytes_of text t)) (drop (i + 1) tokens)
 upper_next text source tokens i t is k = rw add-one (read_on text _ _ tokens i (rw is (there t.kind k)))
   where
     there : (kind : Kind) → kinds.Upper ≡ kind → next_at_rule source (bytes_of text t) kind ≡ Some (at_colon Lexer source (bytes_of text t))
     there kind e = rw (← e) refl
 
 -- where no name stands, no rule begins
-pub rule_stuck : (text : List ℕ) (source : Source) (tokens : List Token) (i : ℕ) (t : Token) → slice_get tokens i ≡ Some t → (t.kind ≡ kinds.Lower → ⊥) → (t.kind ≡ kinds.Upper → ⊥) → reading_from text (at_rule source) (drop i tokens) ≡ Err (drop i tokens)
+pub rule_stuck : (text : List ℕ) (source : Grammar) (tokens : List Token) (i : ℕ) (t : Token) → slice_get tokens i ≡ Some t → (t.kind ≡ kinds.Lower → ⊥) → (t.kind ≡ kinds.Upper → ⊥) → reading_from text (at_rule source) (drop i tokens) ≡ Err (drop i tokens)
 rule_stuck text source [] i t is no_lower no_upper = absurd (cc)
 rule_stuck text source (u ∷ us) (suc i) t is no_lower no_upper = rule_stuck text source us i t is no_lower no_upper
 rule_stuck text source (u ∷ us) zero t is no_lower no_upper =

@@ -5,15 +5,15 @@ use Rattle.g4_tokens.specs.Spelling.{literal_spelling}
 use Rattle.g4_tokens.specs.declared.token.Token.{Token}
 use Rattle.g4_tokens.specs.declared.token.Kind.{Kind}
 use Rattle.g4_tokens.specs.declared.token.Kind.TheVariants as kinds
-use Rattle.g4_grammar.specs.declared.source.Source.{Source}
-use Rattle.g4_grammar.specs.declared.source.Rule.{Rule}
-use Rattle.g4_grammar.specs.declared.source.Rule.TheVariants.{Parser, Lexer}
-use Rattle.g4_grammar.specs.declared.source.ParserRule.{ParserRule}
-use Rattle.g4_grammar.specs.declared.source.LexerRule.{LexerRule}
-use Rattle.g4_grammar.specs.declared.source.LexerAlternative.{LexerAlternative}
-use Rattle.g4_grammar.specs.declared.source.Literal.{Literal}
-use Rattle.g4_grammar.specs.declared.source.Atom.{Atom}
-use Rattle.g4_grammar.specs.declared.source.Atom.TheVariants as atoms
+use Rattle.g4_grammar.specs.declared.grammar.Grammar.{Grammar}
+use Rattle.g4_grammar.specs.declared.grammar.Rule.{Rule}
+use Rattle.g4_grammar.specs.declared.grammar.Rule.TheVariants.{Parser, Lexer}
+use Rattle.g4_grammar.specs.declared.grammar.ParserRule.{ParserRule}
+use Rattle.g4_grammar.specs.declared.grammar.LexerRule.{LexerRule}
+use Rattle.g4_grammar.specs.declared.grammar.LexerAlternative.{LexerAlternative}
+use Rattle.g4_grammar.specs.declared.grammar.Literal.{Literal}
+use Rattle.g4_grammar.specs.declared.grammar.Atom.{Atom}
+use Rattle.g4_grammar.specs.declared.grammar.Atom.TheVariants as atoms
 use Rattle.g4_grammar.specs.declared.element.Repeat.{Repeat}
 use Rattle.g4_grammar.specs.declared.element.Repeat.TheVariants.{Once, Star, Plus}
 use Rattle.g4_grammar.specs.Elements.{Element, atom, Elements, empty, then, Alternatives, or, only, either}
@@ -146,7 +146,7 @@ IsRule word (Parser rule) = IsParserRule word rule
 IsRule word (Lexer rule) = IsLexerRule word rule
 
 -- a grammar text: `grammar`, a name of either case, `;` and rules
-pub record IsGrammarText (tokens : List Spelled) (source : Source) : Type 0 where
+pub record IsGrammarText (tokens : List Spelled) (source : Grammar) : Type 0 where
   pub keyword : Spelled
   pub head : Spelled
   pub close : Spelled
@@ -160,4 +160,4 @@ pub record IsGrammarText (tokens : List Spelled) (source : Source) : Type 0 wher
 
 -- some grammar text begins with these tokens
 abbrev pub Begins : List Spelled → Type 0
-Begins tokens = (more : List Spelled) × (source : Source) × IsGrammarText (tokens ++ more) source
+Begins tokens = (more : List Spelled) × (source : Grammar) × IsGrammarText (tokens ++ more) source

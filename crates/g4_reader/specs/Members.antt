@@ -8,7 +8,7 @@ use Rattle.g4_chars.specs.declared.item.Item.{Item}
 use Rattle.g4_chars.specs.declared.part.Part.{Part}
 use Rattle.g4_chars.specs.declared.part.Part.TheVariants as sets
 use Rattle.g4_chars.specs.declared.range.Range.{Range as Span}
-use Rattle.g4_grammar.specs.declared.source.Range.{Range}
+use Rattle.g4_grammar.specs.declared.grammar.Range.{Range}
 use Rattle.g4_reader.specs.SetText.{in_grammar}
 
 -- whether the character is in the part

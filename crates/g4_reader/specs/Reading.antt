@@ -7,7 +7,7 @@ use Rattle.g4_tokens.specs.declared.position.Position.{Position}
 use Rattle.g4_tokens.specs.declared.token.Token.{Token}
 use Rattle.g4_tokens.specs.declared.token.Kind.TheVariants.{Set}
 use Rattle.g4_tokens.specs.Answers.{HasTokens, HasFault, unmarked}
-use Rattle.g4_grammar.specs.declared.source.Source.{Source}
+use Rattle.g4_grammar.specs.declared.grammar.Grammar.{Grammar}
 use Rattle.g4_reader.specs.GrammarText.{Spelled, IsGrammarText, Begins, spelled, characters_of}
 use Rattle.g4_reader.specs.SetText.{content, IsBad}
 use Rattle.g4_reader.specs.declared.reader.ReadFault.{ReadFault}
@@ -33,7 +33,7 @@ opened_fault text opened = record { place = opened.place; characters = take 1 (d
 
 -- no grammar text goes on behind the first tokens with the first of the others, or, there being no others, the tokens are none
 abbrev pub Ends : List Spelled → List Spelled → Type 0
-Ends before [] = (source : Source) → ¬ (IsGrammarText before source)
+Ends before [] = (source : Grammar) → ¬ (IsGrammarText before source)
 Ends before (token ∷ _) = ¬ (Begins (before ++ token ∷ []))
 
 -- the token is a bad set
@@ -67,7 +67,7 @@ pub record IsFirstFault (text : List ℕ) (tokens : List Token) (fault : Fault) 
   pub is : fault ≡ fault_at text others
 
 -- the text's tokens are a grammar text, which is this grammar, and no set of them is bad
-abbrev pub IsGrammar : List ℕ → Source → Type 0
+abbrev pub IsGrammar : List ℕ → Grammar → Type 0
 IsGrammar bytes source = (tokens : List Token) × HasTokens bytes tokens × IsGrammarText (spelled bytes tokens) source × HasNoBadSet bytes tokens
 
 -- the fault of the text that has no tokens, or the first syntax fault of its tokens
@@ -76,7 +76,7 @@ IsFaultOf bytes fault = ((opened : Position) × HasFault bytes opened × (fault 
 
 -- the call answers with the grammar that the bytes are, or tells how far they are a text where they are none, or tells the
 -- text's first fault or bad set, whichever stands first, unless memory runs out
-abbrev pub IsReading : List ℕ → Result Source ReadFault → Type 0
+abbrev pub IsReading : List ℕ → Result Grammar ReadFault → Type 0
 IsReading bytes (Ok source) = IsGrammar bytes source
 IsReading bytes (Err (NotUtf8 at)) = IsValidUpTo bytes at
 IsReading bytes (Err (Syntax place characters)) = IsFaultOf bytes (record { place = place; characters = characters })

@@ -3,7 +3,7 @@ use Rattle.std.specs.Prelude.{◌≡◌, ℕ, ◌-◌, ◌⊎◌, List, [], leng
 use Rattle.g4_chars.specs.SetText.{Spells, IsFault}
 use Rattle.g4_chars.specs.declared.range.Range.{Range as Span}
 use Rattle.g4_chars.specs.declared.set_text.SetFault.TheVariants.{BadEscape, BadSet}
-use Rattle.g4_grammar.specs.declared.source.Range.{Range}
+use Rattle.g4_grammar.specs.declared.grammar.Range.{Range}
 
 -- the characters between the brackets of a set
 abbrev pub content : List ℕ → List ℕ

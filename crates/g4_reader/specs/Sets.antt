@@ -5,7 +5,7 @@ use Rattle.g4_base.specs.declared.place.Place.{Place}
 use Rattle.g4_tokens.specs.declared.token.Token.{Token}
 use Rattle.g4_tokens.specs.declared.token.Kind.{Kind}
 use Rattle.g4_tokens.specs.declared.token.Kind.TheVariants.{Set}
-use Rattle.g4_grammar.specs.declared.source.Source.{Source}
+use Rattle.g4_grammar.specs.declared.grammar.Grammar.{Grammar}
 use Rattle.g4_reader.specs.GrammarText.{characters_of}
 use Rattle.g4_reader.specs.Members.{set_of}
 use Rattle.g4_reader.specs.SetText.{content}
@@ -26,10 +26,10 @@ abbrev pub first_bad_set : List ℕ → List Token → Option Place
 first_bad_set text tokens = option_map (λ token. token.place) (find (is_bad_set text) tokens)
 
 -- the grammar, or the bad set, if there is one
-abbrev pub good_or_bad : Source → Option Place → Result Source ReadFault
+abbrev pub good_or_bad : Grammar → Option Place → Result Grammar ReadFault
 good_or_bad source None = Ok source
 good_or_bad source (Some place) = Err (BadSet place)
 
 -- the grammar, where none of the tokens is a bad set, and otherwise the first of those
-abbrev pub with_good_sets : List ℕ → Source → List Token → Result Source ReadFault
+abbrev pub with_good_sets : List ℕ → Grammar → List Token → Result Grammar ReadFault
 with_good_sets text source tokens = good_or_bad source (first_bad_set text tokens)

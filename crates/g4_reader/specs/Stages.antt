@@ -7,14 +7,14 @@ use Rattle.g4_tokens.specs.Spelling.{literal_spelling}
 use Rattle.g4_tokens.specs.declared.token.Token.{Token}
 use Rattle.g4_tokens.specs.declared.token.Kind.{Kind}
 use Rattle.g4_tokens.specs.declared.token.Kind.TheVariants as kinds
-use Rattle.g4_grammar.specs.declared.source.Source.{Source}
-use Rattle.g4_grammar.specs.declared.source.Rule.{Rule}
-use Rattle.g4_grammar.specs.declared.source.Rule.TheVariants as rules
-use Rattle.g4_grammar.specs.declared.source.ParserRule.{ParserRule}
-use Rattle.g4_grammar.specs.declared.source.LexerRule.{LexerRule}
-use Rattle.g4_grammar.specs.declared.source.LexerAlternative.{LexerAlternative}
-use Rattle.g4_grammar.specs.declared.source.Atom.{Atom}
-use Rattle.g4_grammar.specs.declared.source.Atom.TheVariants as atoms
+use Rattle.g4_grammar.specs.declared.grammar.Grammar.{Grammar}
+use Rattle.g4_grammar.specs.declared.grammar.Rule.{Rule}
+use Rattle.g4_grammar.specs.declared.grammar.Rule.TheVariants as rules
+use Rattle.g4_grammar.specs.declared.grammar.ParserRule.{ParserRule}
+use Rattle.g4_grammar.specs.declared.grammar.LexerRule.{LexerRule}
+use Rattle.g4_grammar.specs.declared.grammar.LexerAlternative.{LexerAlternative}
+use Rattle.g4_grammar.specs.declared.grammar.Atom.{Atom}
+use Rattle.g4_grammar.specs.declared.grammar.Atom.TheVariants as atoms
 use Rattle.g4_grammar.specs.declared.element.Element.{Element as Node}
 use Rattle.g4_grammar.specs.declared.element.Alternative.{Alternative as Side}
 use Rattle.g4_grammar.specs.declared.element.Repeat.{Repeat}
@@ -35,8 +35,8 @@ use Rattle.g4_reader.specs.declared.stop.Stop.TheVariants as stops
 -- what stands around an alternative: a rule of this name behind a grammar, with the alternatives before; or brackets, with
 -- what stands around them, the elements before them and the alternatives in them
 pub data Around : Type 0 where
-  in_parser_rule : Source → List ℕ → List (Elements Atom) → Around
-  in_lexer_rule : Source → List ℕ → List LexerAlternative → Around
+  in_parser_rule : Grammar → List ℕ → List (Elements Atom) → Around
+  in_lexer_rule : Grammar → List ℕ → List LexerAlternative → Around
   in_brackets : Around → List (Element Atom) → List (Elements Atom) → Around
 
 -- what `*` or `+` may stand behind: an atom, or alternatives in brackets
@@ -50,8 +50,8 @@ pub data Stage : Type 0 where
   at_name : Stage
   at_name_end : List ℕ → Stage
   -- a rule, or the end of the text
-  at_rule : Source → Stage
-  at_colon : RuleKind → Source → List ℕ → Stage
+  at_rule : Grammar → Stage
+  at_colon : RuleKind → Grammar → List ℕ → Stage
   -- an element behind these, or what stands behind an alternative
   at_element : RuleKind → Around → List (Element Atom) → Stage
   -- `*` or `+`, or what stands behind an element
@@ -140,11 +140,11 @@ as_often (lone a) Plus = repeated Plus (only (in_order (atom a ∷ [])))
 as_often (bracketed xs) repeat = repeated repeat xs
 
 -- the grammar with one more rule
-abbrev pub with_rule : Source → Rule → Source
+abbrev pub with_rule : Grammar → Rule → Grammar
 with_rule source rule = record { name = source.name; rules = source.rules ++ rule ∷ [] }
 
 -- what stands around the first alternative of a rule
-abbrev pub in_rule : RuleKind → Source → List ℕ → Around
+abbrev pub in_rule : RuleKind → Grammar → List ℕ → Around
 in_rule Parser source name = in_parser_rule source name []
 in_rule Lexer source name = in_lexer_rule source name []
 
@@ -175,7 +175,7 @@ abbrev pub if_so : Bool → Stage → Option Stage
 if_so test stage = if test then Some stage else None
 
 -- the stage behind a token where a rule may begin
-abbrev pub next_at_rule : Source → List ℕ → Kind → Option Stage
+abbrev pub next_at_rule : Grammar → List ℕ → Kind → Option Stage
 next_at_rule source bytes kind = if is_lower kind then Some (at_colon Parser source bytes) else if_so (is_upper kind) (at_colon Lexer source bytes)
 
 -- the stage behind a token where `|` or what closes the alternatives comes
@@ -212,17 +212,17 @@ next (at_bar rule around) token = next_at_bar rule around token.kind
 next (at_close rule around) token = if_so (closes around token.kind) (behind rule around)
 
 -- the grammar, where the text may end
-abbrev pub grammar_at : Stage → Option Source
+abbrev pub grammar_at : Stage → Option Grammar
 grammar_at (at_rule source) = Some source
 grammar_at _ = None
 
 -- the grammar, or the tokens at which none goes on
-abbrev pub result_of : Option Source → List Token → Result Source (List Token)
+abbrev pub result_of : Option Grammar → List Token → Result Grammar (List Token)
 result_of (Some source) others = Ok source
 result_of None others = Err others
 
 -- what reading these tokens of the text gives from the stage on: the grammar, or the tokens at which none goes on
-unfoldable pub reading_from : List ℕ → Stage → List Token → Result Source (List Token)
+unfoldable pub reading_from : List ℕ → Stage → List Token → Result Grammar (List Token)
 reading_from text stage [] = result_of (grammar_at stage) []
 reading_from text stage (token ∷ others) =
     elim (next stage (spelled_token text token)) [ None ↦ Err (token ∷ others) | Some later ↦ reading_from text later others ]
@@ -241,13 +241,13 @@ IsFirstOf text (Some place) others fault = fault ≡ faults.BadSet place
 IsFirstOf text None others fault = IsFault (fault_at text others) fault
 
 -- the call gives this, unless memory runs out
-abbrev pub IsGoodOrBad : Result Source ReadFault → Result Source ReadFault → Type 0
+abbrev pub IsGoodOrBad : Result Grammar ReadFault → Result Grammar ReadFault → Type 0
 IsGoodOrBad given (Err faults.NoMemory) = Unit {0}
 IsGoodOrBad given result = result ≡ given
 
 -- the call answers with the grammar that the tokens of the text are, or with their first fault or bad set, whichever stands
 -- first, unless memory runs out
-abbrev pub IsReadingOf : List ℕ → List Token → Result Source ReadFault → Type 0
+abbrev pub IsReadingOf : List ℕ → List Token → Result Grammar ReadFault → Type 0
 IsReadingOf text tokens (Ok source) = IsGrammarText (spelled text tokens) source × HasNoBadSet text tokens
 IsReadingOf text tokens (Err (faults.Syntax place characters)) = IsFirstFault text tokens (record { place = place; characters = characters })
 IsReadingOf text tokens (Err (faults.BadSet place)) = IsFirstBadSet text tokens place
@@ -255,12 +255,12 @@ IsReadingOf text tokens (Err (faults.NotUtf8 at)) = ⊥
 IsReadingOf text tokens (Err faults.NoMemory) = Unit {0}
 
 -- the reading of the tokens stops at the call's index, unless memory runs out
-abbrev pub StopsWith : List Token → Result Source (List Token) → Stop → Type 0
+abbrev pub StopsWith : List Token → Result Grammar (List Token) → Stop → Type 0
 StopsWith tokens reading (stops.At index) = reading ≡ Err (drop index tokens)
 StopsWith tokens reading stops.NoMemory = Unit {0}
 
 -- the call reads the tokens to this grammar or stops where the reading does, unless memory runs out
-abbrev pub GivesReading : List Token → Result Source (List Token) → Result Source Stop → Type 0
+abbrev pub GivesReading : List Token → Result Grammar (List Token) → Result Grammar Stop → Type 0
 GivesReading tokens reading (Ok source) = reading ≡ Ok source
 GivesReading tokens reading (Err stop) = StopsWith tokens reading stop
 
@@ -342,38 +342,38 @@ ReadsAlternatives rule text tokens at result =
 -- the call reads the alternatives of a parser rule
 abbrev pub ReadsParserAlternatives : List ℕ → List Token → ℕ → Result (List (Elements Atom) × ℕ) Stop → Type 0
 ReadsParserAlternatives text tokens at result =
-    (source : Source) (name : List ℕ) →
+    (source : Grammar) (name : List ℕ) →
     Reads text tokens at (at_element Parser (in_parser_rule source name []) []) (λ xs. at_close Parser (in_parser_rule source name xs)) result
 
 -- the call reads a parser rule of this name from its `:` on
 abbrev pub ReadsParserRule : List ℕ → List Token → ℕ → List ℕ → Result (ParserRule × ℕ) Stop → Type 0
-ReadsParserRule text tokens at name result = (source : Source) → Reads text tokens at (at_colon Parser source name) (λ rule. at_rule (with_rule source (rules.Parser rule))) result
+ReadsParserRule text tokens at name result = (source : Grammar) → Reads text tokens at (at_colon Parser source name) (λ rule. at_rule (with_rule source (rules.Parser rule))) result
 
 -- the call reads `-> skip` or nothing behind the elements of an alternative
 abbrev pub ReadsCommand : List ℕ → List Token → ℕ → Result (Bool × ℕ) Stop → Type 0
 ReadsCommand text tokens at result =
-    (source : Source) (name : List ℕ) (before : List LexerAlternative) (elements : List (Element Atom)) →
+    (source : Grammar) (name : List ℕ) (before : List LexerAlternative) (elements : List (Element Atom)) →
     Reads text tokens at (at_command Lexer (in_lexer_rule source name before) elements) (λ skip. at_bar Lexer (with_alternative (in_lexer_rule source name before) elements skip)) result
 
 -- the call reads an alternative of a lexer rule
 abbrev pub ReadsLexerAlternative : List ℕ → List Token → ℕ → Result (LexerAlternative × ℕ) Stop → Type 0
 ReadsLexerAlternative text tokens at result =
-    (source : Source) (name : List ℕ) (before : List LexerAlternative) →
+    (source : Grammar) (name : List ℕ) (before : List LexerAlternative) →
     Reads text tokens at (at_element Lexer (in_lexer_rule source name before) []) (λ x. at_bar Lexer (in_lexer_rule source name (before ++ x ∷ []))) result
 
 -- the call reads the alternatives of a lexer rule
 abbrev pub ReadsLexerAlternatives : List ℕ → List Token → ℕ → Result (List LexerAlternative × ℕ) Stop → Type 0
 ReadsLexerAlternatives text tokens at result =
-    (source : Source) (name : List ℕ) →
+    (source : Grammar) (name : List ℕ) →
     Reads text tokens at (at_element Lexer (in_lexer_rule source name []) []) (λ xs. at_close Lexer (in_lexer_rule source name xs)) result
 
 -- the call reads a lexer rule of this name from its `:` on
 abbrev pub ReadsLexerRule : List ℕ → List Token → ℕ → List ℕ → Result (LexerRule × ℕ) Stop → Type 0
-ReadsLexerRule text tokens at name result = (source : Source) → Reads text tokens at (at_colon Lexer source name) (λ rule. at_rule (with_rule source (rules.Lexer rule))) result
+ReadsLexerRule text tokens at name result = (source : Grammar) → Reads text tokens at (at_colon Lexer source name) (λ rule. at_rule (with_rule source (rules.Lexer rule))) result
 
 -- the call reads a rule
 abbrev pub ReadsRule : List ℕ → List Token → ℕ → Result (Rule × ℕ) Stop → Type 0
-ReadsRule text tokens at result = (source : Source) → Reads text tokens at (at_rule source) (λ rule. at_rule (with_rule source rule)) result
+ReadsRule text tokens at result = (source : Grammar) → Reads text tokens at (at_rule source) (λ rule. at_rule (with_rule source rule)) result
 
 -- the call reads the rules up to the end of the text
 abbrev pub ReadsRules : List ℕ → List Token → ℕ → Result (List Rule) Stop → Type 0

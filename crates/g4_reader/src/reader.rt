@@ -14,7 +14,7 @@ use crate::sign::is_semicolon;
 use crate::spelling::{is_word_at, token_at, written};
 use crate::stop::Stop;
 use g4_base::{Place, Sequence, Text};
-use g4_grammar::{Rule, Source};
+use g4_grammar::{Grammar, Rule};
 use g4_tokens::{Kind, ScanFault, Token, scan};
 use std::alloc::{AllocError, Global};
 use std::str;
@@ -126,22 +126,22 @@ fn rules(alloc: Global, text: &str, tokens: &[Token], at: usize) -> Result<Seque
 }
 
 /// The grammar that the tokens are, or the first token with which no grammar text begins.
-fn read_tokens(alloc: Global, text: &str, tokens: &[Token]) -> Result<Source, Stop>
+fn read_tokens(alloc: Global, text: &str, tokens: &[Token]) -> Result<Grammar, Stop>
     requires parts { AreParts text.now tokens.now }
     ensures { GivesReading tokens.now (reading_from text.now at_grammar tokens.now) result }
 {
     let name = grammar_name(alloc, text, tokens)?;
     let rules = rules(alloc, text, tokens, BEFORE_RULES)?;
-    Ok(Source { name, rules })
+    Ok(Grammar { name, rules })
 }
 
 /// The grammar, where none of the tokens is a bad set.
 fn with_good_sets(
     alloc: Global,
     text: &str,
-    source: Source,
+    source: Grammar,
     tokens: &[Token],
-) -> Result<Source, ReadFault>
+) -> Result<Grammar, ReadFault>
     requires parts { AreParts text.now tokens.now }
     ensures { IsGoodOrBad (with_good_sets text.now source tokens.now) result }
 {
@@ -173,7 +173,7 @@ fn first_fault(alloc: Global, text: &str, tokens: &[Token], at: usize) -> ReadFa
 }
 
 /// The grammar that the tokens are, or what stands first of their bad sets and syntax faults.
-fn read_checked(alloc: Global, text: &str, tokens: &[Token]) -> Result<Source, ReadFault>
+fn read_checked(alloc: Global, text: &str, tokens: &[Token]) -> Result<Grammar, ReadFault>
     requires parts { AreParts text.now tokens.now }
     requires fits { length text.now ≤ 16777216 }
     ensures { IsReadingOf text.now tokens.now result }
@@ -186,7 +186,7 @@ fn read_checked(alloc: Global, text: &str, tokens: &[Token]) -> Result<Source, R
 }
 
 /// The grammar that the text is, by its tokens, or their fault.
-fn read_text(alloc: Global, text: &str) -> Result<Source, ReadFault>
+fn read_text(alloc: Global, text: &str) -> Result<Grammar, ReadFault>
     requires fits { length text.now ≤ 16777216 }
     ensures { IsReading text.now result }
 {
@@ -209,7 +209,7 @@ fn read_text(alloc: Global, text: &str) -> Result<Source, ReadFault>
 ///   first token with which no grammar text begins stands before all bad sets.
 /// - `BadSet`: the first set that has no character, a range that runs backward or an unknown property stands before.
 /// - `NoMemory`: memory runs out.
-pub fn read_grammar(alloc: Global, bytes: &[u8]) -> Result<Source, ReadFault>
+pub fn read_grammar(alloc: Global, bytes: &[u8]) -> Result<Grammar, ReadFault>
     requires fits { length bytes.now ≤ 16777216 }
     ensures reading { IsReading bytes.now result }
     ensures full { IfOk result (λ source. HaveAlternatives source.rules) }

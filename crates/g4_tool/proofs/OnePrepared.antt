@@ -1,6 +1,6 @@
 -- A grammar file gives at most one thing.
 use Rattle.std.proofs.Common.{◌≡◌, ℕ, List, Bool, true, false, Ok, Err, ap, sym, ◌∙◌, refl, arith}
-use Rattle.g4_grammar.specs.declared.source.Source.{Source}
+use Rattle.g4_grammar.specs.declared.grammar.Grammar.{Grammar}
 use Rattle.g4_grammar.specs.declared.numbered.Numbered.{Numbered}
 use Rattle.g4_net.specs.declared.network.Network.{Network}
 use Rattle.g4_reader.specs.Reading.{IsReading}
@@ -23,7 +23,7 @@ use Rattle.g4_tool.specs.Preparing.{FromNetwork, FromGrammar, FromSource, IsPrep
 use Rattle.g4_tool.proofs.OneStage.{IsSingle, IsSingleBeside, one_gift, one_then}
 
 -- a source has at most one numbering
-one_numbering : (source : Source) → IsSingleBeside numbering.NoMemory (GivesNumbered source)
+one_numbering : (source : Grammar) → IsSingleBeside numbering.NoMemory (GivesNumbered source)
 one_numbering source (Ok g) (Ok h) p q n m = ap (λ x. Ok x) (p.2 ∙ sym q.2)
 one_numbering source (Ok g) (Err numbering.Rules) p q n m = absurd (omega (arith, p.0, q))
 one_numbering source (Ok g) (Err numbering.Types) p q n m = absurd (omega (arith, p.1, q.1))
@@ -79,7 +79,7 @@ one_from_grammar start grammar =
     one_then (Gives (GivesNetwork grammar start) of_build) (FromNetwork grammar) (one_gift (GivesNetwork grammar start) of_build building.NoMemory refl (one_build grammar start)) (one_from_network grammar)
 
 -- a source gives at most one thing
-one_from_source : (start : List ℕ) (source : Source) → IsSingle (FromSource start source)
+one_from_source : (start : List ℕ) (source : Grammar) → IsSingle (FromSource start source)
 one_from_source start source =
     one_then (Gives (HasOwnNames source.rules) of_name) (λ _. Then (Gives (GivesNumbered source) of_number) (λ grammar. Then (Gives (IsChecked source.rules) of_check) (λ _. FromGrammar start grammar)))
     (one_gift (HasOwnNames source.rules) of_name naming.NoMemory refl (one_naming source.rules))

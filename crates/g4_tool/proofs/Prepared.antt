@@ -1,6 +1,6 @@
 -- The stages of preparing a grammar file, and the exits from them.
 use Rattle.std.proofs.Common.{◌≡◌, ◌≤◌, ◌<◌, ◌↔◌, ◌⊎◌, inl, inr, ℕ, List, Result, Ok, Err, Bool, true, false, IsTrue, subst, refl, arith}
-use Rattle.g4_grammar.specs.declared.source.Source.{Source}
+use Rattle.g4_grammar.specs.declared.grammar.Grammar.{Grammar}
 use Rattle.g4_grammar.specs.declared.numbered.Numbered.{Numbered}
 use Rattle.g4_grammar.specs.declared.numbered.TokenRule.{TokenRule}
 use Rattle.g4_net.specs.declared.network.Network.{Network}
@@ -38,7 +38,7 @@ module _ (bytes start : List ℕ) where
   pub read_exit : (e : ReadFault) → IsReading bytes (Err e) → IsPrepareError bytes start (of_read e)
   read_exit e is = stage_exit (IsReading bytes) of_read (FromSource start) (λ fault h. h) e is
 
-  module _ (source : Source) (read : IsReading bytes (Ok source)) where
+  module _ (source : Grammar) (read : IsReading bytes (Ok source)) where
     after_source : (r : Result Interpreter GrammarFault) → FromSource start source r → IsPrepared bytes start r
     after_source r h = goes_on source r read h
 

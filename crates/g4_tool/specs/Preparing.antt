@@ -1,6 +1,6 @@
 -- What a grammar file is prepared to.
 use Rattle.std.specs.Prelude.{◌≡◌, ◌≤◌, ◌<◌, ℕ, List, Result, Ok, Err}
-use Rattle.g4_grammar.specs.declared.source.Source.{Source}
+use Rattle.g4_grammar.specs.declared.grammar.Grammar.{Grammar}
 use Rattle.g4_grammar.specs.declared.numbered.Numbered.{Numbered}
 use Rattle.g4_net.specs.declared.network.Network.{Network}
 use Rattle.g4_reader.specs.Reading.{IsReading}
@@ -27,7 +27,7 @@ abbrev pub FromGrammar : List ℕ → Numbered → Result Interpreter GrammarFau
 FromGrammar start grammar = Then (Gives (GivesNetwork grammar start) of_build) (FromNetwork grammar)
 
 -- a grammar as written: its names, its numbers, whether it can be run, and then its network
-abbrev pub FromSource : List ℕ → Source → Result Interpreter GrammarFault → Type 0
+abbrev pub FromSource : List ℕ → Grammar → Result Interpreter GrammarFault → Type 0
 FromSource start source =
     Then (Gives (HasOwnNames source.rules) of_name) (λ _. Then (Gives (GivesNumbered source) of_number) (λ grammar. Then (Gives (IsChecked source.rules) of_check) (λ _. FromGrammar start grammar)))
 

@@ -5,11 +5,11 @@ use Rattle.g4_grammar.specs.Derives.{Derives, an_atom, a_call, a_block, left_out
 use Rattle.g4_grammar.specs.Elements.{Element, atom, call, block, optional, star, plus, Elements, empty, then, Alternatives, none, or, either, one_of, over, in_order_over, either_over}
 use Rattle.g4_grammar.specs.Loops.{HasEmptyLoop, OneHasEmptyLoop, SomeHasEmptyLoop, AnyHasEmptyLoop, ReadsOneSymbol, HaveNoEmptyLoop, NumberedHaveNoEmptyLoop}
 use Rattle.g4_grammar.specs.Numbering.{parser_rule, numbered_rule, numbered_of, symbol_of, alternatives_of_rule}
-use Rattle.g4_grammar.specs.declared.source.Rule.{Rule}
-use Rattle.g4_grammar.specs.declared.source.Rule.TheVariants.{Parser, Lexer}
-use Rattle.g4_grammar.specs.declared.source.ParserRule.{ParserRule}
-use Rattle.g4_grammar.specs.declared.source.LexerRule.{LexerRule}
-use Rattle.g4_grammar.specs.declared.source.Literal.{Literal}
+use Rattle.g4_grammar.specs.declared.grammar.Rule.{Rule}
+use Rattle.g4_grammar.specs.declared.grammar.Rule.TheVariants.{Parser, Lexer}
+use Rattle.g4_grammar.specs.declared.grammar.ParserRule.{ParserRule}
+use Rattle.g4_grammar.specs.declared.grammar.LexerRule.{LexerRule}
+use Rattle.g4_grammar.specs.declared.grammar.Literal.{Literal}
 use Rattle.g4_grammar.specs.declared.numbered.Numbered.{Numbered}
 use Rattle.g4_vocab.specs.Halves.{AreHalves}
 

@@ -6,12 +6,12 @@ use Rattle.g4_base.specs.Symbols.{eof}
 use Rattle.g4_grammar.specs.Numbering.{symbol_of, numbered_rule, numbered_of, is_known, has_rule, is_whole, rule_type, AreNamed, SpeakOfNamed}
 use Rattle.g4_grammar.specs.declared.numbered.Numbered.{Numbered}
 use Rattle.g4_grammar.specs.declared.numbered.NumberedRule.{NumberedRule}
-use Rattle.g4_grammar.specs.declared.source.Atom.{Atom}
-use Rattle.g4_grammar.specs.declared.source.Atom.TheVariants as kinds
+use Rattle.g4_grammar.specs.declared.grammar.Atom.{Atom}
+use Rattle.g4_grammar.specs.declared.grammar.Atom.TheVariants as kinds
 use Rattle.g4_grammar.specs.Elements.{Element, atom, call, block, optional, star, plus, Elements, empty, then, Alternatives, none, or, atoms, atoms_in_order, atoms_of_either, over, in_order_over, either_over}
-use Rattle.g4_grammar.specs.declared.source.LexerRule.{LexerRule}
-use Rattle.g4_grammar.specs.declared.source.Literal.{Literal}
-use Rattle.g4_grammar.specs.declared.source.ParserRule.{ParserRule}
+use Rattle.g4_grammar.specs.declared.grammar.LexerRule.{LexerRule}
+use Rattle.g4_grammar.specs.declared.grammar.Literal.{Literal}
+use Rattle.g4_grammar.specs.declared.grammar.ParserRule.{ParserRule}
 
 -- a place is at most the length
 position_low : {X : Type 0} (p : X → Bool) (xs : List X) → position_or_len p xs ≤ length xs

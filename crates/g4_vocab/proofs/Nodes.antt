@@ -1,7 +1,7 @@
 -- Elements and alternatives of the code, a step at a time.
 use Rattle.std.proofs.Common.{◌≡◌, ℕ, ◌+◌, ◌<◌, ◌≤◌, List, [], ◌∷◌, ◌++◌, length, map, drop, get_or, true, None, Vec, Global, refl, sym, ap, ◌∙◌, append_assoc}
 use Rattle.std.proofs.lemmas.List.{drop_all, drop_more, map-append, append-nil}
-use Rattle.g4_grammar.specs.declared.source.Atom.{Atom}
+use Rattle.g4_grammar.specs.declared.grammar.Atom.{Atom}
 use Rattle.g4_grammar.specs.declared.element.Repeat.{Repeat}
 use Rattle.g4_grammar.specs.declared.element.Repeat.TheVariants.{Once, Star, Plus}
 use Rattle.g4_grammar.specs.declared.element.Element.{Element as Node}

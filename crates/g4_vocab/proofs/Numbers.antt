@@ -6,14 +6,14 @@ use Rattle.std.proofs.lemmas.Bool.Decides.{nat_tests}
 use Rattle.std.proofs.lemmas.List.{append-nil}
 use Rattle.std.proofs.lemmas.List.Elements.{filter_map-append, filter-append, All-append}
 use Rattle.g4_grammar.specs.Numbering.{parser_rule, lexer_rule, first_appearances, has_key, has_rule, ruleless_literals, ruleless_names, literal_atom, name_atom, is_known, own_literals, other_names, numbered_of, numbered_grammar, greatest_type, numbered_from, literal_rule, token_rule, token_rules, whole_literal, shown_rule}
-use Rattle.g4_grammar.specs.declared.source.Source.{Source}
-use Rattle.g4_grammar.specs.declared.source.Rule.{Rule}
-use Rattle.g4_grammar.specs.declared.source.Rule.TheVariants.{Parser, Lexer}
-use Rattle.g4_grammar.specs.declared.source.ParserRule.{ParserRule}
-use Rattle.g4_grammar.specs.declared.source.LexerRule.{LexerRule}
-use Rattle.g4_grammar.specs.declared.source.Literal.{Literal}
-use Rattle.g4_grammar.specs.declared.source.Atom.{Atom}
-use Rattle.g4_grammar.specs.declared.source.Atom.TheVariants as atoms
+use Rattle.g4_grammar.specs.declared.grammar.Grammar.{Grammar}
+use Rattle.g4_grammar.specs.declared.grammar.Rule.{Rule}
+use Rattle.g4_grammar.specs.declared.grammar.Rule.TheVariants.{Parser, Lexer}
+use Rattle.g4_grammar.specs.declared.grammar.ParserRule.{ParserRule}
+use Rattle.g4_grammar.specs.declared.grammar.LexerRule.{LexerRule}
+use Rattle.g4_grammar.specs.declared.grammar.Literal.{Literal}
+use Rattle.g4_grammar.specs.declared.grammar.Atom.{Atom}
+use Rattle.g4_grammar.specs.declared.grammar.Atom.TheVariants as atoms
 use Rattle.g4_grammar.specs.declared.numbered.Numbered.{Numbered}
 use Rattle.g4_grammar.specs.declared.numbered.TokenRule.{TokenRule}
 use Rattle.g4_vocab.specs.Halves.{AreHalves}
@@ -113,7 +113,7 @@ symbols_below own lexers rules few e =
     (numbered_below literal_rule (λ n x. refl) 4096 1 own (omega arith)) (numbered_below token_rule (λ n x. refl) 4096 (length own + 0 + 1) lexers (omega arith)))
 
 -- the numbered grammar is the source's
-pub numbered_is : (source : Source) (parsers : List ParserRule) (lexers : List LexerRule) (own : List Literal) (others : List (List ℕ)) (grammar : Numbered) → AreHalves source.rules parsers lexers → own ≡ own_literals parsers lexers → others ≡ other_names parsers lexers →
+pub numbered_is : (source : Grammar) (parsers : List ParserRule) (lexers : List LexerRule) (own : List Literal) (others : List (List ℕ)) (grammar : Numbered) → AreHalves source.rules parsers lexers → own ≡ own_literals parsers lexers → others ≡ other_names parsers lexers →
     grammar ≡ numbered_of parsers lexers own others → grammar ≡ numbered_grammar source
 numbered_is source parsers lexers own others grammar h o n g =
     let whole : List ParserRule → List LexerRule → Numbered = λ ps ls. numbered_of ps ls (own_literals ps ls) (other_names ps ls) in
@@ -121,7 +121,7 @@ numbered_is source parsers lexers own others grammar h o n g =
     (ap (λ (ps : List ParserRule). whole ps lexers) h.parsers_are ∙ ap (λ (ls : List LexerRule). whole (filter_map parser_rule source.rules) ls) h.lexers_are)))
 
 -- the greatest type is the source's
-pub greatest_is : (source : Source) (parsers : List ParserRule) (lexers : List LexerRule) (own : List Literal) (others : List (List ℕ)) → AreHalves source.rules parsers lexers → own ≡ own_literals parsers lexers → others ≡ other_names parsers lexers →
+pub greatest_is : (source : Grammar) (parsers : List ParserRule) (lexers : List LexerRule) (own : List Literal) (others : List (List ℕ)) → AreHalves source.rules parsers lexers → own ≡ own_literals parsers lexers → others ≡ other_names parsers lexers →
     length own + length lexers + length others ≡ greatest_type source
 greatest_is source parsers lexers own others h o n =
     let whole : List ParserRule → List LexerRule → ℕ = λ ps ls. length (own_literals ps ls) + length ls + length (other_names ps ls) in

@@ -1,7 +1,7 @@
 -- What is told of the names of rules is one answer.
 use Rattle.std.proofs.Common.{◌≡◌, ◌≢◌, ℕ, List, Result, Ok, Err, Some, None, ap, refl}
 use Rattle.std.specs.Prelude.{⊤}
-use Rattle.g4_grammar.specs.declared.source.Rule.{Rule}
+use Rattle.g4_grammar.specs.declared.grammar.Rule.{Rule}
 use Rattle.g4_vocab.specs.Names.{HasOwnNames, name_twice}
 use Rattle.g4_vocab.specs.declared.twice.NameFault.{NameFault}
 use Rattle.g4_vocab.specs.declared.twice.NameFault.TheVariants.{RuleTwice, NoMemory}

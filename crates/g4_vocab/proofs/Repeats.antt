@@ -8,7 +8,7 @@ use Rattle.std.specs.List.{list_any}
 use Rattle.std.specs.Str.{bytes_eq}
 use Rattle.std.proofs.lemmas.List.{drop_more, drop_all}
 use Rattle.std.proofs.lemmas.Map.Text.{is_eq-slice_cmp}
-use Rattle.g4_grammar.specs.declared.source.Rule.{Rule}
+use Rattle.g4_grammar.specs.declared.grammar.Rule.{Rule}
 use Rattle.g4_grammar.specs.Rules.{rule_name}
 use Rattle.g4_vocab.specs.Names.{is_name_of, name_twice}
 

@@ -2,9 +2,9 @@
 use Rattle.std.specs.Prelude.{◌≡◌, List}
 use Rattle.std.specs.List.{filter_map}
 use Rattle.g4_grammar.specs.Numbering.{parser_rule, lexer_rule}
-use Rattle.g4_grammar.specs.declared.source.Rule.{Rule}
-use Rattle.g4_grammar.specs.declared.source.ParserRule.{ParserRule}
-use Rattle.g4_grammar.specs.declared.source.LexerRule.{LexerRule}
+use Rattle.g4_grammar.specs.declared.grammar.Rule.{Rule}
+use Rattle.g4_grammar.specs.declared.grammar.ParserRule.{ParserRule}
+use Rattle.g4_grammar.specs.declared.grammar.LexerRule.{LexerRule}
 
 -- these are the parser rules and the lexer rules among the rules, each in order
 pub record AreHalves (rules : List Rule) (parsers : List ParserRule) (lexers : List LexerRule) : Type 0 where

@@ -3,7 +3,7 @@ use Rattle.std.specs.Prelude.{◌≡◌, ℕ, List, [], ◌∷◌, Bool, Option,
 use Rattle.std.specs.List.{list_any}
 use Rattle.std.specs.Str.{bytes_eq}
 use Rattle.g4_grammar.specs.Rules.{rule_name}
-use Rattle.g4_grammar.specs.declared.source.Rule.{Rule}
+use Rattle.g4_grammar.specs.declared.grammar.Rule.{Rule}
 use Rattle.g4_vocab.specs.declared.twice.NameFault.{NameFault}
 use Rattle.g4_vocab.specs.declared.twice.NameFault.TheVariants.{RuleTwice, NoMemory}
 

@@ -1,6 +1,6 @@
 // What holds of all names of rules.
 ghost use Rattle.std.specs.Prelude.{◌≡◌, ◌≢◌, List, Result, ⊤};
-ghost use Rattle.g4_grammar.specs.declared.source.Rule.{Rule};
+ghost use Rattle.g4_grammar.specs.declared.grammar.Rule.{Rule};
 ghost use Rattle.g4_vocab.specs.Names.{HasOwnNames};
 ghost use Rattle.g4_vocab.specs.declared.twice.NameFault.{NameFault};
 ghost use Rattle.g4_vocab.specs.declared.twice.NameFault.TheVariants.{NoMemory};

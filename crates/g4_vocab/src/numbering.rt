@@ -12,7 +12,7 @@ use crate::halves::{Halves, halves_of};
 use crate::symbol::numbered_rules;
 use crate::token_rule::token_rules;
 use g4_base::Text;
-use g4_grammar::{LexerRule, Literal, Numbered, ParserRule, Source};
+use g4_grammar::{Grammar, LexerRule, Literal, Numbered, ParserRule};
 use std::alloc::{AllocError, Global};
 
 /// The most rules that a grammar has, and the most token types.
@@ -99,7 +99,7 @@ fn numbered(
 }
 
 /// The numbered grammar of a source.
-pub fn number(alloc: Global, source: Source) -> Result<Numbered, NumberFault>
+pub fn number(alloc: Global, source: Grammar) -> Result<Numbered, NumberFault>
     ensures numbered { GivesNumbered source result }
     ensures types { IfOk result (λ grammar. All (λ rule. rule.symbol ≤ 4096) grammar.token_rules) }
     ensures named { IfOk result (λ grammar. SpeakOfNamed grammar.rules) }
@@ -109,7 +109,7 @@ pub fn number(alloc: Global, source: Source) -> Result<Numbered, NumberFault>
     if source.rules.len() > MOST {
         return Err(NumberFault::Rules);
     }
-    let Source { rules, .. } = source;
+    let Grammar { rules, .. } = source;
     let halves = halves_of(alloc, rules.into_vec())?;
     let Ruleless { own, others } = find_ruleless(
         alloc,

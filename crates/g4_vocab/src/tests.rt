@@ -2,8 +2,8 @@
 use crate::{NameFault, check_names, number};
 use g4_base::{Sequence, Text};
 use g4_grammar::{
-    Alternative, Atom, Element, Elements, LexerAlternative, LexerRule, Literal, Numbered,
-    ParserRule, Range, Repeat, Rule, Source, TokenRule,
+    Alternative, Atom, Element, Elements, Grammar, LexerAlternative, LexerRule, Literal, Numbered,
+    ParserRule, Range, Repeat, Rule, TokenRule,
 };
 use std::alloc::{AllocError, Global};
 use std::test::Fail;
@@ -57,7 +57,7 @@ fn lexer_rule(alloc: Global, name: &str, atom: Atom, skip: bool) -> Result<Rule,
 }
 
 // grammar H; r : ('a' | FOO)* 'b' | FOO EOF ID ('b' | 'a') ; A : 'a' ; ID : [a-z] -> skip ;
-fn nested(alloc: Global) -> Result<Source, AllocError> {
+fn nested(alloc: Global) -> Result<Grammar, AllocError> {
     let block = either(
         alloc,
         Repeat::Star,
@@ -83,7 +83,7 @@ fn nested(alloc: Global) -> Result<Source, AllocError> {
     let mut rules = vec![in alloc; rule]?;
     rules.push(lexer_rule(alloc, "A", literal(alloc, "a")?, false)?)?;
     rules.push(lexer_rule(alloc, "ID", letters(alloc)?, true)?)?;
-    Ok(Source {
+    Ok(Grammar {
         name: Text::copy_of(alloc, "H")?,
         rules: Sequence::new(rules),
     })
@@ -167,12 +167,12 @@ fn numbers_nested_elements(rt: HostRuntime) -> Result<(), Fail> {
 }
 
 // A grammar whose rules have these names, which are of letters.
-fn named(alloc: Global, names: &str) -> Result<Source, AllocError> {
+fn named(alloc: Global, names: &str) -> Result<Grammar, AllocError> {
     let mut rules = Vec::new(alloc);
     for name in names.split_whitespace() {
         rules.push(lexer_rule(alloc, name, literal(alloc, "a")?, false)?)?;
     }
-    Ok(Source {
+    Ok(Grammar {
         name: Text::copy_of(alloc, "H")?,
         rules: Sequence::new(rules),
     })

@@ -3,7 +3,7 @@ ghost use Rattle.std.specs.Prelude.{◌≡◌, IfOk, option_map};
 ghost use Rattle.g4_vocab.specs.Names.{HasOwnNames, name_twice};
 
 use g4_base::Text;
-use g4_grammar::{Rule, Source};
+use g4_grammar::{Grammar, Rule};
 use std::alloc::{AllocError, Global};
 use std::collections::BTreeSet;
 
@@ -44,7 +44,7 @@ fn name_twice(alloc: Global, rules: &[Rule]) -> Result<Option<&str>, AllocError>
 }
 
 /// Looks for the first rule, in order of the text, whose name a rule behind it has.
-pub fn check_names(alloc: Global, source: &Source) -> Result<(), NameFault>
+pub fn check_names(alloc: Global, source: &Grammar) -> Result<(), NameFault>
     ensures { HasOwnNames source.now.rules result }
 {
     match name_twice(alloc, source.rules.as_slice())? {

@@ -1,5 +1,5 @@
 use Rattle.std.proofs.Common.{List, ◌∙◌, subst, arith}
-use Rattle.g4_grammar.specs.declared.source.Rule.{Rule}
+use Rattle.g4_grammar.specs.declared.grammar.Rule.{Rule}
 use Rattle.g4_checks.specs.Checking.{IsFirstWithEmptyLoop}
 use Rattle.g4_checks.proofs.Rules.{none_more, first_found}
 use Rattle.g4_checks.proofs.checking.check.Goals as goal

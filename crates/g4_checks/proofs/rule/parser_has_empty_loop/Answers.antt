@@ -1,5 +1,5 @@
 use Rattle.std.proofs.Common.{[], List, refl, sym, subst, arith}
-use Rattle.g4_grammar.specs.declared.source.Atom.{Atom}
+use Rattle.g4_grammar.specs.declared.grammar.Atom.{Atom}
 use Rattle.g4_grammar.specs.Elements.{Elements}
 use Rattle.g4_grammar.specs.Loops.{ReadsOneSymbol, OneHasEmptyLoop, AnyHasEmptyLoop}
 use Rattle.g4_checks.proofs.Rules.{any_cons, one_found, one_passed}

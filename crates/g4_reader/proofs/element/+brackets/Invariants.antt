@@ -1,5 +1,5 @@
 use Rattle.std.proofs.Common.{◌+◌, ◌*◌, ◌-◌, ◌≤◌, List, [], length, map}
-use Rattle.g4_grammar.specs.declared.source.Atom.{Atom}
+use Rattle.g4_grammar.specs.declared.grammar.Atom.{Atom}
 use Rattle.g4_grammar.specs.Elements.{Element}
 use Rattle.g4_grammar.specs.Trees.{element_of, alternative_of}
 use Rattle.g4_reader.specs.Stages.{Around, in_brackets, at_element, LeadsTo}

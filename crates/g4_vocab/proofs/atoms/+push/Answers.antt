@@ -1,6 +1,6 @@
 use Rattle.std.proofs.Common.{◌≡◌, ◌++◌, List, [], ◌∷◌, map, sym, ap, ◌∙◌}
 use Rattle.std.proofs.lemmas.List.{map-append}
-use Rattle.g4_grammar.specs.declared.source.Atom.{Atom}
+use Rattle.g4_grammar.specs.declared.grammar.Atom.{Atom}
 use Rattle.g4_grammar.specs.declared.element.Alternative.{Alternative as Side}
 use Rattle.g4_grammar.specs.declared.element.Element.{Element as Node}
 use Rattle.g4_grammar.specs.Elements.{atoms, atoms_of_either, either}

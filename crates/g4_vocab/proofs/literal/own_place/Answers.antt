@@ -4,7 +4,7 @@ use Rattle.std.specs.Option.{unwrap_or}
 use Rattle.std.specs.Str.{bytes_eq}
 use Rattle.std.proofs.lemmas.Iterator.{YieldsList-from_slice}
 use Rattle.std.proofs.lemmas.Iterator.Search.{position_from_yields_List}
-use Rattle.g4_grammar.specs.declared.source.Literal.{Literal}
+use Rattle.g4_grammar.specs.declared.grammar.Literal.{Literal}
 use Rattle.g4_vocab.proofs.Numbers.{unwrap_or-position}
 use Rattle.g4_vocab.proofs.literal.own_place.Goals as goal
 

@@ -1,8 +1,8 @@
 use Rattle.std.proofs.Common.{◌≡◌, ◌≤◌, ◌+◌, ℕ, List, length, ap, arith, rules}
 use Rattle.g4_grammar.specs.Numbering.{other_names, own_literals}
-use Rattle.g4_grammar.specs.declared.source.Literal.{Literal}
-use Rattle.g4_grammar.specs.declared.source.LexerRule.{LexerRule}
-use Rattle.g4_grammar.specs.declared.source.ParserRule.{ParserRule}
+use Rattle.g4_grammar.specs.declared.grammar.Literal.{Literal}
+use Rattle.g4_grammar.specs.declared.grammar.LexerRule.{LexerRule}
+use Rattle.g4_grammar.specs.declared.grammar.ParserRule.{ParserRule}
 use Rattle.g4_grammar.specs.declared.numbered.Numbered.{Numbered}
 use Rattle.g4_vocab.specs.Halves.{AreHalves}
 use Rattle.g4_vocab.proofs.Full.{grammar_full}

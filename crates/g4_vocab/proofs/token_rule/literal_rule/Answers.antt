@@ -1,7 +1,7 @@
 use Rattle.std.proofs.Common.{◌≡◌, List, [], ◌∷◌, ◌++◌, false, ap, ◌∙◌, map}
-use Rattle.g4_grammar.specs.declared.source.Atom.{Atom}
-use Rattle.g4_grammar.specs.declared.source.Atom.TheVariants as kinds
-use Rattle.g4_grammar.specs.declared.source.LexerAlternative.{LexerAlternative}
+use Rattle.g4_grammar.specs.declared.grammar.Atom.{Atom}
+use Rattle.g4_grammar.specs.declared.grammar.Atom.TheVariants as kinds
+use Rattle.g4_grammar.specs.declared.grammar.LexerAlternative.{LexerAlternative}
 use Rattle.g4_grammar.specs.declared.element.Element.{Element as Node}
 use Rattle.g4_grammar.specs.declared.element.Element.TheVariants as nodes
 use Rattle.g4_grammar.specs.Elements.{Element, Elements, atom, empty, then}

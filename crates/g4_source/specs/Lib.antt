@@ -1,0 +1,4 @@
+pub mod Blocks
+pub mod Elements
+pub mod Marks
+pub mod Trees

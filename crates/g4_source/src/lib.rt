@@ -1,0 +1,19 @@
+// Grammars as they are written: all that later stages need of a grammar text, in order of the text.
+#![tactic(auto)]
+
+mod atom;
+mod element;
+mod name;
+mod prequel;
+mod rule;
+mod source;
+
+pub use atom::{Atom, Symbol};
+pub use element::{Alternative, Element, Elements, Item, Label, Repeat, Suffix};
+pub use name::Name;
+pub use prequel::{OptionValue, Prequel, Setting};
+pub use rule::{
+    AlternativeLabel, Argument, Command, LexerAlternative, LexerRule, ParserRule, Rule,
+    RuleAlternative,
+};
+pub use source::{GrammarKind, Mode, Source};

@@ -1,0 +1,13 @@
+pub mod Complete
+pub mod Extends
+pub mod FirstStop
+pub mod Firsts
+pub mod Guarded
+pub mod Local
+pub mod Sampled
+pub mod Samples
+pub mod Texts
+pub mod Total
+pub mod Truths
+pub mod Unique
+pub mod WellFormed

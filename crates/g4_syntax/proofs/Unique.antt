@@ -1,0 +1,72 @@
+-- Some tokens are read in one way, and are not both read and stopped at.
+use Rattle.std.proofs.Common.{◌≡◌, List, ◌∷◌, true, false, refl, sym, ap, ap₂, subst, ◌∙◌}
+use Rattle.g4_syntax.specs.Notation.{Spelled, Terminal, fits, Expression, one}
+use Rattle.g4_syntax.specs.Trees.{Tree, leaf, both, left, right, absent, present, end, more, inner, begins_there, Reads, Stops, at_token, in_first, in_second, in_left, in_right, in_optional, in_turn, in_later_turn, in_part}
+use Rattle.g4_syntax.proofs.Truths.{apart}
+
+-- the same lists have the same first token
+same_first : (t s : Spelled) (ts ss : List Spelled) → t ∷ ts ≡ s ∷ ss → t ≡ s
+same_first t s ts ss is = cc
+
+-- the same lists have the same tokens behind the first
+same_rest : (t s : Spelled) (ts ss : List Spelled) → t ∷ ts ≡ s ∷ ss → ts ≡ ss
+same_rest t s ts ss is = cc
+
+-- from some tokens on an expression is read in one way
+pub one_reading : {x : Expression} (a b : Tree x) (from to other : List Spelled) → Reads a from to → Reads b from other → (a ≡ b) × (to ≡ other)
+one_reading (leaf t) (leaf s) from to other first second =
+    let same : t ∷ to ≡ s ∷ other = sym first.0 ∙ second.0 in
+    (ap leaf (same_first t s to other same), same_rest t s to other same)
+one_reading (both a b) (both c d) from to other first second =
+    let before = one_reading a c from first.0 second.0 first.1 second.1 in
+    let behind = one_reading b d second.0 to other (subst (λ (l : List Spelled). Reads b l to) before.1 first.2) second.2 in
+    (ap₂ both before.0 behind.0, behind.1)
+one_reading (left a) (left b) from to other first second =
+    let inside = one_reading a b from to other first.1 second.1 in
+    (ap left inside.0, inside.1)
+one_reading (left {x} a) (right b) from to other first second = absurd (apart (begins_there x from) first.0 second.0)
+one_reading (right {x} a) (left b) from to other first second = absurd (apart (begins_there x from) second.0 first.0)
+one_reading (right a) (right b) from to other first second =
+    let inside = one_reading a b from to other first.1 second.1 in
+    (ap right inside.0, inside.1)
+one_reading absent absent from to other first second = (refl, sym first.1 ∙ second.1)
+one_reading (absent {x}) (present b) from to other first second = absurd (apart (begins_there x from) second.0 first.0)
+one_reading (present {x} a) absent from to other first second = absurd (apart (begins_there x from) first.0 second.0)
+one_reading (present a) (present b) from to other first second =
+    let inside = one_reading a b from to other first.1 second.1 in
+    (ap present inside.0, inside.1)
+one_reading end end from to other first second = (refl, sym first.1 ∙ second.1)
+one_reading (end {x}) (more b bs) from to other first second = absurd (apart (begins_there x from) second.0 first.0)
+one_reading (more {x} a as_before) end from to other first second = absurd (apart (begins_there x from) first.0 second.0)
+one_reading (more a tail) (more b rest) from to other first second =
+    let before = one_reading a b from first.1 second.1 first.2 second.2 in
+    let behind = one_reading tail rest second.1 to other (subst (λ (l : List Spelled). Reads tail l to) before.1 first.3) second.3 in
+    (ap₂ more before.0 behind.0, behind.1)
+one_reading (inner a) (inner b) from to other first second =
+    let inside = one_reading a b from to other first second in
+    (ap inner inside.0, inside.1)
+
+-- a token that is the terminal is not one where reading it stops
+unfit : (t : Terminal) (from to : List Spelled) (token : Spelled) → from ≡ token ∷ to → fits t token ≡ true → begins_there (one t) from ≡ false → ⊥
+unfit t from to token is fit stops = apart (fits t token) fit (subst (λ (l : List Spelled). begins_there (one t) l ≡ false) is stops)
+
+-- what is read does not stop
+pub never_both : {x : Expression} (from to rest : List Spelled) (a : Tree x) → Reads a from to → Stops x from rest → ⊥
+never_both from to rest (leaf {t} token) reads (at_token _ stops) = unfit t rest to token reads.0 reads.1 stops
+never_both from to rest (both a b) reads (in_first _ _ stop) = never_both from reads.0 rest a reads.1 stop
+never_both from to rest (both a b) reads (in_second _ between _ other read stop) =
+    let same = one_reading other a from between reads.0 read reads.1 in
+    never_both between to rest b (subst (λ (l : List Spelled). Reads b l to) (sym same.1) reads.2) stop
+never_both from to rest (left a) reads (in_left _ _ _ stop) = never_both from to rest a reads.1 stop
+never_both from to rest (right {x} a) reads (in_left _ _ begun _) = apart (begins_there x from) begun reads.0
+never_both from to rest (left {x} a) reads (in_right _ _ begun _) = apart (begins_there x from) reads.0 begun
+never_both from to rest (right a) reads (in_right _ _ _ stop) = never_both from to rest a reads.1 stop
+never_both from to rest (absent {x}) reads (in_optional _ _ begun _) = apart (begins_there x from) begun reads.0
+never_both from to rest (present a) reads (in_optional _ _ _ stop) = never_both from to rest a reads.1 stop
+never_both from to rest (end {x}) reads (in_turn _ _ begun _) = apart (begins_there x from) begun reads.0
+never_both from to rest (more a tail) reads (in_turn _ _ _ stop) = never_both from reads.1 rest a reads.2 stop
+never_both from to rest (end {x}) reads (in_later_turn _ _ _ _ begun _ _) = apart (begins_there x from) begun reads.0
+never_both from to rest (more a tail) reads (in_later_turn _ between _ other _ read stop) =
+    let same = one_reading other a from between reads.1 read reads.2 in
+    never_both between to rest tail (subst (λ (l : List Spelled). Reads tail l to) (sym same.1) reads.3) stop
+never_both from to rest (inner a) reads (in_part _ _ stop) = never_both from to rest a reads stop
