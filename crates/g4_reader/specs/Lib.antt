@@ -1,3 +1,7 @@
-pub mod Answering
-pub mod Bad
+pub mod GrammarText
+pub mod Members
+pub mod Parts
 pub mod Reading
+pub mod SetText
+pub mod Sets
+pub mod Stages

@@ -1,14 +1,18 @@
 // The grammar that a text is.
 #![tactic(auto)]
 
-mod bad;
+mod atom;
+mod element;
 mod fault;
 mod law;
 mod reader;
+mod rule;
+mod set;
+mod sign;
+mod spelling;
+mod stop;
 #[cfg(test)]
 mod tests;
-#[cfg(test)]
-mod text_tests;
 
 pub use law::{one_reading, some_reading};
 pub use reader::{ReadFault, read_grammar};

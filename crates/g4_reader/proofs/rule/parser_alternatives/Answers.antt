@@ -1,0 +1,39 @@
+use Rattle.std.proofs.Common.{◌≡◌, true, refl, sym, ◌∙◌, arith, map, slice_get}
+use Rattle.std.proofs.lemmas.Result.{err_from_is_err_and}
+use Rattle.g4_grammar.specs.Trees.{element_of}
+use Rattle.g4_reader.specs.Stages.{in_parser_rule, is_bar, passes}
+use Rattle.g4_reader.specs.declared.atom.RuleKind.TheVariants.{Parser}
+use Rattle.g4_reader.proofs.Steps.{within_from-passes, stops_alike}
+use Rattle.g4_reader.proofs.Alternatives.{next_alternative, last_alternative}
+use Rattle.g4_reader.proofs.rule.parser_alternatives.Goals as goal
+
+pub returns-in_err-elements-clause-reads : goal.returns-in_err-elements-clause-reads
+returns-in_err-elements-clause-reads c =
+    let p = err_from_is_err_and c.from_residual.result c.from_residual.ensures.1 in
+    rw (p.1, p.2) (λ source name. stops_alike _ _ _ _ (c.loop-alternatives.invariant.2 source name) (c.in_err-elements.ensures.reads (in_parser_rule source name c.loop-alternatives.alternatives.items)))
+
+pub returns-then-not-is_bar-clause-reads : goal.returns-then-not-is_bar-clause-reads
+returns-then-not-is_bar-clause-reads c =
+    λ source name.
+    let around = in_parser_rule source name c.loop-alternatives.alternatives.items in
+    rw (c.new-then-not-is_bar.ensures, c.in_ok-push.ensures.items, c.new.ensures) (c.loop-alternatives.invariant.2 source name
+    ∙ c.in_ok-elements.ensures.reads around
+    ∙ last_alternative c.args.text.now Parser around (map element_of c.in_ok-elements.elements.items) c.args.tokens.now c.in_ok-elements.behind refl (sym c.is_bar.ensures ∙ c.if-not-is_bar.true))
+
+pub loop-alternatives-smaller : goal.loop-alternatives-smaller
+loop-alternatives-smaller c =
+    let within = within_from-passes (λ t. is_bar t.kind) c.args.tokens.now c.in_ok-elements.behind (sym c.is_bar.ensures ∙ c.if-not-is_bar.false) in
+    omega (arith, within, c.in_ok-elements.ensures.within.0)
+
+pub loop-alternatives-preserved : goal.loop-alternatives-preserved
+loop-alternatives-preserved c =
+    let is : passes (λ t. is_bar t.kind) (slice_get c.args.tokens.now c.in_ok-elements.behind) ≡ true = sym c.is_bar.ensures ∙ c.if-not-is_bar.false in
+    let within = within_from-passes (λ t. is_bar t.kind) c.args.tokens.now c.in_ok-elements.behind is in (
+      omega (arith, c.loop-alternatives.invariant.0, c.in_ok-elements.ensures.within.0),
+      within,
+      λ source name.
+          let around = in_parser_rule source name c.loop-alternatives.alternatives.items in
+          rw (c.in_ok-push.ensures.items, c.new.ensures) (c.loop-alternatives.invariant.2 source name
+          ∙ c.in_ok-elements.ensures.reads around
+          ∙ next_alternative c.args.text.now Parser around (map element_of c.in_ok-elements.elements.items) c.args.tokens.now c.in_ok-elements.behind refl is),
+    )
