@@ -1,7 +1,3 @@
-pub mod GrammarText
-pub mod Members
-pub mod Parts
+pub mod Answering
+pub mod Bad
 pub mod Reading
-pub mod SetText
-pub mod Sets
-pub mod Stages

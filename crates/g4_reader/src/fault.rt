@@ -2,14 +2,15 @@
 ghost use Rattle.std.specs.Prelude.{◌≡◌, ◌≤◌, [], IfOk, drop, take, length};
 ghost use Rattle.g4_base.specs.Place.{first_place, place_after};
 ghost use Rattle.g4_tokens.specs.Answers.{unmarked};
-ghost use Rattle.g4_reader.specs.GrammarText.{characters_of};
-ghost use Rattle.g4_reader.specs.Parts.{IsPart, AreParts};
+ghost use Rattle.g4_productions.specs.Texts.{characters_of};
+ghost use Rattle.g4_productions.specs.Parts.{IsPart, AreParts};
 ghost use Rattle.g4_reader.specs.Reading.{end_of, fault_at, opened_fault};
-ghost use Rattle.g4_reader.specs.Stages.{IsFault};
+ghost use Rattle.g4_productions.specs.Steps.{from};
+ghost use Rattle.g4_reader.specs.Answering.{IsFault};
 
 use crate::reader::ReadFault;
-use crate::spelling::{characters, token_at};
 use g4_base::{Place, Sequence};
+use g4_productions::{characters, token_at};
 use g4_tokens::Token;
 use std::alloc::{AllocError, Global};
 
@@ -83,7 +84,7 @@ fn end_fault(alloc: Global, text: &str) -> ReadFault
 pub(crate) fn fault_at(alloc: Global, text: &str, tokens: &[Token], at: usize) -> ReadFault
     requires parts { AreParts text.now tokens.now }
     requires fits { length text.now ≤ 16777216 }
-    ensures { IsFault (fault_at text.now (drop at tokens.now)) result }
+    ensures { IsFault (fault_at text.now (from text.now tokens.now at)) result }
 {
     match token_at(tokens, at) {
         Some(token) => token_fault(alloc, text, &token),

@@ -1,18 +1,14 @@
 // The grammar that a text is.
 #![tactic(auto)]
 
-mod atom;
-mod element;
+mod bad;
 mod fault;
 mod law;
 mod reader;
-mod rule;
-mod set;
-mod sign;
-mod spelling;
-mod stop;
 #[cfg(test)]
 mod tests;
+#[cfg(test)]
+mod text_tests;
 
 pub use law::{one_reading, some_reading};
 pub use reader::{ReadFault, read_grammar};

@@ -1,11 +1,16 @@
 -- A grammar file gives at most one thing.
-use Rattle.std.proofs.Common.{◌≡◌, ℕ, List, Bool, true, false, Ok, Err, ap, sym, ◌∙◌, refl, arith}
+use Rattle.std.proofs.Common.{◌≡◌, ℕ, List, [], ◌∷◌, Bool, true, false, Ok, Err, ap, subst, sym, ◌∙◌, refl, arith}
 use Rattle.g4_grammar.specs.declared.grammar.Grammar.{Grammar}
 use Rattle.g4_grammar.specs.declared.numbered.Numbered.{Numbered}
 use Rattle.g4_net.specs.declared.network.Network.{Network}
+use Rattle.g4_source.specs.declared.source.Source.{Source}
 use Rattle.g4_reader.specs.Reading.{IsReading}
 use Rattle.g4_reader.specs.declared.reader.ReadFault.TheVariants as reading
-use Rattle.g4_reader.proofs.Readings.{one_reading}
+use Rattle.g4_reader.proofs.OneReading.{one_reading}
+use Rattle.g4_narrow.specs.declared.fault.NarrowFault.TheVariants as narrowing
+use Rattle.g4_narrow.specs.Forms.{Form, forms_not_run}
+use Rattle.g4_narrow.specs.Narrowing.{IsNarrowing, TellsFirst}
+use Rattle.g4_narrow.specs.declared.fault.NarrowFault.{NarrowFault}
 use Rattle.g4_vocab.specs.Names.{HasOwnNames}
 use Rattle.g4_vocab.specs.Answers.{GivesNumbered}
 use Rattle.g4_vocab.specs.declared.twice.NameFault.TheVariants as naming
@@ -17,10 +22,30 @@ use Rattle.g4_checks.proofs.OneCheck.{one_check}
 use Rattle.g4_build.specs.Answers.{GivesNetwork}
 use Rattle.g4_build.specs.declared.builder.BuildFault.TheVariants as building
 use Rattle.g4_build.proofs.OneNetwork.{one_network}
-use Rattle.g4_tool.specs.PrepareErrors.{of_read, of_name, of_number, of_check, of_build}
+use Rattle.g4_tool.specs.PrepareErrors.{of_read, of_narrow, of_name, of_number, of_check, of_build}
 use Rattle.g4_tool.specs.Stages.{Gives, Then}
-use Rattle.g4_tool.specs.Preparing.{FromNetwork, FromGrammar, FromSource, IsPrepared}
+use Rattle.g4_tool.specs.Preparing.{FromNetwork, FromGrammar, FromRun, FromSource, IsPrepared}
 use Rattle.g4_tool.proofs.OneStage.{IsSingle, IsSingleBeside, one_gift, one_then}
+
+-- of the forms that are not run at most one fault is told
+one_first : (forms : List Form) (e f : NarrowFault) → TellsFirst forms e → TellsFirst forms f → (e ≡ narrowing.NoMemory → ⊥) → (f ≡ narrowing.NoMemory → ⊥) → e ≡ f
+one_first [] (narrowing.NotRun place characters) f p q n m = absurd p
+one_first (form ∷ more) (narrowing.NotRun place characters) (narrowing.NotRun other others) p q n m = rw (p.0, p.1, q.0, q.1) refl
+one_first (form ∷ more) (narrowing.NotRun place characters) narrowing.NoMemory p q n m = absurd (m refl)
+one_first [] narrowing.NoMemory f p q n m = absurd (n refl)
+one_first (form ∷ more) narrowing.NoMemory f p q n m = absurd (n refl)
+
+-- where there is no form that is not run, none is told
+none_told : (forms : List Form) (e : NarrowFault) → forms ≡ [] → TellsFirst forms e → (e ≡ narrowing.NoMemory → ⊥) → ⊥
+none_told forms (narrowing.NotRun place characters) none told n = subst (λ (fs : List Form). TellsFirst fs (narrowing.NotRun place characters)) none told
+none_told forms narrowing.NoMemory none told n = n refl
+
+-- of a grammar at most one thing is run, or refused
+one_narrowing : (source : Source) → IsSingleBeside narrowing.NoMemory (IsNarrowing source)
+one_narrowing source (Ok a) (Ok b) p q n m = ap (λ x. Ok x) (p.1 ∙ sym q.1)
+one_narrowing source (Ok a) (Err f) p q n m = absurd (none_told (forms_not_run source) f p.0 q (λ e. m (ap (λ x. Err x) e)))
+one_narrowing source (Err e) (Ok b) p q n m = absurd (none_told (forms_not_run source) e q.0 p (λ e. n (ap (λ x. Err x) e)))
+one_narrowing source (Err e) (Err f) p q n m = ap (λ x. Err x) (one_first (forms_not_run source) e f p q (λ e. n (ap (λ x. Err x) e)) (λ e. m (ap (λ x. Err x) e)))
 
 -- a source has at most one numbering
 one_numbering : (source : Grammar) → IsSingleBeside numbering.NoMemory (GivesNumbered source)
@@ -78,14 +103,18 @@ one_from_grammar : (start : List ℕ) (grammar : Numbered) → IsSingle (FromGra
 one_from_grammar start grammar =
     one_then (Gives (GivesNetwork grammar start) of_build) (FromNetwork grammar) (one_gift (GivesNetwork grammar start) of_build building.NoMemory refl (one_build grammar start)) (one_from_network grammar)
 
+-- what is run of a grammar gives at most one thing
+one_from_run : (start : List ℕ) (run : Grammar) → IsSingle (FromRun start run)
+one_from_run start run =
+    one_then (Gives (HasOwnNames run.rules) of_name) (λ _. Then (Gives (GivesNumbered run) of_number) (λ grammar. Then (Gives (IsChecked run.rules) of_check) (λ _. FromGrammar start grammar)))
+    (one_gift (HasOwnNames run.rules) of_name naming.NoMemory refl (one_naming run.rules))
+    (λ _. one_then (Gives (GivesNumbered run) of_number) (λ grammar. Then (Gives (IsChecked run.rules) of_check) (λ _. FromGrammar start grammar))
+    (one_gift (GivesNumbered run) of_number numbering.NoMemory refl (one_numbering run))
+    (λ grammar. one_then (Gives (IsChecked run.rules) of_check) (λ _. FromGrammar start grammar) (one_gift (IsChecked run.rules) of_check checking.NoMemory refl (one_check run.rules)) (λ _. one_from_grammar start grammar)))
+
 -- a source gives at most one thing
-one_from_source : (start : List ℕ) (source : Grammar) → IsSingle (FromSource start source)
-one_from_source start source =
-    one_then (Gives (HasOwnNames source.rules) of_name) (λ _. Then (Gives (GivesNumbered source) of_number) (λ grammar. Then (Gives (IsChecked source.rules) of_check) (λ _. FromGrammar start grammar)))
-    (one_gift (HasOwnNames source.rules) of_name naming.NoMemory refl (one_naming source.rules))
-    (λ _. one_then (Gives (GivesNumbered source) of_number) (λ grammar. Then (Gives (IsChecked source.rules) of_check) (λ _. FromGrammar start grammar))
-    (one_gift (GivesNumbered source) of_number numbering.NoMemory refl (one_numbering source))
-    (λ grammar. one_then (Gives (IsChecked source.rules) of_check) (λ _. FromGrammar start grammar) (one_gift (IsChecked source.rules) of_check checking.NoMemory refl (one_check source.rules)) (λ _. one_from_grammar start grammar)))
+one_from_source : (start : List ℕ) (source : Source) → IsSingle (FromSource start source)
+one_from_source start source = one_then (Gives (IsNarrowing source) of_narrow) (FromRun start) (one_gift (IsNarrowing source) of_narrow narrowing.NoMemory refl (one_narrowing source)) (one_from_run start)
 
 -- a grammar file gives at most one thing
 pub one_prepared : (bytes start : List ℕ) → IsSingle (IsPrepared bytes start)

@@ -1,6 +1,8 @@
 -- The faults of a grammar file, from those of the stages.
 use Rattle.g4_reader.specs.declared.reader.ReadFault.{ReadFault}
 use Rattle.g4_reader.specs.declared.reader.ReadFault.TheVariants as reading
+use Rattle.g4_narrow.specs.declared.fault.NarrowFault.{NarrowFault}
+use Rattle.g4_narrow.specs.declared.fault.NarrowFault.TheVariants as narrowing
 use Rattle.g4_vocab.specs.declared.twice.NameFault.{NameFault}
 use Rattle.g4_vocab.specs.declared.twice.NameFault.TheVariants as naming
 use Rattle.g4_vocab.specs.declared.numbering.NumberFault.{NumberFault}
@@ -19,6 +21,11 @@ of_read (reading.NotUtf8 at) = errors.Fault (faults.NotUtf8 at)
 of_read (reading.Syntax place characters) = errors.Fault (faults.Syntax place characters)
 of_read (reading.BadSet place) = errors.Fault (faults.BadSet place)
 of_read reading.NoMemory = errors.NoMemory
+
+-- of a grammar with a form that is not run yet
+abbrev pub of_narrow : NarrowFault → PrepareError
+of_narrow (narrowing.NotRun place characters) = errors.Fault (faults.Syntax place characters)
+of_narrow narrowing.NoMemory = errors.NoMemory
 
 -- of a grammar with a rule that stands twice
 abbrev pub of_name : NameFault → PrepareError

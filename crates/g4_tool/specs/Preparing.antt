@@ -3,13 +3,15 @@ use Rattle.std.specs.Prelude.{◌≡◌, ◌≤◌, ◌<◌, ℕ, List, Result, 
 use Rattle.g4_grammar.specs.declared.grammar.Grammar.{Grammar}
 use Rattle.g4_grammar.specs.declared.numbered.Numbered.{Numbered}
 use Rattle.g4_net.specs.declared.network.Network.{Network}
+use Rattle.g4_source.specs.declared.source.Source.{Source}
 use Rattle.g4_reader.specs.Reading.{IsReading}
+use Rattle.g4_narrow.specs.Narrowing.{IsNarrowing}
 use Rattle.g4_vocab.specs.Names.{HasOwnNames}
 use Rattle.g4_vocab.specs.Answers.{GivesNumbered}
 use Rattle.g4_checks.specs.Checking.{IsChecked}
 use Rattle.g4_build.specs.Answers.{GivesNetwork}
 use Rattle.g4_build.specs.LexerSize.{lexer_state_count}
-use Rattle.g4_tool.specs.PrepareErrors.{of_read, of_name, of_number, of_check, of_build}
+use Rattle.g4_tool.specs.PrepareErrors.{of_read, of_narrow, of_name, of_number, of_check, of_build}
 use Rattle.g4_tool.specs.Stages.{Gives, Then}
 use Rattle.g4_tool.specs.declared.prepare.Interpreter.{Interpreter}
 use Rattle.g4_tool.specs.declared.prepare.GrammarFault.{GrammarFault}
@@ -26,10 +28,14 @@ FromNetwork grammar net (Err fault) = (65536 < lexer_state_count grammar.token_r
 abbrev pub FromGrammar : List ℕ → Numbered → Result Interpreter GrammarFault → Type 0
 FromGrammar start grammar = Then (Gives (GivesNetwork grammar start) of_build) (FromNetwork grammar)
 
--- a grammar as written: its names, its numbers, whether it can be run, and then its network
-abbrev pub FromSource : List ℕ → Grammar → Result Interpreter GrammarFault → Type 0
-FromSource start source =
-    Then (Gives (HasOwnNames source.rules) of_name) (λ _. Then (Gives (GivesNumbered source) of_number) (λ grammar. Then (Gives (IsChecked source.rules) of_check) (λ _. FromGrammar start grammar)))
+-- a grammar as far as it is run: its names, its numbers, whether it can be run, and then its network
+abbrev pub FromRun : List ℕ → Grammar → Result Interpreter GrammarFault → Type 0
+FromRun start run =
+    Then (Gives (HasOwnNames run.rules) of_name) (λ _. Then (Gives (GivesNumbered run) of_number) (λ grammar. Then (Gives (IsChecked run.rules) of_check) (λ _. FromGrammar start grammar)))
+
+-- a grammar as written: its first form that is not run yet, or what is run of it, and then that
+abbrev pub FromSource : List ℕ → Source → Result Interpreter GrammarFault → Type 0
+FromSource start source = Then (Gives (IsNarrowing source) of_narrow) (FromRun start)
 
 -- the grammar file of these bytes gives this interpreter from the start rule, or its first fault in the order of the stages
 abbrev pub IsPrepared : List ℕ → List ℕ → Result Interpreter GrammarFault → Type 0

@@ -4,6 +4,8 @@
 mod decode;
 mod faults;
 mod files;
+#[cfg(test)]
+mod grammar_tests;
 mod inputs;
 mod law;
 mod prepare;

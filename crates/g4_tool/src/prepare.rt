@@ -7,6 +7,7 @@ use g4_base::{Place, Sequence, Text};
 use g4_build::{BuildFault, build, lexer_network_fits};
 use g4_checks::{CheckFault, check};
 use g4_grammar::Numbered;
+use g4_narrow::{NarrowFault, narrow};
 use g4_net::Network;
 use g4_ports::LIMIT;
 use g4_reader::{ReadFault, read_grammar};
@@ -25,7 +26,8 @@ pub struct Interpreter {
 pub enum GrammarFault {
     /// The longest front part that is UTF-8 has this many bytes.
     NotUtf8(usize),
-    /// The place and the characters of the first syntax fault.
+    /// The place and the characters of the first syntax fault, or, there being none, of the first token of the first form
+    /// that is not run yet.
     Syntax(Place, Sequence<char>),
     /// The place of the first character set that is empty, has a range that runs backward or names an unknown property.
     BadSet(Place),
@@ -66,6 +68,22 @@ impl From<ReadFault> for PrepareError {
             }
             ReadFault::BadSet(place) => PrepareError::Fault(GrammarFault::BadSet(place)),
             ReadFault::NoMemory => PrepareError::NoMemory,
+        }
+    }
+}
+
+impl From<NarrowFault> for PrepareError {
+    ghost use Rattle.std.specs.Prelude.{◌≡◌};
+    ghost use Rattle.g4_tool.specs.PrepareErrors.{of_narrow};
+
+    ghost from_gives = { λ d e. e ≡ of_narrow d };
+
+    fn from(fault: NarrowFault) -> Self {
+        match fault {
+            NarrowFault::NotRun(place, characters) => {
+                PrepareError::Fault(GrammarFault::Syntax(place, characters))
+            }
+            NarrowFault::NoMemory => PrepareError::NoMemory,
         }
     }
 }
@@ -137,9 +155,10 @@ pub fn prepare(alloc: Global, bytes: &[u8], start: &str) -> Result<Interpreter, 
     ensures types { IfOk result (λ interpreter. All (λ rule. rule.symbol ≤ 4096) interpreter.grammar.token_rules) }
 {
     let source = read_grammar(alloc, bytes)?;
-    check_names(alloc, &source)?;
-    let checked = check(alloc, &source);
-    let grammar = number(alloc, source)?;
+    let runnable = narrow(alloc, &source)?;
+    check_names(alloc, &runnable)?;
+    let checked = check(alloc, &runnable);
+    let grammar = number(alloc, runnable)?;
     checked?;
     let net = build(alloc, &grammar, start)?;
     if !lexer_network_fits(grammar.token_rules.as_slice()) {

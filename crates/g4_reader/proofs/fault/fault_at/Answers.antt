@@ -1,6 +1,6 @@
 use Rattle.std.proofs.Common.{sym, ◌∙◌}
 use Rattle.g4_reader.proofs.Parts.{part_at}
-use Rattle.g4_reader.proofs.Steps.{fault_here, fault_behind}
+use Rattle.g4_reader.proofs.Tokens.{fault_here, fault_behind}
 use Rattle.g4_reader.proofs.fault.fault_at.Goals as goal
 
 pub token_fault-requires : goal.token_fault-requires

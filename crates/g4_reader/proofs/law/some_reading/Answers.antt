@@ -1,4 +1,4 @@
-use Rattle.g4_reader.proofs.Readings as readings
+use Rattle.g4_reader.proofs.SomeReading as readings
 use Rattle.g4_reader.proofs.law.some_reading.Goals as goal
 
 pub returns : goal.returns

@@ -1,0 +1,4 @@
+mod Firsts
+mod Full
+mod Nodes
+mod RunNodes

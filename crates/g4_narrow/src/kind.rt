@@ -1,0 +1,8 @@
+// The kinds of rules.
+
+/// Which rules elements are of.
+#[derive(Clone, Copy)]
+pub enum RuleKind {
+    Parser,
+    Lexer,
+}

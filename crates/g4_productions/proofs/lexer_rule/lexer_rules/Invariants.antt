@@ -1,0 +1,11 @@
+use Rattle.std.proofs.Common.{◌-◌, length}
+use Rattle.g4_syntax.specs.Productions.{lexer_rule}
+use Rattle.g4_productions.specs.Rules.{lexer_rules}
+use Rattle.g4_productions.proofs.Repetitions.{Listed}
+use Rattle.g4_productions.proofs.lexer_rule.lexer_rules.Given as goal
+
+abbrev pub invariant-loop-alloc : goal.invariant-loop-alloc
+invariant-loop-alloc l = Listed {x = lexer_rule} lexer_rules lexer_rules l.text l.tokens l.fn.at l.rules.items l.next
+
+abbrev pub decreases-loop-alloc : goal.decreases-loop-alloc
+decreases-loop-alloc l = length l.tokens - l.next

@@ -1,0 +1,13 @@
+use Rattle.std.proofs.Common.{refl, sym, ◌∙◌}
+use Rattle.g4_productions.proofs.Choices.{absent_passed, present_passed}
+use Rattle.g4_productions.proofs.Sequences.{one_passed}
+use Rattle.g4_productions.proofs.suffix.greedy.Goals as goal
+
+pub returns-then-is_at : goal.returns-then-is_at
+returns-then-is_at c = λ text.
+    let begins = sym (c.is_at.ensures.begins text) ∙ c.if-is_at.true in
+    record { passed = present_passed begins (one_passed (c.is_at.ensures.there c.if-is_at.true) begins); says = refl }
+
+pub returns-else-is_at : goal.returns-else-is_at
+returns-else-is_at c = λ text.
+    record { passed = absent_passed (sym (c.is_at.ensures.begins text) ∙ c.if-is_at.false) c.requires.within; says = refl }

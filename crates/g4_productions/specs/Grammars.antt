@@ -1,0 +1,54 @@
+-- The grammar that a tree is.
+use Rattle.std.specs.Prelude.{◌≡◌, ℕ, List, [], Result, Ok, Err}
+use Rattle.g4_source.specs.declared.prequel.Prequel.{Prequel}
+use Rattle.g4_source.specs.declared.source.Source.{Source}
+use Rattle.g4_source.specs.declared.source.GrammarKind.TheVariants as grammar_kinds
+use Rattle.g4_tokens.specs.declared.token.Token.{Token}
+use Rattle.g4_syntax.specs.Notation.{Spelled}
+use Rattle.g4_syntax.specs.Productions.{heading, combined_grammar, lexer_grammar, parser_grammar, grammar}
+use Rattle.g4_syntax.specs.Trees.{Tree, both, left, right, HasTree, TextStops}
+use Rattle.g4_productions.specs.Prequels.{prequels_of}
+use Rattle.g4_productions.specs.Rules.{combined_rules, default_rules, parser_rules, modes_of}
+use Rattle.g4_productions.specs.Steps.{from}
+use Rattle.g4_productions.specs.Texts.{spelled, token_of, text_of}
+use Rattle.g4_productions.specs.declared.stop.Stop.{Stop}
+use Rattle.g4_productions.specs.declared.stop.Stop.TheVariants as stops
+
+-- the name that a grammar text begins with behind its kind
+abbrev pub heading_name : Tree heading → List ℕ
+heading_name (both n (both semicolon ps)) = text_of n
+
+-- what stands before the rules
+abbrev pub heading_prequels : Tree heading → List Prequel
+heading_prequels (both n (both semicolon ps)) = prequels_of ps
+
+-- a combined grammar
+abbrev pub combined_of : Tree combined_grammar → Source
+combined_of (both keyword (both h rs)) =
+    record { place = (token_of keyword).place; kind = grammar_kinds.Combined; name = heading_name h; prequels = heading_prequels h; rules = combined_rules rs; modes = [] }
+
+-- a lexer grammar
+abbrev pub lexer_grammar_of : Tree lexer_grammar → Source
+lexer_grammar_of (both keyword (both other (both h (both rs ms)))) =
+    record { place = (token_of keyword).place; kind = grammar_kinds.Lexer; name = heading_name h; prequels = heading_prequels h; rules = default_rules rs; modes = modes_of ms }
+
+-- a parser grammar
+abbrev pub parser_grammar_of : Tree parser_grammar → Source
+parser_grammar_of (both keyword (both other (both h rs))) =
+    record { place = (token_of keyword).place; kind = grammar_kinds.Parser; name = heading_name h; prequels = heading_prequels h; rules = parser_rules rs; modes = [] }
+
+-- a grammar
+abbrev pub source_of : Tree grammar → Source
+source_of (left x) = combined_of x
+source_of (right (left x)) = lexer_grammar_of x
+source_of (right (right x)) = parser_grammar_of x
+
+-- the tokens are a grammar text, which is this grammar
+abbrev pub IsGrammarText : List Spelled → Source → Type 0
+IsGrammarText tokens source = (tree : Tree grammar) × HasTree tokens tree × (source ≡ source_of tree)
+
+-- the call gives the grammar that the tokens are, or the index of those where reading stops, unless memory runs out
+abbrev pub ReadsText : List ℕ → List Token → Result Source Stop → Type 0
+ReadsText text tokens (Ok source) = IsGrammarText (spelled text tokens) source
+ReadsText text tokens (Err (stops.At index)) = TextStops (spelled text tokens) (from text tokens index)
+ReadsText text tokens (Err stops.NoMemory) = Unit {0}

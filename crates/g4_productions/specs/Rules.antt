@@ -1,0 +1,104 @@
+-- Rules and modes.
+use Rattle.std.specs.Prelude.{List, [], ◌∷◌, Option, Some, None}
+use Rattle.g4_base.specs.declared.place.Place.{Place}
+use Rattle.g4_tokens.specs.declared.token.Kind.TheVariants as kinds
+use Rattle.g4_source.specs.declared.rule.Argument.{Argument}
+use Rattle.g4_source.specs.declared.rule.Argument.TheVariants as arguments
+use Rattle.g4_source.specs.declared.rule.AlternativeLabel.{AlternativeLabel}
+use Rattle.g4_source.specs.declared.rule.Command.{Command}
+use Rattle.g4_source.specs.declared.rule.LexerAlternative.{LexerAlternative}
+use Rattle.g4_source.specs.declared.rule.LexerRule.{LexerRule}
+use Rattle.g4_source.specs.declared.rule.ParserRule.{ParserRule}
+use Rattle.g4_source.specs.declared.rule.Rule.{Rule}
+use Rattle.g4_source.specs.declared.rule.Rule.TheVariants as rules
+use Rattle.g4_source.specs.declared.rule.RuleAlternative.{RuleAlternative}
+use Rattle.g4_source.specs.declared.source.Mode.{Mode}
+use Rattle.g4_source.specs.Elements.{in_order}
+use Rattle.g4_syntax.specs.Notation.{Terminal, one, lexer_element, ◌▸◌, ◌∣◌, optional, repeated, part, sign, name, with_commas}
+use Rattle.g4_syntax.specs.Productions.{rule_alternative, parser_rule, command, lexer_alternative, lexer_rule, mode}
+use Rattle.g4_syntax.specs.Trees.{Tree, both, left, right, absent, present, end, more}
+use Rattle.g4_productions.specs.LexerElements.{lexer_elements}
+use Rattle.g4_productions.specs.ParserElements.{alternative_elements, alternative_right}
+use Rattle.g4_productions.specs.Texts.{token_of, text_of, name_of}
+
+-- the label of an alternative
+abbrev pub alternative_label : Tree (optional (sign kinds.Hash ▸ name)) → Option AlternativeLabel
+alternative_label absent = None
+alternative_label (present (both hash n)) = Some (record { place = (token_of hash).place; name = text_of n })
+
+-- an alternative of a parser rule
+abbrev pub rule_alternative_of : Tree rule_alternative → RuleAlternative
+rule_alternative_of (both x l) = record { right = alternative_right x; elements = alternative_elements x; label = alternative_label l }
+
+-- the alternatives of a parser rule behind bars
+abbrev pub rule_alternatives_behind : Tree (repeated (sign kinds.Bar ▸ rule_alternative)) → List RuleAlternative
+rule_alternatives_behind end = []
+rule_alternatives_behind (more (both bar x) xs) = rule_alternative_of x ∷ rule_alternatives_behind xs
+
+-- a parser rule
+abbrev pub parser_rule_of : Tree parser_rule → ParserRule
+parser_rule_of (both modifier (both n (both prequels (both colon (both (both x xs) (both semicolon handlers)))))) = record { name = text_of n; alternatives = rule_alternative_of x ∷ rule_alternatives_behind xs }
+
+-- the argument of a command
+abbrev pub argument_of : Tree (optional (sign kinds.LeftParenthesis ▸ (name ∣ sign kinds.Number) ▸ sign kinds.RightParenthesis)) → Option Argument
+argument_of absent = None
+argument_of (present (both opening (both (left n) closing))) = Some (arguments.Name (text_of n))
+argument_of (present (both opening (both (right n) closing))) = Some (arguments.Number (text_of n))
+
+-- a command
+abbrev pub command_of : Tree command → Command
+command_of (both n a) = record { name = name_of n; argument = argument_of a }
+
+-- the commands behind commas
+abbrev pub commands_behind : Tree (repeated (sign kinds.Comma ▸ command)) → List Command
+commands_behind end = []
+commands_behind (more (both comma c) cs) = command_of c ∷ commands_behind cs
+
+-- the commands of an alternative
+abbrev pub commands_of : Tree (optional (sign kinds.Arrow ▸ with_commas command)) → List Command
+commands_of absent = []
+commands_of (present (both arrow (both c cs))) = command_of c ∷ commands_behind cs
+
+-- an alternative of a lexer rule
+abbrev pub lexer_alternative_of : Tree lexer_alternative → LexerAlternative
+lexer_alternative_of (both x cs) = record { elements = in_order (lexer_elements x); commands = commands_of cs }
+
+-- the alternatives of a lexer rule behind bars
+abbrev pub rule_lexer_alternatives_behind : Tree (repeated (sign kinds.Bar ▸ lexer_alternative)) → List LexerAlternative
+rule_lexer_alternatives_behind end = []
+rule_lexer_alternatives_behind (more (both bar x) xs) = lexer_alternative_of x ∷ rule_lexer_alternatives_behind xs
+
+-- the place of `fragment`
+abbrev pub fragment_place : {t : Terminal} → Tree (optional (one t)) → Option Place
+fragment_place absent = None
+fragment_place (present keyword) = Some (token_of keyword).place
+
+-- a lexer rule
+abbrev pub lexer_rule_of : Tree lexer_rule → LexerRule
+lexer_rule_of (both fragment (both n (both options (both colon (both (both x xs) semicolon))))) = record { fragment = fragment_place fragment; name = text_of n; alternatives = lexer_alternative_of x ∷ rule_lexer_alternatives_behind xs }
+
+-- lexer rules in order
+abbrev pub lexer_rules : Tree (repeated lexer_rule) → List LexerRule
+lexer_rules end = []
+lexer_rules (more r rs) = lexer_rule_of r ∷ lexer_rules rs
+
+-- the rules of a combined grammar
+abbrev pub combined_rules : Tree (repeated (lexer_rule ∣ parser_rule)) → List Rule
+combined_rules end = []
+combined_rules (more (left r) rs) = rules.Lexer (lexer_rule_of r) ∷ combined_rules rs
+combined_rules (more (right r) rs) = rules.Parser (parser_rule_of r) ∷ combined_rules rs
+
+-- the rules of a lexer grammar's default mode
+abbrev pub default_rules : Tree (repeated lexer_rule) → List Rule
+default_rules end = []
+default_rules (more r rs) = rules.Lexer (lexer_rule_of r) ∷ default_rules rs
+
+-- the rules of a parser grammar
+abbrev pub parser_rules : Tree (repeated parser_rule) → List Rule
+parser_rules end = []
+parser_rules (more r rs) = rules.Parser (parser_rule_of r) ∷ parser_rules rs
+
+-- modes in order
+abbrev pub modes_of : Tree (repeated mode) → List Mode
+modes_of end = []
+modes_of (more (both keyword (both n (both semicolon rs))) ms) = record { name = text_of n; rules = lexer_rules rs } ∷ modes_of ms

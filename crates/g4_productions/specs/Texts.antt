@@ -1,0 +1,41 @@
+-- The tokens of a text with their bytes, and what single tokens say.
+use Rattle.std.specs.Prelude.{ℕ, ◌-◌, List, take, drop, map}
+use Rattle.std.specs.Str.{chars}
+use Rattle.g4_tokens.specs.Spelling.{literal_spelling}
+use Rattle.g4_tokens.specs.declared.token.Token.{Token}
+use Rattle.g4_grammar.specs.declared.grammar.Literal.{Literal}
+use Rattle.g4_source.specs.declared.name.Name.{Name}
+use Rattle.g4_syntax.specs.Notation.{Spelled, Terminal, one}
+use Rattle.g4_syntax.specs.Trees.{Tree, leaf}
+
+-- the bytes of a token
+abbrev pub bytes_of : List ℕ → Token → List ℕ
+bytes_of text token = take (token.end - token.start) (drop token.start text)
+
+-- the characters of a token
+abbrev pub characters_of : List ℕ → Token → List ℕ
+characters_of text token = chars (bytes_of text token)
+
+-- a token of the text, with its bytes
+abbrev pub spelled_token : List ℕ → Token → Spelled
+spelled_token text token = record { kind = token.kind; place = token.place; bytes = bytes_of text token }
+
+-- the tokens of the text, each with its bytes
+abbrev pub spelled : List ℕ → List Token → List Spelled
+spelled text tokens = map (spelled_token text) tokens
+
+-- the token of a leaf
+abbrev pub token_of : {t : Terminal} → Tree (one t) → Spelled
+token_of (leaf token) = token
+
+-- the bytes of a leaf
+abbrev pub text_of : {t : Terminal} → Tree (one t) → List ℕ
+text_of x = (token_of x).bytes
+
+-- the name that a leaf is
+abbrev pub name_of : {t : Terminal} → Tree (one t) → Name
+name_of x = record { text = (token_of x).bytes; place = (token_of x).place }
+
+-- the literal that a leaf is: the characters that it stands for, and its text as written
+abbrev pub literal_of : {t : Terminal} → Tree (one t) → Literal
+literal_of x = record { characters = literal_spelling (chars (token_of x).bytes); written = (token_of x).bytes }

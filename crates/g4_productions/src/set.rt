@@ -1,0 +1,116 @@
+// The character sets of lexer rules.
+ghost use Rattle.std.specs.Prelude.{◌≡◌, IfOk, map};
+ghost use Rattle.g4_tokens.specs.declared.token.Kind.TheVariants.{Literal, Set};
+ghost use Rattle.g4_syntax.specs.Notation.{sign};
+ghost use Rattle.g4_productions.specs.LexerElements.{set_of_leaf, first_character, character_of};
+ghost use Rattle.g4_productions.specs.Members.{set_of, ranges_of};
+ghost use Rattle.g4_productions.specs.Parts.{IsPart, AreParts};
+ghost use Rattle.g4_productions.specs.SetText.{content, in_grammar};
+ghost use Rattle.g4_productions.specs.Steps.{Gives};
+ghost use Rattle.g4_productions.specs.Texts.{characters_of};
+
+use crate::cursor::{is_at, literal_at};
+use crate::spelling::characters;
+use crate::stop::Stop;
+use g4_base::Sequence;
+use g4_chars::{SetFault, read_set};
+use g4_grammar::Range;
+use g4_tokens::{Kind, Token};
+use std::alloc::{AllocError, Global};
+
+/// The characters between the brackets of a set.
+fn content(text: &[char]) -> &[char]
+    ensures { result.now ≡ content text.now }
+{
+    match text {
+        [_, content @ .., _] => content,
+        _ => &[],
+    }
+}
+
+/// The same ranges in a grammar.
+fn in_grammar(alloc: Global, set: &[g4_chars::Range]) -> Result<Sequence<Range>, AllocError>
+    ensures { IfOk result (λ r. r ≡ map in_grammar set.now) }
+{
+    let mut ranges = Vec::new(alloc);
+    for range in set {
+        ranges.push(Range {
+            first: range.first,
+            last: range.last,
+        })?;
+    }
+    Ok(Sequence::new(ranges))
+}
+
+/// The ranges of a set with this content, unless it is bad.
+fn set_of(alloc: Global, content: &[char]) -> Result<Option<Sequence<Range>>, AllocError>
+    ensures { IfOk result (λ s. s ≡ set_of content.now) }
+{
+    match read_set(alloc, content) {
+        Ok(set) => {
+            let ranges = in_grammar(alloc, set.ranges())?;
+            Ok(Some(ranges))
+        }
+        Err(SetFault::BadEscape) => Ok(None),
+        Err(SetFault::BadSet) => Ok(None),
+        Err(SetFault::NoMemory) => Err(AllocError),
+    }
+}
+
+/// The ranges of the set that the token is: a bad set has none.
+pub(crate) fn ranges(
+    alloc: Global,
+    text: &str,
+    token: &Token,
+) -> Result<Sequence<Range>, AllocError>
+    requires part { IsPart text.now token.now }
+    ensures { IfOk result (λ s. s ≡ ranges_of (content (characters_of text.now token.now))) }
+{
+    let characters = characters(alloc, text, token)?;
+    match set_of(alloc, content(&characters))? {
+        Some(ranges) => Ok(ranges),
+        None => Ok(Sequence::new(Vec::new(alloc))),
+    }
+}
+
+/// The ranges of the set at the index, and the index behind it.
+pub(crate) fn set_at(
+    alloc: Global,
+    text: &str,
+    tokens: &[Token],
+    at: usize,
+) -> Result<(Sequence<Range>, usize), Stop>
+    requires parts { AreParts text.now tokens.now }
+    ensures { Gives {x = sign Set} set_of_leaf text.now tokens.now at result }
+{
+    if !is_at(tokens, at, Kind::Set) {
+        return Err(Stop::At(at));
+    }
+    let ranges = ranges(alloc, text, &tokens[at])?;
+    Ok((ranges, at + 1))
+}
+
+/// The first character of the literal at the index, and the index behind it.
+pub(crate) fn character_at(
+    alloc: Global,
+    text: &str,
+    tokens: &[Token],
+    at: usize,
+) -> Result<(char, usize), Stop>
+    requires parts { AreParts text.now tokens.now }
+    ensures { Gives {x = sign Literal} character_of text.now tokens.now at result }
+{
+    let (literal, at) = literal_at(alloc, text, tokens, at)?;
+    let character = first_character(literal.characters.as_slice());
+    Ok((character, at))
+}
+
+/// The first of some characters; there is one wherever it counts.
+fn first_character(characters: &[char]) -> char
+    ensures { result ≡ first_character characters.now }
+{
+    match characters {
+        [first, ..] => *first,
+        [] => '\0',
+    }
+}

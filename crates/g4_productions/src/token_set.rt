@@ -1,0 +1,153 @@
+// The tokens behind `~` in a parser rule.
+ghost use Rattle.std.specs.Prelude.{◌≡◌, ◌≤◌, ◌++◌, length};
+ghost use Rattle.g4_syntax.specs.Trees.{left, right, inner};
+ghost use Rattle.g4_productions.specs.Parts.{AreParts};
+ghost use Rattle.g4_productions.specs.ParserElements.{symbols_of, symbols_behind};
+ghost use Rattle.g4_productions.specs.TokenSets.{symbols_between};
+ghost use Rattle.g4_productions.specs.Steps.{ReadsAs, Gives};
+
+use crate::cursor::{is_at, literal_at, pass, written_at};
+use crate::options::optional_element_options;
+use crate::stop::{MOST_OPEN, Stop};
+use g4_base::Sequence;
+use g4_source::Symbol;
+use g4_tokens::{Kind, Token};
+use std::alloc::Global;
+
+/// These symbols and the name of a token at the index, and the index behind it and its options.
+fn name_symbol(
+    alloc: Global,
+    text: &str,
+    tokens: &[Token],
+    at: usize,
+    mut symbols: Vec<Symbol>,
+) -> Result<(Vec<Symbol>, usize), Stop>
+    requires parts { AreParts text.now tokens.now }
+    ensures { ReadsAs (λ tree new. new.items ≡ symbols.items ++ symbols_of (inner (left tree))) text.now tokens.now at result }
+{
+    let (name, at) = written_at(alloc, text, tokens, at, Kind::Upper)?;
+    let (_right, at) = optional_element_options(alloc, text, tokens, at)?;
+    symbols.push(Symbol::Token(name))?;
+    Ok((symbols, at))
+}
+
+/// These symbols and the literal at the index, and the index behind it.
+fn literal_symbol(
+    alloc: Global,
+    text: &str,
+    tokens: &[Token],
+    at: usize,
+    mut symbols: Vec<Symbol>,
+) -> Result<(Vec<Symbol>, usize), Stop>
+    requires parts { AreParts text.now tokens.now }
+    ensures { ReadsAs (λ tree new. new.items ≡ symbols.items ++ symbols_of (inner (right (left tree)))) text.now tokens.now at result }
+{
+    let (literal, at) = literal_at(alloc, text, tokens, at)?;
+    symbols.push(Symbol::Literal(literal))?;
+    Ok((symbols, at))
+}
+
+/// These symbols and those of the set of tokens at the index, and the index behind it. So many brackets are open.
+#[cycle(sets)]
+fn token_set(
+    alloc: Global,
+    text: &str,
+    tokens: &[Token],
+    at: usize,
+    open: u32,
+    symbols: Vec<Symbol>,
+) -> Result<(Vec<Symbol>, usize), Stop>
+    requires parts { AreParts text.now tokens.now }
+    requires within { at ≤ length tokens.now }
+    ensures { ReadsAs (λ tree new. new.items ≡ symbols.items ++ symbols_of tree) text.now tokens.now at result }
+{
+    if is_at(tokens, at, Kind::Upper) {
+        return name_symbol(alloc, text, tokens, at, symbols);
+    }
+    if is_at(tokens, at, Kind::Literal) {
+        return literal_symbol(alloc, text, tokens, at, symbols);
+    }
+    sets_in_brackets(alloc, text, tokens, at, open, symbols)
+}
+
+/// These symbols and those of the sets in the brackets that `(` opens at the index, and the index behind them.
+#[cycle(sets)]
+fn sets_in_brackets(
+    alloc: Global,
+    text: &str,
+    tokens: &[Token],
+    at: usize,
+    open: u32,
+    symbols: Vec<Symbol>,
+) -> Result<(Vec<Symbol>, usize), Stop>
+    requires parts { AreParts text.now tokens.now }
+    requires within { at ≤ length tokens.now }
+    ensures { ReadsAs (λ tree new. new.items ≡ symbols.items ++ symbols_of (inner (right (right tree)))) text.now tokens.now at result }
+{
+    if open >= MOST_OPEN {
+        return Err(Stop::NoMemory);
+    }
+    let at = pass(tokens, at, Kind::LeftParenthesis)?;
+    let (symbols, at) = sets(alloc, text, tokens, at, open + 1, symbols)?;
+    let at = pass(tokens, at, Kind::RightParenthesis)?;
+    Ok((symbols, at))
+}
+
+/// These symbols and those of the sets with bars between from the index on, and the index behind them.
+#[cycle(sets)]
+fn sets(
+    alloc: Global,
+    text: &str,
+    tokens: &[Token],
+    at: usize,
+    open: u32,
+    symbols: Vec<Symbol>,
+) -> Result<(Vec<Symbol>, usize), Stop>
+    requires parts { AreParts text.now tokens.now }
+    requires within { at ≤ length tokens.now }
+    ensures { ReadsAs (λ tree new. new.items ≡ symbols.items ++ symbols_between tree) text.now tokens.now at result }
+{
+    let (symbols, at) = token_set(alloc, text, tokens, at, open, symbols)?;
+    let (symbols, at) = sets_behind_bars(alloc, text, tokens, at, open, symbols)?;
+    Ok((symbols, at))
+}
+
+/// These symbols and those of the sets behind bars from the index on, and the index behind them.
+#[cycle(sets)]
+fn sets_behind_bars(
+    alloc: Global,
+    text: &str,
+    tokens: &[Token],
+    at: usize,
+    open: u32,
+    symbols: Vec<Symbol>,
+) -> Result<(Vec<Symbol>, usize), Stop>
+    requires parts { AreParts text.now tokens.now }
+    requires within { at ≤ length tokens.now }
+    ensures { ReadsAs (λ tree new. new.items ≡ symbols.items ++ symbols_behind tree) text.now tokens.now at result }
+{
+    let mut all = symbols;
+    let mut next = at;
+    while is_at(tokens, next, Kind::Bar) {
+        let (more, behind) = token_set(alloc, text, tokens, next + 1, open, all)?;
+        all = more;
+        next = behind;
+    }
+    Ok((all, next))
+}
+
+/// The symbols of the set of tokens at the index, and the index behind it. So many brackets are open.
+pub(crate) fn excluded_tokens(
+    alloc: Global,
+    text: &str,
+    tokens: &[Token],
+    at: usize,
+    open: u32,
+) -> Result<(Sequence<Symbol>, usize), Stop>
+    requires parts { AreParts text.now tokens.now }
+    requires within { at ≤ length tokens.now }
+    ensures { Gives symbols_of text.now tokens.now at result }
+{
+    let (symbols, at) = token_set(alloc, text, tokens, at, open, Vec::new(alloc))?;
+    Ok((Sequence::new(symbols), at))
+}

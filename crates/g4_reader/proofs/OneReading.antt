@@ -1,0 +1,157 @@
+-- A text has one reading.
+use Rattle.std.proofs.Common.{◌≡◌, ◌≢◌, ◌⊎◌, ℕ, List, [], ◌∷◌, ◌++◌, Result, Ok, Err, inl, inr, refl, sym, ◌∙◌, ap, ap₂, subst, append_assoc, append-nil}
+use Rattle.std.specs.Str.{IsValidUpTo}
+use Rattle.g4_base.specs.declared.place.Place.{Place}
+use Rattle.g4_tokens.specs.declared.position.Position.{Position}
+use Rattle.g4_tokens.specs.declared.token.Token.{Token}
+use Rattle.g4_source.specs.declared.source.Source.{Source}
+use Rattle.g4_syntax.specs.Notation.{Spelled}
+use Rattle.g4_syntax.specs.Productions.{grammar}
+use Rattle.g4_syntax.specs.Trees.{Tree, HasTree, BeginsText, Ends}
+use Rattle.g4_syntax.proofs.Unique as trees
+use Rattle.g4_productions.specs.Grammars.{IsGrammarText, source_of}
+use Rattle.g4_productions.specs.Texts.{spelled}
+use Rattle.g4_reader.proofs.Utf8.{not_both, one_point}
+use Rattle.g4_reader.specs.Answering.{IsReadingOf}
+use Rattle.g4_reader.specs.Bad.{HasFirstBad, HasNoBad, begins_here, begins_behind}
+use Rattle.g4_reader.specs.Reading.{Fault, fault_at, opened_fault, HasSpelled, IsCut, IsFirstBad, IsFirstFault, IsReading}
+use Rattle.g4_reader.specs.declared.reader.ReadFault.{ReadFault}
+use Rattle.g4_reader.specs.declared.reader.ReadFault.TheVariants.{NotUtf8, Syntax, BadSet, NoMemory}
+use Rattle.g4_reader.proofs.Scans as scans
+
+-- tokens are one grammar at most
+one_grammar : (tokens : List Spelled) (a b : Source) → IsGrammarText tokens a → IsGrammarText tokens b → a ≡ b
+one_grammar tokens a b (x, has, is) (y, also, too) = is ∙ ap source_of (trees.one_reading x y tokens [] [] has also).0 ∙ sym too
+
+-- a grammar text begins with the first of the tokens with which one begins
+begins_before : (first behind : List Spelled) → BeginsText (first ++ behind) → BeginsText first
+begins_before first behind (others, tree, has) = (behind ++ others, tree, subst (λ (l : List Spelled). HasTree l tree) (append_assoc first behind others) has)
+
+-- a grammar text is not cut
+not_cut : (tokens front rest : List Spelled) (tree : Tree grammar) → HasTree tokens tree → IsCut tokens front rest → ⊥
+not_cut tokens front [] tree has cut = cut.ends tree (subst (λ (l : List Spelled). HasTree l tree) (cut.parts ∙ append-nil front) has)
+not_cut tokens front (t ∷ ts) tree has cut = cut.ends (ts, tree, subst (λ (l : List Spelled). HasTree l tree) (cut.parts ∙ sym (append_assoc front (t ∷ []) ts)) has)
+
+-- the same lists have the same first token
+same_first : (t s : Spelled) (ts ss : List Spelled) → t ∷ ts ≡ s ∷ ss → t ≡ s
+same_first t s ts ss is = cc
+
+-- the same lists have the same tokens behind the first
+same_others : (t s : Spelled) (ts ss : List Spelled) → t ∷ ts ≡ s ∷ ss → ts ≡ ss
+same_others t s ts ss is = cc
+
+-- what is so of the first tokens, and not with the next of the others
+abbrev EndsBy : (List Spelled → Type 0) → List Spelled → List Spelled → Type 0
+EndsBy Begins front rest = (t : Spelled) (ts : List Spelled) → rest ≡ t ∷ ts → ¬ (Begins (front ++ t ∷ []))
+
+-- a list is cut in one way where what is so of it is so of all that it begins with
+same_cut : (Begins : List Spelled → Type 0) → ((first behind : List Spelled) → Begins (first ++ behind) → Begins first) → (front rest other behind : List Spelled) → front ++ rest ≡ other ++ behind → Begins front → Begins other → EndsBy Begins front rest → EndsBy Begins other behind → (front ≡ other) × (rest ≡ behind)
+same_cut Begins before [] rest [] behind is begins also ends too = (refl, is)
+same_cut Begins before [] rest (s ∷ other) behind is begins also ends too = absurd (ends s (other ++ behind) is (before (s ∷ []) other also))
+same_cut Begins before (t ∷ front) rest [] behind is begins also ends too = absurd (too t (front ++ rest) (sym is) (before (t ∷ []) front begins))
+same_cut Begins before (t ∷ front) rest (s ∷ other) behind is begins also ends too =
+    let first : t ≡ s = same_first t s (front ++ rest) (other ++ behind) is in
+    let later = same_cut (λ l. Begins (t ∷ l)) (λ u v. before (t ∷ u) v) front rest other behind (same_others t s (front ++ rest) (other ++ behind) is) begins (subst (λ (u : Spelled). Begins (u ∷ other)) (sym first) also) ends (λ u us stands bad. too u us stands (subst (λ (x : Spelled). Begins (x ∷ other ++ u ∷ [])) first bad)) in
+    (ap₂ (λ (x : Spelled) (l : List Spelled). x ∷ l) first later.0, later.1)
+
+-- where no grammar text goes on
+ends_by : (front rest : List Spelled) → Ends front rest → EndsBy BeginsText front rest
+ends_by front rest ends t ts is = subst (Ends front) is ends
+
+-- tokens are cut in one way
+one_cut : (tokens front rest other behind : List Spelled) → IsCut tokens front rest → IsCut tokens other behind → (front ≡ other) × (rest ≡ behind)
+one_cut tokens front rest other behind cut also =
+    same_cut BeginsText begins_before front rest other behind (sym cut.parts ∙ also.parts) cut.begins also.begins (ends_by front rest cut.ends) (ends_by other behind also.ends)
+
+-- tokens have one first bad set
+one_bad : (p q : Place) (before tokens : List Spelled) → HasFirstBad p before tokens → HasFirstBad q before tokens → p ≡ q
+one_bad p q _ _ (begins_here before token behind bad is) (begins_here _ _ _ also too) = is ∙ sym too
+one_bad p q _ _ (begins_here before token behind bad is) (begins_behind _ _ _ good later) = absurd (good bad)
+one_bad p q _ _ (begins_behind before token behind good later) (begins_here _ _ _ bad is) = absurd (good bad)
+one_bad p q _ _ (begins_behind before token behind good later) (begins_behind _ _ _ also too) = one_bad p q (token ∷ before) behind later too
+
+-- tokens with no bad set have no first one
+good_bad : (place : Place) (before tokens : List Spelled) → HasFirstBad place before tokens → HasNoBad before tokens → ⊥
+good_bad place _ _ (begins_here before token behind bad is) good = good.0 bad
+good_bad place _ _ (begins_behind before token behind here later) good = good_bad place (token ∷ before) behind later good.1
+
+-- a grammar text with no bad set has no first one
+no_bad : (tokens : List Spelled) (source : Source) (place : Place) → IsGrammarText tokens source → HasNoBad [] tokens → IsFirstBad tokens place → ⊥
+no_bad tokens source place is good (inl (tree, has, first)) = good_bad place [] tokens first good
+no_bad tokens source place (tree, has, is) good (inr (front, rest, cut, first)) = not_cut tokens front rest tree has cut
+
+-- a first fault stands before or behind the first bad set
+fault_or_bad : (bytes : List ℕ) (tokens : List Spelled) (fault : Fault) (place : Place) → IsFirstFault bytes tokens fault → IsFirstBad tokens place → ⊥
+fault_or_bad bytes tokens fault place is (inl (tree, has, first)) = not_cut tokens is.front is.rest tree has is.cut
+fault_or_bad bytes tokens fault place is (inr (front, rest, cut, first)) =
+    good_bad place [] is.front (subst (HasFirstBad place []) (one_cut tokens front rest is.front is.rest cut is.cut).0 first) is.good
+
+-- the first fault of tokens is one
+one_fault : (bytes : List ℕ) (tokens : List Spelled) (a b : Fault) → IsFirstFault bytes tokens a → IsFirstFault bytes tokens b → a ≡ b
+one_fault bytes tokens a b is also = is.is ∙ ap (fault_at bytes) (one_cut tokens is.front is.rest also.front also.rest is.cut also.cut).1 ∙ sym also.is
+
+-- the first bad set of tokens is one, up to a syntax fault
+one_first_bad : (tokens : List Spelled) (p q : Place) → IsFirstBad tokens p → IsFirstBad tokens q → p ≡ q
+one_first_bad tokens p q (inl (tree, has, first)) (inl (other, also, later)) = one_bad p q [] tokens first later
+one_first_bad tokens p q (inl (tree, has, first)) (inr (front, rest, cut, later)) = absurd (not_cut tokens front rest tree has cut)
+one_first_bad tokens p q (inr (front, rest, cut, first)) (inl (tree, has, later)) = absurd (not_cut tokens front rest tree has cut)
+one_first_bad tokens p q (inr (front, rest, cut, first)) (inr (other, behind, also, later)) =
+    one_bad p q [] other (subst (HasFirstBad p []) (one_cut tokens front rest other behind cut also).0 first) later
+
+-- the answer that tells a fault
+unfoldable pub told : Fault → Result Source ReadFault
+told fault = Err (Syntax fault.place fault.characters)
+
+-- tokens have one reading
+one_reading_of : (bytes : List ℕ) (tokens : List Spelled) (a b : Result Source ReadFault) → IsReadingOf bytes tokens a → IsReadingOf bytes tokens b → a ≢ Err NoMemory → b ≢ Err NoMemory → a ≡ b
+unfolding told
+one_reading_of bytes tokens (Ok x) (Ok y) is also n m = ap (λ s. Ok s) (one_grammar tokens x y is.0 also.0)
+one_reading_of bytes tokens (Ok x) (Err (Syntax p c)) is also n m = absurd (not_cut tokens also.front also.rest is.0.0 is.0.1 also.cut)
+one_reading_of bytes tokens (Ok x) (Err (BadSet p)) is also n m = absurd (no_bad tokens x p is.0 is.1 also)
+one_reading_of bytes tokens (Err (Syntax p c)) (Ok y) is also n m = absurd (not_cut tokens is.front is.rest also.0.0 also.0.1 is.cut)
+one_reading_of bytes tokens (Err (Syntax p c)) (Err (Syntax q d)) is also n m = ap told (one_fault bytes tokens _ _ is also)
+one_reading_of bytes tokens (Err (Syntax p c)) (Err (BadSet q)) is also n m = absurd (fault_or_bad bytes tokens _ q is also)
+one_reading_of bytes tokens (Err (BadSet p)) (Ok y) is also n m = absurd (no_bad tokens y p also.0 also.1 is)
+one_reading_of bytes tokens (Err (BadSet p)) (Err (Syntax q d)) is also n m = absurd (fault_or_bad bytes tokens _ p also is)
+one_reading_of bytes tokens (Err (BadSet p)) (Err (BadSet q)) is also n m = ap (λ r. Err (BadSet r)) (one_first_bad tokens p q is also)
+one_reading_of bytes tokens (Err (NotUtf8 at)) b is also n m = absurd is
+one_reading_of bytes tokens a (Err (NotUtf8 at)) is also n m = absurd also
+one_reading_of bytes tokens (Err NoMemory) b is also n m = absurd (n refl)
+one_reading_of bytes tokens a (Err NoMemory) is also n m = absurd (m refl)
+
+-- what a reading is, by how the bytes are cut
+abbrev ReadingAt : List ℕ → List Token ⊎ Position → Result Source ReadFault → Type 0
+ReadingAt bytes (inl tokens) result = IsReadingOf bytes (spelled bytes tokens) result
+ReadingAt bytes (inr at) result = result ≡ told (opened_fault bytes at)
+
+-- what a reading is, of bytes that are a text or not
+abbrev ReadingBy : List ℕ → Result Source ReadFault → Type 0
+ReadingBy bytes result = ((at : ℕ) × IsValidUpTo bytes at × (result ≡ Err (NotUtf8 at))) ⊎ ((x : List Token ⊎ Position) × scans.IsCut bytes x × ReadingAt bytes x result)
+
+-- what is read of the tokens with their bytes is read of the tokens
+reading_spelled : (bytes : List ℕ) (tokens : List Spelled) (result : Result Source ReadFault) → HasSpelled bytes tokens → IsReadingOf bytes tokens result → ReadingBy bytes result
+reading_spelled bytes tokens result has is = inr (inl has.scanned, has.has, subst (λ (l : List Spelled). IsReadingOf bytes l result) has.are is)
+
+-- a reading that memory sufficed for
+reading_by : (bytes : List ℕ) (result : Result Source ReadFault) → IsReading bytes result → result ≢ Err NoMemory → ReadingBy bytes result
+unfolding told
+reading_by bytes (Ok source) is n = reading_spelled bytes is.tokens (Ok source) is.has (is.is, is.good)
+reading_by bytes (Err (NotUtf8 at)) valid n = inl (at, valid, refl)
+reading_by bytes (Err (Syntax place characters)) (inl (opened, s, is)) n = inr (inr opened, s, ap told is)
+reading_by bytes (Err (Syntax place characters)) (inr (tokens, has, first)) n = reading_spelled bytes tokens (Err (Syntax place characters)) has first
+reading_by bytes (Err (BadSet place)) (tokens, has, first) n = reading_spelled bytes tokens (Err (BadSet place)) has first
+reading_by bytes (Err NoMemory) h n = absurd (n refl)
+
+-- bytes have one reading
+pub one_reading : (bytes : List ℕ) (a b : Result Source ReadFault) → IsReading bytes a → IsReading bytes b → a ≢ Err NoMemory → b ≢ Err NoMemory → a ≡ b
+one_reading bytes a b is also n m = by_both (reading_by bytes a is n) (reading_by bytes b also m)
+  where
+    by_cut : (x : List Token ⊎ Position) → ReadingAt bytes x a → ReadingAt bytes x b → a ≡ b
+    by_cut (inl tokens) is also = one_reading_of bytes (spelled bytes tokens) a b is also n m
+    by_cut (inr at) is also = is ∙ sym also
+
+    by_both : ReadingBy bytes a → ReadingBy bytes b → a ≡ b
+    by_both (inl (at, valid, is)) (inl (other, alike, also)) = is ∙ ap (λ (k : ℕ). Err (NotUtf8 k)) (one_point bytes at other valid alike) ∙ sym also
+    by_both (inl (at, valid, is)) (inr (y, cut, also)) = absurd (not_both bytes at (scans.cut_utf8 bytes y cut) valid)
+    by_both (inr (x, cut, is)) (inl (other, valid, also)) = absurd (not_both bytes other (scans.cut_utf8 bytes x cut) valid)
+    by_both (inr (x, cut, is)) (inr (y, alike, also)) = by_cut y (subst (λ (z : List Token ⊎ Position). ReadingAt bytes z a) (scans.one_cut bytes x y cut alike) is) also

@@ -1,0 +1,41 @@
+-- The tokens of a text from an index on, with their bytes.
+use Rattle.std.proofs.Common.{◌≡◌, ℕ, zero, suc, ◌+◌, ◌<◌, List, [], ◌∷◌, ◌++◌, Some, None, slice_get, get_or, refl, sym, ◌∙◌, ap, take, drop, length, map}
+use Rattle.std.proofs.lemmas.List.{drop_more, map-append, take-append-drop}
+use Rattle.std.proofs.lemmas.Option.{slice_get_within, get_or_from_slice_get}
+use Rattle.g4_tokens.specs.declared.token.Token.{Token}
+use Rattle.g4_tokens.specs.declared.token.Kind.TheVariants.{Lower}
+use Rattle.g4_productions.specs.Steps.{from}
+use Rattle.g4_productions.specs.Texts.{characters_of, spelled, spelled_token}
+use Rattle.g4_reader.specs.Reading.{fault_at}
+
+-- the token at an index stands first of those from there on
+pub from_token : (text : List ℕ) (tokens : List Token) (at : ℕ) (token : Token) → slice_get tokens at ≡ Some token → from text tokens at ≡ spelled_token text token ∷ from text tokens (at + 1)
+from_token text tokens at token is =
+    ap (map (spelled_token text)) (drop_more tokens at token (slice_get_within tokens at token is) ∙ ap (λ (t : Token). t ∷ drop (at + 1) tokens) (get_or_from_slice_get tokens at token token is))
+
+-- a token that is read stands first of those from there on
+pub from_read : (text : List ℕ) (tokens : List Token) (at : ℕ) (other : Token) → at < length tokens → from text tokens at ≡ spelled_token text (get_or tokens at other) ∷ from text tokens (at + 1)
+from_read text tokens at other within = ap (map (spelled_token text)) (drop_more tokens at other within)
+
+-- behind all tokens there are none
+pub from_behind : (text : List ℕ) (tokens : List Token) (at : ℕ) → slice_get tokens at ≡ None → from text tokens at ≡ []
+from_behind text [] zero is = refl
+from_behind text [] (suc at) is = refl
+from_behind text (t ∷ ts) zero is = absurd (cc)
+from_behind text (t ∷ ts) (suc at) is = from_behind text ts at is
+
+-- the tokens are those before the index and those from there on
+pub cut_at : (text : List ℕ) (tokens : List Token) (at : ℕ) → spelled text tokens ≡ spelled text (take at tokens) ++ from text tokens at
+cut_at text tokens at = ap (spelled text) (sym (take-append-drop at tokens)) ∙ map-append (spelled_token text) (take at tokens) (drop at tokens)
+
+-- the fault at a token
+pub fault_here : (text : List ℕ) (tokens : List Token) (at : ℕ) (token : Token) → slice_get tokens at ≡ Some token → fault_at text (from text tokens at) ≡ record { place = token.place; characters = characters_of text token }
+fault_here text tokens at token is = ap (fault_at text) (from_token text tokens at token is)
+
+-- the fault behind all tokens
+pub fault_behind : (text : List ℕ) (tokens : List Token) (at : ℕ) → slice_get tokens at ≡ None → fault_at text (from text tokens at) ≡ fault_at text []
+fault_behind text tokens at is = ap (fault_at text) (from_behind text tokens at is)
+
+-- a token that stands for none
+abbrev pub blank : Token
+blank = record { kind = Lower; place = record { line = 0; column = 0 }; start = 0; end = 0 }
