@@ -8,8 +8,8 @@ use Rattle.g4_syntax.specs.Notation.{Spelled, Expression, ◌▸◌, ◌∣◌}
 use Rattle.g4_syntax.specs.Trees.{begins_there, can_be_empty, Reads}
 use Rattle.g4_syntax.proofs.Texts.{text as text_of_tree, reads_text, nothing_read}
 use Rattle.g4_syntax.proofs.Truths.{apart, or_false, or_first_true, or_second_true}
-use Rattle.g4_productions.specs.Steps.{from, Passed}
-use Rattle.g4_productions.proofs.Choices.{begins_first, begins_choice}
+use Rattle.g4_prequels.specs.Steps.{from, Passed}
+use Rattle.g4_prequels.proofs.Choices.{begins_first, begins_choice}
 
 -- what cannot be empty is a token or more
 pub takes_token : {x : Expression} {text : List ℕ} {tokens : List Token} {at next : ℕ} → can_be_empty x ≡ false → Passed x text tokens at next → at < next

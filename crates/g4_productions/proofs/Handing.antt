@@ -4,9 +4,9 @@ use Rattle.g4_tokens.specs.declared.token.Token.{Token}
 use Rattle.g4_syntax.specs.Notation.{Expression, Nonterminal, ◌∣◌, part}
 use Rattle.g4_syntax.specs.Productions.{production}
 use Rattle.g4_syntax.specs.Trees.{Tree, left, right, inner, begins_there}
-use Rattle.g4_productions.specs.Steps.{from, ReadsAs}
-use Rattle.g4_productions.specs.declared.stop.Stop.{Stop}
-use Rattle.g4_productions.proofs.Choices.{left_passed, right_passed, inner_passed, stops_left, stops_right, stops_inner}
+use Rattle.g4_prequels.specs.Steps.{from, ReadsAs}
+use Rattle.g4_prequels.specs.declared.stop.Stop.{Stop}
+use Rattle.g4_prequels.proofs.Choices.{left_passed, right_passed, inner_passed, stops_left, stops_right, stops_inner}
 
 -- the call reads the first alternative
 pub reads_left : {V : Type 0} {x y : Expression} (Says : Tree (x ∣ y) → V → Type 0) (text : List ℕ) (tokens : List Token) (at : ℕ) (result : Result (V × ℕ) Stop) → begins_there x (from text tokens at) ≡ true → ReadsAs {x = x} (λ tree v. Says (left tree) v) text tokens at result → ReadsAs {x = x ∣ y} Says text tokens at result

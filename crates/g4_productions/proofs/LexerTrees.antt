@@ -13,12 +13,12 @@ use Rattle.g4_source.proofs.Trees.{of_atom, of_block, of_elements}
 use Rattle.g4_syntax.specs.Notation.{◌▸◌, ◌∣◌, optional, repeated, sign, word, name, part, character_set, with_bars, with_commas}
 use Rattle.g4_syntax.specs.Productions.{options, assign, lexer_item, lexer_block, command, lexer_alternative, mode}
 use Rattle.g4_syntax.specs.Trees.{Tree, both, left, right, present, more, inner}
+use Rattle.g4_prequels.specs.Texts.{text_of, name_of}
 use Rattle.g4_productions.specs.Elements.{Labelled}
 use Rattle.g4_productions.specs.LexerElements.{excluded_ranges, labelled_lexer, unnamed_lexer}
 use Rattle.g4_productions.specs.LexerSteps.{excluded_of_each, labelled_by, lexer_block_alternatives, argument_text_of, commands_in_order, rule_lexer_alternatives, mode_of}
 use Rattle.g4_productions.specs.ParserItems.{labelled_of}
 use Rattle.g4_productions.specs.Rules.{argument_of, commands_of, fragment_place, lexer_rule_of, modes_of}
-use Rattle.g4_productions.specs.Texts.{text_of, name_of}
 
 -- sets in brackets
 pub of_brackets : (opening : Tree (sign kinds.LeftParenthesis)) (each : Tree (with_bars (part character_set))) (closing : Tree (sign kinds.RightParenthesis)) → excluded_of_each each ≡ excluded_ranges (inner (right (right (both opening (both each closing)))))

@@ -1,5 +1,3 @@
-pub mod Beginnings
-pub mod Choices
 pub mod Composed
 pub mod Full
 pub mod Given
@@ -8,13 +6,9 @@ pub mod LexerTrees
 pub mod Moving
 pub mod ParserItems
 pub mod ParserRules
-pub mod Parts
 pub mod Ranges
-pub mod Repetitions
 pub mod RuleBeginnings
-pub mod Sequences
 pub mod SetText
 pub mod Suffixes
 pub mod TokenSets
-pub mod Tokens
 pub mod Whole

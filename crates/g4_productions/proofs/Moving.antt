@@ -4,9 +4,9 @@ use Rattle.g4_tokens.specs.declared.token.Kind.{Kind}
 use Rattle.g4_tokens.specs.declared.token.Token.{Token}
 use Rattle.g4_syntax.specs.Notation.{Spelled, Terminal, Expression, one, ◌▸◌, sign}
 use Rattle.g4_syntax.specs.Trees.{Tree, leaf, begins_there, Reads}
-use Rattle.g4_productions.specs.Steps.{from, Passed}
-use Rattle.g4_productions.proofs.Choices.{begins_first}
-use Rattle.g4_productions.proofs.Sequences.{moves}
+use Rattle.g4_prequels.specs.Steps.{from, Passed}
+use Rattle.g4_prequels.proofs.Choices.{begins_first}
+use Rattle.g4_prequels.proofs.Sequences.{moves}
 
 -- what is read as a token begins with it
 leaf_begins : {t : Terminal} (tree : Tree (one t)) (l to : List Spelled) → Reads tree l to → begins_there (one t) l ≡ true

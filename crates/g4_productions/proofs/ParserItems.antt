@@ -11,10 +11,10 @@ use Rattle.g4_source.proofs.Trees.{of_atom}
 use Rattle.g4_syntax.specs.Notation.{◌▸◌, sign}
 use Rattle.g4_syntax.specs.Productions.{assign, item as an_item, reference_end, block}
 use Rattle.g4_syntax.specs.Trees.{Tree, both, left, right}
+use Rattle.g4_prequels.specs.Texts.{name_of}
 use Rattle.g4_productions.specs.Elements.{Labelled}
 use Rattle.g4_productions.specs.ParserElements.{labelled, named_item, unnamed}
 use Rattle.g4_productions.specs.ParserItems.{reference_right, labelled_behind, block_of}
-use Rattle.g4_productions.specs.Texts.{name_of}
 
 -- an item with its label, and whether it associates to the right
 abbrev pub made : Option Label → Item → Bool → Labelled

@@ -9,9 +9,9 @@ use Rattle.g4_source.specs.Elements.{Elements}
 use Rattle.g4_syntax.specs.Notation.{optional, sign, with_bars}
 use Rattle.g4_syntax.specs.Productions.{modifier, rule_prequels, handlers, rule_alternative}
 use Rattle.g4_syntax.specs.Trees.{Tree, both}
+use Rattle.g4_prequels.specs.Texts.{text_of}
 use Rattle.g4_productions.specs.ParserRules.{rule_alternatives_of}
 use Rattle.g4_productions.specs.Rules.{parser_rule_of}
-use Rattle.g4_productions.specs.Texts.{text_of}
 
 -- a label of an alternative
 abbrev pub label_with : Place → List ℕ → AlternativeLabel

@@ -8,10 +8,10 @@ use Rattle.g4_source.specs.declared.element.Repeat.{Repeat}
 use Rattle.g4_syntax.specs.Notation.{Spelled, Expression, ◌▸◌, ◌∣◌, optional, sign}
 use Rattle.g4_syntax.specs.Productions.{suffix}
 use Rattle.g4_syntax.specs.Trees.{Tree, both, present, begins_there, Reads}
+use Rattle.g4_prequels.specs.Steps.{from, Read}
+use Rattle.g4_prequels.specs.Texts.{token_of}
 use Rattle.g4_productions.specs.Elements.{is_greedy, suffix_of, optional_suffix_of}
 use Rattle.g4_productions.specs.Suffixes.{suffix_with}
-use Rattle.g4_productions.specs.Steps.{from, Read}
-use Rattle.g4_productions.specs.Texts.{token_of}
 
 -- one of the signs of a suffix
 abbrev pub signs : Expression

@@ -9,12 +9,12 @@ use Rattle.g4_source.specs.declared.source.Source.{Source}
 use Rattle.g4_syntax.specs.Notation.{Spelled}
 use Rattle.g4_syntax.specs.Productions.{grammar}
 use Rattle.g4_syntax.specs.Trees.{Tree, Reads, TextStops, within, behind}
+use Rattle.g4_prequels.specs.Steps.{from, Read, StopsAt, at_index, without_memory}
+use Rattle.g4_prequels.specs.Texts.{spelled, spelled_token}
+use Rattle.g4_prequels.specs.declared.stop.Stop.{Stop}
+use Rattle.g4_prequels.proofs.Sequences.{from_token}
 use Rattle.g4_productions.specs.Grammars.{IsGrammarText, ReadsText, source_of}
-use Rattle.g4_productions.specs.Steps.{from, Read, StopsAt, at_index, without_memory}
-use Rattle.g4_productions.specs.Texts.{spelled, spelled_token}
-use Rattle.g4_productions.specs.declared.stop.Stop.{Stop}
 use Rattle.g4_productions.proofs.Full.{source_full}
-use Rattle.g4_productions.proofs.Sequences.{from_token}
 
 -- reading stops in a part of the text
 pub text_stops : (text : List ℕ) (tokens : List Token) {stop : Stop} → StopsAt grammar text tokens 0 stop → ReadsText text tokens (Err stop)

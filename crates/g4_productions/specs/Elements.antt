@@ -9,7 +9,7 @@ use Rattle.g4_source.specs.Elements.{Element, element, Item, atom}
 use Rattle.g4_syntax.specs.Notation.{Terminal, Expression, one, optional}
 use Rattle.g4_syntax.specs.Productions.{action, assign, suffix}
 use Rattle.g4_syntax.specs.Trees.{Tree, both, left, right, absent, present}
-use Rattle.g4_productions.specs.Texts.{token_of, name_of}
+use Rattle.g4_prequels.specs.Texts.{token_of, name_of}
 
 -- whether the sign of a label is `+=`
 abbrev pub is_list : Tree assign → Bool

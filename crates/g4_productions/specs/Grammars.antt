@@ -7,12 +7,12 @@ use Rattle.g4_tokens.specs.declared.token.Token.{Token}
 use Rattle.g4_syntax.specs.Notation.{Spelled}
 use Rattle.g4_syntax.specs.Productions.{heading, combined_grammar, lexer_grammar, parser_grammar, grammar}
 use Rattle.g4_syntax.specs.Trees.{Tree, both, left, right, HasTree, TextStops}
-use Rattle.g4_productions.specs.Prequels.{prequels_of}
+use Rattle.g4_prequels.specs.Prequels.{prequels_of}
+use Rattle.g4_prequels.specs.Steps.{from}
+use Rattle.g4_prequels.specs.Texts.{spelled, token_of, text_of}
+use Rattle.g4_prequels.specs.declared.stop.Stop.{Stop}
+use Rattle.g4_prequels.specs.declared.stop.Stop.TheVariants as stops
 use Rattle.g4_productions.specs.Rules.{combined_rules, default_rules, parser_rules, modes_of}
-use Rattle.g4_productions.specs.Steps.{from}
-use Rattle.g4_productions.specs.Texts.{spelled, token_of, text_of}
-use Rattle.g4_productions.specs.declared.stop.Stop.{Stop}
-use Rattle.g4_productions.specs.declared.stop.Stop.TheVariants as stops
 
 -- the name that a grammar text begins with behind its kind
 abbrev pub heading_name : Tree heading → List ℕ

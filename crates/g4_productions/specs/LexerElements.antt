@@ -10,11 +10,11 @@ use Rattle.g4_source.specs.Elements.{Element, Item, atom, block, Elements, in_or
 use Rattle.g4_syntax.specs.Notation.{Terminal, one, lexer_element, character_set, ◌▸◌, ◌∣◌, repeated, part, sign}
 use Rattle.g4_syntax.specs.Productions.{unnamed_lexer_item, lexer_item, labelled_lexer_item}
 use Rattle.g4_syntax.specs.Trees.{Tree, both, left, right, absent, present, end, more, inner}
+use Rattle.g4_prequels.specs.Options.{right_of_optional}
+use Rattle.g4_prequels.specs.Texts.{token_of, name_of, literal_of}
 use Rattle.g4_productions.specs.Elements.{Labelled, label_of, optional_suffix_of, action_of, with_suffix}
 use Rattle.g4_productions.specs.Members.{ranges_of}
-use Rattle.g4_productions.specs.Options.{right_of_optional}
 use Rattle.g4_productions.specs.SetText.{content}
-use Rattle.g4_productions.specs.Texts.{token_of, name_of, literal_of}
 
 -- the ranges of a set
 abbrev pub set_of_leaf : {t : Terminal} → Tree (one t) → List Range

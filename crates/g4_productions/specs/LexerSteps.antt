@@ -17,12 +17,12 @@ use Rattle.g4_source.specs.Trees.{element_of, alternative_of}
 use Rattle.g4_syntax.specs.Notation.{Expression, ◌▸◌, ◌∣◌, repeated, optional, part, sign, name, lexer_element, character_set, with_bars, with_commas}
 use Rattle.g4_syntax.specs.Productions.{assign, lexer_item, lexer_block, command, lexer_alternative, mode}
 use Rattle.g4_syntax.specs.Trees.{Tree, both, left, right}
+use Rattle.g4_prequels.specs.Steps.{ReadsAs}
+use Rattle.g4_prequels.specs.Texts.{text_of}
+use Rattle.g4_prequels.specs.declared.stop.Stop.{Stop}
 use Rattle.g4_productions.specs.Elements.{Labelled, is_list}
 use Rattle.g4_productions.specs.LexerElements.{excluded_ranges, excluded_behind, lexer_elements, lexer_alternatives_behind, named_lexer_item}
 use Rattle.g4_productions.specs.Rules.{command_of, commands_behind, lexer_alternative_of, rule_lexer_alternatives_behind, lexer_rules}
-use Rattle.g4_productions.specs.Steps.{ReadsAs}
-use Rattle.g4_productions.specs.Texts.{text_of}
-use Rattle.g4_productions.specs.declared.stop.Stop.{Stop}
 
 -- the call reads the expression and gives what is seen as the value of its tree
 abbrev pub GivesAs : {V W : Type 0} {x : Expression} → (V → W) → (Tree x → W) → List ℕ → List Token → ℕ → Result (V × ℕ) Stop → Type 0

@@ -3,15 +3,10 @@ pub mod Grammars
 pub mod LexerElements
 pub mod LexerSteps
 pub mod Members
-pub mod Options
 pub mod ParserElements
 pub mod ParserItems
 pub mod ParserRules
-pub mod Parts
-pub mod Prequels
 pub mod Rules
 pub mod SetText
-pub mod Steps
 pub mod Suffixes
-pub mod Texts
 pub mod TokenSets

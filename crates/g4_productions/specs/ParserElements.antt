@@ -9,9 +9,9 @@ use Rattle.g4_source.specs.Elements.{Element, Item, atom, block, Elements, in_or
 use Rattle.g4_syntax.specs.Notation.{element, token_set, ◌▸◌, ◌∣◌, repeated, part, sign}
 use Rattle.g4_syntax.specs.Productions.{alternative, unnamed_item, item, labelled_item}
 use Rattle.g4_syntax.specs.Trees.{Tree, both, left, right, end, more, inner}
+use Rattle.g4_prequels.specs.Options.{right_of_optional}
+use Rattle.g4_prequels.specs.Texts.{token_of, text_of, name_of, literal_of}
 use Rattle.g4_productions.specs.Elements.{Labelled, label_of, optional_suffix_of, action_of, with_suffix}
-use Rattle.g4_productions.specs.Options.{right_of_optional}
-use Rattle.g4_productions.specs.Texts.{token_of, text_of, name_of, literal_of}
 
 abbrev mutual
   -- the tokens behind `~`

@@ -6,9 +6,9 @@ use Rattle.g4_source.specs.Trees.{item_of}
 use Rattle.g4_syntax.specs.Notation.{◌▸◌, with_bars}
 use Rattle.g4_syntax.specs.Productions.{assign, reference_end, alternative, block, item}
 use Rattle.g4_syntax.specs.Trees.{Tree, both}
+use Rattle.g4_prequels.specs.Options.{right_of_optional}
 use Rattle.g4_productions.specs.declared.suffix.Labelled.{Labelled as Node}
 use Rattle.g4_productions.specs.Elements.{Labelled, is_list}
-use Rattle.g4_productions.specs.Options.{right_of_optional}
 use Rattle.g4_productions.specs.ParserElements.{named_item, alternative_elements, alternatives_behind}
 
 -- an item of the code with its label

@@ -17,9 +17,9 @@ use Rattle.g4_source.specs.Elements.{in_order}
 use Rattle.g4_syntax.specs.Notation.{Terminal, one, lexer_element, ◌▸◌, ◌∣◌, optional, repeated, part, sign, name, with_commas}
 use Rattle.g4_syntax.specs.Productions.{rule_alternative, parser_rule, command, lexer_alternative, lexer_rule, mode}
 use Rattle.g4_syntax.specs.Trees.{Tree, both, left, right, absent, present, end, more}
+use Rattle.g4_prequels.specs.Texts.{token_of, text_of, name_of}
 use Rattle.g4_productions.specs.LexerElements.{lexer_elements}
 use Rattle.g4_productions.specs.ParserElements.{alternative_elements, alternative_right}
-use Rattle.g4_productions.specs.Texts.{token_of, text_of, name_of}
 
 -- the label of an alternative
 abbrev pub alternative_label : Tree (optional (sign kinds.Hash ▸ name)) → Option AlternativeLabel

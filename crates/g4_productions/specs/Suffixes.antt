@@ -4,8 +4,8 @@ use Rattle.g4_source.specs.declared.element.Suffix.{Suffix}
 use Rattle.g4_source.specs.declared.element.Repeat.{Repeat}
 use Rattle.g4_syntax.specs.Notation.{Terminal, one, ◌▸◌, optional, sign}
 use Rattle.g4_syntax.specs.Trees.{Tree, both}
+use Rattle.g4_prequels.specs.Texts.{token_of}
 use Rattle.g4_productions.specs.Elements.{is_greedy}
-use Rattle.g4_productions.specs.Texts.{token_of}
 
 -- the suffix that begins with a sign that means so often
 abbrev pub suffix_with : {t : Terminal} → Repeat → Tree (one t ▸ optional (sign kinds.Question)) → Suffix

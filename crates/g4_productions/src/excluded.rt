@@ -1,14 +1,13 @@
 // What stands behind `~` in lexer rules.
 ghost use Rattle.std.specs.Prelude.{◌≡◌, ◌≤◌, ◌++◌, length};
 ghost use Rattle.g4_syntax.specs.Trees.{inner, left, right};
+ghost use Rattle.g4_prequels.specs.Parts.{AreParts};
 ghost use Rattle.g4_productions.specs.LexerElements.{excluded_ranges};
 ghost use Rattle.g4_productions.specs.LexerSteps.{GivesAs, excluded_of_each};
-ghost use Rattle.g4_productions.specs.Parts.{AreParts};
 
-use crate::cursor::{is_at, pass};
 use crate::set::{character_at, set_at};
-use crate::stop::{MOST_OPEN, Stop};
 use g4_grammar::Range;
+use g4_prequels::{MOST_OPEN, Stop, is_at, pass};
 use g4_tokens::{Kind, Token};
 use std::alloc::Global;
 

@@ -1,17 +1,15 @@
 // A whole grammar text.
 ghost use Rattle.std.specs.Prelude.{◌≡◌, ◌≤◌, length};
+ghost use Rattle.g4_prequels.specs.Parts.{AreParts};
+ghost use Rattle.g4_prequels.specs.Steps.{Gives, ReadsAs};
 ghost use Rattle.g4_productions.specs.Grammars.{combined_of, heading_name, heading_prequels, lexer_grammar_of, parser_grammar_of, source_of};
-ghost use Rattle.g4_productions.specs.Parts.{AreParts};
 ghost use Rattle.g4_productions.specs.Rules.{combined_rules, default_rules, parser_rules};
-ghost use Rattle.g4_productions.specs.Steps.{Gives, ReadsAs};
 
-use crate::cursor::{is_at, is_word_at, name_text, pass, pass_word, word_place};
 use crate::lexer_rule::{is_lexer_rule_at, lexer_rule};
 use crate::mode::modes;
 use crate::parser_rule::parser_rule;
-use crate::prequel::prequels;
-use crate::stop::Stop;
 use g4_base::{Place, Sequence, Text};
+use g4_prequels::{Stop, is_at, is_word_at, name_text, pass, pass_word, prequels, word_place};
 use g4_source::{GrammarKind, Prequel, Rule, Source};
 use g4_tokens::{Kind, Token};
 use std::alloc::Global;

@@ -3,20 +3,20 @@ ghost use Rattle.std.specs.Prelude.{◌≡◌, ◌≤◌, ℕ, List, length, Non
 ghost use Rattle.g4_source.specs.Trees.{element_of};
 ghost use Rattle.g4_syntax.specs.Notation.{part, lexer_element};
 ghost use Rattle.g4_syntax.specs.Trees.{begins_there, left, right};
+ghost use Rattle.g4_prequels.specs.Parts.{AreParts};
+ghost use Rattle.g4_prequels.specs.Steps.{from};
 ghost use Rattle.g4_productions.specs.LexerElements.{lexer_element_of, lexer_elements, labelled_lexer, named_lexer_item, unnamed_lexer};
 ghost use Rattle.g4_productions.specs.Elements.{with_suffix};
 ghost use Rattle.g4_productions.specs.ParserItems.{labelled_of};
 ghost use Rattle.g4_productions.specs.LexerSteps.{GivesAs, elements_in, alternatives_in, labelled_by, lexer_alternatives, lexer_block_alternatives};
-ghost use Rattle.g4_productions.specs.Parts.{AreParts};
-ghost use Rattle.g4_productions.specs.Steps.{from};
 
-use crate::cursor::{is_at, literal_at, named, pass, place_at};
 use crate::excluded::with_excluded;
-use crate::options::optional_element_options;
 use crate::set::set_at;
-use crate::stop::{MOST_OPEN, Stop};
 use crate::suffix::{Labelled, action, is_label_sign_at, label_sign, optional_suffix};
 use g4_base::Sequence;
+use g4_prequels::{
+    MOST_OPEN, Stop, is_at, literal_at, named, optional_element_options, pass, place_at,
+};
 use g4_source::{Alternative, Atom, Element, Item, Label, Name, Suffix};
 use g4_tokens::{Kind, Token};
 use std::alloc::Global;

@@ -3,16 +3,17 @@ ghost use Rattle.std.specs.Prelude.{◌≡◌, ◌≤◌, length, codes};
 ghost use Rattle.g4_syntax.specs.Notation.{optional, word};
 ghost use Rattle.g4_syntax.specs.Productions.{lexer_rule as a_lexer_rule};
 ghost use Rattle.g4_syntax.specs.Trees.{begins_there};
+ghost use Rattle.g4_prequels.specs.Parts.{AreParts};
+ghost use Rattle.g4_prequels.specs.Steps.{from, Gives};
 ghost use Rattle.g4_productions.specs.LexerSteps.{argument_text_of, commands_in_order, rule_lexer_alternatives};
-ghost use Rattle.g4_productions.specs.Parts.{AreParts};
 ghost use Rattle.g4_productions.specs.Rules.{argument_of, command_of, commands_of, lexer_alternative_of, fragment_place, lexer_rule_of, lexer_rules};
-ghost use Rattle.g4_productions.specs.Steps.{from, Gives};
 
-use crate::cursor::{is_at, is_name_at, is_word_at, name, name_text, pass, word_place, written_at};
 use crate::lexer_element::elements;
-use crate::passing::pass_optional_options;
-use crate::stop::Stop;
 use g4_base::{Place, Sequence};
+use g4_prequels::{
+    Stop, is_at, is_name_at, is_word_at, name, name_text, pass, pass_optional_options, word_place,
+    written_at,
+};
 use g4_source::{Argument, Command, Elements, LexerAlternative, LexerRule};
 use g4_tokens::{Kind, Token};
 use std::alloc::Global;

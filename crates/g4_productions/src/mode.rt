@@ -1,14 +1,13 @@
 // The modes of a lexer grammar.
 ghost use Rattle.std.specs.Prelude.{◌≡◌, ◌≤◌, length};
+ghost use Rattle.g4_prequels.specs.Parts.{AreParts};
+ghost use Rattle.g4_prequels.specs.Steps.{Gives};
 ghost use Rattle.g4_productions.specs.LexerSteps.{mode_of};
-ghost use Rattle.g4_productions.specs.Parts.{AreParts};
 ghost use Rattle.g4_productions.specs.Rules.{modes_of};
-ghost use Rattle.g4_productions.specs.Steps.{Gives};
 
-use crate::cursor::{is_word_at, name_text, pass, pass_word};
 use crate::lexer_rule::lexer_rules;
-use crate::stop::Stop;
 use g4_base::Sequence;
+use g4_prequels::{Stop, is_word_at, name_text, pass, pass_word};
 use g4_source::Mode;
 use g4_tokens::{Kind, Token};
 use std::alloc::Global;

@@ -3,17 +3,17 @@ ghost use Rattle.std.specs.Prelude.{◌≡◌, ◌≤◌, ◌++◌, ℕ, List, l
 ghost use Rattle.g4_source.specs.Trees.{element_of, alternative_of};
 ghost use Rattle.g4_syntax.specs.Notation.{element as an_element, part};
 ghost use Rattle.g4_syntax.specs.Trees.{left, right, begins_there};
-ghost use Rattle.g4_productions.specs.Parts.{AreParts};
+ghost use Rattle.g4_prequels.specs.Parts.{AreParts};
+ghost use Rattle.g4_prequels.specs.Steps.{from, ReadsAs, Gives};
 ghost use Rattle.g4_productions.specs.ParserElements.{parser_element, parser_elements, labelled, named_item, unnamed, alternative_elements, alternatives_behind};
 ghost use Rattle.g4_productions.specs.ParserItems.{labelled_of, reference_right, labelled_behind, alternatives_of, block_of};
-ghost use Rattle.g4_productions.specs.Steps.{from, ReadsAs, Gives};
 
-use crate::cursor::{is_at, literal_at, named, pass, place_at};
-use crate::options::optional_element_options;
-use crate::passing::{pass_block_prequel, pass_optional};
-use crate::stop::{MOST_OPEN, Stop};
 use crate::suffix::{Labelled, action, is_label_sign_at, label_sign, optional_suffix};
 use crate::token_set::excluded_tokens;
+use g4_prequels::{
+    MOST_OPEN, Stop, is_at, literal_at, named, optional_element_options, pass, pass_block_prequel,
+    pass_optional, place_at,
+};
 use g4_source::{Alternative, Atom, Element, Item, Label, Name};
 use g4_tokens::{Kind, Token};
 use std::alloc::Global;

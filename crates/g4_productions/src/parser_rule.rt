@@ -1,16 +1,16 @@
 // Parser rules.
 ghost use Rattle.std.specs.Prelude.{◌≡◌, ◌≤◌, ◌++◌, length};
-ghost use Rattle.g4_productions.specs.Parts.{AreParts};
+ghost use Rattle.g4_prequels.specs.Parts.{AreParts};
+ghost use Rattle.g4_prequels.specs.Steps.{ReadsAs, Gives};
 ghost use Rattle.g4_productions.specs.ParserRules.{rule_alternatives_of};
 ghost use Rattle.g4_productions.specs.Rules.{alternative_label as label_of, rule_alternative_of, rule_alternatives_behind, parser_rule_of};
-ghost use Rattle.g4_productions.specs.Steps.{ReadsAs, Gives};
 
-use crate::cursor::{is_at, name_text, pass, place_at, written_at};
-use crate::options::optional_element_options;
 use crate::parser_element::elements;
-use crate::passing::{pass_handlers, pass_modifier, pass_rule_prequels};
-use crate::stop::Stop;
 use g4_base::Sequence;
+use g4_prequels::{
+    Stop, is_at, name_text, optional_element_options, pass, pass_handlers, pass_modifier,
+    pass_rule_prequels, place_at, written_at,
+};
 use g4_source::{AlternativeLabel, Elements, ParserRule, RuleAlternative};
 use g4_tokens::{Kind, Token};
 use std::alloc::Global;

@@ -1,11 +1,11 @@
 // A whole grammar text.
 ghost use Rattle.std.specs.Prelude.{IfOk};
 ghost use Rattle.g4_source.specs.Blocks.{HaveAlternatives};
-ghost use Rattle.g4_productions.specs.Parts.{AreParts};
+ghost use Rattle.g4_prequels.specs.Parts.{AreParts};
 ghost use Rattle.g4_productions.specs.Grammars.{ReadsText};
 
 use crate::grammar::grammar_at;
-use crate::stop::Stop;
+use g4_prequels::Stop;
 use g4_source::Source;
 use g4_tokens::Token;
 use std::alloc::Global;

@@ -2,19 +2,17 @@
 ghost use Rattle.std.specs.Prelude.{◌≡◌, IfOk, map};
 ghost use Rattle.g4_tokens.specs.declared.token.Kind.TheVariants.{Literal, Set};
 ghost use Rattle.g4_syntax.specs.Notation.{sign};
+ghost use Rattle.g4_prequels.specs.Parts.{IsPart, AreParts};
+ghost use Rattle.g4_prequels.specs.Steps.{Gives};
+ghost use Rattle.g4_prequels.specs.Texts.{characters_of};
 ghost use Rattle.g4_productions.specs.LexerElements.{set_of_leaf, first_character, character_of};
 ghost use Rattle.g4_productions.specs.Members.{set_of, ranges_of};
-ghost use Rattle.g4_productions.specs.Parts.{IsPart, AreParts};
 ghost use Rattle.g4_productions.specs.SetText.{content, in_grammar};
-ghost use Rattle.g4_productions.specs.Steps.{Gives};
-ghost use Rattle.g4_productions.specs.Texts.{characters_of};
 
-use crate::cursor::{is_at, literal_at};
-use crate::spelling::characters;
-use crate::stop::Stop;
 use g4_base::Sequence;
 use g4_chars::{SetFault, read_set};
 use g4_grammar::Range;
+use g4_prequels::{Stop, characters, is_at, literal_at};
 use g4_tokens::{Kind, Token};
 use std::alloc::{AllocError, Global};
 

@@ -5,14 +5,12 @@ ghost use Rattle.g4_syntax.specs.Notation.{sign, optional, ◌▸◌};
 ghost use Rattle.g4_syntax.specs.Productions.{assign};
 ghost use Rattle.g4_syntax.specs.Trees.{begins_there};
 ghost use Rattle.g4_tokens.specs.declared.token.Kind.TheVariants as kinds;
+ghost use Rattle.g4_prequels.specs.Parts.{AreParts};
+ghost use Rattle.g4_prequels.specs.Steps.{from, Read, ReadsAs, Gives};
 ghost use Rattle.g4_productions.specs.Elements.{is_greedy, is_list, optional_suffix_of, action_of};
-ghost use Rattle.g4_productions.specs.Parts.{AreParts};
-ghost use Rattle.g4_productions.specs.Steps.{from, Read, ReadsAs, Gives};
 ghost use Rattle.g4_productions.specs.Suffixes.{suffix_with};
 
-use crate::cursor::{is_at, named, pass};
-use crate::options::optional_element_options;
-use crate::stop::Stop;
+use g4_prequels::{Stop, is_at, named, optional_element_options, pass};
 use g4_source::{Atom, Element, Item, Label, Repeat, Suffix};
 use g4_tokens::{Kind, Token};
 use std::alloc::Global;

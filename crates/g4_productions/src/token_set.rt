@@ -1,15 +1,13 @@
 // The tokens behind `~` in a parser rule.
 ghost use Rattle.std.specs.Prelude.{◌≡◌, ◌≤◌, ◌++◌, length};
 ghost use Rattle.g4_syntax.specs.Trees.{left, right, inner};
-ghost use Rattle.g4_productions.specs.Parts.{AreParts};
+ghost use Rattle.g4_prequels.specs.Parts.{AreParts};
+ghost use Rattle.g4_prequels.specs.Steps.{ReadsAs, Gives};
 ghost use Rattle.g4_productions.specs.ParserElements.{symbols_of, symbols_behind};
 ghost use Rattle.g4_productions.specs.TokenSets.{symbols_between};
-ghost use Rattle.g4_productions.specs.Steps.{ReadsAs, Gives};
 
-use crate::cursor::{is_at, literal_at, pass, written_at};
-use crate::options::optional_element_options;
-use crate::stop::{MOST_OPEN, Stop};
 use g4_base::Sequence;
+use g4_prequels::{MOST_OPEN, Stop, is_at, literal_at, optional_element_options, pass, written_at};
 use g4_source::Symbol;
 use g4_tokens::{Kind, Token};
 use std::alloc::Global;

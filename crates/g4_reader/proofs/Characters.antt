@@ -12,9 +12,9 @@ use Rattle.g4_tokens.specs.declared.token.Kind.{Kind}
 use Rattle.g4_tokens.specs.declared.token.Kind.TheVariants as kinds
 use Rattle.g4_tokens.specs.declared.token.Token.{Token}
 use Rattle.g4_syntax.specs.Notation.{Spelled}
+use Rattle.g4_prequels.specs.Steps.{from}
+use Rattle.g4_prequels.specs.Texts.{spelled_token}
 use Rattle.g4_productions.specs.SetText.{IsBad}
-use Rattle.g4_productions.specs.Steps.{from}
-use Rattle.g4_productions.specs.Texts.{spelled_token}
 use Rattle.g4_reader.specs.Answering.{BeginsBad, EndIsBad, IsLone, RangeIsBad, Tells}
 use Rattle.g4_reader.specs.Bad.{first_of, IsBadEnd, IsBadRange, IsBadSet, IsNoCharacter, stands_for}
 use Rattle.g4_reader.proofs.Tokens.{blank, from_behind, from_read, from_token}

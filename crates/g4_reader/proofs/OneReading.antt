@@ -9,8 +9,8 @@ use Rattle.g4_syntax.specs.Notation.{Spelled}
 use Rattle.g4_syntax.specs.Productions.{grammar}
 use Rattle.g4_syntax.specs.Trees.{Tree, HasTree, BeginsText, Ends}
 use Rattle.g4_syntax.proofs.Unique as trees
+use Rattle.g4_prequels.specs.Texts.{spelled}
 use Rattle.g4_productions.specs.Grammars.{IsGrammarText, source_of}
-use Rattle.g4_productions.specs.Texts.{spelled}
 use Rattle.g4_reader.proofs.Utf8.{not_both, one_point}
 use Rattle.g4_reader.specs.Answering.{IsReadingOf}
 use Rattle.g4_reader.specs.Bad.{HasFirstBad, HasNoBad, begins_here, begins_behind}

@@ -13,7 +13,7 @@ use Rattle.g4_tokens.specs.Scanning.{AreTokens, at_end, behind_gap, with_token, 
 use Rattle.g4_tokens.specs.Statements.{Word}
 use Rattle.g4_tokens.specs.declared.position.Position.{Position}
 use Rattle.g4_tokens.specs.declared.token.Token.{Token}
-use Rattle.g4_productions.specs.Parts.{IsPart, AreParts, each_is}
+use Rattle.g4_prequels.specs.Parts.{IsPart, AreParts, each_is}
 
 -- how many bytes characters take
 bytes_counted : (cs : List ℕ) → byte_count cs ≡ length (encode_utf8_all cs)

@@ -7,8 +7,8 @@ use Rattle.g4_source.specs.declared.source.Source.{Source}
 use Rattle.g4_syntax.specs.Notation.{Spelled}
 use Rattle.g4_syntax.specs.Trees.{TextStops}
 use Rattle.g4_syntax.proofs.FirstStop.{begins_text, ends_text}
+use Rattle.g4_prequels.specs.Texts.{spelled}
 use Rattle.g4_productions.specs.Grammars.{IsGrammarText}
-use Rattle.g4_productions.specs.Texts.{spelled}
 use Rattle.g4_reader.specs.Answering.{IsFirstOf, IsGoodOrBad, IsReadingOf}
 use Rattle.g4_reader.specs.Reading.{HasSpelled, IsCut, IsReading}
 use Rattle.g4_reader.specs.declared.reader.ReadFault.{ReadFault}

@@ -9,8 +9,8 @@ use Rattle.g4_syntax.specs.Notation.{Spelled}
 use Rattle.g4_syntax.specs.Productions.{grammar}
 use Rattle.g4_syntax.specs.Trees.{Tree, HasTree, TextStops}
 use Rattle.g4_syntax.proofs.Total.{text_or_stop}
+use Rattle.g4_prequels.specs.Texts.{spelled}
 use Rattle.g4_productions.specs.Grammars.{source_of}
-use Rattle.g4_productions.specs.Texts.{spelled}
 use Rattle.g4_reader.proofs.Utf8.{utf8_or_not}
 use Rattle.g4_reader.specs.Answering.{IsReadingOf}
 use Rattle.g4_reader.specs.Bad.{HasFirstBad, HasNoBad}

@@ -11,8 +11,8 @@ use Rattle.g4_syntax.specs.Notation.{Spelled}
 use Rattle.g4_syntax.specs.Productions.{grammar}
 use Rattle.g4_syntax.specs.Trees.{Tree, HasTree, BeginsText, Ends}
 use Rattle.g4_reader.specs.Bad.{HasFirstBad, HasNoBad}
+use Rattle.g4_prequels.specs.Texts.{spelled}
 use Rattle.g4_productions.specs.Grammars.{IsGrammarText}
-use Rattle.g4_productions.specs.Texts.{spelled}
 use Rattle.g4_reader.specs.declared.reader.ReadFault.{ReadFault}
 use Rattle.g4_reader.specs.declared.reader.ReadFault.TheVariants.{NotUtf8, Syntax, BadSet, NoMemory}
 

@@ -1,15 +1,15 @@
 // The first bad character set of a text.
 ghost use Rattle.std.specs.Prelude.{◌≡◌, ◌+◌, ◌-◌, ◌<◌, ◌^◌, ◌⊎◌, IfOk, length};
-ghost use Rattle.g4_productions.specs.Parts.{AreParts, IsPart};
+ghost use Rattle.g4_prequels.specs.Parts.{AreParts, IsPart};
+ghost use Rattle.g4_prequels.specs.Steps.{from};
+ghost use Rattle.g4_prequels.specs.Texts.{characters_of, spelled, spelled_token};
 ghost use Rattle.g4_productions.specs.SetText.{content, IsBad};
-ghost use Rattle.g4_productions.specs.Steps.{from};
-ghost use Rattle.g4_productions.specs.Texts.{characters_of, spelled, spelled_token};
 ghost use Rattle.g4_reader.specs.Answering.{BeginsBad, EndIsBad, IsLone, RangeIsBad, Tells, TellsFirstBad};
 ghost use Rattle.g4_reader.specs.Bad.{excluded_past, exclusions_past, stands_for};
 
 use g4_base::Place;
 use g4_chars::{SetFault, read_set};
-use g4_productions::{characters, token_at};
+use g4_prequels::{characters, token_at};
 use g4_tokens::{Kind, Statement, Token, literal_characters};
 use std::alloc::{AllocError, Global};
 

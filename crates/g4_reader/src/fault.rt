@@ -2,15 +2,15 @@
 ghost use Rattle.std.specs.Prelude.{◌≡◌, ◌≤◌, [], IfOk, drop, take, length};
 ghost use Rattle.g4_base.specs.Place.{first_place, place_after};
 ghost use Rattle.g4_tokens.specs.Answers.{unmarked};
-ghost use Rattle.g4_productions.specs.Texts.{characters_of};
-ghost use Rattle.g4_productions.specs.Parts.{IsPart, AreParts};
+ghost use Rattle.g4_prequels.specs.Texts.{characters_of};
+ghost use Rattle.g4_prequels.specs.Parts.{IsPart, AreParts};
 ghost use Rattle.g4_reader.specs.Reading.{end_of, fault_at, opened_fault};
-ghost use Rattle.g4_productions.specs.Steps.{from};
+ghost use Rattle.g4_prequels.specs.Steps.{from};
 ghost use Rattle.g4_reader.specs.Answering.{IsFault};
 
 use crate::reader::ReadFault;
 use g4_base::{Place, Sequence};
-use g4_productions::{characters, token_at};
+use g4_prequels::{characters, token_at};
 use g4_tokens::Token;
 use std::alloc::{AllocError, Global};
 

@@ -420,6 +420,16 @@ fn reads_parser_rules(rt: HostRuntime) -> Result<(), Fail> {
                 "grammar g; r : mode ; mode : A ;",
                 "g; r: | mode; mode: | A",
             ),
+        ],
+    )
+}
+
+#[test]
+fn refuses_parser_rules(rt: HostRuntime) -> Result<(), Fail> {
+    compare(
+        &rt,
+        rt.alloc(),
+        &[
             ("grammar g; r", "12 <EOF>"),
             ("grammar g; r A", "13 A"),
             ("grammar g; r : A", "16 <EOF>"),

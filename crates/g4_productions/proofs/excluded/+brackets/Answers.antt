@@ -5,13 +5,13 @@ use Rattle.g4_grammar.specs.declared.grammar.Range.{Range}
 use Rattle.g4_tokens.specs.declared.token.Token.{Token}
 use Rattle.g4_syntax.specs.Notation.{◌▸◌, optional, sign, part, character_set}
 use Rattle.g4_syntax.specs.Trees.{begins_there}
+use Rattle.g4_prequels.specs.Steps.{from, without_memory}
+use Rattle.g4_prequels.proofs.Choices.{left_passed, right_passed, inner_passed, stops_left, stops_right, stops_inner, begins_first}
+use Rattle.g4_prequels.proofs.Repetitions.{turn, end_turns, stops_in_turn}
+use Rattle.g4_prequels.proofs.Sequences.{one_passed, then_passed, stops_first, stops_then}
 use Rattle.g4_productions.specs.LexerElements.{excluded_ranges, excluded_behind}
-use Rattle.g4_productions.specs.Steps.{from, without_memory}
-use Rattle.g4_productions.proofs.Choices.{left_passed, right_passed, inner_passed, stops_left, stops_right, stops_inner, begins_first}
 use Rattle.g4_productions.proofs.LexerTrees.{of_brackets}
 use Rattle.g4_productions.proofs.Moving.{one_moves}
-use Rattle.g4_productions.proofs.Repetitions.{turn, end_turns, stops_in_turn}
-use Rattle.g4_productions.proofs.Sequences.{one_passed, then_passed, stops_first, stops_then}
 use Rattle.g4_productions.proofs.excluded.+brackets.Goals as goal
 
 -- whether characters of literals stand at the index

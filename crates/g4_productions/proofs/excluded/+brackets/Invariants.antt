@@ -1,8 +1,8 @@
 use Rattle.std.proofs.Common.{◌++◌, length, ◌+◌, ◌-◌, ◌*◌}
 use Rattle.g4_tokens.specs.declared.token.Kind.TheVariants as kinds
 use Rattle.g4_syntax.specs.Notation.{◌▸◌, repeated, part, sign, character_set}
+use Rattle.g4_prequels.proofs.Repetitions.{Turned}
 use Rattle.g4_productions.specs.LexerElements.{excluded_behind}
-use Rattle.g4_productions.proofs.Repetitions.{Turned}
 use Rattle.g4_productions.proofs.excluded.+brackets.Given as goal
 
 -- of calls at one index, brackets are nearest to the end of the recursion, then what stands behind `~`, and several of these

@@ -2,10 +2,10 @@ use Rattle.std.proofs.Common.{◌++◌, ◌∷◌, [], refl, sym, ◌∙◌, ap}
 use Rattle.std.proofs.lemmas.Result.{err_from_is_err_and}
 use Rattle.g4_tokens.specs.declared.token.Kind.TheVariants as kinds
 use Rattle.g4_syntax.specs.Notation.{sign}
+use Rattle.g4_prequels.specs.Steps.{from, without_memory}
+use Rattle.g4_prequels.proofs.Choices.{absent_passed, present_passed, stops_present, begins_first}
+use Rattle.g4_prequels.proofs.Sequences.{then_passed, stops_first, stops_then}
 use Rattle.g4_productions.specs.LexerElements.{character_of}
-use Rattle.g4_productions.specs.Steps.{from, without_memory}
-use Rattle.g4_productions.proofs.Choices.{absent_passed, present_passed, stops_present, begins_first}
-use Rattle.g4_productions.proofs.Sequences.{then_passed, stops_first, stops_then}
 use Rattle.g4_productions.proofs.excluded.with_characters.Goals as goal
 
 pub returns-in_err-first : goal.returns-in_err-first

@@ -1,6 +1,6 @@
 use Rattle.std.proofs.Common.{◌++◌, ◌∙◌, ap}
 use Rattle.std.proofs.lemmas.Result.{err_from_is_err_and}
-use Rattle.g4_productions.specs.Steps.{without_memory}
+use Rattle.g4_prequels.specs.Steps.{without_memory}
 use Rattle.g4_productions.proofs.excluded.with_set.Goals as goal
 
 pub returns-in_err-set : goal.returns-in_err-set

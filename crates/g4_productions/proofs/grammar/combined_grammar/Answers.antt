@@ -1,6 +1,6 @@
 use Rattle.std.proofs.Common.{refl}
 use Rattle.std.proofs.lemmas.Result.{err_from_is_err_and}
-use Rattle.g4_productions.proofs.Sequences.{then_passed, stops_first, stops_then}
+use Rattle.g4_prequels.proofs.Sequences.{then_passed, stops_first, stops_then}
 use Rattle.g4_productions.proofs.grammar.combined_grammar.Goals as goal
 
 pub returns-in_err-place : goal.returns-in_err-place

@@ -8,12 +8,12 @@ use Rattle.g4_source.specs.declared.rule.Rule.TheVariants as rules
 use Rattle.g4_syntax.specs.Notation.{Spelled, ◌∣◌}
 use Rattle.g4_syntax.specs.Productions.{lexer_rule, parser_rule}
 use Rattle.g4_syntax.specs.Trees.{begins_there}
+use Rattle.g4_prequels.specs.Steps.{from, without_memory}
+use Rattle.g4_prequels.proofs.Choices.{begins_choice, left_passed, right_passed, stops_left, stops_right}
+use Rattle.g4_prequels.proofs.Repetitions.{stops_in_turn, list_turn, list_end}
+use Rattle.g4_prequels.proofs.Sequences.{moves}
 use Rattle.g4_productions.specs.Rules.{combined_rules}
-use Rattle.g4_productions.specs.Steps.{from, without_memory}
 use Rattle.g4_productions.proofs.RuleBeginnings.{parser_rule_begins}
-use Rattle.g4_productions.proofs.Choices.{begins_choice, left_passed, right_passed, stops_left, stops_right}
-use Rattle.g4_productions.proofs.Repetitions.{stops_in_turn, list_turn, list_end}
-use Rattle.g4_productions.proofs.Sequences.{moves}
 use Rattle.g4_productions.proofs.grammar.combined_rules.Goals as goal
 
 -- a rule begins where a lexer rule does

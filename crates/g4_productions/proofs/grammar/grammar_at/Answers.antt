@@ -2,9 +2,9 @@ use Rattle.std.proofs.Common.{◌≡◌, codes, refl, sym, ◌∙◌}
 use Rattle.g4_syntax.specs.Notation.{word, ◌▸◌, ◌∣◌, repeated}
 use Rattle.g4_syntax.specs.Productions.{heading, lexer_rule, parser_rule, mode, combined_grammar, lexer_grammar, parser_grammar}
 use Rattle.g4_syntax.specs.Trees.{Tree, right}
+use Rattle.g4_prequels.specs.Steps.{from}
+use Rattle.g4_prequels.proofs.Choices.{begins_first}
 use Rattle.g4_productions.specs.Grammars.{source_of, combined_of, lexer_grammar_of, parser_grammar_of}
-use Rattle.g4_productions.specs.Steps.{from}
-use Rattle.g4_productions.proofs.Choices.{begins_first}
 use Rattle.g4_productions.proofs.Given.{gives_left, gives_right}
 use Rattle.g4_productions.proofs.grammar.grammar_at.Goals as goal
 

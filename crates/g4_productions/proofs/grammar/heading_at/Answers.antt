@@ -1,5 +1,5 @@
 use Rattle.std.proofs.lemmas.Result.{err_from_is_err_and}
-use Rattle.g4_productions.proofs.Sequences.{then_passed, stops_first, stops_then}
+use Rattle.g4_prequels.proofs.Sequences.{then_passed, stops_first, stops_then}
 use Rattle.g4_productions.proofs.grammar.heading_at.Goals as goal
 
 pub returns-in_err-name : goal.returns-in_err-name

@@ -3,11 +3,11 @@ use Rattle.std.proofs.Common.{◌∷◌, refl, sym, ◌∙◌, ap, arith}
 use Rattle.g4_source.specs.declared.rule.ParserRule.{ParserRule}
 use Rattle.g4_source.specs.declared.rule.Rule.{Rule}
 use Rattle.g4_source.specs.declared.rule.Rule.TheVariants as rules
+use Rattle.g4_prequels.specs.Steps.{from, without_memory}
+use Rattle.g4_prequels.proofs.Repetitions.{stops_in_turn, list_turn, list_end}
+use Rattle.g4_prequels.proofs.Sequences.{moves}
 use Rattle.g4_productions.specs.Rules.{parser_rules}
-use Rattle.g4_productions.specs.Steps.{from, without_memory}
 use Rattle.g4_productions.proofs.RuleBeginnings.{parser_rule_begins}
-use Rattle.g4_productions.proofs.Repetitions.{stops_in_turn, list_turn, list_end}
-use Rattle.g4_productions.proofs.Sequences.{moves}
 use Rattle.g4_productions.proofs.grammar.parser_rules.Goals as goal
 
 pub returns-in_err-rule : goal.returns-in_err-rule

@@ -1,6 +1,6 @@
 use Rattle.std.proofs.Common.{◌-◌, length}
+use Rattle.g4_prequels.proofs.Repetitions.{Listed}
 use Rattle.g4_productions.specs.Rules.{parser_rules}
-use Rattle.g4_productions.proofs.Repetitions.{Listed}
 use Rattle.g4_productions.proofs.grammar.parser_rules.Given as goal
 
 abbrev pub invariant-loop-alloc : goal.invariant-loop-alloc

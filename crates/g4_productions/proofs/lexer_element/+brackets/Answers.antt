@@ -10,17 +10,17 @@ use Rattle.g4_source.specs.Trees.{element_of, alternative_of}
 use Rattle.g4_syntax.specs.Notation.{◌▸◌, ◌∣◌, optional, repeated, sign, part, lexer_element, character_set}
 use Rattle.g4_syntax.specs.Productions.{action, assign, element_options, lexer_item}
 use Rattle.g4_syntax.specs.Trees.{begins_there, right, inner}
+use Rattle.g4_prequels.specs.Steps.{from, without_memory}
+use Rattle.g4_prequels.proofs.Choices.{begins_first, left_passed, right_passed, inner_passed, stops_left, stops_right, stops_inner}
+use Rattle.g4_prequels.proofs.Repetitions.{begin, list_turn, list_end, stops_in_turn}
+use Rattle.g4_prequels.proofs.Sequences.{moves, one_passed, then_passed, stops_first, stops_then}
 use Rattle.g4_productions.specs.Elements.{Labelled, with_suffix}
 use Rattle.g4_productions.specs.LexerElements.{lexer_element_of, lexer_elements, labelled_lexer, named_lexer_item, unnamed_lexer, lexer_alternatives_behind}
 use Rattle.g4_productions.specs.LexerSteps.{labelled_by}
 use Rattle.g4_productions.specs.ParserItems.{labelled_of}
-use Rattle.g4_productions.specs.Steps.{from, without_memory}
-use Rattle.g4_productions.proofs.Choices.{begins_first, left_passed, right_passed, inner_passed, stops_left, stops_right, stops_inner}
 use Rattle.g4_productions.proofs.Handing.{reads_left, reads_right, reads_inner}
 use Rattle.g4_productions.proofs.LexerTrees.{labelled_atom, of_lexer_block, of_lower, of_upper, labelled_block, element_pushed, alternative_is, alternative_pushed}
 use Rattle.g4_productions.proofs.Moving.{one_moves, sign_begins}
-use Rattle.g4_productions.proofs.Repetitions.{begin, list_turn, list_end, stops_in_turn}
-use Rattle.g4_productions.proofs.Sequences.{moves, one_passed, then_passed, stops_first, stops_then}
 use Rattle.g4_productions.proofs.lexer_element.+brackets.Goals as goal
 
 pub block-returns-in_err-at : goal.block-returns-in_err-at

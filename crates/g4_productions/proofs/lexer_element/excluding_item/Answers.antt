@@ -2,10 +2,10 @@ use Rattle.std.proofs.Common.{refl, ap, ◌∙◌, ◌++◌, List}
 use Rattle.std.proofs.lemmas.Result.{err_from_is_err_and}
 use Rattle.g4_grammar.specs.declared.grammar.Range.{Range}
 use Rattle.g4_source.specs.declared.atom.Atom.TheVariants as atoms
+use Rattle.g4_prequels.specs.Texts.{token_of}
+use Rattle.g4_prequels.proofs.Sequences.{then_passed, stops_first, stops_then}
 use Rattle.g4_productions.specs.LexerElements.{excluded_ranges}
-use Rattle.g4_productions.specs.Texts.{token_of}
 use Rattle.g4_productions.proofs.LexerTrees.{labelled_atom}
-use Rattle.g4_productions.proofs.Sequences.{then_passed, stops_first, stops_then}
 use Rattle.g4_productions.proofs.lexer_element.excluding_item.Goals as goal
 
 pub returns-in_err-place : goal.returns-in_err-place

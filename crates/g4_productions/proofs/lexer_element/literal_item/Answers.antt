@@ -5,11 +5,11 @@ use Rattle.g4_source.specs.declared.atom.Atom.TheVariants as atoms
 use Rattle.g4_syntax.specs.Notation.{sign}
 use Rattle.g4_syntax.specs.Trees.{Tree}
 use Rattle.g4_syntax.proofs.Unique.{one_reading}
-use Rattle.g4_productions.specs.Texts.{token_of, literal_of}
-use Rattle.g4_productions.proofs.Choices.{left_passed, right_passed, stops_left, stops_right}
+use Rattle.g4_prequels.specs.Texts.{token_of, literal_of}
+use Rattle.g4_prequels.proofs.Choices.{left_passed, right_passed, stops_left, stops_right}
+use Rattle.g4_prequels.proofs.Sequences.{then_passed, stops_first, stops_then}
 use Rattle.g4_productions.proofs.LexerTrees.{labelled_atom}
 use Rattle.g4_productions.proofs.Moving.{sign_begins}
-use Rattle.g4_productions.proofs.Sequences.{then_passed, stops_first, stops_then}
 use Rattle.g4_productions.proofs.lexer_element.literal_item.Goals as goal
 
 pub returns-in_err-place : goal.returns-in_err-place

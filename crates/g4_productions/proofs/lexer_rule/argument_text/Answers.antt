@@ -1,7 +1,7 @@
 use Rattle.std.proofs.Common.{sym, ◌∙◌, ap}
 use Rattle.std.proofs.lemmas.Result.{err_from_is_err_and}
 use Rattle.g4_source.specs.declared.rule.Argument.TheVariants as arguments
-use Rattle.g4_productions.proofs.Choices.{left_passed, right_passed, stops_left, stops_right}
+use Rattle.g4_prequels.proofs.Choices.{left_passed, right_passed, stops_left, stops_right}
 use Rattle.g4_productions.proofs.lexer_rule.argument_text.Goals as goal
 
 pub returns-in_err-name : goal.returns-in_err-name

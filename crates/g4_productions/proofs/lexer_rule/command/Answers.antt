@@ -3,8 +3,8 @@ use Rattle.std.proofs.lemmas.Result.{err_from_is_err_and}
 use Rattle.g4_source.specs.declared.name.Name.{Name}
 use Rattle.g4_source.specs.declared.rule.Argument.{Argument}
 use Rattle.g4_source.specs.declared.rule.Command.{Command}
-use Rattle.g4_productions.specs.Texts.{name_of}
-use Rattle.g4_productions.proofs.Sequences.{then_passed, stops_first, stops_then}
+use Rattle.g4_prequels.specs.Texts.{name_of}
+use Rattle.g4_prequels.proofs.Sequences.{then_passed, stops_first, stops_then}
 use Rattle.g4_productions.proofs.lexer_rule.command.Goals as goal
 
 -- a command of this name with this argument

@@ -5,11 +5,11 @@ use Rattle.g4_tokens.specs.declared.token.Token.{Token}
 use Rattle.g4_syntax.specs.Notation.{◌▸◌, sign, with_commas}
 use Rattle.g4_syntax.specs.Productions.{command}
 use Rattle.g4_syntax.specs.Trees.{begins_there}
-use Rattle.g4_productions.specs.Steps.{from}
-use Rattle.g4_productions.proofs.Choices.{absent_passed, present_passed, stops_present}
+use Rattle.g4_prequels.specs.Steps.{from}
+use Rattle.g4_prequels.proofs.Choices.{absent_passed, present_passed, stops_present}
+use Rattle.g4_prequels.proofs.Sequences.{then_passed, stops_first, stops_then}
 use Rattle.g4_productions.proofs.LexerTrees.{of_commands}
 use Rattle.g4_productions.proofs.Moving.{sign_begins}
-use Rattle.g4_productions.proofs.Sequences.{then_passed, stops_first, stops_then}
 use Rattle.g4_productions.proofs.lexer_rule.commands.Goals as goal
 
 -- commands begin with their arrow

@@ -6,11 +6,11 @@ use Rattle.g4_source.specs.declared.rule.Command.{Command}
 use Rattle.g4_syntax.specs.Notation.{◌▸◌, sign}
 use Rattle.g4_syntax.specs.Productions.{command}
 use Rattle.g4_syntax.specs.Trees.{begins_there}
+use Rattle.g4_prequels.specs.Steps.{from, without_memory}
+use Rattle.g4_prequels.proofs.Repetitions.{list_turn, list_end, stops_in_turn}
+use Rattle.g4_prequels.proofs.Sequences.{one_passed, then_passed, stops_first, stops_then}
 use Rattle.g4_productions.specs.Rules.{commands_behind}
-use Rattle.g4_productions.specs.Steps.{from, without_memory}
 use Rattle.g4_productions.proofs.Moving.{sign_begins}
-use Rattle.g4_productions.proofs.Repetitions.{list_turn, list_end, stops_in_turn}
-use Rattle.g4_productions.proofs.Sequences.{one_passed, then_passed, stops_first, stops_then}
 use Rattle.g4_productions.proofs.lexer_rule.commands_in_order.Goals as goal
 
 -- what stands behind a comma begins with it

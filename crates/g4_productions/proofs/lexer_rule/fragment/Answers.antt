@@ -1,6 +1,6 @@
 use Rattle.std.proofs.Common.{refl, sym, ◌∙◌, ap, Some}
 use Rattle.std.proofs.lemmas.Result.{err_from_is_err_and}
-use Rattle.g4_productions.proofs.Choices.{absent_passed, present_passed, stops_present}
+use Rattle.g4_prequels.proofs.Choices.{absent_passed, present_passed, stops_present}
 use Rattle.g4_productions.proofs.lexer_rule.fragment.Goals as goal
 
 pub returns-then-not-is_word_at : goal.returns-then-not-is_word_at

@@ -6,11 +6,11 @@ use Rattle.g4_source.specs.declared.rule.LexerAlternative.{LexerAlternative}
 use Rattle.g4_syntax.specs.Notation.{◌▸◌, sign}
 use Rattle.g4_syntax.specs.Productions.{lexer_alternative}
 use Rattle.g4_syntax.specs.Trees.{begins_there}
+use Rattle.g4_prequels.specs.Steps.{from, without_memory}
+use Rattle.g4_prequels.proofs.Repetitions.{list_turn, list_end, stops_in_turn}
+use Rattle.g4_prequels.proofs.Sequences.{one_passed, then_passed, stops_first, stops_then}
 use Rattle.g4_productions.specs.Rules.{rule_lexer_alternatives_behind}
-use Rattle.g4_productions.specs.Steps.{from, without_memory}
 use Rattle.g4_productions.proofs.Moving.{sign_begins}
-use Rattle.g4_productions.proofs.Repetitions.{list_turn, list_end, stops_in_turn}
-use Rattle.g4_productions.proofs.Sequences.{one_passed, then_passed, stops_first, stops_then}
 use Rattle.g4_productions.proofs.lexer_rule.lexer_alternatives.Goals as goal
 
 -- what stands behind a bar begins with it

@@ -2,8 +2,8 @@ use Rattle.std.proofs.Common.{◌++◌, ◌-◌, length}
 use Rattle.g4_tokens.specs.declared.token.Kind.TheVariants as kinds
 use Rattle.g4_syntax.specs.Notation.{◌▸◌, sign}
 use Rattle.g4_syntax.specs.Productions.{lexer_alternative}
+use Rattle.g4_prequels.proofs.Repetitions.{Listed}
 use Rattle.g4_productions.specs.Rules.{rule_lexer_alternatives_behind}
-use Rattle.g4_productions.proofs.Repetitions.{Listed}
 use Rattle.g4_productions.proofs.lexer_rule.lexer_alternatives.Given as goal
 
 abbrev pub invariant-loop-alloc : goal.invariant-loop-alloc

@@ -3,10 +3,10 @@ use Rattle.std.proofs.lemmas.Result.{err_from_is_err_and}
 use Rattle.g4_base.specs.declared.place.Place.{Place}
 use Rattle.g4_source.specs.declared.rule.LexerAlternative.{LexerAlternative}
 use Rattle.g4_source.specs.declared.rule.LexerRule.{LexerRule}
+use Rattle.g4_prequels.specs.Texts.{text_of}
+use Rattle.g4_prequels.proofs.Sequences.{then_passed, stops_first, stops_then}
 use Rattle.g4_productions.specs.Rules.{fragment_place}
-use Rattle.g4_productions.specs.Texts.{text_of}
 use Rattle.g4_productions.proofs.LexerTrees.{of_lexer_rule}
-use Rattle.g4_productions.proofs.Sequences.{then_passed, stops_first, stops_then}
 use Rattle.g4_productions.proofs.lexer_rule.lexer_rule.Goals as goal
 
 -- a lexer rule of these parts

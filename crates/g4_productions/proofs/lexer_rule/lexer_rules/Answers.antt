@@ -1,10 +1,10 @@
 use Rattle.std.proofs.Common.{◌∷◌, refl, sym, ◌∙◌, ap, arith}
 use Rattle.std.proofs.lemmas.Result.{err_from_is_err_and}
 use Rattle.g4_source.specs.declared.rule.LexerRule.{LexerRule}
+use Rattle.g4_prequels.specs.Steps.{without_memory}
+use Rattle.g4_prequels.proofs.Repetitions.{begin, list_turn, list_end, stops_in_turn}
+use Rattle.g4_prequels.proofs.Sequences.{moves}
 use Rattle.g4_productions.specs.Rules.{lexer_rules}
-use Rattle.g4_productions.specs.Steps.{without_memory}
-use Rattle.g4_productions.proofs.Repetitions.{begin, list_turn, list_end, stops_in_turn}
-use Rattle.g4_productions.proofs.Sequences.{moves}
 use Rattle.g4_productions.proofs.lexer_rule.lexer_rules.Goals as goal
 
 pub loop-alloc-init : goal.loop-alloc-init

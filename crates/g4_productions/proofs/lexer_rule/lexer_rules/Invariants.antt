@@ -1,7 +1,7 @@
 use Rattle.std.proofs.Common.{◌-◌, length}
 use Rattle.g4_syntax.specs.Productions.{lexer_rule}
+use Rattle.g4_prequels.proofs.Repetitions.{Listed}
 use Rattle.g4_productions.specs.Rules.{lexer_rules}
-use Rattle.g4_productions.proofs.Repetitions.{Listed}
 use Rattle.g4_productions.proofs.lexer_rule.lexer_rules.Given as goal
 
 abbrev pub invariant-loop-alloc : goal.invariant-loop-alloc

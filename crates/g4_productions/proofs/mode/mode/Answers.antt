@@ -2,8 +2,8 @@ use Rattle.std.proofs.Common.{ℕ, List, ◌∙◌, ap}
 use Rattle.std.proofs.lemmas.Result.{err_from_is_err_and}
 use Rattle.g4_source.specs.declared.rule.LexerRule.{LexerRule}
 use Rattle.g4_source.specs.declared.source.Mode.{Mode}
-use Rattle.g4_productions.specs.Texts.{text_of}
-use Rattle.g4_productions.proofs.Sequences.{then_passed, stops_first, stops_then}
+use Rattle.g4_prequels.specs.Texts.{text_of}
+use Rattle.g4_prequels.proofs.Sequences.{then_passed, stops_first, stops_then}
 use Rattle.g4_productions.proofs.mode.mode.Goals as goal
 
 -- a mode of this name with these rules

@@ -5,12 +5,12 @@ use Rattle.g4_tokens.specs.declared.token.Kind.TheVariants as kinds
 use Rattle.g4_syntax.specs.Notation.{Spelled, ◌▸◌, repeated, sign, word, name}
 use Rattle.g4_syntax.specs.Productions.{mode, lexer_rule}
 use Rattle.g4_syntax.specs.Trees.{begins_there}
+use Rattle.g4_prequels.specs.Steps.{from, without_memory}
+use Rattle.g4_prequels.proofs.Choices.{begins_first}
+use Rattle.g4_prequels.proofs.Repetitions.{begin, list_turn, list_end, stops_in_turn}
+use Rattle.g4_prequels.proofs.Sequences.{moves}
 use Rattle.g4_productions.specs.Rules.{modes_of}
-use Rattle.g4_productions.specs.Steps.{from, without_memory}
-use Rattle.g4_productions.proofs.Choices.{begins_first}
 use Rattle.g4_productions.proofs.LexerTrees.{of_modes}
-use Rattle.g4_productions.proofs.Repetitions.{begin, list_turn, list_end, stops_in_turn}
-use Rattle.g4_productions.proofs.Sequences.{moves}
 use Rattle.g4_productions.proofs.mode.modes.Goals as goal
 
 -- a mode begins with its word

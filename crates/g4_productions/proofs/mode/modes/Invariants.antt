@@ -1,7 +1,7 @@
 use Rattle.std.proofs.Common.{◌-◌, length}
 use Rattle.g4_syntax.specs.Productions.{mode}
+use Rattle.g4_prequels.proofs.Repetitions.{Listed}
 use Rattle.g4_productions.specs.Rules.{modes_of}
-use Rattle.g4_productions.proofs.Repetitions.{Listed}
 use Rattle.g4_productions.proofs.mode.modes.Given as goal
 
 abbrev pub invariant-loop-alloc : goal.invariant-loop-alloc

@@ -8,18 +8,18 @@ use Rattle.g4_source.proofs.Trees.{of_parts, of_block, of_elements}
 use Rattle.g4_syntax.specs.Notation.{◌▸◌, ◌∣◌, sign, part, token_set, optional}
 use Rattle.g4_syntax.specs.Productions.{assign, item as an_item, reference_end, element_options, alternative as an_alternative}
 use Rattle.g4_syntax.specs.Trees.{inner, right}
+use Rattle.g4_prequels.specs.Options.{right_of_optional}
+use Rattle.g4_prequels.specs.Steps.{from, without_memory}
+use Rattle.g4_prequels.specs.Texts.{name_of}
+use Rattle.g4_prequels.proofs.Choices.{left_passed, right_passed, inner_passed, stops_left, stops_right, stops_inner}
+use Rattle.g4_prequels.proofs.Repetitions.{begin, turn, end_turns, stops_in_turn}
+use Rattle.g4_prequels.proofs.Sequences.{one_passed, then_passed, stops_first, stops_then}
 use Rattle.g4_productions.specs.Elements.{with_suffix}
-use Rattle.g4_productions.specs.Options.{right_of_optional}
 use Rattle.g4_productions.specs.ParserElements.{parser_element, parser_elements, labelled, named_item, unnamed, alternative_elements, alternatives_behind}
 use Rattle.g4_productions.specs.ParserItems.{labelled_of, reference_right, labelled_behind}
-use Rattle.g4_productions.specs.Steps.{from, without_memory}
-use Rattle.g4_productions.specs.Texts.{name_of}
 use Rattle.g4_productions.proofs.Composed.{sequence_is, takes_token}
-use Rattle.g4_productions.proofs.Choices.{left_passed, right_passed, inner_passed, stops_left, stops_right, stops_inner}
 use Rattle.g4_productions.proofs.Handing.{reads_left, reads_right, reads_inner}
 use Rattle.g4_productions.proofs.ParserItems.{made, with_atom, lone_reference_is, lower_label_is, upper_label_is, block_is, listed_more}
-use Rattle.g4_productions.proofs.Repetitions.{begin, turn, end_turns, stops_in_turn}
-use Rattle.g4_productions.proofs.Sequences.{one_passed, then_passed, stops_first, stops_then}
 use Rattle.g4_productions.proofs.parser_element.+brackets.Goals as goal
 
 -- an item that begins with no name

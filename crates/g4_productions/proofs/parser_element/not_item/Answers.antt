@@ -1,10 +1,10 @@
 use Rattle.std.proofs.Common.{◌∙◌, refl, false, ap}
 use Rattle.std.proofs.lemmas.Result.{err_from_is_err_and}
 use Rattle.g4_source.specs.declared.atom.Atom.TheVariants as atoms
+use Rattle.g4_prequels.specs.Texts.{token_of}
+use Rattle.g4_prequels.proofs.Sequences.{then_passed, stops_first, stops_then}
 use Rattle.g4_productions.specs.ParserElements.{symbols_of}
-use Rattle.g4_productions.specs.Texts.{token_of}
 use Rattle.g4_productions.proofs.ParserItems.{with_atom}
-use Rattle.g4_productions.proofs.Sequences.{then_passed, stops_first, stops_then}
 use Rattle.g4_productions.proofs.parser_element.not_item.Goals as goal
 
 pub returns-in_err-place : goal.returns-in_err-place

@@ -1,5 +1,5 @@
 use Rattle.std.proofs.lemmas.Result.{err_from_is_err_and}
-use Rattle.g4_productions.proofs.Sequences.{then_passed, stops_then}
+use Rattle.g4_prequels.proofs.Sequences.{then_passed, stops_then}
 use Rattle.g4_productions.proofs.parser_element.reference_end.Goals as goal
 
 pub optional_element_options-requires-clause-within : goal.optional_element_options-requires-clause-within

@@ -1,10 +1,10 @@
 use Rattle.std.proofs.Common.{sym, ◌∙◌, ap}
 use Rattle.std.proofs.lemmas.Result.{err_from_is_err_and}
 use Rattle.g4_source.specs.declared.atom.Atom.TheVariants as atoms
+use Rattle.g4_prequels.specs.Texts.{name_of}
+use Rattle.g4_prequels.proofs.Sequences.{then_passed, stops_first, stops_then}
 use Rattle.g4_productions.specs.ParserItems.{reference_right}
-use Rattle.g4_productions.specs.Texts.{name_of}
 use Rattle.g4_productions.proofs.ParserItems.{with_atom, reference_is}
-use Rattle.g4_productions.proofs.Sequences.{then_passed, stops_first, stops_then}
 use Rattle.g4_productions.proofs.parser_element.rule_reference.Goals as goal
 
 pub returns-in_err-name : goal.returns-in_err-name

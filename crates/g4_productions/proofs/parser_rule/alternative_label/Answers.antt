@@ -2,12 +2,12 @@ use Rattle.std.proofs.Common.{refl, sym, ◌∙◌, ap, List, ℕ, Some}
 use Rattle.std.proofs.lemmas.Result.{err_from_is_err_and}
 use Rattle.g4_tokens.specs.declared.token.Kind.TheVariants as kinds
 use Rattle.g4_syntax.specs.Notation.{sign, name}
-use Rattle.g4_productions.specs.Steps.{from}
-use Rattle.g4_productions.specs.Texts.{token_of}
+use Rattle.g4_prequels.specs.Steps.{from}
+use Rattle.g4_prequels.specs.Texts.{token_of}
+use Rattle.g4_prequels.proofs.Choices.{absent_passed, present_passed, stops_present}
+use Rattle.g4_prequels.proofs.Sequences.{then_passed, stops_first, stops_then}
 use Rattle.g4_productions.proofs.Composed.{sequence_is}
-use Rattle.g4_productions.proofs.Choices.{absent_passed, present_passed, stops_present}
 use Rattle.g4_productions.proofs.ParserRules.{label_with}
-use Rattle.g4_productions.proofs.Sequences.{then_passed, stops_first, stops_then}
 use Rattle.g4_productions.proofs.parser_rule.alternative_label.Goals as goal
 
 pub returns-then-not-is_at : goal.returns-then-not-is_at

@@ -3,12 +3,12 @@ use Rattle.std.proofs.lemmas.Result.{err_from_is_err_and}
 use Rattle.g4_tokens.specs.declared.token.Kind.TheVariants as kinds
 use Rattle.g4_syntax.specs.Notation.{sign}
 use Rattle.g4_syntax.specs.Productions.{rule_alternative as an_alternative}
+use Rattle.g4_prequels.specs.Steps.{from, without_memory}
+use Rattle.g4_prequels.proofs.Repetitions.{turn, end_turns, stops_in_turn}
+use Rattle.g4_prequels.proofs.Sequences.{one_passed, then_passed, stops_then}
 use Rattle.g4_productions.specs.Rules.{rule_alternative_of, rule_alternatives_behind}
-use Rattle.g4_productions.specs.Steps.{from, without_memory}
 use Rattle.g4_productions.proofs.Composed.{sequence_is}
 use Rattle.g4_productions.proofs.ParserRules.{added}
-use Rattle.g4_productions.proofs.Repetitions.{turn, end_turns, stops_in_turn}
-use Rattle.g4_productions.proofs.Sequences.{one_passed, then_passed, stops_then}
 use Rattle.g4_productions.proofs.parser_rule.alternatives_behind_bars.Goals as goal
 
 pub returns-in_err-alternative : goal.returns-in_err-alternative

@@ -1,6 +1,6 @@
 use Rattle.std.proofs.Common.{◌-◌, ◌++◌, length}
+use Rattle.g4_prequels.proofs.Repetitions.{Turned}
 use Rattle.g4_productions.specs.Rules.{rule_alternatives_behind}
-use Rattle.g4_productions.proofs.Repetitions.{Turned}
 use Rattle.g4_productions.proofs.parser_rule.alternatives_behind_bars.Given as goal
 
 abbrev pub invariant-loop-alloc : goal.invariant-loop-alloc

@@ -1,8 +1,8 @@
 use Rattle.std.proofs.Common.{sym, ◌∙◌, ap}
 use Rattle.std.proofs.lemmas.Result.{err_from_is_err_and}
-use Rattle.g4_productions.specs.Texts.{text_of}
+use Rattle.g4_prequels.specs.Texts.{text_of}
+use Rattle.g4_prequels.proofs.Sequences.{then_passed, stops_first, stops_then}
 use Rattle.g4_productions.proofs.ParserRules.{rule_with, rule_is}
-use Rattle.g4_productions.proofs.Sequences.{then_passed, stops_first, stops_then}
 use Rattle.g4_productions.proofs.parser_rule.parser_rule.Goals as goal
 
 pub returns-in_err-name : goal.returns-in_err-name

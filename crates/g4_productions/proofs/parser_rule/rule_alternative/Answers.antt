@@ -1,10 +1,10 @@
 use Rattle.std.proofs.Common.{◌∙◌, ap}
 use Rattle.std.proofs.lemmas.Result.{err_from_is_err_and}
 use Rattle.g4_source.specs.Elements.{in_order}
-use Rattle.g4_productions.specs.Options.{right_of_optional}
+use Rattle.g4_prequels.specs.Options.{right_of_optional}
+use Rattle.g4_prequels.proofs.Sequences.{then_passed, stops_first, stops_then}
 use Rattle.g4_productions.specs.ParserElements.{parser_elements}
 use Rattle.g4_productions.proofs.ParserRules.{alternative_with}
-use Rattle.g4_productions.proofs.Sequences.{then_passed, stops_first, stops_then}
 use Rattle.g4_productions.proofs.parser_rule.rule_alternative.Goals as goal
 
 pub returns-in_err-right : goal.returns-in_err-right

@@ -1,9 +1,9 @@
 use Rattle.std.proofs.Common.{sym, ◌∙◌}
 use Rattle.std.proofs.lemmas.Option.{slice_get-get_or}
 use Rattle.std.proofs.lemmas.Result.{err_from_is_err_and}
-use Rattle.g4_productions.specs.Steps.{without_memory}
-use Rattle.g4_productions.proofs.Sequences.{leaf_passed, leaf_stops}
-use Rattle.g4_productions.proofs.Tokens.{part_at}
+use Rattle.g4_prequels.specs.Steps.{without_memory}
+use Rattle.g4_prequels.proofs.Sequences.{leaf_passed, leaf_stops}
+use Rattle.g4_prequels.proofs.Tokens.{part_at}
 use Rattle.g4_productions.proofs.set.set_at.Goals as goal
 
 pub returns-then-not-is_at : goal.returns-then-not-is_at

@@ -6,10 +6,10 @@ use Rattle.g4_source.proofs.Trees.{of_parts, of_atom}
 use Rattle.g4_tokens.specs.declared.token.Kind.TheVariants as kinds
 use Rattle.g4_syntax.specs.Notation.{sign, optional}
 use Rattle.g4_syntax.specs.Productions.{element_options}
-use Rattle.g4_productions.specs.Steps.{from}
+use Rattle.g4_prequels.specs.Steps.{from}
+use Rattle.g4_prequels.proofs.Choices.{absent_passed, present_passed, stops_present}
+use Rattle.g4_prequels.proofs.Sequences.{then_passed, stops_first, stops_then}
 use Rattle.g4_productions.proofs.Composed.{sequence_is}
-use Rattle.g4_productions.proofs.Choices.{absent_passed, present_passed, stops_present}
-use Rattle.g4_productions.proofs.Sequences.{then_passed, stops_first, stops_then}
 use Rattle.g4_productions.proofs.suffix.action.Goals as goal
 
 pub returns-in_err-name : goal.returns-in_err-name

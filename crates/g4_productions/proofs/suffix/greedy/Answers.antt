@@ -1,6 +1,6 @@
 use Rattle.std.proofs.Common.{refl, sym, ◌∙◌}
-use Rattle.g4_productions.proofs.Choices.{absent_passed, present_passed}
-use Rattle.g4_productions.proofs.Sequences.{one_passed}
+use Rattle.g4_prequels.proofs.Choices.{absent_passed, present_passed}
+use Rattle.g4_prequels.proofs.Sequences.{one_passed}
 use Rattle.g4_productions.proofs.suffix.greedy.Goals as goal
 
 pub returns-then-is_at : goal.returns-then-is_at

@@ -1,6 +1,6 @@
 use Rattle.std.proofs.Common.{refl, sym, ◌∙◌}
 use Rattle.std.proofs.lemmas.Result.{err_from_is_err_and}
-use Rattle.g4_productions.proofs.Choices.{left_passed, right_passed, stops_left, stops_right}
+use Rattle.g4_prequels.proofs.Choices.{left_passed, right_passed, stops_left, stops_right}
 use Rattle.g4_productions.proofs.suffix.label_sign.Goals as goal
 
 pub returns-in_err-at : goal.returns-in_err-at

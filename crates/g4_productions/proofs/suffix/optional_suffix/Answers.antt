@@ -3,9 +3,9 @@ use Rattle.g4_tokens.specs.declared.token.Kind.TheVariants as kinds
 use Rattle.g4_source.specs.declared.element.Repeat.TheVariants as repeats
 use Rattle.g4_syntax.specs.Notation.{◌∣◌, sign}
 use Rattle.g4_syntax.specs.Trees.{left, right}
-use Rattle.g4_productions.specs.Steps.{from}
+use Rattle.g4_prequels.specs.Steps.{from}
+use Rattle.g4_prequels.proofs.Choices.{absent_passed}
 use Rattle.g4_productions.proofs.Composed.{choice_first, choice_second, choice_none, sequence_is}
-use Rattle.g4_productions.proofs.Choices.{absent_passed}
 use Rattle.g4_productions.proofs.Suffixes.{signs, lazy_sign, suffix_read}
 use Rattle.g4_productions.proofs.suffix.optional_suffix.Goals as goal
 

@@ -1,6 +1,6 @@
 use Rattle.std.proofs.Common.{get_or}
 use Rattle.std.proofs.lemmas.Option.{slice_get-get_or}
-use Rattle.g4_productions.proofs.Sequences.{leaf_passed, then_passed}
+use Rattle.g4_prequels.proofs.Sequences.{leaf_passed, then_passed}
 use Rattle.g4_productions.proofs.Suffixes.{blank, says_suffix}
 use Rattle.g4_productions.proofs.suffix.suffix_at.Goals as goal
 

@@ -4,12 +4,12 @@ use Rattle.g4_tokens.specs.declared.token.Kind.TheVariants as kinds
 use Rattle.g4_syntax.specs.Notation.{sign, part, token_set, optional}
 use Rattle.g4_syntax.specs.Productions.{element_options}
 use Rattle.g4_syntax.specs.Trees.{inner, right}
+use Rattle.g4_prequels.specs.Steps.{from, without_memory}
+use Rattle.g4_prequels.proofs.Repetitions.{turn, end_turns, stops_in_turn}
+use Rattle.g4_prequels.proofs.Sequences.{one_passed, then_passed, stops_first, stops_then}
 use Rattle.g4_productions.specs.ParserElements.{symbols_of, symbols_behind}
-use Rattle.g4_productions.specs.Steps.{from, without_memory}
 use Rattle.g4_productions.proofs.Composed.{sequence_is, takes_token}
 use Rattle.g4_productions.proofs.Handing.{reads_left, reads_right, reads_inner}
-use Rattle.g4_productions.proofs.Repetitions.{turn, end_turns, stops_in_turn}
-use Rattle.g4_productions.proofs.Sequences.{one_passed, then_passed, stops_first, stops_then}
 use Rattle.g4_productions.proofs.TokenSets.{in_brackets}
 use Rattle.g4_productions.proofs.token_set.+sets.Goals as goal
 

@@ -1,6 +1,6 @@
 use Rattle.std.proofs.Common.{◌+◌, ◌*◌, ◌-◌, ◌++◌, length}
+use Rattle.g4_prequels.proofs.Repetitions.{Turned}
 use Rattle.g4_productions.specs.ParserElements.{symbols_behind}
-use Rattle.g4_productions.proofs.Repetitions.{Turned}
 use Rattle.g4_productions.proofs.token_set.+sets.Given as goal
 
 -- of calls at one index, one that reads brackets or bars first is nearest to the end of the recursion, then one set, then more

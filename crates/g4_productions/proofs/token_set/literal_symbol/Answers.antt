@@ -1,7 +1,7 @@
 use Rattle.std.proofs.Common.{◌++◌, ◌∷◌, [], ap, ◌∙◌}
 use Rattle.std.proofs.lemmas.Result.{err_from_is_err_and}
 use Rattle.g4_source.specs.declared.atom.Symbol.TheVariants as symbols
-use Rattle.g4_productions.specs.Steps.{without_memory}
+use Rattle.g4_prequels.specs.Steps.{without_memory}
 use Rattle.g4_productions.proofs.token_set.literal_symbol.Goals as goal
 
 pub returns-in_err-push : goal.returns-in_err-push

@@ -1,7 +1,7 @@
 use Rattle.std.proofs.Common.{◌∙◌, sym, subst, rules}
 use denote.Enum.Bare.{differs_true, differs_false}
 use Rattle.g4_tokens.specs.contracts.token.Kind.{the_type}
-use Rattle.g4_productions.specs.Texts.{spelled_token}
+use Rattle.g4_prequels.specs.Texts.{spelled_token}
 use Rattle.g4_reader.specs.Answering.{IsLone}
 use Rattle.g4_reader.specs.Bad.{stands_for}
 use Rattle.g4_reader.proofs.Characters.{end_of_none, end_of_one, end_of_other, end_of_several}

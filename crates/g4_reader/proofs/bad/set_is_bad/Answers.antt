@@ -1,6 +1,6 @@
 use Rattle.std.proofs.Common.{◌≡◌, ◌∙◌, ℕ, List, ap, subst}
+use Rattle.g4_prequels.specs.Texts.{characters_of}
 use Rattle.g4_productions.specs.SetText.{content, IsBad}
-use Rattle.g4_productions.specs.Texts.{characters_of}
 use Rattle.g4_reader.proofs.Characters.{good_set}
 use Rattle.g4_reader.proofs.bad.set_is_bad.Goals as goal
 

@@ -1,5 +1,5 @@
 use Rattle.std.proofs.Common.{sym, subst}
-use Rattle.g4_productions.specs.Parts.{AreParts}
+use Rattle.g4_prequels.specs.Parts.{AreParts}
 use Rattle.g4_reader.proofs.Parts.{parts_take}
 use Rattle.g4_reader.proofs.reader.first_fault.Goals as goal
 

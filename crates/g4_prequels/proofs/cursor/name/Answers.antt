@@ -1,0 +1,26 @@
+use Rattle.std.proofs.Common.{sym, ◌∙◌}
+use Rattle.std.proofs.lemmas.Option.{slice_get-get_or}
+use Rattle.std.proofs.lemmas.Result.{err_from_is_err_and}
+use Rattle.g4_prequels.specs.Steps.{without_memory}
+use Rattle.g4_prequels.proofs.Sequences.{leaf_passed, leaf_stops}
+use Rattle.g4_prequels.proofs.Tokens.{part_at, named_so}
+use Rattle.g4_prequels.proofs.cursor.name.Goals as goal
+
+pub returns-then-not-is_name_at : goal.returns-then-not-is_name_at
+returns-then-not-is_name_at c = leaf_stops (sym (c.is_name_at.ensures.begins c.args.text.now) ∙ c.if-not-is_name_at.true)
+
+pub written-requires : goal.written-requires
+written-requires c = record {
+  part = part_at c.args.at _ c.requires.parts (slice_get-get_or c.args.tokens.now c.args.at _ (c.is_name_at.ensures.there c.if-not-is_name_at.false));
+}
+
+pub returns-in_err-written : goal.returns-in_err-written
+returns-in_err-written c =
+    let p = err_from_is_err_and c.from_residual.result c.from_residual.ensures.1 in
+    rw (p.1, p.2) without_memory
+
+pub returns : goal.returns
+returns c = record {
+  passed = leaf_passed _ (slice_get-get_or c.args.tokens.now c.args.at _ (c.is_name_at.ensures.there c.if-not-is_name_at.false)) (sym (c.is_name_at.ensures.begins c.args.text.now) ∙ c.if-not-is_name_at.false);
+  says = named_so c.in_ok-written.ensures;
+}

@@ -1,0 +1,60 @@
+-- What options say.
+use Rattle.std.specs.Prelude.{ℕ, List, [], ◌∷◌, Bool, false, ◌&&◌, ◌||◌, codes, bytes_eq}
+use Rattle.g4_tokens.specs.declared.token.Kind.TheVariants as kinds
+use Rattle.g4_source.specs.declared.prequel.Setting.{Setting}
+use Rattle.g4_source.specs.declared.prequel.OptionValue.{OptionValue}
+use Rattle.g4_source.specs.declared.prequel.OptionValue.TheVariants as values
+use Rattle.g4_syntax.specs.Notation.{Expression, ◌▸◌, ◌∣◌, optional, repeated, sign, name}
+use Rattle.g4_syntax.specs.Productions.{value, setting, options, element_option, element_options}
+use Rattle.g4_syntax.specs.Trees.{Tree, leaf, both, left, right, absent, present, end, more}
+use Rattle.g4_prequels.specs.Texts.{text_of, name_of}
+
+-- the names behind dots
+abbrev pub dotted_names : Tree (repeated (sign kinds.Dot ▸ name)) → List (List ℕ)
+dotted_names end = []
+dotted_names (more (both dot n) ns) = text_of n ∷ dotted_names ns
+
+-- the value of an option
+abbrev pub value_of : Tree value → OptionValue
+value_of (left (both n ns)) = values.Names (text_of n ∷ dotted_names ns)
+value_of (right (left literal)) = values.Literal (text_of literal)
+value_of (right (right (left number))) = values.Number (text_of number)
+value_of (right (right (right (left action)))) = values.Action (text_of action)
+value_of (right (right (right (right star)))) = values.Star
+
+-- an option and its value
+abbrev pub setting_of : Tree setting → Setting
+setting_of (both n (both equals (both v semicolon))) = record { name = name_of n; value = value_of v }
+
+-- settings in order
+abbrev pub settings_in_order : Tree (repeated setting) → List Setting
+settings_in_order end = []
+settings_in_order (more s ss) = setting_of s ∷ settings_in_order ss
+
+-- the settings of `options`
+abbrev pub settings_of : Tree options → List Setting
+settings_of (both keyword (both brace (both ss end_brace))) = settings_in_order ss
+
+-- whether the value is the name `right`
+abbrev pub is_right : OptionValue → Bool
+is_right (values.Names (n ∷ [])) = bytes_eq n (codes "right")
+is_right _ = false
+
+-- whether the option of an element is `assoc=right`
+abbrev pub says_right : Tree element_option → Bool
+says_right (both n absent) = false
+says_right (both n (present (both equals v))) = bytes_eq (text_of n) (codes "assoc") && is_right (value_of v)
+
+-- whether one of the options behind commas is `assoc=right`
+abbrev pub one_says_right : Tree (repeated (sign kinds.Comma ▸ element_option)) → Bool
+one_says_right end = false
+one_says_right (more (both comma o) os) = says_right o || one_says_right os
+
+-- whether one of the options of an element is `assoc=right`
+abbrev pub right_of : Tree element_options → Bool
+right_of (both less (both (both o os) greater)) = says_right o || one_says_right os
+
+-- the same where there may be none
+abbrev pub right_of_optional : Tree (optional element_options) → Bool
+right_of_optional absent = false
+right_of_optional (present o) = right_of o

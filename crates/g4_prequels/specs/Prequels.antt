@@ -1,0 +1,53 @@
+-- What stands before the rules.
+use Rattle.std.specs.Prelude.{ℕ, List, [], ◌∷◌, Option, Some, None}
+use Rattle.g4_tokens.specs.declared.token.Kind.TheVariants as kinds
+use Rattle.g4_source.specs.declared.prequel.Prequel.{Prequel}
+use Rattle.g4_source.specs.declared.prequel.Prequel.TheVariants as prequels
+use Rattle.g4_syntax.specs.Notation.{more_names, Expression, ◌▸◌, ◌∣◌, optional, repeated, part, sign, name}
+use Rattle.g4_syntax.specs.Productions.{imported, import, names, tokens, channels, prequel}
+use Rattle.g4_syntax.specs.Trees.{Tree, both, left, right, absent, present, end, more, inner}
+use Rattle.g4_prequels.specs.Options.{settings_of}
+use Rattle.g4_prequels.specs.Texts.{token_of, text_of}
+
+-- an imported grammar: the name behind `=` counts, where there is one
+abbrev pub imported_of : Tree imported → List ℕ
+imported_of (both n absent) = text_of n
+imported_of (both n (present (both equals other))) = text_of other
+
+-- the imported grammars behind commas
+abbrev pub imported_behind : Tree (repeated (sign kinds.Comma ▸ imported)) → List (List ℕ)
+imported_behind end = []
+imported_behind (more (both comma i) is) = imported_of i ∷ imported_behind is
+
+abbrev mutual
+  -- the names behind a name
+  pub names_behind : Tree (optional (part more_names)) → List (List ℕ)
+  names_behind absent = []
+  names_behind (present (inner (both comma ns))) = names_from ns
+
+  -- the names from a name on, if there is one
+  pub names_from : Tree (optional (name ▸ optional (part more_names))) → List (List ℕ)
+  names_from absent = []
+  names_from (present (both n ns)) = text_of n ∷ names_behind ns
+
+-- names in braces
+abbrev pub names_of : Tree names → List (List ℕ)
+names_of (both brace (both ns end_brace)) = names_from ns
+
+-- what stands before the rules, named actions being passed over
+abbrev pub prequel_of : Tree prequel → Option Prequel
+prequel_of (left o) = Some (prequels.Options (settings_of o))
+prequel_of (right (left (both keyword (both (both i is) semicolon)))) = Some (prequels.Import (token_of keyword).place (imported_of i ∷ imported_behind is))
+prequel_of (right (right (left (both keyword ns)))) = Some (prequels.Tokens (token_of keyword).place (names_of ns))
+prequel_of (right (right (right (left (both keyword ns))))) = Some (prequels.Channels (token_of keyword).place (names_of ns))
+prequel_of (right (right (right (right action)))) = None
+
+-- this, if it is kept, and these
+abbrev pub with_kept : Option Prequel → List Prequel → List Prequel
+with_kept None ps = ps
+with_kept (Some p) ps = p ∷ ps
+
+-- all that is kept
+abbrev pub prequels_of : Tree (repeated prequel) → List Prequel
+prequels_of end = []
+prequels_of (more p ps) = with_kept (prequel_of p) (prequels_of ps)

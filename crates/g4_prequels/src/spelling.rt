@@ -1,0 +1,57 @@
+// How the tokens of a text are spelled.
+ghost use Rattle.std.specs.Prelude.{◌≡◌, IfOk, slice_get};
+ghost use Rattle.g4_tokens.specs.Spelling.{literal_spelling};
+ghost use Rattle.g4_prequels.specs.Texts.{bytes_of, characters_of, spelled_token};
+ghost use Rattle.g4_prequels.specs.Parts.{IsPart};
+
+use g4_base::Text;
+use g4_grammar::Literal;
+use g4_tokens::{Token, literal_characters};
+use std::alloc::{AllocError, Global};
+
+/// The token at the index, if one stands there.
+pub fn token_at(tokens: &[Token], at: usize) -> Option<Token>
+    ensures { result ≡ slice_get tokens.now at }
+{
+    tokens.get(at).copied()
+}
+
+/// The text of a token in place.
+pub fn part<'a>(text: &'a str, token: &Token) -> &'a str
+    requires part { IsPart text.now token.now }
+    ensures { result.now ≡ bytes_of text.now token.now }
+{
+    &text[token.start..token.end]
+}
+
+/// The characters of a token.
+pub fn characters(alloc: Global, text: &str, token: &Token) -> Result<Vec<char>, AllocError>
+    requires part { IsPart text.now token.now }
+    ensures { IfOk result (λ c. c.items ≡ characters_of text.now token.now) }
+{
+    let characters = part(text, token).chars().collect(alloc)?;
+    Ok(characters)
+}
+
+/// The text of a token.
+pub fn written(alloc: Global, text: &str, token: &Token) -> Result<Text, AllocError>
+    requires part { IsPart text.now token.now }
+    ensures { IfOk result (λ t. t ≡ bytes_of text.now token.now) }
+{
+    let written = Text::copy_of(alloc, part(text, token))?;
+    Ok(written)
+}
+
+/// The literal that the token is.
+pub fn literal(alloc: Global, text: &str, token: &Token) -> Result<Literal, AllocError>
+    requires part { IsPart text.now token.now }
+    ensures { IfOk result (λ l. l ≡ record { characters = literal_spelling (characters_of text.now token.now); written = bytes_of text.now token.now }) }
+{
+    let spelling = characters(alloc, text, token)?;
+    let characters = literal_characters(alloc, &spelling)?;
+    let written = written(alloc, text, token)?;
+    Ok(Literal {
+        characters,
+        written,
+    })
+}
