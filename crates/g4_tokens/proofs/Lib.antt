@@ -1,3 +1,5 @@
+pub mod Comments
+pub mod Counts
 pub mod Ends
 pub mod Found
 pub mod OneScan

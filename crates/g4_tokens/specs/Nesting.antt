@@ -1,26 +1,32 @@
 -- Where actions and arguments end.
-use Rattle.std.specs.Prelude.{◌≡◌, ℕ, ◌+◌, ◌<◌, ◌≤◌, slice_index, Bool, true, false, List, [], ◌∷◌, Option, Some, None, length, drop, unwrap_or, ◌-◌, ◌==◌, ◌&&◌, ◌||◌, if◌then◌else◌}
+use Rattle.std.specs.Prelude.{◌≡◌, ℕ, suc, ◌+◌, ◌<◌, ◌≤◌, slice_index, Bool, true, false, List, [], ◌∷◌, Option, Some, None, length, drop, option_map, unwrap_or, ◌-◌, ◌==◌, ◌&&◌, ◌||◌, if◌then◌else◌}
 use Rattle.std.specs.List.{prefix_len}
 use Rattle.g4_tokens.specs.Characters.{begins, is_in_line}
 use Rattle.g4_tokens.specs.Comments.{comment_end}
 use Rattle.g4_tokens.specs.declared.quote.Unclosed.{Unclosed}
 
--- how many characters there are up to the quote that closes on this line, that included, behind so many; the first is
--- escaped where a backslash stands before it
-abbrev pub quote_end_from : ℕ → Bool → ℕ → List ℕ → Option ℕ
-quote_end_from quote escaped taken [] = None
-quote_end_from quote escaped taken (c ∷ cs) =
-    if c == 10 then None
-    else (if escaped then quote_end_from quote false (taken + 1) cs
-    else (if c == quote then Some (taken + 1) else quote_end_from quote (c == 92) (taken + 1) cs))
+abbrev mutual
+  -- how many characters there are up to the quote that closes on this line, that included: a backslash takes the character
+  -- behind it along
+  pub quote_end : ℕ → List ℕ → Option ℕ
+  quote_end quote [] = None
+  quote_end quote (c ∷ cs) =
+      if c == 10 then None
+      else (if c == quote then Some 1
+      else option_map suc (if c == 92 then escaped_quote_end quote cs else quote_end quote cs))
+
+  -- how many there are behind a backslash
+  pub escaped_quote_end : ℕ → List ℕ → Option ℕ
+  escaped_quote_end quote [] = None
+  escaped_quote_end quote (c ∷ cs) = if c == 10 then None else option_map suc (quote_end quote cs)
 
 -- how many characters a quoted text takes behind its first quote: none where no quote closes it on its line
 abbrev pub quoted : ℕ → List ℕ → ℕ
-quoted quote behind = unwrap_or (quote_end_from quote false 0 behind) 0
+quoted quote behind = unwrap_or (quote_end quote behind) 0
 
 -- from the one index up to the other, no quote of this kind is closed on its line
 abbrev pub IsUnclosed : ℕ → List ℕ → ℕ → ℕ → Type 0
-IsUnclosed quote text at until = (j : ℕ) → at ≤ j → j < until → slice_index text j ≡ quote → quote_end_from quote false 0 (drop (j + 1) text) ≡ None
+IsUnclosed quote text at until = (j : ℕ) → at ≤ j → j < until → slice_index text j ≡ quote → quote_end quote (drop (j + 1) text) ≡ None
 
 -- from the index on, no quotes are closed on their lines up to these indices
 pub record AreUnclosed (text : List ℕ) (at : ℕ) (unclosed : Unclosed) : Type 0 where

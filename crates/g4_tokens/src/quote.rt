@@ -1,6 +1,6 @@
 // Where quoted text in actions and arguments ends.
-ghost use Rattle.std.specs.Prelude.{◌≡◌, ◌≤◌, ◌<◌, ◌+◌, length, drop, slice_index, IfSome, false};
-ghost use Rattle.g4_tokens.specs.Nesting.{quote_end_from, quoted, IsUnclosed};
+ghost use Rattle.std.specs.Prelude.{◌≡◌, ◌≤◌, ◌<◌, ◌+◌, length, drop, slice_index, IfSome};
+ghost use Rattle.g4_tokens.specs.Nesting.{quote_end, quoted, IsUnclosed};
 
 use crate::character::line_length;
 
@@ -13,7 +13,7 @@ pub struct Unclosed {
 }
 
 fn quote_end(quote: char, text: &[char]) -> Option<usize>
-    ensures value { result ≡ quote_end_from quote false 0 text.now }
+    ensures value { result ≡ quote_end quote text.now }
     ensures within { IfSome result (λ taken. taken ≤ length text.now) }
 {
     let mut escaped = false;

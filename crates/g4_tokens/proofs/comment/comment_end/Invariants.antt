@@ -1,5 +1,6 @@
 use Rattle.std.proofs.Common.{◌≡◌, drop}
-use Rattle.g4_tokens.specs.Comments.{comment_end, comment_end_from}
+use Rattle.g4_tokens.specs.Comments.{comment_end}
+use Rattle.g4_tokens.proofs.Comments.{comment_end_from}
 use Rattle.g4_tokens.proofs.comment.comment_end.Given as goal
 
 abbrev pub invariant-loop-at : goal.invariant-loop-at
