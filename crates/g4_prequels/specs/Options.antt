@@ -4,9 +4,9 @@ use Rattle.g4_tokens.specs.declared.token.Kind.TheVariants as kinds
 use Rattle.g4_source.specs.declared.prequel.Setting.{Setting}
 use Rattle.g4_source.specs.declared.prequel.OptionValue.{OptionValue}
 use Rattle.g4_source.specs.declared.prequel.OptionValue.TheVariants as values
-use Rattle.g4_syntax.specs.Notation.{Expression, ◌▸◌, ◌∣◌, optional, repeated, sign, name}
+use Rattle.g4_syntax.specs.Notation.{◌▸◌, optional, repeated, sign, name}
 use Rattle.g4_syntax.specs.Productions.{value, setting, options, element_option, element_options}
-use Rattle.g4_syntax.specs.Trees.{Tree, leaf, both, left, right, absent, present, end, more}
+use Rattle.g4_syntax.specs.Trees.{Tree, both, left, right, absent, present, end, more}
 use Rattle.g4_prequels.specs.Texts.{text_of, name_of}
 
 -- the names behind dots

@@ -3,8 +3,8 @@ use Rattle.std.specs.Prelude.{ℕ, List, [], ◌∷◌, Option, Some, None}
 use Rattle.g4_tokens.specs.declared.token.Kind.TheVariants as kinds
 use Rattle.g4_source.specs.declared.prequel.Prequel.{Prequel}
 use Rattle.g4_source.specs.declared.prequel.Prequel.TheVariants as prequels
-use Rattle.g4_syntax.specs.Notation.{more_names, Expression, ◌▸◌, ◌∣◌, optional, repeated, part, sign, name}
-use Rattle.g4_syntax.specs.Productions.{imported, import, names, tokens, channels, prequel}
+use Rattle.g4_syntax.specs.Notation.{more_names, ◌▸◌, optional, repeated, part, sign, name}
+use Rattle.g4_syntax.specs.Productions.{imported, names, prequel}
 use Rattle.g4_syntax.specs.Trees.{Tree, both, left, right, absent, present, end, more, inner}
 use Rattle.g4_prequels.specs.Options.{settings_of}
 use Rattle.g4_prequels.specs.Texts.{token_of, text_of}

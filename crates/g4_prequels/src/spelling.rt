@@ -1,7 +1,7 @@
 // How the tokens of a text are spelled.
 ghost use Rattle.std.specs.Prelude.{◌≡◌, IfOk, slice_get};
 ghost use Rattle.g4_tokens.specs.Spelling.{literal_spelling};
-ghost use Rattle.g4_prequels.specs.Texts.{bytes_of, characters_of, spelled_token};
+ghost use Rattle.g4_prequels.specs.Texts.{bytes_of, characters_of};
 ghost use Rattle.g4_prequels.specs.Parts.{IsPart};
 
 use g4_base::Text;

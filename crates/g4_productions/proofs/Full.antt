@@ -1,11 +1,11 @@
 -- Each rule and each block of a grammar text has an alternative.
-use Rattle.std.proofs.Common.{List, map, Option}
+use Rattle.std.proofs.Common.{map, Option}
 use Rattle.g4_tokens.specs.declared.token.Kind.TheVariants as kinds
 use Rattle.g4_source.specs.declared.element.Label.{Label}
 use Rattle.g4_source.specs.Blocks.{IsFull, ItemIsFull, AreFull, EachIsFull, AreFullAlternatives, LexerRuleIsFull, RulesAreFull, LexerRulesAreFull, ModesAreFull, HaveAlternatives}
 use Rattle.g4_source.specs.Elements.{in_order, either}
 use Rattle.g4_syntax.specs.Notation.{element, lexer_element, ◌▸◌, ◌∣◌, repeated, part, sign}
-use Rattle.g4_syntax.specs.Productions.{action, alternative, unnamed_item, item, labelled_item, unnamed_lexer_item, lexer_item, labelled_lexer_item, rule_alternative, parser_rule, lexer_alternative, lexer_rule, mode, combined_grammar, lexer_grammar, parser_grammar, grammar}
+use Rattle.g4_syntax.specs.Productions.{action, alternative, unnamed_item, item, labelled_item, unnamed_lexer_item, lexer_item, labelled_lexer_item, rule_alternative, parser_rule, lexer_alternative, lexer_rule, mode, grammar}
 use Rattle.g4_syntax.specs.Trees.{Tree, both, left, right, absent, present, end, more, inner}
 use Rattle.g4_productions.specs.Elements.{action_of}
 use Rattle.g4_productions.specs.ParserElements.{parser_element, parser_elements, labelled, named_item, unnamed, alternative_elements, alternatives_behind}

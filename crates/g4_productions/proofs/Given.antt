@@ -1,5 +1,5 @@
 -- What a call gives is what the choice gives of which it reads one side.
-use Rattle.std.proofs.Common.{◌≡◌, ℕ, List, Result, Ok, Err, true, false, sym, ◌∙◌}
+use Rattle.std.proofs.Common.{◌≡◌, ℕ, List, Result, Ok, Err, true, false, ◌∙◌}
 use Rattle.g4_tokens.specs.declared.token.Token.{Token}
 use Rattle.g4_syntax.specs.Notation.{Expression, ◌∣◌}
 use Rattle.g4_syntax.specs.Trees.{Tree, left, right, begins_there}

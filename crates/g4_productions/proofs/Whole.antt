@@ -1,14 +1,13 @@
 -- A grammar text is read to its end, or stops.
-use Rattle.std.proofs.Common.{◌≡◌, ◌∷◌, ◌<◌, ◌≤◌, ◌+◌, ℕ, List, [], length, Some, slice_get, get_or, Ok, Err, sym, ap, subst, drop_of_length-le}
+use Rattle.std.proofs.Common.{◌≡◌, ◌∷◌, ◌<◌, ◌≤◌, ◌+◌, ℕ, List, length, get_or, Err, sym, ap, subst, drop_of_length-le}
 use Rattle.std.proofs.lemmas.Option.{slice_get-get_or}
 use Rattle.g4_base.specs.Place.{first_place}
 use Rattle.g4_tokens.specs.declared.token.Kind.TheVariants as kinds
 use Rattle.g4_tokens.specs.declared.token.Token.{Token}
 use Rattle.g4_source.specs.Blocks.{HaveAlternatives}
 use Rattle.g4_source.specs.declared.source.Source.{Source}
-use Rattle.g4_syntax.specs.Notation.{Spelled}
 use Rattle.g4_syntax.specs.Productions.{grammar}
-use Rattle.g4_syntax.specs.Trees.{Tree, Reads, TextStops, within, behind}
+use Rattle.g4_syntax.specs.Trees.{Reads, TextStops, within, behind}
 use Rattle.g4_prequels.specs.Steps.{from, Read, StopsAt, at_index, without_memory}
 use Rattle.g4_prequels.specs.Texts.{spelled, spelled_token}
 use Rattle.g4_prequels.specs.declared.stop.Stop.{Stop}

@@ -1,6 +1,5 @@
 -- What is common to the elements of parser rules and of lexer rules.
-use Rattle.std.specs.Prelude.{List, [], ◌∷◌, Bool, true, false, Option, Some, None}
-use Rattle.g4_source.specs.declared.atom.Atom.{Atom}
+use Rattle.std.specs.Prelude.{Bool, true, false, Option, Some, None}
 use Rattle.g4_source.specs.declared.atom.Atom.TheVariants as atoms
 use Rattle.g4_source.specs.declared.element.Label.{Label}
 use Rattle.g4_source.specs.declared.element.Suffix.{Suffix}

@@ -1,13 +1,13 @@
 -- The elements of lexer rules.
-use Rattle.std.specs.Prelude.{ℕ, List, [], ◌∷◌, ◌++◌, Bool, false, Option, Some, None}
+use Rattle.std.specs.Prelude.{ℕ, List, [], ◌∷◌, ◌++◌, false, Option, Some, None}
 use Rattle.std.specs.Str.{chars}
 use Rattle.g4_tokens.specs.Spelling.{literal_spelling}
 use Rattle.g4_tokens.specs.declared.token.Kind.TheVariants as kinds
 use Rattle.g4_grammar.specs.declared.grammar.Range.{Range}
 use Rattle.g4_source.specs.declared.atom.Atom.TheVariants as atoms
 use Rattle.g4_source.specs.declared.element.Label.{Label}
-use Rattle.g4_source.specs.Elements.{Element, Item, atom, block, Elements, in_order, either}
-use Rattle.g4_syntax.specs.Notation.{Terminal, one, lexer_element, character_set, ◌▸◌, ◌∣◌, repeated, part, sign}
+use Rattle.g4_source.specs.Elements.{Element, atom, block, Elements, in_order, either}
+use Rattle.g4_syntax.specs.Notation.{Terminal, one, lexer_element, character_set, ◌▸◌, repeated, part, sign}
 use Rattle.g4_syntax.specs.Productions.{unnamed_lexer_item, lexer_item, labelled_lexer_item}
 use Rattle.g4_syntax.specs.Trees.{Tree, both, left, right, absent, present, end, more, inner}
 use Rattle.g4_prequels.specs.Options.{right_of_optional}

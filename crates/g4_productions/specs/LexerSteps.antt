@@ -14,7 +14,7 @@ use Rattle.g4_source.specs.declared.rule.LexerAlternative.{LexerAlternative}
 use Rattle.g4_source.specs.declared.source.Mode.{Mode}
 use Rattle.g4_source.specs.Elements.{Element, Elements, in_order}
 use Rattle.g4_source.specs.Trees.{element_of, alternative_of}
-use Rattle.g4_syntax.specs.Notation.{Expression, ◌▸◌, ◌∣◌, repeated, optional, part, sign, name, lexer_element, character_set, with_bars, with_commas}
+use Rattle.g4_syntax.specs.Notation.{Expression, ◌▸◌, ◌∣◌, repeated, part, sign, name, lexer_element, character_set, with_bars, with_commas}
 use Rattle.g4_syntax.specs.Productions.{assign, lexer_item, lexer_block, command, lexer_alternative, mode}
 use Rattle.g4_syntax.specs.Trees.{Tree, both, left, right}
 use Rattle.g4_prequels.specs.Steps.{ReadsAs}

@@ -5,8 +5,8 @@ use Rattle.g4_source.specs.declared.atom.Atom.TheVariants as atoms
 use Rattle.g4_source.specs.declared.atom.Symbol.{Symbol}
 use Rattle.g4_source.specs.declared.atom.Symbol.TheVariants as symbols
 use Rattle.g4_source.specs.declared.element.Label.{Label}
-use Rattle.g4_source.specs.Elements.{Element, Item, atom, block, Elements, in_order, either}
-use Rattle.g4_syntax.specs.Notation.{element, token_set, ◌▸◌, ◌∣◌, repeated, part, sign}
+use Rattle.g4_source.specs.Elements.{Element, atom, block, Elements, in_order, either}
+use Rattle.g4_syntax.specs.Notation.{element, token_set, ◌▸◌, repeated, part, sign}
 use Rattle.g4_syntax.specs.Productions.{alternative, unnamed_item, item, labelled_item}
 use Rattle.g4_syntax.specs.Trees.{Tree, both, left, right, end, more, inner}
 use Rattle.g4_prequels.specs.Options.{right_of_optional}

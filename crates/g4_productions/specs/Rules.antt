@@ -14,7 +14,7 @@ use Rattle.g4_source.specs.declared.rule.Rule.TheVariants as rules
 use Rattle.g4_source.specs.declared.rule.RuleAlternative.{RuleAlternative}
 use Rattle.g4_source.specs.declared.source.Mode.{Mode}
 use Rattle.g4_source.specs.Elements.{in_order}
-use Rattle.g4_syntax.specs.Notation.{Terminal, one, lexer_element, ◌▸◌, ◌∣◌, optional, repeated, part, sign, name, with_commas}
+use Rattle.g4_syntax.specs.Notation.{Terminal, one, ◌▸◌, ◌∣◌, optional, repeated, sign, name, with_commas}
 use Rattle.g4_syntax.specs.Productions.{rule_alternative, parser_rule, command, lexer_alternative, lexer_rule, mode}
 use Rattle.g4_syntax.specs.Trees.{Tree, both, left, right, absent, present, end, more}
 use Rattle.g4_prequels.specs.Texts.{token_of, text_of, name_of}

@@ -1,5 +1,5 @@
 // What stands behind `~` in lexer rules.
-ghost use Rattle.std.specs.Prelude.{◌≡◌, ◌≤◌, ◌++◌, length};
+ghost use Rattle.std.specs.Prelude.{◌≤◌, ◌++◌, length};
 ghost use Rattle.g4_syntax.specs.Trees.{inner, left, right};
 ghost use Rattle.g4_prequels.specs.Parts.{AreParts};
 ghost use Rattle.g4_productions.specs.LexerElements.{excluded_ranges};

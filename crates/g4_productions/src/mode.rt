@@ -1,5 +1,5 @@
 // The modes of a lexer grammar.
-ghost use Rattle.std.specs.Prelude.{◌≡◌, ◌≤◌, length};
+ghost use Rattle.std.specs.Prelude.{◌≤◌, length};
 ghost use Rattle.g4_prequels.specs.Parts.{AreParts};
 ghost use Rattle.g4_prequels.specs.Steps.{Gives};
 ghost use Rattle.g4_productions.specs.LexerSteps.{mode_of};

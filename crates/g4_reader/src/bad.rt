@@ -1,5 +1,5 @@
 // The first bad character set of a text.
-ghost use Rattle.std.specs.Prelude.{◌≡◌, ◌+◌, ◌-◌, ◌<◌, ◌^◌, ◌⊎◌, IfOk, length};
+ghost use Rattle.std.specs.Prelude.{◌≡◌, ◌+◌, ◌-◌, ◌<◌, ◌^◌, IfOk, length};
 ghost use Rattle.g4_prequels.specs.Parts.{AreParts, IsPart};
 ghost use Rattle.g4_prequels.specs.Steps.{from};
 ghost use Rattle.g4_prequels.specs.Texts.{characters_of, spelled, spelled_token};

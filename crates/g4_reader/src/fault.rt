@@ -1,5 +1,5 @@
 // The syntax faults of a text.
-ghost use Rattle.std.specs.Prelude.{◌≡◌, ◌≤◌, [], IfOk, drop, take, length};
+ghost use Rattle.std.specs.Prelude.{◌≡◌, ◌≤◌, [], IfOk, length};
 ghost use Rattle.g4_base.specs.Place.{first_place, place_after};
 ghost use Rattle.g4_tokens.specs.Answers.{unmarked};
 ghost use Rattle.g4_prequels.specs.Texts.{characters_of};

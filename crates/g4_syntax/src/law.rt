@@ -1,5 +1,5 @@
 // What holds of all grammar texts.
-ghost use Rattle.std.specs.Prelude.{◌≡◌, ◌++◌, ◌⊎◌, ℕ, List};
+ghost use Rattle.std.specs.Prelude.{◌≡◌, ◌++◌, ◌⊎◌, List};
 ghost use Rattle.g4_syntax.specs.Notation.{Spelled, Nonterminal, part};
 ghost use Rattle.g4_syntax.specs.Productions.{grammar, production};
 ghost use Rattle.g4_syntax.specs.Trees.{Tree, HasTree, BeginsText, TextStops, Ends, begins};

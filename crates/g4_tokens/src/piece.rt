@@ -2,7 +2,7 @@
 ghost use Rattle.std.specs.Prelude.{◌≡◌, ◌≤◌, length};
 ghost use Rattle.std.specs.List.{prefix_len};
 ghost use Rattle.std.specs.Char.{is_ascii_digit};
-ghost use Rattle.g4_tokens.specs.Pieces.{told, up_to, comment, literal, set, arguments, action, IsPiece, slash_opening, name_piece, comparison, lone_sign, sign_piece, bracket_opening, left_brace_opening, right_brace_piece, marked_opening, opening, IsWithin};
+ghost use Rattle.g4_tokens.specs.Pieces.{up_to, comment, literal, set, arguments, action, IsPiece, slash_opening, name_piece, comparison, lone_sign, sign_piece, bracket_opening, left_brace_opening, right_brace_piece, marked_opening, opening, IsWithin};
 ghost use Rattle.g4_tokens.specs.Readings.{holds_sets};
 
 use crate::Kind;

@@ -1,5 +1,5 @@
 // Where a piece of a text begins.
-ghost use Rattle.std.specs.Prelude.{◌≡◌, ◌≤◌, ◌<◌, ◌+◌, ◌*◌, ◌^◌, length, sum, map};
+ghost use Rattle.std.specs.Prelude.{◌≡◌, ◌≤◌, ◌<◌, ◌+◌, ◌*◌, ◌^◌, length};
 ghost use Rattle.std.specs.Char.{len_utf8};
 ghost use Rattle.g4_tokens.specs.Positions.{byte_count, position_past};
 

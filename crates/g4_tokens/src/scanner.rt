@@ -1,5 +1,5 @@
 // The tokens of a grammar text.
-ghost use Rattle.std.specs.Prelude.{◌≡◌, ◌<◌, ◌≤◌, ◌+◌, ◌^◌, length, drop, IfOk};
+ghost use Rattle.std.specs.Prelude.{◌≡◌, ◌<◌, ◌≤◌, ◌+◌, length, IfOk};
 ghost use Rattle.std.specs.Str.{chars};
 ghost use Rattle.g4_tokens.specs.Scanning.{start_at};
 ghost use Rattle.g4_tokens.specs.Spans.{AreInOrder, AreTexts};

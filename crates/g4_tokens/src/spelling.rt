@@ -1,5 +1,5 @@
 // What literals stand for.
-ghost use Rattle.std.specs.Prelude.{◌≡◌, ◌≤◌, length, drop, IfOk, IfSome};
+ghost use Rattle.std.specs.Prelude.{◌≡◌, ◌≤◌, length, IfOk, IfSome};
 ghost use Rattle.g4_tokens.specs.Spelling.{meant, escaped, spelled, literal_spelling, spelling_from};
 
 use g4_base::Sequence;

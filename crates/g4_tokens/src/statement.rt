@@ -1,6 +1,6 @@
 // Statements, as far as they tell sets from arguments and braces from actions.
 ghost use Rattle.std.specs.Prelude.{◌≡◌, [], true, false};
-ghost use Rattle.g4_tokens.specs.Statements.{is_mark, is_left_parenthesis, is_options, is_list_word, is_modifier, is_handler, is_reserved, braces_past, body_past, first_of, name_of, own_name, begins_options, begins_list};
+ghost use Rattle.g4_tokens.specs.Statements.{is_mark, is_options, is_list_word, is_modifier, is_handler, is_reserved, braces_past, body_past, name_of, own_name, begins_options, begins_list};
 ghost use Rattle.g4_tokens.specs.Readings.{statement_of, named_past, braces_named, body_open, statement_past, holds_sets};
 
 use crate::Kind;

@@ -1,9 +1,7 @@
 use Rattle.std.proofs.lemmas.Result.{err_from_is_err_and}
-use Rattle.std.proofs.Common.{◌≡◌, ◌∷◌, ◌||◌, ℕ, List, Bool, true, false, refl, sym, ◌∙◌, ap, arith}
-use Rattle.g4_tokens.specs.declared.token.Token.{Token}
+use Rattle.std.proofs.Common.{◌≡◌, ◌∷◌, ◌||◌, List, Bool, true, false, refl, sym, ◌∙◌, ap, arith}
 use Rattle.g4_source.specs.declared.rule.LexerRule.{LexerRule}
 use Rattle.g4_source.specs.declared.rule.ParserRule.{ParserRule}
-use Rattle.g4_source.specs.declared.rule.Rule.{Rule}
 use Rattle.g4_source.specs.declared.rule.Rule.TheVariants as rules
 use Rattle.g4_syntax.specs.Notation.{Spelled, ◌∣◌}
 use Rattle.g4_syntax.specs.Productions.{lexer_rule, parser_rule}

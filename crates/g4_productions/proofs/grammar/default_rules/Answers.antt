@@ -1,7 +1,6 @@
 use Rattle.std.proofs.lemmas.Result.{err_from_is_err_and}
 use Rattle.std.proofs.Common.{◌∷◌, refl, sym, ◌∙◌, ap, arith}
 use Rattle.g4_source.specs.declared.rule.LexerRule.{LexerRule}
-use Rattle.g4_source.specs.declared.rule.Rule.{Rule}
 use Rattle.g4_source.specs.declared.rule.Rule.TheVariants as rules
 use Rattle.g4_prequels.specs.Steps.{without_memory}
 use Rattle.g4_prequels.proofs.Repetitions.{stops_in_turn, list_turn, list_end}

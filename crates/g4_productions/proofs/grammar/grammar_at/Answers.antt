@@ -1,4 +1,4 @@
-use Rattle.std.proofs.Common.{◌≡◌, codes, refl, sym, ◌∙◌}
+use Rattle.std.proofs.Common.{codes, refl, sym, ◌∙◌}
 use Rattle.g4_syntax.specs.Notation.{word, ◌▸◌, ◌∣◌, repeated}
 use Rattle.g4_syntax.specs.Productions.{heading, lexer_rule, parser_rule, mode, combined_grammar, lexer_grammar, parser_grammar}
 use Rattle.g4_syntax.specs.Trees.{Tree, right}
