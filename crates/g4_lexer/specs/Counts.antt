@@ -16,6 +16,10 @@ bound_of set = set.first + length set.marks.items
 abbrev pub IsNone : Counts → Type 0
 IsNone set = (n : ℕ) → Has set n → ⊥
 
+-- the set has no room for counts that are less than its least
+abbrev pub BeginsWithItsLeast : Counts → Type 0
+BeginsWithItsLeast set = (length set.marks.items ≡ 0) ⊎ Has set set.first
+
 -- the set has this count and no others
 abbrev pub IsOnly : Counts → ℕ → Type 0
 IsOnly set count = (n : ℕ) → Has set n ↔ (n ≡ count)

@@ -1,5 +1,5 @@
 // The best match at the front of a text.
-ghost use Rattle.std.specs.Prelude.{◌≡◌, ◌≤◌, length, IfOk, MatchOption};
+ghost use Rattle.std.specs.Prelude.{◌≤◌, length, IfOk, MatchOption};
 ghost use Rattle.g4_lexer.specs.Matching.{NoMatch};
 ghost use Rattle.g4_lexer.specs.Counts.{IsStart};
 ghost use Rattle.g4_lexer.specs.Best.{IsLongest, IsBestOfRule, IsBestOfAll};

@@ -1,6 +1,6 @@
 // Sets of counts of characters.
-ghost use Rattle.std.specs.Prelude.{◌≡◌, ◌+◌, ◌<◌, ◌≤◌, ◌↔◌, ◌⊎◌, ℕ, max, IsTrue, OnOk, MatchOption};
-ghost use Rattle.g4_lexer.specs.Counts.{Has, bound_of, IsNone, IsOnly};
+ghost use Rattle.std.specs.Prelude.{◌≡◌, ◌+◌, ◌≤◌, ◌↔◌, ◌⊎◌, ℕ, max, min, IsTrue, OnOk, MatchOption};
+ghost use Rattle.g4_lexer.specs.Counts.{Has, bound_of, IsNone, IsOnly, BeginsWithItsLeast};
 
 use std::alloc::{AllocError, Global};
 
@@ -89,6 +89,16 @@ impl Counts {
         Ok(())
     }
 
+    /// Leaves no counts, with room for those from a first one on.
+    pub fn clear(&mut self, first: usize)
+        ensures none { IsNone self.new }
+        ensures first { self.new.first ≡ first }
+        ensures bound { bound_of self.new ≡ first }
+    {
+        self.marks.clear();
+        self.first = first;
+    }
+
     /// Leaves one count alone in the set.
     pub fn set_only(&mut self, count: usize) -> Result<(), AllocError>
         ensures members { OnOk result (IsOnly self.new count) }
@@ -98,6 +108,40 @@ impl Counts {
         self.marks.clear();
         self.first = count;
         self.marks.push(true)?;
+        Ok(())
+    }
+
+    /// Adds a count that is greater than those of the set, which has no room for lesser ones if it is the first.
+    fn add_greater(&mut self, count: usize) -> Result<(), AllocError>
+        requires greater { bound_of self.old ≤ count }
+        requires least { BeginsWithItsLeast self.old }
+        ensures members { OnOk result ((n : ℕ) → Has self.new n ↔ (Has self.old n ⊎ (n ≡ count))) }
+        ensures least { OnOk result (BeginsWithItsLeast self.new) }
+        ensures first { OnOk result (min self.old.first count ≤ self.new.first) }
+        ensures bound { OnOk result (bound_of self.new ≡ count + 1) }
+    {
+        if self.is_empty() {
+            self.set_only(count)
+        } else {
+            self.add(count)
+        }
+    }
+
+    /// Leaves the counts of one set that another has not, and no room for any that are less.
+    pub fn set_difference(&mut self, of: &Counts, without: &Counts) -> Result<(), AllocError>
+        requires ordered { without.now.first ≤ of.now.first }
+        requires fits { bound_of of.now ≤ 16777217 }
+        ensures members { OnOk result ((n : ℕ) → Has self.new n ↔ (Has of.now n × (Has without.now n → ⊥))) }
+        ensures least { OnOk result (BeginsWithItsLeast self.new) }
+        ensures first { OnOk result (of.now.first ≤ self.new.first) }
+        ensures bound { OnOk result (bound_of self.new ≤ bound_of of.now) }
+    {
+        self.clear(of.first());
+        for count in of.first()..of.bound() {
+            if of.has(count) && !without.has(count) {
+                self.add_greater(count)?;
+            }
+        }
         Ok(())
     }
 

@@ -4,12 +4,13 @@ ghost use Rattle.g4_grammar.specs.Characters.{ReadsCharacters};
 ghost use Rattle.g4_grammar.specs.Elements.{star, either};
 ghost use Rattle.g4_grammar.specs.Trees.{element_of, alternative_of, in_order, repeated};
 ghost use Rattle.g4_grammar.specs.Derives.{Derives, DerivesAll, DerivesOne};
-ghost use Rattle.g4_lexer.specs.Counts.{Has, Fits, HasRoom, IsPart, IsEnd, Adds, Closes};
+ghost use Rattle.g4_lexer.specs.Counts.{Has, Fits, HasRoom, IsPart, Adds, Closes};
 
 use crate::counts::Counts;
 use crate::turn::turn;
 use g4_grammar::{Alternative, Atom, Element, Repeat};
 use std::alloc::{AllocError, Global};
+use std::mem;
 
 /// Adds the end of the match that begins at a count, if the atom matches there.
 fn add_turn(ends: &mut Counts, atom: &Atom, text: &[char], start: usize) -> Result<(), AllocError>
@@ -58,14 +59,16 @@ fn add_turns(
     requires room { Fits ends.old text.now }
     ensures { OnOk result (Closes (Derives ReadsCharacters [] (star true (either (map alternative_of alternatives.now)))) text.now ends.old ends.new) }
 {
-    let mut here = Counts::new(alloc, 0);
-    let mut count = ends.first();
-    while count < ends.bound() {
-        if ends.has(count) {
-            here.set_only(count)?;
-            add_either(alloc, ends, alternatives, text, &here)?;
-        }
-        count += 1;
+    let mut fresh = Counts::new(alloc, ends.first());
+    fresh.add_all(ends)?;
+    let mut found = Counts::new(alloc, 0);
+    let mut next = Counts::new(alloc, 0);
+    while !fresh.is_empty() {
+        found.clear(fresh.first());
+        add_either(alloc, &mut found, alternatives, text, &fresh)?;
+        next.set_difference(&found, ends)?;
+        ends.add_all(&next)?;
+        mem::swap(&mut fresh, &mut next);
     }
     Ok(())
 }

@@ -1,5 +1,5 @@
 // The tokens of a file.
-ghost use Rattle.std.specs.Prelude.{◌≡◌, ◌≤◌, ◌<◌, ◌^◌, ◌+◌, ◌++◌, All, IfOk, length};
+ghost use Rattle.std.specs.Prelude.{◌≡◌, ◌≤◌, ◌<◌, ◌+◌, ◌++◌, All, IfOk, length};
 ghost use Rattle.g4_net.specs.TokenList.{EndsInEnd, word_of};
 ghost use Rattle.g4_lexer.specs.Lexing.{IsLexing, IsLexingWithin, closing_at};
 

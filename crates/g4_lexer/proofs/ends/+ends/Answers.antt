@@ -1,11 +1,9 @@
 use Rattle.std.proofs.Common.{arith, rules}
 use Rattle.std.proofs.lemmas.Result.{on_ok_weaker}
-use Rattle.g4_lexer.specs.Counts.{Has}
 use Rattle.g4_lexer.proofs.Elements.{in_order_stuck}
 use Rattle.g4_lexer.proofs.Nodes.{alternatives_of, elements_of, on_ok_all, node_atom, node_block, block_once, block_star, block_plus, sides_more, sides_all, nodes_none, nodes_only, nodes_first, nodes_more, nodes_all}
-use Rattle.g4_lexer.proofs.Turns.{walk_none, walk_turn, walk_on, walked}
+use Rattle.g4_lexer.proofs.Turns.{walk_none, walk_turn, walked}
 use Rattle.g4_lexer.proofs.ends.+ends.Goals as goal
-use Rattle.g4_lexer.proofs.ends.+ends.Goals.{add_turns-then-has+in_ok-set_only+in_ok-add_either, add_turns-else-has}
 
 pub add_either-loop-alternative-preserved : goal.add_either-loop-alternative-preserved
 add_either-loop-alternative-preserved t c =
@@ -66,27 +64,23 @@ pub add_elements-returns : goal.add_elements-returns
 add_elements-returns t c =
     on_ok_all c.add_all-2.result (nodes_all c.args.text.now c.args.starts.now c.args.ends.now (elements_of c.args.elements.now) c.in-Some.more.now c.loop-element.element-index c.loop-element.found c.add_all-2.new.self (omega arith) c.loop-element.invariant c.requires.room.ends_fit) c.add_all-2.ensures.members c.add_all-2.ensures.first c.add_all-2.ensures.bound
 
-pub add_turns-loop-count-init : goal.add_turns-loop-count-init
-add_turns-loop-count-init t c = record {
-  walked = walk_none (alternatives_of c.args.alternatives.now) c.args.text.now c.args.ends.now c.requires.room c.first-count.result (omega arith);
-  ordered = omega arith;
+pub add_turns-loop-alloc-init : goal.add_turns-loop-alloc-init
+add_turns-loop-alloc-init t c = record {
+  walked = walk_none (alternatives_of c.args.alternatives.now) c.args.text.now c.args.ends.now c.new-fresh.result c.add_all.new.self c.requires.room c.new-fresh.ensures.none c.in_ok-add_all.ensures.members;
+  fits = omega (arith, c.in_ok-add_all.ensures.bound, c.new-fresh.ensures.bound, c.first.ensures, c.requires.room);
+  ordered = omega (arith, c.in_ok-add_all.ensures.first, c.new-fresh.ensures.first, c.first.ensures);
 }
 
-pub add_turns-loop-count-preserved : goal.add_turns-loop-count-preserved
-add_turns-loop-count-preserved t c =
-    let w0 = c.loop-count.invariant.walked in
-    elim c.if-has.branch [
-      | add_turns-then-has+in_ok-set_only+in_ok-add_either w ↦ record {
-        walked =
-            let here : Has c.loop-count.ends c.loop-count.count = grind arith in
-            rw w.ends-is (walk_turn (alternatives_of c.args.alternatives.now) c.args.text.now c.args.ends.now c.loop-count.ends w.set_only.new.self w.add_either.new.ends c.loop-count.count w0 here w.in_ok-set_only.ensures.members w.in_ok-add_either.ensures);
-        ordered = rw w.ends-is (omega (arith, w.in_ok-add_either.ensures.first, c.loop-count.invariant.ordered));
-      }
-      | add_turns-else-has w ↦ record {
-        walked = rw w.ends-is (walk_on (alternatives_of c.args.alternatives.now) c.args.text.now c.args.ends.now c.loop-count.ends c.loop-count.count w0 (λ h. grind arith));
-        ordered = rw w.ends-is (omega (arith, c.loop-count.invariant.ordered));
-      }
-    ]
+pub add_turns-loop-alloc-preserved : goal.add_turns-loop-alloc-preserved
+add_turns-loop-alloc-preserved t c =
+    let found = c.in_ok-add_either.ensures in
+    let next = c.in_ok-set_difference.ensures in
+    let grown = c.in_ok-add_all-2.ensures in
+    rw c.swap.ensures.x_after (record {
+      walked = walk_turn (alternatives_of c.args.alternatives.now) c.args.text.now c.args.ends.now c.loop-alloc.ends c.loop-alloc.fresh c.clear.new.self c.add_either.new.ends c.set_difference.new.self c.loop-alloc.invariant.walked c.clear.ensures.none found next.members c.add_all-in-loop-alloc.new.self grown.members grown.first grown.bound next.bound;
+      fits = omega (arith, next.bound, found.fits);
+      ordered = omega (arith, grown.first, next.first, found.first, c.clear.ensures.first, c.first-in-loop-alloc.ensures, c.loop-alloc.invariant.ordered);
+    })
 
 pub add_turns-returns : goal.add_turns-returns
-add_turns-returns t c = walked (alternatives_of c.args.alternatives.now) c.args.text.now c.args.ends.now c.loop-count.ends c.loop-count.count c.loop-count.invariant.walked (omega arith)
+add_turns-returns t c = walked (alternatives_of c.args.alternatives.now) c.args.text.now c.args.ends.now c.loop-alloc.ends c.loop-alloc.fresh c.loop-alloc.invariant.walked (c.loop-alloc-test.ensures.none (search rules))
