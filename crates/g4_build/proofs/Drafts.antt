@@ -9,7 +9,7 @@ use Rattle.g4_net.specs.declared.network.State.TheVariants.{Decision, Token, Cal
 use Rattle.g4_net.specs.Network.{state_at}
 use Rattle.g4_build.specs.Drafts.{Among, linked, CallsNoMore, Grows, Shares, IsLaid, AreBeside, starred, choice_of, repeated_once, joined}
 use Rattle.g4_build.specs.Layout as lay
-use Rattle.g4_build.specs.Layout.{Lies, LieInOrder, LieSideBySide, AllLeadTo}
+use Rattle.g4_build.specs.Layout.{Lies, LieSideBySide, AllLeadTo}
 use Rattle.g4_build.specs.Size.{states_of, states_of_bodies}
 use Rattle.g4_build.proofs.Lists.{get_set_same, get_set_other, set_cases, get_left, get_right, append_cases, same_or_not}
 

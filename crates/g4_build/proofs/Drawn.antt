@@ -13,7 +13,7 @@ use Rattle.g4_net.specs.declared.network.State.{State}
 use Rattle.g4_net.specs.declared.network.State.TheVariants.{Decision, End, Token, Call, Empty}
 use Rattle.g4_net.specs.Network.{state_at, start_of, end_of, written_at}
 use Rattle.g4_build.specs.Layout as lay
-use Rattle.g4_build.specs.Layout.{Lies, LieInOrder, LieSideBySide, LiesAsRule, BeginsOne, BeginsAny, RulesLie, IsNetworkOf}
+use Rattle.g4_build.specs.Layout.{Lies, LieInOrder, LieSideBySide, LiesAsRule, BeginsOne, BeginsAny, RulesLie}
 use Rattle.g4_build.specs.Rules.{HasHeads, HasCallers, IsDrawn, added_states, HaveLaid, SharesRules, StartsNone}
 use Rattle.g4_build.specs.Size.{states_of_rule}
 use Rattle.g4_build.proofs.Lists.{get_set_same, get_set_other, set_cases, get_left, get_right, append_cases, same_or_not, length_pushed}

@@ -13,7 +13,7 @@ use Rattle.g4_net.specs.declared.network.State.TheVariants.{Decision, Empty}
 use Rattle.g4_net.specs.Network.{start_of, end_of, written_at, IsFirst}
 use Rattle.g4_build.specs.Drafts.{Among, linked, AreLaid, IsRising, AreBeside}
 use Rattle.g4_build.specs.Layout as lay
-use Rattle.g4_build.specs.Layout.{LieInOrder, LieSideBySide, AllLeadTo, AreWritten, BeginsOne, BeginsAny, LiesAsRule, RulesLie}
+use Rattle.g4_build.specs.Layout.{LieInOrder, LieSideBySide, AreWritten, BeginsOne, BeginsAny, RulesLie}
 use Rattle.g4_build.specs.Rules.{marked, SharesRule, RuleIsLaid, IsBefore, SharesRules, HaveLaid}
 use Rattle.g4_build.specs.Size.{states_in_order, states_of_bodies, states_of_rule}
 use Rattle.g4_build.proofs.Lists.{get_set_same, get_set_other}

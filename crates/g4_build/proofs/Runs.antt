@@ -7,7 +7,7 @@ use Rattle.g4_net.specs.declared.network.State.{State}
 use Rattle.g4_net.specs.declared.network.State.TheVariants.{Empty}
 use Rattle.g4_build.specs.Drafts.{Among, Grows, Shares, IsLaid, AreLaid, SharesBut, IsRising, AreBeside}
 use Rattle.g4_build.specs.Layout as lay
-use Rattle.g4_build.specs.Layout.{Lies, LieInOrder, LieSideBySide}
+use Rattle.g4_build.specs.Layout.{LieInOrder, LieSideBySide}
 use Rattle.g4_build.specs.Size.{states_of, states_in_order, states_of_bodies}
 use Rattle.g4_build.proofs.Lists.{get_left}
 use Rattle.g4_build.proofs.Drafts.{IsNoCall, append_calls, among_more}

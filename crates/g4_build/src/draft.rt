@@ -1,6 +1,6 @@
 // The states of elements while they are made. A state where something ends is filled once it is known what follows.
-ghost use Rattle.std.specs.Prelude.{◌≡◌, ◌≤◌, ◌<◌, ◌+◌, ◌++◌, ℕ, List, [], ◌∷◌, true, slice_set, IfOk, OnOk, length, All};
-ghost use Rattle.g4_grammar.specs.Blocks.{IsFull, AreFull, EachIsFull, IsSome};
+ghost use Rattle.std.specs.Prelude.{◌≡◌, ◌≤◌, ◌<◌, ◌+◌, ◌++◌, ℕ, [], ◌∷◌, true, slice_set, IfOk, length};
+ghost use Rattle.g4_grammar.specs.Blocks.{IsFull, AreFull, EachIsFull};
 ghost use Rattle.g4_grammar.specs.Calls.{EachCallsNone};
 ghost use Rattle.g4_grammar.specs.Elements.{block, star, plus, either};
 ghost use Rattle.g4_net.specs.declared.network.State.TheVariants.{Token, Empty};

@@ -1,5 +1,5 @@
 // The network of rules: heads, the added rule, the rules, and who calls them.
-ghost use Rattle.std.specs.Prelude.{◌≡◌, ◌≤◌, ◌<◌, ◌+◌, ◌*◌, ◌++◌, ◌==◌, ℕ, List, [], ◌∷◌, cond, IfOk, OnOk, length, slice_set, sum_by};
+ghost use Rattle.std.specs.Prelude.{◌≡◌, ◌≤◌, ◌<◌, ◌+◌, ◌*◌, ◌++◌, ◌==◌, [], ◌∷◌, cond, IfOk, OnOk, length, slice_set, sum_by};
 ghost use Rattle.g4_grammar.specs.Blocks.{NumberedHaveAlternatives};
 ghost use Rattle.g4_grammar.specs.Calls.{NumberedCallNone};
 ghost use Rattle.g4_grammar.specs.Numbering.{alternatives_of_rule};

@@ -1,6 +1,6 @@
 // The states of rules, and the numbers of their alternatives.
-ghost use Rattle.std.specs.Prelude.{◌≡◌, ◌≤◌, ◌<◌, ◌+◌, ◌-◌, ◌*◌, ◌++◌, ℕ, List, [], ◌∷◌, map, IfOk, OnOk, length, replicate, slice_get, slice_index, slice_set, sum_by};
-ghost use Rattle.g4_grammar.specs.Blocks.{EachIsFull, IsSome, NumberedHaveAlternatives, AreFullAlternatives};
+ghost use Rattle.std.specs.Prelude.{◌≡◌, ◌≤◌, ◌<◌, ◌+◌, ◌-◌, ◌*◌, ◌++◌, ℕ, [], ◌∷◌, map, OnOk, length, replicate, slice_index, sum_by};
+ghost use Rattle.g4_grammar.specs.Blocks.{EachIsFull, NumberedHaveAlternatives, AreFullAlternatives};
 ghost use Rattle.g4_grammar.specs.Calls.{CallNone, EachCallsNone, NumberedCallNone};
 ghost use Rattle.g4_grammar.specs.Elements.{either};
 ghost use Rattle.g4_grammar.specs.Numbering.{alternatives_of_rule};

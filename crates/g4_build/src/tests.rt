@@ -1,7 +1,7 @@
 // What is drawn of small rules, worked out by hand.
-ghost use Rattle.std.specs.Prelude.{◌≤◌, ℕ, List, map, IfOk, length, MatchResult};
-ghost use Rattle.g4_grammar.specs.Blocks.{IsFull, AreFull, NumberedHaveAlternatives};
-ghost use Rattle.g4_grammar.specs.Trees.{element_of, in_order};
+ghost use Rattle.std.specs.Prelude.{◌≤◌, IfOk, length};
+ghost use Rattle.g4_grammar.specs.Blocks.{IsFull, NumberedHaveAlternatives};
+ghost use Rattle.g4_grammar.specs.Trees.{element_of};
 
 use crate::builder::fits;
 use crate::drawing::draw;

@@ -1,5 +1,5 @@
 // What configurations lead to without a symbol read.
-ghost use Rattle.std.specs.Prelude.{◌≡◌, ◌<◌, ◌≤◌, ◌*◌, ◌^◌, ◌↔◌, ◌∷◌, ℕ, List, [], All, Contains, IfOk, length};
+ghost use Rattle.std.specs.Prelude.{◌≡◌, ◌<◌, ◌≤◌, ◌*◌, ◌^◌, ◌∷◌, ℕ, [], All, IfOk, length};
 ghost use Rattle.g4_closure.specs.Steps.{Adds, ReachedFrom, callers_by, steps, successors_by};
 ghost use Rattle.g4_net.specs.Configurations.{HasExactly, IsWithin};
 ghost use Rattle.g4_net.specs.declared.network.State.TheVariants.{Call};

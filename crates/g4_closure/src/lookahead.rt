@@ -1,5 +1,5 @@
 // The start set of a decision, and the next set on a symbol.
-ghost use Rattle.std.specs.Prelude.{◌≡◌, ◌<◌, ◌≤◌, ◌++◌, ℕ, List, All, Contains, IfOk, OnOk, length};
+ghost use Rattle.std.specs.Prelude.{◌≡◌, ◌<◌, ◌≤◌, ◌++◌, All, Contains, IfOk, OnOk, length};
 ghost use Rattle.g4_closure.specs.Steps.{first_configs, firsts_by, has_symbol, keeps_by, kept_of, moved_by, target_by, targets_of};
 ghost use Rattle.g4_net.specs.Configurations.{HasExactly, IsWithin};
 ghost use Rattle.g4_net.specs.Leads.{WellFormed};

@@ -1,5 +1,5 @@
 // The traits of the outside, and what each call answers.
-ghost use Rattle.std.specs.Prelude.{◌≡◌, ◌<◌, ◌≤◌, ◌++◌, ℕ, List, Option, IfOk, IfSome, OnOk, length};
+ghost use Rattle.std.specs.Prelude.{◌≡◌, ◌<◌, ℕ, List, Option, IfSome, OnOk, length};
 ghost use Rattle.g4_ports.specs.Ports.{IsFileOf, CountsFaults, CountsMisses, IsSized, TakesFrom, CountsPut, IsCount, TakesFront, with_more};
 
 use g4_base::Octets;

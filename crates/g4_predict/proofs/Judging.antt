@@ -4,7 +4,7 @@ use Rattle.std.proofs.Common.{inl, inr, ℕ, suc, List, [], ◌∷◌, sym, subs
 use Rattle.g4_net.specs.declared.network.Network.{Network}
 use Rattle.g4_net.specs.Configurations.{Config, HasExactly}
 use Rattle.g4_net.specs.Lookahead.{Next, IsEmpty, IsOnly, Conflict, LoneState, Alike, IsLeast}
-use Rattle.g4_net.specs.Prediction.{Verdict, error_at, answer, sensitive, Looked, led_to, ended, Judges, SllFrom, Choice, chosen, no_viable, Settles, FullFrom}
+use Rattle.g4_net.specs.Prediction.{Verdict, error_at, sensitive, Looked, led_to, ended, Judges, SllFrom, Choice, no_viable, Settles, FullFrom}
 use Rattle.g4_net.specs.Prediction as prediction
 use Rattle.g4_predict.specs.declared.sll.Verdict as said
 use Rattle.g4_predict.specs.declared.sll.Verdict.TheVariants.{Answer, ErrorAt, Sensitive}

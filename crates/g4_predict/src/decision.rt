@@ -1,5 +1,5 @@
 // The alternative that prediction says at a decision.
-ghost use Rattle.std.specs.Prelude.{◌≡◌, ◌<◌, ◌≤◌, ◌^◌, ℕ, List, Some, All, length, drop, IfOk, reverse};
+ghost use Rattle.std.specs.Prelude.{◌≡◌, ◌<◌, ◌^◌, ℕ, List, Some, All, length, drop, IfOk, reverse};
 ghost use Rattle.g4_net.specs.AddedRule.{IsRunnable, StandsApart};
 ghost use Rattle.g4_net.specs.declared.network.State.TheVariants.{Decision};
 ghost use Rattle.g4_net.specs.Network.{state_at};

@@ -1,5 +1,5 @@
 // Looking ahead from a decision with the parser's own stack.
-ghost use Rattle.std.specs.Prelude.{◌≡◌, ◌<◌, ◌≤◌, ◌^◌, ℕ, All, Contains, IfOk, MatchOption, length};
+ghost use Rattle.std.specs.Prelude.{◌<◌, ◌^◌, ℕ, All, Contains, IfOk, MatchOption, length};
 ghost use Rattle.g4_base.specs.Symbols.{end_of_list};
 ghost use Rattle.g4_net.specs.AddedRule.{IsRunnable, StandsApart};
 ghost use Rattle.g4_net.specs.Configurations.{above_bottom};

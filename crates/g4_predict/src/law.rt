@@ -1,5 +1,5 @@
 // That looking ahead ends at the end of the token list.
-ghost use Rattle.std.specs.Prelude.{◌≡◌, ◌++◌, ◌∷◌, ℕ, List, []};
+ghost use Rattle.std.specs.Prelude.{◌++◌, ◌∷◌, ℕ, List, []};
 ghost use Rattle.g4_base.specs.Symbols.{end_of_list};
 ghost use Rattle.g4_net.specs.AddedRule.{IsRunnable, StandsApart};
 ghost use Rattle.g4_net.specs.Configurations.{above_bottom, wildcard};

@@ -1,5 +1,5 @@
 // SLL: looking ahead from a decision as if any rule had called the one that is open.
-ghost use Rattle.std.specs.Prelude.{◌≡◌, ◌<◌, ◌≤◌, ◌^◌, ◌↔◌, ℕ, All, Contains, IfOk, IsTrue, MatchOption, length};
+ghost use Rattle.std.specs.Prelude.{◌<◌, ◌^◌, ◌↔◌, Contains, IfOk, IsTrue, MatchOption, length};
 ghost use Rattle.g4_base.specs.Symbols.{end_of_list};
 ghost use Rattle.g4_net.specs.AddedRule.{IsReady};
 ghost use Rattle.g4_net.specs.Prediction.{Path, Sll};

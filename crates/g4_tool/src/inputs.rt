@@ -1,5 +1,5 @@
 // The files of a run, fetched in order.
-ghost use Rattle.std.specs.Prelude.{◌≡◌, ℕ, List, All, IfOk, map, string_bytes, Some, length};
+ghost use Rattle.std.specs.Prelude.{◌≡◌, All, IfOk, map, string_bytes, Some, length};
 ghost use Rattle.g4_tool.specs.Inputs.{Files, inputs_of, GivesInputs, IsWithin, CountsFetching, CountsMissing, IsSmall};
 
 use g4_base::Octets;

@@ -1,5 +1,5 @@
 // The lines of a report, written one at a time.
-ghost use Rattle.std.specs.Prelude.{◌≡◌, ◌∷◌, [], OnOk};
+ghost use Rattle.std.specs.Prelude.{◌∷◌, [], OnOk};
 ghost use Rattle.g4_tool.specs.Writing.{Wrote, WroteFront, CountsWriting};
 
 use g4_base::Text;
