@@ -1,4 +1,5 @@
 mod Added
+pub mod Checked
 mod Closing
 mod Exact
 mod Sets

@@ -1,70 +1,105 @@
 -- The lists of the code are the sets of the definitions.
-use Rattle.std.proofs.Common.{◌≡◌, ℕ, zero, suc, ◌+◌, ◌<◌, ◌↔◌, ◌⊎◌, inl, inr, List, [], ◌∷◌, ◌++◌, Bool, true, false, true≢false, Option, Some, None, Contains, All, length, slice_get, filter, ◌==◌, if◌then◌else◌, refl, sym, ◌∙◌, ap, subst, arith}
+use Rattle.std.proofs.Common.{◌≡◌, ℕ, ◌+◌, ◌<◌, ◌↔◌, ◌⊎◌, inl, inr, List, [], ◌∷◌, ◌++◌, Bool, true, false, true≢false, Option, Some, None, Contains, All, length, slice_get, filter, ◌==◌, if◌then◌else◌, refl, sym, ◌∙◌, ap, subst, arith}
 use Rattle.std.proofs.lemmas.Option.{slice_get_within, get_or_from_slice_get}
+use Rattle.std.proofs.lemmas.List.Elements.{Contains-push, Contains-push_cases, Contains-append_left}
 use Rattle.std.proofs.lemmas.Bool.Decides.{nat_tests}
 use Rattle.std.proofs.lemmas.Bool.{cases_Bool}
-use Rattle.g4_net.specs.declared.network.Network.{Network}
 use Rattle.g4_net.specs.declared.network.State.{State}
-use Rattle.g4_net.specs.declared.network.State.TheVariants.{Decision, End, Token, Call, Predicate, Level, Action, Empty}
+use Rattle.g4_net.specs.declared.network.State.TheVariants.{Decision, End, Edge, Call, Predicate, Level, Action, Empty}
 use Rattle.g4_net.specs.Configurations.{Stack, Config, config, at, HasExactly, IsWithin}
-use Rattle.g4_net.specs.Network.{state_at}
+use Rattle.g4_net.specs.Network.{ParserNetwork, state_at}
 use Rattle.g4_net.specs.Leads.{WellFormed}
 use Rattle.g4_net.specs.Lookahead.{Firsts, Targets, Rest, IsKept, IsKeptBy, TakesBy}
-use Rattle.g4_net.specs.Prediction.{Any}
 use Rattle.g4_net.proofs.Pigeons.{In, In-from, In-to}
 use Rattle.g4_net.proofs.Finite.{target_within}
-use Rattle.g4_closure.specs.Steps.{first_config, first_configs, firsts_by, has_symbol, target_by, moved_by, targets_of, keeps_by, kept_of, ReachedFrom}
+use Rattle.g4_closure.specs.Steps.{FirstsBelow, alternatives_by, has_symbol, target_by, moved_by, targets_of, keeps_by, kept_of, ReachedFrom}
 use Rattle.g4_closure.proofs.Closing.{of_all, all_of}
 
 -- first states
 
-firsts_in : (returns : List ℕ) (wild : Bool) (i : ℕ) (ts : List ℕ) (c : Config) → In c (first_configs returns wild i ts) → (k t : ℕ) × (slice_get ts k ≡ Some t) × (c ≡ first_config returns wild (i + k) t)
-firsts_in returns wild i [] c h = absurd h
-firsts_in returns wild i (t ∷ ts) c (inl e) = let n : i + 0 ≡ i = omega arith in (0, t, refl, e ∙ ap (λ (j : ℕ). first_config returns wild j t) (sym n))
-firsts_in returns wild i (t ∷ ts) c (inr h) =
-    let r = firsts_in returns wild (i + 1) ts c h in
-    let n : (i + 1) + r.0 ≡ i + suc r.0 = omega arith in
-    (suc r.0, r.1, r.2, r.3 ∙ ap (λ (j : ℕ). first_config returns wild j r.1) n)
-
-in_firsts : (returns : List ℕ) (wild : Bool) (i k : ℕ) (ts : List ℕ) (t : ℕ) → slice_get ts k ≡ Some t → In (first_config returns wild (i + k) t) (first_configs returns wild i ts)
-in_firsts returns wild i k [] t is = absurd (let w = slice_get_within {A = ℕ} [] k t is in omega arith)
-in_firsts returns wild i zero (u ∷ ts) t is = let same : u ≡ t = cc in let n : i + 0 ≡ i = omega arith in inl (ap (λ (j : ℕ). first_config returns wild j t) n ∙ ap (λ (p : ℕ). first_config returns wild i p) (sym same))
-in_firsts returns wild i (suc k) (u ∷ ts) t is =
-    let n : (i + 1) + k ≡ i + suc k = omega arith in
-    inr (subst (λ (j : ℕ). In (first_config returns wild j t) (first_configs returns wild (i + 1) ts)) n (in_firsts returns wild (i + 1) k ts t is))
+-- one more in a list
+in_push : (xs : List Config) (e d : Config) → Contains (xs ++ e ∷ []) d ↔ (Contains xs d ⊎ (d ≡ e))
+in_push xs e d = (
+  (λ i. elim (Contains-push_cases xs e d i) [ inl j ↦ inl j | inr is ↦ inr (sym is) ]),
+  λ h. elim h [ inl j ↦ Contains-append_left xs (e ∷ []) d j | inr is ↦ subst (Contains (xs ++ e ∷ [])) (sym is) (Contains-push xs e) ],
+)
 
 -- a configuration by its parts
 made_of : (c : Config) (j : ℕ) (z : Stack) → c.alt ≡ j → c.stack ≡ z → c ≡ config c.state j z
 made_of c j z a s = rw (← a, ← s) refl
 
--- a state that is no decision has no alternatives
-no_firsts : (net : Network) (d : ℕ) (returns : List ℕ) (wild : Bool) (c : Config) → ((ts : List ℕ) → state_at net d ≡ Some (Decision ts) → ⊥) → Contains [] c ↔ Firsts net d Any (record { returns = returns; wild = wild }) c
-no_firsts net d returns wild c none_at = ((λ i. absurd (omega (arith, i.1))), λ f. let first = f.1 in absurd (none_at first.0 first.2))
+-- no alternative is among the first none
+pub firsts_none : (A : ℕ → Type 0) (z : Stack) (ts : List ℕ) → HasExactly [] (FirstsBelow A z ts 0)
+firsts_none A z ts c = ((λ i. absurd (omega (arith, i.1))), λ f. absurd (omega (arith, f.1.1)))
 
--- the first states of the alternatives are those listed
-pub exact_firsts_by : (net : Network) (d : ℕ) (returns : List ℕ) (wild : Bool) (o : Option State) → state_at net d ≡ o → HasExactly (firsts_by returns wild o) (Firsts net d Any (record { returns = returns; wild = wild }))
-exact_firsts_by net d returns wild (Some (Decision ts)) is c = (to, from)
+-- one more alternative, which is allowed
+pub firsts_push : (A : ℕ → Type 0) (z : Stack) (ts : List ℕ) (n t : ℕ) (found : List Config) → slice_get ts n ≡ Some t → A (n + 1) → HasExactly found (FirstsBelow A z ts n) → HasExactly (found ++ config t (n + 1) z ∷ []) (FirstsBelow A z ts (n + 1))
+firsts_push A z ts n t found at_n allowed has c = (to, from)
   where
-    to : Contains (first_configs returns wild 1 ts) c → Firsts net d Any (record { returns = returns; wild = wild }) c
-    to i =
-        let r = firsts_in returns wild 1 ts c (In-from (first_configs returns wild 1 ts) c i.0 i.1 i.2) in
-        let n : 1 + r.0 ≡ r.0 + 1 = omega arith in
-        (tt, (ts, r.0, is, r.2 ∙ ap (λ (x : Config). Some x.state) (sym r.3), ap (λ (x : Config). x.alt) r.3 ∙ n), ap (λ (x : Config). x.stack) r.3)
+    to : Contains (found ++ config t (n + 1) z ∷ []) c → FirstsBelow A z ts (n + 1) c
+    to i = elim ((in_push found (config t (n + 1) z) c).0 i) [
+      | inl j ↦ (let f = (has c).0 j in (f.0, (f.1.0, omega (arith, f.1.1), f.1.2, f.1.3), f.2))
+      | inr is ↦ (subst A (sym (ap (λ (x : Config). x.alt) is)) allowed, (n, omega arith, at_n ∙ ap (λ (x : Config). Some x.state) (sym is), ap (λ (x : Config). x.alt) is), ap (λ (x : Config). x.stack) is)
+    ]
 
-    from : Firsts net d Any (record { returns = returns; wild = wild }) c → Contains (first_configs returns wild 1 ts) c
-    from (any, (us, k, at_d, has, alt), stack) =
-        let same : us ≡ ts = cc in
-        let n : c.alt ≡ 1 + k = omega arith in
-        let made : c ≡ first_config returns wild (1 + k) c.state = made_of c (1 + k) (record { returns = returns; wild = wild }) n stack in
-        In-to (first_configs returns wild 1 ts) c (subst (λ (x : Config). In x (first_configs returns wild 1 ts)) (sym made) (in_firsts returns wild 1 k ts c.state (subst (λ (xs : List ℕ). slice_get xs k ≡ Some c.state) same has)))
-exact_firsts_by net d returns wild (Some (End rule)) is c = no_firsts net d returns wild c (λ ts at_d. cc)
-exact_firsts_by net d returns wild (Some (Token set t)) is c = no_firsts net d returns wild c (λ ts at_d. cc)
-exact_firsts_by net d returns wild (Some (Call rule level back)) is c = no_firsts net d returns wild c (λ ts at_d. cc)
-exact_firsts_by net d returns wild (Some (Predicate k t)) is c = no_firsts net d returns wild c (λ ts at_d. cc)
-exact_firsts_by net d returns wild (Some (Level q t)) is c = no_firsts net d returns wild c (λ ts at_d. cc)
-exact_firsts_by net d returns wild (Some (Action t)) is c = no_firsts net d returns wild c (λ ts at_d. cc)
-exact_firsts_by net d returns wild (Some (Empty t)) is c = no_firsts net d returns wild c (λ ts at_d. cc)
-exact_firsts_by net d returns wild None is c = no_firsts net d returns wild c (λ ts at_d. cc)
+    last : (k : ℕ) → k ≡ n → slice_get ts k ≡ Some c.state → c.alt ≡ k + 1 → c.stack ≡ z → c ≡ config t (n + 1) z
+    last k is at_k alt stack =
+        let same : t ≡ c.state = cc in
+        let number : c.alt ≡ n + 1 = omega arith in
+        made_of c (n + 1) z number stack ∙ ap (λ (p : ℕ). config p (n + 1) z) (sym same)
+
+    split : (k : ℕ) → k < n + 1 → (k < n) ⊎ (k ≡ n)
+    split k less = grind arith
+
+    from : FirstsBelow A z ts (n + 1) c → Contains (found ++ config t (n + 1) z ∷ []) c
+    from (allows, (k, less, at_k, alt), stack) = (in_push found (config t (n + 1) z) c).1 (elim (split k less) [
+      | inl before ↦ inl ((has c).1 (allows, (k, before, at_k, alt), stack))
+      | inr is ↦ inr (last k is at_k alt stack)
+    ])
+
+-- one more alternative, which is not allowed
+pub firsts_skip : (A : ℕ → Type 0) (z : Stack) (ts : List ℕ) (n : ℕ) (found : List Config) → (A (n + 1) → ⊥) → HasExactly found (FirstsBelow A z ts n) → HasExactly found (FirstsBelow A z ts (n + 1))
+firsts_skip A z ts n found refused has c = (to, from)
+  where
+    to : Contains found c → FirstsBelow A z ts (n + 1) c
+    to i = let f = (has c).0 i in (f.0, (f.1.0, omega (arith, f.1.1), f.1.2, f.1.3), f.2)
+
+    split : (k : ℕ) → k < n + 1 → (k < n) ⊎ (k ≡ n)
+    split k less = grind arith
+
+    from : FirstsBelow A z ts (n + 1) c → Contains found c
+    from (allows, (k, less, at_k, alt), stack) = elim (split k less) [
+      | inl before ↦ (has c).1 (allows, (k, before, at_k, alt), stack)
+      | inr is ↦ absurd (refused (subst A (alt ∙ ap (λ (m : ℕ). m + 1) is) allows))
+    ]
+
+-- a state that is no decision has no alternatives
+no_firsts : (net : ParserNetwork) (d : ℕ) (A : ℕ → Type 0) (z : Stack) (c : Config) → ((ts : List ℕ) → state_at net d ≡ Some (Decision ts) → ⊥) → FirstsBelow A z [] 0 c ↔ Firsts net d A z c
+no_firsts net d A z c none_at = ((λ f. absurd (omega (arith, f.1.1))), λ f. let first = f.1 in absurd (none_at first.0 first.2))
+
+-- the first states of all of the alternatives are those of the decision
+all_firsts : (net : ParserNetwork) (d : ℕ) (A : ℕ → Type 0) (z : Stack) (c : Config) (o : Option (State (List ℕ))) → state_at net d ≡ o → FirstsBelow A z (alternatives_by o) (length (alternatives_by o)) c ↔ Firsts net d A z c
+all_firsts net d A z c (Some (Decision ts)) is = (
+  (λ f. (f.0, (ts, f.1.0, is, f.1.2, f.1.3), f.2)),
+  λ (allows, (us, k, at_us, at_k, alt), stack).
+      let same : us ≡ ts = cc in
+      let here : slice_get ts k ≡ Some c.state = subst (λ (xs : List ℕ). slice_get xs k ≡ Some c.state) same at_k in
+      (allows, (k, slice_get_within ts k c.state here, here, alt), stack),
+)
+all_firsts net d A z c (Some (End rule)) is = no_firsts net d A z c (λ ts at_d. cc)
+all_firsts net d A z c (Some (Edge set t)) is = no_firsts net d A z c (λ ts at_d. cc)
+all_firsts net d A z c (Some (Call rule level back)) is = no_firsts net d A z c (λ ts at_d. cc)
+all_firsts net d A z c (Some (Predicate k t)) is = no_firsts net d A z c (λ ts at_d. cc)
+all_firsts net d A z c (Some (Level q t)) is = no_firsts net d A z c (λ ts at_d. cc)
+all_firsts net d A z c (Some (Action t)) is = no_firsts net d A z c (λ ts at_d. cc)
+all_firsts net d A z c (Some (Empty t)) is = no_firsts net d A z c (λ ts at_d. cc)
+all_firsts net d A z c None is = no_firsts net d A z c (λ ts at_d. cc)
+
+pub exact_firsts : (net : ParserNetwork) (d : ℕ) (A : ℕ → Type 0) (z : Stack) (ts : List ℕ) (found : List Config) → ts ≡ alternatives_by (state_at net d) → HasExactly found (FirstsBelow A z ts (length ts)) → HasExactly found (Firsts net d A z)
+exact_firsts net d A z ts found is has c =
+    let all = all_firsts net d A z c (state_at net d) refl in
+    let P : List ℕ → Type 0 = λ us. FirstsBelow A z us (length us) c in
+    ((λ i. all.0 (subst P is ((has c).0 i))), λ f. (has c).1 (subst P (sym is) (all.1 f)))
 
 -- edges
 
@@ -84,6 +119,13 @@ in_has (s ∷ set) a (inr i) = elim (cases_Bool (s == a)) [
   | inr other ↦ rw (other, in_has set a i) refl
 ]
 
+-- an edge leads nowhere on a symbol that its set lacks
+pub takes_not : (a t : ℕ) (set : List ℕ) → (Contains set a → ⊥) → None ≡ target_by a (Some (Edge set t))
+takes_not a t set lacks = elim (let c : (has_symbol set a ≡ true) ⊎ (has_symbol set a ≡ false) = cases_Bool (has_symbol set a) in c) [
+  | inl held ↦ absurd (lacks (In-to set a (has_in set a held)))
+  | inr other ↦ rw other refl
+]
+
 In-split : (x : Config) (xs ys : List Config) → In x (xs ++ ys) → In x xs ⊎ In x ys
 In-split x [] ys h = inr h
 In-split x (y ∷ xs) ys (inl e) = inl (inl e)
@@ -99,8 +141,8 @@ In-right x [] ys h = h
 In-right x (y ∷ xs) ys h = inr (In-right x xs ys h)
 
 -- where an edge that takes the symbol leads
-in_moved : (a : ℕ) (c d : Config) (o : Option State) → In d (moved_by c (target_by a o)) → TakesBy o a d.state × (d ≡ at c d.state)
-in_moved a c d (Some (Token set t)) i = one (has_symbol set a) refl (subst (λ (b : Bool). In d (moved_by c (if b then Some t else None))) refl i)
+in_moved : (a : ℕ) (c d : Config) (o : Option (State (List ℕ))) → In d (moved_by c (target_by a o)) → TakesBy o a d.state × (d ≡ at c d.state)
+in_moved a c d (Some (Edge set t)) i = one (has_symbol set a) refl (subst (λ (b : Bool). In d (moved_by c (if b then Some t else None))) refl i)
   where
     one : (b : Bool) → has_symbol set a ≡ b → In d (moved_by c (if b then Some t else None)) → (Contains set a × (d.state ≡ t)) × (d ≡ at c d.state)
     one true h (inl e) = let s : d.state ≡ t = ap (λ (x : Config). x.state) e in ((In-to set a (has_in set a h), s), e ∙ ap (λ (p : ℕ). at c p) (sym s))
@@ -115,8 +157,8 @@ in_moved a c d (Some (Action t)) i = absurd i
 in_moved a c d (Some (Empty t)) i = absurd i
 in_moved a c d None i = absurd i
 
-moved_in : (a : ℕ) (c d : Config) (o : Option State) → TakesBy o a d.state → d ≡ at c d.state → In d (moved_by c (target_by a o))
-moved_in a c d (Some (Token set t)) (has, is) e =
+moved_in : (a : ℕ) (c d : Config) (o : Option (State (List ℕ))) → TakesBy o a d.state → d ≡ at c d.state → In d (moved_by c (target_by a o))
+moved_in a c d (Some (Edge set t)) (has, is) e =
     let held : has_symbol set a ≡ true = in_has set a (In-from set a has.0 has.1 has.2) in
     rw held (inl (e ∙ ap (λ (p : ℕ). at c p) is))
 moved_in a c d (Some (Decision targets)) h e = absurd h
@@ -128,21 +170,21 @@ moved_in a c d (Some (Action t)) h e = absurd h
 moved_in a c d (Some (Empty t)) h e = absurd h
 moved_in a c d None h e = absurd h
 
-in_targets : (net : Network) (a : ℕ) (cs : List Config) (d : Config) → In d (targets_of net a cs) → (c : Config) × In c cs × TakesBy (state_at net c.state) a d.state × (d ≡ at c d.state)
+in_targets : (net : ParserNetwork) (a : ℕ) (cs : List Config) (d : Config) → In d (targets_of net a cs) → (c : Config) × In c cs × TakesBy (state_at net c.state) a d.state × (d ≡ at c d.state)
 in_targets net a [] d i = absurd i
 in_targets net a (c ∷ cs) d i = elim (In-split d (moved_by c (target_by a (state_at net c.state))) (targets_of net a cs) i) [
   | inl h ↦ (let r = in_moved a c d (state_at net c.state) h in (c, inl refl, r.0, r.1))
   | inr h ↦ (let r = in_targets net a cs d h in (r.0, inr r.1, r.2, r.3))
 ]
 
-targets_in : (net : Network) (a : ℕ) (cs : List Config) (c d : Config) → In c cs → TakesBy (state_at net c.state) a d.state → d ≡ at c d.state → In d (targets_of net a cs)
+targets_in : (net : ParserNetwork) (a : ℕ) (cs : List Config) (c d : Config) → In c cs → TakesBy (state_at net c.state) a d.state → d ≡ at c d.state → In d (targets_of net a cs)
 targets_in net a [] c d i takes e = absurd i
 targets_in net a (b ∷ cs) c d (inl is) takes e =
     In-left d (moved_by b (target_by a (state_at net b.state))) (targets_of net a cs) (subst (λ (x : Config). In d (moved_by x (target_by a (state_at net x.state)))) is (moved_in a c d (state_at net c.state) takes e))
 targets_in net a (b ∷ cs) c d (inr i) takes e = In-right d (moved_by b (target_by a (state_at net b.state))) (targets_of net a cs) (targets_in net a cs c d i takes e)
 
 -- the targets of the edges that take the symbol are those listed
-pub exact_targets : (net : Network) (a : ℕ) (cs : List Config) → HasExactly (targets_of net a cs) (Targets net (Contains cs) a)
+pub exact_targets : (net : ParserNetwork) (a : ℕ) (cs : List Config) → HasExactly (targets_of net a cs) (Targets net (Contains cs) a)
 exact_targets net a cs d = (to, from)
   where
     to : Contains (targets_of net a cs) d → Targets net (Contains cs) a d
@@ -152,8 +194,8 @@ exact_targets net a cs d = (to, from)
     from (c, i, takes, e) = In-to (targets_of net a cs) d (targets_in net a cs c d (In-from cs c i.0 i.1 i.2) takes e)
 
 -- an edge leads to a state of the network
-takes_within : (net : Network) (a : ℕ) (c d : Config) → WellFormed net → (o : Option State) → state_at net c.state ≡ o → TakesBy o a d.state → d ≡ at c d.state → IsWithin net c → IsWithin net d
-takes_within net a c d well (Some (Token set t)) is (has, e) moved w = subst (IsWithin net) (ap (λ (p : ℕ). at c p) (sym e) ∙ sym moved) (target_within net c set t well is w)
+takes_within : (net : ParserNetwork) (a : ℕ) (c d : Config) → WellFormed net → (o : Option (State (List ℕ))) → state_at net c.state ≡ o → TakesBy o a d.state → d ≡ at c d.state → IsWithin net c → IsWithin net d
+takes_within net a c d well (Some (Edge set t)) is (has, e) moved w = subst (IsWithin net) (ap (λ (p : ℕ). at c p) (sym e) ∙ sym moved) (target_within net c set t well is w)
 takes_within net a c d well (Some (Decision targets)) is h moved w = absurd h
 takes_within net a c d well (Some (End rule)) is h moved w = absurd h
 takes_within net a c d well (Some (Call rule level back)) is h moved w = absurd h
@@ -163,13 +205,13 @@ takes_within net a c d well (Some (Action t)) is h moved w = absurd h
 takes_within net a c d well (Some (Empty t)) is h moved w = absurd h
 takes_within net a c d well None is h moved w = absurd h
 
-pub targets_within : (net : Network) (a : ℕ) (cs : List Config) → WellFormed net → All (IsWithin net) cs → All (IsWithin net) (targets_of net a cs)
+pub targets_within : (net : ParserNetwork) (a : ℕ) (cs : List Config) → WellFormed net → All (IsWithin net) cs → All (IsWithin net) (targets_of net a cs)
 targets_within net a cs well all = all_of (IsWithin net) (targets_of net a cs) (λ d i. let r = (exact_targets net a cs d).0 i in takes_within net a r.0 d well (state_at net r.0.state) refl r.2 r.3 (of_all (IsWithin net) cs all r.0 r.1))
 
 -- so do the first states of a decision
-pub firsts_within : (net : Network) (d : ℕ) (returns : List ℕ) (wild : Bool) → WellFormed net → All (λ t. t < length net.states) returns → All (IsWithin net) (firsts_by returns wild (state_at net d))
-firsts_within net d returns wild well all = all_of (IsWithin net) (firsts_by returns wild (state_at net d)) (λ c i.
-    let f = (exact_firsts_by net d returns wild (state_at net d) refl c).0 i in
+pub firsts_within : (net : ParserNetwork) (d : ℕ) (A : ℕ → Type 0) (returns : List ℕ) (wild : Bool) (found : List Config) → WellFormed net → All (λ t. t < length net.states) returns → HasExactly found (Firsts net d A (record { returns = returns; wild = wild })) → All (IsWithin net) found
+firsts_within net d A returns wild found well all has = all_of (IsWithin net) found (λ c i.
+    let f = (has c).0 i in
     let first = f.1 in
     let at_d : state_at net d ≡ Some (Decision first.0) = first.2 in
     (well.targets d c.state (Decision first.0) at_d (listed first.0 first.1 c.state first.3), subst (λ (rs : List ℕ). All (λ t. t < length net.states) rs) (sym (ap (λ (z : Stack). z.returns) f.2)) all))
@@ -179,8 +221,8 @@ firsts_within net d returns wild well all = all_of (IsWithin net) (firsts_by ret
 
 -- what is kept
 
-keeps_true : (o : Option State) → keeps_by o ≡ true → IsKeptBy o
-keeps_true (Some (Token set t)) h = tt
+keeps_true : (o : Option (State (List ℕ))) → keeps_by o ≡ true → IsKeptBy o
+keeps_true (Some (Edge set t)) h = tt
 keeps_true (Some (End rule)) h = grind (arith, nat_tests)
 keeps_true (Some (Decision targets)) h = absurd (true≢false (sym h))
 keeps_true (Some (Call rule level back)) h = absurd (true≢false (sym h))
@@ -190,8 +232,8 @@ keeps_true (Some (Action t)) h = absurd (true≢false (sym h))
 keeps_true (Some (Empty t)) h = absurd (true≢false (sym h))
 keeps_true None h = absurd (true≢false (sym h))
 
-true_keeps : (o : Option State) → IsKeptBy o → keeps_by o ≡ true
-true_keeps (Some (Token set t)) h = refl
+true_keeps : (o : Option (State (List ℕ))) → IsKeptBy o → keeps_by o ≡ true
+true_keeps (Some (Edge set t)) h = refl
 true_keeps (Some (End rule)) h = grind (arith, nat_tests)
 true_keeps (Some (Decision targets)) h = absurd h
 true_keeps (Some (Call rule level back)) h = absurd h
@@ -219,7 +261,7 @@ in_kept p [] d i h = absurd i
 in_kept p (x ∷ xs) d (inl is) h = let held : p x ≡ true = ap p (sym is) ∙ h in rw held (inl is)
 in_kept p (x ∷ xs) d (inr i) h = in_kept_one p x xs d (p x) (in_kept p xs d i h)
 
-exact_kept : (net : Network) (xs : List Config) → HasExactly (kept_of net xs) (λ d. Contains xs d × IsKept net d)
+exact_kept : (net : ParserNetwork) (xs : List Config) → HasExactly (kept_of net xs) (λ d. Contains xs d × IsKept net d)
 exact_kept net xs d = (to, from)
   where
     test : Config → Bool
@@ -231,11 +273,11 @@ exact_kept net xs d = (to, from)
     from : Contains xs d × IsKept net d → Contains (kept_of net xs) d
     from (i, k) = In-to (kept_of net xs) d (in_kept test xs d (In-from xs d i.0 i.1 i.2) (true_keeps (state_at net d.state) k))
 
-pub kept_within : (net : Network) (xs : List Config) → All (IsWithin net) xs → All (IsWithin net) (kept_of net xs)
+pub kept_within : (net : ParserNetwork) (xs : List Config) → All (IsWithin net) xs → All (IsWithin net) (kept_of net xs)
 kept_within net xs all = all_of (IsWithin net) (kept_of net xs) (λ d i. of_all (IsWithin net) xs all d ((exact_kept net xs d).0 i).0)
 
 -- what is kept of all that is reached is the rest
-pub exact_rest : (net : Network) (C : Config → Type 0) (starts all : List Config) → HasExactly starts C → HasExactly all (ReachedFrom net starts) → HasExactly (kept_of net all) (Rest net C)
+pub exact_rest : (net : ParserNetwork) (C : Config → Type 0) (starts all : List Config) → HasExactly starts C → HasExactly all (ReachedFrom net starts) → HasExactly (kept_of net all) (Rest net C)
 exact_rest net C starts all begun reached d = (
   (λ i. let k = (exact_kept net all d).0 i in let r = (reached d).0 k.0 in (r.0, (begun r.0).0 r.1, r.2, k.1)),
   λ (c, in_c, r, k). (exact_kept net all d).1 ((reached d).1 (c, (begun c).1 in_c, r), k),

@@ -7,7 +7,8 @@ ghost use Rattle.g4_net.specs.Leads.{WellFormed};
 ghost use Rattle.g4_net.specs.Network.{state_at};
 
 use crate::configuration::{Configuration, has};
-use g4_net::{Network, State};
+use g4_net::{ParserNetwork, State};
+use g4_symbols::Symbols;
 use std::alloc::{AllocError, Global};
 
 /// Adds the configurations that the list lacks.
@@ -23,7 +24,7 @@ fn add_all(seen: &mut Vec<Configuration>, more: Vec<Configuration>) -> Result<()
 }
 
 /// The return states of the calls of the rule that ends here.
-fn callers_at<'a>(net: &'a Network, state: &State) -> &'a [u32]
+fn callers_at<'a>(net: &'a ParserNetwork, state: &State<Symbols>) -> &'a [u32]
     ensures { result.now ≡ callers_by net.now state.now }
 {
     match state {
@@ -48,14 +49,14 @@ fn one(alloc: Global, configuration: Configuration) -> Result<Vec<Configuration>
 fn steps(
     alloc: Global,
     configuration: &Configuration,
-    state: &State,
+    state: &State<Symbols>,
     callers: &[u32],
 ) -> Result<Vec<Configuration>, AllocError>
     requires { (rule level back : ℕ) → state.now ≡ Call rule level back → 2 * rule < 2 ^ 32 }
     ensures { IfOk result (λ cs. cs.items ≡ steps configuration.now callers.now state.now) }
 {
     match state {
-        State::Token(..) => Ok(Vec::new(alloc)),
+        State::Edge(..) => Ok(Vec::new(alloc)),
         State::Decision(targets) => configuration.moved_all(alloc, targets.as_slice()),
         State::Empty(to) => one(alloc, configuration.moved(alloc, *to)?),
         State::Predicate(_, to) => one(alloc, configuration.moved(alloc, *to)?),
@@ -71,7 +72,7 @@ fn steps(
 /// What a configuration leads to in one step.
 fn successors(
     alloc: Global,
-    net: &Network,
+    net: &ParserNetwork,
     configuration: &Configuration,
 ) -> Result<Vec<Configuration>, AllocError>
     requires well_formed { WellFormed net.now }
@@ -90,7 +91,7 @@ fn successors(
 /// All that the configurations lead to, in any number of steps.
 pub fn reached(
     alloc: Global,
-    net: &Network,
+    net: &ParserNetwork,
     starts: Vec<Configuration>,
 ) -> Result<Vec<Configuration>, AllocError>
     requires well_formed { WellFormed net.now }

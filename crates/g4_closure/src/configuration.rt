@@ -6,7 +6,7 @@ ghost use Rattle.g4_net.specs.Configurations.{at, at_with};
 use std::alloc::{AllocError, Global};
 use std::marker::Model;
 
-/// A configuration. Its return states stand newest first; below them is the wildcard, or else the bottom of the parser's
+/// A configuration. Its return states are listed newest first; below them is the wildcard, or else the bottom of the parser's
 /// own stack.
 #[derive(Drop)]
 pub struct Configuration {

@@ -4,6 +4,8 @@
 mod closure;
 mod configuration;
 mod lookahead;
+#[cfg(test)]
+mod tests;
 
 pub use configuration::{Configuration, has};
 pub use lookahead::{next, start};

@@ -1,6 +1,5 @@
 mod Flat
 mod Measure
-mod OneChoice
 pub mod OneEnding
 mod Onward
 mod Stages

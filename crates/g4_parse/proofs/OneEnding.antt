@@ -1,14 +1,13 @@
 -- A run has at most one ending.
 use Rattle.std.proofs.Common.{◌≡◌, ℕ, List, [], ◌∷◌, Option, Some, None, Contains, sym, ◌∙◌, subst, arith}
-use Rattle.g4_net.specs.declared.network.Network.{Network}
 use Rattle.g4_net.specs.declared.network.State.{State}
-use Rattle.g4_net.specs.declared.network.State.TheVariants.{Decision, End, Token, Call, Predicate, Level, Action, Empty}
-use Rattle.g4_net.specs.Network.{state_at, IsFirst}
+use Rattle.g4_net.specs.declared.network.State.TheVariants.{Decision, End, Edge, Call, Predicate, Level, Action, Empty}
+use Rattle.g4_net.specs.Network.{ParserNetwork, state_at, IsFirst}
 use Rattle.g4_net.specs.Prediction.{Choice, chosen, no_viable}
 use Rattle.g4_parse.specs.Running.{Frame, Run, Ending, Values, ClosesBy, GoesBy, StopsBy, Predicts, Runs, stops, goes}
-use Rattle.g4_parse.proofs.OneChoice.{one_first, one_choice}
+use Rattle.g4_predict.proofs.OneChoice.{one_first, one_choice}
 
-module _ (net : Network) (values : Values) (word : List ℕ) where
+module _ (net : ParserNetwork) (values : Values) (word : List ℕ) where
   -- a moment has at most one prediction
   one_prediction : (r : Run) (b c : Choice) → Predicts net values word r b → Predicts net values word r c → b ≡ c
   one_prediction r b c p q = one_choice net _ _ _ _ b c p q
@@ -24,7 +23,7 @@ module _ (net : Network) (values : Values) (word : List ℕ) where
   closes_none r (f ∷ fs) s e p = cc
 
   -- a state leads to one moment
-  goes_once : (o : Option State) (r s t : Run) → GoesBy net values word o r s → GoesBy net values word o r t → s ≡ t
+  goes_once : (o : Option (State (List ℕ))) (r s t : Run) → GoesBy net values word o r s → GoesBy net values word o r t → s ≡ t
   goes_once None r s t p q = absurd p
   goes_once (Some (Decision targets)) r s t (i, u, chose, first, s_is) (j, v, chose', first', t_is) =
       let same : chosen i ≡ chosen j = one_prediction r _ _ chose chose' in
@@ -32,7 +31,7 @@ module _ (net : Network) (values : Values) (word : List ℕ) where
       let target : u ≡ v = one_first net r.state j u v (subst (λ (n : ℕ). IsFirst net r.state n u) alternative first) first' in
       cc
   goes_once (Some (End rule)) r s t p q = closes_once r r.frames s t p q
-  goes_once (Some (Token set u)) r s t (a, _, _, s_is) (b, _, _, t_is) = s_is ∙ sym t_is
+  goes_once (Some (Edge set u)) r s t (a, _, _, s_is) (b, _, _, t_is) = s_is ∙ sym t_is
   goes_once (Some (Call rule level back)) r s t p q = p.1 ∙ sym q.1
   goes_once (Some (Predicate k u)) r s t p q = p.1 ∙ sym q.1
   goes_once (Some (Level n u)) r s t p q = p ∙ sym q
@@ -40,13 +39,13 @@ module _ (net : Network) (values : Values) (word : List ℕ) where
   goes_once (Some (Empty u)) r s t p q = p ∙ sym q
 
   -- a state stops in one way
-  stops_once : (o : Option State) (r : Run) (a b : Ending) → StopsBy net values word o r a → StopsBy net values word o r b → a ≡ b
+  stops_once : (o : Option (State (List ℕ))) (r : Run) (a b : Ending) → StopsBy net values word o r a → StopsBy net values word o r b → a ≡ b
   stops_once None r a b p q = absurd p
   stops_once (Some (Decision targets)) r a b (k, said, a_is) (l, said', b_is) =
       let same : no_viable k ≡ no_viable l = one_prediction r _ _ said said' in
       cc
   stops_once (Some (End rule)) r a b p q = p.2 ∙ sym q.2
-  stops_once (Some (Token set u)) r a b (x, _, _, a_is) (y, _, _, b_is) = a_is ∙ sym b_is
+  stops_once (Some (Edge set u)) r a b (x, _, _, a_is) (y, _, _, b_is) = a_is ∙ sym b_is
   stops_once (Some (Call rule level back)) r a b p q = p.1 ∙ sym q.1
   stops_once (Some (Predicate k u)) r a b p q = p.1 ∙ sym q.1
   stops_once (Some (Level n u)) r a b p q = absurd p
@@ -54,13 +53,13 @@ module _ (net : Network) (values : Values) (word : List ℕ) where
   stops_once (Some (Empty u)) r a b p q = absurd p
 
   -- no state goes on and stops
-  never_both : (o : Option State) (r s : Run) (e : Ending) → GoesBy net values word o r s → StopsBy net values word o r e → ⊥
+  never_both : (o : Option (State (List ℕ))) (r s : Run) (e : Ending) → GoesBy net values word o r s → StopsBy net values word o r e → ⊥
   never_both None r s e p q = p
   never_both (Some (Decision targets)) r s e (i, _, chose, _, _) (k, said, _) =
       let same : chosen i ≡ no_viable k = one_prediction r _ _ chose said in
       cc
   never_both (Some (End rule)) r s e p q = closes_none r r.frames s q.0 p
-  never_both (Some (Token set u)) r s e (a, at, takes, _) (b, at', refuses, _) =
+  never_both (Some (Edge set u)) r s e (a, at, takes, _) (b, at', refuses, _) =
       let same : a ≡ b = cc in
       refuses (subst (λ (n : ℕ). Contains set n) same takes)
   never_both (Some (Call rule level back)) r s e p q = omega (arith, p.0, q.0)

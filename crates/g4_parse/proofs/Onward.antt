@@ -1,13 +1,12 @@
 -- From the run's beginning to where the parser stands.
 use Rattle.std.proofs.Common.{◌≡◌, ◌<◌, [], ℕ, List, length, reverse, refl, sym, ◌∙◌, ap, subst, arith}
 use Rattle.std.specs.Prelude.{Option, Some, Result, Ok, Err, IsErrAnd}
-use Rattle.g4_net.specs.declared.network.Network.{Network}
 use Rattle.g4_net.specs.declared.network.State.{State}
 use Rattle.g4_net.specs.declared.network.State.TheVariants.{End}
-use Rattle.g4_net.specs.declared.token.Token.{Token}
-use Rattle.g4_net.specs.Network.{state_at}
+use Rattle.g4_token_list.specs.declared.token.Token.{Token}
+use Rattle.g4_net.specs.Network.{ParserNetwork, state_at}
 use Rattle.g4_net.specs.AddedRule.{IsRunnable}
-use Rattle.g4_net.specs.TokenList.{word_of, EndsInEnd}
+use Rattle.g4_token_list.specs.TokenList.{word_of, EndsInEnd}
 use Rattle.g4_parse.specs.declared.tree.Item.{Item}
 use Rattle.g4_parse.specs.declared.parser.ParseFault.{ParseFault}
 use Rattle.g4_parse.specs.declared.parser.ParseFault.TheVariants.{NoViable, Mismatch, TooDeep, NoMemory}
@@ -21,11 +20,12 @@ use Rattle.g4_parse.proofs.Stages.{Stage, advances, fits, begins}
 use Rattle.g4_parse.proofs.Turns.{none_opened}
 use Rattle.g4_parse.proofs.Words.{length_word}
 
--- The parser stands for a moment of the run, and the run ends as it does from this moment.
-pub record Onward (net : Network) (word : List ℕ) (p : Parser) : Type 0 where
+-- The parser is at a moment of the run, and the run ends as it does from this moment.
+pub record Onward (net : ParserNetwork) (word : List ℕ) (p : Parser) : Type 0 where
   pub rule : ℕ
   pub loop : ℕ
-  pub ready : IsRunnable net rule loop
+  pub set : List ℕ
+  pub ready : IsRunnable net rule loop set
   pub ends : EndsInEnd word
   pub run : Run
   pub stands : StandsFor p run
@@ -33,10 +33,11 @@ pub record Onward (net : Network) (word : List ℕ) (p : Parser) : Type 0 where
   pub onward : (e : Ending) → Runs net no_predicates word run e → Runs net no_predicates word beginning e
 
 -- the beginning
-pub begun_onward : (net : Network) (rule loop : ℕ) (word : List ℕ) (p : Parser) → IsRunnable net rule loop → EndsInEnd word → StandsFor p beginning → Onward net word p
-begun_onward net rule loop word p ready ends stands = record {
+pub begun_onward : (net : ParserNetwork) (rule loop : ℕ) (set word : List ℕ) (p : Parser) → IsRunnable net rule loop set → EndsInEnd word → StandsFor p beginning → Onward net word p
+begun_onward net rule loop set word p ready ends stands = record {
   rule = rule;
   loop = loop;
+  set = set;
   ready = ready;
   ends = ends;
   run = beginning;
@@ -46,20 +47,21 @@ begun_onward net rule loop word p ready ends stands = record {
 }
 
 -- its state is in range
-pub state_within : (net : Network) (word : List ℕ) (p : Parser) → Onward net word p → p.state < length net.states
+pub state_within : (net : ParserNetwork) (word : List ℕ) (p : Parser) → Onward net word p → p.state < length net.states
 state_within net word p o = let within = o.stage.state_in in omega (arith, o.stands.state)
 
 -- the parser can take its turn
-pub underway : (net : Network) (tokens : List Token) (p : Parser) → Onward net (word_of tokens) p → IsUnderway net (length tokens) p
+pub underway : (net : ParserNetwork) (tokens : List Token) (p : Parser) → Onward net (word_of tokens) p → IsUnderway net (length tokens) p
 underway net tokens p o = (o.run, o.stands, subst (λ (n : ℕ). IsFitBy net n (state_at net o.run.state) o.run) (length_word tokens) (fits net o.rule o.loop o.ready (word_of tokens) o.ends o.run o.stage))
 
 -- a turn leads on
-pub turn_onward : (net : Network) (word : List ℕ) (p q : Parser) → Onward net word p → ((r : Run) → StandsFor p r → IsTurnBy net word (state_at net r.state) r q (Ok tt)) → Onward net word q
+pub turn_onward : (net : ParserNetwork) (word : List ℕ) (p q : Parser) → Onward net word p → ((r : Run) → StandsFor p r → IsTurnBy net word (state_at net r.state) r q (Ok tt)) → Onward net word q
 turn_onward net word p q o turn =
     let step = turn o.run o.stands in
     record {
       rule = o.rule;
       loop = o.loop;
+      set = o.set;
       ready = o.ready;
       ends = o.ends;
       run = step.0;
@@ -69,7 +71,7 @@ turn_onward net word p q o turn =
     }
 
 -- and makes the measure fall
-pub turn_falls : (net : Network) (tokens : List Token) (p q : Parser) → Onward net (word_of tokens) p → ((r : Run) → StandsFor p r → IsTurnBy net (word_of tokens) (state_at net r.state) r q (Ok tt)) →
+pub turn_falls : (net : ParserNetwork) (tokens : List Token) (p q : Parser) → Onward net (word_of tokens) p → ((r : Run) → StandsFor p r → IsTurnBy net (word_of tokens) (state_at net r.state) r q (Ok tt)) →
     measure_at net (length tokens) q.place q.state (reverse q.returns.items) < measure_at net (length tokens) p.place p.state (reverse p.returns.items)
 turn_falls net tokens p q o turn =
     let step = turn o.run o.stands in
@@ -79,27 +81,27 @@ turn_falls net tokens p q o turn =
     rw (← length_word tokens, step.2.place, step.2.state, after, o.stands.place, o.stands.state, before) less
 
 -- a fault at a moment is one of the whole run
-fault_onward : (net : Network) (word : List ℕ) (r : Run) (fault : ParseFault) → ((e : Ending) → Runs net no_predicates word r e → Runs net no_predicates word beginning e) → IsFaultBy net word (state_at net r.state) r fault → IsParseFault net word fault
+fault_onward : (net : ParserNetwork) (word : List ℕ) (r : Run) (fault : ParseFault) → ((e : Ending) → Runs net no_predicates word r e → Runs net no_predicates word beginning e) → IsFaultBy net word (state_at net r.state) r fault → IsParseFault net word fault
 fault_onward net word r (NoViable at) onward h = onward (not_viable at) (stops r (not_viable at) h)
 fault_onward net word r (Mismatch at state) onward h = onward (mismatch at state) (stops r (mismatch at state) h)
 fault_onward net word r (TooDeep at) onward h = onward (too_deep at) (stops r (too_deep at) h)
 fault_onward net word r NoMemory onward h = tt
 
 -- a turn that fails tells the run's fault
-pub turn_fails : (net : Network) (word : List ℕ) (p q : Parser) (fault : ParseFault) → Onward net word p → ((r : Run) → StandsFor p r → IsTurnBy net word (state_at net r.state) r q (Err fault)) → IsParseFault net word fault
+pub turn_fails : (net : ParserNetwork) (word : List ℕ) (p q : Parser) (fault : ParseFault) → Onward net word p → ((r : Run) → StandsFor p r → IsTurnBy net word (state_at net r.state) r q (Err fault)) → IsParseFault net word fault
 turn_fails net word p q fault o turn = fault_onward net word o.run fault o.onward (turn o.run o.stands)
 
 -- at the end of the added rule the items are the tree
-pub ended_onward : (net : Network) (word : List ℕ) (p : Parser) → Onward net word p → HasEnded net p → Ends net word (parsed p.items.items)
+pub ended_onward : (net : ParserNetwork) (word : List ℕ) (p : Parser) → Onward net word p → HasEnded net p → Ends net word (parsed p.items.items)
 ended_onward net word p o (none, (rule, at_end)) =
     let empty : o.run.frames ≡ [] = none_opened o.run.frames (sym o.stands.returns ∙ none) in
     let at_run : state_at net o.run.state ≡ Some (End rule) = ap (λ (n : ℕ). state_at net n) (sym o.stands.state) ∙ at_end in
-    let fit : IsFitBy net (length word) (Some (End rule)) o.run = subst (λ (s : Option State). IsFitBy net (length word) s o.run) at_run (fits net o.rule o.loop o.ready word o.ends o.run o.stage) in
-    let stop : StopsBy net no_predicates word (state_at net o.run.state) o.run (parsed o.run.tree) = subst (λ (s : Option State). StopsBy net no_predicates word s o.run (parsed o.run.tree)) (sym at_run) (empty, fit empty, refl) in
+    let fit : IsFitBy net (length word) (Some (End rule)) o.run = subst (λ (s : Option (State (List ℕ))). IsFitBy net (length word) s o.run) at_run (fits net o.rule o.loop o.ready word o.ends o.run o.stage) in
+    let stop : StopsBy net no_predicates word (state_at net o.run.state) o.run (parsed o.run.tree) = subst (λ (s : Option (State (List ℕ))). StopsBy net no_predicates word s o.run (parsed o.run.tree)) (sym at_run) (empty, fit empty, refl) in
     let tree : p.items.items ≡ o.run.tree = o.stands.items ∙ ap (λ (fs : List Frame). flat fs o.run.tree) empty in
     subst (λ (t : List Item). Ends net word (parsed t)) (sym tree) (o.onward (parsed o.run.tree) (stops o.run (parsed o.run.tree) stop))
 
 -- an answer that is this fault
-pub parse_fails : (net : Network) (word : List ℕ) (r : Result (List Item) ParseFault) (fault : ParseFault) → IsErrAnd r (λ e. e ≡ fault) → IsParseFault net word fault → IsParse net word r
+pub parse_fails : (net : ParserNetwork) (word : List ℕ) (r : Result (List Item) ParseFault) (fault : ParseFault) → IsErrAnd r (λ e. e ≡ fault) → IsParseFault net word fault → IsParse net word r
 parse_fails net word (Ok tree) fault is h = absurd is
 parse_fails net word (Err e) fault is h = subst (IsParseFault net word) (sym is) h

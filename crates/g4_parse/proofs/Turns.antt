@@ -1,18 +1,22 @@
 -- What a turn of the parser is in the run.
-use Rattle.std.proofs.Common.{◌≡◌, ◌+◌, ◌-◌, ◌<◌, ◌≤◌, ◌++◌, ◌∷◌, [], ℕ, List, length, get_or, take, drop, All, reverse, false, cond, ◌==◌, refl, sym, ◌∙◌, ap, subst, arith, length-append}
+use Rattle.std.proofs.Common.{◌≡◌, ◌+◌, ◌-◌, ◌<◌, ◌≤◌, ◌++◌, ◌∷◌, [], ℕ, List, length, get_or, take, drop, reverse, false, cond, ◌==◌, refl, sym, ◌∙◌, ap, subst, arith, length-append}
 use Rattle.std.specs.Prelude.{Option, Some, Result, Ok, Err, IsErrAnd, ⊤, slice_get}
 use Rattle.std.proofs.lemmas.Option.{slice_get_within, get_or_from_slice_get}
-use Rattle.std.proofs.lemmas.List.Elements.{All-append, All-cons, All-head, All-tail, Contains-get_or}
+use Rattle.std.proofs.lemmas.List.Elements.{Contains-get_or}
 use Rattle.std.proofs.Math.Seq.{take-append_seam}
 use Rattle.std.proofs.lemmas.Bool.{false_from_ne_true}
 use Rattle.std.proofs.lemmas.Bool.Decides.{nat_tests}
-use Rattle.g4_net.specs.declared.network.Network.{Network}
 use Rattle.g4_net.specs.declared.network.State.{State}
 use Rattle.g4_net.specs.declared.network.State.TheVariants.{Decision}
-use Rattle.g4_net.specs.Network.{state_at, IsFirst}
-use Rattle.g4_net.specs.Prediction.{chosen, no_viable}
+use Rattle.g4_net.specs.Network.{ParserNetwork, state_at, IsFirst}
+use Rattle.g4_net.specs.AddedRule.{IsReady}
+use Rattle.g4_net.specs.Allowed.{Allows}
+use Rattle.g4_net.specs.declared.allowed.Allowed.TheVariants.{Every}
+use Rattle.g4_net.specs.Configurations.{above_bottom}
+use Rattle.g4_net.specs.Prediction.{Choice, chosen, no_viable, Decides}
 use Rattle.g4_net.specs.Leads.{WellFormed}
-use Rattle.g4_predict.specs.Deciding.{Chooses, IsDecideFault}
+use Rattle.g4_predict.specs.Deciding.{IsDecideFault}
+use Rattle.g4_predict.proofs.Choosing.{untested, whatever_is_allowed}
 use Rattle.g4_predict.specs.declared.decision.DecideFault.{DecideFault}
 use Rattle.g4_predict.specs.declared.decision.DecideFault.TheVariants as deciding
 use Rattle.g4_parse.specs.Deciding.{of_decide}
@@ -20,7 +24,7 @@ use Rattle.g4_parse.specs.declared.tree.Item.{Item}
 use Rattle.g4_parse.specs.declared.tree.Item.TheVariants as items
 use Rattle.g4_parse.specs.declared.parser.Parser.{Parser}
 use Rattle.g4_parse.specs.declared.parser.ParseFault.{ParseFault}
-use Rattle.g4_parse.specs.Running.{Frame, Run, not_viable, no_predicates, Predicts, GoesBy, ClosesBy, with_children, with_alt, with_begun, begun, node_of, here_of}
+use Rattle.g4_parse.specs.Running.{Frame, Run, not_viable, no_predicates, Predicts, GoesBy, ClosesBy, with_children, with_alt, with_begun, begun, node_of, stack_of, AllowsAt}
 use Rattle.g4_parse.specs.Standing.{StandsFor, IsFaultBy, IsTurnBy, backs, returns_of, enters_of, flat}
 use Rattle.g4_parse.proofs.Flat.{flat_more, flat_node, returns_more, enters_more, place_more, state_more, returns_alt, enters_alt, reverse_returns}
 
@@ -56,7 +60,7 @@ none_opened [] e = refl
 none_opened (f ∷ fs) e = absurd (omega (arith, ap length e, length-append (returns_of fs) (f.back ∷ [])))
 
 -- Popping the newest open rule and writing Exit is a step of the run.
-pub closes : (net : Network) (word : List ℕ) (r : Run) (fs : List Frame) (p q : Parser) (back : ℕ) (rest : List ℕ) → r.frames ≡ fs → StandsFor p r → p.returns.items ≡ rest ++ back ∷ [] → q.state ≡ back → q.place ≡ p.place → q.returns.items ≡ rest → q.enters.items ≡ take (length p.enters.items - 1) p.enters.items → q.items.items ≡ p.items.items ++ items.Exit ∷ [] → (s : Run) × ClosesBy net no_predicates word r fs s × StandsFor q s
+pub closes : (net : ParserNetwork) (word : List ℕ) (r : Run) (fs : List Frame) (p q : Parser) (back : ℕ) (rest : List ℕ) → r.frames ≡ fs → StandsFor p r → p.returns.items ≡ rest ++ back ∷ [] → q.state ≡ back → q.place ≡ p.place → q.returns.items ≡ rest → q.enters.items ≡ take (length p.enters.items - 1) p.enters.items → q.items.items ≡ p.items.items ++ items.Exit ∷ [] → (s : Run) × ClosesBy net no_predicates word r fs s × StandsFor q s
 closes net word r [] p q back rest same h popped a b d d_too e =
     let none : rest ++ back ∷ [] ≡ [] = sym popped ∙ h.returns ∙ ap returns_of same in
     absurd (omega (arith, ap length none, length-append rest (back ∷ [])))
@@ -102,31 +106,26 @@ begins_alt r (f ∷ fs) p q i enter same n h last a b c d e =
     }
 
 -- what is chosen at the parser's state is what prediction says in the run
-predicted : (net : Network) (word : List ℕ) (r : Run) (p : Parser) (i : ℕ) → StandsFor p r → Chooses net p.state (reverse p.returns.items) (drop p.place word) (chosen i) → Predicts net no_predicates word r (chosen i)
-predicted net word r p i h says =
+predicted : (net : ParserNetwork) (word : List ℕ) (r : Run) (p : Parser) (choice : Choice) → IsReady net → StandsFor p r → Decides net p.state (Allows Every) (above_bottom (reverse p.returns.items)) (drop p.place word) choice → Predicts net no_predicates word r choice
+predicted net word r p choice (rule, loop, set, ready) h says =
     let stack : reverse p.returns.items ≡ backs r.frames = ap reverse h.returns ∙ reverse_returns r.frames in
-    let said : Chooses net r.state (backs r.frames) (drop r.place word) (chosen i) = rw (← h.state, ← h.place, ← stack) says in
-    said (here_of net no_predicates word r)
+    let said : Decides net r.state (Allows Every) (above_bottom (backs r.frames)) (drop r.place word) choice = rw (← h.state, ← h.place, ← stack) says in
+    whatever_is_allowed net r.state (Allows Every) (AllowsAt net no_predicates word r) (stack_of r) (drop r.place word) choice (untested net rule loop r.state ready) said
 
 -- Going to the alternative that prediction says is a step of the run.
-pub chooses : (net : Network) (word : List ℕ) (r : Run) (p q : Parser) (targets : List ℕ) (i t : ℕ) → StandsFor p r → Chooses net p.state (reverse p.returns.items) (drop p.place word) (chosen i) → IsFirst net p.state i t → StandsFor q (record (with_begun (begun net t (state_at net t)) r) { state = t }) → (s : Run) × GoesBy net no_predicates word (Some (Decision targets)) r s × StandsFor q s
-chooses net word r p q targets i t h says first after = (
+pub chooses : (net : ParserNetwork) (word : List ℕ) (r : Run) (p q : Parser) (targets : List ℕ) (i t : ℕ) → IsReady net → StandsFor p r → Decides net p.state (Allows Every) (above_bottom (reverse p.returns.items)) (drop p.place word) (chosen i) → IsFirst net p.state i t → StandsFor q (record (with_begun (begun net t (state_at net t)) r) { state = t }) → (s : Run) × GoesBy net no_predicates word (Some (Decision targets)) r s × StandsFor q s
+chooses net word r p q targets i t ready h says first after = (
   record (with_begun (begun net t (state_at net t)) r) { state = t },
-  (i, t, predicted net word r p i h says, subst (λ (n : ℕ). IsFirst net n i t) h.state first, refl),
+  (i, t, predicted net word r p (chosen i) ready h says, subst (λ (n : ℕ). IsFirst net n i t) h.state first, refl),
   after,
 )
 
 -- a turn by the state where the parser stands is one by the state of the moment
-pub turned : (net : Network) (word : List ℕ) (r : Run) (p q : Parser) (s : State) (x : Result ⊤ ParseFault) → StandsFor p r → state_at net p.state ≡ Some s → IsTurnBy net word (Some s) r q x → IsTurnBy net word (state_at net r.state) r q x
-turned net word r p q s x h at_s = subst (λ (o : Option State). IsTurnBy net word o r q x) (sym at_s ∙ ap (λ (n : ℕ). state_at net n) h.state)
-
--- what all return states are newest first they are newest last
-pub all_returns : (P : ℕ → Type 0) (fs : List Frame) → All P (backs fs) → All P (returns_of fs)
-all_returns P [] h = h
-all_returns P (f ∷ fs) h = All-append P (returns_of fs) (f.back ∷ []) (all_returns P fs (All-tail P f.back (backs fs) h)) (All-cons P f.back [] (All-head P f.back (backs fs) h) (λ k d less. absurd (omega arith)))
+pub turned : (net : ParserNetwork) (word : List ℕ) (r : Run) (p q : Parser) (s : State (List ℕ)) (x : Result ⊤ ParseFault) → StandsFor p r → state_at net p.state ≡ Some s → IsTurnBy net word (Some s) r q x → IsTurnBy net word (state_at net r.state) r q x
+turned net word r p q s x h at_s = subst (λ (o : Option (State (List ℕ))). IsTurnBy net word o r q x) (sym at_s ∙ ap (λ (n : ℕ). state_at net n) h.state)
 
 -- an alternative of a decision is one of its targets
-pub first_of : (net : Network) (d i t : ℕ) (targets : List ℕ) → state_at net d ≡ Some (Decision targets) → IsFirst net d i t → (i - 1 < length targets) × (get_or targets (i - 1) 0 ≡ t) × (1 ≤ i)
+pub first_of : (net : ParserNetwork) (d i t : ℕ) (targets : List ℕ) → state_at net d ≡ Some (Decision targets) → IsFirst net d i t → (i - 1 < length targets) × (get_or targets (i - 1) 0 ≡ t) × (1 ≤ i)
 first_of net d i t targets at_d (us, k, at_u, has, is) =
     let same : us ≡ targets = cc in
     let got : slice_get targets k ≡ Some t = subst (λ (xs : List ℕ). slice_get xs k ≡ Some t) same has in
@@ -135,23 +134,21 @@ first_of net d i t targets at_d (us, k, at_u, has, is) =
     (omega arith, ap (λ (n : ℕ). get_or targets n 0) place ∙ get_or_from_slice_get targets k t 0 got, omega arith)
 
 -- a target of a decision is a state
-pub state_within : (net : Network) (d : ℕ) (targets : List ℕ) (k : ℕ) → WellFormed net → state_at net d ≡ Some (Decision targets) → k < length targets → get_or targets k 0 < length net.states
+pub state_within : (net : ParserNetwork) (d : ℕ) (targets : List ℕ) (k : ℕ) → WellFormed net → state_at net d ≡ Some (Decision targets) → k < length targets → get_or targets k 0 < length net.states
 state_within net d targets k well at_d less = well.targets d (get_or targets k 0) (Decision targets) at_d (Contains-get_or targets k 0 less)
 
 -- where prediction finds no alternative the run stops
-pub decides_fault : (net : Network) (word : List ℕ) (r : Run) (p : Parser) (targets : List ℕ) (fault : DecideFault) → StandsFor p r → IsDecideFault net p.state (reverse p.returns.items) (drop p.place word) p.place fault → IsFaultBy net word (Some (Decision targets)) r (of_decide fault)
-decides_fault net word r p targets (deciding.NoViable at) h (k, says, is) =
-    let stack : reverse p.returns.items ≡ backs r.frames = ap reverse h.returns ∙ reverse_returns r.frames in
-    let said : Chooses net r.state (backs r.frames) (drop r.place word) (no_viable k) = rw (← h.state, ← h.place, ← stack) says in
-    (k, said (here_of net no_predicates word r), ap not_viable (is ∙ ap (λ (n : ℕ). n + k) h.place))
-decides_fault net word r p targets deciding.NoMemory h is = tt
+pub decides_fault : (net : ParserNetwork) (word : List ℕ) (r : Run) (p : Parser) (targets : List ℕ) (fault : DecideFault) → IsReady net → StandsFor p r → IsDecideFault net p.state (Allows Every) (reverse p.returns.items) (drop p.place word) p.place fault → IsFaultBy net word (Some (Decision targets)) r (of_decide fault)
+decides_fault net word r p targets (deciding.NoViable at) ready h (k, says, is) =
+    (k, predicted net word r p (no_viable k) ready h says, ap not_viable (is ∙ ap (λ (n : ℕ). n + k) h.place))
+decides_fault net word r p targets deciding.NoMemory ready h is = tt
 
 -- a turn that answers with this fault
-pub fails_with : (net : Network) (word : List ℕ) (o : Option State) (r : Run) (q : Parser) (fault : ParseFault) (x : Result ⊤ ParseFault) → IsErrAnd x (λ e. e ≡ fault) → IsFaultBy net word o r fault → IsTurnBy net word o r q x
+pub fails_with : (net : ParserNetwork) (word : List ℕ) (o : Option (State (List ℕ))) (r : Run) (q : Parser) (fault : ParseFault) (x : Result ⊤ ParseFault) → IsErrAnd x (λ e. e ≡ fault) → IsFaultBy net word o r fault → IsTurnBy net word o r q x
 fails_with net word o r q fault (Ok done) is h = absurd is
 fails_with net word o r q fault (Err e) is h = subst (IsFaultBy net word o r) (sym is) h
 
--- the parser at another state stands for the moment at that state
+-- the parser at another state is at the moment of that state
 pub moved_to : (p : Parser) (r s : Run) (t : ℕ) → r ≡ s → StandsFor p r → StandsFor (record p { state = t }) (record s { state = t })
 moved_to p r s t same h =
     let k : StandsFor p s = subst (StandsFor p) same h in

@@ -1,23 +1,23 @@
 -- What the parse call answers.
+use Rattle.g4_net.specs.Network.{ParserNetwork}
 use Rattle.std.specs.Prelude.{ℕ, List, Result, Ok, Err}
-use Rattle.g4_net.specs.declared.network.Network.{Network}
 use Rattle.g4_parse.specs.declared.tree.Item.{Item}
 use Rattle.g4_parse.specs.declared.parser.ParseFault.{ParseFault}
 use Rattle.g4_parse.specs.declared.parser.ParseFault.TheVariants.{NoViable, Mismatch, TooDeep, NoMemory}
 use Rattle.g4_parse.specs.Running.{Ending, parsed, not_viable, mismatch, too_deep, beginning, no_predicates, Runs}
 
--- the run over the whole word ends so
-abbrev pub Ends : Network → List ℕ → Ending → Type 0
+-- the run over the whole word has this ending
+abbrev pub Ends : ParserNetwork → List ℕ → Ending → Type 0
 Ends net word e = Runs net no_predicates word beginning e
 
 -- what a fault says of the run
-abbrev pub IsParseFault : Network → List ℕ → ParseFault → Type 0
+abbrev pub IsParseFault : ParserNetwork → List ℕ → ParseFault → Type 0
 IsParseFault net word (NoViable at) = Ends net word (not_viable at)
 IsParseFault net word (Mismatch at state) = Ends net word (mismatch at state)
 IsParseFault net word (TooDeep at) = Ends net word (too_deep at)
 IsParseFault net word NoMemory = Unit {0}
 
 -- the call answers with the run's tree or its fault, unless memory runs out
-abbrev pub IsParse : Network → List ℕ → Result (List Item) ParseFault → Type 0
+abbrev pub IsParse : ParserNetwork → List ℕ → Result (List Item) ParseFault → Type 0
 IsParse net word (Ok tree) = Ends net word (parsed tree)
 IsParse net word (Err fault) = IsParseFault net word fault

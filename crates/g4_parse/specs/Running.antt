@@ -1,11 +1,10 @@
 -- The parse run over a network, as a relation.
 use Rattle.std.specs.Prelude.{◌≡◌, ◌≤◌, ◌<◌, ℕ, ◌+◌, List, [], ◌∷◌, ◌++◌, Option, Some, None, Bool, true, false, cond, ◌==◌, slice_get, length, drop, map, Contains}
-use Rattle.g4_net.specs.declared.network.Network.{Network}
 use Rattle.g4_net.specs.declared.network.State.{State}
-use Rattle.g4_net.specs.declared.network.State.TheVariants.{Decision, End, Token, Call, Predicate, Level, Action, Empty}
-use Rattle.g4_net.specs.Network.{state_at, start_of, IsFirst, written_at}
+use Rattle.g4_net.specs.declared.network.State.TheVariants.{Decision, End, Edge, Call, Predicate, Level, Action, Empty}
+use Rattle.g4_net.specs.Network.{ParserNetwork, state_at, start_of, IsFirst, written_at}
 use Rattle.g4_net.specs.Configurations.{Stack, above_bottom}
-use Rattle.g4_net.specs.Prediction.{Choice, chosen, no_viable, Here, Decides}
+use Rattle.g4_net.specs.Prediction.{Choice, chosen, no_viable, IsTestBy, Decides}
 use Rattle.g4_parse.specs.declared.tree.Item.{Item}
 use Rattle.g4_parse.specs.declared.tree.Item.TheVariants as items
 
@@ -68,7 +67,7 @@ abbrev pub rule_of : List Frame → ℕ
 rule_of [] = 0
 rule_of (f ∷ fs) = f.rule
 
--- the node of an open rule as it stands, closed
+-- the node of an open rule with its children so far, closed
 abbrev pub node_of : Frame → List Item
 node_of f = items.Enter f.rule f.alt f.at ∷ f.children ++ items.Exit ∷ []
 
@@ -97,25 +96,31 @@ wrapped i [] = []
 wrapped i (f ∷ fs) = record f { alt = i; children = node_of f } ∷ fs
 
 -- the alternative that a state begins, where no level edge will begin it
-abbrev pub begun : Network → ℕ → Option State → ℕ
+abbrev pub begun : ParserNetwork → ℕ → Option (State (List ℕ)) → ℕ
 begun net t (Some (Level q u)) = 0
 begun net t (Some (Decision targets)) = written_at net t
 begun net t (Some (End rule)) = written_at net t
-begun net t (Some (Token set u)) = written_at net t
+begun net t (Some (Edge set u)) = written_at net t
 begun net t (Some (Call rule level back)) = written_at net t
 begun net t (Some (Predicate k u)) = written_at net t
 begun net t (Some (Action u)) = written_at net t
 begun net t (Some (Empty u)) = written_at net t
 begun net t None = 0
 
-module _ (net : Network) (values : Values) (word : List ℕ) where
-  -- what the levels and predicates say at this moment
-  abbrev pub here_of : Run → Here
-  here_of r = record { level = level_of r.frames; holds = λ k. values k (open_rules r) r.place }
+module _ (net : ParserNetwork) (values : Values) (word : List ℕ) where
+  -- the predicates and levels that begin at the state are true at this moment, each of them
+  pub data Passes (r : Run) : ℕ → Type 0 where
+    no_test : (p : ℕ) → (IsTestBy (state_at net p) → ⊥) → Passes r p
+    predicate_holds : (p k t : ℕ) → state_at net p ≡ Some (Predicate k t) → values k (open_rules r) r.place ≡ true → Passes r t → Passes r p
+    level_holds : (p q t : ℕ) → state_at net p ≡ Some (Level q t) → level_of r.frames ≤ q → Passes r t → Passes r p
 
-  -- what prediction says at the decision where the run stands
+  -- the alternative is allowed at the decision of this moment: its first predicates and levels are all true
+  abbrev pub AllowsAt : Run → ℕ → Type 0
+  AllowsAt r i = (t : ℕ) × IsFirst net r.state i t × Passes r t
+
+  -- what prediction chooses at the decision of this moment
   abbrev pub Predicts : Run → Choice → Type 0
-  Predicts r c = Decides net (here_of r) r.state (stack_of r) (drop r.place word) c
+  Predicts r c = Decides net r.state (AllowsAt r) (stack_of r) (drop r.place word) c
 
   -- the end of a rule closes its node, and the run goes on at the return state
   abbrev pub ClosesBy : Run → List Frame → Run → Type 0
@@ -123,11 +128,11 @@ module _ (net : Network) (values : Values) (word : List ℕ) where
   ClosesBy r (f ∷ fs) s = s ≡ with_children (record r { state = f.back; frames = fs }) fs (node_of f)
 
   -- one step of the run, by the state
-  abbrev pub GoesBy : Option State → Run → Run → Type 0
+  abbrev pub GoesBy : Option (State (List ℕ)) → Run → Run → Type 0
   GoesBy None r s = ⊥
   GoesBy (Some (Decision targets)) r s = (i t : ℕ) × Predicts r (chosen i) × IsFirst net r.state i t × (s ≡ record r { state = t; frames = with_alt (begun net t (state_at net t)) r.frames })
   GoesBy (Some (End rule)) r s = ClosesBy r r.frames s
-  GoesBy (Some (Token set t)) r s = (a : ℕ) × (slice_get word r.place ≡ Some a) × Contains set a × (s ≡ record (with_token r r.frames) { state = t; place = r.place + 1 })
+  GoesBy (Some (Edge set t)) r s = (a : ℕ) × (slice_get word r.place ≡ Some a) × Contains set a × (s ≡ record (with_token r r.frames) { state = t; place = r.place + 1 })
   GoesBy (Some (Call rule level back)) r s = (length r.frames < deepest)
       × (s ≡ record r { state = start_of rule; frames = record { back = back; level = level; rule = rule; alt = written_at net (start_of rule); at = r.place; children = [] } ∷ r.frames })
   GoesBy (Some (Predicate k t)) r s = (values k (open_rules r) r.place ≡ true) × (s ≡ record r { state = t })
@@ -140,22 +145,22 @@ module _ (net : Network) (values : Values) (word : List ℕ) where
   Goes r s = GoesBy (state_at net r.state) r s
 
   -- where no step exists: the end of the added rule, or a fault
-  abbrev pub StopsBy : Option State → Run → Ending → Type 0
+  abbrev pub StopsBy : Option (State (List ℕ)) → Run → Ending → Type 0
   StopsBy None r e = ⊥
   StopsBy (Some (Decision targets)) r e = (k : ℕ) × Predicts r (no_viable k) × (e ≡ not_viable (r.place + k))
   StopsBy (Some (End rule)) r e = (r.frames ≡ []) × (rule ≡ 0) × (e ≡ parsed r.tree)
-  StopsBy (Some (Token set t)) r e = (a : ℕ) × (slice_get word r.place ≡ Some a) × (Contains set a → ⊥) × (e ≡ mismatch r.place r.state)
+  StopsBy (Some (Edge set t)) r e = (a : ℕ) × (slice_get word r.place ≡ Some a) × (Contains set a → ⊥) × (e ≡ mismatch r.place r.state)
   StopsBy (Some (Call rule level back)) r e = (deepest ≤ length r.frames) × (e ≡ too_deep r.place)
   StopsBy (Some (Predicate k t)) r e = (values k (open_rules r) r.place ≡ false) × (e ≡ failed_predicate r.place (rule_of r.frames))
   StopsBy (Some (Level q t)) r e = ⊥
   StopsBy (Some (Action t)) r e = ⊥
   StopsBy (Some (Empty t)) r e = ⊥
 
-  -- the run ends here, so
+  -- the run stops here with this ending
   abbrev pub Stops : Run → Ending → Type 0
   Stops r e = StopsBy (state_at net r.state) r e
 
-  -- the run from this moment ends so
+  -- the run from this moment has this ending
   pub data Runs : Run → Ending → Type 0 where
     stops : (r : Run) (e : Ending) → Stops r e → Runs r e
     goes : (r s : Run) (e : Ending) → Goes r s → Runs s e → Runs r e

@@ -1,10 +1,10 @@
--- Which moment of the run the parser stands for, and what one turn of it does.
-use Rattle.std.specs.Prelude.{◌≡◌, ◌<◌, ◌^◌, ℕ, List, [], ◌∷◌, ◌++◌, Option, Some, None, Result, Ok, Err, ⊤, length, map, All}
-use Rattle.g4_net.specs.declared.network.Network.{Network}
+-- Which moment of the run the parser is at, and what one turn of it does.
+use Rattle.std.specs.Prelude.{◌≡◌, ◌<◌, ◌^◌, ℕ, List, [], ◌∷◌, ◌++◌, Option, Some, None, Result, Ok, Err, ⊤, length, map}
 use Rattle.g4_net.specs.declared.network.State.{State}
-use Rattle.g4_net.specs.declared.network.State.TheVariants.{Decision, End, Token, Call, Predicate, Level, Action, Empty}
-use Rattle.g4_net.specs.Network.{state_at, start_of}
-use Rattle.g4_net.specs.AddedRule.{IsRunnable, StandsApart}
+use Rattle.g4_net.specs.declared.network.State.TheVariants.{Decision, End, Edge, Call, Predicate, Level, Action, Empty}
+use Rattle.g4_net.specs.Network.{ParserNetwork, state_at, start_of}
+use Rattle.g4_net.specs.AddedRule.{IsReady}
+use Rattle.g4_net.specs.Proper.{IsProper}
 use Rattle.g4_parse.specs.declared.tree.Item.{Item}
 use Rattle.g4_parse.specs.declared.tree.Item.TheVariants as items
 use Rattle.g4_parse.specs.declared.parser.ParseFault.{ParseFault}
@@ -31,7 +31,7 @@ abbrev pub enters_of : List Frame → List Item → List ℕ
 enters_of [] tree = []
 enters_of (f ∷ fs) tree = enters_of fs tree ++ length (flat fs tree) ∷ []
 
--- the parser stands for this moment
+-- the parser is at this moment
 pub record StandsFor (p : Parser) (r : Run) : Type 0 where
   pub state : p.state ≡ r.state
   pub place : p.place ≡ r.place
@@ -40,47 +40,44 @@ pub record StandsFor (p : Parser) (r : Run) : Type 0 where
   pub items : p.items.items ≡ flat r.frames r.tree
 
 -- the run stops at this moment with the fault, unless memory ran out
-abbrev pub IsFaultBy : Network → List ℕ → Option State → Run → ParseFault → Type 0
+abbrev pub IsFaultBy : ParserNetwork → List ℕ → Option (State (List ℕ)) → Run → ParseFault → Type 0
 IsFaultBy net word state r (NoViable at) = StopsBy net no_predicates word state r (not_viable at)
 IsFaultBy net word state r (Mismatch at from) = StopsBy net no_predicates word state r (mismatch at from)
 IsFaultBy net word state r (TooDeep at) = StopsBy net no_predicates word state r (too_deep at)
 IsFaultBy net word state r NoMemory = Unit {0}
 
--- from this moment the run goes by the state to one for which the parser stands, or it stops with the fault
-abbrev pub IsTurnBy : Network → List ℕ → Option State → Run → Parser → Result ⊤ ParseFault → Type 0
+-- from this moment the run goes by the state to one that the parser is at, or it stops with the fault
+abbrev pub IsTurnBy : ParserNetwork → List ℕ → Option (State (List ℕ)) → Run → Parser → Result ⊤ ParseFault → Type 0
 IsTurnBy net word state r p (Ok done) = (s : Run) × GoesBy net no_predicates word state r s × StandsFor p s
 IsTurnBy net word state r p (Err fault) = IsFaultBy net word state r fault
 
 -- what prediction asks at a decision, the token list having n tokens
-pub record IsDecisionFit (net : Network) (n : ℕ) (r : Run) : Type 0 where
-  pub rule : ℕ
-  pub loop : ℕ
-  pub runnable : IsRunnable net rule loop
-  pub apart : StandsApart loop r.state (backs r.frames)
-  pub within : All (λ t. t < length net.states) (backs r.frames)
+pub record IsDecisionFit (net : ParserNetwork) (n : ℕ) (r : Run) : Type 0 where
+  pub ready : IsReady net
+  pub proper : IsProper net r.state (backs r.frames)
   pub more : r.place < n
 
--- What holds of a run at each state, the token list having n tokens: a call's start is a state, a token or a decision has
--- a token left, and only the added rule ends with no rule open.
-abbrev pub IsFitBy : Network → ℕ → Option State → Run → Type 0
+-- What holds of a run at each state, the token list having n tokens: a call's start is a state, an edge or a decision has a
+-- token left, and only the added rule ends with no rule open.
+abbrev pub IsFitBy : ParserNetwork → ℕ → Option (State (List ℕ)) → Run → Type 0
 IsFitBy net n None r = ⊥
 IsFitBy net n (Some (Decision targets)) r = IsDecisionFit net n r
 IsFitBy net n (Some (End rule)) r = r.frames ≡ [] → rule ≡ 0
-IsFitBy net n (Some (Token set t)) r = r.place < n
+IsFitBy net n (Some (Edge set t)) r = r.place < n
 IsFitBy net n (Some (Call rule level back)) r = (start_of rule < length net.written) × (start_of rule < 2 ^ 32)
 IsFitBy net n (Some (Predicate k t)) r = ⊥
 IsFitBy net n (Some (Level q t)) r = ⊥
-IsFitBy net n (Some (Action t)) r = ⊥
+IsFitBy net n (Some (Action t)) r = Unit {0}
 IsFitBy net n (Some (Empty t)) r = Unit {0}
 
--- the parser stands for a moment of a run
-abbrev pub IsUnderway : Network → ℕ → Parser → Type 0
+-- the parser is at a moment of a run
+abbrev pub IsUnderway : ParserNetwork → ℕ → Parser → Type 0
 IsUnderway net n p = (r : Run) × StandsFor p r × IsFitBy net n (state_at net r.state) r
 
--- the parser stands for a moment at a decision
-abbrev pub IsDeciding : Network → ℕ → Parser → Type 0
+-- the parser is at a decision
+abbrev pub IsDeciding : ParserNetwork → ℕ → Parser → Type 0
 IsDeciding net n p = (r : Run) × StandsFor p r × IsDecisionFit net n r
 
--- the parser stands at the end of a rule with no rule open
-abbrev pub HasEnded : Network → Parser → Type 0
+-- the parser is at the end of a rule with no rule open
+abbrev pub HasEnded : ParserNetwork → Parser → Type 0
 HasEnded net p = (p.returns.items ≡ []) × ((rule : ℕ) × (state_at net p.state ≡ Some (End rule)))

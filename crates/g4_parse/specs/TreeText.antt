@@ -1,16 +1,24 @@
 -- The text of a tree.
-use Rattle.std.specs.Prelude.{ℕ, ◌-◌, List, [], ◌∷◌, ◌++◌, Option, Some, None, Bool, true, false, cond, nat_le, codes, slice_get}
-use Rattle.g4_base.specs.Shown.{shown}
-use Rattle.g4_base.specs.Symbols.{eof}
-use Rattle.g4_grammar.specs.declared.numbered.NumberedRule.{NumberedRule}
-use Rattle.g4_net.specs.declared.token.Token.{Token}
-use Rattle.g4_net.specs.TokenList.{characters_of}
+use Rattle.std.specs.Prelude.{ℕ, ◌-◌, List, [], ◌∷◌, ◌++◌, Option, Some, None, Bool, true, false, cond, if◌then◌else◌, ◌==◌, ◌||◌, codes, slice_get}
+use Rattle.std.specs.List.{flat_map}
+use Rattle.g4_symbols.specs.Symbols.{end_of_list, eof}
+use Rattle.g4_token_list.specs.declared.token.Token.{Token}
+use Rattle.g4_token_list.specs.declared.token.Tokens.{Tokens}
+use Rattle.g4_token_list.specs.TokenList.{bytes_of}
 use Rattle.g4_parse.specs.declared.tree.Item.{Item}
 use Rattle.g4_parse.specs.declared.tree.Item.TheVariants as items
 
--- a token as it is shown: its characters, and EOF and END as `<EOF>`
+-- a byte as it is shown: newline, tab and return as `\n`, `\t` and `\r`
+abbrev pub shown_byte : ℕ → List ℕ
+shown_byte b = if b == 10 then codes "\\n" else (if b == 9 then codes "\\t" else (if b == 13 then codes "\\r" else (b ∷ [])))
+
+-- bytes as they are shown. No character of more than one byte has one of these three in it.
+abbrev pub shown_bytes : List ℕ → List ℕ
+shown_bytes bytes = flat_map shown_byte bytes
+
+-- a token as it is shown: its bytes, and EOF and END as `<EOF>`
 abbrev pub token_text : List ℕ → Token → List ℕ
-token_text text token = cond (nat_le eof token.symbol) (codes "<EOF>") (shown (characters_of text token))
+token_text bytes token = cond (token.symbol == eof || token.symbol == end_of_list) (codes "<EOF>") (shown_bytes (bytes_of bytes token))
 
 -- a space before the next item, where that begins a child
 abbrev pub gap : List Item → List ℕ
@@ -37,24 +45,28 @@ is_enter (items.Token at) = false
 is_enter items.Exit = false
 
 -- the name of a rule that was looked up, nothing where it is absent
-abbrev pub name_by : Option NumberedRule → List ℕ
+abbrev pub name_by : Option (List ℕ) → List ℕ
 name_by None = []
-name_by (Some rule) = rule.name
+name_by (Some name) = name
 
 -- the name of a rule by its number; rules count from 1
-abbrev pub name_of : List NumberedRule → ℕ → List ℕ
-name_of rules rule = name_by (slice_get rules (rule - 1))
+abbrev pub name_of : List (List ℕ) → ℕ → List ℕ
+name_of names rule = name_by (slice_get names (rule - 1))
 
 -- a token that was looked up, as it is shown, nothing where it is absent
 abbrev pub text_by : List ℕ → Option Token → List ℕ
-text_by text None = []
-text_by text (Some token) = token_text text token
+text_by bytes None = []
+text_by bytes (Some token) = token_text bytes token
 
-module _ (rules : List NumberedRule) (tokens : List Token) (text : List ℕ) where
-  -- the text of an item, where the item before it is an Enter or not, and with the items behind it
+-- the token at a place of the list, as it is shown
+abbrev pub text_at : Tokens → ℕ → List ℕ
+text_at tokens at = text_by tokens.bytes (slice_get tokens.list at)
+
+module _ (names : List (List ℕ)) (tokens : Tokens) where
+  -- the text of an item, where the item before it is an Enter or not, and with the items after it
   abbrev pub item_text : Bool → Item → List Item → List ℕ
-  item_text entered (items.Enter rule alt at) more = opening (name_of rules rule) more
-  item_text entered (items.Token at) more = text_by text (slice_get tokens at) ++ gap more
+  item_text entered (items.Enter rule alt at) more = opening (name_of names rule) more
+  item_text entered (items.Token at) more = text_at tokens at ++ gap more
   item_text entered items.Exit more = closing entered ++ gap more
 
   -- the text of items one after another

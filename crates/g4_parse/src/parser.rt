@@ -1,20 +1,21 @@
 // The parse run.
 ghost use Rattle.std.specs.Prelude.{◌≡◌, ◌<◌, ◌*◌, ◌^◌, ◌++◌, ◌∷◌, ◌↔◌, ℕ, List, Some, IsTrue, OnOk, length};
 ghost use Rattle.g4_net.specs.AddedRule.{IsReady};
-ghost use Rattle.g4_net.specs.declared.network.Network.{Network as Net};
-ghost use Rattle.g4_net.specs.declared.network.State.TheVariants.{Call, Decision, End, Token as Taking};
-ghost use Rattle.g4_net.specs.Network.{state_at};
-ghost use Rattle.g4_net.specs.TokenList.{word_of, EndsInEnd};
+ghost use Rattle.g4_net.specs.declared.network.State.TheVariants.{Call, Decision, Edge, End};
+ghost use Rattle.g4_net.specs.Network.{ParserNetwork as Net, state_at};
 ghost use Rattle.g4_parse.specs.declared.tree.Item.{Item as Node};
 ghost use Rattle.g4_parse.specs.declared.tree.Item.TheVariants.{Enter};
 ghost use Rattle.g4_parse.specs.Parsing.{IsParse};
 ghost use Rattle.g4_parse.specs.Running.{Run, beginning, with_begun, with_token};
 ghost use Rattle.g4_parse.specs.Standing.{StandsFor, IsTurnBy, IsDeciding, IsUnderway, HasEnded};
+ghost use Rattle.g4_token_list.specs.TokenList.{word_of, EndsInEnd};
 
-use crate::state::{begun, is_in_set, state_of};
+use crate::state::{begun, state_of};
 use crate::{Item, Tree};
-use g4_net::{Network, State, Token};
+use g4_net::{Allowed, ParserNetwork, State};
 use g4_predict::{DecideFault, decide};
+use g4_symbols::Symbols;
+use g4_token_list::Token;
 use std::alloc::{AllocError, AllocFailed, Global};
 
 /// Why a token list has no tree.
@@ -22,7 +23,7 @@ use std::alloc::{AllocError, AllocFailed, Global};
 pub enum ParseFault {
     /// No alternative of a decision is viable at this place of the token list.
     NoViable { at: u32 },
-    /// The token edge of this state does not take the token at this place.
+    /// The edge of this state does not take the token at this place.
     Mismatch { at: u32, state: u32 },
     /// A call with 10,000 rules open, at this place.
     TooDeep { at: u32 },
@@ -68,7 +69,7 @@ impl From<DecideFault> for ParseFault {
 /// The most rules that may be open.
 const DEEPEST: usize = 10_000;
 
-/// A moment of the run: where it stands, the return states of the open rules and where their nodes begin among the items,
+/// A moment of the run: the state and the place in the token list, the return states of the open rules and where their nodes begin among the items,
 /// newest last, and the tree so far.
 #[derive(Drop)]
 struct Parser {
@@ -93,8 +94,8 @@ impl Parser {
         }
     }
 
-    /// Whether the run stands at the end of a rule with no rule open.
-    fn has_ended(&self, net: &Network) -> bool
+    /// Whether the run is at the end of a rule with no rule open.
+    fn has_ended(&self, net: &ParserNetwork) -> bool
         requires { self.now.state < length net.now.states }
         ensures { IsTrue result ↔ HasEnded net.now self.now }
     {
@@ -102,7 +103,7 @@ impl Parser {
     }
 
     /// Opens a rule.
-    fn call(&mut self, net: &Network, rule: u32, back: u32) -> Result<(), ParseFault>
+    fn call(&mut self, net: &ParserNetwork, rule: u32, back: u32) -> Result<(), ParseFault>
         requires starts { 2 * rule < length net.now.written }
         requires fits { 2 * rule < 2 ^ 32 }
         ensures { (word : List ℕ) (level : ℕ) (r : Run) → StandsFor self.old r → IsTurnBy net.now word (Some (Call rule level back)) r self.new result }
@@ -135,13 +136,13 @@ impl Parser {
     }
 
     /// Takes the next token.
-    fn take(&mut self, set: &[u32], target: u32, tokens: &[Token]) -> Result<(), ParseFault>
+    fn take(&mut self, set: &Symbols, target: u32, tokens: &[Token]) -> Result<(), ParseFault>
         requires more { self.old.place < length tokens.now }
         requires few { length tokens.now < 2 ^ 32 }
-        ensures { (net : Net) (r : Run) → StandsFor self.old r → IsTurnBy net (word_of tokens.now) (Some (Taking set.now target)) r self.new result }
+        ensures { (net : Net) (r : Run) → StandsFor self.old r → IsTurnBy net (word_of tokens.now) (Some (Edge set.now target)) r self.new result }
     {
         let symbol = tokens[self.place as usize].symbol;
-        if !is_in_set(set, symbol) {
+        if !set.contains(symbol) {
             return Err(ParseFault::Mismatch {
                 at: self.place,
                 state: self.state,
@@ -182,11 +183,11 @@ impl Parser {
         }
     }
 
-    /// Goes to the alternative that prediction says.
+    /// Goes to the alternative that prediction chooses.
     fn choose(
         &mut self,
         alloc: Global,
-        net: &Network,
+        net: &ParserNetwork,
         targets: &[u32],
         tokens: &[Token],
     ) -> Result<(), ParseFault>
@@ -197,7 +198,15 @@ impl Parser {
         ensures { (r : Run) → StandsFor self.old r → IsTurnBy net.now (word_of tokens.now) (Some (Decision targets.now)) r self.new result }
     {
         let returns = self.returns.as_slice();
-        let alternative = decide(alloc, net, self.state, returns, tokens, self.place)?;
+        let alternative = decide(
+            alloc,
+            net,
+            self.state,
+            &Allowed::Every,
+            returns,
+            tokens,
+            self.place,
+        )?;
         let target = targets[alternative as usize - 1];
         self.begin_alternative(begun(net, target));
         self.state = target;
@@ -219,7 +228,12 @@ impl Parser {
     }
 
     /// One step of the run.
-    fn turn(&mut self, alloc: Global, net: &Network, tokens: &[Token]) -> Result<(), ParseFault>
+    fn turn(
+        &mut self,
+        alloc: Global,
+        net: &ParserNetwork,
+        tokens: &[Token],
+    ) -> Result<(), ParseFault>
         requires underway { IsUnderway net.now (length tokens.now) self.old }
         requires goes_on { HasEnded net.now self.old → ⊥ }
         requires ends { EndsInEnd (word_of tokens.now) }
@@ -228,22 +242,28 @@ impl Parser {
     {
         match state_of(net, self.state) {
             State::Call { rule, back, .. } => self.call(net, *rule, *back),
-            State::Token(set, target) => self.take(set.as_slice(), *target, tokens),
+            State::Edge(set, target) => self.take(set, *target, tokens),
             State::Decision(targets) => self.choose(alloc, net, targets.as_slice(), tokens),
             State::End(_) => self.close(),
+            State::Action(target) => {
+                self.state = *target;
+                Ok(())
+            }
             State::Empty(target) => {
                 self.state = *target;
                 Ok(())
             }
             State::Predicate(..) => unreachable!(),
             State::Level(..) => unreachable!(),
-            State::Action(_) => unreachable!(),
         }
     }
 }
 
-/// The tree of a token list, or the fault at which the run ends.
-pub fn parse(alloc: Global, net: &Network, tokens: &[Token]) -> Result<Tree, ParseFault>
+/// The tree of a token list.
+///
+/// # Errors
+/// The fault at which the run stops, or no memory.
+pub fn parse(alloc: Global, net: &ParserNetwork, tokens: &[Token]) -> Result<Tree, ParseFault>
     requires ready { IsReady net.now }
     requires ends { EndsInEnd (word_of tokens.now) }
     requires few { length tokens.now < 2 ^ 32 }

@@ -1,85 +1,110 @@
 // The text of a tree.
-ghost use Rattle.std.specs.Prelude.{◌≡◌, ◌++◌, OnOk, string_bytes, slice_get};
-ghost use Rattle.g4_parse.specs.TreeText.{token_text, text_by, name_of, gap, opening, closing, is_enter, item_text, tree_text};
+ghost use Rattle.std.specs.Prelude.{◌≡◌, ◌++◌, OnOk};
+ghost use Rattle.g4_parse.specs.TreeText.{closing, gap, is_enter, item_text, name_of, opening, shown_byte, shown_bytes, text_at, token_text, tree_text};
 
 use crate::Item;
-use g4_base::{EOF, push_shown};
-use g4_grammar::NumberedRule;
-use g4_net::Token;
+use g4_base::Text;
+use g4_symbols::{END, EOF};
+use g4_token_list::{Token, Tokens};
 use std::alloc::AllocError;
 
-// A token as it is shown: its characters, and EOF and END as `<EOF>`.
-fn push_token_text(out: &mut String, text: &[char], token: &Token) -> Result<(), AllocError>
-    ensures { OnOk result (string_bytes out.new ≡ string_bytes out.old ++ token_text text.now token.now) }
+fn push_shown_byte(out: &mut Vec<u8>, byte: u8) -> Result<(), AllocError>
+    ensures { OnOk result (out.new.items ≡ out.old.items ++ shown_byte byte) }
 {
-    if token.symbol >= EOF {
-        return out.push_str("<EOF>");
+    match byte {
+        b'\n' => out.extend_from_slice(b"\\n"),
+        b'\t' => out.extend_from_slice(b"\\t"),
+        b'\r' => out.extend_from_slice(b"\\r"),
+        other => {
+            out.push(other)?;
+            Ok(())
+        }
     }
-    let end = token.end.min(text.len());
-    let start = token.start.min(end);
-    push_shown(out, &text[start..end])
+}
+
+/// Writes the bytes as they are shown: newline, tab and return as `\n`, `\t` and `\r`.
+///
+/// # Errors
+/// No memory.
+pub fn push_shown_bytes(out: &mut Vec<u8>, bytes: &[u8]) -> Result<(), AllocError>
+    ensures { OnOk result (out.new.items ≡ out.old.items ++ shown_bytes bytes.now) }
+{
+    for byte in bytes {
+        push_shown_byte(out, *byte)?;
+    }
+    Ok(())
+}
+
+// A token as it is shown: its bytes, and EOF and END as `<EOF>`.
+fn push_token_text(out: &mut Vec<u8>, bytes: &[u8], token: &Token) -> Result<(), AllocError>
+    ensures { OnOk result (out.new.items ≡ out.old.items ++ token_text bytes.now token.now) }
+{
+    if token.symbol == EOF || token.symbol == END {
+        return out.extend_from_slice(b"<EOF>");
+    }
+    let end = (token.end as usize).min(bytes.len());
+    let start = (token.start as usize).min(end);
+    push_shown_bytes(out, &bytes[start..end])
 }
 
 /// Writes the token at a place of the list as it is shown, nothing where there is none.
-pub fn push_token(
-    out: &mut String,
-    tokens: &[Token],
-    text: &[char],
-    at: u32,
-) -> Result<(), AllocError>
-    ensures { OnOk result (string_bytes out.new ≡ string_bytes out.old ++ text_by text.now (slice_get tokens.now at)) }
+///
+/// # Errors
+/// No memory.
+pub fn push_token(out: &mut Vec<u8>, tokens: &Tokens, at: u32) -> Result<(), AllocError>
+    ensures { OnOk result (out.new.items ≡ out.old.items ++ text_at tokens.now at) }
 {
-    match tokens.get(at as usize) {
-        Some(token) => push_token_text(out, text, token),
+    match tokens.list.as_slice().get(at as usize) {
+        Some(token) => push_token_text(out, tokens.bytes.as_slice(), token),
         None => Ok(()),
     }
 }
 
-fn push_name(out: &mut String, rules: &[NumberedRule], rule: u32) -> Result<(), AllocError>
-    ensures { OnOk result (string_bytes out.new ≡ string_bytes out.old ++ name_of rules.now rule) }
+fn push_name(out: &mut Vec<u8>, names: &[Text], rule: u32) -> Result<(), AllocError>
+    ensures { OnOk result (out.new.items ≡ out.old.items ++ name_of names.now rule) }
 {
-    match rules.get((rule as usize).saturating_sub(1)) {
-        Some(rule) => out.push_str(rule.name.as_str()),
+    match names.get((rule as usize).saturating_sub(1)) {
+        Some(name) => out.extend_from_slice(name.as_str().as_bytes()),
         None => Ok(()),
     }
 }
 
 // A space, where what comes next begins a child.
-fn push_gap(out: &mut String, more: &[Item]) -> Result<(), AllocError>
-    ensures { OnOk result (string_bytes out.new ≡ string_bytes out.old ++ gap more.now) }
+fn push_gap(out: &mut Vec<u8>, more: &[Item]) -> Result<(), AllocError>
+    ensures { OnOk result (out.new.items ≡ out.old.items ++ gap more.now) }
 {
     match more {
         [] => Ok(()),
         [Item::Exit, ..] => Ok(()),
-        [_, ..] => out.push_str(" "),
+        [_, ..] => out.extend_from_slice(b" "),
     }
 }
 
 fn push_opening(
-    out: &mut String,
-    rules: &[NumberedRule],
+    out: &mut Vec<u8>,
+    names: &[Text],
     rule: u32,
     more: &[Item],
 ) -> Result<(), AllocError>
-    ensures { OnOk result (string_bytes out.new ≡ string_bytes out.old ++ opening (name_of rules.now rule) more.now) }
+    ensures { OnOk result (out.new.items ≡ out.old.items ++ opening (name_of names.now rule) more.now) }
 {
     match more {
-        [Item::Exit, ..] => push_name(out, rules, rule),
+        [Item::Exit, ..] => push_name(out, names, rule),
         _ => {
-            out.push_str("(")?;
-            push_name(out, rules, rule)?;
-            out.push_str(" ")
+            out.extend_from_slice(b"(")?;
+            push_name(out, names, rule)?;
+            out.extend_from_slice(b" ")
         }
     }
 }
 
-fn push_closing(out: &mut String, childless: bool) -> Result<(), AllocError>
-    ensures { OnOk result (string_bytes out.new ≡ string_bytes out.old ++ closing childless) }
+fn push_closing(out: &mut Vec<u8>, childless: bool) -> Result<(), AllocError>
+    ensures { OnOk result (out.new.items ≡ out.old.items ++ closing childless) }
 {
     if childless {
         return Ok(());
     }
-    out.push_str(")")
+    out.extend_from_slice(b")")
 }
 
 // Whether a node begins here.
@@ -94,20 +119,19 @@ fn begins_node(item: Item) -> bool
 }
 
 fn push_item(
-    out: &mut String,
-    rules: &[NumberedRule],
-    tokens: &[Token],
-    text: &[char],
+    out: &mut Vec<u8>,
+    names: &[Text],
+    tokens: &Tokens,
     entered: bool,
     item: Item,
     more: &[Item],
 ) -> Result<(), AllocError>
-    ensures { OnOk result (string_bytes out.new ≡ string_bytes out.old ++ item_text rules.now tokens.now text.now entered item more.now) }
+    ensures { OnOk result (out.new.items ≡ out.old.items ++ item_text names.now tokens.now entered item more.now) }
 {
     match item {
-        Item::Enter { rule, .. } => push_opening(out, rules, rule, more),
+        Item::Enter { rule, .. } => push_opening(out, names, rule, more),
         Item::Token(at) => {
-            push_token(out, tokens, text, at)?;
+            push_token(out, tokens, at)?;
             push_gap(out, more)
         }
         Item::Exit => {
@@ -117,101 +141,25 @@ fn push_item(
     }
 }
 
-/// Writes the text of a tree: `(rule child child)`, a node without children being its rule's name alone, and tokens
-/// their characters.
+/// Writes the text of a tree: `(rule child child)`, a node without children as its rule's name alone, and tokens as they are
+/// shown. The names are those of the rules from 1 on.
+///
+/// # Errors
+/// No memory.
 pub fn print(
-    out: &mut String,
+    out: &mut Vec<u8>,
     tree: &[Item],
-    rules: &[NumberedRule],
-    tokens: &[Token],
-    text: &[char],
+    names: &[Text],
+    tokens: &Tokens,
 ) -> Result<(), AllocError>
-    ensures { OnOk result (string_bytes out.new ≡ string_bytes out.old ++ tree_text rules.now tokens.now text.now tree.now) }
+    ensures { OnOk result (out.new.items ≡ out.old.items ++ tree_text names.now tokens.now tree.now) }
 {
     let mut entered = false;
     let mut rest = tree;
     while let [item, more @ ..] = rest {
-        push_item(out, rules, tokens, text, entered, *item, more)?;
+        push_item(out, names, tokens, entered, *item, more)?;
         entered = begins_node(*item);
         rest = more;
     }
     Ok(())
-}
-
-#[cfg(test)]
-mod tests {
-    use super::*;
-    use g4_base::{Place, Sequence, Text};
-    use std::alloc::Global;
-    use std::test::Fail;
-
-    fn rules_of(alloc: Global, names: &str) -> Result<Vec<NumberedRule>, Fail> {
-        let mut rules = Vec::new(alloc);
-        for name in names.split_whitespace() {
-            rules.push(NumberedRule {
-                name: Text::copy_of(alloc, name)?,
-                alternatives: Sequence::new(Vec::new(alloc)),
-            })?;
-        }
-        Ok(rules)
-    }
-
-    fn token(symbol: u32, start: usize, end: usize) -> Token {
-        Token {
-            symbol,
-            place: Place::START,
-            start,
-            end,
-        }
-    }
-
-    fn enter(rule: u32) -> Item {
-        Item::Enter {
-            rule,
-            alt: 1,
-            at: 0,
-        }
-    }
-
-    #[test]
-    fn trees(rt: HostRuntime) -> Result<(), Fail> {
-        let alloc = rt.alloc();
-        let rules = rules_of(alloc, "r s c")?;
-        let text: Vec<char> = "hello parrt\n".chars().collect(alloc)?;
-        let tokens = [
-            token(1, 0, 5),
-            token(2, 6, 11),
-            token(3, 11, 12),
-            token(EOF, 0, 5),
-        ];
-        let trees = vec![in alloc;
-            (
-                vec![in alloc; enter(1), Item::Token(0), Item::Token(1), Item::Exit]?,
-                "(r hello parrt)"
-            ),
-            (vec![in alloc; enter(1), Item::Exit]?, "r"),
-            (
-                vec![in alloc;
-                    enter(1),
-                    enter(2),
-                    Item::Token(2),
-                    Item::Exit,
-                    enter(3),
-                    Item::Exit,
-                    Item::Exit
-                ]?,
-                "(r (s \\n) c)"
-            ),
-            (
-                vec![in alloc; enter(1), enter(3), Item::Exit, Item::Token(3), Item::Exit]?,
-                "(r c <EOF>)"
-            ),
-        ]?;
-        for (tree, want) in &trees {
-            let mut out = String::new(alloc);
-            print(&mut out, tree, &rules, &tokens, &text)?;
-            assert_eq!(rt; out.as_str(), *want);
-        }
-        Ok(())
-    }
 }

@@ -1,11 +1,12 @@
 -- Sets with the same members are judged alike, so what the code finds of its lists is what the definitions say of their
 -- sets.
 use Rattle.std.proofs.Common.{inl, inr, ℕ, suc, List, [], ◌∷◌, sym, subst, Contains}
-use Rattle.g4_net.specs.declared.network.Network.{Network}
-use Rattle.g4_net.specs.Configurations.{Config, HasExactly}
+use Rattle.g4_net.specs.Network.{ParserNetwork}
+use Rattle.g4_net.specs.Configurations.{Config, HasExactly, IsRow}
 use Rattle.g4_net.specs.Lookahead.{Next, IsEmpty, IsOnly, Conflict, LoneState, Alike, IsLeast}
 use Rattle.g4_net.specs.Prediction.{Verdict, error_at, sensitive, Looked, led_to, ended, Judges, SllFrom, Choice, no_viable, Settles, FullFrom}
 use Rattle.g4_net.specs.Prediction as prediction
+use Rattle.g4_net.proofs.Rows.{row_of, row_of_is}
 use Rattle.g4_predict.specs.declared.sll.Verdict as said
 use Rattle.g4_predict.specs.declared.sll.Verdict.TheVariants.{Answer, ErrorAt, Sensitive}
 use Rattle.g4_predict.specs.declared.full.Settled.{Settled}
@@ -45,8 +46,14 @@ module _ (D E : Config → Type 0) (to : Within D E) (from : Within E D) where
   least_same : (i : ℕ) → IsLeast D i → IsLeast E i
   least_same i h = record { some = (h.some.0, to h.some.0 h.some.1, h.some.2); least = λ c x. h.least c (from c x) }
 
+-- the row of a list is one of its set
+pub row_of_set : (xs : List Config) (C : Config → Type 0) → HasExactly xs C → IsRow (row_of xs) C
+row_of_set xs C has =
+    let is = row_of_is xs in
+    record { rising = is.rising; exactly = λ d. ((λ x. (has d).0 ((is.exactly d).0 x)), λ x. (is.exactly d).1 ((has d).1 x)) }
+
 -- what leads from one set leads from a larger one
-pub next_within : (net : Network) (C D : Config → Type 0) (a : ℕ) → Within C D → Within (Next net C a) (Next net D a)
+pub next_within : (net : ParserNetwork) (C D : Config → Type 0) (a : ℕ) → Within C D → Within (Next net C a) (Next net D a)
 next_within net C D a h d (e, (c, i, t, is), r, k) = (e, (c, h c i, t, is), r, k)
 
 -- judging
@@ -55,12 +62,12 @@ judges_same D E k a L M to from on _ _ (prediction.nothing_left e) = prediction.
 judges_same D E k a L M to from on _ _ (prediction.one_left i h) = prediction.one_left i (only_same D E to from i h)
 judges_same D E k a L M to from on _ _ (prediction.gives_up n c l) =
     prediction.gives_up (λ i h. n i (only_same E D from to i h)) (conflict_same D E to from c) (λ h. l (lone_same E D from to h))
-judges_same D E k a L M to from on _ _ (prediction.goes_on v more row e n s exact l) =
+judges_same D E k a L M to from on _ _ (prediction.goes_on v more row e n s is l) =
     prediction.goes_on v more row (λ h. e (empty_same E D from to h)) (λ i h. n i (only_same E D from to i h)) (λ c h. s (conflict_same E D from to c) (λ x. h (lone_same D E to from x)))
-    (λ d. ((λ x. to d ((exact d).0 x)), λ x. (exact d).1 (from d x))) (on v more l)
+    (record { rising = is.rising; exactly = λ d. ((λ x. to d ((is.exactly d).0 x)), λ x. (is.exactly d).1 (from d x)) }) (on v more l)
 
 -- SLL
-pub sll_same : (net : Network) (C D : Config → Type 0) → Within C D → Within D C → (w : List ℕ) (k : ℕ) (v : Verdict) (looked : List Looked) → SllFrom net C w k v looked → SllFrom net D w k v looked
+pub sll_same : (net : ParserNetwork) (C D : Config → Type 0) → Within C D → Within D C → (w : List ℕ) (k : ℕ) (v : Verdict) (looked : List Looked) → SllFrom net C w k v looked → SllFrom net D w k v looked
 sll_same net C D to from [] k v looked h = h
 sll_same net C D to from (a ∷ w) k v looked h =
     let forth = next_within net C D a to in
@@ -76,7 +83,7 @@ settles_same D E k L M to from on _ (prediction.goes_on c e n s l) =
     prediction.goes_on c (λ h. e (empty_same E D from to h)) (λ i h. n i (only_same E D from to i h)) (λ h. s (alike_same E D from to h)) (on c l)
 
 -- full stacks
-pub full_same : (net : Network) (C D : Config → Type 0) → Within C D → Within D C → (w : List ℕ) (k : ℕ) (c : Choice) → FullFrom net C w k c → FullFrom net D w k c
+pub full_same : (net : ParserNetwork) (C D : Config → Type 0) → Within C D → Within D C → (w : List ℕ) (k : ℕ) (c : Choice) → FullFrom net C w k c → FullFrom net D w k c
 full_same net C D to from [] k c h = h
 full_same net C D to from (a ∷ w) k c h =
     let forth = next_within net C D a to in
@@ -84,7 +91,7 @@ full_same net C D to from (a ∷ w) k c h =
     settles_same (Next net C a) (Next net D a) k (FullFrom net (Next net C a) w (suc k)) (FullFrom net (Next net D a) w (suc k)) forth back (full_same net (Next net C a) (Next net D a) forth back w (suc k)) c h
 
 -- SLL from a set, where it ends at a list of the next set's configurations
-pub sll_ends : (net : Network) (C : Config → Type 0) (ys : List Config) (a : ℕ) (w : List ℕ) (k : ℕ) (v : said.Verdict) → HasExactly ys (Next net C a) → EndsWith (Contains ys) k v → (looked : List Looked) × SllFrom net C (a ∷ w) k (verdict_of v) looked
+pub sll_ends : (net : ParserNetwork) (C : Config → Type 0) (ys : List Config) (a : ℕ) (w : List ℕ) (k : ℕ) (v : said.Verdict) → HasExactly ys (Next net C a) → EndsWith (Contains ys) k v → (looked : List Looked) × SllFrom net C (a ∷ w) k (verdict_of v) looked
 sll_ends net C ys a w k (Answer i) has h = (_, prediction.one_left i (only_same (Contains ys) (Next net C a) (λ d. (has d).0) (λ d. (has d).1) i h))
 sll_ends net C ys a w k (ErrorAt j) has (is, e) = (
   _,
@@ -100,19 +107,19 @@ sll_ends net C ys a w k (Sensitive j) has (is, n, m) =
     )
 
 -- and where it goes on from there
-pub sll_goes_on : (net : Network) (C : Config → Type 0) (ys : List Config) (a : ℕ) (w : List ℕ) (k : ℕ) (v : Verdict) (looked : List Looked) → HasExactly ys (Next net C a) → GoesOn (Contains ys) → SllFrom net (Contains ys) w (suc k) v looked → SllFrom net C (a ∷ w) k v (record { symbol = a; led = led_to ys } ∷ looked)
+pub sll_goes_on : (net : ParserNetwork) (C : Config → Type 0) (ys : List Config) (a : ℕ) (w : List ℕ) (k : ℕ) (v : Verdict) (looked : List Looked) → HasExactly ys (Next net C a) → GoesOn (Contains ys) → SllFrom net (Contains ys) w (suc k) v looked → SllFrom net C (a ∷ w) k v (record { symbol = a; led = led_to (row_of ys) } ∷ looked)
 sll_goes_on net C ys a w k v looked has g h =
     let to : Within (Contains ys) (Next net C a) = λ d. (has d).0 in
     let from : Within (Next net C a) (Contains ys) = λ d. (has d).1 in
-    prediction.goes_on v looked ys
+    prediction.goes_on v looked (row_of ys)
     (λ e. g.some (empty_same (Next net C a) (Contains ys) from to e))
     (λ i x. g.several i (only_same (Next net C a) (Contains ys) from to i x))
     (λ c x. g.clear (record { conflict = conflict_same (Next net C a) (Contains ys) from to c; none_lone = λ y. x (lone_same (Contains ys) (Next net C a) to from y) }))
-    has
+    (row_of_set ys (Next net C a) has)
     (sll_same net (Contains ys) (Next net C a) to from w (suc k) v looked h)
 
 -- full stacks from a set, where they settle at a list of the next set's configurations
-pub full_settles : (net : Network) (C : Config → Type 0) (ys : List Config) (a : ℕ) (w : List ℕ) (k : ℕ) (s : Settled) → HasExactly ys (Next net C a) → SettlesWith (Contains ys) k s → FullFrom net C (a ∷ w) k (choice_of s)
+pub full_settles : (net : ParserNetwork) (C : Config → Type 0) (ys : List Config) (a : ℕ) (w : List ℕ) (k : ℕ) (s : Settled) → HasExactly ys (Next net C a) → SettlesWith (Contains ys) k s → FullFrom net C (a ∷ w) k (choice_of s)
 full_settles net C ys a w k (Chosen i) has (inl h) = prediction.one_left i (only_same (Contains ys) (Next net C a) (λ d. (has d).0) (λ d. (has d).1) i h)
 full_settles net C ys a w k (Chosen i) has (inr (h, l)) =
     let to : Within (Contains ys) (Next net C a) = λ d. (has d).0 in
@@ -123,7 +130,7 @@ full_settles net C ys a w k (NoViable j) has (is, e) =
     (prediction.none_left (empty_same (Contains ys) (Next net C a) (λ d. (has d).0) (λ d. (has d).1) e))
 
 -- and where they go on from there
-pub full_goes_on : (net : Network) (C : Config → Type 0) (ys : List Config) (a : ℕ) (w : List ℕ) (k : ℕ) (c : Choice) → HasExactly ys (Next net C a) → GoesOnFull (Contains ys) → FullFrom net (Contains ys) w (suc k) c → FullFrom net C (a ∷ w) k c
+pub full_goes_on : (net : ParserNetwork) (C : Config → Type 0) (ys : List Config) (a : ℕ) (w : List ℕ) (k : ℕ) (c : Choice) → HasExactly ys (Next net C a) → GoesOnFull (Contains ys) → FullFrom net (Contains ys) w (suc k) c → FullFrom net C (a ∷ w) k c
 full_goes_on net C ys a w k c has g h =
     let to : Within (Contains ys) (Next net C a) = λ d. (has d).0 in
     let from : Within (Next net C a) (Contains ys) = λ d. (has d).1 in

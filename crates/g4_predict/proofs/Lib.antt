@@ -1,6 +1,8 @@
 mod Apart
-mod Choosing
+pub mod Choosing
 mod Comparing
 mod Judging
 mod Looking
+pub mod OneChoice
+pub mod Proper
 mod Settling

@@ -1,10 +1,9 @@
 -- What holds of a set whose configurations all stand at the added rule's end, and of the alternatives that are left.
 use Rattle.std.proofs.Common.{◌≡◌, ◌≢◌, ◌⊎◌, inl, inr, ℕ, ◌+◌, ◌<◌, ◌≤◌, suc, List, [], ◌∷◌, length, refl, sym, ◌∙◌, ap, subst, arith, Contains}
-use Rattle.g4_net.specs.declared.network.Network.{Network}
 use Rattle.g4_net.specs.Configurations.{Stack, Config, config}
 use Rattle.g4_net.specs.Lookahead.{Start, Next, IsEmpty, IsOnly}
-use Rattle.g4_net.specs.Network.{IsFirst}
-use Rattle.g4_net.specs.Prediction.{Any, Verdict, error_at, answer, sensitive, Looked, Judges, SllFrom, Choice, chosen, no_viable, Settles, FullFrom}
+use Rattle.g4_net.specs.Network.{ParserNetwork, IsFirst}
+use Rattle.g4_net.specs.Prediction.{Verdict, error_at, answer, sensitive, Looked, Judges, SllFrom, Choice, chosen, no_viable, Settles, FullFrom}
 use Rattle.g4_net.specs.Prediction as prediction
 use Rattle.g4_net.proofs.Finite.{reached_keeps}
 use Rattle.g4_predict.specs.EndOfList.{GoesOn, GoesOnFull}
@@ -62,53 +61,53 @@ settled_full p z D one g = g.some (all_the_same D g.several clash)
         })
 
 -- each configuration's alternative is one of the decision's
-abbrev pub Begins : Network → ℕ → (Config → Type 0) → Type 0
+abbrev pub Begins : ParserNetwork → ℕ → (Config → Type 0) → Type 0
 Begins net d C = (c : Config) → C c → (t : ℕ) × IsFirst net d c.alt t
 
 -- so it is in the start set
-pub begins_start : (net : Network) (d : ℕ) (z : Stack) → Begins net d (Start net d Any z)
-begins_start net d z e (c, (_, first, _), r, k) = (c.state, subst (λ (i : ℕ). IsFirst net d i c.state) (reached_keeps net c e r).0 first)
+pub begins_start : (net : ParserNetwork) (d : ℕ) (A : ℕ → Type 0) (z : Stack) → Begins net d (Start net d A z)
+begins_start net d A z e (c, (_, first, _), r, k) = (c.state, subst (λ (i : ℕ). IsFirst net d i c.state) (reached_keeps net c e r).0 first)
 
 -- and in the next set, if in this one
-pub begins_next : (net : Network) (d a : ℕ) (C : Config → Type 0) → Begins net d C → Begins net d (Next net C a)
+pub begins_next : (net : ParserNetwork) (d a : ℕ) (C : Config → Type 0) → Begins net d C → Begins net d (Next net C a)
 begins_next net d a C h e (b, (c, i, t, is), r, k) =
     let first = h c i in
     let same : c.alt ≡ e.alt = sym (ap (λ (x : Config). x.alt) is) ∙ (reached_keeps net b e r).0 in
     (first.0, subst (λ (j : ℕ). IsFirst net d j first.0) same first.1)
 
 -- what a verdict says of its alternative or place
-abbrev pub Tells : Network → ℕ → ℕ → Verdict → Type 0
+abbrev pub Tells : ParserNetwork → ℕ → ℕ → Verdict → Type 0
 Tells net d bound (answer i) = (t : ℕ) × IsFirst net d i t
 Tells net d bound (error_at k) = k < bound
 Tells net d bound (sensitive k) = k < bound
 
 -- the only alternative that is left is one of the decision's
-only_first : (net : Network) (d i : ℕ) (D : Config → Type 0) → Begins net d D → IsOnly D i → (t : ℕ) × IsFirst net d i t
+only_first : (net : ParserNetwork) (d i : ℕ) (D : Config → Type 0) → Begins net d D → IsOnly D i → (t : ℕ) × IsFirst net d i t
 only_first net d i D h o =
     let first = h o.some.0 o.some.1 in
     (first.0, subst (λ (j : ℕ). IsFirst net d j first.0) (o.all o.some.0 o.some.1) first.1)
 
 -- a verdict on such a set tells it, if what is said later does
-judge_tells : (net : Network) (d k a bound : ℕ) (D : Config → Type 0) (Later : Verdict → List Looked → Type 0) → k < bound → Begins net d D → ((v : Verdict) (more : List Looked) → Later v more → Tells net d bound v) → (v : Verdict) (looked : List Looked) → Judges D k a Later v looked → Tells net d bound v
+judge_tells : (net : ParserNetwork) (d k a bound : ℕ) (D : Config → Type 0) (Later : Verdict → List Looked → Type 0) → k < bound → Begins net d D → ((v : Verdict) (more : List Looked) → Later v more → Tells net d bound v) → (v : Verdict) (looked : List Looked) → Judges D k a Later v looked → Tells net d bound v
 judge_tells net d k a bound D Later less h later _ _ (prediction.nothing_left e) = less
 judge_tells net d k a bound D Later less h later _ _ (prediction.one_left i o) = only_first net d i D h o
 judge_tells net d k a bound D Later less h later _ _ (prediction.gives_up n c l) = less
 judge_tells net d k a bound D Later less h later _ _ (prediction.goes_on v more row e n s has l) = later v more l
 
 -- the alternative that SLL answers is one of the decision's, and an error is within the word
-pub sll_tells : (net : Network) (d : ℕ) (C : Config → Type 0) → Begins net d C → (w : List ℕ) (k bound : ℕ) → k + length w ≤ bound → (v : Verdict) (looked : List Looked) → SllFrom net C w k v looked → Tells net d bound v
+pub sll_tells : (net : ParserNetwork) (d : ℕ) (C : Config → Type 0) → Begins net d C → (w : List ℕ) (k bound : ℕ) → k + length w ≤ bound → (v : Verdict) (looked : List Looked) → SllFrom net C w k v looked → Tells net d bound v
 sll_tells net d C h [] k bound less v looked s = absurd s
 sll_tells net d C h (a ∷ w) k bound less v looked s =
     judge_tells net d k a bound (Next net C a) (SllFrom net (Next net C a) w (suc k)) (omega arith) (begins_next net d a C h)
     (sll_tells net d (Next net C a) (begins_next net d a C h) w (suc k) bound (omega arith)) v looked s
 
 -- what a choice says of its alternative or place
-abbrev pub Shows : Network → ℕ → ℕ → Choice → Type 0
+abbrev pub Shows : ParserNetwork → ℕ → ℕ → Choice → Type 0
 Shows net d bound (chosen i) = (t : ℕ) × IsFirst net d i t
 Shows net d bound (no_viable k) = k < bound
 
 -- a choice on such a set shows it, if what is said later does
-settles_shows : (net : Network) (d k bound : ℕ) (D : Config → Type 0) (Later : Choice → Type 0) → k < bound → Begins net d D → ((c : Choice) → Later c → Shows net d bound c) → (c : Choice) → Settles D k Later c → Shows net d bound c
+settles_shows : (net : ParserNetwork) (d k bound : ℕ) (D : Config → Type 0) (Later : Choice → Type 0) → k < bound → Begins net d D → ((c : Choice) → Later c → Shows net d bound c) → (c : Choice) → Settles D k Later c → Shows net d bound c
 settles_shows net d k bound D Later less h later _ (prediction.none_left e) = less
 settles_shows net d k bound D Later less h later _ (prediction.one_left i o) = only_first net d i D h o
 settles_shows net d k bound D Later less h later _ (prediction.least i alike l) =
@@ -117,7 +116,7 @@ settles_shows net d k bound D Later less h later _ (prediction.least i alike l) 
 settles_shows net d k bound D Later less h later _ (prediction.goes_on c e n s l) = later c l
 
 -- the same of full stacks
-pub full_shows : (net : Network) (d : ℕ) (C : Config → Type 0) → Begins net d C → (w : List ℕ) (k bound : ℕ) → k + length w ≤ bound → (c : Choice) → FullFrom net C w k c → Shows net d bound c
+pub full_shows : (net : ParserNetwork) (d : ℕ) (C : Config → Type 0) → Begins net d C → (w : List ℕ) (k bound : ℕ) → k + length w ≤ bound → (c : Choice) → FullFrom net C w k c → Shows net d bound c
 full_shows net d C h [] k bound less c s = absurd s
 full_shows net d C h (a ∷ w) k bound less c s =
     settles_shows net d k bound (Next net C a) (FullFrom net (Next net C a) w (suc k)) (omega arith) (begins_next net d a C h)

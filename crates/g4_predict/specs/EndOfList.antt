@@ -1,11 +1,11 @@
 -- What is looked at up to the end of the token list.
 use Rattle.std.specs.Prelude.{ℕ, List, [], ◌∷◌}
-use Rattle.g4_net.specs.declared.network.Network.{Network}
+use Rattle.g4_net.specs.Network.{ParserNetwork}
 use Rattle.g4_net.specs.Configurations.{Config}
 use Rattle.g4_net.specs.Lookahead.{Next, IsEmpty, IsOnly, Conflict, LoneState, Alike}
 
 -- the set after a word
-abbrev pub After : Network → (Config → Type 0) → List ℕ → Config → Type 0
+abbrev pub After : ParserNetwork → (Config → Type 0) → List ℕ → Config → Type 0
 After net C [] = C
 After net C (a ∷ w) = After net (Next net C a) w
 

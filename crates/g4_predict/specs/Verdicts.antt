@@ -10,7 +10,7 @@ use Rattle.g4_predict.specs.declared.sll.Verdict.TheVariants.{Answer, ErrorAt, S
 use Rattle.g4_predict.specs.declared.full.Settled.{Settled}
 use Rattle.g4_predict.specs.declared.full.Settled.TheVariants.{Chosen, NoViable}
 
--- what is said
+-- the verdict of the code
 abbrev pub verdict_of : Verdict → prediction.Verdict
 verdict_of (Answer i) = answer i
 verdict_of (ErrorAt k) = error_at k

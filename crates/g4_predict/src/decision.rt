@@ -1,14 +1,17 @@
-// The alternative that prediction says at a decision.
-ghost use Rattle.std.specs.Prelude.{◌≡◌, ◌<◌, ◌^◌, ℕ, List, Some, All, length, drop, IfOk, reverse};
-ghost use Rattle.g4_net.specs.AddedRule.{IsRunnable, StandsApart};
+// The alternative that prediction chooses at a decision.
+ghost use Rattle.std.specs.Prelude.{◌≡◌, ◌<◌, ◌^◌, ℕ, List, Some, length, drop, IfOk, reverse};
+ghost use Rattle.g4_net.specs.AddedRule.{IsReady};
+ghost use Rattle.g4_net.specs.Allowed.{Allows};
 ghost use Rattle.g4_net.specs.declared.network.State.TheVariants.{Decision};
 ghost use Rattle.g4_net.specs.Network.{state_at};
-ghost use Rattle.g4_net.specs.TokenList.{EndsInEnd, word_of};
+ghost use Rattle.g4_net.specs.Proper.{IsProper};
+ghost use Rattle.g4_token_list.specs.TokenList.{EndsInEnd, word_of};
 ghost use Rattle.g4_predict.specs.Deciding.{IsDecided};
 
 use crate::full::{self, Settled};
 use crate::sll::{self, Verdict};
-use g4_net::{Network, Token};
+use g4_net::{Allowed, ParserNetwork};
+use g4_token_list::Token;
 use std::alloc::{AllocError, Global};
 
 /// Why a decision has no alternative.
@@ -39,23 +42,28 @@ fn newest_first(alloc: Global, returns: &[u32]) -> Result<Vec<u32>, AllocError>
     Ok(stack)
 }
 
-/// The alternative, counted from 1, that prediction says at a decision, with the return states of the parser's stack, newest
-/// last, on the tokens from a place on.
+/// The alternative, counted from 1, that prediction chooses at a decision, over the allowed ones and with the return states of
+/// the parser's stack, newest last, on the tokens from a place on. No alternative begins with a predicate or a level so far,
+/// so the choice is the same whatever is allowed.
+///
+/// # Errors
+/// No alternative is viable, or no memory.
 pub fn decide(
     alloc: Global,
-    net: &Network,
+    net: &ParserNetwork,
     decision: u32,
+    allowed: &Allowed,
     returns: &[u32],
     tokens: &[Token],
     from: u32,
 ) -> Result<u32, DecideFault>
-    requires runnable { (rule : ℕ) × (loop : ℕ) × IsRunnable net.now rule loop × StandsApart loop decision (reverse returns.now) }
-    requires within { All (λ t. t < length net.now.states) returns.now }
+    requires ready { IsReady net.now }
+    requires proper { IsProper net.now decision (reverse returns.now) }
     requires decides { (targets : List ℕ) × (state_at net.now decision ≡ Some (Decision targets)) }
     requires ends { EndsInEnd (word_of tokens.now) }
     requires more { from < length tokens.now }
     requires few { length tokens.now < 2 ^ 32 }
-    ensures { IsDecided net.now decision (reverse returns.now) (drop from (word_of tokens.now)) from result }
+    ensures { IsDecided net.now decision (Allows allowed.now) (reverse returns.now) (drop from (word_of tokens.now)) from result }
 {
     let rest = &tokens[from as usize..];
     match sll::simulate(alloc, net, decision, rest)? {

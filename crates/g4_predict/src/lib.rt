@@ -6,6 +6,10 @@ mod decision;
 mod full;
 mod law;
 mod sll;
+#[cfg(test)]
+mod tests;
+#[cfg(test)]
+mod walk;
 
 pub use decision::{DecideFault, decide};
-pub use law::no_decision_goes_past_end;
+pub use law::{no_decision_goes_past_end, one_verdict};

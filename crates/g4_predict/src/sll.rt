@@ -1,15 +1,16 @@
 // SLL: looking ahead from a decision as if any rule had called the one that is open.
 ghost use Rattle.std.specs.Prelude.{◌<◌, ◌^◌, ◌↔◌, Contains, IfOk, IsTrue, MatchOption, length};
-ghost use Rattle.g4_base.specs.Symbols.{end_of_list};
+ghost use Rattle.g4_symbols.specs.Symbols.{end_of_list};
 ghost use Rattle.g4_net.specs.AddedRule.{IsReady};
-ghost use Rattle.g4_net.specs.Prediction.{Path, Sll};
-ghost use Rattle.g4_net.specs.TokenList.{word_of};
+ghost use Rattle.g4_net.specs.Prediction.{Any, Path, Sll};
+ghost use Rattle.g4_token_list.specs.TokenList.{word_of};
 ghost use Rattle.g4_predict.specs.EndOfList.{GoesOn, Matters};
 ghost use Rattle.g4_predict.specs.Verdicts.{EndsWith, verdict_of};
 
 use crate::conflict::{conflict, lone_state, only};
 use g4_closure::{Configuration, next, start};
-use g4_net::{Network, Token};
+use g4_net::{Allowed, ParserNetwork};
+use g4_token_list::Token;
 use std::alloc::{AllocError, Global};
 
 /// What SLL says at a decision. Symbols count from 0, the decision's first.
@@ -52,16 +53,16 @@ fn judge(configurations: &[Configuration], k: u32) -> Option<Verdict>
 /// The SLL verdict of a decision on the tokens from it on.
 pub fn simulate(
     alloc: Global,
-    net: &Network,
+    net: &ParserNetwork,
     decision: u32,
     tokens: &[Token],
 ) -> Result<Verdict, AllocError>
     requires ready { IsReady net.now }
     requires ends { Contains (word_of tokens.now) end_of_list }
     requires few { length tokens.now < 2 ^ 32 }
-    ensures { IfOk result (λ verdict. (path : Path) × Sll net.now decision (word_of tokens.now) (verdict_of verdict) path) }
+    ensures { IfOk result (λ verdict. (path : Path) × Sll net.now decision Any (word_of tokens.now) (verdict_of verdict) path) }
 {
-    let mut configurations = start(alloc, net, decision, &[], true)?;
+    let mut configurations = start(alloc, net, decision, &Allowed::Every, &[], true)?;
     for (k, token) in tokens.iter().enumerate() {
         configurations = next(alloc, net, configurations.as_slice(), token.symbol)?;
         if let Some(verdict) = judge(configurations.as_slice(), k as u32) {

@@ -1,6 +1,7 @@
-use Rattle.std.proofs.Common.{◌≡◌, ◌++◌, ◌+◌, drop}
-use Rattle.g4_closure.specs.Steps.{first_configs}
+use Rattle.g4_net.specs.Allowed.{Allows}
+use Rattle.g4_net.specs.Configurations.{HasExactly}
+use Rattle.g4_closure.specs.Steps.{FirstsBelow}
 use Rattle.g4_closure.proofs.lookahead.first_configurations.Given as goal
 
 abbrev pub invariant-loop-before : goal.invariant-loop-before
-invariant-loop-before l = l.found.items ++ first_configs l.returns l.wild (l.before + 1) (drop l.before l.targets) ≡ first_configs l.returns l.wild 1 l.targets
+invariant-loop-before l = HasExactly l.found.items (FirstsBelow (Allows l.allowed) (record { returns = l.returns; wild = l.wild }) l.targets l.before)

@@ -1,5 +1,5 @@
 use Rattle.std.proofs.Common.{List, refl, sym, subst}
-use Rattle.g4_net.specs.TokenList.{word_of}
+use Rattle.g4_token_list.specs.TokenList.{word_of}
 use Rattle.g4_parse.specs.declared.tree.Item.{Item}
 use Rattle.g4_parse.specs.Running.{parsed}
 use Rattle.g4_parse.specs.Parsing.{Ends}
@@ -7,7 +7,7 @@ use Rattle.g4_parse.proofs.Onward.{begun_onward, state_within, underway, turn_on
 use Rattle.g4_parse.proofs.parser.parse.Goals as goal
 
 pub run-init : goal.run-init
-run-init c = begun_onward c.args.net.now c.requires.ready.0 c.requires.ready.1 (word_of c.args.tokens.now) c.new-parser.result c.requires.ready.2 c.requires.ends c.new-parser.ensures
+run-init c = begun_onward c.args.net.now c.requires.ready.0 c.requires.ready.1 c.requires.ready.2 (word_of c.args.tokens.now) c.new-parser.result c.requires.ready.3 c.requires.ends c.new-parser.ensures
 
 pub has_ended-requires : goal.has_ended-requires
 has_ended-requires c = state_within c.args.net.now (word_of c.args.tokens.now) c.run.parser c.run.invariant

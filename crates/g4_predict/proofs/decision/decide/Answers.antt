@@ -1,6 +1,7 @@
-use Rattle.std.proofs.Common.{◌≡◌, reverse, ◌+◌, ◌<◌, ◌∙◌, ℕ, List, All, length, refl, sym, subst, arith}
-use Rattle.g4_net.specs.AddedRule.{StandsApart}
-use Rattle.g4_predict.proofs.Choosing.{ends_ahead, answered, failed, failed_within, settled_on, settled_none, settled_within, all_reverse}
+use Rattle.std.proofs.Common.{◌≡◌, reverse, ◌+◌, ◌<◌, ◌∙◌, ℕ, List, length, refl, sym, subst, arith}
+use Rattle.g4_net.specs.Allowed.{Allows}
+use Rattle.g4_net.specs.Proper.{IsProper}
+use Rattle.g4_predict.proofs.Choosing.{ends_ahead, answered, failed, failed_within, settled_on, settled_none, settled_within}
 use Rattle.g4_predict.proofs.decision.decide.Goals as goal
 
 pub simulate-requires-clause-ends : goal.simulate-requires-clause-ends
@@ -20,39 +21,33 @@ overflow_add-result-in-NoViable c =
     let less : c.args.from + c.in-NoViable.k < length c.args.tokens.now = settled_within c.args.net.now c.args.decision c.args.from c.in-NoViable.k (reverse c.args.returns.now) c.args.tokens.now c.in_ok-alternative-in-Sensitive.field-0 c.requires.more c.in-NoViable.is (rw stack at c.in_ok-alternative-in-Sensitive.ensures) in
     omega (arith, c.requires.few)
 
-pub simulate-requires-in-Sensitive-clause-runnable : goal.simulate-requires-in-Sensitive-clause-runnable
-simulate-requires-in-Sensitive-clause-runnable c =
+pub simulate-requires-in-Sensitive-clause-proper : goal.simulate-requires-in-Sensitive-clause-proper
+simulate-requires-in-Sensitive-clause-proper c =
     let stack : c.as_slice.result.now ≡ reverse c.args.returns.now = c.as_slice.ensures.value ∙ c.in_ok-stack-in-Sensitive.ensures in
-    let r = c.requires.runnable in
-    (r.0, r.1, r.2, subst (λ (bs : List ℕ). StandsApart r.1 c.args.decision bs) (sym stack) r.3)
-
-pub simulate-requires-in-Sensitive-clause-within : goal.simulate-requires-in-Sensitive-clause-within
-simulate-requires-in-Sensitive-clause-within c =
-    let stack : c.as_slice.result.now ≡ reverse c.args.returns.now = c.as_slice.ensures.value ∙ c.in_ok-stack-in-Sensitive.ensures in
-    subst (λ (bs : List ℕ). All (λ t. t < length c.args.net.now.states) bs) (sym stack) (all_reverse (λ t. t < length c.args.net.now.states) c.args.returns.now c.requires.within)
+    subst (λ (bs : List ℕ). IsProper c.args.net.now c.args.decision bs) (sym stack) c.requires.proper
 
 pub returns-in-Answer : goal.returns-in-Answer
 returns-in-Answer c =
-    answered c.args.net.now c.args.decision c.args.from c.in-Answer.alternative (reverse c.args.returns.now) c.args.tokens.now c.in_ok-alternative.field-0 c.requires.runnable c.in-Answer.is c.in_ok-alternative.ensures
+    answered c.args.net.now c.args.decision c.args.from c.in-Answer.alternative (Allows c.args.allowed.now) (reverse c.args.returns.now) c.args.tokens.now c.in_ok-alternative.field-0 c.requires.ready c.in-Answer.is c.in_ok-alternative.ensures
 
 pub returns-in-ErrorAt : goal.returns-in-ErrorAt
 returns-in-ErrorAt c = (
   c.in-ErrorAt.k,
-  failed c.args.net.now c.args.decision c.args.from c.in-ErrorAt.k (reverse c.args.returns.now) c.args.tokens.now c.in_ok-alternative.field-0 c.requires.runnable c.in-ErrorAt.is c.in_ok-alternative.ensures,
+  failed c.args.net.now c.args.decision c.args.from c.in-ErrorAt.k (Allows c.args.allowed.now) (reverse c.args.returns.now) c.args.tokens.now c.in_ok-alternative.field-0 c.requires.ready c.in-ErrorAt.is c.in_ok-alternative.ensures,
   refl,
 )
 
 pub returns-in-Chosen : goal.returns-in-Chosen
 returns-in-Chosen c =
     let stack : c.as_slice.result.now ≡ reverse c.args.returns.now = c.as_slice.ensures.value ∙ c.in_ok-stack-in-Sensitive.ensures in
-    settled_on c.args.net.now c.args.decision c.args.from c.in-Sensitive.field-0 c.in-Chosen.alternative (reverse c.args.returns.now) c.args.tokens.now c.in_ok-alternative.field-0 c.in_ok-alternative-in-Sensitive.field-0
-    c.requires.runnable c.in-Sensitive.is c.in_ok-alternative.ensures c.in-Chosen.is (rw stack at c.in_ok-alternative-in-Sensitive.ensures)
+    settled_on c.args.net.now c.args.decision c.args.from c.in-Sensitive.field-0 c.in-Chosen.alternative (Allows c.args.allowed.now) (reverse c.args.returns.now) c.args.tokens.now c.in_ok-alternative.field-0 c.in_ok-alternative-in-Sensitive.field-0
+    c.requires.ready c.in-Sensitive.is c.in_ok-alternative.ensures c.in-Chosen.is (rw stack at c.in_ok-alternative-in-Sensitive.ensures)
 
 pub returns : goal.returns
 returns c =
     let stack : c.as_slice.result.now ≡ reverse c.args.returns.now = c.as_slice.ensures.value ∙ c.in_ok-stack-in-Sensitive.ensures in (
       c.in-NoViable.k,
-      settled_none c.args.net.now c.args.decision c.args.from c.in-Sensitive.field-0 c.in-NoViable.k (reverse c.args.returns.now) c.args.tokens.now c.in_ok-alternative.field-0 c.in_ok-alternative-in-Sensitive.field-0
-          c.requires.runnable c.in-Sensitive.is c.in_ok-alternative.ensures c.in-NoViable.is (rw stack at c.in_ok-alternative-in-Sensitive.ensures),
+      settled_none c.args.net.now c.args.decision c.args.from c.in-Sensitive.field-0 c.in-NoViable.k (Allows c.args.allowed.now) (reverse c.args.returns.now) c.args.tokens.now c.in_ok-alternative.field-0 c.in_ok-alternative-in-Sensitive.field-0
+          c.requires.ready c.in-Sensitive.is c.in_ok-alternative.ensures c.in-NoViable.is (rw stack at c.in_ok-alternative-in-Sensitive.ensures),
       refl,
     )

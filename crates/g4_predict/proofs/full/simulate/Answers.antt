@@ -1,10 +1,14 @@
 use Rattle.g4_net.specs.Configurations.{above_bottom}
 use Rattle.g4_predict.proofs.Looking.{settling_start, settling_next, settled}
+use Rattle.g4_predict.proofs.Proper.{proper_within}
 use Rattle.g4_predict.proofs.full.simulate.Goals as goal
+
+pub start-requires-clause-within : goal.start-requires-clause-within
+start-requires-clause-within c = proper_within c.args.net.now c.args.decision c.args.returns.now c.requires.ready.3.well_formed c.requires.proper
 
 pub loop-k-init : goal.loop-k-init
 loop-k-init c =
-    settling_start c.args.net.now c.args.decision (above_bottom c.args.returns.now) c.args.tokens.now c.in_ok-configurations.configurations.items c.requires.runnable c.in_ok-configurations.ensures.members c.in_ok-configurations.ensures.within c.requires.ends
+    settling_start c.args.net.now c.args.decision c.args.returns.now c.args.tokens.now c.in_ok-configurations.configurations.items c.requires.ready c.requires.proper c.in_ok-configurations.ensures.members c.in_ok-configurations.ensures.within c.requires.ends
 
 pub loop-k-preserved : goal.loop-k-preserved
 loop-k-preserved c =

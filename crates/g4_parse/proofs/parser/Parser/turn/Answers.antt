@@ -1,22 +1,27 @@
-use Rattle.std.proofs.Common.{◌∙◌, ℕ, List, ap, sym, refl}
+use Rattle.std.proofs.Common.{◌∙◌, ℕ, List, ap, refl}
 use Rattle.std.specs.Prelude.{Some, Ok}
 use Rattle.g4_net.specs.declared.network.State.{State}
-use Rattle.g4_net.specs.declared.network.State.TheVariants.{Call, Token, End, Empty}
-use Rattle.g4_net.specs.TokenList.{word_of}
+use Rattle.g4_net.specs.declared.network.State.TheVariants.{Call, End, Action, Empty}
+use Rattle.g4_token_list.specs.TokenList.{word_of}
 use Rattle.g4_parse.specs.Running.{Run}
 use Rattle.g4_parse.proofs.Turns.{turned}
 use Rattle.g4_parse.proofs.parser.Parser.turn.Goals as goal
 
 pub returns-in-Call : goal.returns-in-Call
-returns-in-Call c = λ r h. turned c.args.net.now (word_of c.args.tokens.now) r c.args.self.now _ (Call c.in-Call.rule c.in-Call.level c.in-Call.back) _ h (c.state_of.ensures ∙ ap (λ (s : State). Some s) c.in-Call.is) (c.call.ensures (word_of c.args.tokens.now) c.in-Call.level r h)
+returns-in-Call c = λ r h. turned c.args.net.now (word_of c.args.tokens.now) r c.args.self.now _ (Call c.in-Call.rule c.in-Call.level c.in-Call.back) _ h (c.state_of.ensures ∙ ap (λ (s : State (List ℕ)). Some s) c.in-Call.is) (c.call.ensures (word_of c.args.tokens.now) c.in-Call.level r h)
 
 pub returns-in-End : goal.returns-in-End
-returns-in-End c = λ r h. turned c.args.net.now (word_of c.args.tokens.now) r c.args.self.now _ (End c.in-End.field-0) _ h (c.state_of.ensures ∙ ap (λ (s : State). Some s) c.in-End.is) (c.close.ensures c.args.net.now (word_of c.args.tokens.now) c.in-End.field-0 r h)
+returns-in-End c = λ r h. turned c.args.net.now (word_of c.args.tokens.now) r c.args.self.now _ (End c.in-End.field-0) _ h (c.state_of.ensures ∙ ap (λ (s : State (List ℕ)). Some s) c.in-End.is) (c.close.ensures c.args.net.now (word_of c.args.tokens.now) c.in-End.field-0 r h)
 
-pub returns-in-Token : goal.returns-in-Token
-returns-in-Token c = λ r h. turned c.args.net.now (word_of c.args.tokens.now) r c.args.self.now _ (Token c.as_slice.result.now c.in-Token.target) _ h (c.state_of.ensures ∙ ap (λ (s : State). Some s) c.in-Token.is ∙ ap (λ (set : List ℕ). Some (Token set c.in-Token.target)) (sym c.as_slice.ensures)) (c.take.ensures c.args.net.now r h)
+pub returns-in-Edge : goal.returns-in-Edge
+returns-in-Edge c = λ r h. turned c.args.net.now (word_of c.args.tokens.now) r c.args.self.now _ _ _ h (c.state_of.ensures ∙ ap (λ (s : State (List ℕ)). Some s) c.in-Edge.is) (c.take.ensures c.args.net.now r h)
+
+pub returns-in-Action : goal.returns-in-Action
+returns-in-Action c = λ r h.
+    let after : Run = record { state = c.in-Action.target; place = r.place; frames = r.frames; tree = r.tree } in
+    turned c.args.net.now (word_of c.args.tokens.now) r c.args.self.now _ (Action c.in-Action.target) (Ok tt) h (c.state_of.ensures ∙ ap (λ (s : State (List ℕ)). Some s) c.in-Action.is) (after, refl, record { state = refl; place = h.place; returns = h.returns; enters = h.enters; items = h.items })
 
 pub returns-in-Empty : goal.returns-in-Empty
 returns-in-Empty c = λ r h.
     let after : Run = record { state = c.in-Empty.target; place = r.place; frames = r.frames; tree = r.tree } in
-    turned c.args.net.now (word_of c.args.tokens.now) r c.args.self.now _ (Empty c.in-Empty.target) (Ok tt) h (c.state_of.ensures ∙ ap (λ (s : State). Some s) c.in-Empty.is) (after, refl, record { state = refl; place = h.place; returns = h.returns; enters = h.enters; items = h.items })
+    turned c.args.net.now (word_of c.args.tokens.now) r c.args.self.now _ (Empty c.in-Empty.target) (Ok tt) h (c.state_of.ensures ∙ ap (λ (s : State (List ℕ)). Some s) c.in-Empty.is) (after, refl, record { state = refl; place = h.place; returns = h.returns; enters = h.enters; items = h.items })
