@@ -78,6 +78,17 @@ impl CharSet {
         &self.ranges
     }
 
+    /// The same set.
+    ///
+    /// # Errors
+    /// No memory.
+    pub fn copy_of(&self, alloc: Global) -> Result<CharSet, AllocError>
+        ensures { IfOk result (λ copy. copy ≡ self.now) }
+    {
+        let ranges = self.ranges.as_slice().to_vec(alloc)?;
+        Ok(CharSet { ranges })
+    }
+
     /// Whether no character is in the set.
     pub fn is_empty(&self) -> bool
         ensures { IsTrue result ↔ ((c : ℕ) → Has self.now c → ⊥) }

@@ -12,7 +12,7 @@ use Rattle.g4_tokens.specs.contracts.token.Kind.{the_type}
 use Rattle.g4_tokens.specs.declared.token.Kind.{Kind}
 use Rattle.g4_tokens.specs.declared.token.Kind.TheVariants as kinds
 use Rattle.g4_tokens.specs.declared.token.Token.{Token}
-use Rattle.g4_source.specs.declared.name.Name.{Name}
+use Rattle.g4_elements.specs.declared.name.Name.{Name}
 use Rattle.g4_syntax.specs.Notation.{number_of, is_kind, Expression, word}
 use Rattle.g4_syntax.specs.Trees.{begins_there}
 use Rattle.g4_prequels.specs.Parts.{IsPart, AreParts, each_is}

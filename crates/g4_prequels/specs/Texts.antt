@@ -3,8 +3,8 @@ use Rattle.std.specs.Prelude.{ℕ, ◌-◌, List, take, drop, map}
 use Rattle.std.specs.Str.{chars}
 use Rattle.g4_tokens.specs.Spelling.{literal_spelling}
 use Rattle.g4_tokens.specs.declared.token.Token.{Token}
-use Rattle.g4_grammar.specs.declared.grammar.Literal.{Literal}
-use Rattle.g4_source.specs.declared.name.Name.{Name}
+use Rattle.g4_source.specs.declared.atom.Literal.{Literal}
+use Rattle.g4_elements.specs.declared.name.Name.{Name}
 use Rattle.g4_syntax.specs.Notation.{Spelled, Terminal, one}
 use Rattle.g4_syntax.specs.Trees.{Tree, leaf}
 

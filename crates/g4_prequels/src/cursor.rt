@@ -10,8 +10,8 @@ ghost use Rattle.g4_prequels.specs.Texts.{token_of, text_of, name_of, literal_of
 use crate::spelling::{literal, part, token_at, written};
 use crate::stop::Stop;
 use g4_base::{Place, Text};
-use g4_grammar::Literal;
-use g4_source::Name;
+use g4_elements::Name;
+use g4_source::Literal;
 use g4_tokens::{Kind, Token};
 use std::alloc::Global;
 

@@ -5,7 +5,7 @@ ghost use Rattle.g4_prequels.specs.Texts.{bytes_of, characters_of};
 ghost use Rattle.g4_prequels.specs.Parts.{IsPart};
 
 use g4_base::Text;
-use g4_grammar::Literal;
+use g4_source::Literal;
 use g4_tokens::{Token, literal_characters};
 use std::alloc::{AllocError, Global};
 

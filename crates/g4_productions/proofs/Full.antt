@@ -1,13 +1,17 @@
 -- Each rule and each block of a grammar text has an alternative.
 use Rattle.std.proofs.Common.{map, Option}
 use Rattle.g4_tokens.specs.declared.token.Kind.TheVariants as kinds
-use Rattle.g4_source.specs.declared.element.Label.{Label}
-use Rattle.g4_source.specs.Blocks.{IsFull, ItemIsFull, AreFull, EachIsFull, AreFullAlternatives, LexerRuleIsFull, RulesAreFull, LexerRulesAreFull, ModesAreFull, HaveAlternatives}
-use Rattle.g4_source.specs.Elements.{in_order, either}
+use Rattle.g4_elements.specs.declared.name.Label.{Label}
+use Rattle.g4_elements.specs.Blocks.{IsSome, IsFull, AreFull, EachIsFull, AreFullAlternatives}
+use Rattle.g4_elements.specs.Elements.{either}
+use Rattle.g4_elements.specs.Trees.{in_order}
+use Rattle.g4_elements.specs.declared.element.Repeat.{Repeat}
+use Rattle.g4_elements.specs.declared.element.Repeat.TheVariants as repeats
+use Rattle.g4_source.specs.Blocks.{LexerRuleIsFull, RulesAreFull, LexerRulesAreFull, ModesAreFull, HaveAlternatives}
 use Rattle.g4_syntax.specs.Notation.{element, lexer_element, ◌▸◌, ◌∣◌, repeated, part, sign}
 use Rattle.g4_syntax.specs.Productions.{action, alternative, unnamed_item, item, labelled_item, unnamed_lexer_item, lexer_item, labelled_lexer_item, rule_alternative, parser_rule, lexer_alternative, lexer_rule, mode, grammar}
 use Rattle.g4_syntax.specs.Trees.{Tree, both, left, right, absent, present, end, more, inner}
-use Rattle.g4_productions.specs.Elements.{action_of}
+use Rattle.g4_productions.specs.Elements.{Labelled, single, brackets, with_suffix, optional_suffix_of, action_of}
 use Rattle.g4_productions.specs.ParserElements.{parser_element, parser_elements, labelled, named_item, unnamed, alternative_elements, alternatives_behind}
 use Rattle.g4_productions.specs.LexerElements.{lexer_element_of, lexer_elements, labelled_lexer, named_lexer_item, unnamed_lexer, lexer_alternatives_behind}
 use Rattle.g4_productions.specs.Rules.{rule_alternatives_behind, parser_rule_of, rule_lexer_alternatives_behind, lexer_rule_of, lexer_rules, combined_rules, default_rules, parser_rules, modes_of}
@@ -18,25 +22,38 @@ action_full : (a : Tree action) → IsFull (action_of a)
 action_full (both a absent) = tt
 action_full (both a (present (both question options))) = tt
 
+-- brackets have an alternative, and each block in them
+abbrev LabelledIsFull : Labelled → Type 0
+LabelledIsFull (single a) = Unit {0}
+LabelledIsFull (brackets label alternatives) = IsSome alternatives × EachIsFull alternatives
+
+-- an element with a sign or without one
+suffix_full : (x : Labelled) (r : Repeat) → LabelledIsFull x → IsFull (with_suffix x r)
+suffix_full (single a) repeats.Once full = tt
+suffix_full (single a) (repeats.Optional s) full = (tt, ((tt, tt), tt))
+suffix_full (single a) (repeats.Star s) full = (tt, ((tt, tt), tt))
+suffix_full (single a) (repeats.Plus s) full = (tt, ((tt, tt), tt))
+suffix_full (brackets label alternatives) r full = full
+
 mutual
   -- an element of a parser rule
   parser_full : (x : Tree (part element)) → IsFull (parser_element x)
   parser_full (inner (left a)) = action_full a
-  parser_full (inner (right (both x s))) = labelled_full x
+  parser_full (inner (right (both x s))) = suffix_full (labelled x) (optional_suffix_of s) (labelled_full x)
 
-  labelled_full : (x : Tree labelled_item) → ItemIsFull (labelled x).item
+  labelled_full : (x : Tree labelled_item) → LabelledIsFull (labelled x)
   labelled_full (left (both n (left (both a i)))) = named_full _ i
   labelled_full (left (both n (right (both arguments options)))) = tt
   labelled_full (right (left (both n (left (both a i))))) = named_full _ i
   labelled_full (right (left (both n (right options)))) = tt
   labelled_full (right (right u)) = unnamed_full _ u
 
-  named_full : (l : Option Label) (i : Tree item) → ItemIsFull (named_item l i).item
+  named_full : (l : Option Label) (i : Tree item) → LabelledIsFull (named_item l i)
   named_full l (left (both n (both arguments options))) = tt
   named_full l (right (left (both n options))) = tt
   named_full l (right (right u)) = unnamed_full l u
 
-  unnamed_full : (l : Option Label) (u : Tree unnamed_item) → ItemIsFull (unnamed l u).item
+  unnamed_full : (l : Option Label) (u : Tree unnamed_item) → LabelledIsFull (unnamed l u)
   unnamed_full l (left (both literal options)) = tt
   unnamed_full l (right (left (both dot options))) = tt
   unnamed_full l (right (right (left (both tilde s)))) = tt
@@ -59,19 +76,19 @@ mutual
   -- an element of a lexer rule
   lexer_full : (x : Tree (part lexer_element)) → IsFull (lexer_element_of x)
   lexer_full (inner (left a)) = action_full a
-  lexer_full (inner (right (both x s))) = labelled_lexer_full x
+  lexer_full (inner (right (both x s))) = suffix_full (labelled_lexer x) (optional_suffix_of s) (labelled_lexer_full x)
 
-  labelled_lexer_full : (x : Tree labelled_lexer_item) → ItemIsFull (labelled_lexer x).item
+  labelled_lexer_full : (x : Tree labelled_lexer_item) → LabelledIsFull (labelled_lexer x)
   labelled_lexer_full (left (both n (both a i))) = named_lexer_full _ i
   labelled_lexer_full (right (left (both n (left (both a i))))) = named_lexer_full _ i
   labelled_lexer_full (right (left (both n (right options)))) = tt
   labelled_lexer_full (right (right u)) = unnamed_lexer_full _ u
 
-  named_lexer_full : (l : Option Label) (i : Tree lexer_item) → ItemIsFull (named_lexer_item l i).item
+  named_lexer_full : (l : Option Label) (i : Tree lexer_item) → LabelledIsFull (named_lexer_item l i)
   named_lexer_full l (left (both n options)) = tt
   named_lexer_full l (right u) = unnamed_lexer_full l u
 
-  unnamed_lexer_full : (l : Option Label) (u : Tree unnamed_lexer_item) → ItemIsFull (unnamed_lexer l u).item
+  unnamed_lexer_full : (l : Option Label) (u : Tree unnamed_lexer_item) → LabelledIsFull (unnamed_lexer l u)
   unnamed_lexer_full l (left (both literal (left (both dots last)))) = tt
   unnamed_lexer_full l (left (both literal (right options))) = tt
   unnamed_lexer_full l (right (left set)) = tt

@@ -5,7 +5,8 @@ use Rattle.g4_base.specs.declared.place.Place.{Place}
 use Rattle.g4_source.specs.declared.rule.AlternativeLabel.{AlternativeLabel}
 use Rattle.g4_source.specs.declared.rule.ParserRule.{ParserRule}
 use Rattle.g4_source.specs.declared.rule.RuleAlternative.{RuleAlternative}
-use Rattle.g4_source.specs.Elements.{Elements}
+use Rattle.g4_elements.specs.Elements.{Elements}
+use Rattle.g4_source.specs.declared.atom.Atom.{Atom}
 use Rattle.g4_syntax.specs.Notation.{optional, sign, with_bars}
 use Rattle.g4_syntax.specs.Productions.{modifier, rule_prequels, handlers, rule_alternative}
 use Rattle.g4_syntax.specs.Trees.{Tree, both}
@@ -18,11 +19,11 @@ abbrev pub label_with : Place → List ℕ → AlternativeLabel
 label_with place name = record { place = place; name = name }
 
 -- a rule with this name and these alternatives
-abbrev pub rule_with : List ℕ → List RuleAlternative → ParserRule
+abbrev pub rule_with : List ℕ → List (RuleAlternative Atom) → ParserRule Atom
 rule_with name alternatives = record { name = name; alternatives = alternatives }
 
 -- an alternative with these parts
-abbrev pub alternative_with : Bool → Elements → Option AlternativeLabel → RuleAlternative
+abbrev pub alternative_with : Bool → Elements Atom → Option AlternativeLabel → RuleAlternative Atom
 alternative_with side elements label = record { right = side; elements = elements; label = label }
 
 -- a parser rule is what its name and its alternatives say

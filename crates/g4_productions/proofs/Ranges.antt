@@ -1,61 +1,10 @@
--- Characters have one list of ranges.
+-- The ranges of what passes a test.
 use Rattle.std.proofs.Common.{◌≡◌, ℕ, zero, suc, ◌+◌, ◌<◌, ◌≤◌, ◌⊎◌, inl, inr, ◌↔◌, List, [], ◌∷◌, Bool, true, false, refl, sym, ap, ◌∙◌, arith, true≢false}
 use Rattle.std.specs.Prelude.{◌==◌, if◌then◌else◌}
 use Rattle.std.proofs.lemmas.Bool.{cases_lt, eqb-true, eqb-false}
-use Rattle.g4_chars.specs.CharSets.{IsScalar, IsWithin, Has, RiseFrom, IsCanonical}
+use Rattle.g4_chars.specs.CharSets.{IsScalar, IsWithin, Has, RiseFrom}
 use Rattle.g4_chars.specs.declared.range.Range.{Range as Span}
-use Rattle.g4_chars.proofs.Ranges.{rise_past}
 use Rattle.g4_productions.specs.Members.{with_first, ranges_from}
-
--- what is in one list of ranges is in the other
-abbrev Holds : List Span → List Span → Type 0
-Holds rs ss = (c : ℕ) → Has rs c → Has ss c
-
--- a list of ranges begins no later than another that has its characters
-first_le : (n m : ℕ) (r s : Span) (rs ss : List Span) → RiseFrom n (r ∷ rs) → RiseFrom m (s ∷ ss) → Holds (r ∷ rs) (s ∷ ss) → s.first ≤ r.first
-first_le n m r s rs ss a b h = by_place (h r.first (inl (omega arith, a.1.0)))
-  where
-    by_place : Has (s ∷ ss) r.first → s.first ≤ r.first
-    by_place (inl within) = within.0
-    by_place (inr behind) = let past = rise_past (s.last + 2) ss r.first b.2 behind in omega (arith, past, b.1.0)
-
--- the first range of one ends no later than that of the other
-last_le : (n m : ℕ) (r s : Span) (rs ss : List Span) → RiseFrom n (r ∷ rs) → RiseFrom m (s ∷ ss) → r.first ≡ s.first → Holds (r ∷ rs) (s ∷ ss) → r.last ≤ s.last
-last_le n m r s rs ss a b same h = by_order (cases_lt s.last r.last)
-  where
-    by_place : s.last < r.last → Has (s ∷ ss) (s.last + 1) → r.last ≤ s.last
-    by_place more (inl within) = absurd (omega (arith, within.1))
-    by_place more (inr behind) = absurd (omega (arith, rise_past (s.last + 2) ss (s.last + 1) b.2 behind))
-
-    by_order : (s.last < r.last) ⊎ (r.last ≤ s.last) → r.last ≤ s.last
-    by_order (inl more) = by_place more (h (s.last + 1) (inl (omega (arith, b.1.0, same), omega (arith, more))))
-    by_order (inr less) = less
-
--- the ranges behind the first of one have the same characters as those of the other
-tail_holds : (n : ℕ) (r s : Span) (rs ss : List Span) → RiseFrom n (r ∷ rs) → r.last ≡ s.last → Holds (r ∷ rs) (s ∷ ss) → Holds rs ss
-tail_holds n r s rs ss a same h c has = by_place (h c (inr has))
-  where
-    by_place : Has (s ∷ ss) c → Has ss c
-    by_place (inl within) = absurd (omega (arith, within.1, same, rise_past (r.last + 2) rs c a.2 has))
-    by_place (inr behind) = behind
-
--- ranges that rise and have the same characters are the same
-one_list : (n m : ℕ) (rs ss : List Span) → RiseFrom n rs → RiseFrom m ss → Holds rs ss → Holds ss rs → rs ≡ ss
-one_list n m [] [] a b h k = refl
-one_list n m [] (s ∷ ss) a b h k = absurd (k s.first (inl (omega arith, b.1.0)))
-one_list n m (r ∷ rs) [] a b h k = absurd (h r.first (inl (omega arith, a.1.0)))
-one_list n m (r ∷ rs) (s ∷ ss) a b h k =
-    let first : r.first ≡ s.first = omega (arith, first_le n m r s rs ss a b h, first_le m n s r ss rs b a k) in
-    let last : r.last ≡ s.last = omega (arith, last_le n m r s rs ss a b first h, last_le m n s r ss rs b a (sym first) k) in
-    let same : r ≡ s = alike r s first last in
-    ap (λ (x : Span). x ∷ rs) same ∙ ap (λ (l : List Span). s ∷ l) (one_list (r.last + 2) (s.last + 2) rs ss a.2 b.2 (tail_holds n r s rs ss a last h) (tail_holds m s r ss rs b (sym last) k))
-  where
-    alike : (x y : Span) → x.first ≡ y.first → x.last ≡ y.last → x ≡ y
-    alike x y first last = ap (λ (n : ℕ). record { first = n; last = x.last }) first ∙ ap (λ (n : ℕ). record { first = y.first; last = n }) last
-
--- canonical ranges that have the same characters are the same
-pub one_canonical : (rs ss : List Span) → IsCanonical rs → IsCanonical ss → ((c : ℕ) → Has rs c ↔ Has ss c) → rs ≡ ss
-one_canonical rs ss a b same = one_list 0 0 rs ss a b (λ c. (same c).0) (λ c. (same c).1)
 
 -- ranges that rise from a number rise from one before it
 rise_before : (n m : ℕ) (rs : List Span) → n ≤ m → RiseFrom m rs → RiseFrom n rs

@@ -1,13 +1,15 @@
 -- What is common to the elements of parser rules and of lexer rules.
-use Rattle.std.specs.Prelude.{Bool, true, false, Option, Some, None}
-use Rattle.g4_source.specs.declared.atom.Atom.TheVariants as atoms
-use Rattle.g4_source.specs.declared.element.Label.{Label}
-use Rattle.g4_source.specs.declared.element.Suffix.{Suffix}
-use Rattle.g4_source.specs.declared.element.Repeat.TheVariants as repeats
-use Rattle.g4_source.specs.Elements.{Element, element, Item, atom}
+use Rattle.std.specs.Prelude.{Bool, true, false, Option, None}
+use Rattle.g4_elements.specs.Elements.{Element, atom, block, empty, then, Alternatives, only}
+use Rattle.g4_elements.specs.declared.name.Label.{Label}
+use Rattle.g4_elements.specs.declared.element.Repeat.{Repeat}
+use Rattle.g4_elements.specs.declared.element.Repeat.TheVariants as repeats
+use Rattle.g4_source.specs.declared.atom.Atom.{Atom}
+use Rattle.g4_source.specs.declared.atom.AtomKind.TheVariants as atoms
 use Rattle.g4_syntax.specs.Notation.{Terminal, Expression, one, optional}
 use Rattle.g4_syntax.specs.Productions.{action, assign, suffix}
 use Rattle.g4_syntax.specs.Trees.{Tree, both, left, right, absent, present}
+use Rattle.g4_prequels.specs.Options.{right_of_optional}
 use Rattle.g4_prequels.specs.Texts.{token_of, name_of}
 
 -- whether the sign of a label is `+=`
@@ -19,33 +21,38 @@ is_list (right plus_equals) = true
 abbrev pub label_of : {t : Terminal} → Tree (one t) → Tree assign → Label
 label_of n a = record { name = name_of n; list = is_list a }
 
--- whether no other `?` stands behind the sign
+-- whether no other `?` follows the sign
 abbrev pub is_greedy : {x : Expression} → Tree (optional x) → Bool
 is_greedy absent = true
 is_greedy (present x) = false
 
--- how often an element stands
-abbrev pub suffix_of : Tree suffix → Suffix
-suffix_of (both (left question) lazy) = record { place = (token_of question).place; repeat = repeats.Optional; greedy = is_greedy lazy }
-suffix_of (both (right (left star)) lazy) = record { place = (token_of star).place; repeat = repeats.Star; greedy = is_greedy lazy }
-suffix_of (both (right (right plus)) lazy) = record { place = (token_of plus).place; repeat = repeats.Plus; greedy = is_greedy lazy }
+-- how often an element with this sign may be taken
+abbrev pub suffix_of : Tree suffix → Repeat
+suffix_of (both (left question) lazy) = repeats.Optional (record { place = (token_of question).place; greedy = is_greedy lazy })
+suffix_of (both (right (left star)) lazy) = repeats.Star (record { place = (token_of star).place; greedy = is_greedy lazy })
+suffix_of (both (right (right plus)) lazy) = repeats.Plus (record { place = (token_of plus).place; greedy = is_greedy lazy })
 
--- the same where there may be none
-abbrev pub optional_suffix_of : Tree (optional suffix) → Option Suffix
-optional_suffix_of absent = None
-optional_suffix_of (present s) = Some (suffix_of s)
+-- the same where there may be no sign
+abbrev pub optional_suffix_of : Tree (optional suffix) → Repeat
+optional_suffix_of absent = repeats.Once
+optional_suffix_of (present s) = suffix_of s
 
--- an action, or a predicate where `?` stands behind it
-abbrev pub action_of : Tree action → Element
-action_of (both a absent) = element None (atom atoms.Action) false None
-action_of (both a (present (both question options))) = element None (atom (atoms.Predicate (name_of a))) false None
+-- an action, or a predicate where `?` follows it
+abbrev pub action_of : Tree action → Element Atom
+action_of (both a absent) = atom (record { label = None; right = false; kind = atoms.Action })
+action_of (both a (present (both question options))) = atom (record { label = None; right = right_of_optional options; kind = atoms.Predicate (name_of a) })
 
--- an item with its label, and whether it associates to the right
-pub record Labelled : Type 0 where
-  pub label : Option Label
-  pub item : Item
-  pub right : Bool
+-- an element without its sign: an atom, or alternatives in brackets and their label
+pub data Labelled : Type 0 where
+  single : Atom → Labelled
+  brackets : Option Label → Alternatives Atom → Labelled
 
--- the element that the item is, so often
-abbrev pub with_suffix : Labelled → Option Suffix → Element
-with_suffix x s = element x.label x.item x.right s
+-- the atom with no label
+abbrev pub unlabelled : Atom → Atom
+unlabelled a = record { label = None; right = a.right; kind = a.kind }
+
+-- the element that may be taken so often: an atom with a sign is a block of one alternative, which takes its label
+abbrev pub with_suffix : Labelled → Repeat → Element Atom
+with_suffix (single a) repeats.Once = atom a
+with_suffix (single a) repeat = block a.label repeat (only (then (atom (unlabelled a)) empty))
+with_suffix (brackets label alternatives) repeat = block label repeat alternatives

@@ -1,4 +1,4 @@
--- The ranges of a set, listed by its characters.
+-- Sets by their ranges, listed by their characters.
 use Rattle.std.specs.Prelude.{ℕ, zero, suc, ◌+◌, List, [], ◌∷◌, Bool, false, Option, Some, None, map, unwrap_or, not, ◌&&◌, ◌||◌, ◌==◌, nat_le, if◌then◌else◌}
 use Rattle.ucd_sets.specs.Sets.{in_set}
 use Rattle.g4_chars.specs.Escapes.{is_scalar}
@@ -8,8 +8,6 @@ use Rattle.g4_chars.specs.declared.item.Item.{Item}
 use Rattle.g4_chars.specs.declared.part.Part.{Part}
 use Rattle.g4_chars.specs.declared.part.Part.TheVariants as sets
 use Rattle.g4_chars.specs.declared.range.Range.{Range as Span}
-use Rattle.g4_grammar.specs.declared.grammar.Range.{Range}
-use Rattle.g4_productions.specs.SetText.{in_grammar}
 
 -- whether the character is in the part
 abbrev pub holds : Part → ℕ → Bool
@@ -36,24 +34,32 @@ ranges_from test start (suc count) = if test start then with_first start (ranges
 abbrev pub ranges_in : List Part → List Span
 ranges_in ps = ranges_from (holds_in ps) 0 0x110000
 
+-- a range as a part
+abbrev pub part_of : Span → Part
+part_of span = sets.Span span.first span.last
+
+-- the set of the characters that are in one of the ranges, which come in any order and may overlap
+abbrev pub set_of_ranges : List Span → List Span
+set_of_ranges spans = ranges_in (map part_of spans)
+
 -- the ranges, if there is one
-abbrev pub unless_empty : List Range → Option (List Range)
+abbrev pub unless_empty : List Span → Option (List Span)
 unless_empty [] = None
 unless_empty (r ∷ rs) = Some (r ∷ rs)
 
--- the ranges of these parts, if they are sound and hold a character
-abbrev pub set_of_parts : List Part → Option (List Range)
-set_of_parts ps = if are_sound ps then unless_empty (map in_grammar (ranges_in ps)) else None
+-- the set of these parts, if they are sound and hold a character
+abbrev pub set_of_parts : List Part → Option (List Span)
+set_of_parts ps = if are_sound ps then unless_empty (ranges_in ps) else None
 
--- the ranges of a set with these items
-abbrev pub set_of_items : Option (List Item) → Option (List Range)
+-- the set with these items
+abbrev pub set_of_items : Option (List Item) → Option (List Span)
 set_of_items None = None
 set_of_items (Some is) = set_of_parts (parts is)
 
--- the ranges of a set with this content, unless it is bad
-abbrev pub set_of : List ℕ → Option (List Range)
+-- the set with this content, unless it is bad
+abbrev pub set_of : List ℕ → Option (List Span)
 set_of text = set_of_items (items text)
 
--- the ranges of a set with this content: a bad set has none
-abbrev pub ranges_of : List ℕ → List Range
+-- the set with this content: a bad set is empty
+abbrev pub ranges_of : List ℕ → List Span
 ranges_of text = unwrap_or (set_of text) []

@@ -13,7 +13,8 @@ use Rattle.g4_source.specs.declared.rule.Rule.{Rule}
 use Rattle.g4_source.specs.declared.rule.Rule.TheVariants as rules
 use Rattle.g4_source.specs.declared.rule.RuleAlternative.{RuleAlternative}
 use Rattle.g4_source.specs.declared.source.Mode.{Mode}
-use Rattle.g4_source.specs.Elements.{in_order}
+use Rattle.g4_elements.specs.Trees.{in_order}
+use Rattle.g4_source.specs.declared.atom.Atom.{Atom}
 use Rattle.g4_syntax.specs.Notation.{Terminal, one, ◌▸◌, ◌∣◌, optional, repeated, sign, name, with_commas}
 use Rattle.g4_syntax.specs.Productions.{rule_alternative, parser_rule, command, lexer_alternative, lexer_rule, mode}
 use Rattle.g4_syntax.specs.Trees.{Tree, both, left, right, absent, present, end, more}
@@ -27,16 +28,16 @@ alternative_label absent = None
 alternative_label (present (both hash n)) = Some (record { place = (token_of hash).place; name = text_of n })
 
 -- an alternative of a parser rule
-abbrev pub rule_alternative_of : Tree rule_alternative → RuleAlternative
+abbrev pub rule_alternative_of : Tree rule_alternative → RuleAlternative Atom
 rule_alternative_of (both x l) = record { right = alternative_right x; elements = alternative_elements x; label = alternative_label l }
 
 -- the alternatives of a parser rule behind bars
-abbrev pub rule_alternatives_behind : Tree (repeated (sign kinds.Bar ▸ rule_alternative)) → List RuleAlternative
+abbrev pub rule_alternatives_behind : Tree (repeated (sign kinds.Bar ▸ rule_alternative)) → List (RuleAlternative Atom)
 rule_alternatives_behind end = []
 rule_alternatives_behind (more (both bar x) xs) = rule_alternative_of x ∷ rule_alternatives_behind xs
 
 -- a parser rule
-abbrev pub parser_rule_of : Tree parser_rule → ParserRule
+abbrev pub parser_rule_of : Tree parser_rule → ParserRule Atom
 parser_rule_of (both modifier (both n (both prequels (both colon (both (both x xs) (both semicolon handlers)))))) = record { name = text_of n; alternatives = rule_alternative_of x ∷ rule_alternatives_behind xs }
 
 -- the argument of a command

@@ -1,23 +1,22 @@
 // The elements of lexer rules.
 ghost use Rattle.std.specs.Prelude.{◌≡◌, ◌≤◌, ℕ, List, length, None};
-ghost use Rattle.g4_source.specs.Trees.{element_of};
+ghost use Rattle.g4_elements.specs.Trees.{element_of};
 ghost use Rattle.g4_syntax.specs.Notation.{part, lexer_element};
 ghost use Rattle.g4_syntax.specs.Trees.{begins_there, left, right};
 ghost use Rattle.g4_prequels.specs.Parts.{AreParts};
 ghost use Rattle.g4_prequels.specs.Steps.{from};
 ghost use Rattle.g4_productions.specs.LexerElements.{lexer_element_of, lexer_elements, labelled_lexer, named_lexer_item, unnamed_lexer};
-ghost use Rattle.g4_productions.specs.Elements.{with_suffix};
 ghost use Rattle.g4_productions.specs.ParserItems.{labelled_of};
 ghost use Rattle.g4_productions.specs.LexerSteps.{GivesAs, elements_in, alternatives_in, labelled_by, lexer_alternatives, lexer_block_alternatives};
 
-use crate::excluded::with_excluded;
+use crate::excluded::excluded_at;
 use crate::set::set_at;
-use crate::suffix::{Labelled, action, is_label_sign_at, label_sign, optional_suffix};
-use g4_base::Sequence;
+use crate::suffix::{Labelled, action, is_label_sign_at, label_sign, optional_suffix, with_suffix};
+use g4_elements::{Alternative, Element, Label, Name};
 use g4_prequels::{
     MOST_OPEN, Stop, is_at, literal_at, named, optional_element_options, pass, place_at,
 };
-use g4_source::{Alternative, Atom, Element, Item, Label, Name, Suffix};
+use g4_source::{Atom, AtomKind};
 use g4_tokens::{Kind, Token};
 use std::alloc::Global;
 
@@ -41,20 +40,6 @@ pub(crate) fn is_element_at(tokens: &[Token], at: usize) -> bool
     }
 }
 
-/// The element that the item is, so often.
-#[tactic(auto, using(g4_source::proofs::Trees::of_parts))]
-fn with_suffix(labelled: Labelled, suffix: Option<Suffix>) -> Element
-    ensures { element_of result ≡ with_suffix (labelled_of labelled) suffix }
-{
-    let Labelled { label, item, right } = labelled;
-    Element {
-        label,
-        item,
-        right,
-        suffix,
-    }
-}
-
 /// The token or lexer rule whose name stands at the index, with this label, and the index behind it.
 fn token_item(
     alloc: Global,
@@ -69,8 +54,8 @@ fn token_item(
 {
     let (name, at) = named(alloc, text, tokens, at, Kind::Upper)?;
     let (right, at) = optional_element_options(alloc, text, tokens, at)?;
-    let item = Item::Atom(Atom::Token(name));
-    Ok((Labelled { label, item, right }, at))
+    let kind = AtomKind::Token(name);
+    Ok((Labelled::Single(Atom { label, right, kind }), at))
 }
 
 /// The literal at the index, or the characters from its own to that of another, with this label, and the index behind.
@@ -90,13 +75,13 @@ fn literal_item(
     if is_at(tokens, at, Kind::DoubleDot) {
         let at = pass(tokens, at, Kind::DoubleDot)?;
         let (last, at) = literal_at(alloc, text, tokens, at)?;
-        let item = Item::Atom(Atom::Range(place, literal, last));
+        let kind = AtomKind::Range(place, literal, last);
         let right = false;
-        return Ok((Labelled { label, item, right }, at));
+        return Ok((Labelled::Single(Atom { label, right, kind }), at));
     }
     let (right, at) = optional_element_options(alloc, text, tokens, at)?;
-    let item = Item::Atom(Atom::Literal(literal));
-    Ok((Labelled { label, item, right }, at))
+    let kind = AtomKind::Literal(literal);
+    Ok((Labelled::Single(Atom { label, right, kind }), at))
 }
 
 /// The set at the index, with this label, and the index behind it.
@@ -112,9 +97,9 @@ fn set_item(
     ensures { GivesAs labelled_of (λ tree. unnamed_lexer label (right (left tree))) text.now tokens.now at result }
 {
     let (set, at) = set_at(alloc, text, tokens, at)?;
-    let item = Item::Atom(Atom::Set(set));
+    let kind = AtomKind::Set(set);
     let right = false;
-    Ok((Labelled { label, item, right }, at))
+    Ok((Labelled::Single(Atom { label, right, kind }), at))
 }
 
 /// The `.` at the index, with this label, and the index behind it.
@@ -123,9 +108,9 @@ fn any_item(tokens: &[Token], at: usize, label: Option<Label>) -> Result<(Labell
     ensures { (text : List ℕ) → GivesAs labelled_of (λ tree. unnamed_lexer label (right (right (left tree)))) text tokens.now at result }
 {
     let (place, at) = place_at(tokens, at, Kind::Dot)?;
-    let item = Item::Atom(Atom::Any(place));
+    let kind = AtomKind::Any(place);
     let right = false;
-    Ok((Labelled { label, item, right }, at))
+    Ok((Labelled::Single(Atom { label, right, kind }), at))
 }
 
 /// The `~` at the index and what stands behind it, with this label, and the index behind.
@@ -142,10 +127,10 @@ fn excluding_item(
     ensures { GivesAs labelled_of (λ tree. unnamed_lexer label (right (right (right (left tree))))) text.now tokens.now at result }
 {
     let (place, at) = place_at(tokens, at, Kind::Tilde)?;
-    let (ranges, at) = with_excluded(alloc, text, tokens, at, open, Vec::new(alloc))?;
-    let item = Item::Atom(Atom::NotCharacters(place, Sequence::new(ranges)));
+    let (set, at) = excluded_at(alloc, text, tokens, at, open)?;
+    let kind = AtomKind::NotCharacters(place, set);
     let right = false;
-    Ok((Labelled { label, item, right }, at))
+    Ok((Labelled::Single(Atom { label, right, kind }), at))
 }
 
 /// The alternatives in brackets at the index, and the index behind them. So many brackets are open before.
@@ -156,7 +141,7 @@ fn block(
     tokens: &[Token],
     at: usize,
     open: u32,
-) -> Result<(Vec<Alternative>, usize), Stop>
+) -> Result<(Vec<Alternative<Atom>>, usize), Stop>
     requires parts { AreParts text.now tokens.now }
     requires within { at ≤ length tokens.now }
     ensures { GivesAs alternatives_in lexer_block_alternatives text.now tokens.now at result }
@@ -185,9 +170,7 @@ fn block_item(
     ensures { GivesAs labelled_of (λ tree. unnamed_lexer label (right (right (right (right tree))))) text.now tokens.now at result }
 {
     let (alternatives, at) = block(alloc, text, tokens, at, open)?;
-    let item = Item::Block(alternatives);
-    let right = false;
-    Ok((Labelled { label, item, right }, at))
+    Ok((Labelled::Brackets(label, alternatives), at))
 }
 
 /// The item at the index, which begins with no name, with this label, and the index behind it.
@@ -297,8 +280,8 @@ fn upper_item(
     }
     let (right, at) = optional_element_options(alloc, text, tokens, at)?;
     let label = None;
-    let item = Item::Atom(Atom::Token(name));
-    Ok((Labelled { label, item, right }, at))
+    let kind = AtomKind::Token(name);
+    Ok((Labelled::Single(Atom { label, right, kind }), at))
 }
 
 /// The item at the index, perhaps with a label, and the index behind it.
@@ -331,7 +314,7 @@ fn element(
     tokens: &[Token],
     at: usize,
     open: u32,
-) -> Result<(Element, usize), Stop>
+) -> Result<(Element<Atom>, usize), Stop>
     requires parts { AreParts text.now tokens.now }
     requires within { at ≤ length tokens.now }
     ensures { GivesAs element_of lexer_element_of text.now tokens.now at result }
@@ -340,8 +323,9 @@ fn element(
         return action(alloc, text, tokens, at);
     }
     let (item, at) = labelled_item(alloc, text, tokens, at, open)?;
-    let (suffix, at) = optional_suffix(tokens, at);
-    Ok((with_suffix(item, suffix), at))
+    let (repeat, at) = optional_suffix(tokens, at);
+    let element = with_suffix(alloc, item, repeat)?;
+    Ok((element, at))
 }
 
 /// The elements from the index on, and the index behind them. So many brackets are open.
@@ -352,7 +336,7 @@ pub(crate) fn elements(
     tokens: &[Token],
     at: usize,
     open: u32,
-) -> Result<(Vec<Element>, usize), Stop>
+) -> Result<(Vec<Element<Atom>>, usize), Stop>
     requires parts { AreParts text.now tokens.now }
     requires within { at ≤ length tokens.now }
     ensures { GivesAs elements_in lexer_elements text.now tokens.now at result }
@@ -375,7 +359,7 @@ fn alternatives(
     tokens: &[Token],
     at: usize,
     open: u32,
-) -> Result<(Vec<Alternative>, usize), Stop>
+) -> Result<(Vec<Alternative<Atom>>, usize), Stop>
     requires parts { AreParts text.now tokens.now }
     requires within { at ≤ length tokens.now }
     ensures { GivesAs alternatives_in lexer_alternatives text.now tokens.now at result }

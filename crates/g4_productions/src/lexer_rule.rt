@@ -10,11 +10,12 @@ ghost use Rattle.g4_productions.specs.Rules.{argument_of, command_of, commands_o
 
 use crate::lexer_element::elements;
 use g4_base::{Place, Sequence};
+use g4_elements::Elements;
 use g4_prequels::{
     Stop, is_at, is_name_at, is_word_at, name, name_text, pass, pass_optional_options, word_place,
     written_at,
 };
-use g4_source::{Argument, Command, Elements, LexerAlternative, LexerRule};
+use g4_source::{Argument, Command, LexerAlternative, LexerRule};
 use g4_tokens::{Kind, Token};
 use std::alloc::Global;
 

@@ -1,6 +1,6 @@
 // The elements of parser rules.
 ghost use Rattle.std.specs.Prelude.{◌≡◌, ◌≤◌, ◌++◌, ℕ, List, length, map};
-ghost use Rattle.g4_source.specs.Trees.{element_of, alternative_of};
+ghost use Rattle.g4_elements.specs.Trees.{element_of, alternative_of};
 ghost use Rattle.g4_syntax.specs.Notation.{element as an_element, part};
 ghost use Rattle.g4_syntax.specs.Trees.{left, right, begins_there};
 ghost use Rattle.g4_prequels.specs.Parts.{AreParts};
@@ -8,13 +8,14 @@ ghost use Rattle.g4_prequels.specs.Steps.{from, ReadsAs, Gives};
 ghost use Rattle.g4_productions.specs.ParserElements.{parser_element, parser_elements, labelled, named_item, unnamed, alternative_elements, alternatives_behind};
 ghost use Rattle.g4_productions.specs.ParserItems.{labelled_of, reference_right, labelled_behind, alternatives_of, block_of};
 
-use crate::suffix::{Labelled, action, is_label_sign_at, label_sign, optional_suffix};
+use crate::suffix::{Labelled, action, is_label_sign_at, label_sign, optional_suffix, with_suffix};
 use crate::token_set::excluded_tokens;
+use g4_elements::{Alternative, Element, Label, Name};
 use g4_prequels::{
     MOST_OPEN, Stop, is_at, literal_at, named, optional_element_options, pass, pass_block_prequel,
     pass_optional, place_at,
 };
-use g4_source::{Alternative, Atom, Element, Item, Label, Name};
+use g4_source::{Atom, AtomKind};
 use g4_tokens::{Kind, Token};
 use std::alloc::Global;
 
@@ -47,8 +48,8 @@ fn rule_reference(
 {
     let (name, at) = named(alloc, text, tokens, at, Kind::Lower)?;
     let (right, at) = reference_end(alloc, text, tokens, at)?;
-    let item = Item::Atom(Atom::Rule(name));
-    Ok((Labelled { label, item, right }, at))
+    let kind = AtomKind::Rule(name);
+    Ok((Labelled::Single(Atom { label, right, kind }), at))
 }
 
 /// The item that the name of a token at the index is, with this label, and the index behind it.
@@ -64,8 +65,8 @@ fn token_reference(
 {
     let (name, at) = named(alloc, text, tokens, at, Kind::Upper)?;
     let (right, at) = optional_element_options(alloc, text, tokens, at)?;
-    let item = Item::Atom(Atom::Token(name));
-    Ok((Labelled { label, item, right }, at))
+    let kind = AtomKind::Token(name);
+    Ok((Labelled::Single(Atom { label, right, kind }), at))
 }
 
 /// The item that the literal at the index is, with this label, and the index behind it.
@@ -81,8 +82,8 @@ fn literal_item(
 {
     let (literal, at) = literal_at(alloc, text, tokens, at)?;
     let (right, at) = optional_element_options(alloc, text, tokens, at)?;
-    let item = Item::Atom(Atom::Literal(literal));
-    Ok((Labelled { label, item, right }, at))
+    let kind = AtomKind::Literal(literal);
+    Ok((Labelled::Single(Atom { label, right, kind }), at))
 }
 
 /// The item that the `.` at the index is, with this label, and the index behind it.
@@ -98,8 +99,8 @@ fn any_item(
 {
     let (place, at) = place_at(tokens, at, Kind::Dot)?;
     let (right, at) = optional_element_options(alloc, text, tokens, at)?;
-    let item = Item::Atom(Atom::Any(place));
-    Ok((Labelled { label, item, right }, at))
+    let kind = AtomKind::Any(place);
+    Ok((Labelled::Single(Atom { label, right, kind }), at))
 }
 
 /// The item that the `~` at the index begins, with this label, and the index behind it.
@@ -115,13 +116,10 @@ fn not_item(
     ensures { ReadsAs (λ tree x. labelled_of x ≡ unnamed label (right (right (left tree)))) text.now tokens.now at result }
 {
     let (place, at) = place_at(tokens, at, Kind::Tilde)?;
-    let (symbols, at) = excluded_tokens(alloc, text, tokens, at, open)?;
-    let labelled = Labelled {
-        label,
-        item: Item::Atom(Atom::NotTokens(place, symbols)),
-        right: false,
-    };
-    Ok((labelled, at))
+    let (references, at) = excluded_tokens(alloc, text, tokens, at, open)?;
+    let kind = AtomKind::NotTokens(place, references);
+    let right = false;
+    Ok((Labelled::Single(Atom { label, right, kind }), at))
 }
 
 /// The item at the index that begins with no name, with this label, and the index behind it. So many brackets are open.
@@ -148,12 +146,7 @@ fn unnamed_item(
         return not_item(alloc, text, tokens, at, open, label);
     }
     let (alternatives, at) = block(alloc, text, tokens, at, open)?;
-    let labelled = Labelled {
-        label,
-        item: Item::Block(alternatives),
-        right: false,
-    };
-    Ok((labelled, at))
+    Ok((Labelled::Brackets(label, alternatives), at))
 }
 
 /// The item at the index, with this label, and the index behind it.
@@ -218,12 +211,9 @@ fn lower_item(
         return Ok((labelled, at));
     }
     let (right, at) = reference_end(alloc, text, tokens, at)?;
-    let labelled = Labelled {
-        label: None,
-        item: Item::Atom(Atom::Rule(name)),
-        right,
-    };
-    Ok((labelled, at))
+    let label = None;
+    let kind = AtomKind::Rule(name);
+    Ok((Labelled::Single(Atom { label, right, kind }), at))
 }
 
 /// The item that begins with the upper-case name at the index, which can be a label, and the index behind it.
@@ -245,12 +235,9 @@ fn upper_item(
         return Ok((labelled, at));
     }
     let (right, at) = optional_element_options(alloc, text, tokens, at)?;
-    let labelled = Labelled {
-        label: None,
-        item: Item::Atom(Atom::Token(name)),
-        right,
-    };
-    Ok((labelled, at))
+    let label = None;
+    let kind = AtomKind::Token(name);
+    Ok((Labelled::Single(Atom { label, right, kind }), at))
 }
 
 /// The item at the index, perhaps with a label, and the index behind it.
@@ -283,7 +270,7 @@ fn element(
     tokens: &[Token],
     at: usize,
     open: u32,
-) -> Result<(Element, usize), Stop>
+) -> Result<(Element<Atom>, usize), Stop>
     requires parts { AreParts text.now tokens.now }
     requires within { at ≤ length tokens.now }
     ensures { ReadsAs (λ tree e. element_of e ≡ parser_element tree) text.now tokens.now at result }
@@ -292,13 +279,8 @@ fn element(
         return action(alloc, text, tokens, at);
     }
     let (labelled, at) = labelled_item(alloc, text, tokens, at, open)?;
-    let (suffix, at) = optional_suffix(tokens, at);
-    let element = Element {
-        label: labelled.label,
-        item: labelled.item,
-        right: labelled.right,
-        suffix,
-    };
+    let (repeat, at) = optional_suffix(tokens, at);
+    let element = with_suffix(alloc, labelled, repeat)?;
     Ok((element, at))
 }
 
@@ -323,7 +305,7 @@ pub(crate) fn elements(
     tokens: &[Token],
     at: usize,
     open: u32,
-) -> Result<(Vec<Element>, usize), Stop>
+) -> Result<(Vec<Element<Atom>>, usize), Stop>
     requires parts { AreParts text.now tokens.now }
     requires within { at ≤ length tokens.now }
     ensures { ReadsAs (λ tree es. map element_of es.items ≡ parser_elements tree) text.now tokens.now at result }
@@ -346,7 +328,7 @@ fn alternative(
     tokens: &[Token],
     at: usize,
     open: u32,
-) -> Result<(Alternative, usize), Stop>
+) -> Result<(Alternative<Atom>, usize), Stop>
     requires parts { AreParts text.now tokens.now }
     requires within { at ≤ length tokens.now }
     ensures { ReadsAs (λ tree x. alternative_of x ≡ alternative_elements tree) text.now tokens.now at result }
@@ -364,7 +346,7 @@ fn alternatives(
     tokens: &[Token],
     at: usize,
     open: u32,
-) -> Result<(Vec<Alternative>, usize), Stop>
+) -> Result<(Vec<Alternative<Atom>>, usize), Stop>
     requires parts { AreParts text.now tokens.now }
     requires within { at ≤ length tokens.now }
     ensures { ReadsAs (λ tree xs. map alternative_of xs.items ≡ alternatives_of tree) text.now tokens.now at result }
@@ -383,8 +365,8 @@ fn alternatives_behind_bars(
     tokens: &[Token],
     at: usize,
     open: u32,
-    first: Vec<Alternative>,
-) -> Result<(Vec<Alternative>, usize), Stop>
+    first: Vec<Alternative<Atom>>,
+) -> Result<(Vec<Alternative<Atom>>, usize), Stop>
     requires parts { AreParts text.now tokens.now }
     requires within { at ≤ length tokens.now }
     ensures { ReadsAs (λ tree xs. map alternative_of xs.items ≡ map alternative_of first.items ++ alternatives_behind tree) text.now tokens.now at result }
@@ -407,7 +389,7 @@ fn block(
     tokens: &[Token],
     at: usize,
     open: u32,
-) -> Result<(Vec<Alternative>, usize), Stop>
+) -> Result<(Vec<Alternative<Atom>>, usize), Stop>
     requires parts { AreParts text.now tokens.now }
     requires within { at ≤ length tokens.now }
     ensures { ReadsAs (λ tree xs. map alternative_of xs.items ≡ block_of tree) text.now tokens.now at result }

@@ -7,11 +7,12 @@ ghost use Rattle.g4_productions.specs.Rules.{alternative_label as label_of, rule
 
 use crate::parser_element::elements;
 use g4_base::Sequence;
+use g4_elements::Elements;
 use g4_prequels::{
     Stop, is_at, name_text, optional_element_options, pass, pass_handlers, pass_modifier,
     pass_rule_prequels, place_at, written_at,
 };
-use g4_source::{AlternativeLabel, Elements, ParserRule, RuleAlternative};
+use g4_source::{AlternativeLabel, Atom, ParserRule, RuleAlternative};
 use g4_tokens::{Kind, Token};
 use std::alloc::Global;
 
@@ -40,7 +41,7 @@ fn rule_alternative(
     text: &str,
     tokens: &[Token],
     at: usize,
-) -> Result<(RuleAlternative, usize), Stop>
+) -> Result<(RuleAlternative<Atom>, usize), Stop>
     requires parts { AreParts text.now tokens.now }
     requires within { at ≤ length tokens.now }
     ensures { Gives rule_alternative_of text.now tokens.now at result }
@@ -62,8 +63,8 @@ fn alternatives_behind_bars(
     text: &str,
     tokens: &[Token],
     at: usize,
-    first: Vec<RuleAlternative>,
-) -> Result<(Vec<RuleAlternative>, usize), Stop>
+    first: Vec<RuleAlternative<Atom>>,
+) -> Result<(Vec<RuleAlternative<Atom>>, usize), Stop>
     requires parts { AreParts text.now tokens.now }
     requires within { at ≤ length tokens.now }
     ensures { ReadsAs (λ tree xs. xs.items ≡ first.items ++ rule_alternatives_behind tree) text.now tokens.now at result }
@@ -84,7 +85,7 @@ fn alternatives(
     text: &str,
     tokens: &[Token],
     at: usize,
-) -> Result<(Sequence<RuleAlternative>, usize), Stop>
+) -> Result<(Sequence<RuleAlternative<Atom>>, usize), Stop>
     requires parts { AreParts text.now tokens.now }
     requires within { at ≤ length tokens.now }
     ensures { Gives rule_alternatives_of text.now tokens.now at result }
@@ -101,7 +102,7 @@ pub(crate) fn parser_rule(
     text: &str,
     tokens: &[Token],
     at: usize,
-) -> Result<(ParserRule, usize), Stop>
+) -> Result<(ParserRule<Atom>, usize), Stop>
     requires parts { AreParts text.now tokens.now }
     requires within { at ≤ length tokens.now }
     ensures { Gives parser_rule_of text.now tokens.now at result }

@@ -14,7 +14,7 @@ use std::alloc::Global;
 ///
 /// # Errors
 /// - `At`: the index of that token, or how many tokens there are where more would have to stand behind them.
-/// - `NoMemory`: memory runs out, or more than 4,096 brackets are open at once.
+/// - `NoMemory`: memory runs out, or more than 1,024 brackets are open at once.
 pub fn read_tokens(alloc: Global, text: &str, tokens: &[Token]) -> Result<Source, Stop>
     requires parts { AreParts text.now tokens.now }
     ensures reads { ReadsText text.now tokens.now result }

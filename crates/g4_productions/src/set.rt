@@ -1,5 +1,5 @@
 // The character sets of lexer rules.
-ghost use Rattle.std.specs.Prelude.{◌≡◌, IfOk, map};
+ghost use Rattle.std.specs.Prelude.{◌≡◌, IfOk};
 ghost use Rattle.g4_tokens.specs.declared.token.Kind.TheVariants.{Literal, Set};
 ghost use Rattle.g4_syntax.specs.Notation.{sign};
 ghost use Rattle.g4_prequels.specs.Parts.{IsPart, AreParts};
@@ -7,11 +7,9 @@ ghost use Rattle.g4_prequels.specs.Steps.{Gives};
 ghost use Rattle.g4_prequels.specs.Texts.{characters_of};
 ghost use Rattle.g4_productions.specs.LexerElements.{set_of_leaf, first_character, character_of};
 ghost use Rattle.g4_productions.specs.Members.{set_of, ranges_of};
-ghost use Rattle.g4_productions.specs.SetText.{content, in_grammar};
+ghost use Rattle.g4_productions.specs.SetText.{content};
 
-use g4_base::Sequence;
-use g4_chars::{SetFault, read_set};
-use g4_grammar::Range;
+use g4_chars::{CharSet, SetFault, read_set};
 use g4_prequels::{Stop, characters, is_at, literal_at};
 use g4_tokens::{Kind, Token};
 use std::alloc::{AllocError, Global};
@@ -26,66 +24,45 @@ fn content(text: &[char]) -> &[char]
     }
 }
 
-/// The same ranges in a grammar.
-fn in_grammar(alloc: Global, set: &[g4_chars::Range]) -> Result<Sequence<Range>, AllocError>
-    ensures { IfOk result (λ r. r ≡ map in_grammar set.now) }
-{
-    let mut ranges = Vec::new(alloc);
-    for range in set {
-        ranges.push(Range {
-            first: range.first,
-            last: range.last,
-        })?;
-    }
-    Ok(Sequence::new(ranges))
-}
-
-/// The ranges of a set with this content, unless it is bad.
-fn set_of(alloc: Global, content: &[char]) -> Result<Option<Sequence<Range>>, AllocError>
+/// The set with this content, unless it is bad.
+fn set_of(alloc: Global, content: &[char]) -> Result<Option<CharSet>, AllocError>
     ensures { IfOk result (λ s. s ≡ set_of content.now) }
 {
     match read_set(alloc, content) {
-        Ok(set) => {
-            let ranges = in_grammar(alloc, set.ranges())?;
-            Ok(Some(ranges))
-        }
+        Ok(set) => Ok(Some(set)),
         Err(SetFault::BadEscape) => Ok(None),
         Err(SetFault::BadSet) => Ok(None),
         Err(SetFault::NoMemory) => Err(AllocError),
     }
 }
 
-/// The ranges of the set that the token is: a bad set has none.
-pub(crate) fn ranges(
-    alloc: Global,
-    text: &str,
-    token: &Token,
-) -> Result<Sequence<Range>, AllocError>
+/// The set that the token is: a bad set is empty.
+fn set_of_token(alloc: Global, text: &str, token: &Token) -> Result<CharSet, AllocError>
     requires part { IsPart text.now token.now }
     ensures { IfOk result (λ s. s ≡ ranges_of (content (characters_of text.now token.now))) }
 {
     let characters = characters(alloc, text, token)?;
     match set_of(alloc, content(&characters))? {
-        Some(ranges) => Ok(ranges),
-        None => Ok(Sequence::new(Vec::new(alloc))),
+        Some(set) => Ok(set),
+        None => Ok(CharSet::empty(alloc)),
     }
 }
 
-/// The ranges of the set at the index, and the index behind it.
+/// The set at the index, and the index behind it.
 pub(crate) fn set_at(
     alloc: Global,
     text: &str,
     tokens: &[Token],
     at: usize,
-) -> Result<(Sequence<Range>, usize), Stop>
+) -> Result<(CharSet, usize), Stop>
     requires parts { AreParts text.now tokens.now }
     ensures { Gives {x = sign Set} set_of_leaf text.now tokens.now at result }
 {
     if !is_at(tokens, at, Kind::Set) {
         return Err(Stop::At(at));
     }
-    let ranges = ranges(alloc, text, &tokens[at])?;
-    Ok((ranges, at + 1))
+    let set = set_of_token(alloc, text, &tokens[at])?;
+    Ok((set, at + 1))
 }
 
 /// The first character of the literal at the index, and the index behind it.

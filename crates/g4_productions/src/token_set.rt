@@ -3,49 +3,49 @@ ghost use Rattle.std.specs.Prelude.{◌≡◌, ◌≤◌, ◌++◌, length};
 ghost use Rattle.g4_syntax.specs.Trees.{left, right, inner};
 ghost use Rattle.g4_prequels.specs.Parts.{AreParts};
 ghost use Rattle.g4_prequels.specs.Steps.{ReadsAs, Gives};
-ghost use Rattle.g4_productions.specs.ParserElements.{symbols_of, symbols_behind};
-ghost use Rattle.g4_productions.specs.TokenSets.{symbols_between};
+ghost use Rattle.g4_productions.specs.ParserElements.{references_of, references_behind};
+ghost use Rattle.g4_productions.specs.TokenSets.{references_between};
 
 use g4_base::Sequence;
 use g4_prequels::{MOST_OPEN, Stop, is_at, literal_at, optional_element_options, pass, written_at};
-use g4_source::Symbol;
+use g4_source::TokenReference;
 use g4_tokens::{Kind, Token};
 use std::alloc::Global;
 
-/// These symbols and the name of a token at the index, and the index behind it and its options.
-fn name_symbol(
+/// These references and the name of a token at the index, and the index behind it and its options.
+fn name_reference(
     alloc: Global,
     text: &str,
     tokens: &[Token],
     at: usize,
-    mut symbols: Vec<Symbol>,
-) -> Result<(Vec<Symbol>, usize), Stop>
+    mut references: Vec<TokenReference>,
+) -> Result<(Vec<TokenReference>, usize), Stop>
     requires parts { AreParts text.now tokens.now }
-    ensures { ReadsAs (λ tree new. new.items ≡ symbols.items ++ symbols_of (inner (left tree))) text.now tokens.now at result }
+    ensures { ReadsAs (λ tree new. new.items ≡ references.items ++ references_of (inner (left tree))) text.now tokens.now at result }
 {
     let (name, at) = written_at(alloc, text, tokens, at, Kind::Upper)?;
     let (_right, at) = optional_element_options(alloc, text, tokens, at)?;
-    symbols.push(Symbol::Token(name))?;
-    Ok((symbols, at))
+    references.push(TokenReference::Token(name))?;
+    Ok((references, at))
 }
 
-/// These symbols and the literal at the index, and the index behind it.
-fn literal_symbol(
+/// These references and the literal at the index, and the index behind it.
+fn literal_reference(
     alloc: Global,
     text: &str,
     tokens: &[Token],
     at: usize,
-    mut symbols: Vec<Symbol>,
-) -> Result<(Vec<Symbol>, usize), Stop>
+    mut references: Vec<TokenReference>,
+) -> Result<(Vec<TokenReference>, usize), Stop>
     requires parts { AreParts text.now tokens.now }
-    ensures { ReadsAs (λ tree new. new.items ≡ symbols.items ++ symbols_of (inner (right (left tree)))) text.now tokens.now at result }
+    ensures { ReadsAs (λ tree new. new.items ≡ references.items ++ references_of (inner (right (left tree)))) text.now tokens.now at result }
 {
     let (literal, at) = literal_at(alloc, text, tokens, at)?;
-    symbols.push(Symbol::Literal(literal))?;
-    Ok((symbols, at))
+    references.push(TokenReference::Literal(literal))?;
+    Ok((references, at))
 }
 
-/// These symbols and those of the set of tokens at the index, and the index behind it. So many brackets are open.
+/// These references and those of the set of tokens at the index, and the index behind it. So many brackets are open.
 #[cycle(sets)]
 fn token_set(
     alloc: Global,
@@ -53,22 +53,22 @@ fn token_set(
     tokens: &[Token],
     at: usize,
     open: u32,
-    symbols: Vec<Symbol>,
-) -> Result<(Vec<Symbol>, usize), Stop>
+    references: Vec<TokenReference>,
+) -> Result<(Vec<TokenReference>, usize), Stop>
     requires parts { AreParts text.now tokens.now }
     requires within { at ≤ length tokens.now }
-    ensures { ReadsAs (λ tree new. new.items ≡ symbols.items ++ symbols_of tree) text.now tokens.now at result }
+    ensures { ReadsAs (λ tree new. new.items ≡ references.items ++ references_of tree) text.now tokens.now at result }
 {
     if is_at(tokens, at, Kind::Upper) {
-        return name_symbol(alloc, text, tokens, at, symbols);
+        return name_reference(alloc, text, tokens, at, references);
     }
     if is_at(tokens, at, Kind::Literal) {
-        return literal_symbol(alloc, text, tokens, at, symbols);
+        return literal_reference(alloc, text, tokens, at, references);
     }
-    sets_in_brackets(alloc, text, tokens, at, open, symbols)
+    sets_in_brackets(alloc, text, tokens, at, open, references)
 }
 
-/// These symbols and those of the sets in the brackets that `(` opens at the index, and the index behind them.
+/// These references and those of the sets in the brackets that `(` opens at the index, and the index behind them.
 #[cycle(sets)]
 fn sets_in_brackets(
     alloc: Global,
@@ -76,22 +76,22 @@ fn sets_in_brackets(
     tokens: &[Token],
     at: usize,
     open: u32,
-    symbols: Vec<Symbol>,
-) -> Result<(Vec<Symbol>, usize), Stop>
+    references: Vec<TokenReference>,
+) -> Result<(Vec<TokenReference>, usize), Stop>
     requires parts { AreParts text.now tokens.now }
     requires within { at ≤ length tokens.now }
-    ensures { ReadsAs (λ tree new. new.items ≡ symbols.items ++ symbols_of (inner (right (right tree)))) text.now tokens.now at result }
+    ensures { ReadsAs (λ tree new. new.items ≡ references.items ++ references_of (inner (right (right tree)))) text.now tokens.now at result }
 {
     if open >= MOST_OPEN {
         return Err(Stop::NoMemory);
     }
     let at = pass(tokens, at, Kind::LeftParenthesis)?;
-    let (symbols, at) = sets(alloc, text, tokens, at, open + 1, symbols)?;
+    let (references, at) = sets(alloc, text, tokens, at, open + 1, references)?;
     let at = pass(tokens, at, Kind::RightParenthesis)?;
-    Ok((symbols, at))
+    Ok((references, at))
 }
 
-/// These symbols and those of the sets with bars between from the index on, and the index behind them.
+/// These references and those of the sets with bars between from the index on, and the index behind them.
 #[cycle(sets)]
 fn sets(
     alloc: Global,
@@ -99,18 +99,18 @@ fn sets(
     tokens: &[Token],
     at: usize,
     open: u32,
-    symbols: Vec<Symbol>,
-) -> Result<(Vec<Symbol>, usize), Stop>
+    references: Vec<TokenReference>,
+) -> Result<(Vec<TokenReference>, usize), Stop>
     requires parts { AreParts text.now tokens.now }
     requires within { at ≤ length tokens.now }
-    ensures { ReadsAs (λ tree new. new.items ≡ symbols.items ++ symbols_between tree) text.now tokens.now at result }
+    ensures { ReadsAs (λ tree new. new.items ≡ references.items ++ references_between tree) text.now tokens.now at result }
 {
-    let (symbols, at) = token_set(alloc, text, tokens, at, open, symbols)?;
-    let (symbols, at) = sets_behind_bars(alloc, text, tokens, at, open, symbols)?;
-    Ok((symbols, at))
+    let (references, at) = token_set(alloc, text, tokens, at, open, references)?;
+    let (references, at) = sets_behind_bars(alloc, text, tokens, at, open, references)?;
+    Ok((references, at))
 }
 
-/// These symbols and those of the sets behind bars from the index on, and the index behind them.
+/// These references and those of the sets behind bars from the index on, and the index behind them.
 #[cycle(sets)]
 fn sets_behind_bars(
     alloc: Global,
@@ -118,13 +118,13 @@ fn sets_behind_bars(
     tokens: &[Token],
     at: usize,
     open: u32,
-    symbols: Vec<Symbol>,
-) -> Result<(Vec<Symbol>, usize), Stop>
+    references: Vec<TokenReference>,
+) -> Result<(Vec<TokenReference>, usize), Stop>
     requires parts { AreParts text.now tokens.now }
     requires within { at ≤ length tokens.now }
-    ensures { ReadsAs (λ tree new. new.items ≡ symbols.items ++ symbols_behind tree) text.now tokens.now at result }
+    ensures { ReadsAs (λ tree new. new.items ≡ references.items ++ references_behind tree) text.now tokens.now at result }
 {
-    let mut all = symbols;
+    let mut all = references;
     let mut next = at;
     while is_at(tokens, next, Kind::Bar) {
         let (more, behind) = token_set(alloc, text, tokens, next + 1, open, all)?;
@@ -134,18 +134,18 @@ fn sets_behind_bars(
     Ok((all, next))
 }
 
-/// The symbols of the set of tokens at the index, and the index behind it. So many brackets are open.
+/// The references of the set of tokens at the index, and the index behind it. So many brackets are open.
 pub(crate) fn excluded_tokens(
     alloc: Global,
     text: &str,
     tokens: &[Token],
     at: usize,
     open: u32,
-) -> Result<(Sequence<Symbol>, usize), Stop>
+) -> Result<(Sequence<TokenReference>, usize), Stop>
     requires parts { AreParts text.now tokens.now }
     requires within { at ≤ length tokens.now }
-    ensures { Gives symbols_of text.now tokens.now at result }
+    ensures { Gives references_of text.now tokens.now at result }
 {
-    let (symbols, at) = token_set(alloc, text, tokens, at, open, Vec::new(alloc))?;
-    Ok((Sequence::new(symbols), at))
+    let (references, at) = token_set(alloc, text, tokens, at, open, Vec::new(alloc))?;
+    Ok((Sequence::new(references), at))
 }

@@ -2,10 +2,11 @@
 use crate::read_grammar;
 use crate::reader::ReadFault;
 use g4_base::{Sequence, Text};
-use g4_grammar::Range;
+use g4_chars::CharSet;
+use g4_elements::{Alternative, Element, Label, Repeat};
 use g4_source::{
-    Alternative, Argument, Atom, Command, Element, GrammarKind, Item, LexerRule, OptionValue,
-    ParserRule, Prequel, Repeat, Rule, Source, Suffix, Symbol,
+    Argument, Atom, AtomKind, Command, GrammarKind, LexerRule, OptionValue, ParserRule, Prequel,
+    Rule, Source, TokenReference,
 };
 use std::alloc::{AllocError, Global};
 use std::fmt::Write;
@@ -57,63 +58,82 @@ fn push_prequel(out: &mut String, prequel: &Prequel) -> Result<(), AllocError> {
     }
 }
 
-fn push_ranges(out: &mut String, ranges: &Sequence<Range>) -> Result<(), AllocError> {
+fn push_set(out: &mut String, set: &CharSet) -> Result<(), AllocError> {
     out.push('[')?;
-    for range in ranges.as_slice() {
+    for range in set.ranges() {
         out.push(range.first)?;
         out.push(range.last)?;
     }
     out.push(']')
 }
 
-fn push_symbols(out: &mut String, symbols: &Sequence<Symbol>) -> Result<(), AllocError> {
-    for symbol in symbols.as_slice() {
+fn push_references(
+    out: &mut String,
+    references: &Sequence<TokenReference>,
+) -> Result<(), AllocError> {
+    for reference in references.as_slice() {
         out.push(' ')?;
-        match symbol {
-            Symbol::Token(name) => out.push_str(name.as_str())?,
-            Symbol::Literal(literal) => out.push_str(literal.written.as_str())?,
+        match reference {
+            TokenReference::Token(name) => out.push_str(name.as_str())?,
+            TokenReference::Literal(literal) => out.push_str(literal.written.as_str())?,
         }
     }
     Ok(())
 }
 
-fn push_atom(out: &mut String, atom: &Atom) -> Result<(), AllocError> {
-    match atom {
-        Atom::Rule(name) => out.push_str(name.text.as_str()),
-        Atom::Token(name) => out.push_str(name.text.as_str()),
-        Atom::Literal(literal) => out.push_str(literal.written.as_str()),
-        Atom::Range(_, first, last) => {
+fn push_kind(out: &mut String, kind: &AtomKind) -> Result<(), AllocError> {
+    match kind {
+        AtomKind::Rule(name) => out.push_str(name.text.as_str()),
+        AtomKind::Token(name) => out.push_str(name.text.as_str()),
+        AtomKind::Literal(literal) => out.push_str(literal.written.as_str()),
+        AtomKind::Range(_, first, last) => {
             out.push_str(first.written.as_str())?;
             out.push_str("..")?;
             out.push_str(last.written.as_str())
         }
-        Atom::Set(ranges) => push_ranges(out, ranges),
-        Atom::Any(_) => out.push('.'),
-        Atom::NotTokens(_, symbols) => {
+        AtomKind::Set(set) => push_set(out, set),
+        AtomKind::Any(_) => out.push('.'),
+        AtomKind::NotTokens(_, references) => {
             out.push('~')?;
-            push_symbols(out, symbols)
+            push_references(out, references)
         }
-        Atom::NotCharacters(_, ranges) => {
+        AtomKind::NotCharacters(_, set) => {
             out.push('~')?;
-            push_ranges(out, ranges)
+            push_set(out, set)
         }
-        Atom::Action => out.push_str("{}"),
-        Atom::Predicate(name) => {
+        AtomKind::Action => out.push_str("{}"),
+        AtomKind::Predicate(name) => {
             out.push_str(name.text.as_str())?;
             out.push('?')
         }
     }
 }
 
-fn push_suffix(out: &mut String, suffix: &Option<Suffix>) -> Result<(), AllocError> {
-    let Some(suffix) = suffix else {
+fn push_label(out: &mut String, label: &Option<Label>) -> Result<(), AllocError> {
+    let Some(label) = label else {
         return Ok(());
     };
-    out.push_str(match suffix.repeat {
-        Repeat::Optional => "?",
-        Repeat::Star => "*",
-        Repeat::Plus => "+",
-    })?;
+    out.push_str(label.name.text.as_str())?;
+    out.push_str(if label.list { "+=" } else { "=" })
+}
+
+fn push_atom(out: &mut String, atom: &Atom) -> Result<(), AllocError> {
+    push_label(out, &atom.label)?;
+    push_kind(out, &atom.kind)?;
+    if atom.right {
+        out.push_str("<right>")?;
+    }
+    Ok(())
+}
+
+fn push_repeat(out: &mut String, repeat: Repeat) -> Result<(), AllocError> {
+    let (sign, suffix) = match repeat {
+        Repeat::Once => return Ok(()),
+        Repeat::Optional(suffix) => ("?", suffix),
+        Repeat::Star(suffix) => ("*", suffix),
+        Repeat::Plus(suffix) => ("+", suffix),
+    };
+    out.push_str(sign)?;
     if !suffix.greedy {
         out.push('?')?;
     }
@@ -121,35 +141,24 @@ fn push_suffix(out: &mut String, suffix: &Option<Suffix>) -> Result<(), AllocErr
 }
 
 #[cycle(shown)]
-fn push_element(out: &mut String, element: &Element) -> Result<(), AllocError> {
+fn push_element(out: &mut String, element: &Element<Atom>) -> Result<(), AllocError> {
     out.push(' ')?;
-    if let Some(label) = &element.label {
-        out.push_str(label.name.text.as_str())?;
-        out.push_str(if label.list { "+=" } else { "=" })?;
-    }
-    push_item(out, &element.item)?;
-    if element.right {
-        out.push_str("<right>")?;
-    }
-    push_suffix(out, &element.suffix)
-}
-
-#[cycle(shown)]
-fn push_item(out: &mut String, item: &Item) -> Result<(), AllocError> {
-    match item {
-        Item::Atom(atom) => push_atom(out, atom),
-        Item::Block(alternatives) => {
+    match element {
+        Element::Atom(atom) => push_atom(out, atom),
+        Element::Block(label, repeat, alternatives) => {
+            push_label(out, label)?;
             out.push('(')?;
             for alternative in alternatives {
                 push_alternative(out, alternative)?;
             }
-            out.push(')')
+            out.push(')')?;
+            push_repeat(out, *repeat)
         }
     }
 }
 
 #[cycle(shown)]
-fn push_alternative(out: &mut String, alternative: &Alternative) -> Result<(), AllocError> {
+fn push_alternative(out: &mut String, alternative: &Alternative<Atom>) -> Result<(), AllocError> {
     out.push('|')?;
     for element in &alternative.elements {
         push_element(out, element)?;
@@ -157,14 +166,14 @@ fn push_alternative(out: &mut String, alternative: &Alternative) -> Result<(), A
     Ok(())
 }
 
-fn push_elements(out: &mut String, elements: &[Element]) -> Result<(), AllocError> {
+fn push_elements(out: &mut String, elements: &[Element<Atom>]) -> Result<(), AllocError> {
     for element in elements {
         push_element(out, element)?;
     }
     Ok(())
 }
 
-fn push_parser_rule(out: &mut String, rule: &ParserRule) -> Result<(), AllocError> {
+fn push_parser_rule(out: &mut String, rule: &ParserRule<Atom>) -> Result<(), AllocError> {
     out.push_str("; ")?;
     out.push_str(rule.name.as_str())?;
     out.push(':')?;
@@ -362,11 +371,11 @@ fn reads_parser_rules(rt: HostRuntime) -> Result<(), Fail> {
             ("grammar g; r : | A | ;", "g; r: | | A |"),
             (
                 "grammar g; r : A? A* A+ A?? A*? A+? ;",
-                "g; r: | A? A* A+ A?? A*? A+?",
+                "g; r: | (| A)? (| A)* (| A)+ (| A)?? (| A)*? (| A)+?",
             ),
             (
                 "grammar g; r : x=A y+='b' z=s[1]* ;",
-                "g; r: | x=A y+='b' z=s*",
+                "g; r: | x=A y+='b' z=(| s)*",
             ),
             (
                 "grammar g; r : X=. Y=(A) x=~A ;",
@@ -379,6 +388,14 @@ fn reads_parser_rules(rt: HostRuntime) -> Result<(), Fail> {
             (
                 "grammar g; r : {a} {b}? {c}?<d=e> A ;",
                 "g; r: | {} {b}? {c}? A",
+            ),
+            (
+                "grammar g; r : {a}?<assoc=right> {b}?<assoc=left> ;",
+                "g; r: | {a}?<right> {b}?",
+            ),
+            (
+                "grammar g; r : x=A<assoc=right>* (y+=B)? z=(C)+ ;",
+                "g; r: | x=(| A<right>)* (| y+=B)? z=(| C)+",
             ),
             (
                 "grammar g; r : (A | B C)* ( ) (|A)+? ;",
@@ -500,11 +517,19 @@ fn reads_lexer_rules(rt: HostRuntime) -> Result<(), Fail> {
             ),
             (
                 "grammar G; A : 'a'..'c' x=[b] y+='d'..'e' Z='f'* ;",
-                "G; A: | 'a'..'c' x=[bb] y+='d'..'e' Z='f'*",
+                "G; A: | 'a'..'c' x=[bb] y+='d'..'e' Z=(| 'f')*",
             ),
             (
                 "grammar G; A : ~'a' ~[b-c] ~'d'..'e' ~('f' | [g] | ('h'..'i')) ;",
-                "G; A: | ~[aa] ~[bc] ~[de] ~[ffgghi]",
+                "G; A: | ~[aa] ~[bc] ~[de] ~[fi]",
+            ),
+            (
+                "grammar G; A : ~('m'..'p' | 'b' | ('a' | 'k') | [c-d n-z] | 'b') ;",
+                "G; A: | ~[  adkkmz]",
+            ),
+            (
+                "grammar G; A : ~'\\uD7FF'..'\\uE000' ;",
+                "G; A: | ~[\u{d7ff}\u{d7ff}\u{e000}\u{e000}]",
             ),
             (
                 "grammar G; A : ('a' | 'b' ('c')?)*? ( ) ;",
@@ -512,7 +537,7 @@ fn reads_lexer_rules(rt: HostRuntime) -> Result<(), Fail> {
             ),
             (
                 "grammar G; A : {a} {b}? {c}?<d> 'e'<f> B<g=h>+ ;",
-                "G; A: | {} {b}? {c}? 'e' B+",
+                "G; A: | {} {b}? {c}? 'e' (| B)+",
             ),
             (
                 "grammar G; A : 'a' -> skip | -> more, type(B), channel(2) | ;",
@@ -644,5 +669,79 @@ fn reads_brackets_as_deep_as_they_may_be(rt: HostRuntime) -> Result<(), Fail> {
     for text in &deeper {
         assert_eq!(rt; shown(alloc, text.as_bytes())?.as_str(), "no memory");
     }
+    Ok(())
+}
+
+/// How many rules of each kind the large text has.
+const LARGE: usize = 120;
+
+/// Adds a parser rule with blocks, signs and labels.
+fn push_large_parser_rule(text: &mut String, rule: usize) -> Result<(), AllocError> {
+    write!(
+        text,
+        "r{rule} : <assoc=right> x=A*? y+=(B | C 'd'+ | (r{rule}<assoc=right> | )??)+ # first{rule}\n"
+    )?;
+    write!(
+        text,
+        "  | {{action}} z=~(D | 'e' | (F))* {{predicate}}? ({{{{deep}}}} . | (G (H (I)?)*)+) # second{rule} ;\n"
+    )
+}
+
+/// Adds so many characters, each one apart from the others, with these texts around each.
+fn push_characters(
+    text: &mut String,
+    count: u32,
+    before: &str,
+    behind: &str,
+) -> Result<(), AllocError> {
+    for character in 0..count.min(1000) {
+        if let Some(character) = char::from_u32(0x4E00 + 2 * character) {
+            text.push_str(before)?;
+            text.push(character)?;
+            text.push_str(behind)?;
+        }
+    }
+    Ok(())
+}
+
+/// Adds a lexer rule with sets of many characters.
+fn push_large_lexer_rule(text: &mut String, rule: usize) -> Result<(), AllocError> {
+    write!(text, "fragment T{rule} : [")?;
+    push_characters(text, 120, "", "")?;
+    text.push_str("]+? ('a'..'z' | ~[")?;
+    push_characters(text, 110, "", "")?;
+    text.push_str("])* -> skip ;\n")
+}
+
+/// A large grammar text.
+fn large(alloc: Global) -> Result<String, AllocError> {
+    let mut text = String::from_str(
+        alloc,
+        "grammar large; options { a = b; } import A, B; tokens { C, D } channels { E, F }\n",
+    )?;
+    for rule in 0..LARGE {
+        push_large_parser_rule(&mut text, rule)?;
+    }
+    for rule in 0..LARGE {
+        push_large_lexer_rule(&mut text, rule)?;
+    }
+    text.push_str("Last : ~(")?;
+    push_characters(&mut text, 1000, "'", "' | ")?;
+    text.push_str("'a') ;\n")?;
+    Ok(text)
+}
+
+#[test]
+fn reads_a_large_text(rt: HostRuntime) -> Result<(), Fail> {
+    let alloc = rt.alloc();
+    let text = large(alloc)?;
+    assert!(rt; 100_000 < text.len() && text.len() < 1_000_000);
+    let Ok(source) = read_grammar(alloc, text.as_bytes()) else {
+        return Err("no grammar")?;
+    };
+    let rules = source.rules.as_slice();
+    assert_eq!(rt; rules.len(), 2 * LARGE + 1);
+    let last = rules.last().ok_or("no rule")?;
+    assert_eq!(rt; last.name(), "Last");
     Ok(())
 }

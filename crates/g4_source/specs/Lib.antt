@@ -1,4 +1,2 @@
 pub mod Blocks
-pub mod Elements
-pub mod Marks
-pub mod Trees
+pub mod Rules

@@ -1,11 +1,21 @@
-// The elements of rules that have no others in them.
-use crate::Name;
+// The elements of rules that have no others in them, as they are written.
 use g4_base::{Place, Sequence, Text};
-use g4_grammar::{Literal, Range};
+use g4_chars::CharSet;
+use g4_elements::{Label, Name};
 
-/// An element of a rule that has no others in it.
+/// An element of a rule that has no others in it, as it is written.
 #[derive(Drop)]
-pub enum Atom {
+pub struct Atom {
+    /// The label, where the element has no sign. A label before an element with a sign is that of its block.
+    pub label: Option<Label>,
+    /// Whether `<assoc=right>` follows it.
+    pub right: bool,
+    pub kind: AtomKind,
+}
+
+/// What an element without others in it is.
+#[derive(Drop)]
+pub enum AtomKind {
     /// A lower-case name: a parser rule.
     Rule(Name),
     /// An upper-case name: a token type, or in a lexer rule a lexer rule; or `EOF`.
@@ -13,23 +23,30 @@ pub enum Atom {
     Literal(Literal),
     /// The characters from that of one literal to that of another, in a lexer rule. The place is that of the first literal.
     Range(Place, Literal, Literal),
-    /// One character of these ranges, in a lexer rule.
-    Set(Sequence<Range>),
+    /// One character of a set, in a lexer rule.
+    Set(CharSet),
     /// `.`: any token, or in a lexer rule any character.
     Any(Place),
     /// `~` in a parser rule: any token but these.
-    NotTokens(Place, Sequence<Symbol>),
-    /// `~` in a lexer rule: any character but those of these ranges, which may overlap.
-    NotCharacters(Place, Sequence<Range>),
+    NotTokens(Place, Sequence<TokenReference>),
+    /// `~` in a lexer rule: any character but those of the set.
+    NotCharacters(Place, CharSet),
     /// An action, whose text is passed over.
     Action,
     /// A predicate: its action, braces included.
     Predicate(Name),
 }
 
+/// A literal: the characters that it stands for, and its text as written, quotes included.
+#[derive(Drop)]
+pub struct Literal {
+    pub characters: Sequence<char>,
+    pub written: Text,
+}
+
 /// A token type by its name or its literal.
 #[derive(Drop)]
-pub enum Symbol {
+pub enum TokenReference {
     Token(Text),
     Literal(Literal),
 }

@@ -2,15 +2,11 @@
 #![tactic(auto)]
 
 mod atom;
-mod element;
-mod name;
 mod prequel;
 mod rule;
 mod source;
 
-pub use atom::{Atom, Symbol};
-pub use element::{Alternative, Element, Elements, Item, Label, Repeat, Suffix};
-pub use name::Name;
+pub use atom::{Atom, AtomKind, Literal, TokenReference};
 pub use prequel::{OptionValue, Prequel, Setting};
 pub use rule::{
     AlternativeLabel, Argument, Command, LexerAlternative, LexerRule, ParserRule, Rule,

@@ -1,29 +1,43 @@
-// The rules of a grammar as they are written.
+// The rules of a grammar.
 ghost use Rattle.std.specs.Prelude.{◌≡◌};
+ghost use Rattle.g4_source.specs.Rules.{is_skip, rule_name, skips};
 
-use crate::{Elements, Name};
+use crate::Atom;
 use g4_base::{Place, Sequence, Text};
+use g4_elements::{Elements, Name};
 
 /// A rule: a lower-case name begins a parser rule, an upper-case name a lexer rule.
 #[derive(Drop)]
 pub enum Rule {
-    Parser(ParserRule),
+    Parser(ParserRule<Atom>),
     Lexer(LexerRule),
 }
 
-/// A parser rule: its alternatives in order. Its modifier, arguments and actions are passed over.
+impl Rule {
+    /// The name of the rule.
+    pub fn name(&self) -> &str
+        ensures { result.now ≡ rule_name self.now }
+    {
+        match self {
+            Rule::Parser(rule) => rule.name.as_str(),
+            Rule::Lexer(rule) => rule.name.as_str(),
+        }
+    }
+}
+
+/// A parser rule over some kind of atoms: its alternatives in order. Its modifier, arguments and actions are passed over.
 #[derive(Drop)]
-pub struct ParserRule {
+pub struct ParserRule<A> {
     pub name: Text,
-    pub alternatives: Sequence<RuleAlternative>,
+    pub alternatives: Sequence<RuleAlternative<A>>,
 }
 
 /// An alternative of a parser rule.
 #[derive(Drop)]
-pub struct RuleAlternative {
-    /// Whether `<assoc=right>` stands at its start.
+pub struct RuleAlternative<A> {
+    /// Whether `<assoc=right>` begins it.
     pub right: bool,
-    pub elements: Elements,
+    pub elements: Elements<A>,
     pub label: Option<AlternativeLabel>,
 }
 
@@ -37,7 +51,7 @@ pub struct AlternativeLabel {
 /// A lexer rule: its alternatives in order.
 #[derive(Drop)]
 pub struct LexerRule {
-    /// The place of `fragment`, where it stands.
+    /// The place of `fragment`, where it is written.
     pub fragment: Option<Place>,
     pub name: Text,
     pub alternatives: Sequence<LexerAlternative>,
@@ -46,8 +60,20 @@ pub struct LexerRule {
 /// An alternative of a lexer rule: its elements, and its commands in order.
 #[derive(Drop)]
 pub struct LexerAlternative {
-    pub elements: Elements,
+    pub elements: Elements<Atom>,
     pub commands: Sequence<Command>,
+}
+
+impl LexerAlternative {
+    /// Whether what it matches is dropped: one of its commands is `skip`.
+    pub fn skips(&self) -> bool
+        ensures { result ≡ skips self.now }
+    {
+        self.commands
+            .as_slice()
+            .iter()
+            .any(|command| command.is_skip())
+    }
 }
 
 /// A command of a lexer rule, such as `skip` or `channel(HIDDEN)`.
@@ -55,6 +81,15 @@ pub struct LexerAlternative {
 pub struct Command {
     pub name: Name,
     pub argument: Option<Argument>,
+}
+
+impl Command {
+    /// Whether it is `skip`, without an argument.
+    pub fn is_skip(&self) -> bool
+        ensures { result ≡ is_skip self.now }
+    {
+        self.name.text.as_str() == "skip" && self.argument.is_none()
+    }
 }
 
 /// The argument of a command.

@@ -1,7 +1,7 @@
 use Rattle.std.proofs.lemmas.Result.{err_from_is_err_and}
 use Rattle.std.proofs.Common.{refl, ◌≡◌}
 use Rattle.g4_prequels.proofs.Sequences.{then_passed, stops_first, stops_then}
-use Rattle.g4_source.specs.declared.name.Name.{Name}
+use Rattle.g4_elements.specs.declared.name.Name.{Name}
 use Rattle.g4_source.specs.declared.prequel.OptionValue.{OptionValue}
 use Rattle.g4_source.specs.declared.prequel.Setting.{Setting}
 use Rattle.g4_prequels.proofs.options.setting.Goals as goal

@@ -1,7 +1,7 @@
 use Rattle.std.proofs.Common.{◌≡◌, ℕ, ◌++◌, List, Bool, refl, sym, ◌∙◌, ap, arith, append_assoc, append-nil}
 use Rattle.std.proofs.lemmas.Result.{err_from_is_err_and}
 use Rattle.g4_tokens.specs.declared.token.Kind.TheVariants as kinds
-use Rattle.g4_grammar.specs.declared.grammar.Range.{Range}
+use Rattle.g4_chars.specs.declared.range.Range.{Range as Span}
 use Rattle.g4_tokens.specs.declared.token.Token.{Token}
 use Rattle.g4_syntax.specs.Notation.{◌▸◌, optional, sign, part, character_set}
 use Rattle.g4_syntax.specs.Trees.{begins_there}
@@ -50,7 +50,7 @@ with_brackets-returns t c =
       passed = then_passed (c.in_ok-at.ensures text) (then_passed c.in_ok-ranges.ensures.passed (c.in_ok-at-2.ensures text));
       says =
           c.in_ok-ranges.ensures.says
-          ∙ ap (λ (r : List Range). c.args.ranges.items ++ r) (of_brackets (c.in_ok-at.ensures text).tree c.in_ok-ranges.ensures.passed.tree (c.in_ok-at-2.ensures text).tree);
+          ∙ ap (λ (r : List Span). c.args.ranges.items ++ r) (of_brackets (c.in_ok-at.ensures text).tree c.in_ok-ranges.ensures.passed.tree (c.in_ok-at-2.ensures text).tree);
     }
 
 pub with_each-returns-in_err-all : goal.with_each-returns-in_err-all
@@ -74,7 +74,7 @@ with_each-loop-alloc-preserved t c =
     let begins = begins_first (sign kinds.Bar) (part character_set) l refl ∙ sym (c.is_at.ensures.begins text) ∙ c.loop-alloc-test.true in
     let bar = one_passed (c.is_at.ensures.there c.loop-alloc-test.true) (sym (c.is_at.ensures.begins text) ∙ c.loop-alloc-test.true) in
     turn c.loop-alloc.invariant begins (then_passed bar c.in_ok-more.ensures.passed)
-    (λ rest. sym (append_assoc c.loop-alloc.all.items (excluded_ranges c.in_ok-more.ensures.passed.tree) (excluded_behind rest)) ∙ ap (λ (r : List Range). r ++ excluded_behind rest) (sym c.in_ok-more.ensures.says))
+    (λ rest. sym (append_assoc c.loop-alloc.all.items (excluded_ranges c.in_ok-more.ensures.passed.tree) (excluded_behind rest)) ∙ ap (λ (r : List Span). r ++ excluded_behind rest) (sym c.in_ok-more.ensures.says))
 
 pub with_each-returns : goal.with_each-returns
 with_each-returns t c =
@@ -86,7 +86,7 @@ with_each-returns t c =
       passed = then_passed c.in_ok-all.ensures.passed read.passed;
       says =
           read.says
-          ∙ ap (λ (r : List Range). r ++ excluded_behind read.passed.tree) c.in_ok-all.ensures.says
+          ∙ ap (λ (r : List Span). r ++ excluded_behind read.passed.tree) c.in_ok-all.ensures.says
           ∙ append_assoc c.args.ranges.items (excluded_ranges c.in_ok-all.ensures.passed.tree) (excluded_behind read.passed.tree);
     }
 

@@ -14,4 +14,4 @@ returns-in_err-extend_from_slice c =
     rw (p.1, p.2) without_memory
 
 pub returns : goal.returns
-returns c = record { passed = c.in_ok-set.ensures.passed; says = c.in_ok-extend_from_slice.ensures.items ∙ ap (λ r. c.args.ranges.items ++ r) (c.as_slice.ensures ∙ c.in_ok-set.ensures.says) }
+returns c = record { passed = c.in_ok-set.ensures.passed; says = c.in_ok-extend_from_slice.ensures.items ∙ ap (λ r. c.args.ranges.items ++ r) (c.ranges-2.ensures.value ∙ c.in_ok-set.ensures.says) }

@@ -1,6 +1,7 @@
 use Rattle.std.proofs.lemmas.Result.{err_from_is_err_and}
 use Rattle.std.proofs.Common.{◌≡◌, ◌∷◌, ◌||◌, List, Bool, true, false, refl, sym, ◌∙◌, ap, arith}
 use Rattle.g4_source.specs.declared.rule.LexerRule.{LexerRule}
+use Rattle.g4_source.specs.declared.atom.Atom.{Atom}
 use Rattle.g4_source.specs.declared.rule.ParserRule.{ParserRule}
 use Rattle.g4_source.specs.declared.rule.Rule.TheVariants as rules
 use Rattle.g4_syntax.specs.Notation.{Spelled, ◌∣◌}
@@ -59,7 +60,7 @@ pub loop-alloc-preserved : goal.loop-alloc-preserved
 loop-alloc-preserved c =
     let none = sym c.is_lexer_rule_at.ensures ∙ c.if-is_lexer_rule_at.false in
     let begins = parser_rule_begins (from c.args.text.now c.args.tokens.now c.loop-alloc.next) ∙ sym (c.is_at.ensures.begins c.args.text.now) ∙ c.if-is_at.true in
-    list_turn combined_rules c.loop-alloc.rules.items c.loop-alloc.invariant (other_begins (from c.args.text.now c.args.tokens.now c.loop-alloc.next) true none begins) (right_passed none c.in_ok-rule-2.ensures.passed) (λ rest. ap (λ (r : ParserRule). rules.Parser r ∷ combined_rules rest) (sym c.in_ok-rule-2.ensures.says)) c.in_ok-push-2.ensures.items
+    list_turn combined_rules c.loop-alloc.rules.items c.loop-alloc.invariant (other_begins (from c.args.text.now c.args.tokens.now c.loop-alloc.next) true none begins) (right_passed none c.in_ok-rule-2.ensures.passed) (λ rest. ap (λ (r : ParserRule Atom). rules.Parser r ∷ combined_rules rest) (sym c.in_ok-rule-2.ensures.says)) c.in_ok-push-2.ensures.items
 
 pub loop-alloc-smaller : goal.loop-alloc-smaller
 loop-alloc-smaller c =

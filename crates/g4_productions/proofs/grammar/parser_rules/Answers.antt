@@ -1,5 +1,6 @@
 use Rattle.std.proofs.lemmas.Result.{err_from_is_err_and}
 use Rattle.std.proofs.Common.{◌∷◌, refl, sym, ◌∙◌, ap, arith}
+use Rattle.g4_source.specs.declared.atom.Atom.{Atom}
 use Rattle.g4_source.specs.declared.rule.ParserRule.{ParserRule}
 use Rattle.g4_source.specs.declared.rule.Rule.TheVariants as rules
 use Rattle.g4_prequels.specs.Steps.{from, without_memory}
@@ -21,7 +22,7 @@ returns-in_err-push c =
 
 pub loop-alloc-preserved : goal.loop-alloc-preserved
 loop-alloc-preserved c =
-    list_turn parser_rules c.loop-alloc.rules.items c.loop-alloc.invariant (parser_rule_begins (from c.args.text.now c.args.tokens.now c.loop-alloc.next) ∙ sym (c.is_at.ensures.begins c.args.text.now) ∙ c.loop-alloc-test.true) c.in_ok-rule.ensures.passed (λ rest. ap (λ (r : ParserRule). rules.Parser r ∷ parser_rules rest) (sym c.in_ok-rule.ensures.says)) c.in_ok-push.ensures.items
+    list_turn parser_rules c.loop-alloc.rules.items c.loop-alloc.invariant (parser_rule_begins (from c.args.text.now c.args.tokens.now c.loop-alloc.next) ∙ sym (c.is_at.ensures.begins c.args.text.now) ∙ c.loop-alloc-test.true) c.in_ok-rule.ensures.passed (λ rest. ap (λ (r : ParserRule Atom). rules.Parser r ∷ parser_rules rest) (sym c.in_ok-rule.ensures.says)) c.in_ok-push.ensures.items
 
 pub loop-alloc-smaller : goal.loop-alloc-smaller
 loop-alloc-smaller c =

@@ -1,12 +1,13 @@
-use Rattle.std.proofs.Common.{◌≡◌, ℕ, ◌++◌, ◌∷◌, List, Bool, false, Option, Some, None, refl, sym, ◌∙◌, ap, arith, map}
+use Rattle.std.proofs.Common.{◌≡◌, ℕ, ◌++◌, ◌∷◌, List, Bool, Some, None, refl, sym, ◌∙◌, ap, arith, map}
 use Rattle.std.proofs.lemmas.Result.{err_from_is_err_and}
 use Rattle.g4_tokens.specs.declared.token.Kind.TheVariants as kinds
 use Rattle.g4_tokens.specs.declared.token.Token.{Token}
-use Rattle.g4_source.specs.declared.atom.Atom.TheVariants as atoms
-use Rattle.g4_source.specs.declared.name.Name.{Name}
-use Rattle.g4_source.specs.declared.element.Suffix.{Suffix}
-use Rattle.g4_source.specs.Elements.{Element, Elements}
-use Rattle.g4_source.specs.Trees.{element_of, alternative_of}
+use Rattle.g4_source.specs.declared.atom.AtomKind.TheVariants as atoms
+use Rattle.g4_elements.specs.declared.name.Name.{Name}
+use Rattle.g4_elements.specs.declared.element.Repeat.{Repeat}
+use Rattle.g4_elements.specs.Elements.{Element, Elements}
+use Rattle.g4_source.specs.declared.atom.Atom.{Atom}
+use Rattle.g4_elements.specs.Trees.{element_of, alternative_of}
 use Rattle.g4_syntax.specs.Notation.{◌▸◌, ◌∣◌, optional, repeated, sign, part, lexer_element, character_set}
 use Rattle.g4_syntax.specs.Productions.{action, assign, element_options, lexer_item}
 use Rattle.g4_syntax.specs.Trees.{begins_there, right, inner}
@@ -66,7 +67,7 @@ block_item-returns-in_err-alternatives t c =
 pub block_item-returns : goal.block_item-returns
 block_item-returns t c = record {
   passed = c.in_ok-alternatives.ensures.passed;
-  says = labelled_block c.args.label false c.in_ok-alternatives.alternatives c.in_ok-alternatives.ensures.says ∙ of_lexer_block c.args.label c.in_ok-alternatives.ensures.passed.tree;
+  says = labelled_block c.args.label c.in_ok-alternatives.alternatives c.in_ok-alternatives.ensures.says ∙ of_lexer_block c.args.label c.in_ok-alternatives.ensures.passed.tree;
 }
 
 -- the items of a literal begin with it
@@ -313,18 +314,23 @@ element-returns-in_err-item t c =
     let p = err_from_is_err_and c.from_residual.result c.from_residual.ensures.1 in
     rw (p.1, p.2) (stops_inner (stops_right none (stops_first c.in_err-item.ensures)))
 
+pub element-returns-in_err-element : goal.element-returns-in_err-element
+element-returns-in_err-element t c =
+    let p = err_from_is_err_and c.from_residual-in_err-element.result c.from_residual-in_err-element.ensures.1 in
+    rw (p.1, p.2) without_memory
+
 pub element-returns : goal.element-returns
 element-returns t c =
     let text = c.args.text.now in
     let none = action_begins text c.args.tokens.now c.args.at (c.is_at.ensures.begins text) c.if-is_at.false in
     let item = c.in_ok-item.ensures in
-    let suffix = c.optional_suffix-suffix.ensures text in
+    let suffix = c.optional_suffix-repeat.ensures text in
     record {
       passed = inner_passed (right_passed none (then_passed item.passed suffix.passed));
       says =
-          c.with_suffix.ensures
-          ∙ ap (λ (x : Labelled). with_suffix x c.optional_suffix-suffix.result.0) item.says
-          ∙ ap (λ (s : Option Suffix). with_suffix (labelled_lexer item.passed.tree) s) suffix.says;
+          c.in_ok-element.ensures
+          ∙ ap (λ (x : Labelled). with_suffix x c.optional_suffix-repeat.result.0) item.says
+          ∙ ap (λ (r : Repeat). with_suffix (labelled_lexer item.passed.tree) r) suffix.says;
     }
 
 pub elements-loop-alloc-init : goal.elements-loop-alloc-init
@@ -358,7 +364,7 @@ elements-loop-alloc-preserved t c =
     let element = c.in_ok-element.ensures in
     let xs = c.loop-alloc.elements.items in
     list_turn lexer_elements (map element_of xs) c.loop-alloc.invariant begins element.passed
-    (λ rest. ap (λ (x : Element). x ∷ lexer_elements rest) (sym element.says))
+    (λ rest. ap (λ (x : Element Atom). x ∷ lexer_elements rest) (sym element.says))
     (ap (map element_of) c.in_ok-push.ensures.items ∙ element_pushed xs c.in_ok-element.element)
 
 pub elements-returns : goal.elements-returns
@@ -419,5 +425,5 @@ alternatives-returns t c =
       says =
           read.says
           ∙ ap (λ xs. map alternative_of xs ++ lexer_alternatives_behind read.passed.tree) c.in_ok-alternatives.ensures.items
-          ∙ ap (λ (x : Elements). x ∷ lexer_alternatives_behind read.passed.tree) (alternative_is c.in_ok-first.first first.says);
+          ∙ ap (λ (x : Elements Atom). x ∷ lexer_alternatives_behind read.passed.tree) (alternative_is c.in_ok-first.first first.says);
     }

@@ -1,6 +1,6 @@
 use Rattle.std.proofs.Common.{◌++◌, length, ◌+◌, ◌-◌, ◌*◌, map}
 use Rattle.g4_tokens.specs.declared.token.Kind.TheVariants as kinds
-use Rattle.g4_source.specs.Trees.{element_of, alternative_of}
+use Rattle.g4_elements.specs.Trees.{element_of, alternative_of}
 use Rattle.g4_syntax.specs.Notation.{◌▸◌, repeated, part, sign, lexer_element}
 use Rattle.g4_prequels.proofs.Repetitions.{Listed}
 use Rattle.g4_productions.specs.LexerElements.{lexer_elements, lexer_alternatives_behind}

@@ -1,6 +1,6 @@
 use Rattle.std.proofs.Common.{refl, ap}
 use Rattle.std.proofs.lemmas.Result.{err_from_is_err_and}
-use Rattle.g4_source.specs.declared.atom.Atom.TheVariants as atoms
+use Rattle.g4_source.specs.declared.atom.AtomKind.TheVariants as atoms
 use Rattle.g4_productions.proofs.LexerTrees.{labelled_atom}
 use Rattle.g4_productions.proofs.lexer_element.any_item.Goals as goal
 

@@ -1,7 +1,7 @@
 use Rattle.std.proofs.Common.{◌≡◌, refl, ◌∙◌, ap}
 use Rattle.std.proofs.lemmas.Result.{err_from_is_err_and}
 use Rattle.g4_tokens.specs.declared.token.Kind.TheVariants as kinds
-use Rattle.g4_source.specs.declared.atom.Atom.TheVariants as atoms
+use Rattle.g4_source.specs.declared.atom.AtomKind.TheVariants as atoms
 use Rattle.g4_syntax.specs.Notation.{sign}
 use Rattle.g4_syntax.specs.Trees.{Tree}
 use Rattle.g4_syntax.proofs.Unique.{one_reading}

@@ -1,6 +1,6 @@
 use Rattle.std.proofs.Common.{Option, ◌∙◌, ap}
 use Rattle.std.proofs.lemmas.Result.{err_from_is_err_and}
-use Rattle.g4_source.specs.declared.name.Name.{Name}
+use Rattle.g4_elements.specs.declared.name.Name.{Name}
 use Rattle.g4_source.specs.declared.rule.Argument.{Argument}
 use Rattle.g4_source.specs.declared.rule.Command.{Command}
 use Rattle.g4_prequels.specs.Texts.{name_of}

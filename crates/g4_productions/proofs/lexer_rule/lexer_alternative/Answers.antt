@@ -1,6 +1,8 @@
 use Rattle.std.proofs.Common.{List, ◌∙◌, ap}
 use Rattle.std.proofs.lemmas.Result.{err_from_is_err_and}
-use Rattle.g4_source.specs.Elements.{Elements, in_order}
+use Rattle.g4_elements.specs.Elements.{Elements}
+use Rattle.g4_elements.specs.Trees.{in_order}
+use Rattle.g4_source.specs.declared.atom.Atom.{Atom}
 use Rattle.g4_source.specs.declared.rule.Command.{Command}
 use Rattle.g4_source.specs.declared.rule.LexerAlternative.{LexerAlternative}
 use Rattle.g4_prequels.proofs.Sequences.{then_passed, stops_first, stops_then}
@@ -8,7 +10,7 @@ use Rattle.g4_productions.specs.LexerElements.{lexer_elements}
 use Rattle.g4_productions.proofs.lexer_rule.lexer_alternative.Goals as goal
 
 -- an alternative of these elements with these commands
-abbrev with_commands : Elements → List Command → LexerAlternative
+abbrev with_commands : Elements Atom → List Command → LexerAlternative
 with_commands es cs = record { elements = es; commands = cs }
 
 pub returns-in_err-elements : goal.returns-in_err-elements

@@ -1,10 +1,10 @@
-use Rattle.std.proofs.Common.{◌≡◌, ◌++◌, ◌∷◌, map, Bool, false, None, Some, refl, sym, ◌∙◌, ap, arith, append-nil}
+use Rattle.std.proofs.Common.{◌≡◌, ◌++◌, ◌∷◌, map, Bool, None, Some, refl, sym, ◌∙◌, ap, arith, append-nil}
 use Rattle.std.proofs.lemmas.Result.{err_from_is_err_and}
 use Rattle.g4_tokens.specs.declared.token.Kind.TheVariants as kinds
-use Rattle.g4_source.specs.declared.atom.Atom.TheVariants as atoms
-use Rattle.g4_source.specs.Elements.{block as a_block, either, in_order}
-use Rattle.g4_source.specs.Trees.{element_of, alternative_of}
-use Rattle.g4_source.proofs.Trees.{of_parts, of_block, of_elements}
+use Rattle.g4_source.specs.declared.atom.AtomKind.TheVariants as atoms
+use Rattle.g4_elements.specs.Elements.{either}
+use Rattle.g4_elements.specs.Trees.{in_order, element_of, alternative_of}
+use Rattle.g4_elements.proofs.Trees.{of_elements}
 use Rattle.g4_syntax.specs.Notation.{◌▸◌, ◌∣◌, sign, part, token_set, optional}
 use Rattle.g4_syntax.specs.Productions.{assign, item as an_item, reference_end, element_options, alternative as an_alternative}
 use Rattle.g4_syntax.specs.Trees.{inner, right}
@@ -14,12 +14,12 @@ use Rattle.g4_prequels.specs.Texts.{name_of}
 use Rattle.g4_prequels.proofs.Choices.{left_passed, right_passed, inner_passed, stops_left, stops_right, stops_inner}
 use Rattle.g4_prequels.proofs.Repetitions.{begin, turn, end_turns, stops_in_turn}
 use Rattle.g4_prequels.proofs.Sequences.{one_passed, then_passed, stops_first, stops_then}
-use Rattle.g4_productions.specs.Elements.{with_suffix}
+use Rattle.g4_productions.specs.Elements.{brackets, with_suffix}
 use Rattle.g4_productions.specs.ParserElements.{parser_element, parser_elements, labelled, named_item, unnamed, alternative_elements, alternatives_behind}
 use Rattle.g4_productions.specs.ParserItems.{labelled_of, reference_right, labelled_behind}
 use Rattle.g4_productions.proofs.Composed.{sequence_is, takes_token}
 use Rattle.g4_productions.proofs.Handing.{reads_left, reads_right, reads_inner}
-use Rattle.g4_productions.proofs.ParserItems.{made, with_atom, lone_reference_is, lower_label_is, upper_label_is, block_is, listed_more}
+use Rattle.g4_productions.proofs.ParserItems.{with_atom, lone_reference_is, lower_label_is, upper_label_is, block_is, listed_more}
 use Rattle.g4_productions.proofs.parser_element.+brackets.Goals as goal
 
 -- an item that begins with no name
@@ -76,7 +76,7 @@ unnamed_item-returns t c =
     let block = c.in_ok-alternatives.ensures in
     record {
       passed = right_passed no_literal (right_passed no_dot (right_passed no_tilde block.passed));
-      says = ap (λ i. made c.args.label i false) (of_block c.in_ok-alternatives.alternatives ∙ ap (λ xs. a_block (either xs)) block.says) ∙ sym (block_is c.args.label block.passed.tree);
+      says = ap (λ xs. brackets c.args.label (either xs)) block.says ∙ sym (block_is c.args.label block.passed.tree);
     }
 
 -- an item behind a label
@@ -283,18 +283,23 @@ element-returns-in_err-labelled t c =
     let p = err_from_is_err_and c.from_residual.result c.from_residual.ensures.1 in
     rw (p.1, p.2) (stops_inner (stops_right no_action (stops_first c.in_err-labelled.ensures)))
 
-pub element-optional_suffix-suffix-requires : goal.element-optional_suffix-suffix-requires
-element-optional_suffix-suffix-requires t c = record { within = c.in_ok-labelled.ensures.passed.within }
+pub element-optional_suffix-repeat-requires : goal.element-optional_suffix-repeat-requires
+element-optional_suffix-repeat-requires t c = record { within = c.in_ok-labelled.ensures.passed.within }
+
+pub element-returns-in_err-element : goal.element-returns-in_err-element
+element-returns-in_err-element t c =
+    let p = err_from_is_err_and c.from_residual-in_err-element.result c.from_residual-in_err-element.ensures.1 in
+    rw (p.1, p.2) without_memory
 
 pub element-returns : goal.element-returns
 element-returns t c =
     let text = c.args.text.now in
     let no_action = sequence_is (sign kinds.Action) (optional (sign kinds.Question ▸ optional element_options)) (from text c.args.tokens.now c.args.at) refl (sym (c.is_at.ensures.begins text) ∙ c.if-is_at.false) in
     let item = c.in_ok-labelled.ensures in
-    let suffix = c.optional_suffix-suffix.ensures text in
+    let suffix = c.optional_suffix-repeat.ensures text in
     record {
       passed = inner_passed (right_passed no_action (then_passed item.passed suffix.passed));
-      says = of_parts _ _ _ _ ∙ ap (λ x. with_suffix x c.optional_suffix-suffix.result.0) item.says ∙ ap (with_suffix (labelled item.passed.tree)) suffix.says;
+      says = c.in_ok-element.ensures ∙ ap (λ x. with_suffix x c.optional_suffix-repeat.result.0) item.says ∙ ap (with_suffix (labelled item.passed.tree)) suffix.says;
     }
 
 pub elements-loop-alloc-init : goal.elements-loop-alloc-init

@@ -1,5 +1,5 @@
 use Rattle.std.proofs.Common.{◌+◌, ◌*◌, ◌-◌, ◌++◌, length, map}
-use Rattle.g4_source.specs.Trees.{element_of, alternative_of}
+use Rattle.g4_elements.specs.Trees.{element_of, alternative_of}
 use Rattle.g4_prequels.proofs.Repetitions.{Turned}
 use Rattle.g4_productions.specs.ParserElements.{parser_elements, alternatives_behind}
 use Rattle.g4_productions.proofs.parser_element.+brackets.Given as goal

@@ -1,6 +1,6 @@
 use Rattle.std.proofs.Common.{ap}
 use Rattle.std.proofs.lemmas.Result.{err_from_is_err_and}
-use Rattle.g4_source.specs.declared.atom.Atom.TheVariants as atoms
+use Rattle.g4_source.specs.declared.atom.AtomKind.TheVariants as atoms
 use Rattle.g4_prequels.specs.Options.{right_of_optional}
 use Rattle.g4_prequels.specs.Texts.{name_of}
 use Rattle.g4_prequels.proofs.Sequences.{then_passed, stops_first, stops_then}

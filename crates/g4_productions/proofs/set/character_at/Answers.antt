@@ -1,5 +1,5 @@
 use Rattle.std.proofs.Common.{◌∙◌, ap}
-use Rattle.g4_grammar.specs.declared.grammar.Literal.{Literal}
+use Rattle.g4_source.specs.declared.atom.Literal.{Literal}
 use Rattle.g4_productions.specs.LexerElements.{first_character}
 use Rattle.g4_productions.proofs.set.character_at.Goals as goal
 

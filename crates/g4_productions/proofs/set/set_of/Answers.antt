@@ -1,11 +1,9 @@
-use Rattle.std.proofs.Common.{Some, sym, ◌∙◌, ap, map, inl, inr}
-use Rattle.g4_productions.specs.SetText.{in_grammar}
+use Rattle.std.proofs.Common.{sym, inl, inr}
 use Rattle.g4_productions.proofs.SetText.{spelled_set, bad_set}
 use Rattle.g4_productions.proofs.set.set_of.Goals as goal
 
-pub returns-in_ok-ranges-in-Ok : goal.returns-in_ok-ranges-in-Ok
-returns-in_ok-ranges-in-Ok c =
-    ap (λ r. Some r) (c.in_ok-ranges-in-Ok.ensures ∙ ap (map in_grammar) c.ranges-in-Ok.ensures.value) ∙ sym (spelled_set c.args.content.now c.in-Ok.set c.in-Ok.ensures)
+pub returns-in-Ok : goal.returns-in-Ok
+returns-in-Ok c = sym (spelled_set c.args.content.now c.in-Ok.set c.in-Ok.ensures)
 
 pub returns-in-Err-BadEscape : goal.returns-in-Err-BadEscape
 returns-in-Err-BadEscape c = sym (bad_set c.args.content.now (inr (rw c.in-Err-BadEscape.field-0-is at c.in-Err-BadEscape.ensures)))

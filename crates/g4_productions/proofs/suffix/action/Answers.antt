@@ -1,12 +1,13 @@
-use Rattle.std.proofs.Common.{refl, sym, ◌∙◌, ap, false, None}
+use Rattle.std.proofs.Common.{refl, sym, ◌∙◌, ap, None}
 use Rattle.std.proofs.lemmas.Result.{err_from_is_err_and}
-use Rattle.g4_source.specs.declared.atom.Atom.TheVariants as atoms
-use Rattle.g4_source.specs.Elements.{element, atom}
-use Rattle.g4_source.proofs.Trees.{of_parts, of_atom}
+use Rattle.g4_source.specs.declared.atom.AtomKind.TheVariants as atoms
+use Rattle.g4_elements.proofs.Trees.{of_atom}
+use Rattle.g4_elements.specs.Elements.{atom}
 use Rattle.g4_tokens.specs.declared.token.Kind.TheVariants as kinds
 use Rattle.g4_syntax.specs.Notation.{sign, optional}
 use Rattle.g4_syntax.specs.Productions.{element_options}
 use Rattle.g4_prequels.specs.Steps.{from}
+use Rattle.g4_prequels.specs.Texts.{name_of}
 use Rattle.g4_prequels.proofs.Choices.{absent_passed, present_passed, stops_present}
 use Rattle.g4_prequels.proofs.Sequences.{then_passed, stops_first, stops_then}
 use Rattle.g4_productions.proofs.Composed.{sequence_is}
@@ -23,7 +24,7 @@ returns-then-not-is_at c =
     let action = c.in_ok-name.ensures.passed in
     record {
       passed = then_passed action (absent_passed (sequence_is (sign kinds.Question) (optional element_options) (from text c.args.tokens.now c.in_ok-name.at) refl (sym (c.is_at.ensures.begins text) ∙ c.if-not-is_at.true)) action.within);
-      says = of_parts _ _ _ _ ∙ ap (λ i. element None i false None) (of_atom _);
+      says = of_atom _;
     }
 
 pub returns-in_err-at : goal.returns-in_err-at
@@ -36,12 +37,12 @@ returns-in_err-at c =
 pub optional_element_options-requires-clause-within : goal.optional_element_options-requires-clause-within
 optional_element_options-requires-clause-within c = (c.in_ok-at.ensures c.args.text.now).within
 
-pub returns-in_err-_right : goal.returns-in_err-_right
-returns-in_err-_right c =
+pub returns-in_err-right : goal.returns-in_err-right
+returns-in_err-right c =
     let text = c.args.text.now in
-    let p = err_from_is_err_and c.from_residual-in_err-_right.result c.from_residual-in_err-_right.ensures.1 in
+    let p = err_from_is_err_and c.from_residual-in_err-right.result c.from_residual-in_err-right.ensures.1 in
     let begins = sequence_is (sign kinds.Question) (optional element_options) (from text c.args.tokens.now c.in_ok-name.at) refl (sym (c.is_at.ensures.begins text) ∙ c.if-not-is_at.false) in
-    rw (p.1, p.2) (stops_then c.in_ok-name.ensures.passed (stops_present begins (stops_then (c.in_ok-at.ensures text) c.in_err-_right.ensures)))
+    rw (p.1, p.2) (stops_then c.in_ok-name.ensures.passed (stops_present begins (stops_then (c.in_ok-at.ensures text) c.in_err-right.ensures)))
 
 pub returns : goal.returns
 returns c =
@@ -49,6 +50,9 @@ returns c =
     let begins = sequence_is (sign kinds.Question) (optional element_options) (from text c.args.tokens.now c.in_ok-name.at) refl (sym (c.is_at.ensures.begins text) ∙ c.if-not-is_at.false) in
     let name = c.in_ok-name.ensures in
     record {
-      passed = then_passed name.passed (present_passed begins (then_passed (c.in_ok-at.ensures text) c.in_ok-_right.ensures.passed));
-      says = of_parts _ _ _ _ ∙ ap (λ i. element None i false None) (of_atom _ ∙ ap (λ n. atom (atoms.Predicate n)) name.says);
+      passed = then_passed name.passed (present_passed begins (then_passed (c.in_ok-at.ensures text) c.in_ok-right.ensures.passed));
+      says =
+          of_atom _
+          ∙ ap (λ n. atom (record { label = None; right = c.in_ok-right.right; kind = atoms.Predicate n })) name.says
+          ∙ ap (λ r. atom (record { label = None; right = r; kind = atoms.Predicate (name_of name.passed.tree) })) c.in_ok-right.ensures.says;
     }

@@ -1,0 +1,5 @@
+pub mod Bind
+pub mod Blocks
+pub mod Elements
+pub mod Marks
+pub mod Trees

@@ -1,0 +1,62 @@
+-- Parser rules whose tokens are symbols: what their atoms read and call.
+use Rattle.std.specs.Prelude.{◌≡◌, ℕ, ◌+◌, List, [], ◌∷◌, map, All, Some, Contains}
+use Rattle.std.specs.List.{position}
+use Rattle.std.specs.Str.{bytes_eq}
+use Rattle.g4_symbols.specs.Symbols.{end_of_list}
+use Rattle.g4_elements.specs.Elements.{Alternatives, none, atoms_of_either}
+use Rattle.g4_source.specs.declared.rule.ParserRule.{ParserRule}
+use Rattle.g4_source.specs.Rules.{alternatives_of}
+use Rattle.g4_grammar.specs.declared.numbered.NumberedAtom.{NumberedAtom}
+use Rattle.g4_grammar.specs.declared.numbered.NumberedKind.{NumberedKind}
+use Rattle.g4_grammar.specs.declared.numbered.NumberedKind.TheVariants.{Set, Rule, Predicate, Action}
+use Rattle.g4_grammar.specs.Loops.{NoEmptyLoop}
+
+-- the words of an atom: one symbol of a set; predicates and actions read the empty word, and a reference reads nothing of its own
+abbrev pub ReadsKind : NumberedKind → List ℕ → Type 0
+ReadsKind (Set set) w = (a : ℕ) × Contains set a × (w ≡ a ∷ [])
+ReadsKind (Rule name) w = ⊥
+ReadsKind (Predicate name) w = w ≡ []
+ReadsKind Action w = w ≡ []
+
+abbrev pub ReadsNumbered : NumberedAtom → List ℕ → Type 0
+ReadsNumbered a w = ReadsKind a.kind w
+
+-- a reference calls the first rule of its name; these are the names of the rules, which count from 1
+abbrev pub KindCalls : List (List ℕ) → NumberedKind → ℕ → Type 0
+KindCalls names (Set set) k = ⊥
+KindCalls names (Rule name) k = (place : ℕ) × (position (λ other. bytes_eq other name.text) names ≡ Some place) × (k ≡ place + 1)
+KindCalls names (Predicate name) k = ⊥
+KindCalls names Action k = ⊥
+
+abbrev pub CallsNumbered : List (ParserRule NumberedAtom) → NumberedAtom → ℕ → Type 0
+CallsNumbered rules a k = KindCalls (map (λ rule. rule.name) rules) a.kind k
+
+-- the alternatives of the rules by their numbers; those of the added rule, which is rule 0, are left out
+abbrev pub numbered_alternatives : List (ParserRule NumberedAtom) → List (Alternatives NumberedAtom)
+numbered_alternatives rules = none ∷ map alternatives_of rules
+
+-- no rule has a loop whose body derives the empty word
+abbrev pub HaveNoEmptyLoops : List (ParserRule NumberedAtom) → Type 0
+HaveNoEmptyLoops rules = NoEmptyLoop ReadsNumbered (CallsNumbered rules) (numbered_alternatives rules)
+
+-- an atom that calls no rule and tests nothing
+abbrev pub NumberedKindIsQuiet : NumberedKind → Type 0
+NumberedKindIsQuiet (Set set) = Unit {0}
+NumberedKindIsQuiet (Rule name) = ⊥
+NumberedKindIsQuiet (Predicate name) = ⊥
+NumberedKindIsQuiet Action = Unit {0}
+
+-- each atom of the rule is so
+abbrev pub NumberedRuleIsQuiet : ParserRule NumberedAtom → Type 0
+NumberedRuleIsQuiet rule = All (λ a. NumberedKindIsQuiet a.kind) (atoms_of_either (alternatives_of rule))
+
+-- an atom that does not take END
+abbrev pub KindLeavesEnd : NumberedKind → Type 0
+KindLeavesEnd (Set set) = Contains set end_of_list → ⊥
+KindLeavesEnd (Rule name) = Unit {0}
+KindLeavesEnd (Predicate name) = Unit {0}
+KindLeavesEnd Action = Unit {0}
+
+-- no atom of the rule takes END
+abbrev pub RuleLeavesEnd : ParserRule NumberedAtom → Type 0
+RuleLeavesEnd rule = All (λ a. KindLeavesEnd a.kind) (atoms_of_either (alternatives_of rule))

@@ -1,0 +1,45 @@
+-- Parser rules whose atoms are steps, and when a network that can be parsed with is made of them.
+use Rattle.std.specs.Prelude.{◌≡◌, ◌≤◌, ℕ, List, ◌∷◌, length, map, All, Some, Contains, slice_get}
+use Rattle.g4_symbols.specs.Symbols.{end_of_list}
+use Rattle.g4_elements.specs.Elements.{Alternatives, none, atoms_of_either}
+use Rattle.g4_source.specs.declared.rule.ParserRule.{ParserRule}
+use Rattle.g4_source.specs.Rules.{alternatives_of}
+use Rattle.g4_source.specs.Blocks.{ParserRulesAreFull}
+use Rattle.g4_grammar.specs.declared.step.Step.{Step}
+use Rattle.g4_grammar.specs.declared.step.Step.TheVariants.{Edge, Call, Predicate, Level, Action}
+use Rattle.g4_grammar.specs.Steps.{CallsRule, ReadsSymbols}
+use Rattle.g4_grammar.specs.LeftCalls.{NoLeftCycle, SomeHasCall}
+use Rattle.g4_grammar.specs.Loops.{NoEmptyLoop}
+
+-- a parser rule whose atoms are steps, which take sets of symbols
+abbrev pub StepRule : Type 0
+StepRule = ParserRule (Step (List ℕ))
+
+-- the alternatives of the rules by their numbers; those of the added rule, which is rule 0, are left out
+abbrev pub by_number : List StepRule → List (Alternatives (Step (List ℕ)))
+by_number rules = none ∷ map alternatives_of rules
+
+-- a step that does not take END, and so far is no predicate and no level
+abbrev pub IsPlain : Step (List ℕ) → Type 0
+IsPlain (Edge set) = Contains set end_of_list → ⊥
+IsPlain (Call rule level) = Unit {0}
+IsPlain (Predicate k) = ⊥
+IsPlain (Level q) = ⊥
+IsPlain Action = Unit {0}
+
+-- each step of the rule is so
+abbrev pub RuleIsPlain : StepRule → Type 0
+RuleIsPlain rule = All IsPlain (atoms_of_either (alternatives_of rule))
+
+-- each call of a rule is of one of so many rules, which count from 1
+abbrev pub CallsWithin : ℕ → StepRule → Type 0
+CallsWithin count rule = (j : ℕ) → SomeHasCall CallsRule (alternatives_of rule) j → (1 ≤ j) × (j ≤ count)
+
+-- What laying rules in a network asks of them: their steps are plain, their blocks have alternatives, their calls are of rules
+-- among them, no loop has a body that derives the empty word, and no rule reaches itself by left calls.
+pub record CanBeLaid (rules : List StepRule) : Type 0 where
+  pub plain : All RuleIsPlain rules
+  pub full : ParserRulesAreFull rules
+  pub within : All (CallsWithin (length rules)) rules
+  pub loops : NoEmptyLoop ReadsSymbols CallsRule (by_number rules)
+  pub cycles : NoLeftCycle ReadsSymbols CallsRule (by_number rules)
