@@ -1,106 +1,136 @@
--- The trees over symbols, a layer at a time.
-use Rattle.std.proofs.Common.{◌≡◌, ℕ, ◌+◌, ◌<◌, ◌≤◌, List, [], ◌∷◌, length, map, drop, get_or, refl, sym, ◌∙◌, ap, arith, Vec, Global}
+-- The trees of elements and of rules, a layer at a time.
+use Rattle.std.proofs.Common.{◌≡◌, ℕ, ◌+◌, ◌<◌, ◌≤◌, List, [], ◌∷◌, length, map, drop, get_or, refl, sym, ◌∙◌, ap, arith, Option, Vec, Global}
 use Rattle.std.proofs.lemmas.List.{at_drop_more, at_drop_all}
-use Rattle.g4_grammar.specs.Blocks.{IsSome}
-use Rattle.g4_grammar.specs.declared.element.Repeat.{Repeat}
-use Rattle.g4_grammar.specs.declared.element.Repeat.TheVariants.{Once, Star, Plus}
-use Rattle.g4_grammar.specs.declared.element.Element.{Element as Node}
-use Rattle.g4_grammar.specs.declared.element.Element.TheVariants as nodes
-use Rattle.g4_grammar.specs.declared.element.Alternative.{Alternative as Side, out-Alternative}
-use Rattle.g4_grammar.specs.Elements.{Elements, empty, then, Alternatives, none, or, only, either, Basic, one_of, symbol, over, either_over}
-use Rattle.g4_grammar.specs.Trees.{element_of, alternative_of, in_order, repeated}
-use Rattle.g4_grammar.proofs.Trees.{of_atom, of_block, of_alternative}
-use Rattle.g4_build.specs.Trees.{over_symbols, tree_of, side_of, run_of, sides_of, bodies_of}
+use Rattle.g4_elements.specs.Blocks.{IsSome}
+use Rattle.g4_elements.specs.declared.name.Label.{Label}
+use Rattle.g4_elements.specs.declared.element.Repeat.{Repeat}
+use Rattle.g4_elements.specs.declared.element.Element.{Element as Node}
+use Rattle.g4_elements.specs.declared.element.Element.TheVariants as nodes
+use Rattle.g4_elements.specs.declared.element.Alternative.{Alternative as Side, out-Alternative}
+use Rattle.g4_elements.specs.Elements.{Element, atom, block, Elements, empty, then, Alternatives, none, or, only, either}
+use Rattle.g4_elements.specs.Bind.{over, in_order_over, either_over}
+use Rattle.g4_elements.specs.Trees.{element_of, alternative_of, in_order}
+use Rattle.g4_elements.proofs.Trees.{of_atom, of_block, of_alternative}
+use Rattle.g4_source.specs.declared.rule.RuleAlternative.{RuleAlternative}
+use Rattle.g4_source.specs.declared.rule.ParserRule.{ParserRule}
+use Rattle.g4_source.specs.Rules.{alternatives_of}
+use Rattle.g4_build.specs.Trees.{tree_of, side_of, run_of, sides_of, bodies_over, rules_over}
 
--- an atom as one symbol
-abbrev one : ℕ → Basic
-one a = one_of (a ∷ [])
+module _ {X B : Type 0} (tree : X → Elements B) where
+  -- one alternative
+  pub lone_of : (xs : List X) (d : X) (run : Elements B) → 1 ≤ length xs → length xs < 2 → d ≡ get_or xs 0 d → run ≡ tree d → either (map tree xs) ≡ only run
+  lone_of [] d run low high at is = absurd (omega arith)
+  lone_of (x ∷ []) d run low high at is = ap only (ap tree (sym at) ∙ sym is)
+  lone_of (x ∷ y ∷ more) d run low high at is = absurd (omega arith)
 
--- a repeated block
-over_repeated : (repeat : Repeat) (xs : Alternatives ℕ) → over one (repeated repeat xs) ≡ repeated repeat (either_over one xs)
-over_repeated Once xs = refl
-over_repeated Star xs = refl
-over_repeated Plus xs = refl
+  -- the next alternative
+  pub next_of : (xs : List X) (i : ℕ) (d : X) (run : Elements B) → i < length xs → d ≡ get_or xs i d → run ≡ tree d → either (map tree (drop i xs)) ≡ or run (either (map tree (drop (i + 1) xs)))
+  next_of xs i d run less at is =
+      at_drop_more (λ (zs : List X). either (map tree zs)) xs i d less ∙ ap (λ (z : Elements B). or z (either (map tree (drop (i + 1) xs)))) (ap tree (sym at) ∙ sym is)
 
--- alternatives in order
-over_sides : (xs : List (Side ℕ)) → either_over one (either (map alternative_of xs)) ≡ sides_of xs
-unfolding side_of
-over_sides [] = refl
-over_sides (x ∷ xs) = ap (or (over_symbols (alternative_of x))) (over_sides xs)
+  -- no alternative is left
+  pub none_of : (xs : List X) (i : ℕ) → length xs ≤ i → either (map tree (drop i xs)) ≡ none
+  none_of xs i low = at_drop_all (λ (zs : List X). either (map tree zs)) xs i low
 
--- elements one after another
-pub run_over : (xs : List (Node ℕ)) → over_symbols (in_order (map element_of xs)) ≡ run_of xs
-unfolding tree_of
-run_over [] = refl
-run_over (x ∷ xs) = ap (then (over one (element_of x))) (run_over xs)
+  -- where there is an alternative, the list has one
+  pub some_of : (xs : List X) → IsSome (either (map tree xs)) → 1 ≤ length xs
+  some_of [] h = absurd h
+  some_of (x ∷ xs) h = omega arith
 
--- an atom
-pub tree_atom : (a : ℕ) → tree_of (nodes.Atom a) ≡ symbol a
-unfolding tree_of
-tree_atom a = ap (over one) (of_atom a)
+module _ {X B : Type 0} (tree : X → Element B) where
+  -- the next element
+  pub next_item : (xs : List X) (i : ℕ) (d : X) → i < length xs → d ≡ get_or xs i d → in_order (map tree (drop i xs)) ≡ then (tree d) (in_order (map tree (drop (i + 1) xs)))
+  next_item xs i d less at = at_drop_more (λ (zs : List X). in_order (map tree zs)) xs i d less ∙ ap (λ (z : X). then (tree z) (in_order (map tree (drop (i + 1) xs)))) (sym at)
 
--- a block
-pub tree_block : (repeat : Repeat) (alternatives : Vec (Side ℕ) Global) → tree_of (nodes.Block repeat alternatives) ≡ repeated repeat (sides_of alternatives.items)
-unfolding tree_of
-tree_block repeat alternatives =
-    ap (over one) (of_block repeat alternatives) ∙ (over_repeated repeat (either (map alternative_of alternatives.items)) ∙ ap (repeated repeat) (over_sides alternatives.items))
+  -- no element is left
+  pub no_item : (xs : List X) (i : ℕ) → length xs ≤ i → in_order (map tree (drop i xs)) ≡ empty
+  no_item xs i low = at_drop_all (λ (zs : List X). in_order (map tree zs)) xs i low
 
--- an alternative of a block
-pub side_run : (x : Side ℕ) → side_of x ≡ run_of (out-Alternative ℕ x).elements.items
-unfolding side_of
-side_run x = ap over_symbols (of_alternative x) ∙ run_over (out-Alternative ℕ x).elements.items
+-- an element that is an atom
+pub plain_atom : {A : Type 0} (x : Node A) (a : A) → x ≡ nodes.Atom a → element_of x ≡ atom a
+plain_atom x a is = ap element_of is ∙ of_atom a
 
--- one alternative of a block
-pub lone_side : (xs : List (Side ℕ)) (d : Side ℕ) (ys : List (Node ℕ)) → 1 ≤ length xs → length xs < 2 → d ≡ get_or xs 0 d → ys ≡ (out-Alternative ℕ d).elements.items → sides_of xs ≡ only (run_of ys)
-lone_side [] d ys low high at is = absurd (omega arith)
-lone_side (x ∷ []) d ys low high at is = ap only (ap side_of (sym at) ∙ (side_run d ∙ ap run_of (sym is)))
-lone_side (x ∷ y ∷ more) d ys low high at is = absurd (omega arith)
+-- an element that is a block
+pub plain_block : {A : Type 0} (x : Node A) (label : Option Label) (repeat : Repeat) (alternatives : Vec (Side A) Global) (xs : List (Side A)) → x ≡ nodes.Block label repeat alternatives → xs ≡ alternatives.items →
+    element_of x ≡ block label repeat (either (map alternative_of xs))
+plain_block {A} x label repeat alternatives xs is items =
+    ap element_of is ∙ (of_block label repeat alternatives ∙ ap (λ (zs : List (Side A)). block label repeat (either (map alternative_of zs))) (sym items))
 
--- the next alternative of a block
-pub next_side : (xs : List (Side ℕ)) (i : ℕ) (d : Side ℕ) (ys : List (Node ℕ)) → i < length xs → d ≡ get_or xs i d → ys ≡ (out-Alternative ℕ d).elements.items →
-    sides_of (drop i xs) ≡ or (run_of ys) (sides_of (drop (i + 1) xs))
-next_side xs i d ys less at is =
-    at_drop_more (λ (zs : List (Side ℕ)). sides_of zs) xs i d less ∙ ap (λ (z : Elements Basic). or z (sides_of (drop (i + 1) xs))) (ap side_of (sym at) ∙ (side_run d ∙ ap run_of (sym is)))
+-- an alternative of a block is its elements
+pub plain_side : {A : Type 0} (d : Side A) (ys : List (Node A)) → ys ≡ (out-Alternative A d).elements.items → in_order (map element_of ys) ≡ alternative_of d
+plain_side {A} d ys is = ap (λ (zs : List (Node A)). in_order (map element_of zs)) is ∙ sym (of_alternative d)
 
--- one alternative of a rule
-pub lone_body : (xs : List (Elements ℕ)) (d : Elements ℕ) (ys : List (Node ℕ)) → 1 ≤ length xs → length xs < 2 → in_order (map element_of ys) ≡ get_or xs 0 d → bodies_of xs ≡ only (run_of ys)
-lone_body [] d ys low high is = absurd (omega arith)
-lone_body (x ∷ []) d ys low high is = ap only (ap over_symbols (sym is) ∙ run_over ys)
-lone_body (x ∷ y ∷ more) d ys low high is = absurd (omega arith)
+module _ {A B : Type 0} (f : A → B) where
+  -- alternatives in order
+  over_sides : (xs : List (Side A)) → either_over f (either (map alternative_of xs)) ≡ sides_of f xs
+  unfolding side_of
+  over_sides [] = refl
+  over_sides (x ∷ xs) = ap (or (in_order_over f (alternative_of x))) (over_sides xs)
 
--- the next alternative of a rule
-pub next_body : (xs : List (Elements ℕ)) (i : ℕ) (d : Elements ℕ) (ys : List (Node ℕ)) → i < length xs → in_order (map element_of ys) ≡ get_or xs i d → bodies_of (drop i xs) ≡ or (run_of ys) (bodies_of (drop (i + 1) xs))
-next_body xs i d ys less is =
-    at_drop_more (λ (zs : List (Elements ℕ)). bodies_of zs) xs i d less ∙ ap (λ (z : Elements Basic). or z (bodies_of (drop (i + 1) xs))) (ap over_symbols (sym is) ∙ run_over ys)
+  -- elements one after another
+  pub run_over : (xs : List (Node A)) → in_order_over f (in_order (map element_of xs)) ≡ run_of f xs
+  unfolding tree_of
+  run_over [] = refl
+  run_over (x ∷ xs) = ap (then (over f (element_of x))) (run_over xs)
 
--- the next element
-pub next_run : (xs : List (Node ℕ)) (i : ℕ) (d : Node ℕ) → i < length xs → d ≡ get_or xs i d → run_of (drop i xs) ≡ then (tree_of d) (run_of (drop (i + 1) xs))
-next_run xs i d less at = at_drop_more (λ (zs : List (Node ℕ)). run_of zs) xs i d less ∙ ap (λ (z : Node ℕ). then (tree_of z) (run_of (drop (i + 1) xs))) (sym at)
+  -- an element that is an atom
+  pub tree_atom : (x : Node A) (a : A) → x ≡ nodes.Atom a → tree_of f x ≡ atom (f a)
+  unfolding tree_of
+  tree_atom x a is = ap (over f) (plain_atom x a is)
 
--- a block that is known
-pub tree_repeated : (x : Node ℕ) (repeat known : Repeat) (alternatives : Vec (Side ℕ) Global) (xs : List (Side ℕ)) → x ≡ nodes.Block repeat alternatives → repeat ≡ known → xs ≡ alternatives.items →
-    tree_of x ≡ repeated known (sides_of xs)
-tree_repeated x repeat known alternatives xs is same items =
-    ap tree_of is ∙ (tree_block repeat alternatives ∙ (ap (λ (r : Repeat). repeated r (sides_of alternatives.items)) same ∙ ap (λ (zs : List (Side ℕ)). repeated known (sides_of zs)) (sym items)))
+  -- an element that is a block
+  pub tree_block : (x : Node A) (label : Option Label) (repeat : Repeat) (alternatives : Vec (Side A) Global) (xs : List (Side A)) → x ≡ nodes.Block label repeat alternatives → xs ≡ alternatives.items →
+      tree_of f x ≡ block label repeat (sides_of f xs)
+  unfolding tree_of
+  tree_block x label repeat alternatives xs is items = ap (over f) (plain_block x label repeat alternatives xs is items) ∙ ap (block label repeat) (over_sides xs)
 
--- no element is left
-pub no_run : (xs : List (Node ℕ)) (i : ℕ) → length xs ≤ i → run_of (drop i xs) ≡ empty
-no_run xs i low = at_drop_all (λ (zs : List (Node ℕ)). run_of zs) xs i low
+  -- an alternative of a block is its elements
+  pub side_run : (d : Side A) (ys : List (Node A)) → ys ≡ (out-Alternative A d).elements.items → run_of f ys ≡ side_of f d
+  unfolding side_of
+  side_run d ys is = sym (run_over ys) ∙ ap (in_order_over f) (plain_side d ys is)
 
--- no alternative of a block is left
-pub no_side : (xs : List (Side ℕ)) (i : ℕ) → length xs ≤ i → sides_of (drop i xs) ≡ none
-no_side xs i low = at_drop_all (λ (zs : List (Side ℕ)). sides_of zs) xs i low
+  -- an alternative of a rule is its elements
+  pub body_run : (x : Elements A) (ys : List (Node A)) → in_order (map element_of ys) ≡ x → run_of f ys ≡ in_order_over f x
+  body_run x ys is = sym (run_over ys) ∙ ap (in_order_over f) is
 
--- no alternative of a rule is left
-pub no_body : (xs : List (Elements ℕ)) (i : ℕ) → length xs ≤ i → bodies_of (drop i xs) ≡ none
-no_body xs i low = at_drop_all (λ (zs : List (Elements ℕ)). bodies_of zs) xs i low
+mutual
+  -- an element over its own atoms is itself
+  same_element : {A : Type 0} (x : Element A) → over (λ a. a) x ≡ x
+  same_element (atom a) = refl
+  same_element (block label repeat xs) = ap (block label repeat) (same_either xs)
 
--- where there is an alternative, the list has one
-pub some_sides : (xs : List (Side ℕ)) → IsSome (sides_of xs) → 1 ≤ length xs
-some_sides [] h = absurd h
-some_sides (x ∷ xs) h = omega arith
+  -- elements one after another
+  same_in_order : {A : Type 0} (xs : Elements A) → in_order_over (λ a. a) xs ≡ xs
+  same_in_order empty = refl
+  same_in_order (then x xs) = ap (λ y. then y (in_order_over (λ a. a) xs)) (same_element x) ∙ ap (then x) (same_in_order xs)
 
--- the same of a rule
-pub some_bodies : (xs : List (Elements ℕ)) → IsSome (bodies_of xs) → 1 ≤ length xs
-some_bodies [] h = absurd h
-some_bodies (x ∷ xs) h = omega arith
+  -- alternatives
+  same_either : {A : Type 0} (xs : Alternatives A) → either_over (λ a. a) xs ≡ xs
+  same_either none = refl
+  same_either (or x xs) = ap (λ y. or y (either_over (λ a. a) xs)) (same_in_order x) ∙ ap (or x) (same_either xs)
+
+-- a rule
+same_bodies : {A : Type 0} (xs : List (RuleAlternative A)) → bodies_over (λ a. a) xs ≡ either (map (λ a. a.elements) xs)
+same_bodies [] = refl
+same_bodies (x ∷ xs) = ap (λ y. or y (bodies_over (λ a. a) xs)) (same_in_order x.elements) ∙ ap (or x.elements) (same_bodies xs)
+
+-- rules whose atoms are steps already
+pub same_rules : {A : Type 0} (rules : List (ParserRule A)) → rules_over (λ a. a) rules ≡ map alternatives_of rules
+same_rules [] = refl
+same_rules (rule ∷ rules) = ap (λ y. y ∷ rules_over (λ a. a) rules) (same_bodies rule.alternatives) ∙ ap (λ ys. alternatives_of rule ∷ ys) (same_rules rules)
+
+-- the next of the rules
+pub next_tree : {A B : Type 0} (f : A → B) (xs : List (ParserRule A)) (i : ℕ) (d : ParserRule A) (sides : List (RuleAlternative A)) → i < length xs → d ≡ get_or xs i d → sides ≡ d.alternatives →
+    rules_over f (drop i xs) ≡ bodies_over f sides ∷ rules_over f (drop (i + 1) xs)
+next_tree {A} f xs i d sides less at is =
+    at_drop_more (λ (zs : List (ParserRule A)). rules_over f zs) xs i d less ∙
+    ap (λ (ys : List (RuleAlternative A)). bodies_over f ys ∷ rules_over f (drop (i + 1) xs)) (ap (λ (r : ParserRule A). r.alternatives) (sym at) ∙ sym is)
+
+-- no rule is left
+pub no_tree : {A B : Type 0} (f : A → B) (xs : List (ParserRule A)) (i : ℕ) → length xs ≤ i → rules_over f (drop i xs) ≡ []
+no_tree {A} f xs i low = at_drop_all (λ (zs : List (ParserRule A)). rules_over f zs) xs i low
+
+-- there are as many trees as rules
+pub length_trees : {A B : Type 0} (f : A → B) (xs : List (ParserRule A)) → length (rules_over f xs) ≡ length xs
+length_trees f [] = refl
+length_trees f (x ∷ xs) = omega (arith, length_trees f xs)

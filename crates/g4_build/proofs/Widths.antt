@@ -1,28 +1,24 @@
 -- Decisions with too many alternatives, by what the elements are made of.
-use Rattle.std.proofs.Common.{◌≡◌, ℕ, ◌+◌, ◌<◌, ◌≤◌, ◌⊎◌, ◌↔◌, inl, inr, List, [], ◌∷◌, length, map, drop, get_or, Bool, true, false, refl, sym, ◌∙◌, ap, subst, arith, IsTrue, Vec, Global}
-use Rattle.std.proofs.lemmas.List.{drop_more, drop_all}
-use Rattle.g4_grammar.specs.declared.element.Repeat.{Repeat}
-use Rattle.g4_grammar.specs.declared.element.Repeat.TheVariants.{Once, Star, Plus}
-use Rattle.g4_grammar.specs.declared.element.Element.{Element as Node}
-use Rattle.g4_grammar.specs.declared.element.Element.TheVariants as nodes
-use Rattle.g4_grammar.specs.declared.element.Alternative.{Alternative as Side, out-Alternative}
-use Rattle.g4_grammar.specs.declared.numbered.Numbered.{Numbered}
-use Rattle.g4_grammar.specs.declared.numbered.NumberedRule.{NumberedRule}
-use Rattle.g4_grammar.specs.Elements.{Element, Elements, Alternatives, Basic, symbol}
-use Rattle.g4_grammar.specs.Trees.{element_of, in_order, repeated}
-use Rattle.g4_build.specs.Decisions.{number_of, HasDecision, OneHasDecision, SomeHasDecision, RuleHasDecision, RulesHaveDecision, AreNarrow, IsTooWide, IsWide, ways_to_leave}
-use Rattle.g4_build.specs.Trees.{tree_of, run_of, sides_of, bodies_of}
-use Rattle.g4_build.proofs.Trees.{tree_atom, tree_repeated, next_side, next_run, next_body, no_run, no_side, no_body}
+use Rattle.std.proofs.Common.{◌≡◌, ℕ, ◌+◌, ◌<◌, ◌≤◌, ◌⊎◌, ◌↔◌, inl, inr, List, [], ◌∷◌, length, map, drop, get_or, Bool, true, false, refl, sym, ◌∙◌, ap, subst, arith, IsTrue, Option, None, Vec, Global}
+use Rattle.std.proofs.lemmas.List.{at_drop_more, at_drop_all}
+use Rattle.g4_elements.specs.declared.name.Label.{Label}
+use Rattle.g4_elements.specs.declared.element.Repeat.{Repeat}
+use Rattle.g4_elements.specs.declared.element.Repeat.TheVariants.{Once, Optional, Star, Plus}
+use Rattle.g4_elements.specs.declared.element.Element.{Element as Node}
+use Rattle.g4_elements.specs.declared.element.Element.TheVariants as nodes
+use Rattle.g4_elements.specs.declared.element.Alternative.{Alternative as Side}
+use Rattle.g4_elements.specs.Elements.{Element, block, Elements, Alternatives, either}
+use Rattle.g4_elements.specs.Trees.{element_of, alternative_of, in_order}
+use Rattle.g4_source.specs.declared.rule.RuleAlternative.{RuleAlternative}
+use Rattle.g4_source.specs.declared.rule.ParserRule.{ParserRule}
+use Rattle.g4_source.specs.Rules.{alternatives_of}
+use Rattle.g4_layout.specs.Decisions.{number_of, HasDecision, OneHasDecision, SomeHasDecision, RuleHasDecision, RulesHaveDecision, AreNarrow, IsTooWide, IsWide, ways_to_leave}
+use Rattle.g4_build.proofs.Trees.{plain_atom, plain_block, next_of, none_of, next_item, no_item}
 
 -- there are as many alternatives as the code has
-pub sides_number : (xs : List (Side ℕ)) → number_of (sides_of xs) ≡ length xs
-sides_number [] = refl
-sides_number (x ∷ xs) = omega (arith, sides_number xs)
-
--- the same of a rule
-pub bodies_number : (xs : List (Elements ℕ)) → number_of (bodies_of xs) ≡ length xs
-bodies_number [] = refl
-bodies_number (x ∷ xs) = omega (arith, bodies_number xs)
+number_of_sides : {X A : Type 0} (tree : X → Elements A) (xs : List X) → number_of (either (map tree xs)) ≡ length xs
+number_of_sides tree [] = refl
+number_of_sides tree (x ∷ xs) = omega (arith, number_of_sides tree xs)
 
 -- What is passed has no decision with too many alternatives: all have one where the rest has.
 pub record NotYet (All Rest : ℕ → Type 0) : Type 0 where
@@ -45,37 +41,44 @@ pub one_found : (All This Next : ℕ → Type 0) (test : Bool) → IsTrue test �
 one_found All This Next test told holds w = (λ h. let this = told.0 holds in w.to (this.0, inl this.1, this.2), λ h. refl)
 
 -- an atom makes no decision
-pub atom_not_wide : (x : Node ℕ) (a : ℕ) → x ≡ nodes.Atom a → IsWide (HasDecision (tree_of x)) → ⊥
-atom_not_wide x a is h = let e : tree_of x ≡ symbol a = ap tree_of is ∙ tree_atom a in (subst (λ (y : Element Basic). IsWide (HasDecision y)) e h).1
+pub atom_not_wide : {A : Type 0} (x : Node A) (a : A) → x ≡ nodes.Atom a → IsWide (HasDecision (element_of x)) → ⊥
+atom_not_wide {A} x a is h = (subst (λ (y : Element A). IsWide (HasDecision y)) (plain_atom x a is) h).1
 
--- of a block whose alternatives stand so often, its own decision or one inside
-wide_repeated : (repeat : Repeat) (xs : Alternatives Basic) → IsWide (HasDecision (repeated repeat xs)) ↔ ((1024 < number_of xs + ways_to_leave repeat) ⊎ IsWide (SomeHasDecision xs))
-wide_repeated Once xs = (
+-- of a block whose alternatives may be taken so often, its own decision or one inside
+wide_repeated : {A : Type 0} (label : Option Label) (repeat : Repeat) (xs : Alternatives A) → IsWide (HasDecision (block label repeat xs)) ↔ ((1024 < number_of xs + ways_to_leave repeat) ⊎ IsWide (SomeHasDecision xs))
+wide_repeated label Once xs = (
   λ h. elim h.1 [ inl own ↦ inl (omega (arith, h.2, own.1)) | inr inside ↦ inr (h.0, inside, h.2) ],
   λ h. elim h [ inl many ↦ (number_of xs, inl (omega (arith, many), refl), omega (arith, many)) | inr inside ↦ (inside.0, inr inside.1, inside.2) ],
 )
-wide_repeated Star xs = (
+wide_repeated label (Optional sign) xs = (
   λ h. elim h.1 [ inl own ↦ inl (omega (arith, h.2, own)) | inr inside ↦ inr (h.0, inside, h.2) ],
   λ h. elim h [ inl many ↦ (number_of xs + 1, inl refl, many) | inr inside ↦ (inside.0, inr inside.1, inside.2) ],
 )
-wide_repeated Plus xs = (
+wide_repeated label (Star sign) xs = (
+  λ h. elim h.1 [ inl own ↦ inl (omega (arith, h.2, own)) | inr inside ↦ inr (h.0, inside, h.2) ],
+  λ h. elim h [ inl many ↦ (number_of xs + 1, inl refl, many) | inr inside ↦ (inside.0, inr inside.1, inside.2) ],
+)
+wide_repeated label (Plus sign) xs = (
   λ h. elim h.1 [ inl own ↦ inl (omega (arith, h.2, own.1)) | inr rest ↦ elim rest [ inl own ↦ inl (omega (arith, h.2, own)) | inr inside ↦ inr (h.0, inside, h.2) ] ],
   λ h. elim h [ inl many ↦ (number_of xs + 1, inr (inl refl), many) | inr inside ↦ (inside.0, inr (inr inside.1), inside.2) ],
 )
 
 -- the same of a block of the code
-pub wide_block : (x : Node ℕ) (repeat : Repeat) (alternatives : Vec (Side ℕ) Global) (xs : List (Side ℕ)) → x ≡ nodes.Block repeat alternatives → xs ≡ alternatives.items →
-    IsWide (HasDecision (tree_of x)) ↔ ((1024 < length xs + ways_to_leave repeat) ⊎ IsWide (SomeHasDecision (sides_of xs)))
-wide_block x repeat alternatives xs is items =
-    let e : tree_of x ≡ repeated repeat (sides_of xs) = tree_repeated x repeat repeat alternatives xs is refl items in
-    let h = subst (λ (n : ℕ). IsWide (HasDecision (repeated repeat (sides_of xs))) ↔ ((1024 < n + ways_to_leave repeat) ⊎ IsWide (SomeHasDecision (sides_of xs)))) (sides_number xs) (wide_repeated repeat (sides_of xs)) in
-    subst (λ (y : Element Basic). IsWide (HasDecision y) ↔ ((1024 < length xs + ways_to_leave repeat) ⊎ IsWide (SomeHasDecision (sides_of xs)))) (sym e) h
+pub wide_block : {A : Type 0} (x : Node A) (label : Option Label) (repeat : Repeat) (alternatives : Vec (Side A) Global) (xs : List (Side A)) → x ≡ nodes.Block label repeat alternatives → xs ≡ alternatives.items →
+    IsWide (HasDecision (element_of x)) ↔ ((1024 < length xs + ways_to_leave repeat) ⊎ IsWide (SomeHasDecision (either (map alternative_of xs))))
+wide_block {A} x label repeat alternatives xs is items =
+    let sides : Alternatives A = either (map alternative_of xs) in
+    let h = subst (λ (n : ℕ). IsWide (HasDecision (block label repeat sides)) ↔ ((1024 < n + ways_to_leave repeat) ⊎ IsWide (SomeHasDecision sides))) (number_of_sides alternative_of xs) (wide_repeated label repeat sides) in
+    subst (λ (y : Element A). IsWide (HasDecision y) ↔ ((1024 < length xs + ways_to_leave repeat) ⊎ IsWide (SomeHasDecision sides))) (sym (plain_block x label repeat alternatives xs is items)) h
 
 -- of a rule, its own decision or one inside
-pub wide_rule : (rule : NumberedRule) (xs : List (Elements ℕ)) → xs ≡ rule.alternatives → IsWide (RuleHasDecision rule) ↔ ((1024 < length xs + ways_to_leave Once) ⊎ IsWide (SomeHasDecision (bodies_of xs)))
-wide_rule rule xs is =
-    let h = subst (λ (n : ℕ). IsWide (HasDecision (repeated Once (bodies_of xs))) ↔ ((1024 < n + ways_to_leave Once) ⊎ IsWide (SomeHasDecision (bodies_of xs)))) (bodies_number xs) (wide_repeated Once (bodies_of xs)) in
-    subst (λ (ys : List (Elements ℕ)). IsWide (HasDecision (repeated Once (bodies_of ys))) ↔ ((1024 < length xs + ways_to_leave Once) ⊎ IsWide (SomeHasDecision (bodies_of xs)))) is h
+pub wide_rule : {A : Type 0} (rule : ParserRule A) (xs : List (RuleAlternative A)) → xs ≡ rule.alternatives →
+    IsWide (RuleHasDecision (alternatives_of rule)) ↔ ((1024 < length xs + ways_to_leave Once) ⊎ IsWide (SomeHasDecision (either (map (λ a. a.elements) xs))))
+wide_rule {A} rule xs is =
+    let tree : RuleAlternative A → Elements A = λ a. a.elements in
+    let sides : Alternatives A = either (map tree xs) in
+    let h = subst (λ (n : ℕ). IsWide (HasDecision (block None Once sides)) ↔ ((1024 < n + ways_to_leave Once) ⊎ IsWide (SomeHasDecision sides))) (number_of_sides tree xs) (wide_repeated None Once sides) in
+    subst (λ (ys : List (RuleAlternative A)). IsWide (RuleHasDecision (either (map tree ys))) ↔ ((1024 < length xs + ways_to_leave Once) ⊎ IsWide (SomeHasDecision sides))) is h
 
 -- a test that holds tells of either
 pub told_first : (P Q R : Type 0) (b : Bool) → R ↔ (P ⊎ Q) → IsTrue b ↔ P → b ≡ true → IsTrue b ↔ R
@@ -89,46 +92,38 @@ told_second P Q R a b either first fails second = (
 )
 
 -- the next of alternatives
-pub next_sides : (All : ℕ → Type 0) (xs : List (Side ℕ)) (i : ℕ) (d : Side ℕ) (ys : List (Node ℕ)) → i < length xs → d ≡ get_or xs i d → ys ≡ (out-Alternative ℕ d).elements.items →
-    NotYet All (SomeHasDecision (sides_of (drop i xs))) → NotYet All (λ n. OneHasDecision (run_of ys) n ⊎ SomeHasDecision (sides_of (drop (i + 1) xs)) n)
-next_sides All xs i d ys less at is w = subst (λ (z : Alternatives Basic). NotYet All (SomeHasDecision z)) (next_side xs i d ys less at is) w
-
--- the next of a rule's alternatives
-pub next_bodies : (All : ℕ → Type 0) (xs : List (Elements ℕ)) (i : ℕ) (d : Elements ℕ) (ys : List (Node ℕ)) → i < length xs → in_order (map element_of ys) ≡ get_or xs i d →
-    NotYet All (SomeHasDecision (bodies_of (drop i xs))) → NotYet All (λ n. OneHasDecision (run_of ys) n ⊎ SomeHasDecision (bodies_of (drop (i + 1) xs)) n)
-next_bodies All xs i d ys less is w = subst (λ (z : Alternatives Basic). NotYet All (SomeHasDecision z)) (next_body xs i d ys less is) w
+pub next_sides : {X A : Type 0} (tree : X → Elements A) (All : ℕ → Type 0) (xs : List X) (i : ℕ) (d : X) (run : Elements A) → i < length xs → d ≡ get_or xs i d → run ≡ tree d →
+    NotYet All (SomeHasDecision (either (map tree (drop i xs)))) → NotYet All (λ n. OneHasDecision run n ⊎ SomeHasDecision (either (map tree (drop (i + 1) xs))) n)
+next_sides {X} {A} tree All xs i d run less at is w = subst (λ (z : Alternatives A). NotYet All (SomeHasDecision z)) (next_of tree xs i d run less at is) w
 
 -- the next of elements
-pub next_elements : (All : ℕ → Type 0) (xs : List (Node ℕ)) (i : ℕ) (d : Node ℕ) → i < length xs → d ≡ get_or xs i d →
-    NotYet All (OneHasDecision (run_of (drop i xs))) → NotYet All (λ n. HasDecision (tree_of d) n ⊎ OneHasDecision (run_of (drop (i + 1) xs)) n)
-next_elements All xs i d less at w = subst (λ (z : Elements Basic). NotYet All (OneHasDecision z)) (next_run xs i d less at) w
+pub next_elements : {A : Type 0} (All : ℕ → Type 0) (xs : List (Node A)) (i : ℕ) (d : Node A) → i < length xs → d ≡ get_or xs i d →
+    NotYet All (OneHasDecision (in_order (map element_of (drop i xs)))) → NotYet All (λ n. HasDecision (element_of d) n ⊎ OneHasDecision (in_order (map element_of (drop (i + 1) xs))) n)
+next_elements {A} All xs i d less at w = subst (λ (z : Elements A). NotYet All (OneHasDecision z)) (next_item element_of xs i d less at) w
 
 -- the next of rules
-pub next_rules : (All : ℕ → Type 0) (xs : List NumberedRule) (i : ℕ) (d : NumberedRule) → i < length xs → d ≡ get_or xs i d →
-    NotYet All (RulesHaveDecision (drop i xs)) → NotYet All (λ n. RuleHasDecision d n ⊎ RulesHaveDecision (drop (i + 1) xs) n)
-next_rules All xs i d less at w =
-    let split : drop i xs ≡ d ∷ drop (i + 1) xs = drop_more xs i d less ∙ ap (λ (y : NumberedRule). y ∷ drop (i + 1) xs) (sym at) in
-    subst (λ (z : List NumberedRule). NotYet All (RulesHaveDecision z)) split w
+pub next_rules : {A : Type 0} (All : ℕ → Type 0) (xs : List (ParserRule A)) (i : ℕ) (d : ParserRule A) → i < length xs → d ≡ get_or xs i d →
+    NotYet All (RulesHaveDecision (map alternatives_of (drop i xs))) → NotYet All (λ n. RuleHasDecision (alternatives_of d) n ⊎ RulesHaveDecision (map alternatives_of (drop (i + 1) xs)) n)
+next_rules {A} All xs i d less at w =
+    let split : map alternatives_of (drop i xs) ≡ alternatives_of d ∷ map alternatives_of (drop (i + 1) xs) =
+    at_drop_more (λ (zs : List (ParserRule A)). map alternatives_of zs) xs i d less ∙ ap (λ (y : ParserRule A). alternatives_of y ∷ map alternatives_of (drop (i + 1) xs)) (sym at) in
+    subst (λ (z : List (Alternatives A)). NotYet All (RulesHaveDecision z)) split w
 
 -- no alternative is left
-pub sides_narrow : (All : ℕ → Type 0) (xs : List (Side ℕ)) (i : ℕ) → length xs ≤ i → NotYet All (SomeHasDecision (sides_of (drop i xs))) → IsWide All → ⊥
-sides_narrow All xs i past w h = (subst (λ (z : Alternatives Basic). IsWide (SomeHasDecision z)) (no_side xs i past) (w.from h)).1
-
--- no alternative of a rule is left
-pub bodies_narrow : (All : ℕ → Type 0) (xs : List (Elements ℕ)) (i : ℕ) → length xs ≤ i → NotYet All (SomeHasDecision (bodies_of (drop i xs))) → IsWide All → ⊥
-bodies_narrow All xs i past w h = (subst (λ (z : Alternatives Basic). IsWide (SomeHasDecision z)) (no_body xs i past) (w.from h)).1
+pub sides_narrow : {X A : Type 0} (tree : X → Elements A) (All : ℕ → Type 0) (xs : List X) (i : ℕ) → length xs ≤ i → NotYet All (SomeHasDecision (either (map tree (drop i xs)))) → IsWide All → ⊥
+sides_narrow {X} {A} tree All xs i past w h = (subst (λ (z : Alternatives A). IsWide (SomeHasDecision z)) (none_of tree xs i past) (w.from h)).1
 
 -- no element is left
-pub elements_narrow : (All : ℕ → Type 0) (xs : List (Node ℕ)) (i : ℕ) → length xs ≤ i → NotYet All (OneHasDecision (run_of (drop i xs))) → IsWide All → ⊥
-elements_narrow All xs i past w h = (subst (λ (z : Elements Basic). IsWide (OneHasDecision z)) (no_run xs i past) (w.from h)).1
+pub elements_narrow : {A : Type 0} (All : ℕ → Type 0) (xs : List (Node A)) (i : ℕ) → length xs ≤ i → NotYet All (OneHasDecision (in_order (map element_of (drop i xs)))) → IsWide All → ⊥
+elements_narrow {A} All xs i past w h = (subst (λ (z : Elements A). IsWide (OneHasDecision z)) (no_item element_of xs i past) (w.from h)).1
 
 -- no rule is left
-pub rules_narrow : (All : ℕ → Type 0) (xs : List NumberedRule) (i : ℕ) → length xs ≤ i → NotYet All (RulesHaveDecision (drop i xs)) → IsWide All → ⊥
-rules_narrow All xs i past w h = (subst (λ (z : List NumberedRule). IsWide (RulesHaveDecision z)) (drop_all i xs past) (w.from h)).1
+pub rules_narrow : {A : Type 0} (All : ℕ → Type 0) (xs : List (ParserRule A)) (i : ℕ) → length xs ≤ i → NotYet All (RulesHaveDecision (map alternatives_of (drop i xs))) → IsWide All → ⊥
+rules_narrow {A} All xs i past w h = (subst (λ (z : List (Alternatives A)). IsWide (RulesHaveDecision z)) (at_drop_all (λ (zs : List (ParserRule A)). map alternatives_of zs) xs i past) (w.from h)).1
 
--- a grammar without such a decision is narrow
-pub narrow : (grammar : Numbered) (wide : Bool) → IsTrue wide ↔ IsTooWide grammar → wide ≡ false → AreNarrow grammar
-narrow grammar wide told fails n has = elim (cut n 1024) [ inl low ↦ low | inr high ↦ absurd (let e : wide ≡ true = told.1 (n, has, high) in let k : ⊥ = cc in k) ]
+-- rules without such a decision are narrow
+pub narrow : {A : Type 0} (rules : List (Alternatives A)) (wide : Bool) → IsTrue wide ↔ IsTooWide rules → wide ≡ false → AreNarrow rules
+narrow rules wide told fails n has = elim (cut n 1024) [ inl low ↦ low | inr high ↦ absurd (let e : wide ≡ true = told.1 (n, has, high) in let k : ⊥ = cc in k) ]
   where
     cut : (n m : ℕ) → (n ≤ m) ⊎ (m < n)
     cut n m = grind arith

@@ -1,9 +1,6 @@
 pub mod Answers
-pub mod Callers
-pub mod Decisions
 pub mod Drafts
-pub mod Layout
 pub mod LexerSize
 pub mod Rules
-pub mod Size
+pub mod Samples
 pub mod Trees

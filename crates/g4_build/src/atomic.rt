@@ -1,5 +1,7 @@
 // What the states of a network are counted of: the atoms and the alternatives of parser rules and of lexer rules alike.
-use g4_grammar::{Atom, Element, Elements, LexerAlternative};
+use g4_elements::Element;
+use g4_grammar::Step;
+use g4_source::{Atom, AtomKind, LexerAlternative, RuleAlternative};
 
 /// An atom of a rule, which makes some states.
 pub trait Atomic {
@@ -12,8 +14,8 @@ pub trait Atomic {
         ensures { result ≡ states self.now };
 }
 
-impl Atomic for u32 {
-    ghost use Rattle.g4_build.specs.Size.{one_state};
+impl<L> Atomic for Step<L> {
+    ghost use Rattle.g4_layout.specs.Size.{one_state};
 
     ghost states = { one_state };
 
@@ -28,10 +30,9 @@ impl Atomic for Atom {
     ghost states = { states_of_atom };
 
     fn states(&self) -> usize {
-        match self {
-            Atom::Token(_) => 1,
-            Atom::Literal(literal) => literal.characters.len(),
-            Atom::Set(_) => 1,
+        match &self.kind {
+            AtomKind::Literal(literal) => literal.characters.len(),
+            _ => 1,
         }
     }
 }
@@ -39,8 +40,8 @@ impl Atomic for Atom {
 /// An alternative of a rule over these atoms.
 pub trait Body<A> {
     ghost use Rattle.std.specs.Prelude.{◌≡◌, map};
-    ghost use Rattle.g4_grammar.specs.Elements.{Elements as Tree};
-    ghost use Rattle.g4_grammar.specs.Trees.{element_of, in_order};
+    ghost use Rattle.g4_elements.specs.Elements.{Elements as Tree};
+    ghost use Rattle.g4_elements.specs.Trees.{element_of, in_order};
 
     ghost tree: { Self → Tree A };
 
@@ -49,11 +50,11 @@ pub trait Body<A> {
         ensures { in_order (map element_of result.now) ≡ tree self.now };
 }
 
-impl<A> Body<A> for Elements<A> {
-    ghost tree = { λ x. x };
+impl<A> Body<A> for RuleAlternative<A> {
+    ghost tree = { λ x. x.elements };
 
     fn elements(&self) -> &[Element<A>] {
-        self.as_slice()
+        self.elements.as_slice()
     }
 }
 

@@ -1,13 +1,16 @@
 // How many states a grammar's networks have, as far as a network may have so many.
 ghost use Rattle.std.specs.Prelude.{◌≡◌, ◌<◌, ◌+◌, MatchOption, map, sum_by};
-ghost use Rattle.g4_grammar.specs.Elements.{block, either};
-ghost use Rattle.g4_grammar.specs.Numbering.{alternatives_of_rule};
-ghost use Rattle.g4_grammar.specs.Trees.{element_of, alternative_of, in_order};
+ghost use Rattle.g4_elements.specs.Elements.{either};
+ghost use Rattle.g4_elements.specs.Trees.{element_of, alternative_of, in_order};
+ghost use Rattle.g4_source.specs.Rules.{alternatives_of};
+ghost use Rattle.g4_layout.specs.Size.{states_by, states_in_order_by, states_of_bodies_by, states_of_rule, states_of_rule_by};
+ghost use Rattle.g4_build.specs.Drafts.{states_of_block_by};
 ghost use Rattle.g4_build.specs.LexerSize.{states_of_token_rule};
-ghost use Rattle.g4_build.specs.Size.{states_by, states_in_order_by, states_of_bodies_by, states_of_rule, states_of_rule_by};
+ghost use Rattle.g4_elements.specs.declared.element.Repeat.TheVariants.{Once};
 
 use crate::atomic::{Atomic, Body};
-use g4_grammar::{Alternative, Element, NumberedRule, Repeat, TokenRule};
+use g4_elements::{Alternative, Element, Repeat};
+use g4_grammar::{StepRule, TokenRule};
 
 /// How many of the spare states are left beyond those of an element, where they suffice.
 #[cycle(count)]
@@ -16,18 +19,33 @@ fn past_element<A: Atomic>(spare: usize, element: &Element<A>) -> Option<usize>
 {
     match element {
         Element::Atom(atom) => spare.checked_sub(atom.states()),
-        Element::Block(repeat, alternatives) => match repeat {
-            Repeat::Once => past_block(spare, alternatives.as_slice()),
-            Repeat::Star => past_sides(spare, alternatives.as_slice())?.checked_sub(1),
-            Repeat::Plus => past_sides(spare, alternatives.as_slice())?.checked_sub(2),
-        },
+        Element::Block(_, repeat, alternatives) => {
+            past_block(spare, *repeat, alternatives.as_slice())
+        }
     }
 }
 
-/// The same beyond a block of these alternatives.
+/// The same beyond a block of these alternatives, which may be taken so often.
 #[cycle(count)]
-fn past_block<A: Atomic>(spare: usize, alternatives: &[Alternative<A>]) -> Option<usize>
-    ensures { MatchOption result (spare < states_by A.states (block (either (map alternative_of alternatives.now)))) (λ left. left + states_by A.states (block (either (map alternative_of alternatives.now))) ≡ spare) }
+fn past_block<A: Atomic>(
+    spare: usize,
+    repeat: Repeat,
+    alternatives: &[Alternative<A>],
+) -> Option<usize>
+    ensures { MatchOption result (spare < states_of_block_by A.states repeat (either (map alternative_of alternatives.now))) (λ left. left + states_of_block_by A.states repeat (either (map alternative_of alternatives.now)) ≡ spare) }
+{
+    match repeat {
+        Repeat::Once => past_once(spare, alternatives),
+        Repeat::Optional(_) => past_sides(spare, alternatives)?.checked_sub(2),
+        Repeat::Star(_) => past_sides(spare, alternatives)?.checked_sub(1),
+        Repeat::Plus(_) => past_sides(spare, alternatives)?.checked_sub(2),
+    }
+}
+
+/// The same beyond a block of these alternatives, which are taken once.
+#[cycle(count)]
+fn past_once<A: Atomic>(spare: usize, alternatives: &[Alternative<A>]) -> Option<usize>
+    ensures { MatchOption result (spare < states_of_block_by A.states Once (either (map alternative_of alternatives.now))) (λ left. left + states_of_block_by A.states Once (either (map alternative_of alternatives.now)) ≡ spare) }
 {
     match alternatives {
         [] => Some(spare),
@@ -82,8 +100,8 @@ fn past_bodies<A: Atomic, B: Body<A>>(spare: usize, alternatives: &[B]) -> Optio
 }
 
 /// The same beyond the alternatives of all rules.
-pub fn past_rules(spare: usize, rules: &[NumberedRule]) -> Option<usize>
-    ensures { MatchOption result (spare < sum_by (λ rule. states_of_rule (alternatives_of_rule rule)) rules.now) (λ left. left + sum_by (λ rule. states_of_rule (alternatives_of_rule rule)) rules.now ≡ spare) }
+pub fn past_rules(spare: usize, rules: &[StepRule]) -> Option<usize>
+    ensures { MatchOption result (spare < sum_by (λ rule. states_of_rule (alternatives_of rule)) rules.now) (λ left. left + sum_by (λ rule. states_of_rule (alternatives_of rule)) rules.now ≡ spare) }
 {
     let mut left = spare;
     for rule in rules {

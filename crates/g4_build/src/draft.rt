@@ -1,16 +1,18 @@
 // The states of elements while they are made. A state where something ends is filled once it is known what follows.
-ghost use Rattle.std.specs.Prelude.{◌≡◌, ◌≤◌, ◌<◌, ◌+◌, ◌++◌, ℕ, [], ◌∷◌, true, slice_set, IfOk, length};
-ghost use Rattle.g4_grammar.specs.Blocks.{IsFull, AreFull, EachIsFull};
-ghost use Rattle.g4_grammar.specs.Calls.{EachCallsNone};
-ghost use Rattle.g4_grammar.specs.Elements.{block, star, plus, either};
-ghost use Rattle.g4_net.specs.declared.network.State.TheVariants.{Token, Empty};
-ghost use Rattle.g4_build.specs.Drafts.{Among, choice_of, linked, starred, repeated_once, joined, IsLaid, AreLaid, AreBeside};
-ghost use Rattle.g4_build.specs.Size.{states_of, states_in_order, states_of_bodies};
-ghost use Rattle.g4_build.specs.Trees.{tree_of, run_of, sides_of, bodies_of};
+ghost use Rattle.std.specs.Prelude.{◌≡◌, ◌≤◌, ◌<◌, ℕ, ◌+◌, IfOk, length};
+ghost use Rattle.g4_elements.specs.Blocks.{IsSome, IsFull, AreFull, EachIsFull};
+ghost use Rattle.g4_elements.specs.declared.element.Repeat.TheVariants.{Once};
+ghost use Rattle.g4_layout.specs.Layout.{with_leave};
+ghost use Rattle.g4_layout.specs.Size.{states_of, states_in_order, states_of_bodies};
+ghost use Rattle.g4_build.specs.Drafts.{Among, choice_of, linked, stepped, joined, passed_by, starred, repeated_once, closed, states_after, AreApart, IsLaid, AreLaid, AreBeside, BlockIsLaid, states_of_block};
+ghost use Rattle.g4_build.specs.Trees.{tree_of, run_of, sides_of, bodies_over};
 
+use crate::atom::Atom;
 use g4_base::Sequence;
-use g4_grammar::{Alternative, Element, Elements, Repeat};
+use g4_elements::{Alternative, Element, Repeat};
+use g4_grammar::Step;
 use g4_net::State;
+use g4_source::RuleAlternative;
 use std::alloc::{AllocError, Global};
 
 /// Where alternatives side by side begin, and where they end.
@@ -21,7 +23,7 @@ pub struct Bodies {
 }
 
 /// Fills the last states with empty edges to a state.
-pub fn link(states: &mut Vec<State>, lasts: &[u32], to: u32)
+pub fn link<L: Drop>(states: &mut Vec<State<L>>, lasts: &[u32], to: u32)
     requires { (p : ℕ) → Among lasts.now p → p < length states.old.items }
     ensures { states.new.items ≡ linked to lasts.now states.old.items }
 {
@@ -31,7 +33,7 @@ pub fn link(states: &mut Vec<State>, lasts: &[u32], to: u32)
 }
 
 /// The state from which a choice of bodies begins.
-fn choice_of(alloc: Global, firsts: &[u32]) -> Result<State, AllocError>
+fn choice_of<L>(alloc: Global, firsts: &[u32]) -> Result<State<L>, AllocError>
     ensures { IfOk result (λ state. state ≡ choice_of firsts.now) }
 {
     if let [first] = firsts {
@@ -41,8 +43,28 @@ fn choice_of(alloc: Global, firsts: &[u32]) -> Result<State, AllocError>
     Ok(State::Decision(Sequence::new(targets)))
 }
 
+/// The edges of a decision over bodies: leave last where it is greedy, else first.
+fn with_leave(
+    alloc: Global,
+    greedy: bool,
+    firsts: Vec<u32>,
+    leave: u32,
+) -> Result<Vec<u32>, AllocError>
+    ensures { IfOk result (λ targets. targets.items ≡ with_leave greedy firsts.items leave) }
+{
+    if greedy {
+        let mut targets = firsts;
+        targets.push(leave)?;
+        return Ok(targets);
+    }
+    let mut targets = Vec::new(alloc);
+    targets.push(leave)?;
+    targets.extend_from_slice(firsts.as_slice())?;
+    Ok(targets)
+}
+
 /// Leads from a state to the bodies, and from their ends to a new one.
-fn join(states: &mut Vec<State>, bodies: Bodies, from: u32) -> Result<u32, AllocError>
+fn join<L: Drop>(states: &mut Vec<State<L>>, bodies: Bodies, from: u32) -> Result<u32, AllocError>
     requires from { from < length states.old.items }
     requires lasts { (p : ℕ) → Among bodies.lasts.items p → p < length states.old.items }
     requires room { length states.old.items < 65536 }
@@ -56,155 +78,225 @@ fn join(states: &mut Vec<State>, bodies: Bodies, from: u32) -> Result<u32, Alloc
     Ok(last)
 }
 
+/// Leads from a state to the bodies or to a new leave state, and from both on to another.
+fn optional<L: Drop>(
+    alloc: Global,
+    states: &mut Vec<State<L>>,
+    bodies: Bodies,
+    from: u32,
+    greedy: bool,
+) -> Result<u32, AllocError>
+    requires from { from < length states.old.items }
+    requires lasts { (p : ℕ) → Among bodies.lasts.items p → p < length states.old.items }
+    requires room { length states.old.items < 65535 }
+    ensures { IfOk result (λ t. (t ≡ length states.old.items + 1) × (states.new.items ≡ passed_by greedy from bodies.firsts.items bodies.lasts.items states.old.items)) }
+{
+    let Bodies { firsts, lasts } = bodies;
+    let leave = states.len() as u32;
+    let targets = with_leave(alloc, greedy, firsts, leave)?;
+    states[from as usize] = State::Decision(Sequence::new(targets));
+    link(states, lasts.as_slice(), leave + 1);
+    states.push(State::Empty(leave + 1))?;
+    states.push(State::Empty(0))?;
+    Ok(leave + 1)
+}
+
 /// Leads from a state to the bodies or on to a new one, and from the bodies' ends back.
-fn star(states: &mut Vec<State>, bodies: Bodies, from: u32) -> Result<u32, AllocError>
+fn star<L: Drop>(
+    alloc: Global,
+    states: &mut Vec<State<L>>,
+    bodies: Bodies,
+    from: u32,
+    greedy: bool,
+) -> Result<u32, AllocError>
     requires from { from < length states.old.items }
     requires lasts { (p : ℕ) → Among bodies.lasts.items p → p < length states.old.items }
     requires room { length states.old.items < 65536 }
-    ensures { IfOk result (λ t. (t ≡ length states.old.items) × (states.new.items ≡ starred from bodies.firsts.items bodies.lasts.items states.old.items)) }
+    ensures { IfOk result (λ t. (t ≡ length states.old.items) × (states.new.items ≡ starred greedy from bodies.firsts.items bodies.lasts.items states.old.items)) }
 {
-    let Bodies { mut firsts, lasts } = bodies;
+    let Bodies { firsts, lasts } = bodies;
     let leave = states.len() as u32;
-    firsts.push(leave)?;
-    states[from as usize] = State::Decision(Sequence::new(firsts));
+    let targets = with_leave(alloc, greedy, firsts, leave)?;
+    states[from as usize] = State::Decision(Sequence::new(targets));
     link(states, lasts.as_slice(), from);
     states.push(State::Empty(0))?;
     Ok(leave)
 }
 
 /// Leads from a state to the bodies, and from their ends to a new one, which leads to the bodies or on to another.
-fn plus(
+fn plus<L: Drop>(
     alloc: Global,
-    states: &mut Vec<State>,
+    states: &mut Vec<State<L>>,
+    bodies: Bodies,
+    from: u32,
+    greedy: bool,
+) -> Result<u32, AllocError>
+    requires from { from < length states.old.items }
+    requires lasts { (p : ℕ) → Among bodies.lasts.items p → p < length states.old.items }
+    requires room { length states.old.items < 65535 }
+    ensures { IfOk result (λ t. (t ≡ length states.old.items + 1) × (states.new.items ≡ repeated_once greedy from bodies.firsts.items bodies.lasts.items states.old.items)) }
+{
+    let Bodies { firsts, lasts } = bodies;
+    let again = states.len() as u32;
+    states[from as usize] = choice_of(alloc, firsts.as_slice())?;
+    link(states, lasts.as_slice(), again);
+    let targets = with_leave(alloc, greedy, firsts, again + 1)?;
+    states.push(State::Decision(Sequence::new(targets)))?;
+    states.push(State::Empty(0))?;
+    Ok(again + 1)
+}
+
+/// Leads from a state to the bodies of a block and on, as often as they may be taken. Each of these answers the state where
+/// what it lays ends, which is still to be filled.
+fn close<L: Drop>(
+    alloc: Global,
+    states: &mut Vec<State<L>>,
+    repeat: Repeat,
     bodies: Bodies,
     from: u32,
 ) -> Result<u32, AllocError>
     requires from { from < length states.old.items }
     requires lasts { (p : ℕ) → Among bodies.lasts.items p → p < length states.old.items }
-    requires room { length states.old.items < 65535 }
-    ensures { IfOk result (λ t. (t ≡ length states.old.items + 1) × (states.new.items ≡ repeated_once from bodies.firsts.items bodies.lasts.items states.old.items)) }
+    requires room { length states.old.items + states_after repeat ≤ 65536 }
+    ensures last { IfOk result (λ t. t + 1 ≡ length states.old.items + states_after repeat) }
+    ensures states { IfOk result (λ t. states.new.items ≡ closed repeat from bodies.firsts.items bodies.lasts.items states.old.items) }
 {
-    let Bodies { mut firsts, lasts } = bodies;
-    let again = states.len() as u32;
-    states[from as usize] = choice_of(alloc, firsts.as_slice())?;
-    link(states, lasts.as_slice(), again);
-    firsts.push(again + 1)?;
-    states.push(State::Decision(Sequence::new(firsts)))?;
-    states.push(State::Empty(0))?;
-    Ok(again + 1)
+    let last = match repeat {
+        Repeat::Once => join(states, bodies, from)?,
+        Repeat::Optional(sign) => optional(alloc, states, bodies, from, sign.greedy)?,
+        Repeat::Star(sign) => star(alloc, states, bodies, from, sign.greedy)?,
+        Repeat::Plus(sign) => plus(alloc, states, bodies, from, sign.greedy)?,
+    };
+    Ok(last)
 }
 
-/// Lays one symbol from a state. Each of these answers the state where what it lays ends, which is still to be filled.
-fn lay_symbol(
-    alloc: Global,
-    states: &mut Vec<State>,
-    symbol: u32,
+/// Lays one step from a state.
+fn lay_step<L: Drop>(
+    states: &mut Vec<State<L>>,
+    step: Step<L>,
     from: u32,
 ) -> Result<u32, AllocError>
     requires from { from < length states.old.items }
     requires room { length states.old.items < 65536 }
-    ensures { IfOk result (λ t. (t ≡ length states.old.items) × (states.new.items ≡ slice_set states.old.items from (Token (symbol ∷ []) t) ++ Empty 0 ∷ [])) }
+    ensures { IfOk result (λ t. (t ≡ length states.old.items) × (states.new.items ≡ stepped from step states.old.items)) }
 {
     let next = states.len() as u32;
-    let set = vec![in alloc; symbol]?;
-    states[from as usize] = State::Token(Sequence::new(set), next);
+    states[from as usize] = match step {
+        Step::Edge(label) => State::Edge(label, next),
+        Step::Call { rule, level } => State::Call {
+            rule,
+            level,
+            back: next,
+        },
+        Step::Predicate(number) => State::Predicate(number, next),
+        Step::Level(level) => State::Level(level, next),
+        Step::Action => State::Action(next),
+    };
     states.push(State::Empty(0))?;
     Ok(next)
 }
 
 /// Lays an element.
 #[cycle(lay)]
-fn lay_element(
+fn lay_element<A: Atom>(
     alloc: Global,
-    states: &mut Vec<State>,
-    element: &Element<u32>,
+    states: &mut Vec<State<A::Label>>,
+    element: &Element<A>,
     from: u32,
 ) -> Result<u32, AllocError>
-    requires full { IsFull (tree_of element.now) }
+    requires full { IsFull (tree_of A.step element.now) }
     requires from { from < length states.old.items }
-    requires room { length states.old.items + states_of (tree_of element.now) ≤ 65536 }
-    ensures { IfOk result (λ t. IsLaid states.old.items states.new.items from t (tree_of element.now)) }
+    requires room { length states.old.items + states_of (tree_of A.step element.now) ≤ 65536 }
+    ensures { IfOk result (λ t. IsLaid states.old.items states.new.items from t (tree_of A.step element.now)) }
 {
     match element {
-        Element::Atom(symbol) => lay_symbol(alloc, states, *symbol, from),
-        Element::Block(repeat, alternatives) => match repeat {
-            Repeat::Once => lay_block(alloc, states, alternatives.as_slice(), from),
-            Repeat::Star => lay_star(alloc, states, alternatives.as_slice(), from),
-            Repeat::Plus => lay_plus(alloc, states, alternatives.as_slice(), from),
-        },
-    }
-}
-
-/// Lays a block of these alternatives.
-#[cycle(lay)]
-fn lay_block(
-    alloc: Global,
-    states: &mut Vec<State>,
-    alternatives: &[Alternative<u32>],
-    from: u32,
-) -> Result<u32, AllocError>
-    requires full { IsFull (block (sides_of alternatives.now)) }
-    requires from { from < length states.old.items }
-    requires room { length states.old.items + states_of (block (sides_of alternatives.now)) ≤ 65536 }
-    ensures { IfOk result (λ t. IsLaid states.old.items states.new.items from t (block (sides_of alternatives.now))) }
-{
-    match alternatives {
-        [one] => lay_run(alloc, states, one.elements.as_slice(), from),
-        several => {
-            let bodies = lay_sides(alloc, states, several)?;
-            let last = join(states, bodies, from)?;
+        Element::Atom(atom) => {
+            let step = atom.step(alloc)?;
+            let next = lay_step(states, step, from)?;
+            Ok(next)
+        }
+        Element::Block(_, repeat, alternatives) => {
+            let last = lay_block(alloc, states, *repeat, alternatives.as_slice(), from)?;
             Ok(last)
         }
     }
 }
 
-/// Lays `*` over these alternatives.
+/// Lays a block of these alternatives, which may be taken so often.
 #[cycle(lay)]
-fn lay_star(
+fn lay_block<A: Atom>(
     alloc: Global,
-    states: &mut Vec<State>,
-    alternatives: &[Alternative<u32>],
+    states: &mut Vec<State<A::Label>>,
+    repeat: Repeat,
+    alternatives: &[Alternative<A>],
     from: u32,
 ) -> Result<u32, AllocError>
-    requires full { IsFull (star true (sides_of alternatives.now)) }
+    requires some { IsSome (sides_of A.step alternatives.now) }
+    requires full { EachIsFull (sides_of A.step alternatives.now) }
     requires from { from < length states.old.items }
-    requires room { length states.old.items + states_of (star true (sides_of alternatives.now)) ≤ 65536 }
-    ensures { IfOk result (λ t. IsLaid states.old.items states.new.items from t (star true (sides_of alternatives.now))) }
+    requires room { length states.old.items + states_of_block repeat (sides_of A.step alternatives.now) ≤ 65536 }
+    ensures { IfOk result (λ t. BlockIsLaid states.old.items states.new.items from t repeat (sides_of A.step alternatives.now)) }
 {
-    let bodies = lay_sides(alloc, states, alternatives)?;
-    let leave = star(states, bodies, from)?;
-    Ok(leave)
+    match repeat {
+        Repeat::Once => lay_once(alloc, states, alternatives, from),
+        _ => lay_apart(alloc, states, repeat, alternatives, from),
+    }
 }
 
-/// Lays `+` over these alternatives.
+/// Lays a block of these alternatives, which are taken once. One alternative is laid as it is.
 #[cycle(lay)]
-fn lay_plus(
+fn lay_once<A: Atom>(
     alloc: Global,
-    states: &mut Vec<State>,
-    alternatives: &[Alternative<u32>],
+    states: &mut Vec<State<A::Label>>,
+    alternatives: &[Alternative<A>],
     from: u32,
 ) -> Result<u32, AllocError>
-    requires full { IsFull (plus true (sides_of alternatives.now)) }
+    requires some { IsSome (sides_of A.step alternatives.now) }
+    requires full { EachIsFull (sides_of A.step alternatives.now) }
     requires from { from < length states.old.items }
-    requires room { length states.old.items + states_of (plus true (sides_of alternatives.now)) ≤ 65536 }
-    ensures { IfOk result (λ t. IsLaid states.old.items states.new.items from t (plus true (sides_of alternatives.now))) }
+    requires room { length states.old.items + states_of_block Once (sides_of A.step alternatives.now) ≤ 65536 }
+    ensures { IfOk result (λ t. BlockIsLaid states.old.items states.new.items from t Once (sides_of A.step alternatives.now)) }
+{
+    match alternatives {
+        [one] => {
+            let last = lay_run(alloc, states, one.elements.as_slice(), from)?;
+            Ok(last)
+        }
+        several => lay_apart(alloc, states, Repeat::Once, several, from),
+    }
+}
+
+/// Lays a block whose alternatives are side by side.
+#[cycle(lay)]
+fn lay_apart<A: Atom>(
+    alloc: Global,
+    states: &mut Vec<State<A::Label>>,
+    repeat: Repeat,
+    alternatives: &[Alternative<A>],
+    from: u32,
+) -> Result<u32, AllocError>
+    requires apart { AreApart repeat (length alternatives.now) }
+    requires full { EachIsFull (sides_of A.step alternatives.now) }
+    requires from { from < length states.old.items }
+    requires room { length states.old.items + states_of_block repeat (sides_of A.step alternatives.now) ≤ 65536 }
+    ensures { IfOk result (λ t. BlockIsLaid states.old.items states.new.items from t repeat (sides_of A.step alternatives.now)) }
 {
     let bodies = lay_sides(alloc, states, alternatives)?;
-    let leave = plus(alloc, states, bodies, from)?;
-    Ok(leave)
+    let last = close(alloc, states, repeat, bodies, from)?;
+    Ok(last)
 }
 
 /// Lays alternatives side by side.
 #[cycle(lay)]
-fn lay_sides(
+fn lay_sides<A: Atom>(
     alloc: Global,
-    states: &mut Vec<State>,
-    alternatives: &[Alternative<u32>],
+    states: &mut Vec<State<A::Label>>,
+    alternatives: &[Alternative<A>],
 ) -> Result<Bodies, AllocError>
-    requires full { EachIsFull (sides_of alternatives.now) }
-    requires room { length states.old.items + states_of_bodies (sides_of alternatives.now) ≤ 65536 }
+    requires full { EachIsFull (sides_of A.step alternatives.now) }
+    requires room { length states.old.items + states_of_bodies (sides_of A.step alternatives.now) ≤ 65536 }
     ensures many { IfOk result (λ bodies. length bodies.firsts.items ≡ length alternatives.now) }
-    ensures laid { IfOk result (λ bodies. AreBeside states.old.items states.new.items bodies.firsts.items bodies.lasts.items (sides_of alternatives.now)) }
+    ensures laid { IfOk result (λ bodies. AreBeside states.old.items states.new.items bodies.firsts.items bodies.lasts.items (sides_of A.step alternatives.now)) }
 {
     let mut firsts = Vec::new(alloc);
     let mut lasts = Vec::new(alloc);
@@ -220,16 +312,16 @@ fn lay_sides(
 
 /// Lays elements one after another. Where there are none, nothing is made.
 #[cycle(lay)]
-pub fn lay_run(
+pub fn lay_run<A: Atom>(
     alloc: Global,
-    states: &mut Vec<State>,
-    elements: &[Element<u32>],
+    states: &mut Vec<State<A::Label>>,
+    elements: &[Element<A>],
     from: u32,
 ) -> Result<u32, AllocError>
-    requires full { AreFull (run_of elements.now) }
+    requires full { AreFull (run_of A.step elements.now) }
     requires from { from < length states.old.items }
-    requires room { length states.old.items + states_in_order (run_of elements.now) ≤ 65536 }
-    ensures { IfOk result (λ t. AreLaid states.old.items states.new.items from t (run_of elements.now)) }
+    requires room { length states.old.items + states_in_order (run_of A.step elements.now) ≤ 65536 }
+    ensures { IfOk result (λ t. AreLaid states.old.items states.new.items from t (run_of A.step elements.now)) }
 {
     let mut last = from;
     for element in elements {
@@ -239,16 +331,15 @@ pub fn lay_run(
 }
 
 /// Lays alternatives of a rule side by side.
-pub fn lay_bodies(
+pub fn lay_bodies<A: Atom>(
     alloc: Global,
-    states: &mut Vec<State>,
-    alternatives: &[Elements<u32>],
+    states: &mut Vec<State<A::Label>>,
+    alternatives: &[RuleAlternative<A>],
 ) -> Result<Bodies, AllocError>
-    requires full { EachIsFull (bodies_of alternatives.now) }
-    requires room { length states.old.items + states_of_bodies (bodies_of alternatives.now) ≤ 65536 }
+    requires full { EachIsFull (bodies_over A.step alternatives.now) }
+    requires room { length states.old.items + states_of_bodies (bodies_over A.step alternatives.now) ≤ 65536 }
     ensures many { IfOk result (λ bodies. length bodies.firsts.items ≡ length alternatives.now) }
-    ensures laid { IfOk result (λ bodies. AreBeside states.old.items states.new.items bodies.firsts.items bodies.lasts.items (bodies_of alternatives.now)) }
-    ensures quiet { IfOk result (λ _. EachCallsNone (either alternatives.now)) }
+    ensures laid { IfOk result (λ bodies. AreBeside states.old.items states.new.items bodies.firsts.items bodies.lasts.items (bodies_over A.step alternatives.now)) }
 {
     let mut firsts = Vec::new(alloc);
     let mut lasts = Vec::new(alloc);
@@ -256,7 +347,7 @@ pub fn lay_bodies(
         let first = states.len() as u32;
         states.push(State::Empty(0))?;
         firsts.push(first)?;
-        let last = lay_run(alloc, states, alternative.as_slice(), first)?;
+        let last = lay_run(alloc, states, alternative.elements.as_slice(), first)?;
         lasts.push(last)?;
     }
     Ok(Bodies { firsts, lasts })

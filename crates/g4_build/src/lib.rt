@@ -1,12 +1,13 @@
-// From a numbered grammar to its network.
+// From parser rules whose atoms are steps to their network.
 #![tactic(auto)]
 
+mod atom;
 mod atomic;
 mod builder;
+mod callers;
 mod count;
 mod draft;
 mod drawing;
-mod law;
 mod lexer_size;
 mod rule;
 #[cfg(test)]
@@ -14,5 +15,4 @@ mod tests;
 mod width;
 
 pub use builder::{BuildFault, build};
-pub use law::{every_network_is_runnable, one_network};
 pub use lexer_size::lexer_network_fits;

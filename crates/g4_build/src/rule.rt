@@ -1,19 +1,17 @@
 // The states of rules, and the numbers of their alternatives.
-ghost use Rattle.std.specs.Prelude.{◌≡◌, ◌≤◌, ◌<◌, ◌+◌, ◌-◌, ◌*◌, ◌++◌, ℕ, [], ◌∷◌, map, OnOk, length, replicate, slice_index, sum_by};
-ghost use Rattle.g4_grammar.specs.Blocks.{EachIsFull, NumberedHaveAlternatives, AreFullAlternatives};
-ghost use Rattle.g4_grammar.specs.Calls.{CallNone, EachCallsNone, NumberedCallNone};
-ghost use Rattle.g4_grammar.specs.Elements.{either};
-ghost use Rattle.g4_grammar.specs.Numbering.{alternatives_of_rule};
+ghost use Rattle.std.specs.Prelude.{◌≡◌, ◌≤◌, ◌<◌, ◌+◌, ◌-◌, ◌*◌, ◌++◌, ℕ, [], ◌∷◌, OnOk, length, replicate, slice_index, sum_by};
+ghost use Rattle.g4_elements.specs.Blocks.{IsSome, EachIsFull};
 ghost use Rattle.g4_net.specs.Network.{start_of};
+ghost use Rattle.g4_layout.specs.Size.{states_of_rule};
 ghost use Rattle.g4_build.specs.Drafts.{Among};
-ghost use Rattle.g4_build.specs.Rules.{marked, RuleIsLaid, HaveLaid};
-ghost use Rattle.g4_build.specs.Size.{states_of_rule};
-ghost use Rattle.g4_build.specs.Trees.{over_symbols, bodies_of};
+ghost use Rattle.g4_build.specs.Rules.{marked, RuleIsLaid, HaveLaid, TreeIsFull, AreFullTrees};
+ghost use Rattle.g4_build.specs.Trees.{bodies_over, rules_over};
 
+use crate::atom::Atom;
 use crate::draft::{Bodies, lay_bodies, lay_run, link};
 use g4_base::Sequence;
-use g4_grammar::{Elements, NumberedRule};
 use g4_net::State;
+use g4_source::{ParserRule, RuleAlternative};
 use std::alloc::{AllocError, Global};
 
 /// Adds so many zeros.
@@ -40,22 +38,21 @@ fn mark(written: &mut Vec<u32>, firsts: &[u32])
 }
 
 /// Lays a rule of one alternative from its start to its end.
-fn lay_lone(
+fn lay_lone<A: Atom>(
     alloc: Global,
-    states: &mut Vec<State>,
+    states: &mut Vec<State<A::Label>>,
     written: &mut Vec<u32>,
     rule: u32,
-    alternative: &Elements<u32>,
+    alternative: &RuleAlternative<A>,
 ) -> Result<(), AllocError>
-    requires full { EachIsFull (bodies_of (alternative.now ∷ [])) }
+    requires full { EachIsFull (bodies_over A.step (alternative.now ∷ [])) }
     requires numbered { length written.old.items ≡ length states.old.items }
     requires rule { start_of rule < length states.old.items }
-    requires room { length states.old.items + states_of_rule (bodies_of (alternative.now ∷ [])) ≤ 65536 }
-    ensures laid { OnOk result (RuleIsLaid states.old.items states.new.items written.old.items written.new.items rule (bodies_of (alternative.now ∷ []))) }
-    ensures quiet { OnOk result (CallNone alternative.now) }
+    requires room { length states.old.items + states_of_rule (bodies_over A.step (alternative.now ∷ [])) ≤ 65536 }
+    ensures { OnOk result (RuleIsLaid states.old.items states.new.items written.old.items written.new.items rule (bodies_over A.step (alternative.now ∷ []))) }
 {
     let start = 2 * rule;
-    let last = lay_run(alloc, states, alternative.as_slice(), start)?;
+    let last = lay_run(alloc, states, alternative.elements.as_slice(), start)?;
     states[last as usize] = State::Empty(start + 1);
     pad(written, states.len() - written.len())?;
     written[start as usize] = 1;
@@ -63,21 +60,20 @@ fn lay_lone(
 }
 
 /// Lays a rule of several alternatives from its start to its end.
-fn lay_several(
+fn lay_several<A: Atom>(
     alloc: Global,
-    states: &mut Vec<State>,
+    states: &mut Vec<State<A::Label>>,
     written: &mut Vec<u32>,
     rule: u32,
-    alternatives: &[Elements<u32>],
+    alternatives: &[RuleAlternative<A>],
 ) -> Result<(), AllocError>
-    requires full { EachIsFull (bodies_of alternatives.now) }
+    requires full { EachIsFull (bodies_over A.step alternatives.now) }
     requires several { 2 ≤ length alternatives.now }
     requires numbered { length written.old.items ≡ length states.old.items }
     requires rule { start_of rule < length states.old.items }
     requires blank { slice_index written.old.items (start_of rule) ≡ 0 }
-    requires room { length states.old.items + states_of_rule (bodies_of alternatives.now) ≤ 65536 }
-    ensures laid { OnOk result (RuleIsLaid states.old.items states.new.items written.old.items written.new.items rule (bodies_of alternatives.now)) }
-    ensures quiet { OnOk result (EachCallsNone (either alternatives.now)) }
+    requires room { length states.old.items + states_of_rule (bodies_over A.step alternatives.now) ≤ 65536 }
+    ensures { OnOk result (RuleIsLaid states.old.items states.new.items written.old.items written.new.items rule (bodies_over A.step alternatives.now)) }
 {
     let start = 2 * rule;
     let bodies = lay_bodies(alloc, states, alternatives)?;
@@ -90,20 +86,19 @@ fn lay_several(
 }
 
 /// Lays a rule from its start to its end.
-fn lay_rule(
+fn lay_rule<A: Atom>(
     alloc: Global,
-    states: &mut Vec<State>,
+    states: &mut Vec<State<A::Label>>,
     written: &mut Vec<u32>,
     rule: u32,
-    alternatives: &[Elements<u32>],
+    alternatives: &[RuleAlternative<A>],
 ) -> Result<(), AllocError>
-    requires full { AreFullAlternatives (map over_symbols alternatives.now) }
+    requires full { TreeIsFull (bodies_over A.step alternatives.now) }
     requires numbered { length written.old.items ≡ length states.old.items }
     requires rule { start_of rule < length states.old.items }
     requires blank { slice_index written.old.items (start_of rule) ≡ 0 }
-    requires room { length states.old.items + states_of_rule (bodies_of alternatives.now) ≤ 65536 }
-    ensures laid { OnOk result (RuleIsLaid states.old.items states.new.items written.old.items written.new.items rule (bodies_of alternatives.now)) }
-    ensures quiet { OnOk result (EachCallsNone (either alternatives.now)) }
+    requires room { length states.old.items + states_of_rule (bodies_over A.step alternatives.now) ≤ 65536 }
+    ensures { OnOk result (RuleIsLaid states.old.items states.new.items written.old.items written.new.items rule (bodies_over A.step alternatives.now)) }
 {
     match alternatives {
         [one] => lay_lone(alloc, states, written, rule, one),
@@ -112,19 +107,18 @@ fn lay_rule(
 }
 
 /// Lays the rules, the first of them being rule 1.
-pub fn lay_rules(
+pub fn lay_rules<A: Atom>(
     alloc: Global,
-    states: &mut Vec<State>,
+    states: &mut Vec<State<A::Label>>,
     written: &mut Vec<u32>,
-    rules: &[NumberedRule],
+    rules: &[ParserRule<A>],
 ) -> Result<(), AllocError>
-    requires full { NumberedHaveAlternatives rules.now }
+    requires full { AreFullTrees (rules_over A.step rules.now) }
     requires numbered { length written.old.items ≡ length states.old.items }
     requires heads { 2 * length rules.now + 2 ≤ length states.old.items }
     requires blank { (p : ℕ) → 1 ≤ p → slice_index written.old.items p ≡ 0 }
-    requires room { length states.old.items + sum_by (λ r. states_of_rule (alternatives_of_rule r)) rules.now ≤ 65536 }
-    ensures laid { OnOk result (HaveLaid states.old.items states.new.items written.old.items written.new.items (length rules.now + 1) rules.now []) }
-    ensures quiet { OnOk result (NumberedCallNone rules.now) }
+    requires room { length states.old.items + sum_by states_of_rule (rules_over A.step rules.now) ≤ 65536 }
+    ensures { OnOk result (HaveLaid states.old.items states.new.items written.old.items written.new.items (length rules.now + 1) (rules_over A.step rules.now) []) }
 {
     let mut number = 1;
     for rule in rules {

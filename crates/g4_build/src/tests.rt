@@ -1,43 +1,128 @@
-// What is drawn of small rules, worked out by hand.
-ghost use Rattle.std.specs.Prelude.{◌≤◌, IfOk, length};
-ghost use Rattle.g4_grammar.specs.Blocks.{IsFull, NumberedHaveAlternatives};
-ghost use Rattle.g4_grammar.specs.Trees.{element_of};
+// What is built of small rules, worked out by hand, and of many.
+ghost use Rattle.std.specs.Prelude.{◌≡◌, ◌≤◌, IfOk, length, map};
+ghost use Rattle.g4_elements.specs.Blocks.{AreFull};
+ghost use Rattle.g4_elements.specs.Elements.{either};
+ghost use Rattle.g4_elements.specs.Trees.{alternative_of};
+ghost use Rattle.g4_source.specs.Blocks.{ParserRulesAreFull};
+ghost use Rattle.g4_grammar.specs.StepRules.{CanBeLaid};
+ghost use Rattle.g4_build.specs.Samples.{AreSymbols, IsSample};
 
-use crate::builder::fits;
+use crate::builder::{build, fits};
 use crate::drawing::draw;
 use crate::lexer_size::lexer_network_fits;
 use crate::width::some_rule_is_wide;
-use g4_base::{Sequence, Text};
-use g4_grammar::{
-    Alternative, Atom, Element, Elements, LexerAlternative, Literal, NumberedRule, Repeat,
-    TokenRule,
-};
-use g4_net::{Network, State};
+use g4_base::{Place, Sequence, Text};
+use g4_elements::{Alternative, Element, Elements, Repeat, Suffix};
+use g4_grammar::{Step, StepRule, TokenRule};
+use g4_net::{ParserNetwork, State};
+use g4_source::{Atom, AtomKind, LexerAlternative, Literal, RuleAlternative};
+use g4_symbols::{EOF, Symbols};
 use std::alloc::{AllocError, Global};
 use std::test::Fail;
 
-// A block of symbols, one an alternative.
-fn block(alloc: Global, repeat: Repeat, symbols: &[u32]) -> Result<Element<u32>, AllocError>
-    requires { 1 ≤ length symbols.now }
-    ensures { IfOk result (λ e. IsFull (element_of e)) }
-{
-    let mut alternatives = Vec::new(alloc);
-    for symbol in symbols {
-        let elements = vec![in alloc; Element::Atom(*symbol)]?;
-        alternatives.push(Alternative { elements })?;
+// A sign, greedy or not.
+const fn sign(greedy: bool) -> Suffix {
+    Suffix {
+        place: Place::START,
+        greedy,
     }
-    Ok(Element::Block(repeat, alternatives))
 }
 
-// One rule of these elements.
-fn rule(alloc: Global, element: Element<u32>) -> Result<Vec<NumberedRule>, AllocError>
-    requires { IsFull (element_of element) }
-    ensures { IfOk result (λ rules. NumberedHaveAlternatives rules.items) }
+// The first so many symbols, one an alternative.
+fn symbols(alloc: Global, count: u16) -> Result<Vec<Alternative<Step<Symbols>>>, AllocError>
+    ensures count { IfOk result (λ sides. length sides.items ≡ count) }
+    ensures symbols { IfOk result (λ sides. AreSymbols (either (map alternative_of sides.items))) }
 {
-    let elements = Elements::new(vec![in alloc; element]?);
-    let alternatives = Sequence::new(vec![in alloc; elements]?);
+    let mut sides = Vec::new(alloc);
+    for number in 0..count {
+        let set = Symbols::one(alloc, number as u32 + 1)?;
+        let elements = vec![in alloc; Element::Atom(Step::Edge(set))]?;
+        sides.push(Alternative { elements })?;
+    }
+    Ok(sides)
+}
+
+// A rule that is a block of the first so many symbols.
+fn sample(alloc: Global, repeat: Repeat, count: u16) -> Result<StepRule, AllocError>
+    requires { 1 ≤ count }
+    ensures { IfOk result (λ rule. IsSample rule) }
+{
+    let sides = symbols(alloc, count)?;
+    let elements = vec![in alloc; Element::Block(None, repeat, sides)]?;
+    let body = RuleAlternative {
+        right: false,
+        elements: Elements::new(elements),
+        label: None,
+    };
+    let rule = rule(alloc, vec![in alloc; body]?)?;
+    Ok(rule)
+}
+
+// So many such rules.
+fn samples(
+    alloc: Global,
+    rules: u16,
+    repeat: Repeat,
+    count: u16,
+) -> Result<Vec<StepRule>, AllocError>
+    requires { 1 ≤ count }
+    ensures { IfOk result (λ rules. CanBeLaid rules.items) }
+{
+    let mut all = Vec::new(alloc);
+    for _ in 0..rules {
+        all.push(sample(alloc, repeat, count)?)?;
+    }
+    Ok(all)
+}
+
+// A rule of these alternatives.
+fn rule(
+    alloc: Global,
+    alternatives: Vec<RuleAlternative<Step<Symbols>>>,
+) -> Result<StepRule, AllocError>
+    ensures { IfOk result (λ rule. rule.alternatives ≡ alternatives.items) }
+{
     let name = Text::copy_of(alloc, "r")?;
-    let rules = vec![in alloc; NumberedRule { name, alternatives }]?;
+    let alternatives = Sequence::new(alternatives);
+    Ok(StepRule { name, alternatives })
+}
+
+// An alternative of these steps, one after another.
+fn body(
+    alloc: Global,
+    steps: Vec<Step<Symbols>>,
+) -> Result<RuleAlternative<Step<Symbols>>, AllocError>
+    ensures { IfOk result (λ body. AreFull body.elements) }
+{
+    let mut elements = Vec::new(alloc);
+    for step in steps {
+        elements.push(Element::Atom(step))?;
+    }
+    Ok(RuleAlternative {
+        right: false,
+        elements: Elements::new(elements),
+        label: None,
+    })
+}
+
+// A rule that calls itself at its end, or the other rule before an action.
+fn calling(alloc: Global) -> Result<Vec<StepRule>, AllocError>
+    ensures { IfOk result (λ rules. ParserRulesAreFull rules.items) }
+{
+    let edge = Step::Edge(Symbols::one(alloc, 1)?);
+    let again = body(
+        alloc,
+        vec![in alloc; edge, Step::Call { rule: 1, level: 0 }]?,
+    )?;
+    let other = body(
+        alloc,
+        vec![in alloc; Step::Call { rule: 2, level: 3 }, Step::Action]?,
+    )?;
+    let first = rule(alloc, vec![in alloc; again, other]?)?;
+    let edge = Step::Edge(Symbols::one(alloc, 2)?);
+    let last = body(alloc, vec![in alloc; edge]?)?;
+    let second = rule(alloc, vec![in alloc; last]?)?;
+    let rules = vec![in alloc; first, second]?;
     Ok(rules)
 }
 
@@ -49,25 +134,26 @@ fn numbers_text(alloc: Global, numbers: &[u32]) -> Result<String, AllocError> {
     Ok(text)
 }
 
-fn state_text(alloc: Global, state: &State) -> Result<String, AllocError> {
+fn state_text(alloc: Global, state: &State<Symbols>) -> Result<String, AllocError> {
     match state {
         State::Decision(targets) => {
             let targets = numbers_text(alloc, targets.as_slice())?;
             format!(in alloc; "decide{targets}; ")
         }
         State::End(rule) => format!(in alloc; "end {rule}; "),
-        State::Token(set, target) => {
-            let set = numbers_text(alloc, set.as_slice())?;
+        State::Edge(set, target) => {
+            let set = numbers_text(alloc, set.to_vec(alloc)?.as_slice())?;
             format!(in alloc; "take{set} to {target}; ")
         }
         State::Call { rule, level, back } => format!(in alloc; "call {rule} {level} {back}; "),
         State::Empty(target) => format!(in alloc; "to {target}; "),
+        State::Action(target) => format!(in alloc; "act {target}; "),
         _ => String::from_str(alloc, "other; "),
     }
 }
 
 // Each state, then what is written, then each rule's callers.
-fn network_text(alloc: Global, net: &Network) -> Result<String, AllocError> {
+fn network_text(alloc: Global, net: &ParserNetwork) -> Result<String, AllocError> {
     let mut text = String::new(alloc);
     for state in net.states.as_slice() {
         text.push_str(state_text(alloc, state)?.as_str())?;
@@ -81,64 +167,117 @@ fn network_text(alloc: Global, net: &Network) -> Result<String, AllocError> {
 }
 
 // The network of a rule that is one block, in text.
-fn drawn(alloc: Global, repeat: Repeat, symbols: &[u32]) -> Result<String, AllocError>
-    requires { 1 ≤ length symbols.now }
+fn built(alloc: Global, repeat: Repeat, count: u16) -> Result<String, AllocError>
+    requires { 1 ≤ count }
 {
-    let rules = rule(alloc, block(alloc, repeat, symbols)?)?;
-    if !fits(rules.as_slice()) || rules.len() != 1 {
-        return String::from_str(alloc, "too many");
+    let rules = samples(alloc, 1, repeat, count)?;
+    match build(alloc, rules.as_slice(), "r") {
+        Ok(net) => network_text(alloc, &net),
+        Err(_) => String::from_str(alloc, "no network"),
     }
-    let net = draw(alloc, rules.as_slice(), 1)?;
-    network_text(alloc, &net)
+}
+
+// How many states the network of so many such rules has.
+fn states_of_many(
+    alloc: Global,
+    rules: u16,
+    repeat: Repeat,
+    count: u16,
+) -> Result<usize, AllocError>
+    requires { 1 ≤ count }
+{
+    let rules = samples(alloc, rules, repeat, count)?;
+    match build(alloc, rules.as_slice(), "r") {
+        Ok(net) => Ok(net.states.len()),
+        Err(_) => Ok(0),
+    }
 }
 
 #[test]
-fn networks(rt: HostRuntime) -> Result<(), Fail> {
+fn many_rules(rt: HostRuntime) -> Result<(), Fail> {
+    let states = states_of_many(rt.alloc(), 300, Repeat::Plus(sign(true)), 100)?;
+    assert_eq!(rt; states, 61_207);
+    Ok(())
+}
+
+#[test]
+fn blocks(rt: HostRuntime) -> Result<(), Fail> {
     let alloc = rt.alloc();
-    let star = drawn(alloc, Repeat::Star, &[1])?;
+    let text = built(alloc, Repeat::Star(sign(true)), 1)?;
     assert_eq!(rt;
-        star.as_str(),
-        "call 1 0 4; end 0; decide 9 11; end 1; decide 5 7; take 4097 to 6; to 4; take 4098 to 8; to 1; take 1 to 10; to 2; to 3;  1 0 1 0 0 0 0 0 0 0 0 0 | | 4"
+        text.as_str(),
+        "call 1 0 4; end 0; decide 9 11; end 1; decide 5 7; take 65536 to 6; to 4; take 65537 to 8; to 1; take 1 to 10; to 2; to 3;  1 0 1 0 0 0 0 0 0 0 0 0 | | 4"
     );
-    let plus = drawn(alloc, Repeat::Plus, &[1, 2])?;
+    let text = built(alloc, Repeat::Star(sign(false)), 1)?;
     assert_eq!(rt;
-        plus.as_str(),
-        "call 1 0 4; end 0; decide 9 11; end 1; decide 5 7; take 4097 to 6; to 4; take 4098 to 8; to 1; take 1 to 10; to 13; take 2 to 12; to 13; decide 9 11 14; to 3;  1 0 1 0 0 0 0 0 0 0 0 0 0 0 0 | | 4"
+        text.as_str(),
+        "call 1 0 4; end 0; decide 11 9; end 1; decide 5 7; take 65536 to 6; to 4; take 65537 to 8; to 1; take 1 to 10; to 2; to 3;  1 0 1 0 0 0 0 0 0 0 0 0 | | 4"
     );
-    let once = drawn(alloc, Repeat::Once, &[1, 2])?;
+    let text = built(alloc, Repeat::Plus(sign(true)), 2)?;
     assert_eq!(rt;
-        once.as_str(),
-        "call 1 0 4; end 0; decide 9 11; end 1; decide 5 7; take 4097 to 6; to 4; take 4098 to 8; to 1; take 1 to 10; to 13; take 2 to 12; to 13; to 3;  1 0 1 0 0 0 0 0 0 0 0 0 0 0 | | 4"
+        text.as_str(),
+        "call 1 0 4; end 0; decide 9 11; end 1; decide 5 7; take 65536 to 6; to 4; take 65537 to 8; to 1; take 1 to 10; to 13; take 2 to 12; to 13; decide 9 11 14; to 3;  1 0 1 0 0 0 0 0 0 0 0 0 0 0 0 | | 4"
+    );
+    let text = built(alloc, Repeat::Plus(sign(false)), 1)?;
+    assert_eq!(rt;
+        text.as_str(),
+        "call 1 0 4; end 0; to 9; end 1; decide 5 7; take 65536 to 6; to 4; take 65537 to 8; to 1; take 1 to 10; to 11; decide 12 9; to 3;  1 0 1 0 0 0 0 0 0 0 0 0 0 | | 4"
+    );
+    let text = built(alloc, Repeat::Optional(sign(true)), 1)?;
+    assert_eq!(rt;
+        text.as_str(),
+        "call 1 0 4; end 0; decide 9 11; end 1; decide 5 7; take 65536 to 6; to 4; take 65537 to 8; to 1; take 1 to 10; to 12; to 12; to 3;  1 0 1 0 0 0 0 0 0 0 0 0 0 | | 4"
+    );
+    let text = built(alloc, Repeat::Optional(sign(false)), 2)?;
+    assert_eq!(rt;
+        text.as_str(),
+        "call 1 0 4; end 0; decide 13 9 11; end 1; decide 5 7; take 65536 to 6; to 4; take 65537 to 8; to 1; take 1 to 10; to 14; take 2 to 12; to 14; to 14; to 3;  1 0 1 0 0 0 0 0 0 0 0 0 0 0 0 | | 4"
+    );
+    let text = built(alloc, Repeat::Once, 2)?;
+    assert_eq!(rt;
+        text.as_str(),
+        "call 1 0 4; end 0; decide 9 11; end 1; decide 5 7; take 65536 to 6; to 4; take 65537 to 8; to 1; take 1 to 10; to 13; take 2 to 12; to 13; to 3;  1 0 1 0 0 0 0 0 0 0 0 0 0 0 | | 4"
     );
     Ok(())
 }
 
-// Whether a rule of these alternatives has a decision with too many.
-fn is_wide(alloc: Global, alternatives: Vec<Elements<u32>>) -> Result<bool, AllocError> {
-    let name = Text::copy_of(alloc, "r")?;
-    let alternatives = Sequence::new(alternatives);
-    let rules = vec![in alloc; NumberedRule { name, alternatives }]?;
-    Ok(some_rule_is_wide(rules.as_slice()))
+// The network of rules that call each other, in text.
+fn drawn(alloc: Global) -> Result<String, AllocError> {
+    let rules = calling(alloc)?;
+    let set = Symbols::one(alloc, EOF)?;
+    if rules.len() != 2 || !fits(rules.as_slice()) {
+        return String::from_str(alloc, "no network");
+    }
+    let net = draw(alloc, rules.as_slice(), &set, 1)?;
+    network_text(alloc, &net)
 }
 
-// The same of a rule of so many alternatives.
+#[test]
+fn calls(rt: HostRuntime) -> Result<(), Fail> {
+    let text = drawn(rt.alloc())?;
+    assert_eq!(rt;
+        text.as_str(),
+        "call 1 0 6; end 0; decide 11 14; end 1; take 2 to 17; end 2; decide 7 9; take 65536 to 8; to 6; take 65537 to 10; to 1; take 1 to 12; call 1 0 13; to 3; call 2 3 15; act 16; to 3; to 5;  1 0 0 0 1 0 0 0 0 0 0 1 0 0 2 0 0 0 | | 6 13 | 15"
+    );
+    Ok(())
+}
+
+// Whether a rule of so many alternatives has a decision with too many.
 fn is_wide_rule(alloc: Global, count: usize) -> Result<bool, AllocError> {
     let mut alternatives = Vec::new(alloc);
     for _ in 0..count {
-        alternatives.push(Elements::new(vec![in alloc; Element::Atom(1)]?))?;
+        alternatives.push(body(alloc, Vec::new(alloc))?)?;
     }
-    is_wide(alloc, alternatives)
+    let rules = vec![in alloc; rule(alloc, alternatives)?]?;
+    Ok(some_rule_is_wide(rules.as_slice()))
 }
 
 // The same of a rule that is one block of so many alternatives.
-fn is_wide_block(alloc: Global, repeat: Repeat, count: usize) -> Result<bool, AllocError> {
-    let mut alternatives = Vec::new(alloc);
-    for _ in 0..count {
-        let elements = vec![in alloc; Element::Atom(1)]?;
-        alternatives.push(Alternative { elements })?;
-    }
-    let elements = Elements::new(vec![in alloc; Element::Block(repeat, alternatives)]?);
-    is_wide(alloc, vec![in alloc; elements]?)
+fn is_wide_block(alloc: Global, repeat: Repeat, count: u16) -> Result<bool, AllocError>
+    requires { 1 ≤ count }
+{
+    let rules = vec![in alloc; sample(alloc, repeat, count)?]?;
+    Ok(some_rule_is_wide(rules.as_slice()))
 }
 
 #[test]
@@ -148,15 +287,32 @@ fn decisions(rt: HostRuntime) -> Result<(), Fail> {
     assert_eq!(rt; is_wide_rule(alloc, 1025)?, true);
     assert_eq!(rt; is_wide_block(alloc, Repeat::Once, 1024)?, false);
     assert_eq!(rt; is_wide_block(alloc, Repeat::Once, 1025)?, true);
-    assert_eq!(rt; is_wide_block(alloc, Repeat::Star, 1023)?, false);
-    assert_eq!(rt; is_wide_block(alloc, Repeat::Star, 1024)?, true);
-    assert_eq!(rt; is_wide_block(alloc, Repeat::Plus, 1023)?, false);
-    assert_eq!(rt; is_wide_block(alloc, Repeat::Plus, 1024)?, true);
+    assert_eq!(rt;
+        is_wide_block(alloc, Repeat::Optional(sign(true)), 1023)?,
+        false
+    );
+    assert_eq!(rt;
+        is_wide_block(alloc, Repeat::Optional(sign(true)), 1024)?,
+        true
+    );
+    assert_eq!(rt;
+        is_wide_block(alloc, Repeat::Star(sign(false)), 1023)?,
+        false
+    );
+    assert_eq!(rt;
+        is_wide_block(alloc, Repeat::Star(sign(false)), 1024)?,
+        true
+    );
+    assert_eq!(rt;
+        is_wide_block(alloc, Repeat::Plus(sign(true)), 1023)?,
+        false
+    );
+    assert_eq!(rt; is_wide_block(alloc, Repeat::Plus(sign(true)), 1024)?, true);
     Ok(())
 }
 
-// A token rule that is a literal of so many characters.
-fn literal_rule(alloc: Global, count: usize) -> Result<TokenRule, AllocError> {
+// An atom of a lexer rule that is a literal of so many characters.
+fn literal(alloc: Global, count: usize) -> Result<Element<Atom>, AllocError> {
     let mut characters = Vec::new(alloc);
     for _ in 0..count {
         characters.push('a')?;
@@ -165,12 +321,22 @@ fn literal_rule(alloc: Global, count: usize) -> Result<TokenRule, AllocError> {
         characters: Sequence::new(characters),
         written: Text::copy_of(alloc, "'a'")?,
     };
-    let elements = Elements::new(vec![in alloc; Element::Atom(Atom::Literal(literal))]?);
+    Ok(Element::Atom(Atom {
+        label: None,
+        right: false,
+        kind: AtomKind::Literal(literal),
+    }))
+}
+
+// A token rule that is such a literal.
+fn literal_rule(alloc: Global, count: usize) -> Result<TokenRule, AllocError> {
+    let elements = Elements::new(vec![in alloc; literal(alloc, count)?]?);
     let alternative = LexerAlternative {
         elements,
-        skip: false,
+        commands: Sequence::new(Vec::new(alloc)),
     };
     Ok(TokenRule {
+        name: Text::copy_of(alloc, "T")?,
         symbol: 1,
         alternatives: Sequence::new(vec![in alloc; alternative]?),
     })

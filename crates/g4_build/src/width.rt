@@ -1,32 +1,36 @@
-// Whether a grammar's network would have a decision with too many alternatives.
-ghost use Rattle.std.specs.Prelude.{◌↔◌, ◌<◌, ◌+◌, IsTrue};
-ghost use Rattle.g4_build.specs.Decisions.{HasDecision, OneHasDecision, SomeHasDecision, RuleHasDecision, RulesHaveDecision, IsWide, ways_to_leave};
-ghost use Rattle.g4_build.specs.Trees.{tree_of, run_of, sides_of, bodies_of};
+// Whether the network of rules would have a decision with too many alternatives.
+ghost use Rattle.std.specs.Prelude.{◌↔◌, ◌<◌, ◌+◌, IsTrue, map};
+ghost use Rattle.g4_elements.specs.Elements.{either};
+ghost use Rattle.g4_elements.specs.Trees.{element_of, alternative_of, in_order};
+ghost use Rattle.g4_source.specs.Rules.{alternatives_of};
+ghost use Rattle.g4_layout.specs.Decisions.{HasDecision, OneHasDecision, SomeHasDecision, RuleHasDecision, RulesHaveDecision, IsWide, ways_to_leave};
 
-use g4_grammar::{Alternative, Element, Elements, NumberedRule, Repeat};
+use g4_elements::{Alternative, Element, Repeat};
+use g4_source::{ParserRule, RuleAlternative};
 
 /// The most alternatives that a decision has, leave counted.
 const MOST_ALTERNATIVES: usize = 1_024;
 
-/// Whether a decision over so many bodies, which stand so often, has too many alternatives.
+/// Whether a decision over so many bodies, which may be taken so often, has too many alternatives.
 fn is_too_many(repeat: Repeat, bodies: usize) -> bool
     ensures { IsTrue result ↔ 1024 < bodies + ways_to_leave repeat }
 {
     match repeat {
         Repeat::Once => bodies > MOST_ALTERNATIVES,
-        Repeat::Star => bodies >= MOST_ALTERNATIVES,
-        Repeat::Plus => bodies >= MOST_ALTERNATIVES,
+        Repeat::Optional(_) => bodies >= MOST_ALTERNATIVES,
+        Repeat::Star(_) => bodies >= MOST_ALTERNATIVES,
+        Repeat::Plus(_) => bodies >= MOST_ALTERNATIVES,
     }
 }
 
 /// Whether an element has a decision with too many alternatives.
 #[cycle(width)]
-fn is_wide(element: &Element<u32>) -> bool
-    ensures { IsTrue result ↔ IsWide (HasDecision (tree_of element.now)) }
+fn is_wide<A>(element: &Element<A>) -> bool
+    ensures { IsTrue result ↔ IsWide (HasDecision (element_of element.now)) }
 {
     match element {
         Element::Atom(_) => false,
-        Element::Block(repeat, alternatives) => {
+        Element::Block(_, repeat, alternatives) => {
             let bodies = alternatives.as_slice();
             is_too_many(*repeat, bodies.len()) || some_is_wide(bodies)
         }
@@ -35,8 +39,8 @@ fn is_wide(element: &Element<u32>) -> bool
 
 /// Whether one of alternatives has such a decision inside.
 #[cycle(width)]
-fn some_is_wide(alternatives: &[Alternative<u32>]) -> bool
-    ensures { IsTrue result ↔ IsWide (SomeHasDecision (sides_of alternatives.now)) }
+fn some_is_wide<A>(alternatives: &[Alternative<A>]) -> bool
+    ensures { IsTrue result ↔ IsWide (SomeHasDecision (either (map alternative_of alternatives.now))) }
 {
     for alternative in alternatives {
         if one_is_wide(alternative.elements.as_slice()) {
@@ -48,8 +52,8 @@ fn some_is_wide(alternatives: &[Alternative<u32>]) -> bool
 
 /// Whether one of elements has such a decision.
 #[cycle(width)]
-fn one_is_wide(elements: &[Element<u32>]) -> bool
-    ensures { IsTrue result ↔ IsWide (OneHasDecision (run_of elements.now)) }
+fn one_is_wide<A>(elements: &[Element<A>]) -> bool
+    ensures { IsTrue result ↔ IsWide (OneHasDecision (in_order (map element_of elements.now))) }
 {
     for element in elements {
         if is_wide(element) {
@@ -60,11 +64,11 @@ fn one_is_wide(elements: &[Element<u32>]) -> bool
 }
 
 /// Whether one of a rule's alternatives has such a decision inside.
-fn some_body_is_wide(alternatives: &[Elements<u32>]) -> bool
-    ensures { IsTrue result ↔ IsWide (SomeHasDecision (bodies_of alternatives.now)) }
+fn some_body_is_wide<A>(alternatives: &[RuleAlternative<A>]) -> bool
+    ensures { IsTrue result ↔ IsWide (SomeHasDecision (either (map (λ a. a.elements) alternatives.now))) }
 {
     for alternative in alternatives {
-        if one_is_wide(alternative.as_slice()) {
+        if one_is_wide(alternative.elements.as_slice()) {
             return true;
         }
     }
@@ -72,16 +76,16 @@ fn some_body_is_wide(alternatives: &[Elements<u32>]) -> bool
 }
 
 /// Whether a rule has a decision with too many alternatives.
-fn rule_is_wide(rule: &NumberedRule) -> bool
-    ensures { IsTrue result ↔ IsWide (RuleHasDecision rule.now) }
+fn rule_is_wide<A>(rule: &ParserRule<A>) -> bool
+    ensures { IsTrue result ↔ IsWide (RuleHasDecision (alternatives_of rule.now)) }
 {
     let bodies = rule.alternatives.as_slice();
     is_too_many(Repeat::Once, bodies.len()) || some_body_is_wide(bodies)
 }
 
 /// Whether one of the rules has a decision with too many alternatives.
-pub fn some_rule_is_wide(rules: &[NumberedRule]) -> bool
-    ensures { IsTrue result ↔ IsWide (RulesHaveDecision rules.now) }
+pub fn some_rule_is_wide<A>(rules: &[ParserRule<A>]) -> bool
+    ensures { IsTrue result ↔ IsWide (RulesHaveDecision (map alternatives_of rules.now)) }
 {
     for rule in rules {
         if rule_is_wide(rule) {

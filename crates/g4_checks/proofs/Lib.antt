@@ -1,4 +1,5 @@
 pub mod Empty
 pub mod Nodes
 pub mod OneCheck
+mod Quiet
 mod Rules

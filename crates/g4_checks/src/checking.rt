@@ -1,9 +1,11 @@
 // The faults of a grammar's rules.
+ghost use Rattle.std.specs.Prelude.{All};
+ghost use Rattle.g4_grammar.specs.Written.{RuleIsQuiet};
 ghost use Rattle.g4_checks.specs.Checking.{IsChecked};
 
 use crate::rule::has_empty_loop;
 use g4_base::Text;
-use g4_grammar::Grammar;
+use g4_source::Source;
 use std::alloc::{AllocError, Global};
 
 /// Why a grammar cannot be run.
@@ -26,10 +28,14 @@ impl From<AllocError> for CheckFault {
 }
 
 /// Looks for the first rule, in order of the text, that has a loop whose body derives the empty word.
-pub fn check(alloc: Global, grammar: &Grammar) -> Result<(), CheckFault>
-    ensures { IsChecked grammar.now.rules result }
+///
+/// # Errors
+/// `EmptyLoop` with the name of that rule, where there is one.
+pub fn check(alloc: Global, source: &Source) -> Result<(), CheckFault>
+    // So far, of rules that call no rule, as those of every grammar that is run.
+    ensures { All RuleIsQuiet source.now.rules → IsChecked source.now.rules result }
 {
-    for rule in grammar.rules.as_slice() {
+    for rule in source.rules.as_slice() {
         if has_empty_loop(rule) {
             return Err(CheckFault::EmptyLoop(Text::copy_of(alloc, rule.name())?));
         }

@@ -1,12 +1,14 @@
 // What is found of the elements of a rule.
-ghost use Rattle.std.specs.Prelude.{◌≡◌, ◌↔◌, [], map, IsTrue, ◌||◌, ◌&&◌};
-ghost use Rattle.g4_grammar.specs.Elements.{either};
-ghost use Rattle.g4_grammar.specs.Trees.{element_of, alternative_of, in_order, repeated};
+ghost use Rattle.std.specs.Prelude.{◌≡◌, ◌↔◌, [], map, IsTrue, Option, ◌||◌, ◌&&◌};
+ghost use Rattle.g4_elements.specs.declared.name.Label.{Label as Named};
+ghost use Rattle.g4_elements.specs.Elements.{block, either};
+ghost use Rattle.g4_elements.specs.Trees.{element_of, alternative_of, in_order};
 ghost use Rattle.g4_grammar.specs.Derives.{Derives, DerivesAll, DerivesOne};
 ghost use Rattle.g4_grammar.specs.Loops.{HasEmptyLoop, OneHasEmptyLoop, SomeHasEmptyLoop};
-ghost use Rattle.g4_checks.specs.Finding.{reads_of, Tells};
+ghost use Rattle.g4_checks.specs.Finding.{NoCalls, Tells, kind_reads, reads_of};
 
-use g4_grammar::{Alternative, Atom, Element, Repeat};
+use g4_elements::{Alternative, Element, Repeat};
+use g4_source::{Atom, AtomKind};
 
 /// Which rules the elements are of.
 #[derive(Clone, Copy)]
@@ -55,11 +57,16 @@ impl Found {
 }
 
 /// Whether the atom derives the empty word.
-fn is_empty_atom(kind: Kind, atom: &Atom) -> bool
-    ensures { IsTrue result ↔ reads_of kind atom.now [] }
+fn is_empty_atom(kind: Kind, atom: &AtomKind) -> bool
+    ensures { IsTrue result ↔ kind_reads kind atom.now [] }
 {
-    match (kind, atom) {
-        (Kind::Lexer, Atom::Literal(literal)) => literal.characters.as_slice().is_empty(),
+    match atom {
+        AtomKind::Literal(literal) => match kind {
+            Kind::Parser => false,
+            Kind::Lexer => literal.characters.as_slice().is_empty(),
+        },
+        AtomKind::Action => true,
+        AtomKind::Predicate(_) => true,
         _ => false,
     }
 }
@@ -67,30 +74,36 @@ fn is_empty_atom(kind: Kind, atom: &Atom) -> bool
 /// What is found of an element.
 #[cycle(found)]
 fn of_element(kind: Kind, element: &Element<Atom>) -> Found
-    ensures { Tells result (Derives (reads_of kind) [] (element_of element.now) []) (HasEmptyLoop (reads_of kind) [] (element_of element.now)) }
+    ensures { Tells result (Derives (reads_of kind) NoCalls [] (element_of element.now) []) (HasEmptyLoop (reads_of kind) NoCalls [] (element_of element.now)) }
 {
     match element {
         Element::Atom(atom) => Found {
-            empty: is_empty_atom(kind, atom),
+            empty: is_empty_atom(kind, &atom.kind),
             looped: false,
         },
-        Element::Block(repeat, alternatives) => of_block(kind, *repeat, alternatives.as_slice()),
+        Element::Block(_, repeat, alternatives) => {
+            of_block(kind, *repeat, alternatives.as_slice())
+        }
     }
 }
 
 /// What is found of a block.
 #[cycle(found)]
 fn of_block(kind: Kind, repeat: Repeat, alternatives: &[Alternative<Atom>]) -> Found
-    ensures { Tells result (Derives (reads_of kind) [] (repeated repeat (either (map alternative_of alternatives.now))) []) (HasEmptyLoop (reads_of kind) [] (repeated repeat (either (map alternative_of alternatives.now)))) }
+    ensures { (label : Option Named) → Tells result (Derives (reads_of kind) NoCalls [] (block label repeat (either (map alternative_of alternatives.now))) []) (HasEmptyLoop (reads_of kind) NoCalls [] (block label repeat (either (map alternative_of alternatives.now)))) }
 {
     let body = of_either(kind, alternatives);
     match repeat {
         Repeat::Once => body,
-        Repeat::Star => Found {
+        Repeat::Optional(_) => Found {
+            empty: true,
+            looped: body.looped,
+        },
+        Repeat::Star(_) => Found {
             empty: true,
             looped: body.loops(),
         },
-        Repeat::Plus => Found {
+        Repeat::Plus(_) => Found {
             empty: body.empty,
             looped: body.loops(),
         },
@@ -100,7 +113,7 @@ fn of_block(kind: Kind, repeat: Repeat, alternatives: &[Alternative<Atom>]) -> F
 /// What is found of alternatives.
 #[cycle(found)]
 fn of_either(kind: Kind, alternatives: &[Alternative<Atom>]) -> Found
-    ensures { Tells result (DerivesOne (reads_of kind) [] (either (map alternative_of alternatives.now)) []) (SomeHasEmptyLoop (reads_of kind) [] (either (map alternative_of alternatives.now))) }
+    ensures { Tells result (DerivesOne (reads_of kind) NoCalls [] (either (map alternative_of alternatives.now)) []) (SomeHasEmptyLoop (reads_of kind) NoCalls [] (either (map alternative_of alternatives.now))) }
 {
     let mut found = Found {
         empty: false,
@@ -115,7 +128,7 @@ fn of_either(kind: Kind, alternatives: &[Alternative<Atom>]) -> Found
 /// What is found of elements one after another.
 #[cycle(found)]
 pub fn of_elements(kind: Kind, elements: &[Element<Atom>]) -> Found
-    ensures { Tells result (DerivesAll (reads_of kind) [] (in_order (map element_of elements.now)) []) (OneHasEmptyLoop (reads_of kind) [] (in_order (map element_of elements.now))) }
+    ensures { Tells result (DerivesAll (reads_of kind) NoCalls [] (in_order (map element_of elements.now)) []) (OneHasEmptyLoop (reads_of kind) NoCalls [] (in_order (map element_of elements.now))) }
 {
     let mut found = Found {
         empty: true,

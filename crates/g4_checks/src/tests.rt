@@ -1,17 +1,31 @@
 // Grammars and the first of their rules with a loop that can be empty, worked out by hand.
 use crate::{CheckFault, check};
-use g4_base::{Sequence, Text};
-use g4_grammar::{
-    Alternative, Atom, Element, Elements, Grammar, LexerAlternative, LexerRule, Literal,
-    ParserRule, Repeat, Rule,
+use g4_base::{Place, Sequence, Text};
+use g4_elements::{Alternative, Element, Elements, Repeat, Suffix};
+use g4_source::{
+    Atom, AtomKind, GrammarKind, LexerAlternative, LexerRule, Literal, ParserRule, Rule,
+    RuleAlternative, Source,
 };
 use std::alloc::{AllocError, Global};
 use std::test::Fail;
 
+const GREEDY: Suffix = Suffix {
+    place: Place::START,
+    greedy: true,
+};
+
+fn atom(kind: AtomKind) -> Element<Atom> {
+    Element::Atom(Atom {
+        label: None,
+        right: false,
+        kind,
+    })
+}
+
 fn literal(alloc: Global, text: &str) -> Result<Element<Atom>, AllocError> {
     let characters = text.chars().collect(alloc)?;
     let written = format!(in alloc; "'{text}'")?;
-    Ok(Element::Atom(Atom::Literal(Literal {
+    Ok(atom(AtomKind::Literal(Literal {
         characters: Sequence::new(characters),
         written: Text::new(written),
     })))
@@ -23,11 +37,11 @@ fn block(
     elements: Vec<Element<Atom>>,
 ) -> Result<Element<Atom>, AllocError> {
     let alternatives = vec![in alloc; Alternative { elements }]?;
-    Ok(Element::Block(repeat, alternatives))
+    Ok(Element::Block(None, repeat, alternatives))
 }
 
-/// The element with a sign behind it for each character of a text: `*`, `+`, or `-` for brackets alone. With `a` a
-/// literal stands before what there is, with `|` an empty alternative behind it.
+/// The element with a sign after it for each character of a text: `*`, `+` or `?`, or `-` for brackets alone. With `a` a
+/// literal comes before what there is, with `|` an empty alternative after it, and `x` makes it an action.
 fn element(alloc: Global, shape: &str) -> Result<Element<Atom>, AllocError> {
     let mut found = literal(alloc, "a")?;
     for sign in shape.chars() {
@@ -37,14 +51,16 @@ fn element(alloc: Global, shape: &str) -> Result<Element<Atom>, AllocError> {
         }
         elements.push(found)?;
         found = match sign {
-            '*' => block(alloc, Repeat::Star, elements)?,
-            '+' => block(alloc, Repeat::Plus, elements)?,
+            'x' => atom(AtomKind::Action),
+            '*' => block(alloc, Repeat::Star(GREEDY), elements)?,
+            '+' => block(alloc, Repeat::Plus(GREEDY), elements)?,
+            '?' => block(alloc, Repeat::Optional(GREEDY), elements)?,
             '|' => {
                 let some = Alternative { elements };
                 let empty = Alternative {
                     elements: Vec::new(alloc),
                 };
-                Element::Block(Repeat::Once, vec![in alloc; some, empty]?)
+                Element::Block(None, Repeat::Once, vec![in alloc; some, empty]?)
             }
             _ => block(alloc, Repeat::Once, elements)?,
         };
@@ -58,12 +74,20 @@ fn rule(alloc: Global, name: &str, shape: &str) -> Result<Rule, AllocError> {
     let is_lexer = name.starts_with(|c: char| c.is_ascii_uppercase());
     let name = Text::copy_of(alloc, name)?;
     if is_lexer {
-        let skip = false;
-        let alternatives = vec![in alloc; LexerAlternative { elements, skip }]?;
-        let alternatives = Sequence::new(alternatives);
-        Ok(Rule::Lexer(LexerRule { name, alternatives }))
+        let commands = Sequence::new(Vec::new(alloc));
+        let alternatives = vec![in alloc; LexerAlternative { elements, commands }]?;
+        Ok(Rule::Lexer(LexerRule {
+            fragment: None,
+            name,
+            alternatives: Sequence::new(alternatives),
+        }))
     } else {
-        let alternatives = Sequence::new(vec![in alloc; elements]?);
+        let alternative = RuleAlternative {
+            right: false,
+            elements,
+            label: None,
+        };
+        let alternatives = Sequence::new(vec![in alloc; alternative]?);
         Ok(Rule::Parser(ParserRule { name, alternatives }))
     }
 }
@@ -76,11 +100,15 @@ fn fault(alloc: Global, shapes: [&str; 3]) -> Result<String, AllocError> {
         rule(alloc, "B", second)?,
         rule(alloc, "c", third)?,
     ]?;
-    let grammar = Grammar {
+    let source = Source {
+        place: Place::START,
+        kind: GrammarKind::Combined,
         name: Text::copy_of(alloc, "X")?,
+        prequels: Sequence::new(Vec::new(alloc)),
         rules: Sequence::new(rules),
+        modes: Sequence::new(Vec::new(alloc)),
     };
-    match check(alloc, &grammar) {
+    match check(alloc, &source) {
         Ok(()) => String::from_str(alloc, "none"),
         Err(CheckFault::EmptyLoop(name)) => String::from_str(alloc, name.as_str()),
         Err(CheckFault::NoMemory) => String::from_str(alloc, "no memory"),
@@ -95,6 +123,8 @@ const TABLE: &[([&str; 3], &str)] = &[
     (["|-+", "|*", ""], "a"),
     (["", "a", "|*-a"], "c"),
     (["", "*+a-", "|+"], "B"),
+    (["?", "??", "?+a"], "c"),
+    (["x", "x-*", "?*"], "B"),
 ];
 
 #[test]

@@ -2,12 +2,12 @@
 use Rattle.std.proofs.Common.{◌≡◌, ℕ, ◌+◌, ◌-◌, ◌<◌, ◌≤◌, inl, inr, List, [], length, take, get_or, Bool, Some, refl, sym, ap, ◌∙◌, subst, arith}
 use Rattle.std.specs.List.{slice_get}
 use Rattle.std.proofs.lemmas.Option.{slice_get_within, slice_get-get_or}
-use Rattle.g4_grammar.specs.declared.grammar.Atom.{Atom}
-use Rattle.g4_grammar.specs.declared.grammar.LexerAlternative.{LexerAlternative}
+use Rattle.g4_elements.specs.Elements.{Elements}
+use Rattle.g4_source.specs.declared.atom.Atom.{Atom}
+use Rattle.g4_source.specs.declared.rule.LexerAlternative.{LexerAlternative}
+use Rattle.g4_source.specs.Rules.{skips}
 use Rattle.g4_grammar.specs.declared.numbered.TokenRule.{TokenRule}
-use Rattle.g4_grammar.specs.Characters.{ReadsCharacters}
-use Rattle.g4_grammar.specs.Elements.{Elements}
-use Rattle.g4_grammar.specs.Derives.{DerivesAll}
+use Rattle.g4_lexer.specs.Alone.{MatchesAll}
 use Rattle.g4_lexer.specs.declared.counts.Counts.{Counts}
 use Rattle.g4_lexer.specs.Matching.{MatchesFront, IsAlternative, NoMatch}
 use Rattle.g4_lexer.specs.Counts.{Has, IsNone, IsStart, IsPart, Adds}
@@ -18,32 +18,32 @@ use Rattle.g4_lexer.proofs.Unique.{same_answer}
 module _ (alternative : LexerAlternative) (text : List ℕ) (start clear ends : Counts) (is_start : IsStart start) (is_none : IsNone clear) where
   -- the ends of the alternative's matches from the start are the counts of its matches
   abbrev IsEnds : Elements Atom → Type 0
-  IsEnds tree = Adds (DerivesAll ReadsCharacters [] tree) text start clear ends
+  IsEnds tree = Adds (MatchesAll tree) text start clear ends
 
   -- an end is a match at the front
-  front_of_end : (n : ℕ) → IsEnds alternative.elements → Has ends n → 1 ≤ n → MatchesFront alternative text n
+  front_of_end : (n : ℕ) → IsEnds alternative.elements → Has ends n → 1 ≤ n → MatchesFront [] alternative text n
   front_of_end n is h some = elim ((is.members n).0 h) [
     | inl before ↦ absurd (is_none n before)
     | inr e ↦
-        let part : IsPart (DerivesAll ReadsCharacters [] alternative.elements) text 0 n = subst (λ k. IsPart (DerivesAll ReadsCharacters [] alternative.elements) text k n) ((is_start.only e.0).0 e.1) e.2 in
+        let part : IsPart (MatchesAll alternative.elements) text 0 n = subst (λ k. IsPart (MatchesAll alternative.elements) text k n) ((is_start.only e.0).0 e.1) e.2 in
         let whole : n - 0 ≡ n = omega arith in
-        record { some = some; within = part.within; matches = subst (λ k. DerivesAll ReadsCharacters [] alternative.elements (take k text)) whole part.matched }
+        record { some = some; within = part.within; matches = subst (λ k. MatchesAll alternative.elements (take k text)) whole part.matched }
   ]
 
   -- a match at the front is an end
-  end_of_front : (n : ℕ) → IsEnds alternative.elements → MatchesFront alternative text n → Has ends n
+  end_of_front : (n : ℕ) → IsEnds alternative.elements → MatchesFront [] alternative text n → Has ends n
   end_of_front n is m =
       let whole : n - 0 ≡ n = omega arith in
-      (is.members n).1 (inr (0, (is_start.only 0).1 refl, record { ordered = omega arith; within = m.within; matched = subst (λ k. DerivesAll ReadsCharacters [] alternative.elements (take k text)) (sym whole) m.matches }))
+      (is.members n).1 (inr (0, (is_start.only 0).1 refl, record { ordered = omega arith; within = m.within; matched = subst (λ k. MatchesAll alternative.elements (take k text)) (sym whole) m.matches }))
 
   -- the greatest end is the longest match
-  pub longest_some : (tree : Elements Atom) (n : ℕ) → tree ≡ alternative.elements → Adds (DerivesAll ReadsCharacters [] tree) text start clear ends → Has ends n → ((m : ℕ) → Has ends m → m ≤ n) → IsLongest alternative text n
+  pub longest_some : (tree : Elements Atom) (n : ℕ) → tree ≡ alternative.elements → Adds (MatchesAll tree) text start clear ends → Has ends n → ((m : ℕ) → Has ends m → m ≤ n) → IsLongest [] alternative text n
   longest_some tree n same adds h greatest =
       let is : IsEnds alternative.elements = subst IsEnds same adds in
       record { matches = λ some. front_of_end n is h some; longest = λ m match. greatest m (end_of_front m is match) }
 
   -- without ends there is no match
-  pub longest_none : (tree : Elements Atom) → tree ≡ alternative.elements → Adds (DerivesAll ReadsCharacters [] tree) text start clear ends → IsNone ends → IsLongest alternative text 0
+  pub longest_none : (tree : Elements Atom) → tree ≡ alternative.elements → Adds (MatchesAll tree) text start clear ends → IsNone ends → IsLongest [] alternative text 0
   longest_none tree same adds none =
       let is : IsEnds alternative.elements = subst IsEnds same adds in
       record { matches = λ some. absurd (omega arith); longest = λ m match. absurd (none m (end_of_front m is match)) }
@@ -98,35 +98,35 @@ module _ (IsMatch : ℕ → ℕ → Type 0) where
     ];
   }
 
-module _ (alternatives : List LexerAlternative) (text : List ℕ) where
+module _ (rules : List TokenRule) (alternatives : List LexerAlternative) (text : List ℕ) where
   -- the alternative of this index matches n characters, and is skipped or not
   abbrev pub IsSide : Bool → ℕ → ℕ → Type 0
-  IsSide skip i n = (alternative : LexerAlternative) × (slice_get alternatives i ≡ Some alternative) × MatchesFront alternative text n × (skip ≡ alternative.skip)
+  IsSide skip i n = (alternative : LexerAlternative) × (slice_get alternatives i ≡ Some alternative) × MatchesFront rules alternative text n × (skip ≡ skips alternative)
 
   -- the best of the alternatives below a count
   abbrev pub SidesBelow : ℕ → ℕ → Bool → Type 0
-  SidesBelow count n skip = IsBestBelow (MatchesAt alternatives text) (IsSide skip) count n
+  SidesBelow count n skip = IsBestBelow (MatchesAt rules alternatives text) (IsSide skip) count n
 
-  most_of : (count m : ℕ) (alternative : LexerAlternative) → slice_get alternatives count ≡ Some alternative → IsLongest alternative text m → (l : ℕ) → MatchesAt alternatives text count l → l ≤ m
-  most_of count m alternative at long l match = long.longest l (subst (λ (a : LexerAlternative). MatchesFront a text l) (same_answer alternatives count match.0 alternative match.1 at) match.2)
+  most_of : (count m : ℕ) (alternative : LexerAlternative) → slice_get alternatives count ≡ Some alternative → IsLongest rules alternative text m → (l : ℕ) → MatchesAt rules alternatives text count l → l ≤ m
+  most_of count m alternative at long l match = long.longest l (subst (λ (a : LexerAlternative). MatchesFront rules a text l) (same_answer alternatives count match.0 alternative match.1 at) match.2)
 
   -- an alternative that matches more
-  pub side_longer : (count n m : ℕ) (skip : Bool) (alternative : LexerAlternative) → SidesBelow count n skip → slice_get alternatives count ≡ Some alternative → IsLongest alternative text m → n < m → SidesBelow (count + 1) m alternative.skip
+  pub side_longer : (count n m : ℕ) (skip : Bool) (alternative : LexerAlternative) → SidesBelow count n skip → slice_get alternatives count ≡ Some alternative → IsLongest rules alternative text m → n < m → SidesBelow (count + 1) m (skips alternative)
   side_longer count n m skip alternative b at long more =
-      best_longer (MatchesAt alternatives text) (IsSide skip) (IsSide alternative.skip) count n m b (λ some. (alternative, at, long.matches some, refl)) (most_of count m alternative at long) more
+      best_longer (MatchesAt rules alternatives text) (IsSide skip) (IsSide (skips alternative)) count n m b (λ some. (alternative, at, long.matches some, refl)) (most_of count m alternative at long) more
 
   -- an alternative that matches no more
-  pub side_stays : (count n m : ℕ) (skip : Bool) (alternative : LexerAlternative) → SidesBelow count n skip → slice_get alternatives count ≡ Some alternative → IsLongest alternative text m → m ≤ n → SidesBelow (count + 1) n skip
-  side_stays count n m skip alternative b at long less = best_stays (MatchesAt alternatives text) (IsSide skip) count n m b (most_of count m alternative at long) less
+  pub side_stays : (count n m : ℕ) (skip : Bool) (alternative : LexerAlternative) → SidesBelow count n skip → slice_get alternatives count ≡ Some alternative → IsLongest rules alternative text m → m ≤ n → SidesBelow (count + 1) n skip
+  side_stays count n m skip alternative b at long less = best_stays (MatchesAt rules alternatives text) (IsSide skip) count n m b (most_of count m alternative at long) less
 
 -- past all alternatives the best is the rule's
-pub sides_best : (rule : TokenRule) (text : List ℕ) (slice : List LexerAlternative) (count n : ℕ) (skip : Bool) → slice ≡ rule.alternatives → length slice ≤ count → SidesBelow slice text count n skip → IsBestOfRule rule text n skip
-sides_best rule text slice count n skip same past b = of_rule (subst (λ (xs : List LexerAlternative). length xs ≤ count) same past) (subst (λ (xs : List LexerAlternative). SidesBelow xs text count n skip) same b)
+pub sides_best : (rules : List TokenRule) (rule : TokenRule) (text : List ℕ) (slice : List LexerAlternative) (count n : ℕ) (skip : Bool) → slice ≡ rule.alternatives → length slice ≤ count → SidesBelow rules slice text count n skip → IsBestOfRule rules rule text n skip
+sides_best rules rule text slice count n skip same past b = of_rule (subst (λ (xs : List LexerAlternative). length xs ≤ count) same past) (subst (λ (xs : List LexerAlternative). SidesBelow rules xs text count n skip) same b)
   where
-    below : length rule.alternatives ≤ count → (h m : ℕ) → MatchesAt rule.alternatives text h m → h < count
+    below : length rule.alternatives ≤ count → (h m : ℕ) → MatchesAt rules rule.alternatives text h m → h < count
     below far h m match = omega (arith, slice_get_within rule.alternatives h match.0 match.1)
 
-    of_rule : length rule.alternatives ≤ count → SidesBelow rule.alternatives text count n skip → IsBestOfRule rule text n skip
+    of_rule : length rule.alternatives ≤ count → SidesBelow rules rule.alternatives text count n skip → IsBestOfRule rules rule text n skip
     of_rule far w = record {
       choice = λ some.
           let c = w.chosen some in (
@@ -146,31 +146,31 @@ sides_best rule text slice count n skip same past b = of_rule (subst (λ (xs : L
 module _ (rules : List TokenRule) (text : List ℕ) where
   -- an alternative of the rule of this index matches n characters
   abbrev pub MatchesRule : ℕ → ℕ → Type 0
-  MatchesRule k n = (rule : TokenRule) × (slice_get rules k ≡ Some rule) × ((i : ℕ) × MatchesAt rule.alternatives text i n)
+  MatchesRule k n = (rule : TokenRule) × (slice_get rules k ≡ Some rule) × ((i : ℕ) × MatchesAt rules rule.alternatives text i n)
 
   -- the rule of this index has this type, and its best alternative matches n characters and is skipped or not
   abbrev pub IsRule : ℕ → Bool → ℕ → ℕ → Type 0
-  IsRule symbol skip k n = (rule : TokenRule) × (slice_get rules k ≡ Some rule) × (symbol ≡ rule.symbol) × ((i : ℕ) × (alternative : LexerAlternative) × IsChoice rule text n i alternative × (skip ≡ alternative.skip))
+  IsRule symbol skip k n = (rule : TokenRule) × (slice_get rules k ≡ Some rule) × (symbol ≡ rule.symbol) × ((i : ℕ) × (alternative : LexerAlternative) × IsChoice rules rule text n i alternative × (skip ≡ skips alternative))
 
   -- the best of the rules below a count
   abbrev pub RulesBelow : ℕ → ℕ → ℕ → Bool → Type 0
   RulesBelow count symbol n skip = IsBestBelow MatchesRule (IsRule symbol skip) count n
 
-  most_of_rule : (count m : ℕ) (skip : Bool) (rule : TokenRule) → slice_get rules count ≡ Some rule → IsBestOfRule rule text m skip → (l : ℕ) → MatchesRule count l → l ≤ m
+  most_of_rule : (count m : ℕ) (skip : Bool) (rule : TokenRule) → slice_get rules count ≡ Some rule → IsBestOfRule rules rule text m skip → (l : ℕ) → MatchesRule count l → l ≤ m
   most_of_rule count m skip rule at best l match =
-      best.longest match.2.0 l (subst (λ (r : TokenRule). MatchesAt r.alternatives text match.2.0 l) (same_answer rules count match.0 rule match.1 at) match.2.1)
+      best.longest match.2.0 l (subst (λ (r : TokenRule). MatchesAt rules r.alternatives text match.2.0 l) (same_answer rules count match.0 rule match.1 at) match.2.1)
 
   -- a rule that matches more
-  pub rule_longer : (count symbol n m : ℕ) (skip skip' : Bool) (rule : TokenRule) → RulesBelow count symbol n skip → slice_get rules count ≡ Some rule → IsBestOfRule rule text m skip' → n < m → RulesBelow (count + 1) rule.symbol m skip'
+  pub rule_longer : (count symbol n m : ℕ) (skip skip' : Bool) (rule : TokenRule) → RulesBelow count symbol n skip → slice_get rules count ≡ Some rule → IsBestOfRule rules rule text m skip' → n < m → RulesBelow (count + 1) rule.symbol m skip'
   rule_longer count symbol n m skip skip' rule b at best more =
       best_longer MatchesRule (IsRule symbol skip) (IsRule rule.symbol skip') count n m b (λ some. (rule, at, refl, best.choice some)) (most_of_rule count m skip' rule at best) more
 
   -- a rule that matches no more
-  pub rule_stays : (count symbol n m : ℕ) (skip skip' : Bool) (rule : TokenRule) → RulesBelow count symbol n skip → slice_get rules count ≡ Some rule → IsBestOfRule rule text m skip' → m ≤ n → RulesBelow (count + 1) symbol n skip
+  pub rule_stays : (count symbol n m : ℕ) (skip skip' : Bool) (rule : TokenRule) → RulesBelow count symbol n skip → slice_get rules count ≡ Some rule → IsBestOfRule rules rule text m skip' → m ≤ n → RulesBelow (count + 1) symbol n skip
   rule_stays count symbol n m skip skip' rule b at best less = best_stays MatchesRule (IsRule symbol skip) count n m b (most_of_rule count m skip' rule at best) less
 
   -- an alternative that matches is one of a rule
-  of_alternative : (j h m : ℕ) (other : TokenRule) (choice : LexerAlternative) → IsAlternative rules j h other choice → MatchesFront choice text m → MatchesRule j m
+  of_alternative : (j h m : ℕ) (other : TokenRule) (choice : LexerAlternative) → IsAlternative rules j h other choice → MatchesFront rules choice text m → MatchesRule j m
   of_alternative j h m other choice at match = (other, at.rule_is, (h, (choice, at.alternative_is, match)))
 
   -- past all rules the best is the best of all

@@ -2,8 +2,10 @@ pub mod BestBelow
 pub mod Counted
 pub mod Elements
 pub mod Nodes
+pub mod OneDecoding
 pub mod Onward
 pub mod Parts
+pub mod Quiet
 pub mod Starts
 pub mod Turns
 pub mod Unique

@@ -1,23 +1,54 @@
 -- How far the tokens of a text are found.
-use Rattle.std.proofs.Common.{◌≡◌, ℕ, zero, suc, ◌+◌, ◌-◌, ◌≤◌, ◌<◌, Bool, true, false, List, [], ◌∷◌, ◌++◌, length, take, drop, Ok, Err, Result, All, Contains, refl, sym, ap, ◌∙◌, subst, append_assoc, append-nil, get_or, arith}
+use Rattle.std.proofs.Common.{◌≡◌, ℕ, zero, suc, ◌+◌, ◌-◌, ◌*◌, ◌≤◌, ◌<◌, Bool, true, false, List, [], ◌∷◌, ◌++◌, length, take, drop, Ok, Err, Result, All, Contains, refl, sym, ap, ◌∙◌, subst, append_assoc, append-nil, get_or, arith}
+use Rattle.std.specs.Str.{encode_utf8_all}
+use Rattle.std.specs.Char.{encode_utf8}
 use Rattle.std.proofs.lemmas.Option.{get_or_from_slice_get, slice_get_within}
-use Rattle.std.proofs.lemmas.List.{drop_more, take_rest, length-append, length-take-le, length-drop, drop-drop, take_all, drop_all}
-use Rattle.std.proofs.lemmas.List.Elements.{All-push}
+use Rattle.std.proofs.lemmas.List.{drop_more, take_more, take_rest, take-append-drop, length-append, length-take-le, length-drop, drop-drop, take_all, drop_all}
+use Rattle.std.proofs.lemmas.List.Elements.{All-push, All-append, All-nil, All-cons}
+use Rattle.std.proofs.lemmas.Str.{encodes-append, encodes-chars, length-encode, len_utf8_bounds}
 use Rattle.std.proofs.Math.Seq.{take-add}
 use Rattle.g4_base.specs.declared.place.Place.{Place}
 use Rattle.g4_base.specs.Place.{first_place, place_past, place_after}
 use Rattle.g4_grammar.specs.declared.numbered.TokenRule.{TokenRule}
-use Rattle.g4_net.specs.declared.token.Token.{Token}
-use Rattle.g4_net.specs.TokenList.{word_of, EndsInEnd}
-use Rattle.g4_base.specs.Symbols.{eof, end_of_list}
+use Rattle.g4_token_list.specs.declared.token.Token.{Token}
+use Rattle.g4_token_list.specs.TokenList.{word_of, EndsInEnd}
+use Rattle.g4_symbols.specs.Symbols.{eof, end_of_list}
+use Rattle.g4_lexer.specs.declared.position.Position.{Position}
+use Rattle.g4_lexer.specs.Decoding.{AreCharacters}
 use Rattle.g4_lexer.specs.Matching.{NoMatch}
 use Rattle.g4_lexer.specs.Best.{IsBestOfAll}
-use Rattle.g4_lexer.specs.Lexing.{LexesWithin, at_end, a_kept_match, a_dropped_match, one_too_many, no_match, Position, Stuck, no_token, too_many, first_position, position_after, token_at, then_token, closing_at, closing_tokens}
+use Rattle.g4_lexer.specs.Positions.{first_position, position_after, token_at, closing_at, EndsBy}
+use Rattle.g4_lexer.specs.Lexing.{LexesWithin, at_end, a_kept_match, a_dropped_match, one_too_many, no_match, Stuck, no_token, too_many, then_token}
 
--- the place behind two pieces end to end
+-- a character has at most four bytes
+pub length-encoded-le : (w : List ℕ) → length (encode_utf8_all w) ≤ 4 * length w
+length-encoded-le [] = omega arith
+length-encoded-le (c ∷ w) = omega (arith, length-append (encode_utf8 c) (encode_utf8_all w), length-encode c, (len_utf8_bounds c).1, length-encoded-le w)
+
+-- the bytes of two pieces end to end
+pub length-encoded-append : (u v : List ℕ) → length (encode_utf8_all (u ++ v)) ≡ length (encode_utf8_all u) + length (encode_utf8_all v)
+length-encoded-append u v = ap length (encodes-append u v) ∙ length-append (encode_utf8_all u) (encode_utf8_all v)
+
+-- one more character
+pub length-encoded-more : (w : List ℕ) (i c : ℕ) → i < length w → c ≡ get_or w i c → length (encode_utf8_all (take (i + 1) w)) ≡ length (encode_utf8_all (take i w)) + length (encode_utf8 c)
+length-encoded-more w i c within is =
+    ap (λ u. length (encode_utf8_all u)) (take_more w i c within ∙ ap (λ d. take i w ++ d ∷ []) (sym is)) ∙ length-encoded-append (take i w) (c ∷ []) ∙ ap (λ k. length (encode_utf8_all (take i w)) + k) (ap length (append-nil (encode_utf8 c)))
+
+-- a front part has no more bytes
+pub length-encoded-front : (w : List ℕ) (i : ℕ) → length (encode_utf8_all (take i w)) ≤ length (encode_utf8_all w)
+length-encoded-front w i = omega (arith, ap (λ u. length (encode_utf8_all u)) (sym (take-append-drop i w)), length-encoded-append (take i w) (drop i w))
+
+-- the place after two pieces end to end
 pub place_after-append : (p : Place) (u v : List ℕ) → place_after p (u ++ v) ≡ place_after (place_after p u) v
 place_after-append p [] v = refl
 place_after-append p (c ∷ u) v = place_after-append (place_past p c) u v
+
+-- the position after two pieces end to end
+pub position_after-append : (p : Position) (u v : List ℕ) → position_after p (u ++ v) ≡ position_after (position_after p u) v
+position_after-append p u v =
+    let bytes : p.offset + length (encode_utf8_all (u ++ v)) ≡ (p.offset + length (encode_utf8_all u)) + length (encode_utf8_all v) = omega (arith, length-encoded-append u v) in
+    ap (λ n. record { offset = n; place = place_after p.place (u ++ v) }) bytes
+    ∙ ap (λ (q : Place). record { offset = (p.offset + length (encode_utf8_all u)) + length (encode_utf8_all v); place = q }) (place_after-append p.place u v)
 
 line_past : (p : Place) (c : ℕ) → (place_past p c).line ≤ p.line + 1
 line_past p c = grind arith
@@ -34,6 +65,23 @@ line_after p (c ∷ w) = omega (arith, line_past p c, line_after (place_past p c
 pub column_after : (p : Place) (w : List ℕ) → (place_after p w).column ≤ p.column + length w
 column_after p [] = omega arith
 column_after p (c ∷ w) = omega (arith, column_past p c, column_after (place_past p c) w)
+
+module _ (text : List ℕ) (start : ℕ) (at : Position) (within : start ≤ length text) (is : at ≡ position_after first_position (take start text)) where
+  -- the lines, columns and bytes before a position are bounded by its characters
+  pub line_at : at.place.line ≤ 1 + start
+  line_at = omega (arith, ap (λ (p : Position). p.place.line) is, line_after first_place (take start text), length-take-le start text within)
+
+  pub column_at : at.place.column ≤ start
+  column_at = omega (arith, ap (λ (p : Position). p.place.column) is, column_after first_place (take start text), length-take-le start text within)
+
+  pub offset_at : at.offset ≤ 4 * start
+  offset_at = omega (arith, ap (λ (p : Position). p.offset) is, length-encoded-le (take start text), length-take-le start text within)
+
+  -- the position after so many more characters, as the code has them
+  pub position_behind : (n : ℕ) (next : Position) → next ≡ position_after at (take n (take (length text - start) (drop start text))) → next ≡ position_after first_position (take (start + n) text)
+  position_behind n next next_is =
+      next_is ∙ ap (λ w. position_after at (take n w)) (take_rest text start) ∙ ap (λ (p : Position). position_after p (take n (drop start text))) is ∙ sym (position_after-append first_position (take start text) (take n (drop start text)))
+      ∙ ap (λ w. position_after first_position w) (sym (take-add start n text))
 
 -- these tokens in front
 abbrev pub with_tokens : List Token → Result (List Token) Stuck → Result (List Token) Stuck
@@ -53,133 +101,86 @@ module _ (rules : List TokenRule) (text : List ℕ) where
   pub best_read : (start symbol n : ℕ) (skip : Bool) → IsBestOfAll rules (take (length text - start) (drop start text)) symbol n skip → IsBestOfAll rules (drop start text) symbol n skip
   best_read start symbol n skip best = subst (λ (w : List ℕ). IsBestOfAll rules w symbol n skip) (take_rest text start) best
 
-  -- the place behind a match
-  place_behind : (start n : ℕ) (place : Place) → place ≡ place_after first_place (take start text) → place_after place (take n (drop start text)) ≡ place_after first_place (take (start + n) text)
-  place_behind start n place is =
-      ap (λ (p : Place). place_after p (take n (drop start text))) is ∙ sym (place_after-append first_place (take start text) (take n (drop start text))) ∙ ap (λ w. place_after first_place w) (sym (take-add start n text))
-
-  within_behind : (start n symbol : ℕ) (skip : Bool) → start ≤ length text → IsBestOfAll rules (drop start text) symbol n skip → start + n ≤ length text
-  within_behind start n symbol skip within b = omega (arith, b.best.matches.within, length-drop start text)
-
-  -- what lexes the text behind a match, by its index, lexes what the match leaves
-  behind : (left start n symbol : ℕ) (skip : Bool) (place : Place) (more : Result (List Token) Stuck) → IsBestOfAll rules (drop start text) symbol n skip →
-      LexesWithin rules left (record { index = start + n; place = place_after place (take n (drop start text)) }) (drop (start + n) text) more →
-      LexesWithin rules left (position_after (record { index = start; place = place }) (take n (drop start text))) (drop n (drop start text)) more
-  behind left start n symbol skip place more b l =
-      let long : length (take n (drop start text)) ≡ n = length-take-le n (drop start text) b.best.matches.within in
-      subst (λ i. LexesWithin rules left (record { index = start + i; place = place_after place (take n (drop start text)) }) (drop n (drop start text)) more) (sym long)
-      (subst (λ w. LexesWithin rules left (record { index = start + n; place = place_after place (take n (drop start text)) }) w more) (sym (drop-drop n start text)) l)
+  -- what lexes the text after a match, by its index, lexes what the match leaves
+  behind : (left start n : ℕ) (at next : Position) (more : Result (List Token) Stuck) → next ≡ position_after at (take n (take (length text - start) (drop start text))) →
+      LexesWithin rules left next (drop (start + n) text) more → LexesWithin rules left (position_after at (take n (drop start text))) (drop n (drop start text)) more
+  behind left start n at next more next_is l =
+      subst (λ (p : Position). LexesWithin rules left p (drop n (drop start text)) more) (next_is ∙ ap (λ w. position_after at (take n w)) (take_rest text start)) (subst (λ w. LexesWithin rules left next w more) (sym (drop-drop n start text)) l)
 
 module _ (rules : List TokenRule) (text : List ℕ) (room : ℕ) where
   -- The tokens up to an index are found: what lexes the rest with the room that is left, with these tokens in front,
   -- lexes the text.
-  pub record Reached (found : List Token) (start : ℕ) (place : Place) : Type 0 where
-    pub within : start ≤ length text
-    pub place_is : place ≡ place_after first_place (take start text)
+  pub record Reached (found : List Token) (start : ℕ) (at : Position) : Type 0 where
     pub left : ℕ
     pub room_is : length found + left ≡ room
-    pub onward : (more : Result (List Token) Stuck) → LexesWithin rules left (record { index = start; place = place }) (drop start text) more → LexesWithin rules room first_position text (with_tokens found more)
-
-  -- the lines and columns of the text are at most as many as its characters
-  pub line_reached : (found : List Token) (start : ℕ) (place : Place) → Reached found start place → place.line ≤ 1 + start
-  line_reached found start place r = omega (arith, ap (λ (p : Place). p.line) r.place_is, line_after first_place (take start text), length-take-le start text r.within)
-
-  pub column_reached : (found : List Token) (start : ℕ) (place : Place) → Reached found start place → place.column ≤ start
-  column_reached found start place r = omega (arith, ap (λ (p : Place). p.column) r.place_is, column_after first_place (take start text), length-take-le start text r.within)
+    pub onward : (more : Result (List Token) Stuck) → LexesWithin rules left at (drop start text) more → LexesWithin rules room first_position text (with_tokens found more)
 
   -- at first no tokens are found
-  pub reached_none : Reached [] 0 first_place
+  pub reached_none : Reached [] 0 first_position
   reached_none = record {
-    within = omega arith;
-    place_is = refl;
     left = room;
     room_is = omega arith;
     onward = λ more l. subst (λ (m : Result (List Token) Stuck). LexesWithin rules room first_position text m) (with_no_tokens more) l;
   }
 
   -- the next token is found
-  reached_token : (found : List Token) (start n symbol : ℕ) (skip : Bool) (place : Place) → Reached found start place → IsBestOfAll rules (drop start text) symbol n skip → skip ≡ false → length found < room → Reached (found ++ record { symbol = symbol; place = place; start = start; end = start + n } ∷ []) (start + n) (place_after place (take n (drop start text)))
-  reached_token found start n symbol skip place r b kept free =
-      let token : Token = record { symbol = symbol; place = place; start = start; end = start + n } in
+  pub next_token : (found found' : List Token) (start n symbol : ℕ) (skip : Bool) (at next : Position) → Reached found start at → IsBestOfAll rules (drop start text) symbol n skip → skip ≡ false → length found < room →
+      next ≡ position_after at (take n (take (length text - start) (drop start text))) → found' ≡ found ++ record { symbol = symbol; channel = 0; place = at.place; start = at.offset; end = next.offset } ∷ [] → Reached found' (start + n) next
+  next_token found found' start n symbol skip at next r b kept free next_is found_is =
+      let token : Token = record { symbol = symbol; channel = 0; place = at.place; start = at.offset; end = next.offset } in
       let some : suc (r.left - 1) ≡ r.left = omega (arith, r.room_is) in record {
-        within = within_behind rules text start n symbol skip r.within b;
-        place_is = place_behind rules text start n place r.place_is;
         left = r.left - 1;
-        room_is = omega (arith, r.room_is, length-append found (token ∷ []));
+        room_is = omega (arith, r.room_is, ap length found_is, length-append found (token ∷ []));
         onward = λ more l.
             let w = take n (drop start text) in
-            let at : Position = record { index = start; place = place } in
-            let long : length w ≡ n = length-take-le n (drop start text) b.best.matches.within in
-            let same : token_at b.rule.symbol at w ≡ token = ap (λ i. record { symbol = b.rule.symbol; place = place; start = start; end = start + i }) long ∙ ap (λ s. record { symbol = s; place = place; start = start; end = start + n }) (sym b.symbol_is) in
-            let all : with_tokens found (then_token (token_at b.rule.symbol at w) more) ≡ with_tokens (found ++ token ∷ []) more =
-            ap (λ (t : Token). with_tokens found (then_token t more)) same ∙ with_tokens-then_token found token more in
-            let match = a_kept_match (r.left - 1) at (drop start text) b.k b.i n b.rule b.alternative more b.best (sym b.skip_is ∙ kept) (behind rules text (r.left - 1) start n symbol skip place more b l) in
+            let reached : next ≡ position_after at (take n (drop start text)) = next_is ∙ ap (λ v. position_after at (take n v)) (take_rest text start) in
+            let same : token_at b.rule.symbol at w ≡ token =
+            ap (λ s. token_at s at w) (sym b.symbol_is) ∙ ap (λ (p : Position). record { symbol = symbol; channel = 0; place = at.place; start = at.offset; end = p.offset }) (sym reached) in
+            let all : with_tokens found (then_token (token_at b.rule.symbol at w) more) ≡ with_tokens found' more =
+            ap (λ (t : Token). with_tokens found (then_token t more)) same ∙ with_tokens-then_token found token more ∙ ap (λ (ts : List Token). with_tokens ts more) (sym found_is) in
+            let match = a_kept_match (r.left - 1) at (drop start text) b.k b.i n b.rule b.alternative more b.best (sym b.skip_is ∙ kept) (behind rules text (r.left - 1) start n at next more next_is l) in
             subst (λ (m : Result (List Token) Stuck). LexesWithin rules room first_position text m) all (r.onward (then_token (token_at b.rule.symbol at w) more) (subst (λ i. LexesWithin rules i at (drop start text) (then_token (token_at b.rule.symbol at w) more)) some match));
       }
 
-  -- a match is skipped
-  reached_skip : (found : List Token) (start n symbol : ℕ) (skip : Bool) (place : Place) → Reached found start place → IsBestOfAll rules (drop start text) symbol n skip → skip ≡ true → Reached found (start + n) (place_after place (take n (drop start text)))
-  reached_skip found start n symbol skip place r b is = record {
-    within = within_behind rules text start n symbol skip r.within b;
-    place_is = place_behind rules text start n place r.place_is;
+  -- a match is dropped
+  pub next_skip : (found found' : List Token) (start n symbol : ℕ) (skip : Bool) (at next : Position) → Reached found start at → IsBestOfAll rules (drop start text) symbol n skip → skip ≡ true →
+      next ≡ position_after at (take n (take (length text - start) (drop start text))) → found' ≡ found → Reached found' (start + n) next
+  next_skip found found' start n symbol skip at next r b is next_is found_is = subst (λ (ts : List Token). Reached ts (start + n) next) (sym found_is) (record {
     left = r.left;
     room_is = r.room_is;
     onward = λ more l.
-        let at : Position = record { index = start; place = place } in
-        r.onward more (a_dropped_match r.left at (drop start text) b.k b.i n b.rule b.alternative more b.best (sym b.skip_is ∙ is) (behind rules text r.left start n symbol skip place more b l));
-  }
+        r.onward more (a_dropped_match r.left at (drop start text) b.k b.i n b.rule b.alternative more b.best (sym b.skip_is ∙ is) (behind rules text r.left start n at next more next_is l));
+  })
 
   -- no rule matches at the index
-  reached_stuck : (found : List Token) (start c : ℕ) (place : Place) (rest : List ℕ) → Reached found start place → drop start text ≡ c ∷ rest → NoMatch rules (c ∷ rest) → LexesWithin rules room first_position text (Err (no_token place c))
-  reached_stuck found start c place rest r is none =
-      r.onward (Err (no_token place c)) (subst (λ w. LexesWithin rules r.left (record { index = start; place = place }) w (Err (no_token place c))) (sym is) (no_match r.left (record { index = start; place = place }) c rest none))
+  reached_stuck : (found : List Token) (start c : ℕ) (at : Position) (rest : List ℕ) → Reached found start at → drop start text ≡ c ∷ rest → NoMatch rules (c ∷ rest) → LexesWithin rules room first_position text (Err (no_token at.place c))
+  reached_stuck found start c at rest r is none =
+      r.onward (Err (no_token at.place c)) (subst (λ w. LexesWithin rules r.left at w (Err (no_token at.place c))) (sym is) (no_match r.left at c rest none))
 
   -- a token begins at the index for which there is no room
-  pub reached_full : (found : List Token) (start n symbol : ℕ) (skip : Bool) (place : Place) → Reached found start place → IsBestOfAll rules (drop start text) symbol n skip → skip ≡ false → room ≤ length found → LexesWithin rules room first_position text (Err (too_many place))
-  reached_full found start n symbol skip place r b kept full =
-      let at : Position = record { index = start; place = place } in
+  pub reached_full : (found : List Token) (start n symbol : ℕ) (skip : Bool) (at : Position) → Reached found start at → IsBestOfAll rules (drop start text) symbol n skip → skip ≡ false → room ≤ length found → LexesWithin rules room first_position text (Err (too_many at.place))
+  reached_full found start n symbol skip at r b kept full =
       let none : zero ≡ r.left = omega (arith, r.room_is) in
-      r.onward (Err (too_many place)) (subst (λ i. LexesWithin rules i at (drop start text) (Err (too_many place))) none (one_too_many at (drop start text) b.k b.i n b.rule b.alternative b.best (sym b.skip_is ∙ kept)))
+      r.onward (Err (too_many at.place)) (subst (λ i. LexesWithin rules i at (drop start text) (Err (too_many at.place))) none (one_too_many at (drop start text) b.k b.i n b.rule b.alternative b.best (sym b.skip_is ∙ kept)))
 
-  -- the end is reached: the tokens are found, and the place is that of the end
-  pub reached_end : (found : List Token) (start : ℕ) (place : Place) → Reached found start place → length text ≤ start → LexesWithin rules room first_position text (Ok found) × (closing_at (record { index = start; place = place }) ≡ closing_tokens text)
-  reached_end found start place r past =
-      let last : start ≡ 0 + length text = omega (arith, r.within) in
-      let over : start ≡ length text = omega (arith, r.within) in
-      let whole : place ≡ place_after first_place text = r.place_is ∙ ap (λ w. place_after first_place w) (take_all start text past) in
-      let l = r.onward (Ok []) (subst (λ w. LexesWithin rules r.left (record { index = start; place = place }) w (Ok [])) (sym (drop_all start text past)) (at_end r.left (record { index = start; place = place }))) in (
-        subst (λ (tokens : List Token). LexesWithin rules room first_position text (Ok tokens)) (append-nil found) l,
-        ap (λ i. closing_at (record { index = i; place = place })) last ∙ ap (λ (p : Place). closing_at (record { index = 0 + length text; place = p })) whole,
-      )
-
-  -- the next token is found, as the code has it
-  pub next_token : (found found' : List Token) (start n symbol : ℕ) (skip : Bool) (place place' : Place) → Reached found start place → IsBestOfAll rules (drop start text) symbol n skip → skip ≡ false → length found < room →
-      found' ≡ found ++ record { symbol = symbol; place = place; start = start; end = start + n } ∷ [] → place' ≡ place_after place (take n (take (length text - start) (drop start text))) → Reached found' (start + n) place'
-  next_token found found' start n symbol skip place place' r best kept free found_is place_is =
-      subst (λ (ts : List Token). Reached ts (start + n) place') (sym found_is)
-      (subst (λ (p : Place). Reached (found ++ record { symbol = symbol; place = place; start = start; end = start + n } ∷ []) (start + n) p) (sym (place_is ∙ ap (λ w. place_after place (take n w)) (take_rest text start)))
-      (reached_token found start n symbol skip place r best kept free))
-
-  -- a match is skipped, as the code has it
-  pub next_skip : (found found' : List Token) (start n symbol : ℕ) (skip : Bool) (place place' : Place) → Reached found start place → IsBestOfAll rules (drop start text) symbol n skip → skip ≡ true →
-      found' ≡ found → place' ≡ place_after place (take n (take (length text - start) (drop start text))) → Reached found' (start + n) place'
-  next_skip found found' start n symbol skip place place' r best is found_is place_is =
-      subst (λ (ts : List Token). Reached ts (start + n) place') (sym found_is)
-      (subst (λ (p : Place). Reached found (start + n) p) (sym (place_is ∙ ap (λ w. place_after place (take n w)) (take_rest text start)))
-      (reached_skip found start n symbol skip place r best is))
+  -- the end is reached: the tokens are found
+  pub reached_end : (found : List Token) (start : ℕ) (at : Position) → Reached found start at → length text ≤ start → LexesWithin rules room first_position text (Ok found)
+  reached_end found start at r past =
+      let l = r.onward (Ok []) (subst (λ w. LexesWithin rules r.left at w (Ok [])) (sym (drop_all start text past)) (at_end r.left at)) in
+      subst (λ (tokens : List Token). LexesWithin rules room first_position text (Ok tokens)) (append-nil found) l
 
   -- no rule matches at the index, as the code has it
-  pub stuck_at : (found : List Token) (start x : ℕ) (place : Place) → Reached found start place → start < length text → x ≡ get_or (take (length text - start) (drop start text)) 0 x →
-      NoMatch rules (take (length text - start) (drop start text)) → LexesWithin rules room first_position text (Err (no_token place x))
-  stuck_at found start x place r less is none =
+  pub stuck_at : (found : List Token) (start x : ℕ) (at : Position) → Reached found start at → start < length text → x ≡ get_or (take (length text - start) (drop start text)) 0 x →
+      NoMatch rules (take (length text - start) (drop start text)) → LexesWithin rules room first_position text (Err (no_token at.place x))
+  stuck_at found start x at r less is none =
       let split : drop start text ≡ get_or text start x ∷ drop (start + 1) text = drop_more text start x less in
       let same : x ≡ get_or text start x = is ∙ ap (λ (w : List ℕ). get_or w 0 x) (take_rest text start) ∙ ap (λ (w : List ℕ). get_or w 0 x) split in
       let whole : drop start text ≡ x ∷ drop (start + 1) text = split ∙ ap (λ h. h ∷ drop (start + 1) text) (sym same) in
-      reached_stuck found start x place (drop (start + 1) text) r whole (subst (λ (w : List ℕ). NoMatch rules w) (take_rest text start ∙ whole) none)
+      reached_stuck found start x at (drop (start + 1) text) r whole (subst (λ (w : List ℕ). NoMatch rules w) (take_rest text start ∙ whole) none)
 
-  -- a match ends within the text
-  pub ends_within : (found : List Token) (start n symbol : ℕ) (skip : Bool) (place : Place) → Reached found start place → IsBestOfAll rules (drop start text) symbol n skip → start + n ≤ length text
-  ends_within found start n symbol skip place r best = within_behind rules text start n symbol skip r.within best
+-- spans that end by a number of bytes end by any greater
+pub spans_further : (found : List Token) (bytes more : ℕ) → bytes ≤ more → All (EndsBy bytes) found → All (EndsBy more) found
+spans_further found bytes more below h = λ k d less. ((h k d less).0, omega (arith, (h k d less).1))
 
 -- a front part of so many items has no more
 pub take_short : (n : ℕ) (xs : List ℕ) → length (take n xs) ≤ n
@@ -212,10 +213,22 @@ ends_in_end tokens found end is types =
     subst (λ (ts : List Token). EndsInEnd (word_of ts)) (sym is)
     (word_of found ++ eof ∷ eof ∷ eof ∷ eof ∷ [], word_closed found end, low_lacks (word_of found ++ eof ∷ eof ∷ eof ∷ eof ∷ []) (word_low found types))
 
--- one more token of a rule whose symbol is a token type
-pub types_more : (rules : List TokenRule) (text : List ℕ) (found found' : List Token) (symbol n : ℕ) (skip : Bool) (token : Token) → All (λ (r : TokenRule). r.symbol ≤ 4096) rules → IsBestOfAll rules text symbol n skip → token.symbol ≡ symbol →
-    found' ≡ found ++ token ∷ [] → All (λ (t : Token). t.symbol ≤ 4096) found → All (λ (t : Token). t.symbol ≤ 4096) found'
-types_more rules text found found' symbol n skip token types b is found_is so_far =
-    let low : (get_or rules b.k b.rule).symbol ≤ 4096 = types b.k b.rule (slice_get_within rules b.k b.rule b.best.at.rule_is) in
-    let same : (get_or rules b.k b.rule).symbol ≡ b.rule.symbol = ap (λ (r : TokenRule). r.symbol) (get_or_from_slice_get rules b.k b.rule b.rule b.best.at.rule_is) in
-    subst (λ (ts : List Token). All (λ (t : Token). t.symbol ≤ 4096) ts) (sym found_is) (All-push (λ (t : Token). t.symbol ≤ 4096) found token so_far (omega (arith, low, same, is, b.symbol_is)))
+-- the end of the characters of some bytes is that of the bytes
+pub end_offset : (bytes text : List ℕ) (end : Position) → AreCharacters bytes text → end ≡ position_after first_position text → end.offset ≡ length bytes
+end_offset bytes text end are is =
+    let whole : encode_utf8_all text ≡ bytes = ap encode_utf8_all are.same ∙ encodes-chars bytes are.utf8 in
+    omega (arith, ap (λ (p : Position). p.offset) is, ap length whole)
+
+-- the tokens that close a file begin and end in it
+closing_spans : (end : Position) (bytes : ℕ) → end.offset ≤ bytes → All (EndsBy bytes) (closing_at end)
+closing_spans end bytes below =
+    let at : ℕ → Token = λ symbol. token_at symbol end [] in
+    let one : (symbol : ℕ) → EndsBy bytes (token_at symbol end []) = λ symbol. (omega arith, omega arith) in
+    let two = All-cons (EndsBy bytes) (at eof) (at end_of_list ∷ []) (one eof) (All-cons (EndsBy bytes) (at end_of_list) [] (one end_of_list) (All-nil (EndsBy bytes))) in
+    let three = All-cons (EndsBy bytes) (at eof) (at eof ∷ at end_of_list ∷ []) (one eof) two in
+    let four = All-cons (EndsBy bytes) (at eof) (at eof ∷ at eof ∷ at end_of_list ∷ []) (one eof) three in
+    All-cons (EndsBy bytes) (at eof) (at eof ∷ at eof ∷ at eof ∷ at end_of_list ∷ []) (one eof) four
+
+-- the spans of tokens and of those that close their file
+pub spans_closed : (list found : List Token) (end : Position) (bytes : ℕ) → list ≡ found ++ closing_at end → end.offset ≤ bytes → All (EndsBy bytes) found → All (EndsBy bytes) list
+spans_closed list found end bytes is below h = subst (λ (ts : List Token). All (EndsBy bytes) ts) (sym is) (All-append (EndsBy bytes) found (closing_at end) h (closing_spans end bytes below))

@@ -1,19 +1,19 @@
 -- The ends of any number of turns of some alternatives, found by a walk: a turn from the ends that are fresh, until none is.
-use Rattle.std.proofs.Common.{◌≡◌, ℕ, ◌+◌, ◌-◌, ◌≤◌, inl, inr, ◌⊎◌, ◌↔◌, List, [], ◌++◌, length, take, drop, max, Bool, true, false, true≢false, slice_index_or, refl, sym, ap, ◌∙◌, subst, append_assoc, append-nil, arith}
+use Rattle.std.proofs.Common.{◌≡◌, ℕ, ◌+◌, ◌-◌, ◌≤◌, inl, inr, ◌⊎◌, ◌↔◌, List, [], ◌++◌, length, take, drop, max, None, Bool, true, false, true≢false, slice_index_or, refl, sym, ap, ◌∙◌, subst, append_assoc, append-nil, arith}
 use Rattle.std.proofs.lemmas.List.{length-take, length-drop}
-use Rattle.g4_grammar.specs.declared.grammar.Atom.{Atom}
-use Rattle.g4_grammar.specs.Characters.{ReadsCharacters}
-use Rattle.g4_grammar.specs.Elements.{Alternatives, star}
-use Rattle.g4_grammar.specs.Derives.{Derives, DerivesOne, no_turn, a_turn}
+use Rattle.g4_elements.specs.Elements.{Alternatives}
+use Rattle.g4_source.specs.declared.atom.Atom.{Atom}
+use Rattle.g4_grammar.specs.Derives.{no_turn, a_turn}
+use Rattle.g4_lexer.specs.Alone.{Matches, MatchesOne, some_sign, star}
 use Rattle.g4_lexer.specs.declared.counts.Counts.{Counts}
 use Rattle.g4_lexer.specs.Counts.{Has, bound_of, Fits, IsNone, IsPart, IsEnd, Adds, Closes}
 use Rattle.g4_lexer.proofs.Counted.{Has_below, lt-or-past}
 use Rattle.g4_lexer.proofs.Parts.{part_join, part_split}
 
--- one more turn behind the turns
-turns_then_turn : (xs : Alternatives Atom) (v u : List ℕ) → Derives ReadsCharacters [] (star true xs) v → DerivesOne ReadsCharacters [] xs u → Derives ReadsCharacters [] (star true xs) (v ++ u)
-turns_then_turn xs v u (no_turn g ys) k = a_turn true xs u [] u k (no_turn true xs) (sym (append-nil u))
-turns_then_turn xs v u (a_turn g ys a b w m t e) k = a_turn true xs a (b ++ u) (w ++ u) m (turns_then_turn xs b u t k) (ap (λ z. z ++ u) e ∙ append_assoc a b u)
+-- one more turn after the turns
+turns_then_turn : (xs : Alternatives Atom) (v u : List ℕ) → Matches (star xs) v → MatchesOne xs u → Matches (star xs) (v ++ u)
+turns_then_turn xs v u (no_turn l s ys) k = a_turn None some_sign xs u [] u k (no_turn None some_sign xs) (sym (append-nil u))
+turns_then_turn xs v u (a_turn l s ys a b w m t e) k = a_turn None some_sign xs a (b ++ u) (w ++ u) m (turns_then_turn xs b u t k) (ap (λ z. z ++ u) e ∙ append_assoc a b u)
 
 -- a part without characters ends where it begins
 pub no_part : (text : List ℕ) (from to : ℕ) → from ≤ to → to ≤ length text → take (to - from) (drop from text) ≡ [] → from ≡ to
@@ -36,25 +36,25 @@ has_or_not set n = by_mark (slice_index_or set.marks.items (n - set.first) false
 module _ (xs : Alternatives Atom) (text : List ℕ) (old : Counts) where
   -- a turn
   abbrev Turn : List ℕ → Type 0
-  Turn w = DerivesOne ReadsCharacters [] xs w
+  Turn w = MatchesOne xs w
 
   -- any number of turns
   abbrev Turns : List ℕ → Type 0
-  Turns w = Derives ReadsCharacters [] (star true xs) w
+  Turns w = Matches (star xs) w
 
   -- The ends so far are ends, and a turn from those that are not fresh leads to them.
   pub record Walked (ends fresh : Counts) : Type 0 where
-    pub sound : (n : ℕ) → Has ends n → IsEnd (λ w. Derives ReadsCharacters [] (star true xs) w) text old n
+    pub sound : (n : ℕ) → Has ends n → IsEnd (λ w. Matches (star xs) w) text old n
     pub kept : (n : ℕ) → Has old n → Has ends n
     pub within : (n : ℕ) → Has fresh n → Has ends n
-    pub closed : (y z : ℕ) → Has ends y → (Has fresh y → ⊥) → IsPart (λ w. DerivesOne ReadsCharacters [] xs w) text y z → Has ends z
+    pub closed : (y z : ℕ) → Has ends y → (Has fresh y → ⊥) → IsPart (λ w. MatchesOne xs w) text y z → Has ends z
     pub first : ends.first ≡ old.first
     pub fits : Fits ends text
 
   -- at first all are fresh
   pub walk_none : (clear copy : Counts) → Fits old text → IsNone clear → ((n : ℕ) → Has copy n ↔ (Has clear n ⊎ Has old n)) → Walked old copy
   walk_none clear copy fits none copied = record {
-    sound = λ n h. (n, h, part_none Turns text n (omega (arith, fits, Has_below old n h)) (no_turn true xs));
+    sound = λ n h. (n, h, part_none Turns text n (omega (arith, fits, Has_below old n h)) (no_turn None some_sign xs));
     kept = λ n h. h;
     within = λ n h. elim ((copied n).0 h) [ inl c ↦ absurd (none n c) | inr o ↦ o ];
     closed = λ y z h stale p. absurd (stale ((copied y).1 (inr h)));
@@ -63,7 +63,7 @@ module _ (xs : Alternatives Atom) (text : List ℕ) (old : Counts) where
   }
 
   -- a turn from the fresh ends
-  module _ (ends fresh clear found next : Counts) (w : Walked ends fresh) (none : IsNone clear) (is : Adds (λ w. DerivesOne ReadsCharacters [] xs w) text fresh clear found) (left : (n : ℕ) → Has next n ↔ (Has found n × (Has ends n → ⊥))) where
+  module _ (ends fresh clear found next : Counts) (w : Walked ends fresh) (none : IsNone clear) (is : Adds (λ w. MatchesOne xs w) text fresh clear found) (left : (n : ℕ) → Has next n ↔ (Has found n × (Has ends n → ⊥))) where
     -- what is found ends a turn from a fresh end
     found_end : (n : ℕ) → Has found n → IsEnd Turn text fresh n
     found_end n h = elim ((is.members n).0 h) [ inl c ↦ absurd (none n c) | inr e ↦ e ]
@@ -96,14 +96,14 @@ module _ (xs : Alternatives Atom) (text : List ℕ) (old : Counts) where
     }
 
   -- from an end all turns lead to ends, where the walk is past them all
-  reached : (ends : Counts) → ((y z : ℕ) → Has ends y → IsPart Turn text y z → Has ends z) → (y z : ℕ) (w : List ℕ) → Has ends y → y ≤ z → z ≤ length text → take (z - y) (drop y text) ≡ w → Derives ReadsCharacters [] (star true xs) w → Has ends z
-  reached ends closed y z x h below within is (no_turn g ys) = subst (Has ends) (no_part text y z below within is) h
-  reached ends closed y z x h below within is (a_turn g ys u v w m t e) =
+  reached : (ends : Counts) → ((y z : ℕ) → Has ends y → IsPart Turn text y z → Has ends z) → (y z : ℕ) (w : List ℕ) → Has ends y → y ≤ z → z ≤ length text → take (z - y) (drop y text) ≡ w → Matches (star xs) w → Has ends z
+  reached ends closed y z x h below within is (no_turn l s ys) = subst (Has ends) (no_part text y z below within is) h
+  reached ends closed y z x h below within is (a_turn l s ys u v w m t e) =
       let parts = part_split Turn (λ x. x ≡ v) text y z u v below within (is ∙ e) m refl in
       reached ends closed parts.0 z v (closed y parts.0 h parts.1) parts.2.ordered within parts.2.matched t
 
   -- where no end is fresh, the walk has found all ends
-  pub walked : (ends fresh : Counts) → Walked ends fresh → IsNone fresh → Closes (λ w. Derives ReadsCharacters [] (star true xs) w) text old ends
+  pub walked : (ends fresh : Counts) → Walked ends fresh → IsNone fresh → Closes (λ w. Matches (star xs) w) text old ends
   walked ends fresh w none = record {
     members = λ n. (w.sound n, λ e. reached ends (λ y z h p. w.closed y z h (none y) p) e.0 n _ (w.kept e.0 e.1) e.2.ordered e.2.within refl e.2.matched);
     first = w.first;

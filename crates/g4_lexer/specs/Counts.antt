@@ -1,7 +1,7 @@
 -- Sets of counts of characters, and the parts of a text between two counts.
 use Rattle.std.specs.Prelude.{◌≡◌, ◌+◌, ◌≤◌, ◌↔◌, ◌⊎◌, ℕ, ◌-◌, List, length, take, drop, true, false, slice_index_or}
-use Rattle.g4_grammar.specs.declared.grammar.Atom.{Atom}
-use Rattle.g4_grammar.specs.Characters.{ReadsCharacters}
+use Rattle.g4_source.specs.declared.atom.Atom.{Atom}
+use Rattle.g4_grammar.specs.Written.{ReadsCharacters}
 use Rattle.g4_lexer.specs.declared.counts.Counts.{Counts}
 
 -- the set has this count
@@ -34,7 +34,7 @@ pub record IsStart (set : Counts) : Type 0 where
 abbrev pub Fits : Counts → List ℕ → Type 0
 Fits set text = bound_of set ≤ length text + 1
 
--- The starts and the ends so far are counts of the text, and no start lies below what the ends have room for.
+-- The starts and the ends so far are counts of the text, and no start is below what the ends have room for.
 pub record HasRoom (text : List ℕ) (starts ends : Counts) : Type 0 where
   pub starts_fit : Fits starts text
   pub ends_fit : Fits ends text

@@ -1,31 +1,17 @@
 -- The tokens of a file.
-use Rattle.std.specs.Prelude.{◌≡◌, ℕ, zero, suc, ◌+◌, true, false, List, [], ◌∷◌, ◌++◌, length, take, drop, Result, Ok, Err}
+use Rattle.std.specs.Prelude.{◌≡◌, ℕ, zero, suc, true, false, List, [], ◌∷◌, ◌++◌, take, drop, Result, Ok, Err}
+use Rattle.std.specs.Str.{IsUtf8, IsValidUpTo, chars}
 use Rattle.g4_base.specs.declared.place.Place.{Place}
-use Rattle.g4_base.specs.Place.{first_place, place_after}
-use Rattle.g4_base.specs.Symbols.{eof, end_of_list}
+use Rattle.g4_source.specs.declared.rule.LexerAlternative.{LexerAlternative}
+use Rattle.g4_source.specs.Rules.{skips}
 use Rattle.g4_grammar.specs.declared.numbered.TokenRule.{TokenRule}
-use Rattle.g4_grammar.specs.declared.grammar.LexerAlternative.{LexerAlternative}
-use Rattle.g4_net.specs.declared.token.Token.{Token}
-use Rattle.g4_lexer.specs.declared.lexer.LexFault.{LexFault}
-use Rattle.g4_lexer.specs.declared.lexer.LexFault.TheVariants.{NoToken, Tokens, NoMemory}
+use Rattle.g4_token_list.specs.declared.token.Token.{Token}
+use Rattle.g4_token_list.specs.declared.token.Tokens.{Tokens}
+use Rattle.g4_lexer.specs.declared.position.Position.{Position}
+use Rattle.g4_lexer.specs.declared.fault.LexFault.{LexFault}
+use Rattle.g4_lexer.specs.declared.fault.LexFault.TheVariants as faults
 use Rattle.g4_lexer.specs.Matching.{IsBest, NoMatch}
-
--- Where the next match begins: its index in the file, and its place.
-pub record Position : Type 0 where
-  pub index : ℕ
-  pub place : Place
-
--- the start of a file
-abbrev pub first_position : Position
-first_position = record { index = 0; place = first_place }
-
--- the position behind some characters
-abbrev pub position_after : Position → List ℕ → Position
-position_after p w = record { index = p.index + length w; place = place_after p.place w }
-
--- a token of these characters
-abbrev pub token_at : ℕ → Position → List ℕ → Token
-token_at symbol p w = record { symbol = symbol; place = p.place; start = p.index; end = p.index + length w }
+use Rattle.g4_lexer.specs.Positions.{first_position, position_after, token_at, closing_tokens}
 
 -- the most tokens that a file may have, those that close it not counted
 abbrev pub most_tokens : ℕ
@@ -44,36 +30,33 @@ then_token token (Err stuck) = Err stuck
 -- the tokens of the text that begins at the position, by one best match after another, while there is room for those that are kept
 pub data LexesWithin (rules : List TokenRule) : ℕ → Position → List ℕ → Result (List Token) Stuck → Type 0 where
   at_end : (room : ℕ) (p : Position) → LexesWithin rules room p [] (Ok [])
-  a_kept_match : (room : ℕ) (p : Position) (text : List ℕ) (k i n : ℕ) (rule : TokenRule) (alternative : LexerAlternative) (more : Result (List Token) Stuck) → IsBest rules text k i rule alternative n → alternative.skip ≡ false →
+  a_kept_match : (room : ℕ) (p : Position) (text : List ℕ) (k i n : ℕ) (rule : TokenRule) (alternative : LexerAlternative) (more : Result (List Token) Stuck) → IsBest rules text k i rule alternative n → skips alternative ≡ false →
       LexesWithin rules room (position_after p (take n text)) (drop n text) more → LexesWithin rules (suc room) p text (then_token (token_at rule.symbol p (take n text)) more)
-  a_dropped_match : (room : ℕ) (p : Position) (text : List ℕ) (k i n : ℕ) (rule : TokenRule) (alternative : LexerAlternative) (more : Result (List Token) Stuck) → IsBest rules text k i rule alternative n → alternative.skip ≡ true →
+  a_dropped_match : (room : ℕ) (p : Position) (text : List ℕ) (k i n : ℕ) (rule : TokenRule) (alternative : LexerAlternative) (more : Result (List Token) Stuck) → IsBest rules text k i rule alternative n → skips alternative ≡ true →
       LexesWithin rules room (position_after p (take n text)) (drop n text) more → LexesWithin rules room p text more
-  one_too_many : (p : Position) (text : List ℕ) (k i n : ℕ) (rule : TokenRule) (alternative : LexerAlternative) → IsBest rules text k i rule alternative n → alternative.skip ≡ false → LexesWithin rules zero p text (Err (too_many p.place))
+  one_too_many : (p : Position) (text : List ℕ) (k i n : ℕ) (rule : TokenRule) (alternative : LexerAlternative) → IsBest rules text k i rule alternative n → skips alternative ≡ false → LexesWithin rules zero p text (Err (too_many p.place))
   no_match : (room : ℕ) (p : Position) (c : ℕ) (text : List ℕ) → NoMatch rules (c ∷ text) → LexesWithin rules room p (c ∷ text) (Err (no_token p.place c))
 
 -- the tokens of the text that begins at the position, as many as a file may have
 abbrev pub Lexes : List TokenRule → Position → List ℕ → Result (List Token) Stuck → Type 0
 Lexes rules = LexesWithin rules most_tokens
 
--- what stands behind the tokens of a file that ends at the position: four of EOF and one of END
-abbrev pub closing_at : Position → List Token
-closing_at end = token_at eof end [] ∷ token_at eof end [] ∷ token_at eof end [] ∷ token_at eof end [] ∷ token_at end_of_list end [] ∷ []
+-- the tokens of the file with its bytes, and what the parser sees of them
+abbrev pub token_list : List ℕ → List Token → Tokens
+token_list bytes tokens = record { bytes = bytes; all = tokens; list = tokens ++ closing_tokens (chars bytes) }
 
--- what stands behind the tokens of a file, at its end
-abbrev pub closing_tokens : List ℕ → List Token
-closing_tokens text = closing_at (position_after first_position text)
-
--- what a fault says of the file, of which so many tokens may be made
+-- what a fault says of the bytes of a file, of which so many tokens may be made
 abbrev pub IsLexFaultWithin : ℕ → List TokenRule → List ℕ → LexFault → Type 0
-IsLexFaultWithin room rules text (NoToken place character) = LexesWithin rules room first_position text (Err (no_token place character))
-IsLexFaultWithin room rules text (Tokens place) = LexesWithin rules room first_position text (Err (too_many place))
-IsLexFaultWithin room rules text NoMemory = Unit {0}
+IsLexFaultWithin room rules bytes (faults.NotUtf8 at) = IsValidUpTo bytes at
+IsLexFaultWithin room rules bytes (faults.NoToken place character) = IsUtf8 bytes × LexesWithin rules room first_position (chars bytes) (Err (no_token place character))
+IsLexFaultWithin room rules bytes (faults.Tokens place) = IsUtf8 bytes × LexesWithin rules room first_position (chars bytes) (Err (too_many place))
+IsLexFaultWithin room rules bytes faults.NoMemory = Unit {0}
 
 -- the call answers with the tokens of the file or its fault, where so many tokens may be made, unless memory runs out
-abbrev pub IsLexingWithin : ℕ → List TokenRule → List ℕ → Result (List Token) LexFault → Type 0
-IsLexingWithin room rules text (Ok found) = (tokens : List Token) × LexesWithin rules room first_position text (Ok tokens) × (found ≡ tokens ++ closing_tokens text)
-IsLexingWithin room rules text (Err fault) = IsLexFaultWithin room rules text fault
+abbrev pub IsLexingWithin : ℕ → List TokenRule → List ℕ → Result Tokens LexFault → Type 0
+IsLexingWithin room rules bytes (Ok found) = IsUtf8 bytes × LexesWithin rules room first_position (chars bytes) (Ok found.all) × (found ≡ token_list bytes found.all)
+IsLexingWithin room rules bytes (Err fault) = IsLexFaultWithin room rules bytes fault
 
 -- the call answers with the tokens of the file or its fault, unless memory runs out
-abbrev pub IsLexing : List TokenRule → List ℕ → Result (List Token) LexFault → Type 0
+abbrev pub IsLexing : List TokenRule → List ℕ → Result Tokens LexFault → Type 0
 IsLexing = IsLexingWithin most_tokens

@@ -1,4 +1,8 @@
+pub mod Alone
 pub mod Best
 pub mod Counts
+pub mod Decoding
 pub mod Lexing
 pub mod Matching
+pub mod Positions
+pub mod Scanning

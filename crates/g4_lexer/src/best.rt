@@ -1,12 +1,14 @@
 // The best match at the front of a text.
-ghost use Rattle.std.specs.Prelude.{◌≤◌, length, IfOk, MatchOption};
+ghost use Rattle.std.specs.Prelude.{◌≤◌, [], length, All, IfOk, IfSome, MatchOption};
+ghost use Rattle.g4_grammar.specs.Written.{TokenRuleIsQuiet};
 ghost use Rattle.g4_lexer.specs.Matching.{NoMatch};
 ghost use Rattle.g4_lexer.specs.Counts.{IsStart};
 ghost use Rattle.g4_lexer.specs.Best.{IsLongest, IsBestOfRule, IsBestOfAll};
 
 use crate::counts::Counts;
 use crate::ends::add_elements;
-use g4_grammar::{LexerAlternative, TokenRule};
+use g4_grammar::TokenRule;
+use g4_source::LexerAlternative;
 use std::alloc::{AllocError, Global};
 
 /// The best match of an alternative of one rule: how many characters it matches, 0 where no alternative matches one,
@@ -35,7 +37,7 @@ fn longest(
 ) -> Result<usize, AllocError>
     requires fits { length text.now ≤ 16777216 }
     requires start { IsStart start.now }
-    ensures { IfOk result (λ n. IsLongest alternative.now text.now n) }
+    ensures { IfOk result (λ n. IsLongest [] alternative.now text.now n) }
 {
     let mut ends = Counts::new(alloc, 0);
     add_elements(
@@ -51,8 +53,7 @@ fn longest(
     }
 }
 
-/// The longest match of the rule at the front of the text, of those as long the one of the alternative that stands
-/// first.
+/// The longest match of the rule at the front of the text, of those as long the one of its first alternative.
 fn best_of_rule(
     alloc: Global,
     rule: &TokenRule,
@@ -61,7 +62,7 @@ fn best_of_rule(
 ) -> Result<Choice, AllocError>
     requires fits { length text.now ≤ 16777216 }
     requires start { IsStart start.now }
-    ensures { IfOk result (λ b. IsBestOfRule rule.now text.now b.length b.skip) }
+    ensures { IfOk result (λ b. IsBestOfRule [] rule.now text.now b.length b.skip) }
 {
     let mut best = Choice {
         length: 0,
@@ -72,17 +73,20 @@ fn best_of_rule(
         if length > best.length {
             best = Choice {
                 length,
-                skip: alternative.skip,
+                skip: alternative.skips(),
             };
         }
     }
     Ok(best)
 }
 
-/// The longest match at the front of the text, of those as long the one whose rule stands first.
+/// The longest match at the front of the text, of those as long the one of the first rule.
 pub fn best(alloc: Global, rules: &[TokenRule], text: &[char]) -> Result<Option<Match>, AllocError>
-    requires { length text.now ≤ 16777216 }
-    ensures { IfOk result (λ found. MatchOption found (NoMatch rules.now text.now) (λ b. IsBestOfAll rules.now text.now b.symbol b.length b.skip)) }
+    requires fits { length text.now ≤ 16777216 }
+    requires types { All (λ rule. rule.symbol ≤ 4096) rules.now }
+    ensures best { IfOk result (λ found. All TokenRuleIsQuiet rules.now → MatchOption found (NoMatch rules.now text.now) (λ b. IsBestOfAll rules.now text.now b.symbol b.length b.skip)) }
+    ensures within { IfOk result (λ found. IfSome found (λ b. (1 ≤ b.length) × (b.length ≤ length text.now))) }
+    ensures types { IfOk result (λ found. IfSome found (λ b. b.symbol ≤ 4096)) }
 {
     let mut start = Counts::new(alloc, 0);
     start.set_only(0)?;

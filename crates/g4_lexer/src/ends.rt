@@ -1,14 +1,16 @@
 // The ends of the matches of elements.
-ghost use Rattle.std.specs.Prelude.{◌≡◌, ◌+◌, ◌≤◌, ◌↔◌, ◌⊎◌, ℕ, [], length, map, OnOk, true};
-ghost use Rattle.g4_grammar.specs.Characters.{ReadsCharacters};
-ghost use Rattle.g4_grammar.specs.Elements.{star, either};
-ghost use Rattle.g4_grammar.specs.Trees.{element_of, alternative_of, in_order, repeated};
-ghost use Rattle.g4_grammar.specs.Derives.{Derives, DerivesAll, DerivesOne};
+ghost use Rattle.std.specs.Prelude.{◌≡◌, ◌+◌, ◌≤◌, ◌↔◌, ◌⊎◌, ℕ, length, map, OnOk, Option};
+ghost use Rattle.g4_elements.specs.declared.name.Label.{Label};
+ghost use Rattle.g4_elements.specs.Elements.{block, either};
+ghost use Rattle.g4_elements.specs.Trees.{element_of, alternative_of, in_order};
+ghost use Rattle.g4_grammar.specs.Written.{ReadsCharacters};
+ghost use Rattle.g4_lexer.specs.Alone.{Matches, MatchesAll, MatchesOne, star};
 ghost use Rattle.g4_lexer.specs.Counts.{Has, Fits, HasRoom, IsPart, Adds, Closes};
 
 use crate::counts::Counts;
 use crate::turn::turn;
-use g4_grammar::{Alternative, Atom, Element, Repeat};
+use g4_elements::{Alternative, Element, Repeat};
+use g4_source::Atom;
 use std::alloc::{AllocError, Global};
 use std::mem;
 
@@ -57,7 +59,7 @@ fn add_turns(
 ) -> Result<(), AllocError>
     requires fits { length text.now ≤ 16777216 }
     requires room { Fits ends.old text.now }
-    ensures { OnOk result (Closes (Derives ReadsCharacters [] (star true (either (map alternative_of alternatives.now)))) text.now ends.old ends.new) }
+    ensures { OnOk result (Closes (Matches (star (either (map alternative_of alternatives.now)))) text.now ends.old ends.new) }
 {
     let mut fresh = Counts::new(alloc, ends.first());
     fresh.add_all(ends)?;
@@ -84,7 +86,7 @@ fn add_either(
 ) -> Result<(), AllocError>
     requires fits { length text.now ≤ 16777216 }
     requires room { HasRoom text.now starts.now ends.old }
-    ensures { OnOk result (Adds (DerivesOne ReadsCharacters [] (either (map alternative_of alternatives.now))) text.now starts.now ends.old ends.new) }
+    ensures { OnOk result (Adds (MatchesOne (either (map alternative_of alternatives.now))) text.now starts.now ends.old ends.new) }
 {
     for alternative in alternatives {
         add_elements(alloc, ends, alternative.elements.as_slice(), text, starts)?;
@@ -103,11 +105,11 @@ fn add_element(
 ) -> Result<(), AllocError>
     requires fits { length text.now ≤ 16777216 }
     requires room { HasRoom text.now starts.now ends.old }
-    ensures { OnOk result (Adds (Derives ReadsCharacters [] (element_of element.now)) text.now starts.now ends.old ends.new) }
+    ensures { OnOk result (Adds (Matches (element_of element.now)) text.now starts.now ends.old ends.new) }
 {
     match element {
         Element::Atom(atom) => add_atom(ends, atom, text, starts),
-        Element::Block(repeat, alternatives) => {
+        Element::Block(_, repeat, alternatives) => {
             add_block(alloc, ends, *repeat, alternatives.as_slice(), text, starts)
         }
     }
@@ -125,17 +127,21 @@ fn add_block(
 ) -> Result<(), AllocError>
     requires fits { length text.now ≤ 16777216 }
     requires room { HasRoom text.now starts.now ends.old }
-    ensures { OnOk result (Adds (Derives ReadsCharacters [] (repeated repeat (either (map alternative_of alternatives.now)))) text.now starts.now ends.old ends.new) }
+    ensures { (label : Option Label) → OnOk result (Adds (Matches (block label repeat (either (map alternative_of alternatives.now)))) text.now starts.now ends.old ends.new) }
 {
     match repeat {
         Repeat::Once => add_either(alloc, ends, alternatives, text, starts),
-        Repeat::Star => {
+        Repeat::Optional(_) => {
+            ends.add_all(starts)?;
+            add_either(alloc, ends, alternatives, text, starts)
+        }
+        Repeat::Star(_) => {
             let mut turns = Counts::new(alloc, starts.first());
             turns.add_all(starts)?;
             add_turns(alloc, &mut turns, alternatives, text)?;
             ends.add_all(&turns)
         }
-        Repeat::Plus => {
+        Repeat::Plus(_) => {
             let mut turns = Counts::new(alloc, starts.first());
             add_either(alloc, &mut turns, alternatives, text, starts)?;
             add_turns(alloc, &mut turns, alternatives, text)?;
@@ -155,7 +161,7 @@ pub fn add_elements(
 ) -> Result<(), AllocError>
     requires fits { length text.now ≤ 16777216 }
     requires room { HasRoom text.now starts.now ends.old }
-    ensures { OnOk result (Adds (DerivesAll ReadsCharacters [] (in_order (map element_of elements.now))) text.now starts.now ends.old ends.new) }
+    ensures { OnOk result (Adds (MatchesAll (in_order (map element_of elements.now))) text.now starts.now ends.old ends.new) }
 {
     let Some((first, more)) = elements.split_first() else {
         return ends.add_all(starts);

@@ -1,7 +1,11 @@
-mod Full
-mod Loops
-mod Named
+mod EmptyLoops
+pub mod Keys
+mod Laws
+mod NumberedLoops
+pub mod Lists
 pub mod Nodes
-mod Numbers
 pub mod OneNaming
-mod Repeats
+pub mod Repeats
+mod Sources
+mod Split
+pub mod Kept

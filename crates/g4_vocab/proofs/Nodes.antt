@@ -1,25 +1,32 @@
--- Elements and alternatives of the code, a step at a time.
-use Rattle.std.proofs.Common.{◌≡◌, ℕ, ◌+◌, ◌<◌, ◌≤◌, List, [], ◌∷◌, ◌++◌, length, map, drop, get_or, true, None, Vec, Global, refl, sym, ap, ◌∙◌, append_assoc}
-use Rattle.std.proofs.lemmas.List.{drop_all, drop_more, map-append, append-nil}
-use Rattle.g4_grammar.specs.declared.grammar.Atom.{Atom}
-use Rattle.g4_grammar.specs.declared.element.Repeat.{Repeat}
-use Rattle.g4_grammar.specs.declared.element.Repeat.TheVariants.{Once, Star, Plus}
-use Rattle.g4_grammar.specs.declared.element.Element.{Element as Node}
-use Rattle.g4_grammar.specs.declared.element.Element.TheVariants as nodes
-use Rattle.g4_grammar.specs.declared.element.Alternative.{Alternative as Side, out-Alternative, roll-Alternative}
-use Rattle.g4_grammar.specs.Elements.{Element, Elements, Alternatives, or, then, atom, block, star, plus, either, atoms, atoms_in_order, atoms_of_either, over, in_order_over, either_over}
-use Rattle.g4_grammar.specs.Trees.{in_order, repeated, element_of, alternative_of}
-use Rattle.g4_grammar.specs.Numbering.{literal_element, whole_elements}
-use Rattle.g4_grammar.proofs.Trees.{of_atom, of_block, of_alternative, of_elements}
+-- Elements of the code: which are a literal, and the tokens that they name.
+use Rattle.std.proofs.Common.{◌≡◌, List, [], ◌∷◌, ◌++◌, length, map, None, Option, Vec, Global, refl, sym, ap, ◌∙◌}
+use Rattle.std.specs.List.{flat_map}
+use Rattle.std.proofs.lemmas.Grind.{flat_map-append}
+use Rattle.std.proofs.lemmas.List.{append-nil}
+use Rattle.g4_elements.specs.declared.name.Label.{Label}
+use Rattle.g4_elements.specs.declared.element.Repeat.{Repeat}
+use Rattle.g4_elements.specs.declared.element.Element.{Element as Node}
+use Rattle.g4_elements.specs.declared.element.Element.TheVariants as nodes
+use Rattle.g4_elements.specs.declared.element.Alternative.{Alternative as Side, out-Alternative}
+use Rattle.g4_elements.specs.Elements.{Element, atom, block, Elements, Alternatives, empty, then, none, or, either, atoms, atoms_in_order, atoms_of_either}
+use Rattle.g4_elements.specs.Bind.{in_order_over, in_order_bind, either_bind, bind}
+use Rattle.g4_elements.specs.Trees.{in_order, element_of, alternative_of}
+use Rattle.g4_elements.proofs.Trees.{of_atom, of_block, of_alternative}
+use Rattle.g4_source.specs.declared.atom.Atom.{Atom}
+use Rattle.g4_source.specs.declared.atom.AtomKind.{AtomKind}
+use Rattle.g4_source.specs.declared.atom.TokenReference.{TokenReference}
+use Rattle.g4_source.specs.declared.rule.ParserRule.{ParserRule}
+use Rattle.g4_source.specs.declared.rule.RuleAlternative.{RuleAlternative}
+use Rattle.g4_source.specs.Rules.{alternatives_of}
+use Rattle.g4_vocab.specs.Numbering.{literal_kind, literal_element, whole_elements, references, all_atoms, all_references}
 
--- a block is no literal
-pub block_is_none : (repeat : Repeat) (alternatives : Vec (Side Atom) Global) → literal_element (element_of (nodes.Block repeat alternatives)) ≡ None
-block_is_none repeat alternatives = ap literal_element (of_block repeat alternatives) ∙ at repeat (either (map alternative_of alternatives.items))
-  where
-    at : (repeat : Repeat) (xs : Alternatives Atom) → literal_element (repeated repeat xs) ≡ None
-    at Once xs = refl
-    at Star xs = refl
-    at Plus xs = refl
+-- an atom of the code is the literal that it is
+pub literal_of_atom : (node : Node Atom) (a : Atom) → node ≡ nodes.Atom a → literal_element (element_of node) ≡ literal_kind a.kind
+literal_of_atom node a is = ap (λ (x : Node Atom). literal_element (element_of x)) is ∙ ap literal_element (of_atom a)
+
+-- a block of the code is no literal
+pub literal_of_block : (node : Node Atom) (label : Option Label) (repeat : Repeat) (alternatives : Vec (Side Atom) Global) → node ≡ nodes.Block label repeat alternatives → literal_element (element_of node) ≡ None
+literal_of_block node label repeat alternatives is = ap (λ (x : Node Atom). literal_element (element_of x)) is ∙ ap literal_element (of_block label repeat alternatives)
 
 -- none or several elements are no literal
 pub whole_is_none : (xs : List (Node Atom)) → (length xs ≡ 1 → ⊥) → whole_elements (in_order (map element_of xs)) ≡ None
@@ -27,71 +34,70 @@ whole_is_none [] not_one = refl
 whole_is_none (x ∷ []) not_one = absurd (not_one refl)
 whole_is_none (x ∷ y ∷ more) not_one = refl
 
--- the atoms of a block
-pub atoms_of_block : (node : Node Atom) (repeat : Repeat) (alternatives : Vec (Side Atom) Global) → node ≡ nodes.Block repeat alternatives → atoms (element_of node) ≡ atoms_of_either (either (map alternative_of alternatives.items))
-atoms_of_block node repeat alternatives is = ap (λ (x : Node Atom). atoms (element_of x)) is ∙ (ap atoms (of_block repeat alternatives) ∙ at repeat (either (map alternative_of alternatives.items)))
-  where
-    at : (repeat : Repeat) (xs : Alternatives Atom) → atoms (repeated repeat xs) ≡ atoms_of_either xs
-    at Once xs = refl
-    at Star xs = refl
-    at Plus xs = refl
+-- the tokens that an element of the code names
+abbrev pub node_tokens : Node Atom → List TokenReference
+node_tokens x = all_references (atoms (element_of x))
 
--- the atoms of one more alternative
-pub atoms_more : (sides : List (Side Atom)) (i : ℕ) (side : Side Atom) (elements : List (Node Atom)) (old new all : List Atom) → i < length sides → side ≡ get_or sides i side → elements ≡ (out-Alternative Atom side).elements.items →
-    new ≡ old ++ atoms_in_order (in_order (map element_of elements)) → old ++ atoms_of_either (either (map alternative_of (drop i sides))) ≡ all → new ++ atoms_of_either (either (map alternative_of (drop (i + 1) sides))) ≡ all
-atoms_more sides i side elements old new all within item whole made before =
-    let rest : List Atom = atoms_of_either (either (map alternative_of (drop (i + 1) sides))) in
-    let tree : in_order (map element_of elements) ≡ alternative_of side = ap (λ (xs : List (Node Atom)). in_order (map element_of xs)) whole ∙ sym (of_alternative side) in
-    let next : drop i sides ≡ side ∷ drop (i + 1) sides = drop_more sides i side within ∙ ap (λ (x : Side Atom). x ∷ drop (i + 1) sides) (sym item) in
-    ap (λ (xs : List Atom). xs ++ rest) (made ∙ ap (λ (x : Elements Atom). old ++ atoms_in_order x) tree) ∙ (append_assoc old (atoms_in_order (alternative_of side)) rest
-    ∙ (ap (λ (xs : List (Side Atom)). old ++ atoms_of_either (either (map alternative_of xs))) (sym next) ∙ before))
+-- and an alternative of the code
+abbrev pub side_tokens : Side Atom → List TokenReference
+side_tokens x = all_references (atoms_in_order (alternative_of x))
 
--- alternatives over other atoms
-pub over_either : {A B : Type 0} (f : A → B) (xs : List (Elements A)) → either_over f (either xs) ≡ either (map (in_order_over f) xs)
-over_either f [] = refl
-over_either f (x ∷ xs) = ap (or (in_order_over f x)) (over_either f xs)
+-- and an alternative of a rule
+abbrev pub alternative_tokens : RuleAlternative Atom → List TokenReference
+alternative_tokens x = all_references (atoms_in_order x.elements)
 
--- elements over other atoms
-pub over_in_order : {A B : Type 0} (f : A → B) (xs : List (Element A)) → in_order_over f (in_order xs) ≡ in_order (map (over f) xs)
-over_in_order f [] = refl
-over_in_order f (x ∷ xs) = ap (then (over f x)) (over_in_order f xs)
+-- and a rule
+abbrev pub rule_tokens : ParserRule Atom → List TokenReference
+rule_tokens rule = all_references (atoms_of_either (alternatives_of rule))
 
--- a block over other atoms
-pub over_repeated : {A B : Type 0} (f : A → B) (repeat : Repeat) (xs : List (Elements A)) → over f (repeated repeat (either xs)) ≡ repeated repeat (either (map (in_order_over f) xs))
-over_repeated f Once xs = ap block (over_either f xs)
-over_repeated f Star xs = ap (star true) (over_either f xs)
-over_repeated f Plus xs = ap (plus true) (over_either f xs)
+tokens-append : (xs ys : List Atom) → all_references (xs ++ ys) ≡ all_references xs ++ all_references ys
+tokens-append xs ys = flat_map-append (λ (a : Atom). references a.kind) xs ys
 
--- one more item behind those made
-pub made_more : {X Z : Type 0} (F : List X → List Z) (xs : List X) (i : ℕ) (x : X) (first : Z) (old new all : List Z) → i < length xs → x ≡ get_or xs i x → F (x ∷ drop (i + 1) xs) ≡ first ∷ F (drop (i + 1) xs) → new ≡ old ++ first ∷ [] →
-    old ++ F (drop i xs) ≡ all → new ++ F (drop (i + 1) xs) ≡ all
-made_more F xs i x first old new all within item step pushed before =
-    let rest : List _ = F (drop (i + 1) xs) in
-    let next : drop i xs ≡ x ∷ drop (i + 1) xs = drop_more xs i x within ∙ ap (λ (z : _). z ∷ drop (i + 1) xs) (sym item) in
-    ap (λ (ys : List _). ys ++ rest) pushed ∙ (append_assoc old (first ∷ []) rest ∙ (ap (λ (zs : List _). old ++ zs) (sym step) ∙ (ap (λ (zs : List _). old ++ F zs) (sym next) ∙ before)))
+-- an element that is an atom
+pub atom_tokens : (node : Node Atom) (a : Atom) → node ≡ nodes.Atom a → node_tokens node ≡ references a.kind
+atom_tokens node a is = ap (λ (x : Node Atom). node_tokens x) is ∙ (ap (λ (x : Element Atom). all_references (atoms x)) (of_atom a) ∙ append-nil (references a.kind))
 
--- all items are made
-pub made_all : {X Z : Type 0} (F : List X → List Z) (xs : List X) (i : ℕ) (made all : List Z) → F [] ≡ [] → length xs ≤ i → made ++ F (drop i xs) ≡ all → made ≡ all
-made_all F xs i made all last past before = sym (append-nil made) ∙ (ap (λ (zs : List _). made ++ zs) (sym last) ∙ (ap (λ (ys : List _). made ++ F ys) (sym (drop_all i xs past)) ∙ before))
+-- alternatives in order
+pub either_tokens : (xs : List (Side Atom)) → all_references (atoms_of_either (either (map alternative_of xs))) ≡ flat_map side_tokens xs
+either_tokens [] = refl
+either_tokens (x ∷ xs) = tokens-append (atoms_in_order (alternative_of x)) (atoms_of_either (either (map alternative_of xs))) ∙ ap (λ (zs : List TokenReference). side_tokens x ++ zs) (either_tokens xs)
 
--- one more image
-pub image_more : {Y Z : Type 0} (h : Y → Z) (y : Y) (z : Z) (old new : List Y) → h y ≡ z → new ≡ old ++ y ∷ [] → map h new ≡ map h old ++ z ∷ []
-image_more h y z old new same pushed = ap (map h) pushed ∙ (map-append h old (y ∷ []) ∙ ap (λ (x : _). map h old ++ x ∷ []) same)
+-- an element that is a block
+pub block_tokens : (node : Node Atom) (label : Option Label) (repeat : Repeat) (alternatives : Vec (Side Atom) Global) (sides : List (Side Atom)) → node ≡ nodes.Block label repeat alternatives → sides ≡ alternatives.items → node_tokens node ≡ flat_map side_tokens sides
+block_tokens node label repeat alternatives sides is whole =
+    ap (λ (x : Node Atom). node_tokens x) is ∙ (ap (λ (x : Element Atom). all_references (atoms x)) (of_block label repeat alternatives)
+    ∙ (either_tokens alternatives.items ∙ ap (flat_map side_tokens) (sym whole)))
 
--- an atom of the code over another
-pub over_node_atom : {A B : Type 0} (f : A → B) (node : Node A) (a : A) (b : B) → node ≡ nodes.Atom a → b ≡ f a → element_of (nodes.Atom b) ≡ over f (element_of node)
-over_node_atom f node a b is same = of_atom b ∙ (ap (λ (x : _). atom x) same ∙ sym (ap (λ (x : Node _). over f (element_of x)) is ∙ ap (over f) (of_atom a)))
+-- elements in order
+pub elements_tokens : (xs : List (Node Atom)) → all_references (atoms_in_order (in_order (map element_of xs))) ≡ flat_map node_tokens xs
+elements_tokens [] = refl
+elements_tokens (x ∷ xs) = tokens-append (atoms (element_of x)) (atoms_in_order (in_order (map element_of xs))) ∙ ap (λ (zs : List TokenReference). node_tokens x ++ zs) (elements_tokens xs)
 
--- a block of the code over other atoms
-pub over_node_block : {A B : Type 0} (f : A → B) (node : Node A) (repeat : Repeat) (alternatives : Vec (Side A) Global) (all : Vec (Side B) Global) (sides : List (Side A)) (i : ℕ) → node ≡ nodes.Block repeat alternatives → sides ≡ alternatives.items → length sides ≤ i →
-    map alternative_of all.items ++ map (in_order_over f) (map alternative_of (drop i sides)) ≡ map (in_order_over f) (map alternative_of sides) → element_of (nodes.Block repeat all) ≡ over f (element_of node)
-over_node_block f node repeat alternatives all sides i is whole past before =
-    let made : map alternative_of all.items ≡ map (in_order_over f) (map alternative_of sides) = made_all (λ ys. map (in_order_over f) (map alternative_of ys)) sides i (map alternative_of all.items) (map (in_order_over f) (map alternative_of sides)) refl past before in
-    of_block repeat all ∙ (ap (λ (xs : List (Elements _)). repeated repeat (either xs)) (made ∙ ap (λ (ys : List (Side _)). map (in_order_over f) (map alternative_of ys)) whole)
-    ∙ (sym (over_repeated f repeat (map alternative_of alternatives.items)) ∙ sym (ap (λ (x : Node _). over f (element_of x)) is ∙ ap (over f) (of_block repeat alternatives))))
+-- an alternative of these elements
+pub side_is : (side : Side Atom) (elements : List (Node Atom)) → elements ≡ (out-Alternative Atom side).elements.items → all_references (atoms_in_order (in_order (map element_of elements))) ≡ side_tokens side
+side_is side elements whole = ap (λ (xs : List (Node Atom)). all_references (atoms_in_order (in_order (map element_of xs)))) whole ∙ ap (λ (x : Elements Atom). all_references (atoms_in_order x)) (sym (of_alternative side))
 
--- an alternative that is made over other atoms
-pub side_over : {A B : Type 0} (f : A → B) (side : Side A) (elements : List (Node A)) (made : Vec (Node B) Global) → elements ≡ (out-Alternative A side).elements.items → in_order (map element_of made.items) ≡ in_order_over f (in_order (map element_of elements)) →
-    alternative_of (roll-Alternative B (record { elements = made })) ≡ in_order_over f (alternative_of side)
-side_over f side elements made whole is =
-    of_elements made ∙ (is ∙ (ap (λ (xs : List (Node _)). in_order_over f (in_order (map element_of xs))) whole ∙ ap (in_order_over f) (sym (of_alternative side))))
+-- the alternatives of a rule
+pub alternatives_tokens : (xs : List (RuleAlternative Atom)) → all_references (atoms_of_either (either (map (λ a. a.elements) xs))) ≡ flat_map alternative_tokens xs
+alternatives_tokens [] = refl
+alternatives_tokens (x ∷ xs) =
+    tokens-append (atoms_in_order x.elements) (atoms_of_either (either (map (λ (a : RuleAlternative Atom). a.elements) xs))) ∙ ap (λ (zs : List TokenReference). alternative_tokens x ++ zs) (alternatives_tokens xs)
+
+-- rules
+pub rules_tokens : (rules : List (ParserRule Atom)) → all_references (all_atoms rules) ≡ flat_map rule_tokens rules
+rules_tokens [] = refl
+rules_tokens (rule ∷ rules) = tokens-append (atoms_of_either (alternatives_of rule)) (all_atoms rules) ∙ ap (λ (zs : List TokenReference). rule_tokens rule ++ zs) (rules_tokens rules)
+
+mutual
+  -- the atoms that each become themselves
+  same : (x : Element Atom) → bind (λ (a : Atom). atom a) x ≡ x
+  same (atom a) = refl
+  same (block label repeat xs) = ap (block label repeat) (same_either xs)
+
+  pub same_in_order : (xs : Elements Atom) → in_order_bind (λ (a : Atom). atom a) xs ≡ xs
+  same_in_order empty = refl
+  same_in_order (then x xs) = ap (λ (y : Element Atom). then y (in_order_bind (λ (a : Atom). atom a) xs)) (same x) ∙ ap (then x) (same_in_order xs)
+
+  same_either : (xs : Alternatives Atom) → either_bind (λ (a : Atom). atom a) xs ≡ xs
+  same_either none = refl
+  same_either (or x xs) = ap (λ (y : Elements Atom). or y (either_bind (λ (a : Atom). atom a) xs)) (same_in_order x) ∙ ap (or x) (same_either xs)

@@ -1,17 +1,17 @@
--- What is told of the names of rules is one answer.
-use Rattle.std.proofs.Common.{◌≡◌, ◌≢◌, ℕ, List, Result, Ok, Err, Some, None, ap, refl}
+-- What is reported of the names of rules is one answer.
+use Rattle.std.proofs.Common.{◌≡◌, ◌≢◌, ℕ, List, [], Result, Ok, Err, Some, None, ap, refl}
 use Rattle.std.specs.Prelude.{⊤}
-use Rattle.g4_grammar.specs.declared.grammar.Rule.{Rule}
-use Rattle.g4_vocab.specs.Names.{HasOwnNames, name_twice}
+use Rattle.g4_source.specs.declared.rule.Rule.{Rule}
+use Rattle.g4_vocab.specs.Names.{HasOwnNames, first_repeated}
 use Rattle.g4_vocab.specs.declared.twice.NameFault.{NameFault}
 use Rattle.g4_vocab.specs.declared.twice.NameFault.TheVariants.{RuleTwice, NoMemory}
 
--- a name that is told is one name
-same_name : (rules : List Rule) (name other : List ℕ) → name_twice rules ≡ Some name → name_twice rules ≡ Some other → name ≡ other
+-- a name that is reported is one name
+same_name : (rules : List Rule) (name other : List ℕ) → first_repeated [] rules ≡ Some name → first_repeated [] rules ≡ Some other → name ≡ other
 same_name rules name other p q = cc
 
--- no name, and a name, are not both told
-not_both : (rules : List Rule) (name : List ℕ) → name_twice rules ≡ None → name_twice rules ≡ Some name → ⊥
+-- no name, and a name, are not both reported
+not_both : (rules : List Rule) (name : List ℕ) → first_repeated [] rules ≡ None → first_repeated [] rules ≡ Some name → ⊥
 not_both rules name p q = cc
 
 -- the answer is one

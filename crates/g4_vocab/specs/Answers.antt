@@ -1,18 +1,31 @@
 -- What numbering answers.
-use Rattle.std.specs.Prelude.{◌≡◌, ◌≤◌, ◌<◌, length, Result, Ok, Err}
-use Rattle.g4_grammar.specs.Numbering.{numbered_grammar, greatest_type}
-use Rattle.g4_grammar.specs.declared.grammar.Grammar.{Grammar}
+use Rattle.std.specs.Prelude.{◌≡◌, ◌≤◌, ◌<◌, length, List, [], Result, Ok, Err}
+use Rattle.g4_source.specs.declared.atom.Atom.{Atom}
+use Rattle.g4_source.specs.declared.rule.LexerRule.{LexerRule}
+use Rattle.g4_source.specs.declared.rule.ParserRule.{ParserRule}
+use Rattle.g4_source.specs.declared.source.Source.{Source}
 use Rattle.g4_grammar.specs.declared.numbered.Numbered.{Numbered}
-use Rattle.g4_vocab.specs.declared.numbering.NumberFault.{NumberFault}
-use Rattle.g4_vocab.specs.declared.numbering.NumberFault.TheVariants.{Rules, Types, NoMemory}
+use Rattle.g4_vocab.specs.Types.{greatest_type}
+use Rattle.g4_vocab.specs.Numbering.{numbered, numbered_with, types_of, types_with}
+use Rattle.g4_symbols.specs.declared.symbol.TheConstants.{MOST_TYPES}
+use Rattle.g4_vocab.specs.declared.fault.TheConstants.{MOST_RULES}
+use Rattle.g4_vocab.specs.declared.fault.NumberFault.{NumberFault}
+use Rattle.g4_vocab.specs.declared.fault.NumberFault.TheVariants.{Rules, Types, NoMemory}
 
--- the causes of the faults of numbering
-abbrev pub CausesNumberFault : Grammar → NumberFault → Type 0
-CausesNumberFault source Rules = 4096 < length source.rules
-CausesNumberFault source Types = (length source.rules ≤ 4096) × (4096 < greatest_type source)
+-- the causes of the faults of numbering, which starts from the empty table
+abbrev pub CausesNumberFault : Source → NumberFault → Type 0
+CausesNumberFault source Rules = MOST_RULES < length source.rules
+CausesNumberFault source Types = (length source.rules ≤ MOST_RULES) × (MOST_TYPES < greatest_type (types_of [] source.rules))
 CausesNumberFault source NoMemory = Unit {0}
 
 -- numbering gives exactly the source's numbered grammar, or a fault with its cause
-abbrev pub GivesNumbered : Grammar → Result Numbered NumberFault → Type 0
-GivesNumbered source (Ok grammar) = (length source.rules ≤ 4096) × (greatest_type source ≤ 4096) × (grammar ≡ numbered_grammar source)
+abbrev pub GivesNumbered : Source → Result Numbered NumberFault → Type 0
+GivesNumbered source (Ok grammar) = (length source.rules ≤ MOST_RULES) × (greatest_type (types_of [] source.rules) ≤ MOST_TYPES) × (grammar ≡ numbered [] source.rules)
 GivesNumbered source (Err fault) = CausesNumberFault source fault
+
+-- the same of parser rules and lexer rules without `fragment`
+abbrev pub GivesNumberedHalves : List (ParserRule Atom) → List LexerRule → Result Numbered NumberFault → Type 0
+GivesNumberedHalves parsers lexers (Ok grammar) = (greatest_type (types_with [] parsers lexers) ≤ MOST_TYPES) × (grammar ≡ numbered_with parsers lexers (types_with [] parsers lexers))
+GivesNumberedHalves parsers lexers (Err Rules) = ⊥
+GivesNumberedHalves parsers lexers (Err Types) = MOST_TYPES < greatest_type (types_with [] parsers lexers)
+GivesNumberedHalves parsers lexers (Err NoMemory) = Unit {0}

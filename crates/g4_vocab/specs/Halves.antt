@@ -1,12 +1,13 @@
 -- The parser rules and the lexer rules among some rules.
-use Rattle.std.specs.Prelude.{◌≡◌, List}
-use Rattle.std.specs.List.{filter_map}
-use Rattle.g4_grammar.specs.Numbering.{parser_rule, lexer_rule}
-use Rattle.g4_grammar.specs.declared.grammar.Rule.{Rule}
-use Rattle.g4_grammar.specs.declared.grammar.ParserRule.{ParserRule}
-use Rattle.g4_grammar.specs.declared.grammar.LexerRule.{LexerRule}
+use Rattle.std.specs.Prelude.{◌≡◌, List, map}
+use Rattle.g4_source.specs.declared.atom.Atom.{Atom}
+use Rattle.g4_source.specs.declared.rule.Rule.{Rule}
+use Rattle.g4_source.specs.declared.rule.ParserRule.{ParserRule}
+use Rattle.g4_source.specs.declared.rule.LexerRule.{LexerRule}
+use Rattle.g4_source.specs.Rules.{parser_rules}
+use Rattle.g4_vocab.specs.Numbering.{token_lexers}
 
--- these are the parser rules and the lexer rules among the rules, each in order
-pub record AreHalves (rules : List Rule) (parsers : List ParserRule) (lexers : List LexerRule) : Type 0 where
-  pub parsers_are : parsers ≡ filter_map parser_rule rules
-  pub lexers_are : lexers ≡ filter_map lexer_rule rules
+-- these are the parser rules, and the lexer rules without `fragment`, each in order
+pub record AreHalves (rules : List Rule) (parsers : List (ParserRule Atom)) (lexers : List LexerRule) : Type 0 where
+  pub parsers_are : parsers ≡ parser_rules rules
+  pub lexers_are : lexers ≡ token_lexers rules

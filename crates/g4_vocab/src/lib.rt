@@ -1,20 +1,23 @@
 // Whether the rules of a grammar's source have names of their own; and from the source to its numbered grammar.
 #![tactic(auto)]
 
-mod appearance;
-mod atoms;
-mod display;
+mod copies;
+mod fault;
 mod halves;
 mod law;
 mod literal;
-mod name;
+mod naming;
 mod numbering;
+mod references;
 mod symbol;
 #[cfg(test)]
 mod tests;
 mod token_rule;
 mod twice;
+mod types;
+mod wholes;
 
+pub use fault::NumberFault;
 pub use law::one_naming;
-pub use numbering::{NumberFault, number};
+pub use numbering::number;
 pub use twice::{NameFault, check_names};

@@ -1,96 +1,102 @@
-// The numbering of token types.
-ghost use Rattle.std.specs.Prelude.{◌≡◌, ◌≤◌, ◌+◌, ◌↔◌, All, IfOk, IsTrue, length};
-ghost use Rattle.g4_grammar.specs.Blocks.{HaveAlternatives, NumberedHaveAlternatives};
-ghost use Rattle.g4_grammar.specs.Loops.{HaveNoEmptyLoop, NumberedHaveNoEmptyLoop};
-ghost use Rattle.g4_grammar.specs.Numbering.{SpeakOfNamed, numbered_of, other_names, own_literals};
-ghost use Rattle.g4_vocab.specs.Answers.{GivesNumbered};
+// From a source to its numbered grammar.
+ghost use Rattle.std.specs.Prelude.{◌≡◌, ◌≤◌, All, Contains, IfOk, [], length, map};
+ghost use Rattle.g4_symbols.specs.Symbols.{end_of_list};
+ghost use Rattle.g4_source.specs.Blocks.{HaveAlternatives, ParserRulesAreFull};
+ghost use Rattle.g4_grammar.specs.NumberedRules.{HaveNoEmptyLoops, NumberedRuleIsQuiet, RuleLeavesEnd};
+ghost use Rattle.g4_grammar.specs.Written.{RuleHasEmptyLoop, RuleIsQuiet, TokenRuleIsQuiet};
+ghost use Rattle.g4_vocab.specs.Answers.{GivesNumbered, GivesNumberedHalves};
+ghost use Rattle.g4_vocab.specs.Numbering.{all_atoms, all_references, numbered_alternative, numbered_rule, numbered_with};
+ghost use Rattle.g4_vocab.specs.Tables.{reference_of};
 
-use crate::appearance::{other_names, own_literals};
-use crate::atoms::all_atoms;
-use crate::display::shown_types;
-use crate::halves::{Halves, halves_of};
-use crate::symbol::numbered_rules;
+use crate::copies;
+use crate::fault::{MOST_RULES, NumberFault};
+use crate::halves::halves_of;
+use crate::naming::types_of;
+use crate::references::{Reference, references_of};
+use crate::symbol::Numbering;
 use crate::token_rule::token_rules;
-use g4_base::Text;
-use g4_grammar::{Grammar, LexerRule, Literal, Numbered, ParserRule};
+use crate::types::Entry;
+use crate::wholes::Wholes;
+use g4_base::{Sequence, Text};
+use g4_elements::substituted;
+use g4_grammar::{Numbered, NumberedAtom};
+use g4_source::{Atom, LexerRule, ParserRule, RuleAlternative, Source};
+use g4_symbols::MOST_TYPES;
 use std::alloc::{AllocError, Global};
 
-/// The most rules that a grammar has, and the most token types.
-const MOST: usize = 4096;
-
-/// Why a grammar is not numbered.
-#[derive(Drop)]
-pub enum NumberFault {
-    /// More than 4,096 rules.
-    Rules,
-    /// More than 4,096 token types.
-    Types,
-    NoMemory,
-}
-
-impl From<AllocError> for NumberFault {
-    ghost use Rattle.std.specs.Prelude.{◌≡◌};
-    ghost use Rattle.g4_vocab.specs.declared.numbering.NumberFault.TheVariants.{NoMemory};
-
-    ghost from_gives = { λ _ e. e ≡ NoMemory };
-
-    fn from(_: AllocError) -> Self {
-        NumberFault::NoMemory
-    }
-}
-
-/// What the parser rules have tokens of, without a lexer rule: literals and names, by first appearance.
-#[derive(Drop)]
-struct Ruleless {
-    own: Vec<Literal>,
-    others: Vec<Text>,
-}
-
-/// What the parser rules have tokens of, without a lexer rule.
-fn find_ruleless(
+/// An alternative of a parser rule over symbols.
+fn numbered_alternative(
     alloc: Global,
-    parsers: &[ParserRule],
-    lexers: &[LexerRule],
-) -> Result<Ruleless, AllocError>
-    ensures own { IfOk result (λ r. r.own.items ≡ own_literals parsers.now lexers.now) }
-    ensures others { IfOk result (λ r. r.others.items ≡ other_names parsers.now lexers.now) }
+    numbering: &Numbering,
+    alternative: &RuleAlternative<Atom>,
+) -> Result<RuleAlternative<NumberedAtom>, AllocError>
+    ensures { IfOk result (λ made. made ≡ numbered_alternative (map (λ r. r.now) numbering.now.wholes.now.rules.now) numbering.now.types.now.entries.items alternative.now) }
 {
-    let atoms = all_atoms(alloc, parsers)?;
-    let own = own_literals(alloc, atoms.as_slice(), lexers)?;
-    let others = other_names(alloc, atoms.as_slice(), lexers)?;
-    Ok(Ruleless { own, others })
+    let elements = substituted(alloc, numbering, &alternative.elements)?;
+    let label = copies::alternative_label(alloc, &alternative.label)?;
+    Ok(RuleAlternative {
+        right: alternative.right,
+        elements,
+        label,
+    })
 }
 
-/// Whether there are no more types than are allowed.
-fn types_fit(own: &[Literal], lexers: &[LexerRule], others: &[Text]) -> bool
-    ensures { IsTrue result ↔ (length own.now + length lexers.now + length others.now ≤ 4096) }
+/// A parser rule over symbols.
+fn numbered_rule(
+    alloc: Global,
+    numbering: &Numbering,
+    rule: &ParserRule<Atom>,
+) -> Result<ParserRule<NumberedAtom>, AllocError>
+    ensures { IfOk result (λ made. made ≡ numbered_rule (map (λ r. r.now) numbering.now.wholes.now.rules.now) numbering.now.types.now.entries.items rule.now) }
 {
-    own.len() <= MOST
-        && lexers.len() <= MOST
-        && others.len() <= MOST
-        && own.len() + lexers.len() + others.len() <= MOST
+    let name = Text::copy_of(alloc, rule.name.as_str())?;
+    let mut alternatives = Vec::new(alloc);
+    for alternative in rule.alternatives.as_slice() {
+        alternatives.push(numbered_alternative(alloc, numbering, alternative)?)?;
+    }
+    Ok(ParserRule {
+        name,
+        alternatives: Sequence::new(alternatives),
+    })
 }
 
-/// The numbered grammar of these rules, whose tokens are these.
+/// The parser rules over symbols.
+fn numbered_rules(
+    alloc: Global,
+    numbering: &Numbering,
+    parsers: &[&ParserRule<Atom>],
+) -> Result<Sequence<ParserRule<NumberedAtom>>, AllocError>
+    ensures { IfOk result (λ rules. rules ≡ map (numbered_rule (map (λ r. r.now) numbering.now.wholes.now.rules.now) numbering.now.types.now.entries.items) (map (λ r. r.now) parsers.now)) }
+{
+    let mut rules = Vec::new(alloc);
+    for rule in parsers {
+        rules.push(numbered_rule(alloc, numbering, rule)?)?;
+    }
+    Ok(Sequence::new(rules))
+}
+
+/// What is shown of each type from 1 on.
+fn shown_types(alloc: Global, entries: &[Entry]) -> Result<Sequence<Text>, AllocError>
+    ensures { IfOk result (λ shown. shown ≡ map (λ entry. entry.shown) entries.now) }
+{
+    let mut shown = Vec::new(alloc);
+    for entry in entries {
+        shown.push(Text::copy_of(alloc, entry.shown.as_str())?)?;
+    }
+    Ok(Sequence::new(shown))
+}
+
+/// The numbered grammar of these rules.
 fn numbered(
     alloc: Global,
-    halves: Halves,
-    own: Vec<Literal>,
-    others: Vec<Text>,
+    numbering: &Numbering,
+    parsers: &[&ParserRule<Atom>],
 ) -> Result<Numbered, AllocError>
-    requires { length own.items + length halves.lexers.items + length others.items ≤ 4096 }
-    ensures { IfOk result (λ grammar. grammar ≡ numbered_of halves.parsers.items halves.lexers.items own.items others.items) }
+    ensures { IfOk result (λ grammar. grammar ≡ numbered_with (map (λ r. r.now) parsers.now) (map (λ r. r.now) numbering.now.wholes.now.rules.now) numbering.now.types.now.entries.items) }
 {
-    let Halves { parsers, lexers } = halves;
-    let rules = numbered_rules(
-        alloc,
-        own.as_slice(),
-        lexers.as_slice(),
-        others.as_slice(),
-        parsers,
-    )?;
-    let shown = shown_types(alloc, own.as_slice(), lexers.as_slice(), others)?;
-    let token_rules = token_rules(alloc, own, lexers)?;
+    let rules = numbered_rules(alloc, numbering, parsers)?;
+    let shown = shown_types(alloc, numbering.types.entries.as_slice())?;
+    let token_rules = token_rules(alloc, numbering, numbering.wholes.rules)?;
     Ok(Numbered {
         rules,
         shown,
@@ -98,27 +104,56 @@ fn numbered(
     })
 }
 
-/// The numbered grammar of a source.
-pub fn number(alloc: Global, source: Grammar) -> Result<Numbered, NumberFault>
-    ensures numbered { GivesNumbered source result }
-    ensures types { IfOk result (λ grammar. All (λ rule. rule.symbol ≤ 4096) grammar.token_rules) }
-    ensures named { IfOk result (λ grammar. SpeakOfNamed grammar.rules) }
-    ensures full { HaveAlternatives source.rules → IfOk result (λ grammar. NumberedHaveAlternatives grammar.rules) }
-    ensures loops { HaveNoEmptyLoop source.rules → IfOk result (λ grammar. NumberedHaveNoEmptyLoop grammar.rules) }
+/// The numbered grammar of parser rules that name these tokens.
+fn number_tokens<'a>(
+    alloc: Global,
+    parsers: &[&ParserRule<Atom>],
+    wholes: &Wholes<'_, 'a>,
+    tokens: &[Reference<'a>],
+) -> Result<Numbered, NumberFault>
+    requires { map reference_of tokens.now ≡ all_references (all_atoms (map (λ r. r.now) parsers.now)) }
+    ensures { GivesNumberedHalves (map (λ r. r.now) parsers.now) (map (λ r. r.now) wholes.now.rules.now) result }
 {
-    if source.rules.len() > MOST {
+    let types = types_of(alloc, wholes, tokens)?;
+    let numbering = Numbering {
+        wholes,
+        types: &types,
+    };
+    let grammar = numbered(alloc, &numbering, parsers)?;
+    Ok(grammar)
+}
+
+/// The numbered grammar of parser rules and lexer rules without `fragment`.
+fn number_halves<'a>(
+    alloc: Global,
+    parsers: &[&'a ParserRule<Atom>],
+    lexers: &[&'a LexerRule],
+) -> Result<Numbered, NumberFault>
+    ensures { GivesNumberedHalves (map (λ r. r.now) parsers.now) (map (λ r. r.now) lexers.now) result }
+{
+    let tokens = references_of(alloc, parsers)?;
+    let wholes = Wholes::new(alloc, lexers)?;
+    let grammar = number_tokens(alloc, parsers, &wholes, tokens.as_slice())?;
+    Ok(grammar)
+}
+
+/// The numbered grammar of a source.
+///
+/// # Errors
+/// More than 4,096 rules, then more than 4,096 types, or no memory.
+pub fn number(alloc: Global, source: &Source) -> Result<Numbered, NumberFault>
+    ensures numbered { GivesNumbered source.now result }
+    ensures types { IfOk result (λ grammar. All (λ rule. rule.symbol ≤ MOST_TYPES) grammar.token_rules) }
+    ensures full { HaveAlternatives source.now → IfOk result (λ grammar. ParserRulesAreFull grammar.rules) }
+    ensures few { IfOk result (λ grammar. length grammar.rules ≤ MOST_RULES) }
+    ensures ends { IfOk result (λ grammar. All RuleLeavesEnd grammar.rules) }
+    ensures quiet { All RuleIsQuiet source.now.rules → IfOk result (λ grammar. All NumberedRuleIsQuiet grammar.rules × All TokenRuleIsQuiet grammar.token_rules) }
+    ensures loops { All (λ rule. RuleHasEmptyLoop source.now.rules rule → ⊥) source.now.rules → IfOk result (λ grammar. HaveNoEmptyLoops grammar.rules) }
+{
+    if source.rules.len() > MOST_RULES {
         return Err(NumberFault::Rules);
     }
-    let Grammar { rules, .. } = source;
-    let halves = halves_of(alloc, rules.into_vec())?;
-    let Ruleless { own, others } = find_ruleless(
-        alloc,
-        halves.parsers.as_slice(),
-        halves.lexers.as_slice(),
-    )?;
-    if !types_fit(own.as_slice(), halves.lexers.as_slice(), others.as_slice()) {
-        return Err(NumberFault::Types);
-    }
-    let grammar = numbered(alloc, halves, own, others)?;
+    let halves = halves_of(alloc, source.rules.as_slice())?;
+    let grammar = number_halves(alloc, halves.parsers.as_slice(), halves.lexers.as_slice())?;
     Ok(grammar)
 }

@@ -1,136 +1,127 @@
-// The symbols of a parser rule's elements.
-ghost use Rattle.std.specs.Prelude.{◌≡◌, ◌≤◌, ◌+◌, IfOk, length, map};
-ghost use Rattle.g4_grammar.specs.Elements.{in_order_over, over};
-ghost use Rattle.g4_grammar.specs.Trees.{element_of, in_order};
-ghost use Rattle.g4_grammar.specs.Numbering.{numbered_rule, symbol_of, symbol_of_literal, symbol_of_name};
+// What the atoms of parser rules become.
+ghost use Rattle.std.specs.Prelude.{◌≡◌, ◌==◌, IfOk, OnOk, ℕ, map, not, filter};
+ghost use Rattle.std.specs.BTreeSet.{contains};
+ghost use Rattle.std.specs.List.{list_any};
+ghost use Rattle.std.specs.Ordering.{nat_cmp};
+ghost use Rattle.g4_vocab.specs.Types.{type_of};
+ghost use Rattle.g4_vocab.specs.declared.types.Key.TheVariants.{Name};
+ghost use Rattle.g4_vocab.specs.Numbering.{literal_key, numbered_kind, symbol_of, types_without};
+ghost use Rattle.g4_vocab.specs.Tables.{IsTable, reference_of};
 
-use crate::literal::{has_rule, own_place, whole_place};
-use crate::name::{is_known, other_place, rule_place};
-use g4_base::{EOF, Sequence, Text};
-use g4_grammar::{
-    Alternative, Atom, Element, Elements, LexerRule, Literal, NumberedRule, ParserRule,
-};
+use crate::references::{Reference, reference_to};
+use crate::types::Types;
+use crate::wholes::Wholes;
+use g4_elements::{Element, Substitution};
+use g4_grammar::{NumberedAtom, NumberedKind};
+use g4_source::{Atom, AtomKind, Literal, TokenReference};
+use g4_symbols::{EOF, Symbols};
 use std::alloc::{AllocError, Global};
+use std::collections::BTreeSet;
 
-/// The symbol of a token name.
-fn symbol_of_name(own: &[Literal], lexers: &[LexerRule], others: &[Text], name: &str) -> u32
-    requires { length own.now + length lexers.now + length others.now ≤ 4096 }
-    ensures { result ≡ symbol_of_name own.now lexers.now others.now name.now }
-{
-    if name == "EOF" {
-        EOF
-    } else if is_known(lexers, name) {
-        (own.len() + rule_place(lexers, name) + 1) as u32
-    } else {
-        (own.len() + (lexers.len() + other_place(others, name)) + 1) as u32
-    }
+/// The numbering of a grammar: its types, and which lexer rules' tokens its literals name.
+#[derive(Drop)]
+pub struct Numbering<'w, 'r, 'a, 't> {
+    pub wholes: &'w Wholes<'r, 'a>,
+    pub types: &'t Types<'a>,
+    pub ghost table: { IsTable types.now },
 }
 
-/// The symbol of a literal.
-fn symbol_of_literal(own: &[Literal], lexers: &[LexerRule], characters: &[char]) -> u32
-    requires { length own.now + length lexers.now ≤ 4096 }
-    ensures { result ≡ symbol_of_literal own.now lexers.now characters.now }
-{
-    if has_rule(lexers, characters) {
-        (own.len() + whole_place(lexers, characters) + 1) as u32
-    } else {
-        (own_place(own, characters) + 1) as u32
+impl Numbering<'_, '_, '_, '_> {
+    /// The symbol of a name.
+    pub fn symbol_of_name(&self, name: &str) -> u32
+        ensures { result ≡ type_of self.now.types.now.entries.items (Name name.now) }
+    {
+        self.types.of_name(name).unwrap_or(0)
     }
-}
 
-/// The symbol of an atom.
-fn symbol_of(own: &[Literal], lexers: &[LexerRule], others: &[Text], atom: &Atom) -> u32
-    requires { length own.now + length lexers.now + length others.now ≤ 4096 }
-    ensures { result ≡ symbol_of own.now lexers.now others.now atom.now }
-{
-    match atom {
-        Atom::Token(name) => symbol_of_name(own, lexers, others, name.as_str()),
-        Atom::Literal(literal) => symbol_of_literal(own, lexers, literal.characters.as_slice()),
-        Atom::Set(_) => 0,
-    }
-}
-
-/// The element over symbols.
-#[cycle(numbered)]
-fn numbered_element(
-    alloc: Global,
-    own: &[Literal],
-    lexers: &[LexerRule],
-    others: &[Text],
-    element: &Element<Atom>,
-) -> Result<Element<u32>, AllocError>
-    requires { length own.now + length lexers.now + length others.now ≤ 4096 }
-    ensures { IfOk result (λ e. element_of e ≡ over (symbol_of own.now lexers.now others.now) (element_of element.now)) }
-{
-    match element {
-        Element::Atom(atom) => Ok(Element::Atom(symbol_of(own, lexers, others, atom))),
-        Element::Block(repeat, alternatives) => {
-            let mut all = Vec::new(alloc);
-            for alternative in alternatives {
-                let elements = alternative.elements.as_slice();
-                let elements = numbered_elements(alloc, own, lexers, others, elements)?;
-                all.push(Alternative { elements })?;
-            }
-            Ok(Element::Block(*repeat, all))
+    /// The symbol of a literal.
+    fn symbol_of_literal(&self, characters: &[char]) -> u32
+        ensures { result ≡ type_of self.now.types.now.entries.items (literal_key (map (λ r. r.now) self.now.wholes.now.rules.now) characters.now) }
+    {
+        match self.wholes.named_rule(characters) {
+            Some(name) => self.symbol_of_name(name),
+            None => self.types.of_literal(characters).unwrap_or(0),
         }
     }
+
+    /// The symbol of a token.
+    fn symbol_of(&self, token: Reference) -> u32
+        ensures { result ≡ symbol_of (map (λ r. r.now) self.now.wholes.now.rules.now) self.now.types.now.entries.items (reference_of token.entry) }
+    {
+        match token {
+            Reference::Token(name) => {
+                if name == "EOF" {
+                    EOF
+                } else {
+                    self.symbol_of_name(name)
+                }
+            }
+            Reference::Literal(literal) => self.symbol_of_literal(literal.characters.as_slice()),
+        }
+    }
+
+    /// The symbols of tokens.
+    fn symbols_of(
+        &self,
+        alloc: Global,
+        tokens: &[TokenReference],
+    ) -> Result<BTreeSet<u32>, AllocError>
+        ensures { IfOk result (λ set. (s : ℕ) → contains nat_cmp set s ≡ list_any (λ token. symbol_of (map (λ r. r.now) self.now.wholes.now.rules.now) self.now.types.now.entries.items token == s) tokens.now) }
+    {
+        let mut symbols = BTreeSet::new(alloc);
+        for token in tokens {
+            symbols.insert(self.symbol_of(reference_to(token)))?;
+        }
+        Ok(symbols)
+    }
+
+    /// All types but those of these tokens.
+    fn types_without(&self, alloc: Global, tokens: &[TokenReference]) -> Result<Symbols, AllocError>
+        ensures { IfOk result (λ set. set ≡ types_without (map (λ r. r.now) self.now.wholes.now.rules.now) self.now.types.now.entries.items tokens.now) }
+    {
+        let left_out = self.symbols_of(alloc, tokens)?;
+        let types = Symbols::up_to_without(alloc, self.types.greatest, &left_out)?;
+        Ok(types)
+    }
+
+    /// What an atom of a parser rule becomes.
+    fn kind_of(&self, alloc: Global, kind: &AtomKind) -> Result<NumberedKind, AllocError>
+        ensures { IfOk result (λ made. made ≡ numbered_kind (map (λ r. r.now) self.now.wholes.now.rules.now) self.now.types.now.entries.items kind.now) }
+    {
+        let symbols = match kind {
+            AtomKind::Rule(name) => return Ok(NumberedKind::Rule(name.copy_of(alloc)?)),
+            AtomKind::Predicate(text) => return Ok(NumberedKind::Predicate(text.copy_of(alloc)?)),
+            AtomKind::Action => return Ok(NumberedKind::Action),
+            AtomKind::Token(name) => {
+                let symbol = self.symbol_of(Reference::Token(name.text.as_str()));
+                Symbols::one(alloc, symbol)?
+            }
+            AtomKind::Literal(literal) => {
+                let symbol = self.symbol_of(Reference::Literal(literal));
+                Symbols::one(alloc, symbol)?
+            }
+            AtomKind::Any(_) => Symbols::up_to(alloc, self.types.greatest)?,
+            AtomKind::NotTokens(_, tokens) => self.types_without(alloc, tokens.as_slice())?,
+            AtomKind::Range(..) | AtomKind::Set(_) | AtomKind::NotCharacters(..) => {
+                Symbols::up_to(alloc, 0)?
+            }
+        };
+        Ok(NumberedKind::Set(symbols))
+    }
 }
 
-/// The elements over symbols.
-#[cycle(numbered)]
-fn numbered_elements(
-    alloc: Global,
-    own: &[Literal],
-    lexers: &[LexerRule],
-    others: &[Text],
-    elements: &[Element<Atom>],
-) -> Result<Vec<Element<u32>>, AllocError>
-    requires { length own.now + length lexers.now + length others.now ≤ 4096 }
-    ensures { IfOk result (λ es. in_order (map element_of es.items) ≡ in_order_over (symbol_of own.now lexers.now others.now) (in_order (map element_of elements.now))) }
-{
-    let mut all = Vec::new(alloc);
-    for element in elements {
-        all.push(numbered_element(alloc, own, lexers, others, element)?)?;
-    }
-    Ok(all)
-}
+impl Substitution<Atom> for Numbering<'_, '_, '_, '_> {
+    ghost use Rattle.std.specs.Prelude.{map};
+    ghost use Rattle.g4_elements.specs.Elements.{atom};
+    ghost use Rattle.g4_vocab.specs.Numbering.{numbered_atom};
 
-/// The alternatives of a rule over symbols.
-fn numbered_alternatives(
-    alloc: Global,
-    own: &[Literal],
-    lexers: &[LexerRule],
-    others: &[Text],
-    alternatives: &[Elements<Atom>],
-) -> Result<Sequence<Elements<u32>>, AllocError>
-    requires { length own.now + length lexers.now + length others.now ≤ 4096 }
-    ensures { IfOk result (λ all. all ≡ map (in_order_over (symbol_of own.now lexers.now others.now)) alternatives.now) }
-{
-    let mut all = Vec::new(alloc);
-    for alternative in alternatives {
-        let elements = numbered_elements(alloc, own, lexers, others, alternative.as_slice())?;
-        all.push(Elements::new(elements))?;
-    }
-    Ok(Sequence::new(all))
-}
+    type To = NumberedAtom;
 
-/// The parser rules over symbols.
-pub fn numbered_rules(
-    alloc: Global,
-    own: &[Literal],
-    lexers: &[LexerRule],
-    others: &[Text],
-    parsers: Vec<ParserRule>,
-) -> Result<Sequence<NumberedRule>, AllocError>
-    requires { length own.now + length lexers.now + length others.now ≤ 4096 }
-    ensures { IfOk result (λ rules. rules ≡ map (numbered_rule own.now lexers.now others.now) parsers.items) }
-{
-    let mut rules = Vec::new(alloc);
-    for rule in parsers {
-        let ParserRule { name, alternatives } = rule;
-        let written = alternatives.as_slice();
-        let alternatives = numbered_alternatives(alloc, own, lexers, others, written)?;
-        rules.push(NumberedRule { name, alternatives })?;
+    ghost image = { λ s a. atom (numbered_atom (map (λ r. r.now) s.wholes.now.rules.now) s.types.now.entries.items a) };
+
+    fn image(&self, alloc: Global, atom: &Atom) -> Result<Element<NumberedAtom>, AllocError> {
+        let kind = self.kind_of(alloc, &atom.kind)?;
+        let right = atom.right;
+        Ok(Element::Atom(NumberedAtom { right, kind }))
     }
-    Ok(Sequence::new(rules))
 }

@@ -1,16 +1,16 @@
-// Rules that stand twice.
-ghost use Rattle.std.specs.Prelude.{◌≡◌, IfOk, option_map};
-ghost use Rattle.g4_vocab.specs.Names.{HasOwnNames, name_twice};
+// Rule names that are used twice.
+ghost use Rattle.std.specs.Prelude.{◌≡◌, IfOk, [], option_map};
+ghost use Rattle.g4_vocab.specs.Names.{HasOwnNames, first_repeated};
 
 use g4_base::Text;
-use g4_grammar::{Grammar, Rule};
+use g4_source::{Rule, Source};
 use std::alloc::{AllocError, Global};
 use std::collections::BTreeSet;
 
 /// Why the rules of a grammar are not told apart by their names.
 #[derive(Drop)]
 pub enum NameFault {
-    /// The name of the first rule whose name a rule behind it has.
+    /// The name of the first rule whose name an earlier rule has.
     RuleTwice(Text),
     NoMemory,
 }
@@ -26,28 +26,28 @@ impl From<AllocError> for NameFault {
     }
 }
 
-/// The name of the first rule whose name a rule behind it has.
-fn name_twice(alloc: Global, rules: &[Rule]) -> Result<Option<&str>, AllocError>
-    ensures { IfOk result (λ found. option_map (λ name. name.now) found ≡ name_twice rules.now) }
+/// The name of the first rule whose name an earlier rule has.
+fn first_repeated(alloc: Global, rules: &[Rule]) -> Result<Option<&str>, AllocError>
+    ensures { IfOk result (λ found. option_map (λ name. name.now) found ≡ first_repeated [] rules.now) }
 {
-    let mut behind = BTreeSet::new(alloc);
-    let mut found = None;
-    let mut at = rules.len();
-    while at > 0 {
-        at -= 1;
-        let name = rules[at].name();
-        if !behind.insert(name)? {
-            found = Some(name);
+    let mut seen = BTreeSet::new(alloc);
+    for rule in rules {
+        let name = rule.name();
+        if !seen.insert(name)? {
+            return Ok(Some(name));
         }
     }
-    Ok(found)
+    Ok(None)
 }
 
-/// Looks for the first rule, in order of the text, whose name a rule behind it has.
-pub fn check_names(alloc: Global, source: &Grammar) -> Result<(), NameFault>
+/// Looks for the first rule, in order of the text, whose name an earlier rule has.
+///
+/// # Errors
+/// Its name, or no memory.
+pub fn check_names(alloc: Global, source: &Source) -> Result<(), NameFault>
     ensures { HasOwnNames source.now.rules result }
 {
-    match name_twice(alloc, source.rules.as_slice())? {
+    match first_repeated(alloc, source.rules.as_slice())? {
         Some(name) => Err(NameFault::RuleTwice(Text::copy_of(alloc, name)?)),
         None => Ok(()),
     }

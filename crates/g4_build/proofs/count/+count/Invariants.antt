@@ -1,7 +1,7 @@
 use Rattle.std.proofs.Common.{◌≡◌, ◌+◌, map, drop}
-use Rattle.g4_grammar.specs.Elements.{either}
-use Rattle.g4_grammar.specs.Trees.{element_of, alternative_of, in_order}
-use Rattle.g4_build.specs.Size.{states_in_order_by, states_of_bodies_by}
+use Rattle.g4_elements.specs.Elements.{either}
+use Rattle.g4_elements.specs.Trees.{element_of, alternative_of, in_order}
+use Rattle.g4_layout.specs.Size.{states_in_order_by, states_of_bodies_by}
 use Rattle.g4_build.proofs.count.+count.Given as goal
 
 abbrev pub invariant-past_run-loop-element : goal.invariant-past_run-loop-element

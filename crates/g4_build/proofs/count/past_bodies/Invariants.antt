@@ -1,6 +1,6 @@
 use Rattle.std.proofs.Common.{◌≡◌, ◌+◌, map, drop}
-use Rattle.g4_grammar.specs.Elements.{either}
-use Rattle.g4_build.specs.Size.{states_of_bodies_by}
+use Rattle.g4_elements.specs.Elements.{either}
+use Rattle.g4_layout.specs.Size.{states_of_bodies_by}
 use Rattle.g4_build.proofs.count.past_bodies.Given as goal
 
 abbrev pub invariant-loop-alternative : goal.invariant-loop-alternative

@@ -1,6 +1,6 @@
 use Rattle.std.proofs.Common.{arith, ap, sym}
 use Rattle.g4_build.specs.LexerSize.{states_of_atom, states_of_token_rule, lexer_bodies}
-use Rattle.g4_build.specs.Size.{states_of_rule_by}
+use Rattle.g4_layout.specs.Size.{states_of_rule_by}
 use Rattle.g4_build.proofs.Counts.{count_next_rule}
 use Rattle.g4_build.proofs.count.past_token_rules.Goals as goal
 

@@ -1,6 +1,5 @@
-use Rattle.g4_grammar.specs.Loops.{LexerHasEmptyLoop}
-use Rattle.g4_checks.proofs.Rules.{NoneYet}
+use Rattle.g4_checks.proofs.Rules.{NoneYet, LexerLoops}
 use Rattle.g4_checks.proofs.rule.lexer_has_empty_loop.Given as goal
 
 abbrev pub invariant-loop-alternative : goal.invariant-loop-alternative
-invariant-loop-alternative l = NoneYet LexerHasEmptyLoop l.alternative-items l.alternative-index
+invariant-loop-alternative l = NoneYet LexerLoops l.alternatives l.alternative-index

@@ -1,7 +1,7 @@
 use Rattle.std.proofs.Common.{arith, rules}
 use Rattle.std.proofs.lemmas.Result.{on_ok_weaker}
 use Rattle.g4_lexer.proofs.Elements.{in_order_stuck}
-use Rattle.g4_lexer.proofs.Nodes.{alternatives_of, elements_of, on_ok_all, node_atom, node_block, block_once, block_star, block_plus, sides_more, sides_all, nodes_none, nodes_only, nodes_first, nodes_more, nodes_all}
+use Rattle.g4_lexer.proofs.Nodes.{alternatives_of, elements_of, on_ok_all, node_atom, node_block, block_once, block_optional, block_star, block_plus, sides_more, sides_all, nodes_none, nodes_only, nodes_first, nodes_more, nodes_all}
 use Rattle.g4_lexer.proofs.Turns.{walk_none, walk_turn, walked}
 use Rattle.g4_lexer.proofs.ends.+ends.Goals as goal
 
@@ -19,24 +19,28 @@ add_element-returns-in-Atom t c =
 
 pub add_element-returns-in-Block : goal.add_element-returns-in-Block
 add_element-returns-in-Block t c =
-    on_ok_weaker c.add_block.result (node_block c.args.text.now c.args.starts.now c.args.ends.now c.args.element.now c.in-Block.repeat c.in-Block.alternatives c.as_slice.result.now c.add_block.new.ends c.in-Block.is c.as_slice.ensures.value) c.add_block.ensures
+    on_ok_weaker c.add_block.result (node_block c.args.text.now c.args.starts.now c.args.ends.now c.args.element.now c.in-Block.field-0 c.in-Block.repeat c.in-Block.alternatives c.as_slice.result.now c.add_block.new.ends c.in-Block.is c.as_slice.ensures.value) (c.add_block.ensures c.in-Block.field-0)
 
 pub add_block-returns-in-Once : goal.add_block-returns-in-Once
-add_block-returns-in-Once t c =
-    on_ok_weaker c.add_either.result (block_once c.args.text.now c.args.starts.now c.args.ends.now c.args.repeat (alternatives_of c.args.alternatives.now) c.add_either.new.ends c.in-Once.is) c.add_either.ensures
+add_block-returns-in-Once t c = λ label.
+    on_ok_weaker c.add_either.result (block_once c.args.text.now c.args.starts.now c.args.ends.now label c.args.repeat (alternatives_of c.args.alternatives.now) c.add_either.new.ends c.in-Once.is) c.add_either.ensures
+
+pub add_block-returns-in_ok-add_all-in-Optional : goal.add_block-returns-in_ok-add_all-in-Optional
+add_block-returns-in_ok-add_all-in-Optional t c = λ label.
+    on_ok_weaker c.add_either-in-Optional.result (block_optional c.args.text.now c.args.starts.now c.args.ends.now label c.args.repeat c.in-Optional.field-0 (alternatives_of c.args.alternatives.now) c.add_all.new.self c.add_either-in-Optional.new.ends c.in-Optional.is c.requires.room.starts_fit c.in_ok-add_all-in-Optional.ensures.members c.in_ok-add_all-in-Optional.ensures.first) c.add_either-in-Optional.ensures
 
 pub add_block-returns-in_ok-add_turns-in-Star : goal.add_block-returns-in_ok-add_turns-in-Star
 add_block-returns-in_ok-add_turns-in-Star t c =
-    let added = c.add_all-in-Star in
+    let added = c.add_all-in-Star-2 in λ label.
     on_ok_all added.result
-    (block_star c.args.text.now c.args.starts.now c.args.ends.now c.args.repeat (alternatives_of c.args.alternatives.now) c.new-turns.result c.add_all.new.self c.add_turns.new.ends added.new.self c.in-Star.is c.new-turns.ensures.none c.in_ok-add_all-in-Star.ensures.members c.in_ok-add_turns-in-Star.ensures c.requires.room.ends_fit)
+    (block_star c.args.text.now c.args.starts.now c.args.ends.now label c.args.repeat c.in-Star.field-0 (alternatives_of c.args.alternatives.now) c.new-turns.result c.add_all-in-Star.new.self c.add_turns.new.ends added.new.self c.in-Star.is c.new-turns.ensures.none c.in_ok-add_all-in-Star.ensures.members c.in_ok-add_turns-in-Star.ensures c.requires.room.ends_fit)
     added.ensures.members added.ensures.first added.ensures.bound
 
 pub add_block-returns-in_ok-add_turns-in-Plus : goal.add_block-returns-in_ok-add_turns-in-Plus
 add_block-returns-in_ok-add_turns-in-Plus t c =
-    let added = c.add_all-in-Plus in
+    let added = c.add_all-in-Plus in λ label.
     on_ok_all added.result
-    (block_plus c.args.text.now c.args.starts.now c.args.ends.now c.args.repeat (alternatives_of c.args.alternatives.now) c.new-turns-in-Plus.result c.add_either-in-Plus.new.ends c.add_turns-in-Plus.new.ends added.new.self c.in-Plus.is c.new-turns-in-Plus.ensures.none c.in_ok-add_either-in-Plus.ensures c.in_ok-add_turns-in-Plus.ensures c.requires.room.ends_fit)
+    (block_plus c.args.text.now c.args.starts.now c.args.ends.now label c.args.repeat c.in-Plus.field-0 (alternatives_of c.args.alternatives.now) c.new-turns-in-Plus.result c.add_either-in-Plus.new.ends c.add_turns-in-Plus.new.ends added.new.self c.in-Plus.is c.new-turns-in-Plus.ensures.none c.in_ok-add_either-in-Plus.ensures c.in_ok-add_turns-in-Plus.ensures c.requires.room.ends_fit)
     added.ensures.members added.ensures.first added.ensures.bound
 
 pub add_elements-returns-in_default : goal.add_elements-returns-in_default

@@ -1,6 +1,6 @@
 use Rattle.std.proofs.Common.{◌-◌, ◌+◌, ◌≤◌, ◌==◌, if◌then◌else◌, length, map, drop}
-use Rattle.g4_grammar.specs.Elements.{either}
-use Rattle.g4_grammar.specs.Trees.{element_of, alternative_of, in_order}
+use Rattle.g4_elements.specs.Elements.{either}
+use Rattle.g4_elements.specs.Trees.{element_of, alternative_of, in_order}
 use Rattle.g4_lexer.specs.Counts.{Fits}
 use Rattle.g4_lexer.proofs.Elements.{EitherLeft, InOrderLeft}
 use Rattle.g4_lexer.proofs.Turns.{Walked}

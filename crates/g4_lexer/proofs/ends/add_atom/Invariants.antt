@@ -1,4 +1,4 @@
-use Rattle.g4_grammar.specs.Characters.{ReadsCharacters}
+use Rattle.g4_grammar.specs.Written.{ReadsCharacters}
 use Rattle.g4_lexer.proofs.Starts.{Passed}
 use Rattle.g4_lexer.proofs.ends.add_atom.Given as goal
 

@@ -1,9 +1,9 @@
 use Rattle.std.proofs.Common.{◌≡◌, ◌++◌, [], ◌∷◌, map, take}
-use Rattle.g4_lexer.specs.Lexing.{token_at}
+use Rattle.g4_lexer.specs.Positions.{token_at}
 use Rattle.g4_lexer.proofs.lexer.close.Given as goal
 
 abbrev pub invariant-loop-symbol : goal.invariant-loop-symbol
 invariant-loop-symbol l = record {
-  found : l.found.items ≡ l.initial.found.items ++ map (λ symbol. token_at symbol (record { index = l.end; place = l.place }) []) (take l.symbol-index l.symbol-items);
-  symbols : l.symbol-items ≡ 4097 ∷ 4097 ∷ 4097 ∷ 4097 ∷ 4098 ∷ [];
+  found : l.found.items ≡ l.initial.found.items ++ map (λ symbol. token_at symbol l.end []) (take l.symbol-index l.symbol-items);
+  symbols : l.symbol-items ≡ 65536 ∷ 65536 ∷ 65536 ∷ 65536 ∷ 65537 ∷ [];
 }

@@ -1,51 +1,92 @@
-use Rattle.std.proofs.Common.{◌≡◌, ◌≤◌, ◌+◌, ℕ, List, length, ap, arith, rules}
-use Rattle.g4_grammar.specs.Numbering.{other_names, own_literals}
-use Rattle.g4_grammar.specs.declared.grammar.Literal.{Literal}
-use Rattle.g4_grammar.specs.declared.grammar.LexerRule.{LexerRule}
-use Rattle.g4_grammar.specs.declared.grammar.ParserRule.{ParserRule}
-use Rattle.g4_grammar.specs.declared.numbered.Numbered.{Numbered}
+use Rattle.std.proofs.Common.{◌≡◌, List, map, ap, ◌∙◌, arith}
+use Rattle.std.proofs.lemmas.Result.{err_from_is_err_and}
+use Rattle.g4_source.specs.declared.atom.Atom.{Atom}
+use Rattle.g4_source.specs.declared.rule.LexerRule.{LexerRule}
+use Rattle.g4_source.specs.declared.rule.ParserRule.{ParserRule}
+use Rattle.g4_source.specs.Rules.{parser_rules}
 use Rattle.g4_vocab.specs.Halves.{AreHalves}
-use Rattle.g4_vocab.proofs.Full.{grammar_full}
-use Rattle.g4_vocab.proofs.Loops.{grammar_loops}
-use Rattle.g4_vocab.proofs.Named.{grammar_named}
-use Rattle.g4_vocab.proofs.Numbers.{greatest_is, numbered_is, symbols_below}
+use Rattle.g4_vocab.specs.Numbering.{token_lexers}
+use Rattle.g4_vocab.proofs.Sources.{source_few, source_ok, source_err, source_types, source_full, source_ends, source_quiet, source_loops}
 use Rattle.g4_vocab.proofs.numbering.number.Goals as goal
 
 pub returns-clause-numbered : goal.returns-clause-numbered
 returns-clause-numbered c =
-    let parsers : List ParserRule = c.in_ok-halves.halves.parsers.items in
-    let lexers : List LexerRule = c.in_ok-halves.halves.lexers.items in
-    let own : List Literal = c.in_ok-own.field-0.own.items in
-    let others : List (List ℕ) = c.in_ok-own.field-0.others.items in
-    let h : AreHalves c.args.source.rules parsers lexers = rw c.into_vec.ensures at c.in_ok-halves.ensures in
-    let o : own ≡ own_literals parsers lexers = rw (c.as_slice.ensures.value, c.as_slice-2.ensures.value) at c.in_ok-own.ensures.own in
-    let n : others ≡ other_names parsers lexers = rw (c.as_slice.ensures.value, c.as_slice-2.ensures.value) at c.in_ok-own.ensures.others in
-    let few : length own + length lexers + length others ≤ 4096 = rw (c.as_slice-3.ensures.value, c.as_slice-4.ensures.value, c.as_slice-5.ensures.value) at (c.types_fit.ensures.0 (search rules)) in
-    let same = greatest_is c.args.source parsers lexers own others h o n in
-    (omega (arith, c.len.ensures), omega (arith, few, same), numbered_is c.args.source parsers lexers own others c.in_ok-grammar.grammar h o n c.in_ok-grammar.ensures)
+    let parsers : List (ParserRule Atom) = map (λ r. r.now) c.as_slice-2.result.now in
+    let lexers : List LexerRule = map (λ r. r.now) c.as_slice-3.result.now in
+    let h : AreHalves c.args.source.now.rules parsers lexers = record {
+      parsers_are = ap (map (λ r. r.now)) c.as_slice-2.ensures.value ∙ (c.in_ok-halves.ensures.parsers_are ∙ ap parser_rules c.as_slice.ensures);
+      lexers_are = ap (map (λ r. r.now)) c.as_slice-3.ensures.value ∙ (c.in_ok-halves.ensures.lexers_are ∙ ap token_lexers c.as_slice.ensures);
+    } in
+    source_ok c.args.source.now parsers lexers c.in_ok-grammar.grammar h (omega (arith, c.len.ensures)) c.in_ok-grammar.ensures
 
 pub returns-clause-types : goal.returns-clause-types
 returns-clause-types c =
-    let lexers : List LexerRule = c.in_ok-halves.halves.lexers.items in
-    let own : List Literal = c.in_ok-own.field-0.own.items in
-    let others : List (List ℕ) = c.in_ok-own.field-0.others.items in
-    let few : length own + length lexers + length others ≤ 4096 = rw (c.as_slice-3.ensures.value, c.as_slice-4.ensures.value, c.as_slice-5.ensures.value) at (c.types_fit.ensures.0 (search rules)) in
-    symbols_below own lexers c.in_ok-grammar.grammar.token_rules (omega arith) (ap (λ (g : Numbered). g.token_rules) c.in_ok-grammar.ensures)
-
-pub returns-clause-named : goal.returns-clause-named
-returns-clause-named c =
-    let lexers : List LexerRule = c.in_ok-halves.halves.lexers.items in
-    let own : List Literal = c.in_ok-own.field-0.own.items in
-    let others : List (List ℕ) = c.in_ok-own.field-0.others.items in
-    let few : length own + length lexers + length others ≤ 4096 = rw (c.as_slice-3.ensures.value, c.as_slice-4.ensures.value, c.as_slice-5.ensures.value) at (c.types_fit.ensures.0 (search rules)) in
-    grammar_named c.in_ok-halves.halves.parsers.items lexers own others c.in_ok-grammar.grammar few c.in_ok-grammar.ensures
+    let parsers : List (ParserRule Atom) = map (λ r. r.now) c.as_slice-2.result.now in
+    let lexers : List LexerRule = map (λ r. r.now) c.as_slice-3.result.now in
+    let h : AreHalves c.args.source.now.rules parsers lexers = record {
+      parsers_are = ap (map (λ r. r.now)) c.as_slice-2.ensures.value ∙ (c.in_ok-halves.ensures.parsers_are ∙ ap parser_rules c.as_slice.ensures);
+      lexers_are = ap (map (λ r. r.now)) c.as_slice-3.ensures.value ∙ (c.in_ok-halves.ensures.lexers_are ∙ ap token_lexers c.as_slice.ensures);
+    } in
+    source_types c.args.source.now c.in_ok-grammar.grammar (source_ok c.args.source.now parsers lexers c.in_ok-grammar.grammar h (omega (arith, c.len.ensures)) c.in_ok-grammar.ensures)
 
 pub returns-clause-full : goal.returns-clause-full
 returns-clause-full c =
-    let h : AreHalves c.args.source.rules c.in_ok-halves.halves.parsers.items c.in_ok-halves.halves.lexers.items = rw c.into_vec.ensures at c.in_ok-halves.ensures in
-    grammar_full c.args.source.rules c.in_ok-halves.halves.parsers.items c.in_ok-halves.halves.lexers.items c.in_ok-own.field-0.own.items c.in_ok-own.field-0.others.items c.in_ok-grammar.grammar h c.in_ok-grammar.ensures
+    let parsers : List (ParserRule Atom) = map (λ r. r.now) c.as_slice-2.result.now in
+    let lexers : List LexerRule = map (λ r. r.now) c.as_slice-3.result.now in
+    let h : AreHalves c.args.source.now.rules parsers lexers = record {
+      parsers_are = ap (map (λ r. r.now)) c.as_slice-2.ensures.value ∙ (c.in_ok-halves.ensures.parsers_are ∙ ap parser_rules c.as_slice.ensures);
+      lexers_are = ap (map (λ r. r.now)) c.as_slice-3.ensures.value ∙ (c.in_ok-halves.ensures.lexers_are ∙ ap token_lexers c.as_slice.ensures);
+    } in
+    source_full c.args.source.now c.in_ok-grammar.grammar (source_ok c.args.source.now parsers lexers c.in_ok-grammar.grammar h (omega (arith, c.len.ensures)) c.in_ok-grammar.ensures)
+
+pub returns-clause-ends : goal.returns-clause-ends
+returns-clause-ends c =
+    let parsers : List (ParserRule Atom) = map (λ r. r.now) c.as_slice-2.result.now in
+    let lexers : List LexerRule = map (λ r. r.now) c.as_slice-3.result.now in
+    let h : AreHalves c.args.source.now.rules parsers lexers = record {
+      parsers_are = ap (map (λ r. r.now)) c.as_slice-2.ensures.value ∙ (c.in_ok-halves.ensures.parsers_are ∙ ap parser_rules c.as_slice.ensures);
+      lexers_are = ap (map (λ r. r.now)) c.as_slice-3.ensures.value ∙ (c.in_ok-halves.ensures.lexers_are ∙ ap token_lexers c.as_slice.ensures);
+    } in
+    source_ends c.args.source.now c.in_ok-grammar.grammar (source_ok c.args.source.now parsers lexers c.in_ok-grammar.grammar h (omega (arith, c.len.ensures)) c.in_ok-grammar.ensures)
+
+pub returns-clause-quiet : goal.returns-clause-quiet
+returns-clause-quiet c =
+    let parsers : List (ParserRule Atom) = map (λ r. r.now) c.as_slice-2.result.now in
+    let lexers : List LexerRule = map (λ r. r.now) c.as_slice-3.result.now in
+    let h : AreHalves c.args.source.now.rules parsers lexers = record {
+      parsers_are = ap (map (λ r. r.now)) c.as_slice-2.ensures.value ∙ (c.in_ok-halves.ensures.parsers_are ∙ ap parser_rules c.as_slice.ensures);
+      lexers_are = ap (map (λ r. r.now)) c.as_slice-3.ensures.value ∙ (c.in_ok-halves.ensures.lexers_are ∙ ap token_lexers c.as_slice.ensures);
+    } in
+    source_quiet c.args.source.now c.in_ok-grammar.grammar (source_ok c.args.source.now parsers lexers c.in_ok-grammar.grammar h (omega (arith, c.len.ensures)) c.in_ok-grammar.ensures)
 
 pub returns-clause-loops : goal.returns-clause-loops
 returns-clause-loops c =
-    let h : AreHalves c.args.source.rules c.in_ok-halves.halves.parsers.items c.in_ok-halves.halves.lexers.items = rw c.into_vec.ensures at c.in_ok-halves.ensures in
-    grammar_loops c.args.source.rules c.in_ok-halves.halves.parsers.items c.in_ok-halves.halves.lexers.items c.in_ok-own.field-0.own.items c.in_ok-own.field-0.others.items c.in_ok-grammar.grammar h c.in_ok-grammar.ensures
+    let parsers : List (ParserRule Atom) = map (λ r. r.now) c.as_slice-2.result.now in
+    let lexers : List LexerRule = map (λ r. r.now) c.as_slice-3.result.now in
+    let h : AreHalves c.args.source.now.rules parsers lexers = record {
+      parsers_are = ap (map (λ r. r.now)) c.as_slice-2.ensures.value ∙ (c.in_ok-halves.ensures.parsers_are ∙ ap parser_rules c.as_slice.ensures);
+      lexers_are = ap (map (λ r. r.now)) c.as_slice-3.ensures.value ∙ (c.in_ok-halves.ensures.lexers_are ∙ ap token_lexers c.as_slice.ensures);
+    } in
+    source_loops c.args.source.now c.in_ok-grammar.grammar (source_ok c.args.source.now parsers lexers c.in_ok-grammar.grammar h (omega (arith, c.len.ensures)) c.in_ok-grammar.ensures)
+
+pub returns-in_err-grammar-clause-numbered : goal.returns-in_err-grammar-clause-numbered
+returns-in_err-grammar-clause-numbered c =
+    let p = err_from_is_err_and c.from_residual-in_err-grammar.result c.from_residual-in_err-grammar.ensures.1 in
+    let fault = c.in_err-grammar.field-0.0 in
+    let parsers : List (ParserRule Atom) = map (λ r. r.now) c.as_slice-2.result.now in
+    let lexers : List LexerRule = map (λ r. r.now) c.as_slice-3.result.now in
+    let h : AreHalves c.args.source.now.rules parsers lexers = record {
+      parsers_are = ap (map (λ r. r.now)) c.as_slice-2.ensures.value ∙ (c.in_ok-halves.ensures.parsers_are ∙ ap parser_rules c.as_slice.ensures);
+      lexers_are = ap (map (λ r. r.now)) c.as_slice-3.ensures.value ∙ (c.in_ok-halves.ensures.lexers_are ∙ ap token_lexers c.as_slice.ensures);
+    } in
+    rw (p.1, p.2) (source_err c.args.source.now parsers lexers fault h (omega (arith, c.len.ensures)) c.in_err-grammar.ensures)
+
+pub returns-clause-few : goal.returns-clause-few
+returns-clause-few c =
+    let parsers : List (ParserRule Atom) = map (λ r. r.now) c.as_slice-2.result.now in
+    let lexers : List LexerRule = map (λ r. r.now) c.as_slice-3.result.now in
+    let h : AreHalves c.args.source.now.rules parsers lexers = record {
+      parsers_are = ap (map (λ r. r.now)) c.as_slice-2.ensures.value ∙ (c.in_ok-halves.ensures.parsers_are ∙ ap parser_rules c.as_slice.ensures);
+      lexers_are = ap (map (λ r. r.now)) c.as_slice-3.ensures.value ∙ (c.in_ok-halves.ensures.lexers_are ∙ ap token_lexers c.as_slice.ensures);
+    } in
+    source_few c.args.source.now c.in_ok-grammar.grammar (source_ok c.args.source.now parsers lexers c.in_ok-grammar.grammar h (omega (arith, c.len.ensures)) c.in_ok-grammar.ensures)

@@ -1,0 +1,4 @@
+mod Firsts
+mod Nodes
+pub mod OneAnswer
+mod Quiet

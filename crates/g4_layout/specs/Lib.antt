@@ -1,0 +1,6 @@
+pub mod Built
+pub mod Callers
+pub mod Decisions
+pub mod Layout
+pub mod Rules
+pub mod Size

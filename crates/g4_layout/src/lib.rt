@@ -1,0 +1,8 @@
+// How rules lie in a network: the table of states and edges, and what it implies.
+#![tactic(auto)]
+
+mod law;
+
+pub use law::{
+    callers_are_returns, every_network_is_runnable, never_comes_back, one_network, well_formed,
+};

@@ -1,4 +1,0 @@
-mod Firsts
-mod Full
-mod Nodes
-mod RunNodes

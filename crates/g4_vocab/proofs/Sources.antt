@@ -1,0 +1,81 @@
+-- The numbered grammar of a source, from that of its parser rules and lexer rules.
+use Rattle.std.proofs.Common.{◌≡◌, ◌≤◌, ◌<◌, ℕ, List, [], length, map, Ok, Err, sym, ap, ◌∙◌, subst, All, arith}
+use Rattle.std.proofs.lemmas.List.{length-map}
+use Rattle.g4_symbols.specs.declared.symbol.TheConstants.{MOST_TYPES}
+use Rattle.g4_source.specs.declared.atom.Atom.{Atom}
+use Rattle.g4_source.specs.declared.atom.TokenReference.{TokenReference}
+use Rattle.g4_source.specs.declared.rule.ParserRule.{ParserRule}
+use Rattle.g4_source.specs.declared.rule.LexerRule.{LexerRule}
+use Rattle.g4_source.specs.declared.source.Source.{Source}
+use Rattle.g4_source.specs.Rules.{parser_rules}
+use Rattle.g4_source.specs.Blocks.{HaveAlternatives, ParserRulesAreFull}
+use Rattle.g4_grammar.specs.declared.numbered.Numbered.{Numbered}
+use Rattle.g4_grammar.specs.declared.numbered.NumberedAtom.{NumberedAtom}
+use Rattle.g4_grammar.specs.declared.numbered.TokenRule.{TokenRule}
+use Rattle.g4_grammar.specs.NumberedRules.{HaveNoEmptyLoops, NumberedRuleIsQuiet, RuleLeavesEnd}
+use Rattle.g4_grammar.specs.Written.{RuleHasEmptyLoop, RuleIsQuiet, TokenRuleIsQuiet}
+use Rattle.g4_vocab.specs.declared.fault.TheConstants.{MOST_RULES}
+use Rattle.g4_vocab.specs.declared.fault.NumberFault.{NumberFault}
+use Rattle.g4_vocab.specs.declared.fault.NumberFault.TheVariants.{Rules, Types, NoMemory}
+use Rattle.g4_vocab.specs.declared.types.Entry.{Entry}
+use Rattle.g4_vocab.specs.declared.types.Types.{Types as Table}
+use Rattle.g4_vocab.specs.Tables.{Starts}
+use Rattle.g4_vocab.specs.Types.{greatest_type, with_keys}
+use Rattle.g4_vocab.specs.Halves.{AreHalves}
+use Rattle.g4_vocab.specs.Numbering.{numbered_rule, all_atoms, all_references, numbered_with, types_with, types_of, token_lexers, wanted}
+use Rattle.g4_vocab.specs.Answers.{CausesNumberFault, GivesNumbered, GivesNumberedHalves}
+use Rattle.g4_vocab.proofs.Laws.{parsers_few, rules_full, rules_quiet, rules_ends, lexers_quiet, tokens_quiet, symbols_low}
+use Rattle.g4_vocab.proofs.NumberedLoops.{rules_loops}
+
+-- a fact of the halves is a fact of those of the source
+of_source : (P : List (ParserRule Atom) → List LexerRule → Type 0) (source : Source) (parsers : List (ParserRule Atom)) (lexers : List LexerRule) → AreHalves source.rules parsers lexers → P parsers lexers → P (parser_rules source.rules) (token_lexers source.rules)
+of_source P source parsers lexers halves p = subst (P (parser_rules source.rules)) halves.lexers_are (subst (λ (ps : List (ParserRule Atom)). P ps lexers) halves.parsers_are p)
+
+-- the numbered grammar
+pub source_ok : (source : Source) (parsers : List (ParserRule Atom)) (lexers : List LexerRule) (grammar : Numbered) → AreHalves source.rules parsers lexers → length source.rules ≤ MOST_RULES → GivesNumberedHalves parsers lexers (Ok grammar) → GivesNumbered source (Ok grammar)
+source_ok source parsers lexers grammar halves few given =
+    let P : List (ParserRule Atom) → List LexerRule → Type 0 = λ ps ls. (greatest_type (types_with [] ps ls) ≤ MOST_TYPES) × (grammar ≡ numbered_with ps ls (types_with [] ps ls)) in
+    let all = of_source P source parsers lexers halves given in (few, all.0, all.1)
+
+-- a fault
+pub source_err : (source : Source) (parsers : List (ParserRule Atom)) (lexers : List LexerRule) (fault : NumberFault) → AreHalves source.rules parsers lexers → length source.rules ≤ MOST_RULES → GivesNumberedHalves parsers lexers (Err fault) → CausesNumberFault source fault
+source_err source parsers lexers Rules halves few given = absurd given
+source_err source parsers lexers Types halves few given = (few, of_source (λ ps ls. MOST_TYPES < greatest_type (types_with [] ps ls)) source parsers lexers halves given)
+source_err source parsers lexers NoMemory halves few given = tt
+
+module _ (source : Source) (grammar : Numbered) (given : GivesNumbered source (Ok grammar)) where
+  pub source_types : All (λ rule. rule.symbol ≤ MOST_TYPES) grammar.token_rules
+  source_types = subst (λ (rules : List TokenRule). All (λ rule. rule.symbol ≤ MOST_TYPES) rules) (sym (ap (λ (g : Numbered). g.token_rules) given.2)) (symbols_low (types_of [] source.rules) (token_lexers source.rules) given.1)
+
+  pub source_few : length grammar.rules ≤ MOST_RULES
+  source_few =
+      let same : length grammar.rules ≡ length (parser_rules source.rules) = ap (λ (g : Numbered). length g.rules) given.2 ∙ length-map (parser_rules source.rules) (numbered_rule (token_lexers source.rules) (types_of [] source.rules)) in
+      omega (arith, same, parsers_few source.rules, given.0)
+
+  pub source_full : HaveAlternatives source → ParserRulesAreFull grammar.rules
+  source_full h = subst (λ (rules : List (ParserRule NumberedAtom)). ParserRulesAreFull rules) (sym (ap (λ (g : Numbered). g.rules) given.2)) (rules_full (token_lexers source.rules) (types_of [] source.rules) source.rules h.0)
+
+  pub source_ends : All RuleLeavesEnd grammar.rules
+  source_ends = subst (λ (rules : List (ParserRule NumberedAtom)). All RuleLeavesEnd rules) (sym (ap (λ (g : Numbered). g.rules) given.2)) (rules_ends (token_lexers source.rules) (types_of [] source.rules) given.1 (parser_rules source.rules))
+
+  pub source_quiet : All RuleIsQuiet source.rules → All NumberedRuleIsQuiet grammar.rules × All TokenRuleIsQuiet grammar.token_rules
+  source_quiet h = (
+    subst (λ (rules : List (ParserRule NumberedAtom)). All NumberedRuleIsQuiet rules) (sym (ap (λ (g : Numbered). g.rules) given.2)) (rules_quiet (token_lexers source.rules) (types_of [] source.rules) source.rules h),
+    subst (λ (rules : List TokenRule). All TokenRuleIsQuiet rules) (sym (ap (λ (g : Numbered). g.token_rules) given.2)) (tokens_quiet (types_of [] source.rules) (token_lexers source.rules) (lexers_quiet source.rules h)),
+  )
+
+  pub source_loops : All (λ rule. RuleHasEmptyLoop source.rules rule → ⊥) source.rules → HaveNoEmptyLoops grammar.rules
+  source_loops h = subst HaveNoEmptyLoops (sym (ap (λ (g : Numbered). g.rules) given.2)) (rules_loops (token_lexers source.rules) (types_of [] source.rules) source.rules h)
+
+-- what the halves give, from the tokens that the parser rules name
+pub halves_err : (parsers : List (ParserRule Atom)) (lexers : List LexerRule) (tokens : List TokenReference) (fault : NumberFault) → tokens ≡ all_references (all_atoms parsers) → Starts (wanted lexers tokens) (Err fault) → GivesNumberedHalves parsers lexers (Err fault)
+halves_err parsers lexers tokens Rules are h = h
+halves_err parsers lexers tokens Types are h = subst (λ (ts : List TokenReference). MOST_TYPES < greatest_type (with_keys [] (wanted lexers ts))) are h
+halves_err parsers lexers tokens NoMemory are h = tt
+
+pub halves_ok : (parsers : List (ParserRule Atom)) (lexers : List LexerRule) (tokens : List TokenReference) (table : Table) (grammar : Numbered) → tokens ≡ all_references (all_atoms parsers) → Starts (wanted lexers tokens) (Ok table) → grammar ≡ numbered_with parsers lexers table.entries.items →
+    GivesNumberedHalves parsers lexers (Ok grammar)
+halves_ok parsers lexers tokens table grammar are h is =
+    let entries : table.entries.items ≡ types_with [] parsers lexers = h.1 ∙ ap (λ (ts : List TokenReference). with_keys [] (wanted lexers ts)) are in
+    let few : greatest_type table.entries.items ≤ MOST_TYPES = subst (λ (n : ℕ). n ≤ MOST_TYPES) h.0.greatest h.0.within in
+    (subst (λ (es : List Entry). greatest_type es ≤ MOST_TYPES) entries few, is ∙ ap (numbered_with parsers lexers) entries)

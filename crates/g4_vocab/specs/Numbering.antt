@@ -1,0 +1,215 @@
+-- The numbering of token types: first the literals of parser rules that need a token of their own, then the lexer rules,
+-- then the other token names of parser rules.
+use Rattle.std.specs.Prelude.{ℕ, ◌==◌, List, [], ◌∷◌, ◌++◌, map, filter, Option, Some, None, Bool, false, not, cond, codes}
+use Rattle.std.specs.List.{filter_map, flat_map, list_any}
+use Rattle.std.specs.Option.{is_some, is_none}
+use Rattle.std.specs.Str.{bytes_eq}
+use Rattle.g4_symbols.specs.Symbols.{eof}
+use Rattle.g4_elements.specs.Elements.{Element, atom, block, Elements, empty, then, atoms_of_either}
+use Rattle.g4_elements.specs.Bind.{in_order_over}
+use Rattle.g4_source.specs.declared.atom.Atom.{Atom}
+use Rattle.g4_source.specs.declared.atom.AtomKind.{AtomKind}
+use Rattle.g4_source.specs.declared.atom.AtomKind.TheVariants as kinds
+use Rattle.g4_source.specs.declared.atom.Literal.{Literal}
+use Rattle.g4_source.specs.declared.atom.TokenReference.{TokenReference}
+use Rattle.g4_source.specs.declared.atom.TokenReference.TheVariants as refs
+use Rattle.g4_source.specs.declared.rule.Rule.{Rule}
+use Rattle.g4_source.specs.declared.rule.ParserRule.{ParserRule}
+use Rattle.g4_source.specs.declared.rule.RuleAlternative.{RuleAlternative}
+use Rattle.g4_source.specs.declared.rule.LexerRule.{LexerRule}
+use Rattle.g4_source.specs.declared.rule.LexerAlternative.{LexerAlternative}
+use Rattle.g4_source.specs.Rules.{parser_rules, lexer_rules, alternatives_of}
+use Rattle.g4_grammar.specs.declared.numbered.Numbered.{Numbered}
+use Rattle.g4_grammar.specs.declared.numbered.NumberedAtom.{NumberedAtom}
+use Rattle.g4_grammar.specs.declared.numbered.NumberedKind.{NumberedKind}
+use Rattle.g4_grammar.specs.declared.numbered.NumberedKind.TheVariants as numbers
+use Rattle.g4_grammar.specs.declared.numbered.TokenRule.{TokenRule}
+use Rattle.g4_vocab.specs.declared.types.Key.{Key}
+use Rattle.g4_vocab.specs.declared.types.Key.TheVariants as keys
+use Rattle.g4_vocab.specs.declared.types.Entry.{Entry}
+use Rattle.g4_vocab.specs.Types.{Wanted, type_of, all_types, with_keys}
+
+-- the lexer rules without `fragment`, in order of the text
+abbrev pub token_lexers : List Rule → List LexerRule
+token_lexers rules = filter (λ rule. is_none rule.fragment) (lexer_rules rules)
+
+-- an atom, where it is a literal
+abbrev pub literal_kind : AtomKind → Option Literal
+literal_kind (kinds.Rule name) = None
+literal_kind (kinds.Token name) = None
+literal_kind (kinds.Literal literal) = Some literal
+literal_kind (kinds.Range place first last) = None
+literal_kind (kinds.Set set) = None
+literal_kind (kinds.Any place) = None
+literal_kind (kinds.NotTokens place tokens) = None
+literal_kind (kinds.NotCharacters place set) = None
+literal_kind kinds.Action = None
+literal_kind (kinds.Predicate name) = None
+
+-- the literal that an element is, its label and options aside
+abbrev pub literal_element : Element Atom → Option Literal
+literal_element (atom a) = literal_kind a.kind
+literal_element (block label repeat xs) = None
+
+-- the literal that is the whole of these elements
+abbrev pub whole_elements : Elements Atom → Option Literal
+whole_elements empty = None
+whole_elements (then x empty) = literal_element x
+whole_elements (then x (then y more)) = None
+
+-- the literal that is the whole of these alternatives, commands aside
+abbrev pub whole_literal : List LexerAlternative → Option Literal
+whole_literal [] = None
+whole_literal (x ∷ []) = whole_elements x.elements
+whole_literal (x ∷ y ∷ more) = None
+
+-- the literal stands for these characters
+abbrev pub stands_for : List ℕ → Option Literal → Bool
+stands_for characters None = false
+stands_for characters (Some literal) = bytes_eq characters literal.characters
+
+-- the lexer rule is a literal for these characters and nothing else
+abbrev pub is_whole : List ℕ → LexerRule → Bool
+is_whole characters rule = stands_for characters (whole_literal rule.alternatives)
+
+-- the name of the rule, where there is exactly one
+abbrev pub only_name : List LexerRule → Option (List ℕ)
+only_name [] = None
+only_name (rule ∷ []) = Some rule.name
+only_name (rule ∷ other ∷ more) = None
+
+-- the name of the rule whose token a literal for these characters names: the only one that is such a literal
+abbrev pub named_rule : List LexerRule → List ℕ → Option (List ℕ)
+named_rule lexers characters = only_name (filter (is_whole characters) lexers)
+
+-- the key of a literal, given the name of the rule whose token it names
+abbrev pub key_by_rule : List ℕ → Option (List ℕ) → Key
+key_by_rule characters None = keys.Literal characters
+key_by_rule characters (Some name) = keys.Name name
+
+-- the key of a literal for these characters
+abbrev pub literal_key : List LexerRule → List ℕ → Key
+literal_key lexers characters = key_by_rule characters (named_rule lexers characters)
+
+-- the tokens that an atom names
+abbrev pub references : AtomKind → List TokenReference
+references (kinds.Rule name) = []
+references (kinds.Token name) = refs.Token name.text ∷ []
+references (kinds.Literal literal) = refs.Literal literal ∷ []
+references (kinds.Range place first last) = []
+references (kinds.Set set) = []
+references (kinds.Any place) = []
+references (kinds.NotTokens place tokens) = tokens
+references (kinds.NotCharacters place set) = []
+references kinds.Action = []
+references (kinds.Predicate name) = []
+
+-- the atoms of parser rules, in order of the text
+abbrev pub all_atoms : List (ParserRule Atom) → List Atom
+all_atoms parsers = flat_map (λ rule. atoms_of_either (alternatives_of rule)) parsers
+
+-- the tokens that atoms name
+abbrev pub all_references : List Atom → List TokenReference
+all_references atoms = flat_map (λ a. references a.kind) atoms
+
+-- a literal that needs a token of its own: it names no lexer rule's
+abbrev pub own_literal : List LexerRule → TokenReference → Option Wanted
+own_literal lexers (refs.Token name) = None
+own_literal lexers (refs.Literal literal) =
+    cond (is_some (named_rule lexers literal.characters)) None (Some (record { key = keys.Literal literal.characters; shown = literal.written }))
+
+-- a literal as the rule writes it, where it names the rule's token, else the rule's name
+abbrev pub shown_literal : List LexerRule → List ℕ → Option Literal → List ℕ
+shown_literal lexers name None = name
+shown_literal lexers name (Some literal) = cond (is_some (named_rule lexers literal.characters)) literal.written name
+
+-- what is shown of a lexer rule's token
+abbrev pub shown_rule : List LexerRule → LexerRule → List ℕ
+shown_rule lexers rule = shown_literal lexers rule.name (whole_literal rule.alternatives)
+
+-- a lexer rule's token
+abbrev pub rule_token : List LexerRule → LexerRule → Wanted
+rule_token lexers rule = record { key = keys.Name rule.name; shown = shown_rule lexers rule }
+
+-- a token name of a parser rule: `EOF` is none
+abbrev pub token_name : TokenReference → Option Wanted
+token_name (refs.Token name) = cond (bytes_eq name (codes "EOF")) None (Some (record { key = keys.Name name; shown = name }))
+token_name (refs.Literal literal) = None
+
+-- what types are given to, in order
+abbrev pub wanted : List LexerRule → List TokenReference → List Wanted
+wanted lexers tokens = filter_map (own_literal lexers) tokens ++ (map (rule_token lexers) lexers ++ filter_map token_name tokens)
+
+-- the types of parser rules and lexer rules without `fragment`, which a table of types begins
+abbrev pub types_with : List Entry → List (ParserRule Atom) → List LexerRule → List Entry
+types_with table parsers lexers = with_keys table (wanted lexers (all_references (all_atoms parsers)))
+
+-- the types of a grammar's rules
+abbrev pub types_of : List Entry → List Rule → List Entry
+types_of table rules = types_with table (parser_rules rules) (token_lexers rules)
+
+-- the symbol of a token that is named: EOF, or a type
+abbrev pub symbol_of : List LexerRule → List Entry → TokenReference → ℕ
+symbol_of lexers types (refs.Token name) = cond (bytes_eq name (codes "EOF")) eof (type_of types (keys.Name name))
+symbol_of lexers types (refs.Literal literal) = type_of types (literal_key lexers literal.characters)
+
+-- all types but those of these tokens
+abbrev pub types_without : List LexerRule → List Entry → List TokenReference → List ℕ
+types_without lexers types tokens = filter (λ type. not (list_any (λ token. symbol_of lexers types token == type) tokens)) (all_types types)
+
+-- what an atom of a parser rule becomes; the kinds that only lexer rules have become the empty set
+abbrev pub numbered_kind : List LexerRule → List Entry → AtomKind → NumberedKind
+numbered_kind lexers types (kinds.Rule name) = numbers.Rule name
+numbered_kind lexers types (kinds.Token name) = numbers.Set (symbol_of lexers types (refs.Token name.text) ∷ [])
+numbered_kind lexers types (kinds.Literal literal) = numbers.Set (symbol_of lexers types (refs.Literal literal) ∷ [])
+numbered_kind lexers types (kinds.Range place first last) = numbers.Set []
+numbered_kind lexers types (kinds.Set set) = numbers.Set []
+numbered_kind lexers types (kinds.Any place) = numbers.Set (all_types types)
+numbered_kind lexers types (kinds.NotTokens place tokens) = numbers.Set (types_without lexers types tokens)
+numbered_kind lexers types (kinds.NotCharacters place set) = numbers.Set []
+numbered_kind lexers types kinds.Action = numbers.Action
+numbered_kind lexers types (kinds.Predicate name) = numbers.Predicate name
+
+abbrev pub numbered_atom : List LexerRule → List Entry → Atom → NumberedAtom
+numbered_atom lexers types a = record { right = a.right; kind = numbered_kind lexers types a.kind }
+
+-- an alternative of a parser rule over symbols
+abbrev pub numbered_alternative : List LexerRule → List Entry → RuleAlternative Atom → RuleAlternative NumberedAtom
+numbered_alternative lexers types a = record { right = a.right; elements = in_order_over (numbered_atom lexers types) a.elements; label = a.label }
+
+-- a parser rule over symbols
+abbrev pub numbered_rule : List LexerRule → List Entry → ParserRule Atom → ParserRule NumberedAtom
+numbered_rule lexers types rule = record { name = rule.name; alternatives = map (numbered_alternative lexers types) rule.alternatives }
+
+-- an alternative that is a literal
+abbrev pub literal_alternative : Literal → LexerAlternative
+literal_alternative literal = record { elements = then (atom (record { label = None; right = false; kind = kinds.Literal literal })) empty; commands = [] }
+
+-- what makes the tokens of a type, where its key is a literal
+abbrev pub literal_rule_by : ℕ → List ℕ → Key → Option TokenRule
+literal_rule_by type shown (keys.Name name) = None
+literal_rule_by type shown (keys.Literal characters) =
+    Some (record { name = shown; symbol = type; alternatives = literal_alternative (record { characters = characters; written = shown }) ∷ [] })
+
+abbrev pub literal_rule : Entry → Option TokenRule
+literal_rule entry = literal_rule_by entry.number entry.shown entry.key
+
+-- what makes the tokens of a lexer rule
+abbrev pub token_rule : List Entry → LexerRule → TokenRule
+token_rule types rule = record { name = rule.name; symbol = type_of types (keys.Name rule.name); alternatives = rule.alternatives }
+
+-- the token rules, those that win a tie first: own literals by type, then the lexer rules
+abbrev pub token_rules : List Entry → List LexerRule → List TokenRule
+token_rules types lexers = filter_map literal_rule types ++ map (token_rule types) lexers
+
+-- the numbered grammar of parser rules and lexer rules without `fragment`, with these types
+abbrev pub numbered_with : List (ParserRule Atom) → List LexerRule → List Entry → Numbered
+numbered_with parsers lexers types = record {
+  rules = map (numbered_rule lexers types) parsers;
+  shown = map (λ entry. entry.shown) types;
+  token_rules = token_rules types lexers;
+}
+
+-- the numbered grammar of rules, whose types a table begins
+abbrev pub numbered : List Entry → List Rule → Numbered
+numbered table rules = numbered_with (parser_rules rules) (token_lexers rules) (types_of table rules)

@@ -1,0 +1,100 @@
+// Which types a grammar has.
+ghost use Rattle.std.specs.Prelude.{◌≡◌, OnOk, ◌∷◌, [], map};
+ghost use Rattle.std.specs.List.{filter_map};
+ghost use Rattle.g4_vocab.specs.Numbering.{own_literal, rule_token, token_name, wanted};
+ghost use Rattle.g4_vocab.specs.Tables.{Adds, IsTable, Starts, reference_of};
+
+use crate::fault::NumberFault;
+use crate::references::Reference;
+use crate::types::Types;
+use crate::wholes::Wholes;
+use g4_source::LexerRule;
+use std::alloc::Global;
+
+/// Gives types to the literals that need a token of their own.
+fn add_own_literals<'a>(
+    alloc: Global,
+    types: &mut Types<'a>,
+    wholes: &Wholes,
+    tokens: &[Reference<'a>],
+) -> Result<(), NumberFault>
+    requires { IsTable types.old }
+    ensures table { OnOk result (IsTable types.new) }
+    ensures added { Adds types.old.entries.items (filter_map (own_literal (map (λ r. r.now) wholes.now.rules.now)) (map reference_of tokens.now)) types.new.entries.items result }
+{
+    for token in tokens {
+        if let Reference::Literal(literal) = token {
+            if wholes.named_rule(literal.characters.as_slice()).is_none() {
+                types.add_literal(alloc, literal)?;
+            }
+        }
+    }
+    Ok(())
+}
+
+/// Gives types to the lexer rules.
+fn add_rules<'a>(
+    alloc: Global,
+    types: &mut Types<'a>,
+    wholes: &Wholes,
+    rules: &[&'a LexerRule],
+) -> Result<(), NumberFault>
+    requires { IsTable types.old }
+    ensures table { OnOk result (IsTable types.new) }
+    ensures added { Adds types.old.entries.items (map (rule_token (map (λ r. r.now) wholes.now.rules.now)) (map (λ r. r.now) rules.now)) types.new.entries.items result }
+{
+    for rule in rules {
+        types.add_name(alloc, rule.name.as_str(), wholes.shown_rule(rule))?;
+    }
+    Ok(())
+}
+
+/// Gives types to the other token names.
+fn add_names<'a>(
+    alloc: Global,
+    types: &mut Types<'a>,
+    tokens: &[Reference<'a>],
+) -> Result<(), NumberFault>
+    requires { IsTable types.old }
+    ensures table { OnOk result (IsTable types.new) }
+    ensures added { Adds types.old.entries.items (filter_map token_name (map reference_of tokens.now)) types.new.entries.items result }
+{
+    for token in tokens {
+        if let Reference::Token(name) = token {
+            if *name != "EOF" {
+                types.add_name(alloc, name, name)?;
+            }
+        }
+    }
+    Ok(())
+}
+
+/// Gives types to all that these rules and tokens name.
+fn add_all<'a>(
+    alloc: Global,
+    types: &mut Types<'a>,
+    wholes: &Wholes<'_, 'a>,
+    tokens: &[Reference<'a>],
+) -> Result<(), NumberFault>
+    requires { IsTable types.old }
+    ensures table { OnOk result (IsTable types.new) }
+    ensures added { Adds types.old.entries.items (wanted (map (λ r. r.now) wholes.now.rules.now) (map reference_of tokens.now)) types.new.entries.items result }
+{
+    add_own_literals(alloc, types, wholes, tokens)?;
+    add_rules(alloc, types, wholes, wholes.rules)?;
+    add_names(alloc, types, tokens)?;
+    Ok(())
+}
+
+/// The types of a grammar whose parser rules name these tokens.
+pub fn types_of<'a>(
+    alloc: Global,
+    wholes: &Wholes<'_, 'a>,
+    tokens: &[Reference<'a>],
+) -> Result<Types<'a>, NumberFault>
+    ensures { Starts (wanted (map (λ r. r.now) wholes.now.rules.now) (map reference_of tokens.now)) result }
+{
+    let mut types = Types::new(alloc);
+    add_all(alloc, &mut types, wholes, tokens)?;
+    Ok(types)
+}
