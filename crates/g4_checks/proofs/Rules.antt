@@ -73,8 +73,7 @@ pub parser_rule_loops : (rules : List Rule) (rule : ParserRule Atom) → ParserR
 parser_rule_loops rules rule quiet =
     let Calls = CallsParserRule (parser_rules rules) in
     let all = map alternatives_of (parser_rules rules) in
-    let silent = All-weaker (λ (a : Atom). ParserKindIsQuiet a.kind) (IsSilent Calls) (λ a q. parser_silent (map (λ r. r.name) (parser_rules rules)) a.kind q) (atoms_of_either (alternatives_of rule)) quiet in
-    (
+    let silent = All-weaker (λ (a : Atom). ParserKindIsQuiet a.kind) (IsSilent Calls) (λ a q. parser_silent (map (λ r. r.name) (parser_rules rules)) a.kind q) (atoms_of_either (alternatives_of rule)) quiet in (
       some_loops_alone ReadsOneSymbol NoCalls Calls [] all (alternatives_of rule) (no_calls_silent (atoms_of_either (alternatives_of rule))),
       some_loops_alone ReadsOneSymbol Calls NoCalls all [] (alternatives_of rule) silent,
     )
@@ -85,8 +84,7 @@ pub lexer_rule_loops : (rules : List Rule) (rule : LexerRule) → LexerRuleIsQui
 lexer_rule_loops rules rule quiet =
     let Calls = CallsLexerRule (lexer_rules rules) in
     let all = map lexer_alternatives_of (lexer_rules rules) in
-    let silent = All-weaker (λ (a : Atom). LexerKindIsQuiet a.kind) (IsSilent Calls) (λ a q. lexer_silent (map (λ r. r.name) (lexer_rules rules)) a.kind q) (atoms_of_either (lexer_alternatives_of rule)) quiet in
-    (
+    let silent = All-weaker (λ (a : Atom). LexerKindIsQuiet a.kind) (IsSilent Calls) (λ a q. lexer_silent (map (λ r. r.name) (lexer_rules rules)) a.kind q) (atoms_of_either (lexer_alternatives_of rule)) quiet in (
       some_loops_alone ReadsCharacters NoCalls Calls [] all (lexer_alternatives_of rule) (no_calls_silent (atoms_of_either (lexer_alternatives_of rule))),
       some_loops_alone ReadsCharacters Calls NoCalls all [] (lexer_alternatives_of rule) silent,
     )

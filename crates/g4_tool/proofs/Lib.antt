@@ -2,7 +2,6 @@ mod Fetched
 mod Lines
 mod Lists
 mod Meanings
-mod OneDecoding
 mod OneLine
 mod OnePrepared
 mod OneReport

@@ -1,46 +1,40 @@
 -- Lines that a call makes, and lines for each file.
-use Rattle.std.proofs.Common.{◌≡◌, ◌<◌, ◌+◌, ℕ, List, [], ◌∷◌, ◌++◌, length, map, take, get_or, Result, Ok, Err, IfOk, subst, sym, ap, ◌∙◌, arith, refl, String, string_bytes, Global}
+use Rattle.std.proofs.Common.{◌≡◌, ◌<◌, ◌+◌, ℕ, List, [], ◌∷◌, ◌++◌, length, map, take, get_or, All, Result, Ok, Err, IfOk, subst, sym, ap, ◌∙◌, arith, refl, String, string_bytes, Global}
 use Rattle.std.specs.declared.alloc.AllocError.{AllocError}
 use Rattle.std.proofs.lemmas.Result.{IfOk-weaker}
 use Rattle.std.proofs.lemmas.List.{take_more}
 use Rattle.g4_grammar.specs.declared.numbered.TokenRule.{TokenRule}
-use Rattle.g4_net.specs.declared.token.Token.{Token}
+use Rattle.g4_grammar.specs.Written.{TokenRuleIsQuiet}
+use Rattle.g4_token_list.specs.declared.token.Token.{Token}
+use Rattle.g4_token_list.specs.declared.token.Tokens.{Tokens}
+use Rattle.g4_token_list.specs.TokenList.{word_of}
+use Rattle.g4_parse.specs.declared.tree.Item.{Item}
+use Rattle.g4_parse.specs.declared.parser.ParseFault.{ParseFault}
+use Rattle.g4_parse.specs.Parsing.{IsParse}
 use Rattle.g4_lexer.specs.Lexing.{IsLexing}
-use Rattle.g4_lexer.specs.declared.lexer.LexFault.{LexFault}
-use Rattle.g4_tool.specs.Decoding.{AreCharacters}
+use Rattle.g4_lexer.specs.declared.fault.LexFault.{LexFault}
 use Rattle.g4_tool.specs.declared.inputs.Input.{Input}
 use Rattle.g4_tool.specs.declared.prepare.Interpreter.{Interpreter}
 use Rattle.g4_tool.specs.declared.write.Line.{Line}
-use Rattle.g4_tool.specs.Outcomes.{IsTokensLine, TellsLexing, IsTextLine, IsBytesLine, IsFileLine, AreFileLines}
+use Rattle.g4_tool.specs.Outcomes.{TellsParse, IsTokensLine, TellsLexing, IsBytesLine, IsFileLine, AreFileLines}
 
 -- a call gives this line, which has the property
 pub as_line : (P : Line → Type 0) (r : Result Line AllocError) (line : Line) → IfOk r (λ l. l ≡ line) → P line → IfOk r P
 as_line P r line made holds = IfOk-weaker r (λ l. l ≡ line) P (λ l e. subst P (sym e) holds) made
 
 module _ (interpreter : Interpreter) (name : List ℕ) where
-  -- the line of the tokens that were found, lists being lent
-  pub found_line : (text : List ℕ) (rules : List TokenRule) (found slice : List Token) (line : Line) →
-      rules ≡ interpreter.grammar.token_rules → slice ≡ found → IsLexing rules text (Ok found) → IsTokensLine interpreter name text slice line → IsTextLine interpreter name text line
-  found_line text rules found slice line rules_is slice_is lexing of = record {
-    result = Ok found;
-    is = subst (λ (rs : List TokenRule). IsLexing rs text (Ok found)) rules_is lexing;
-    tells = subst (λ (ts : List Token). IsTokensLine interpreter name text ts line) slice_is of;
-  }
+  -- the line of tokens, given what parsing gives of their list, which is lent
+  pub parsed_line : (tokens : Tokens) (slice : List Token) (result : Result (List Item) ParseFault) (line : Line) → slice ≡ tokens.list →
+      IsParse interpreter.net (word_of slice) result → TellsParse interpreter name tokens result line → IsTokensLine interpreter name tokens line
+  parsed_line tokens slice result line same parse tells = record { result = result; is = subst (λ (ts : List Token). IsParse interpreter.net (word_of ts) result) same parse; tells = tells }
 
-  -- the line of a text that has no tokens
-  pub fault_line_of : (text : List ℕ) (rules : List TokenRule) (fault : LexFault) (line : Line) → rules ≡ interpreter.grammar.token_rules → IsLexing rules text (Err fault) → TellsLexing interpreter name text (Err fault) line → IsTextLine interpreter name text line
-  fault_line_of text rules fault line rules_is lexing tells = record {
-    result = Err fault;
-    is = subst (λ (rs : List TokenRule). IsLexing rs text (Err fault)) rules_is lexing;
+  -- the line of bytes, given what lexing gives of a copy, by rules that are lent
+  pub lexed_line : (bytes copy : List ℕ) (rules : List TokenRule) (result : Result Tokens LexFault) (line : Line) → rules ≡ interpreter.token_rules → copy ≡ bytes →
+      All TokenRuleIsQuiet interpreter.token_rules → (All TokenRuleIsQuiet rules → IsLexing rules copy result) → TellsLexing interpreter name result line → IsBytesLine interpreter name bytes line
+  lexed_line bytes copy rules result line same copied quiet lexing tells = record {
+    result = result;
+    is = subst (λ (rs : List TokenRule). IsLexing rs bytes result) same (subst (λ (bs : List ℕ). IsLexing rules bs result) copied (lexing (subst (λ (rs : List TokenRule). All TokenRuleIsQuiet rs) (sym same) quiet)));
     tells = tells;
-  }
-
-  -- the line of the characters that were decoded
-  pub decoded_line : (bytes text slice : List ℕ) (line : Line) → slice ≡ text → AreCharacters bytes text → IsTextLine interpreter name slice line → IsBytesLine interpreter name bytes line
-  decoded_line bytes text slice line slice_is is of = record {
-    result = Ok text;
-    is = is;
-    tells = subst (λ (t : List ℕ). IsTextLine interpreter name t line) slice_is of;
   }
 
 -- the lines so far, and one more

@@ -1,6 +1,5 @@
 pub mod Words
 pub mod CommandView
-pub mod Decoding
 pub mod Texts
 pub mod PrepareErrors
 pub mod Stages
@@ -12,3 +11,4 @@ pub mod Causes
 pub mod Counting
 pub mod Running
 pub mod Writing
+pub mod Usable

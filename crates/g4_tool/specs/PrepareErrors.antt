@@ -1,12 +1,12 @@
 -- The faults of a grammar file, from those of the stages.
 use Rattle.g4_reader.specs.declared.reader.ReadFault.{ReadFault}
 use Rattle.g4_reader.specs.declared.reader.ReadFault.TheVariants as reading
-use Rattle.g4_narrow.specs.declared.fault.NarrowFault.{NarrowFault}
-use Rattle.g4_narrow.specs.declared.fault.NarrowFault.TheVariants as narrowing
+use Rattle.g4_forms.specs.declared.fault.FormFault.{FormFault}
+use Rattle.g4_forms.specs.declared.fault.FormFault.TheVariants as forming
 use Rattle.g4_vocab.specs.declared.twice.NameFault.{NameFault}
 use Rattle.g4_vocab.specs.declared.twice.NameFault.TheVariants as naming
-use Rattle.g4_vocab.specs.declared.numbering.NumberFault.{NumberFault}
-use Rattle.g4_vocab.specs.declared.numbering.NumberFault.TheVariants as numbering
+use Rattle.g4_vocab.specs.declared.fault.NumberFault.{NumberFault}
+use Rattle.g4_vocab.specs.declared.fault.NumberFault.TheVariants as numbering
 use Rattle.g4_checks.specs.declared.checking.CheckFault.{CheckFault}
 use Rattle.g4_checks.specs.declared.checking.CheckFault.TheVariants as checking
 use Rattle.g4_build.specs.declared.builder.BuildFault.{BuildFault}
@@ -23,11 +23,11 @@ of_read (reading.BadSet place) = errors.Fault (faults.BadSet place)
 of_read reading.NoMemory = errors.NoMemory
 
 -- of a grammar with a form that is not run yet
-abbrev pub of_narrow : NarrowFault → PrepareError
-of_narrow (narrowing.NotRun place characters) = errors.Fault (faults.Syntax place characters)
-of_narrow narrowing.NoMemory = errors.NoMemory
+abbrev pub of_form : FormFault → PrepareError
+of_form (forming.NotRun place characters) = errors.Fault (faults.Syntax place characters)
+of_form forming.NoMemory = errors.NoMemory
 
--- of a grammar with a rule that stands twice
+-- of a grammar with a rule name that is used twice
 abbrev pub of_name : NameFault → PrepareError
 of_name (naming.RuleTwice name) = errors.Fault (faults.RuleTwice name)
 of_name naming.NoMemory = errors.NoMemory

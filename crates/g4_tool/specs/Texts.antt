@@ -5,14 +5,13 @@ use Rattle.std.specs.Fmt.{decimal}
 use Rattle.g4_base.specs.declared.place.Place.{Place}
 use Rattle.g4_base.specs.Place.{first_place}
 use Rattle.g4_base.specs.Shown.{shown}
-use Rattle.g4_base.specs.Symbols.{eof, end_of_list}
-use Rattle.g4_grammar.specs.declared.numbered.Numbered.{Numbered}
-use Rattle.g4_net.specs.declared.network.Network.{Network}
+use Rattle.g4_symbols.specs.Symbols.{eof, end_of_list}
 use Rattle.g4_net.specs.declared.network.State.{State}
-use Rattle.g4_net.specs.declared.network.State.TheVariants.{Decision, End, Token, Call, Predicate, Level, Action, Empty}
-use Rattle.g4_net.specs.declared.token.Token as tokens
-use Rattle.g4_net.specs.Network.{state_at}
-use Rattle.g4_parse.specs.TreeText.{text_by}
+use Rattle.g4_net.specs.declared.network.State.TheVariants.{Decision, End, Edge, Call, Predicate, Level, Action, Empty}
+use Rattle.g4_net.specs.Network.{ParserNetwork, state_at}
+use Rattle.g4_token_list.specs.declared.token.Token.{Token}
+use Rattle.g4_token_list.specs.declared.token.Tokens.{Tokens}
+use Rattle.g4_parse.specs.TreeText.{text_at}
 use Rattle.g4_tool.specs.declared.write.Line.{Line}
 use Rattle.g4_tool.specs.declared.write.Line.TheVariants.{ToOut, ToErr}
 
@@ -25,24 +24,24 @@ abbrev pub or_nothing : Option (List ℕ) → List ℕ
 or_nothing None = []
 or_nothing (Some text) = text
 
--- what is shown of a symbol: EOF, or its type's literal, else its name
-abbrev pub shown_symbol : Numbered → ℕ → List ℕ
-shown_symbol grammar a = cond (a == eof) (codes "EOF") (cond (a == end_of_list) (codes "EOF") (or_nothing (slice_get grammar.shown (a - 1))))
+-- what is shown of a symbol: EOF, or what is shown of its type, where these are shown of the types from 1 on
+abbrev pub shown_symbol : List (List ℕ) → ℕ → List ℕ
+shown_symbol types a = cond (a == eof) (codes "EOF") (cond (a == end_of_list) (codes "EOF") (or_nothing (slice_get types (a - 1))))
 
 -- more shown symbols, `, ` before each
-abbrev pub more_symbols : Numbered → List ℕ → List ℕ
-more_symbols grammar symbols = flat_map (λ a. codes ", " ++ shown_symbol grammar a) symbols
+abbrev pub more_symbols : List (List ℕ) → List ℕ → List ℕ
+more_symbols types symbols = flat_map (λ a. codes ", " ++ shown_symbol types a) symbols
 
 -- what is shown of a set: its one symbol, or all of them in braces
-abbrev pub shown_set : Numbered → List ℕ → List ℕ
-shown_set grammar [] = codes "{}"
-shown_set grammar (a ∷ []) = shown_symbol grammar a
-shown_set grammar (a ∷ b ∷ more) = ((codes "{" ++ shown_symbol grammar a) ++ more_symbols grammar (b ∷ more)) ++ codes "}"
+abbrev pub shown_set : List (List ℕ) → List ℕ → List ℕ
+shown_set types [] = codes "{}"
+shown_set types (a ∷ []) = shown_symbol types a
+shown_set types (a ∷ b ∷ more) = ((codes "{" ++ shown_symbol types a) ++ more_symbols types (b ∷ more)) ++ codes "}"
 
 -- the symbols that a state's edge takes
-abbrev pub taken_by : Option State → List ℕ
+abbrev pub taken_by : Option (State (List ℕ)) → List ℕ
 taken_by None = []
-taken_by (Some (Token set t)) = set
+taken_by (Some (Edge set t)) = set
 taken_by (Some (Decision targets)) = []
 taken_by (Some (End rule)) = []
 taken_by (Some (Call rule level back)) = []
@@ -52,34 +51,30 @@ taken_by (Some (Action t)) = []
 taken_by (Some (Empty t)) = []
 
 -- the place of a token that was looked up, the start where there is none
-abbrev pub place_by : Option tokens.Token → Place
+abbrev pub place_by : Option Token → Place
 place_by None = first_place
 place_by (Some token) = token.place
 
 -- the place of the token at a place of the list
-abbrev pub place_of_token : List tokens.Token → ℕ → Place
+abbrev pub place_of_token : List Token → ℕ → Place
 place_of_token list at = place_by (slice_get list at)
-
--- what is shown of the token at a place of the list
-abbrev pub text_of_token : List ℕ → List tokens.Token → ℕ → List ℕ
-text_of_token text list at = text_by text (slice_get list at)
 
 -- the line of a tree
 abbrev pub line_of_tree : List ℕ → List ℕ → Line
 line_of_tree name tree = ToOut (((name ++ codes ": ") ++ tree) ++ codes "\n")
 
 -- the line of a token that a state does not take
-abbrev pub mismatch_line : Numbered → Network → List ℕ → List ℕ → List tokens.Token → ℕ → ℕ → Line
-mismatch_line grammar net name text list at state =
-    ToErr (((((at_place name (place_of_token list at) ++ codes "mismatched input '") ++ text_of_token text list at) ++ codes "' expecting ") ++ shown_set grammar (taken_by (state_at net state))) ++ codes "\n")
+abbrev pub mismatch_line : List (List ℕ) → ParserNetwork → List ℕ → Tokens → ℕ → ℕ → Line
+mismatch_line types net name tokens at state =
+    ToErr (((((at_place name (place_of_token tokens.list at) ++ codes "mismatched input '") ++ text_at tokens at) ++ codes "' expecting ") ++ shown_set types (taken_by (state_at net state))) ++ codes "\n")
 
 -- the line of a token with which no alternative goes on
-abbrev pub no_viable_line : List ℕ → List ℕ → List tokens.Token → ℕ → Line
-no_viable_line name text list at = ToErr (((at_place name (place_of_token list at) ++ codes "no viable alternative at input '") ++ text_of_token text list at) ++ codes "'\n")
+abbrev pub no_viable_line : List ℕ → Tokens → ℕ → Line
+no_viable_line name tokens at = ToErr (((at_place name (place_of_token tokens.list at) ++ codes "no viable alternative at input '") ++ text_at tokens at) ++ codes "'\n")
 
 -- the line of a call with too many rules open
-abbrev pub too_deep_line : List ℕ → List tokens.Token → ℕ → Line
-too_deep_line name list at = ToErr (at_place name (place_of_token list at) ++ codes "more than 10000 open rules\n")
+abbrev pub too_deep_line : List ℕ → Tokens → ℕ → Line
+too_deep_line name tokens at = ToErr (at_place name (place_of_token tokens.list at) ++ codes "more than 10000 open rules\n")
 
 -- the line of a character at which no token begins
 abbrev pub no_token_line : List ℕ → Place → ℕ → Line
@@ -105,7 +100,7 @@ absent_line name = ToErr (name ++ codes ": not found\n")
 abbrev pub usage_line : Line
 usage_line = ToErr (codes "usage: g4 parse, check, atn, match or drill\n")
 
--- the line of a token with which no grammar text goes on
+-- the line of a token with which no grammar text continues
 abbrev pub syntax_line : List ℕ → Place → List ℕ → Line
 syntax_line name place characters = ToErr (((at_place name place ++ codes "syntax error at '") ++ shown characters) ++ codes "'\n")
 
@@ -113,7 +108,7 @@ syntax_line name place characters = ToErr (((at_place name place ++ codes "synta
 abbrev pub bad_set_line : List ℕ → Place → Line
 bad_set_line name place = ToErr (at_place name place ++ codes "bad character set\n")
 
--- the line of a rule whose name a rule behind it has
+-- the line of a rule whose name an earlier rule has
 abbrev pub twice_line : List ℕ → List ℕ → Line
 twice_line name rule = ToErr (name ++ (codes ": rule " ++ (rule ++ codes " stands twice\n")))
 
@@ -121,7 +116,7 @@ twice_line name rule = ToErr (name ++ (codes ": rule " ++ (rule ++ codes " stand
 abbrev pub empty_loop_line : List ℕ → List ℕ → Line
 empty_loop_line name rule = ToErr (name ++ (codes ": rule " ++ (rule ++ codes " has a loop that can be empty\n")))
 
--- the line of a start rule that the grammar has not
+-- the line of an undefined start rule
 abbrev pub no_rule_line : List ℕ → List ℕ → Line
 no_rule_line name start = ToErr (name ++ (codes ": no parser rule " ++ (start ++ codes "\n")))
 

@@ -2,13 +2,29 @@
 ghost use Rattle.std.specs.Prelude.{◌≡◌, ◌++◌, IfOk, OnOk, string_bytes, ◌-◌, []};
 ghost use Rattle.g4_net.specs.Network.{state_at};
 ghost use Rattle.g4_tool.specs.Texts.{at_place, shown_symbol, more_symbols, shown_set, taken_by, place_of_token, mismatch_line, no_viable_line, too_deep_line, no_token_line, many_tokens_line, not_utf8_line, large_line, absent_line, usage_line, syntax_line, bad_set_line, twice_line, empty_loop_line, no_rule_line, limit_line};
+ghost use Rattle.g4_tool.specs.declared.write.Line.TheVariants.{ToErr};
 
 use crate::write::Line;
-use g4_base::{END, EOF, Place, Text, push_shown};
-use g4_grammar::Numbered;
-use g4_net::{Network, State, Token};
+use g4_base::{Place, Sequence, Text, push_shown};
+use g4_net::{ParserNetwork, State};
 use g4_parse::push_token;
+use g4_symbols::{END, EOF};
+use g4_token_list::{Token, Tokens};
 use std::alloc::{AllocError, Global};
+
+// The line of a text on err.
+fn to_err(line: String) -> Line
+    ensures { result ≡ ToErr (string_bytes line) }
+{
+    Line::ToErr(Sequence::new(line.into_bytes()))
+}
+
+// Adds a text.
+fn push(line: &mut Vec<u8>, text: &str) -> Result<(), AllocError>
+    ensures { OnOk result (line.new.items ≡ line.old.items ++ text.now) }
+{
+    line.extend_from_slice(text.as_bytes())
+}
 
 // `NAME: line L:C `
 fn start_line(alloc: Global, name: &str, place: Place) -> Result<String, AllocError>
@@ -20,53 +36,49 @@ fn start_line(alloc: Global, name: &str, place: Place) -> Result<String, AllocEr
     Ok(start)
 }
 
-fn push_symbol(out: &mut String, grammar: &Numbered, symbol: u32) -> Result<(), AllocError>
-    ensures { OnOk result (string_bytes out.new ≡ string_bytes out.old ++ shown_symbol grammar.now symbol) }
+fn push_symbol(out: &mut Vec<u8>, types: &[Text], symbol: u32) -> Result<(), AllocError>
+    ensures { OnOk result (out.new.items ≡ out.old.items ++ shown_symbol types.now symbol) }
 {
     if symbol == EOF || symbol == END {
-        return out.push_str("EOF");
+        return push(out, "EOF");
     }
-    match grammar
-        .shown
-        .as_slice()
-        .get((symbol as usize).saturating_sub(1))
-    {
-        Some(shown) => out.push_str(shown.as_str()),
+    match types.get((symbol as usize).saturating_sub(1)) {
+        Some(shown) => push(out, shown.as_str()),
         None => Ok(()),
     }
 }
 
-fn push_more(out: &mut String, grammar: &Numbered, symbols: &[u32]) -> Result<(), AllocError>
-    ensures { OnOk result (string_bytes out.new ≡ string_bytes out.old ++ more_symbols grammar.now symbols.now) }
+fn push_more(out: &mut Vec<u8>, types: &[Text], symbols: &[u32]) -> Result<(), AllocError>
+    ensures { OnOk result (out.new.items ≡ out.old.items ++ more_symbols types.now symbols.now) }
 {
     for symbol in symbols {
-        out.push_str(", ")?;
-        push_symbol(out, grammar, *symbol)?;
+        push(out, ", ")?;
+        push_symbol(out, types, *symbol)?;
     }
     Ok(())
 }
 
-fn push_set(out: &mut String, grammar: &Numbered, symbols: &[u32]) -> Result<(), AllocError>
-    ensures { OnOk result (string_bytes out.new ≡ string_bytes out.old ++ shown_set grammar.now symbols.now) }
+fn push_set(out: &mut Vec<u8>, types: &[Text], symbols: &[u32]) -> Result<(), AllocError>
+    ensures { OnOk result (out.new.items ≡ out.old.items ++ shown_set types.now symbols.now) }
 {
     match symbols {
-        [] => out.push_str("{}"),
-        [only] => push_symbol(out, grammar, *only),
+        [] => push(out, "{}"),
+        [only] => push_symbol(out, types, *only),
         [first, more @ ..] => {
-            out.push_str("{")?;
-            push_symbol(out, grammar, *first)?;
-            push_more(out, grammar, more)?;
-            out.push_str("}")
+            push(out, "{")?;
+            push_symbol(out, types, *first)?;
+            push_more(out, types, more)?;
+            push(out, "}")
         }
     }
 }
 
-fn set_at(net: &Network, state: u32) -> &[u32]
-    ensures { result.now ≡ taken_by (state_at net.now state) }
+fn set_at(alloc: Global, net: &ParserNetwork, state: u32) -> Result<Vec<u32>, AllocError>
+    ensures { IfOk result (λ set. set.items ≡ taken_by (state_at net.now state)) }
 {
     match net.states.as_slice().get(state as usize) {
-        Some(State::Token(set, _)) => set.as_slice(),
-        _ => &[],
+        Some(State::Edge(set, _)) => set.to_vec(alloc),
+        _ => Ok(Vec::new(alloc)),
     }
 }
 
@@ -79,52 +91,49 @@ fn place_at(tokens: &[Token], at: u32) -> Place
     }
 }
 
-/// A token that a state does not take.
+/// A token that a state does not take, where these are shown of the token types.
 pub fn mismatch(
     alloc: Global,
-    grammar: &Numbered,
-    net: &Network,
+    types: &[Text],
+    net: &ParserNetwork,
     name: &str,
-    text: &[char],
-    tokens: &[Token],
+    tokens: &Tokens,
     at: u32,
     state: u32,
 ) -> Result<Line, AllocError>
-    ensures { IfOk result (λ line. line ≡ mismatch_line grammar.now net.now name.now text.now tokens.now at state) }
+    ensures { IfOk result (λ line. line ≡ mismatch_line types.now net.now name.now tokens.now at state) }
 {
-    let mut line = start_line(alloc, name, place_at(tokens, at))?;
-    line.push_str("mismatched input '")?;
-    push_token(&mut line, tokens, text, at)?;
-    line.push_str("' expecting ")?;
-    push_set(&mut line, grammar, set_at(net, state))?;
-    line.push_str("\n")?;
-    Ok(Line::ToErr(Text::new(line)))
+    let place = place_at(tokens.list.as_slice(), at);
+    let set = set_at(alloc, net, state)?;
+    let mut line = start_line(alloc, name, place)?.into_bytes();
+    push(&mut line, "mismatched input '")?;
+    push_token(&mut line, tokens, at)?;
+    push(&mut line, "' expecting ")?;
+    push_set(&mut line, types, set.as_slice())?;
+    push(&mut line, "\n")?;
+    Ok(Line::ToErr(Sequence::new(line)))
 }
 
 /// A token with which no alternative of a decision goes on.
-pub fn no_viable(
-    alloc: Global,
-    name: &str,
-    text: &[char],
-    tokens: &[Token],
-    at: u32,
-) -> Result<Line, AllocError>
-    ensures { IfOk result (λ line. line ≡ no_viable_line name.now text.now tokens.now at) }
+pub fn no_viable(alloc: Global, name: &str, tokens: &Tokens, at: u32) -> Result<Line, AllocError>
+    ensures { IfOk result (λ line. line ≡ no_viable_line name.now tokens.now at) }
 {
-    let mut line = start_line(alloc, name, place_at(tokens, at))?;
-    line.push_str("no viable alternative at input '")?;
-    push_token(&mut line, tokens, text, at)?;
-    line.push_str("'\n")?;
-    Ok(Line::ToErr(Text::new(line)))
+    let place = place_at(tokens.list.as_slice(), at);
+    let mut line = start_line(alloc, name, place)?.into_bytes();
+    push(&mut line, "no viable alternative at input '")?;
+    push_token(&mut line, tokens, at)?;
+    push(&mut line, "'\n")?;
+    Ok(Line::ToErr(Sequence::new(line)))
 }
 
 /// A call with too many rules open.
-pub fn too_deep(alloc: Global, name: &str, tokens: &[Token], at: u32) -> Result<Line, AllocError>
+pub fn too_deep(alloc: Global, name: &str, tokens: &Tokens, at: u32) -> Result<Line, AllocError>
     ensures { IfOk result (λ line. line ≡ too_deep_line name.now tokens.now at) }
 {
-    let mut line = start_line(alloc, name, place_at(tokens, at))?;
+    let place = place_at(tokens.list.as_slice(), at);
+    let mut line = start_line(alloc, name, place)?;
     line.push_str("more than 10000 open rules\n")?;
-    Ok(Line::ToErr(Text::new(line)))
+    Ok(to_err(line))
 }
 
 /// A character at which no token begins.
@@ -140,7 +149,7 @@ pub fn no_token(
     line.push_str("token recognition error at: '")?;
     push_shown(&mut line, &[character])?;
     line.push_str("'\n")?;
-    Ok(Line::ToErr(Text::new(line)))
+    Ok(to_err(line))
 }
 
 /// A file with too many tokens, and where the first past the limit begins.
@@ -149,38 +158,42 @@ pub fn many_tokens(alloc: Global, name: &str, place: Place) -> Result<Line, Allo
 {
     let mut line = start_line(alloc, name, place)?;
     line.push_str("more than 1000000 tokens\n")?;
-    Ok(Line::ToErr(Text::new(line)))
+    Ok(to_err(line))
 }
 
 /// Bytes that are no UTF-8 text.
 pub fn not_utf8(alloc: Global, name: &str, at: usize) -> Result<Line, AllocError>
     ensures { IfOk result (λ line. line ≡ not_utf8_line name.now at) }
 {
-    Ok(Line::ToErr(Text::new(format!(in alloc; "{name}: byte {at}: not UTF-8\n")?)))
+    let line = format!(in alloc; "{name}: byte {at}: not UTF-8\n")?;
+    Ok(to_err(line))
 }
 
 /// A file past the limit.
 pub fn large(alloc: Global, name: &str, size: u64) -> Result<Line, AllocError>
     ensures { IfOk result (λ line. line ≡ large_line name.now size) }
 {
-    Ok(Line::ToErr(Text::new(format!(in alloc; "{name}: file of {size} bytes\n")?)))
+    let line = format!(in alloc; "{name}: file of {size} bytes\n")?;
+    Ok(to_err(line))
 }
 
 /// A name that no file has.
 pub fn absent(alloc: Global, name: &str) -> Result<Line, AllocError>
     ensures { IfOk result (λ line. line ≡ absent_line name.now) }
 {
-    Ok(Line::ToErr(Text::new(format!(in alloc; "{name}: not found\n")?)))
+    let line = format!(in alloc; "{name}: not found\n")?;
+    Ok(to_err(line))
 }
 
 /// Words that are no command.
 pub fn usage(alloc: Global) -> Result<Line, AllocError>
     ensures { IfOk result (λ line. line ≡ usage_line) }
 {
-    Ok(Line::ToErr(Text::copy_of(alloc, "usage: g4 parse, check, atn, match or drill\n")?))
+    let line = String::from_str(alloc, "usage: g4 parse, check, atn, match or drill\n")?;
+    Ok(to_err(line))
 }
 
-/// A token with which no grammar text goes on.
+/// A token with which no grammar text continues.
 pub fn syntax(
     alloc: Global,
     name: &str,
@@ -193,7 +206,7 @@ pub fn syntax(
     line.push_str("syntax error at '")?;
     push_shown(&mut line, characters)?;
     line.push_str("'\n")?;
-    Ok(Line::ToErr(Text::new(line)))
+    Ok(to_err(line))
 }
 
 /// A character set that is empty, has a range that runs backward or names an unknown property.
@@ -202,35 +215,37 @@ pub fn bad_set(alloc: Global, name: &str, place: Place) -> Result<Line, AllocErr
 {
     let mut line = start_line(alloc, name, place)?;
     line.push_str("bad character set\n")?;
-    Ok(Line::ToErr(Text::new(line)))
+    Ok(to_err(line))
 }
 
-/// A rule whose name a rule behind it has.
+/// A rule whose name an earlier rule has.
 pub fn twice(alloc: Global, name: &str, rule: &str) -> Result<Line, AllocError>
     ensures { IfOk result (λ line. line ≡ twice_line name.now rule.now) }
 {
-    Ok(Line::ToErr(Text::new(format!(in alloc; "{name}: rule {rule} stands twice\n")?)))
+    let line = format!(in alloc; "{name}: rule {rule} stands twice\n")?;
+    Ok(to_err(line))
 }
 
 /// A rule with a loop that can be empty.
 pub fn empty_loop(alloc: Global, name: &str, rule: &str) -> Result<Line, AllocError>
     ensures { IfOk result (λ line. line ≡ empty_loop_line name.now rule.now) }
 {
-    Ok(Line::ToErr(Text::new(format!(in alloc;
-        "{name}: rule {rule} has a loop that can be empty\n"
-    )?)))
+    let line = format!(in alloc; "{name}: rule {rule} has a loop that can be empty\n")?;
+    Ok(to_err(line))
 }
 
-/// A start rule that the grammar has not.
+/// An undefined start rule.
 pub fn no_rule(alloc: Global, name: &str, start: &str) -> Result<Line, AllocError>
     ensures { IfOk result (λ line. line ≡ no_rule_line name.now start.now) }
 {
-    Ok(Line::ToErr(Text::new(format!(in alloc; "{name}: no parser rule {start}\n")?)))
+    let line = format!(in alloc; "{name}: no parser rule {start}\n")?;
+    Ok(to_err(line))
 }
 
 /// A limit that the grammar passes, by its kind and number.
 pub fn limit(alloc: Global, name: &str, kind: &str) -> Result<Line, AllocError>
     ensures { IfOk result (λ line. line ≡ limit_line name.now kind.now) }
 {
-    Ok(Line::ToErr(Text::new(format!(in alloc; "{name}: limit {kind}\n")?)))
+    let line = format!(in alloc; "{name}: limit {kind}\n")?;
+    Ok(to_err(line))
 }

@@ -1,22 +1,21 @@
 // The lines of the files: of each its tree, or its first fault.
 ghost use Rattle.std.specs.Prelude.{◌≡◌, ◌≤◌, ◌<◌, ◌^◌, All, IfOk, length, map, string_bytes};
-ghost use Rattle.g4_net.specs.AddedRule.{IsReady};
-ghost use Rattle.g4_net.specs.TokenList.{EndsInEnd, word_of};
+ghost use Rattle.g4_token_list.specs.TokenList.{EndsInEnd, word_of};
 ghost use Rattle.g4_parse.specs.TreeText.{tree_text};
 ghost use Rattle.g4_tool.specs.Texts.{line_of_tree};
 ghost use Rattle.g4_tool.specs.Inputs.{IsSmall};
-ghost use Rattle.g4_tool.specs.Outcomes.{AreFileLines, IsBytesLine, IsFileLine, IsTextLine, IsTokensLine};
+ghost use Rattle.g4_tool.specs.Outcomes.{AreFileLines, IsBytesLine, IsFileLine, IsTokensLine};
+ghost use Rattle.g4_tool.specs.Usable.{IsUsable};
 
-use crate::decode::{DecodeError, characters};
 use crate::faults::{large, many_tokens, mismatch, no_token, no_viable, not_utf8, too_deep};
 use crate::inputs::Input;
 use crate::prepare::Interpreter;
 use crate::write::Line;
-use g4_base::Text;
+use g4_base::Sequence;
 use g4_lexer::{LexFault, tokens};
-use g4_net::Token;
 use g4_parse::{ParseFault, Tree, parse, print};
 use g4_ports::{Gate, LIMIT};
+use g4_token_list::Tokens;
 use std::alloc::{AllocError, Global};
 
 // The line of a tree.
@@ -24,18 +23,18 @@ fn tree_line(
     alloc: Global,
     interpreter: &Interpreter,
     name: &str,
-    text: &[char],
-    tokens: &[Token],
+    tokens: &Tokens,
     tree: &Tree,
 ) -> Result<Line, AllocError>
-    ensures { IfOk result (λ line. line ≡ line_of_tree name.now (tree_text interpreter.now.grammar.rules tokens.now text.now tree.now)) }
+    ensures { IfOk result (λ line. line ≡ line_of_tree name.now (tree_text interpreter.now.names tokens.now tree.now)) }
 {
-    let mut line = String::from_str(alloc, name)?;
-    line.push_str(": ")?;
-    let rules = interpreter.grammar.rules.as_slice();
-    print(&mut line, tree.as_slice(), rules, tokens, text)?;
-    line.push_str("\n")?;
-    Ok(Line::ToOut(Text::new(line)))
+    let mut line = Vec::new(alloc);
+    line.extend_from_slice(name.as_bytes())?;
+    line.extend_from_slice(b": ")?;
+    let names = interpreter.names.as_slice();
+    print(&mut line, tree.as_slice(), names, tokens)?;
+    line.extend_from_slice(b"\n")?;
+    Ok(Line::ToOut(Sequence::new(line)))
 }
 
 // The line of a token list.
@@ -43,47 +42,23 @@ fn tokens_line(
     alloc: Global,
     interpreter: &Interpreter,
     name: &str,
-    text: &[char],
-    tokens: &[Token],
+    tokens: &Tokens,
 ) -> Result<Line, AllocError>
-    requires ready { IsReady interpreter.now.net }
-    requires ends { EndsInEnd (word_of tokens.now) }
-    requires few { length tokens.now < 2 ^ 32 }
-    ensures { IfOk result (IsTokensLine interpreter.now name.now text.now tokens.now) }
+    requires usable { IsUsable interpreter.now }
+    requires ends { EndsInEnd (word_of tokens.now.list) }
+    requires few { length tokens.now.list < 2 ^ 32 }
+    ensures { IfOk result (IsTokensLine interpreter.now name.now tokens.now) }
 {
-    let grammar = &interpreter.grammar;
+    let types = interpreter.shown.as_slice();
     let net = &interpreter.net;
-    match parse(alloc, net, tokens) {
-        Ok(tree) => tree_line(alloc, interpreter, name, text, tokens, &tree),
+    match parse(alloc, net, tokens.list.as_slice()) {
+        Ok(tree) => tree_line(alloc, interpreter, name, tokens, &tree),
         Err(ParseFault::Mismatch { at, state }) => {
-            mismatch(alloc, grammar, net, name, text, tokens, at, state)
+            mismatch(alloc, types, net, name, tokens, at, state)
         }
-        Err(ParseFault::NoViable { at }) => no_viable(alloc, name, text, tokens, at),
+        Err(ParseFault::NoViable { at }) => no_viable(alloc, name, tokens, at),
         Err(ParseFault::TooDeep { at }) => too_deep(alloc, name, tokens, at),
         Err(ParseFault::NoMemory) => Err(AllocError),
-    }
-}
-
-// The line of a file's characters.
-fn text_line(
-    alloc: Global,
-    interpreter: &Interpreter,
-    name: &str,
-    text: &[char],
-) -> Result<Line, AllocError>
-    requires ready { IsReady interpreter.now.net }
-    requires types { All (λ rule. rule.symbol ≤ 4096) interpreter.now.grammar.token_rules }
-    requires few { length text.now ≤ LIMIT }
-    ensures { IfOk result (IsTextLine interpreter.now name.now text.now) }
-{
-    match tokens(alloc, interpreter.grammar.token_rules.as_slice(), text) {
-        Ok(found) => {
-            let line = tokens_line(alloc, interpreter, name, text, found.as_slice())?;
-            Ok(line)
-        }
-        Err(LexFault::NoToken(place, character)) => no_token(alloc, name, place, character),
-        Err(LexFault::Tokens(place)) => many_tokens(alloc, name, place),
-        Err(LexFault::NoMemory) => Err(AllocError),
     }
 }
 
@@ -94,18 +69,21 @@ fn bytes_line(
     name: &str,
     bytes: &[u8],
 ) -> Result<Line, AllocError>
-    requires ready { IsReady interpreter.now.net }
-    requires types { All (λ rule. rule.symbol ≤ 4096) interpreter.now.grammar.token_rules }
+    requires usable { IsUsable interpreter.now }
     requires small { length bytes.now ≤ LIMIT }
     ensures { IfOk result (IsBytesLine interpreter.now name.now bytes.now) }
 {
-    match characters(alloc, bytes) {
-        Ok(text) => {
-            let line = text_line(alloc, interpreter, name, text.as_slice())?;
+    let copy = bytes.to_vec(alloc)?;
+    let rules = interpreter.token_rules.as_slice();
+    match tokens(alloc, rules, Sequence::new(copy)) {
+        Ok(found) => {
+            let line = tokens_line(alloc, interpreter, name, &found)?;
             Ok(line)
         }
-        Err(DecodeError::NotUtf8(at)) => not_utf8(alloc, name, at),
-        Err(DecodeError::NoMemory) => Err(AllocError),
+        Err(LexFault::NotUtf8(at)) => not_utf8(alloc, name, at),
+        Err(LexFault::NoToken(place, character)) => no_token(alloc, name, place, character),
+        Err(LexFault::Tokens(place)) => many_tokens(alloc, name, place),
+        Err(LexFault::NoMemory) => Err(AllocError),
     }
 }
 
@@ -116,8 +94,7 @@ fn file_line(
     name: &str,
     input: &Input,
 ) -> Result<Line, AllocError>
-    requires ready { IsReady interpreter.now.net }
-    requires types { All (λ rule. rule.symbol ≤ 4096) interpreter.now.grammar.token_rules }
+    requires usable { IsUsable interpreter.now }
     requires small { IsSmall input.now }
     ensures { IfOk result (IsFileLine interpreter.now name.now input.now) }
 {
@@ -135,8 +112,7 @@ pub fn file_lines<G: Gate>(
     inputs: &[Input],
     gate: &G,
 ) -> Result<Vec<Line>, AllocError>
-    requires ready { IsReady interpreter.now.net }
-    requires types { All (λ rule. rule.symbol ≤ 4096) interpreter.now.grammar.token_rules }
+    requires usable { IsUsable interpreter.now }
     requires small { All IsSmall inputs.now }
     requires paired { length names.now ≡ length inputs.now }
     requires few { length names.now ≤ 4096 }

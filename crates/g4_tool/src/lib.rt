@@ -1,12 +1,13 @@
 // The tool: from a command line and named files to what is written and the status.
 #![tactic(auto)]
 
-mod decode;
 mod faults;
 mod files;
 #[cfg(test)]
 mod grammar_tests;
 mod inputs;
+#[cfg(test)]
+mod large_tests;
 mod law;
 mod prepare;
 mod report;

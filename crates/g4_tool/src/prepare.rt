@@ -1,24 +1,34 @@
 // From the bytes of a grammar file to what parses with it.
-ghost use Rattle.std.specs.Prelude.{◌≤◌, All, IfOk, length};
+ghost use Rattle.std.specs.Prelude.{◌≡◌, ◌≤◌, All, IfOk, length, map};
+ghost use Rattle.g4_source.specs.Blocks.{ParserRulesAreFull};
+ghost use Rattle.g4_grammar.specs.NumberedRules.{HaveNoEmptyLoops, NumberedRuleIsQuiet, RuleLeavesEnd};
 ghost use Rattle.g4_net.specs.AddedRule.{IsReady};
-ghost use Rattle.g4_tool.specs.Preparing.{IsPreparing};
+ghost use Rattle.g4_tool.specs.Preparing.{IsInterpreting, IsPreparing};
+ghost use Rattle.g4_tool.specs.Usable.{IsUsable};
 
 use g4_base::{Place, Sequence, Text};
 use g4_build::{BuildFault, build, lexer_network_fits};
 use g4_checks::{CheckFault, check};
-use g4_grammar::Numbered;
-use g4_narrow::{NarrowFault, narrow};
-use g4_net::Network;
+use g4_forms::{FormFault, check_forms};
+use g4_grammar::{Numbered, NumberedAtom, TokenRule};
+use g4_net::ParserNetwork;
 use g4_ports::LIMIT;
 use g4_reader::{ReadFault, read_grammar};
+use g4_resolve::{Resolving, resolve};
+use g4_source::ParserRule;
 use g4_vocab::{NameFault, NumberFault, check_names, number};
-use std::alloc::Global;
+use std::alloc::{AllocError, Global};
 
-/// A numbered grammar and the network of one of its rules.
+/// What files are parsed with: a grammar's tokens and the network of one of its rules.
 #[derive(Drop)]
 pub struct Interpreter {
-    pub grammar: Numbered,
-    pub net: Network,
+    /// The names of the parser rules, which count from 1.
+    pub names: Sequence<Text>,
+    /// What is shown of each token type from 1 on.
+    pub shown: Sequence<Text>,
+    /// What the lexer matches, the rules that win a tie first.
+    pub token_rules: Sequence<TokenRule>,
+    pub net: ParserNetwork,
 }
 
 /// Why a grammar file gives no interpreter, in the order in which the faults are looked for.
@@ -31,7 +41,7 @@ pub enum GrammarFault {
     Syntax(Place, Sequence<char>),
     /// The place of the first character set that is empty, has a range that runs backward or names an unknown property.
     BadSet(Place),
-    /// The name of the first rule whose name a rule behind it has.
+    /// The name of the first rule whose name an earlier rule has.
     RuleTwice(Text),
     /// More than 4,096 rules.
     Rules,
@@ -72,18 +82,18 @@ impl From<ReadFault> for PrepareError {
     }
 }
 
-impl From<NarrowFault> for PrepareError {
+impl From<FormFault> for PrepareError {
     ghost use Rattle.std.specs.Prelude.{◌≡◌};
-    ghost use Rattle.g4_tool.specs.PrepareErrors.{of_narrow};
+    ghost use Rattle.g4_tool.specs.PrepareErrors.{of_form};
 
-    ghost from_gives = { λ d e. e ≡ of_narrow d };
+    ghost from_gives = { λ d e. e ≡ of_form d };
 
-    fn from(fault: NarrowFault) -> Self {
+    fn from(fault: FormFault) -> Self {
         match fault {
-            NarrowFault::NotRun(place, characters) => {
+            FormFault::NotRun(place, characters) => {
                 PrepareError::Fault(GrammarFault::Syntax(place, characters))
             }
-            NarrowFault::NoMemory => PrepareError::NoMemory,
+            FormFault::NoMemory => PrepareError::NoMemory,
         }
     }
 }
@@ -117,6 +127,17 @@ impl From<NumberFault> for PrepareError {
     }
 }
 
+impl From<AllocError> for PrepareError {
+    ghost use Rattle.std.specs.Prelude.{◌≡◌};
+    ghost use Rattle.g4_tool.specs.declared.prepare.PrepareError.TheVariants.{NoMemory};
+
+    ghost from_gives = { λ _ e. e ≡ NoMemory };
+
+    fn from(_: AllocError) -> Self {
+        PrepareError::NoMemory
+    }
+}
+
 impl From<CheckFault> for PrepareError {
     ghost use Rattle.std.specs.Prelude.{◌≡◌};
     ghost use Rattle.g4_tool.specs.PrepareErrors.{of_check};
@@ -147,22 +168,63 @@ impl From<BuildFault> for PrepareError {
     }
 }
 
+/// The names of the rules in order.
+fn names_of(alloc: Global, rules: &[ParserRule<NumberedAtom>]) -> Result<Sequence<Text>, AllocError>
+    ensures { IfOk result (λ names. names ≡ map (λ rule. rule.name) rules.now) }
+{
+    let mut names = Vec::new(alloc);
+    for rule in rules {
+        names.push(Text::copy_of(alloc, rule.name.as_str())?)?;
+    }
+    Ok(Sequence::new(names))
+}
+
+/// What parses with the numbered grammar from this start rule, or the first fault of its networks.
+fn interpret(alloc: Global, grammar: Numbered, start: &str) -> Result<Interpreter, PrepareError>
+    requires few { length grammar.rules ≤ 4096 }
+    requires full { ParserRulesAreFull grammar.rules }
+    requires ends { All RuleLeavesEnd grammar.rules }
+    requires quiet { All NumberedRuleIsQuiet grammar.rules }
+    requires loops { HaveNoEmptyLoops grammar.rules }
+    ensures interpreting { IsInterpreting start.now grammar result }
+    ensures ready { IfOk result (λ interpreter. IsReady interpreter.net) }
+    ensures rules { IfOk result (λ interpreter. interpreter.token_rules ≡ grammar.token_rules) }
+{
+    let Numbered {
+        rules,
+        shown,
+        token_rules,
+    } = grammar;
+    let names = names_of(alloc, rules.as_slice())?;
+    let stage = Resolving {
+        names,
+        predicates: Sequence::new(Vec::new(alloc)),
+    };
+    let steps = resolve(alloc, &stage, rules.into_vec())?;
+    let net = build(alloc, steps.as_slice(), start)?;
+    if !lexer_network_fits(token_rules.as_slice()) {
+        return Err(PrepareError::Fault(GrammarFault::States));
+    }
+    let Resolving { names, .. } = stage;
+    Ok(Interpreter {
+        names,
+        shown,
+        token_rules,
+        net,
+    })
+}
+
 /// What parses with the grammar file of these bytes from this start rule, or the file's first fault.
 pub fn prepare(alloc: Global, bytes: &[u8], start: &str) -> Result<Interpreter, PrepareError>
     requires { length bytes.now ≤ LIMIT }
     ensures preparing { IsPreparing bytes.now start.now result }
-    ensures ready { IfOk result (λ interpreter. IsReady interpreter.net) }
-    ensures types { IfOk result (λ interpreter. All (λ rule. rule.symbol ≤ 4096) interpreter.grammar.token_rules) }
+    ensures usable { IfOk result IsUsable }
 {
     let source = read_grammar(alloc, bytes)?;
-    let runnable = narrow(alloc, &source)?;
-    check_names(alloc, &runnable)?;
-    let checked = check(alloc, &runnable);
-    let grammar = number(alloc, runnable)?;
-    checked?;
-    let net = build(alloc, &grammar, start)?;
-    if !lexer_network_fits(grammar.token_rules.as_slice()) {
-        return Err(PrepareError::Fault(GrammarFault::States));
-    }
-    Ok(Interpreter { grammar, net })
+    check_forms(alloc, &source)?;
+    check_names(alloc, &source)?;
+    let grammar = number(alloc, &source)?;
+    check(alloc, &source)?;
+    let interpreter = interpret(alloc, grammar, start)?;
+    Ok(interpreter)
 }

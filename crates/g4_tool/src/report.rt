@@ -1,12 +1,12 @@
 // The report of a command line: its lines and its status, made before any of it is written.
-ghost use Rattle.std.specs.Prelude.{◌≡◌, ◌≤◌, All, IfOk, None, Some, length, map, string_bytes};
+ghost use Rattle.std.specs.Prelude.{◌≡◌, ◌≤◌, IfOk, None, Some, length, map, string_bytes};
 ghost use Rattle.std.specs.List.{list_all};
-ghost use Rattle.g4_net.specs.AddedRule.{IsReady};
 ghost use Rattle.g4_tool.specs.Counting.{CountsReport};
 ghost use Rattle.g4_tool.specs.CommandView.{command_view};
 ghost use Rattle.g4_tool.specs.Inputs.{Files};
 ghost use Rattle.g4_tool.specs.Report.{IsCommandReport, IsFilesReport, IsGrammarReport, IsReport, fault_line, one_line, status_of, whole_report};
 ghost use Rattle.g4_tool.specs.Texts.{is_tree};
+ghost use Rattle.g4_tool.specs.Usable.{IsUsable};
 ghost use Rattle.g4_tool.specs.Words.{command_of};
 
 use crate::faults::{
@@ -17,7 +17,7 @@ use crate::inputs::{FetchError, fetch_all};
 use crate::prepare::{GrammarFault, Interpreter, PrepareError, prepare};
 use crate::words::{Command, read_words};
 use crate::write::Line;
-use g4_base::{Sequence, Text};
+use g4_base::Sequence;
 use g4_ports::{Gate, Got, LIMIT, Shelf};
 use std::alloc::{AllocError, Global};
 
@@ -132,7 +132,7 @@ fn close(alloc: Global, mut lines: Vec<Line>) -> Result<Report, AllocError>
     let accepted = lines.iter().filter(|line| is_tree(line)).count();
     let status = status_of(&lines);
     let closing = format!(in alloc; "files {files} accepted {accepted}\n")?;
-    lines.push(Line::ToOut(Text::new(closing)))?;
+    lines.push(Line::ToOut(Sequence::new(closing.into_bytes())))?;
     Ok(Report {
         lines: Sequence::new(lines),
         status,
@@ -147,8 +147,7 @@ fn report_files<S: Shelf, G: Gate>(
     interpreter: &Interpreter,
     gate: &G,
 ) -> Result<Report, Stopped>
-    requires ready { IsReady interpreter.now.net }
-    requires types { All (λ rule. rule.symbol ≤ 4096) interpreter.now.grammar.token_rules }
+    requires usable { IsUsable interpreter.now }
     requires few { length names.now ≤ 4096 }
     ensures content { (files : Files) → S.told shelf.old ≡ Some files
         → IfOk result (IsFilesReport files (map string_bytes names.now) interpreter.now) }

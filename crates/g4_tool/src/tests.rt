@@ -7,7 +7,12 @@ use std::test::Fail;
 
 const HELLO: &str = "grammar H; r : 'hello' ID ; ID : [a-z]+ ; WS : [ \\n]+ -> skip ;";
 
-fn shelf_of(alloc: Global, grammar: &str, text: &str, failing: Vec<u64>) -> Result<MemShelf, Fail> {
+pub fn shelf_of(
+    alloc: Global,
+    grammar: &str,
+    text: &str,
+    failing: Vec<u64>,
+) -> Result<MemShelf, Fail> {
     let mut files = Vec::new(alloc);
     for (name, content) in [("X.g4", grammar), ("f", text)] {
         files.push(MemFile {
@@ -24,7 +29,7 @@ fn shelf_of(alloc: Global, grammar: &str, text: &str, failing: Vec<u64>) -> Resu
     })
 }
 
-fn words_of(alloc: Global, line: &str) -> Result<Vec<String>, Fail> {
+pub fn words_of(alloc: Global, line: &str) -> Result<Vec<String>, Fail> {
     let mut words = Vec::new(alloc);
     for word in line.split_whitespace() {
         words.push(String::from_str(alloc, word)?)?;
@@ -50,7 +55,7 @@ fn ran(
 const PARSE: &str = "parse -g X.g4 -s r f";
 
 // Words, grammar and text, and what they give: out, err and the status.
-const REPORTS: [(&str, &str, &str, &str, &str, Status); 21] = [
+const REPORTS: [(&str, &str, &str, &str, &str, Status); 24] = [
     (
         PARSE,
         HELLO,
@@ -157,11 +162,35 @@ const REPORTS: [(&str, &str, &str, &str, &str, Status); 21] = [
     ),
     (
         PARSE,
-        "grammar X; r : ('a'*)* ; A : 'a' ; B : 'b' ; A : 'c' ; B : 'd' ;",
+        "grammar X; r : ('a'*)* ; A : 'a' ; B : 'b' ; B : 'c' ; A : 'd' ;",
         "a",
         "",
-        "X.g4: rule A stands twice\n",
+        "X.g4: rule B stands twice\n",
         Status::GrammarRefused,
+    ),
+    (
+        PARSE,
+        "grammar X; r : {x} 'a' {y} {z} B {w} ; B : 'b' {v} ;",
+        "ab",
+        "f: (r a b)\nfiles 1 accepted 1\n",
+        "",
+        Status::Done,
+    ),
+    (
+        PARSE,
+        "grammar X; r : A B ; A : 'a' {x} ; B : 'b' ;",
+        "b",
+        "files 1 accepted 0\n",
+        "f: line 1:0 mismatched input 'b' expecting A\n",
+        Status::Refused,
+    ),
+    (
+        PARSE,
+        "grammar X; r : A B ; A : 'a' {x} ; B : 'b' ;",
+        "a",
+        "files 1 accepted 0\n",
+        "f: line 1:1 mismatched input '<EOF>' expecting 'b'\n",
+        Status::Refused,
     ),
     (
         "parse -g X.g4 -s q f",

@@ -2,14 +2,14 @@
 ghost use Rattle.std.specs.Prelude.{◌∷◌, [], OnOk};
 ghost use Rattle.g4_tool.specs.Writing.{Wrote, WroteFront, CountsWriting};
 
-use g4_base::Text;
+use g4_base::Octets;
 use g4_ports::{Failed, Sink, write_all};
 
 /// A line of the report, on the one output or the other.
 #[derive(Drop)]
 pub enum Line {
-    ToOut(Text),
-    ToErr(Text),
+    ToOut(Octets),
+    ToErr(Octets),
 }
 
 /// Writes a line.
@@ -19,8 +19,8 @@ pub fn write_line<O: Sink, E: Sink>(line: &Line, out: &mut O, err: &mut E) -> Re
     ensures counts { CountsWriting (O.faults out.old) (O.faults out.new) (E.faults err.old) (E.faults err.new) result }
 {
     match line {
-        Line::ToOut(text) => write_all(out, text.as_str().as_bytes())?,
-        Line::ToErr(text) => write_all(err, text.as_str().as_bytes())?,
+        Line::ToOut(bytes) => write_all(out, bytes.as_slice())?,
+        Line::ToErr(bytes) => write_all(err, bytes.as_slice())?,
     }
     Ok(())
 }
