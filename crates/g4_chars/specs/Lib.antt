@@ -2,6 +2,5 @@ pub mod Building
 pub mod CharSets
 pub mod Escapes
 pub mod Properties
-pub mod PropertyNames
 pub mod Reading
 pub mod SetText

@@ -1,29 +1,51 @@
 -- The properties of characters that have a name.
-use Rattle.std.specs.Prelude.{ℕ, Bool, true, false, ◌&&◌, ◌==◌, List, [], ◌∷◌, Option, Some, None, codes, if◌then◌else◌}
-use Rattle.std.specs.Option.{option_or}
-use Prim.Native.String.{String}
-use denote.Ref.{Bor}
+use Rattle.std.specs.Prelude.{ℕ, Bool, false, ◌&&◌, ◌==◌, List, [], ◌∷◌, length, Option, Some, None, codes, if◌then◌else◌}
+use Rattle.std.specs.Option.{option_or, option_and_then}
+use Rattle.std.specs.List.{list_all}
+use Rattle.std.specs.Str.{bytes_eq}
+use Rattle.std.specs.Char.{is_ascii, is_ascii_uppercase, is_ascii_lowercase}
+use Rattle.ucd_sets.specs.declared.property.BinaryProperty.TheVariants.{WhiteSpace}
 use Rattle.ucd_sets.specs.declared.set.Set.{Set}
-use Rattle.g4_chars.specs.PropertyNames.{category_names, group_names, scripts_a_to_b, scripts_c_to_g, scripts_h_to_k, scripts_l_to_m, scripts_n_to_r, scripts_s_to_t, scripts_u_to_z}
+use Rattle.ucd_sets.specs.declared.set.Set.TheVariants.{Any, Ascii, Assigned, Binary, Category, CategoryGroup, Script, ScriptExtension, Age, GraphemeClusterBreak, WordBreak, SentenceBreak}
+use Rattle.ucd_sets.specs.Lookup.{by_value}
+use Rattle.ucd_sets.specs.Loose.{normalize}
 
--- the characters are those of the word, one by one
-abbrev pub spells : List ℕ → List ℕ → Bool
-spells [] [] = true
-spells [] (c ∷ cs) = false
-spells (w ∷ ws) [] = false
-spells (w ∷ ws) (c ∷ cs) = (w == c) && spells ws cs
+-- a capital letter, and only small letters after it
+abbrev pub is_capitalized : List ℕ → Bool
+is_capitalized [] = false
+is_capitalized (c ∷ cs) = is_ascii_uppercase c && list_all is_ascii_lowercase cs
 
--- the set of the row with exactly this name
-abbrev pub named_in : List (String × Set) → List ℕ → Option Set
-named_in [] name = None
-named_in (row ∷ rows) name = if spells (codes row.0) name then Some row.1 else named_in rows name
+-- the letters of a short name: two of a general category, one of the group of those that begin with it
+abbrev pub letters_of : Set → ℕ
+letters_of (Category category) = 2
+letters_of (CategoryGroup group) = 1
+letters_of Any = 0
+letters_of Ascii = 0
+letters_of Assigned = 0
+letters_of (Binary property) = 0
+letters_of (Script script) = 0
+letters_of (ScriptExtension script) = 0
+letters_of (Age age) = 0
+letters_of (GraphemeClusterBreak value) = 0
+letters_of (WordBreak value) = 0
+letters_of (SentenceBreak value) = 0
 
--- the same in a table of the program
-abbrev pub found_in : List (Bor (List ℕ) × Set) → List ℕ → Option Set
-found_in [] name = None
-found_in (row ∷ rows) name = if spells row.0.now name then Some row.1 else found_in rows name
+-- the set, if a name of so many letters is its short name
+abbrev pub if_short : ℕ → Set → Option Set
+if_short count set = if count == letters_of set then Some set else None
 
--- the property with exactly this name, as a set of `unicode`: a general category, a group of them, `White_Space` or a script
+-- the general category, or group of them, with exactly this short name, as `Lu` or `L`
+abbrev pub category_named : List ℕ → Option Set
+category_named name = if is_capitalized name then option_and_then (if_short (length name)) (by_value (codes "gc") (normalize name)) else None
+
+-- the one other property, by exactly its name
+abbrev pub white_space_named : List ℕ → Option Set
+white_space_named name = if bytes_eq name (codes "White_Space") then Some (Binary WhiteSpace) else None
+
+-- the script with this name, long or short, as loosely as `unicode` compares names, but in ASCII alone: `Greek`, `Grek` or `greek`
+abbrev pub script_named : List ℕ → Option Set
+script_named name = if list_all is_ascii name then by_value (codes "sc") (normalize name) else None
+
+-- the property with this name, as a set of `unicode`
 abbrev pub property_named : List ℕ → Option Set
-property_named name =
-    option_or (named_in category_names name) (option_or (named_in group_names name) (option_or (named_in scripts_a_to_b name) (option_or (named_in scripts_c_to_g name) (option_or (named_in scripts_h_to_k name) (option_or (named_in scripts_l_to_m name) (option_or (named_in scripts_n_to_r name) (option_or (named_in scripts_s_to_t name) (named_in scripts_u_to_z name))))))))
+property_named name = option_or (category_named name) (option_or (white_space_named name) (script_named name))

@@ -31,41 +31,53 @@ pub struct Found {
     pub taken: usize,
 }
 
-fn escaped_item(meaning: Meaning, behind: &[char], taken: usize) -> Item
+fn escaped_item(
+    alloc: Global,
+    meaning: Meaning,
+    behind: &[char],
+    taken: usize,
+) -> Result<Item, AllocError>
     requires taken { taken ≤ length behind.now }
     requires name { NameIsWithin taken meaning }
-    ensures { result ≡ escaped_item meaning behind.now }
+    ensures { IfOk result (λ item. item ≡ escaped_item meaning behind.now) }
 {
     match meaning {
-        Meaning::Character(character) => Item::Member {
+        Meaning::Character(character) => Ok(Item::Member {
             character,
             plain: false,
-        },
-        Meaning::Property { complement, length } => Item::Named {
-            complement,
-            property: property_named(&behind[2..2 + length]),
-        },
+        }),
+        Meaning::Property { complement, length } => {
+            let property = property_named(alloc, &behind[2..2 + length])?;
+            Ok(Item::Named {
+                complement,
+                property,
+            })
+        }
     }
 }
 
-fn item_at(c: char, behind: &[char]) -> Option<Found>
-    ensures value { result ≡ item_at c behind.now }
-    ensures within { IfSome result (λ f. f.taken ≤ length behind.now) }
+/// The item that begins with the character: none at a bad escape.
+fn item_at(alloc: Global, c: char, behind: &[char]) -> Result<Option<Found>, AllocError>
+    ensures value { IfOk result (λ found. found ≡ item_at c behind.now) }
+    ensures within { IfOk result (λ found. IfSome found (λ f. f.taken ≤ length behind.now)) }
 {
     if c != '\\' {
-        return Some(Found {
+        return Ok(Some(Found {
             item: Item::Member {
                 character: c,
                 plain: true,
             },
             taken: 0,
-        });
+        }));
     }
-    let escape = read_escape(Context::Set, behind)?;
-    Some(Found {
-        item: escaped_item(escape.meaning, behind, escape.taken),
+    let Some(escape) = read_escape(Context::Set, behind) else {
+        return Ok(None);
+    };
+    let item = escaped_item(alloc, escape.meaning, behind, escape.taken)?;
+    Ok(Some(Found {
+        item,
         taken: escape.taken,
-    })
+    }))
 }
 
 /// The items of the text: none at a bad escape.
@@ -75,7 +87,7 @@ pub fn read_items(alloc: Global, text: &[char]) -> Result<Option<Vec<Item>>, All
     let mut out = Vec::new(alloc);
     let mut at = 0;
     while at < text.len() {
-        let Some(found) = item_at(text[at], &text[at + 1..]) else {
+        let Some(found) = item_at(alloc, text[at], &text[at + 1..])? else {
             return Ok(None);
         };
         out.push(found.item)?;

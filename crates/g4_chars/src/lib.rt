@@ -6,7 +6,6 @@ mod char_set;
 mod escape;
 mod item;
 mod law;
-mod names;
 mod part;
 mod property;
 mod range;

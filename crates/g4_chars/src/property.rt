@@ -1,106 +1,103 @@
 // The properties of characters that have a name.
-ghost use Rattle.std.specs.Prelude.{◌≡◌};
-ghost use Rattle.g4_chars.specs.PropertyNames.{category_names, group_names, scripts_a_to_b, scripts_c_to_g, scripts_h_to_k, scripts_l_to_m, scripts_n_to_r, scripts_s_to_t, scripts_u_to_z};
-ghost use Rattle.g4_chars.specs.Properties.{spells, found_in, named_in, property_named};
+ghost use Rattle.std.specs.Prelude.{◌≡◌, IfOk, length, Some};
+ghost use Rattle.std.specs.Char.{is_ascii, is_ascii_lowercase};
+ghost use Rattle.std.specs.List.{list_all};
+ghost use Rattle.ucd_sets.specs.Lookup.{by_value};
+ghost use Rattle.ucd_sets.specs.Loose.{normalize};
+ghost use Rattle.g4_chars.specs.Properties.{is_capitalized, letters_of, if_short, category_named, white_space_named, script_named, property_named};
 
-use crate::names::{
-    CATEGORIES, GROUPS, SCRIPTS_A_TO_B, SCRIPTS_C_TO_G, SCRIPTS_H_TO_K, SCRIPTS_L_TO_M,
-    SCRIPTS_N_TO_R, SCRIPTS_S_TO_T, SCRIPTS_U_TO_Z,
-};
-use unicode::sets::Set;
+use std::alloc::{AllocError, Global};
+use unicode::sets::{BinaryProperty, Set, by_value, normalize};
 
-fn spells(word: &[u8], name: &[char]) -> bool
-    ensures { result ≡ spells word.now name.now }
+fn are_small(letters: &[char]) -> bool
+    ensures { result ≡ list_all is_ascii_lowercase letters.now }
 {
-    match word {
-        [] => name.is_empty(),
-        [byte, word @ ..] => match name {
-            [] => false,
-            [c, name @ ..] => char::from(*byte) == *c && spells(word, name),
-        },
+    letters.iter().all(|c| c.is_ascii_lowercase())
+}
+
+fn are_ascii(name: &[char]) -> bool
+    ensures { result ≡ list_all is_ascii name.now }
+{
+    name.iter().all(|c| c.is_ascii())
+}
+
+fn is_capitalized(name: &[char]) -> bool
+    ensures { result ≡ is_capitalized name.now }
+{
+    match name {
+        [] => false,
+        [first, rest @ ..] => first.is_ascii_uppercase() && are_small(rest),
     }
 }
 
-fn find(rows: &[(&[u8], Set)], name: &[char]) -> Option<Set>
-    ensures { result ≡ found_in rows.now name.now }
+fn letters_of(set: Set) -> usize
+    ensures { result ≡ letters_of set }
 {
-    match rows {
-        [] => None,
-        [(word, set), rows @ ..] => {
-            if spells(word, name) {
-                Some(*set)
-            } else {
-                find(rows, name)
-            }
-        }
+    match set {
+        Set::Category(_) => 2,
+        Set::CategoryGroup(_) => 1,
+        _ => 0,
     }
 }
 
-fn category(name: &[char]) -> Option<Set>
-    ensures { result ≡ named_in category_names name.now }
+fn if_short(count: usize, set: Set) -> Option<Set>
+    ensures { result ≡ if_short count set }
 {
-    find(&CATEGORIES, name)
+    if count == letters_of(set) {
+        Some(set)
+    } else {
+        None
+    }
 }
 
-fn group(name: &[char]) -> Option<Set>
-    ensures { result ≡ named_in group_names name.now }
+/// The value of a property, both by the names that `normalize` gives.
+fn value_named(property: &[u8], value: &[u8]) -> Option<Set>
+    ensures { result ≡ by_value property.now value.now }
 {
-    find(&GROUPS, name)
+    by_value(property, value).ok()
 }
 
-fn scripts_a_to_b(name: &[char]) -> Option<Set>
-    ensures { result ≡ named_in scripts_a_to_b name.now }
+fn category_named(name: &[char], key: &[u8]) -> Option<Set>
+    requires { key.now ≡ normalize name.now }
+    ensures { result ≡ category_named name.now }
 {
-    find(&SCRIPTS_A_TO_B, name)
+    if is_capitalized(name) {
+        if_short(name.len(), value_named(b"gc", key)?)
+    } else {
+        None
+    }
 }
 
-fn scripts_c_to_g(name: &[char]) -> Option<Set>
-    ensures { result ≡ named_in scripts_c_to_g name.now }
+fn white_space_named(name: &[char]) -> Option<Set>
+    ensures { result ≡ white_space_named name.now }
 {
-    find(&SCRIPTS_C_TO_G, name)
+    if name == ['W', 'h', 'i', 't', 'e', '_', 'S', 'p', 'a', 'c', 'e'].as_slice() {
+        Some(Set::Binary(BinaryProperty::WhiteSpace))
+    } else {
+        None
+    }
 }
 
-fn scripts_h_to_k(name: &[char]) -> Option<Set>
-    ensures { result ≡ named_in scripts_h_to_k name.now }
+fn script_named(name: &[char], key: &[u8]) -> Option<Set>
+    requires { key.now ≡ normalize name.now }
+    ensures { result ≡ script_named name.now }
 {
-    find(&SCRIPTS_H_TO_K, name)
+    if are_ascii(name) {
+        value_named(b"sc", key)
+    } else {
+        None
+    }
 }
 
-fn scripts_l_to_m(name: &[char]) -> Option<Set>
-    ensures { result ≡ named_in scripts_l_to_m name.now }
+/// The property with this name: a general category, a group of them or `White_Space` by exactly that name, or a script by
+/// any of its names, as loosely as `unicode` compares them.
+pub fn property_named(alloc: Global, name: &[char]) -> Result<Option<Set>, AllocError>
+    ensures { IfOk result (λ found. found ≡ property_named name.now) }
 {
-    find(&SCRIPTS_L_TO_M, name)
-}
-
-fn scripts_n_to_r(name: &[char]) -> Option<Set>
-    ensures { result ≡ named_in scripts_n_to_r name.now }
-{
-    find(&SCRIPTS_N_TO_R, name)
-}
-
-fn scripts_s_to_t(name: &[char]) -> Option<Set>
-    ensures { result ≡ named_in scripts_s_to_t name.now }
-{
-    find(&SCRIPTS_S_TO_T, name)
-}
-
-fn scripts_u_to_z(name: &[char]) -> Option<Set>
-    ensures { result ≡ named_in scripts_u_to_z name.now }
-{
-    find(&SCRIPTS_U_TO_Z, name)
-}
-
-/// The property with exactly this name: a general category, a group of them, a script or `White_Space`.
-pub fn property_named(name: &[char]) -> Option<Set>
-    ensures { result ≡ property_named name.now }
-{
-    category(name)
-        .or_else(|| group(name))
-        .or_else(|| scripts_a_to_b(name))
-        .or_else(|| scripts_c_to_g(name))
-        .or_else(|| scripts_h_to_k(name))
-        .or_else(|| scripts_l_to_m(name))
-        .or_else(|| scripts_n_to_r(name))
-        .or_else(|| scripts_s_to_t(name))
-        .or_else(|| scripts_u_to_z(name))
+    let key = normalize(alloc, name)?;
+    Ok(
+        category_named(name, &key)
+            .or_else(|| white_space_named(name))
+            .or_else(|| script_named(name, &key)),
+    )
 }

@@ -5,7 +5,7 @@ use std::test::Fail;
 /// A text, some characters of its set, and some that are not in it.
 type Case = (&'static str, &'static str, &'static str);
 
-static CASES: [Case; 24] = [
+static CASES: [Case; 29] = [
     ("a", "a", "bA"),
     ("abc", "abc", "d"),
     ("a-c", "abc", "d-`"),
@@ -28,24 +28,42 @@ static CASES: [Case; 24] = [
     ("\\p{N}\\p{Pc}", "1\u{2160}_", "a-"),
     ("\\p{Greek}", "\u{3B1}\u{3A9}", "a"),
     ("\\p{Old_Italic}", "\u{10300}", "a"),
+    ("\\p{Grek}", "\u{3B1}\u{3A9}", "a"),
+    ("\\p{greek}\\p{IsLatin}", "\u{3B1}a", "1"),
+    ("\\p{old-italic}\\p{ITAL}", "\u{10300}", "a"),
+    (
+        "\\p{Lu}\\p{Ll}\\p{Lt}\\p{Lm}\\p{Lo}\\p{Mn}\\p{Mc}\\p{Me}\\p{Nd}\\p{Nl}\\p{No}\\p{Pc}\\p{Pd}\\p{Ps}\\p{Pe}\\p{Pi}\\p{Pf}\\p{Po}\\p{Sm}\\p{Sc}\\p{Sk}\\p{So}\\p{Zs}\\p{Zl}\\p{Zp}\\p{Cc}\\p{Cf}\\p{Cs}\\p{Co}\\p{Cn}",
+        "\0a1\u{2028}\u{E000}\u{10FFFF}",
+        "",
+    ),
+    (
+        "\\p{L}\\p{M}\\p{N}\\p{P}\\p{S}\\p{Z}\\p{C}",
+        "\0a1\u{2028}\u{E000}\u{10FFFF}",
+        "",
+    ),
     ("\\p{White_Space}", " \t\u{A0}\u{2028}", "a\u{200B}"),
     ("\\p{C}", "\0\u{AD}\u{E000}\u{378}", "a"),
 ];
 
-static FAULTS: [(&str, SetFault); 21] = [
+static FAULTS: [(&str, SetFault); 26] = [
     ("", SetFault::BadSet),
     ("\\p{Cs}", SetFault::BadSet),
     ("\\p{Cs}\\p{Cs}", SetFault::BadSet),
     ("b-a", SetFault::BadSet),
     ("a--", SetFault::BadSet),
-    ("\\p{greek}", SetFault::BadSet),
-    ("\\p{Grek}", SetFault::BadSet),
+    ("\\p{Gr\u{E9}ek}", SetFault::BadSet),
+    ("\\p{Klingon}", SetFault::BadSet),
     ("\\p{lu}", SetFault::BadSet),
+    ("\\p{l}", SetFault::BadSet),
+    ("\\p{Lc}", SetFault::BadSet),
+    ("\\p{Letter}", SetFault::BadSet),
+    ("\\p{Any}", SetFault::BadSet),
+    ("\\p{white_space}", SetFault::BadSet),
     ("\\p{}", SetFault::BadSet),
     ("\\p{LC}", SetFault::BadSet),
     ("\\p{\u{3B1}}", SetFault::BadSet),
     ("\\x", SetFault::BadEscape),
-    ("\\q\\p{greek}", SetFault::BadEscape),
+    ("\\q\\p{Klingon}", SetFault::BadEscape),
     ("b-a\\8", SetFault::BadEscape),
     ("\\u004", SetFault::BadEscape),
     ("\\u{1234567}", SetFault::BadEscape),
