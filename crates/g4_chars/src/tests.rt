@@ -5,7 +5,7 @@ use std::test::Fail;
 /// A text, some characters of its set, and some that are not in it.
 type Case = (&'static str, &'static str, &'static str);
 
-static CASES: [Case; 29] = [
+static CASES: [Case; 39] = [
     ("a", "a", "bA"),
     ("abc", "abc", "d"),
     ("a-c", "abc", "d-`"),
@@ -31,16 +31,18 @@ static CASES: [Case; 29] = [
     ("\\p{Grek}", "\u{3B1}\u{3A9}", "a"),
     ("\\p{greek}\\p{IsLatin}", "\u{3B1}a", "1"),
     ("\\p{old-italic}\\p{ITAL}", "\u{10300}", "a"),
-    (
-        "\\p{Lu}\\p{Ll}\\p{Lt}\\p{Lm}\\p{Lo}\\p{Mn}\\p{Mc}\\p{Me}\\p{Nd}\\p{Nl}\\p{No}\\p{Pc}\\p{Pd}\\p{Ps}\\p{Pe}\\p{Pi}\\p{Pf}\\p{Po}\\p{Sm}\\p{Sc}\\p{Sk}\\p{So}\\p{Zs}\\p{Zl}\\p{Zp}\\p{Cc}\\p{Cf}\\p{Cs}\\p{Co}\\p{Cn}",
-        "\0a1\u{2028}\u{E000}\u{10FFFF}",
-        "",
-    ),
-    (
-        "\\p{L}\\p{M}\\p{N}\\p{P}\\p{S}\\p{Z}\\p{C}",
-        "\0a1\u{2028}\u{E000}\u{10FFFF}",
-        "",
-    ),
+    ("\\p{Lu}\\p{Ll}\\p{Lt}", "Aa\u{1C5}", "1"),
+    ("\\p{Lm}\\p{Lo}\\p{Mn}", "\u{2B0}\u{AA}\u{300}", "a"),
+    ("\\p{Mc}\\p{Me}\\p{Nd}", "\u{903}\u{488}1", "a"),
+    ("\\p{Nl}\\p{No}\\p{Pc}", "\u{2160}\u{B2}_", "a"),
+    ("\\p{Pd}\\p{Ps}\\p{Pe}", "-()", "a"),
+    ("\\p{Pi}\\p{Pf}\\p{Po}", "\u{AB}\u{BB}!", "a"),
+    ("\\p{Sm}\\p{Sc}\\p{Sk}", "+$^", "a"),
+    ("\\p{So}\\p{Zs}\\p{Zl}", "\u{A6} \u{2028}", "a"),
+    ("\\p{Zp}\\p{Cc}\\p{Cf}", "\u{2029}\0\u{AD}", "a"),
+    ("\\p{Cs}\\p{Co}\\p{Cn}", "\u{E000}\u{378}", "a"),
+    ("\\p{L}\\p{M}\\p{N}", "a\u{300}1", "_"),
+    ("\\p{P}\\p{S}\\p{Z}", "_+ ", "a"),
     ("\\p{White_Space}", " \t\u{A0}\u{2028}", "a\u{200B}"),
     ("\\p{C}", "\0\u{AD}\u{E000}\u{378}", "a"),
 ];

@@ -1,6 +1,5 @@
-use Rattle.std.proofs.Common.{◌≡◌, ◌+◌, true, false, sym, ◌∙◌, subst, List, arith, rules}
+use Rattle.std.proofs.Common.{sym, ◌∙◌, List}
 use Rattle.g4_symbols.specs.declared.set.Range.{Range}
-use Rattle.g4_symbols.specs.Members.{IsApart}
 use Rattle.g4_symbols.proofs.Without.{IsLeft, left_in, left_out, left_next, ended_apart, last_apart}
 use Rattle.g4_symbols.proofs.set.Symbols.up_to_without.Goals as goal
 use Rattle.g4_symbols.proofs.set.Symbols.up_to_without.Goals.{then-contains, then-first-symbol+in_ok-push, else-first-symbol, else-contains, then-first-greatest+in_ok-push-2, else-first-greatest}
