@@ -1,5 +1,5 @@
 -- What is reported of a grammar that may have forms which are not run is one answer.
-use Rattle.std.proofs.Common.{◌≡◌, ◌≢◌, List, [], ◌∷◌, Result, Ok, Err, ap, subst, sym, ◌∙◌, refl}
+use Rattle.std.proofs.Common.{◌≡◌, ◌≢◌, List, [], ◌∷◌, Result, Ok, Err, ap, subst, refl}
 use Rattle.std.specs.Prelude.{⊤}
 use Rattle.g4_forms.specs.Forms.{Form}
 use Rattle.g4_forms.specs.Answers.{AreRun, TellsFirst}

@@ -1,7 +1,6 @@
 -- Which elements derive the empty word, and which rule calls which before anything is read.
 use Rattle.std.specs.Prelude.{◌≡◌, ◌<◌, ℕ, List, [], ◌⊎◌, length, Option, Some, slice_get}
 use Rattle.g4_elements.specs.declared.name.Label.{Label}
-use Rattle.g4_elements.specs.declared.element.Repeat.{Repeat}
 use Rattle.g4_elements.specs.declared.element.Suffix.{Suffix}
 use Rattle.g4_elements.specs.declared.element.Repeat.TheVariants.{Once, Optional, Star, Plus}
 use Rattle.g4_elements.specs.Elements.{Element, atom, block, Elements, empty, then, Alternatives, none, or}

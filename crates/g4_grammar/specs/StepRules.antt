@@ -1,5 +1,5 @@
 -- Parser rules whose atoms are steps, and when a network that can be parsed with is made of them.
-use Rattle.std.specs.Prelude.{◌≡◌, ◌≤◌, ℕ, List, ◌∷◌, length, map, All, Some, Contains, slice_get}
+use Rattle.std.specs.Prelude.{◌≤◌, ℕ, List, ◌∷◌, length, map, All, Contains}
 use Rattle.g4_symbols.specs.Symbols.{end_of_list}
 use Rattle.g4_elements.specs.Elements.{Alternatives, none, atoms_of_either}
 use Rattle.g4_source.specs.declared.rule.ParserRule.{ParserRule}
