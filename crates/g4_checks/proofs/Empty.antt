@@ -5,10 +5,11 @@ use Rattle.g4_elements.specs.declared.name.Label.{Label}
 use Rattle.g4_elements.specs.declared.element.Suffix.{Suffix}
 use Rattle.g4_elements.specs.declared.element.Repeat.TheVariants.{Once, Optional, Star, Plus}
 use Rattle.g4_elements.specs.Elements.{Element, atom, block, Elements, empty, then, Alternatives, none, or}
-use Rattle.g4_grammar.specs.Derives.{Derives, DerivesAll, DerivesOne, an_atom, a_call, a_block, left_out, no_turn, turns, nothing, one_more, this, another}
+use Rattle.g4_grammar.specs.Derives.{NoCalls, Derives, DerivesAll, DerivesOne, an_atom, a_call, a_block, left_out, no_turn, turns, nothing, one_more, this, another}
 use Rattle.g4_grammar.specs.Loops.{HasEmptyLoop, OneHasEmptyLoop, SomeHasEmptyLoop}
+use Rattle.g4_grammar.proofs.Empty.{front_empty, back_empty}
 use Rattle.g4_checks.specs.declared.found.Found.{Found}
-use Rattle.g4_checks.specs.Finding.{NoCalls, Tells}
+use Rattle.g4_checks.specs.Finding.{Tells}
 
 -- either of two tests holds
 pub true_or : (c a b : Bool) → c ≡ (a || b) → IsTrue c ↔ (IsTrue a ⊎ IsTrue b)
@@ -19,11 +20,6 @@ true_or c false b is = (λ h. inr (sym is ∙ h), λ h. elim h [ inl p ↦ absur
 pub true_and : (c a b : Bool) → c ≡ (a && b) → IsTrue c ↔ (IsTrue a × IsTrue b)
 true_and c true b is = (λ h. (refl, sym is ∙ h), λ h. is ∙ h.1)
 true_and c false b is = (λ h. absurd (cc), λ h. absurd (cc))
-
--- two pieces that make nothing are nothing
-both_nil : (u v : List ℕ) → u ++ v ≡ [] → (u ≡ []) × (v ≡ [])
-both_nil [] v e = (refl, e)
-both_nil (x ∷ u) v e = absurd (cc)
 
 module _ (Reads : Atom → List ℕ → Type 0) where
   derives_atom : (a : Atom) (w : List ℕ) → Derives Reads NoCalls [] (atom a) w → Reads a w
@@ -69,7 +65,7 @@ module _ (Reads : Atom → List ℕ → Type 0) where
   }
 
   derives_plus : (label : Option Label) (sign : Suffix) (xs : Alternatives Atom) (w : List ℕ) → w ≡ [] → Derives Reads NoCalls [] (block label (Plus sign) xs) w → DerivesOne Reads NoCalls [] xs []
-  derives_plus label sign xs w is (turns name g ys u v z one more e) = subst (DerivesOne Reads NoCalls [] xs) (both_nil u v (sym e ∙ is)).0 one
+  derives_plus label sign xs w is (turns name g ys u v z one more e) = subst (DerivesOne Reads NoCalls [] xs) (front_empty u v (sym is ∙ e)) one
 
   -- a plus
   pub tells_plus : (label : Option Label) (sign : Suffix) (xs : Alternatives Atom) (body : Found) (loops : Bool) → Tells body (DerivesOne Reads NoCalls [] xs []) (SomeHasEmptyLoop Reads NoCalls [] xs) → loops ≡ (body.empty || body.looped) → Tells (record { empty = body.empty; looped = loops }) (Derives Reads NoCalls [] (block label (Plus sign) xs) []) (HasEmptyLoop Reads NoCalls [] (block label (Plus sign) xs))
@@ -149,8 +145,7 @@ module _ (Reads : Atom → List ℕ → Type 0) where
 
   all_of_then : (x : Element Atom) (xs : Elements Atom) (w : List ℕ) → w ≡ [] → DerivesAll Reads NoCalls [] (then x xs) w → Derives Reads NoCalls [] x [] × DerivesAll Reads NoCalls [] xs []
   all_of_then x xs w is (one_more y ys u v z d more e) =
-      let nothing_read = both_nil u v (sym e ∙ is) in
-      (subst (Derives Reads NoCalls [] x) nothing_read.0 d, subst (DerivesAll Reads NoCalls [] xs) nothing_read.1 more)
+      (subst (Derives Reads NoCalls [] x) (front_empty u v (sym is ∙ e)) d, subst (DerivesAll Reads NoCalls [] xs) (back_empty u v (sym is ∙ e)) more)
 
   -- one more element
   pub in_order_more : (all : Elements Atom) (found next new : Found) (x : Element Atom) (xs : Elements Atom) → InOrderLeft all found (then x xs) → Tells next (Derives Reads NoCalls [] x []) (HasEmptyLoop Reads NoCalls [] x) →

@@ -9,11 +9,11 @@ use Rattle.g4_elements.specs.declared.element.Element.TheVariants as nodes
 use Rattle.g4_elements.specs.declared.element.Alternative.{Alternative as Side, out-Alternative}
 use Rattle.g4_elements.specs.Elements.{Element, block, Elements, Alternatives, either}
 use Rattle.g4_elements.specs.Trees.{in_order, element_of, alternative_of}
-use Rattle.g4_grammar.specs.Derives.{Derives, DerivesAll, DerivesOne}
+use Rattle.g4_grammar.specs.Derives.{NoCalls, Derives, DerivesAll, DerivesOne}
 use Rattle.g4_grammar.specs.Loops.{HasEmptyLoop, OneHasEmptyLoop, SomeHasEmptyLoop}
 use Rattle.g4_elements.proofs.Trees.{of_atom, of_block, of_alternative}
 use Rattle.g4_checks.specs.declared.found.Found.{Found}
-use Rattle.g4_checks.specs.Finding.{NoCalls, Tells}
+use Rattle.g4_checks.specs.Finding.{Tells}
 use Rattle.g4_checks.proofs.Empty.{tells_atom, EitherLeft, either_more, either_all, InOrderLeft, in_order_more, in_order_all}
 
 -- the trees of alternatives of the code

@@ -15,8 +15,8 @@ use Rattle.g4_source.specs.Rules.{rule_name, parser_rules, lexer_rules, alternat
 use Rattle.g4_grammar.specs.Loops.{OneHasEmptyLoop, SomeHasEmptyLoop}
 use Rattle.g4_grammar.specs.Written.{ReadsOneSymbol, ReadsCharacters, CallsParserRule, CallsLexerRule, ParserKindIsQuiet, LexerKindIsQuiet, ParserRuleIsQuiet, LexerRuleIsQuiet, RuleIsQuiet, RuleHasEmptyLoop}
 use Rattle.g4_checks.specs.Checking.{HaveNoEmptyLoop, IsFirstWithEmptyLoop}
-use Rattle.g4_checks.specs.Finding.{NoCalls}
-use Rattle.g4_grammar.proofs.Silent.{IsSilent, some_loops_alone}
+use Rattle.g4_grammar.specs.Derives.{NoCalls}
+use Rattle.g4_grammar.proofs.Silent.{IsSilent, no_calls_silent, some_loops_alone}
 use Rattle.g4_checks.proofs.Quiet.{parser_silent, lexer_silent}
 
 -- What is passed of a list has no such item: the list has one where the rest has.
@@ -61,11 +61,6 @@ parser_cons x xs = (λ h. h, λ h. h)
 
 pub lexer_cons : (x : LexerAlternative) (xs : List LexerAlternative) → LexerLoops (x ∷ xs) ↔ (OneHasEmptyLoop ReadsCharacters NoCalls [] x.elements ⊎ LexerLoops xs)
 lexer_cons x xs = (λ h. h, λ h. h)
-
--- where there are no calls, no atom calls a rule
-no_calls_silent : (xs : List Atom) → All (IsSilent NoCalls) xs
-no_calls_silent [] = All-nil (IsSilent NoCalls)
-no_calls_silent (x ∷ xs) = All-cons (IsSilent NoCalls) x xs (λ k called. called) (no_calls_silent xs)
 
 -- a quiet parser rule has such a loop whatever the rules are
 pub parser_rule_loops : (rules : List Rule) (rule : ParserRule Atom) → ParserRuleIsQuiet rule →

@@ -15,10 +15,6 @@ kind_reads Lexer = MatchesKind
 abbrev pub reads_of : Kind → Atom → List ℕ → Type 0
 reads_of kind a = kind_reads kind a.kind
 
--- As if no atom called a rule, as it is with quiet rules. What a quiet rule derives is the same whatever the rules are.
-abbrev pub NoCalls : Atom → ℕ → Type 0
-NoCalls a k = ⊥
-
 -- What is found tells whether the empty word is derived, and whether a loop can be empty.
 pub record Tells (found : Found) (IsEmpty IsLooped : Type 0) : Type 0 where
   pub empty : IsTrue found.empty ↔ IsEmpty

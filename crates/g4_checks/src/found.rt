@@ -3,9 +3,9 @@ ghost use Rattle.std.specs.Prelude.{◌≡◌, ◌↔◌, [], map, IsTrue, Optio
 ghost use Rattle.g4_elements.specs.declared.name.Label.{Label as Named};
 ghost use Rattle.g4_elements.specs.Elements.{block, either};
 ghost use Rattle.g4_elements.specs.Trees.{element_of, alternative_of, in_order};
-ghost use Rattle.g4_grammar.specs.Derives.{Derives, DerivesAll, DerivesOne};
+ghost use Rattle.g4_grammar.specs.Derives.{NoCalls, Derives, DerivesAll, DerivesOne};
 ghost use Rattle.g4_grammar.specs.Loops.{HasEmptyLoop, OneHasEmptyLoop, SomeHasEmptyLoop};
-ghost use Rattle.g4_checks.specs.Finding.{NoCalls, Tells, kind_reads, reads_of};
+ghost use Rattle.g4_checks.specs.Finding.{Tells, kind_reads, reads_of};
 
 use g4_elements::{Alternative, Element, Repeat};
 use g4_source::{Atom, AtomKind};

@@ -4,7 +4,7 @@ ghost use Rattle.g4_elements.specs.Elements.{either};
 ghost use Rattle.g4_source.specs.declared.rule.Rule.{Rule as AnyRule};
 ghost use Rattle.g4_grammar.specs.Loops.{SomeHasEmptyLoop};
 ghost use Rattle.g4_grammar.specs.Written.{ReadsCharacters, ReadsOneSymbol, RuleHasEmptyLoop, RuleIsQuiet};
-ghost use Rattle.g4_checks.specs.Finding.{NoCalls};
+ghost use Rattle.g4_grammar.specs.Derives.{NoCalls};
 
 use crate::found::{Kind, of_elements};
 use g4_source::{Atom, LexerAlternative, Rule, RuleAlternative};

@@ -1,80 +1,73 @@
--- What is so of a tree over other atoms, is so of the tree itself: that the empty word is derived, and that a loop can be empty.
--- No atom calls a rule here.
-use Rattle.std.proofs.Common.{◌≡◌, ℕ, ◌⊎◌, inl, inr, List, [], ◌∷◌, ◌++◌, refl, sym, ◌∙◌, subst}
+-- A loop of a tree over other atoms that can be empty is one of the tree itself, where an atom reads the empty word and calls
+-- a rule only if the atom of which it is made does.
+use Rattle.std.proofs.Common.{◌≡◌, ℕ, List, [], inl, inr, Some, refl, subst, slice_get}
 use Rattle.g4_elements.specs.declared.element.Repeat.TheVariants.{Once, Optional, Star, Plus}
 use Rattle.g4_elements.specs.Elements.{Element, atom, block, Elements, empty, then, Alternatives, none, or}
 use Rattle.g4_elements.specs.Bind.{over, in_order_over, either_over}
-use Rattle.g4_grammar.specs.Derives.{Derives, DerivesAll, DerivesOne, an_atom, a_call, a_block, left_out, no_turn, turns, nothing, one_more, this, another}
+use Rattle.g4_grammar.specs.Derives.{DerivesOne}
+use Rattle.g4_grammar.specs.LeftCalls.{Nullable, an_atom, a_call, a_block, an_optional, a_star, a_plus, AllNullable, nothing, one_more, OneNullable, this, another}
 use Rattle.g4_grammar.specs.Loops.{HasEmptyLoop, OneHasEmptyLoop, SomeHasEmptyLoop}
+use Rattle.g4_grammar.proofs.Empty.{one_derives_nothing, one_is_nullable}
 
--- no atom calls a rule
-abbrev pub NoCalls : {A : Type 0} → A → ℕ → Type 0
-NoCalls a k = ⊥
-
--- two words that make the empty one are empty
-first_empty : (u v : List ℕ) → u ++ v ≡ [] → u ≡ []
-first_empty [] v e = refl
-first_empty (x ∷ u) v e = absurd (cc)
-
-second_empty : (u v : List ℕ) → u ++ v ≡ [] → v ≡ []
-second_empty [] v e = e
-second_empty (x ∷ u) v e = absurd (cc)
-
-module _ {B : Type 0} (Reads : B → List ℕ → Type 0) where
-  -- how the empty word is derived
-  atom_reads : (b : B) (w : List ℕ) → Derives Reads NoCalls [] (atom b) w → Reads b w
-  atom_reads b w (an_atom c v reads) = reads
-  atom_reads b w (a_call c rule xs v called found d) = absurd called
-
-  once_derives : (label : _) (xs : Alternatives B) (w : List ℕ) → Derives Reads NoCalls [] (block label Once xs) w → DerivesOne Reads NoCalls [] xs w
-  once_derives label xs w (a_block name ys v d) = d
-
-  plus_derives : (label sign : _) (xs : Alternatives B) (w : List ℕ) → w ≡ [] → Derives Reads NoCalls [] (block label (Plus sign) xs) w → DerivesOne Reads NoCalls [] xs []
-  plus_derives label sign xs w is (turns name other ys u v z d more e) = subst (DerivesOne Reads NoCalls [] xs) (first_empty u v (sym e ∙ is)) d
-
-  then_derives : (x : Element B) (xs : Elements B) (w : List ℕ) → w ≡ [] → DerivesAll Reads NoCalls [] (then x xs) w → Derives Reads NoCalls [] x [] × DerivesAll Reads NoCalls [] xs []
-  then_derives x xs w is (one_more y ys u v z d more e) =
-      (subst (Derives Reads NoCalls [] x) (first_empty u v (sym e ∙ is)) d, subst (DerivesAll Reads NoCalls [] xs) (second_empty u v (sym e ∙ is)) more)
-
-  or_derives : (x : Elements B) (xs : Alternatives B) (w : List ℕ) → DerivesOne Reads NoCalls [] (or x xs) w → DerivesAll Reads NoCalls [] x w ⊎ DerivesOne Reads NoCalls [] xs w
-  or_derives x xs w (this y ys v d) = inl d
-  or_derives x xs w (another y ys v d) = inr d
-
-module _ {A B : Type 0} (f : A → B) (Reads : A → List ℕ → Type 0) (ReadsOver : B → List ℕ → Type 0) (reads : (a : A) → ReadsOver (f a) [] → Reads a []) where
+module _ {A B : Type 0} (f : A → B) (Reads : A → List ℕ → Type 0) (ReadsOver : B → List ℕ → Type 0) (Calls : A → ℕ → Type 0) (CallsOver : B → ℕ → Type 0) (rules : List (Alternatives A)) (made : List (Alternatives B))
+    (reads : (a : A) → ReadsOver (f a) [] → Reads a [])
+    (calls : (a : A) (k : ℕ) (ys : Alternatives B) → CallsOver (f a) k → slice_get made k ≡ Some ys → (j : ℕ) × Calls a j × ((xs : Alternatives A) × (slice_get rules j ≡ Some xs) × (ys ≡ either_over f xs))) where
   mutual
-    -- the empty word
-    empty_back : (x : Element A) → Derives ReadsOver NoCalls [] (over f x) [] → Derives Reads NoCalls [] x []
-    empty_back (atom a) d = an_atom a [] (reads a (atom_reads ReadsOver (f a) [] d))
-    empty_back (block label Once xs) d = a_block label xs [] (one_back xs (once_derives ReadsOver label (either_over f xs) [] d))
-    empty_back (block label (Optional sign) xs) d = left_out label sign xs
-    empty_back (block label (Star sign) xs) d = no_turn label sign xs
-    empty_back (block label (Plus sign) xs) d = turns label sign xs [] [] [] (one_back xs (plus_derives ReadsOver label sign (either_over f xs) [] refl d)) (no_turn label sign xs) refl
+    -- what derives the empty word over other atoms, does so itself
+    nullable_back : (y : Element B) → Nullable ReadsOver CallsOver made y → (x : Element A) → y ≡ over f x → Nullable Reads Calls rules x
+    nullable_back _ (an_atom b r) (atom a) e = let P : B → Type 0 = λ z. ReadsOver z [] in an_atom a (reads a (subst P (cc) r))
+    nullable_back _ (an_atom b r) (block label repeat xs) e = cc
+    nullable_back _ (a_call b k ys c is h) (atom a) e =
+        let P : B → Type 0 = λ z. CallsOver z k in
+        let called = calls a k ys (subst P (cc) c) is in
+        a_call a called.0 called.2.0 called.1 called.2.1 (one_back ys h called.2.0 called.2.2)
+    nullable_back _ (a_call b k ys c is h) (block label repeat xs) e = cc
+    nullable_back _ (a_block label ys h) (atom a) e = cc
+    nullable_back _ (a_block label ys h) (block other repeat xs) e = rw (let r : repeat ≡ Once = cc in r) (a_block other xs (one_back ys h xs (cc)))
+    nullable_back _ (an_optional label sign ys) (atom a) e = cc
+    nullable_back _ (an_optional label sign ys) (block other repeat xs) e = rw (let r : repeat ≡ Optional sign = cc in r) (an_optional other sign xs)
+    nullable_back _ (a_star label sign ys) (atom a) e = cc
+    nullable_back _ (a_star label sign ys) (block other repeat xs) e = rw (let r : repeat ≡ Star sign = cc in r) (a_star other sign xs)
+    nullable_back _ (a_plus label sign ys h) (atom a) e = cc
+    nullable_back _ (a_plus label sign ys h) (block other repeat xs) e = rw (let r : repeat ≡ Plus sign = cc in r) (a_plus other sign xs (one_back ys h xs (cc)))
 
-    all_back : (xs : Elements A) → DerivesAll ReadsOver NoCalls [] (in_order_over f xs) [] → DerivesAll Reads NoCalls [] xs []
-    all_back empty d = nothing
-    all_back (then x xs) d = let both = then_derives ReadsOver (over f x) (in_order_over f xs) [] refl d in one_more x xs [] [] [] (empty_back x both.0) (all_back xs both.1) refl
+    -- the same of elements
+    all_back : (ys : Elements B) → AllNullable ReadsOver CallsOver made ys → (xs : Elements A) → ys ≡ in_order_over f xs → AllNullable Reads Calls rules xs
+    all_back _ nothing empty e = nothing
+    all_back _ nothing (then x xs) e = cc
+    all_back _ (one_more y ys h hs) empty e = cc
+    all_back _ (one_more y ys h hs) (then x xs) e = one_more x xs (nullable_back y h x (cc)) (all_back ys hs xs (cc))
 
-    pub one_back : (xs : Alternatives A) → DerivesOne ReadsOver NoCalls [] (either_over f xs) [] → DerivesOne Reads NoCalls [] xs []
-    one_back none d = elim d [ ]
-    one_back (or x xs) d = elim (or_derives ReadsOver (in_order_over f x) (either_over f xs) [] d) [ inl e ↦ this x xs [] (all_back x e) | inr o ↦ another x xs [] (one_back xs o) ]
+    -- the same of alternatives
+    one_back : (ys : Alternatives B) → OneNullable ReadsOver CallsOver made ys → (xs : Alternatives A) → ys ≡ either_over f xs → OneNullable Reads Calls rules xs
+    one_back _ (this y ys h) none e = cc
+    one_back _ (this y ys h) (or x xs) e = this x xs (all_back y h x (cc))
+    one_back _ (another y ys h) none e = cc
+    one_back _ (another y ys h) (or x xs) e = another x xs (one_back ys h xs (cc))
+
+  -- a body that derives the empty word does so itself
+  body_back : (xs : Alternatives A) → DerivesOne ReadsOver CallsOver made (either_over f xs) [] → DerivesOne Reads Calls rules xs []
+  body_back xs d = one_derives_nothing Reads Calls rules (one_back (either_over f xs) (one_is_nullable ReadsOver CallsOver made d refl) xs refl)
 
   mutual
     -- a loop that can be empty
-    loop_back : (x : Element A) → HasEmptyLoop ReadsOver NoCalls [] (over f x) → HasEmptyLoop Reads NoCalls [] x
+    loop_back : (x : Element A) → HasEmptyLoop ReadsOver CallsOver made (over f x) → HasEmptyLoop Reads Calls rules x
     loop_back (atom a) h = h
     loop_back (block label Once xs) h = some_loop_back xs h
     loop_back (block label (Optional sign) xs) h = some_loop_back xs h
-    loop_back (block label (Star sign) xs) (inl e) = inl (one_back xs e)
+    loop_back (block label (Star sign) xs) (inl e) = inl (body_back xs e)
     loop_back (block label (Star sign) xs) (inr l) = inr (some_loop_back xs l)
-    loop_back (block label (Plus sign) xs) (inl e) = inl (one_back xs e)
+    loop_back (block label (Plus sign) xs) (inl e) = inl (body_back xs e)
     loop_back (block label (Plus sign) xs) (inr l) = inr (some_loop_back xs l)
 
-    all_loop_back : (xs : Elements A) → OneHasEmptyLoop ReadsOver NoCalls [] (in_order_over f xs) → OneHasEmptyLoop Reads NoCalls [] xs
+    -- in elements one after another
+    all_loop_back : (xs : Elements A) → OneHasEmptyLoop ReadsOver CallsOver made (in_order_over f xs) → OneHasEmptyLoop Reads Calls rules xs
     all_loop_back empty h = h
     all_loop_back (then x xs) (inl e) = inl (loop_back x e)
     all_loop_back (then x xs) (inr l) = inr (all_loop_back xs l)
 
-    pub some_loop_back : (xs : Alternatives A) → SomeHasEmptyLoop ReadsOver NoCalls [] (either_over f xs) → SomeHasEmptyLoop Reads NoCalls [] xs
+    -- in alternatives
+    pub some_loop_back : (xs : Alternatives A) → SomeHasEmptyLoop ReadsOver CallsOver made (either_over f xs) → SomeHasEmptyLoop Reads Calls rules xs
     some_loop_back none h = h
     some_loop_back (or x xs) (inl e) = inl (all_loop_back x e)
     some_loop_back (or x xs) (inr l) = inr (some_loop_back xs l)

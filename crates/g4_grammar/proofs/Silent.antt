@@ -1,16 +1,21 @@
 -- What elements derive none of whose atoms calls a rule is the same whatever the rules are.
-use Rattle.std.proofs.Common.{ℕ, ◌⊎◌, inl, inr, List, [], ◌++◌}
+use Rattle.std.proofs.Common.{ℕ, inl, inr, List, [], ◌∷◌}
 use Rattle.std.specs.List.{All}
-use Rattle.std.proofs.lemmas.List.Elements.{All-head}
+use Rattle.std.proofs.lemmas.List.Elements.{All-nil, All-cons, All-head}
 use Rattle.g4_elements.proofs.Parts.{All-front, All-rest}
 use Rattle.g4_elements.specs.declared.element.Repeat.TheVariants.{Once, Optional, Star, Plus}
 use Rattle.g4_elements.specs.Elements.{Element, atom, block, Elements, empty, then, Alternatives, none, or, atoms, atoms_in_order, atoms_of_either}
-use Rattle.g4_grammar.specs.Derives.{Derives, DerivesAll, DerivesOne, an_atom, a_call, a_block, left_out, taken, no_turn, a_turn, turns, nothing, one_more, this, another}
+use Rattle.g4_grammar.specs.Derives.{NoCalls, Derives, DerivesAll, DerivesOne, an_atom, a_call, a_block, left_out, taken, no_turn, a_turn, turns, nothing, one_more, this, another}
 use Rattle.g4_grammar.specs.Loops.{HasEmptyLoop, OneHasEmptyLoop, SomeHasEmptyLoop}
 
 -- the atom calls no rule
 abbrev pub IsSilent : {A : Type 0} → (A → ℕ → Type 0) → A → Type 0
 IsSilent Calls a = (k : ℕ) → Calls a k → ⊥
+
+-- where there are no calls, no atom calls a rule
+pub no_calls_silent : {A : Type 0} (xs : List A) → All (IsSilent NoCalls) xs
+no_calls_silent [] = All-nil (IsSilent NoCalls)
+no_calls_silent (x ∷ xs) = All-cons (IsSilent NoCalls) x xs (λ k called. called) (no_calls_silent xs)
 
 module _ {A : Type 0} (Reads : A → List ℕ → Type 0) (Calls Others : A → ℕ → Type 0) (rules other : List (Alternatives A)) where
   mutual

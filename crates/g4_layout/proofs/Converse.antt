@@ -17,7 +17,7 @@ use Rattle.g4_net.proofs.Frames.{bottomed}
 use Rattle.g4_net.proofs.NeverTheSame.{then_on}
 use Rattle.g4_layout.specs.Layout.{with_leave, AllLeadTo, Lies, LieInOrder, LieSideBySide, LiesAsRule, of_one, of_several, IsNetworkOf}
 use Rattle.g4_layout.specs.Layout as lay
-use Rattle.g4_layout.proofs.Empty.{one_is_nullable}
+use Rattle.g4_grammar.proofs.Empty.{one_is_nullable}
 use Rattle.g4_layout.proofs.Lifted.{and_on}
 use Rattle.g4_layout.proofs.Rules.{rule_laid}
 use Rattle.g4_layout.proofs.Spans.{member_cases}

@@ -15,7 +15,7 @@ use Rattle.g4_layout.specs.Layout.{AllLeadTo, Lies, LieInOrder, LieSideBySide}
 use Rattle.g4_layout.specs.Layout as lay
 use Rattle.g4_layout.proofs.Spans.{member_cases}
 use Rattle.g4_layout.proofs.Ends.{Ends, EndsAt, ends_by, ends_empty, ends_decision, ends_leave, ends_call, at_or_below, at_two}
-use Rattle.g4_layout.proofs.Empty.{one_derives_nothing, all_left_is_call, one_left_is_call}
+use Rattle.g4_grammar.proofs.Empty.{one_derives_nothing, all_left_is_call, one_left_is_call}
 
 module _ {L : Type 0} (Takes : L → ℕ → Type 0) (net : Network L) (rules : List (Alternatives (Step L))) (i : ℕ) where
   -- what the definitions of derivation take here

@@ -4,7 +4,7 @@ use Rattle.g4_elements.specs.declared.element.Repeat.TheVariants.{Once, Optional
 use Rattle.g4_elements.specs.Elements.{Element, atom, block, Elements, empty, then, Alternatives, none, or}
 use Rattle.g4_grammar.specs.LeftCalls.{Nullable, an_atom, a_call, a_block, an_optional, a_star, a_plus, AllNullable, nothing, one_more, OneNullable, this, another, IsLeftOf, IsLeftOfAll, IsLeftOfOne, HasCall, OneHasCall, SomeHasCall, LeftCalls, ReachesLeft, one_call, more_calls, NoLeftCycle}
 use Rattle.g4_grammar.specs.Loops.{IsEmptyBody, HasEmptyLoop, OneHasEmptyLoop, SomeHasEmptyLoop, NoEmptyLoop}
-use Rattle.g4_layout.proofs.Empty.{one_derives_nothing, one_is_nullable, one_left_is_call}
+use Rattle.g4_grammar.proofs.Empty.{one_derives_nothing, one_is_nullable, one_left_is_call}
 
 module _ {A : Type 0} (Reads : A → List ℕ → Type 0) (Calls : A → ℕ → Type 0) (first other : Alternatives A) (rest : List (Alternatives A))
     (later : (k j : ℕ) (xs : Alternatives A) → slice_get rest k ≡ Some xs → SomeHasCall Calls xs j → 1 ≤ j) where

@@ -12,7 +12,7 @@ use Rattle.g4_grammar.specs.LeftCalls.{OneNullable, this, another, one_more, an_
 use Rattle.g4_grammar.specs.Loops.{SomeHasEmptyLoop, NoEmptyLoop}
 use Rattle.g4_grammar.specs.StepRules.{StepRule, IsPlain, CanBeLaid}
 use Rattle.g4_grammar.specs.Steps.{CallsRule, ReadsSymbols, added_rule}
-use Rattle.g4_layout.proofs.Empty.{one_is_nullable}
+use Rattle.g4_grammar.proofs.Empty.{one_is_nullable}
 use Rattle.g4_layout.proofs.FirstRule.{no_loop_over, no_cycle_over}
 use Rattle.g4_layout.proofs.Trees.{EachIsSound, CallsKnown, each_sound}
 

@@ -1,6 +1,4 @@
 pub mod Spans
-pub mod Empty
-pub mod Grounded
 pub mod Ends
 pub mod Elements
 pub mod Lifted

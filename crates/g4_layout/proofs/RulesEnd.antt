@@ -13,8 +13,8 @@ use Rattle.g4_net.specs.Network.{state_at, start_of, end_of}
 use Rattle.g4_layout.specs.Layout.{LiesAsRule, of_one, of_several, IsNetworkOf}
 use Rattle.g4_layout.proofs.Ends.{EndsAt, ends_by, ends_empty, ends_decision, ends_return, ends_bottom}
 use Rattle.g4_layout.proofs.Elements.{CallEnds, in_order_ends, bodies_end, within_in_order_ends, within_bodies_end}
-use Rattle.g4_layout.proofs.Empty.{one_left_is_call}
-use Rattle.g4_layout.proofs.Grounded.{Grounded, grounded, all_grounded}
+use Rattle.g4_grammar.proofs.Empty.{one_left_is_call}
+use Rattle.g4_grammar.proofs.Grounded.{Grounded, grounded, all_grounded}
 use Rattle.g4_layout.proofs.Rules.{LaidRule, rule_laid, every_state}
 
 module _ {L : Type 0} (Takes : L → ℕ → Type 0) (rules : List (Alternatives (Step L))) (net : Network L) (i : ℕ) where

@@ -18,13 +18,14 @@ use Rattle.g4_grammar.specs.declared.numbered.NumberedKind.{NumberedKind}
 use Rattle.g4_grammar.specs.declared.numbered.NumberedKind.TheVariants.{Set, Rule, Predicate, Action}
 use Rattle.g4_grammar.specs.declared.step.Step.{Step}
 use Rattle.g4_grammar.specs.declared.step.Step.TheVariants as steps
+use Rattle.g4_grammar.specs.Derives.{NoCalls}
 use Rattle.g4_grammar.specs.Loops.{SomeHasEmptyLoop, NoEmptyLoop}
 use Rattle.g4_grammar.specs.LeftCalls.{IsLeftOf, IsLeftOfAll, IsLeftOfOne, LeftCalls, ReachesLeft, one_call, more_calls, NoLeftCycle, HasCall, OneHasCall, SomeHasCall}
 use Rattle.g4_grammar.specs.NumberedRules.{ReadsNumbered, CallsNumbered, numbered_alternatives, HaveNoEmptyLoops, NumberedKindIsQuiet, NumberedRuleIsQuiet, KindLeavesEnd, RuleLeavesEnd}
 use Rattle.g4_grammar.specs.StepRules.{StepRule, by_number, IsPlain, RuleIsPlain, CallsWithin, CanBeLaid}
 use Rattle.g4_grammar.specs.Steps.{CallsRule, ReadsSymbols}
-use Rattle.g4_grammar.proofs.Carried.{NoCalls, some_loop_back}
-use Rattle.g4_grammar.proofs.Silent.{IsSilent, some_loops_alone}
+use Rattle.g4_grammar.proofs.Carried.{some_loop_back}
+use Rattle.g4_grammar.proofs.Silent.{IsSilent, no_calls_silent, some_loops_alone}
 use Rattle.g4_resolve.specs.Resolving.{step_of, resolved_alternative, resolved_rule}
 
 module _ {A B : Type 0} (f : A → B) where
@@ -198,16 +199,12 @@ module _ (names : List (List ℕ)) (predicates : List Place) where
       last j (one_call i called) = none_called k i called
       last j (more_calls i h before called) = none_called i h called
 
-  no_calls_silent : (xs : List NumberedAtom) → All (IsSilent NoCalls) xs
-  no_calls_silent [] = All-nil (IsSilent NoCalls)
-  no_calls_silent (x ∷ xs) = All-cons (IsSilent NoCalls) x xs (λ k called. called) (no_calls_silent xs)
-
   -- a loop of a rule over steps that can be empty is one of the rule
   loop_of_rule : (rules : List (ParserRule NumberedAtom)) (all : List (Alternatives (Step (List ℕ)))) (rule : ParserRule NumberedAtom) → NumberedRuleIsQuiet rule →
       SomeHasEmptyLoop ReadsSymbols CallsRule all (alternatives_of (resolved_rule names predicates rule)) → SomeHasEmptyLoop ReadsNumbered (CallsNumbered rules) (numbered_alternatives rules) (alternatives_of rule)
   loop_of_rule rules all rule quiet looped =
       some_loops_alone ReadsNumbered NoCalls (CallsNumbered rules) [] (numbered_alternatives rules) (alternatives_of rule) (no_calls_silent (atoms_of_either (alternatives_of rule)))
-      (some_loop_back becomes ReadsNumbered ReadsSymbols reads_back (alternatives_of rule)
+      (some_loop_back becomes ReadsNumbered ReadsSymbols NoCalls NoCalls [] [] reads_back (λ a k ys called is. absurd called) (alternatives_of rule)
       (subst (λ (xs : Alternatives (Step (List ℕ))). SomeHasEmptyLoop ReadsSymbols NoCalls [] xs) (alternatives_over rule)
       (some_loops_alone ReadsSymbols CallsRule NoCalls all [] (alternatives_of (resolved_rule names predicates rule)) (silent_rule rule quiet) looped)))
 

@@ -1,4 +1,3 @@
-mod EmptyLoops
 pub mod Keys
 mod Laws
 mod NumberedLoops

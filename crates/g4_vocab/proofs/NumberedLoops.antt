@@ -19,8 +19,8 @@ use Rattle.g4_grammar.specs.Loops.{SomeHasEmptyLoop}
 use Rattle.g4_grammar.specs.Written.{ReadsAnySymbol, ReadsOneSymbol, ParserCalls, CallsParserRule, RuleHasEmptyLoop}
 use Rattle.g4_vocab.specs.declared.types.Entry.{Entry}
 use Rattle.g4_grammar.specs.NumberedRules.{ReadsKind, ReadsNumbered, KindCalls, CallsNumbered, numbered_alternatives, HaveNoEmptyLoops}
+use Rattle.g4_grammar.proofs.Carried.{some_loop_back}
 use Rattle.g4_vocab.specs.Numbering.{numbered_atom, numbered_kind, numbered_rule}
-use Rattle.g4_vocab.proofs.EmptyLoops.{some_back}
 use Rattle.g4_vocab.proofs.Laws.{tree_of, all_head, all_tail, all_none}
 
 -- what holds of each item holds of the one at this index
@@ -114,5 +114,5 @@ module _ (lexers : List LexerRule) (types : List Entry) where
       let made : List (ParserRule NumberedAtom) = map (numbered_rule lexers types) parsers in
       let rule = rule_back parsers k ys is in
       at_index (λ (r : ParserRule Atom). SomeHasEmptyLoop ReadsOneSymbol (CallsParserRule parsers) (map alternatives_of parsers) (alternatives_of r) → ⊥) parsers k rule.0 (parsers_none rules rules h) rule.1
-      (some_back (numbered_atom lexers types) ReadsOneSymbol ReadsNumbered (CallsParserRule parsers) (CallsNumbered made) (map alternatives_of parsers) (numbered_alternatives made) (λ a w r. reads a.kind w r) (λ a j zs c at. called_back parsers a.kind j zs c at) (alternatives_of rule.0)
+      (some_loop_back (numbered_atom lexers types) ReadsOneSymbol ReadsNumbered (CallsParserRule parsers) (CallsNumbered made) (map alternatives_of parsers) (numbered_alternatives made) (λ a r. reads a.kind [] r) (λ a j zs c at. called_back parsers a.kind j zs c at) (alternatives_of rule.0)
       (subst (SomeHasEmptyLoop ReadsNumbered (CallsNumbered made) (numbered_alternatives made)) rule.2 loop))

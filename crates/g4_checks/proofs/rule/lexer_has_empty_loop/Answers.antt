@@ -3,7 +3,7 @@ use Rattle.g4_elements.specs.Elements.{Elements}
 use Rattle.g4_source.specs.declared.atom.Atom.{Atom}
 use Rattle.g4_grammar.specs.Loops.{OneHasEmptyLoop}
 use Rattle.g4_grammar.specs.Written.{ReadsCharacters}
-use Rattle.g4_checks.specs.Finding.{NoCalls}
+use Rattle.g4_grammar.specs.Derives.{NoCalls}
 use Rattle.g4_checks.proofs.Rules.{LexerLoops, lexer_cons, one_found, one_passed}
 use Rattle.g4_checks.proofs.rule.lexer_has_empty_loop.Goals as goal
 

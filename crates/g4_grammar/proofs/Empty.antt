@@ -6,11 +6,11 @@ use Rattle.g4_grammar.specs.Derives as word
 use Rattle.g4_grammar.specs.LeftCalls.{Nullable, an_atom, a_call, a_block, an_optional, a_star, a_plus, AllNullable, nothing, one_more, OneNullable, this, another, IsLeftOf, IsLeftOfAll, IsLeftOfOne, HasCall, OneHasCall, SomeHasCall}
 
 -- the parts of the empty word are empty
-front_empty : (u v : List ℕ) → [] ≡ u ++ v → u ≡ []
+pub front_empty : (u v : List ℕ) → [] ≡ u ++ v → u ≡ []
 front_empty [] v e = refl
 front_empty (a ∷ u) v e = absurd (let n : ⊥ = cc in n)
 
-back_empty : (u v : List ℕ) → [] ≡ u ++ v → v ≡ []
+pub back_empty : (u v : List ℕ) → [] ≡ u ++ v → v ≡ []
 back_empty [] v e = sym e
 back_empty (a ∷ u) v e = absurd (let n : ⊥ = cc in n)
 
