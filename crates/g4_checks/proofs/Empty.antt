@@ -1,5 +1,5 @@
 -- Which elements derive the empty word, and which have a loop that can be empty, by what they are made of.
-use Rattle.std.proofs.Common.{◌≡◌, ℕ, ◌⊎◌, ◌↔◌, inl, inr, List, [], ◌∷◌, ◌++◌, Bool, true, false, ◌||◌, ◌&&◌, IsTrue, Option, refl, sym, ◌∙◌, subst}
+use Rattle.std.proofs.Common.{◌≡◌, ℕ, ◌⊎◌, ◌↔◌, inl, inr, List, [], Bool, true, false, ◌||◌, ◌&&◌, IsTrue, Option, refl, sym, ◌∙◌, subst}
 use Rattle.g4_source.specs.declared.atom.Atom.{Atom}
 use Rattle.g4_elements.specs.declared.name.Label.{Label}
 use Rattle.g4_elements.specs.declared.element.Suffix.{Suffix}

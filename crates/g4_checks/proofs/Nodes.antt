@@ -1,5 +1,5 @@
 -- What is found of the elements and alternatives of the code.
-use Rattle.std.proofs.Common.{◌≡◌, ℕ, ◌+◌, ◌<◌, ◌≤◌, ◌↔◌, List, [], ◌∷◌, length, map, drop, get_or, Bool, true, false, ◌||◌, ◌&&◌, IsTrue, Option, Vec, Global, sym, ap, ◌∙◌, subst}
+use Rattle.std.proofs.Common.{◌≡◌, ℕ, ◌+◌, ◌<◌, ◌≤◌, ◌↔◌, List, [], ◌∷◌, length, map, drop, get_or, false, ◌||◌, ◌&&◌, IsTrue, Option, Vec, Global, sym, ap, ◌∙◌, subst}
 use Rattle.std.proofs.lemmas.List.{drop_more, drop_all}
 use Rattle.g4_source.specs.declared.atom.Atom.{Atom}
 use Rattle.g4_elements.specs.declared.name.Label.{Label}

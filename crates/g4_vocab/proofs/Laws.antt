@@ -1,5 +1,5 @@
 -- What holds of every numbered grammar.
-use Rattle.std.proofs.Common.{◌≡◌, ℕ, zero, suc, ◌+◌, ◌<◌, ◌≤◌, ◌==◌, List, [], ◌∷◌, ◌++◌, length, map, filter, not, Bool, true, false, cond, codes, Option, Some, None, max, refl, sym, ap, ◌∙◌, subst, arith, slice_index_or, All, Contains}
+use Rattle.std.proofs.Common.{◌≡◌, ℕ, zero, suc, ◌+◌, ◌<◌, ◌≤◌, ◌==◌, List, [], ◌∷◌, ◌++◌, length, map, not, Bool, true, false, cond, codes, Some, None, max, refl, sym, ap, ◌∙◌, subst, arith, slice_index_or, All, Contains}
 use Rattle.std.specs.Option.{unwrap_or, is_none}
 use Rattle.std.specs.Str.{bytes_eq}
 use Rattle.std.specs.List.{filter_map, range_with_len, list_any}
@@ -8,8 +8,8 @@ use Rattle.std.proofs.lemmas.List.Elements.{All-append, All-map, All-filter, All
 use Rattle.g4_symbols.specs.declared.symbol.TheConstants.{MOST_TYPES}
 use Rattle.g4_symbols.specs.Symbols.{eof, end_of_list}
 use Rattle.g4_elements.specs.Elements.{Element, atom, block, Elements, empty, then, Alternatives, none, or, either, atoms, atoms_in_order, atoms_of_either}
-use Rattle.g4_elements.specs.Bind.{bind, in_order_bind, either_bind, over, in_order_over, either_over}
-use Rattle.g4_elements.specs.Blocks.{IsSome, IsFull, AreFull, EachIsFull, AreFullAlternatives}
+use Rattle.g4_elements.specs.Bind.{over, in_order_over, either_over}
+use Rattle.g4_elements.specs.Blocks.{IsSome, IsFull, AreFull, EachIsFull}
 use Rattle.g4_source.specs.declared.atom.Atom.{Atom}
 use Rattle.g4_source.specs.declared.atom.AtomKind.{AtomKind}
 use Rattle.g4_source.specs.declared.atom.AtomKind.TheVariants as kinds
@@ -20,10 +20,9 @@ use Rattle.g4_source.specs.declared.rule.Rule.TheVariants.{Parser, Lexer}
 use Rattle.g4_source.specs.declared.rule.ParserRule.{ParserRule}
 use Rattle.g4_source.specs.declared.rule.LexerRule.{LexerRule}
 use Rattle.g4_source.specs.declared.rule.RuleAlternative.{RuleAlternative}
-use Rattle.g4_source.specs.Rules.{parser_rules, lexer_rules, alternatives_of, bodies_of}
+use Rattle.g4_source.specs.Rules.{parser_rules, lexer_rules, alternatives_of}
 use Rattle.g4_source.specs.Blocks.{ParserRuleIsFull, RulesAreFull, ParserRulesAreFull}
 use Rattle.g4_grammar.specs.declared.numbered.NumberedAtom.{NumberedAtom}
-use Rattle.g4_grammar.specs.declared.numbered.NumberedKind.{NumberedKind}
 use Rattle.g4_grammar.specs.declared.numbered.TokenRule.{TokenRule}
 use Rattle.g4_grammar.specs.Written.{RuleIsQuiet, ParserRuleIsQuiet, ParserKindIsQuiet, LexerRuleIsQuiet, LexerKindIsQuiet, TokenRuleIsQuiet}
 use Rattle.g4_vocab.specs.declared.types.Key.{Key}

@@ -9,11 +9,10 @@ use Rattle.g4_elements.specs.declared.element.Element.{Element as Node}
 use Rattle.g4_elements.specs.declared.element.Element.TheVariants as nodes
 use Rattle.g4_elements.specs.declared.element.Alternative.{Alternative as Side, out-Alternative}
 use Rattle.g4_elements.specs.Elements.{Element, atom, block, Elements, Alternatives, empty, then, none, or, either, atoms, atoms_in_order, atoms_of_either}
-use Rattle.g4_elements.specs.Bind.{in_order_over, in_order_bind, either_bind, bind}
+use Rattle.g4_elements.specs.Bind.{in_order_bind, either_bind, bind}
 use Rattle.g4_elements.specs.Trees.{in_order, element_of, alternative_of}
 use Rattle.g4_elements.proofs.Trees.{of_atom, of_block, of_alternative}
 use Rattle.g4_source.specs.declared.atom.Atom.{Atom}
-use Rattle.g4_source.specs.declared.atom.AtomKind.{AtomKind}
 use Rattle.g4_source.specs.declared.atom.TokenReference.{TokenReference}
 use Rattle.g4_source.specs.declared.rule.ParserRule.{ParserRule}
 use Rattle.g4_source.specs.declared.rule.RuleAlternative.{RuleAlternative}

@@ -1,5 +1,5 @@
 -- The numbered grammar of a source, from that of its parser rules and lexer rules.
-use Rattle.std.proofs.Common.{◌≡◌, ◌≤◌, ◌<◌, ℕ, List, [], length, map, Ok, Err, sym, ap, ◌∙◌, subst, All, arith}
+use Rattle.std.proofs.Common.{◌≡◌, ◌≤◌, ◌<◌, ℕ, List, [], length, Ok, Err, sym, ap, ◌∙◌, subst, All, arith}
 use Rattle.std.proofs.lemmas.List.{length-map}
 use Rattle.g4_symbols.specs.declared.symbol.TheConstants.{MOST_TYPES}
 use Rattle.g4_source.specs.declared.atom.Atom.{Atom}

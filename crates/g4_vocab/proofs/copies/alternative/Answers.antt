@@ -1,7 +1,4 @@
-use Rattle.std.proofs.Common.{◌≡◌, List, refl, ◌∙◌}
-use Rattle.g4_source.specs.declared.atom.Atom.{Atom}
-use Rattle.g4_source.specs.declared.rule.Command.{Command}
-use Rattle.g4_elements.specs.Elements.{Elements}
+use Rattle.std.proofs.Common.{◌≡◌, refl, ◌∙◌}
 use Rattle.g4_vocab.proofs.Nodes.{same_in_order}
 use Rattle.g4_vocab.proofs.copies.alternative.Goals as goal
 

@@ -1,4 +1,3 @@
-use Rattle.std.proofs.Common.{sym, ◌∙◌, subst, MatchOption}
 use Rattle.g4_vocab.proofs.Nodes.{literal_of_atom, literal_of_block}
 use Rattle.g4_vocab.proofs.literal.literal_element.Goals as goal
 

@@ -6,7 +6,6 @@ use Rattle.g4_elements.specs.Trees.{element_of, in_order}
 use Rattle.g4_elements.proofs.Trees.{of_atom}
 use Rattle.g4_source.specs.declared.atom.Atom.{Atom}
 use Rattle.g4_source.specs.declared.atom.AtomKind.TheVariants as kinds
-use Rattle.g4_source.specs.declared.rule.Command.{Command}
 use Rattle.g4_vocab.proofs.token_rule.literal_alternative.Goals as goal
 
 pub returns : goal.returns

@@ -1,9 +1,9 @@
-use Rattle.std.proofs.Common.{◌≡◌, ℕ, List, Option, Some, true, false, cond, sym, ap, ◌∙◌}
+use Rattle.std.proofs.Common.{◌≡◌, ℕ, List, Some, cond, sym, ap, ◌∙◌}
 use Rattle.std.specs.Option.{is_some}
 use Rattle.std.specs.Str.{bytes_eq}
 use Rattle.std.proofs.lemmas.Map.Text.{btree_map_updates_str}
-use Rattle.g4_vocab.specs.Tables.{at, kept, kept_more}
-use Rattle.g4_vocab.proofs.Kept.{rule_kept, several, alone, texts}
+use Rattle.g4_vocab.specs.Tables.{at}
+use Rattle.g4_vocab.proofs.Kept.{rule_kept, several, alone}
 use Rattle.g4_vocab.proofs.wholes.add_rule.Goals as goal
 use Rattle.g4_vocab.proofs.wholes.add_rule.Goals.{then-contains_key, else-contains_key}
 
