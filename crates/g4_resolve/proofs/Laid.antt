@@ -1,5 +1,5 @@
 -- Of quiet rules without END and without loops that can be empty, a network can be made.
-use Rattle.std.proofs.Common.{◌≡◌, ◌≤◌, ℕ, zero, suc, ◌⊎◌, inl, inr, List, [], ◌∷◌, ◌++◌, length, map, Some, option_map, refl, sym, ap, ◌∙◌, subst, get_or, slice_get}
+use Rattle.std.proofs.Common.{◌≡◌, ℕ, suc, inl, inr, List, [], ◌∷◌, ◌++◌, length, map, Some, option_map, refl, sym, ap, ◌∙◌, subst, get_or, slice_get}
 use Rattle.std.specs.List.{All}
 use Rattle.std.proofs.lemmas.List.{map-append}
 use Rattle.std.proofs.lemmas.List.Elements.{All-nil, All-cons, All-head, All-tail, All-map, All-weaker, All-get_or}
@@ -17,7 +17,6 @@ use Rattle.g4_grammar.specs.declared.numbered.NumberedAtom.{NumberedAtom}
 use Rattle.g4_grammar.specs.declared.numbered.NumberedKind.{NumberedKind}
 use Rattle.g4_grammar.specs.declared.numbered.NumberedKind.TheVariants.{Set, Rule, Predicate, Action}
 use Rattle.g4_grammar.specs.declared.step.Step.{Step}
-use Rattle.g4_grammar.specs.declared.step.Step.TheVariants as steps
 use Rattle.g4_grammar.specs.Derives.{NoCalls}
 use Rattle.g4_grammar.specs.Loops.{SomeHasEmptyLoop, NoEmptyLoop}
 use Rattle.g4_grammar.specs.LeftCalls.{IsLeftOf, IsLeftOfAll, IsLeftOfOne, LeftCalls, ReachesLeft, one_call, more_calls, NoLeftCycle, HasCall, OneHasCall, SomeHasCall}
