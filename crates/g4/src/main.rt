@@ -1,25 +1,12 @@
 // The program: the real files and streams around the top call.
 #![tactic(auto)]
 
-use g4_ports::{FileShelf, Open, OutSink};
+use g4_ports::{Failure, FileShelf, Open, OutSink};
 use g4_tool::{Status, run};
 use std::process::ExitCode;
 use std::{env, io};
 
-// The exit status of a run.
-fn number(status: Status) -> u8 {
-    match status {
-        Status::Done => 0,
-        Status::Refused => 1,
-        Status::Usage => 2,
-        Status::GrammarRefused => 3,
-        Status::Unread => 4,
-        Status::Unwritten => 5,
-        Status::NoMemory => 6,
-    }
-}
-
-// The words after the program's name.
+/// The words after the program's name.
 fn words(rt: &HostRuntime) -> Result<Vec<String>, io::Error> {
     let mut args = env::args(rt)?;
     let _name = args.next();
@@ -27,11 +14,20 @@ fn words(rt: &HostRuntime) -> Result<Vec<String>, io::Error> {
     Ok(words)
 }
 
+/// Says which file could not be read, and why.
+fn report_failure(rt: &HostRuntime, failure: &Failure) -> io::Result<()> {
+    let reason = failure.reason;
+    match &failure.name {
+        Some(name) => eprintln!(rt; "g4: {}: {reason}", name.as_str()),
+        None => eprintln!(rt; "g4: {reason}"),
+    }
+}
+
 fn main(rt: HostRuntime) -> ExitCode {
     let words = match words(&rt) {
         Ok(words) => words,
         Err(e) if e.kind() == io::ErrorKind::OutOfMemory => {
-            return ExitCode::from(number(Status::NoMemory));
+            return ExitCode::from(Status::NoMemory.number());
         }
         // Words that are no text are no command: no words stand for them.
         Err(_) => Vec::new(rt.alloc()),
@@ -39,6 +35,27 @@ fn main(rt: HostRuntime) -> ExitCode {
     let mut shelf = FileShelf::new(&rt);
     let mut out = OutSink::new(rt.stdout());
     let mut err = OutSink::new(rt.stderr());
-    let status = run(rt.alloc(), &words, &mut shelf, &mut out, &mut err, &Open);
-    ExitCode::from(number(status))
+    let status = run(
+        &rt,
+        rt.alloc(),
+        &words,
+        &mut shelf,
+        &mut out,
+        &mut err,
+        &Open,
+    );
+    // A run that ends without a line of its own says why. Where that cannot be written, the status alone tells.
+    let _said = match status {
+        Status::Unread => match shelf.failure() {
+            Some(failure) => report_failure(&rt, failure),
+            None => Ok(()),
+        },
+        Status::Unwritten => match out.failure().or(err.failure()) {
+            Some(reason) => eprintln!(rt; "g4: {reason}"),
+            None => Ok(()),
+        },
+        Status::NoMemory => eprintln!(rt; "g4: out of memory"),
+        _ => Ok(()),
+    };
+    ExitCode::from(status.number())
 }

@@ -9,5 +9,5 @@ mod ports;
 
 pub use memory_shelf::{MemFile, MemShelf};
 pub use memory_sink::MemSink;
-pub use outside::{FileShelf, OutSink};
+pub use outside::{Failure, FileShelf, OutSink};
 pub use ports::{Failed, Gate, Got, LIMIT, Open, Shelf, Sink, write_all};

@@ -25,7 +25,22 @@ pub struct MemShelf {
     pub misses: u64,
 }
 
-// The bytes of the first file of this name.
+impl MemShelf {
+    /// These files, of which none was fetched yet.
+    pub fn new(files: Vec<MemFile>, failing: Vec<u64>) -> MemShelf
+        ensures { result ≡ record { files = files; failing = failing; calls = 0; faults = 0; misses = 0 } }
+    {
+        MemShelf {
+            files,
+            failing,
+            calls: 0,
+            faults: 0,
+            misses: 0,
+        }
+    }
+}
+
+/// The bytes of the first file of this name.
 fn find<'a>(files: &'a [MemFile], name: &str) -> Option<&'a [u8]>
     ensures { option_map (λ bytes. bytes.now) result ≡ find_file files.now name.now }
 {

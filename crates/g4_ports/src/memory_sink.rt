@@ -31,18 +31,14 @@ impl Model for MemSink {
 }
 
 impl MemSink {
-    /// Room for this many bytes.
+    /// An output with room for this many bytes, that has taken none.
     pub fn new(
         alloc: Global,
         room: usize,
         failing: Vec<u64>,
         most: usize,
     ) -> Result<Self, AllocError>
-        ensures empty { IfOk result (λ s. s.bytes ≡ []) }
-        ensures room { IfOk result (λ s. s.room ≡ room) }
-        ensures failing { IfOk result (λ s. s.failing ≡ failing.items) }
-        ensures most { IfOk result (λ s. s.most ≡ most) }
-        ensures calls { IfOk result (λ s. s.calls ≡ 0) }
+        ensures { IfOk result (λ s. s ≡ record { bytes = []; room = room; failing = failing.items; most = most; calls = 0; faults = 0 }) }
     {
         let bytes = Vec::with_capacity(alloc, room)?;
         Ok(MemSink {
@@ -53,6 +49,13 @@ impl MemSink {
             calls: 0,
             faults: 0,
         })
+    }
+
+    /// How many puts there were.
+    pub fn calls(&self) -> u64
+        ensures { result ≡ self.now.calls }
+    {
+        self.calls
     }
 
     /// The bytes taken so far.

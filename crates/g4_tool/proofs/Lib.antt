@@ -1,11 +1,10 @@
+mod Built
 mod Fetched
-mod Lines
 mod Lists
-mod Meanings
-mod OneLine
-mod OnePrepared
-mod OneReport
+mod OneBuilt
+mod OneByOne
+mod OneEnd
+mod OneOutcome
 mod OneStage
-mod Prepared
 mod Reports
 mod Written

@@ -1,72 +1,88 @@
--- The reports that the stages make.
-use Rattle.std.proofs.Common.{◌≡◌, ◌<◌, ◌≤◌, ℕ, List, [], length, map, get_or, Ok, Err, Option, Some, None, IfSome, subst, sym, ap, ◌∙◌, String, string_bytes, Global}
-use Rattle.std.proofs.lemmas.List.{get_or-map}
-use Rattle.g4_ports.specs.Ports.{limit, IsFileOf}
-use Rattle.g4_ports.specs.declared.ports.Got.{Got}
-use Rattle.g4_tool.specs.Words.{Asked, command_of}
-use Rattle.g4_tool.specs.declared.prepare.Interpreter.{Interpreter}
-use Rattle.g4_tool.specs.declared.prepare.GrammarFault.{GrammarFault}
-use Rattle.g4_tool.specs.Inputs.{Files, inputs_of}
-use Rattle.g4_tool.specs.Outcomes.{AreFileLines}
-use Rattle.g4_tool.specs.Preparing.{IsPrepared}
-use Rattle.g4_tool.specs.Texts.{absent_line, large_line, usage_line}
-use Rattle.g4_tool.specs.Report.{one_line, whole_report, fault_line, IsFilesReport, IsGrammarReport, IsCommandReport, IsReport, no_command, file_absent, files_parsed, refused, grammar_absent, grammar_large, grammar_fetched}
+-- The reports and ends that the stages make.
+use Rattle.std.proofs.Common.{◌≡◌, ◌⊎◌, inl, inr, ◌++◌, ◌∷◌, [], ℕ, List, length, count_by, Bool, true, false, ◌==◌, if◌then◌else◌, Option, Some, Result, Ok, Err, ap, sym, ◌∙◌, refl, subst}
+use Rattle.std.specs.List.{list_all}
+use Rattle.g4_tool.specs.declared.files.Parsed.{Parsed}
 use Rattle.g4_tool.specs.declared.inputs.Input.{Input}
-use Rattle.g4_tool.specs.declared.write.Line.{Line}
+use Rattle.g4_tool.specs.declared.interpreter.Interpreter.{Interpreter}
 use Rattle.g4_tool.specs.declared.report.Report.{Report}
-use Rattle.g4_tool.specs.declared.report.Status.TheVariants as statuses
+use Rattle.g4_tool.specs.declared.status.Status.{Status}
+use Rattle.g4_tool.specs.declared.status.Status.TheVariants.{Done, Refused}
+use Rattle.g4_tool.specs.declared.stop.Stop.TheVariants as stops
+use Rattle.g4_tool.specs.declared.stop.Halt.{Halt}
+use Rattle.g4_tool.specs.declared.stop.Halt.TheVariants as halts
+use Rattle.g4_tool.specs.declared.write.Line.{Line}
+use Rattle.g4_tool.specs.Writing.{Wrote}
+use Rattle.g4_tool.specs.Texts.{closing_line}
+use Rattle.g4_tool.specs.Words.{Asked, command_of}
+use Rattle.g4_tool.specs.Inputs.{Files, inputs_of, GivesInputs}
+use Rattle.g4_tool.specs.Building.{Builds}
+use Rattle.g4_tool.specs.Stages.{IsHaltOf}
+use Rattle.g4_tool.specs.Outcomes.{AreParsed, is_accepted, lines_of_files}
+use Rattle.g4_tool.specs.Ends.{End, stopped, parsed, HasEnd, no_command, not_built, file_absent, files_parsed, status_of}
+use Rattle.g4_tool.specs.Report.{IsReportOf, IsReportOfFiles, IsReport, EndsWith, Means, ComesExactly, CanBeRun, IsComplete}
+use Rattle.g4_tool.proofs.OneByOne.{as_many, all_counted}
+use Rattle.g4_tool.proofs.OneEnd.{one_end, same_built, same_inputs}
 
--- every file was fetched, and has its line
-pub parsed_report : (files : Files) (names : List (List ℕ)) (interpreter : Interpreter) (inputs slice : List Input) (lines : List Line) (report : Report) →
-    report ≡ whole_report lines → slice ≡ inputs → inputs_of files names ≡ Ok inputs → AreFileLines interpreter names slice lines → IsFilesReport files names interpreter report
-parsed_report files names interpreter inputs slice lines report report_is slice_is fetched are =
-    subst (λ (r : Report). IsFilesReport files names interpreter r) (sym report_is)
-    (files_parsed inputs lines fetched (subst (λ (is : List Input). AreFileLines interpreter names is lines) slice_is are))
+-- the lines that are lent are written
+pub wrote_lent : {ob on eb en : Option (List ℕ)} (slice lines : List Line) → slice ≡ lines → Wrote slice ob on eb en → Wrote lines ob on eb en
+wrote_lent {ob} {on} {eb} {en} slice lines same h = subst (λ (ls : List Line). Wrote ls ob on eb en) same h
 
--- the name at a place
-pub name_at : (names : List (String Global)) (place : ℕ) (s : String Global) (name : List ℕ) → place < length names → s ≡ get_or names place s → name ≡ string_bytes {Z = Global} s →
-    get_or (map (string_bytes {Z = Global}) names) place [] ≡ name
-name_at names place s name within s_is name_is =
-    get_or-map (string_bytes {Z = Global}) names place s [] within ∙ ap (λ x. string_bytes {Z = Global} x) (sym s_is) ∙ sym name_is
+module _ (files : Files) (words : List (List ℕ)) (asked : Asked) (fetched : List (List ℕ)) (command : command_of words ≡ Some asked) where
+  -- a command without an interpreter
+  pub stops_unbuilt : (halt : Halt) → IsHaltOf (Builds files asked.grammar asked.start fetched) halt → EndsWith files words (Err halt)
+  stops_unbuilt (halts.Stop stop) h = not_built asked fetched stop command h
+  stops_unbuilt halts.Failed h = tt
+  stops_unbuilt halts.NoMemory h = tt
 
--- the first absent file
-pub absent_report : (files : Files) (names : List (String Global)) (interpreter : Interpreter) (place : ℕ) (s : String Global) (name : List ℕ) (line : Line) (report : Report) →
-    place < length names → s ≡ get_or names place s → name ≡ string_bytes {Z = Global} s → line ≡ absent_line name → report ≡ one_line line statuses.Unread →
-    inputs_of files (map (string_bytes {Z = Global}) names) ≡ Err (get_or (map (string_bytes {Z = Global}) names) place []) → IsFilesReport files (map (string_bytes {Z = Global}) names) interpreter report
-absent_report files names interpreter place s name line report within s_is name_is line_is report_is fetched =
-    subst (λ (r : Report). IsFilesReport files (map (string_bytes {Z = Global}) names) interpreter r) (sym (report_is ∙ ap (λ l. one_line l statuses.Unread) line_is))
-    (file_absent name (fetched ∙ ap (λ n. Err n) (name_at names place s name within s_is name_is)))
+  module _ (interpreter : Interpreter) (built : Builds files asked.grammar asked.start fetched (Ok interpreter)) where
+    -- a command without one of its files
+    pub stops_absent : {X : Type 0} (view : X → List Input) (halt : Halt) → GivesInputs view (inputs_of files asked.names) (Err halt) → EndsWith files words (Err halt)
+    stops_absent view (halts.Stop stops.Usage) h = absurd h
+    stops_absent view (halts.Stop (stops.Absent name)) h = file_absent asked fetched interpreter name command built h
+    stops_absent view (halts.Stop (stops.TooLarge name size)) h = absurd h
+    stops_absent view (halts.Stop (stops.Fault name fault)) h = absurd h
+    stops_absent view halts.Failed h = tt
+    stops_absent view halts.NoMemory h = tt
 
--- a grammar with a fault
-pub fault_report : (files : Files) (asked : Asked) (bytes : List ℕ) (fault : GrammarFault) (report : Report) →
-    report ≡ one_line (fault_line asked.grammar asked.start fault) statuses.GrammarRefused → IsPrepared bytes asked.start (Err fault) → IsGrammarReport files asked bytes report
-fault_report files asked bytes fault report report_is has = subst (λ (r : Report). IsGrammarReport files asked bytes r) (sym report_is) (refused fault has)
+    -- a command whose files are parsed
+    pub reports_files : (inputs : List Input) (made : Parsed) (count : ℕ) (report : Report) → inputs_of files asked.names ≡ Ok inputs → length asked.names ≡ length inputs → count ≡ length asked.names →
+        AreParsed asked.output interpreter asked.names inputs made → IsReportOfFiles made count report → IsReport files words report
+    reports_files inputs made count report there paired counted are is =
+        let all : count ≡ length are.outcomes = counted ∙ paired ∙ sym (as_many interpreter inputs are.outcomes are.are) in record {
+          end = parsed asked.output interpreter asked.names are.outcomes;
+          has = files_parsed asked fetched interpreter inputs are.outcomes command built there are.are;
+          is = record {
+            lines = is.lines ∙ ap (λ ls. ls ++ closing_line count made.accepted ∷ []) are.lines
+                ∙ ap (λ n. lines_of_files asked.output interpreter asked.names are.outcomes ++ closing_line n made.accepted ∷ []) all
+                ∙ ap (λ n. lines_of_files asked.output interpreter asked.names are.outcomes ++ closing_line (length are.outcomes) n ∷ []) are.accepted;
+            status = is.status ∙ ap (λ (n : ℕ). if made.accepted == n then Done else Refused) all ∙ ap (λ (n : ℕ). if n == length are.outcomes then Done else Refused) are.accepted
+                ∙ ap (λ (b : Bool). if b then Done else Refused) (all_counted are.outcomes);
+          };
+        }
 
--- what a told file answers
-pub told_file : (told : Option Files) (files : Files) (name : List ℕ) (got : Got) → told ≡ Some files → IfSome told (λ f. IsFileOf (f name) got) → IsFileOf (files name) got
-told_file told files name got is content = let P : Option Files → Type 0 = λ t. IfSome t (λ f. IsFileOf (f name) got) in subst P is content
+module _ (files : Files) (words : List (List ℕ)) (answer : Status) (report : Report) (is : IsReport files words report) (same : answer ≡ report.status) where
+  -- each status comes exactly where the words have an end with it
+  pub comes_exactly : ComesExactly files words answer
+  comes_exactly status = (
+    λ e. record { end = is.end; has = is.has; is = sym is.is.status ∙ sym same ∙ e },
+    λ m. same ∙ is.is.status ∙ ap status_of (one_end files words is.end m.end is.has m.has) ∙ m.is,
+  )
 
--- the grammar file was fetched
-pub fetched_report : (files : Files) (asked : Asked) (bytes slice : List ℕ) (report : Report) → slice ≡ bytes → files asked.grammar ≡ Some bytes → length bytes ≤ limit →
-    IsGrammarReport files asked slice report → IsCommandReport files asked report
-fetched_report files asked bytes slice report slice_is fetched small of =
-    grammar_fetched bytes report fetched small (subst (λ (b : List ℕ). IsGrammarReport files asked b report) slice_is of)
+  -- the end of a command that can be run
+  done_or_refused : (end : End) → HasEnd files words end → CanBeRun files words → (status_of end ≡ Done) ⊎ (status_of end ≡ Refused)
+  done_or_refused end (no_command none) can = absurd (let command = can.command in let no_way : ⊥ = cc in no_way)
+  done_or_refused end (not_built asked fetched stop command h) can =
+      let same = same_built files words asked can.asked fetched can.fetched (Err stop) (Ok can.interpreter) command can.command h can.built in
+      absurd (let no_way : ⊥ = cc in no_way)
+  done_or_refused end (file_absent asked fetched interpreter name command h k) can =
+      let same = same_inputs files words asked can.asked (Err name) (Ok can.inputs) command can.command k can.there in
+      absurd (let no_way : ⊥ = cc in no_way)
+  done_or_refused end (files_parsed asked fetched interpreter inputs outcomes command h k l) can = either (list_all is_accepted outcomes)
+    where
+      either : (b : Bool) → ((if b then Done else Refused) ≡ Done) ⊎ ((if b then Done else Refused) ≡ Refused)
+      either true = inl refl
+      either false = inr refl
 
--- no file has the grammar's name
-pub no_grammar_report : (files : Files) (asked : Asked) (line : Line) (report : Report) → line ≡ absent_line asked.grammar → report ≡ one_line line statuses.Unread →
-    files asked.grammar ≡ None → IsCommandReport files asked report
-no_grammar_report files asked line report line_is report_is none =
-    subst (λ (r : Report). IsCommandReport files asked r) (sym (report_is ∙ ap (λ l. one_line l statuses.Unread) line_is)) (grammar_absent none)
-
--- the grammar file is past the limit
-pub large_grammar_report : (files : Files) (asked : Asked) (size : ℕ) (line : Line) (report : Report) → line ≡ large_line asked.grammar size → report ≡ one_line line statuses.Unread →
-    limit < size → (bytes : List ℕ) × (files asked.grammar ≡ Some bytes) × (length bytes ≡ size) → IsCommandReport files asked report
-large_grammar_report files asked size line report line_is report_is large (bytes, fetched, size_is) =
-    subst (λ (r : Report). IsCommandReport files asked r)
-    (sym (report_is ∙ ap (λ l. one_line l statuses.Unread) (line_is ∙ ap (λ n. large_line asked.grammar n) (sym size_is))))
-    (grammar_large bytes fetched (subst (λ (n : ℕ). limit < n) (sym size_is) large))
-
--- the words are no command
-pub usage_report : (files : Files) (words : List (List ℕ)) (line : Line) (report : Report) → line ≡ usage_line → report ≡ one_line line statuses.Usage → command_of words ≡ None → IsReport files words report
-usage_report files words line report line_is report_is none =
-    subst (λ (r : Report). IsReport files words r) (sym (report_is ∙ ap (λ l. one_line l statuses.Usage) line_is)) (no_command none)
+  -- a command that can be run is Done or Refused
+  pub is_complete : IsComplete files words answer
+  is_complete can = elim (done_or_refused is.end is.has can) [ inl done ↦ inl (same ∙ is.is.status ∙ done) | inr refused ↦ inr (same ∙ is.is.status ∙ refused) ]

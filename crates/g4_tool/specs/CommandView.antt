@@ -5,4 +5,4 @@ use Rattle.g4_tool.specs.Words.{Asked}
 
 -- what the command asks for
 abbrev pub command_view : Command → Asked
-command_view c = record { grammar = c.grammar.now; start = c.start.now; names = map string_bytes c.names.now }
+command_view c = record { grammar = c.grammar.now; start = c.start.now; names = map string_bytes c.names.now; output = c.output }

@@ -1,10 +1,11 @@
 -- The files of a run.
-use Rattle.std.specs.Prelude.{◌≡◌, ◌≤◌, ◌<◌, ℕ, List, [], ◌∷◌, length, Option, Some, None, Result, Ok, Err, nat_lt, cond, slice_index_or}
-use Rattle.g4_ports.specs.Ports.{limit, Rose}
+use Rattle.std.specs.Prelude.{◌≡◌, ◌≤◌, ℕ, List, [], ◌∷◌, length, Option, Some, None, Result, Ok, Err, nat_lt, cond}
+use Rattle.g4_ports.specs.Ports.{limit}
 use Rattle.g4_tool.specs.declared.inputs.Input.{Input}
 use Rattle.g4_tool.specs.declared.inputs.Input.TheVariants.{Bytes, TooLarge}
-use Rattle.g4_tool.specs.declared.inputs.FetchError.{FetchError}
-use Rattle.g4_tool.specs.declared.inputs.FetchError.TheVariants.{Absent, Failed, NoMemory}
+use Rattle.g4_tool.specs.declared.stop.Stop.TheVariants as stops
+use Rattle.g4_tool.specs.declared.stop.Halt.{Halt}
+use Rattle.g4_tool.specs.declared.stop.Halt.TheVariants as halts
 
 -- the files by their names
 abbrev pub Files : Type 0
@@ -29,51 +30,17 @@ abbrev pub inputs_of : Files → List (List ℕ) → Result (List Input) (List �
 inputs_of files [] = Ok []
 inputs_of files (name ∷ names) = fetch_next name (files name) (inputs_of files names)
 
--- what fetching answers, where no fault and no want of memory ends it
-abbrev pub FetchFails : Result (List Input) (List ℕ) → List (List ℕ) → FetchError → Type 0
-FetchFails inputs names (Absent place) = inputs ≡ Err (slice_index_or names place [])
-FetchFails inputs names Failed = Unit {0}
-FetchFails inputs names NoMemory = Unit {0}
-
--- the call answers with the inputs of all the names, or with the first that is absent, unless a fault or want of memory ends it
-abbrev pub GivesInputs : {X : Type 0} → (X → List Input) → Result (List Input) (List ℕ) → List (List ℕ) → Result X FetchError → Type 0
-GivesInputs view inputs names (Ok x) = inputs ≡ Ok (view x)
-GivesInputs view inputs names (Err e) = FetchFails inputs names e
-
--- an input for each name, or a place within the names
-abbrev pub IsPlace : ℕ → FetchError → Type 0
-IsPlace count (Absent place) = place < count
-IsPlace count Failed = Unit {0}
-IsPlace count NoMemory = Unit {0}
-
--- there are as many inputs as names, or the absent name is one of them
-abbrev pub IsWithin : {X : Type 0} → (X → ℕ) → ℕ → Result X FetchError → Type 0
-IsWithin size count (Ok x) = count ≡ size x
-IsWithin size count (Err e) = IsPlace count e
+-- the call answers with the inputs of all the names, or stops at the first that is absent, unless a fetch fails or memory runs out
+abbrev pub GivesInputs : {X : Type 0} → (X → List Input) → Result (List Input) (List ℕ) → Result X Halt → Type 0
+GivesInputs view inputs (Ok x) = inputs ≡ Ok (view x)
+GivesInputs view inputs (Err (halts.Stop stops.Usage)) = ⊥
+GivesInputs view inputs (Err (halts.Stop (stops.Absent name))) = inputs ≡ Err name
+GivesInputs view inputs (Err (halts.Stop (stops.TooLarge name size))) = ⊥
+GivesInputs view inputs (Err (halts.Stop (stops.Fault name fault))) = ⊥
+GivesInputs view inputs (Err halts.Failed) = Unit {0}
+GivesInputs view inputs (Err halts.NoMemory) = Unit {0}
 
 -- the content is within the limit
 abbrev pub IsSmall : Input → Type 0
 IsSmall (Bytes bytes) = length bytes ≤ limit
 IsSmall (TooLarge size) = Unit {0}
-
--- the count of faults rises where a fetch failed, and stands still otherwise
-abbrev pub FaultsEnd : ℕ → ℕ → FetchError → Type 0
-FaultsEnd before now (Absent place) = now ≡ before
-FaultsEnd before now Failed = Rose before now
-FaultsEnd before now NoMemory = now ≡ before
-
--- the count of faults after fetching
-abbrev pub CountsFetching : {X : Type 0} → ℕ → ℕ → Result X FetchError → Type 0
-CountsFetching before now (Ok x) = now ≡ before
-CountsFetching before now (Err e) = FaultsEnd before now e
-
--- the count of misses has risen where a file is absent, and never falls
-abbrev pub MissesEnd : ℕ → ℕ → FetchError → Type 0
-MissesEnd before now (Absent place) = Rose before now
-MissesEnd before now Failed = before ≤ now
-MissesEnd before now NoMemory = before ≤ now
-
--- the count of misses after fetching
-abbrev pub CountsMissing : {X : Type 0} → ℕ → ℕ → Result X FetchError → Type 0
-CountsMissing before now (Ok x) = before ≤ now
-CountsMissing before now (Err e) = MissesEnd before now e

@@ -1,5 +1,5 @@
--- The outcome of a file, as its line: a function of the interpreter and the file's bytes alone.
-use Rattle.std.specs.Prelude.{◌≡◌, ℕ, List, [], ◌∷◌, Result, Ok, Err}
+-- What becomes of a file: a function of the interpreter and the file's bytes alone.
+use Rattle.std.specs.Prelude.{◌≡◌, ◌≢◌, ℕ, ◌+◌, List, [], ◌∷◌, ◌++◌, count_by, Bool, true, false, Ok, Err}
 use Rattle.g4_token_list.specs.declared.token.Tokens.{Tokens}
 use Rattle.g4_token_list.specs.TokenList.{word_of}
 use Rattle.g4_lexer.specs.Lexing.{IsLexing}
@@ -12,49 +12,90 @@ use Rattle.g4_parse.specs.Parsing.{IsParse}
 use Rattle.g4_parse.specs.TreeText.{tree_text}
 use Rattle.g4_tool.specs.Texts.{line_of_tree, mismatch_line, no_viable_line, too_deep_line, no_token_line, many_tokens_line, not_utf8_line, large_line}
 use Rattle.g4_tool.specs.declared.inputs.Input.{Input}
-use Rattle.g4_tool.specs.declared.inputs.Input.TheVariants.{Bytes, TooLarge}
-use Rattle.g4_tool.specs.declared.prepare.Interpreter.{Interpreter}
+use Rattle.g4_tool.specs.declared.inputs.Input.TheVariants as inputs
+use Rattle.g4_tool.specs.declared.interpreter.Interpreter.{Interpreter}
+use Rattle.g4_tool.specs.declared.outcome.Outcome.{Outcome}
+use Rattle.g4_tool.specs.declared.outcome.Outcome.TheVariants as outcomes
+use Rattle.g4_tool.specs.declared.files.Parsed.{Parsed}
+use Rattle.g4_tool.specs.declared.words.Output.{Output}
+use Rattle.g4_tool.specs.declared.words.Output.TheVariants.{Trees}
 use Rattle.g4_tool.specs.declared.write.Line.{Line}
 
-module _ (interpreter : Interpreter) (name : List ℕ) where
-  -- the line has the run's tree or its fault
-  abbrev pub TellsParse : Tokens → Result (List Item) ParseFault → Line → Type 0
-  TellsParse tokens (Ok tree) line = line ≡ line_of_tree name (tree_text interpreter.names tokens tree)
-  TellsParse tokens (Err (parsing.Mismatch at state)) line = line ≡ mismatch_line interpreter.shown interpreter.net name tokens at state
-  TellsParse tokens (Err (parsing.NoViable at)) line = line ≡ no_viable_line name tokens at
-  TellsParse tokens (Err (parsing.TooDeep at)) line = line ≡ too_deep_line name tokens at
-  TellsParse tokens (Err parsing.NoMemory) line = ⊥
+-- The outcome of an input: its size past the limit, the fault of its lexing, or the tree or the fault of the run over its tokens.
+pub data IsOutcome (interpreter : Interpreter) (input : Input) : Outcome → Type 0 where
+  too_large : (size : ℕ) → input ≡ inputs.TooLarge size → IsOutcome interpreter input (outcomes.TooLarge size)
+  not_lexed : (bytes : List ℕ) (fault : LexFault) → input ≡ inputs.Bytes bytes → IsLexing interpreter.token_rules bytes (Err fault) → fault ≢ lexing.NoMemory → IsOutcome interpreter input (outcomes.Lex fault)
+  not_parsed : (bytes : List ℕ) (tokens : Tokens) (fault : ParseFault) → input ≡ inputs.Bytes bytes → IsLexing interpreter.token_rules bytes (Ok tokens) → IsParse interpreter.net (word_of tokens.list) (Err fault) → fault ≢ parsing.NoMemory → IsOutcome interpreter input (outcomes.Parse tokens fault)
+  parsed : (bytes : List ℕ) (tokens : Tokens) (tree : List Item) → input ≡ inputs.Bytes bytes → IsLexing interpreter.token_rules bytes (Ok tokens) → IsParse interpreter.net (word_of tokens.list) (Ok tree) → IsOutcome interpreter input (outcomes.Tree tokens tree)
 
-  -- The line of a token list: that of the run over it.
-  pub record IsTokensLine (tokens : Tokens) (line : Line) : Type 0 where
-    pub result : Result (List Item) ParseFault
-    pub is : IsParse interpreter.net (word_of tokens.list) result
-    pub tells : TellsParse tokens result line
+-- an outcome for each input, in order
+abbrev pub AreOutcomes : Interpreter → List Input → List Outcome → Type 0
+AreOutcomes interpreter [] [] = Unit {0}
+AreOutcomes interpreter [] (outcome ∷ os) = ⊥
+AreOutcomes interpreter (input ∷ is) [] = ⊥
+AreOutcomes interpreter (input ∷ is) (outcome ∷ os) = IsOutcome interpreter input outcome × AreOutcomes interpreter is os
 
-  -- the line has what becomes of the tokens, or why there are none
-  abbrev pub TellsLexing : Result Tokens LexFault → Line → Type 0
-  TellsLexing (Ok tokens) line = IsTokensLine tokens line
-  TellsLexing (Err (lexing.NotUtf8 at)) line = line ≡ not_utf8_line name at
-  TellsLexing (Err (lexing.NoToken place character)) line = line ≡ no_token_line name place character
-  TellsLexing (Err (lexing.Tokens place)) line = line ≡ many_tokens_line name place
-  TellsLexing (Err lexing.NoMemory) line = ⊥
+-- memory was refused when the tokens were made, or when they were parsed
+abbrev pub lexing_refused : LexFault → Bool
+lexing_refused (lexing.NotUtf8 at) = false
+lexing_refused (lexing.NoToken place character) = false
+lexing_refused (lexing.Tokens place) = false
+lexing_refused lexing.NoMemory = true
 
-  -- The line of a file's bytes: that of its lexing.
-  pub record IsBytesLine (bytes : List ℕ) (line : Line) : Type 0 where
-    pub result : Result Tokens LexFault
-    pub is : IsLexing interpreter.token_rules bytes result
-    pub tells : TellsLexing result line
+abbrev pub parsing_refused : ParseFault → Bool
+parsing_refused (parsing.Mismatch at state) = false
+parsing_refused (parsing.NoViable at) = false
+parsing_refused (parsing.TooDeep at) = false
+parsing_refused parsing.NoMemory = true
 
-  -- the line of what was fetched under the name
-  abbrev pub IsFileLine : Input → Line → Type 0
-  IsFileLine (Bytes bytes) line = IsBytesLine bytes line
-  IsFileLine (TooLarge size) line = line ≡ large_line name size
+-- a file is accepted where it has a tree
+abbrev pub is_accepted : Outcome → Bool
+is_accepted (outcomes.Tree tokens tree) = true
+is_accepted (outcomes.Lex fault) = false
+is_accepted (outcomes.Parse tokens fault) = false
+is_accepted (outcomes.TooLarge size) = false
 
--- a line for each file, in order
-abbrev pub AreFileLines : Interpreter → List (List ℕ) → List Input → List Line → Type 0
-AreFileLines interpreter [] [] [] = Unit {0}
-AreFileLines interpreter (name ∷ names) (input ∷ inputs) (line ∷ lines) = IsFileLine interpreter name input line × AreFileLines interpreter names inputs lines
-AreFileLines interpreter [] (input ∷ inputs) lines = ⊥
-AreFileLines interpreter [] [] (line ∷ lines) = ⊥
-AreFileLines interpreter (name ∷ names) [] lines = ⊥
-AreFileLines interpreter (name ∷ names) (input ∷ inputs) [] = ⊥
+-- the lines of a lexer's fault
+abbrev pub lex_lines : List ℕ → LexFault → List Line
+lex_lines name (lexing.NotUtf8 at) = not_utf8_line name at ∷ []
+lex_lines name (lexing.NoToken place character) = no_token_line name place character ∷ []
+lex_lines name (lexing.Tokens place) = many_tokens_line name place ∷ []
+lex_lines name lexing.NoMemory = []
+
+-- the lines of a parser's fault
+abbrev pub parse_lines : Interpreter → List ℕ → Tokens → ParseFault → List Line
+parse_lines interpreter name tokens (parsing.Mismatch at state) = mismatch_line interpreter.shown interpreter.net name tokens at state ∷ []
+parse_lines interpreter name tokens (parsing.NoViable at) = no_viable_line name tokens at ∷ []
+parse_lines interpreter name tokens (parsing.TooDeep at) = too_deep_line name tokens at ∷ []
+parse_lines interpreter name tokens parsing.NoMemory = []
+
+-- the lines of a tree
+abbrev pub tree_lines : Output → Interpreter → List ℕ → Tokens → List Item → List Line
+tree_lines Trees interpreter name tokens tree = line_of_tree name (tree_text interpreter.names tokens tree) ∷ []
+
+-- the lines of the outcome of a file of this name
+abbrev pub outcome_lines : Output → Interpreter → List ℕ → Outcome → List Line
+outcome_lines output interpreter name (outcomes.Tree tokens tree) = tree_lines output interpreter name tokens tree
+outcome_lines output interpreter name (outcomes.Lex fault) = lex_lines name fault
+outcome_lines output interpreter name (outcomes.Parse tokens fault) = parse_lines interpreter name tokens fault
+outcome_lines output interpreter name (outcomes.TooLarge size) = large_line name size ∷ []
+
+-- the lines of all files, in order
+abbrev pub lines_of_files : Output → Interpreter → List (List ℕ) → List Outcome → List Line
+lines_of_files output interpreter [] os = []
+lines_of_files output interpreter (name ∷ names) [] = []
+lines_of_files output interpreter (name ∷ names) (outcome ∷ os) = outcome_lines output interpreter name outcome ++ lines_of_files output interpreter names os
+
+-- the lines of files and how many are accepted, from an outcome for each
+pub record AreParsed (output : Output) (interpreter : Interpreter) (names : List (List ℕ)) (inputs : List Input) (parsed : Parsed) : Type 0 where
+  pub outcomes : List Outcome
+  pub are : AreOutcomes interpreter inputs outcomes
+  pub lines : parsed.lines.items ≡ lines_of_files output interpreter names outcomes
+  pub accepted : parsed.accepted ≡ count_by is_accepted outcomes
+
+-- the lines of one more file, which is counted where it is accepted
+pub record IsOneMore (output : Output) (interpreter : Interpreter) (name : List ℕ) (input : Input) (before now : Parsed) : Type 0 where
+  pub outcome : Outcome
+  pub is : IsOutcome interpreter input outcome
+  pub lines : now.lines.items ≡ before.lines.items ++ outcome_lines output interpreter name outcome
+  pub accepted : now.accepted ≡ before.accepted + count_by is_accepted (outcome ∷ [])

@@ -1,63 +1,66 @@
 -- The report of a command line over files by their names: the lines for out and err, and the status.
-use Rattle.std.specs.Prelude.{◌≡◌, ◌≤◌, ◌<◌, ℕ, List, [], ◌∷◌, ◌++◌, length, Some, None, Ok, Err, cond, codes}
-use Rattle.std.specs.List.{list_all}
-use Rattle.g4_ports.specs.Ports.{limit}
+use Rattle.std.specs.Prelude.{◌≡◌, ◌↔◌, ◌⊎◌, ◌==◌, ℕ, List, [], ◌∷◌, ◌++◌, Some, Result, Ok, Err, if◌then◌else◌}
 use Rattle.g4_tool.specs.Words.{Asked, command_of}
-use Rattle.g4_tool.specs.Texts.{usage_line, absent_line, large_line, not_utf8_line, syntax_line, bad_set_line, twice_line, no_rule_line, limit_line, empty_loop_line, closing_line, is_tree}
-use Rattle.g4_tool.specs.Preparing.{IsPrepared}
+use Rattle.g4_tool.specs.Building.{Builds}
 use Rattle.g4_tool.specs.Inputs.{Files, inputs_of}
-use Rattle.g4_tool.specs.Outcomes.{AreFileLines}
+use Rattle.g4_tool.specs.Texts.{closing_line}
+use Rattle.g4_tool.specs.Ends.{End, stopped, HasEnd, lines_of, status_of}
+use Rattle.g4_tool.specs.declared.files.Parsed.{Parsed}
+use Rattle.g4_tool.specs.declared.stop.Halt.{Halt}
+use Rattle.g4_tool.specs.declared.stop.Halt.TheVariants as halts
 use Rattle.g4_tool.specs.declared.inputs.Input.{Input}
-use Rattle.g4_tool.specs.declared.write.Line.{Line}
-use Rattle.g4_tool.specs.declared.prepare.Interpreter.{Interpreter}
-use Rattle.g4_tool.specs.declared.prepare.GrammarFault.{GrammarFault}
-use Rattle.g4_tool.specs.declared.prepare.GrammarFault.TheVariants as faults
+use Rattle.g4_tool.specs.declared.interpreter.Interpreter.{Interpreter}
 use Rattle.g4_tool.specs.declared.report.Report.{Report}
-use Rattle.g4_tool.specs.declared.report.Status.{Status}
-use Rattle.g4_tool.specs.declared.report.Status.TheVariants as statuses
+use Rattle.g4_tool.specs.declared.status.Status.{Status}
+use Rattle.g4_tool.specs.declared.status.Status.TheVariants.{Done, Refused}
 
--- a report of one line
-abbrev pub one_line : Line → Status → Report
-one_line line status = record { lines = line ∷ []; status = status }
+-- the report has the lines and the status of the end
+pub record IsReportOf (end : End) (report : Report) : Type 0 where
+  pub lines : report.lines ≡ lines_of end
+  pub status : report.status ≡ status_of end
 
--- the line of a grammar's fault
-abbrev pub fault_line : List ℕ → List ℕ → GrammarFault → Line
-fault_line name start (faults.NotUtf8 at) = not_utf8_line name at
-fault_line name start (faults.Syntax place characters) = syntax_line name place characters
-fault_line name start (faults.BadSet place) = bad_set_line name place
-fault_line name start (faults.RuleTwice rule) = twice_line name rule
-fault_line name start faults.Rules = limit_line name (codes "rules 4096")
-fault_line name start faults.Types = limit_line name (codes "types 4096")
-fault_line name start (faults.EmptyLoop rule) = empty_loop_line name rule
-fault_line name start faults.UnknownStart = no_rule_line name start
-fault_line name start faults.Alternatives = limit_line name (codes "alternatives 1024")
-fault_line name start faults.States = limit_line name (codes "states 65536")
+-- the report has the lines of so many files, and the closing line
+pub record IsReportOfFiles (parsed : Parsed) (files : ℕ) (report : Report) : Type 0 where
+  pub lines : report.lines ≡ parsed.lines.items ++ closing_line files parsed.accepted ∷ []
+  pub status : report.status ≡ (if parsed.accepted == files then Done else Refused)
 
--- every line is a tree's, or some line is a fault's
-abbrev pub status_of : List Line → Status
-status_of lines = cond (list_all is_tree lines) statuses.Done statuses.Refused
+-- the status where all files are parsed
+abbrev pub IsOfFiles : Status → Type 0
+IsOfFiles status = (status ≡ Done) ⊎ (status ≡ Refused)
 
--- the files' lines and the closing line
-abbrev pub whole_report : List Line → Report
-whole_report lines = record { lines = lines ++ closing_line lines ∷ []; status = status_of lines }
+-- the report is that of the end that the words have
+pub record IsReport (files : Files) (words : List (List ℕ)) (report : Report) : Type 0 where
+  pub end : End
+  pub has : HasEnd files words end
+  pub is : IsReportOf end report
 
--- The report of the files: an absent one ends it with that line alone.
-pub data IsFilesReport (files : Files) (names : List (List ℕ)) (interpreter : Interpreter) : Report → Type 0 where
-  file_absent : (name : List ℕ) → inputs_of files names ≡ Err name → IsFilesReport files names interpreter (one_line (absent_line name) statuses.Unread)
-  files_parsed : (inputs : List Input) (lines : List Line) → inputs_of files names ≡ Ok inputs → AreFileLines interpreter names inputs lines → IsFilesReport files names interpreter (whole_report lines)
+-- the call answers with the report of the files, or as the command line stops, unless a fetch fails or memory runs out
+abbrev pub EndsWith : Files → List (List ℕ) → Result Report Halt → Type 0
+EndsWith files words (Ok report) = IsReport files words report
+EndsWith files words (Err (halts.Stop stop)) = HasEnd files words (stopped stop)
+EndsWith files words (Err halts.Failed) = Unit {0}
+EndsWith files words (Err halts.NoMemory) = Unit {0}
 
--- The report of a grammar file of these bytes: its first fault, or else the files' report.
-pub data IsGrammarReport (files : Files) (asked : Asked) (bytes : List ℕ) : Report → Type 0 where
-  refused : (fault : GrammarFault) → IsPrepared bytes asked.start (Err fault) → IsGrammarReport files asked bytes (one_line (fault_line asked.grammar asked.start fault) statuses.GrammarRefused)
-  accepted : (interpreter : Interpreter) (report : Report) → IsPrepared bytes asked.start (Ok interpreter) → IsFilesReport files asked.names interpreter report → IsGrammarReport files asked bytes report
+-- the words have an end with this status
+pub record Means (files : Files) (words : List (List ℕ)) (status : Status) : Type 0 where
+  pub end : End
+  pub has : HasEnd files words end
+  pub is : status_of end ≡ status
 
--- The report of a command: the grammar file is fetched first.
-pub data IsCommandReport (files : Files) (asked : Asked) : Report → Type 0 where
-  grammar_absent : files asked.grammar ≡ None → IsCommandReport files asked (one_line (absent_line asked.grammar) statuses.Unread)
-  grammar_large : (bytes : List ℕ) → files asked.grammar ≡ Some bytes → limit < length bytes → IsCommandReport files asked (one_line (large_line asked.grammar (length bytes)) statuses.Unread)
-  grammar_fetched : (bytes : List ℕ) (report : Report) → files asked.grammar ≡ Some bytes → length bytes ≤ limit → IsGrammarReport files asked bytes report → IsCommandReport files asked report
+-- the answer is each status exactly where the words have an end with it
+abbrev pub ComesExactly : Files → List (List ℕ) → Status → Type 0
+ComesExactly files words answer = (status : Status) → (answer ≡ status) ↔ Means files words status
 
--- The report of a list of words: the usage line, or the command's report.
-pub data IsReport (files : Files) (words : List (List ℕ)) : Report → Type 0 where
-  no_command : command_of words ≡ None → IsReport files words (one_line usage_line statuses.Usage)
-  a_command : (asked : Asked) (report : Report) → command_of words ≡ Some asked → IsCommandReport files asked report → IsReport files words report
+-- The words are a command whose grammar is without fault, and each of its files is there.
+pub record CanBeRun (files : Files) (words : List (List ℕ)) : Type 0 where
+  pub asked : Asked
+  pub fetched : List (List ℕ)
+  pub interpreter : Interpreter
+  pub inputs : List Input
+  pub command : command_of words ≡ Some asked
+  pub built : Builds files asked.grammar asked.start fetched (Ok interpreter)
+  pub there : inputs_of files asked.names ≡ Ok inputs
+
+-- where the command can be run, it is Done or Refused
+abbrev pub IsComplete : Files → List (List ℕ) → Status → Type 0
+IsComplete files words answer = CanBeRun files words → IsOfFiles answer

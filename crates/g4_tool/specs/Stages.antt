@@ -1,15 +1,43 @@
--- Stages, one behind another: each gives something to go on with, or the fault at which all ends.
-use Rattle.std.specs.Prelude.{◌≡◌, Result, Ok, Err}
-use Rattle.g4_tool.specs.declared.prepare.GrammarFault.{GrammarFault}
-use Rattle.g4_tool.specs.declared.prepare.PrepareError.{PrepareError}
-use Rattle.g4_tool.specs.declared.prepare.PrepareError.TheVariants as errors
+-- Stages, one after another: each gives something to go on with, or the fault at which all ends.
+use Rattle.std.specs.Prelude.{◌≡◌, ℕ, List, Result, Ok, Err}
+use Rattle.g4_tool.specs.declared.fault.GrammarFault.{GrammarFault}
+use Rattle.g4_tool.specs.declared.fault.CheckError.{CheckError}
+use Rattle.g4_tool.specs.declared.fault.CheckError.TheVariants as errors
+use Rattle.g4_tool.specs.declared.stop.Stop.{Stop}
+use Rattle.g4_tool.specs.declared.stop.Stop.TheVariants as stopping
+use Rattle.g4_tool.specs.declared.stop.Halt.{Halt}
+use Rattle.g4_tool.specs.declared.stop.Halt.TheVariants as halts
 
--- a stage gives what the layer answers, its faults told as those of the grammar file
-abbrev pub Gives : {X E : Type 0} → (Result X E → Type 0) → (E → PrepareError) → Result X GrammarFault → Type 0
-Gives IsAnswer told (Ok x) = IsAnswer (Ok x)
-Gives {E = E} IsAnswer told (Err fault) = (e : E) × IsAnswer (Err e) × (told e ≡ errors.Fault fault)
+-- a stage gives what the layer answers, its faults seen as those of a grammar
+abbrev pub Gives : {X E : Type 0} → (Result X E → Type 0) → (E → CheckError) → Result X GrammarFault → Type 0
+Gives IsAnswer seen (Ok x) = IsAnswer (Ok x)
+Gives {E = E} IsAnswer seen (Err fault) = (e : E) × IsAnswer (Err e) × (seen e ≡ errors.Fault fault)
 
 -- One stage and then another: the first fault of both, or else what the second gives of what the first gave.
-pub data Then {X Y : Type 0} (First : Result X GrammarFault → Type 0) (Second : X → Result Y GrammarFault → Type 0) : Result Y GrammarFault → Type 0 where
-  stops : (fault : GrammarFault) → First (Err fault) → Then First Second (Err fault)
-  goes_on : (x : X) (result : Result Y GrammarFault) → First (Ok x) → Second x result → Then First Second result
+pub data Then {X Y F : Type 0} (First : Result X F → Type 0) (Second : X → Result Y F → Type 0) : Result Y F → Type 0 where
+  stops : (fault : F) → First (Err fault) → Then First Second (Err fault)
+  goes_on : (x : X) (result : Result Y F) → First (Ok x) → Second x result → Then First Second result
+
+-- A stage over the grammar of the file of this name: its faults are faults of that file.
+pub data OfFile {X : Type 0} (name : List ℕ) (Stage : Result X GrammarFault → Type 0) : Result X Stop → Type 0 where
+  passes : (x : X) → Stage (Ok x) → OfFile name Stage (Ok x)
+  fails : (fault : GrammarFault) → Stage (Err fault) → OfFile name Stage (Err (stopping.Fault name fault))
+
+-- the call answers with what the stage gives, unless memory runs out
+abbrev pub IsErrorOf : {X : Type 0} → (Result X GrammarFault → Type 0) → CheckError → Type 0
+IsErrorOf Stage (errors.Fault fault) = Stage (Err fault)
+IsErrorOf Stage errors.NoMemory = Unit {0}
+
+abbrev pub IsAnswerOf : {X : Type 0} → (Result X GrammarFault → Type 0) → Result X CheckError → Type 0
+IsAnswerOf Stage (Ok x) = Stage (Ok x)
+IsAnswerOf Stage (Err error) = IsErrorOf Stage error
+
+-- the call ends with what the stages give, unless a fetch fails or memory runs out
+abbrev pub IsHaltOf : {X : Type 0} → (Result X Stop → Type 0) → Halt → Type 0
+IsHaltOf Stage (halts.Stop stop) = Stage (Err stop)
+IsHaltOf Stage halts.Failed = Unit {0}
+IsHaltOf Stage halts.NoMemory = Unit {0}
+
+abbrev pub Ends : {X : Type 0} → (Result X Stop → Type 0) → Result X Halt → Type 0
+Ends Stage (Ok x) = Stage (Ok x)
+Ends Stage (Err halt) = IsHaltOf Stage halt

@@ -1,5 +1,5 @@
 -- The lines of a report, as bytes.
-use Rattle.std.specs.Prelude.{ℕ, ◌-◌, List, [], ◌∷◌, ◌++◌, Option, Some, None, cond, ◌==◌, codes, slice_get, length, count_by, Bool, true, false}
+use Rattle.std.specs.Prelude.{ℕ, ◌-◌, List, [], ◌∷◌, ◌++◌, Option, Some, None, cond, ◌==◌, codes, slice_get}
 use Rattle.std.specs.List.{flat_map}
 use Rattle.std.specs.Fmt.{decimal}
 use Rattle.g4_base.specs.declared.place.Place.{Place}
@@ -124,11 +124,6 @@ no_rule_line name start = ToErr (name ++ (codes ": no parser rule " ++ (start ++
 abbrev pub limit_line : List ℕ → List ℕ → Line
 limit_line name kind = ToErr (name ++ (codes ": limit " ++ (kind ++ codes "\n")))
 
--- a line of a tree, and not of a fault
-abbrev pub is_tree : Line → Bool
-is_tree (ToOut text) = true
-is_tree (ToErr text) = false
-
--- the closing line
-abbrev pub closing_line : List Line → Line
-closing_line lines = ToOut (codes "files " ++ (decimal (length lines) ++ (codes " accepted " ++ (decimal (count_by is_tree lines) ++ codes "\n"))))
+-- the closing line: how many files there were, and how many were accepted
+abbrev pub closing_line : ℕ → ℕ → Line
+closing_line files accepted = ToOut (codes "files " ++ (decimal files ++ (codes " accepted " ++ (decimal accepted ++ codes "\n"))))

@@ -1,5 +1,5 @@
 // A large grammar, from its bytes to what parses with it; and a large file, from its bytes to what is written.
-use crate::prepare::prepare;
+use crate::interpreter::build_interpreter;
 use crate::tests::{shelf_of, words_of};
 use crate::{Status, run};
 use g4_ports::{MemSink, Open};
@@ -42,14 +42,12 @@ fn large(alloc: Global) -> Result<String, AllocError> {
 }
 
 #[test]
-fn prepares_a_large_grammar(rt: HostRuntime) -> Result<(), Fail> {
+fn builds_a_large_grammar(rt: HostRuntime) -> Result<(), Fail> {
     let alloc = rt.alloc();
     let text = large(alloc)?;
     assert!(rt; 100_000 < text.len());
-    if text.len() > 16_777_216 {
-        return Err("past the limit")?;
-    }
-    let Ok(interpreter) = prepare(alloc, text.as_bytes(), "r7") else {
+    let mut shelf = shelf_of(alloc, text.as_str(), "", Vec::new(alloc))?;
+    let Ok(interpreter) = build_interpreter(alloc, &mut shelf, "X.g4", "r7") else {
         return Err("no interpreter")?;
     };
     assert_eq!(rt; interpreter.names.len(), PARSERS);
@@ -74,7 +72,7 @@ fn writes_a_large_tree(rt: HostRuntime) -> Result<(), Fail> {
     let words = words_of(alloc, "parse -g X.g4 -s r f")?;
     let mut out = MemSink::new(alloc, 20_000, Vec::new(alloc), 20_000)?;
     let mut err = MemSink::new(alloc, 0, Vec::new(alloc), 1)?;
-    let status = run(alloc, &words, &mut shelf, &mut out, &mut err, &Open);
+    let status = run(&rt, alloc, &words, &mut shelf, &mut out, &mut err, &Open);
     assert_eq!(rt; status, Status::Done);
     assert!(rt; out.bytes().starts_with(b"f: (r if ab if ab "));
     assert!(rt; out.bytes().ends_with(b" if ab)\nfiles 1 accepted 1\n"));

@@ -1,10 +1,9 @@
-// What holds of all reports.
+// What holds of all command lines.
 ghost use Rattle.std.specs.Prelude.{◌≡◌, ℕ, List};
+ghost use Rattle.g4_tool.specs.Ends.{End, HasEnd};
 ghost use Rattle.g4_tool.specs.Inputs.{Files};
-ghost use Rattle.g4_tool.specs.Report.{IsReport};
-ghost use Rattle.g4_tool.specs.declared.report.Report.{Report};
 
-/// A list of words has at most one report over the same files.
-pub fn one_report()
-    ensures { (files : Files) (words : List (List ℕ)) (a b : Report) → IsReport files words a → IsReport files words b → a ≡ b }
+/// A list of words has at most one end over the same files, and so one report.
+pub fn one_end()
+    ensures { (files : Files) (words : List (List ℕ)) (a b : End) → HasEnd files words a → HasEnd files words b → a ≡ b }
 {}

@@ -1,22 +1,27 @@
 // The tool: from a command line and named files to what is written and the status.
 #![tactic(auto)]
 
-mod faults;
+mod fault;
 mod files;
 #[cfg(test)]
 mod grammar_tests;
 mod inputs;
+mod interpreter;
 #[cfg(test)]
 mod large_tests;
 mod law;
-mod prepare;
+mod load;
+mod messages;
+mod outcome;
 mod report;
+mod status;
+mod stop;
 #[cfg(test)]
 mod tests;
 mod tool;
 mod words;
 mod write;
 
-pub use law::one_report;
-pub use report::Status;
+pub use law::one_end;
+pub use status::Status;
 pub use tool::run;

@@ -1,43 +1,22 @@
 // The report of a command line: its lines and its status, made before any of it is written.
-ghost use Rattle.std.specs.Prelude.{◌≡◌, ◌≤◌, IfOk, None, Some, length, map, string_bytes};
-ghost use Rattle.std.specs.List.{list_all};
-ghost use Rattle.g4_tool.specs.Counting.{CountsReport};
+ghost use Rattle.std.specs.Prelude.{◌≡◌, ◌≤◌, ℕ, List, IfOk, MatchResult, None, Some, Err, length, map, string_bytes};
 ghost use Rattle.g4_tool.specs.CommandView.{command_view};
+ghost use Rattle.g4_tool.specs.Counting.{Counts, ReportCounts};
+ghost use Rattle.g4_tool.specs.Ends.{stopped};
 ghost use Rattle.g4_tool.specs.Inputs.{Files};
-ghost use Rattle.g4_tool.specs.Report.{IsCommandReport, IsFilesReport, IsGrammarReport, IsReport, fault_line, one_line, status_of, whole_report};
-ghost use Rattle.g4_tool.specs.Texts.{is_tree};
-ghost use Rattle.g4_tool.specs.Usable.{IsUsable};
+ghost use Rattle.g4_tool.specs.Report.{EndsWith, IsOfFiles, IsReport, IsReportOf, IsReportOfFiles};
 ghost use Rattle.g4_tool.specs.Words.{command_of};
 
-use crate::faults::{
-    absent, bad_set, empty_loop, large, limit, no_rule, not_utf8, syntax, twice, usage,
-};
-use crate::files::file_lines;
-use crate::inputs::{FetchError, fetch_all};
-use crate::prepare::{GrammarFault, Interpreter, PrepareError, prepare};
+use crate::files::{Parsed, parse_files};
+use crate::inputs::fetch_all;
+use crate::interpreter::build_interpreter;
+use crate::status::Status;
+use crate::stop::{Halt, Stop};
 use crate::words::{Command, read_words};
 use crate::write::Line;
 use g4_base::Sequence;
-use g4_ports::{Gate, Got, LIMIT, Shelf};
+use g4_ports::{Gate, Shelf};
 use std::alloc::{AllocError, Global};
-
-/// How a run ended.
-#[derive(Clone, Copy, Debug, PartialEq, Eq)]
-pub enum Status {
-    /// Every file was accepted.
-    Done,
-    /// Some file has a fault.
-    Refused,
-    /// The words are no command.
-    Usage,
-    /// The grammar has a fault.
-    GrammarRefused,
-    /// A file was absent, a grammar file past the limit, or reading failed.
-    Unread,
-    /// Writing failed.
-    Unwritten,
-    NoMemory,
-}
 
 /// What a run writes, and how it ends where nothing fails.
 #[derive(Drop)]
@@ -49,7 +28,7 @@ pub struct Report {
 /// Why there is no report.
 #[derive(Drop)]
 pub enum Stopped {
-    /// Reading failed.
+    /// A fetch failed.
     Failed,
     NoMemory,
 }
@@ -65,206 +44,102 @@ impl From<AllocError> for Stopped {
     }
 }
 
-// A report of one line.
-fn only(alloc: Global, line: Line, status: Status) -> Result<Report, AllocError>
-    ensures { IfOk result (λ report. report ≡ one_line line status) }
+/// The report of a command line that stops before any file is parsed.
+fn report_stop(alloc: Global, stop: &Stop) -> Result<Report, AllocError>
+    ensures { IfOk result (IsReportOf (stopped stop.now)) }
 {
-    let lines = vec![in alloc; line]?;
+    let line = stop.line(alloc)?;
     Ok(Report {
-        lines: Sequence::new(lines),
-        status,
+        lines: Sequence::new(vec![in alloc; line]?),
+        status: stop.status(),
     })
 }
 
-// The line of a grammar's fault.
-fn line_of_fault(
-    alloc: Global,
-    name: &str,
-    start: &str,
-    fault: &GrammarFault,
-) -> Result<Line, AllocError>
-    ensures { IfOk result (λ line. line ≡ fault_line name.now start.now fault.now) }
+/// The report of so many files.
+fn report_files(alloc: Global, parsed: Parsed, files: usize) -> Result<Report, AllocError>
+    ensures report { IfOk result (IsReportOfFiles parsed files) }
+    ensures status { IfOk result (λ report. IsOfFiles report.status) }
 {
-    match fault {
-        GrammarFault::NotUtf8(at) => not_utf8(alloc, name, *at),
-        GrammarFault::Syntax(place, characters) => {
-            syntax(alloc, name, *place, characters.as_slice())
-        }
-        GrammarFault::BadSet(place) => bad_set(alloc, name, *place),
-        GrammarFault::RuleTwice(rule) => twice(alloc, name, rule.as_str()),
-        GrammarFault::Rules => limit(alloc, name, "rules 4096"),
-        GrammarFault::Types => limit(alloc, name, "types 4096"),
-        GrammarFault::EmptyLoop(rule) => empty_loop(alloc, name, rule.as_str()),
-        GrammarFault::UnknownStart => no_rule(alloc, name, start),
-        GrammarFault::Alternatives => limit(alloc, name, "alternatives 1024"),
-        GrammarFault::States => limit(alloc, name, "states 65536"),
-    }
-}
-
-fn is_tree(line: &Line) -> bool
-    ensures { result ≡ is_tree line.now }
-{
-    matches!(line, Line::ToOut(_))
-}
-
-fn all_are_trees(lines: &[Line]) -> bool
-    ensures { result ≡ list_all is_tree lines.now }
-{
-    lines.iter().all(|line| is_tree(line))
-}
-
-// Done where each line is a tree's.
-fn status_of(lines: &[Line]) -> Status
-    ensures { result ≡ status_of lines.now }
-{
-    if all_are_trees(lines) {
+    let Parsed {
+        mut lines,
+        accepted,
+    } = parsed;
+    let closing = format!(in alloc; "files {files} accepted {accepted}\n")?;
+    lines.push(Line::ToOut(Sequence::new(closing.into_bytes())))?;
+    let status = if accepted == files {
         Status::Done
     } else {
         Status::Refused
-    }
-}
-
-// The closing line and the status of the files' lines.
-fn close(alloc: Global, mut lines: Vec<Line>) -> Result<Report, AllocError>
-    ensures { IfOk result (λ report. report ≡ whole_report lines.items) }
-{
-    let files = lines.len();
-    let accepted = lines.iter().filter(|line| is_tree(line)).count();
-    let status = status_of(&lines);
-    let closing = format!(in alloc; "files {files} accepted {accepted}\n")?;
-    lines.push(Line::ToOut(Sequence::new(closing.into_bytes())))?;
+    };
     Ok(Report {
         lines: Sequence::new(lines),
         status,
     })
 }
 
-// The report of the files, fetched in order.
-fn report_files<S: Shelf, G: Gate>(
+/// The report of a command whose files are parsed, or why none is.
+fn run_command<S: Shelf, G: Gate>(
     alloc: Global,
     shelf: &mut S,
-    names: &[String],
-    interpreter: &Interpreter,
-    gate: &G,
-) -> Result<Report, Stopped>
-    requires usable { IsUsable interpreter.now }
-    requires few { length names.now ≤ 4096 }
-    ensures content { (files : Files) → S.told shelf.old ≡ Some files
-        → IfOk result (IsFilesReport files (map string_bytes names.now) interpreter.now) }
-    ensures counts { CountsReport ⊥
-        (S.faults shelf.old) (S.faults shelf.new) (S.misses shelf.old) (S.misses shelf.new) result }
-{
-    match fetch_all(alloc, shelf, names) {
-        Ok(inputs) => {
-            let lines = file_lines(alloc, interpreter, names, &inputs, gate)?;
-            let report = close(alloc, lines)?;
-            Ok(report)
-        }
-        Err(FetchError::Absent(place)) => {
-            let line = absent(alloc, names[place].as_str())?;
-            let report = only(alloc, line, Status::Unread)?;
-            Ok(report)
-        }
-        Err(FetchError::Failed) => Err(Stopped::Failed),
-        Err(FetchError::NoMemory) => Err(Stopped::NoMemory),
-    }
-}
-
-// The report of a grammar's fault.
-fn report_fault(
-    alloc: Global,
     command: &Command<'_>,
-    fault: &GrammarFault,
-) -> Result<Report, AllocError>
-    ensures { IfOk result (λ report. report ≡ one_line (fault_line command.now.grammar.now command.now.start.now fault.now) Status.GrammarRefused) }
+    gate: &G,
+) -> Result<Report, Halt>
+    requires few { length command.now.names.now ≤ 4096 }
+    ensures keeps { S.told shelf.new ≡ S.told shelf.old }
+    ensures content { (files : Files) (words : List (List ℕ)) → S.told shelf.old ≡ Some files → command_of words ≡ Some (command_view command.now)
+        → EndsWith files words result }
+    ensures status { IfOk result (λ report. IsOfFiles report.status) }
+    ensures counts { Counts ⊥ (S.faults shelf.old) (S.faults shelf.new) (S.misses shelf.old) (S.misses shelf.new) result }
 {
-    let line = line_of_fault(alloc, command.grammar, command.start, fault)?;
-    let report = only(alloc, line, Status::GrammarRefused)?;
+    let interpreter = build_interpreter(alloc, shelf, command.grammar, command.start)?;
+    let names = command.names;
+    let inputs = fetch_all(alloc, shelf, names)?;
+    let parsed = parse_files(alloc, command.output, &interpreter, names, inputs, gate)?;
+    let report = report_files(alloc, parsed, names.len())?;
     Ok(report)
 }
 
-// The report of a grammar file of these bytes.
-fn report_grammar<S: Shelf, G: Gate>(
+/// The report of the words whose files are parsed, or why none is.
+fn run_words<S: Shelf, G: Gate>(
     alloc: Global,
     shelf: &mut S,
-    command: &Command<'_>,
-    bytes: &[u8],
+    words: &[String],
     gate: &G,
-) -> Result<Report, Stopped>
-    requires small { length bytes.now ≤ LIMIT }
-    requires few { length command.now.names.now ≤ 4096 }
-    ensures content { (files : Files) → S.told shelf.old ≡ Some files
-        → IfOk result (IsGrammarReport files (command_view command.now) bytes.now) }
-    ensures counts { CountsReport ⊥
+) -> Result<Report, Halt>
+    ensures keeps { S.told shelf.new ≡ S.told shelf.old }
+    ensures content { (files : Files) → S.told shelf.old ≡ Some files → EndsWith files (map string_bytes words.now) result }
+    ensures usage { command_of (map string_bytes words.now) ≡ None → result ≡ Err (Halt.Stop Stop.Usage) }
+    ensures status { IfOk result (λ report. IsOfFiles report.status) }
+    ensures counts { Counts (command_of (map string_bytes words.now) ≡ None)
         (S.faults shelf.old) (S.faults shelf.new) (S.misses shelf.old) (S.misses shelf.new) result }
 {
-    match prepare(alloc, bytes, command.start) {
-        Ok(interpreter) => {
-            let report = report_files(alloc, shelf, command.names, &interpreter, gate)?;
-            Ok(report)
-        }
-        Err(PrepareError::Fault(fault)) => {
-            let report = report_fault(alloc, command, &fault)?;
-            Ok(report)
-        }
-        Err(PrepareError::NoMemory) => Err(Stopped::NoMemory),
-    }
+    let Some(command) = read_words(words) else {
+        return Err(Halt::Stop(Stop::Usage));
+    };
+    let report = run_command(alloc, shelf, &command, gate)?;
+    Ok(report)
 }
 
-// The report of a command.
-fn report_command<S: Shelf, G: Gate>(
-    alloc: Global,
-    shelf: &mut S,
-    command: &Command<'_>,
-    gate: &G,
-) -> Result<Report, Stopped>
-    requires few { length command.now.names.now ≤ 4096 }
-    ensures content { (files : Files) → S.told shelf.old ≡ Some files
-        → IfOk result (IsCommandReport files (command_view command.now)) }
-    ensures counts { CountsReport ⊥
-        (S.faults shelf.old) (S.faults shelf.new) (S.misses shelf.old) (S.misses shelf.new) result }
-{
-    match shelf.fetch(alloc, command.grammar) {
-        Got::Bytes(octets) => {
-            let report = report_grammar(alloc, shelf, command, octets.as_slice(), gate)?;
-            Ok(report)
-        }
-        Got::Absent => {
-            let line = absent(alloc, command.grammar)?;
-            let report = only(alloc, line, Status::Unread)?;
-            Ok(report)
-        }
-        Got::TooLarge(size) => {
-            let line = large(alloc, command.grammar, size)?;
-            let report = only(alloc, line, Status::Unread)?;
-            Ok(report)
-        }
-        Got::Failed => Err(Stopped::Failed),
-        Got::NoMemory => Err(Stopped::NoMemory),
-    }
-}
-
-/// The report of the words, unless reading or memory fails.
+/// The report of the words, unless a fetch or memory fails.
 pub fn make_report<S: Shelf, G: Gate>(
     alloc: Global,
     shelf: &mut S,
     words: &[String],
     gate: &G,
 ) -> Result<Report, Stopped>
-    ensures content { (files : Files) → S.told shelf.old ≡ Some files
-        → IfOk result (IsReport files (map string_bytes words.now)) }
-    ensures counts { CountsReport (command_of (map string_bytes words.now) ≡ None)
+    ensures keeps { S.told shelf.new ≡ S.told shelf.old }
+    ensures content { (files : Files) → S.told shelf.old ≡ Some files → IfOk result (IsReport files (map string_bytes words.now)) }
+    ensures usage { command_of (map string_bytes words.now) ≡ None → MatchResult result (λ report. report.status ≡ Status.Usage) (λ stopped. stopped ≡ Stopped.NoMemory) }
+    ensures counts { ReportCounts (command_of (map string_bytes words.now) ≡ None)
         (S.faults shelf.old) (S.faults shelf.new) (S.misses shelf.old) (S.misses shelf.new) result }
 {
-    match read_words(words) {
-        Some(command) => {
-            let report = report_command(alloc, shelf, &command, gate)?;
+    match run_words(alloc, shelf, words, gate) {
+        Ok(report) => Ok(report),
+        Err(Halt::Stop(stop)) => {
+            let report = report_stop(alloc, &stop)?;
             Ok(report)
         }
-        None => {
-            let line = usage(alloc)?;
-            let report = only(alloc, line, Status::Usage)?;
-            Ok(report)
-        }
+        Err(Halt::Failed) => Err(Stopped::Failed),
+        Err(Halt::NoMemory) => Err(Stopped::NoMemory),
     }
 }

@@ -1,9 +1,11 @@
 // Whole runs over files in memory.
 use crate::{Status, run};
 use g4_base::{Sequence, Text};
-use g4_ports::{MemFile, MemShelf, MemSink, Open};
+use g4_ports::{Gate, MemFile, MemShelf, MemSink, Open};
 use std::alloc::Global;
+use std::sync::atomic::{AtomicU32, Ordering};
 use std::test::Fail;
+use std::thread::Threads;
 
 const HELLO: &str = "grammar H; r : 'hello' ID ; ID : [a-z]+ ; WS : [ \\n]+ -> skip ;";
 
@@ -20,13 +22,7 @@ pub fn shelf_of(
             bytes: Sequence::new(content.as_bytes().to_vec(alloc)?),
         })?;
     }
-    Ok(MemShelf {
-        files,
-        failing,
-        calls: 0,
-        faults: 0,
-        misses: 0,
-    })
+    Ok(MemShelf::new(files, failing))
 }
 
 pub fn words_of(alloc: Global, line: &str) -> Result<Vec<String>, Fail> {
@@ -38,7 +34,8 @@ pub fn words_of(alloc: Global, line: &str) -> Result<Vec<String>, Fail> {
 }
 
 // A run over the grammar and the text, on outputs that take three bytes a put: what was written, and the status.
-fn ran(
+fn ran<R: Threads + Sync>(
+    rt: &R,
     alloc: Global,
     line: &str,
     grammar: &str,
@@ -48,7 +45,7 @@ fn ran(
     let mut out = MemSink::new(alloc, 200, Vec::new(alloc), 3)?;
     let mut err = MemSink::new(alloc, 200, Vec::new(alloc), 3)?;
     let words = words_of(alloc, line)?;
-    let status = run(alloc, &words, &mut shelf, &mut out, &mut err, &Open);
+    let status = run(rt, alloc, &words, &mut shelf, &mut out, &mut err, &Open);
     Ok((out, err, status))
 }
 
@@ -253,7 +250,7 @@ const REPORTS: [(&str, &str, &str, &str, &str, Status); 24] = [
 #[test]
 fn reports(rt: HostRuntime) -> Result<(), Fail> {
     for (line, grammar, text, out, err, status) in REPORTS {
-        let (written, told, ended) = ran(rt.alloc(), line, grammar, text)?;
+        let (written, told, ended) = ran(&rt, rt.alloc(), line, grammar, text)?;
         assert_eq!(rt; written.bytes(), out.as_bytes(), "{line} {text}");
         assert_eq!(rt; told.bytes(), err.as_bytes(), "{line} {text}");
         assert_eq!(rt; ended, status, "{line} {text}");
@@ -261,20 +258,96 @@ fn reports(rt: HostRuntime) -> Result<(), Fail> {
     Ok(())
 }
 
-// A put and a fetch that fail: what was taken is a front part, and the status says which.
+/// How often a file was begun, and how often one was ended.
+#[derive(Drop)]
+struct Counting {
+    entered: AtomicU32,
+    left: AtomicU32,
+}
+
+impl Gate for Counting {
+    fn enter(&self, _worker: u32, _file: u32) {
+        self.entered.fetch_add(1, Ordering::SeqCst);
+    }
+
+    fn leave(&self, _worker: u32, _file: u32) {
+        self.left.fetch_add(1, Ordering::SeqCst);
+    }
+}
+
 #[test]
-fn failures(rt: HostRuntime) -> Result<(), Fail> {
+fn the_gate_is_told_of_each_file(rt: HostRuntime) -> Result<(), Fail> {
+    let alloc = rt.alloc();
+    let words = words_of(alloc, "parse -g X.g4 -s r f f f")?;
+    let mut shelf = shelf_of(alloc, HELLO, "hello", Vec::new(alloc))?;
+    let mut out = MemSink::new(alloc, 200, Vec::new(alloc), 100)?;
+    let mut err = MemSink::new(alloc, 200, Vec::new(alloc), 100)?;
+    let gate = Counting {
+        entered: AtomicU32::new(0),
+        left: AtomicU32::new(0),
+    };
+    let status = run(&rt, alloc, &words, &mut shelf, &mut out, &mut err, &gate);
+    assert_eq!(rt; status, Status::Refused);
+    assert_eq!(rt; gate.entered.load(Ordering::SeqCst), 3);
+    assert_eq!(rt; gate.left.load(Ordering::SeqCst), 3);
+    Ok(())
+}
+
+/// After the fetch that fails nothing is fetched or written.
+#[test]
+fn failed_fetches(rt: HostRuntime) -> Result<(), Fail> {
     let alloc = rt.alloc();
     let words = words_of(alloc, "parse -g X.g4 -s r f f")?;
-    let mut shelf = shelf_of(alloc, HELLO, "hello x", Vec::new(alloc))?;
-    let mut out = MemSink::new(alloc, 200, vec![in alloc; 1]?, 100)?;
-    let mut err = MemSink::new(alloc, 200, Vec::new(alloc), 100)?;
-    let status = run(alloc, &words, &mut shelf, &mut out, &mut err, &Open);
-    assert_eq!(rt; status, Status::Unwritten);
-    assert_eq!(rt; out.bytes(), b"f: (r hello x)\n".as_slice());
-    let mut shelf = shelf_of(alloc, HELLO, "hello x", vec![in alloc; 0]?)?;
-    let status = run(alloc, &words, &mut shelf, &mut out, &mut err, &Open);
-    assert_eq!(rt; status, Status::Unread);
-    assert_eq!(rt; err.bytes(), b"".as_slice());
+    for call in 0..3u64 {
+        let mut shelf = shelf_of(alloc, HELLO, "hello x", vec![in alloc; call]?)?;
+        let mut out = MemSink::new(alloc, 200, Vec::new(alloc), 100)?;
+        let mut err = MemSink::new(alloc, 200, Vec::new(alloc), 100)?;
+        let status = run(&rt, alloc, &words, &mut shelf, &mut out, &mut err, &Open);
+        assert_eq!(rt; status, Status::Unread);
+        assert_eq!(rt; shelf.calls, call + 1);
+        assert_eq!(rt; (out.calls(), err.calls()), (0, 0));
+    }
+    Ok(())
+}
+
+/// After the put that fails nothing is written.
+#[test]
+fn failed_puts(rt: HostRuntime) -> Result<(), Fail> {
+    let alloc = rt.alloc();
+    let words = words_of(alloc, "parse -g X.g4 -s r f f")?;
+    let written = ["", "f: (r hello x)\n", "f: (r hello x)\nf: (r hello x)\n"];
+    for (call, taken) in written.iter().enumerate() {
+        let mut shelf = shelf_of(alloc, HELLO, "hello x", Vec::new(alloc))?;
+        let mut out = MemSink::new(alloc, 200, vec![in alloc; call as u64]?, 100)?;
+        let mut err = MemSink::new(alloc, 200, Vec::new(alloc), 100)?;
+        let status = run(&rt, alloc, &words, &mut shelf, &mut out, &mut err, &Open);
+        assert_eq!(rt; status, Status::Unwritten);
+        assert_eq!(rt;
+            (shelf.calls, out.calls(), err.calls()),
+            (3, call as u64 + 1, 0)
+        );
+        assert_eq!(rt; out.bytes(), taken.as_bytes());
+    }
+    Ok(())
+}
+
+/// What a run that stops has fetched: nothing where the words are no command, else the files up to the one that is absent.
+#[test]
+fn fetches(rt: HostRuntime) -> Result<(), Fail> {
+    let alloc = rt.alloc();
+    for (line, grammar, calls) in [
+        ("parse -g X.g4 -s r", HELLO, 0),
+        ("parse -g Y.g4 -s r f f", HELLO, 1),
+        ("parse -g X.g4 -s r f f", "grammar X; r : ;;", 1),
+        ("parse -g X.g4 -s r f g f", HELLO, 3),
+        ("parse -g X.g4 -s r f f f", HELLO, 4),
+    ] {
+        let words = words_of(alloc, line)?;
+        let mut shelf = shelf_of(alloc, grammar, "hello x", Vec::new(alloc))?;
+        let mut out = MemSink::new(alloc, 200, Vec::new(alloc), 100)?;
+        let mut err = MemSink::new(alloc, 200, Vec::new(alloc), 100)?;
+        run(&rt, alloc, &words, &mut shelf, &mut out, &mut err, &Open);
+        assert_eq!(rt; shelf.calls, calls, "{line}");
+    }
     Ok(())
 }

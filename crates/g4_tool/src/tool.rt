@@ -1,19 +1,21 @@
 // The top call.
-ghost use Rattle.std.specs.Prelude.{◌≡◌, ◌≢◌, None, Some, map, string_bytes};
+ghost use Rattle.std.specs.Prelude.{◌≡◌, ◌≢◌, ◌≤◌, ◌↔◌, None, Some, map, string_bytes};
 ghost use Rattle.g4_ports.specs.Ports.{Rose};
 ghost use Rattle.g4_tool.specs.Inputs.{Files};
-ghost use Rattle.g4_tool.specs.Causes.{ComesExactly, IsComplete};
-ghost use Rattle.g4_tool.specs.Running.{HasCauses, HasReported, HasReportedFront};
+ghost use Rattle.g4_tool.specs.Running.{HasCauses, HasReportedFront, IsWhole, NothingFails};
 ghost use Rattle.g4_tool.specs.Words.{command_of};
 
-use crate::report::{Status, Stopped, make_report};
+use crate::report::{Stopped, make_report};
+use crate::status::Status;
 use crate::write::write_lines;
 use g4_ports::{Gate, Shelf, Sink};
 use std::alloc::Global;
+use std::thread::Threads;
 
 /// Runs a command line: fetches the grammar and the files that it names, and writes a line for each file, its tree on
 /// out or its first fault on err, and a closing line. Nothing is written before the whole report is made.
-pub fn run<S: Shelf, O: Sink, E: Sink, G: Gate>(
+pub fn run<R: Threads + Sync, S: Shelf, O: Sink, E: Sink, G: Gate>(
+    _rt: &R,
     alloc: Global,
     words: &[String],
     shelf: &mut S,
@@ -22,33 +24,23 @@ pub fn run<S: Shelf, O: Sink, E: Sink, G: Gate>(
     gate: &G,
 ) -> Status
     // Where nothing fails, both outputs have taken the whole report, and the status is its own.
-    ensures whole { (files : Files) → S.told shelf.old ≡ Some files
-        → ¬ (Rose (S.faults shelf.old) (S.faults shelf.new))
-        → ¬ (Rose (O.faults out.old) (O.faults out.new))
-        → ¬ (Rose (E.faults err.old) (E.faults err.new))
-        → result ≢ Status.NoMemory
-        → HasReported files (map string_bytes words.now) result (O.taken out.old) (O.taken out.new) (E.taken err.old) (E.taken err.new) }
-    // Then too each status comes exactly where what it means holds.
-    ensures exactly { (files : Files) → S.told shelf.old ≡ Some files
-        → ¬ (Rose (S.faults shelf.old) (S.faults shelf.new))
-        → ¬ (Rose (O.faults out.old) (O.faults out.new))
-        → ¬ (Rose (E.faults err.old) (E.faults err.new))
-        → result ≢ Status.NoMemory
-        → ComesExactly files (map string_bytes words.now) result }
-    // Then too a command with all its files, whose grammar is without fault, is Done or Refused.
-    ensures complete { (files : Files) → S.told shelf.old ≡ Some files
-        → ¬ (Rose (S.faults shelf.old) (S.faults shelf.new))
-        → ¬ (Rose (O.faults out.old) (O.faults out.new))
-        → ¬ (Rose (E.faults err.old) (E.faults err.new))
-        → result ≢ Status.NoMemory
-        → IsComplete files (map string_bytes words.now) result }
-    // Whatever fails, the outputs have taken nothing, or lines of the report up to some place and nothing behind it.
+    ensures whole { (files : Files)
+        → NothingFails files (S.told shelf.old) (S.faults shelf.old) (S.faults shelf.new) (O.faults out.old) (O.faults out.new) (E.faults err.old) (E.faults err.new) result
+        → IsWhole files (map string_bytes words.now) result (O.taken out.old) (O.taken out.new) (E.taken err.old) (E.taken err.new) }
+    // Whatever fails, the outputs have taken nothing, or lines of the report up to some place and nothing after it.
     ensures part { (files : Files) → S.told shelf.old ≡ Some files
         → HasReportedFront files (map string_bytes words.now) (O.taken out.old) (O.taken out.new) (E.taken err.old) (E.taken err.new) }
+    // Usage comes exactly where the words are no command, whether the files are told or not.
+    ensures usage { ¬ (Rose (O.faults out.old) (O.faults out.new)) → ¬ (Rose (E.faults err.old) (E.faults err.new)) → result ≢ Status.NoMemory
+        → ((result ≡ Status.Usage) ↔ (command_of (map string_bytes words.now) ≡ None)) }
     // Each status has its cause, whether the files are told or not.
     ensures causes { HasCauses (command_of (map string_bytes words.now) ≡ None)
         (O.faults out.old) (O.faults out.new) (E.faults err.old) (E.faults err.new)
         (S.faults shelf.old) (S.faults shelf.new) (S.misses shelf.old) (S.misses shelf.new) result }
+    // The files are the same afterwards, and no count falls: a second run can follow the first.
+    ensures keeps { S.told shelf.new ≡ S.told shelf.old }
+    ensures grows { (S.faults shelf.old ≤ S.faults shelf.new) × (S.misses shelf.old ≤ S.misses shelf.new)
+        × (O.faults out.old ≤ O.faults out.new) × (E.faults err.old ≤ E.faults err.new) }
 {
     match make_report(alloc, shelf, words, gate) {
         Ok(report) => match write_lines(report.lines.as_slice(), out, err) {

@@ -8,12 +8,20 @@ ghost use Rattle.g4_tool.specs.CommandView.{command_view};
 /// The most files of a command line.
 pub const MOST_FILES: usize = 4096;
 
-/// What a command line asks for: the grammar's file, its start rule, and the files to parse.
+/// What is written of a file that is accepted.
+#[derive(Clone, Copy)]
+pub enum Output {
+    /// Its tree, in a line.
+    Trees,
+}
+
+/// What a command line asks for: the grammar's file, its start rule, the files to parse, and what is written of them.
 #[derive(Clone, Copy)]
 pub struct Command<'a> {
     pub grammar: &'a str,
     pub start: &'a str,
     pub names: &'a [String],
+    pub output: Output,
 }
 
 // A word that is not empty and does not begin with `-`.
@@ -71,6 +79,7 @@ pub fn read_words(words: &[String]) -> Option<Command<'_>>
             grammar,
             start,
             names,
+            output: Output::Trees,
         })
     } else {
         None

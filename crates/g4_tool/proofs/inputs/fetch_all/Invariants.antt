@@ -3,12 +3,12 @@ use Rattle.g4_tool.specs.Inputs.{Files, inputs_of, IsSmall}
 use Rattle.g4_tool.proofs.Fetched.{with_front}
 use Rattle.g4_tool.proofs.inputs.fetch_all.Given as goal
 
-abbrev pub invariant-loop-place : goal.invariant-loop-place
-invariant-loop-place g l =
+abbrev pub invariant-loop-name : goal.invariant-loop-name
+invariant-loop-name g l =
     (g.S.Shelf.told l.shelf ≡ g.S.Shelf.told l.initial.shelf) ×
     (g.S.Shelf.faults l.shelf ≡ g.S.Shelf.faults l.initial.shelf) ×
     (g.S.Shelf.misses l.initial.shelf ≤ g.S.Shelf.misses l.shelf) ×
-    (length l.inputs.items ≡ l.place) ×
+    (length l.inputs.items ≡ l.name-index) ×
     ((files : Files) → g.S.Shelf.told l.initial.shelf ≡ Some files →
-    with_front l.inputs.items (inputs_of files (map string_bytes (drop l.place l.names))) ≡ inputs_of files (map string_bytes l.names)) ×
+    with_front l.inputs.items (inputs_of files (map string_bytes (drop l.name-index l.names))) ≡ inputs_of files (map string_bytes l.names)) ×
     (All IsSmall l.inputs.items)

@@ -1,9 +1,11 @@
 use Rattle.std.proofs.Common.{refl}
-use Rattle.g4_tool.proofs.Meanings.{comes_exactly, is_complete}
+use Rattle.g4_tool.proofs.Reports.{comes_exactly, is_complete, wrote_lent}
 use Rattle.g4_tool.proofs.tool.run.Goals as goal
 
-pub returns-in-Ok-write_lines-clause-exactly : goal.returns-in-Ok-write_lines-clause-exactly
-returns-in-Ok-write_lines-clause-exactly g c = λ files told _ _ _ _. comes_exactly files _ _ c.in-Ok.report (c.in-Ok.ensures.content files told) refl
-
-pub returns-in-Ok-write_lines-clause-complete : goal.returns-in-Ok-write_lines-clause-complete
-returns-in-Ok-write_lines-clause-complete g c = λ files told _ _ _ _. is_complete files _ _ c.in-Ok.report (c.in-Ok.ensures.content files told) refl
+pub returns-in-Ok-write_lines-clause-whole : goal.returns-in-Ok-write_lines-clause-whole
+returns-in-Ok-write_lines-clause-whole g c = λ files nothing.
+    let is = c.in-Ok.ensures.content files nothing.tells in record {
+      reported = record { report = c.in-Ok.report; is = is; status = refl; lines = wrote_lent _ _ c.as_slice.ensures c.in-Ok-write_lines.ensures.whole };
+      exactly = comes_exactly files _ _ c.in-Ok.report is refl;
+      complete = is_complete files _ _ c.in-Ok.report is refl;
+    }

@@ -1,0 +1,36 @@
+use Rattle.std.proofs.Common.{Ok}
+use Rattle.std.proofs.lemmas.Result.{err_from_is_err_and}
+use Rattle.g4_tool.proofs.Built.{read_exit, form_exit, name_exit, number_exit, check_exit, checked}
+use Rattle.g4_tool.proofs.load.read_and_check.Goals as goal
+
+pub returns-in_err-source-clause-grammar : goal.returns-in_err-source-clause-grammar
+returns-in_err-source-clause-grammar c =
+    let p = err_from_is_err_and c.from_residual.result c.from_residual.ensures.1 in
+    rw (p.1, p.2) (read_exit _ _ c.in_err-source.ensures.reading)
+
+pub returns-in_err-check_forms-clause-grammar : goal.returns-in_err-check_forms-clause-grammar
+returns-in_err-check_forms-clause-grammar c =
+    let p = err_from_is_err_and c.from_residual-in_err-check_forms.result c.from_residual-in_err-check_forms.ensures.1 in
+    rw (p.1, p.2) (form_exit _ c.in_ok-source.source c.in_ok-source.ensures.reading _ c.in_err-check_forms.ensures.forms)
+
+pub returns-in_err-check_names-clause-grammar : goal.returns-in_err-check_names-clause-grammar
+returns-in_err-check_names-clause-grammar c =
+    let p = err_from_is_err_and c.from_residual-in_err-check_names.result c.from_residual-in_err-check_names.ensures.1 in
+    rw (p.1, p.2) (name_exit _ c.in_ok-source.source c.in_ok-source.ensures.reading c.in_ok-check_forms.ensures.forms _ c.in_err-check_names.ensures)
+
+pub returns-in_err-grammar-clause-grammar : goal.returns-in_err-grammar-clause-grammar
+returns-in_err-grammar-clause-grammar c =
+    let p = err_from_is_err_and c.from_residual-in_err-grammar.result c.from_residual-in_err-grammar.ensures.1 in
+    rw (p.1, p.2) (number_exit _ c.in_ok-source.source c.in_ok-source.ensures.reading c.in_ok-check_forms.ensures.forms c.in_ok-check_names.ensures _ c.in_err-grammar.ensures.numbered)
+
+pub returns-in_err-check-clause-grammar : goal.returns-in_err-check-clause-grammar
+returns-in_err-check-clause-grammar c =
+    let p = err_from_is_err_and c.from_residual-in_err-check.result c.from_residual-in_err-check.ensures.1 in
+    rw (p.1, p.2)
+    (check_exit _ c.in_ok-source.source c.in_ok-source.ensures.reading c.in_ok-check_forms.ensures.forms c.in_ok-check_names.ensures c.in_ok-grammar.grammar c.in_ok-grammar.ensures.numbered
+    _ (c.in_err-check.ensures c.in_ok-check_forms.ensures.quiet))
+
+pub returns-clause-grammar : goal.returns-clause-grammar
+returns-clause-grammar c =
+    checked _ c.in_ok-source.source c.in_ok-source.ensures.reading c.in_ok-check_forms.ensures.forms c.in_ok-check_names.ensures c.in_ok-grammar.grammar c.in_ok-grammar.ensures.numbered
+    (c.in_ok-check.ensures c.in_ok-check_forms.ensures.quiet)

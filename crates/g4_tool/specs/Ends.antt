@@ -1,0 +1,78 @@
+-- How a command line ends over files by their names, and what is reported of that.
+use Rattle.std.specs.Prelude.{◌≡◌, ℕ, List, [], ◌∷◌, ◌++◌, length, count_by, Some, None, Ok, Err, codes, if◌then◌else◌}
+use Rattle.std.specs.List.{list_all}
+use Rattle.g4_tool.specs.Words.{Asked, command_of}
+use Rattle.g4_tool.specs.Texts.{usage_line, absent_line, large_line, not_utf8_line, syntax_line, bad_set_line, twice_line, no_rule_line, limit_line, empty_loop_line, closing_line}
+use Rattle.g4_tool.specs.Building.{Builds}
+use Rattle.g4_tool.specs.Inputs.{Files, inputs_of}
+use Rattle.g4_tool.specs.Outcomes.{AreOutcomes, is_accepted, lines_of_files}
+use Rattle.g4_tool.specs.declared.inputs.Input.{Input}
+use Rattle.g4_tool.specs.declared.outcome.Outcome.{Outcome}
+use Rattle.g4_tool.specs.declared.words.Output.{Output}
+use Rattle.g4_tool.specs.declared.write.Line.{Line}
+use Rattle.g4_tool.specs.declared.interpreter.Interpreter.{Interpreter}
+use Rattle.g4_tool.specs.declared.fault.GrammarFault.{GrammarFault}
+use Rattle.g4_tool.specs.declared.fault.GrammarFault.TheVariants as faults
+use Rattle.g4_tool.specs.declared.stop.Stop.{Stop}
+use Rattle.g4_tool.specs.declared.stop.Stop.TheVariants as stops
+use Rattle.g4_tool.specs.declared.status.Status.{Status}
+use Rattle.g4_tool.specs.declared.status.Status.TheVariants as statuses
+
+-- The end of a command line: it stops before any file is parsed, or each of its files has an outcome.
+pub data End : Type 0 where
+  stopped : Stop → End
+  parsed : Output → Interpreter → (names : List (List ℕ)) → List Outcome → End
+
+-- The end that a list of words has over the files.
+pub data HasEnd (files : Files) (words : List (List ℕ)) : End → Type 0 where
+  no_command : command_of words ≡ None → HasEnd files words (stopped stops.Usage)
+  not_built : (asked : Asked) (fetched : List (List ℕ)) (stop : Stop) → command_of words ≡ Some asked → Builds files asked.grammar asked.start fetched (Err stop) → HasEnd files words (stopped stop)
+  file_absent : (asked : Asked) (fetched : List (List ℕ)) (interpreter : Interpreter) (name : List ℕ) → command_of words ≡ Some asked → Builds files asked.grammar asked.start fetched (Ok interpreter) → inputs_of files asked.names ≡ Err name → HasEnd files words (stopped (stops.Absent name))
+  files_parsed : (asked : Asked) (fetched : List (List ℕ)) (interpreter : Interpreter) (inputs : List Input) (outcomes : List Outcome) → command_of words ≡ Some asked → Builds files asked.grammar asked.start fetched (Ok interpreter) → inputs_of files asked.names ≡ Ok inputs → AreOutcomes interpreter inputs outcomes → HasEnd files words (parsed asked.output interpreter asked.names outcomes)
+
+-- the line of a grammar's fault
+abbrev pub fault_line : List ℕ → GrammarFault → Line
+fault_line name (faults.NotUtf8 at) = not_utf8_line name at
+fault_line name (faults.Syntax place characters) = syntax_line name place characters
+fault_line name (faults.BadSet place) = bad_set_line name place
+fault_line name (faults.RuleTwice rule) = twice_line name rule
+fault_line name faults.Rules = limit_line name (codes "rules 4096")
+fault_line name faults.Types = limit_line name (codes "types 4096")
+fault_line name (faults.EmptyLoop rule) = empty_loop_line name rule
+fault_line name (faults.UnknownStart start) = no_rule_line name start
+fault_line name faults.Alternatives = limit_line name (codes "alternatives 1024")
+fault_line name faults.States = limit_line name (codes "states 65536")
+
+-- the line of a command line that stops before any file is parsed
+abbrev pub stop_line : Stop → Line
+stop_line stops.Usage = usage_line
+stop_line (stops.Absent name) = absent_line name
+stop_line (stops.TooLarge name size) = large_line name size
+stop_line (stops.Fault name fault) = fault_line name fault
+
+-- its status
+abbrev pub stop_status : Stop → Status
+stop_status stops.Usage = statuses.Usage
+stop_status (stops.Absent name) = statuses.Unread
+stop_status (stops.TooLarge name size) = statuses.Unread
+stop_status (stops.Fault name fault) = statuses.GrammarRefused
+
+-- the lines of an end
+abbrev pub lines_of : End → List Line
+lines_of (stopped stop) = stop_line stop ∷ []
+lines_of (parsed output interpreter names outcomes) = lines_of_files output interpreter names outcomes ++ closing_line (length outcomes) (count_by is_accepted outcomes) ∷ []
+
+-- the status of an end
+abbrev pub status_of : End → Status
+status_of (stopped stop) = stop_status stop
+status_of (parsed output interpreter names outcomes) = if list_all is_accepted outcomes then statuses.Done else statuses.Refused
+
+-- the number with which the program ends
+abbrev pub number_of : Status → ℕ
+number_of statuses.Done = 0
+number_of statuses.Refused = 1
+number_of statuses.Usage = 2
+number_of statuses.GrammarRefused = 3
+number_of statuses.Unread = 4
+number_of statuses.Unwritten = 5
+number_of statuses.NoMemory = 6

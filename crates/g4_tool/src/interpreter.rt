@@ -1,0 +1,96 @@
+// From a numbered grammar to what parses with it.
+ghost use Rattle.std.specs.Prelude.{◌≡◌, IfOk, Some, map, ◌∷◌, []};
+ghost use Rattle.g4_tool.specs.Building.{Builds, FromGrammar};
+ghost use Rattle.g4_tool.specs.Counting.{Counts};
+ghost use Rattle.g4_tool.specs.Inputs.{Files};
+ghost use Rattle.g4_tool.specs.Stages.{Ends, IsAnswerOf};
+ghost use Rattle.g4_tool.specs.Usable.{CanBeBuilt, IsUsable};
+
+use crate::fault::{CheckError, GrammarFault, not_built};
+use crate::load::load;
+use crate::stop::{Halt, fault_of};
+use g4_base::{Sequence, Text};
+use g4_build::{build, lexer_network_fits};
+use g4_grammar::{Numbered, NumberedAtom, TokenRule};
+use g4_net::ParserNetwork;
+use g4_ports::Shelf;
+use g4_resolve::{Resolving, resolve};
+use g4_source::ParserRule;
+use std::alloc::{AllocError, Global};
+
+/// What files are parsed with: a grammar's tokens and the network of one of its rules.
+#[derive(Drop)]
+pub struct Interpreter {
+    /// The names of the parser rules, which count from 1.
+    pub names: Sequence<Text>,
+    /// What is shown of each token type from 1 on.
+    pub shown: Sequence<Text>,
+    /// What the lexer matches, the rules that win a tie first.
+    pub token_rules: Sequence<TokenRule>,
+    pub net: ParserNetwork,
+}
+
+/// The names of the rules in order.
+fn names_of(alloc: Global, rules: &[ParserRule<NumberedAtom>]) -> Result<Sequence<Text>, AllocError>
+    ensures { IfOk result (λ names. names ≡ map (λ rule. rule.name) rules.now) }
+{
+    let mut names = Vec::new(alloc);
+    for rule in rules {
+        names.push(Text::copy_of(alloc, rule.name.as_str())?)?;
+    }
+    Ok(Sequence::new(names))
+}
+
+/// What parses with the numbered grammar from this start rule, or the first fault of its networks.
+fn interpret(alloc: Global, grammar: Numbered, start: &str) -> Result<Interpreter, CheckError>
+    requires { CanBeBuilt grammar }
+    ensures interpreting { IsAnswerOf (FromGrammar start.now grammar) result }
+    ensures usable { IfOk result IsUsable }
+{
+    let Numbered {
+        rules,
+        shown,
+        token_rules,
+    } = grammar;
+    let names = names_of(alloc, rules.as_slice())?;
+    let stage = Resolving {
+        names,
+        predicates: Sequence::new(Vec::new(alloc)),
+    };
+    let steps = resolve(alloc, &stage, rules.into_vec())?;
+    let net = match build(alloc, steps.as_slice(), start) {
+        Ok(net) => net,
+        Err(fault) => return Err(not_built(alloc, start, fault)?),
+    };
+    if !lexer_network_fits(token_rules.as_slice()) {
+        return Err(CheckError::Fault(GrammarFault::States));
+    }
+    let Resolving { names, .. } = stage;
+    Ok(Interpreter {
+        names,
+        shown,
+        token_rules,
+        net,
+    })
+}
+
+/// What parses from this start rule with the grammar in the file of this name.
+pub fn build_interpreter<S: Shelf>(
+    alloc: Global,
+    shelf: &mut S,
+    name: &str,
+    start: &str,
+) -> Result<Interpreter, Halt>
+    ensures keeps { S.told shelf.new ≡ S.told shelf.old }
+    ensures content { (files : Files) → S.told shelf.old ≡ Some files
+        → Ends (Builds files name.now start.now (name.now ∷ [])) result }
+    ensures usable { IfOk result IsUsable }
+    ensures counts { Counts ⊥ (S.faults shelf.old) (S.faults shelf.new) (S.misses shelf.old) (S.misses shelf.new) result }
+{
+    let grammar = load(alloc, shelf, name)?;
+    match interpret(alloc, grammar, start) {
+        Ok(interpreter) => Ok(interpreter),
+        Err(CheckError::Fault(fault)) => Err(Halt::Stop(fault_of(alloc, name, fault)?)),
+        Err(CheckError::NoMemory) => Err(Halt::NoMemory),
+    }
+}

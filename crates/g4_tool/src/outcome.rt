@@ -1,0 +1,186 @@
+// What becomes of a file, and the lines that are written of it.
+ghost use Rattle.std.specs.Prelude.{◌≡◌, ◌≤◌, ◌<◌, ◌^◌, ◌++◌, IfOk, OnOk, length};
+ghost use Rattle.g4_token_list.specs.TokenList.{EndsInEnd, word_of};
+ghost use Rattle.g4_parse.specs.TreeText.{tree_text};
+ghost use Rattle.g4_tool.specs.Texts.{line_of_tree};
+ghost use Rattle.g4_tool.specs.Inputs.{IsSmall};
+ghost use Rattle.g4_tool.specs.Outcomes.{IsOutcome, is_accepted, lex_lines, lexing_refused, outcome_lines, parse_lines, parsing_refused};
+ghost use Rattle.g4_tool.specs.Usable.{IsUsable};
+
+use crate::inputs::Input;
+use crate::interpreter::Interpreter;
+use crate::messages::{large, many_tokens, mismatch, no_token, no_viable, not_utf8, too_deep};
+use crate::words::Output;
+use crate::write::Line;
+use g4_base::{Octets, Sequence};
+use g4_lexer::{LexFault, tokens};
+use g4_parse::{ParseFault, Tree, parse, print};
+use g4_ports::LIMIT;
+use g4_token_list::Tokens;
+use std::alloc::{AllocError, Global};
+
+/// What becomes of a file.
+#[derive(Drop)]
+pub enum Outcome {
+    /// The file is accepted: its tokens, and their tree.
+    Tree(Tokens, Tree),
+    /// The fault of its characters.
+    Lex(LexFault),
+    /// Its tokens, and their fault.
+    Parse(Tokens, ParseFault),
+    /// It has this many bytes, which is past the limit.
+    TooLarge(u64),
+}
+
+/// Whether the file is accepted.
+pub fn is_accepted(outcome: &Outcome) -> bool
+    ensures { result ≡ is_accepted outcome.now }
+{
+    matches!(outcome, Outcome::Tree(_, _))
+}
+
+fn lexing_refused(fault: &LexFault) -> bool
+    ensures { result ≡ lexing_refused fault.now }
+{
+    matches!(fault, LexFault::NoMemory)
+}
+
+fn parsing_refused(fault: &ParseFault) -> bool
+    ensures { result ≡ parsing_refused fault.now }
+{
+    matches!(fault, ParseFault::NoMemory)
+}
+
+/// The outcome of a file of these bytes.
+fn outcome_of_bytes(
+    alloc: Global,
+    interpreter: &Interpreter,
+    bytes: Octets,
+) -> Result<Outcome, AllocError>
+    requires usable { IsUsable interpreter.now }
+    requires small { length bytes ≤ LIMIT }
+    ensures { IfOk result (IsOutcome interpreter.now (Input.Bytes bytes)) }
+{
+    let rules = interpreter.token_rules.as_slice();
+    let tokens = match tokens(alloc, rules, bytes) {
+        Ok(tokens) => tokens,
+        Err(fault) => {
+            if lexing_refused(&fault) {
+                return Err(AllocError);
+            }
+            return Ok(Outcome::Lex(fault));
+        }
+    };
+    match parse(alloc, &interpreter.net, tokens.list.as_slice()) {
+        Ok(tree) => Ok(Outcome::Tree(tokens, tree)),
+        Err(fault) => {
+            if parsing_refused(&fault) {
+                return Err(AllocError);
+            }
+            Ok(Outcome::Parse(tokens, fault))
+        }
+    }
+}
+
+/// The outcome of a file.
+pub fn outcome_of(
+    alloc: Global,
+    interpreter: &Interpreter,
+    input: Input,
+) -> Result<Outcome, AllocError>
+    requires usable { IsUsable interpreter.now }
+    requires small { IsSmall input }
+    ensures { IfOk result (IsOutcome interpreter.now input) }
+{
+    match input {
+        Input::Bytes(bytes) => outcome_of_bytes(alloc, interpreter, bytes),
+        Input::TooLarge(size) => Ok(Outcome::TooLarge(size)),
+    }
+}
+
+/// The line of a tree.
+fn tree_line(
+    alloc: Global,
+    interpreter: &Interpreter,
+    name: &str,
+    tokens: &Tokens,
+    tree: &Tree,
+) -> Result<Line, AllocError>
+    ensures { IfOk result (λ line. line ≡ line_of_tree name.now (tree_text interpreter.now.names tokens.now tree.now)) }
+{
+    let mut line = Vec::new(alloc);
+    line.extend_from_slice(name.as_bytes())?;
+    line.extend_from_slice(b": ")?;
+    let names = interpreter.names.as_slice();
+    print(&mut line, tree.as_slice(), names, tokens)?;
+    line.extend_from_slice(b"\n")?;
+    Ok(Line::ToOut(Sequence::new(line)))
+}
+
+/// Adds the line of a lexer's fault.
+fn push_lex(
+    lines: &mut Vec<Line>,
+    alloc: Global,
+    name: &str,
+    fault: &LexFault,
+) -> Result<(), AllocError>
+    ensures { OnOk result (lines.new.items ≡ lines.old.items ++ lex_lines name.now fault.now) }
+{
+    let line = match fault {
+        LexFault::NotUtf8(at) => not_utf8(alloc, name, *at)?,
+        LexFault::NoToken(place, character) => no_token(alloc, name, *place, *character)?,
+        LexFault::Tokens(place) => many_tokens(alloc, name, *place)?,
+        LexFault::NoMemory => return Ok(()),
+    };
+    lines.push(line)?;
+    Ok(())
+}
+
+/// Adds the line of a parser's fault.
+fn push_parse(
+    lines: &mut Vec<Line>,
+    alloc: Global,
+    interpreter: &Interpreter,
+    name: &str,
+    tokens: &Tokens,
+    fault: &ParseFault,
+) -> Result<(), AllocError>
+    ensures { OnOk result (lines.new.items ≡ lines.old.items ++ parse_lines interpreter.now name.now tokens.now fault.now) }
+{
+    let types = interpreter.shown.as_slice();
+    let net = &interpreter.net;
+    let line = match fault {
+        ParseFault::Mismatch { at, state } => {
+            mismatch(alloc, types, net, name, tokens, *at, *state)?
+        }
+        ParseFault::NoViable { at } => no_viable(alloc, name, tokens, *at)?,
+        ParseFault::TooDeep { at } => too_deep(alloc, name, tokens, *at)?,
+        ParseFault::NoMemory => return Ok(()),
+    };
+    lines.push(line)?;
+    Ok(())
+}
+
+/// Adds the lines of the outcome of a file of this name.
+pub fn push_outcome(
+    lines: &mut Vec<Line>,
+    alloc: Global,
+    output: Output,
+    interpreter: &Interpreter,
+    name: &str,
+    outcome: &Outcome,
+) -> Result<(), AllocError>
+    ensures { OnOk result (lines.new.items ≡ lines.old.items ++ outcome_lines output interpreter.now name.now outcome.now) }
+{
+    match outcome {
+        Outcome::Tree(tokens, tree) => match output {
+            Output::Trees => lines.push(tree_line(alloc, interpreter, name, tokens, tree)?)?,
+        },
+        Outcome::Lex(fault) => push_lex(lines, alloc, name, fault)?,
+        Outcome::Parse(tokens, fault) => {
+            push_parse(lines, alloc, interpreter, name, tokens, fault)?
+        }
+        Outcome::TooLarge(size) => lines.push(large(alloc, name, *size)?)?,
+    }
+    Ok(())
+}
