@@ -29,7 +29,7 @@ fn main(rt: HostRuntime) -> ExitCode {
         Err(e) if e.kind() == io::ErrorKind::OutOfMemory => {
             return ExitCode::from(Status::NoMemory.number());
         }
-        // Words that are no text are no command: no words stand for them.
+        // Words that are not UTF-8 are no command. An empty list of words takes their place.
         Err(_) => Vec::new(rt.alloc()),
     };
     let mut shelf = FileShelf::new(&rt);
@@ -44,7 +44,7 @@ fn main(rt: HostRuntime) -> ExitCode {
         &mut err,
         &Open,
     );
-    // A run that ends without a line of its own says why. Where that cannot be written, the status alone tells.
+    // A run that ends without a line of its own says why. Where that cannot be written, only the status says so.
     let _said = match status {
         Status::Unread => match shelf.failure() {
             Some(failure) => report_failure(&rt, failure),

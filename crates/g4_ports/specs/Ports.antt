@@ -7,7 +7,7 @@ use Rattle.g4_ports.specs.declared.ports.Got.TheVariants.{Bytes, Absent, Failed,
 abbrev pub limit : ℕ
 limit = 16777216
 
--- A count has risen. At the last value of its type it stands still, which counts as risen.
+-- A count has risen. At the last value of its type it stays the same, which counts as risen.
 abbrev pub Rose : ℕ → ℕ → Type 0
 Rose before now = (before ≤ now) × (min (before + 1) (2 ^ 64 - 1) ≤ now)
 
@@ -27,7 +27,7 @@ IsSized Failed = Unit {0}
 IsSized (TooLarge n) = limit < n
 IsSized NoMemory = Unit {0}
 
--- the count of faults rises where reading failed, and stands still otherwise
+-- the count of faults rises where reading failed, and is the same otherwise
 abbrev pub CountsFaults : ℕ → ℕ → Got → Type 0
 CountsFaults before now (Bytes bytes) = now ≡ before
 CountsFaults before now Absent = now ≡ before
@@ -35,7 +35,7 @@ CountsFaults before now Failed = Rose before now
 CountsFaults before now (TooLarge n) = now ≡ before
 CountsFaults before now NoMemory = now ≡ before
 
--- the count of misses rises where a file is absent or past the limit, and stands still otherwise
+-- the count of misses rises where a file is absent or past the limit, and is the same otherwise
 abbrev pub CountsMisses : ℕ → ℕ → Got → Type 0
 CountsMisses before now (Bytes bytes) = now ≡ before
 CountsMisses before now Absent = Rose before now
@@ -58,7 +58,7 @@ abbrev pub TakesFrom : {E : Type 0} → List ℕ → Option (List ℕ) → Optio
 TakesFrom piece before now (Ok n) = now ≡ with_more before (take n piece)
 TakesFrom piece before now (Err e) = now ≡ before
 
--- a failure only where the count of faults has risen, and the count stands still otherwise
+-- a failure only where the count of faults has risen, and the count is the same otherwise
 abbrev pub CountsPut : {T E : Type 0} → ℕ → ℕ → Result T E → Type 0
 CountsPut before now (Ok x) = now ≡ before
 CountsPut before now (Err e) = Rose before now

@@ -1,4 +1,4 @@
-// The outside: sources of named files, outputs of bytes, and the gate that is told of each file. What each call answers
+// The outside: sources of named files, outputs of bytes, and the gate that each file passes. What each call answers
 // is stated here; the real files and streams tell no content, those in memory tell all of it.
 #![tactic(auto)]
 

@@ -57,7 +57,7 @@ fn read_file<F: Read>(file: &mut F, bytes: &mut Vec<u8>) -> Ended
     Ended::Failed(grew())
 }
 
-/// More was read than the size that the system told.
+/// More was read than the limit, although the system gave a smaller size.
 fn grew() -> io::Error {
     io::Error::new(
         ErrorKind::FileTooLarge,

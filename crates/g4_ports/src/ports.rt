@@ -61,7 +61,7 @@ pub trait Sink {
         ensures counts_faults { CountsPut (faults self.old) (faults self.new) result };
 }
 
-/// What is told before and after each file is parsed. It promises nothing.
+/// What is called before and after each file is parsed. It promises nothing.
 pub trait Gate: Sync {
     /// This worker begins this file, both counted from 0.
     fn enter(&self, worker: u32, file: u32);

@@ -9,7 +9,7 @@ use Rattle.g4_tool.specs.declared.stop.Stop.TheVariants as stopping
 use Rattle.g4_tool.specs.Inputs.{Files, inputs_of, fetch_next, then_more}
 use Rattle.g4_tool.specs.Loading.{Fetches, absent, too_large}
 
--- what a told file answers
+-- what is answered for a file, where the files are told
 pub told_file : (told : Option Files) (files : Files) (name : List ℕ) (got : Got) → told ≡ Some files → IfSome told (λ f. IsFileOf (f name) got) → IsFileOf (files name) got
 told_file told files name got is content = let P : Option Files → Type 0 = λ t. IfSome t (λ f. IsFileOf (f name) got) in subst P is content
 
@@ -24,7 +24,7 @@ large_file files name copy size same is large =
     let stop : Fetches files name (Err (stopping.TooLarge name size)) = subst (λ n. Fetches files name (Err (stopping.TooLarge name n))) is.2 (too_large is.0 is.1 here) in
     subst (λ (n : List ℕ). Fetches files name (Err (stopping.TooLarge n size))) (sym same) stop
 
--- inputs that stand before what is still to read
+-- inputs before those that are still to be fetched
 abbrev pub with_front : List Input → Result (List Input) (List ℕ) → Result (List Input) (List ℕ)
 with_front front (Ok inputs) = Ok (front ++ inputs)
 with_front front (Err name) = Err name

@@ -76,12 +76,12 @@ piece_to_err line text piece o e e' line_is piece_is taken =
 pub wrote_is_front : (xs : List Line) (o o' e e' : Option (List ℕ)) → Wrote xs o o' e e' → WroteFront xs o o' e e'
 wrote_is_front xs o o' e e' all = record { whole = xs; rest = []; parts = sym (append-nil xs); out = o'; err = e'; first = all; piece = (refl, refl) }
 
--- a piece of the first of these lines, more standing behind, or nothing where there is none and nothing behind was taken
+-- a piece of the first of these lines, with more after it, or nothing where there is none and nothing after it was taken
 piece_of_more : (x : Line) (xs ys : List Line) (o o' e e' : Option (List ℕ)) → WrotePiece (x ∷ xs) o o' e e' → WrotePiece ((x ∷ xs) ++ ys) o o' e e'
 piece_of_more (ToOut text) xs ys o o' e e' piece = piece
 piece_of_more (ToErr text) xs ys o o' e e' piece = piece
 
--- the lines before one, that line, and those behind it
+-- the lines before one, that line, and those after it
 take_then_drop : (xs : List Line) (k : ℕ) (x : Line) → k < length xs → x ≡ get_or xs k x → xs ≡ take k xs ++ x ∷ drop (k + 1) xs
 take_then_drop xs k x within is = sym (take-append-drop k xs) ∙ ap (λ ys. take k xs ++ ys) (drop_more xs k x within ∙ ap (λ y. y ∷ drop (k + 1) xs) (sym is))
 

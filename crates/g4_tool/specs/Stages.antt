@@ -1,4 +1,4 @@
--- Stages, one after another: each gives something to go on with, or the fault at which all ends.
+-- Stages, one after another: each gives what the next one needs, or the fault at which all ends.
 use Rattle.std.specs.Prelude.{◌≡◌, ℕ, List, Result, Ok, Err}
 use Rattle.g4_tool.specs.declared.fault.GrammarFault.{GrammarFault}
 use Rattle.g4_tool.specs.declared.fault.CheckError.{CheckError}

@@ -68,7 +68,7 @@ abbrev pub mismatch_line : List (List ℕ) → ParserNetwork → List ℕ → To
 mismatch_line types net name tokens at state =
     ToErr (((((at_place name (place_of_token tokens.list at) ++ codes "mismatched input '") ++ text_at tokens at) ++ codes "' expecting ") ++ shown_set types (taken_by (state_at net state))) ++ codes "\n")
 
--- the line of a token with which no alternative goes on
+-- the line of a token with which no alternative continues
 abbrev pub no_viable_line : List ℕ → Tokens → ℕ → Line
 no_viable_line name tokens at = ToErr (((at_place name (place_of_token tokens.list at) ++ codes "no viable alternative at input '") ++ text_at tokens at) ++ codes "'\n")
 

@@ -17,9 +17,13 @@ abbrev pub is_word : List ℕ → Bool
 is_word [] = false
 is_word (b ∷ bs) = not (b == 45)
 
--- one to 4,096 file names
+-- the most files of a command line
+abbrev pub most_files : ℕ
+most_files = 4096
+
+-- one file name or more, within the limit
 abbrev pub are_names : List (List ℕ) → Bool
-are_names names = list_all is_word names && (nat_lt 0 (length names) && nat_le (length names) 4096)
+are_names names = list_all is_word names && (nat_lt 0 (length names) && nat_le (length names) most_files)
 
 -- `parse -g GRAMMAR -s RULE FILE..`, in this order
 abbrev pub command_of : List (List ℕ) → Option Asked

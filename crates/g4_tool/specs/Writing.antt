@@ -27,7 +27,7 @@ WrotePiece [] out_before out_now err_before err_now = (out_now ≡ out_before) �
 WrotePiece ((ToOut text) ∷ lines) out_before out_now err_before err_now = TakesFront text out_before out_now × (err_now ≡ err_before)
 WrotePiece ((ToErr text) ∷ lines) out_before out_now err_before err_now = (out_now ≡ out_before) × TakesFront text err_before err_now
 
--- The outputs have taken some of the lines, those that stand first, and a front part of the next; of those behind it nothing.
+-- The outputs have taken the first of the lines, up to some place, a front part of the next line, and nothing after it.
 pub record WroteFront (lines : List Line) (out_before out_now err_before err_now : Option (List ℕ)) : Type 0 where
   pub whole : List Line
   pub rest : List Line
@@ -37,15 +37,15 @@ pub record WroteFront (lines : List Line) (out_before out_now err_before err_now
   pub first : Wrote whole out_before out err_before err
   pub piece : WrotePiece rest out out_now err err_now
 
--- the count of faults of one output has risen, and the other's stands still
+-- the count of faults of one output has risen, and the other's is the same
 abbrev pub OneRose : ℕ → ℕ → ℕ → ℕ → Type 0
 OneRose out_before out_now err_before err_now = (Rose out_before out_now × (err_now ≡ err_before)) ⊎ ((out_now ≡ out_before) × Rose err_before err_now)
 
--- the counts of faults of both outputs stand still
+-- the counts of faults of both outputs are the same
 abbrev pub NoneRose : ℕ → ℕ → ℕ → ℕ → Type 0
 NoneRose out_before out_now err_before err_now = (out_now ≡ out_before) × (err_now ≡ err_before)
 
--- the counts of faults stand still, but where an output failed
+-- the counts of faults are the same, unless an output failed
 abbrev pub CountsWriting : {X Y : Type 0} → ℕ → ℕ → ℕ → ℕ → Result X Y → Type 0
 CountsWriting out_before out_now err_before err_now (Ok x) = NoneRose out_before out_now err_before err_now
 CountsWriting out_before out_now err_before err_now (Err e) = OneRose out_before out_now err_before err_now

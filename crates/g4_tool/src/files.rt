@@ -3,6 +3,7 @@ ghost use Rattle.std.specs.Prelude.{◌≡◌, ◌<◌, ◌≤◌, All, IfOk, On
 ghost use Rattle.g4_tool.specs.Inputs.{IsSmall};
 ghost use Rattle.g4_tool.specs.Outcomes.{AreParsed, IsOneMore};
 ghost use Rattle.g4_tool.specs.Usable.{IsUsable};
+ghost use Rattle.g4_tool.specs.Words.{most_files};
 
 use crate::inputs::Input;
 use crate::interpreter::Interpreter;
@@ -30,7 +31,7 @@ fn push_file(
 ) -> Result<(), AllocError>
     requires usable { IsUsable interpreter.now }
     requires small { IsSmall input }
-    requires few { parsed.old.accepted < 4096 }
+    requires few { parsed.old.accepted < most_files }
     ensures { OnOk result (IsOneMore output interpreter.now name.now input parsed.old parsed.new) }
 {
     let outcome = outcome_of(alloc, interpreter, input)?;
@@ -48,8 +49,8 @@ fn push_file(
     Ok(())
 }
 
-/// The lines of the files in order. The gate is told of each file, by worker 0. The input of a file and its tokens are given
-/// back as soon as its lines are made.
+/// The lines of the files in order. Worker 0 enters and leaves the gate once for each file. The memory of a file's input and
+/// tokens is given back as soon as the lines of the file are made.
 pub fn parse_files<G: Gate>(
     alloc: Global,
     output: Output,
@@ -61,7 +62,7 @@ pub fn parse_files<G: Gate>(
     requires usable { IsUsable interpreter.now }
     requires small { All IsSmall inputs.items }
     requires paired { length names.now ≡ length inputs.items }
-    requires few { length names.now ≤ 4096 }
+    requires few { length names.now ≤ most_files }
     ensures { IfOk result (AreParsed output interpreter.now (map string_bytes names.now) inputs.items) }
 {
     let mut parsed = Parsed {

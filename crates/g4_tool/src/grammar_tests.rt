@@ -94,7 +94,7 @@ chars : TEXT+? # Characters | # Nothing ;
 prolog : ~OPEN+ # Before ;
 ";
 
-/// Whether the text is a grammar, or ends where one might go on.
+/// Whether the text is a grammar, or ends where a grammar could continue.
 fn is_front(alloc: Global, bytes: &[u8]) -> bool {
     if bytes.len() > 16_777_216 {
         return false;
@@ -108,7 +108,7 @@ fn is_front(alloc: Global, bytes: &[u8]) -> bool {
     }
 }
 
-/// The text is a grammar of so many rules, and cut at each token it ends where a grammar might go on.
+/// The text is a grammar of so many rules, and cut at each token it ends where a grammar could continue.
 fn check(rt: &impl Abort, alloc: Global, text: &str, rules: usize) -> Result<(), Fail> {
     let bytes = text.as_bytes();
     if bytes.len() > 16_777_216 {

@@ -114,7 +114,7 @@ pub fn mismatch(
     Ok(Line::ToErr(Sequence::new(line)))
 }
 
-/// A token with which no alternative of a decision goes on.
+/// A token with which no alternative of a decision continues.
 pub fn no_viable(alloc: Global, name: &str, tokens: &Tokens, at: u32) -> Result<Line, AllocError>
     ensures { IfOk result (λ line. line ≡ no_viable_line name.now tokens.now at) }
 {

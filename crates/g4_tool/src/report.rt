@@ -5,7 +5,7 @@ ghost use Rattle.g4_tool.specs.Counting.{Counts, ReportCounts};
 ghost use Rattle.g4_tool.specs.Ends.{stopped};
 ghost use Rattle.g4_tool.specs.Inputs.{Files};
 ghost use Rattle.g4_tool.specs.Report.{EndsWith, IsOfFiles, IsReport, IsReportOf, IsReportOfFiles};
-ghost use Rattle.g4_tool.specs.Words.{command_of};
+ghost use Rattle.g4_tool.specs.Words.{command_of, most_files};
 
 use crate::files::{Parsed, parse_files};
 use crate::inputs::fetch_all;
@@ -84,7 +84,7 @@ fn run_command<S: Shelf, G: Gate>(
     command: &Command<'_>,
     gate: &G,
 ) -> Result<Report, Halt>
-    requires few { length command.now.names.now ≤ 4096 }
+    requires few { length command.now.names.now ≤ most_files }
     ensures keeps { S.told shelf.new ≡ S.told shelf.old }
     ensures content { (files : Files) (words : List (List ℕ)) → S.told shelf.old ≡ Some files → command_of words ≡ Some (command_view command.now)
         → EndsWith files words result }

@@ -2,7 +2,7 @@
 ghost use Rattle.std.specs.Prelude.{◌≡◌, ◌≤◌, ◌&&◌, IfSome, IsTrue, codes, length, map, nat_le, nat_lt, option_map, string_bytes};
 ghost use Rattle.std.specs.List.{list_all};
 ghost use Rattle.std.specs.Str.{bytes_eq};
-ghost use Rattle.g4_tool.specs.Words.{are_names, command_of, is_word};
+ghost use Rattle.g4_tool.specs.Words.{are_names, command_of, is_word, most_files};
 ghost use Rattle.g4_tool.specs.CommandView.{command_view};
 
 /// The most files of a command line.
@@ -24,7 +24,7 @@ pub struct Command<'a> {
     pub output: Output,
 }
 
-// A word that is not empty and does not begin with `-`.
+/// A word that is not empty and does not begin with `-`.
 fn is_name(word: &str) -> bool
     ensures { result ≡ is_word word.now }
 {
@@ -34,7 +34,7 @@ fn is_name(word: &str) -> bool
     }
 }
 
-// The words of the form, beside the names: `parse`, `-g` and `-s`.
+/// The words of the form, beside the names: `parse`, `-g` and `-s`.
 fn is_form(verb: &str, g: &str, s: &str) -> bool
     ensures { result ≡ (bytes_eq verb.now (codes "parse") && (bytes_eq g.now (codes "-g") && bytes_eq s.now (codes "-s"))) }
 {
@@ -48,15 +48,15 @@ fn all_are_names(words: &[String]) -> bool
 }
 
 fn is_count(count: usize) -> bool
-    ensures { result ≡ (nat_lt 0 count && nat_le count 4096) }
+    ensures { result ≡ (nat_lt 0 count && nat_le count most_files) }
 {
     0 < count && count <= MOST_FILES
 }
 
-// One to 4,096 file names.
+/// One file name or more, within the limit.
 fn are_files(names: &[String]) -> bool
     ensures named { result ≡ are_names (map string_bytes names.now) }
-    ensures few { IsTrue result → length names.now ≤ 4096 }
+    ensures few { IsTrue result → length names.now ≤ most_files }
 {
     all_are_names(names) && is_count(names.len())
 }
@@ -64,7 +64,7 @@ fn are_files(names: &[String]) -> bool
 /// The command of the words, which are `parse -g GRAMMAR -s RULE FILE..` in this order.
 pub fn read_words(words: &[String]) -> Option<Command<'_>>
     ensures command { option_map command_view result ≡ command_of (map string_bytes words.now) }
-    ensures few { IfSome result (λ c. length c.names.now ≤ 4096) }
+    ensures few { IfSome result (λ c. length c.names.now ≤ most_files) }
 {
     if words.len() < 5 {
         return None;
