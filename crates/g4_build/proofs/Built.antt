@@ -15,16 +15,17 @@ use Rattle.g4_layout.specs.Layout.{BeginsAny, IsNetworkOf}
 use Rattle.g4_layout.specs.Rules.{rule_number, rules_of, state_count}
 use Rattle.g4_build.specs.Rules.{IsDrawn}
 use Rattle.g4_build.proofs.Named.{known_at}
+use Rattle.g4_net.specs.declared.network.TheConstants.{MOST_STATES}
 
 -- a test that fails leaves too many
-pub too_many : (b : Bool) (n : ℕ) → b ≡ false → IsTrue b ↔ n ≤ 65536 → 65536 < n
+pub too_many : (b : Bool) (n : ℕ) → b ≡ false → IsTrue b ↔ n ≤ MOST_STATES → MOST_STATES < n
 too_many b n is test = elim (cut n 65536) [ inl low ↦ absurd (let e : b ≡ true = test.1 low in let k : ⊥ = cc in k) | inr high ↦ high ]
   where
     cut : (n m : ℕ) → (n ≤ m) ⊎ (m < n)
     cut n m = grind arith
 
 -- a test that holds leaves few enough
-pub few_enough : (b : Bool) (n : ℕ) → b ≡ true → IsTrue b ↔ n ≤ 65536 → n ≤ 65536
+pub few_enough : (b : Bool) (n : ℕ) → b ≡ true → IsTrue b ↔ n ≤ MOST_STATES → n ≤ MOST_STATES
 few_enough b n is test = test.0 is
 
 -- the set of EOF alone does not have END
@@ -33,9 +34,9 @@ eof_alone (zero, less, is) = omega arith
 eof_alone (suc k, less, is) = omega arith
 
 -- what is drawn from the place of the start rule is built, as far as it can be parsed with
-pub built : (set : List ℕ) (rules : List StepRule) (start : List ℕ) (place : ℕ) (net : ParserNetwork) → AreNarrow (map alternatives_of rules) → position (λ rule. bytes_eq rule.name start) rules ≡ Some place → state_count rules ≤ 65536 →
+pub built : (set : List ℕ) (rules : List StepRule) (start : List ℕ) (place : ℕ) (net : ParserNetwork) → AreNarrow (map alternatives_of rules) → position (λ rule. bytes_eq rule.name start) rules ≡ Some place → state_count rules ≤ MOST_STATES →
     IsDrawn set rules (place + 1) net →
-    (rule_number rules start ≤ length rules → IsNetworkOf (rules_of set rules start) net → length net.states ≤ 65536 → net.callers ≡ callers_of net.states (length rules + 1) → IsRunnable net (rule_number rules start) (2 * length rules + 2) set) →
+    (rule_number rules start ≤ length rules → IsNetworkOf (rules_of set rules start) net → length net.states ≤ MOST_STATES → net.callers ≡ callers_of net.states (length rules + 1) → IsRunnable net (rule_number rules start) (2 * length rules + 2) set) →
     IsBuilt set rules start net
 built set rules start place net narrow at few drawn runs =
     let known = known_at rules start place at in

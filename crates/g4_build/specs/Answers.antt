@@ -9,12 +9,13 @@ use Rattle.g4_layout.specs.Decisions.{AreNarrow, IsTooWide}
 use Rattle.g4_layout.specs.Rules.{has_parser_rule, state_count}
 use Rattle.g4_build.specs.declared.builder.BuildFault.{BuildFault}
 use Rattle.g4_build.specs.declared.builder.BuildFault.TheVariants.{UnknownStart, Alternatives, States, NoMemory}
+use Rattle.g4_net.specs.declared.network.TheConstants.{MOST_STATES}
 
 -- the causes of the faults of building
 abbrev pub CausesBuildFault : List StepRule → List ℕ → BuildFault → Type 0
 CausesBuildFault rules start UnknownStart = has_parser_rule rules start ≡ false
 CausesBuildFault rules start Alternatives = (has_parser_rule rules start ≡ true) × IsTooWide (map alternatives_of rules)
-CausesBuildFault rules start States = (has_parser_rule rules start ≡ true) × AreNarrow (map alternatives_of rules) × (65536 < state_count rules)
+CausesBuildFault rules start States = (has_parser_rule rules start ≡ true) × AreNarrow (map alternatives_of rules) × (MOST_STATES < state_count rules)
 CausesBuildFault rules start NoMemory = Unit {0}
 
 -- building gives the network that the rules have, whose added rule takes EOF, or a fault with its cause

@@ -10,12 +10,9 @@ use crate::count::past_rules;
 use crate::drawing::draw;
 use crate::width::some_rule_is_wide;
 use g4_grammar::StepRule;
-use g4_net::ParserNetwork;
+use g4_net::{MOST_STATES, ParserNetwork};
 use g4_symbols::{EOF, Symbols};
 use std::alloc::{AllocError, Global};
-
-/// The most states that a network has.
-pub const MOST_STATES: usize = 65_536;
 
 /// Why rules have no network.
 #[derive(Drop)]
@@ -49,7 +46,7 @@ fn place_of(rules: &[StepRule], name: &str) -> Option<usize>
 
 /// Whether the network of the rules has no more states than it may.
 pub fn fits(rules: &[StepRule]) -> bool
-    ensures { IsTrue result ↔ state_count rules.now ≤ 65536 }
+    ensures { IsTrue result ↔ state_count rules.now ≤ MOST_STATES }
 {
     if rules.len() > (MOST_STATES - 7) / 2 {
         return false;

@@ -6,6 +6,7 @@ ghost use Rattle.g4_layout.specs.Layout.{with_leave};
 ghost use Rattle.g4_layout.specs.Size.{states_of, states_in_order, states_of_bodies};
 ghost use Rattle.g4_build.specs.Drafts.{Among, choice_of, linked, stepped, joined, passed_by, starred, repeated_once, closed, states_after, AreApart, IsLaid, AreLaid, AreBeside, BlockIsLaid, states_of_block};
 ghost use Rattle.g4_build.specs.Trees.{tree_of, run_of, sides_of, bodies_over};
+ghost use Rattle.g4_net.specs.declared.network.TheConstants.{MOST_STATES};
 
 use crate::atom::Atom;
 use g4_base::Sequence;
@@ -67,7 +68,7 @@ fn with_leave(
 fn join<L: Drop>(states: &mut Vec<State<L>>, bodies: Bodies, from: u32) -> Result<u32, AllocError>
     requires from { from < length states.old.items }
     requires lasts { (p : ℕ) → Among bodies.lasts.items p → p < length states.old.items }
-    requires room { length states.old.items < 65536 }
+    requires room { length states.old.items < MOST_STATES }
     ensures { IfOk result (λ t. (t ≡ length states.old.items) × (states.new.items ≡ joined from bodies.firsts.items bodies.lasts.items states.old.items)) }
 {
     let Bodies { firsts, lasts } = bodies;
@@ -111,7 +112,7 @@ fn star<L: Drop>(
 ) -> Result<u32, AllocError>
     requires from { from < length states.old.items }
     requires lasts { (p : ℕ) → Among bodies.lasts.items p → p < length states.old.items }
-    requires room { length states.old.items < 65536 }
+    requires room { length states.old.items < MOST_STATES }
     ensures { IfOk result (λ t. (t ≡ length states.old.items) × (states.new.items ≡ starred greedy from bodies.firsts.items bodies.lasts.items states.old.items)) }
 {
     let Bodies { firsts, lasts } = bodies;
@@ -157,7 +158,7 @@ fn close<L: Drop>(
 ) -> Result<u32, AllocError>
     requires from { from < length states.old.items }
     requires lasts { (p : ℕ) → Among bodies.lasts.items p → p < length states.old.items }
-    requires room { length states.old.items + states_after repeat ≤ 65536 }
+    requires room { length states.old.items + states_after repeat ≤ MOST_STATES }
     ensures last { IfOk result (λ t. t + 1 ≡ length states.old.items + states_after repeat) }
     ensures states { IfOk result (λ t. states.new.items ≡ closed repeat from bodies.firsts.items bodies.lasts.items states.old.items) }
 {
@@ -177,7 +178,7 @@ fn lay_step<L: Drop>(
     from: u32,
 ) -> Result<u32, AllocError>
     requires from { from < length states.old.items }
-    requires room { length states.old.items < 65536 }
+    requires room { length states.old.items < MOST_STATES }
     ensures { IfOk result (λ t. (t ≡ length states.old.items) × (states.new.items ≡ stepped from step states.old.items)) }
 {
     let next = states.len() as u32;
@@ -206,7 +207,7 @@ fn lay_element<A: Atom>(
 ) -> Result<u32, AllocError>
     requires full { IsFull (tree_of A.step element.now) }
     requires from { from < length states.old.items }
-    requires room { length states.old.items + states_of (tree_of A.step element.now) ≤ 65536 }
+    requires room { length states.old.items + states_of (tree_of A.step element.now) ≤ MOST_STATES }
     ensures { IfOk result (λ t. IsLaid states.old.items states.new.items from t (tree_of A.step element.now)) }
 {
     match element {
@@ -234,7 +235,7 @@ fn lay_block<A: Atom>(
     requires some { IsSome (sides_of A.step alternatives.now) }
     requires full { EachIsFull (sides_of A.step alternatives.now) }
     requires from { from < length states.old.items }
-    requires room { length states.old.items + states_of_block repeat (sides_of A.step alternatives.now) ≤ 65536 }
+    requires room { length states.old.items + states_of_block repeat (sides_of A.step alternatives.now) ≤ MOST_STATES }
     ensures { IfOk result (λ t. BlockIsLaid states.old.items states.new.items from t repeat (sides_of A.step alternatives.now)) }
 {
     match repeat {
@@ -254,7 +255,7 @@ fn lay_once<A: Atom>(
     requires some { IsSome (sides_of A.step alternatives.now) }
     requires full { EachIsFull (sides_of A.step alternatives.now) }
     requires from { from < length states.old.items }
-    requires room { length states.old.items + states_of_block Once (sides_of A.step alternatives.now) ≤ 65536 }
+    requires room { length states.old.items + states_of_block Once (sides_of A.step alternatives.now) ≤ MOST_STATES }
     ensures { IfOk result (λ t. BlockIsLaid states.old.items states.new.items from t Once (sides_of A.step alternatives.now)) }
 {
     match alternatives {
@@ -278,7 +279,7 @@ fn lay_apart<A: Atom>(
     requires apart { AreApart repeat (length alternatives.now) }
     requires full { EachIsFull (sides_of A.step alternatives.now) }
     requires from { from < length states.old.items }
-    requires room { length states.old.items + states_of_block repeat (sides_of A.step alternatives.now) ≤ 65536 }
+    requires room { length states.old.items + states_of_block repeat (sides_of A.step alternatives.now) ≤ MOST_STATES }
     ensures { IfOk result (λ t. BlockIsLaid states.old.items states.new.items from t repeat (sides_of A.step alternatives.now)) }
 {
     let bodies = lay_sides(alloc, states, alternatives)?;
@@ -294,7 +295,7 @@ fn lay_sides<A: Atom>(
     alternatives: &[Alternative<A>],
 ) -> Result<Bodies, AllocError>
     requires full { EachIsFull (sides_of A.step alternatives.now) }
-    requires room { length states.old.items + states_of_bodies (sides_of A.step alternatives.now) ≤ 65536 }
+    requires room { length states.old.items + states_of_bodies (sides_of A.step alternatives.now) ≤ MOST_STATES }
     ensures many { IfOk result (λ bodies. length bodies.firsts.items ≡ length alternatives.now) }
     ensures laid { IfOk result (λ bodies. AreBeside states.old.items states.new.items bodies.firsts.items bodies.lasts.items (sides_of A.step alternatives.now)) }
 {
@@ -320,7 +321,7 @@ pub fn lay_run<A: Atom>(
 ) -> Result<u32, AllocError>
     requires full { AreFull (run_of A.step elements.now) }
     requires from { from < length states.old.items }
-    requires room { length states.old.items + states_in_order (run_of A.step elements.now) ≤ 65536 }
+    requires room { length states.old.items + states_in_order (run_of A.step elements.now) ≤ MOST_STATES }
     ensures { IfOk result (λ t. AreLaid states.old.items states.new.items from t (run_of A.step elements.now)) }
 {
     let mut last = from;
@@ -337,7 +338,7 @@ pub fn lay_bodies<A: Atom>(
     alternatives: &[RuleAlternative<A>],
 ) -> Result<Bodies, AllocError>
     requires full { EachIsFull (bodies_over A.step alternatives.now) }
-    requires room { length states.old.items + states_of_bodies (bodies_over A.step alternatives.now) ≤ 65536 }
+    requires room { length states.old.items + states_of_bodies (bodies_over A.step alternatives.now) ≤ MOST_STATES }
     ensures many { IfOk result (λ bodies. length bodies.firsts.items ≡ length alternatives.now) }
     ensures laid { IfOk result (λ bodies. AreBeside states.old.items states.new.items bodies.firsts.items bodies.lasts.items (bodies_over A.step alternatives.now)) }
 {

@@ -4,6 +4,7 @@ ghost use Rattle.g4_source.specs.Blocks.{ParserRulesAreFull};
 ghost use Rattle.g4_net.specs.declared.network.State.TheVariants.{Call};
 ghost use Rattle.g4_layout.specs.Rules.{state_count};
 ghost use Rattle.g4_build.specs.Rules.{HasHeads, IsDrawn, added_states};
+ghost use Rattle.g4_net.specs.declared.network.TheConstants.{MOST_STATES};
 
 use crate::callers::callers;
 use crate::rule::{lay_rules, pad};
@@ -33,7 +34,7 @@ fn add_start(
     rule: u32,
 ) -> Result<(), AllocError>
     requires some { 0 < length states.old.items }
-    requires few { length states.old.items ≤ 65536 }
+    requires few { length states.old.items ≤ MOST_STATES }
     ensures { OnOk result (states.new.items ≡ slice_set states.old.items 0 (Call rule 0 (length states.old.items)) ++ added_states set.now (length states.old.items)) }
 {
     let first = states.len() as u32;
@@ -63,7 +64,7 @@ pub fn draw(
     requires full { ParserRulesAreFull rules.now }
     requires low { 1 ≤ start }
     requires high { start ≤ length rules.now }
-    requires room { state_count rules.now ≤ 65536 }
+    requires room { state_count rules.now ≤ MOST_STATES }
     ensures { IfOk result (λ net. IsDrawn set.now rules.now start net) }
 {
     let count = rules.len() as u32 + 1;

@@ -2,13 +2,13 @@
 ghost use Rattle.std.specs.Prelude.{◌≤◌, ◌↔◌, IsTrue};
 ghost use Rattle.g4_build.specs.LexerSize.{lexer_state_count};
 
-use crate::builder::MOST_STATES;
 use crate::count::past_token_rules;
 use g4_grammar::TokenRule;
+use g4_net::MOST_STATES;
 
 /// Whether the lexer's network of the token rules has no more states than the 65,536 that a network may have.
 pub fn lexer_network_fits(rules: &[TokenRule]) -> bool
-    ensures { IsTrue result ↔ lexer_state_count rules.now ≤ 65536 }
+    ensures { IsTrue result ↔ lexer_state_count rules.now ≤ MOST_STATES }
 {
     if rules.len() > MOST_STATES / 2 {
         return false;

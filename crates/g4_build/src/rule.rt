@@ -6,6 +6,7 @@ ghost use Rattle.g4_layout.specs.Size.{states_of_rule};
 ghost use Rattle.g4_build.specs.Drafts.{Among};
 ghost use Rattle.g4_build.specs.Rules.{marked, RuleIsLaid, HaveLaid, TreeIsFull, AreFullTrees};
 ghost use Rattle.g4_build.specs.Trees.{bodies_over, rules_over};
+ghost use Rattle.g4_net.specs.declared.network.TheConstants.{MOST_STATES};
 
 use crate::atom::Atom;
 use crate::draft::{Bodies, lay_bodies, lay_run, link};
@@ -27,7 +28,7 @@ pub fn pad(written: &mut Vec<u32>, count: usize) -> Result<(), AllocError>
 /// Numbers the alternatives that begin at these states, from 1 on.
 fn mark(written: &mut Vec<u32>, firsts: &[u32])
     requires within { (p : ℕ) → Among firsts.now p → p < length written.old.items }
-    requires few { length firsts.now ≤ 65536 }
+    requires few { length firsts.now ≤ MOST_STATES }
     ensures { written.new.items ≡ marked 1 firsts.now written.old.items }
 {
     let mut number = 1;
@@ -48,7 +49,7 @@ fn lay_lone<A: Atom>(
     requires full { EachIsFull (bodies_over A.step (alternative.now ∷ [])) }
     requires numbered { length written.old.items ≡ length states.old.items }
     requires rule { start_of rule < length states.old.items }
-    requires room { length states.old.items + states_of_rule (bodies_over A.step (alternative.now ∷ [])) ≤ 65536 }
+    requires room { length states.old.items + states_of_rule (bodies_over A.step (alternative.now ∷ [])) ≤ MOST_STATES }
     ensures { OnOk result (RuleIsLaid states.old.items states.new.items written.old.items written.new.items rule (bodies_over A.step (alternative.now ∷ []))) }
 {
     let start = 2 * rule;
@@ -72,7 +73,7 @@ fn lay_several<A: Atom>(
     requires numbered { length written.old.items ≡ length states.old.items }
     requires rule { start_of rule < length states.old.items }
     requires blank { slice_index written.old.items (start_of rule) ≡ 0 }
-    requires room { length states.old.items + states_of_rule (bodies_over A.step alternatives.now) ≤ 65536 }
+    requires room { length states.old.items + states_of_rule (bodies_over A.step alternatives.now) ≤ MOST_STATES }
     ensures { OnOk result (RuleIsLaid states.old.items states.new.items written.old.items written.new.items rule (bodies_over A.step alternatives.now)) }
 {
     let start = 2 * rule;
@@ -97,7 +98,7 @@ fn lay_rule<A: Atom>(
     requires numbered { length written.old.items ≡ length states.old.items }
     requires rule { start_of rule < length states.old.items }
     requires blank { slice_index written.old.items (start_of rule) ≡ 0 }
-    requires room { length states.old.items + states_of_rule (bodies_over A.step alternatives.now) ≤ 65536 }
+    requires room { length states.old.items + states_of_rule (bodies_over A.step alternatives.now) ≤ MOST_STATES }
     ensures { OnOk result (RuleIsLaid states.old.items states.new.items written.old.items written.new.items rule (bodies_over A.step alternatives.now)) }
 {
     match alternatives {
@@ -117,7 +118,7 @@ pub fn lay_rules<A: Atom>(
     requires numbered { length written.old.items ≡ length states.old.items }
     requires heads { 2 * length rules.now + 2 ≤ length states.old.items }
     requires blank { (p : ℕ) → 1 ≤ p → slice_index written.old.items p ≡ 0 }
-    requires room { length states.old.items + sum_by states_of_rule (rules_over A.step rules.now) ≤ 65536 }
+    requires room { length states.old.items + sum_by states_of_rule (rules_over A.step rules.now) ≤ MOST_STATES }
     ensures { OnOk result (HaveLaid states.old.items states.new.items written.old.items written.new.items (length rules.now + 1) (rules_over A.step rules.now) []) }
 {
     let mut number = 1;

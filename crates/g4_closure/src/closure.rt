@@ -5,6 +5,7 @@ ghost use Rattle.g4_net.specs.Configurations.{HasExactly, IsWithin};
 ghost use Rattle.g4_net.specs.declared.network.State.TheVariants.{Call};
 ghost use Rattle.g4_net.specs.Leads.{WellFormed};
 ghost use Rattle.g4_net.specs.Network.{state_at};
+ghost use Rattle.g4_net.specs.declared.network.TheConstants.{MOST_STATES};
 
 use crate::configuration::{Configuration, has};
 use g4_net::{ParserNetwork, State};
@@ -76,7 +77,7 @@ fn successors(
     configuration: &Configuration,
 ) -> Result<Vec<Configuration>, AllocError>
     requires well_formed { WellFormed net.now }
-    requires few { length net.now.states ≤ 65536 }
+    requires few { length net.now.states ≤ MOST_STATES }
     ensures { IfOk result (λ found. found.items ≡ successors_by net.now configuration.now (state_at net.now configuration.now.state)) }
 {
     match net.states.as_slice().get(configuration.state() as usize) {
@@ -95,7 +96,7 @@ pub fn reached(
     starts: Vec<Configuration>,
 ) -> Result<Vec<Configuration>, AllocError>
     requires well_formed { WellFormed net.now }
-    requires few { length net.now.states ≤ 65536 }
+    requires few { length net.now.states ≤ MOST_STATES }
     requires within { All (IsWithin net.now) starts.items }
     ensures members { IfOk result (λ found. HasExactly found.items (ReachedFrom net.now starts.items)) }
     ensures within { IfOk result (λ found. All (IsWithin net.now) found.items) }

@@ -6,6 +6,7 @@ ghost use Rattle.g4_net.specs.Configurations.{HasExactly, IsWithin};
 ghost use Rattle.g4_net.specs.Leads.{WellFormed};
 ghost use Rattle.g4_net.specs.Lookahead.{Next, Start};
 ghost use Rattle.g4_net.specs.Network.{state_at};
+ghost use Rattle.g4_net.specs.declared.network.TheConstants.{MOST_STATES};
 
 use crate::closure::reached;
 use crate::configuration::Configuration;
@@ -128,7 +129,7 @@ pub fn start(
     wild: bool,
 ) -> Result<Vec<Configuration>, AllocError>
     requires well_formed { WellFormed net.now }
-    requires few { length net.now.states ≤ 65536 }
+    requires few { length net.now.states ≤ MOST_STATES }
     requires within { All (λ t. t < length net.now.states) returns.now }
     ensures members { IfOk result (λ found. HasExactly found.items (Start net.now decision (Allows allowed.now) (record { returns = returns.now; wild = wild }))) }
     ensures within { IfOk result (λ found. All (IsWithin net.now) found.items) }
@@ -146,7 +147,7 @@ pub fn next(
     symbol: u32,
 ) -> Result<Vec<Configuration>, AllocError>
     requires well_formed { WellFormed net.now }
-    requires few { length net.now.states ≤ 65536 }
+    requires few { length net.now.states ≤ MOST_STATES }
     requires within { All (IsWithin net.now) configurations.now }
     ensures members { IfOk result (λ found. HasExactly found.items (Next net.now (Contains configurations.now) symbol)) }
     ensures within { IfOk result (λ found. All (IsWithin net.now) found.items) }

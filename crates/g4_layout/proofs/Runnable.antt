@@ -22,6 +22,7 @@ use Rattle.g4_layout.proofs.Rules.{half, Laid, IsWithinRule, every_rule, rules_u
 use Rattle.g4_layout.proofs.RulesSound.{state_sound, heads_sound, others_sound}
 use Rattle.g4_layout.proofs.Sound.{IsSoundState, SoundAt, AreAllowed, target_allowed}
 use Rattle.g4_layout.proofs.Trees.{EachIsSound, CallsKnown}
+use Rattle.g4_net.specs.declared.network.TheConstants.{MOST_STATES}
 
 -- a state whose step is no predicate and no level
 untested_state : (Ended Allowed : ℕ → Type 0) (s : State (List ℕ)) → IsSoundState (CallsKnown IsTestless CallsRule (λ j. Unit {0})) Ended Allowed (Some s) → IsUntested s
@@ -128,7 +129,7 @@ module _ (net : ParserNetwork) (set : List ℕ) (start : ℕ) (list : List (Alte
 
 -- every network of rules that can be laid can be parsed with
 pub runnable : (set : List ℕ) (rules : List StepRule) (start : List ℕ) (net : ParserNetwork) → CanBeLaid rules → rule_number rules start ≤ length rules → (Contains set end_of_list → ⊥) →
-    IsNetworkOf (rules_of set rules start) net → length net.states ≤ 65536 → net.callers ≡ callers_of net.states (length rules + 1) → IsRunnable net (rule_number rules start) (2 * length rules + 2) set
+    IsNetworkOf (rules_of set rules start) net → length net.states ≤ MOST_STATES → net.callers ≡ callers_of net.states (length rules + 1) → IsRunnable net (rule_number rules start) (2 * length rules + 2) set
 runnable set rules start net can within no_end network few callers =
     let number = rule_number rules start in
     let from : 1 ≤ number = omega arith in

@@ -8,13 +8,14 @@ use Rattle.g4_layout.specs.Callers.{callers_of}
 use Rattle.g4_layout.specs.Decisions.{AreNarrow}
 use Rattle.g4_layout.specs.Layout.{BeginsAny, IsNetworkOf}
 use Rattle.g4_layout.specs.Rules.{has_parser_rule, rule_number, rules_of, state_count}
+use Rattle.g4_net.specs.declared.network.TheConstants.{MOST_STATES}
 
 -- The network of the rules from a start rule, the added rule's loop taking the symbols of the set: it can be parsed with, it has
 -- its callers, and nothing is written of a state where no alternative begins.
 pub record IsBuilt (set : List ℕ) (rules : List StepRule) (start : List ℕ) (net : ParserNetwork) : Type 0 where
   pub known : has_parser_rule rules start ≡ true
   pub narrow : AreNarrow (map alternatives_of rules)
-  pub fits : state_count rules ≤ 65536
+  pub fits : state_count rules ≤ MOST_STATES
   pub network : IsNetworkOf (rules_of set rules start) net
   pub runnable : IsRunnable net (rule_number rules start) (2 * length rules + 2) set
   pub callers : net.callers ≡ callers_of net.states (length rules + 1)

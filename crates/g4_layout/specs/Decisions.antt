@@ -46,17 +46,21 @@ abbrev pub RulesHaveDecision : {A : Type 0} → List (Alternatives A) → ℕ �
 RulesHaveDecision [] n = ⊥
 RulesHaveDecision (rule ∷ rules) n = RuleHasDecision rule n ⊎ RulesHaveDecision rules n
 
--- one of these decisions has more than 1,024 alternatives
-abbrev pub IsWide : (ℕ → Type 0) → Type 0
-IsWide HasOne = (n : ℕ) × HasOne n × (1024 < n)
+-- the most alternatives of a decision, leave counted
+abbrev pub most_alternatives : ℕ
+most_alternatives = 1024
 
--- some decision of some rule has more than 1,024 alternatives
+-- one of these decisions has too many alternatives
+abbrev pub IsWide : (ℕ → Type 0) → Type 0
+IsWide HasOne = (n : ℕ) × HasOne n × (most_alternatives < n)
+
+-- some decision of some rule has too many alternatives
 abbrev pub IsTooWide : {A : Type 0} → List (Alternatives A) → Type 0
 IsTooWide rules = IsWide (RulesHaveDecision rules)
 
--- every decision of the rules has at most 1,024 alternatives
+-- no decision of the rules has too many alternatives
 abbrev pub AreNarrow : {A : Type 0} → List (Alternatives A) → Type 0
-AreNarrow rules = (n : ℕ) → RulesHaveDecision rules n → n ≤ 1024
+AreNarrow rules = (n : ℕ) → RulesHaveDecision rules n → n ≤ most_alternatives
 
 -- in how many ways a decision over the bodies of a block with this sign can leave it
 abbrev pub ways_to_leave : Repeat → ℕ

@@ -17,6 +17,7 @@ ghost use Rattle.g4_net.specs.Leads.{LeadsOn, WellFormed};
 ghost use Rattle.g4_net.specs.Network.{IsReturn, ParserNetwork};
 ghost use Rattle.g4_net.specs.declared.network.Network.{Network};
 ghost use Rattle.g4_symbols.specs.Symbols.{end_of_list};
+ghost use Rattle.g4_net.specs.declared.network.TheConstants.{MOST_STATES};
 
 /// Where no loop has a body that derives the empty word and no rule reaches itself by left calls, and only there, no state
 /// of the rules' network leads above its own stack to itself.
@@ -36,7 +37,7 @@ pub fn well_formed()
 /// Every network of rules that can be laid can be parsed with: it is well formed, and its added rule is apart.
 pub fn every_network_is_runnable()
     ensures { (set : List ℕ) (rules : List StepRule) (start : List ℕ) (net : ParserNetwork) → CanBeLaid rules → rule_number rules start ≤ length rules → (Contains set end_of_list → ⊥) →
-        IsNetworkOf (rules_of set rules start) net → length net.states ≤ 65536 → net.callers ≡ callers_of net.states (length rules + 1) →
+        IsNetworkOf (rules_of set rules start) net → length net.states ≤ MOST_STATES → net.callers ≡ callers_of net.states (length rules + 1) →
         IsRunnable net (rule_number rules start) (2 * length rules + 2) set }
 {}
 

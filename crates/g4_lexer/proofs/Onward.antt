@@ -19,6 +19,7 @@ use Rattle.g4_lexer.specs.Matching.{NoMatch}
 use Rattle.g4_lexer.specs.Best.{IsBestOfAll}
 use Rattle.g4_lexer.specs.Positions.{first_position, position_after, token_at, closing_at, EndsBy}
 use Rattle.g4_lexer.specs.Lexing.{LexesWithin, at_end, a_kept_match, a_dropped_match, one_too_many, no_match, Stuck, no_token, too_many, then_token}
+use Rattle.g4_symbols.specs.declared.symbol.TheConstants.{MOST_TYPES}
 
 -- a character has at most four bytes
 pub length-encoded-le : (w : List ℕ) → length (encode_utf8_all w) ≤ 4 * length w
@@ -199,16 +200,16 @@ low_lacks (a ∷ w) low (zero, less, is) = omega (arith, low.0)
 low_lacks (a ∷ w) low (suc k, less, is) = low_lacks w low.1 (k, omega arith, is)
 
 -- the symbols of the tokens, and of four EOF behind them, are low
-word_low : (found : List Token) → All (λ (token : Token). token.symbol ≤ 4096) found → AreLow (word_of found ++ eof ∷ eof ∷ eof ∷ eof ∷ [])
+word_low : (found : List Token) → All (λ (token : Token). token.symbol ≤ MOST_TYPES) found → AreLow (word_of found ++ eof ∷ eof ∷ eof ∷ eof ∷ [])
 word_low [] types = (omega arith, (omega arith, (omega arith, (omega arith, tt))))
-word_low (t ∷ ts) types = (let first : t.symbol ≤ 4096 = types 0 t (omega arith) in omega arith, word_low ts (λ k d less. types (suc k) d (omega arith)))
+word_low (t ∷ ts) types = (let first : t.symbol ≤ MOST_TYPES = types 0 t (omega arith) in omega arith, word_low ts (λ k d less. types (suc k) d (omega arith)))
 
 word_closed : (found : List Token) (end : Position) → word_of (found ++ closing_at end) ≡ (word_of found ++ eof ∷ eof ∷ eof ∷ eof ∷ []) ++ end_of_list ∷ []
 word_closed [] end = refl
 word_closed (t ∷ ts) end = ap (λ w. t.symbol ∷ w) (word_closed ts end)
 
 -- tokens of token types, closed, end in END
-pub ends_in_end : (tokens found : List Token) (end : Position) → tokens ≡ found ++ closing_at end → All (λ (token : Token). token.symbol ≤ 4096) found → EndsInEnd (word_of tokens)
+pub ends_in_end : (tokens found : List Token) (end : Position) → tokens ≡ found ++ closing_at end → All (λ (token : Token). token.symbol ≤ MOST_TYPES) found → EndsInEnd (word_of tokens)
 ends_in_end tokens found end is types =
     subst (λ (ts : List Token). EndsInEnd (word_of ts)) (sym is)
     (word_of found ++ eof ∷ eof ∷ eof ∷ eof ∷ [], word_closed found end, low_lacks (word_of found ++ eof ∷ eof ∷ eof ∷ eof ∷ []) (word_low found types))

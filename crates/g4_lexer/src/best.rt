@@ -4,6 +4,8 @@ ghost use Rattle.g4_grammar.specs.Written.{TokenRuleIsQuiet};
 ghost use Rattle.g4_lexer.specs.Matching.{NoMatch};
 ghost use Rattle.g4_lexer.specs.Counts.{IsStart};
 ghost use Rattle.g4_lexer.specs.Best.{IsLongest, IsBestOfRule, IsBestOfAll};
+ghost use Rattle.g4_base.specs.declared.limits.TheConstants.{MOST_BYTES};
+ghost use Rattle.g4_symbols.specs.declared.symbol.TheConstants.{MOST_TYPES};
 
 use crate::counts::Counts;
 use crate::ends::add_elements;
@@ -35,7 +37,7 @@ fn longest(
     text: &[char],
     start: &Counts,
 ) -> Result<usize, AllocError>
-    requires fits { length text.now ≤ 16777216 }
+    requires fits { length text.now ≤ MOST_BYTES }
     requires start { IsStart start.now }
     ensures { IfOk result (λ n. IsLongest [] alternative.now text.now n) }
 {
@@ -60,7 +62,7 @@ fn best_of_rule(
     text: &[char],
     start: &Counts,
 ) -> Result<Choice, AllocError>
-    requires fits { length text.now ≤ 16777216 }
+    requires fits { length text.now ≤ MOST_BYTES }
     requires start { IsStart start.now }
     ensures { IfOk result (λ b. IsBestOfRule [] rule.now text.now b.length b.skip) }
 {
@@ -82,11 +84,11 @@ fn best_of_rule(
 
 /// The longest match at the front of the text, of those as long the one of the first rule.
 pub fn best(alloc: Global, rules: &[TokenRule], text: &[char]) -> Result<Option<Match>, AllocError>
-    requires fits { length text.now ≤ 16777216 }
-    requires types { All (λ rule. rule.symbol ≤ 4096) rules.now }
+    requires fits { length text.now ≤ MOST_BYTES }
+    requires types { All (λ rule. rule.symbol ≤ MOST_TYPES) rules.now }
     ensures best { IfOk result (λ found. All TokenRuleIsQuiet rules.now → MatchOption found (NoMatch rules.now text.now) (λ b. IsBestOfAll rules.now text.now b.symbol b.length b.skip)) }
     ensures within { IfOk result (λ found. IfSome found (λ b. (1 ≤ b.length) × (b.length ≤ length text.now))) }
-    ensures types { IfOk result (λ found. IfSome found (λ b. b.symbol ≤ 4096)) }
+    ensures types { IfOk result (λ found. IfSome found (λ b. b.symbol ≤ MOST_TYPES)) }
 {
     let mut start = Counts::new(alloc, 0);
     start.set_only(0)?;

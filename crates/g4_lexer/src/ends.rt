@@ -6,6 +6,7 @@ ghost use Rattle.g4_elements.specs.Trees.{element_of, alternative_of, in_order};
 ghost use Rattle.g4_grammar.specs.Written.{ReadsCharacters};
 ghost use Rattle.g4_lexer.specs.Alone.{Matches, MatchesAll, MatchesOne, star};
 ghost use Rattle.g4_lexer.specs.Counts.{Has, Fits, HasRoom, IsPart, Adds, Closes};
+ghost use Rattle.g4_base.specs.declared.limits.TheConstants.{MOST_BYTES};
 
 use crate::counts::Counts;
 use crate::turn::turn;
@@ -16,7 +17,7 @@ use std::mem;
 
 /// Adds the end of the match that begins at a count, if the atom matches there.
 fn add_turn(ends: &mut Counts, atom: &Atom, text: &[char], start: usize) -> Result<(), AllocError>
-    requires fits { length text.now ≤ 16777216 }
+    requires fits { length text.now ≤ MOST_BYTES }
     requires within { start ≤ length text.now }
     requires room { Fits ends.old text.now }
     requires ordered { ends.old.first ≤ start }
@@ -37,7 +38,7 @@ fn add_atom(
     text: &[char],
     starts: &Counts,
 ) -> Result<(), AllocError>
-    requires fits { length text.now ≤ 16777216 }
+    requires fits { length text.now ≤ MOST_BYTES }
     requires room { HasRoom text.now starts.now ends.old }
     ensures { OnOk result (Adds (ReadsCharacters atom.now) text.now starts.now ends.old ends.new) }
 {
@@ -57,7 +58,7 @@ fn add_turns(
     alternatives: &[Alternative<Atom>],
     text: &[char],
 ) -> Result<(), AllocError>
-    requires fits { length text.now ≤ 16777216 }
+    requires fits { length text.now ≤ MOST_BYTES }
     requires room { Fits ends.old text.now }
     ensures { OnOk result (Closes (Matches (star (either (map alternative_of alternatives.now)))) text.now ends.old ends.new) }
 {
@@ -84,7 +85,7 @@ fn add_either(
     text: &[char],
     starts: &Counts,
 ) -> Result<(), AllocError>
-    requires fits { length text.now ≤ 16777216 }
+    requires fits { length text.now ≤ MOST_BYTES }
     requires room { HasRoom text.now starts.now ends.old }
     ensures { OnOk result (Adds (MatchesOne (either (map alternative_of alternatives.now))) text.now starts.now ends.old ends.new) }
 {
@@ -103,7 +104,7 @@ fn add_element(
     text: &[char],
     starts: &Counts,
 ) -> Result<(), AllocError>
-    requires fits { length text.now ≤ 16777216 }
+    requires fits { length text.now ≤ MOST_BYTES }
     requires room { HasRoom text.now starts.now ends.old }
     ensures { OnOk result (Adds (Matches (element_of element.now)) text.now starts.now ends.old ends.new) }
 {
@@ -125,7 +126,7 @@ fn add_block(
     text: &[char],
     starts: &Counts,
 ) -> Result<(), AllocError>
-    requires fits { length text.now ≤ 16777216 }
+    requires fits { length text.now ≤ MOST_BYTES }
     requires room { HasRoom text.now starts.now ends.old }
     ensures { (label : Option Label) → OnOk result (Adds (Matches (block label repeat (either (map alternative_of alternatives.now)))) text.now starts.now ends.old ends.new) }
 {
@@ -159,7 +160,7 @@ pub fn add_elements(
     text: &[char],
     starts: &Counts,
 ) -> Result<(), AllocError>
-    requires fits { length text.now ≤ 16777216 }
+    requires fits { length text.now ≤ MOST_BYTES }
     requires room { HasRoom text.now starts.now ends.old }
     ensures { OnOk result (Adds (MatchesAll (in_order (map element_of elements.now))) text.now starts.now ends.old ends.new) }
 {

@@ -4,6 +4,8 @@ ghost use Rattle.g4_token_list.specs.TokenList.{EndsInEnd, word_of};
 ghost use Rattle.g4_grammar.specs.Written.{TokenRuleIsQuiet};
 ghost use Rattle.g4_lexer.specs.Positions.{EndsBy, closing_at};
 ghost use Rattle.g4_lexer.specs.Lexing.{IsLexing, IsLexingWithin};
+ghost use Rattle.g4_base.specs.declared.limits.TheConstants.{MOST_BYTES};
+ghost use Rattle.g4_symbols.specs.declared.symbol.TheConstants.{MOST_TYPES};
 
 use crate::decode::{DecodeError, characters};
 use crate::fault::LexFault;
@@ -45,8 +47,8 @@ pub fn tokens_within(
     bytes: Octets,
     room: usize,
 ) -> Result<Tokens, LexFault>
-    requires fits { length bytes ≤ 16777216 }
-    requires types { All (λ rule. rule.symbol ≤ 4096) rules.now }
+    requires fits { length bytes ≤ MOST_BYTES }
+    requires types { All (λ rule. rule.symbol ≤ MOST_TYPES) rules.now }
     ensures lexing { All TokenRuleIsQuiet rules.now → IsLexingWithin room rules.now bytes result }
     ensures same { IfOk result (λ found. found.bytes ≡ bytes) }
     ensures few { IfOk result (λ found. length found.list ≤ length bytes + 5) }
@@ -76,8 +78,8 @@ pub fn tokens_within(
 /// `NotUtf8` where the bytes are not UTF-8; `NoToken` at the first character at which no rule matches, `Tokens` at the
 /// token past the first 1,000,000, whichever comes first in the text.
 pub fn tokens(alloc: Global, rules: &[TokenRule], bytes: Octets) -> Result<Tokens, LexFault>
-    requires fits { length bytes ≤ 16777216 }
-    requires types { All (λ rule. rule.symbol ≤ 4096) rules.now }
+    requires fits { length bytes ≤ MOST_BYTES }
+    requires types { All (λ rule. rule.symbol ≤ MOST_TYPES) rules.now }
     ensures lexing { All TokenRuleIsQuiet rules.now → IsLexing rules.now bytes result }
     ensures same { IfOk result (λ found. found.bytes ≡ bytes) }
     ensures few { IfOk result (λ found. length found.list ≤ length bytes + 5) }

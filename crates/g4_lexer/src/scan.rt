@@ -3,6 +3,8 @@ ghost use Rattle.std.specs.Prelude.{◌≡◌, ◌≤◌, All, IfOk, length};
 ghost use Rattle.g4_grammar.specs.Written.{TokenRuleIsQuiet};
 ghost use Rattle.g4_lexer.specs.Positions.{EndsBy, first_position, position_after};
 ghost use Rattle.g4_lexer.specs.Scanning.{IsScan};
+ghost use Rattle.g4_base.specs.declared.limits.TheConstants.{MOST_BYTES};
+ghost use Rattle.g4_symbols.specs.declared.symbol.TheConstants.{MOST_TYPES};
 
 use crate::best::best;
 use crate::fault::LexFault;
@@ -29,13 +31,13 @@ pub fn scan(
     text: &[char],
     room: usize,
 ) -> Result<Scanned, LexFault>
-    requires fits { length text.now ≤ 16777216 }
-    requires types { All (λ rule. rule.symbol ≤ 4096) rules.now }
+    requires fits { length text.now ≤ MOST_BYTES }
+    requires types { All (λ rule. rule.symbol ≤ MOST_TYPES) rules.now }
     ensures scan { All TokenRuleIsQuiet rules.now → IsScan room rules.now text.now result }
     ensures end { IfOk result (λ found. found.end ≡ position_after first_position text.now) }
     ensures few { IfOk result (λ found. length found.tokens.items ≤ length text.now) }
     ensures limited { IfOk result (λ found. length found.tokens.items ≤ room) }
-    ensures types { IfOk result (λ found. All (λ token. token.symbol ≤ 4096) found.tokens.items) }
+    ensures types { IfOk result (λ found. All (λ token. token.symbol ≤ MOST_TYPES) found.tokens.items) }
     ensures spans { IfOk result (λ found. All (EndsBy found.end.offset) found.tokens.items) }
 {
     let mut tokens = Vec::new(alloc);

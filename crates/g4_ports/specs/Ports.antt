@@ -1,11 +1,8 @@
 -- What the calls of a shelf and a sink answer, and what they count.
 use Rattle.std.specs.Prelude.{◌≡◌, ◌≤◌, ◌<◌, ℕ, ◌+◌, ◌-◌, ◌^◌, List, ◌++◌, length, take, min, Option, Some, None, Result, Ok, Err, Bool, true, false}
+use Rattle.g4_base.specs.declared.limits.TheConstants.{MOST_BYTES}
 use Rattle.g4_ports.specs.declared.ports.Got.{Got}
 use Rattle.g4_ports.specs.declared.ports.Got.TheVariants.{Bytes, Absent, Failed, TooLarge, NoMemory}
-
--- the greatest size of a file
-abbrev pub limit : ℕ
-limit = 16777216
 
 -- A count has risen. At the last value of its type it stays the same, which counts as risen.
 abbrev pub Rose : ℕ → ℕ → Type 0
@@ -21,10 +18,10 @@ IsFileOf file NoMemory = Unit {0}
 
 -- the sizes, whether the files are told or not
 abbrev pub IsSized : Got → Type 0
-IsSized (Bytes bytes) = length bytes ≤ limit
+IsSized (Bytes bytes) = length bytes ≤ MOST_BYTES
 IsSized Absent = Unit {0}
 IsSized Failed = Unit {0}
-IsSized (TooLarge n) = limit < n
+IsSized (TooLarge n) = MOST_BYTES < n
 IsSized NoMemory = Unit {0}
 
 -- the count of faults rises where reading failed, and is the same otherwise

@@ -10,4 +10,4 @@ mod ports;
 pub use memory_shelf::{MemFile, MemShelf};
 pub use memory_sink::MemSink;
 pub use outside::{Failure, FileShelf, OutSink};
-pub use ports::{Failed, Gate, Got, LIMIT, Open, Shelf, Sink, write_all};
+pub use ports::{Failed, Gate, Got, Open, Shelf, Sink, write_all};

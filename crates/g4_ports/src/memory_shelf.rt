@@ -4,8 +4,8 @@ ghost use Rattle.std.specs.List.{list_any};
 ghost use Rattle.g4_ports.specs.Ports.{IsFileOf, IsSized, CountsFaults, CountsMisses, is_failed};
 ghost use Rattle.g4_ports.specs.Memory.{find_file};
 
-use crate::{Got, LIMIT, Shelf};
-use g4_base::{Octets, Text};
+use crate::{Got, Shelf};
+use g4_base::{MOST_BYTES, Octets, Text};
 use std::alloc::Global;
 
 /// A file in memory.
@@ -78,7 +78,7 @@ impl Shelf for MemShelf {
             return Got::Absent;
         };
         let size = bytes.len() as u64;
-        if size > LIMIT {
+        if size > MOST_BYTES {
             self.misses = self.misses.saturating_add(1);
             return Got::TooLarge(size);
         }

@@ -3,8 +3,8 @@ ghost use Rattle.std.specs.Prelude.{◌≡◌, None, ◌≤◌, length};
 ghost use Rattle.std.specs.Option.{option_copied};
 ghost use Rattle.g4_ports.specs.Ports.{CountsFaults, CountsMisses, IsSized, Rose};
 
-use crate::{Failed, Got, LIMIT, Shelf, Sink};
-use g4_base::{Octets, Text};
+use crate::{Failed, Got, Shelf, Sink};
+use g4_base::{MOST_BYTES, Octets, Text};
 use std::alloc::{AllocError, Global};
 use std::fs::{self, File};
 use std::io::{self, ErrorKind, Read, Write};
@@ -36,15 +36,15 @@ enum Ended {
 
 /// Reads to the end, up to the limit.
 fn read_file<F: Read>(file: &mut F, bytes: &mut Vec<u8>) -> Ended
-    requires { length bytes.old.items ≤ LIMIT }
-    ensures { length bytes.new.items ≤ LIMIT }
+    requires { length bytes.old.items ≤ MOST_BYTES }
+    ensures { length bytes.new.items ≤ MOST_BYTES }
 {
     let mut buf = [0u8; 4096];
     for _ in 0..u64::MAX {
         match file.read(&mut buf) {
             Ok(0) => return Ended::Whole,
             Ok(count) => {
-                if bytes.len() as u64 + count as u64 > LIMIT {
+                if bytes.len() as u64 + count as u64 > MOST_BYTES {
                     return Ended::Failed(grew());
                 }
                 if bytes.extend_from_slice(&buf[..count]).is_err() {
@@ -138,7 +138,7 @@ impl<'a, R: Files> Shelf for FileShelf<'a, R> {
 
     fn fetch(&mut self, alloc: Global, name: &str) -> Got {
         match look(self.rt, name) {
-            Ok(size) if size > LIMIT => {
+            Ok(size) if size > MOST_BYTES => {
                 self.misses = self.misses.saturating_add(1);
                 Got::TooLarge(size)
             }

@@ -5,9 +5,6 @@ ghost use Rattle.g4_ports.specs.Ports.{IsFileOf, CountsFaults, CountsMisses, IsS
 use g4_base::Octets;
 use std::alloc::Global;
 
-/// The greatest size of a file, in bytes.
-pub const LIMIT: u64 = 16_777_216;
-
 /// An output took nothing.
 #[derive(Clone, Copy, Debug, PartialEq, Eq)]
 pub struct Failed;

@@ -7,6 +7,7 @@ ghost use Rattle.g4_prequels.specs.Parts.{IsPart, AreParts};
 ghost use Rattle.g4_reader.specs.Reading.{end_of, fault_at, opened_fault};
 ghost use Rattle.g4_prequels.specs.Steps.{from};
 ghost use Rattle.g4_reader.specs.Answering.{IsFault};
+ghost use Rattle.g4_base.specs.declared.limits.TheConstants.{MOST_BYTES};
 
 use crate::reader::ReadFault;
 use g4_base::{Place, Sequence};
@@ -29,7 +30,7 @@ fn unmarked(text: &[char]) -> &[char]
 
 /// The place behind the characters.
 fn place_behind(characters: &[char]) -> Place
-    requires fits { length characters.now ≤ 16777216 }
+    requires fits { length characters.now ≤ MOST_BYTES }
     ensures { result ≡ place_after first_place characters.now }
 {
     let mut place = Place::START;
@@ -41,7 +42,7 @@ fn place_behind(characters: &[char]) -> Place
 
 /// The place behind the text.
 fn end_of(alloc: Global, text: &str) -> Result<Place, AllocError>
-    requires fits { length text.now ≤ 16777216 }
+    requires fits { length text.now ≤ MOST_BYTES }
     ensures { IfOk result (λ place. place ≡ end_of text.now) }
 {
     let characters: Vec<char> = text.chars().collect(alloc)?;
@@ -71,7 +72,7 @@ fn token_fault(alloc: Global, text: &str, token: &Token) -> ReadFault
 
 /// The fault at the end of the text.
 fn end_fault(alloc: Global, text: &str) -> ReadFault
-    requires fits { length text.now ≤ 16777216 }
+    requires fits { length text.now ≤ MOST_BYTES }
     ensures { IsFault (fault_at text.now []) result }
 {
     match end_of(alloc, text) {
@@ -83,7 +84,7 @@ fn end_fault(alloc: Global, text: &str) -> ReadFault
 /// The fault at the token with this index, or at the end of the text.
 pub(crate) fn fault_at(alloc: Global, text: &str, tokens: &[Token], at: usize) -> ReadFault
     requires parts { AreParts text.now tokens.now }
-    requires fits { length text.now ≤ 16777216 }
+    requires fits { length text.now ≤ MOST_BYTES }
     ensures { IsFault (fault_at text.now (from text.now tokens.now at)) result }
 {
     match token_at(tokens, at) {

@@ -6,6 +6,7 @@ ghost use Rattle.g4_prequels.specs.Parts.{AreParts};
 ghost use Rattle.g4_reader.specs.Reading.{IsReading};
 ghost use Rattle.g4_prequels.specs.Steps.{from};
 ghost use Rattle.g4_prequels.specs.Texts.{spelled};
+ghost use Rattle.g4_base.specs.declared.limits.TheConstants.{MOST_BYTES};
 
 use crate::bad::first_bad;
 use crate::fault::{fault_at, opened_fault};
@@ -58,7 +59,7 @@ fn front(tokens: &[Token], at: usize) -> &[Token]
 /// The fault of tokens with which no grammar text goes on at the index: the first bad set before it, or else a syntax fault.
 fn first_fault(alloc: Global, text: &str, tokens: &[Token], at: usize) -> ReadFault
     requires parts { AreParts text.now tokens.now }
-    requires fits { length text.now ≤ 16777216 }
+    requires fits { length text.now ≤ MOST_BYTES }
     ensures { IsFirstOf text.now (spelled text.now (take at tokens.now)) (from text.now tokens.now at) result }
 {
     match first_bad(alloc, text, front(tokens, at)) {
@@ -71,7 +72,7 @@ fn first_fault(alloc: Global, text: &str, tokens: &[Token], at: usize) -> ReadFa
 /// The grammar that the tokens are, or what stands first of their bad sets and syntax faults.
 fn read_checked(alloc: Global, text: &str, tokens: &[Token]) -> Result<Source, ReadFault>
     requires parts { AreParts text.now tokens.now }
-    requires fits { length text.now ≤ 16777216 }
+    requires fits { length text.now ≤ MOST_BYTES }
     ensures reading { IsReadingOf text.now (spelled text.now tokens.now) result }
     ensures full { IfOk result HaveAlternatives }
 {
@@ -84,7 +85,7 @@ fn read_checked(alloc: Global, text: &str, tokens: &[Token]) -> Result<Source, R
 
 /// The grammar that the text is, by its tokens, or their fault.
 fn read_text(alloc: Global, text: &str) -> Result<Source, ReadFault>
-    requires fits { length text.now ≤ 16777216 }
+    requires fits { length text.now ≤ MOST_BYTES }
     ensures reading { IsReading text.now result }
     ensures full { IfOk result HaveAlternatives }
 {
@@ -109,7 +110,7 @@ fn read_text(alloc: Global, text: &str) -> Result<Source, ReadFault>
 ///   range between literals that runs backward, or a literal in one or under `~` in a lexer rule that is not one character.
 /// - `NoMemory`: memory runs out.
 pub fn read_grammar(alloc: Global, bytes: &[u8]) -> Result<Source, ReadFault>
-    requires fits { length bytes.now ≤ 16777216 }
+    requires fits { length bytes.now ≤ MOST_BYTES }
     ensures reading { IsReading bytes.now result }
     ensures full { IfOk result HaveAlternatives }
 {

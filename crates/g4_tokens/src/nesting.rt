@@ -2,6 +2,7 @@
 ghost use Rattle.std.specs.Prelude.{◌≡◌, ◌≤◌, ◌<◌, ◌+◌, ◌^◌, length, drop, slice_index, IfSome};
 ghost use Rattle.g4_tokens.specs.Nesting.{commented, closes, depth_behind, passed_over, Nests, AreUnclosed};
 ghost use Rattle.g4_tokens.specs.Ends.{Finds};
+ghost use Rattle.g4_base.specs.declared.limits.TheConstants.{MOST_BYTES};
 
 use crate::character::{begins, line_length};
 use crate::comment::comment_end;
@@ -88,7 +89,7 @@ fn passed(
 
 /// How many characters there are up to the one that closes, that included.
 pub fn nesting_end(opening: char, closing: char, text: &[char]) -> Option<usize>
-    requires fits { length text.now ≤ 16777216 }
+    requires fits { length text.now ≤ MOST_BYTES }
     ensures end { Finds (Nests opening closing text.now) result }
     ensures within { IfSome result (λ taken. taken ≤ length text.now) }
 {

@@ -4,6 +4,7 @@ ghost use Rattle.std.specs.List.{prefix_len};
 ghost use Rattle.std.specs.Char.{is_ascii_digit};
 ghost use Rattle.g4_tokens.specs.Pieces.{up_to, comment, literal, set, arguments, action, IsPiece, slash_opening, name_piece, comparison, lone_sign, sign_piece, bracket_opening, left_brace_opening, right_brace_piece, marked_opening, opening, IsWithin};
 ghost use Rattle.g4_tokens.specs.Readings.{holds_sets};
+ghost use Rattle.g4_base.specs.declared.limits.TheConstants.{MOST_BYTES};
 
 use crate::Kind;
 use crate::character::{begins, is_blank, is_upper, line_length, name_length};
@@ -88,7 +89,7 @@ fn set_piece(behind: &[char]) -> Piece
 }
 
 fn arguments_piece(behind: &[char]) -> Piece
-    requires fits { length behind.now ≤ 16777216 }
+    requires fits { length behind.now ≤ MOST_BYTES }
     ensures value { IsPiece (up_to arguments) behind.now result }
     ensures within { IsWithin (length behind.now) result }
 {
@@ -99,7 +100,7 @@ fn arguments_piece(behind: &[char]) -> Piece
 }
 
 fn action_piece(behind: &[char]) -> Piece
-    requires fits { length behind.now ≤ 16777216 }
+    requires fits { length behind.now ≤ MOST_BYTES }
     ensures value { IsPiece (up_to action) behind.now result }
     ensures within { IsWithin (length behind.now) result }
 {
@@ -156,7 +157,7 @@ fn sign_piece(c: char, behind: &[char]) -> Piece
 }
 
 fn bracket_piece(sets: bool, behind: &[char]) -> Piece
-    requires fits { length behind.now ≤ 16777216 }
+    requires fits { length behind.now ≤ MOST_BYTES }
     ensures value { IsPiece (bracket_opening sets) behind.now result }
     ensures within { IsWithin (length behind.now) result }
 {
@@ -168,7 +169,7 @@ fn bracket_piece(sets: bool, behind: &[char]) -> Piece
 }
 
 fn left_brace_piece(names_braces: bool, behind: &[char]) -> Piece
-    requires fits { length behind.now ≤ 16777216 }
+    requires fits { length behind.now ≤ MOST_BYTES }
     ensures value { IsPiece (left_brace_opening names_braces) behind.now result }
     ensures within { IsWithin (length behind.now) result }
 {
@@ -191,7 +192,7 @@ fn right_brace_piece(in_braces: bool) -> Piece
 }
 
 fn marked_piece(statement: Statement, c: char, behind: &[char]) -> Piece
-    requires fits { length behind.now ≤ 16777216 }
+    requires fits { length behind.now ≤ MOST_BYTES }
     ensures value { IsPiece (marked_opening (holds_sets statement) statement.names_braces statement.in_braces c behind.now) behind.now result }
     ensures within { IsWithin (length behind.now) result }
 {
@@ -215,7 +216,7 @@ fn number_length(text: &[char]) -> usize
 
 /// The piece that begins with the character, with what stands behind it.
 pub fn read_piece(statement: Statement, c: char, behind: &[char]) -> Piece
-    requires fits { length behind.now ≤ 16777216 }
+    requires fits { length behind.now ≤ MOST_BYTES }
     ensures value { IsPiece (opening (holds_sets statement) statement.names_braces statement.in_braces c behind.now) behind.now result }
     ensures within { IsWithin (length behind.now) result }
 {

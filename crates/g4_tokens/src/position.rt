@@ -2,6 +2,7 @@
 ghost use Rattle.std.specs.Prelude.{◌≡◌, ◌≤◌, ◌<◌, ◌+◌, ◌*◌, ◌^◌, length};
 ghost use Rattle.std.specs.Char.{len_utf8};
 ghost use Rattle.g4_tokens.specs.Positions.{byte_count, position_past};
+ghost use Rattle.g4_base.specs.declared.limits.TheConstants.{MOST_BYTES};
 
 use g4_base::Place;
 
@@ -14,7 +15,7 @@ pub struct Position {
 
 /// How many bytes the characters take.
 fn byte_count(characters: &[char]) -> usize
-    requires fits { length characters.now ≤ 16777216 }
+    requires fits { length characters.now ≤ MOST_BYTES }
     ensures value { result ≡ byte_count characters.now }
     ensures within { result ≤ 4 * length characters.now }
 {
@@ -28,7 +29,7 @@ fn byte_count(characters: &[char]) -> usize
 impl Position {
     /// The position behind these characters.
     pub fn past(self, characters: &[char]) -> Position
-        requires fits { length characters.now ≤ 16777216 }
+        requires fits { length characters.now ≤ MOST_BYTES }
         requires lines { self.place.line + length characters.now < 2 ^ 32 }
         requires columns { self.place.column + length characters.now < 2 ^ 32 }
         requires bytes { self.index + 4 * length characters.now < 2 ^ 32 }

@@ -4,6 +4,7 @@ ghost use Rattle.std.specs.Str.{chars};
 ghost use Rattle.g4_tokens.specs.Scanning.{start_at};
 ghost use Rattle.g4_tokens.specs.Spans.{AreInOrder, AreTexts};
 ghost use Rattle.g4_tokens.specs.Answers.{AnswersRest, IsScan, start_of, unmarked};
+ghost use Rattle.g4_base.specs.declared.limits.TheConstants.{MOST_BYTES};
 
 use crate::Token;
 use crate::character::begins;
@@ -48,7 +49,7 @@ impl<T: Drop> From<AllocFailed<T>> for ScanFault {
 
 /// The tokens of a text that begins at the index.
 fn scan_from(alloc: Global, text: &[char], index: usize) -> Result<Sequence<Token>, ScanFault>
-    requires fits { length text.now ≤ 16777216 }
+    requires fits { length text.now ≤ MOST_BYTES }
     requires marked { index ≤ 3 }
     ensures { AnswersRest (start_at index) text.now result }
 {
@@ -88,7 +89,7 @@ fn scan_from(alloc: Global, text: &[char], index: usize) -> Result<Sequence<Toke
 
 /// The tokens of a text, which a byte order mark may stand before.
 fn scan_characters(alloc: Global, text: &[char]) -> Result<Sequence<Token>, ScanFault>
-    requires fits { length text.now ≤ 16777216 }
+    requires fits { length text.now ≤ MOST_BYTES }
     ensures { AnswersRest (start_of text.now) (unmarked text.now) result }
 {
     match text {
@@ -105,7 +106,7 @@ fn scan_characters(alloc: Global, text: &[char]) -> Result<Sequence<Token>, Scan
 ///   escape.
 /// - `NoMemory`: memory runs out.
 pub fn scan(alloc: Global, bytes: &[u8]) -> Result<Sequence<Token>, ScanFault>
-    requires fits { length bytes.now ≤ 16777216 }
+    requires fits { length bytes.now ≤ MOST_BYTES }
     ensures value { IsScan bytes.now result }
     ensures spans { IfOk result (AreInOrder 0 (length bytes.now)) }
     ensures texts { IfOk result (AreTexts bytes.now) }

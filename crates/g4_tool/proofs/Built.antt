@@ -38,6 +38,7 @@ use Rattle.g4_tool.specs.Stages.{Gives, Then, stops, goes_on, OfFile, passes, fa
 use Rattle.g4_tool.specs.Inputs.{Files}
 use Rattle.g4_tool.specs.Loading.{Fetches, IsGrammarIn, Checks, Numbers, Loads}
 use Rattle.g4_tool.specs.Building.{names_of, steps_of, FromNetwork, FromGrammar, Builds}
+use Rattle.g4_net.specs.declared.network.TheConstants.{MOST_STATES}
 
 -- a layer's fault at which a stage ends
 pub stage_exit : {X Y E : Type 0} (IsAnswer : Result X E → Type 0) (seen : E → CheckError) (Second : X → Result Y GrammarFault → Type 0) (e : E) →
@@ -58,7 +59,7 @@ error_within Stage Whole within (errors.Fault fault) h = within (Err fault) h
 error_within Stage Whole within errors.NoMemory h = tt
 
 -- a test that fails leaves too many states
-too_many : (fits : Bool) (n : ℕ) → fits ≡ false → IsTrue fits ↔ n ≤ 65536 → 65536 < n
+too_many : (fits : Bool) (n : ℕ) → fits ≡ false → IsTrue fits ↔ n ≤ MOST_STATES → MOST_STATES < n
 too_many fits n is test = elim (cut n 65536) [ inl low ↦ absurd (let e : fits ≡ true = test.1 low in let k : ⊥ = cc in k) | inr high ↦ high ]
   where
     cut : (n m : ℕ) → (n ≤ m) ⊎ (m < n)
@@ -78,8 +79,8 @@ steps_are grammar names predicates rules steps names_is predicates_is rules_is m
     ∙ ap (map (resolved_rule (names_of grammar) [])) rules_is))
 
 -- the token rules, where they are lent
-pub lent_rules : (fits : Bool) (rules slice : List TokenRule) → slice ≡ rules → IsTrue fits ↔ lexer_state_count slice ≤ 65536 → IsTrue fits ↔ lexer_state_count rules ≤ 65536
-lent_rules fits rules slice same is = subst (λ (rs : List TokenRule). IsTrue fits ↔ lexer_state_count rs ≤ 65536) same is
+pub lent_rules : (fits : Bool) (rules slice : List TokenRule) → slice ≡ rules → IsTrue fits ↔ lexer_state_count slice ≤ MOST_STATES → IsTrue fits ↔ lexer_state_count rules ≤ MOST_STATES
+lent_rules fits rules slice same is = subst (λ (rs : List TokenRule). IsTrue fits ↔ lexer_state_count rs ≤ MOST_STATES) same is
 
 module _ (start : List ℕ) (grammar : Numbered) where
   -- a numbered grammar without a network
@@ -87,7 +88,7 @@ module _ (start : List ℕ) (grammar : Numbered) where
   build_exit steps e same is = stage_exit (GivesNetwork (steps_of grammar) start) (of_build start) (FromNetwork grammar) e (subst (λ (rs : List StepRule). GivesNetwork rs start (Err e)) same is)
 
   module _ (steps : List StepRule) (net : ParserNetwork) (same : steps ≡ steps_of grammar) (built : GivesNetwork steps start (Ok net)) (fits : Bool)
-      (tested : IsTrue fits ↔ lexer_state_count grammar.token_rules ≤ 65536) where
+      (tested : IsTrue fits ↔ lexer_state_count grammar.token_rules ≤ MOST_STATES) where
     after_network : (r : Result Interpreter GrammarFault) → FromNetwork grammar net r → FromGrammar start grammar r
     after_network r h = goes_on net r (subst (λ (rs : List StepRule). GivesNetwork rs start (Ok net)) same built) h
 

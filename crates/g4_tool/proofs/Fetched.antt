@@ -1,7 +1,8 @@
 -- Fetching the files one by one.
 use Rattle.std.proofs.Common.{◌≡◌, ℕ, ◌+◌, ◌<◌, List, [], ◌∷◌, ◌++◌, length, drop, Option, Some, None, IfSome, Result, Ok, Err, get_or, refl, sym, ap, ◌∙◌, subst}
 use Rattle.std.proofs.lemmas.List.{append_assoc, drop_more}
-use Rattle.g4_ports.specs.Ports.{limit, IsFileOf}
+use Rattle.g4_base.specs.declared.limits.TheConstants.{MOST_BYTES}
+use Rattle.g4_ports.specs.Ports.{IsFileOf}
 use Rattle.g4_ports.specs.declared.ports.Got.{Got}
 use Rattle.g4_ports.specs.declared.ports.Got.TheVariants as answers
 use Rattle.g4_tool.specs.declared.inputs.Input.{Input}
@@ -18,9 +19,9 @@ pub absent_file : (files : Files) (name copy : List ℕ) → copy ≡ name → f
 absent_file files name copy same none = subst (λ (n : List ℕ). Fetches files name (Err (stopping.Absent n))) (sym same) (absent none)
 
 -- a grammar file that is too large
-pub large_file : (files : Files) (name copy : List ℕ) (size : ℕ) → copy ≡ name → IsFileOf (files name) (answers.TooLarge size) → limit < size → Fetches files name (Err (stopping.TooLarge copy size))
+pub large_file : (files : Files) (name copy : List ℕ) (size : ℕ) → copy ≡ name → IsFileOf (files name) (answers.TooLarge size) → MOST_BYTES < size → Fetches files name (Err (stopping.TooLarge copy size))
 large_file files name copy size same is large =
-    let here : limit < length is.0 = subst (λ n. limit < n) (sym is.2) large in
+    let here : MOST_BYTES < length is.0 = subst (λ n. MOST_BYTES < n) (sym is.2) large in
     let stop : Fetches files name (Err (stopping.TooLarge name size)) = subst (λ n. Fetches files name (Err (stopping.TooLarge name n))) is.2 (too_large is.0 is.1 here) in
     subst (λ (n : List ℕ). Fetches files name (Err (stopping.TooLarge n size))) (sym same) stop
 

@@ -14,6 +14,7 @@ use Rattle.g4_tool.specs.declared.interpreter.Interpreter.{Interpreter}
 use Rattle.g4_tool.specs.declared.fault.GrammarFault.{GrammarFault}
 use Rattle.g4_tool.specs.declared.fault.GrammarFault.TheVariants as faults
 use Rattle.g4_tool.specs.declared.stop.Stop.{Stop}
+use Rattle.g4_net.specs.declared.network.TheConstants.{MOST_STATES}
 
 -- the names of the parser rules
 abbrev pub names_of : Numbered → List (List ℕ)
@@ -29,8 +30,8 @@ interpreter_of grammar net = record { names = names_of grammar; shown = grammar.
 
 -- the grammar and its network, where the lexer's network has no more than 65,536 states
 abbrev pub FromNetwork : Numbered → ParserNetwork → Result Interpreter GrammarFault → Type 0
-FromNetwork grammar net (Ok interpreter) = (lexer_state_count grammar.token_rules ≤ 65536) × (interpreter ≡ interpreter_of grammar net)
-FromNetwork grammar net (Err fault) = (65536 < lexer_state_count grammar.token_rules) × (fault ≡ faults.States)
+FromNetwork grammar net (Ok interpreter) = (lexer_state_count grammar.token_rules ≤ MOST_STATES) × (interpreter ≡ interpreter_of grammar net)
+FromNetwork grammar net (Err fault) = (MOST_STATES < lexer_state_count grammar.token_rules) × (fault ≡ faults.States)
 
 -- a numbered grammar: its network from the start rule, and then the lexer's
 abbrev pub FromGrammar : List ℕ → Numbered → Result Interpreter GrammarFault → Type 0

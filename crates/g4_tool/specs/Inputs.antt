@@ -1,6 +1,6 @@
 -- The files of a run.
 use Rattle.std.specs.Prelude.{◌≡◌, ◌≤◌, ℕ, List, [], ◌∷◌, length, Option, Some, None, Result, Ok, Err, nat_lt, cond}
-use Rattle.g4_ports.specs.Ports.{limit}
+use Rattle.g4_base.specs.declared.limits.TheConstants.{MOST_BYTES}
 use Rattle.g4_tool.specs.declared.inputs.Input.{Input}
 use Rattle.g4_tool.specs.declared.inputs.Input.TheVariants.{Bytes, TooLarge}
 use Rattle.g4_tool.specs.declared.stop.Stop.TheVariants as stops
@@ -13,7 +13,7 @@ Files = List ℕ → Option (List ℕ)
 
 -- what is fetched of a file: its bytes, or its size past the limit
 abbrev pub input_of : List ℕ → Input
-input_of bytes = cond (nat_lt limit (length bytes)) (TooLarge (length bytes)) (Bytes bytes)
+input_of bytes = cond (nat_lt MOST_BYTES (length bytes)) (TooLarge (length bytes)) (Bytes bytes)
 
 -- an input before more of them
 abbrev pub then_more : Input → Result (List Input) (List ℕ) → Result (List Input) (List ℕ)
@@ -42,5 +42,5 @@ GivesInputs view inputs (Err halts.NoMemory) = Unit {0}
 
 -- the content is within the limit
 abbrev pub IsSmall : Input → Type 0
-IsSmall (Bytes bytes) = length bytes ≤ limit
+IsSmall (Bytes bytes) = length bytes ≤ MOST_BYTES
 IsSmall (TooLarge size) = Unit {0}

@@ -8,7 +8,7 @@ use Rattle.g4_forms.specs.Forms.{forms_not_run}
 use Rattle.g4_vocab.specs.Names.{HasOwnNames}
 use Rattle.g4_vocab.specs.Answers.{GivesNumbered}
 use Rattle.g4_checks.specs.Checking.{IsChecked}
-use Rattle.g4_ports.specs.Ports.{limit}
+use Rattle.g4_base.specs.declared.limits.TheConstants.{MOST_BYTES}
 use Rattle.g4_tool.specs.Faults.{of_read, of_form, of_name, of_number, of_check}
 use Rattle.g4_tool.specs.Inputs.{Files}
 use Rattle.g4_tool.specs.Stages.{Gives, Then, OfFile}
@@ -19,8 +19,8 @@ use Rattle.g4_tool.specs.declared.stop.Stop.TheVariants as stops
 -- The bytes of a grammar file, or how the command line stops where there are none.
 pub data Fetches (files : Files) (name : List ℕ) : Result (List ℕ) Stop → Type 0 where
   absent : files name ≡ None → Fetches files name (Err (stops.Absent name))
-  too_large : (bytes : List ℕ) → files name ≡ Some bytes → limit < length bytes → Fetches files name (Err (stops.TooLarge name (length bytes)))
-  there : (bytes : List ℕ) → files name ≡ Some bytes → length bytes ≤ limit → Fetches files name (Ok bytes)
+  too_large : (bytes : List ℕ) → files name ≡ Some bytes → MOST_BYTES < length bytes → Fetches files name (Err (stops.TooLarge name (length bytes)))
+  there : (bytes : List ℕ) → files name ≡ Some bytes → length bytes ≤ MOST_BYTES → Fetches files name (Ok bytes)
 
 -- reading a grammar over the files: the names that are fetched, in order, and the grammar as it is written
 abbrev pub Reads : Files → List ℕ → List (List ℕ) → Result Source Stop → Type 0

@@ -4,21 +4,23 @@ use Rattle.g4_source.specs.Blocks.{ParserRulesAreFull}
 use Rattle.g4_grammar.specs.declared.numbered.Numbered.{Numbered}
 use Rattle.g4_grammar.specs.NumberedRules.{HaveNoEmptyLoops, NumberedRuleIsQuiet, RuleLeavesEnd}
 use Rattle.g4_grammar.specs.Written.{TokenRuleIsQuiet}
+use Rattle.g4_vocab.specs.declared.fault.TheConstants.{MOST_RULES}
 use Rattle.g4_net.specs.AddedRule.{IsReady}
 use Rattle.g4_tool.specs.declared.interpreter.Interpreter.{Interpreter}
+use Rattle.g4_symbols.specs.declared.symbol.TheConstants.{MOST_TYPES}
 
 -- There are few enough rules, each block has an alternative, no loop can be empty, no rule takes END and, so far, none calls a rule.
 pub record CanBeBuilt (grammar : Numbered) : Type 0 where
-  pub few : length grammar.rules ≤ 4096
+  pub few : length grammar.rules ≤ MOST_RULES
   pub full : ParserRulesAreFull grammar.rules
   pub ends : All RuleLeavesEnd grammar.rules
   pub quiet : All NumberedRuleIsQuiet grammar.rules
   pub loops : HaveNoEmptyLoops grammar.rules
-  pub types : All (λ rule. rule.symbol ≤ 4096) grammar.token_rules
+  pub types : All (λ rule. rule.symbol ≤ MOST_TYPES) grammar.token_rules
   pub token_quiet : All TokenRuleIsQuiet grammar.token_rules
 
 -- Its network can be parsed with, and what makes its tokens gives them types and, so far, calls no rule.
 pub record IsUsable (interpreter : Interpreter) : Type 0 where
   pub ready : IsReady interpreter.net
-  pub types : All (λ rule. rule.symbol ≤ 4096) interpreter.token_rules
+  pub types : All (λ rule. rule.symbol ≤ MOST_TYPES) interpreter.token_rules
   pub quiet : All TokenRuleIsQuiet interpreter.token_rules

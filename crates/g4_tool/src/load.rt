@@ -8,11 +8,11 @@ ghost use Rattle.g4_tool.specs.Usable.{CanBeBuilt};
 
 use crate::fault::CheckError;
 use crate::stop::{Halt, Stop, fault_of};
-use g4_base::{Octets, Text};
+use g4_base::{MOST_BYTES, Octets, Text};
 use g4_checks::check;
 use g4_forms::check_forms;
 use g4_grammar::Numbered;
-use g4_ports::{Got, LIMIT, Shelf};
+use g4_ports::{Got, Shelf};
 use g4_reader::read_grammar;
 use g4_vocab::{check_names, number};
 use std::alloc::Global;
@@ -21,7 +21,7 @@ use std::alloc::Global;
 fn fetch_grammar<S: Shelf>(alloc: Global, shelf: &mut S, name: &str) -> Result<Octets, Halt>
     ensures keeps { S.told shelf.new ≡ S.told shelf.old }
     ensures content { (files : Files) → S.told shelf.old ≡ Some files → Ends (Fetches files name.now) result }
-    ensures small { IfOk result (λ bytes. length bytes ≤ LIMIT) }
+    ensures small { IfOk result (λ bytes. length bytes ≤ MOST_BYTES) }
     ensures counts { Counts ⊥ (S.faults shelf.old) (S.faults shelf.new) (S.misses shelf.old) (S.misses shelf.new) result }
 {
     match shelf.fetch(alloc, name) {
@@ -35,7 +35,7 @@ fn fetch_grammar<S: Shelf>(alloc: Global, shelf: &mut S, name: &str) -> Result<O
 
 /// The grammar that these bytes are, checked and numbered.
 fn read_and_check(alloc: Global, bytes: &[u8]) -> Result<Numbered, CheckError>
-    requires { length bytes.now ≤ LIMIT }
+    requires { length bytes.now ≤ MOST_BYTES }
     ensures grammar { IsAnswerOf (IsGrammarIn bytes.now) result }
     ensures checked { IfOk result CanBeBuilt }
 {

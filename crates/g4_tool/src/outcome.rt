@@ -12,10 +12,9 @@ use crate::interpreter::Interpreter;
 use crate::messages::{large, many_tokens, mismatch, no_token, no_viable, not_utf8, too_deep};
 use crate::words::Output;
 use crate::write::Line;
-use g4_base::{Octets, Sequence};
+use g4_base::{MOST_BYTES, Octets, Sequence};
 use g4_lexer::{LexFault, tokens};
 use g4_parse::{ParseFault, Tree, parse, print};
-use g4_ports::LIMIT;
 use g4_token_list::Tokens;
 use std::alloc::{AllocError, Global};
 
@@ -58,7 +57,7 @@ fn outcome_of_bytes(
     bytes: Octets,
 ) -> Result<Outcome, AllocError>
     requires usable { IsUsable interpreter.now }
-    requires small { length bytes ≤ LIMIT }
+    requires small { length bytes ≤ MOST_BYTES }
     ensures { IfOk result (IsOutcome interpreter.now (Input.Bytes bytes)) }
 {
     let rules = interpreter.token_rules.as_slice();

@@ -6,6 +6,7 @@ use Rattle.g4_lexer.proofs.BestBelow.{rule_longer, rule_stays, rules_best, rules
 use Rattle.g4_lexer.proofs.Quiet.{best_among}
 use Rattle.g4_lexer.proofs.best.best.Goals as goal
 use Rattle.g4_lexer.proofs.best.best.Goals.{then-choice-best, else-choice-best}
+use Rattle.g4_symbols.specs.declared.symbol.TheConstants.{MOST_TYPES}
 
 -- what holds of each item holds of one that is read
 of_item : (P : TokenRule → Type 0) (rules : List TokenRule) (i : ℕ) (rule : TokenRule) → i < length rules → rule ≡ get_or rules i rule → All P rules → P rule
@@ -26,7 +27,7 @@ loop-rule-preserved c =
       | then-choice-best w ↦ rw w.best-is (record {
         best = λ q. rule_longer rules c.args.text.now c.loop-rule.rule-index _ _ _ _ _ rule (c.loop-rule.invariant.best q) at (best_among rules rule c.args.text.now _ _ (quiet q) found) w.if-choice-best.true;
         within = in_text rule c.args.text.now _ _ found (omega (arith, w.if-choice-best.true));
-        types = of_item (λ (r : TokenRule). r.symbol ≤ 4096) rules c.loop-rule.rule-index rule (omega arith) c.rule-item.is c.requires.types;
+        types = of_item (λ (r : TokenRule). r.symbol ≤ MOST_TYPES) rules c.loop-rule.rule-index rule (omega arith) c.rule-item.is c.requires.types;
       })
       | else-choice-best w ↦ rw w.best-is (record {
         best = λ q. rule_stays rules c.args.text.now c.loop-rule.rule-index _ _ _ _ _ rule (c.loop-rule.invariant.best q) at (best_among rules rule c.args.text.now _ _ (quiet q) found) w.if-choice-best.false;

@@ -9,6 +9,7 @@ use Rattle.g4_lexer.specs.Positions.{EndsBy, first_position, position_after}
 use Rattle.g4_lexer.proofs.Onward.{reached_none, next_token, next_skip, stuck_at, best_read, reached_full, reached_end, line_at, column_at, offset_at, position_behind, take_short, spans_further}
 use Rattle.g4_lexer.proofs.scan.scan.Goals as goal
 use Rattle.g4_lexer.proofs.scan.scan.Goals.{then-not-matched+else-len-room+in_ok-push, else-not-matched}
+use Rattle.g4_symbols.specs.declared.symbol.TheConstants.{MOST_TYPES}
 
 pub loop-start-init : goal.loop-start-init
 loop-start-init c = record {
@@ -53,7 +54,7 @@ loop-start-preserved c =
     let start = c.loop-start.start in
     let m = c.in-Some.matched in
     let size = rw c.in-Some.is at c.in_ok-matched.ensures.within in
-    let low : m.symbol ≤ 4096 = rw c.in-Some.is at c.in_ok-matched.ensures.types in
+    let low : m.symbol ≤ MOST_TYPES = rw c.in-Some.is at c.in_ok-matched.ensures.types in
     let ends : start + m.length ≤ length text = omega (arith, size.1, take_short (length text - start) (drop start text), c.loop-start.invariant.within) in
     let next_is : c.after-next.result ≡ position_after c.loop-start.at (take m.length (take (length text - start) (drop start text))) = c.after-next.ensures in
     let at_is : c.after-next.result ≡ position_after first_position (take (start + m.length) text) = position_behind text start c.loop-start.at c.loop-start.invariant.within c.loop-start.invariant.at_is m.length c.after-next.result next_is in
@@ -66,7 +67,7 @@ loop-start-preserved c =
             at_is = at_is;
             few = omega (arith, c.loop-start.invariant.few, size.0, ap length found_is, length-append c.loop-start.tokens.items);
             limited = omega (arith, w.len.ensures, w.if-len-room.false, ap length found_is, length-append c.loop-start.tokens.items);
-            types = rw found_is (All-push (λ (t : Token). t.symbol ≤ 4096) c.loop-start.tokens.items _ c.loop-start.invariant.types low);
+            types = rw found_is (All-push (λ (t : Token). t.symbol ≤ MOST_TYPES) c.loop-start.tokens.items _ c.loop-start.invariant.types low);
             spans = rw found_is (All-push (EndsBy c.after-next.result.offset) c.loop-start.tokens.items _ (spans_further c.loop-start.tokens.items c.loop-start.at.offset c.after-next.result.offset further c.loop-start.invariant.spans) (further, omega arith));
             reached = λ q. next_token c.args.rules.now text c.args.room _ _ start m.length m.symbol m.skip c.loop-start.at c.after-next.result (c.loop-start.invariant.reached q) (best q) (search rules) (omega (arith, w.len.ensures, w.if-len-room.false)) next_is found_is;
           }

@@ -4,6 +4,7 @@ use Rattle.g4_grammar.specs.Written.{TokenRuleIsQuiet}
 use Rattle.g4_lexer.specs.Positions.{first_position, position_after, EndsBy}
 use Rattle.g4_lexer.proofs.Onward.{Reached}
 use Rattle.g4_lexer.proofs.scan.scan.Given as goal
+use Rattle.g4_symbols.specs.declared.symbol.TheConstants.{MOST_TYPES}
 
 abbrev pub invariant-loop-start : goal.invariant-loop-start
 invariant-loop-start l = record {
@@ -11,7 +12,7 @@ invariant-loop-start l = record {
   at_is : l.at ≡ position_after first_position (take l.start l.text);
   few : length l.tokens.items ≤ l.start;
   limited : length l.tokens.items ≤ l.room;
-  types : All (λ (token : Token). token.symbol ≤ 4096) l.tokens.items;
+  types : All (λ (token : Token). token.symbol ≤ MOST_TYPES) l.tokens.items;
   spans : All (EndsBy l.at.offset) l.tokens.items;
   reached : All TokenRuleIsQuiet l.rules → Reached l.rules l.text l.room l.tokens.items l.start l.at;
 }
