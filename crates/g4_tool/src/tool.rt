@@ -1,5 +1,5 @@
 // The top call.
-ghost use Rattle.std.specs.Prelude.{◌≡◌, ◌≢◌, ◌≤◌, ◌↔◌, None, Some, map, string_bytes};
+ghost use Rattle.std.specs.Prelude.{◌≡◌, ◌≢◌, ◌≤◌, ◌↔◌, ◌⊎◌, None, Some, map, string_bytes};
 ghost use Rattle.g4_ports.specs.Ports.{Rose};
 ghost use Rattle.g4_tool.specs.Inputs.{Files};
 ghost use Rattle.g4_tool.specs.Running.{HasCauses, HasReportedFront, IsWhole, NothingFails};
@@ -30,6 +30,9 @@ pub fn run<R: Threads + Sync, S: Shelf, O: Sink, E: Sink, G: Gate>(
     // Whatever fails, the outputs have taken nothing, or lines of the report up to some place and nothing after it.
     ensures part { (files : Files) → S.told shelf.old ≡ Some files
         → HasReportedFront files (map string_bytes words.now) (O.taken out.old) (O.taken out.new) (E.taken err.old) (E.taken err.new) }
+    // Where a fetch failed or memory ran out, nothing has been written.
+    ensures silent { (result ≡ Status.NoMemory) ⊎ (S.faults shelf.new ≢ S.faults shelf.old)
+        → (O.taken out.new ≡ O.taken out.old) × (E.taken err.new ≡ E.taken err.old) }
     // Usage comes exactly where the words are no command, whether the files are told or not.
     ensures usage { ¬ (Rose (O.faults out.old) (O.faults out.new)) → ¬ (Rose (E.faults err.old) (E.faults err.new)) → result ≢ Status.NoMemory
         → ((result ≡ Status.Usage) ↔ (command_of (map string_bytes words.now) ≡ None)) }
