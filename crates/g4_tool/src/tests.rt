@@ -5,7 +5,6 @@ use g4_ports::{Gate, MemFile, MemShelf, MemSink, Open};
 use std::alloc::Global;
 use std::sync::atomic::{AtomicU32, Ordering};
 use std::test::Fail;
-use std::thread::Threads;
 
 const HELLO: &str = "grammar H; r : 'hello' ID ; ID : [a-z]+ ; WS : [ \\n]+ -> skip ;";
 
@@ -31,22 +30,6 @@ pub fn words_of(alloc: Global, line: &str) -> Result<Vec<String>, Fail> {
         words.push(String::from_str(alloc, word)?)?;
     }
     Ok(words)
-}
-
-// A run over the grammar and the text, on outputs that take three bytes a put: what was written, and the status.
-fn ran<R: Threads + Sync>(
-    rt: &R,
-    alloc: Global,
-    line: &str,
-    grammar: &str,
-    text: &str,
-) -> Result<(MemSink, MemSink, Status), Fail> {
-    let mut shelf = shelf_of(alloc, grammar, text, Vec::new(alloc))?;
-    let mut out = MemSink::new(alloc, 200, Vec::new(alloc), 3)?;
-    let mut err = MemSink::new(alloc, 200, Vec::new(alloc), 3)?;
-    let words = words_of(alloc, line)?;
-    let status = run(rt, alloc, &words, &mut shelf, &mut out, &mut err, &Open);
-    Ok((out, err, status))
 }
 
 const PARSE: &str = "parse -g X.g4 -s r f";
@@ -247,10 +230,24 @@ const REPORTS: [(&str, &str, &str, &str, &str, Status); 24] = [
     ),
 ];
 
+/// Whole runs, on outputs that take three bytes a put.
 #[test]
 fn reports(rt: HostRuntime) -> Result<(), Fail> {
+    let alloc = rt.alloc();
     for (line, grammar, text, out, err, status) in REPORTS {
-        let (written, told, ended) = ran(&rt, rt.alloc(), line, grammar, text)?;
+        let words = words_of(alloc, line)?;
+        let mut shelf = shelf_of(alloc, grammar, text, Vec::new(alloc))?;
+        let mut written = MemSink::new(alloc, 200, Vec::new(alloc), 3)?;
+        let mut told = MemSink::new(alloc, 200, Vec::new(alloc), 3)?;
+        let ended = run(
+            &rt,
+            alloc,
+            &words,
+            &mut shelf,
+            &mut written,
+            &mut told,
+            &Open,
+        );
         assert_eq!(rt; written.bytes(), out.as_bytes(), "{line} {text}");
         assert_eq!(rt; told.bytes(), err.as_bytes(), "{line} {text}");
         assert_eq!(rt; ended, status, "{line} {text}");
