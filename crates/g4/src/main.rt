@@ -27,6 +27,7 @@ fn main(rt: HostRuntime) -> ExitCode {
     let words = match words(&rt) {
         Ok(words) => words,
         Err(e) if e.kind() == io::ErrorKind::OutOfMemory => {
+            let _said = eprintln!(rt; "g4: out of memory");
             return ExitCode::from(Status::NoMemory.number());
         }
         // Words that are not UTF-8 are no command. An empty list of words takes their place.
