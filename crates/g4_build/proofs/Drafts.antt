@@ -14,7 +14,7 @@ use Rattle.g4_grammar.specs.declared.step.Step.{Step}
 use Rattle.g4_grammar.specs.declared.step.Step.TheVariants.{Edge, Call, Predicate, Level, Action}
 use Rattle.g4_build.specs.Drafts.{Among, linked, Grows, Shares, IsLaid, AreBeside, BlockIsLaid, state_of, stepped, joined, passed_by, starred, choice_of, repeated_once, closed, states_after, AreApart, states_of_block}
 use Rattle.g4_layout.specs.Layout as lay
-use Rattle.g4_layout.specs.Layout.{with_leave, Lies, LieSideBySide, AllLeadTo}
+use Rattle.g4_layout.specs.Layout.{with_exit, Lies, LieSideBySide, AllLeadTo}
 use Rattle.g4_layout.specs.Size.{states_of_bodies}
 use Rattle.g4_build.proofs.Lists.{get_set_same, get_set_other, get_left, get_right, same_or_not}
 
@@ -132,7 +132,7 @@ module _ {L : Type 0} where
       new ≡ starred sign.greedy s firsts lasts old → BlockIsLaid base new s t (Star sign) xs
   star_laid base old new s t firsts lasts xs sign below beside end_at is label =
       let longer : length old ≡ length base + states_of_bodies xs = beside.size in
-      let d : State L = Decision (with_leave sign.greedy firsts (length old)) in
+      let d : State L = Decision (with_exit sign.greedy firsts (length old)) in
       let tail : List (State L) = Empty 0 ∷ [] in
       let closing = closing_of old s d lasts s tail (omega arith) (above base old s firsts lasts xs below beside) new is in
       let size : length new ≡ length old + 1 = closing.size in
@@ -151,7 +151,7 @@ module _ {L : Type 0} where
       new ≡ passed_by sign.greedy s firsts lasts old → BlockIsLaid base new s t (Optional sign) xs
   optional_laid base old new s t firsts lasts xs sign below beside end_at is label =
       let longer : length old ≡ length base + states_of_bodies xs = beside.size in
-      let d : State L = Decision (with_leave sign.greedy firsts (length old)) in
+      let d : State L = Decision (with_exit sign.greedy firsts (length old)) in
       let tail : List (State L) = Empty (length old + 1) ∷ Empty 0 ∷ [] in
       let closing = closing_of old s d lasts (length old + 1) tail (omega arith) (above base old s firsts lasts xs below beside) new is in
       let size : length new ≡ length old + 2 = closing.size in
@@ -162,8 +162,8 @@ module _ {L : Type 0} where
         grown = closed_grows base old new s d firsts lasts xs (length old + 1) tail beside closing;
         lies = λ net shares.
             let has = has_closed net base old new s d firsts lasts xs (length old + 1) tail t below beside closing (omega arith) shares in
-            let leave : state_at net (length old) ≡ Some (Empty (length old + 1)) = has.after (length old) 0 (omega arith) (omega arith) (λ e. omega arith) in
-            rw (size, end_at) (lay.an_optional label sign xs firsts lasts s (length base) (length old) has.start has.sides has.leads leave);
+            let exit : state_at net (length old) ≡ Some (Empty (length old + 1)) = has.after (length old) 0 (omega arith) (omega arith) (λ e. omega arith) in
+            rw (size, end_at) (lay.an_optional label sign xs firsts lasts s (length base) (length old) has.start has.sides has.leads exit);
       }
 
   -- a block of several lies
@@ -191,7 +191,7 @@ module _ {L : Type 0} where
   plus_laid base old new s t firsts lasts xs sign below beside many end_at is label =
       let longer : length old ≡ length base + states_of_bodies xs = beside.size in
       let d : State L = choice_of firsts in
-      let again : State L = Decision (with_leave sign.greedy firsts (length old + 1)) in
+      let again : State L = Decision (with_exit sign.greedy firsts (length old + 1)) in
       let tail : List (State L) = again ∷ Empty 0 ∷ [] in
       let closing = closing_of old s d lasts (length old) tail (omega arith) (above base old s firsts lasts xs below beside) new is in
       let size : length new ≡ length old + 2 = closing.size in
@@ -207,7 +207,7 @@ module _ {L : Type 0} where
       }
     where
       lies : (net : Network L) (fs : List ℕ) → 1 ≤ length fs → state_at net s ≡ Some (choice_of fs) → LieSideBySide net xs fs lasts (length base) (length old) → AllLeadTo net lasts (length old) →
-          state_at net (length old) ≡ Some (Decision (with_leave sign.greedy fs (length old + 1))) → Lies net (block label (Plus sign) xs) s (length old + 1) (length base) (length old + 2)
+          state_at net (length old) ≡ Some (Decision (with_exit sign.greedy fs (length old + 1))) → Lies net (block label (Plus sign) xs) s (length old + 1) (length base) (length old + 2)
       lies net [] low start sides leads decision = absurd (omega arith)
       lies net (a ∷ []) low start sides leads decision = lay.a_plus_of_one label sign xs a lasts s (length base) (length old) start sides leads decision
       lies net (a ∷ b ∷ more) low start sides leads decision = lay.a_plus label sign xs (a ∷ b ∷ more) lasts s (length base) (length old) (omega arith) start sides leads decision

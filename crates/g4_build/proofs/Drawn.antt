@@ -73,13 +73,13 @@ added_lies net set start n calls turns takes again leaves last number =
     let loop : Lies net (block None any_number (only (then (atom (steps.Edge set)) empty))) n (n + 1 + 1 + 1) (n + 1) (n + 1 + 1 + 1 + 1) =
     lay.a_star None greedy (only (then (atom (steps.Edge set)) empty)) ((n + 1) ∷ []) ((n + 1 + 1) ∷ []) n (n + 1) (n + 1 + 1 + 1)
     (subst (λ (t : ℕ). state_at net n ≡ Some (Decision ((n + 1) ∷ t ∷ []))) three turns) sides (subst (λ (t : ℕ). state_at net t ≡ Some (Empty n)) two again, tt) in
-    let leave : Lies net (atom (steps.Edge (end_of_list ∷ []))) (n + 1 + 1 + 1) (n + 1 + 1 + 1 + 1) (n + 1 + 1 + 1 + 1) (n + 1 + 1 + 1 + 1 + 1) =
+    let exit : Lies net (atom (steps.Edge (end_of_list ∷ []))) (n + 1 + 1 + 1) (n + 1 + 1 + 1 + 1) (n + 1 + 1 + 1 + 1) (n + 1 + 1 + 1 + 1 + 1) =
     lay.an_edge (end_of_list ∷ []) (n + 1 + 1 + 1) (n + 1 + 1 + 1 + 1)
     (subst (λ (t : ℕ). state_at net t ≡ Some (Edge (end_of_list ∷ []) (n + 1 + 1 + 1 + 1))) three (subst (λ (t : ℕ). state_at net (n + 3) ≡ Some (Edge (end_of_list ∷ []) t)) four leaves)) in
     let all : LieInOrder net (then (atom (steps.Call start 0)) (then (block None any_number (only (then (atom (steps.Edge set)) empty))) (then (atom (steps.Edge (end_of_list ∷ []))) empty))) 0 (n + 1 + 1 + 1 + 1) n (n + 1 + 1 + 1 + 1 + 1) =
     lay.one_more _ _ 0 n (n + 1 + 1 + 1 + 1) n (n + 1) (n + 1 + 1 + 1 + 1 + 1) called
     (lay.one_more _ _ n (n + 1 + 1 + 1) (n + 1 + 1 + 1 + 1) (n + 1) (n + 1 + 1 + 1 + 1) (n + 1 + 1 + 1 + 1 + 1) loop
-    (lay.one_more _ _ (n + 1 + 1 + 1) (n + 1 + 1 + 1 + 1) (n + 1 + 1 + 1 + 1) (n + 1 + 1 + 1 + 1) (n + 1 + 1 + 1 + 1 + 1) (n + 1 + 1 + 1 + 1 + 1) leave
+    (lay.one_more _ _ (n + 1 + 1 + 1) (n + 1 + 1 + 1 + 1) (n + 1 + 1 + 1 + 1) (n + 1 + 1 + 1 + 1) (n + 1 + 1 + 1 + 1 + 1) (n + 1 + 1 + 1 + 1 + 1) exit
     (lay.no_more (n + 1 + 1 + 1 + 1) (n + 1 + 1 + 1 + 1 + 1)))) in
     subst (λ (m : ℕ). LiesAsRule net 0 (added_rule set start) n m) five
     (lay.of_one 0 (n + 1 + 1 + 1 + 1) n (n + 1 + 1 + 1 + 1 + 1) _ all (subst (λ (t : ℕ). state_at net t ≡ Some (Empty 1)) four last) number)

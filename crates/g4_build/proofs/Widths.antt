@@ -12,7 +12,7 @@ use Rattle.g4_elements.specs.Trees.{element_of, alternative_of, in_order}
 use Rattle.g4_source.specs.declared.rule.RuleAlternative.{RuleAlternative}
 use Rattle.g4_source.specs.declared.rule.ParserRule.{ParserRule}
 use Rattle.g4_source.specs.Rules.{alternatives_of}
-use Rattle.g4_layout.specs.Decisions.{number_of, HasDecision, OneHasDecision, SomeHasDecision, RuleHasDecision, RulesHaveDecision, AreNarrow, IsTooWide, IsWide, ways_to_leave}
+use Rattle.g4_layout.specs.Decisions.{number_of, HasDecision, OneHasDecision, SomeHasDecision, RuleHasDecision, RulesHaveDecision, AreNarrow, IsTooWide, IsWide, ways_to_exit}
 use Rattle.g4_build.proofs.Trees.{plain_atom, plain_block, next_of, none_of, next_item, no_item}
 
 -- there are as many alternatives as the code has
@@ -45,7 +45,7 @@ pub atom_not_wide : {A : Type 0} (x : Node A) (a : A) → x ≡ nodes.Atom a →
 atom_not_wide {A} x a is h = (subst (λ (y : Element A). IsWide (HasDecision y)) (plain_atom x a is) h).1
 
 -- of a block whose alternatives may be taken so often, its own decision or one inside
-wide_repeated : {A : Type 0} (label : Option Label) (repeat : Repeat) (xs : Alternatives A) → IsWide (HasDecision (block label repeat xs)) ↔ ((1024 < number_of xs + ways_to_leave repeat) ⊎ IsWide (SomeHasDecision xs))
+wide_repeated : {A : Type 0} (label : Option Label) (repeat : Repeat) (xs : Alternatives A) → IsWide (HasDecision (block label repeat xs)) ↔ ((1024 < number_of xs + ways_to_exit repeat) ⊎ IsWide (SomeHasDecision xs))
 wide_repeated label Once xs = (
   λ h. elim h.1 [ inl own ↦ inl (omega (arith, h.2, own.1)) | inr inside ↦ inr (h.0, inside, h.2) ],
   λ h. elim h [ inl many ↦ (number_of xs, inl (omega (arith, many), refl), omega (arith, many)) | inr inside ↦ (inside.0, inr inside.1, inside.2) ],
@@ -65,20 +65,20 @@ wide_repeated label (Plus sign) xs = (
 
 -- the same of a block of the code
 pub wide_block : {A : Type 0} (x : Node A) (label : Option Label) (repeat : Repeat) (alternatives : Vec (Side A) Global) (xs : List (Side A)) → x ≡ nodes.Block label repeat alternatives → xs ≡ alternatives.items →
-    IsWide (HasDecision (element_of x)) ↔ ((1024 < length xs + ways_to_leave repeat) ⊎ IsWide (SomeHasDecision (either (map alternative_of xs))))
+    IsWide (HasDecision (element_of x)) ↔ ((1024 < length xs + ways_to_exit repeat) ⊎ IsWide (SomeHasDecision (either (map alternative_of xs))))
 wide_block {A} x label repeat alternatives xs is items =
     let sides : Alternatives A = either (map alternative_of xs) in
-    let h = subst (λ (n : ℕ). IsWide (HasDecision (block label repeat sides)) ↔ ((1024 < n + ways_to_leave repeat) ⊎ IsWide (SomeHasDecision sides))) (number_of_sides alternative_of xs) (wide_repeated label repeat sides) in
-    subst (λ (y : Element A). IsWide (HasDecision y) ↔ ((1024 < length xs + ways_to_leave repeat) ⊎ IsWide (SomeHasDecision sides))) (sym (plain_block x label repeat alternatives xs is items)) h
+    let h = subst (λ (n : ℕ). IsWide (HasDecision (block label repeat sides)) ↔ ((1024 < n + ways_to_exit repeat) ⊎ IsWide (SomeHasDecision sides))) (number_of_sides alternative_of xs) (wide_repeated label repeat sides) in
+    subst (λ (y : Element A). IsWide (HasDecision y) ↔ ((1024 < length xs + ways_to_exit repeat) ⊎ IsWide (SomeHasDecision sides))) (sym (plain_block x label repeat alternatives xs is items)) h
 
 -- of a rule, its own decision or one inside
 pub wide_rule : {A : Type 0} (rule : ParserRule A) (xs : List (RuleAlternative A)) → xs ≡ rule.alternatives →
-    IsWide (RuleHasDecision (alternatives_of rule)) ↔ ((1024 < length xs + ways_to_leave Once) ⊎ IsWide (SomeHasDecision (either (map (λ a. a.elements) xs))))
+    IsWide (RuleHasDecision (alternatives_of rule)) ↔ ((1024 < length xs + ways_to_exit Once) ⊎ IsWide (SomeHasDecision (either (map (λ a. a.elements) xs))))
 wide_rule {A} rule xs is =
     let tree : RuleAlternative A → Elements A = λ a. a.elements in
     let sides : Alternatives A = either (map tree xs) in
-    let h = subst (λ (n : ℕ). IsWide (HasDecision (block None Once sides)) ↔ ((1024 < n + ways_to_leave Once) ⊎ IsWide (SomeHasDecision sides))) (number_of_sides tree xs) (wide_repeated None Once sides) in
-    subst (λ (ys : List (RuleAlternative A)). IsWide (RuleHasDecision (either (map tree ys))) ↔ ((1024 < length xs + ways_to_leave Once) ⊎ IsWide (SomeHasDecision sides))) is h
+    let h = subst (λ (n : ℕ). IsWide (HasDecision (block None Once sides)) ↔ ((1024 < n + ways_to_exit Once) ⊎ IsWide (SomeHasDecision sides))) (number_of_sides tree xs) (wide_repeated None Once sides) in
+    subst (λ (ys : List (RuleAlternative A)). IsWide (RuleHasDecision (either (map tree ys))) ↔ ((1024 < length xs + ways_to_exit Once) ⊎ IsWide (SomeHasDecision sides))) is h
 
 -- a test that holds tells of either
 pub told_first : (P Q R : Type 0) (b : Bool) → R ↔ (P ⊎ Q) → IsTrue b ↔ P → b ≡ true → IsTrue b ↔ R

@@ -19,7 +19,7 @@ use std::alloc::{AllocError, Global};
 pub enum BuildFault {
     /// No parser rule has the name.
     UnknownStart,
-    /// A decision with more than 1,024 alternatives, leave counted.
+    /// A decision with more than 1,024 alternatives, the exit branch counted.
     Alternatives,
     /// More than 65,536 states.
     States,

@@ -2,7 +2,7 @@
 ghost use Rattle.std.specs.Prelude.{◌≡◌, ◌≤◌, ◌<◌, ℕ, ◌+◌, IfOk, length};
 ghost use Rattle.g4_elements.specs.Blocks.{IsSome, IsFull, AreFull, EachIsFull};
 ghost use Rattle.g4_elements.specs.declared.element.Repeat.TheVariants.{Once};
-ghost use Rattle.g4_layout.specs.Layout.{with_leave};
+ghost use Rattle.g4_layout.specs.Layout.{with_exit};
 ghost use Rattle.g4_layout.specs.Size.{states_of, states_in_order, states_of_bodies};
 ghost use Rattle.g4_build.specs.Drafts.{Among, choice_of, linked, stepped, joined, passed_by, starred, repeated_once, closed, states_after, AreApart, IsLaid, AreLaid, AreBeside, BlockIsLaid, states_of_block};
 ghost use Rattle.g4_build.specs.Trees.{tree_of, run_of, sides_of, bodies_over};
@@ -44,22 +44,22 @@ fn choice_of<L>(alloc: Global, firsts: &[u32]) -> Result<State<L>, AllocError>
     Ok(State::Decision(Sequence::new(targets)))
 }
 
-/// The edges of a decision over bodies: leave last where it is greedy, else first.
-fn with_leave(
+/// The edges of a decision over bodies: the exit branch last where it is greedy, else first.
+fn with_exit(
     alloc: Global,
     greedy: bool,
     firsts: Vec<u32>,
-    leave: u32,
+    exit: u32,
 ) -> Result<Vec<u32>, AllocError>
-    ensures { IfOk result (λ targets. targets.items ≡ with_leave greedy firsts.items leave) }
+    ensures { IfOk result (λ targets. targets.items ≡ with_exit greedy firsts.items exit) }
 {
     if greedy {
         let mut targets = firsts;
-        targets.push(leave)?;
+        targets.push(exit)?;
         return Ok(targets);
     }
     let mut targets = Vec::new(alloc);
-    targets.push(leave)?;
+    targets.push(exit)?;
     targets.extend_from_slice(firsts.as_slice())?;
     Ok(targets)
 }
@@ -79,7 +79,7 @@ fn join<L: Drop>(states: &mut Vec<State<L>>, bodies: Bodies, from: u32) -> Resul
     Ok(last)
 }
 
-/// Leads from a state to the bodies or to a new leave state, and from both on to another.
+/// Leads from a state to the bodies or to a new exit branch, and from both on to another.
 fn optional<L: Drop>(
     alloc: Global,
     states: &mut Vec<State<L>>,
@@ -93,13 +93,13 @@ fn optional<L: Drop>(
     ensures { IfOk result (λ t. (t ≡ length states.old.items + 1) × (states.new.items ≡ passed_by greedy from bodies.firsts.items bodies.lasts.items states.old.items)) }
 {
     let Bodies { firsts, lasts } = bodies;
-    let leave = states.len() as u32;
-    let targets = with_leave(alloc, greedy, firsts, leave)?;
+    let exit = states.len() as u32;
+    let targets = with_exit(alloc, greedy, firsts, exit)?;
     states[from as usize] = State::Decision(Sequence::new(targets));
-    link(states, lasts.as_slice(), leave + 1);
-    states.push(State::Empty(leave + 1))?;
+    link(states, lasts.as_slice(), exit + 1);
+    states.push(State::Empty(exit + 1))?;
     states.push(State::Empty(0))?;
-    Ok(leave + 1)
+    Ok(exit + 1)
 }
 
 /// Leads from a state to the bodies or on to a new one, and from the bodies' ends back.
@@ -116,12 +116,12 @@ fn star<L: Drop>(
     ensures { IfOk result (λ t. (t ≡ length states.old.items) × (states.new.items ≡ starred greedy from bodies.firsts.items bodies.lasts.items states.old.items)) }
 {
     let Bodies { firsts, lasts } = bodies;
-    let leave = states.len() as u32;
-    let targets = with_leave(alloc, greedy, firsts, leave)?;
+    let exit = states.len() as u32;
+    let targets = with_exit(alloc, greedy, firsts, exit)?;
     states[from as usize] = State::Decision(Sequence::new(targets));
     link(states, lasts.as_slice(), from);
     states.push(State::Empty(0))?;
-    Ok(leave)
+    Ok(exit)
 }
 
 /// Leads from a state to the bodies, and from their ends to a new one, which leads to the bodies or on to another.
@@ -141,7 +141,7 @@ fn plus<L: Drop>(
     let again = states.len() as u32;
     states[from as usize] = choice_of(alloc, firsts.as_slice())?;
     link(states, lasts.as_slice(), again);
-    let targets = with_leave(alloc, greedy, firsts, again + 1)?;
+    let targets = with_exit(alloc, greedy, firsts, again + 1)?;
     states.push(State::Decision(Sequence::new(targets)))?;
     states.push(State::Empty(0))?;
     Ok(again + 1)

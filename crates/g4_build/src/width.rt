@@ -3,17 +3,17 @@ ghost use Rattle.std.specs.Prelude.{◌↔◌, ◌<◌, ◌+◌, IsTrue, map};
 ghost use Rattle.g4_elements.specs.Elements.{either};
 ghost use Rattle.g4_elements.specs.Trees.{element_of, alternative_of, in_order};
 ghost use Rattle.g4_source.specs.Rules.{alternatives_of};
-ghost use Rattle.g4_layout.specs.Decisions.{HasDecision, OneHasDecision, SomeHasDecision, RuleHasDecision, RulesHaveDecision, IsWide, most_alternatives, ways_to_leave};
+ghost use Rattle.g4_layout.specs.Decisions.{HasDecision, OneHasDecision, SomeHasDecision, RuleHasDecision, RulesHaveDecision, IsWide, most_alternatives, ways_to_exit};
 
 use g4_elements::{Alternative, Element, Repeat};
 use g4_source::{ParserRule, RuleAlternative};
 
-/// The most alternatives that a decision has, leave counted.
+/// The most alternatives that a decision has, the exit branch counted.
 const MOST_ALTERNATIVES: usize = 1_024;
 
 /// Whether a decision over so many bodies, which may be taken so often, has too many alternatives.
 fn is_too_many(repeat: Repeat, bodies: usize) -> bool
-    ensures { IsTrue result ↔ most_alternatives < bodies + ways_to_leave repeat }
+    ensures { IsTrue result ↔ most_alternatives < bodies + ways_to_exit repeat }
 {
     match repeat {
         Repeat::Once => bodies > MOST_ALTERNATIVES,

@@ -8,7 +8,7 @@ use Rattle.g4_net.specs.declared.network.State.TheVariants.{Decision, Empty}
 use Rattle.g4_net.specs.Network.{state_at, written_at}
 use Rattle.g4_net.proofs.Pigeons.{In}
 use Rattle.g4_layout.specs.Layout as lay
-use Rattle.g4_layout.specs.Layout.{with_leave, AllLeadTo, AreWritten, Lies, LieInOrder, LieSideBySide}
+use Rattle.g4_layout.specs.Layout.{with_exit, AllLeadTo, AreWritten, Lies, LieInOrder, LieSideBySide}
 use Rattle.g4_layout.proofs.Spans.{one_first}
 
 -- two numbers are the same or not
@@ -77,9 +77,9 @@ module _ {L : Type 0} (a b : Network L) where
     | inr non ↦ sides.same p low high non
   ]
 
-  -- the edges of a decision with a leave edge
-  leave_same : (greedy : Bool) (firsts firsts' : List ℕ) (m m' : ℕ) → firsts ≡ firsts' → m ≡ m' → with_leave greedy firsts m ≡ with_leave greedy firsts' m'
-  leave_same greedy firsts firsts' m m' e f = ap (λ (xs : List ℕ). with_leave greedy xs m) e ∙ ap (λ (k : ℕ). with_leave greedy firsts' k) f
+  -- the edges of a decision with an exit branch
+  exit_same : (greedy : Bool) (firsts firsts' : List ℕ) (m m' : ℕ) → firsts ≡ firsts' → m ≡ m' → with_exit greedy firsts m ≡ with_exit greedy firsts' m'
+  exit_same greedy firsts firsts' m m' e f = ap (λ (xs : List ℕ). with_exit greedy xs m) e ∙ ap (λ (k : ℕ). with_exit greedy firsts' k) f
 
   -- an element whose last state alone is after its bodies
   closed_one : (s n m m' : ℕ) → m ≡ m' → state_at a s ≡ state_at b s → ((p : ℕ) → n ≤ p → p < m → state_at a p ≡ state_at b p) → Agree a b s n m (m + 1) m' (m' + 1)
@@ -134,19 +134,19 @@ module _ {L : Type 0} (a b : Network L) where
     element_agrees (lay.a_block name xs firsts lasts s n m two is l leads) (lay.one_alternative _ _ _ t _ m' l') = absurd (let one = one_first l in omega arith)
     element_agrees (lay.a_block name xs firsts lasts s n m two is l leads) (lay.a_block _ _ firsts' lasts' _ _ m' two' is' l' leads') =
         let sides = sides_agree l l' in closed_one s n m m' sides.upto (decide_both s firsts firsts' is is' sides.firsts) (bodies_both sides sides.upto leads leads')
-    element_agrees (lay.an_optional name sign xs firsts lasts s n m is l leads leave) (lay.an_optional _ _ _ firsts' lasts' _ _ m' is' l' leads' leave') =
+    element_agrees (lay.an_optional name sign xs firsts lasts s n m is l leads exit) (lay.an_optional _ _ _ firsts' lasts' _ _ m' is' l' leads' exit') =
         let sides = sides_agree l l' in let up : m ≡ m' = sides.upto in
-        closed_two s n m m' up (decide_both s _ _ is is' (leave_same sign.greedy firsts firsts' m m' sides.firsts up)) (bodies_both sides (omega (arith, up)) leads leads')
-        (leave ∙ (ap (λ (q : ℕ). Some (Empty (q + 1))) up ∙ sym (subst (λ (q : ℕ). state_at b q ≡ Some (Empty (m' + 1))) (sym up) leave')))
+        closed_two s n m m' up (decide_both s _ _ is is' (exit_same sign.greedy firsts firsts' m m' sides.firsts up)) (bodies_both sides (omega (arith, up)) leads leads')
+        (exit ∙ (ap (λ (q : ℕ). Some (Empty (q + 1))) up ∙ sym (subst (λ (q : ℕ). state_at b q ≡ Some (Empty (m' + 1))) (sym up) exit')))
     element_agrees (lay.a_star name sign xs firsts lasts s n m is l leads) (lay.a_star _ _ _ firsts' lasts' _ _ m' is' l' leads') =
         let sides = sides_agree l l' in
-        closed_one s n m m' sides.upto (decide_both s _ _ is is' (leave_same sign.greedy firsts firsts' m m' sides.firsts sides.upto)) (bodies_both sides refl leads leads')
+        closed_one s n m m' sides.upto (decide_both s _ _ is is' (exit_same sign.greedy firsts firsts' m m' sides.firsts sides.upto)) (bodies_both sides refl leads leads')
     element_agrees (lay.a_plus_of_one name sign xs first lasts s n m is l leads more) (lay.a_plus_of_one _ _ _ first' lasts' _ _ m' is' l' leads' more') =
         let sides = sides_agree l l' in let up : m ≡ m' = sides.upto in
         let one : first ≡ first' = same_head first first' [] [] sides.firsts in
         closed_two s n m m' up (is ∙ (ap (λ (q : ℕ). Some (Empty q)) one ∙ sym is')) (bodies_both sides up leads leads')
-        (decide_both m _ _ more (subst (λ (q : ℕ). state_at b q ≡ Some (Decision (with_leave sign.greedy (first' ∷ []) (m' + 1)))) (sym up) more')
-        (leave_same sign.greedy (first ∷ []) (first' ∷ []) (m + 1) (m' + 1) sides.firsts (omega (arith, up))))
+        (decide_both m _ _ more (subst (λ (q : ℕ). state_at b q ≡ Some (Decision (with_exit sign.greedy (first' ∷ []) (m' + 1)))) (sym up) more')
+        (exit_same sign.greedy (first ∷ []) (first' ∷ []) (m + 1) (m' + 1) sides.firsts (omega (arith, up))))
     element_agrees (lay.a_plus_of_one name sign xs first lasts s n m is l leads more) (lay.a_plus _ _ _ firsts' lasts' _ _ m' two is' l' leads' more') =
         absurd (let sides = sides_agree l l' in omega (arith, ap length sides.firsts))
     element_agrees (lay.a_plus name sign xs firsts lasts s n m two is l leads more) (lay.a_plus_of_one _ _ _ first' lasts' _ _ m' is' l' leads' more') =
@@ -154,8 +154,8 @@ module _ {L : Type 0} (a b : Network L) where
     element_agrees (lay.a_plus name sign xs firsts lasts s n m two is l leads more) (lay.a_plus _ _ _ firsts' lasts' _ _ m' two' is' l' leads' more') =
         let sides = sides_agree l l' in let up : m ≡ m' = sides.upto in
         closed_two s n m m' up (decide_both s firsts firsts' is is' sides.firsts) (bodies_both sides up leads leads')
-        (decide_both m _ _ more (subst (λ (q : ℕ). state_at b q ≡ Some (Decision (with_leave sign.greedy firsts' (m' + 1)))) (sym up) more')
-        (leave_same sign.greedy firsts firsts' (m + 1) (m' + 1) sides.firsts (omega (arith, up))))
+        (decide_both m _ _ more (subst (λ (q : ℕ). state_at b q ≡ Some (Decision (with_exit sign.greedy firsts' (m' + 1)))) (sym up) more')
+        (exit_same sign.greedy firsts firsts' (m + 1) (m' + 1) sides.firsts (omega (arith, up))))
 
     -- elements one after another that lie so
     pub in_order_agree : {xs : Elements (Step L)} {s n t m t' m' : ℕ} → LieInOrder a xs s t n m → LieInOrder b xs s t' n m' → Agree a b s n t m t' m'

@@ -15,7 +15,7 @@ use Rattle.g4_net.specs.Network.{state_at, start_of, end_of}
 use Rattle.g4_net.specs.Leads.{LeadsBy, Leads, LeadsOn, Reaches, here, further, once, again}
 use Rattle.g4_net.proofs.Frames.{bottomed}
 use Rattle.g4_net.proofs.NeverTheSame.{then_on}
-use Rattle.g4_layout.specs.Layout.{with_leave, AllLeadTo, Lies, LieInOrder, LieSideBySide, LiesAsRule, of_one, of_several, IsNetworkOf}
+use Rattle.g4_layout.specs.Layout.{with_exit, AllLeadTo, Lies, LieInOrder, LieSideBySide, LiesAsRule, of_one, of_several, IsNetworkOf}
 use Rattle.g4_layout.specs.Layout as lay
 use Rattle.g4_grammar.proofs.Empty.{one_is_nullable}
 use Rattle.g4_layout.proofs.Lifted.{and_on}
@@ -26,18 +26,18 @@ use Rattle.g4_layout.proofs.Spans.{member_cases}
 later : (x : ℕ) (xs : List ℕ) (y : ℕ) → Contains xs y → Contains (x ∷ xs) y
 later x xs y h = (suc h.0, omega (arith, h.1), h.2)
 
--- the leave edge of a decision
-leave_edge : (greedy : Bool) (firsts : List ℕ) (leave : ℕ) → Contains (with_leave greedy firsts leave) leave
-leave_edge true [] leave = (0, omega arith, refl)
-leave_edge true (f ∷ fs) leave = later f (fs ++ leave ∷ []) leave (leave_edge true fs leave)
-leave_edge false firsts leave = (0, omega arith, refl)
+-- the exit branch of a decision
+exit_edge : (greedy : Bool) (firsts : List ℕ) (exit : ℕ) → Contains (with_exit greedy firsts exit) exit
+exit_edge true [] exit = (0, omega arith, refl)
+exit_edge true (f ∷ fs) exit = later f (fs ++ exit ∷ []) exit (exit_edge true fs exit)
+exit_edge false firsts exit = (0, omega arith, refl)
 
 -- its other edges
-body_edge : (greedy : Bool) (firsts : List ℕ) (leave f : ℕ) → Contains firsts f → Contains (with_leave greedy firsts leave) f
-body_edge true [] leave f h = absurd (omega (arith, h.1))
-body_edge true (g ∷ fs) leave f (zero, below, is) = (0, omega arith, is)
-body_edge true (g ∷ fs) leave f (suc k, below, is) = later g (fs ++ leave ∷ []) f (body_edge true fs leave f (k, omega arith, is))
-body_edge false firsts leave f h = later leave firsts f h
+body_edge : (greedy : Bool) (firsts : List ℕ) (exit f : ℕ) → Contains firsts f → Contains (with_exit greedy firsts exit) f
+body_edge true [] exit f h = absurd (omega (arith, h.1))
+body_edge true (g ∷ fs) exit f (zero, below, is) = (0, omega arith, is)
+body_edge true (g ∷ fs) exit f (suc k, below, is) = later g (fs ++ exit ∷ []) f (body_edge true fs exit f (k, omega arith, is))
+body_edge false firsts exit f h = later exit firsts f h
 
 -- the one member of a list of one
 only_member : (x y : ℕ) → Contains (x ∷ []) y → y ≡ x
@@ -102,19 +102,19 @@ module _ {L : Type 0} (Takes : L → ℕ → Type 0) (rules : List (Alternatives
     through (a_block _ _ (another x _ d)) (lay.one_alternative name _ s t n m l) returns = absurd (some_nullable d refl)
     through (a_block _ _ h) (lay.a_block name xs firsts lasts s n m two is l a) returns =
         let b = body_through h l m a in reach_then (one_step (decide returns s b.0 firsts is b.1)) (b.2 returns)
-    through (an_optional _ _ _) (lay.an_optional name sign xs firsts lasts s n m is l a leave) returns =
-        further (bottomed m i returns) (bottomed (m + 1) i returns) (one_step (decide returns s m (with_leave sign.greedy firsts m) is (leave_edge sign.greedy firsts m))) (pass returns m (m + 1) leave)
-    through (a_star _ _ _) (lay.a_star name sign xs firsts lasts s n m is l a) returns = one_step (decide returns s m (with_leave sign.greedy firsts m) is (leave_edge sign.greedy firsts m))
+    through (an_optional _ _ _) (lay.an_optional name sign xs firsts lasts s n m is l a exit) returns =
+        further (bottomed m i returns) (bottomed (m + 1) i returns) (one_step (decide returns s m (with_exit sign.greedy firsts m) is (exit_edge sign.greedy firsts m))) (pass returns m (m + 1) exit)
+    through (a_star _ _ _) (lay.a_star name sign xs firsts lasts s n m is l a) returns = one_step (decide returns s m (with_exit sign.greedy firsts m) is (exit_edge sign.greedy firsts m))
     through (a_plus _ _ _ h) (lay.a_plus_of_one name sign xs first lasts s n m is l a more) returns =
         let b = body_through h l m a in
         further (bottomed m i returns) (bottomed (m + 1) i returns)
         (reach_then (one_step (pass returns s first is)) (subst (λ (f : ℕ). Goes returns f m) (only_member first b.0 b.1) (b.2 returns)))
-        (decide returns m (m + 1) (with_leave sign.greedy (first ∷ []) (m + 1)) more (leave_edge sign.greedy (first ∷ []) (m + 1)))
+        (decide returns m (m + 1) (with_exit sign.greedy (first ∷ []) (m + 1)) more (exit_edge sign.greedy (first ∷ []) (m + 1)))
     through (a_plus _ _ _ h) (lay.a_plus name sign xs firsts lasts s n m two is l a more) returns =
         let b = body_through h l m a in
         further (bottomed m i returns) (bottomed (m + 1) i returns)
         (reach_then (one_step (decide returns s b.0 firsts is b.1)) (b.2 returns))
-        (decide returns m (m + 1) (with_leave sign.greedy firsts (m + 1)) more (leave_edge sign.greedy firsts (m + 1)))
+        (decide returns m (m + 1) (with_exit sign.greedy firsts (m + 1)) more (exit_edge sign.greedy firsts (m + 1)))
 
     -- through elements one after another
     pub in_order_through : {xs : Elements (Step L)} {s t n m : ℕ} → AllNullable Reads CallsRule rules xs → LieInOrder net xs s t n m → (returns : List ℕ) → Goes returns s t
@@ -161,10 +161,10 @@ module _ {L : Type 0} (Takes : L → ℕ → Type 0) (rules : List (Alternatives
     first_calls j (lay.one_alternative name x s t n m l) (inr h) returns = absurd h
     first_calls j (lay.a_block name xs firsts lasts s n m two is l a) h returns =
         let b = body_calls j l h in calls_after returns s b.0 j (one_step (decide returns s b.0 firsts is b.1)) (b.2 returns)
-    first_calls j (lay.an_optional name sign xs firsts lasts s n m is l a leave) h returns =
-        let b = body_calls j l h in calls_after returns s b.0 j (one_step (decide returns s b.0 (with_leave sign.greedy firsts m) is (body_edge sign.greedy firsts m b.0 b.1))) (b.2 returns)
+    first_calls j (lay.an_optional name sign xs firsts lasts s n m is l a exit) h returns =
+        let b = body_calls j l h in calls_after returns s b.0 j (one_step (decide returns s b.0 (with_exit sign.greedy firsts m) is (body_edge sign.greedy firsts m b.0 b.1))) (b.2 returns)
     first_calls j (lay.a_star name sign xs firsts lasts s n m is l a) h returns =
-        let b = body_calls j l h in calls_after returns s b.0 j (one_step (decide returns s b.0 (with_leave sign.greedy firsts m) is (body_edge sign.greedy firsts m b.0 b.1))) (b.2 returns)
+        let b = body_calls j l h in calls_after returns s b.0 j (one_step (decide returns s b.0 (with_exit sign.greedy firsts m) is (body_edge sign.greedy firsts m b.0 b.1))) (b.2 returns)
     first_calls j (lay.a_plus_of_one name sign xs first lasts s n m is l a more) h returns =
         let b = body_calls j l h in calls_after returns s first j (one_step (pass returns s first is)) (subst (λ (f : ℕ). Leaves returns f j) (only_member first b.0 b.1) (b.2 returns))
     first_calls j (lay.a_plus name sign xs firsts lasts s n m two is l a more) h returns =
@@ -213,10 +213,10 @@ module _ {L : Type 0} (Takes : L → ℕ → Type 0) (rules : List (Alternatives
   ComesBack = (p : ℕ) × LeadsOn net (bottomed p i []) (bottomed p i [])
 
   -- from a loop's decision through a body and back
-  around : {xs : Alternatives (Step L)} {firsts lasts : List ℕ} {n m : ℕ} (greedy : Bool) (u leave : ℕ) → LieSideBySide net xs firsts lasts n m → AllLeadTo net lasts u →
-      state_at net u ≡ Some (Decision (with_leave greedy firsts leave)) → OneNullable Reads CallsRule rules xs → ComesBack
-  around {firsts = firsts} greedy u leave l a is h =
-      let b = body_through h l u a in (u, step_then (decide [] u b.0 (with_leave greedy firsts leave) is (body_edge greedy firsts leave b.0 b.1)) (b.2 []))
+  around : {xs : Alternatives (Step L)} {firsts lasts : List ℕ} {n m : ℕ} (greedy : Bool) (u exit : ℕ) → LieSideBySide net xs firsts lasts n m → AllLeadTo net lasts u →
+      state_at net u ≡ Some (Decision (with_exit greedy firsts exit)) → OneNullable Reads CallsRule rules xs → ComesBack
+  around {firsts = firsts} greedy u exit l a is h =
+      let b = body_through h l u a in (u, step_then (decide [] u b.0 (with_exit greedy firsts exit) is (body_edge greedy firsts exit b.0 b.1)) (b.2 []))
 
   mutual
     -- an element with a loop whose body derives the empty word comes back to a state
@@ -229,7 +229,7 @@ module _ {L : Type 0} (Takes : L → ℕ → Type 0) (rules : List (Alternatives
     loop_back (lay.one_alternative name x s t n m l) (inl h) = in_order_back l h
     loop_back (lay.one_alternative name x s t n m l) (inr h) = absurd h
     loop_back (lay.a_block name xs firsts lasts s n m two is l a) h = bodies_back l h
-    loop_back (lay.an_optional name sign xs firsts lasts s n m is l a leave) h = bodies_back l h
+    loop_back (lay.an_optional name sign xs firsts lasts s n m is l a exit) h = bodies_back l h
     loop_back (lay.a_star name sign xs firsts lasts s n m is l a) (inl h) = around sign.greedy s m l a is (one_is_nullable Reads CallsRule rules h refl)
     loop_back (lay.a_star name sign xs firsts lasts s n m is l a) (inr h) = bodies_back l h
     loop_back (lay.a_plus_of_one name sign xs first lasts s n m is l a more) (inl h) = around sign.greedy m (m + 1) l a more (one_is_nullable Reads CallsRule rules h refl)

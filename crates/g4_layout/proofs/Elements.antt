@@ -14,7 +14,7 @@ use Rattle.g4_net.specs.Network.{start_of}
 use Rattle.g4_layout.specs.Layout.{AllLeadTo, Lies, LieInOrder, LieSideBySide}
 use Rattle.g4_layout.specs.Layout as lay
 use Rattle.g4_layout.proofs.Spans.{member_cases}
-use Rattle.g4_layout.proofs.Ends.{Ends, EndsAt, ends_by, ends_empty, ends_decision, ends_leave, ends_call, at_or_below, at_two}
+use Rattle.g4_layout.proofs.Ends.{Ends, EndsAt, ends_by, ends_empty, ends_decision, ends_exit, ends_call, at_or_below, at_two}
 use Rattle.g4_grammar.proofs.Empty.{one_derives_nothing, all_left_is_call, one_left_is_call}
 
 module _ {L : Type 0} (Takes : L → ℕ → Type 0) (net : Network L) (rules : List (Alternatives (Step L))) (i : ℕ) where
@@ -47,11 +47,11 @@ module _ {L : Type 0} (Takes : L → ℕ → Type 0) (net : Network L) (rules : 
         in_order_ends l (λ e. loops (inl e)) (λ j c. calls j (inl c)) returns (λ d. h (a_block name (or x none) (this x none d)))
     first_ends (lay.a_block name xs firsts lasts s n m two is l a) loops calls returns h =
         ends_decision net i returns s firsts is (bodies_end l m a loops calls returns (λ d. h (a_block name xs d)))
-    first_ends (lay.an_optional name sign xs firsts lasts s n m is l a leave) loops calls returns h =
+    first_ends (lay.an_optional name sign xs firsts lasts s n m is l a exit) loops calls returns h =
         let after = h (an_optional name sign xs) in
-        ends_leave net i returns s sign.greedy firsts m is (bodies_end l (m + 1) a loops calls returns (λ d. after)) (ends_empty net i returns m (m + 1) leave after)
+        ends_exit net i returns s sign.greedy firsts m is (bodies_end l (m + 1) a loops calls returns (λ d. after)) (ends_empty net i returns m (m + 1) exit after)
     first_ends (lay.a_star name sign xs firsts lasts s n m is l a) loops calls returns h =
-        ends_leave net i returns s sign.greedy firsts m is (bodies_end l s a (λ e. loops (inr e)) calls returns (no_empty_body loops)) (h (a_star name sign xs))
+        ends_exit net i returns s sign.greedy firsts m is (bodies_end l s a (λ e. loops (inr e)) calls returns (no_empty_body loops)) (h (a_star name sign xs))
     first_ends (lay.a_plus_of_one name sign xs first lasts s n m is l a more) loops calls returns h =
         ends_empty net i returns s first is (bodies_end l m a (λ e. loops (inr e)) calls returns (no_empty_body loops) first (0, omega arith, refl))
     first_ends (lay.a_plus name sign xs firsts lasts s n m two is l a more) loops calls returns h =
@@ -93,16 +93,16 @@ module _ {L : Type 0} (Takes : L → ℕ → Type 0) (net : Network L) (rules : 
     within_ends (lay.one_alternative name x s t n m l) loops calls returns h p from below = within_in_order_ends l (λ e. loops (inl e)) (λ j c. calls j (inl c)) returns h p from below
     within_ends (lay.a_block name xs firsts lasts s n m two is l a) loops calls returns h p from below =
         at_or_below m (λ q q_from q_below. within_bodies_end l m a loops calls returns h q q_from q_below) h p from below
-    within_ends (lay.an_optional name sign xs firsts lasts s n m is l a leave) loops calls returns h p from below =
-        at_two m (λ q q_from q_below. within_bodies_end l (m + 1) a loops calls returns h q q_from q_below) (ends_empty net i returns m (m + 1) leave h) h p from below
+    within_ends (lay.an_optional name sign xs firsts lasts s n m is l a exit) loops calls returns h p from below =
+        at_two m (λ q q_from q_below. within_bodies_end l (m + 1) a loops calls returns h q q_from q_below) (ends_empty net i returns m (m + 1) exit h) h p from below
     within_ends (lay.a_star name sign xs firsts lasts s n m is l a) loops calls returns h p from below =
-        let s_ends = ends_leave net i returns s sign.greedy firsts m is (loop_ends l s a loops (λ j c. calls j (one_left_is_call Reads Calls rules xs j c)) returns) h in
+        let s_ends = ends_exit net i returns s sign.greedy firsts m is (loop_ends l s a loops (λ j c. calls j (one_left_is_call Reads Calls rules xs j c)) returns) h in
         at_or_below m (λ q q_from q_below. within_bodies_end l s a (λ e. loops (inr e)) calls returns s_ends q q_from q_below) h p from below
     within_ends (lay.a_plus_of_one name sign xs first lasts s n m is l a more) loops calls returns h p from below =
-        let m_ends = ends_leave net i returns m sign.greedy (first ∷ []) (m + 1) more (loop_ends l m a loops (λ j c. calls j (one_left_is_call Reads Calls rules xs j c)) returns) h in
+        let m_ends = ends_exit net i returns m sign.greedy (first ∷ []) (m + 1) more (loop_ends l m a loops (λ j c. calls j (one_left_is_call Reads Calls rules xs j c)) returns) h in
         at_two m (λ q q_from q_below. within_bodies_end l m a (λ e. loops (inr e)) calls returns m_ends q q_from q_below) m_ends h p from below
     within_ends (lay.a_plus name sign xs firsts lasts s n m two is l a more) loops calls returns h p from below =
-        let m_ends = ends_leave net i returns m sign.greedy firsts (m + 1) more (loop_ends l m a loops (λ j c. calls j (one_left_is_call Reads Calls rules xs j c)) returns) h in
+        let m_ends = ends_exit net i returns m sign.greedy firsts (m + 1) more (loop_ends l m a loops (λ j c. calls j (one_left_is_call Reads Calls rules xs j c)) returns) h in
         at_two m (λ q q_from q_below. within_bodies_end l m a (λ e. loops (inr e)) calls returns m_ends q q_from q_below) m_ends h p from below
 
     -- the same of elements one after another

@@ -9,7 +9,7 @@ use Rattle.g4_net.specs.Configurations.{Config}
 use Rattle.g4_net.specs.Network.{state_at, start_of}
 use Rattle.g4_net.specs.Leads.{LeadsBy, Leads}
 use Rattle.g4_net.proofs.Frames.{bottomed}
-use Rattle.g4_layout.specs.Layout.{with_leave}
+use Rattle.g4_layout.specs.Layout.{with_exit}
 use Rattle.g4_layout.proofs.Spans.{member_cases}
 
 -- nothing endless leads on from the configuration
@@ -30,10 +30,10 @@ at_two {P} m below here next p from upto = elim (dec_lt p (m + 1)) [
   | no after ↦ (let same : m + 1 ≡ p = omega arith in subst P same next)
 ]
 
--- the edges of a decision with a leave edge
-pub with_leave_cases : (greedy : Bool) (firsts : List ℕ) (leave q : ℕ) → Contains (with_leave greedy firsts leave) q → (q ≡ leave) ⊎ Contains firsts q
-with_leave_cases true firsts leave q h = elim (Contains-push_cases firsts leave q h) [ inl old ↦ inr old | inr same ↦ inl (sym same) ]
-with_leave_cases false firsts leave q h = member_cases leave firsts q h
+-- the edges of a decision with an exit branch
+pub with_exit_cases : (greedy : Bool) (firsts : List ℕ) (exit q : ℕ) → Contains (with_exit greedy firsts exit) q → (q ≡ exit) ⊎ Contains firsts q
+with_exit_cases true firsts exit q h = elim (Contains-push_cases firsts exit q h) [ inl old ↦ inr old | inr same ↦ inl (sym same) ]
+with_exit_cases false firsts exit q h = member_cases exit firsts q h
 
 module _ {L : Type 0} (net : Network L) (i : ℕ) where
   -- nothing endless leads on from the state with these return states
@@ -52,11 +52,11 @@ module _ {L : Type 0} (net : Network L) (i : ℕ) where
   pub ends_decision : (returns : List ℕ) (p : ℕ) (targets : List ℕ) → state_at net p ≡ Some (Decision targets) → ((q : ℕ) → Contains targets q → EndsAt returns q) → EndsAt returns p
   ends_decision returns p targets is on = ends_by returns p (Some (Decision targets)) is (λ d l. subst (Ends net) (sym l.2) (on l.0 l.1))
 
-  -- a decision with a leave edge
-  pub ends_leave : (returns : List ℕ) (p : ℕ) (greedy : Bool) (firsts : List ℕ) (leave : ℕ) → state_at net p ≡ Some (Decision (with_leave greedy firsts leave)) →
-      ((q : ℕ) → Contains firsts q → EndsAt returns q) → EndsAt returns leave → EndsAt returns p
-  ends_leave returns p greedy firsts leave is on h = ends_decision returns p (with_leave greedy firsts leave) is
-      (λ q c. elim (with_leave_cases greedy firsts leave q c) [ inl same ↦ subst (EndsAt returns) (sym same) h | inr old ↦ on q old ])
+  -- a decision with an exit branch
+  pub ends_exit : (returns : List ℕ) (p : ℕ) (greedy : Bool) (firsts : List ℕ) (exit : ℕ) → state_at net p ≡ Some (Decision (with_exit greedy firsts exit)) →
+      ((q : ℕ) → Contains firsts q → EndsAt returns q) → EndsAt returns exit → EndsAt returns p
+  ends_exit returns p greedy firsts exit is on h = ends_decision returns p (with_exit greedy firsts exit) is
+      (λ q c. elim (with_exit_cases greedy firsts exit q c) [ inl same ↦ subst (EndsAt returns) (sym same) h | inr old ↦ on q old ])
 
   -- a call
   pub ends_call : (returns : List ℕ) (p rule level back : ℕ) → state_at net p ≡ Some (Call rule level back) → EndsAt (back ∷ returns) (start_of rule) → EndsAt returns p

@@ -11,8 +11,8 @@ use Rattle.g4_net.specs.declared.network.State.{State}
 use Rattle.g4_net.specs.declared.network.State.TheVariants.{Decision, End, Edge, Call, Predicate, Level, Action, Empty}
 use Rattle.g4_net.specs.Leads.{IsTarget}
 use Rattle.g4_net.specs.Network.{state_at}
-use Rattle.g4_layout.specs.Layout.{AllLeadTo, with_leave, Lies, an_edge, a_call, a_predicate, a_level, an_action, one_alternative, a_block, an_optional, a_star, a_plus_of_one, a_plus, LieInOrder, no_more, one_more, LieSideBySide, no_other, another}
-use Rattle.g4_layout.proofs.Ends.{with_leave_cases, at_or_below, at_two}
+use Rattle.g4_layout.specs.Layout.{AllLeadTo, with_exit, Lies, an_edge, a_call, a_predicate, a_level, an_action, one_alternative, a_block, an_optional, a_star, a_plus_of_one, a_plus, LieInOrder, no_more, one_more, LieSideBySide, no_other, another}
+use Rattle.g4_layout.proofs.Ends.{with_exit_cases, at_or_below, at_two}
 use Rattle.g4_layout.proofs.Spans.{Spans, lies_spans, in_order_spans, side_by_side_up, firsts_between, some_first}
 use Rattle.g4_layout.proofs.Trees.{IsSound, AreSound, EachIsSound}
 
@@ -28,10 +28,10 @@ IsSoundState Good Ended Allowed (Some (Level q t)) = Good (steps.Level q) × All
 IsSoundState Good Ended Allowed (Some (Action t)) = Good steps.Action × Allowed t
 IsSoundState Good Ended Allowed (Some (Empty t)) = Allowed t
 
--- a decision with a leave edge has one edge more
-leave_length : (greedy : Bool) (firsts : List ℕ) (leave : ℕ) → length (with_leave greedy firsts leave) ≡ length firsts + 1
-leave_length true firsts leave = length-append firsts (leave ∷ [])
-leave_length false firsts leave = omega arith
+-- a decision with an exit branch has one edge more
+exit_length : (greedy : Bool) (firsts : List ℕ) (exit : ℕ) → length (with_exit greedy firsts exit) ≡ length firsts + 1
+exit_length true firsts exit = length-append firsts (exit ∷ [])
+exit_length false firsts exit = omega arith
 
 module _ {L : Type 0} (Good : Step L → Type 0) (Ended Allowed : ℕ → Type 0) where
   -- the targets of a sound state are allowed
@@ -62,15 +62,15 @@ module _ {L : Type 0} (net : Network L) (Good : Step L → Type 0) (Ended Allowe
   last_allowed : {s t n m : ℕ} → Spans s t n m → Allowed s → AreAllowed n m → Allowed t
   last_allowed spans s_allowed allowed = elim spans.last [ inl same ↦ subst Allowed (sym same) s_allowed | inr h ↦ allowed _ h.0 h.1 ]
 
-  -- a decision with a leave edge
-  sound_leave : {xs : Alternatives (Step L)} {firsts lasts : List ℕ} {n m : ℕ} (p : ℕ) (greedy : Bool) (leave : ℕ) → state_at net p ≡ Some (Decision (with_leave greedy firsts leave)) →
-      LieSideBySide net xs firsts lasts n m → IsSome xs → AreAllowed n m → Allowed leave → SoundAt p
-  sound_leave {firsts = firsts} {n = n} {m = m} p greedy leave is l some allowed h =
-      let one_at_least = some_first l some in let long = leave_length greedy firsts leave in
-      sound_by p (Some (Decision (with_leave greedy firsts leave))) is (omega arith, targets)
+  -- a decision with an exit branch
+  sound_exit : {xs : Alternatives (Step L)} {firsts lasts : List ℕ} {n m : ℕ} (p : ℕ) (greedy : Bool) (exit : ℕ) → state_at net p ≡ Some (Decision (with_exit greedy firsts exit)) →
+      LieSideBySide net xs firsts lasts n m → IsSome xs → AreAllowed n m → Allowed exit → SoundAt p
+  sound_exit {firsts = firsts} {n = n} {m = m} p greedy exit is l some allowed h =
+      let one_at_least = some_first l some in let long = exit_length greedy firsts exit in
+      sound_by p (Some (Decision (with_exit greedy firsts exit))) is (omega arith, targets)
     where
-      targets : (t : ℕ) → Contains (with_leave greedy firsts leave) t → Allowed t
-      targets t c = elim (with_leave_cases greedy firsts leave t c) [ inl same ↦ subst Allowed (sym same) h | inr old ↦ (let b = firsts_between l t old in allowed t b.0 b.1) ]
+      targets : (t : ℕ) → Contains (with_exit greedy firsts exit) t → Allowed t
+      targets t c = elim (with_exit_cases greedy firsts exit t c) [ inl same ↦ subst Allowed (sym same) h | inr old ↦ (let b = firsts_between l t old in allowed t b.0 b.1) ]
 
   mutual
     -- an element's first state is its last, or sound
@@ -83,10 +83,10 @@ module _ {L : Type 0} (net : Network L) (Good : Step L → Type 0) (Ended Allowe
     first_sound (one_alternative name x s t n m l) sound allowed = in_order_sound l sound.1.0 allowed
     first_sound (a_block name xs firsts lasts s n m two is l a) sound allowed =
         inr (sound_by s (Some (Decision firsts)) is (two, λ t c. let b = firsts_between l t c in allowed t b.0 (omega arith)))
-    first_sound (an_optional name sign xs firsts lasts s n m is l a leave) sound allowed =
-        let up = side_by_side_up l in inr (sound_leave s sign.greedy m is l sound.0 (λ q from below. allowed q from (omega arith)) (allowed m up (omega arith)))
+    first_sound (an_optional name sign xs firsts lasts s n m is l a exit) sound allowed =
+        let up = side_by_side_up l in inr (sound_exit s sign.greedy m is l sound.0 (λ q from below. allowed q from (omega arith)) (allowed m up (omega arith)))
     first_sound (a_star name sign xs firsts lasts s n m is l a) sound allowed =
-        let up = side_by_side_up l in inr (sound_leave s sign.greedy m is l sound.0 (λ q from below. allowed q from (omega arith)) (allowed m up (omega arith)))
+        let up = side_by_side_up l in inr (sound_exit s sign.greedy m is l sound.0 (λ q from below. allowed q from (omega arith)) (allowed m up (omega arith)))
     first_sound (a_plus_of_one name sign xs first lasts s n m is l a again) sound allowed =
         let b = firsts_between l first (0, omega arith, refl) in inr (sound_by s (Some (Empty first)) is (allowed first b.0 (omega arith)))
     first_sound (a_plus name sign xs firsts lasts s n m two is l a again) sound allowed =
@@ -119,11 +119,11 @@ module _ {L : Type 0} (net : Network L) (Good : Step L → Type 0) (Ended Allowe
         at_or_below {P = λ r. (r ≡ m) ⊎ SoundAt r} m
         (λ q q_from q_below. inr (within_bodies_sound l m a sound.1 (λ r r_from r_below. allowed r r_from (omega arith)) (allowed m up (omega arith)) q q_from q_below))
         (inl refl) p from below
-    within_sound (an_optional name sign xs firsts lasts s n m is l a leave) sound s_allowed allowed p from below =
+    within_sound (an_optional name sign xs firsts lasts s n m is l a exit) sound s_allowed allowed p from below =
         let up = side_by_side_up l in let next = allowed (m + 1) (omega arith) (omega arith) in
         at_two {P = λ r. (r ≡ m + 1) ⊎ SoundAt r} m
         (λ q q_from q_below. inr (within_bodies_sound l (m + 1) a sound.1 (λ r r_from r_below. allowed r r_from (omega arith)) next q q_from q_below))
-        (inr (sound_by m (Some (Empty (m + 1))) leave next)) (inl refl) p from below
+        (inr (sound_by m (Some (Empty (m + 1))) exit next)) (inl refl) p from below
     within_sound (a_star name sign xs firsts lasts s n m is l a) sound s_allowed allowed p from below =
         at_or_below {P = λ r. (r ≡ m) ⊎ SoundAt r} m
         (λ q q_from q_below. inr (within_bodies_sound l s a sound.1 (λ r r_from r_below. allowed r r_from (omega arith)) s_allowed q q_from q_below))
@@ -132,12 +132,12 @@ module _ {L : Type 0} (net : Network L) (Good : Step L → Type 0) (Ended Allowe
         let up = side_by_side_up l in
         at_two {P = λ r. (r ≡ m + 1) ⊎ SoundAt r} m
         (λ q q_from q_below. inr (within_bodies_sound l m a sound.1 (λ r r_from r_below. allowed r r_from (omega arith)) (allowed m up (omega arith)) q q_from q_below))
-        (inr (sound_leave m sign.greedy (m + 1) again l sound.0 (λ r r_from r_below. allowed r r_from (omega arith)) (allowed (m + 1) (omega arith) (omega arith)))) (inl refl) p from below
+        (inr (sound_exit m sign.greedy (m + 1) again l sound.0 (λ r r_from r_below. allowed r r_from (omega arith)) (allowed (m + 1) (omega arith) (omega arith)))) (inl refl) p from below
     within_sound (a_plus name sign xs firsts lasts s n m two is l a again) sound s_allowed allowed p from below =
         let up = side_by_side_up l in
         at_two {P = λ r. (r ≡ m + 1) ⊎ SoundAt r} m
         (λ q q_from q_below. inr (within_bodies_sound l m a sound.1 (λ r r_from r_below. allowed r r_from (omega arith)) (allowed m up (omega arith)) q q_from q_below))
-        (inr (sound_leave m sign.greedy (m + 1) again l sound.0 (λ r r_from r_below. allowed r r_from (omega arith)) (allowed (m + 1) (omega arith) (omega arith)))) (inl refl) p from below
+        (inr (sound_exit m sign.greedy (m + 1) again l sound.0 (λ r r_from r_below. allowed r r_from (omega arith)) (allowed (m + 1) (omega arith) (omega arith)))) (inl refl) p from below
 
     -- the same of elements one after another
     pub within_in_order_sound : {xs : Elements (Step L)} {s t n m : ℕ} → LieInOrder net xs s t n m → AreSound Good xs → Allowed s → AreAllowed n m → (p : ℕ) → n ≤ p → p < m → (p ≡ t) ⊎ SoundAt p

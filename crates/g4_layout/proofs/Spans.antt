@@ -41,7 +41,7 @@ module _ {L : Type 0} where
     lies_spans (an_action s n is) = ends_after s n n (n + 1) (omega arith) (omega arith)
     lies_spans (one_alternative name x s t n m l) = in_order_spans l
     lies_spans (a_block name xs firsts lasts s n m two is l a) = let up = side_by_side_up l in ends_after s m n (m + 1) up (omega arith)
-    lies_spans (an_optional name sign xs firsts lasts s n m is l a leave) = let up = side_by_side_up l in ends_after s (m + 1) n (m + 2) (omega arith) (omega arith)
+    lies_spans (an_optional name sign xs firsts lasts s n m is l a exit) = let up = side_by_side_up l in ends_after s (m + 1) n (m + 2) (omega arith) (omega arith)
     lies_spans (a_star name sign xs firsts lasts s n m is l a) = let up = side_by_side_up l in ends_after s m n (m + 1) up (omega arith)
     lies_spans (a_plus_of_one name sign xs first lasts s n m is l a again) = let up = side_by_side_up l in ends_after s (m + 1) n (m + 2) (omega arith) (omega arith)
     lies_spans (a_plus name sign xs firsts lasts s n m two is l a again) = let up = side_by_side_up l in ends_after s (m + 1) n (m + 2) (omega arith) (omega arith)

@@ -1,4 +1,4 @@
--- The decisions that the table of forms makes of rules, and how many alternatives they have, leave counted.
+-- The decisions that the table of forms makes of rules, and how many alternatives they have, the exit branch counted.
 -- That of the added rule has two.
 use Rattle.std.specs.Prelude.{◌≡◌, ◌≤◌, ◌<◌, ◌⊎◌, ℕ, ◌+◌, List, [], ◌∷◌}
 use Rattle.g4_elements.specs.declared.element.Repeat.{Repeat}
@@ -14,7 +14,7 @@ number_of (or x xs) = number_of xs + 1
 abbrev pub IsChoice : {A : Type 0} → Alternatives A → ℕ → Type 0
 IsChoice xs n = (2 ≤ number_of xs) × (n ≡ number_of xs)
 
--- a decision between these alternatives and leave
+-- a decision between these alternatives and the exit branch
 abbrev pub IsChoiceOrLeave : {A : Type 0} → Alternatives A → ℕ → Type 0
 IsChoiceOrLeave xs n = n ≡ number_of xs + 1
 
@@ -46,7 +46,7 @@ abbrev pub RulesHaveDecision : {A : Type 0} → List (Alternatives A) → ℕ �
 RulesHaveDecision [] n = ⊥
 RulesHaveDecision (rule ∷ rules) n = RuleHasDecision rule n ⊎ RulesHaveDecision rules n
 
--- the most alternatives of a decision, leave counted
+-- the most alternatives of a decision, the exit branch counted
 abbrev pub most_alternatives : ℕ
 most_alternatives = 1024
 
@@ -63,8 +63,8 @@ abbrev pub AreNarrow : {A : Type 0} → List (Alternatives A) → Type 0
 AreNarrow rules = (n : ℕ) → RulesHaveDecision rules n → n ≤ most_alternatives
 
 -- in how many ways a decision over the bodies of a block with this sign can leave it
-abbrev pub ways_to_leave : Repeat → ℕ
-ways_to_leave Once = 0
-ways_to_leave (Optional sign) = 1
-ways_to_leave (Star sign) = 1
-ways_to_leave (Plus sign) = 1
+abbrev pub ways_to_exit : Repeat → ℕ
+ways_to_exit Once = 0
+ways_to_exit (Optional sign) = 1
+ways_to_exit (Star sign) = 1
+ways_to_exit (Plus sign) = 1

@@ -11,10 +11,10 @@ use Rattle.g4_net.specs.declared.network.Network.{Network}
 use Rattle.g4_net.specs.declared.network.State.TheVariants.{Decision, End, Edge, Call, Predicate, Level, Action, Empty}
 use Rattle.g4_net.specs.Network.{state_at, start_of, end_of, written_at, IsFirst}
 
--- the edges of a decision: leave last where it is greedy, else first
-abbrev pub with_leave : Bool → List ℕ → ℕ → List ℕ
-with_leave true firsts leave = firsts ++ leave ∷ []
-with_leave false firsts leave = leave ∷ firsts
+-- the edges of a decision: the exit branch last where it is greedy, else first
+abbrev pub with_exit : Bool → List ℕ → ℕ → List ℕ
+with_exit true firsts exit = firsts ++ exit ∷ []
+with_exit false firsts exit = exit ∷ firsts
 
 -- each of these states has an empty edge to t
 abbrev pub AllLeadTo : {L : Type 0} → Network L → List ℕ → ℕ → Type 0
@@ -34,18 +34,18 @@ mutual
     -- a block of several is a decision at s, then its bodies, then t
     a_block : (name : Option Label) (xs : Alternatives (Step L)) (firsts lasts : List ℕ) (s n m : ℕ) → 2 ≤ length firsts → state_at net s ≡ Some (Decision firsts) →
         LieSideBySide net xs firsts lasts n m → AllLeadTo net lasts m → Lies net (block name Once xs) s m n (m + 1)
-    -- `x?`: the decision at s, the bodies, a leave state, then t
-    an_optional : (name : Option Label) (sign : Suffix) (xs : Alternatives (Step L)) (firsts lasts : List ℕ) (s n m : ℕ) → state_at net s ≡ Some (Decision (with_leave sign.greedy firsts m)) →
+    -- `x?`: the decision at s, the bodies, an exit branch, then t
+    an_optional : (name : Option Label) (sign : Suffix) (xs : Alternatives (Step L)) (firsts lasts : List ℕ) (s n m : ℕ) → state_at net s ≡ Some (Decision (with_exit sign.greedy firsts m)) →
         LieSideBySide net xs firsts lasts n m → AllLeadTo net lasts (m + 1) → state_at net m ≡ Some (Empty (m + 1)) → Lies net (block name (Optional sign) xs) s (m + 1) n (m + 2)
-    -- `x*`: the decision at s, the bodies, which go back to s, then the leave state, which is t
-    a_star : (name : Option Label) (sign : Suffix) (xs : Alternatives (Step L)) (firsts lasts : List ℕ) (s n m : ℕ) → state_at net s ≡ Some (Decision (with_leave sign.greedy firsts m)) →
+    -- `x*`: the decision at s, the bodies, which go back to s, then the exit branch state, which is t
+    a_star : (name : Option Label) (sign : Suffix) (xs : Alternatives (Step L)) (firsts lasts : List ℕ) (s n m : ℕ) → state_at net s ≡ Some (Decision (with_exit sign.greedy firsts m)) →
         LieSideBySide net xs firsts lasts n m → AllLeadTo net lasts s → Lies net (block name (Star sign) xs) s m n (m + 1)
-    -- `x+`: from s to the bodies, then the decision u over the same bodies, then the leave state, which is t
+    -- `x+`: from s to the bodies, then the decision u over the same bodies, then the exit branch state, which is t
     a_plus_of_one : (name : Option Label) (sign : Suffix) (xs : Alternatives (Step L)) (first : ℕ) (lasts : List ℕ) (s n m : ℕ) → state_at net s ≡ Some (Empty first) →
-        LieSideBySide net xs (first ∷ []) lasts n m → AllLeadTo net lasts m → state_at net m ≡ Some (Decision (with_leave sign.greedy (first ∷ []) (m + 1))) →
+        LieSideBySide net xs (first ∷ []) lasts n m → AllLeadTo net lasts m → state_at net m ≡ Some (Decision (with_exit sign.greedy (first ∷ []) (m + 1))) →
         Lies net (block name (Plus sign) xs) s (m + 1) n (m + 2)
     a_plus : (name : Option Label) (sign : Suffix) (xs : Alternatives (Step L)) (firsts lasts : List ℕ) (s n m : ℕ) → 2 ≤ length firsts → state_at net s ≡ Some (Decision firsts) →
-        LieSideBySide net xs firsts lasts n m → AllLeadTo net lasts m → state_at net m ≡ Some (Decision (with_leave sign.greedy firsts (m + 1))) →
+        LieSideBySide net xs firsts lasts n m → AllLeadTo net lasts m → state_at net m ≡ Some (Decision (with_exit sign.greedy firsts (m + 1))) →
         Lies net (block name (Plus sign) xs) s (m + 1) n (m + 2)
 
   -- the elements lie one after another; where there are none, t is s
