@@ -1,0 +1,23 @@
+// Sets of stacks as nodes of a graph in which equal sets have equal numbers.
+#![tactic(auto)]
+
+mod content;
+mod copying;
+mod graph;
+mod joining;
+mod keeping;
+#[cfg(test)]
+mod large_tests;
+mod laws;
+mod next;
+mod shape;
+#[cfg(test)]
+mod shape_tests;
+mod table;
+#[cfg(test)]
+mod tests;
+
+pub use graph::Graph;
+pub use keeping::keeps_is_transitive;
+pub use laws::{lists_are_canonical, lists_are_exact, lists_are_in_order};
+pub use shape::Shape;
