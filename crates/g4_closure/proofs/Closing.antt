@@ -1,90 +1,110 @@
--- What the loops of the closure keep.
-use Rattle.std.proofs.Common.{◌≡◌, ℕ, ◌+◌, ◌-◌, ◌<◌, ◌≤◌, ◌≢◌, ◌⊎◌, inl, inr, List, [], length, get_or, sym, ◌∙◌, ap, subst, arith, Contains, All, AllPairs, length-append}
-use Rattle.std.proofs.lemmas.List.Elements.{Contains-get_or}
-use Rattle.std.proofs.lemmas.List.{get_or_append_left, get_or_default}
+-- What the closure's loop keeps, and why it ends.
+use Rattle.std.proofs.Common.{◌≡◌, ℕ, ◌+◌, ◌<◌, ◌↔◌, ◌⊎◌, inl, inr, List, [], ◌∷◌, ◌++◌, length, length-append, refl, sym, ◌∙◌, ap, subst, arith}
+use Rattle.g4_stacks.specs.Graph.{Content, Keeps}
 use Rattle.g4_net.specs.Network.{ParserNetwork}
-use Rattle.g4_net.specs.Configurations.{Config, HasExactly, IsWithin}
-use Rattle.g4_net.specs.Leads.{Leads, Reaches, here, further, WellFormed}
-use Rattle.g4_net.proofs.Pigeons.{In-from, Apart-from, at_most, In-to}
-use Rattle.g4_net.proofs.Finite.{universe, bounded, reached_within}
-use Rattle.g4_closure.specs.Steps.{ReachedFrom, Adds}
+use Rattle.g4_net.specs.Configurations.{Config}
+use Rattle.g4_net.specs.Leads.{Leads, Reaches, here, further}
+use Rattle.g4_net.proofs.Pigeons.{In}
+use Rattle.g4_configs.specs.declared.group.Group.{Group}
+use Rattle.g4_configs.specs.Configs.{Holds, View}
+use Rattle.g4_configs.specs.Groups.{InGroup, InSome, AreKnown, Same}
+use Rattle.g4_closure.specs.Missing.{dec_holds, lacks}
+use Rattle.g4_closure.specs.Joined.{Joined}
+use Rattle.g4_closure.specs.Steps.{LedFrom, ReachedFrom}
+use Rattle.g4_configs.proofs.Adding.{keeps_then}
+use Rattle.g4_closure.proofs.Missing.{no_more}
+use Rattle.g4_closure.proofs.Joining.{some_append, known_left, some_kept}
 
--- the list has all that the configurations lead to
-abbrev pub Bounds : List Config → ParserNetwork → List Config → Type 0
-Bounds all net starts = (d : Config) → ReachedFrom net starts d → Contains all d
+-- The set and the work list have nothing that is not reached, the set has the first groups, and what a member leads to is in
+-- it, unless the member still waits.
+pub record IsClosing (net : ParserNetwork) (g0 : List Content) (starts : List Group) (v : View) (work : List Group) : Type 0 where
+  pub keeps : Keeps g0 v.graph
+  pub known : AreKnown v.graph work
+  pub sound : (c : Config) → Holds v c → ReachedFrom net (InSome g0 starts) c
+  pub waiting : (c : Config) → InSome v.graph work c → ReachedFrom net (InSome g0 starts) c
+  pub begun : (c : Config) → InSome g0 starts c → Holds v c
+  pub closed : (c d : Config) → Holds v c → Leads net c d → Holds v d ⊎ InSome v.graph work c
 
--- what the closure's loop keeps
-pub record IsClosing (net : ParserNetwork) (starts seen : List Config) (next : ℕ) : Type 0 where
-  pub within : next ≤ length seen
-  pub distinct : AllPairs (λ x y. x ≢ y) seen
-  pub sound : (d : Config) → Contains seen d → ReachedFrom net starts d
-  pub begun : (d : Config) → Contains starts d → Contains seen d
-  pub closed : (k : ℕ) (c d : Config) → k < next → get_or seen k c ≡ c → Leads net c d → Contains seen d
-
-pub IsClosing-init : (net : ParserNetwork) (starts seen : List Config) → Adds [] starts seen → IsClosing net starts seen 0
-IsClosing-init net starts seen a = record {
-  within = omega arith;
-  distinct = a.distinct (λ i j d lt in'. absurd (omega arith));
-  sound = λ d i. elim (let f : Contains [] d ⊎ Contains starts d = (a.same d).0 i in f) [ inl j ↦ absurd (omega (arith, j.1)) | inr j ↦ (d, j, here) ];
-  begun = λ d i. (a.same d).1 (inr i);
-  closed = λ k c d lt at l. absurd (omega arith);
+pub closing_begins : (net : ParserNetwork) (starts : List Group) (v0 : View) (w0 : List Group) (v : View) (work : List Group)
+    → ((c : Config) → Holds v0 c → ⊥) → w0 ≡ [] → Joined v0 w0 starts v work → IsClosing net v0.graph starts v work
+closing_begins net starts v0 w0 v work empty none j = record {
+  keeps = j.keeps;
+  known = j.known;
+  sound = λ c i. elim (let f : Holds v0 c ⊎ InSome v0.graph starts c = (j.members c).0 i in f) [ inl a ↦ absurd (empty c a) | inr a ↦ (c, a, here) ];
+  waiting = λ c i. elim (j.only c i) [ inl a ↦ absurd (let b : InSome v0.graph [] c = subst (λ (w : List Group). InSome v0.graph w c) none a in b) | inr a ↦ (c, a, here) ];
+  begun = λ c i. (j.members c).1 (inr i);
+  closed = λ c d i l. elim (j.waits c i) [ inl a ↦ absurd (empty c a) | inr a ↦ inr a ];
 }
 
-pub IsClosing-step : (net : ParserNetwork) (starts seen more_found new : List Config) (next : ℕ) (c : Config) → next < length seen → c ≡ get_or seen next c → HasExactly more_found (Leads net c) → Adds seen more_found new → IsClosing net starts seen next → IsClosing net starts new (next + 1)
-IsClosing-step net starts seen more_found new next c lt at has a h = record {
-  within = let e = ap length a.grows.1 ∙ length-append seen a.grows.0 in omega arith;
-  distinct = a.distinct h.distinct;
-  sound = λ d i. elim (let f : Contains seen d ⊎ Contains more_found d = (a.same d).0 i in f) [ inl j ↦ h.sound d j | inr j ↦ reached d ((has d).0 j) ];
-  begun = λ d i. (a.same d).1 (inl (h.begun d i));
-  closed = λ k e d below at' l. elim (split k below) [
-    | inl less ↦ (a.same d).1 (inl (h.closed k e d less (old k e (omega arith) at') l))
-    | inr is ↦ (a.same d).1 (inr ((has d).1 (subst (λ x. Leads net x d) (same-at e (subst (λ n. get_or new n e ≡ e) is at')) l)))
-  ];
-}
-  where
-    split : (k : ℕ) → k < next + 1 → (k < next) ⊎ (k ≡ next)
-    split k below = grind arith
+-- One step of the loop: a group is taken from the work list, and what it leads to is added. The set is v before the step, u
+-- where the stacks of what is found have been made, and v' after it.
+module _ (net : ParserNetwork) (g0 : List Content) (starts : List Group) (v u v' : View) (work rest found work' : List Group) (x : Group)
+    (taken : work ≡ rest ++ x ∷ []) (kept : Keeps v.graph u.graph) (same : Same (Holds u) (Holds v)) (leads : Same (InSome u.graph found) (LedFrom net (InGroup v.graph x)))
+    (j : Joined u rest found v' work') (i : IsClosing net g0 starts v work) where
+  rest_known : AreKnown v.graph rest
+  rest_known = known_left v.graph rest (x ∷ []) (subst (AreKnown v.graph) taken i.known)
 
-    old : (k : ℕ) (e : Config) → k < length seen → get_or new k e ≡ e → get_or seen k e ≡ e
-    old k e below at' = sym (get_or_append_left seen a.grows.0 e k below) ∙ ap (λ xs. get_or xs k e) (sym a.grows.1) ∙ at'
+  grown : (c : Config) → Holds v c → Holds v' c
+  grown c a = (j.members c).1 (inl ((same c).1 a))
 
-    here : Contains seen c
-    here = (next, lt, sym at)
+  taken_split : (c : Config) → InSome v.graph work c → InSome v.graph rest c ⊎ InGroup v.graph x c
+  taken_split c a = elim (let f : InSome v.graph rest c ⊎ InSome v.graph (x ∷ []) c = (some_append v.graph rest (x ∷ []) c).0 (subst (λ (w : List Group). InSome v.graph w c) taken a) in f) [
+    | inl b ↦ inl b
+    | inr b ↦ elim b [ inl y ↦ inr y | inr y ↦ absurd y ]
+  ]
 
-    same-at : (e : Config) → get_or new next e ≡ e → e ≡ c
-    same-at e at' = sym (old next e lt at') ∙ get_or_default seen next e c lt ∙ sym at
+  waited : (c : Config) → InSome v.graph rest c → ReachedFrom net (InSome g0 starts) c
+  waited c a = i.waiting c (subst (λ (w : List Group). InSome v.graph w c) (sym taken) ((some_append v.graph rest (x ∷ []) c).1 (inl a)))
 
-    reached : (d : Config) → Leads net c d → ReachedFrom net starts d
-    reached d l = let r = h.sound c here in (r.0, r.1, further c d r.2 l)
+  found_sound : (c : Config) → InSome u.graph found c → ReachedFrom net (InSome g0 starts) c
+  found_sound c a =
+      let l = (leads c).0 a in
+      let r = i.waiting l.0 (subst (λ (w : List Group). InSome v.graph w l.0) (sym taken) ((some_append v.graph rest (x ∷ []) l.0).1 (inr (inl l.1)))) in
+      (r.0, r.1, further l.0 c r.2 l.2)
 
-pub room : (net : ParserNetwork) (starts seen all : List Config) (next : ℕ) → Bounds all net starts → IsClosing net starts seen next → length seen ≤ length all
-room net starts seen all next bounds h =
-    at_most seen all (Apart-from seen h.distinct) (λ x i. let r = bounds x (h.sound x (In-to seen x i)) in In-from all x r.0 r.1 r.2)
+  new_sound : (c : Config) → Holds v' c → ReachedFrom net (InSome g0 starts) c
+  new_sound c a = elim (let f : Holds u c ⊎ InSome u.graph found c = (j.members c).0 a in f) [ inl b ↦ i.sound c ((same c).0 b) | inr b ↦ found_sound c b ]
 
-pub complete : (net : ParserNetwork) (starts seen : List Config) (next : ℕ) → length seen ≤ next → IsClosing net starts seen next → (c d : Config) → Contains starts c → Reaches net c d → Contains seen d
-complete net starts seen next done h c d i here = h.begun c i
-complete net starts seen next done h c d i (further e _ r l) =
-    let at = complete net starts seen next done h c e i r in
-    h.closed at.0 e d (omega (arith, at.1)) at.2 l
+  pub closing_goes_on : IsClosing net g0 starts v' work'
+  closing_goes_on = record {
+    keeps = keeps_then g0 u.graph v'.graph (keeps_then g0 v.graph u.graph i.keeps kept) j.keeps;
+    known = j.known;
+    sound = new_sound;
+    waiting = λ c a. elim (let f : InSome u.graph rest c ⊎ InSome u.graph found c = j.only c a in f) [ inl b ↦ waited c ((some_kept v.graph u.graph rest kept rest_known c).1 b) | inr b ↦ found_sound c b ];
+    begun = λ c a. grown c (i.begun c a);
+    closed = λ c d a l. elim (let f : Holds u c ⊎ InSome v'.graph work' c = j.waits c a in f) [ inl b ↦ old c d ((same c).0 b) l | inr b ↦ inr b ];
+  }
+    where
+      old : (c d : Config) → Holds v c → Leads net c d → Holds v' d ⊎ InSome v'.graph work' c
+      old c d a l = elim (let f : Holds v d ⊎ InSome v.graph work c = i.closed c d a l in f) [
+        | inl b ↦ inl (grown d b)
+        | inr b ↦ elim (taken_split c b) [
+          | inl y ↦ inr (j.stays c ((some_kept v.graph u.graph rest kept rest_known c).0 y))
+          | inr y ↦ inl ((j.members d).1 (inr ((leads d).1 (c, y, l))))
+        ]
+      ]
 
-pub exact : (net : ParserNetwork) (starts seen : List Config) (next : ℕ) → length seen ≤ next → IsClosing net starts seen next → HasExactly seen (ReachedFrom net starts)
-exact net starts seen next done h d = (h.sound d, λ r. complete net starts seen next done h r.0 d r.1 r.2)
+  -- what the set lacks of all that is reached, and what waits, are together fewer
+  pub closing_smaller : (all : List Config) → ((d : Config) → ReachedFrom net (InSome g0 starts) d → In d all) → lacks v' all + length work' < lacks v all + length work
+  closing_smaller all bounds =
+      let a = j.spent all (λ c w. bounds c (new_sound c w)) in
+      let b = no_more (Holds v) (Holds u) (dec_holds v) (dec_holds u) (λ c w. (same c).1 w) all in
+      let l : length work ≡ length rest + 1 = ap length taken ∙ length-append rest (x ∷ []) in
+      omega (arith, a, b, l)
 
-pub smaller : (next seen all : ℕ) → next < seen → seen ≤ all → all - (next + 1) < all - next
-smaller next seen all lt le = omega arith
+-- with nothing left to do the set is closed
+pub closing_complete : (net : ParserNetwork) (g0 : List Content) (starts : List Group) (v : View) (work : List Group) → work ≡ [] → IsClosing net g0 starts v work
+    → (c d : Config) → InSome g0 starts c → Reaches net c d → Holds v d
+closing_complete net g0 starts v work done i c d s here = i.begun c s
+closing_complete net g0 starts v work done i c d s (further e _ r l) = elim (i.closed e d (closing_complete net g0 starts v work done i c e s r) l) [
+  | inl a ↦ a
+  | inr a ↦ absurd (let b : InSome v.graph [] e = subst (λ (w : List Group). InSome v.graph w e) done a in b)
+]
 
--- what all of a list are, each that it contains is
-pub of_all : (P : Config → Type 0) (xs : List Config) → All P xs → (c : Config) → Contains xs c → P c
-of_all P xs all c (k, less, is) = subst P is (all k c less)
+pub closing_ends : (net : ParserNetwork) (g0 : List Content) (starts : List Group) (v : View) (work : List Group) → work ≡ [] → IsClosing net g0 starts v work
+    → Same (Holds v) (ReachedFrom net (InSome g0 starts))
+closing_ends net g0 starts v work done i d = (i.sound d, λ (c, s, r). closing_complete net g0 starts v work done i c d s r)
 
--- and the other way
-pub all_of : (P : Config → Type 0) (xs : List Config) → ((c : Config) → Contains xs c → P c) → All P xs
-all_of P xs each k d less = each (get_or xs k d) (Contains-get_or xs k d less)
-
--- all that starts within the network lead to is in their universe
-pub bounded_from : (net : ParserNetwork) (starts : List Config) → WellFormed net → All (IsWithin net) starts → Bounds (universe (length net.states) starts) net starts
-bounded_from net starts well first d (c, i, r) = bounded net starts well (of_all (IsWithin net) starts first) c d i r
-
--- and within the network
-pub within_from : (net : ParserNetwork) (starts found : List Config) → WellFormed net → All (IsWithin net) starts → HasExactly found (ReachedFrom net starts) → All (IsWithin net) found
-within_from net starts found well first exact = all_of (IsWithin net) found (λ d i. let r = (exact d).0 i in reached_within net r.0 d well (of_all (IsWithin net) starts first r.0 r.1) r.2)
+pub none_left : (xs : List Group) → length xs ≡ 0 → xs ≡ []
+none_left [] e = refl
+none_left (x ∷ xs) e = absurd (omega (arith, e))

@@ -1,5 +1,11 @@
-mod Added
-pub mod Checked
+mod Joining
 mod Closing
-mod Exact
-mod Sets
+mod Bounding
+mod Missing
+mod Stepping
+mod Taking
+mod Firsts
+mod Keeping
+mod Reversed
+mod RowOf
+mod Checked

@@ -1,113 +1,203 @@
-// What configurations lead to without a symbol read.
-ghost use Rattle.std.specs.Prelude.{◌≡◌, ◌<◌, ◌≤◌, ◌*◌, ◌^◌, ◌∷◌, ℕ, [], All, IfOk, length};
-ghost use Rattle.g4_closure.specs.Steps.{Adds, ReachedFrom, callers_by, steps, successors_by};
-ghost use Rattle.g4_net.specs.Configurations.{HasExactly, IsWithin};
+// What groups of configurations lead to without a symbol read.
+ghost use Rattle.std.specs.Prelude.{◌≡◌, ◌↔◌, ◌<◌, ◌≤◌, ◌*◌, ◌^◌, ◌++◌, ℕ, [], OnOk, Some, length, map, slice_get};
+ghost use Rattle.g4_closure.specs.Joined.{Joined};
+ghost use Rattle.g4_closure.specs.Steps.{LedFrom, ReachedFrom, ReturnedFrom, SteppedFrom, listed_by, placed, popped_to};
+ghost use Rattle.g4_configs.specs.Configs.{Holds, IsOfGroup, IsStacks, KeepsStacks};
+ghost use Rattle.g4_configs.specs.Groups.{AreKnown, InSome, Same};
+ghost use Rattle.g4_net.specs.Configurations.{Config, IsWithin};
 ghost use Rattle.g4_net.specs.declared.network.State.TheVariants.{Call};
+ghost use Rattle.g4_net.specs.declared.network.TheConstants.{MOST_STATES};
 ghost use Rattle.g4_net.specs.Leads.{WellFormed};
 ghost use Rattle.g4_net.specs.Network.{state_at};
-ghost use Rattle.g4_net.specs.declared.network.TheConstants.{MOST_STATES};
 
-use crate::configuration::{Configuration, has};
+use g4_configs::{Configs, Group};
 use g4_net::{ParserNetwork, State};
 use g4_symbols::Symbols;
 use std::alloc::{AllocError, Global};
 
-/// Adds the configurations that the list lacks.
-fn add_all(seen: &mut Vec<Configuration>, more: Vec<Configuration>) -> Result<(), AllocError>
-    ensures { IfOk result (λ _. Adds seen.old.items more.items seen.new.items) }
+/// Adds groups to the set, each also to the work list where the set grew.
+fn add_all(set: &mut Configs, work: &mut Vec<Group>, groups: &[Group]) -> Result<(), AllocError>
+    requires waiting { AreKnown set.old.graph work.old.items }
+    requires known { AreKnown set.old.graph groups.now }
+    ensures { OnOk result (Joined set.old work.old.items groups.now set.new work.new.items) }
 {
-    for configuration in more {
-        if !has(seen.as_slice(), &configuration) {
-            seen.push(configuration)?;
+    for group in groups {
+        if !set.add(*group)? {
+            continue;
         }
+        work.push(*group)?;
     }
     Ok(())
 }
 
-/// The return states of the calls of the rule that ends here.
-fn callers_at<'a>(net: &'a ParserNetwork, state: &State<Symbols>) -> &'a [u32]
-    ensures { result.now ≡ callers_by net.now state.now }
+/// Adds the stacks of a set at each of the states.
+fn push_each(
+    found: &mut Vec<Group>,
+    alternative: u32,
+    stacks: u32,
+    states: &[u32],
+) -> Result<(), AllocError>
+    ensures { OnOk result (found.new.items ≡ found.old.items ++ map (placed alternative stacks) states.now) }
 {
-    match state {
-        State::End(rule) => match net.callers.as_slice().get(*rule as usize) {
-            Some(callers) => callers.as_slice(),
-            None => &[],
-        },
-        _ => &[],
+    for state in states {
+        found.push(Group {
+            state: *state,
+            alternative,
+            stacks,
+        })?;
+    }
+    Ok(())
+}
+
+/// Adds what is below the top of stacks, each at the state that was on top.
+fn push_popped(
+    found: &mut Vec<Group>,
+    alternative: u32,
+    tops: &[(u32, u32)],
+) -> Result<(), AllocError>
+    ensures { OnOk result (found.new.items ≡ found.old.items ++ map (popped_to alternative) tops.now) }
+{
+    for top in tops {
+        let (state, stacks) = *top;
+        found.push(Group {
+            state,
+            alternative,
+            stacks,
+        })?;
+    }
+    Ok(())
+}
+
+/// The return states listed of the calls of a rule.
+fn callers_of(net: &ParserNetwork, rule: u32) -> &[u32]
+    ensures { result.now ≡ listed_by (slice_get net.now.callers rule) }
+{
+    match net.callers.as_slice().get(rule as usize) {
+        Some(callers) => callers.as_slice(),
+        None => &[],
     }
 }
 
-/// A list of one.
-fn one(alloc: Global, configuration: Configuration) -> Result<Vec<Configuration>, AllocError>
-    ensures { IfOk result (λ cs. cs.items ≡ configuration ∷ []) }
+/// Finds where the end of a rule leads.
+fn returned(
+    set: &Configs,
+    net: &ParserNetwork,
+    group: Group,
+    rule: u32,
+    found: &mut Vec<Group>,
+) -> Result<(), AllocError>
+    requires well_formed { WellFormed net.now }
+    requires stacks { IsStacks set.now group.stacks }
+    requires none { found.old.items ≡ [] }
+    ensures known { OnOk result (AreKnown set.now.graph found.new.items) }
+    ensures means { OnOk result (Same (InSome set.now.graph found.new.items) (ReturnedFrom net.now rule (IsOfGroup set.now group))) }
 {
-    let mut all = Vec::new(alloc);
-    all.push(configuration)?;
-    Ok(all)
+    push_popped(found, group.alternative, set.tops(group.stacks))?;
+    if set.has_wild(group.stacks) {
+        let callers = callers_of(net, rule);
+        push_each(found, group.alternative, set.wild(), callers)?;
+    }
+    Ok(())
 }
 
-/// Where a configuration leads from this state, the calls of a rule that ends here returning to these states.
+/// Finds where a group leads from this state.
 fn steps(
-    alloc: Global,
-    configuration: &Configuration,
+    set: &mut Configs,
+    net: &ParserNetwork,
+    group: Group,
     state: &State<Symbols>,
-    callers: &[u32],
-) -> Result<Vec<Configuration>, AllocError>
-    requires { (rule level back : ℕ) → state.now ≡ Call rule level back → 2 * rule < 2 ^ 32 }
-    ensures { IfOk result (λ cs. cs.items ≡ steps configuration.now callers.now state.now) }
+    found: &mut Vec<Group>,
+) -> Result<(), AllocError>
+    requires well_formed { WellFormed net.now }
+    requires stacks { IsStacks set.old group.stacks }
+    requires fits { (rule level back : ℕ) → state.now ≡ Call rule level back → 2 * rule < 2 ^ 32 }
+    requires none { found.old.items ≡ [] }
+    ensures keeps { KeepsStacks set.old set.new }
+    ensures same { (c : Config) → Holds set.new c ↔ Holds set.old c }
+    ensures known { OnOk result (AreKnown set.new.graph found.new.items) }
+    ensures means { OnOk result (Same (InSome set.new.graph found.new.items) (SteppedFrom net.now (Some state.now) (IsOfGroup set.old group))) }
 {
     match state {
-        State::Edge(..) => Ok(Vec::new(alloc)),
-        State::Decision(targets) => configuration.moved_all(alloc, targets.as_slice()),
-        State::Empty(to) => one(alloc, configuration.moved(alloc, *to)?),
-        State::Predicate(_, to) => one(alloc, configuration.moved(alloc, *to)?),
-        State::Level(_, to) => one(alloc, configuration.moved(alloc, *to)?),
-        State::Action(to) => one(alloc, configuration.moved(alloc, *to)?),
+        State::Edge(..) => Ok(()),
+        State::Decision(targets) => {
+            push_each(found, group.alternative, group.stacks, targets.as_slice())?;
+            Ok(())
+        }
+        State::Empty(to) => {
+            push_each(found, group.alternative, group.stacks, &[*to])?;
+            Ok(())
+        }
+        State::Predicate(_, to) => {
+            push_each(found, group.alternative, group.stacks, &[*to])?;
+            Ok(())
+        }
+        State::Level(_, to) => {
+            push_each(found, group.alternative, group.stacks, &[*to])?;
+            Ok(())
+        }
+        State::Action(to) => {
+            push_each(found, group.alternative, group.stacks, &[*to])?;
+            Ok(())
+        }
         State::Call { rule, back, .. } => {
-            one(alloc, configuration.called(alloc, 2 * *rule, *back)?)
+            let stacks = set.push(group.stacks, *back)?;
+            push_each(found, group.alternative, stacks, &[2 * *rule])?;
+            Ok(())
         }
-        State::End(_) => configuration.returned(alloc, callers),
+        State::End(rule) => {
+            returned(set, net, group, *rule, found)?;
+            Ok(())
+        }
     }
 }
 
-/// What a configuration leads to in one step.
+/// Finds where a group leads in one step.
 fn successors(
-    alloc: Global,
+    set: &mut Configs,
     net: &ParserNetwork,
-    configuration: &Configuration,
-) -> Result<Vec<Configuration>, AllocError>
+    group: Group,
+    found: &mut Vec<Group>,
+) -> Result<(), AllocError>
     requires well_formed { WellFormed net.now }
     requires few { length net.now.states ≤ MOST_STATES }
-    ensures { IfOk result (λ found. found.items ≡ successors_by net.now configuration.now (state_at net.now configuration.now.state)) }
+    requires stacks { IsStacks set.old group.stacks }
+    ensures keeps { KeepsStacks set.old set.new }
+    ensures same { (c : Config) → Holds set.new c ↔ Holds set.old c }
+    ensures known { OnOk result (AreKnown set.new.graph found.new.items) }
+    ensures means { OnOk result (Same (InSome set.new.graph found.new.items) (LedFrom net.now (IsOfGroup set.old group))) }
 {
-    match net.states.as_slice().get(configuration.state() as usize) {
-        None => Ok(Vec::new(alloc)),
+    found.clear();
+    match net.states.as_slice().get(group.state as usize) {
+        None => Ok(()),
         Some(state) => {
-            let found = steps(alloc, configuration, state, callers_at(net, state))?;
-            Ok(found)
+            steps(set, net, group, state, found)?;
+            Ok(())
         }
     }
 }
 
-/// All that the configurations lead to, in any number of steps.
-pub fn reached(
+/// Adds to an empty set all that the groups lead to, in any number of steps.
+pub(crate) fn reach(
     alloc: Global,
     net: &ParserNetwork,
-    starts: Vec<Configuration>,
-) -> Result<Vec<Configuration>, AllocError>
+    set: &mut Configs,
+    starts: &[Group],
+) -> Result<(), AllocError>
     requires well_formed { WellFormed net.now }
     requires few { length net.now.states ≤ MOST_STATES }
-    requires within { All (IsWithin net.now) starts.items }
-    ensures members { IfOk result (λ found. HasExactly found.items (ReachedFrom net.now starts.items)) }
-    ensures within { IfOk result (λ found. All (IsWithin net.now) found.items) }
+    requires empty { (c : Config) → Holds set.old c → ⊥ }
+    requires known { AreKnown set.old.graph starts.now }
+    requires within { (c : Config) → InSome set.old.graph starts.now c → IsWithin net.now c }
+    ensures keeps { OnOk result (KeepsStacks set.old set.new) }
+    ensures members { OnOk result (Same (Holds set.new) (ReachedFrom net.now (InSome set.old.graph starts.now))) }
 {
-    let mut seen = Vec::new(alloc);
-    add_all(&mut seen, starts)?;
-    let mut next = 0;
-    while next < seen.len() {
-        let more = successors(alloc, net, &seen[next])?;
-        add_all(&mut seen, more)?;
-        next += 1;
+    set.is_canonical();
+    let mut work = Vec::new(alloc);
+    let mut found = Vec::new(alloc);
+    add_all(set, &mut work, starts)?;
+    while let Some(group) = work.pop() {
+        successors(set, net, group, &mut found)?;
+        add_all(set, &mut work, found.as_slice())?;
     }
-    Ok(seen)
+    Ok(())
 }

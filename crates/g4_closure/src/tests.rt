@@ -2,9 +2,10 @@
 ghost use Rattle.std.specs.Prelude.{◌<◌, ◌≤◌, All, IsTrue, length};
 ghost use Rattle.g4_net.specs.Leads.{WellFormed};
 
-use crate::{Configuration, next, start};
+use crate::{advance, start};
 use checked::is_well_formed;
 use g4_base::Sequence;
+use g4_configs::{Configs, Group};
 use g4_net::{Allowed, ParserNetwork};
 use network::{Row, network};
 use std::alloc::{AllocError, Global};
@@ -14,7 +15,7 @@ use std::test::Fail;
 mod checked;
 mod network;
 
-/// A configuration: its state, its alternative, and its return states, newest first.
+/// A configuration: its state, its alternative, and its return states, newest last.
 type Found = (u32, u32, &'static [u32]);
 
 /// A network, with a rank for each state that is greater than those of the states that it leads to without a symbol read.
@@ -98,7 +99,7 @@ static TWO_CALLERS_CASES: [Case; 6] = [
         name: "one alternative is allowed, and the parser's stack says where to return",
         decision: 4,
         allowed: Some(&[2]),
-        returns: &[7, 1],
+        returns: &[1, 7],
         wild: false,
         first: &[(7, 2, &[1])],
         then: &[(1, &[(1, 2, &[])]), (1, &[])],
@@ -152,12 +153,12 @@ static NESTED_CASES: [Case; 2] = [
         name: "a second call of the rule above the parser's stack",
         decision: 2,
         allowed: Some(&[1, 3]),
-        returns: &[6, 1],
+        returns: &[1, 6],
         wild: false,
-        first: &[(4, 1, &[6, 1])],
+        first: &[(4, 1, &[1, 6])],
         then: &[
-            (1, &[(4, 1, &[6, 6, 1]), (10, 1, &[6, 6, 1])]),
-            (3, &[(6, 1, &[6, 1])]),
+            (1, &[(4, 1, &[1, 6, 6]), (10, 1, &[1, 6, 6])]),
+            (3, &[(6, 1, &[1, 6])]),
             (2, &[(6, 1, &[1])]),
             (2, &[(1, 1, &[])]),
         ],
@@ -177,16 +178,29 @@ fn allowed(alloc: Global, listed: Option<&[u32]>) -> Result<Allowed, AllocError>
     }
 }
 
-fn has_all(found: &[Configuration], wanted: &[Found], wild: bool) -> bool {
-    found.len() == wanted.len()
-        && wanted.iter().all(|(state, alternative, returns)| {
-            found.iter().any(|configuration| {
-                configuration.state() == *state
-                    && configuration.alternative() == *alternative
-                    && configuration.returns() == *returns
-                    && configuration.wild() == wild
-            })
-        })
+/// The set of these configurations.
+fn set_of(alloc: Global, wanted: &[Found], wild: bool) -> Result<Configs, AllocError> {
+    let mut set = Configs::new(alloc)?;
+    for (state, alternative, returns) in wanted {
+        let stacks = set.bottom(returns, wild)?;
+        set.add(Group {
+            state: *state,
+            alternative: *alternative,
+            stacks,
+        })?;
+    }
+    Ok(set)
+}
+
+fn has_all(
+    alloc: Global,
+    found: &Configs,
+    wanted: &[Found],
+    wild: bool,
+) -> Result<bool, AllocError> {
+    let wanted = set_of(alloc, wanted, wild)?.snapshot(alloc)?;
+    let found = found.snapshot(alloc)?;
+    Ok(found.same(&wanted))
 }
 
 /// Whether the start set and the next sets are those wanted.
@@ -202,10 +216,10 @@ fn is_right(
     let allowed = allowed(alloc, case.allowed)?;
     assert!(rt; are_states(net, case.returns));
     let mut found = start(alloc, net, case.decision, &allowed, case.returns, case.wild)?;
-    let mut right = has_all(found.as_slice(), case.first, case.wild);
+    let mut right = has_all(alloc, &found, case.first, case.wild)?;
     for (symbol, wanted) in case.then {
-        found = next(alloc, net, found.as_slice(), *symbol)?;
-        right = right && has_all(found.as_slice(), wanted, case.wild);
+        found = advance(alloc, net, found, *symbol)?;
+        right = right && has_all(alloc, &found, wanted, case.wild)?;
     }
     Ok(right)
 }
@@ -269,6 +283,37 @@ fn wide_ranks(alloc: Global) -> Result<Vec<u32>, AllocError> {
     Ok(ranks)
 }
 
+/// Whether each group of the wide decision's start set is at the state where its alternative reads.
+fn are_first(groups: &[Group]) -> bool {
+    groups.iter().all(|group| {
+        let reads = if group.alternative == 1 {
+            602
+        } else {
+            group.alternative.saturating_add(1)
+        };
+        group.state == reads
+    })
+}
+
+/// What is left of these returns, and the end state, once a rule has ended above them, and so on: a configuration for each
+/// number of returns that is left.
+fn after_each_return(
+    alloc: Global,
+    alternative: u32,
+    returns: &[u32],
+) -> Result<Configs, AllocError> {
+    let mut set = Configs::new(alloc)?;
+    for count in 0..=returns.len() {
+        let stacks = set.bottom(&returns[..count], false)?;
+        set.add(Group {
+            state: 1,
+            alternative,
+            stacks,
+        })?;
+    }
+    Ok(set)
+}
+
 #[test]
 fn many_alternatives_above_a_deep_stack(rt: HostRuntime) -> Result<(), Fail> {
     let alloc = rt.alloc();
@@ -281,22 +326,11 @@ fn many_alternatives_above_a_deep_stack(rt: HostRuntime) -> Result<(), Fail> {
     let returns = [1; 100];
     assert!(rt; are_states(&net, &returns));
     let first = start(alloc, &net, 0, &Allowed::Every, &returns, false)?;
-    assert_eq!(rt; first.len(), 300);
-    for found in &first {
-        let alternative = found.alternative();
-        let state = if alternative == 1 {
-            602
-        } else {
-            alternative.saturating_add(1)
-        };
-        assert_eq!(rt; found.state(), state);
-        assert_eq!(rt; found.returns(), returns.as_slice());
-    }
-    let then = next(alloc, &net, first.as_slice(), 5)?;
-    assert_eq!(rt; then.len(), 101);
-    for found in &then {
-        assert_eq!(rt; found.alternative(), 5);
-        assert_eq!(rt; found.state(), 1);
-    }
+    let groups = first.groups(alloc)?;
+    assert_eq!(rt; groups.len(), 300);
+    assert!(rt; are_first(groups.as_slice()));
+    let then = advance(alloc, &net, first, 5)?.snapshot(alloc)?;
+    let wanted = after_each_return(alloc, 5, &returns)?.snapshot(alloc)?;
+    assert!(rt; then.same(&wanted));
     Ok(())
 }

@@ -13,7 +13,7 @@ use Rattle.g4_net.specs.Leads.{LeadsBy, Leads, WellFormed}
 use Rattle.g4_net.specs.AddedRule.{IsRunnable}
 use Rattle.g4_token_list.specs.TokenList.{EndsInEnd}
 use Rattle.g4_net.proofs.Ranks.{IsShort, size, rank, rank_small, rank_falls}
-use Rattle.g4_predict.proofs.Proper.{proper_within}
+use Rattle.g4_lookahead.proofs.Proper.{proper_within}
 use Rattle.g4_parse.specs.Running.{Frame, Run, deepest, no_predicates, GoesBy, Goes, ClosesBy, begun, node_of}
 use Rattle.g4_parse.specs.Standing.{backs}
 use Rattle.g4_parse.proofs.Flat.{state_more, place_more}

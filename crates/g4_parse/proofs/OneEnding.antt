@@ -5,7 +5,7 @@ use Rattle.g4_net.specs.declared.network.State.TheVariants.{Decision, End, Edge,
 use Rattle.g4_net.specs.Network.{ParserNetwork, state_at, IsFirst}
 use Rattle.g4_net.specs.Prediction.{Choice, chosen, no_viable}
 use Rattle.g4_parse.specs.Running.{Frame, Run, Ending, Values, ClosesBy, GoesBy, StopsBy, Predicts, Runs, stops, goes}
-use Rattle.g4_predict.proofs.OneChoice.{one_first, one_choice}
+use Rattle.g4_lookahead.proofs.OneChoice.{one_first, one_choice}
 
 module _ (net : ParserNetwork) (values : Values) (word : List ℕ) where
   -- a moment has at most one prediction

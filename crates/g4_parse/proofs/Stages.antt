@@ -11,7 +11,7 @@ use Rattle.g4_net.specs.Network.{ParserNetwork, state_at, start_of, IsFirst}
 use Rattle.g4_net.specs.Leads.{IsTarget}
 use Rattle.g4_net.specs.AddedRule.{IsRunnable}
 use Rattle.g4_net.specs.Proper.{start, IsProper, at_bottom}
-use Rattle.g4_predict.proofs.Proper.{IsStackFor, Inside, at_call, at_last, at_loop, at_turn, after_turn, at_end, after_end, inside_cases, stack_for, proper_within, proper_target, proper_call, proper_return}
+use Rattle.g4_lookahead.proofs.Proper.{IsStackFor, Inside, at_call, at_last, at_loop, at_turn, after_turn, at_end, after_end, inside_cases, stack_for, proper_within, proper_target, proper_call, proper_return}
 use Rattle.g4_token_list.specs.TokenList.{EndsInEnd}
 use Rattle.g4_parse.specs.Running.{Frame, Run, beginning, deepest, no_predicates, GoesBy, Goes, ClosesBy, with_children, with_token, with_alt, begun, node_of}
 use Rattle.g4_parse.specs.Standing.{backs, IsFitBy}

@@ -1,4 +1,1 @@
-pub mod Comparing
 pub mod Deciding
-pub mod EndOfList
-pub mod Verdicts

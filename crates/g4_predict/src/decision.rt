@@ -1,5 +1,5 @@
 // The alternative that prediction chooses at a decision.
-ghost use Rattle.std.specs.Prelude.{◌≡◌, ◌<◌, ◌^◌, ℕ, List, Some, length, drop, IfOk, reverse};
+ghost use Rattle.std.specs.Prelude.{◌≡◌, ◌<◌, ◌^◌, ℕ, List, Some, length, drop, reverse};
 ghost use Rattle.g4_net.specs.AddedRule.{IsReady};
 ghost use Rattle.g4_net.specs.Allowed.{Allows};
 ghost use Rattle.g4_net.specs.declared.network.State.TheVariants.{Decision};
@@ -8,9 +8,9 @@ ghost use Rattle.g4_net.specs.Proper.{IsProper};
 ghost use Rattle.g4_token_list.specs.TokenList.{EndsInEnd, word_of};
 ghost use Rattle.g4_predict.specs.Deciding.{IsDecided};
 
-use crate::full::{self, Settled};
-use crate::sll::{self, Verdict};
+use g4_full::{Settled, decide_full};
 use g4_net::{Allowed, ParserNetwork};
+use g4_sll::{Verdict, simulate};
 use g4_token_list::Token;
 use std::alloc::{AllocError, Global};
 
@@ -31,15 +31,6 @@ impl From<AllocError> for DecideFault {
     fn from(_: AllocError) -> Self {
         DecideFault::NoMemory
     }
-}
-
-/// The return states the other way.
-fn newest_first(alloc: Global, returns: &[u32]) -> Result<Vec<u32>, AllocError>
-    ensures { IfOk result (λ stack. stack.items ≡ reverse returns.now) }
-{
-    let mut stack = returns.to_vec(alloc)?;
-    stack.reverse();
-    Ok(stack)
 }
 
 /// The alternative, counted from 1, that prediction chooses at a decision, over the allowed ones and with the return states of
@@ -66,15 +57,12 @@ pub fn decide(
     ensures { IsDecided net.now decision (Allows allowed.now) (reverse returns.now) (drop from (word_of tokens.now)) from result }
 {
     let rest = &tokens[from as usize..];
-    match sll::simulate(alloc, net, decision, rest)? {
+    match simulate(alloc, net, decision, rest)? {
         Verdict::Answer(alternative) => Ok(alternative),
         Verdict::ErrorAt(k) => Err(DecideFault::NoViable { at: from + k }),
-        Verdict::Sensitive(_) => {
-            let stack = newest_first(alloc, returns)?;
-            match full::simulate(alloc, net, decision, stack.as_slice(), rest)? {
-                Settled::Chosen(alternative) => Ok(alternative),
-                Settled::NoViable(k) => Err(DecideFault::NoViable { at: from + k }),
-            }
-        }
+        Verdict::Sensitive(_) => match decide_full(alloc, net, decision, returns, rest)? {
+            Settled::Chosen(alternative) => Ok(alternative),
+            Settled::NoViable(k) => Err(DecideFault::NoViable { at: from + k }),
+        },
     }
 }

@@ -1,15 +1,10 @@
-// Adaptive LL prediction over lists of single stacks: SLL first, full stacks where SLL says that the stack matters.
+// Adaptive LL prediction: SLL first, full stacks where SLL says that the parser's stack matters.
 #![tactic(auto)]
 
-mod conflict;
 mod decision;
-mod full;
-mod law;
-mod sll;
 #[cfg(test)]
 mod tests;
 #[cfg(test)]
 mod walk;
 
 pub use decision::{DecideFault, decide};
-pub use law::{no_decision_goes_past_end, one_verdict};

@@ -278,6 +278,46 @@ fn thousands_of_symbols(rt: HostRuntime) -> Result<(), Fail> {
 }
 
 #[test]
+fn a_trillion_stacks(rt: HostRuntime) -> Result<(), Fail> {
+    // s : 1 s 2 | 1 s 3 | 4 ; after forty of 1 each of two alternatives has more than 2^38 stacks.
+    let alloc = rt.alloc();
+    let rows = [
+        Row::Decision(&[4, 7, 10]),
+        Row::End(1),
+        Row::Edge(1, 5),
+        Row::Call(1, 6),
+        Row::Edge(2, 3),
+        Row::Edge(1, 8),
+        Row::Call(1, 9),
+        Row::Edge(3, 3),
+        Row::Edge(4, 3),
+    ];
+    let net = network(alloc, 2, &rows, &[])?;
+    for (last, want) in [(2, Alternative(1)), (3, Alternative(2)), (4, NoViable(80))] {
+        let mut symbols = vec![in alloc; 1u32; 40]?;
+        symbols.push(4)?;
+        for _ in 0..39 {
+            symbols.push(2)?;
+        }
+        symbols.push(last)?;
+        assert_eq!(rt;
+            decided(
+                &rt,
+                alloc,
+                &net,
+                &Allowed::Every,
+                &[2],
+                symbols.as_slice(),
+                0
+            )?,
+            want,
+            "{last}"
+        );
+    }
+    Ok(())
+}
+
+#[test]
 fn whatever_is_allowed(rt: HostRuntime) -> Result<(), Fail> {
     // A decision without predicates and levels takes its alternatives as they are.
     let alloc = rt.alloc();

@@ -1,7 +1,7 @@
 use Rattle.std.proofs.Common.{◌≡◌, ℕ, List, Some, None, IsTrue, sym, subst, rules}
 use Rattle.g4_net.specs.declared.network.State.{State}
 use Rattle.g4_closure.specs.Steps.{target_by}
-use Rattle.g4_closure.proofs.Sets.{takes_not}
+use Rattle.g4_closure.proofs.Taking.{takes_not}
 use Rattle.g4_closure.proofs.lookahead.taken.Goals as goal
 
 pub returns-in_default : goal.returns-in_default

@@ -7,8 +7,8 @@ use Rattle.g4_predict.proofs.decision.decide.Goals as goal
 pub simulate-requires-clause-ends : goal.simulate-requires-clause-ends
 simulate-requires-clause-ends c = ends_ahead c.args.from c.args.tokens.now c.requires.ends c.requires.more
 
-pub simulate-requires-in-Sensitive-clause-ends : goal.simulate-requires-in-Sensitive-clause-ends
-simulate-requires-in-Sensitive-clause-ends c = ends_ahead c.args.from c.args.tokens.now c.requires.ends c.requires.more
+pub decide_full-requires-clause-ends : goal.decide_full-requires-clause-ends
+decide_full-requires-clause-ends c = ends_ahead c.args.from c.args.tokens.now c.requires.ends c.requires.more
 
 pub overflow_add-result : goal.overflow_add-result
 overflow_add-result c =
@@ -17,14 +17,8 @@ overflow_add-result c =
 
 pub overflow_add-result-in-NoViable : goal.overflow_add-result-in-NoViable
 overflow_add-result-in-NoViable c =
-    let stack : c.as_slice.result.now ≡ reverse c.args.returns.now = c.as_slice.ensures.value ∙ c.in_ok-stack-in-Sensitive.ensures in
-    let less : c.args.from + c.in-NoViable.k < length c.args.tokens.now = settled_within c.args.net.now c.args.decision c.args.from c.in-NoViable.k (reverse c.args.returns.now) c.args.tokens.now c.in_ok-alternative-in-Sensitive.field-0 c.requires.more c.in-NoViable.is (rw stack at c.in_ok-alternative-in-Sensitive.ensures) in
+    let less : c.args.from + c.in-NoViable.k < length c.args.tokens.now = settled_within c.args.net.now c.args.decision c.args.from c.in-NoViable.k (reverse c.args.returns.now) c.args.tokens.now c.in_ok-alternative-in-Sensitive.field-0 c.requires.more c.in-NoViable.is c.in_ok-alternative-in-Sensitive.ensures in
     omega (arith, c.requires.few)
-
-pub simulate-requires-in-Sensitive-clause-proper : goal.simulate-requires-in-Sensitive-clause-proper
-simulate-requires-in-Sensitive-clause-proper c =
-    let stack : c.as_slice.result.now ≡ reverse c.args.returns.now = c.as_slice.ensures.value ∙ c.in_ok-stack-in-Sensitive.ensures in
-    subst (λ (bs : List ℕ). IsProper c.args.net.now c.args.decision bs) (sym stack) c.requires.proper
 
 pub returns-in-Answer : goal.returns-in-Answer
 returns-in-Answer c =
@@ -39,15 +33,13 @@ returns-in-ErrorAt c = (
 
 pub returns-in-Chosen : goal.returns-in-Chosen
 returns-in-Chosen c =
-    let stack : c.as_slice.result.now ≡ reverse c.args.returns.now = c.as_slice.ensures.value ∙ c.in_ok-stack-in-Sensitive.ensures in
     settled_on c.args.net.now c.args.decision c.args.from c.in-Sensitive.field-0 c.in-Chosen.alternative (Allows c.args.allowed.now) (reverse c.args.returns.now) c.args.tokens.now c.in_ok-alternative.field-0 c.in_ok-alternative-in-Sensitive.field-0
-    c.requires.ready c.in-Sensitive.is c.in_ok-alternative.ensures c.in-Chosen.is (rw stack at c.in_ok-alternative-in-Sensitive.ensures)
+    c.requires.ready c.in-Sensitive.is c.in_ok-alternative.ensures c.in-Chosen.is c.in_ok-alternative-in-Sensitive.ensures
 
-pub returns : goal.returns
-returns c =
-    let stack : c.as_slice.result.now ≡ reverse c.args.returns.now = c.as_slice.ensures.value ∙ c.in_ok-stack-in-Sensitive.ensures in (
-      c.in-NoViable.k,
-      settled_none c.args.net.now c.args.decision c.args.from c.in-Sensitive.field-0 c.in-NoViable.k (Allows c.args.allowed.now) (reverse c.args.returns.now) c.args.tokens.now c.in_ok-alternative.field-0 c.in_ok-alternative-in-Sensitive.field-0
-          c.requires.ready c.in-Sensitive.is c.in_ok-alternative.ensures c.in-NoViable.is (rw stack at c.in_ok-alternative-in-Sensitive.ensures),
-      refl,
-    )
+pub returns-in-NoViable : goal.returns-in-NoViable
+returns-in-NoViable c = (
+  c.in-NoViable.k,
+  settled_none c.args.net.now c.args.decision c.args.from c.in-Sensitive.field-0 c.in-NoViable.k (Allows c.args.allowed.now) (reverse c.args.returns.now) c.args.tokens.now c.in_ok-alternative.field-0 c.in_ok-alternative-in-Sensitive.field-0
+      c.requires.ready c.in-Sensitive.is c.in_ok-alternative.ensures c.in-NoViable.is c.in_ok-alternative-in-Sensitive.ensures,
+  refl,
+)

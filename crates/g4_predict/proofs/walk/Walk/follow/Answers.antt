@@ -1,5 +1,5 @@
 use Rattle.std.proofs.Common.{rules, IsTrue, reverse}
-use Rattle.g4_predict.proofs.Proper.{proper_target}
+use Rattle.g4_lookahead.proofs.Proper.{proper_target}
 use Rattle.g4_predict.proofs.walk.Walk.follow.Goals as goal
 
 pub returns : goal.returns

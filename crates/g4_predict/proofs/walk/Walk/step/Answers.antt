@@ -1,7 +1,7 @@
 use Rattle.std.proofs.Common.{◌≡◌, [], ◌∷◌, ◌*◌, ℕ, List, ap, ◌∙◌, sym, subst, reverse}
 use Rattle.std.proofs.lemmas.List.{reverse-append}
 use Rattle.g4_net.specs.Proper.{IsProper}
-use Rattle.g4_predict.proofs.Proper.{proper_call}
+use Rattle.g4_lookahead.proofs.Proper.{proper_call}
 use Rattle.g4_predict.proofs.walk.Walk.step.Goals as goal
 
 pub returns : goal.returns

@@ -1,0 +1,5 @@
+pub mod Groups
+pub mod Configs
+pub mod Verdicts
+pub mod Rows
+pub mod Kept

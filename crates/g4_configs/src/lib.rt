@@ -1,0 +1,16 @@
+// Sets of configurations: for each state and alternative a set of stacks, which is a node of a graph.
+#![tactic(auto)]
+
+mod bottom;
+mod configs;
+mod group;
+mod kept;
+mod set;
+mod snapshot;
+#[cfg(test)]
+mod tests;
+mod verdicts;
+
+pub use configs::Configs;
+pub use group::Group;
+pub use snapshot::Snapshot;

@@ -1,0 +1,25 @@
+use Rattle.std.proofs.Common.{reverse}
+use Rattle.g4_net.specs.Configurations.{above_bottom}
+use Rattle.g4_configs.specs.Configs.{Holds}
+use Rattle.g4_lookahead.specs.EndOfList.{GoesOnFull}
+use Rattle.g4_full.specs.Verdicts.{SettlesWith}
+use Rattle.g4_full.proofs.Options.{when_none, when_some}
+use Rattle.g4_full.proofs.Looking.{settling_start, settling_next, settled}
+use Rattle.g4_lookahead.proofs.Proper.{turned_within}
+use Rattle.g4_full.proofs.full.decide_full.Goals as goal
+
+pub start-requires-clause-within : goal.start-requires-clause-within
+start-requires-clause-within c = turned_within c.args.net.now c.args.decision c.args.returns.now c.requires.ready.3.well_formed c.requires.proper
+
+pub loop-k-init : goal.loop-k-init
+loop-k-init c =
+    settling_start c.args.net.now c.args.decision (reverse c.args.returns.now) c.args.tokens.now (Holds c.in_ok-set.set) c.requires.ready c.requires.proper c.in_ok-set.ensures.members c.in_ok-set.ensures.within c.requires.ends
+
+pub loop-k-preserved : goal.loop-k-preserved
+loop-k-preserved c =
+    settling_next c.args.net.now c.args.decision (above_bottom (reverse c.args.returns.now)) c.args.tokens.now c.loop-k.k _ (Holds c.loop-k.set) (Holds c.in_ok-set-2.set) c.loop-k-test.true
+    c.in_ok-set-2.ensures.members c.in_ok-set-2.ensures.within (when_none (GoesOnFull (Holds c.in_ok-set-2.set)) (SettlesWith (Holds c.in_ok-set-2.set) c.loop-k.k) c.in_ok-settled.field-0 c.in_default.is c.in_ok-settled.ensures) c.loop-k.invariant
+
+pub returns-in-Some : goal.returns-in-Some
+returns-in-Some c =
+    settled c.args.net.now c.args.decision (above_bottom (reverse c.args.returns.now)) c.args.tokens.now c.loop-k.k _ (Holds c.loop-k.set) (Holds c.in_ok-set-2.set) c.in-Some.settled c.loop-k-test.true c.in_ok-set-2.ensures.members (when_some (GoesOnFull (Holds c.in_ok-set-2.set)) (SettlesWith (Holds c.in_ok-set-2.set) c.loop-k.k) c.in_ok-settled.field-0 c.in-Some.settled c.in-Some.is c.in_ok-settled.ensures) c.loop-k.invariant

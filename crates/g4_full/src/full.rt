@@ -1,0 +1,66 @@
+// Looking ahead from a decision with the parser's own stack.
+ghost use Rattle.std.specs.Prelude.{◌<◌, ◌^◌, Contains, IfOk, MatchOption, length, reverse};
+ghost use Rattle.g4_configs.specs.Configs.{Holds};
+ghost use Rattle.g4_symbols.specs.Symbols.{end_of_list};
+ghost use Rattle.g4_net.specs.AddedRule.{IsReady};
+ghost use Rattle.g4_net.specs.Configurations.{above_bottom};
+ghost use Rattle.g4_net.specs.Prediction.{Any, Full};
+ghost use Rattle.g4_net.specs.Proper.{IsProper};
+ghost use Rattle.g4_token_list.specs.TokenList.{word_of};
+ghost use Rattle.g4_lookahead.specs.EndOfList.{GoesOnFull};
+ghost use Rattle.g4_full.specs.Verdicts.{SettlesWith, choice_of};
+
+use g4_closure::{advance, start};
+use g4_configs::Configs;
+use g4_net::{Allowed, ParserNetwork};
+use g4_token_list::Token;
+use std::alloc::{AllocError, Global};
+
+/// What full stacks say at a decision. Symbols count from 0, the decision's first.
+#[derive(Drop)]
+pub enum Settled {
+    /// This alternative.
+    Chosen(u32),
+    /// None is left after this symbol.
+    NoViable(u32),
+}
+
+/// What is settled by the set after symbol k, if anything is.
+fn settle(alloc: Global, set: &Configs, k: u32) -> Result<Option<Settled>, AllocError>
+    ensures { IfOk result (λ settled. MatchOption settled (GoesOnFull (Holds set.now)) (SettlesWith (Holds set.now) k)) }
+{
+    let Some(least) = set.least_alternative() else {
+        return Ok(Some(Settled::NoViable(k)));
+    };
+    if let Some(alternative) = set.single_alternative() {
+        return Ok(Some(Settled::Chosen(alternative)));
+    }
+    if set.alike(alloc)? {
+        return Ok(Some(Settled::Chosen(least)));
+    }
+    Ok(None)
+}
+
+/// The choice of a decision, with the return states of the parser's stack, newest last, on the tokens from it on.
+pub fn decide_full(
+    alloc: Global,
+    net: &ParserNetwork,
+    decision: u32,
+    returns: &[u32],
+    tokens: &[Token],
+) -> Result<Settled, AllocError>
+    requires ready { IsReady net.now }
+    requires proper { IsProper net.now decision (reverse returns.now) }
+    requires ends { Contains (word_of tokens.now) end_of_list }
+    requires few { length tokens.now < 2 ^ 32 }
+    ensures { IfOk result (λ settled. Full net.now decision Any (above_bottom (reverse returns.now)) (word_of tokens.now) (choice_of settled)) }
+{
+    let mut set = start(alloc, net, decision, &Allowed::Every, returns, false)?;
+    for (k, token) in tokens.iter().enumerate() {
+        set = advance(alloc, net, set, token.symbol)?;
+        if let Some(settled) = settle(alloc, &set, k as u32)? {
+            return Ok(settled);
+        }
+    }
+    unreachable!()
+}

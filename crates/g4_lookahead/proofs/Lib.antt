@@ -1,0 +1,6 @@
+pub mod Apart
+pub mod Judging
+pub mod Looking
+pub mod OneChoice
+pub mod Proper
+pub mod Settling
