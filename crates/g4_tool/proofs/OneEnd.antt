@@ -9,7 +9,7 @@ use Rattle.g4_tool.specs.Words.{Asked, command_of}
 use Rattle.g4_tool.specs.Building.{Builds}
 use Rattle.g4_tool.specs.Inputs.{Files, inputs_of}
 use Rattle.g4_tool.specs.Outcomes.{AreOutcomes}
-use Rattle.g4_tool.specs.Ends.{End, stopped, parsed, HasEnd, no_command, not_built, file_absent, files_parsed}
+use Rattle.g4_tool.specs.Ends.{End, stopped, all_parsed, HasEnd, no_command, not_built, file_absent, files_parsed}
 use Rattle.g4_tool.proofs.OneBuilt.{one_built}
 use Rattle.g4_tool.proofs.OneOutcome.{one_outcome_each}
 
@@ -27,12 +27,12 @@ module _ (files : Files) (words : List (List ℕ)) where
 
   -- files that are all parsed
   one_parsed : (a b : Asked) (i j : Interpreter) (is js : List Input) (os ps : List Outcome) → a ≡ b → j ≡ i → js ≡ is → AreOutcomes i is os → AreOutcomes j js ps →
-      parsed a.output i a.names os ≡ parsed b.output j b.names ps
+      all_parsed a.output i a.names os ≡ all_parsed b.output j b.names ps
   one_parsed a b i j is js os ps command interpreter inputs h k =
       let also : AreOutcomes i is ps = subst (λ xs. AreOutcomes i xs ps) inputs (subst (λ x. AreOutcomes x js ps) interpreter k) in
-      ap (λ (c : Asked). parsed c.output i c.names os) command
-      ∙ ap (λ x. parsed b.output x b.names os) (sym interpreter)
-      ∙ ap (λ xs. parsed b.output j b.names xs) (one_outcome_each i is os ps h also)
+      ap (λ (c : Asked). all_parsed c.output i c.names os) command
+      ∙ ap (λ x. all_parsed b.output x b.names os) (sym interpreter)
+      ∙ ap (λ xs. all_parsed b.output j b.names xs) (one_outcome_each i is os ps h also)
 
   -- words have at most one end
   pub one_end : (a b : End) → HasEnd files words a → HasEnd files words b → a ≡ b

@@ -18,8 +18,8 @@ use Rattle.g4_tool.specs.Inputs.{Files, inputs_of, GivesInputs}
 use Rattle.g4_tool.specs.Building.{Builds}
 use Rattle.g4_tool.specs.Stages.{IsHaltOf}
 use Rattle.g4_tool.specs.Outcomes.{AreParsed, is_accepted, lines_of_files}
-use Rattle.g4_tool.specs.Ends.{End, stopped, parsed, HasEnd, no_command, not_built, file_absent, files_parsed, status_of}
-use Rattle.g4_tool.specs.Report.{IsReportOf, IsReportOfFiles, IsReport, EndsWith, Means, ComesExactly, CanBeRun, IsComplete}
+use Rattle.g4_tool.specs.Ends.{End, stopped, all_parsed, HasEnd, no_command, not_built, file_absent, files_parsed, status_of}
+use Rattle.g4_tool.specs.Report.{IsReportOf, IsReportOfFiles, IsReport, ReportsOrHalts, Means, ComesExactly, CanBeRun, IsComplete}
 use Rattle.g4_tool.proofs.OneByOne.{as_many, all_counted}
 use Rattle.g4_tool.proofs.OneEnd.{one_end, same_built, same_inputs}
 
@@ -29,14 +29,14 @@ wrote_lent {ob} {on} {eb} {en} slice lines same h = subst (λ (ls : List Line). 
 
 module _ (files : Files) (words : List (List ℕ)) (asked : Asked) (fetched : List (List ℕ)) (command : command_of words ≡ Some asked) where
   -- a command without an interpreter
-  pub stops_unbuilt : (halt : Halt) → IsHaltOf (Builds files asked.grammar asked.start fetched) halt → EndsWith files words (Err halt)
+  pub stops_unbuilt : (halt : Halt) → IsHaltOf (Builds files asked.grammar asked.start fetched) halt → ReportsOrHalts files words (Err halt)
   stops_unbuilt (halts.Stop stop) h = not_built asked fetched stop command h
   stops_unbuilt halts.Failed h = tt
   stops_unbuilt halts.NoMemory h = tt
 
   module _ (interpreter : Interpreter) (built : Builds files asked.grammar asked.start fetched (Ok interpreter)) where
     -- a command without one of its files
-    pub stops_absent : {X : Type 0} (view : X → List Input) (halt : Halt) → GivesInputs view (inputs_of files asked.names) (Err halt) → EndsWith files words (Err halt)
+    pub stops_absent : {X : Type 0} (view : X → List Input) (halt : Halt) → GivesInputs view (inputs_of files asked.names) (Err halt) → ReportsOrHalts files words (Err halt)
     stops_absent view (halts.Stop stops.Usage) h = absurd h
     stops_absent view (halts.Stop (stops.Absent name)) h = file_absent asked fetched interpreter name command built h
     stops_absent view (halts.Stop (stops.TooLarge name size)) h = absurd h
@@ -49,7 +49,7 @@ module _ (files : Files) (words : List (List ℕ)) (asked : Asked) (fetched : Li
         AreParsed asked.output interpreter asked.names inputs made → IsReportOfFiles made count report → IsReport files words report
     reports_files inputs made count report there paired counted are is =
         let all : count ≡ length are.outcomes = counted ∙ paired ∙ sym (as_many interpreter inputs are.outcomes are.are) in record {
-          end = parsed asked.output interpreter asked.names are.outcomes;
+          end = all_parsed asked.output interpreter asked.names are.outcomes;
           has = files_parsed asked fetched interpreter inputs are.outcomes command built there are.are;
           is = record {
             lines = is.lines ∙ ap (λ ls. ls ++ closing_line count made.accepted ∷ []) are.lines

@@ -21,14 +21,14 @@ use Rattle.g4_tool.specs.declared.status.Status.TheVariants as statuses
 -- The end of a command line: it stops before any file is parsed, or each of its files has an outcome.
 pub data End : Type 0 where
   stopped : Stop → End
-  parsed : Output → Interpreter → (names : List (List ℕ)) → List Outcome → End
+  all_parsed : Output → Interpreter → (names : List (List ℕ)) → List Outcome → End
 
 -- The end that a list of words has over the files.
 pub data HasEnd (files : Files) (words : List (List ℕ)) : End → Type 0 where
   no_command : command_of words ≡ None → HasEnd files words (stopped stops.Usage)
   not_built : (asked : Asked) (fetched : List (List ℕ)) (stop : Stop) → command_of words ≡ Some asked → Builds files asked.grammar asked.start fetched (Err stop) → HasEnd files words (stopped stop)
   file_absent : (asked : Asked) (fetched : List (List ℕ)) (interpreter : Interpreter) (name : List ℕ) → command_of words ≡ Some asked → Builds files asked.grammar asked.start fetched (Ok interpreter) → inputs_of files asked.names ≡ Err name → HasEnd files words (stopped (stops.Absent name))
-  files_parsed : (asked : Asked) (fetched : List (List ℕ)) (interpreter : Interpreter) (inputs : List Input) (outcomes : List Outcome) → command_of words ≡ Some asked → Builds files asked.grammar asked.start fetched (Ok interpreter) → inputs_of files asked.names ≡ Ok inputs → AreOutcomes interpreter inputs outcomes → HasEnd files words (parsed asked.output interpreter asked.names outcomes)
+  files_parsed : (asked : Asked) (fetched : List (List ℕ)) (interpreter : Interpreter) (inputs : List Input) (outcomes : List Outcome) → command_of words ≡ Some asked → Builds files asked.grammar asked.start fetched (Ok interpreter) → inputs_of files asked.names ≡ Ok inputs → AreOutcomes interpreter inputs outcomes → HasEnd files words (all_parsed asked.output interpreter asked.names outcomes)
 
 -- the line of a grammar's fault
 abbrev pub fault_line : List ℕ → GrammarFault → Line
@@ -60,12 +60,12 @@ stop_status (stops.Fault name fault) = statuses.GrammarRefused
 -- the lines of an end
 abbrev pub lines_of : End → List Line
 lines_of (stopped stop) = stop_line stop ∷ []
-lines_of (parsed output interpreter names outcomes) = lines_of_files output interpreter names outcomes ++ closing_line (length outcomes) (count_by is_accepted outcomes) ∷ []
+lines_of (all_parsed output interpreter names outcomes) = lines_of_files output interpreter names outcomes ++ closing_line (length outcomes) (count_by is_accepted outcomes) ∷ []
 
 -- the status of an end
 abbrev pub status_of : End → Status
 status_of (stopped stop) = stop_status stop
-status_of (parsed output interpreter names outcomes) = if list_all is_accepted outcomes then statuses.Done else statuses.Refused
+status_of (all_parsed output interpreter names outcomes) = if list_all is_accepted outcomes then statuses.Done else statuses.Refused
 
 -- the number with which the program ends
 abbrev pub number_of : Status → ℕ

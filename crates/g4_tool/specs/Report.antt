@@ -35,11 +35,11 @@ pub record IsReport (files : Files) (words : List (List ℕ)) (report : Report) 
   pub is : IsReportOf end report
 
 -- the call answers with the report of the files, or as the command line stops, unless a fetch fails or memory runs out
-abbrev pub EndsWith : Files → List (List ℕ) → Result Report Halt → Type 0
-EndsWith files words (Ok report) = IsReport files words report
-EndsWith files words (Err (halts.Stop stop)) = HasEnd files words (stopped stop)
-EndsWith files words (Err halts.Failed) = Unit {0}
-EndsWith files words (Err halts.NoMemory) = Unit {0}
+abbrev pub ReportsOrHalts : Files → List (List ℕ) → Result Report Halt → Type 0
+ReportsOrHalts files words (Ok report) = IsReport files words report
+ReportsOrHalts files words (Err (halts.Stop stop)) = HasEnd files words (stopped stop)
+ReportsOrHalts files words (Err halts.Failed) = Unit {0}
+ReportsOrHalts files words (Err halts.NoMemory) = Unit {0}
 
 -- the words have an end with this status
 pub record Means (files : Files) (words : List (List ℕ)) (status : Status) : Type 0 where

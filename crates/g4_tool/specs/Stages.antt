@@ -23,21 +23,23 @@ pub data OfFile {X : Type 0} (name : List ℕ) (Stage : Result X GrammarFault �
   passes : (x : X) → Stage (Ok x) → OfFile name Stage (Ok x)
   fails : (fault : GrammarFault) → Stage (Err fault) → OfFile name Stage (Err (stopping.Fault name fault))
 
--- the call answers with what the stage gives, unless memory runs out
+-- an error of a call: a fault that the stage gives, or want of memory
 abbrev pub IsErrorOf : {X : Type 0} → (Result X GrammarFault → Type 0) → CheckError → Type 0
 IsErrorOf Stage (errors.Fault fault) = Stage (Err fault)
 IsErrorOf Stage errors.NoMemory = Unit {0}
 
+-- the call answers with what the stage gives, unless memory runs out
 abbrev pub IsAnswerOf : {X : Type 0} → (Result X GrammarFault → Type 0) → Result X CheckError → Type 0
 IsAnswerOf Stage (Ok x) = Stage (Ok x)
 IsAnswerOf Stage (Err error) = IsErrorOf Stage error
 
--- the call ends with what the stages give, unless a fetch fails or memory runs out
+-- why a call halts: a stop that the stages give, a failed fetch, or want of memory
 abbrev pub IsHaltOf : {X : Type 0} → (Result X Stop → Type 0) → Halt → Type 0
 IsHaltOf Stage (halts.Stop stop) = Stage (Err stop)
 IsHaltOf Stage halts.Failed = Unit {0}
 IsHaltOf Stage halts.NoMemory = Unit {0}
 
-abbrev pub Ends : {X : Type 0} → (Result X Stop → Type 0) → Result X Halt → Type 0
-Ends Stage (Ok x) = Stage (Ok x)
-Ends Stage (Err halt) = IsHaltOf Stage halt
+-- the call answers with what the stages give, unless a fetch fails or memory runs out
+abbrev pub GivesOrHalts : {X : Type 0} → (Result X Stop → Type 0) → Result X Halt → Type 0
+GivesOrHalts Stage (Ok x) = Stage (Ok x)
+GivesOrHalts Stage (Err halt) = IsHaltOf Stage halt

@@ -3,7 +3,7 @@ ghost use Rattle.std.specs.Prelude.{◌≡◌, IfOk, Some, map, ◌∷◌, []};
 ghost use Rattle.g4_tool.specs.Building.{Builds, FromGrammar};
 ghost use Rattle.g4_tool.specs.Counting.{Counts};
 ghost use Rattle.g4_tool.specs.Inputs.{Files};
-ghost use Rattle.g4_tool.specs.Stages.{Ends, IsAnswerOf};
+ghost use Rattle.g4_tool.specs.Stages.{GivesOrHalts, IsAnswerOf};
 ghost use Rattle.g4_tool.specs.Usable.{CanBeBuilt, IsUsable};
 
 use crate::fault::{CheckError, GrammarFault, not_built};
@@ -83,7 +83,7 @@ pub fn build_interpreter<S: Shelf>(
 ) -> Result<Interpreter, Halt>
     ensures keeps { S.told shelf.new ≡ S.told shelf.old }
     ensures content { (files : Files) → S.told shelf.old ≡ Some files
-        → Ends (Builds files name.now start.now (name.now ∷ [])) result }
+        → GivesOrHalts (Builds files name.now start.now (name.now ∷ [])) result }
     ensures usable { IfOk result IsUsable }
     ensures counts { Counts ⊥ (S.faults shelf.old) (S.faults shelf.new) (S.misses shelf.old) (S.misses shelf.new) result }
 {

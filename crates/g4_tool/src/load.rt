@@ -3,7 +3,7 @@ ghost use Rattle.std.specs.Prelude.{◌≡◌, ◌≤◌, IfOk, Some, length, �
 ghost use Rattle.g4_tool.specs.Counting.{Counts};
 ghost use Rattle.g4_tool.specs.Inputs.{Files};
 ghost use Rattle.g4_tool.specs.Loading.{Fetches, IsGrammarIn, Loads};
-ghost use Rattle.g4_tool.specs.Stages.{Ends, IsAnswerOf};
+ghost use Rattle.g4_tool.specs.Stages.{GivesOrHalts, IsAnswerOf};
 ghost use Rattle.g4_tool.specs.Usable.{CanBeBuilt};
 
 use crate::fault::CheckError;
@@ -20,7 +20,7 @@ use std::alloc::Global;
 /// The bytes of a grammar file.
 fn fetch_grammar<S: Shelf>(alloc: Global, shelf: &mut S, name: &str) -> Result<Octets, Halt>
     ensures keeps { S.told shelf.new ≡ S.told shelf.old }
-    ensures content { (files : Files) → S.told shelf.old ≡ Some files → Ends (Fetches files name.now) result }
+    ensures content { (files : Files) → S.told shelf.old ≡ Some files → GivesOrHalts (Fetches files name.now) result }
     ensures small { IfOk result (λ bytes. length bytes ≤ MOST_BYTES) }
     ensures counts { Counts ⊥ (S.faults shelf.old) (S.faults shelf.new) (S.misses shelf.old) (S.misses shelf.new) result }
 {
@@ -50,7 +50,7 @@ fn read_and_check(alloc: Global, bytes: &[u8]) -> Result<Numbered, CheckError>
 /// The grammar in the file of this name, checked and numbered.
 pub fn load<S: Shelf>(alloc: Global, shelf: &mut S, name: &str) -> Result<Numbered, Halt>
     ensures keeps { S.told shelf.new ≡ S.told shelf.old }
-    ensures content { (files : Files) → S.told shelf.old ≡ Some files → Ends (Loads files name.now (name.now ∷ [])) result }
+    ensures content { (files : Files) → S.told shelf.old ≡ Some files → GivesOrHalts (Loads files name.now (name.now ∷ [])) result }
     ensures checked { IfOk result CanBeBuilt }
     ensures counts { Counts ⊥ (S.faults shelf.old) (S.faults shelf.new) (S.misses shelf.old) (S.misses shelf.new) result }
 {

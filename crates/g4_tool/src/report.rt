@@ -4,7 +4,7 @@ ghost use Rattle.g4_tool.specs.CommandView.{command_view};
 ghost use Rattle.g4_tool.specs.Counting.{Counts, ReportCounts};
 ghost use Rattle.g4_tool.specs.Ends.{stopped};
 ghost use Rattle.g4_tool.specs.Inputs.{Files};
-ghost use Rattle.g4_tool.specs.Report.{EndsWith, IsOfFiles, IsReport, IsReportOf, IsReportOfFiles};
+ghost use Rattle.g4_tool.specs.Report.{ReportsOrHalts, IsOfFiles, IsReport, IsReportOf, IsReportOfFiles};
 ghost use Rattle.g4_tool.specs.Words.{command_of, most_files};
 
 use crate::files::{Parsed, parse_files};
@@ -87,7 +87,7 @@ fn run_command<S: Shelf, G: Gate>(
     requires few { length command.now.names.now ≤ most_files }
     ensures keeps { S.told shelf.new ≡ S.told shelf.old }
     ensures content { (files : Files) (words : List (List ℕ)) → S.told shelf.old ≡ Some files → command_of words ≡ Some (command_view command.now)
-        → EndsWith files words result }
+        → ReportsOrHalts files words result }
     ensures status { IfOk result (λ report. IsOfFiles report.status) }
     ensures counts { Counts ⊥ (S.faults shelf.old) (S.faults shelf.new) (S.misses shelf.old) (S.misses shelf.new) result }
 {
@@ -107,7 +107,7 @@ fn run_words<S: Shelf, G: Gate>(
     gate: &G,
 ) -> Result<Report, Halt>
     ensures keeps { S.told shelf.new ≡ S.told shelf.old }
-    ensures content { (files : Files) → S.told shelf.old ≡ Some files → EndsWith files (map string_bytes words.now) result }
+    ensures content { (files : Files) → S.told shelf.old ≡ Some files → ReportsOrHalts files (map string_bytes words.now) result }
     ensures usage { command_of (map string_bytes words.now) ≡ None → result ≡ Err (Halt.Stop Stop.Usage) }
     ensures status { IfOk result (λ report. IsOfFiles report.status) }
     ensures counts { Counts (command_of (map string_bytes words.now) ≡ None)
