@@ -1,0 +1,2 @@
+pub mod OneCommand
+mod Refused

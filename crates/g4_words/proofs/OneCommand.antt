@@ -1,0 +1,46 @@
+-- Words are at most one command.
+use Rattle.std.proofs.Common.{◌≡◌, List, Option, Some, ap, ◌∙◌, subst, sym}
+use Rattle.std.specs.Prelude.{codes, true, false}
+use Rattle.std.specs.Str.{bytes_eq}
+use Rattle.clap.specs.Words.{Row, Text, all_of, first_of, subcommand_of}
+use Rattle.g4_words.specs.App.{g4_app}
+use Rattle.g4_words.specs.Commands.{IsCheck, IsCommand, IsNamed, IsParse}
+use Rattle.g4_words.specs.declared.command.Check.{Check}
+use Rattle.g4_words.specs.declared.command.Command.{Command}
+use Rattle.g4_words.specs.declared.command.Command.TheVariants as commands
+use Rattle.g4_words.specs.declared.command.Parse.{Parse}
+
+-- a value that is given is one
+one_value : {X : Type 0} (given : Option X) (a b : X) → given ≡ Some a → given ≡ Some b → a ≡ b
+one_value given a b p q = cc
+
+-- values are those of at most one `parse`, and of at most one `check`
+one_parse : (rows : List Row) (a b : Parse) → IsParse rows a → IsParse rows b → a ≡ b
+one_parse rows a b p q =
+    ap (λ (t : Text). record { grammar = t; start = a.start; files = a.files }) (one_value (first_of (codes "grammar") rows) a.grammar b.grammar p.grammar q.grammar)
+    ∙ ap (λ (t : Text). record { grammar = b.grammar; start = t; files = a.files }) (one_value (first_of (codes "start") rows) a.start b.start p.start q.start)
+    ∙ ap (λ (ts : List Text). record { grammar = b.grammar; start = b.start; files = ts }) (one_value (all_of (codes "files") rows) a.files b.files p.files q.files)
+
+one_check : (rows : List Row) (a b : Check) → IsCheck rows a → IsCheck rows b → a ≡ b
+one_check rows a b p q = ap (λ (t : Text). record { grammar = t }) (one_value (first_of (codes "grammar") rows) a.grammar b.grammar p q)
+
+-- no name is that of two commands
+no_way : true ≡ false → ⊥
+no_way h = cc
+
+apart : codes "parse" ≡ codes "check" → ⊥
+apart same = let told : true ≡ false = ap (bytes_eq (codes "parse")) same in no_way told
+
+-- a name and values are at most one command
+one_named : (name : Text) (rows : List Row) (a b : Command) → IsNamed name rows a → IsNamed name rows b → a ≡ b
+one_named name rows (commands.Parse a) (commands.Parse b) p q = ap commands.Parse (one_parse rows a b p.1 q.1)
+one_named name rows (commands.Parse a) (commands.Check b) p q = absurd (apart (sym p.0 ∙ q.0))
+one_named name rows (commands.Check a) (commands.Parse b) p q = absurd (apart (sym q.0 ∙ p.0))
+one_named name rows (commands.Check a) (commands.Check b) p q = ap commands.Check (one_check rows a b p.1 q.1)
+
+pub one_command : (words : List Text) (a b : Command) → IsCommand words a → IsCommand words b → a ≡ b
+one_command words a b p q =
+    let same = one_value (subcommand_of g4_app words) (p.name, p.rows) (q.name, q.rows) p.given q.given in
+    one_named p.name p.rows a b p.named
+    (subst (λ (rows : List Row). IsNamed p.name rows b) (sym (ap (λ (pair : Text × List Row). pair.1) same))
+    (subst (λ (name : Text). IsNamed name q.rows b) (sym (ap (λ (pair : Text × List Row). pair.0) same)) q.named))

@@ -1,0 +1,44 @@
+-- The command line of `g4`, in the terms of `clap`.
+use Rattle.std.specs.Prelude.{ℕ, Some, true, codes}
+use Rattle.clap.specs.Words.{App, Rule, Text, new_app, new_rule, with_rule, with_subcommand}
+use Rattle.clap.specs.declared.builder.ArgAction.TheVariants.{Append, Set}
+
+-- an option with one value, under a name of one letter
+abbrev pub option_rule : Text → ℕ → Rule
+option_rule id letter = record (new_rule id) { short = Some letter; action = Some Set }
+
+-- one word in its place
+abbrev pub word_rule : Text → Rule
+word_rule id = record (new_rule id) { action = Some Set }
+
+-- all words that are left
+abbrev pub words_rule : Text → Rule
+words_rule id = record (new_rule id) { action = Some Append }
+
+-- an argument that is needed
+abbrev pub needed_rule : Rule → Rule
+needed_rule rule = record rule { required = true }
+
+-- the letters of the options
+abbrev pub letter_g : ℕ
+letter_g = 103
+
+abbrev pub letter_s : ℕ
+letter_s = 115
+
+-- `parse -g GRAMMAR -s RULE FILE..`
+abbrev pub parse_app : App
+parse_app = with_rule (with_rule (with_rule (new_app (codes "parse")) (needed_rule (option_rule (codes "grammar") letter_g)))
+    (needed_rule (option_rule (codes "start") letter_s))) (needed_rule (words_rule (codes "files")))
+
+-- `check GRAMMAR`
+abbrev pub check_app : App
+check_app = with_rule (new_app (codes "check")) (needed_rule (word_rule (codes "grammar")))
+
+-- one of the commands is needed, and the program's own name is not among the words
+abbrev pub base_app : App
+base_app = record (new_app (codes "g4")) { top = record (new_app (codes "g4")).top { no_binary_name = true; subcommand_required = true } }
+
+-- the command line: one of these commands
+abbrev pub g4_app : App
+g4_app = with_subcommand (with_subcommand base_app parse_app.top) check_app.top

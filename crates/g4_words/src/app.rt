@@ -1,0 +1,85 @@
+// The command line, as `clap` is told of it: one function for each kind of argument, and one for each command.
+ghost use Rattle.std.specs.Prelude.{◌≡◌, IfOk, false};
+ghost use Rattle.clap.specs.Words.{app_of, rule_of, with_rule};
+ghost use Rattle.clap.specs.declared.Command.TheViews.{out-Command as fields_of};
+ghost use Rattle.g4_words.specs.App.{check_app, g4_app, needed_rule, option_rule, parse_app, word_rule, words_rule};
+
+use clap::{Arg, ArgAction, Command};
+use std::alloc::{AllocError, Global};
+
+/// An option with one value, as `-g VALUE`.
+fn option<'a>(alloc: Global, id: &'a str, short: char) -> Arg<'a>
+    ensures rule { rule_of result ≡ option_rule id.entry.now short }
+    ensures local { result.global ≡ false }
+{
+    Arg::new(alloc, id).short(short).action(ArgAction::Set)
+}
+
+/// One word in its place.
+fn word<'a>(alloc: Global, id: &'a str) -> Arg<'a>
+    ensures rule { rule_of result ≡ word_rule id.entry.now }
+    ensures local { result.global ≡ false }
+{
+    Arg::new(alloc, id).action(ArgAction::Set)
+}
+
+/// All words that are left.
+fn words<'a>(alloc: Global, id: &'a str) -> Arg<'a>
+    ensures rule { rule_of result ≡ words_rule id.entry.now }
+    ensures local { result.global ≡ false }
+{
+    Arg::new(alloc, id).action(ArgAction::Append)
+}
+
+/// The argument, which is needed.
+fn needed<'a>(arg: Arg<'a>) -> Arg<'a>
+    requires { arg.global ≡ false }
+    ensures rule { rule_of result ≡ needed_rule (rule_of arg.entry) }
+    ensures local { result.global ≡ false }
+{
+    arg.required(true)
+}
+
+/// The command with one argument more.
+fn with_arg<'a>(command: Command<'a>, arg: Arg<'a>) -> Result<Command<'a>, AllocError>
+    requires { arg.global ≡ false }
+    ensures app { IfOk result (λ c. app_of c ≡ with_rule (app_of command.entry) (rule_of arg.entry)) }
+    ensures local { IfOk result (λ c. (fields_of c).has_globals ≡ (fields_of command.entry).has_globals) }
+{
+    command.arg(arg)
+}
+
+/// `parse -g GRAMMAR -s RULE FILE..`
+fn parse_command<'a>(alloc: Global) -> Result<Command<'a>, AllocError>
+    ensures app { IfOk result (λ c. app_of c ≡ parse_app) }
+    ensures local { IfOk result (λ c. (fields_of c).has_globals ≡ false) }
+{
+    let command = Command::new(alloc, "parse");
+    let command = with_arg(command, needed(option(alloc, "grammar", 'g')))?;
+    let command = with_arg(command, needed(option(alloc, "start", 's')))?;
+    let command = with_arg(command, needed(words(alloc, "files")))?;
+    Ok(command)
+}
+
+/// `check GRAMMAR`
+fn check_command<'a>(alloc: Global) -> Result<Command<'a>, AllocError>
+    ensures app { IfOk result (λ c. app_of c ≡ check_app) }
+    ensures local { IfOk result (λ c. (fields_of c).has_globals ≡ false) }
+{
+    let command = Command::new(alloc, "check");
+    let command = with_arg(command, needed(word(alloc, "grammar")))?;
+    Ok(command)
+}
+
+/// The whole command line: one of its commands, and nothing before it.
+pub(crate) fn g4_command<'a>(alloc: Global) -> Result<Command<'a>, AllocError>
+    ensures { IfOk result (λ c. app_of c ≡ g4_app) }
+{
+    let parse = parse_command(alloc)?;
+    let check = check_command(alloc)?;
+    let command = Command::new(alloc, "g4")
+        .no_binary_name(true)
+        .subcommand_required(true)
+        .subcommand(parse)?;
+    command.subcommand(check)
+}

@@ -1,0 +1,32 @@
+// The commands, as their fields.
+use g4_base::{Sequence, Text};
+
+/// The most files of a command line.
+pub const MOST_FILES: usize = 4_096;
+
+/// `parse -g GRAMMAR -s RULE FILE..`: parse files by a rule of a grammar.
+#[derive(Drop)]
+pub struct Parse {
+    /// The name of the grammar's file.
+    pub grammar: Text,
+    /// The name of the start rule.
+    pub start: Text,
+    /// The names of the files to parse, in the order of the words.
+    pub files: Sequence<Text>,
+}
+
+/// `check GRAMMAR`: check a grammar.
+#[derive(Drop)]
+pub struct Check {
+    /// The name of the grammar's file.
+    pub grammar: Text,
+}
+
+/// What a command line asks for.
+#[derive(Drop)]
+pub enum Command {
+    /// Parse files.
+    Parse(Parse),
+    /// Check a grammar.
+    Check(Check),
+}

@@ -1,0 +1,14 @@
+// From the words of a command line to the command that they are: `clap` reads them, and what it accepts is a command of
+// named fields.
+#![tactic(auto)]
+
+mod app;
+mod command;
+mod law;
+mod reading;
+#[cfg(test)]
+mod tests;
+
+pub use command::{Check, Command, MOST_FILES, Parse};
+pub use law::one_command;
+pub use reading::{WordsFault, read_words};

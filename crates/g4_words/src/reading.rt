@@ -1,0 +1,128 @@
+// The command that words are.
+ghost use Rattle.std.specs.Prelude.{◌≡◌, IfOk, map, option_map, string_bytes};
+ghost use Rattle.clap.specs.Words.{all_of, first_of, found_of, rows_of};
+ghost use Rattle.g4_words.specs.Commands.{Accepts, Finds, IsCheck, IsCommand, IsNamed, IsParse};
+
+use crate::app::g4_command;
+use crate::command::{Check, Command, MOST_FILES, Parse};
+use clap::ArgMatches;
+use clap::error::ErrorKind;
+use g4_base::{Sequence, Text};
+use std::alloc::{AllocError, Global};
+
+/// Why words are not read as a command.
+#[derive(Drop)]
+pub enum WordsFault {
+    /// They are no command.
+    Usage,
+    /// Memory ran out.
+    NoMemory,
+}
+
+impl From<AllocError> for WordsFault {
+    ghost use Rattle.std.specs.Prelude.{◌≡◌};
+    ghost use Rattle.g4_words.specs.declared.reading.WordsFault.TheVariants.{NoMemory};
+
+    ghost from_gives = { λ _ e. e ≡ NoMemory };
+
+    fn from(_: AllocError) -> Self {
+        WordsFault::NoMemory
+    }
+}
+
+/// What `clap` makes of the words, where it accepts them.
+fn accepted<'a>(alloc: Global, words: &'a [String]) -> Result<ArgMatches<'a>, WordsFault>
+    ensures { Accepts (map string_bytes words.entry.now) result }
+{
+    let command = g4_command(alloc)?;
+    match command.try_get_matches_from(words) {
+        Ok(matches) => Ok(matches),
+        Err(error) => match error.kind() {
+            ErrorKind::OutOfMemory => Err(WordsFault::NoMemory),
+            _ => Err(WordsFault::Usage),
+        },
+    }
+}
+
+/// The one value that `clap` gives.
+fn value_of<'a>(values: &ArgMatches<'a>, id: &str) -> Option<&'a str>
+    ensures { option_map (λ s. s.now) result ≡ first_of id.now (rows_of (found_of values.now)) }
+{
+    values.get_str(id)
+}
+
+/// All values that `clap` gives.
+fn values_of<'v, 'a>(values: &'v ArgMatches<'a>, id: &str) -> Option<&'v [&'a str]>
+    ensures { option_map (λ s. map (λ v. v.now) s.now) result ≡ all_of id.now (rows_of (found_of values.now)) }
+{
+    values.get_strs(id)
+}
+
+fn copies_of(alloc: Global, texts: &[&str]) -> Result<Sequence<Text>, AllocError>
+    ensures { IfOk result (λ s. s ≡ map (λ t. t.now) texts.now) }
+{
+    let mut copies = Vec::new(alloc);
+    for text in texts {
+        copies.push(Text::copy_of(alloc, text)?)?;
+    }
+    Ok(Sequence::new(copies))
+}
+
+fn read_parse(alloc: Global, values: &ArgMatches<'_>) -> Result<Parse, WordsFault>
+    ensures { Finds (IsParse (rows_of (found_of values.now))) result }
+{
+    let Some(grammar) = value_of(values, "grammar") else {
+        return Err(WordsFault::Usage);
+    };
+    let Some(start) = value_of(values, "start") else {
+        return Err(WordsFault::Usage);
+    };
+    let Some(files) = values_of(values, "files") else {
+        return Err(WordsFault::Usage);
+    };
+    if files.len() > MOST_FILES {
+        return Err(WordsFault::Usage);
+    }
+    Ok(Parse {
+        grammar: Text::copy_of(alloc, grammar)?,
+        start: Text::copy_of(alloc, start)?,
+        files: copies_of(alloc, files)?,
+    })
+}
+
+fn read_check(alloc: Global, values: &ArgMatches<'_>) -> Result<Check, WordsFault>
+    ensures { Finds (IsCheck (rows_of (found_of values.now))) result }
+{
+    let Some(grammar) = value_of(values, "grammar") else {
+        return Err(WordsFault::Usage);
+    };
+    Ok(Check {
+        grammar: Text::copy_of(alloc, grammar)?,
+    })
+}
+
+/// The command of this name with these values.
+fn read_named(alloc: Global, name: &str, values: &ArgMatches<'_>) -> Result<Command, WordsFault>
+    ensures { Finds (IsNamed name.now (rows_of (found_of values.now))) result }
+{
+    match name {
+        "parse" => Ok(Command::Parse(read_parse(alloc, values)?)),
+        "check" => Ok(Command::Check(read_check(alloc, values)?)),
+        _ => Err(WordsFault::Usage),
+    }
+}
+
+/// The command that the words are. The program's own name is not among them.
+///
+/// # Errors
+/// `Usage` where they are no command, as where they ask for help or have more than `MOST_FILES` files; `NoMemory` where
+/// memory runs out.
+pub fn read_words(alloc: Global, words: &[String]) -> Result<Command, WordsFault>
+    ensures { Finds (IsCommand (map string_bytes words.now)) result }
+{
+    let matches = accepted(alloc, words)?;
+    match matches.subcommand() {
+        Some((name, values)) => read_named(alloc, name, values),
+        None => Err(WordsFault::Usage),
+    }
+}
