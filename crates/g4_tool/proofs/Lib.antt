@@ -1,6 +1,5 @@
 mod Built
 mod Fetched
-mod Lists
 mod OneBuilt
 mod OneByOne
 mod OneEnd

@@ -144,6 +144,10 @@ module _ (files : Files) (name : List ℕ) where
   loads_any fetched r (stops fault h) = stops fault h.1
   loads_any fetched r (goes_on source s h k) = goes_on source s h.1 k
 
+  -- a file gives at most one numbered grammar, or stops at most one way
+  pub one_loaded : (f g : List (List ℕ)) (a b : Result Numbered Stop) → Loads files name f a → Loads files name g b → a ≡ b
+  one_loaded f g a b p q = one_loads a b (loads_any f a p) (loads_any g b q)
+
   module _ (start : List ℕ) where
     abbrev BuildsAny : Result Interpreter Stop → Type 0
     BuildsAny = Then LoadsAny (λ grammar. OfFile name (FromGrammar start grammar))

@@ -1,7 +1,7 @@
 -- The outcomes of files one by one, their lines and how many are accepted.
-use Rattle.std.proofs.Common.{◌≡◌, ◌≢◌, ◌<◌, ◌+◌, ℕ, suc, List, [], ◌∷◌, ◌++◌, length, map, take, get_or, count_by, cond, ◌≤◌, ◌&&◌, Bool, true, false, ◌==◌, All, subst, sym, ap, ◌∙◌, arith, refl, String, string_bytes, Global}
+use Rattle.std.proofs.Common.{◌≡◌, ◌≢◌, ◌<◌, ◌+◌, ℕ, suc, List, [], ◌∷◌, ◌++◌, length, take, get_or, count_by, cond, ◌≤◌, ◌&&◌, Bool, true, false, ◌==◌, All, subst, sym, ap, ◌∙◌, arith, refl}
 use Rattle.std.specs.List.{list_all}
-use Rattle.std.proofs.lemmas.List.{take_more, append_assoc, length-map, length-take-le}
+use Rattle.std.proofs.lemmas.List.{take_more, append_assoc, length-take-le}
 use Rattle.std.proofs.lemmas.List.Sums.{count_by-le-length, sum_by-append, sum_by-cons}
 use Rattle.g4_grammar.specs.declared.numbered.TokenRule.{TokenRule}
 use Rattle.g4_grammar.specs.Written.{TokenRuleIsQuiet}
@@ -13,7 +13,7 @@ use Rattle.g4_tool.specs.declared.files.Parsed.{Parsed}
 use Rattle.g4_tool.specs.declared.inputs.Input.{Input}
 use Rattle.g4_tool.specs.declared.interpreter.Interpreter.{Interpreter}
 use Rattle.g4_tool.specs.declared.outcome.Outcome.{Outcome}
-use Rattle.g4_tool.specs.declared.words.Output.{Output}
+use Rattle.g4_tool.specs.declared.outcome.Output.{Output}
 use Rattle.g4_tool.specs.declared.write.Line.{Line}
 use Rattle.g4_tool.specs.Outcomes.{IsOutcome, AreOutcomes, AreParsed, IsOneMore, is_accepted, lexing_refused, parsing_refused, outcome_lines, lines_of_files}
 
@@ -68,17 +68,8 @@ all_counted (o ∷ os) =
     ∙ one_counted (is_accepted o) (list_all is_accepted os) (count_by is_accepted os) (length os) (count_by-le-length is_accepted os) (all_counted os)
 
 -- the names up to a place, and the next
-pub names_then : (names : List (String Global)) (k : ℕ) (s : String Global) (name : List ℕ) → k < length names → s ≡ get_or names k s → name ≡ string_bytes {Z = Global} s →
-    map (string_bytes {Z = Global}) (take (k + 1) names) ≡ map (string_bytes {Z = Global}) (take k names) ++ name ∷ []
-names_then names k s name within s_is name_is =
-    ap (λ xs. map (string_bytes {Z = Global}) xs) (take_more names k s within)
-    ∙ map-snoc (string_bytes {Z = Global}) (take k names) (get_or names k s)
-    ∙ ap (λ x. map (string_bytes {Z = Global}) (take k names) ++ string_bytes {Z = Global} x ∷ []) (sym s_is)
-    ∙ ap (λ x. map (string_bytes {Z = Global}) (take k names) ++ x ∷ []) (sym name_is)
-  where
-    map-snoc : {X Y : Type 0} → (f : X → Y) (xs : List X) (x : X) → map f (xs ++ x ∷ []) ≡ map f xs ++ f x ∷ []
-    map-snoc f [] x = refl
-    map-snoc f (y ∷ ys) x = ap (λ zs. f y ∷ zs) (map-snoc f ys x)
+pub names_then : (names : List (List ℕ)) (k : ℕ) (next name : List ℕ) → k < length names → next ≡ get_or names k next → name ≡ next → take (k + 1) names ≡ take k names ++ name ∷ []
+names_then names k next name within is same = take_more names k next within ∙ ap (λ (x : List ℕ). take k names ++ x ∷ []) (sym (same ∙ is))
 
 -- the token rules that are lent lex as the interpreter's
 pub by_its_rules : (rules lent : List TokenRule) (P : List TokenRule → Type 0) → lent ≡ rules → All TokenRuleIsQuiet rules → (All TokenRuleIsQuiet lent → P lent) → P rules
@@ -96,5 +87,5 @@ pub one_more_accepted : (before now k : ℕ) (outcome : Outcome) → before ≤ 
 one_more_accepted before now k outcome few is = omega (arith, few, is, count_by-le-length is_accepted (outcome ∷ []))
 
 -- so many names are taken
-pub taken_names : (names : List (String Global)) (k n : ℕ) → k < length names → k ≡ n → length (map (string_bytes {Z = Global}) (take k names)) ≡ n
-taken_names names k n within same = length-map (take k names) (string_bytes {Z = Global}) ∙ length-take-le k names (omega (arith, within)) ∙ same
+pub taken_names : (names : List (List ℕ)) (k n : ℕ) → k < length names → k ≡ n → length (take k names) ≡ n
+taken_names names k n within same = length-take-le k names (omega (arith, within)) ∙ same

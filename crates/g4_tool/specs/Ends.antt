@@ -1,14 +1,21 @@
 -- How a command line ends over files by their names, and what is reported of that.
 use Rattle.std.specs.Prelude.{◌≡◌, ℕ, List, [], ◌∷◌, ◌++◌, length, count_by, Some, None, Ok, Err, codes, if◌then◌else◌}
 use Rattle.std.specs.List.{list_all}
-use Rattle.g4_tool.specs.Words.{Asked, command_of}
-use Rattle.g4_tool.specs.Texts.{usage_line, absent_line, large_line, not_utf8_line, syntax_line, bad_set_line, twice_line, no_rule_line, limit_line, empty_loop_line, closing_line}
+use Rattle.g4_words.specs.Commands.{IsCommand}
+use Rattle.g4_words.specs.declared.command.Check.{Check}
+use Rattle.g4_words.specs.declared.command.Command.{Command}
+use Rattle.g4_words.specs.declared.command.Command.TheVariants as commands
+use Rattle.g4_words.specs.declared.command.Parse.{Parse}
+use Rattle.g4_grammar.specs.declared.numbered.Numbered.{Numbered}
+use Rattle.g4_tool.specs.Texts.{usage_line, absent_line, large_line, not_utf8_line, syntax_line, bad_set_line, twice_line, no_rule_line, limit_line, empty_loop_line, checked_line, closing_line}
+use Rattle.g4_tool.specs.Loading.{Loads}
 use Rattle.g4_tool.specs.Building.{Builds}
 use Rattle.g4_tool.specs.Inputs.{Files, inputs_of}
 use Rattle.g4_tool.specs.Outcomes.{AreOutcomes, is_accepted, lines_of_files}
 use Rattle.g4_tool.specs.declared.inputs.Input.{Input}
 use Rattle.g4_tool.specs.declared.outcome.Outcome.{Outcome}
-use Rattle.g4_tool.specs.declared.words.Output.{Output}
+use Rattle.g4_tool.specs.declared.outcome.Output.{Output}
+use Rattle.g4_tool.specs.declared.outcome.Output.TheVariants.{Trees}
 use Rattle.g4_tool.specs.declared.write.Line.{Line}
 use Rattle.g4_tool.specs.declared.interpreter.Interpreter.{Interpreter}
 use Rattle.g4_tool.specs.declared.fault.GrammarFault.{GrammarFault}
@@ -18,17 +25,28 @@ use Rattle.g4_tool.specs.declared.stop.Stop.TheVariants as stops
 use Rattle.g4_tool.specs.declared.status.Status.{Status}
 use Rattle.g4_tool.specs.declared.status.Status.TheVariants as statuses
 
--- The end of a command line: it stops before any file is parsed, or each of its files has an outcome.
+-- The end of a command line: it stops before any file is parsed, its grammar is checked, or each of its files has an outcome.
 pub data End : Type 0 where
   stopped : Stop → End
+  checked : Numbered → End
   all_parsed : Output → Interpreter → (names : List (List ℕ)) → List Outcome → End
+
+-- the words are no command
+abbrev pub IsNoCommand : List (List ℕ) → Type 0
+IsNoCommand words = (command : Command) → IsCommand words command → ⊥
+
+-- what is written of the files that are accepted
+abbrev pub output_of : Parse → Output
+output_of parse = Trees
 
 -- The end that a list of words has over the files.
 pub data HasEnd (files : Files) (words : List (List ℕ)) : End → Type 0 where
-  no_command : command_of words ≡ None → HasEnd files words (stopped stops.Usage)
-  not_built : (asked : Asked) (fetched : List (List ℕ)) (stop : Stop) → command_of words ≡ Some asked → Builds files asked.grammar asked.start fetched (Err stop) → HasEnd files words (stopped stop)
-  file_absent : (asked : Asked) (fetched : List (List ℕ)) (interpreter : Interpreter) (name : List ℕ) → command_of words ≡ Some asked → Builds files asked.grammar asked.start fetched (Ok interpreter) → inputs_of files asked.names ≡ Err name → HasEnd files words (stopped (stops.Absent name))
-  files_parsed : (asked : Asked) (fetched : List (List ℕ)) (interpreter : Interpreter) (inputs : List Input) (outcomes : List Outcome) → command_of words ≡ Some asked → Builds files asked.grammar asked.start fetched (Ok interpreter) → inputs_of files asked.names ≡ Ok inputs → AreOutcomes interpreter inputs outcomes → HasEnd files words (all_parsed asked.output interpreter asked.names outcomes)
+  no_command : IsNoCommand words → HasEnd files words (stopped stops.Usage)
+  not_checked : (check : Check) (fetched : List (List ℕ)) (stop : Stop) → IsCommand words (commands.Check check) → Loads files check.grammar fetched (Err stop) → HasEnd files words (stopped stop)
+  grammar_checked : (check : Check) (fetched : List (List ℕ)) (grammar : Numbered) → IsCommand words (commands.Check check) → Loads files check.grammar fetched (Ok grammar) → HasEnd files words (checked grammar)
+  not_built : (parse : Parse) (fetched : List (List ℕ)) (stop : Stop) → IsCommand words (commands.Parse parse) → Builds files parse.grammar parse.start fetched (Err stop) → HasEnd files words (stopped stop)
+  file_absent : (parse : Parse) (fetched : List (List ℕ)) (interpreter : Interpreter) (name : List ℕ) → IsCommand words (commands.Parse parse) → Builds files parse.grammar parse.start fetched (Ok interpreter) → inputs_of files parse.files ≡ Err name → HasEnd files words (stopped (stops.Absent name))
+  files_parsed : (parse : Parse) (fetched : List (List ℕ)) (interpreter : Interpreter) (inputs : List Input) (outcomes : List Outcome) → IsCommand words (commands.Parse parse) → Builds files parse.grammar parse.start fetched (Ok interpreter) → inputs_of files parse.files ≡ Ok inputs → AreOutcomes interpreter inputs outcomes → HasEnd files words (all_parsed (output_of parse) interpreter parse.files outcomes)
 
 -- the line of a grammar's fault
 abbrev pub fault_line : List ℕ → GrammarFault → Line
@@ -60,11 +78,13 @@ stop_status (stops.Fault name fault) = statuses.GrammarRefused
 -- the lines of an end
 abbrev pub lines_of : End → List Line
 lines_of (stopped stop) = stop_line stop ∷ []
+lines_of (checked grammar) = checked_line (length grammar.rules) (length grammar.shown) ∷ []
 lines_of (all_parsed output interpreter names outcomes) = lines_of_files output interpreter names outcomes ++ closing_line (length outcomes) (count_by is_accepted outcomes) ∷ []
 
 -- the status of an end
 abbrev pub status_of : End → Status
 status_of (stopped stop) = stop_status stop
+status_of (checked grammar) = statuses.Done
 status_of (all_parsed output interpreter names outcomes) = if list_all is_accepted outcomes then statuses.Done else statuses.Refused
 
 -- the number with which the program ends

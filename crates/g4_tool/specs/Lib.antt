@@ -1,5 +1,3 @@
-pub mod Words
-pub mod CommandView
 pub mod Texts
 pub mod Faults
 pub mod Stages

@@ -17,8 +17,8 @@ use Rattle.g4_tool.specs.declared.interpreter.Interpreter.{Interpreter}
 use Rattle.g4_tool.specs.declared.outcome.Outcome.{Outcome}
 use Rattle.g4_tool.specs.declared.outcome.Outcome.TheVariants as outcomes
 use Rattle.g4_tool.specs.declared.files.Parsed.{Parsed}
-use Rattle.g4_tool.specs.declared.words.Output.{Output}
-use Rattle.g4_tool.specs.declared.words.Output.TheVariants.{Trees}
+use Rattle.g4_tool.specs.declared.outcome.Output.{Output}
+use Rattle.g4_tool.specs.declared.outcome.Output.TheVariants.{Trees}
 use Rattle.g4_tool.specs.declared.write.Line.{Line}
 
 -- The outcome of an input: its size past the limit, the fault of its lexing, or the tree or the fault of the run over its tokens.

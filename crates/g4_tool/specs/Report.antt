@@ -1,6 +1,8 @@
 -- The report of a command line over files by their names: the lines for out and err, and the status.
 use Rattle.std.specs.Prelude.{◌≡◌, ◌↔◌, ◌⊎◌, ◌==◌, ℕ, List, [], ◌∷◌, ◌++◌, Some, Result, Ok, Err, if◌then◌else◌}
-use Rattle.g4_tool.specs.Words.{Asked, command_of}
+use Rattle.g4_words.specs.Commands.{IsCommand}
+use Rattle.g4_words.specs.declared.command.Command.TheVariants as commands
+use Rattle.g4_words.specs.declared.command.Parse.{Parse}
 use Rattle.g4_tool.specs.Building.{Builds}
 use Rattle.g4_tool.specs.Inputs.{Files, inputs_of}
 use Rattle.g4_tool.specs.Texts.{closing_line}
@@ -24,9 +26,9 @@ pub record IsReportOfFiles (parsed : Parsed) (files : ℕ) (report : Report) : T
   pub lines : report.lines ≡ parsed.lines.items ++ closing_line files parsed.accepted ∷ []
   pub status : report.status ≡ (if parsed.accepted == files then Done else Refused)
 
--- the status where all files are parsed
-abbrev pub IsOfFiles : Status → Type 0
-IsOfFiles status = (status ≡ Done) ⊎ (status ≡ Refused)
+-- the status where nothing stops the command
+abbrev pub IsDoneOrRefused : Status → Type 0
+IsDoneOrRefused status = (status ≡ Done) ⊎ (status ≡ Refused)
 
 -- the report is that of the end that the words have
 pub record IsReport (files : Files) (words : List (List ℕ)) (report : Report) : Type 0 where
@@ -51,16 +53,16 @@ pub record Means (files : Files) (words : List (List ℕ)) (status : Status) : T
 abbrev pub ComesExactly : Files → List (List ℕ) → Status → Type 0
 ComesExactly files words answer = (status : Status) → (answer ≡ status) ↔ Means files words status
 
--- The words are a command whose grammar is without fault, and each of its files is there.
+-- The words parse files with a grammar that is without fault, and each of the files is there.
 pub record CanBeRun (files : Files) (words : List (List ℕ)) : Type 0 where
-  pub asked : Asked
+  pub parse : Parse
   pub fetched : List (List ℕ)
   pub interpreter : Interpreter
   pub inputs : List Input
-  pub command : command_of words ≡ Some asked
-  pub built : Builds files asked.grammar asked.start fetched (Ok interpreter)
-  pub there : inputs_of files asked.names ≡ Ok inputs
+  pub command : IsCommand words (commands.Parse parse)
+  pub built : Builds files parse.grammar parse.start fetched (Ok interpreter)
+  pub there : inputs_of files parse.files ≡ Ok inputs
 
 -- where the command can be run, it is Done or Refused
 abbrev pub IsComplete : Files → List (List ℕ) → Status → Type 0
-IsComplete files words answer = CanBeRun files words → IsOfFiles answer
+IsComplete files words answer = CanBeRun files words → IsDoneOrRefused answer

@@ -124,6 +124,10 @@ no_rule_line name start = ToErr (name ++ (codes ": no parser rule " ++ (start ++
 abbrev pub limit_line : List ℕ → List ℕ → Line
 limit_line name kind = ToErr (name ++ (codes ": limit " ++ (kind ++ codes "\n")))
 
+-- the line of a grammar that is checked: how many parser rules it has, and its greatest token type
+abbrev pub checked_line : ℕ → ℕ → Line
+checked_line rules types = ToOut (codes "rules " ++ (decimal rules ++ (codes " tokens " ++ (decimal types ++ codes "\n"))))
+
 -- the closing line: how many files there were, and how many were accepted
 abbrev pub closing_line : ℕ → ℕ → Line
 closing_line files accepted = ToOut (codes "files " ++ (decimal files ++ (codes " accepted " ++ (decimal accepted ++ codes "\n"))))

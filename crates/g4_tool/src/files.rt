@@ -1,15 +1,15 @@
 // The files of a run, parsed in order.
-ghost use Rattle.std.specs.Prelude.{◌≡◌, ◌<◌, ◌≤◌, All, IfOk, OnOk, length, map, string_bytes};
+ghost use Rattle.std.specs.Prelude.{◌≡◌, ◌<◌, ◌≤◌, All, IfOk, OnOk, length};
 ghost use Rattle.g4_tool.specs.Inputs.{IsSmall};
 ghost use Rattle.g4_tool.specs.Outcomes.{AreParsed, IsOneMore};
 ghost use Rattle.g4_tool.specs.Usable.{IsUsable};
-ghost use Rattle.g4_tool.specs.Words.{most_files};
+ghost use Rattle.g4_words.specs.declared.command.TheConstants.{MOST_FILES};
 
 use crate::inputs::Input;
 use crate::interpreter::Interpreter;
-use crate::outcome::{is_accepted, outcome_of, push_outcome};
-use crate::words::Output;
+use crate::outcome::{Output, is_accepted, outcome_of, push_outcome};
 use crate::write::Line;
+use g4_base::Text;
 use g4_ports::Gate;
 use std::alloc::{AllocError, Global};
 
@@ -31,7 +31,7 @@ fn push_file(
 ) -> Result<(), AllocError>
     requires usable { IsUsable interpreter.now }
     requires small { IsSmall input }
-    requires few { parsed.old.accepted < most_files }
+    requires few { parsed.old.accepted < MOST_FILES }
     ensures { OnOk result (IsOneMore output interpreter.now name.now input parsed.old parsed.new) }
 {
     let outcome = outcome_of(alloc, interpreter, input)?;
@@ -55,15 +55,15 @@ pub fn parse_files<G: Gate>(
     alloc: Global,
     output: Output,
     interpreter: &Interpreter,
-    names: &[String],
+    names: &[Text],
     inputs: Vec<Input>,
     gate: &G,
 ) -> Result<Parsed, AllocError>
     requires usable { IsUsable interpreter.now }
     requires small { All IsSmall inputs.items }
     requires paired { length names.now ≡ length inputs.items }
-    requires few { length names.now ≤ most_files }
-    ensures { IfOk result (AreParsed output interpreter.now (map string_bytes names.now) inputs.items) }
+    requires few { length names.now ≤ MOST_FILES }
+    ensures { IfOk result (AreParsed output interpreter.now names.now inputs.items) }
 {
     let mut parsed = Parsed {
         lines: Vec::new(alloc),

@@ -1,5 +1,5 @@
 // The files of a run, fetched in order.
-ghost use Rattle.std.specs.Prelude.{◌≡◌, All, IfOk, map, string_bytes, Some, length};
+ghost use Rattle.std.specs.Prelude.{◌≡◌, All, IfOk, Some, length};
 ghost use Rattle.g4_tool.specs.Counting.{Counts};
 ghost use Rattle.g4_tool.specs.Inputs.{Files, inputs_of, GivesInputs, IsSmall};
 
@@ -16,14 +16,10 @@ pub enum Input {
 }
 
 /// All the files in order, or the first that is absent.
-pub fn fetch_all<S: Shelf>(
-    alloc: Global,
-    shelf: &mut S,
-    names: &[String],
-) -> Result<Vec<Input>, Halt>
+pub fn fetch_all<S: Shelf>(alloc: Global, shelf: &mut S, names: &[Text]) -> Result<Vec<Input>, Halt>
     ensures keeps { S.told shelf.new ≡ S.told shelf.old }
     ensures content { (files : Files) → S.told shelf.old ≡ Some files
-        → GivesInputs (λ v. v.items) (inputs_of files (map string_bytes names.now)) result }
+        → GivesInputs (λ v. v.items) (inputs_of files names.now) result }
     ensures paired { IfOk result (λ inputs. length names.now ≡ length inputs.items) }
     ensures small { IfOk result (λ inputs. All IsSmall inputs.items) }
     ensures counts { Counts ⊥ (S.faults shelf.old) (S.faults shelf.new) (S.misses shelf.old) (S.misses shelf.new) result }

@@ -19,7 +19,6 @@ mod stop;
 #[cfg(test)]
 mod tests;
 mod tool;
-mod words;
 mod write;
 
 pub use law::one_end;

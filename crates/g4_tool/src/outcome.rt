@@ -10,13 +10,19 @@ ghost use Rattle.g4_tool.specs.Usable.{IsUsable};
 use crate::inputs::Input;
 use crate::interpreter::Interpreter;
 use crate::messages::{large, many_tokens, mismatch, no_token, no_viable, not_utf8, too_deep};
-use crate::words::Output;
 use crate::write::Line;
 use g4_base::{MOST_BYTES, Octets, Sequence};
 use g4_lexer::{LexFault, tokens};
 use g4_parse::{ParseFault, Tree, parse, print};
 use g4_token_list::Tokens;
 use std::alloc::{AllocError, Global};
+
+/// What is written of a file that is accepted.
+#[derive(Clone, Copy)]
+pub enum Output {
+    /// Its tree, in a line.
+    Trees,
+}
 
 /// What becomes of a file.
 #[derive(Drop)]

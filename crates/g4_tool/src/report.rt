@@ -1,21 +1,25 @@
 // The report of a command line: its lines and its status, made before any of it is written.
-ghost use Rattle.std.specs.Prelude.{◌≡◌, ◌≤◌, ℕ, List, IfOk, MatchResult, None, Some, Err, length, map, string_bytes};
-ghost use Rattle.g4_tool.specs.CommandView.{command_view};
+ghost use Rattle.std.specs.Prelude.{◌≡◌, ◌≤◌, ◌⊎◌, ℕ, List, IfOk, MatchResult, Some, Err, length, map, string_bytes};
 ghost use Rattle.g4_tool.specs.Counting.{Counts, ReportCounts};
-ghost use Rattle.g4_tool.specs.Ends.{stopped};
+ghost use Rattle.g4_tool.specs.Ends.{IsNoCommand, checked, stopped};
 ghost use Rattle.g4_tool.specs.Inputs.{Files};
-ghost use Rattle.g4_tool.specs.Report.{ReportsOrHalts, IsOfFiles, IsReport, IsReportOf, IsReportOfFiles};
-ghost use Rattle.g4_tool.specs.Words.{command_of, most_files};
+ghost use Rattle.g4_tool.specs.Report.{ReportsOrHalts, IsDoneOrRefused, IsReport, IsReportOf, IsReportOfFiles};
+ghost use Rattle.g4_words.specs.Commands.{IsCommand};
+ghost use Rattle.g4_words.specs.declared.command.Command.TheVariants as commands;
+ghost use Rattle.g4_words.specs.declared.command.TheConstants.{MOST_FILES};
 
 use crate::files::{Parsed, parse_files};
 use crate::inputs::fetch_all;
 use crate::interpreter::build_interpreter;
+use crate::load::load;
+use crate::outcome::Output;
 use crate::status::Status;
 use crate::stop::{Halt, Stop};
-use crate::words::{Command, read_words};
 use crate::write::Line;
 use g4_base::Sequence;
+use g4_grammar::Numbered;
 use g4_ports::{Gate, Shelf};
+use g4_words::{Check, Command, Parse, WordsFault, read_words};
 use std::alloc::{AllocError, Global};
 
 /// What a run writes, and how it ends where nothing fails.
@@ -58,7 +62,7 @@ fn report_stop(alloc: Global, stop: &Stop) -> Result<Report, AllocError>
 /// The report of so many files.
 fn report_files(alloc: Global, parsed: Parsed, files: usize) -> Result<Report, AllocError>
     ensures report { IfOk result (IsReportOfFiles parsed files) }
-    ensures status { IfOk result (λ report. IsOfFiles report.status) }
+    ensures status { IfOk result (λ report. IsDoneOrRefused report.status) }
 {
     let Parsed {
         mut lines,
@@ -77,29 +81,59 @@ fn report_files(alloc: Global, parsed: Parsed, files: usize) -> Result<Report, A
     })
 }
 
-/// The report of a command whose files are parsed, or why none is.
-fn run_command<S: Shelf, G: Gate>(
-    alloc: Global,
-    shelf: &mut S,
-    command: &Command<'_>,
-    gate: &G,
-) -> Result<Report, Halt>
-    requires few { length command.now.names.now ≤ most_files }
+/// The report of a grammar that is checked: how many parser rules it has, and its greatest token type.
+fn report_checked(alloc: Global, grammar: &Numbered) -> Result<Report, AllocError>
+    ensures { IfOk result (IsReportOf (checked grammar.now)) }
+{
+    let rules = grammar.rules.len();
+    let types = grammar.shown.len();
+    let line = format!(in alloc; "rules {rules} tokens {types}\n")?;
+    let line = Line::ToOut(Sequence::new(line.into_bytes()));
+    Ok(Report {
+        lines: Sequence::new(vec![in alloc; line]?),
+        status: Status::Done,
+    })
+}
+
+/// The report of `check`, or why there is none.
+fn run_check<S: Shelf>(alloc: Global, shelf: &mut S, check: &Check) -> Result<Report, Halt>
     ensures keeps { S.told shelf.new ≡ S.told shelf.old }
-    ensures content { (files : Files) (words : List (List ℕ)) → S.told shelf.old ≡ Some files → command_of words ≡ Some (command_view command.now)
+    ensures content { (files : Files) (words : List (List ℕ)) → S.told shelf.old ≡ Some files → IsCommand words (commands.Check check.now)
         → ReportsOrHalts files words result }
-    ensures status { IfOk result (λ report. IsOfFiles report.status) }
+    ensures status { IfOk result (λ report. IsDoneOrRefused report.status) }
     ensures counts { Counts ⊥ (S.faults shelf.old) (S.faults shelf.new) (S.misses shelf.old) (S.misses shelf.new) result }
 {
-    let interpreter = build_interpreter(alloc, shelf, command.grammar, command.start)?;
-    let names = command.names;
+    let name = check.grammar.as_str();
+    let grammar = load(alloc, shelf, name)?;
+    let report = report_checked(alloc, &grammar)?;
+    Ok(report)
+}
+
+/// The report of `parse`, or why there is none.
+fn run_parse<S: Shelf, G: Gate>(
+    alloc: Global,
+    shelf: &mut S,
+    parse: &Parse,
+    gate: &G,
+) -> Result<Report, Halt>
+    requires few { length parse.now.files ≤ MOST_FILES }
+    ensures keeps { S.told shelf.new ≡ S.told shelf.old }
+    ensures content { (files : Files) (words : List (List ℕ)) → S.told shelf.old ≡ Some files → IsCommand words (commands.Parse parse.now)
+        → ReportsOrHalts files words result }
+    ensures status { IfOk result (λ report. IsDoneOrRefused report.status) }
+    ensures counts { Counts ⊥ (S.faults shelf.old) (S.faults shelf.new) (S.misses shelf.old) (S.misses shelf.new) result }
+{
+    let grammar = parse.grammar.as_str();
+    let start = parse.start.as_str();
+    let interpreter = build_interpreter(alloc, shelf, grammar, start)?;
+    let names = parse.files.as_slice();
     let inputs = fetch_all(alloc, shelf, names)?;
-    let parsed = parse_files(alloc, command.output, &interpreter, names, inputs, gate)?;
+    let parsed = parse_files(alloc, Output::Trees, &interpreter, names, inputs, gate)?;
     let report = report_files(alloc, parsed, names.len())?;
     Ok(report)
 }
 
-/// The report of the words whose files are parsed, or why none is.
+/// The report of the words that no fault stops, or why there is none.
 fn run_words<S: Shelf, G: Gate>(
     alloc: Global,
     shelf: &mut S,
@@ -108,16 +142,17 @@ fn run_words<S: Shelf, G: Gate>(
 ) -> Result<Report, Halt>
     ensures keeps { S.told shelf.new ≡ S.told shelf.old }
     ensures content { (files : Files) → S.told shelf.old ≡ Some files → ReportsOrHalts files (map string_bytes words.now) result }
-    ensures usage { command_of (map string_bytes words.now) ≡ None → result ≡ Err (Halt.Stop Stop.Usage) }
-    ensures status { IfOk result (λ report. IsOfFiles report.status) }
-    ensures counts { Counts (command_of (map string_bytes words.now) ≡ None)
+    ensures usage { IsNoCommand (map string_bytes words.now) → (result ≡ Err (Halt.Stop Stop.Usage)) ⊎ (result ≡ Err Halt.NoMemory) }
+    ensures status { IfOk result (λ report. IsDoneOrRefused report.status) }
+    ensures counts { Counts (IsNoCommand (map string_bytes words.now))
         (S.faults shelf.old) (S.faults shelf.new) (S.misses shelf.old) (S.misses shelf.new) result }
 {
-    let Some(command) = read_words(words) else {
-        return Err(Halt::Stop(Stop::Usage));
-    };
-    let report = run_command(alloc, shelf, &command, gate)?;
-    Ok(report)
+    match read_words(alloc, words) {
+        Ok(Command::Check(check)) => run_check(alloc, shelf, &check),
+        Ok(Command::Parse(parse)) => run_parse(alloc, shelf, &parse, gate),
+        Err(WordsFault::Usage) => Err(Halt::Stop(Stop::Usage)),
+        Err(WordsFault::NoMemory) => Err(Halt::NoMemory),
+    }
 }
 
 /// The report of the words, unless a fetch or memory fails.
@@ -129,8 +164,8 @@ pub fn make_report<S: Shelf, G: Gate>(
 ) -> Result<Report, Stopped>
     ensures keeps { S.told shelf.new ≡ S.told shelf.old }
     ensures content { (files : Files) → S.told shelf.old ≡ Some files → IfOk result (IsReport files (map string_bytes words.now)) }
-    ensures usage { command_of (map string_bytes words.now) ≡ None → MatchResult result (λ report. report.status ≡ Status.Usage) (λ stopped. stopped ≡ Stopped.NoMemory) }
-    ensures counts { ReportCounts (command_of (map string_bytes words.now) ≡ None)
+    ensures usage { IsNoCommand (map string_bytes words.now) → MatchResult result (λ report. report.status ≡ Status.Usage) (λ stopped. stopped ≡ Stopped.NoMemory) }
+    ensures counts { ReportCounts (IsNoCommand (map string_bytes words.now))
         (S.faults shelf.old) (S.faults shelf.new) (S.misses shelf.old) (S.misses shelf.new) result }
 {
     match run_words(alloc, shelf, words, gate) {

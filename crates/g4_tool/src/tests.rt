@@ -35,7 +35,7 @@ pub fn words_of(alloc: Global, line: &str) -> Result<Vec<String>, Fail> {
 const PARSE: &str = "parse -g X.g4 -s r f";
 
 // Words, grammar and text, and what they give: out, err and the status.
-const REPORTS: [(&str, &str, &str, &str, &str, Status); 24] = [
+const REPORTS: [(&str, &str, &str, &str, &str, Status); 28] = [
     (
         PARSE,
         HELLO,
@@ -228,6 +228,38 @@ const REPORTS: [(&str, &str, &str, &str, &str, Status); 24] = [
         "usage: g4 parse, check, atn, match or drill\n",
         Status::Usage,
     ),
+    (
+        "parse f -sr -g X.g4",
+        HELLO,
+        "hello x",
+        "f: (r hello x)\nfiles 1 accepted 1\n",
+        "",
+        Status::Done,
+    ),
+    (
+        "check X.g4",
+        HELLO,
+        "",
+        "rules 1 tokens 3\n",
+        "",
+        Status::Done,
+    ),
+    (
+        "check X.g4",
+        "grammar X; r : ('a'*)* ;",
+        "",
+        "",
+        "X.g4: rule r has a loop that can be empty\n",
+        Status::GrammarRefused,
+    ),
+    (
+        "check Y.g4",
+        HELLO,
+        "",
+        "",
+        "Y.g4: not found\n",
+        Status::Unread,
+    ),
 ];
 
 /// Whole runs, on outputs that take three bytes a put.
@@ -338,6 +370,8 @@ fn fetches(rt: HostRuntime) -> Result<(), Fail> {
         ("parse -g X.g4 -s r f f", "grammar X; r : ;;", 1),
         ("parse -g X.g4 -s r f g f", HELLO, 3),
         ("parse -g X.g4 -s r f f f", HELLO, 4),
+        ("check X.g4", HELLO, 1),
+        ("check X.g4 f", HELLO, 0),
     ] {
         let words = words_of(alloc, line)?;
         let mut shelf = shelf_of(alloc, grammar, "hello x", Vec::new(alloc))?;

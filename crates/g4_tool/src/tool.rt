@@ -1,9 +1,9 @@
 // The top call.
-ghost use Rattle.std.specs.Prelude.{◌≡◌, ◌≢◌, ◌≤◌, ◌↔◌, ◌⊎◌, None, Some, map, string_bytes};
+ghost use Rattle.std.specs.Prelude.{◌≡◌, ◌≢◌, ◌≤◌, ◌↔◌, ◌⊎◌, Some, map, string_bytes};
 ghost use Rattle.g4_ports.specs.Ports.{Rose};
+ghost use Rattle.g4_tool.specs.Ends.{IsNoCommand};
 ghost use Rattle.g4_tool.specs.Inputs.{Files};
 ghost use Rattle.g4_tool.specs.Running.{HasCauses, HasReportedFront, IsWhole, NothingFails};
-ghost use Rattle.g4_tool.specs.Words.{command_of};
 
 use crate::report::{Stopped, make_report};
 use crate::status::Status;
@@ -12,8 +12,9 @@ use g4_ports::{Gate, Shelf, Sink};
 use std::alloc::Global;
 use std::thread::Threads;
 
-/// Runs a command line: fetches the grammar and the files that it names, and writes a line for each file, its tree on
-/// out or its first fault on err, and a closing line. Nothing is written before the whole report is made.
+/// Runs a command line: fetches the grammar that it names and checks it. `check` writes what it has; `parse` fetches the files
+/// as well, and writes a line for each, its tree on out or its first fault on err, and a closing line. Nothing is written before
+/// the whole report is made.
 pub fn run<R: Threads + Sync, S: Shelf, O: Sink, E: Sink, G: Gate>(
     _rt: &R,
     alloc: Global,
@@ -35,9 +36,9 @@ pub fn run<R: Threads + Sync, S: Shelf, O: Sink, E: Sink, G: Gate>(
         → (O.taken out.new ≡ O.taken out.old) × (E.taken err.new ≡ E.taken err.old) }
     // Usage comes exactly where the words are no command, whether the files are told or not.
     ensures usage { ¬ (Rose (O.faults out.old) (O.faults out.new)) → ¬ (Rose (E.faults err.old) (E.faults err.new)) → result ≢ Status.NoMemory
-        → ((result ≡ Status.Usage) ↔ (command_of (map string_bytes words.now) ≡ None)) }
+        → ((result ≡ Status.Usage) ↔ (IsNoCommand (map string_bytes words.now))) }
     // Each status has its cause, whether the files are told or not.
-    ensures causes { HasCauses (command_of (map string_bytes words.now) ≡ None)
+    ensures causes { HasCauses (IsNoCommand (map string_bytes words.now))
         (O.faults out.old) (O.faults out.new) (E.faults err.old) (E.faults err.new)
         (S.faults shelf.old) (S.faults shelf.new) (S.misses shelf.old) (S.misses shelf.new) result }
     // The files are the same afterwards, and no count falls: a second run can follow the first.

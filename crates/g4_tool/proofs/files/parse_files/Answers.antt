@@ -1,4 +1,4 @@
-use Rattle.std.proofs.Common.{◌≡◌, ◌<◌, ◌+◌, ◌++◌, ◌∷◌, [], List, ℕ, length, map, take, string_bytes, Global, rules, subst, sym, ap, ◌∙◌, arith, length-append}
+use Rattle.std.proofs.Common.{◌≡◌, ◌<◌, ◌+◌, ◌++◌, ◌∷◌, [], List, ℕ, length, take, rules, subst, sym, arith, length-append}
 use Rattle.std.proofs.lemmas.Iterator.Consumers.{YieldsList-turn}
 use Rattle.std.proofs.lemmas.Iterator.Adapters.{YieldsList-from_vec}
 use Rattle.g4_tool.specs.declared.inputs.Input.{Input}
@@ -18,7 +18,7 @@ loop-input-preserved g c =
       omega (arith, c.loop-input.invariant.0, length-append {A = Input}),
       one_more_accepted _ _ k more.outcome c.loop-input.invariant.1 more.accepted,
       subst (λ (ns : List (List ℕ)). AreParsed c.args.output c.args.interpreter.now ns (done ++ c.in-Some.input ∷ []) c.push_file-pushed.new.parsed)
-          (sym (names_then names k c.index-names-file.result c.as_str-name.result.now within c.index-names-file.is c.as_str-name.ensures.value))
-          (one_more_file c.args.output c.args.interpreter.now (map (string_bytes {Z = Global}) (take k names)) done c.as_str-name.result.now c.in-Some.input _ c.push_file-pushed.new.parsed
+          (sym (names_then names k c.index-names-file.result c.as_str-name.result.now within c.index-names-file.is c.as_str-name.ensures))
+          (one_more_file c.args.output c.args.interpreter.now (take k names) done c.as_str-name.result.now c.in-Some.input _ c.push_file-pushed.new.parsed
           (taken_names names k (length done) within c.loop-input.invariant.0) c.loop-input.invariant.2 more),
     )

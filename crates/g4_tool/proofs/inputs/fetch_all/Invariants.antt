@@ -1,4 +1,4 @@
-use Rattle.std.proofs.Common.{◌≡◌, ◌≤◌, All, map, drop, length, string_bytes, Some}
+use Rattle.std.proofs.Common.{◌≡◌, ◌≤◌, All, drop, length, Some}
 use Rattle.g4_tool.specs.Inputs.{Files, inputs_of, IsSmall}
 use Rattle.g4_tool.proofs.Fetched.{with_front}
 use Rattle.g4_tool.proofs.inputs.fetch_all.Given as goal
@@ -10,5 +10,5 @@ invariant-loop-name g l =
     (g.S.Shelf.misses l.initial.shelf ≤ g.S.Shelf.misses l.shelf) ×
     (length l.inputs.items ≡ l.name-index) ×
     ((files : Files) → g.S.Shelf.told l.initial.shelf ≡ Some files →
-    with_front l.inputs.items (inputs_of files (map string_bytes (drop l.name-index l.names))) ≡ inputs_of files (map string_bytes l.names)) ×
+    with_front l.inputs.items (inputs_of files (drop l.name-index l.names)) ≡ inputs_of files l.names) ×
     (All IsSmall l.inputs.items)

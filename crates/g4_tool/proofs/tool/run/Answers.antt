@@ -1,5 +1,5 @@
 use Rattle.std.proofs.Common.{refl}
-use Rattle.g4_tool.proofs.Reports.{comes_exactly, is_complete, wrote_lent}
+use Rattle.g4_tool.proofs.Reports.{comes_exactly, is_complete, reported_front, wrote_lent}
 use Rattle.g4_tool.proofs.tool.run.Goals as goal
 
 pub returns-in-Ok-write_lines-clause-whole : goal.returns-in-Ok-write_lines-clause-whole
@@ -9,3 +9,9 @@ returns-in-Ok-write_lines-clause-whole g c = λ files nothing.
       exactly = comes_exactly files _ _ c.in-Ok.report is refl;
       complete = is_complete files _ _ c.in-Ok.report is refl;
     }
+
+pub returns-in-Ok-write_lines-clause-part : goal.returns-in-Ok-write_lines-clause-part
+returns-in-Ok-write_lines-clause-part g c = λ files told. reported_front files _ _ c.in-Ok.report c.as_slice.ensures (c.in-Ok.ensures.content files told) c.in-Ok-write_lines.ensures.part
+
+pub returns-in-Ok-clause-part : goal.returns-in-Ok-clause-part
+returns-in-Ok-clause-part g c = λ files told. reported_front files _ _ c.in-Ok.report c.as_slice.ensures (c.in-Ok.ensures.content files told) c.write_lines.ensures.part
