@@ -1,0 +1,137 @@
+// Which rules a rule calls before anything is read.
+ghost use Rattle.std.specs.Prelude.{◌≡◌, ◌↔◌, IsTrue, ℕ, List, map, Option, Some, Vec, IfOk, OnOk, Contains, length, slice_get, vec_len, ◌||◌};
+ghost use Rattle.std.specs.Global.{Global as TheGlobal};
+ghost use Rattle.g4_elements.specs.declared.name.Label.{Label as Named};
+ghost use Rattle.g4_elements.specs.Elements.{atom as lone, block, Alternatives, either};
+ghost use Rattle.g4_elements.specs.Trees.{element_of, alternative_of, in_order};
+ghost use Rattle.g4_grammar.specs.LeftCalls.{Nullable, AllNullable, OneNullable, IsLeftOf, IsLeftOfAll, IsLeftOfOne, LeftCalls};
+ghost use Rattle.g4_horn.specs.Follows.{Tells};
+ghost use Rattle.g4_nullable.specs.declared.lead.Lead.{Lead as Atom};
+ghost use Rattle.g4_nullable.specs.Leads.{ReadsLead, CallsLead, IsNullableRule, trees_of};
+ghost use Rattle.g4_nullable.specs.Finds.{TellsCalls};
+
+use crate::lead::is_nullable;
+use crate::{Lead, LeadRule};
+use g4_elements::{Alternative, Element, Elements, Repeat};
+use std::alloc::{AllocError, Global};
+
+/// Adds the call of an atom, and says whether the atom derives the empty word.
+fn of_lead(nullable: &[bool], lead: Lead, calls: &mut Vec<u32>) -> Result<bool, AllocError>
+    ensures { IfOk result (λ answer. (rules : List (Alternatives Atom)) → Tells nullable.now (IsNullableRule rules) → TellsCalls answer calls.old.items calls.new.items (Nullable ReadsLead CallsLead rules (lone lead)) (IsLeftOf ReadsLead CallsLead rules (lone lead))) }
+{
+    if let Lead::Call(rule) = lead {
+        calls.push(rule)?;
+    }
+    Ok(is_nullable(nullable, lead))
+}
+
+/// Adds the left calls of an element, and says whether the element derives the empty word.
+#[cycle(calls)]
+fn of_element(
+    nullable: &[bool],
+    element: &Element<Lead>,
+    calls: &mut Vec<u32>,
+) -> Result<bool, AllocError>
+    ensures { IfOk result (λ answer. (rules : List (Alternatives Atom)) → Tells nullable.now (IsNullableRule rules) → TellsCalls answer calls.old.items calls.new.items (Nullable ReadsLead CallsLead rules (element_of element.now)) (IsLeftOf ReadsLead CallsLead rules (element_of element.now))) }
+{
+    match element {
+        Element::Atom(lead) => {
+            let answer = of_lead(nullable, *lead, calls)?;
+            Ok(answer)
+        }
+        Element::Block(_, repeat, alternatives) => {
+            let body = of_either(nullable, alternatives.as_slice(), calls)?;
+            Ok(is_nullable_block(*repeat, body))
+        }
+    }
+}
+
+/// Whether a block derives the empty word, by whether one of its alternatives does.
+fn is_nullable_block(repeat: Repeat, body: bool) -> bool
+    ensures { (rules : List (Alternatives Atom)) (label : Option Named) (xs : Alternatives Atom) → (IsTrue body ↔ OneNullable ReadsLead CallsLead rules xs) → IsTrue result ↔ Nullable ReadsLead CallsLead rules (block label repeat xs) }
+{
+    match repeat {
+        Repeat::Once => body,
+        Repeat::Optional(_) => true,
+        Repeat::Star(_) => true,
+        Repeat::Plus(_) => body,
+    }
+}
+
+/// One or the other.
+fn either_of(one: bool, other: bool) -> bool
+    ensures { result ≡ (one || other) }
+{
+    one || other
+}
+
+/// The same of alternatives.
+#[cycle(calls)]
+fn of_either(
+    nullable: &[bool],
+    alternatives: &[Alternative<Lead>],
+    calls: &mut Vec<u32>,
+) -> Result<bool, AllocError>
+    ensures { IfOk result (λ answer. (rules : List (Alternatives Atom)) → Tells nullable.now (IsNullableRule rules) → TellsCalls answer calls.old.items calls.new.items (OneNullable ReadsLead CallsLead rules (either (map alternative_of alternatives.now))) (IsLeftOfOne ReadsLead CallsLead rules (either (map alternative_of alternatives.now)))) }
+{
+    let mut found = false;
+    for alternative in alternatives {
+        let one = of_elements(nullable, alternative.elements.as_slice(), calls)?;
+        found = either_of(found, one);
+    }
+    Ok(found)
+}
+
+/// The same of elements one after another.
+#[cycle(calls)]
+fn of_elements(
+    nullable: &[bool],
+    elements: &[Element<Lead>],
+    calls: &mut Vec<u32>,
+) -> Result<bool, AllocError>
+    ensures { IfOk result (λ answer. (rules : List (Alternatives Atom)) → Tells nullable.now (IsNullableRule rules) → TellsCalls answer calls.old.items calls.new.items (AllNullable ReadsLead CallsLead rules (in_order (map element_of elements.now))) (IsLeftOfAll ReadsLead CallsLead rules (in_order (map element_of elements.now)))) }
+{
+    for element in elements {
+        let answer = of_element(nullable, element, calls)?;
+        if !answer {
+            return Ok(false);
+        }
+    }
+    Ok(true)
+}
+
+/// The left calls of the alternatives of a rule.
+fn of_rule(
+    alloc: Global,
+    nullable: &[bool],
+    alternatives: &[Elements<Lead>],
+) -> Result<Vec<u32>, AllocError>
+    ensures { IfOk result (λ calls. (rules : List (Alternatives Atom)) → Tells nullable.now (IsNullableRule rules) → (j : ℕ) → Contains calls.items j ↔ IsLeftOfOne ReadsLead CallsLead rules (either alternatives.now) j) }
+{
+    let mut calls = Vec::new(alloc);
+    for elements in alternatives {
+        of_elements(nullable, elements.as_slice(), &mut calls)?;
+    }
+    Ok(calls)
+}
+
+/// Of each rule, the rules that it calls before anything is read, perhaps with repetitions, where it is given which rules derive
+/// the empty word.
+///
+/// # Errors
+/// No memory.
+pub fn left_calls(
+    alloc: Global,
+    nullable: &[bool],
+    rules: &[LeadRule],
+) -> Result<Vec<Vec<u32>>, AllocError>
+    requires { Tells nullable.now (IsNullableRule (trees_of rules.now)) }
+    ensures count { IfOk result (λ all. vec_len all ≡ length rules.now) }
+    ensures calls { IfOk result (λ all. (k : ℕ) (calls : Vec ℕ TheGlobal) → slice_get all.items k ≡ Some calls → (j : ℕ) → Contains calls.items j ↔ LeftCalls ReadsLead CallsLead (trees_of rules.now) k j) }
+{
+    let mut all = Vec::with_capacity(alloc, rules.len())?;
+    for rule in rules {
+        all.push(of_rule(alloc, nullable, rule.alternatives.as_slice())?)?;
+    }
+    Ok(all)
+}

@@ -1,0 +1,45 @@
+// Atoms by what they do before anything is read.
+ghost use Rattle.std.specs.Prelude.{◌≡◌, ◌↔◌, IsTrue, List, slice_get, Some, true};
+ghost use Rattle.g4_elements.specs.Elements.{atom as lone, Alternatives};
+ghost use Rattle.g4_grammar.specs.LeftCalls.{Nullable};
+ghost use Rattle.g4_horn.specs.Follows.{Tells};
+ghost use Rattle.g4_nullable.specs.declared.lead.Lead.{Lead as Atom};
+ghost use Rattle.g4_nullable.specs.Leads.{ReadsLead, CallsLead, IsNullableRule};
+
+use g4_base::Sequence;
+use g4_elements::Elements;
+
+/// What an atom does before anything is read.
+#[derive(Clone, Copy, Debug, PartialEq, Eq)]
+pub enum Lead {
+    /// It reads nothing.
+    Empty,
+    /// It reads something.
+    Symbol,
+    /// It calls the rule of this number, counted from 0. Where there is no such rule, it derives nothing.
+    Call(u32),
+}
+
+/// A rule whose atoms are leads: its alternatives in order.
+#[derive(Drop)]
+pub struct LeadRule {
+    pub alternatives: Sequence<Elements<Lead>>,
+}
+
+/// Whether the answer for a rule is yes: it is not where there is none.
+fn says(answers: &[bool], rule: u32) -> bool
+    ensures { IsTrue result ↔ (slice_get answers.now rule ≡ Some true) }
+{
+    answers.get(rule as usize).copied().unwrap_or(false)
+}
+
+/// Whether the atom derives the empty word, by which rules do.
+pub(crate) fn is_nullable(nullable: &[bool], lead: Lead) -> bool
+    ensures { (rules : List (Alternatives Atom)) → Tells nullable.now (IsNullableRule rules) → IsTrue result ↔ Nullable ReadsLead CallsLead rules (lone lead) }
+{
+    match lead {
+        Lead::Empty => true,
+        Lead::Symbol => false,
+        Lead::Call(rule) => says(nullable, rule),
+    }
+}
