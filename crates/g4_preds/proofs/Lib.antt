@@ -1,0 +1,11 @@
+pub mod Complete
+pub mod NamedRules
+pub mod Names
+pub mod Newest
+pub mod OneReading
+pub mod Onward
+pub mod Pieces
+pub mod Predicates
+pub mod Scanned
+pub mod Sound
+pub mod TestLemmas

@@ -1,0 +1,11 @@
+pub mod Answers
+pub mod Grammar
+pub mod Newest
+pub mod Parsing
+pub mod Postfix
+pub mod Readings
+pub mod Steps
+pub mod Tests
+pub mod Tokens
+pub mod TreeCode
+pub mod Trees

@@ -1,0 +1,21 @@
+// The text of a semantic predicate, and the tree that the grammar of predicates gives it.
+#![tactic(auto)]
+
+mod character;
+mod fault;
+mod law;
+mod literal;
+mod node;
+mod operators;
+mod parser;
+mod piece;
+mod predicate;
+mod scanner;
+mod test_reader;
+#[cfg(test)]
+mod tests;
+mod token;
+
+pub use law::one_reading;
+pub use node::{Node, Test};
+pub use predicate::{Predicate, PredicateFault};

@@ -1,0 +1,113 @@
+// The pieces of a predicate's text: tokens, and the blanks between them.
+ghost use Rattle.std.specs.Prelude.{◌≡◌, ◌+◌, ◌∷◌, length, IfOk, IfSome, encode_utf8_all};
+ghost use Rattle.g4_preds.specs.Answers.{Answers};
+ghost use Rattle.g4_preds.specs.Tokens.{IsPiece, IsLiteralPiece, IsWithin, name_piece, double_sign, sign};
+
+use crate::character::{begins, is_blank, is_one_to_eight, name_length};
+use crate::fault::Fault;
+use crate::literal::literal_length;
+use crate::token::Token;
+use g4_base::Text;
+use g4_tokens::literal_characters;
+use std::alloc::{AllocError, Global};
+use unicode::properties::is_alphabetic;
+
+/// A piece of a text.
+#[derive(Drop)]
+pub enum Piece {
+    /// One blank.
+    Blank,
+    /// A token, and how many characters it has after its first.
+    Formed(Token, usize),
+}
+
+/// The text of a name: its letter and the characters after it.
+fn name_text(alloc: Global, letter: char, parts: &[char]) -> Result<Text, AllocError>
+    ensures { IfOk result (λ t. t ≡ encode_utf8_all (letter ∷ parts.now)) }
+{
+    let mut name = String::new(alloc);
+    name.push(letter)?;
+    for part in parts {
+        name.push(*part)?;
+    }
+    Ok(Text::new(name))
+}
+
+fn name_piece(alloc: Global, letter: char, behind: &[char]) -> Result<Piece, AllocError>
+    ensures value { IfOk result (λ p. p ≡ name_piece letter behind.now) }
+    ensures within { IfOk result (IsWithin (1 + length behind.now)) }
+{
+    let more = name_length(behind);
+    let name = name_text(alloc, letter, &behind[..more])?;
+    Ok(Piece::Formed(Token::Name(name), more))
+}
+
+/// The literal that the text begins with.
+fn literal_piece(alloc: Global, text: &[char]) -> Result<Piece, Fault>
+    ensures value { Answers (IsLiteralPiece text.now) result }
+    ensures within { IfOk result (IsWithin (length text.now)) }
+{
+    let [_, behind @ ..] = text else {
+        return Err(Fault::Unknown);
+    };
+    let Some(more) = literal_length(behind) else {
+        return Err(Fault::Unknown);
+    };
+    if more < 2 {
+        return Err(Fault::Unknown);
+    }
+    let characters = literal_characters(alloc, &text[..more + 1])?;
+    Ok(Piece::Formed(Token::Literal(characters), more))
+}
+
+fn double_sign(c: char) -> Option<Piece>
+    ensures value { result ≡ double_sign c }
+    ensures within { IfSome result (IsWithin 2) }
+{
+    match c {
+        '|' => Some(Piece::Formed(Token::DoubleBar, 1)),
+        '&' => Some(Piece::Formed(Token::DoubleAmpersand, 1)),
+        '=' => Some(Piece::Formed(Token::DoubleEquals, 1)),
+        _ => None,
+    }
+}
+
+/// The sign that begins with the character.
+fn sign(c: char, behind: &[char]) -> Option<Piece>
+    ensures value { result ≡ sign c behind.now }
+    ensures within { IfSome result (IsWithin (1 + length behind.now)) }
+{
+    match c {
+        '(' => Some(Piece::Formed(Token::LeftParenthesis, 0)),
+        ')' => Some(Piece::Formed(Token::RightParenthesis, 0)),
+        '!' => Some(Piece::Formed(Token::Exclamation, 0)),
+        _ if begins(c, behind) => double_sign(c),
+        _ => None,
+    }
+}
+
+/// The piece that the text begins with.
+pub fn read_piece(alloc: Global, text: &[char]) -> Result<Piece, Fault>
+    ensures value { Answers (IsPiece text.now) result }
+    ensures within { IfOk result (IsWithin (length text.now)) }
+{
+    let [c, behind @ ..] = text else {
+        return Err(Fault::Unknown);
+    };
+    let c = *c;
+    if is_blank(c) {
+        Ok(Piece::Blank)
+    } else if is_alphabetic(c) {
+        let name = name_piece(alloc, c, behind)?;
+        Ok(name)
+    } else if is_one_to_eight(c) {
+        Ok(Piece::Formed(Token::Digit(c as u32 - 48), 0))
+    } else if c == '\'' {
+        literal_piece(alloc, text)
+    } else {
+        match sign(c, behind) {
+            Some(piece) => Ok(piece),
+            None => Err(Fault::Unknown),
+        }
+    }
+}

@@ -1,0 +1,118 @@
+// The predicate that a text is.
+ghost use Rattle.std.specs.Prelude.{◌≡◌, ◌++◌, IfOk, OnOk};
+ghost use Rattle.std.specs.Str.{chars};
+ghost use Rattle.g4_preds.specs.Answers.{Answers};
+ghost use Rattle.g4_preds.specs.Readings.{IsPredicate, IsReading};
+ghost use Rattle.g4_preds.specs.Postfix.{postfix, rule_in};
+ghost use Rattle.g4_preds.specs.Trees.{rules_of};
+
+use crate::fault::Fault;
+use crate::node::{Node, Test};
+use crate::parser::parse;
+use crate::scanner::scan;
+use g4_base::{Place, Sequence, Text};
+use std::alloc::{AllocError, Global};
+use std::marker::Model;
+
+/// Why a text is no predicate.
+#[derive(Drop)]
+pub enum PredicateFault {
+    /// The grammar of predicates does not give the text of the predicate at this place.
+    Unknown(Place),
+    NoMemory,
+}
+
+impl From<AllocError> for PredicateFault {
+    ghost use Rattle.std.specs.Prelude.{◌≡◌};
+    ghost use Rattle.g4_preds.specs.declared.predicate.PredicateFault.TheVariants.{NoMemory};
+
+    ghost from_gives = { λ _ e. e ≡ NoMemory };
+
+    fn from(_: AllocError) -> Self {
+        PredicateFault::NoMemory
+    }
+}
+
+/// A semantic predicate, which contracts see as its tree. It is kept in postfix order, so no call on it is as deep as the
+/// text that it was read from.
+#[derive(Drop)]
+pub struct Predicate {
+    nodes: Sequence<Node>,
+}
+
+impl Model for Predicate {
+    ghost use Rattle.std.specs.Prelude.{◌≡◌};
+    ghost use Rattle.g4_preds.specs.contracts.node.Node as node;
+    ghost use Rattle.g4_preds.specs.Postfix.{postfix, tree_of};
+    ghost use Rattle.g4_preds.specs.TreeCode.{tree_code};
+    ghost use Rattle.g4_preds.specs.Trees.{Tree};
+
+    ghost Value = { Tree };
+
+    ghost coded = { tree_code node.the_row.coded };
+
+    ghost view = { λ p. tree_of p.nodes };
+
+    ghost invariant = { λ p. p.nodes ≡ postfix (tree_of p.nodes) };
+}
+
+/// The predicate that the characters are.
+fn read_characters(alloc: Global, text: &[char]) -> Result<Predicate, Fault>
+    ensures { Answers (IsPredicate text.now) result }
+{
+    let tokens = scan(alloc, text)?;
+    let nodes = parse(alloc, tokens.as_slice())?;
+    Ok(Predicate { nodes })
+}
+
+impl Predicate {
+    /// The predicate that the text between the braces of `{..}?` is. The place is that of the predicate.
+    ///
+    /// # Errors
+    /// - `Unknown` with the place: the text is no predicate.
+    /// - `NoMemory`: memory runs out.
+    pub fn read(alloc: Global, text: &str, place: Place) -> Result<Predicate, PredicateFault>
+        ensures { IsReading (chars text.now) place result }
+    {
+        let characters: Vec<char> = text.chars().collect(alloc)?;
+        match read_characters(alloc, &characters) {
+            Ok(predicate) => Ok(predicate),
+            Err(Fault::Unknown) => Err(PredicateFault::Unknown(place)),
+            Err(Fault::NoMemory) => Err(PredicateFault::NoMemory),
+        }
+    }
+
+    /// The tests and operators in postfix order: each operator comes directly after what it takes.
+    pub fn nodes(&self) -> &[Node]
+        ensures { result.now ≡ postfix self.now }
+    {
+        self.nodes.as_slice()
+    }
+
+    /// The names of the rules in `inside(..)`, in the order of the text.
+    ///
+    /// # Errors
+    /// Memory runs out.
+    pub fn rules_named(&self, alloc: Global) -> Result<Sequence<Text>, AllocError>
+        ensures { IfOk result (λ rules. rules ≡ rules_of self.now) }
+    {
+        let mut rules = Vec::new(alloc);
+        for node in self.nodes() {
+            push_rule(alloc, &mut rules, node)?;
+        }
+        Ok(Sequence::new(rules))
+    }
+}
+
+/// Adds the name of the rule that the node names, if it names one.
+fn push_rule(alloc: Global, rules: &mut Vec<Text>, node: &Node) -> Result<(), AllocError>
+    ensures { OnOk result (rules.new.items ≡ rules.old.items ++ rule_in node.now) }
+{
+    match node {
+        Node::Operand(Test::Inside(rule)) => {
+            rules.push(Text::copy_of(alloc, rule.as_str())?)?;
+            Ok(())
+        }
+        _ => Ok(()),
+    }
+}

@@ -1,0 +1,25 @@
+// A token of a predicate.
+use g4_base::{Sequence, Text};
+
+/// A token of a predicate.
+#[derive(Drop)]
+pub enum Token {
+    /// A letter, and the letters, digits and `_` after it.
+    Name(Text),
+    /// One digit from 1 to 8.
+    Digit(u32),
+    /// The characters that a literal stands for.
+    Literal(Sequence<char>),
+    /// `(`.
+    LeftParenthesis,
+    /// `)`.
+    RightParenthesis,
+    /// `!`.
+    Exclamation,
+    /// `&&`.
+    DoubleAmpersand,
+    /// `||`.
+    DoubleBar,
+    /// `==`.
+    DoubleEquals,
+}
