@@ -16,6 +16,7 @@ abbrev pub IsCycle : (ℕ → ℕ → Type 0) → List ℕ → Type 0
 IsCycle Edge [] = ⊥
 IsCycle Edge (first ∷ nodes) = LeadsAlong Edge first nodes first
 
+-- the list begins with this node
 abbrev pub BeginsWith : ℕ → List ℕ → Type 0
 BeginsWith first [] = ⊥
 BeginsWith first (k ∷ nodes) = k ≡ first

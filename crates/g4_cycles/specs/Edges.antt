@@ -17,7 +17,8 @@ successors_of graph k = listed_by (slice_get graph k)
 abbrev pub EdgeOf : Graph → ℕ → ℕ → Type 0
 EdgeOf graph k j = Contains (successors_of graph k) j
 
--- The new graph has the edges of the old one, and one to the node from each of these successors, but for those past the last node.
+-- The new graph has the edges of the old one, and one to the node from each of these successors, but for those past the last
+-- node.
 pub record AddsReversed (node : ℕ) (successors : List ℕ) (old new : Graph) : Type 0 where
   pub size : length new ≡ length old
   pub edges : (k i : ℕ) → EdgeOf new i k ↔ (EdgeOf old i k ⊎ ((k ≡ node) × Contains successors i × (i < length old)))

@@ -18,9 +18,12 @@ fn have_distances(distances: &[Option<u32>], nodes: &[u32]) -> bool
         .all(|node| distance(distances, *node).is_some())
 }
 
-/// Nodes that are on no cycle. All others are, as far as the order is a post-order: then a search from the last node that has not
-/// been found, against the edges, finds the nodes that both reach it and are reached by it. A node of which it finds no
-/// predecessor is on no cycle, whatever the order is.
+/// For each node, whether it is marked as on no cycle.
+///
+/// A node is marked where a search from it, against the edges, finds no new node, itself included.
+/// Such a node is on no cycle, in whatever order the searches begin. In reverse post-order each
+/// search finds the nodes that both reach its root and are reached by it, so each node that is on
+/// no cycle is marked.
 pub fn acyclic_nodes(
     alloc: Global,
     graph: &[Vec<u32>],

@@ -44,7 +44,8 @@ fn least_at(distances: &[Option<u32>], wanted: u32, nodes: &[u32]) -> Option<u32
     least
 }
 
-/// The least of the shortest cycles from a node, by the distances to it, of which this is the least of a successor.
+/// The least of the shortest cycles from a node, by the distances to it. The least distance of its
+/// successors is given.
 fn shortest_cycle(
     alloc: Global,
     graph: &[Vec<u32>],
@@ -90,11 +91,14 @@ fn cycle_from(
     }
 }
 
-/// Finds the shortest cycle from the least node that is on a cycle, and of several the least by the numbers of its nodes. The
-/// list begins with that node, which is not repeated at its end.
+/// Finds the shortest cycle from the least node that is on a cycle, and of several the least by the
+/// numbers of its nodes. The list begins with that node, which is not repeated at its end.
 ///
-/// The nodes are the indices of the lists, each of the successors of its node, in any order. A number past the last node is a
-/// node without successors.
+/// The nodes are numbered from 0, and each has a list of its successors, in any order. A number past
+/// the last node is a node without successors.
+///
+/// # Errors
+/// No memory.
 pub fn first_cycle(alloc: Global, successors: &[Vec<u32>]) -> Result<Option<Vec<u32>>, AllocError>
     requires { length successors.now < 2 ^ 32 }
     ensures { IfOk result (λ found. Answers (EdgeOf successors.now) (option_map (λ cycle. cycle.items) found)) }

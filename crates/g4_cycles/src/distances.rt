@@ -57,7 +57,8 @@ fn mark_before(
     Ok(())
 }
 
-/// Gives the root the distance 0, and each open node that leads to it through open nodes its distance.
+/// Gives the root the distance 0, and each open node that leads to it through open nodes its
+/// distance to it.
 pub fn spread(
     alloc: Global,
     reversed: &[Vec<u32>],

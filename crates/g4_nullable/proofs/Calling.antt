@@ -1,17 +1,17 @@
 -- The left calls that are found, by what elements are made of.
-use Rattle.std.proofs.Common.{◌≡◌, ◌↔◌, ℕ, ◌+◌, ◌<◌, ◌≤◌, ◌⊎◌, inl, inr, List, [], ◌∷◌, ◌++◌, length, drop, map, Bool, true, false, ◌||◌, IsTrue, Option, Some, Vec, refl, sym, ap, ◌∙◌, subst}
+use Rattle.std.proofs.Common.{◌≡◌, ◌↔◌, ℕ, ◌+◌, ◌≤◌, ◌⊎◌, inl, inr, List, [], ◌∷◌, ◌++◌, length, drop, Bool, true, false, ◌||◌, IsTrue, Option, Some, Vec, refl, sym, ap, ◌∙◌, subst}
 use Rattle.std.specs.Global.{Global}
 use Rattle.std.specs.List.{slice_get, Contains}
 use Rattle.std.proofs.lemmas.List.{drop_all}
 use Rattle.std.proofs.lemmas.List.Elements.{Contains-push, Contains-push_cases, Contains-append_left}
-use Rattle.std.proofs.lemmas.Option.{same_Some, slice_get_within}
+use Rattle.std.proofs.lemmas.Option.{same_Some}
 use Rattle.g4_elements.specs.declared.name.Label.{Label}
 use Rattle.g4_elements.specs.declared.element.Repeat.{Repeat}
 use Rattle.g4_elements.specs.Elements.{Element, atom, block, Elements, empty, then, Alternatives, none, or, either}
 use Rattle.g4_elements.specs.Trees.{in_order}
 use Rattle.g4_grammar.specs.LeftCalls.{Nullable, AllNullable, nothing, OneNullable, IsLeftOf, IsLeftOfAll, IsLeftOfOne, LeftCalls}
 use Rattle.g4_nullable.specs.declared.lead.Lead.{Lead}
-use Rattle.g4_nullable.specs.declared.lead.Lead.TheVariants.{Empty, Symbol, Call}
+use Rattle.g4_nullable.specs.declared.lead.Lead.TheVariants.{Call}
 use Rattle.g4_nullable.specs.Leads.{ReadsLead, CallsLead}
 use Rattle.g4_nullable.specs.Finds.{TellsCalls}
 use Rattle.g4_nullable.proofs.Parts.{one_parts, not_one_of_none, all_parts}

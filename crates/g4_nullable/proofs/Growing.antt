@@ -1,5 +1,5 @@
 -- Each step adds bodies and clauses, and keeps what is known.
-use Rattle.std.proofs.Common.{◌≡◌, ℕ, ◌+◌, ◌<◌, ◌≤◌, ◌⊎◌, inl, inr, List, [], ◌∷◌, ◌++◌, length, map, take, zero, suc, Bool, true, false, Option, Some, Vec, refl, sym, ap, ◌∙◌, subst, append_assoc, arith}
+use Rattle.std.proofs.Common.{◌≡◌, ℕ, ◌+◌, ◌<◌, ◌≤◌, ◌⊎◌, inl, inr, List, [], ◌∷◌, ◌++◌, length, take, zero, suc, Bool, true, false, Option, Some, Vec, refl, sym, ap, ◌∙◌, subst, append_assoc, arith}
 use Rattle.std.specs.Global.{Global}
 use Rattle.std.specs.List.{slice_get, All, Contains}
 use Rattle.std.proofs.lemmas.List.{append-nil, length-append}
@@ -9,7 +9,7 @@ use Rattle.g4_elements.specs.declared.name.Label.{Label}
 use Rattle.g4_elements.specs.declared.element.Suffix.{Suffix}
 use Rattle.g4_elements.specs.declared.element.Repeat.{Repeat}
 use Rattle.g4_elements.specs.declared.element.Repeat.TheVariants.{Once, Optional, Star, Plus}
-use Rattle.g4_elements.specs.Elements.{Element, atom, block, Elements, empty, then, Alternatives, none, or, either}
+use Rattle.g4_elements.specs.Elements.{Element, atom, block, Elements, empty, then, Alternatives, either}
 use Rattle.g4_elements.specs.Trees.{in_order}
 use Rattle.g4_grammar.specs.LeftCalls.{Nullable, AllNullable}
 use Rattle.g4_horn.specs.declared.clause.Clause.{Clause}

@@ -1,5 +1,5 @@
 -- What is found of loops, by what elements are made of.
-use Rattle.std.proofs.Common.{◌≡◌, ◌↔◌, ℕ, ◌+◌, ◌<◌, ◌≤◌, ◌⊎◌, inl, inr, List, [], ◌∷◌, length, drop, Bool, true, false, ◌||◌, ◌&&◌, IsTrue, Option, Some, refl, sym, ap, ◌∙◌, subst}
+use Rattle.std.proofs.Common.{◌≡◌, ◌↔◌, ℕ, ◌+◌, ◌≤◌, ◌⊎◌, inl, inr, List, [], length, drop, Bool, true, false, ◌||◌, ◌&&◌, IsTrue, Option, Some, refl, sym, ap, subst}
 use Rattle.std.specs.List.{slice_get}
 use Rattle.std.proofs.lemmas.List.{drop_all}
 use Rattle.g4_elements.specs.declared.name.Label.{Label}

@@ -7,7 +7,7 @@ use Rattle.g4_elements.specs.declared.element.Repeat.{Repeat}
 use Rattle.g4_elements.specs.declared.element.Element.{Element as Node}
 use Rattle.g4_elements.specs.declared.element.Element.TheVariants as nodes
 use Rattle.g4_elements.specs.declared.element.Alternative.{Alternative as Side, out-Alternative}
-use Rattle.g4_elements.specs.Elements.{Element, atom, block, Elements, either}
+use Rattle.g4_elements.specs.Elements.{atom, block, Elements, either}
 use Rattle.g4_elements.specs.Trees.{in_order, element_of, alternative_of}
 use Rattle.g4_elements.proofs.Trees.{of_atom, of_block, of_alternative}
 use Rattle.g4_nullable.specs.declared.lead.Lead.{Lead}

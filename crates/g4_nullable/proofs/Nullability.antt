@@ -1,10 +1,10 @@
 -- A body follows from the clauses of all bodies exactly where it derives the empty word.
-use Rattle.std.proofs.Common.{◌≡◌, ◌↔◌, ℕ, ◌<◌, ◌≤◌, ◌⊎◌, inl, inr, List, [], ◌∷◌, ◌++◌, length, take, zero, suc, Bool, true, Some, refl, sym, ap, ◌∙◌, subst, arith}
+use Rattle.std.proofs.Common.{◌≡◌, ◌↔◌, ℕ, ◌<◌, ◌⊎◌, inl, inr, List, [], ◌∷◌, ◌++◌, length, take, zero, suc, Bool, true, Some, refl, sym, ap, ◌∙◌, subst, arith}
 use Rattle.std.specs.List.{slice_get, All, Contains}
 use Rattle.std.proofs.lemmas.List.Elements.{All-contains, Contains-append_left, Contains-append_right}
 use Rattle.std.proofs.lemmas.Option.{same_Some, slice_get_within, slice_get_cases}
 use Rattle.g4_elements.specs.declared.element.Repeat.TheVariants.{Once, Optional, Star, Plus}
-use Rattle.g4_elements.specs.Elements.{Element, atom, block, Elements, empty, then, Alternatives, none, or}
+use Rattle.g4_elements.specs.Elements.{Element, atom, block, Elements, empty, then, Alternatives}
 use Rattle.g4_grammar.specs.LeftCalls.{Nullable, an_atom, a_call, a_block, an_optional, a_star, a_plus, AllNullable, nothing, one_more, OneNullable, this, another}
 use Rattle.g4_horn.specs.declared.clause.Clause.{Clause}
 use Rattle.g4_horn.specs.Follows.{Follows, by_clause, AllFollow, Tells}
@@ -12,7 +12,7 @@ use Rattle.g4_horn.specs.Follows as horn
 use Rattle.g4_nullable.specs.declared.lead.Lead.{Lead}
 use Rattle.g4_nullable.specs.declared.lead.Lead.TheVariants.{Empty, Symbol, Call}
 use Rattle.g4_nullable.specs.Leads.{ReadsLead, CallsLead, IsNullableRule}
-use Rattle.g4_nullable.specs.Bodies.{IsAlternative, HasNeeds, HaveNeeds, IsOfBody, HasClause, IsCovered, AreCovered}
+use Rattle.g4_nullable.specs.Bodies.{IsAlternative, HasNeeds, HaveNeeds, IsOfBody, AreCovered}
 use Rattle.g4_nullable.proofs.Trees.{one_of}
 
 -- the first number is in the list

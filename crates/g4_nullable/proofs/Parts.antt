@@ -1,15 +1,13 @@
 -- What elements and alternatives are, by their first one and the rest.
-use Rattle.std.proofs.Common.{◌≡◌, ◌↔◌, ℕ, ◌<◌, ◌⊎◌, inl, inr, List, [], Bool, true, IsTrue, Option, Some, refl, sym, ap, ◌∙◌, subst}
+use Rattle.std.proofs.Common.{◌↔◌, ℕ, ◌⊎◌, inl, inr, List, [], Option, refl, sym, ap, ◌∙◌}
 use Rattle.std.specs.List.{slice_get}
-use Rattle.std.proofs.lemmas.Option.{same_Some}
 use Rattle.g4_elements.specs.declared.name.Label.{Label}
 use Rattle.g4_elements.specs.declared.element.Suffix.{Suffix}
-use Rattle.g4_elements.specs.declared.element.Repeat.TheVariants.{Once, Optional, Star, Plus}
-use Rattle.g4_elements.specs.Elements.{Element, atom, block, Elements, empty, then, Alternatives, none, or}
+use Rattle.g4_elements.specs.declared.element.Repeat.TheVariants.{Once, Plus}
+use Rattle.g4_elements.specs.Elements.{Element, atom, block, Elements, then, Alternatives, none, or}
 use Rattle.g4_grammar.specs.Derives.{DerivesOne}
-use Rattle.g4_grammar.specs.LeftCalls.{Nullable, an_atom, a_call, a_block, an_optional, a_star, a_plus, AllNullable, nothing, one_more, OneNullable, this, another}
+use Rattle.g4_grammar.specs.LeftCalls.{Nullable, an_atom, a_call, a_block, a_plus, AllNullable, one_more, OneNullable, this, another}
 use Rattle.g4_grammar.proofs.Empty.{one_derives_nothing, one_is_nullable}
-use Rattle.g4_horn.specs.Follows.{Tells}
 use Rattle.g4_nullable.specs.declared.lead.Lead.{Lead}
 use Rattle.g4_nullable.specs.declared.lead.Lead.TheVariants.{Empty, Symbol, Call}
 use Rattle.g4_nullable.specs.Leads.{ReadsLead, CallsLead, IsNullableRule}

@@ -1,12 +1,12 @@
 -- Alternatives and elements of a list by their index.
-use Rattle.std.proofs.Common.{◌≡◌, ℕ, zero, suc, ◌+◌, ◌<◌, ◌≤◌, ◌⊎◌, inl, inr, List, [], ◌∷◌, ◌++◌, length, map, take, get_or, Option, Some, None, refl, sym, ap, ◌∙◌, subst, arith}
+use Rattle.std.proofs.Common.{◌≡◌, ℕ, zero, suc, ◌+◌, ◌≤◌, ◌⊎◌, inl, inr, List, [], ◌∷◌, ◌++◌, length, map, take, Some, sym, ap, ◌∙◌, subst, arith}
 use Rattle.std.specs.List.{slice_get}
 use Rattle.std.specs.Option.{option_map}
 use Rattle.std.proofs.lemmas.List.{take_more, take_all, length-map}
-use Rattle.std.proofs.lemmas.Option.{same_Some, slice_get_within, slice_get_read, get_or_from_slice_get, slice_get-map}
-use Rattle.g4_elements.specs.Elements.{Element, Elements, empty, then, Alternatives, none, or, either}
+use Rattle.std.proofs.lemmas.Option.{same_Some, slice_get_within, get_or_from_slice_get, slice_get-map}
+use Rattle.g4_elements.specs.Elements.{Element, Elements, Alternatives, none, or, either}
 use Rattle.g4_elements.specs.Trees.{in_order}
-use Rattle.g4_grammar.specs.LeftCalls.{Nullable, AllNullable, nothing, one_more, OneNullable, this, another}
+use Rattle.g4_grammar.specs.LeftCalls.{Nullable, AllNullable, one_more, OneNullable, this, another}
 use Rattle.g4_nullable.specs.declared.lead.Lead.{Lead}
 use Rattle.g4_nullable.specs.Leads.{ReadsLead, CallsLead}
 use Rattle.g4_nullable.specs.Bodies.{IsAlternative}

@@ -1,8 +1,7 @@
 -- Rules whose atoms are seen by what they do before anything is read.
 use Rattle.std.specs.Prelude.{◌≡◌, ℕ, List, [], ◌∷◌, map, Some, slice_get}
 use Rattle.g4_elements.specs.Elements.{Alternatives, either}
-use Rattle.g4_grammar.specs.LeftCalls.{OneNullable, LeftCalls}
-use Rattle.g4_grammar.specs.Loops.{SomeHasEmptyLoop}
+use Rattle.g4_grammar.specs.LeftCalls.{OneNullable}
 use Rattle.g4_nullable.specs.declared.lead.Lead.{Lead}
 use Rattle.g4_nullable.specs.declared.lead.Lead.TheVariants.{Empty, Symbol, Call}
 use Rattle.g4_nullable.specs.declared.lead.LeadRule.{LeadRule}

@@ -1,11 +1,10 @@
-use Rattle.std.proofs.Common.{◌≡◌, ◌+◌, List, [], length, map, Some, Vec, ℕ, refl, sym, ap, ◌∙◌, subst, arith}
+use Rattle.std.proofs.Common.{◌≡◌, ◌+◌, List, length, Some, Vec, ℕ, refl, sym, ap, ◌∙◌, subst, arith}
 use Rattle.std.specs.Global.{Global}
 use Rattle.std.specs.List.{slice_get}
 use Rattle.std.proofs.lemmas.List.{length-append}
 use Rattle.std.proofs.lemmas.Option.{slice_get_read}
-use Rattle.g4_elements.specs.Elements.{Elements, Alternatives, either}
+use Rattle.g4_elements.specs.Elements.{Elements, either}
 use Rattle.g4_nullable.specs.declared.lead.Lead.{Lead}
-use Rattle.g4_nullable.specs.declared.lead.LeadRule.{LeadRule}
 use Rattle.g4_nullable.specs.Leads.{alternatives_of, trees_of}
 use Rattle.g4_nullable.proofs.Calling.{AreLeftCalls, left_calls_more}
 use Rattle.g4_nullable.proofs.Trees.{mapped_at}

@@ -1,8 +1,6 @@
-use Rattle.std.proofs.Common.{◌≡◌, List, [], Bool, false, map, Some, refl, sym, ap, subst, arith, ◌||◌}
+use Rattle.std.proofs.Common.{◌≡◌, List, [], false, map, Some, refl, sym, subst, arith, ◌||◌}
 use Rattle.std.specs.List.{slice_get}
-use Rattle.g4_elements.specs.Elements.{Elements, Alternatives}
 use Rattle.g4_elements.specs.Trees.{element_of, in_order}
-use Rattle.g4_nullable.specs.declared.lead.Lead.{Lead}
 use Rattle.g4_nullable.proofs.Calling.{CallsLeft, calls_start, calls_step, rule_calls}
 use Rattle.g4_nullable.proofs.Nodes.{elements_at}
 use Rattle.g4_nullable.proofs.calls.of_rule.Goals as goal

@@ -1,12 +1,12 @@
-use Rattle.std.proofs.Common.{◌≡◌, ◌<◌, ℕ, List, [], ◌∷◌, ◌++◌, Bool, take, map, length, Some, refl, sym, ap, ◌∙◌, subst, arith}
+use Rattle.std.proofs.Common.{◌≡◌, List, [], ◌∷◌, ◌++◌, map, Some, refl, subst, arith}
 use Rattle.std.specs.List.{slice_get}
 use Rattle.g4_elements.specs.declared.element.Repeat.TheVariants.{Once, Optional, Star, Plus}
-use Rattle.g4_elements.specs.Elements.{Element, Elements, block, Alternatives, either}
+use Rattle.g4_elements.specs.Elements.{Element, Elements, either}
 use Rattle.g4_elements.specs.Trees.{element_of, alternative_of, in_order}
 use Rattle.g4_horn.specs.declared.clause.Clause.{Clause}
 use Rattle.g4_nullable.specs.declared.lead.Lead.{Lead}
 use Rattle.g4_nullable.specs.declared.clauses.Bodies.{Bodies}
-use Rattle.g4_nullable.specs.Bodies.{AddsNeeds, AreBodies, Grows, HaveNeeds, IsCovered}
+use Rattle.g4_nullable.specs.Bodies.{AddsNeeds, AreBodies, HaveNeeds, IsCovered}
 use Rattle.g4_nullable.proofs.Growing.{grows_none, grows_more, needs_none, needs_more, so_often, optional_block, star_block, once_block, plus_block, are_numbered, numbered_at, grows_numbered, clause_pushed, has_pushed, covered_none, covered_more}
 use Rattle.g4_nullable.proofs.Nodes.{atom_tree, block_tree, side_at, node_at}
 use Rattle.g4_nullable.proofs.Trees.{take_map, alternative_at, nullable_at}

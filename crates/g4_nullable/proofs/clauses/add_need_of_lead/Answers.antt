@@ -1,7 +1,7 @@
-use Rattle.std.proofs.Common.{◌≡◌, ◌++◌, ◌∷◌, [], List, ℕ, true, false, sym, subst, arith}
+use Rattle.std.proofs.Common.{List, ℕ, true, false, sym, subst, arith}
 use Rattle.g4_elements.specs.Elements.{atom}
 use Rattle.g4_nullable.specs.declared.lead.Lead.{Lead}
-use Rattle.g4_nullable.specs.declared.lead.Lead.TheVariants.{Empty, Symbol, Call}
+use Rattle.g4_nullable.specs.declared.lead.Lead.TheVariants.{Call}
 use Rattle.g4_nullable.specs.Bodies.{AddsNeeds}
 use Rattle.g4_nullable.proofs.Growing.{empty_lead, symbol_lead, call_lead, unknown_lead}
 use Rattle.g4_nullable.proofs.clauses.add_need_of_lead.Goals as goal

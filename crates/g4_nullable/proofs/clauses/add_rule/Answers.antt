@@ -1,4 +1,4 @@
-use Rattle.std.proofs.Common.{◌≡◌, List, take, map, Some, subst, arith}
+use Rattle.std.proofs.Common.{◌≡◌, List, map, Some, subst, arith}
 use Rattle.std.specs.List.{slice_get}
 use Rattle.std.proofs.lemmas.List.{take_all}
 use Rattle.g4_elements.specs.Elements.{Elements, either}

@@ -1,11 +1,10 @@
-use Rattle.std.proofs.Common.{◌≡◌, ◌<◌, ◌≤◌, ◌+◌, ◌⊎◌, inl, inr, ℕ, List, length, map, Some, refl, sym, ap, ◌∙◌, subst, arith}
+use Rattle.std.proofs.Common.{◌≡◌, ◌≤◌, List, length, Some, refl, sym, ap, ◌∙◌, arith}
 use Rattle.std.specs.List.{slice_get}
 use Rattle.std.proofs.lemmas.List.{length-map}
-use Rattle.std.proofs.lemmas.Option.{slice_get_read, slice_get_within, same_Some}
-use Rattle.g4_elements.specs.Elements.{Elements, Alternatives, either}
+use Rattle.std.proofs.lemmas.Option.{slice_get_read}
+use Rattle.g4_elements.specs.Elements.{Elements, either}
 use Rattle.g4_nullable.specs.declared.lead.Lead.{Lead}
 use Rattle.g4_nullable.specs.Leads.{alternatives_of, trees_of}
-use Rattle.g4_nullable.specs.Bodies.{IsCovered}
 use Rattle.g4_nullable.proofs.Growing.{grows_none, grows_more, rules_are_bodies, all_covered, rule_covered}
 use Rattle.g4_nullable.proofs.Trees.{mapped_at}
 use Rattle.g4_nullable.proofs.clauses.bodies_of.Goals as goal

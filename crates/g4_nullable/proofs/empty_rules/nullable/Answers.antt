@@ -1,4 +1,4 @@
-use Rattle.std.proofs.Common.{◌≡◌, ◌<◌, ◌≤◌, ℕ, List, Bool, length, map, take, Some, sym, ap, ◌∙◌, subst, arith}
+use Rattle.std.proofs.Common.{◌≡◌, ◌<◌, ℕ, List, Bool, length, take, sym, ap, ◌∙◌, subst, arith}
 use Rattle.std.specs.List.{All}
 use Rattle.std.proofs.lemmas.List.{length-map}
 use Rattle.std.proofs.lemmas.List.Elements.{All-weaker}
@@ -6,7 +6,7 @@ use Rattle.std.proofs.lemmas.Option.{slice_get_within}
 use Rattle.g4_horn.specs.declared.clause.Clause.{Clause}
 use Rattle.g4_horn.specs.Follows.{Follows, Tells}
 use Rattle.g4_nullable.specs.Leads.{IsNullableRule, alternatives_of, trees_of}
-use Rattle.g4_nullable.specs.Bodies.{IsOfBody, AreBodies}
+use Rattle.g4_nullable.specs.Bodies.{IsOfBody}
 use Rattle.g4_nullable.proofs.Nullability.{rule_follows, rules_told}
 use Rattle.g4_nullable.proofs.empty_rules.nullable.Goals as goal
 

@@ -1,5 +1,4 @@
-use Rattle.std.proofs.Common.{◌≡◌, ◌↔◌, Bool, true, false, IsTrue, Some, refl, sym, subst}
-use Rattle.std.specs.List.{slice_get}
+use Rattle.std.proofs.Common.{◌↔◌, true, false, IsTrue, refl, sym, subst}
 use Rattle.g4_elements.specs.Elements.{atom}
 use Rattle.g4_grammar.specs.LeftCalls.{Nullable}
 use Rattle.g4_nullable.specs.declared.lead.Lead.{Lead}

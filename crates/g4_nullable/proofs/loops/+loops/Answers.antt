@@ -1,8 +1,8 @@
-use Rattle.std.proofs.Common.{◌≡◌, List, Bool, false, map, Some, refl, sym, subst, arith}
+use Rattle.std.proofs.Common.{◌≡◌, List, false, map, Some, refl, sym, subst, arith}
 use Rattle.std.specs.List.{slice_get}
 use Rattle.g4_elements.specs.declared.element.Repeat.{Repeat}
 use Rattle.g4_elements.specs.declared.element.Repeat.TheVariants.{Once, Optional, Star, Plus}
-use Rattle.g4_elements.specs.Elements.{Element, block, Alternatives, either}
+use Rattle.g4_elements.specs.Elements.{block, Alternatives, either}
 use Rattle.g4_elements.specs.Trees.{element_of, alternative_of, in_order}
 use Rattle.g4_nullable.specs.declared.lead.Lead.{Lead}
 use Rattle.g4_nullable.specs.declared.loops.Found.{Found}
