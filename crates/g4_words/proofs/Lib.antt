@@ -1,2 +1,5 @@
+mod Accepted
 pub mod OneCommand
 mod Refused
+mod Rows
+mod Walks

@@ -35,6 +35,10 @@ pub record IsCommand (words : List Text) (command : Command) : Type 0 where
   pub given : subcommand_of g4_app words ≡ Some (name, rows)
   pub named : IsNamed name rows command
 
+-- the words have no more files than are allowed
+abbrev pub HasFewFiles : List Text → Type 0
+HasFewFiles words = (name : Text) (rows : List Row) (files : List Text) → subcommand_of g4_app words ≡ Some (name, rows) → all_of (codes "files") rows ≡ Some files → length files ≤ MOST_FILES
+
 -- the answer is a thing of this kind, or Usage where there is none, unless memory runs out
 abbrev pub Finds : {T : Type 0} → (T → Type 0) → Result T WordsFault → Type 0
 Finds Is (Ok found) = Is found

@@ -10,5 +10,5 @@ mod reading;
 mod tests;
 
 pub use command::{Check, Command, MOST_FILES, Parse};
-pub use law::one_command;
+pub use law::{one_command, some_command};
 pub use reading::{WordsFault, read_words};
