@@ -12,11 +12,11 @@ use Rattle.g4_net.specs.Lookahead.{Start}
 use Rattle.g4_net.specs.Network.{ParserNetwork, state_at, IsFirst}
 use Rattle.g4_net.specs.Prediction.{Any, Path, answer, error_at, Sll, Full, chosen, no_viable, IsTestBy, HasTests, Choice, Decides, by_answer, by_error, by_full, by_tests}
 use Rattle.g4_token_list.specs.TokenList.{word_of, EndsInEnd}
-use Rattle.g4_sll.specs.declared.sll.Verdict as said
-use Rattle.g4_sll.specs.declared.sll.Verdict.TheVariants.{Answer, ErrorAt, Sensitive}
+use Rattle.g4_path.specs.declared.verdict.Verdict as said
+use Rattle.g4_path.specs.declared.verdict.Verdict.TheVariants.{Answer, ErrorAt, Sensitive}
 use Rattle.g4_full.specs.declared.full.Settled.{Settled}
 use Rattle.g4_full.specs.declared.full.Settled.TheVariants.{Chosen, NoViable}
-use Rattle.g4_sll.specs.Verdicts.{verdict_of}
+use Rattle.g4_path.specs.Paths.{verdict_of}
 use Rattle.g4_full.specs.Verdicts.{choice_of}
 use Rattle.g4_lookahead.proofs.Settling.{begins_start, sll_tells, full_shows}
 

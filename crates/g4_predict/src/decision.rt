@@ -10,7 +10,8 @@ ghost use Rattle.g4_predict.specs.Deciding.{IsDecided};
 
 use g4_full::{Settled, decide_full};
 use g4_net::{Allowed, ParserNetwork};
-use g4_sll::{Verdict, simulate};
+use g4_path::Verdict;
+use g4_sll::verdict;
 use g4_token_list::Token;
 use std::alloc::{AllocError, Global};
 
@@ -57,7 +58,7 @@ pub fn decide(
     ensures { IsDecided net.now decision (Allows allowed.now) (reverse returns.now) (drop from (word_of tokens.now)) from result }
 {
     let rest = &tokens[from as usize..];
-    match simulate(alloc, net, decision, rest)? {
+    match verdict(alloc, net, decision, rest)? {
         Verdict::Answer(alternative) => Ok(alternative),
         Verdict::ErrorAt(k) => Err(DecideFault::NoViable { at: from + k }),
         Verdict::Sensitive(_) => match decide_full(alloc, net, decision, returns, rest)? {

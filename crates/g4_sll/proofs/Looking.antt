@@ -1,46 +1,70 @@
--- What SLL's loop over the tokens keeps.
-use Rattle.std.proofs.Common.{ℕ, ◌+◌, ◌<◌, List, ◌∷◌, drop, length, get_or, refl, sym, subst, add-one, Contains}
+-- What SLL's loops over the tokens keep.
+use Rattle.std.proofs.Common.{◌≡◌, ℕ, ◌+◌, ◌<◌, List, [], ◌∷◌, ◌++◌, Option, Some, None, map, drop, length, get_or, append_assoc, refl, sym, ap, ◌∙◌, subst, add-one, Contains}
+use Rattle.std.proofs.lemmas.List.{map-append}
 use Rattle.g4_symbols.specs.Symbols.{end_of_list}
 use Rattle.g4_net.specs.Network.{ParserNetwork}
 use Rattle.g4_token_list.specs.declared.token.Token.{Token}
 use Rattle.g4_net.specs.AddedRule.{IsReady}
-use Rattle.g4_net.specs.Configurations.{Config, wildcard, IsRow, IsWithin}
-use Rattle.g4_net.specs.Lookahead.{Start, Next}
-use Rattle.g4_net.specs.Prediction.{Any, Verdict, Looked, Path, led_to, SllFrom, Sll}
+use Rattle.g4_net.specs.Configurations.{Config, wildcard, IsRow}
+use Rattle.g4_net.specs.Lookahead.{Start}
+use Rattle.g4_net.specs.Prediction.{Any, Verdict, Looked, SllFrom, Sll}
 use Rattle.g4_token_list.specs.TokenList.{word_of}
-use Rattle.g4_lookahead.specs.EndOfList.{GoesOn}
 use Rattle.g4_lookahead.proofs.Judging.{AreSame, row_of_set, sll_same}
 use Rattle.g4_lookahead.proofs.Looking.{IsLooking, left, looking_start, looking_next}
 use Rattle.g4_lookahead.proofs.Settling.{settled_sll}
-use Rattle.g4_sll.specs.declared.sll.Verdict as said
-use Rattle.g4_sll.specs.Verdicts.{verdict_of, EndsWith}
-use Rattle.g4_sll.proofs.Ending.{sll_ends, sll_goes_on}
+use Rattle.g4_path.specs.declared.path.Looked as code
+use Rattle.g4_path.specs.declared.verdict.Verdict as said
+use Rattle.g4_path.specs.Paths.{looked_of, verdict_of}
+use Rattle.g4_sll.specs.Verdicts.{EndsWith, IsLookedAt, IsStartSet}
+use Rattle.g4_sll.proofs.Ending.{last_entry, next_entry, sll_ends, sll_goes_on}
+use Rattle.g4_sll.proofs.Options.{when_none, when_some}
 
--- What SLL's loop keeps: what SLL says from here it says from the start.
-pub record IsSimulating (net : ParserNetwork) (d : ℕ) (tokens : List Token) (k : ℕ) (C : Config → Type 0) : Type 0 where
+-- the symbol of the token at k
+abbrev symbol_at : List Token → ℕ → Token → ℕ
+symbol_at tokens k t = (get_or tokens k t).symbol
+
+-- What the loops keep, `start` being the row of the start set and `looked` the path's entries so far: what SLL says from here
+-- it says from the start.
+pub record IsSimulating (net : ParserNetwork) (d : ℕ) (tokens : List Token) (k : ℕ) (C : Config → Type 0) (start : List Config) (looked : List Looked) : Type 0 where
   pub looking : IsLooking net wildcard tokens k C
-  pub says : (v : Verdict) (looked : List Looked) → SllFrom net C (word_of (drop k tokens)) k v looked → (path : Path) × Sll net d Any (word_of tokens) v path
+  pub says : (v : Verdict) (more : List Looked) → SllFrom net C (word_of (drop k tokens)) k v more → Sll net d Any (word_of tokens) v (record { start = start; looked = looked ++ more })
 
 -- it holds of the start set
-pub simulating_start : (net : ParserNetwork) (d : ℕ) (tokens : List Token) (C : Config → Type 0) → (row : List Config) × IsRow row C → IsReady net → AreSame C (Start net d Any wildcard) → ((c : Config) → C c → IsWithin net c) → Contains (word_of tokens) end_of_list → IsSimulating net d tokens 0 C
-simulating_start net d tokens C (row, is) (rule, loop, set, runnable) has within ends = record {
-  looking = looking_start net d Any wildcard tokens C (rule, loop, set, runnable, record { alone = λ i. refl; apart = tt }) has within ends;
-  says = λ v looked h. (record { start = row; looked = looked }, (row_of_set row C (Start net d Any wildcard) has is, sll_same net C (Start net d Any wildcard) (λ c. (has c).0) (λ c. (has c).1) (word_of tokens) 0 v looked h));
-}
+pub simulating_start : (net : ParserNetwork) (d : ℕ) (tokens : List Token) (C : Config → Type 0) (start : List Config) → IsReady net → Contains (word_of tokens) end_of_list → IsStartSet net d C → IsRow start C → IsSimulating net d tokens 0 C start []
+simulating_start net d tokens C start (rule, loop, set, runnable) ends first is =
+    let has : AreSame C (Start net d Any wildcard) = first.members in
+    record {
+      looking = looking_start net d Any wildcard tokens C (rule, loop, set, runnable, record { alone = λ i. refl; apart = tt }) has first.within ends;
+      says = λ v more h. (row_of_set start C (Start net d Any wildcard) has is, sll_same net C (Start net d Any wildcard) (λ c. (has c).0) (λ c. (has c).1) (word_of tokens) 0 v more h);
+    }
+
+-- a path whose entries are these, and then one more, and then others
+with_entry : (net : ParserNetwork) (d : ℕ) (w : List ℕ) (v : Verdict) (start : List Config) (looked : List Looked) (entry : Looked) (more : List Looked) → Sll net d Any w v (record { start = start; looked = looked ++ (entry ∷ more) }) → Sll net d Any w v (record { start = start; looked = (looked ++ entry ∷ []) ++ more })
+with_entry net d w v start looked entry more h =
+    subst (λ (all : List Looked). Sll net d Any w v (record { start = start; looked = all })) (sym (append_assoc looked (entry ∷ []) more)) h
 
 -- it holds of the next set, where SLL goes on after it
-pub simulating_next : (net : ParserNetwork) (d : ℕ) (tokens : List Token) (k : ℕ) (t : Token) (C D : Config → Type 0) → k < length tokens → (row : List Config) × IsRow row D → AreSame D (Next net C (get_or tokens k t).symbol) → ((c : Config) → D c → IsWithin net c) → GoesOn D → IsSimulating net d tokens k C → IsSimulating net d tokens (k + 1) D
-simulating_next net d tokens k t C D less (row, is) has within g h = record {
-  looking = looking_next net wildcard tokens k t C D less has within (λ p y one. settled_sll p y D one g) h.looking;
-  says = λ v looked s.
-      h.says v (record { symbol = (get_or tokens k t).symbol; led = led_to row } ∷ looked)
-      (subst (λ (w : List ℕ). SllFrom net C w k v (record { symbol = (get_or tokens k t).symbol; led = led_to row } ∷ looked)) (sym (left tokens k t less))
-      (sll_goes_on net C D (get_or tokens k t).symbol (word_of (drop (k + 1) tokens)) k v looked row has is g
-      (subst (λ (m : ℕ). SllFrom net D (word_of (drop (k + 1) tokens)) m v looked) (add-one k) s)));
-}
+pub simulating_next : (net : ParserNetwork) (d : ℕ) (tokens : List Token) (k : ℕ) (t : Token) (C D : Config → Type 0) (start row : List Config) (looked : List Looked) (o : Option said.Verdict) → k < length tokens → IsLookedAt net C (symbol_at tokens k t) k D o → o ≡ None → IsRow row D → IsSimulating net d tokens k C start looked → IsSimulating net d tokens (k + 1) D start (looked ++ next_entry (symbol_at tokens k t) row ∷ [])
+simulating_next net d tokens k t C D start row looked o less found none is h =
+    let a = symbol_at tokens k t in
+    let w = word_of (drop (k + 1) tokens) in
+    let g = when_none _ (EndsWith D k) o none found.judged in
+    record {
+      looking = looking_next net wildcard tokens k t C D less found.members found.within (λ p y one. settled_sll p y D one g) h.looking;
+      says = λ v more s.
+          with_entry net d (word_of tokens) v start looked (next_entry a row) more (h.says v (next_entry a row ∷ more)
+          (subst (λ (u : List ℕ). SllFrom net C u k v (next_entry a row ∷ more)) (sym (left tokens k t less))
+          (sll_goes_on net C D a w k v more row found.members is g
+          (subst (λ (m : ℕ). SllFrom net D w m v more) (add-one k) s))));
+    }
 
 -- what SLL ends with at the next set is its verdict
-pub simulated : (net : ParserNetwork) (d : ℕ) (tokens : List Token) (k : ℕ) (t : Token) (C D : Config → Type 0) (v : said.Verdict) → k < length tokens → AreSame D (Next net C (get_or tokens k t).symbol) → EndsWith D k v → IsSimulating net d tokens k C → (path : Path) × Sll net d Any (word_of tokens) (verdict_of v) path
-simulated net d tokens k t C D v less has e h =
-    let s = sll_ends net C D (get_or tokens k t).symbol (word_of (drop (k + 1) tokens)) k v has e in
-    h.says (verdict_of v) s.0 (subst (λ (w : List ℕ). SllFrom net C w k (verdict_of v) s.0) (sym (left tokens k t less)) s.1)
+pub simulated : (net : ParserNetwork) (d : ℕ) (tokens : List Token) (k : ℕ) (t : Token) (C D : Config → Type 0) (start : List Config) (looked : List Looked) (o : Option said.Verdict) (v : said.Verdict) → k < length tokens → IsLookedAt net C (symbol_at tokens k t) k D o → o ≡ Some v → IsSimulating net d tokens k C start looked → Sll net d Any (word_of tokens) (verdict_of v) (record { start = start; looked = looked ++ last_entry (symbol_at tokens k t) (verdict_of v) ∷ [] })
+simulated net d tokens k t C D start looked o v less found some h =
+    let a = symbol_at tokens k t in
+    let s = sll_ends net C D a (word_of (drop (k + 1) tokens)) k v found.members (when_some _ (EndsWith D k) o v some found.judged) in
+    h.says (verdict_of v) (last_entry a (verdict_of v) ∷ []) (subst (λ (w : List ℕ). SllFrom net C w k (verdict_of v) (last_entry a (verdict_of v) ∷ [])) (sym (left tokens k t less)) s)
+
+-- the entries of the code and one more
+pub more_entries : (before after : List code.Looked) (entry : code.Looked) → after ≡ before ++ entry ∷ [] → map looked_of after ≡ map looked_of before ++ looked_of entry ∷ []
+more_entries before after entry is = ap (map looked_of) is ∙ map-append looked_of before (entry ∷ [])

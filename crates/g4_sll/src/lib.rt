@@ -2,5 +2,7 @@
 #![tactic(auto)]
 
 mod sll;
+#[cfg(test)]
+mod tests;
 
-pub use sll::{Verdict, simulate};
+pub use sll::{simulate, verdict};

@@ -4,8 +4,8 @@ use Rattle.g4_net.specs.Proper.{IsProper}
 use Rattle.g4_predict.proofs.Choosing.{ends_ahead, answered, failed, failed_within, settled_on, settled_none, settled_within}
 use Rattle.g4_predict.proofs.decision.decide.Goals as goal
 
-pub simulate-requires-clause-ends : goal.simulate-requires-clause-ends
-simulate-requires-clause-ends c = ends_ahead c.args.from c.args.tokens.now c.requires.ends c.requires.more
+pub verdict-requires-clause-ends : goal.verdict-requires-clause-ends
+verdict-requires-clause-ends c = ends_ahead c.args.from c.args.tokens.now c.requires.ends c.requires.more
 
 pub decide_full-requires-clause-ends : goal.decide_full-requires-clause-ends
 decide_full-requires-clause-ends c = ends_ahead c.args.from c.args.tokens.now c.requires.ends c.requires.more
