@@ -1,0 +1,4 @@
+pub mod Atoms
+pub mod First
+pub mod Rules
+pub mod Views
