@@ -1,0 +1,10 @@
+pub mod Braces
+pub mod Counting
+pub mod FirstClash
+pub mod FirstLetters
+pub mod Known
+pub mod Missing
+pub mod Nodes
+pub mod Numbers
+pub mod OneCheck
+pub mod Sets

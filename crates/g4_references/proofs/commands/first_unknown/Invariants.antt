@@ -1,0 +1,6 @@
+use Rattle.g4_references.specs.Commands.{IsUnknownCommand}
+use Rattle.g4_rules.proofs.Firsts.{ArePassed}
+use Rattle.g4_references.proofs.commands.first_unknown.Given as goal
+
+abbrev pub invariant-loop-command : goal.invariant-loop-command
+invariant-loop-command l = ArePassed IsUnknownCommand (λ c. c.now) l.commands l.command-index
