@@ -1,51 +1,69 @@
 -- What is reported of the rules of a grammar is one answer.
-use Rattle.std.proofs.Common.{◌≡◌, ◌≢◌, ℕ, List, [], ◌∷◌, ◌++◌, Result, Ok, Err, ap, sym, subst, ◌∙◌, refl}
+use Rattle.std.proofs.Common.{◌≡◌, ◌≢◌, Result, Ok, Err, ap, refl}
 use Rattle.std.specs.Prelude.{⊤}
-use Rattle.std.proofs.lemmas.List.Elements.{All-head, All-tail}
-use Rattle.g4_elements.proofs.Parts.{All-rest}
-use Rattle.g4_source.specs.declared.rule.Rule.{Rule}
-use Rattle.g4_source.specs.Rules.{rule_name}
-use Rattle.g4_grammar.specs.Written.{RuleHasEmptyLoop}
-use Rattle.g4_checks.specs.Checking.{HaveNoEmptyLoop, IsChecked, IsFirstWithEmptyLoop}
-use Rattle.g4_checks.specs.declared.checking.CheckFault.{CheckFault}
-use Rattle.g4_checks.specs.declared.checking.CheckFault.TheVariants.{EmptyLoop, NoMemory}
+use Rattle.g4_source.specs.declared.source.Source.{Source}
+use Rattle.g4_rules.specs.Rules.{rules_of}
+use Rattle.g4_references.specs.declared.checking.ReferenceFault.{ReferenceFault}
+use Rattle.g4_references.specs.declared.checking.ReferenceFault.TheVariants as references
+use Rattle.g4_references.specs.Checking.{HasNoClash}
+use Rattle.g4_references.specs.Checking as naming
+use Rattle.g4_references.proofs.OneCheck as one_naming
+use Rattle.g4_recursion.specs.declared.checking.RecursionFault.{RecursionFault}
+use Rattle.g4_recursion.specs.declared.checking.RecursionFault.TheVariants as recursions
+use Rattle.g4_recursion.specs.Checking.{HaveNoFault}
+use Rattle.g4_recursion.specs.Checking as calling
+use Rattle.g4_recursion.proofs.OneAnswer as one_calling
+use Rattle.g4_checks.specs.declared.fault.CheckFault.{CheckFault}
+use Rattle.g4_checks.specs.declared.fault.CheckFault.TheVariants.{UndefinedRule, UnknownMode, UnknownCommand, UnknownChannel, LexerPredicate, UnknownPredicate, LabelClash, NoPrimary, EmptyOperator, EmptyLoop, LeftCycle, NoMemory}
+use Rattle.g4_checks.specs.Checking.{of_reference, of_recursion, IsChecked}
 
--- a rule with such a loop is not among rules that have none
-not_among : (all before : List Rule) (rule : Rule) (after : List Rule) → RuleHasEmptyLoop all rule → HaveNoEmptyLoop all (before ++ rule ∷ after) → ⊥
-not_among all before rule after looped none = All-head (λ (r : Rule). RuleHasEmptyLoop all r → ⊥) rule after (All-rest (λ (r : Rule). RuleHasEmptyLoop all r → ⊥) before (rule ∷ after) none) looped
+-- An answer that is not for want of memory, by the half that gives it.
+data IsBy (source : Source) : Result ⊤ CheckFault → Type 0 where
+  no_fault : (t : ⊤) → HasNoClash source → HaveNoFault (rules_of source) → IsBy source (Ok t)
+  by_reference : (fault : ReferenceFault) → naming.IsChecked source (Err fault) → fault ≢ references.NoMemory → IsBy source (Err (of_reference fault))
+  by_recursion : (fault : RecursionFault) → HasNoClash source → calling.IsChecked (rules_of source) (Err fault) → fault ≢ recursions.NoMemory → IsBy source (Err (of_recursion fault))
 
--- the first items of two equal lists
-same_first : (x y : Rule) (xs ys : List Rule) → x ∷ xs ≡ y ∷ ys → x ≡ y
-same_first x y xs ys e = cc
+module _ (source : Source) where
+  is_by : (answer : Result ⊤ CheckFault) → IsChecked source answer → answer ≢ Err NoMemory → IsBy source answer
+  is_by (Ok t) h other = no_fault t h.0 h.1
+  is_by (Err (UndefinedRule name)) h other = by_reference (references.UndefinedRule name) h (λ e. cc)
+  is_by (Err (UnknownMode name)) h other = by_reference (references.UnknownMode name) h (λ e. cc)
+  is_by (Err (UnknownCommand name)) h other = by_reference (references.UnknownCommand name) h (λ e. cc)
+  is_by (Err (UnknownChannel name)) h other = by_reference (references.UnknownChannel name) h (λ e. cc)
+  is_by (Err (LexerPredicate place)) h other = by_reference (references.LexerPredicate place) h (λ e. cc)
+  is_by (Err (UnknownPredicate place)) h other = by_reference (references.UnknownPredicate place) h (λ e. cc)
+  is_by (Err (LabelClash name)) h other = by_reference (references.LabelClash name) h (λ e. cc)
+  is_by (Err (NoPrimary name)) h other = by_recursion (recursions.NoPrimary name) h.0 h.1 (λ e. cc)
+  is_by (Err (EmptyOperator name i)) h other = by_recursion (recursions.EmptyOperator name i) h.0 h.1 (λ e. cc)
+  is_by (Err (EmptyLoop name)) h other = by_recursion (recursions.EmptyLoop name) h.0 h.1 (λ e. cc)
+  is_by (Err (LeftCycle names)) h other = by_recursion (recursions.LeftCycle names) h.0 h.1 (λ e. cc)
+  is_by (Err NoMemory) h other = absurd (other refl)
 
--- the other items of two equal lists
-same_others : (x y : Rule) (xs ys : List Rule) → x ∷ xs ≡ y ∷ ys → xs ≡ ys
-same_others x y xs ys e = cc
+  -- there are no two answers by what the rules name
+  not_both : (fault : ReferenceFault) → HasNoClash source → naming.IsChecked source (Err fault) → fault ≢ references.NoMemory → ⊥
+  not_both fault none told other = let e : Ok tt ≡ Err fault = one_naming.one_check source (Ok tt) (Err fault) none told (λ n. cc) (λ n. other (cc)) in cc
 
--- of two first rules with such a loop, none before, both are one
-same_rule : (all before others : List Rule) (rule other : Rule) (after later : List Rule) → before ++ rule ∷ after ≡ others ++ other ∷ later → HaveNoEmptyLoop all before → HaveNoEmptyLoop all others → RuleHasEmptyLoop all rule → RuleHasEmptyLoop all other → rule ≡ other
-same_rule all [] [] rule other after later e none none' looped looped' = same_first rule other after later e
-same_rule all [] (o ∷ os) rule other after later e none none' looped looped' =
-    absurd (All-head (λ (r : Rule). RuleHasEmptyLoop all r → ⊥) o os none' (subst (RuleHasEmptyLoop all) (same_first rule o after (os ++ other ∷ later) e) looped))
-same_rule all (b ∷ bs) [] rule other after later e none none' looped looped' =
-    absurd (All-head (λ (r : Rule). RuleHasEmptyLoop all r → ⊥) b bs none (subst (RuleHasEmptyLoop all) (sym (same_first b other (bs ++ rule ∷ after) later e)) looped'))
-same_rule all (b ∷ bs) (o ∷ os) rule other after later e none none' looped looped' =
-    same_rule all bs os rule other after later (same_others b o (bs ++ rule ∷ after) (os ++ other ∷ later) e) (All-tail (λ (r : Rule). RuleHasEmptyLoop all r → ⊥) b bs none) (All-tail (λ (r : Rule). RuleHasEmptyLoop all r → ⊥) o os none') looped looped'
+  -- nor by how they call each other
+  not_both_calls : (fault : RecursionFault) → HaveNoFault (rules_of source) → calling.IsChecked (rules_of source) (Err fault) → fault ≢ recursions.NoMemory → ⊥
+  not_both_calls fault none told other = let e : Ok tt ≡ Err fault = one_calling.one_recursion (rules_of source) (Ok tt) (Err fault) none told (λ n. cc) (λ n. other (cc)) in cc
 
--- the name that is reported is one
-same_name : (rules : List Rule) (name other : List ℕ) → IsFirstWithEmptyLoop rules name → IsFirstWithEmptyLoop rules other → name ≡ other
-same_name rules name other f g = f.named ∙ ap rule_name (same_rule rules f.before g.before f.rule g.rule f.after g.after (sym f.parts ∙ g.parts) f.none_before g.none_before f.has_loop g.has_loop) ∙ sym g.named
+  one_reference : (f g : ReferenceFault) → naming.IsChecked source (Err f) → naming.IsChecked source (Err g) → f ≢ references.NoMemory → g ≢ references.NoMemory → f ≡ g
+  one_reference f g h k m n = let e : Err f ≡ Err g = one_naming.one_check source (Err f) (Err g) h k (λ e. m (cc)) (λ e. n (cc)) in cc
 
--- where a rule has such a loop, not all have none
-not_both : (rules : List Rule) (name : List ℕ) → HaveNoEmptyLoop rules rules → IsFirstWithEmptyLoop rules name → ⊥
-not_both rules name none f = not_among rules f.before f.rule f.after f.has_loop (subst (HaveNoEmptyLoop rules) f.parts none)
+  one_recursion : (f g : RecursionFault) → calling.IsChecked (rules_of source) (Err f) → calling.IsChecked (rules_of source) (Err g) → f ≢ recursions.NoMemory → g ≢ recursions.NoMemory → f ≡ g
+  one_recursion f g h k m n = let e : Err f ≡ Err g = one_calling.one_recursion (rules_of source) (Err f) (Err g) h k (λ e. m (cc)) (λ e. n (cc)) in cc
+
+  one_by : (a b : Result ⊤ CheckFault) → IsBy source a → IsBy source b → a ≡ b
+  one_by _ _ (no_fault t h l) (no_fault u k m) = refl
+  one_by _ _ (no_fault t h l) (by_reference f k m) = absurd (not_both f h k m)
+  one_by _ _ (no_fault t h l) (by_recursion f k m n) = absurd (not_both_calls f l m n)
+  one_by _ _ (by_reference f h l) (no_fault t k m) = absurd (not_both f k h l)
+  one_by _ _ (by_reference f h l) (by_reference g k m) = ap (λ (x : ReferenceFault). Err (of_reference x)) (one_reference f g h k l m)
+  one_by _ _ (by_reference f h l) (by_recursion g k m n) = absurd (not_both f k h l)
+  one_by _ _ (by_recursion f h l o) (no_fault t k m) = absurd (not_both_calls f m l o)
+  one_by _ _ (by_recursion f h l o) (by_reference g k m) = absurd (not_both g h k m)
+  one_by _ _ (by_recursion f h l o) (by_recursion g k m n) = ap (λ (x : RecursionFault). Err (of_recursion x)) (one_recursion f g l m o n)
 
 -- the answer is one
-pub one_check : (rules : List Rule) (a b : Result ⊤ CheckFault) → IsChecked rules a → IsChecked rules b → a ≢ Err NoMemory → b ≢ Err NoMemory → a ≡ b
-one_check rules (Ok _) (Ok _) h k n m = refl
-one_check rules (Ok _) (Err (EmptyLoop name)) h k n m = absurd (not_both rules name h k)
-one_check rules (Ok _) (Err NoMemory) h k n m = absurd (m refl)
-one_check rules (Err (EmptyLoop name)) (Ok _) h k n m = absurd (not_both rules name k h)
-one_check rules (Err (EmptyLoop name)) (Err (EmptyLoop other)) h k n m = ap (λ x. Err (EmptyLoop x)) (same_name rules name other h k)
-one_check rules (Err (EmptyLoop name)) (Err NoMemory) h k n m = absurd (m refl)
-one_check rules (Err NoMemory) b h k n m = absurd (n refl)
+pub one_check : (source : Source) (a b : Result ⊤ CheckFault) → IsChecked source a → IsChecked source b → a ≢ Err NoMemory → b ≢ Err NoMemory → a ≡ b
+one_check source a b h k m n = one_by source a b (is_by source a h m) (is_by source b k n)

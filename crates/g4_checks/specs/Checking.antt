@@ -1,27 +1,60 @@
--- The faults that are looked for in a grammar's rules.
-use Rattle.std.specs.Prelude.{◌≡◌, ℕ, List, ◌∷◌, ◌++◌, All, Result, Ok, Err, ⊤}
-use Rattle.g4_source.specs.declared.rule.Rule.{Rule}
-use Rattle.g4_source.specs.Rules.{rule_name}
-use Rattle.g4_grammar.specs.Written.{RuleHasEmptyLoop}
-use Rattle.g4_checks.specs.declared.checking.CheckFault.{CheckFault}
-use Rattle.g4_checks.specs.declared.checking.CheckFault.TheVariants.{EmptyLoop, NoMemory}
+-- The faults that are looked for in a grammar's rules: first those of what the rules name, and then those of how they call each
+-- other.
+use Rattle.std.specs.Prelude.{ℕ, List, Result, Ok, Err, ⊤}
+use Rattle.g4_base.specs.declared.place.Place.{Place}
+use Rattle.g4_source.specs.declared.source.Source.{Source}
+use Rattle.g4_rules.specs.Rules.{rules_of}
+use Rattle.g4_references.specs.declared.checking.ReferenceFault.{ReferenceFault}
+use Rattle.g4_references.specs.declared.checking.ReferenceFault.TheVariants as references
+use Rattle.g4_references.specs.Checking.{HasNoClash}
+use Rattle.g4_references.specs.Checking as naming
+use Rattle.g4_recursion.specs.declared.checking.RecursionFault.{RecursionFault}
+use Rattle.g4_recursion.specs.declared.checking.RecursionFault.TheVariants as recursions
+use Rattle.g4_recursion.specs.Checking.{HaveNoFault}
+use Rattle.g4_recursion.specs.Checking as calling
+use Rattle.g4_checks.specs.declared.fault.CheckFault.{CheckFault}
+use Rattle.g4_checks.specs.declared.fault.CheckFault.TheVariants.{UndefinedRule, UnknownMode, UnknownCommand, UnknownChannel, LexerPredicate, UnknownPredicate, LabelClash, NoPrimary, EmptyOperator, EmptyLoop, LeftCycle, NoMemory}
 
--- none of these rules, which are among all rules, has a loop whose body derives the empty word
-abbrev pub HaveNoEmptyLoop : List Rule → List Rule → Type 0
-HaveNoEmptyLoop all rules = All (λ rule. RuleHasEmptyLoop all rule → ⊥) rules
+-- a fault of what the rules name
+abbrev pub of_reference : ReferenceFault → CheckFault
+of_reference (references.UndefinedRule name) = UndefinedRule name
+of_reference (references.UnknownMode name) = UnknownMode name
+of_reference (references.UnknownCommand name) = UnknownCommand name
+of_reference (references.UnknownChannel name) = UnknownChannel name
+of_reference (references.LexerPredicate place) = LexerPredicate place
+of_reference (references.UnknownPredicate place) = UnknownPredicate place
+of_reference (references.LabelClash name) = LabelClash name
+of_reference references.NoMemory = NoMemory
 
--- the first of the rules that has a loop that can be empty has this name
-pub record IsFirstWithEmptyLoop (rules : List Rule) (name : List ℕ) : Type 0 where
-  pub before : List Rule
-  pub rule : Rule
-  pub after : List Rule
-  pub parts : rules ≡ before ++ rule ∷ after
-  pub none_before : HaveNoEmptyLoop rules before
-  pub has_loop : RuleHasEmptyLoop rules rule
-  pub named : name ≡ rule_name rule
+-- a fault of how they call each other
+abbrev pub of_recursion : RecursionFault → CheckFault
+of_recursion (recursions.NoPrimary name) = NoPrimary name
+of_recursion (recursions.EmptyOperator name i) = EmptyOperator name i
+of_recursion (recursions.EmptyLoop name) = EmptyLoop name
+of_recursion (recursions.LeftCycle names) = LeftCycle names
+of_recursion recursions.NoMemory = NoMemory
 
--- the call answers that no rule has such a loop, or with the first that has, unless memory runs out
-abbrev pub IsChecked : List Rule → Result ⊤ CheckFault → Type 0
-IsChecked rules (Ok _) = HaveNoEmptyLoop rules rules
-IsChecked rules (Err (EmptyLoop name)) = IsFirstWithEmptyLoop rules name
-IsChecked rules (Err NoMemory) = Unit {0}
+module _ (source : Source) where
+  -- the fault is the first of what the rules name
+  abbrev pub IsReferenceFault : ReferenceFault → Type 0
+  IsReferenceFault fault = naming.IsChecked source (Err fault)
+
+  -- there is none of those, and the fault is the first of how they call each other
+  abbrev pub IsRecursionFault : RecursionFault → Type 0
+  IsRecursionFault fault = HasNoClash source × calling.IsChecked (rules_of source) (Err fault)
+
+  -- the call answers that there is no fault, or with the first of the first kind that has one, unless memory runs out
+  abbrev pub IsChecked : Result ⊤ CheckFault → Type 0
+  IsChecked (Ok _) = HasNoClash source × HaveNoFault (rules_of source)
+  IsChecked (Err (UndefinedRule name)) = IsReferenceFault (references.UndefinedRule name)
+  IsChecked (Err (UnknownMode name)) = IsReferenceFault (references.UnknownMode name)
+  IsChecked (Err (UnknownCommand name)) = IsReferenceFault (references.UnknownCommand name)
+  IsChecked (Err (UnknownChannel name)) = IsReferenceFault (references.UnknownChannel name)
+  IsChecked (Err (LexerPredicate place)) = IsReferenceFault (references.LexerPredicate place)
+  IsChecked (Err (UnknownPredicate place)) = IsReferenceFault (references.UnknownPredicate place)
+  IsChecked (Err (LabelClash name)) = IsReferenceFault (references.LabelClash name)
+  IsChecked (Err (NoPrimary name)) = IsRecursionFault (recursions.NoPrimary name)
+  IsChecked (Err (EmptyOperator name i)) = IsRecursionFault (recursions.EmptyOperator name i)
+  IsChecked (Err (EmptyLoop name)) = IsRecursionFault (recursions.EmptyLoop name)
+  IsChecked (Err (LeftCycle names)) = IsRecursionFault (recursions.LeftCycle names)
+  IsChecked (Err NoMemory) = Unit {0}

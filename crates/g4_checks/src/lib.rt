@@ -1,12 +1,12 @@
-// What is checked of a grammar once it is read and numbered.
+// What is checked of a grammar once it is read and numbered: the first fault of eleven kinds is reported.
 #![tactic(auto)]
 
 mod checking;
-mod found;
+mod fault;
 mod law;
-mod rule;
 #[cfg(test)]
 mod tests;
 
-pub use checking::{CheckFault, check};
+pub use checking::check;
+pub use fault::CheckFault;
 pub use law::one_check;

@@ -2,25 +2,32 @@
 ghost use Rattle.std.specs.Prelude.{◌++◌, map};
 ghost use Rattle.g4_elements.specs.Elements.{either};
 ghost use Rattle.g4_elements.specs.Trees.{alternative_of, element_of, in_order};
-ghost use Rattle.g4_forms.specs.Forms.{atom_forms, either_forms, element_forms, elements_forms, label_forms, loop_forms, sign_forms};
+ghost use Rattle.g4_forms.specs.Forms.{atom_forms, either_forms, element_forms, elements_forms, label_forms, lexer_atom_forms, loop_forms, named_label, network_atom_forms, parser_atom_forms, repeat_forms, sign_forms};
 ghost use Rattle.g4_forms.specs.Answers.{AreRun};
 
 use crate::fault::{FormFault, refuse};
-use crate::kind::RuleKind;
+use crate::stage::Stage;
 use g4_elements::{Alternative, Element, Label, Repeat, Suffix};
 use g4_source::{Atom, AtomKind};
 use std::alloc::Global;
 
-/// Looks at an atom of a rule of this kind.
-fn check_atom(alloc: Global, kind: RuleKind, atom: &AtomKind) -> Result<(), FormFault>
-    ensures { AreRun (atom_forms kind atom.now) result }
+/// Looks at an atom of a parser rule that has been read.
+fn check_parser_atom(alloc: Global, atom: &AtomKind) -> Result<(), FormFault>
+    ensures { AreRun (parser_atom_forms atom.now) result }
+{
+    match atom {
+        AtomKind::Predicate(name) => refuse(alloc, name.place, name.text.as_str()),
+        _ => Ok(()),
+    }
+}
+
+/// Looks at an atom of a lexer rule that has been read.
+fn check_lexer_atom(alloc: Global, atom: &AtomKind) -> Result<(), FormFault>
+    ensures { AreRun (lexer_atom_forms atom.now) result }
 {
     match atom {
         AtomKind::Rule(name) => refuse(alloc, name.place, name.text.as_str()),
-        AtomKind::Token(name) => match kind {
-            RuleKind::Parser => Ok(()),
-            RuleKind::Lexer => refuse(alloc, name.place, name.text.as_str()),
-        },
+        AtomKind::Token(name) => refuse(alloc, name.place, name.text.as_str()),
         AtomKind::Literal(_) => Ok(()),
         AtomKind::Range(place, first, _) => refuse(alloc, *place, first.written.as_str()),
         AtomKind::Set(_) => Ok(()),
@@ -32,9 +39,34 @@ fn check_atom(alloc: Global, kind: RuleKind, atom: &AtomKind) -> Result<(), Form
     }
 }
 
-/// Looks at the label of an element.
-fn check_label(alloc: Global, label: &Option<Label>) -> Result<(), FormFault>
-    ensures { AreRun (label_forms label.now) result }
+/// Looks at an atom of a parser rule before a network is made of it.
+fn check_network_atom(alloc: Global, atom: &AtomKind) -> Result<(), FormFault>
+    ensures { AreRun (network_atom_forms atom.now) result }
+{
+    match atom {
+        AtomKind::Rule(name) => refuse(alloc, name.place, name.text.as_str()),
+        AtomKind::Range(place, first, _) => refuse(alloc, *place, first.written.as_str()),
+        AtomKind::Any(place) => refuse(alloc, *place, "."),
+        AtomKind::NotTokens(place, _) => refuse(alloc, *place, "~"),
+        AtomKind::NotCharacters(place, _) => refuse(alloc, *place, "~"),
+        _ => Ok(()),
+    }
+}
+
+/// Looks at an atom at this stage.
+fn check_atom(alloc: Global, stage: Stage, atom: &AtomKind) -> Result<(), FormFault>
+    ensures { AreRun (atom_forms stage atom.now) result }
+{
+    match stage {
+        Stage::Parser => check_parser_atom(alloc, atom),
+        Stage::Lexer => check_lexer_atom(alloc, atom),
+        Stage::Network => check_network_atom(alloc, atom),
+    }
+}
+
+/// Refuses the label of an element.
+fn refuse_label(alloc: Global, label: &Option<Label>) -> Result<(), FormFault>
+    ensures { AreRun (named_label label.now) result }
 {
     match label {
         Some(label) => refuse(alloc, label.name.place, label.name.text.as_str()),
@@ -42,8 +74,19 @@ fn check_label(alloc: Global, label: &Option<Label>) -> Result<(), FormFault>
     }
 }
 
-/// Looks at the sign of a loop.
-fn check_loop(alloc: Global, suffix: Suffix, sign: &str) -> Result<(), FormFault>
+/// Looks at the label of an element at this stage.
+fn check_label(alloc: Global, stage: Stage, label: &Option<Label>) -> Result<(), FormFault>
+    ensures { AreRun (label_forms stage label.now) result }
+{
+    match stage {
+        Stage::Parser => Ok(()),
+        Stage::Lexer => refuse_label(alloc, label),
+        Stage::Network => refuse_label(alloc, label),
+    }
+}
+
+/// Refuses the sign of a loop that is not greedy.
+fn refuse_loop(alloc: Global, suffix: Suffix, sign: &str) -> Result<(), FormFault>
     ensures { AreRun (loop_forms suffix sign.now) result }
 {
     if suffix.greedy {
@@ -52,51 +95,62 @@ fn check_loop(alloc: Global, suffix: Suffix, sign: &str) -> Result<(), FormFault
     refuse(alloc, suffix.place, sign)
 }
 
-/// Looks at the sign of a block: only a greedy `*` or `+` is run.
-fn check_sign(alloc: Global, repeat: Repeat) -> Result<(), FormFault>
-    ensures { AreRun (sign_forms repeat) result }
+/// Refuses the sign of a block that is not a greedy `*` or `+`.
+fn refuse_sign(alloc: Global, repeat: Repeat) -> Result<(), FormFault>
+    ensures { AreRun (repeat_forms repeat) result }
 {
     match repeat {
         Repeat::Once => Ok(()),
         Repeat::Optional(suffix) => refuse(alloc, suffix.place, "?"),
-        Repeat::Star(suffix) => check_loop(alloc, suffix, "*"),
-        Repeat::Plus(suffix) => check_loop(alloc, suffix, "+"),
+        Repeat::Star(suffix) => refuse_loop(alloc, suffix, "*"),
+        Repeat::Plus(suffix) => refuse_loop(alloc, suffix, "+"),
     }
 }
 
-/// Looks at an element without others in it, of a rule of this kind.
-fn check_lone(alloc: Global, kind: RuleKind, atom: &Atom) -> Result<(), FormFault>
-    ensures { AreRun (label_forms atom.now.label ++ atom_forms kind atom.now.kind) result }
+/// Looks at the sign of a block at this stage.
+fn check_sign(alloc: Global, stage: Stage, repeat: Repeat) -> Result<(), FormFault>
+    ensures { AreRun (sign_forms stage repeat) result }
 {
-    check_label(alloc, &atom.label)?;
-    check_atom(alloc, kind, &atom.kind)
+    match stage {
+        Stage::Parser => Ok(()),
+        Stage::Lexer => refuse_sign(alloc, repeat),
+        Stage::Network => refuse_sign(alloc, repeat),
+    }
 }
 
-/// Looks at a block of a rule of this kind.
+/// Looks at an element without others in it at this stage.
+fn check_lone(alloc: Global, stage: Stage, atom: &Atom) -> Result<(), FormFault>
+    ensures { AreRun (label_forms stage atom.now.label ++ atom_forms stage atom.now.kind) result }
+{
+    check_label(alloc, stage, &atom.label)?;
+    check_atom(alloc, stage, &atom.kind)
+}
+
+/// Looks at a block at this stage.
 #[cycle(check)]
 fn check_block(
     alloc: Global,
-    kind: RuleKind,
+    stage: Stage,
     label: &Option<Label>,
     repeat: Repeat,
     alternatives: &[Alternative<Atom>],
 ) -> Result<(), FormFault>
-    ensures { AreRun (label_forms label.now ++ (either_forms kind (either (map alternative_of alternatives.now)) ++ sign_forms repeat)) result }
+    ensures { AreRun (label_forms stage label.now ++ (either_forms stage (either (map alternative_of alternatives.now)) ++ sign_forms stage repeat)) result }
 {
-    check_label(alloc, label)?;
-    check_either(alloc, kind, alternatives)?;
-    check_sign(alloc, repeat)
+    check_label(alloc, stage, label)?;
+    check_either(alloc, stage, alternatives)?;
+    check_sign(alloc, stage, repeat)
 }
 
-/// Looks at an element of a rule of this kind.
+/// Looks at an element at this stage.
 #[cycle(check)]
-fn check_element(alloc: Global, kind: RuleKind, element: &Element<Atom>) -> Result<(), FormFault>
-    ensures { AreRun (element_forms kind (element_of element.now)) result }
+fn check_element(alloc: Global, stage: Stage, element: &Element<Atom>) -> Result<(), FormFault>
+    ensures { AreRun (element_forms stage (element_of element.now)) result }
 {
     match element {
-        Element::Atom(atom) => check_lone(alloc, kind, atom),
+        Element::Atom(atom) => check_lone(alloc, stage, atom),
         Element::Block(label, repeat, alternatives) => {
-            check_block(alloc, kind, label, *repeat, alternatives.as_slice())
+            check_block(alloc, stage, label, *repeat, alternatives.as_slice())
         }
     }
 }
@@ -105,13 +159,13 @@ fn check_element(alloc: Global, kind: RuleKind, element: &Element<Atom>) -> Resu
 #[cycle(check)]
 fn check_either(
     alloc: Global,
-    kind: RuleKind,
+    stage: Stage,
     alternatives: &[Alternative<Atom>],
 ) -> Result<(), FormFault>
-    ensures { AreRun (either_forms kind (either (map alternative_of alternatives.now))) result }
+    ensures { AreRun (either_forms stage (either (map alternative_of alternatives.now))) result }
 {
     for alternative in alternatives {
-        check_elements(alloc, kind, alternative.elements.as_slice())?;
+        check_elements(alloc, stage, alternative.elements.as_slice())?;
     }
     Ok(())
 }
@@ -120,13 +174,13 @@ fn check_either(
 #[cycle(check)]
 pub fn check_elements(
     alloc: Global,
-    kind: RuleKind,
+    stage: Stage,
     elements: &[Element<Atom>],
 ) -> Result<(), FormFault>
-    ensures { AreRun (elements_forms kind (in_order (map element_of elements.now))) result }
+    ensures { AreRun (elements_forms stage (in_order (map element_of elements.now))) result }
 {
     for element in elements {
-        check_element(alloc, kind, element)?;
+        check_element(alloc, stage, element)?;
     }
     Ok(())
 }

@@ -1,6 +1,6 @@
 -- A loop of a tree over other atoms that can be empty is one of the tree itself, where an atom reads the empty word and calls
 -- a rule only if the atom of which it is made does.
-use Rattle.std.proofs.Common.{◌≡◌, ℕ, List, [], inl, inr, Some, refl, subst, slice_get}
+use Rattle.std.proofs.Common.{◌≡◌, ℕ, List, [], inl, inr, Some, refl, ap, ◌∙◌, subst, slice_get}
 use Rattle.g4_elements.specs.declared.element.Repeat.TheVariants.{Once, Optional, Star, Plus}
 use Rattle.g4_elements.specs.Elements.{Element, atom, block, Elements, empty, then, Alternatives, none, or}
 use Rattle.g4_elements.specs.Bind.{over, in_order_over, either_over}
@@ -8,6 +8,23 @@ use Rattle.g4_grammar.specs.Derives.{DerivesOne}
 use Rattle.g4_grammar.specs.LeftCalls.{Nullable, an_atom, a_call, a_block, an_optional, a_star, a_plus, AllNullable, nothing, one_more, OneNullable, this, another}
 use Rattle.g4_grammar.specs.Loops.{HasEmptyLoop, OneHasEmptyLoop, SomeHasEmptyLoop}
 use Rattle.g4_grammar.proofs.Empty.{one_derives_nothing, one_is_nullable}
+
+module _ {A B C : Type 0} (f : B → C) (g : A → B) where
+  mutual
+    -- a tree over other atoms, and over others again
+    pub over_twice : (x : Element A) → over f (over g x) ≡ over (λ a. f (g a)) x
+    over_twice (atom a) = refl
+    over_twice (block label repeat xs) = ap (block label repeat) (either_over_twice xs)
+
+    -- the same of elements
+    pub in_order_over_twice : (xs : Elements A) → in_order_over f (in_order_over g xs) ≡ in_order_over (λ a. f (g a)) xs
+    in_order_over_twice empty = refl
+    in_order_over_twice (then x xs) = ap (λ (y : Element C). then y (in_order_over f (in_order_over g xs))) (over_twice x) ∙ ap (then (over (λ a. f (g a)) x)) (in_order_over_twice xs)
+
+    -- the same of alternatives
+    pub either_over_twice : (xs : Alternatives A) → either_over f (either_over g xs) ≡ either_over (λ a. f (g a)) xs
+    either_over_twice none = refl
+    either_over_twice (or x xs) = ap (λ (y : Elements C). or y (either_over f (either_over g xs))) (in_order_over_twice x) ∙ ap (or (in_order_over (λ a. f (g a)) x)) (either_over_twice xs)
 
 module _ {A B : Type 0} (f : A → B) (Reads : A → List ℕ → Type 0) (ReadsOver : B → List ℕ → Type 0) (Calls : A → ℕ → Type 0) (CallsOver : B → ℕ → Type 0) (rules : List (Alternatives A)) (made : List (Alternatives B))
     (reads : (a : A) → ReadsOver (f a) [] → Reads a [])

@@ -1,5 +1,5 @@
 -- What the atoms of rules read as they are written, and which rules they call.
-use Rattle.std.specs.Prelude.{◌≡◌, ◌≤◌, ℕ, List, [], ◌∷◌, Some, map, All}
+use Rattle.std.specs.Prelude.{◌≡◌, ◌≤◌, ◌⊎◌, ℕ, List, [], ◌∷◌, Bool, true, false, Some, map, All, codes}
 use Rattle.std.specs.List.{position}
 use Rattle.std.specs.Str.{bytes_eq}
 use Rattle.g4_chars.specs.CharSets.{Has}
@@ -12,9 +12,13 @@ use Rattle.g4_source.specs.declared.rule.Rule.{Rule}
 use Rattle.g4_source.specs.declared.rule.Rule.TheVariants.{Parser, Lexer}
 use Rattle.g4_source.specs.declared.rule.ParserRule.{ParserRule}
 use Rattle.g4_source.specs.declared.rule.LexerRule.{LexerRule}
-use Rattle.g4_source.specs.Rules.{parser_rules, lexer_rules, alternatives_of, lexer_alternatives_of}
+use Rattle.g4_source.specs.Rules.{alternatives_of, lexer_alternatives_of}
+use Rattle.g4_rules.specs.declared.kind.RuleKind.{RuleKind}
+use Rattle.g4_rules.specs.declared.kind.RuleKind.TheVariants as rule_kinds
+use Rattle.g4_rules.specs.Atoms.{AtomIn, bodies_of}
 use Rattle.g4_grammar.specs.declared.numbered.TokenRule.{TokenRule}
-use Rattle.g4_grammar.specs.Loops.{SomeHasEmptyLoop}
+use Rattle.g4_grammar.specs.LeftCalls.{LeftCalls, NoLeftCycle}
+use Rattle.g4_grammar.specs.Loops.{NoEmptyLoop}
 
 -- the words of an atom of a parser rule, while it is not known which symbol its tokens are: any one symbol; predicates and
 -- actions read nothing, and a reference reads nothing of its own
@@ -48,25 +52,51 @@ MatchesKind (kinds.NotCharacters place set) w = (c : ℕ) × (w ≡ c ∷ []) ×
 MatchesKind kinds.Action w = w ≡ []
 MatchesKind (kinds.Predicate name) w = w ≡ []
 
--- the same of atoms
-abbrev pub ReadsOneSymbol : Atom → List ℕ → Type 0
-ReadsOneSymbol a w = ReadsAnySymbol a.kind w
+-- an atom of a lexer rule that is the end of the file
+abbrev pub IsEndOfFile : AtomKind → Type 0
+IsEndOfFile (kinds.Token name) = bytes_eq name.text (codes "EOF") ≡ true
+IsEndOfFile a = ⊥
 
+-- the words of an atom of a rule of this kind; in a lexer rule the end of the file is the empty text
+abbrev pub KindReads : RuleKind → AtomKind → List ℕ → Type 0
+KindReads rule_kinds.Parser a w = ReadsAnySymbol a w
+KindReads rule_kinds.Lexer a w = MatchesKind a w ⊎ (IsEndOfFile a × (w ≡ []))
+
+abbrev pub ReadsIn : AtomIn → List ℕ → Type 0
+ReadsIn a w = KindReads a.kind a.atom.kind w
+
+-- the rule is of this kind and has this name
+abbrev pub is_rule_of : RuleKind → List ℕ → Rule → Bool
+is_rule_of rule_kinds.Parser name (Parser rule) = bytes_eq rule.name name
+is_rule_of rule_kinds.Parser name (Lexer rule) = false
+is_rule_of rule_kinds.Lexer name (Parser rule) = false
+is_rule_of rule_kinds.Lexer name (Lexer rule) = bytes_eq rule.name name
+
+-- a lower-case name in a parser rule calls the first parser rule of that name, and an upper-case name in a lexer rule the first
+-- lexer rule, but for the end of the file; these are the rules, which count from 0
+abbrev pub KindCalls : List Rule → RuleKind → AtomKind → ℕ → Type 0
+KindCalls rules rule_kinds.Parser (kinds.Rule name) k = position (is_rule_of rule_kinds.Parser name.text) rules ≡ Some k
+KindCalls rules rule_kinds.Lexer (kinds.Token name) k = (bytes_eq name.text (codes "EOF") ≡ false) × (position (is_rule_of rule_kinds.Lexer name.text) rules ≡ Some k)
+KindCalls rules kind a k = ⊥
+
+abbrev pub CallsIn : List Rule → AtomIn → ℕ → Type 0
+CallsIn rules a k = KindCalls rules a.kind a.atom.kind k
+
+-- rule k of these calls rule j before anything is read
+abbrev pub RuleLeftCalls : List Rule → ℕ → ℕ → Type 0
+RuleLeftCalls rules k j = LeftCalls ReadsIn (CallsIn rules) (bodies_of rules) k j
+
+-- no rule of these reaches itself by left calls
+abbrev pub HaveNoLeftCycle : List Rule → Type 0
+HaveNoLeftCycle rules = NoLeftCycle ReadsIn (CallsIn rules) (bodies_of rules)
+
+-- none of these rules has a loop whose body derives the empty word, or for a lexer rule matches no character
+abbrev pub HaveNoEmptyLoop : List Rule → Type 0
+HaveNoEmptyLoop rules = NoEmptyLoop ReadsIn (CallsIn rules) (bodies_of rules)
+
+-- the texts of an atom of a rule that makes tokens
 abbrev pub ReadsCharacters : Atom → List ℕ → Type 0
 ReadsCharacters a w = MatchesKind a.kind w
-
--- a lower-case name in a parser rule calls the first parser rule of that name; these are the names of the parser rules
-abbrev pub ParserCalls : List (List ℕ) → AtomKind → ℕ → Type 0
-ParserCalls names (kinds.Rule name) k = position (λ other. bytes_eq other name.text) names ≡ Some k
-ParserCalls names (kinds.Token name) k = ⊥
-ParserCalls names (kinds.Literal literal) k = ⊥
-ParserCalls names (kinds.Range place first last) k = ⊥
-ParserCalls names (kinds.Set set) k = ⊥
-ParserCalls names (kinds.Any place) k = ⊥
-ParserCalls names (kinds.NotTokens place tokens) k = ⊥
-ParserCalls names (kinds.NotCharacters place set) k = ⊥
-ParserCalls names kinds.Action k = ⊥
-ParserCalls names (kinds.Predicate name) k = ⊥
 
 -- an upper-case name in a lexer rule calls the first lexer rule of that name; these are the names of the lexer rules
 abbrev pub LexerCalls : List (List ℕ) → AtomKind → ℕ → Type 0
@@ -81,27 +111,13 @@ LexerCalls names (kinds.NotCharacters place set) k = ⊥
 LexerCalls names kinds.Action k = ⊥
 LexerCalls names (kinds.Predicate name) k = ⊥
 
--- the same of atoms, where these are the rules
-abbrev pub CallsParserRule : List (ParserRule Atom) → Atom → ℕ → Type 0
-CallsParserRule parsers a k = ParserCalls (map (λ rule. rule.name) parsers) a.kind k
-
-abbrev pub CallsLexerRule : List LexerRule → Atom → ℕ → Type 0
-CallsLexerRule lexers a k = LexerCalls (map (λ rule. rule.name) lexers) a.kind k
-
--- the same in the rules that make tokens
+-- the same of atoms in the rules that make tokens
 abbrev pub CallsTokenRule : List TokenRule → Atom → ℕ → Type 0
 CallsTokenRule rules a k = LexerCalls (map (λ rule. rule.name) rules) a.kind k
 
 -- the alternatives of a rule that makes tokens
 abbrev pub token_alternatives_of : TokenRule → Alternatives Atom
 token_alternatives_of rule = either (map (λ a. a.elements) rule.alternatives)
-
--- the rule has a loop whose body derives the empty word, or for a lexer rule matches no character
-abbrev pub RuleHasEmptyLoop : List Rule → Rule → Type 0
-RuleHasEmptyLoop rules (Parser rule) =
-    let parsers = parser_rules rules in SomeHasEmptyLoop ReadsOneSymbol (CallsParserRule parsers) (map alternatives_of parsers) (alternatives_of rule)
-RuleHasEmptyLoop rules (Lexer rule) =
-    let lexers = lexer_rules rules in SomeHasEmptyLoop ReadsCharacters (CallsLexerRule lexers) (map lexer_alternatives_of lexers) (lexer_alternatives_of rule)
 
 -- an atom of a parser rule that calls no rule and tests nothing
 abbrev pub ParserKindIsQuiet : AtomKind → Type 0

@@ -13,4 +13,4 @@ mod tests;
 pub use calls::left_calls;
 pub use empty_rules::nullable;
 pub use lead::{Lead, LeadRule};
-pub use loops::has_empty_loop;
+pub use loops::{are_nullable, has_empty_loop};

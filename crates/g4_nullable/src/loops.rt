@@ -1,4 +1,4 @@
-// Which rules have a loop that can be empty.
+// Which elements derive the empty word, and which rules have a loop that can be empty.
 ghost use Rattle.std.specs.Prelude.{◌≡◌, ◌↔◌, IsTrue, List, map, Option, ◌||◌, ◌&&◌};
 ghost use Rattle.g4_elements.specs.declared.name.Label.{Label as Named};
 ghost use Rattle.g4_elements.specs.Elements.{block, Alternatives, either};
@@ -120,6 +120,13 @@ fn of_elements(nullable: &[bool], elements: &[Element<Lead>]) -> Found
         found = found.then(of_element(nullable, element));
     }
     found
+}
+
+/// Whether the elements, one after another, derive the empty word, where it is given which rules do.
+pub fn are_nullable(nullable: &[bool], elements: &[Element<Lead>]) -> bool
+    ensures { (rules : List (Alternatives Atom)) → Tells nullable.now (IsNullableRule rules) → IsTrue result ↔ AllNullable ReadsLead CallsLead rules (in_order (map element_of elements.now)) }
+{
+    of_elements(nullable, elements).nullable
 }
 
 /// Whether the rule has a `*` or `+` whose body derives the empty word, where it is given which rules do.

@@ -7,14 +7,14 @@ use Rattle.g4_source.specs.declared.source.Source.{Source}
 use Rattle.g4_reader.specs.Reading.{IsReading}
 use Rattle.g4_reader.specs.declared.reader.ReadFault.{ReadFault}
 use Rattle.g4_forms.specs.Answers.{AreRun}
-use Rattle.g4_forms.specs.Forms.{forms_not_run}
+use Rattle.g4_forms.specs.Forms.{forms_not_checked, forms_not_built}
 use Rattle.g4_forms.specs.declared.fault.FormFault.{FormFault}
 use Rattle.g4_vocab.specs.Names.{HasOwnNames}
 use Rattle.g4_vocab.specs.declared.twice.NameFault.{NameFault}
 use Rattle.g4_vocab.specs.Answers.{GivesNumbered}
 use Rattle.g4_vocab.specs.declared.fault.NumberFault.{NumberFault}
 use Rattle.g4_checks.specs.Checking.{IsChecked}
-use Rattle.g4_checks.specs.declared.checking.CheckFault.{CheckFault}
+use Rattle.g4_checks.specs.declared.fault.CheckFault.{CheckFault}
 use Rattle.g4_grammar.specs.StepRules.{StepRule}
 use Rattle.g4_grammar.specs.declared.numbered.Numbered.{Numbered}
 use Rattle.g4_grammar.specs.declared.numbered.NumberedAtom.{NumberedAtom}
@@ -36,8 +36,9 @@ use Rattle.g4_tool.specs.declared.stop.Halt.{Halt}
 use Rattle.g4_tool.specs.declared.stop.Halt.TheVariants as halts
 use Rattle.g4_tool.specs.Stages.{Gives, Then, stops, goes_on, OfFile, passes, fails, IsErrorOf, IsHaltOf}
 use Rattle.g4_tool.specs.Inputs.{Files}
-use Rattle.g4_tool.specs.Loading.{Fetches, IsGrammarIn, Checks, Numbers, Loads}
-use Rattle.g4_tool.specs.Building.{names_of, steps_of, FromNetwork, FromGrammar, Builds}
+use Rattle.g4_tool.specs.Loading.{Fetches, IsGrammarIn, loaded_of, Checks, Numbers, Loads}
+use Rattle.g4_tool.specs.declared.load.Loaded.{Loaded}
+use Rattle.g4_tool.specs.Building.{names_of, steps_of, FromNetwork, FromGrammar, FromLoaded, Builds}
 use Rattle.g4_net.specs.declared.network.TheConstants.{MOST_STATES}
 
 -- a layer's fault at which a stage ends
@@ -103,28 +104,41 @@ module _ (start : List ℕ) (grammar : Numbered) where
         after_network (Ok (record { names = names; shown = grammar.shown; token_rules = grammar.token_rules; net = net }))
         (tested.0 fit, ap (λ (n : List (List ℕ)). record { names = n; shown = grammar.shown; token_rules = grammar.token_rules; net = net }) same)
 
+module _ (start : List ℕ) (loaded : Loaded) where
+  -- a grammar with a form of which no network is made yet
+  pub network_exit : (e : FormFault) → AreRun {A = ⊤} (forms_not_built loaded.source) (Err e) → IsErrorOf (FromLoaded start loaded) (of_form e)
+  network_exit e is = stage_exit (AreRun {A = ⊤} (forms_not_built loaded.source)) of_form (λ _. FromGrammar start loaded.grammar) e is
+
+  module _ (run : AreRun {A = ⊤} (forms_not_built loaded.source) (Ok tt)) where
+    -- what follows the forms
+    pub after_network_forms : (r : Result Interpreter GrammarFault) → FromGrammar start loaded.grammar r → FromLoaded start loaded r
+    after_network_forms r h = goes_on tt r run h
+
+    pub networks_exit : (error : CheckError) → IsErrorOf (FromGrammar start loaded.grammar) error → IsErrorOf (FromLoaded start loaded) error
+    networks_exit error h = error_within (FromGrammar start loaded.grammar) (FromLoaded start loaded) after_network_forms error h
+
 module _ (bytes : List ℕ) where
   -- bytes that are no grammar
   pub read_exit : (e : ReadFault) → IsReading bytes (Err e) → IsErrorOf (IsGrammarIn bytes) (of_read e)
   read_exit e is = stage_exit (IsReading bytes) of_read Numbers e is
 
   module _ (source : Source) (read : IsReading bytes (Ok source)) where
-    after_reading : (r : Result Numbered GrammarFault) → Numbers source r → IsGrammarIn bytes r
+    after_reading : (r : Result Loaded GrammarFault) → Numbers source r → IsGrammarIn bytes r
     after_reading r h = goes_on source r read h
 
     -- what follows the forms, and the names
-    abbrev WithForms : Result Numbered GrammarFault → Type 0
+    abbrev WithForms : Result Loaded GrammarFault → Type 0
     WithForms = Then (Gives (HasOwnNames source.rules) of_name) (λ _. Then (Gives (GivesNumbered source) of_number) (Checks source))
 
-    abbrev WithNames : Result Numbered GrammarFault → Type 0
+    abbrev WithNames : Result Loaded GrammarFault → Type 0
     WithNames = Then (Gives (GivesNumbered source) of_number) (Checks source)
 
     -- a grammar with a form that is not run yet
-    pub form_exit : (e : FormFault) → AreRun {A = ⊤} (forms_not_run source) (Err e) → IsErrorOf (IsGrammarIn bytes) (of_form e)
-    form_exit e is = error_within (Numbers source) (IsGrammarIn bytes) after_reading (of_form e) (stage_exit (AreRun {A = ⊤} (forms_not_run source)) of_form (λ _. WithForms) e is)
+    pub form_exit : (e : FormFault) → AreRun {A = ⊤} (forms_not_checked source) (Err e) → IsErrorOf (IsGrammarIn bytes) (of_form e)
+    form_exit e is = error_within (Numbers source) (IsGrammarIn bytes) after_reading (of_form e) (stage_exit (AreRun {A = ⊤} (forms_not_checked source)) of_form (λ _. WithForms) e is)
 
-    module _ (run : AreRun {A = ⊤} (forms_not_run source) (Ok tt)) where
-      after_forms : (r : Result Numbered GrammarFault) → WithForms r → IsGrammarIn bytes r
+    module _ (run : AreRun {A = ⊤} (forms_not_checked source) (Ok tt)) where
+      after_forms : (r : Result Loaded GrammarFault) → WithForms r → IsGrammarIn bytes r
       after_forms r h = after_reading r (goes_on tt r run h)
 
       -- a grammar with a rule name that is used twice
@@ -132,7 +146,7 @@ module _ (bytes : List ℕ) where
       name_exit e is = error_within WithForms (IsGrammarIn bytes) after_forms (of_name e) (stage_exit (HasOwnNames source.rules) of_name (λ _. WithNames) e is)
 
       module _ (named : HasOwnNames source.rules (Ok tt)) where
-        after_names : (r : Result Numbered GrammarFault) → WithNames r → IsGrammarIn bytes r
+        after_names : (r : Result Loaded GrammarFault) → WithNames r → IsGrammarIn bytes r
         after_names r h = after_forms r (goes_on tt r named h)
 
         -- a grammar that is not numbered
@@ -140,16 +154,16 @@ module _ (bytes : List ℕ) where
         number_exit e is = error_within WithNames (IsGrammarIn bytes) after_names (of_number e) (stage_exit (GivesNumbered source) of_number (Checks source) e is)
 
         module _ (grammar : Numbered) (numbered : GivesNumbered source (Ok grammar)) where
-          after_numbers : (r : Result Numbered GrammarFault) → Checks source grammar r → IsGrammarIn bytes r
+          after_numbers : (r : Result Loaded GrammarFault) → Checks source grammar r → IsGrammarIn bytes r
           after_numbers r h = after_names r (goes_on grammar r numbered h)
 
           -- a grammar that cannot be run
-          pub check_exit : (e : CheckFault) → IsChecked source.rules (Err e) → IsErrorOf (IsGrammarIn bytes) (of_check e)
-          check_exit e is = error_within (Checks source grammar) (IsGrammarIn bytes) after_numbers (of_check e) (stage_exit (IsChecked source.rules) of_check (λ _ result. result ≡ Ok grammar) e is)
+          pub check_exit : (e : CheckFault) → IsChecked source (Err e) → IsErrorOf (IsGrammarIn bytes) (of_check e)
+          check_exit e is = error_within (Checks source grammar) (IsGrammarIn bytes) after_numbers (of_check e) (stage_exit (IsChecked source) of_check (λ _ result. result ≡ Ok (loaded_of source grammar)) e is)
 
           -- a grammar without fault
-          pub checked : IsChecked source.rules (Ok tt) → IsGrammarIn bytes (Ok grammar)
-          checked is = after_numbers (Ok grammar) (goes_on tt (Ok grammar) is refl)
+          pub checked : IsChecked source (Ok tt) → IsGrammarIn bytes (Ok (loaded_of source grammar))
+          checked is = after_numbers (Ok (loaded_of source grammar)) (goes_on tt (Ok (loaded_of source grammar)) is refl)
 
 -- what a stage over the grammar of one file gives of a command line
 abbrev pub of_one : {X : Type 0} → List ℕ → Result X GrammarFault → Result X Stop
@@ -162,7 +176,7 @@ over_file name Stage (Err fault) h = fails fault h
 
 module _ (files : Files) (name bytes : List ℕ) (fetched : Fetches files name (Ok bytes)) where
   -- the grammar of a file that is fetched
-  pub loaded : (r : Result Numbered GrammarFault) → IsGrammarIn bytes r → Loads files name (name ∷ []) (of_one name r)
+  pub loaded : (r : Result Loaded GrammarFault) → IsGrammarIn bytes r → Loads files name (name ∷ []) (of_one name r)
   loaded r (stops fault h) = stops (stopping.Fault name fault) (refl, goes_on bytes (Err (stopping.Fault name fault)) fetched (fails fault h))
   loaded r (goes_on source s h k) = goes_on source (of_one name s) (refl, goes_on bytes (Ok source) fetched (passes source h)) (over_file name (Numbers source) s k)
 
@@ -181,5 +195,5 @@ module _ (files : Files) (name start : List ℕ) where
   not_loaded halts.NoMemory h = tt
 
   -- the interpreter of a grammar that is loaded
-  pub built : (grammar : Numbered) (r : Result Interpreter GrammarFault) → Loads files name (name ∷ []) (Ok grammar) → FromGrammar start grammar r → Builds files name start (name ∷ []) (of_one name r)
-  built grammar r h k = goes_on grammar (of_one name r) h (over_file name (FromGrammar start grammar) r k)
+  pub built : (grammar : Loaded) (r : Result Interpreter GrammarFault) → Loads files name (name ∷ []) (Ok grammar) → FromLoaded start grammar r → Builds files name start (name ∷ []) (of_one name r)
+  built grammar r h k = goes_on grammar (of_one name r) h (over_file name (FromLoaded start grammar) r k)

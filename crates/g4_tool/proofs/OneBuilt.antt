@@ -9,7 +9,7 @@ use Rattle.g4_reader.specs.Reading.{IsReading}
 use Rattle.g4_reader.specs.declared.reader.ReadFault.TheVariants as reading
 use Rattle.g4_reader.proofs.OneReading.{one_reading}
 use Rattle.g4_forms.specs.declared.fault.FormFault.TheVariants as forming
-use Rattle.g4_forms.specs.Forms.{forms_not_run}
+use Rattle.g4_forms.specs.Forms.{forms_not_checked, forms_not_built}
 use Rattle.g4_forms.specs.Answers.{AreRun}
 use Rattle.g4_forms.proofs.OneAnswer.{one_answer}
 use Rattle.g4_vocab.specs.Names.{HasOwnNames}
@@ -18,7 +18,7 @@ use Rattle.g4_vocab.specs.declared.twice.NameFault.TheVariants as naming
 use Rattle.g4_vocab.specs.declared.fault.NumberFault.TheVariants as numbering
 use Rattle.g4_vocab.proofs.OneNaming.{one_naming}
 use Rattle.g4_checks.specs.Checking.{IsChecked}
-use Rattle.g4_checks.specs.declared.checking.CheckFault.TheVariants as checking
+use Rattle.g4_checks.specs.declared.fault.CheckFault.TheVariants as checking
 use Rattle.g4_checks.proofs.OneCheck.{one_check}
 use Rattle.g4_build.specs.Answers.{GivesNetwork}
 use Rattle.g4_build.specs.declared.builder.BuildFault.TheVariants as building
@@ -28,9 +28,10 @@ use Rattle.g4_tool.specs.Stages.{Gives, Then, stops, goes_on, OfFile}
 use Rattle.g4_tool.specs.declared.interpreter.Interpreter.{Interpreter}
 use Rattle.g4_tool.specs.declared.stop.Stop.{Stop}
 use Rattle.g4_tool.specs.declared.stop.Stop.TheVariants as stopping
-use Rattle.g4_tool.specs.Building.{steps_of, FromNetwork, FromGrammar, Builds}
+use Rattle.g4_tool.specs.Building.{steps_of, FromNetwork, FromGrammar, FromLoaded, Builds}
 use Rattle.g4_tool.specs.Inputs.{Files}
-use Rattle.g4_tool.specs.Loading.{Fetches, absent, too_large, there, Reads, Checks, Numbers, Loads}
+use Rattle.g4_tool.specs.Loading.{Fetches, absent, too_large, there, Reads, loaded_of, Checks, Numbers, Loads}
+use Rattle.g4_tool.specs.declared.load.Loaded.{Loaded}
 use Rattle.g4_tool.proofs.OneStage.{IsSingle, IsSingleBeside, one_gift, one_then, one_of_file}
 
 -- a source has at most one numbering
@@ -90,14 +91,20 @@ one_from_grammar start grammar =
     one_then (Gives (GivesNetwork (steps_of grammar) start) (of_build start)) (FromNetwork grammar)
     (one_gift (GivesNetwork (steps_of grammar) start) (of_build start) building.NoMemory refl (one_build (steps_of grammar) start)) (one_from_network grammar)
 
+-- a grammar that is loaded gives at most one thing
+one_from_loaded : (start : List ℕ) (loaded : Loaded) → IsSingle (FromLoaded start loaded)
+one_from_loaded start loaded =
+    one_then (Gives (AreRun (forms_not_built loaded.source)) of_form) (λ _. FromGrammar start loaded.grammar)
+    (one_gift (AreRun (forms_not_built loaded.source)) of_form forming.NoMemory refl (one_answer (forms_not_built loaded.source))) (λ _. one_from_grammar start loaded.grammar)
+
 -- a source has at most one checked numbering
 one_checked : (source : Source) (grammar : Numbered) → IsSingle (Checks source grammar)
-one_checked source grammar = one_then (Gives (IsChecked source.rules) of_check) (λ _ result. result ≡ Ok grammar) (one_gift (IsChecked source.rules) of_check checking.NoMemory refl (one_check source.rules)) (λ _ a b p q. p ∙ sym q)
+one_checked source grammar = one_then (Gives (IsChecked source) of_check) (λ _ result. result ≡ Ok (loaded_of source grammar)) (one_gift (IsChecked source) of_check checking.NoMemory refl (one_check source)) (λ _ a b p q. p ∙ sym q)
 
 one_numbers : (source : Source) → IsSingle (Numbers source)
 one_numbers source =
-    one_then (Gives (AreRun (forms_not_run source)) of_form) (λ _. Then (Gives (HasOwnNames source.rules) of_name) (λ _. Then (Gives (GivesNumbered source) of_number) (Checks source)))
-    (one_gift (AreRun (forms_not_run source)) of_form forming.NoMemory refl (one_answer (forms_not_run source)))
+    one_then (Gives (AreRun (forms_not_checked source)) of_form) (λ _. Then (Gives (HasOwnNames source.rules) of_name) (λ _. Then (Gives (GivesNumbered source) of_number) (Checks source)))
+    (one_gift (AreRun (forms_not_checked source)) of_form forming.NoMemory refl (one_answer (forms_not_checked source)))
     (λ _. one_then (Gives (HasOwnNames source.rules) of_name) (λ _. Then (Gives (GivesNumbered source) of_number) (Checks source))
     (one_gift (HasOwnNames source.rules) of_name naming.NoMemory refl (one_naming source.rules))
     (λ _. one_then (Gives (GivesNumbered source) of_number) (Checks source) (one_gift (GivesNumbered source) of_number numbering.NoMemory refl (one_numbering source)) (one_checked source)))
@@ -134,23 +141,23 @@ module _ (files : Files) (name : List ℕ) where
   one_reads : IsSingle ReadsAny
   one_reads = one_then (Fetches files name) AfterFetch one_fetch (λ bytes. one_of_file name (Gives (IsReading bytes) of_read) (one_gift (IsReading bytes) of_read reading.NoMemory refl (one_reading bytes)))
 
-  abbrev LoadsAny : Result Numbered Stop → Type 0
+  abbrev LoadsAny : Result Loaded Stop → Type 0
   LoadsAny = Then ReadsAny (λ source. OfFile name (Numbers source))
 
   one_loads : IsSingle LoadsAny
   one_loads = one_then ReadsAny (λ source. OfFile name (Numbers source)) one_reads (λ source. one_of_file name (Numbers source) (one_numbers source))
 
-  loads_any : (fetched : List (List ℕ)) (r : Result Numbered Stop) → Loads files name fetched r → LoadsAny r
+  loads_any : (fetched : List (List ℕ)) (r : Result Loaded Stop) → Loads files name fetched r → LoadsAny r
   loads_any fetched r (stops fault h) = stops fault h.1
   loads_any fetched r (goes_on source s h k) = goes_on source s h.1 k
 
   -- a file gives at most one numbered grammar, or stops at most one way
-  pub one_loaded : (f g : List (List ℕ)) (a b : Result Numbered Stop) → Loads files name f a → Loads files name g b → a ≡ b
+  pub one_loaded : (f g : List (List ℕ)) (a b : Result Loaded Stop) → Loads files name f a → Loads files name g b → a ≡ b
   one_loaded f g a b p q = one_loads a b (loads_any f a p) (loads_any g b q)
 
   module _ (start : List ℕ) where
     abbrev BuildsAny : Result Interpreter Stop → Type 0
-    BuildsAny = Then LoadsAny (λ grammar. OfFile name (FromGrammar start grammar))
+    BuildsAny = Then LoadsAny (λ loaded. OfFile name (FromLoaded start loaded))
 
     builds_any : (fetched : List (List ℕ)) (r : Result Interpreter Stop) → Builds files name start fetched r → BuildsAny r
     builds_any fetched r (stops fault h) = stops fault (loads_any fetched (Err fault) h)
@@ -159,5 +166,5 @@ module _ (files : Files) (name : List ℕ) where
     -- a file and a start rule give at most one interpreter, or stop at most one way
     pub one_built : (f g : List (List ℕ)) (a b : Result Interpreter Stop) → Builds files name start f a → Builds files name start g b → a ≡ b
     one_built f g a b p q =
-        one_then LoadsAny (λ grammar. OfFile name (FromGrammar start grammar)) one_loads (λ grammar. one_of_file name (FromGrammar start grammar) (one_from_grammar start grammar))
+        one_then LoadsAny (λ loaded. OfFile name (FromLoaded start loaded)) one_loads (λ loaded. one_of_file name (FromLoaded start loaded) (one_from_loaded start loaded))
         a b (builds_any f a p) (builds_any g b q)

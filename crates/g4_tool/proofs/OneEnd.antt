@@ -1,6 +1,6 @@
 -- Words have at most one end over the same files.
 use Rattle.std.proofs.Common.{◌≡◌, ℕ, List, Result, Ok, Err, ap, sym, ◌∙◌, refl, subst}
-use Rattle.g4_grammar.specs.declared.numbered.Numbered.{Numbered}
+use Rattle.g4_tool.specs.declared.load.Loaded.{Loaded}
 use Rattle.g4_words.specs.Commands.{IsCommand}
 use Rattle.g4_words.specs.declared.command.Check.{Check}
 use Rattle.g4_words.specs.declared.command.Command.{Command}
@@ -32,7 +32,7 @@ module _ (files : Files) (words : List (List ℕ)) where
   pub not_both : (a : Check) (b : Parse) → IsCommand words (commands.Check a) → IsCommand words (commands.Parse b) → ⊥
   not_both a b p q = let same = one_command words (commands.Check a) (commands.Parse b) p q in cc
 
-  same_loaded : (a b : Check) (f g : List (List ℕ)) (r s : Result Numbered Stop) → IsCommand words (commands.Check a) → IsCommand words (commands.Check b) →
+  same_loaded : (a b : Check) (f g : List (List ℕ)) (r s : Result Loaded Stop) → IsCommand words (commands.Check a) → IsCommand words (commands.Check b) →
       Loads files a.grammar f r → Loads files b.grammar g s → r ≡ s
   same_loaded a b f g r s p q h k = one_loaded files b.grammar f g r s (subst (λ (c : Check). Loads files c.grammar f r) (same_check a b p q) h) k
 
@@ -78,7 +78,7 @@ module _ (files : Files) (words : List (List ℕ)) where
   one_end a b (grammar_checked c f made p h) (grammar_checked d g o q k) =
       let same = same_loaded c d f g (Ok made) (Ok o) p q h k in
       let grammar_same : made ≡ o = cc in
-      ap (λ x. checked x) grammar_same
+      ap (λ (x : Loaded). checked x.grammar) grammar_same
   one_end a b (grammar_checked c f made p h) (not_built v g t q k) = absurd (not_both c v p q)
   one_end a b (grammar_checked c f made p h) (file_absent v g j m q k r) = absurd (not_both c v p q)
   one_end a b (grammar_checked c f made p h) (files_parsed v g j js ps q k r w) = absurd (not_both c v p q)

@@ -1,7 +1,7 @@
 -- The reports and ends that the stages make.
 use Rattle.std.proofs.Common.{◌≡◌, ◌⊎◌, inl, inr, ◌++◌, ◌∷◌, [], ℕ, List, length, count_by, Bool, true, false, ◌==◌, if◌then◌else◌, Option, Some, Result, Ok, Err, ap, sym, ◌∙◌, refl, subst}
 use Rattle.std.specs.List.{list_all}
-use Rattle.g4_grammar.specs.declared.numbered.Numbered.{Numbered}
+use Rattle.g4_tool.specs.declared.load.Loaded.{Loaded}
 use Rattle.g4_tool.specs.declared.files.Parsed.{Parsed}
 use Rattle.g4_tool.specs.declared.inputs.Input.{Input}
 use Rattle.g4_tool.specs.declared.interpreter.Interpreter.{Interpreter}
@@ -46,8 +46,8 @@ module _ (files : Files) (words : List (List ℕ)) (check : Check) (fetched : Li
   stops_unchecked halts.NoMemory h = tt
 
   -- a grammar that is checked
-  pub reports_checked : (grammar : Numbered) (report : Report) → Loads files check.grammar fetched (Ok grammar) → IsReportOf (checked grammar) report → IsReport files words report
-  reports_checked grammar report loaded is = record { end = checked grammar; has = grammar_checked check fetched grammar command loaded; is = is }
+  pub reports_checked : (loaded : Loaded) (report : Report) → Loads files check.grammar fetched (Ok loaded) → IsReportOf (checked loaded.grammar) report → IsReport files words report
+  reports_checked loaded report loads is = record { end = checked loaded.grammar; has = grammar_checked check fetched loaded command loads; is = is }
 
 module _ (files : Files) (words : List (List ℕ)) (parse : Parse) (fetched : List (List ℕ)) (command : IsCommand words (commands.Parse parse)) where
   -- a command without an interpreter

@@ -7,7 +7,7 @@ use Rattle.g4_words.specs.declared.command.Command.{Command}
 use Rattle.g4_words.specs.declared.command.Command.TheVariants as commands
 use Rattle.g4_words.specs.declared.command.Parse.{Parse}
 use Rattle.g4_grammar.specs.declared.numbered.Numbered.{Numbered}
-use Rattle.g4_tool.specs.Texts.{usage_line, absent_line, large_line, not_utf8_line, syntax_line, bad_set_line, twice_line, no_rule_line, limit_line, empty_loop_line, checked_line, closing_line}
+use Rattle.g4_tool.specs.Texts.{usage_line, absent_line, large_line, not_utf8_line, syntax_line, bad_set_line, twice_line, no_rule_line, limit_line, undefined_line, unknown_command_line, lexer_predicate_line, unknown_predicate_line, label_clash_line, no_primary_line, empty_operator_line, empty_loop_line, left_cycle_line, checked_line, closing_line}
 use Rattle.g4_tool.specs.Loading.{Loads}
 use Rattle.g4_tool.specs.Building.{Builds}
 use Rattle.g4_tool.specs.Inputs.{Files, inputs_of}
@@ -18,6 +18,7 @@ use Rattle.g4_tool.specs.declared.outcome.Output.{Output}
 use Rattle.g4_tool.specs.declared.outcome.Output.TheVariants.{Trees}
 use Rattle.g4_tool.specs.declared.write.Line.{Line}
 use Rattle.g4_tool.specs.declared.interpreter.Interpreter.{Interpreter}
+use Rattle.g4_tool.specs.declared.load.Loaded.{Loaded}
 use Rattle.g4_tool.specs.declared.fault.GrammarFault.{GrammarFault}
 use Rattle.g4_tool.specs.declared.fault.GrammarFault.TheVariants as faults
 use Rattle.g4_tool.specs.declared.stop.Stop.{Stop}
@@ -43,7 +44,7 @@ output_of parse = Trees
 pub data HasEnd (files : Files) (words : List (List ℕ)) : End → Type 0 where
   no_command : IsNoCommand words → HasEnd files words (stopped stops.Usage)
   not_checked : (check : Check) (fetched : List (List ℕ)) (stop : Stop) → IsCommand words (commands.Check check) → Loads files check.grammar fetched (Err stop) → HasEnd files words (stopped stop)
-  grammar_checked : (check : Check) (fetched : List (List ℕ)) (grammar : Numbered) → IsCommand words (commands.Check check) → Loads files check.grammar fetched (Ok grammar) → HasEnd files words (checked grammar)
+  grammar_checked : (check : Check) (fetched : List (List ℕ)) (loaded : Loaded) → IsCommand words (commands.Check check) → Loads files check.grammar fetched (Ok loaded) → HasEnd files words (checked loaded.grammar)
   not_built : (parse : Parse) (fetched : List (List ℕ)) (stop : Stop) → IsCommand words (commands.Parse parse) → Builds files parse.grammar parse.start fetched (Err stop) → HasEnd files words (stopped stop)
   file_absent : (parse : Parse) (fetched : List (List ℕ)) (interpreter : Interpreter) (name : List ℕ) → IsCommand words (commands.Parse parse) → Builds files parse.grammar parse.start fetched (Ok interpreter) → inputs_of files parse.files ≡ Err name → HasEnd files words (stopped (stops.Absent name))
   files_parsed : (parse : Parse) (fetched : List (List ℕ)) (interpreter : Interpreter) (inputs : List Input) (outcomes : List Outcome) → IsCommand words (commands.Parse parse) → Builds files parse.grammar parse.start fetched (Ok interpreter) → inputs_of files parse.files ≡ Ok inputs → AreOutcomes interpreter inputs outcomes → HasEnd files words (all_parsed (output_of parse) interpreter parse.files outcomes)
@@ -56,7 +57,17 @@ fault_line name (faults.BadSet place) = bad_set_line name place
 fault_line name (faults.RuleTwice rule) = twice_line name rule
 fault_line name faults.Rules = limit_line name (codes "rules 4096")
 fault_line name faults.Types = limit_line name (codes "types 4096")
+fault_line name (faults.UndefinedRule rule) = undefined_line name (codes "rule ") rule
+fault_line name (faults.UnknownMode mode) = undefined_line name (codes "mode ") mode
+fault_line name (faults.UnknownCommand command) = unknown_command_line name command
+fault_line name (faults.UnknownChannel channel) = undefined_line name (codes "channel ") channel
+fault_line name (faults.LexerPredicate place) = lexer_predicate_line name place
+fault_line name (faults.UnknownPredicate place) = unknown_predicate_line name place
+fault_line name (faults.LabelClash label) = label_clash_line name label
+fault_line name (faults.NoPrimary rule) = no_primary_line name rule
+fault_line name (faults.EmptyOperator rule i) = empty_operator_line name rule i
 fault_line name (faults.EmptyLoop rule) = empty_loop_line name rule
+fault_line name (faults.LeftCycle rules) = left_cycle_line name rules
 fault_line name (faults.UnknownStart start) = no_rule_line name start
 fault_line name faults.Alternatives = limit_line name (codes "alternatives 1024")
 fault_line name faults.States = limit_line name (codes "states 65536")

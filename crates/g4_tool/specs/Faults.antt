@@ -8,8 +8,8 @@ use Rattle.g4_vocab.specs.declared.twice.NameFault.{NameFault}
 use Rattle.g4_vocab.specs.declared.twice.NameFault.TheVariants as naming
 use Rattle.g4_vocab.specs.declared.fault.NumberFault.{NumberFault}
 use Rattle.g4_vocab.specs.declared.fault.NumberFault.TheVariants as numbering
-use Rattle.g4_checks.specs.declared.checking.CheckFault.{CheckFault}
-use Rattle.g4_checks.specs.declared.checking.CheckFault.TheVariants as checking
+use Rattle.g4_checks.specs.declared.fault.CheckFault.{CheckFault}
+use Rattle.g4_checks.specs.declared.fault.CheckFault.TheVariants as checking
 use Rattle.g4_build.specs.declared.builder.BuildFault.{BuildFault}
 use Rattle.g4_build.specs.declared.builder.BuildFault.TheVariants as building
 use Rattle.g4_tool.specs.declared.fault.GrammarFault.TheVariants as faults
@@ -41,7 +41,17 @@ of_number numbering.NoMemory = errors.NoMemory
 
 -- of a grammar that cannot be run
 abbrev pub of_check : CheckFault → CheckError
+of_check (checking.UndefinedRule name) = errors.Fault (faults.UndefinedRule name)
+of_check (checking.UnknownMode name) = errors.Fault (faults.UnknownMode name)
+of_check (checking.UnknownCommand name) = errors.Fault (faults.UnknownCommand name)
+of_check (checking.UnknownChannel name) = errors.Fault (faults.UnknownChannel name)
+of_check (checking.LexerPredicate place) = errors.Fault (faults.LexerPredicate place)
+of_check (checking.UnknownPredicate place) = errors.Fault (faults.UnknownPredicate place)
+of_check (checking.LabelClash name) = errors.Fault (faults.LabelClash name)
+of_check (checking.NoPrimary name) = errors.Fault (faults.NoPrimary name)
+of_check (checking.EmptyOperator name i) = errors.Fault (faults.EmptyOperator name i)
 of_check (checking.EmptyLoop name) = errors.Fault (faults.EmptyLoop name)
+of_check (checking.LeftCycle names) = errors.Fault (faults.LeftCycle names)
 of_check checking.NoMemory = errors.NoMemory
 
 -- of a numbered grammar without a network from this start rule

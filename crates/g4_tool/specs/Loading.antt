@@ -2,9 +2,10 @@
 use Rattle.std.specs.Prelude.{◌≡◌, ◌≤◌, ◌<◌, ℕ, List, [], ◌∷◌, length, Some, None, Result, Ok, Err, ⊤}
 use Rattle.g4_source.specs.declared.source.Source.{Source}
 use Rattle.g4_grammar.specs.declared.numbered.Numbered.{Numbered}
+use Rattle.g4_tool.specs.declared.load.Loaded.{Loaded}
 use Rattle.g4_reader.specs.Reading.{IsReading}
 use Rattle.g4_forms.specs.Answers.{AreRun}
-use Rattle.g4_forms.specs.Forms.{forms_not_run}
+use Rattle.g4_forms.specs.Forms.{forms_not_checked}
 use Rattle.g4_vocab.specs.Names.{HasOwnNames}
 use Rattle.g4_vocab.specs.Answers.{GivesNumbered}
 use Rattle.g4_checks.specs.Checking.{IsChecked}
@@ -26,19 +27,23 @@ pub data Fetches (files : Files) (name : List ℕ) : Result (List ℕ) Stop → 
 abbrev pub Reads : Files → List ℕ → List (List ℕ) → Result Source Stop → Type 0
 Reads files name fetched result = (fetched ≡ name ∷ []) × Then (Fetches files name) (λ bytes. OfFile name (Gives (IsReading bytes) of_read)) result
 
--- the numbers of a grammar without an empty loop
-abbrev pub Checks : Source → Numbered → Result Numbered GrammarFault → Type 0
-Checks source grammar = Then (Gives (IsChecked source.rules) of_check) (λ _ result. result ≡ Ok grammar)
+-- the grammar as it is written and numbered
+abbrev pub loaded_of : Source → Numbered → Loaded
+loaded_of source grammar = record { source = source; grammar = grammar }
 
--- the numbered grammar, or the first fault: a form that is not run yet, a rule name used twice, a limit, an empty loop
-abbrev pub Numbers : Source → Result Numbered GrammarFault → Type 0
+-- the same of a grammar whose rules have no fault
+abbrev pub Checks : Source → Numbered → Result Loaded GrammarFault → Type 0
+Checks source grammar = Then (Gives (IsChecked source) of_check) (λ _ result. result ≡ Ok (loaded_of source grammar))
+
+-- the same, or the first fault: a form that is not checked yet, a rule name used twice, a limit, a fault of the rules
+abbrev pub Numbers : Source → Result Loaded GrammarFault → Type 0
 Numbers source =
-    Then (Gives (AreRun {A = ⊤} (forms_not_run source)) of_form) (λ _. Then (Gives (HasOwnNames source.rules) of_name) (λ _. Then (Gives (GivesNumbered source) of_number) (Checks source)))
+    Then (Gives (AreRun {A = ⊤} (forms_not_checked source)) of_form) (λ _. Then (Gives (HasOwnNames source.rules) of_name) (λ _. Then (Gives (GivesNumbered source) of_number) (Checks source)))
 
--- the grammar that the bytes are, numbered, or its first fault
-abbrev pub IsGrammarIn : List ℕ → Result Numbered GrammarFault → Type 0
+-- the grammar that the bytes are, or its first fault
+abbrev pub IsGrammarIn : List ℕ → Result Loaded GrammarFault → Type 0
 IsGrammarIn bytes = Then (Gives (IsReading bytes) of_read) Numbers
 
--- the grammar that is read, numbered, or the fault at which that ends
-abbrev pub Loads : Files → List ℕ → List (List ℕ) → Result Numbered Stop → Type 0
+-- the grammar that is read, numbered and checked, or the fault at which that ends
+abbrev pub Loads : Files → List ℕ → List (List ℕ) → Result Loaded Stop → Type 0
 Loads files name fetched = Then (Reads files name fetched) (λ source. OfFile name (Numbers source))

@@ -112,6 +112,46 @@ bad_set_line name place = ToErr (at_place name place ++ codes "bad character set
 abbrev pub twice_line : List ℕ → List ℕ → Line
 twice_line name rule = ToErr (name ++ (codes ": rule " ++ (rule ++ codes " stands twice\n")))
 
+-- the line of a rule, a mode or a channel that is named and that the grammar has not
+abbrev pub undefined_line : List ℕ → List ℕ → List ℕ → Line
+undefined_line name kind item = ToErr (name ++ (codes ": " ++ (kind ++ (item ++ codes " is not defined\n"))))
+
+-- the line of a command that is none
+abbrev pub unknown_command_line : List ℕ → List ℕ → Line
+unknown_command_line name command = ToErr (name ++ (codes ": command " ++ (command ++ codes " is not known\n")))
+
+-- the line of a predicate in a lexer rule
+abbrev pub lexer_predicate_line : List ℕ → Place → Line
+lexer_predicate_line name place = ToErr (at_place name place ++ codes "predicate in a lexer rule\n")
+
+-- the line of a predicate whose text is none
+abbrev pub unknown_predicate_line : List ℕ → Place → Line
+unknown_predicate_line name place = ToErr (at_place name place ++ codes "predicate is not known\n")
+
+-- the line of a label that clashes, or of a rule that is partly labelled
+abbrev pub label_clash_line : List ℕ → List ℕ → Line
+label_clash_line name label = ToErr (name ++ (codes ": label " ++ (label ++ codes " clashes\n")))
+
+-- the line of a rule each of whose alternatives begins with the rule itself
+abbrev pub no_primary_line : List ℕ → List ℕ → Line
+no_primary_line name rule = ToErr (name ++ (codes ": rule " ++ (rule ++ codes " has no alternative without left recursion\n")))
+
+-- the line of a rule and the number of its alternative that begins with the rule itself and goes on with the empty word
+abbrev pub empty_operator_line : List ℕ → List ℕ → ℕ → Line
+empty_operator_line name rule i = ToErr (name ++ (codes ": rule " ++ (rule ++ (codes " alternative " ++ (decimal i ++ codes " is an empty operator\n")))))
+
+-- names, with `, ` between them
+abbrev pub more_names : List (List ℕ) → List ℕ
+more_names names = flat_map (λ name. codes ", " ++ name) names
+
+abbrev pub names_in_order : List (List ℕ) → List ℕ
+names_in_order [] = []
+names_in_order (name ∷ names) = name ++ more_names names
+
+-- the line of rules of which each calls the next before anything is read, and the last the first
+abbrev pub left_cycle_line : List ℕ → List (List ℕ) → Line
+left_cycle_line name rules = ToErr (((name ++ codes ": left recursion through ") ++ names_in_order rules) ++ codes "\n")
+
 -- the line of a rule with a loop that can be empty
 abbrev pub empty_loop_line : List ℕ → List ℕ → Line
 empty_loop_line name rule = ToErr (name ++ (codes ": rule " ++ (rule ++ codes " has a loop that can be empty\n")))

@@ -26,8 +26,28 @@ pub enum GrammarFault {
     Rules,
     /// More than 4,096 token types.
     Types,
-    /// The name of the first rule with a loop that can be empty.
+    /// A rule that is named and that the grammar has not.
+    UndefinedRule(Text),
+    /// A mode that a command takes and that the grammar has not.
+    UnknownMode(Text),
+    /// The name of a command that is none, or that has an argument which it does not take, or lacks one.
+    UnknownCommand(Text),
+    /// A channel that a command takes and that the grammar has not.
+    UnknownChannel(Text),
+    /// The place of a predicate in a lexer rule.
+    LexerPredicate(Place),
+    /// The place of a predicate whose text is none.
+    UnknownPredicate(Place),
+    /// A label that clashes, or a rule that is partly labelled.
+    LabelClash(Text),
+    /// A rule each of whose alternatives begins with the rule itself.
+    NoPrimary(Text),
+    /// A rule, and the number of its alternative that begins with the rule itself and goes on with what derives the empty word.
+    EmptyOperator(Text, u32),
+    /// A rule with a loop that can be empty.
     EmptyLoop(Text),
+    /// Rules of which each calls the next before anything is read, and the last the first.
+    LeftCycle(Sequence<Text>),
     /// No parser rule has this name, which the start rule was to have.
     UnknownStart(Text),
     /// More than 1,024 alternatives of a decision.
@@ -125,7 +145,29 @@ impl From<CheckFault> for CheckError {
 
     fn from(fault: CheckFault) -> Self {
         match fault {
+            CheckFault::UndefinedRule(name) => {
+                CheckError::Fault(GrammarFault::UndefinedRule(name))
+            }
+            CheckFault::UnknownMode(name) => CheckError::Fault(GrammarFault::UnknownMode(name)),
+            CheckFault::UnknownCommand(name) => {
+                CheckError::Fault(GrammarFault::UnknownCommand(name))
+            }
+            CheckFault::UnknownChannel(name) => {
+                CheckError::Fault(GrammarFault::UnknownChannel(name))
+            }
+            CheckFault::LexerPredicate(place) => {
+                CheckError::Fault(GrammarFault::LexerPredicate(place))
+            }
+            CheckFault::UnknownPredicate(place) => {
+                CheckError::Fault(GrammarFault::UnknownPredicate(place))
+            }
+            CheckFault::LabelClash(name) => CheckError::Fault(GrammarFault::LabelClash(name)),
+            CheckFault::NoPrimary(name) => CheckError::Fault(GrammarFault::NoPrimary(name)),
+            CheckFault::EmptyOperator(name, alternative) => {
+                CheckError::Fault(GrammarFault::EmptyOperator(name, alternative))
+            }
             CheckFault::EmptyLoop(name) => CheckError::Fault(GrammarFault::EmptyLoop(name)),
+            CheckFault::LeftCycle(names) => CheckError::Fault(GrammarFault::LeftCycle(names)),
             CheckFault::NoMemory => CheckError::NoMemory,
         }
     }

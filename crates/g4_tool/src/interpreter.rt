@@ -1,16 +1,17 @@
 // From a numbered grammar to what parses with it.
 ghost use Rattle.std.specs.Prelude.{◌≡◌, IfOk, Some, map, ◌∷◌, []};
-ghost use Rattle.g4_tool.specs.Building.{Builds, FromGrammar};
+ghost use Rattle.g4_tool.specs.Building.{Builds, FromGrammar, FromLoaded};
 ghost use Rattle.g4_tool.specs.Counting.{Counts};
 ghost use Rattle.g4_tool.specs.Inputs.{Files};
 ghost use Rattle.g4_tool.specs.Stages.{GivesOrHalts, IsAnswerOf};
-ghost use Rattle.g4_tool.specs.Usable.{CanBeBuilt, IsUsable};
+ghost use Rattle.g4_tool.specs.Usable.{CanBeBuilt, IsSound, IsUsable};
 
 use crate::fault::{CheckError, GrammarFault, not_built};
-use crate::load::load;
+use crate::load::{Loaded, load};
 use crate::stop::{Halt, fault_of};
 use g4_base::{Sequence, Text};
 use g4_build::{build, lexer_network_fits};
+use g4_forms::check_network_forms;
 use g4_grammar::{Numbered, NumberedAtom, TokenRule};
 use g4_net::ParserNetwork;
 use g4_ports::Shelf;
@@ -42,7 +43,7 @@ fn names_of(alloc: Global, rules: &[ParserRule<NumberedAtom>]) -> Result<Sequenc
 }
 
 /// What parses with the numbered grammar from this start rule, or the first fault of its networks.
-fn interpret(alloc: Global, grammar: Numbered, start: &str) -> Result<Interpreter, CheckError>
+fn build_networks(alloc: Global, grammar: Numbered, start: &str) -> Result<Interpreter, CheckError>
     requires { CanBeBuilt grammar }
     ensures interpreting { IsAnswerOf (FromGrammar start.now grammar) result }
     ensures usable { IfOk result IsUsable }
@@ -74,6 +75,17 @@ fn interpret(alloc: Global, grammar: Numbered, start: &str) -> Result<Interprete
     })
 }
 
+/// What parses with the grammar from this start rule, where all its forms are run, or the first fault of its networks.
+fn interpret(alloc: Global, loaded: Loaded, start: &str) -> Result<Interpreter, CheckError>
+    requires { IsSound loaded }
+    ensures interpreting { IsAnswerOf (FromLoaded start.now loaded) result }
+    ensures usable { IfOk result IsUsable }
+{
+    check_network_forms(alloc, &loaded.source)?;
+    let interpreter = build_networks(alloc, loaded.grammar, start)?;
+    Ok(interpreter)
+}
+
 /// What parses from this start rule with the grammar in the file of this name.
 pub fn build_interpreter<S: Shelf>(
     alloc: Global,
@@ -87,8 +99,8 @@ pub fn build_interpreter<S: Shelf>(
     ensures usable { IfOk result IsUsable }
     ensures counts { Counts ⊥ (S.faults shelf.old) (S.faults shelf.new) (S.misses shelf.old) (S.misses shelf.new) result }
 {
-    let grammar = load(alloc, shelf, name)?;
-    match interpret(alloc, grammar, start) {
+    let loaded = load(alloc, shelf, name)?;
+    match interpret(alloc, loaded, start) {
         Ok(interpreter) => Ok(interpreter),
         Err(CheckError::Fault(fault)) => Err(Halt::Stop(fault_of(alloc, name, fault)?)),
         Err(CheckError::NoMemory) => Err(Halt::NoMemory),

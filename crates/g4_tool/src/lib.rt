@@ -1,6 +1,8 @@
 // The tool: from a command line and named files to what is written and the status.
 #![tactic(auto)]
 
+#[cfg(test)]
+mod check_tests;
 mod fault;
 mod files;
 #[cfg(test)]
@@ -14,6 +16,7 @@ mod load;
 mod messages;
 mod outcome;
 mod report;
+mod rule_messages;
 mod status;
 mod stop;
 #[cfg(test)]

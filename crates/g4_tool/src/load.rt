@@ -1,10 +1,10 @@
-// From the file of a grammar to its rules, checked and numbered.
+// From the file of a grammar to its rules, numbered and checked.
 ghost use Rattle.std.specs.Prelude.{◌≡◌, ◌≤◌, IfOk, Some, length, ◌∷◌, []};
 ghost use Rattle.g4_tool.specs.Counting.{Counts};
 ghost use Rattle.g4_tool.specs.Inputs.{Files};
 ghost use Rattle.g4_tool.specs.Loading.{Fetches, IsGrammarIn, Loads};
 ghost use Rattle.g4_tool.specs.Stages.{GivesOrHalts, IsAnswerOf};
-ghost use Rattle.g4_tool.specs.Usable.{CanBeBuilt};
+ghost use Rattle.g4_tool.specs.Usable.{IsSound};
 
 use crate::fault::CheckError;
 use crate::stop::{Halt, Stop, fault_of};
@@ -14,8 +14,18 @@ use g4_forms::check_forms;
 use g4_grammar::Numbered;
 use g4_ports::{Got, Shelf};
 use g4_reader::read_grammar;
+use g4_source::Source;
 use g4_vocab::{check_names, number};
 use std::alloc::Global;
+
+/// A grammar that is read, numbered and checked.
+#[derive(Drop)]
+pub struct Loaded {
+    /// As it is written.
+    pub source: Source,
+    /// Its parser rules over token types, and what makes its tokens.
+    pub grammar: Numbered,
+}
 
 /// The bytes of a grammar file.
 fn fetch_grammar<S: Shelf>(alloc: Global, shelf: &mut S, name: &str) -> Result<Octets, Halt>
@@ -33,30 +43,30 @@ fn fetch_grammar<S: Shelf>(alloc: Global, shelf: &mut S, name: &str) -> Result<O
     }
 }
 
-/// The grammar that these bytes are, checked and numbered.
-fn read_and_check(alloc: Global, bytes: &[u8]) -> Result<Numbered, CheckError>
+/// The grammar that these bytes are.
+fn read_and_check(alloc: Global, bytes: &[u8]) -> Result<Loaded, CheckError>
     requires { length bytes.now ≤ MOST_BYTES }
     ensures grammar { IsAnswerOf (IsGrammarIn bytes.now) result }
-    ensures checked { IfOk result CanBeBuilt }
+    ensures checked { IfOk result IsSound }
 {
     let source = read_grammar(alloc, bytes)?;
     check_forms(alloc, &source)?;
     check_names(alloc, &source)?;
     let grammar = number(alloc, &source)?;
     check(alloc, &source)?;
-    Ok(grammar)
+    Ok(Loaded { source, grammar })
 }
 
-/// The grammar in the file of this name, checked and numbered.
-pub fn load<S: Shelf>(alloc: Global, shelf: &mut S, name: &str) -> Result<Numbered, Halt>
+/// The grammar in the file of this name.
+pub fn load<S: Shelf>(alloc: Global, shelf: &mut S, name: &str) -> Result<Loaded, Halt>
     ensures keeps { S.told shelf.new ≡ S.told shelf.old }
     ensures content { (files : Files) → S.told shelf.old ≡ Some files → GivesOrHalts (Loads files name.now (name.now ∷ [])) result }
-    ensures checked { IfOk result CanBeBuilt }
+    ensures checked { IfOk result IsSound }
     ensures counts { Counts ⊥ (S.faults shelf.old) (S.faults shelf.new) (S.misses shelf.old) (S.misses shelf.new) result }
 {
     let bytes = fetch_grammar(alloc, shelf, name)?;
     match read_and_check(alloc, bytes.as_slice()) {
-        Ok(grammar) => Ok(grammar),
+        Ok(loaded) => Ok(loaded),
         Err(CheckError::Fault(fault)) => Err(Halt::Stop(fault_of(alloc, name, fault)?)),
         Err(CheckError::NoMemory) => Err(Halt::NoMemory),
     }

@@ -1,7 +1,7 @@
 // The lines of faults.
 ghost use Rattle.std.specs.Prelude.{◌≡◌, ◌++◌, IfOk, OnOk, string_bytes, ◌-◌, []};
 ghost use Rattle.g4_net.specs.Network.{state_at};
-ghost use Rattle.g4_tool.specs.Texts.{at_place, shown_symbol, more_symbols, shown_set, taken_by, place_of_token, mismatch_line, no_viable_line, too_deep_line, no_token_line, many_tokens_line, not_utf8_line, large_line, absent_line, usage_line, syntax_line, bad_set_line, twice_line, empty_loop_line, no_rule_line, limit_line};
+ghost use Rattle.g4_tool.specs.Texts.{at_place, shown_symbol, more_symbols, shown_set, taken_by, place_of_token, mismatch_line, no_viable_line, too_deep_line, no_token_line, many_tokens_line, not_utf8_line, large_line, absent_line, usage_line, syntax_line, bad_set_line, twice_line, no_rule_line, limit_line};
 ghost use Rattle.g4_tool.specs.declared.write.Line.TheVariants.{ToErr};
 
 use crate::write::Line;
@@ -12,22 +12,22 @@ use g4_symbols::{END, EOF};
 use g4_token_list::{Token, Tokens};
 use std::alloc::{AllocError, Global};
 
-// The line of a text on err.
-fn to_err(line: String) -> Line
+/// The line of a text on err.
+pub fn to_err(line: String) -> Line
     ensures { result ≡ ToErr (string_bytes line) }
 {
     Line::ToErr(Sequence::new(line.into_bytes()))
 }
 
-// Adds a text.
-fn push(line: &mut Vec<u8>, text: &str) -> Result<(), AllocError>
+/// Adds a text.
+pub fn push(line: &mut Vec<u8>, text: &str) -> Result<(), AllocError>
     ensures { OnOk result (line.new.items ≡ line.old.items ++ text.now) }
 {
     line.extend_from_slice(text.as_bytes())
 }
 
-// `NAME: line L:C `
-fn start_line(alloc: Global, name: &str, place: Place) -> Result<String, AllocError>
+/// `NAME: line L:C `
+pub fn start_line(alloc: Global, name: &str, place: Place) -> Result<String, AllocError>
     ensures { IfOk result (λ s. string_bytes s ≡ at_place name.now place) }
 {
     let line = place.line;
@@ -223,14 +223,6 @@ pub fn twice(alloc: Global, name: &str, rule: &str) -> Result<Line, AllocError>
     ensures { IfOk result (λ line. line ≡ twice_line name.now rule.now) }
 {
     let line = format!(in alloc; "{name}: rule {rule} stands twice\n")?;
-    Ok(to_err(line))
-}
-
-/// A rule with a loop that can be empty.
-pub fn empty_loop(alloc: Global, name: &str, rule: &str) -> Result<Line, AllocError>
-    ensures { IfOk result (λ line. line ≡ empty_loop_line name.now rule.now) }
-{
-    let line = format!(in alloc; "{name}: rule {rule} has a loop that can be empty\n")?;
     Ok(to_err(line))
 }
 

@@ -104,8 +104,8 @@ fn run_check<S: Shelf>(alloc: Global, shelf: &mut S, check: &Check) -> Result<Re
     ensures counts { Counts ⊥ (S.faults shelf.old) (S.faults shelf.new) (S.misses shelf.old) (S.misses shelf.new) result }
 {
     let name = check.grammar.as_str();
-    let grammar = load(alloc, shelf, name)?;
-    let report = report_checked(alloc, &grammar)?;
+    let loaded = load(alloc, shelf, name)?;
+    let report = report_checked(alloc, &loaded.grammar)?;
     Ok(report)
 }
 

@@ -4,8 +4,10 @@ ghost use Rattle.g4_tool.specs.Ends.{fault_line, stop_line, stop_status};
 ghost use Rattle.g4_tool.specs.declared.stop.Stop.TheVariants.{Fault, Absent};
 
 use crate::fault::GrammarFault;
-use crate::messages::{
-    absent, bad_set, empty_loop, large, limit, no_rule, not_utf8, syntax, twice, usage,
+use crate::messages::{absent, bad_set, large, limit, no_rule, not_utf8, syntax, twice, usage};
+use crate::rule_messages::{
+    empty_loop, empty_operator, label_clash, left_cycle, lexer_predicate, no_primary, undefined,
+    unknown_command, unknown_predicate,
 };
 use crate::status::Status;
 use crate::write::Line;
@@ -77,7 +79,21 @@ fn fault_line(alloc: Global, name: &str, fault: &GrammarFault) -> Result<Line, A
         GrammarFault::RuleTwice(rule) => twice(alloc, name, rule.as_str()),
         GrammarFault::Rules => limit(alloc, name, "rules 4096"),
         GrammarFault::Types => limit(alloc, name, "types 4096"),
+        GrammarFault::UndefinedRule(rule) => undefined(alloc, name, "rule ", rule.as_str()),
+        GrammarFault::UnknownMode(mode) => undefined(alloc, name, "mode ", mode.as_str()),
+        GrammarFault::UnknownCommand(command) => unknown_command(alloc, name, command.as_str()),
+        GrammarFault::UnknownChannel(channel) => {
+            undefined(alloc, name, "channel ", channel.as_str())
+        }
+        GrammarFault::LexerPredicate(place) => lexer_predicate(alloc, name, *place),
+        GrammarFault::UnknownPredicate(place) => unknown_predicate(alloc, name, *place),
+        GrammarFault::LabelClash(label) => label_clash(alloc, name, label.as_str()),
+        GrammarFault::NoPrimary(rule) => no_primary(alloc, name, rule.as_str()),
+        GrammarFault::EmptyOperator(rule, alternative) => {
+            empty_operator(alloc, name, rule.as_str(), *alternative)
+        }
         GrammarFault::EmptyLoop(rule) => empty_loop(alloc, name, rule.as_str()),
+        GrammarFault::LeftCycle(rules) => left_cycle(alloc, name, rules.as_slice()),
         GrammarFault::UnknownStart(start) => no_rule(alloc, name, start.as_str()),
         GrammarFault::Alternatives => limit(alloc, name, "alternatives 1024"),
         GrammarFault::States => limit(alloc, name, "states 65536"),

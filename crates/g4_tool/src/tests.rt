@@ -35,7 +35,7 @@ pub fn words_of(alloc: Global, line: &str) -> Result<Vec<String>, Fail> {
 const PARSE: &str = "parse -g X.g4 -s r f";
 
 // Words, grammar and text, and what they give: out, err and the status.
-const REPORTS: [(&str, &str, &str, &str, &str, Status); 28] = [
+const REPORTS: [(&str, &str, &str, &str, &str, Status); 36] = [
     (
         PARSE,
         HELLO,
@@ -259,6 +259,70 @@ const REPORTS: [(&str, &str, &str, &str, &str, Status); 28] = [
         "",
         "Y.g4: not found\n",
         Status::Unread,
+    ),
+    (
+        "check X.g4",
+        "grammar X; r : x=s (. | ~'a')*? # Y ; s : B+? 'b' C? | EOF ;",
+        "",
+        "rules 2 tokens 4\n",
+        "",
+        Status::Done,
+    ),
+    (
+        PARSE,
+        "grammar X; r : x=s (. | ~'a')*? # Y ; s : B+? 'b' C? | EOF ;",
+        "",
+        "",
+        "X.g4: line 1:15 syntax error at 'x'\n",
+        Status::GrammarRefused,
+    ),
+    (
+        PARSE,
+        "grammar X; a : b 'x' | 'y' ; b : a 'z' ;",
+        "",
+        "",
+        "X.g4: left recursion through a, b\n",
+        Status::GrammarRefused,
+    ),
+    (
+        "check X.g4",
+        "grammar X; r : ('a'*)* | s | q ; s : r # r | 'b' ;",
+        "",
+        "",
+        "X.g4: rule q is not defined\n",
+        Status::GrammarRefused,
+    ),
+    (
+        "check X.g4",
+        "grammar X; r : ('a'*)* | r 'a' | s ; s : r # r | 'b' ;",
+        "",
+        "",
+        "X.g4: label s clashes\n",
+        Status::GrammarRefused,
+    ),
+    (
+        "check X.g4",
+        "grammar X; r : ('a'*)* | r 'a' | s ; s : s '+' s | s ;",
+        "",
+        "",
+        "X.g4: rule s has no alternative without left recursion\n",
+        Status::GrammarRefused,
+    ),
+    (
+        "check X.g4",
+        "grammar X; r : ('a'*)* | r 'a' | s ; s : 'b' | s {x} ;",
+        "",
+        "",
+        "X.g4: rule s alternative 2 is an empty operator\n",
+        Status::GrammarRefused,
+    ),
+    (
+        "check X.g4",
+        "grammar X; r : {flag(x)}? 'a' | s ;",
+        "",
+        "",
+        "X.g4: line 1:15 syntax error at '{flag(x)}'\n",
+        Status::GrammarRefused,
     ),
 ];
 

@@ -1,19 +1,25 @@
 -- The numbered grammar of a source, from that of its parser rules and lexer rules.
-use Rattle.std.proofs.Common.{◌≡◌, ◌≤◌, ◌<◌, ℕ, List, [], length, Ok, Err, sym, ap, ◌∙◌, subst, All, arith}
-use Rattle.std.proofs.lemmas.List.{length-map}
+use Rattle.std.proofs.Common.{◌≡◌, ◌≤◌, ◌<◌, ◌++◌, ◌∷◌, ℕ, List, [], length, map, Ok, Err, refl, sym, ap, ◌∙◌, subst, All, arith}
+use Rattle.std.specs.List.{flat_map}
+use Rattle.std.proofs.lemmas.List.{append-nil, length-map}
+use Rattle.std.proofs.lemmas.List.Elements.{filter_map-append}
 use Rattle.g4_symbols.specs.declared.symbol.TheConstants.{MOST_TYPES}
 use Rattle.g4_source.specs.declared.atom.Atom.{Atom}
 use Rattle.g4_source.specs.declared.atom.TokenReference.{TokenReference}
 use Rattle.g4_source.specs.declared.rule.ParserRule.{ParserRule}
 use Rattle.g4_source.specs.declared.rule.LexerRule.{LexerRule}
 use Rattle.g4_source.specs.declared.source.Source.{Source}
-use Rattle.g4_source.specs.Rules.{parser_rules}
+use Rattle.g4_source.specs.declared.rule.Rule.{Rule}
+use Rattle.g4_source.specs.declared.rule.Rule.TheVariants.{Lexer}
+use Rattle.g4_source.specs.declared.source.Mode.{Mode}
+use Rattle.g4_source.specs.Rules.{parser_rule, parser_rules}
 use Rattle.g4_source.specs.Blocks.{HaveAlternatives, ParserRulesAreFull}
 use Rattle.g4_grammar.specs.declared.numbered.Numbered.{Numbered}
 use Rattle.g4_grammar.specs.declared.numbered.NumberedAtom.{NumberedAtom}
 use Rattle.g4_grammar.specs.declared.numbered.TokenRule.{TokenRule}
 use Rattle.g4_grammar.specs.NumberedRules.{HaveNoEmptyLoops, NumberedRuleIsQuiet, RuleLeavesEnd}
-use Rattle.g4_grammar.specs.Written.{RuleHasEmptyLoop, RuleIsQuiet, TokenRuleIsQuiet}
+use Rattle.g4_grammar.specs.Written.{HaveNoEmptyLoop, RuleIsQuiet, TokenRuleIsQuiet}
+use Rattle.g4_rules.specs.Rules.{mode_rules, rules_of}
 use Rattle.g4_vocab.specs.declared.fault.TheConstants.{MOST_RULES}
 use Rattle.g4_vocab.specs.declared.fault.NumberFault.{NumberFault}
 use Rattle.g4_vocab.specs.declared.fault.NumberFault.TheVariants.{Rules, Types, NoMemory}
@@ -43,6 +49,19 @@ source_err source parsers lexers Rules halves few given = absurd given
 source_err source parsers lexers Types halves few given = (few, of_source (λ ps ls. MOST_TYPES < greatest_type (types_with [] ps ls)) source parsers lexers halves given)
 source_err source parsers lexers NoMemory halves few given = tt
 
+-- modes have no parser rules
+of_mode : (rules : List LexerRule) → parser_rules (map Lexer rules) ≡ []
+of_mode [] = refl
+of_mode (rule ∷ rules) = of_mode rules
+
+of_modes : (modes : List Mode) → parser_rules (flat_map mode_rules modes) ≡ []
+of_modes [] = refl
+of_modes (mode ∷ modes) = filter_map-append parser_rule (mode_rules mode) (flat_map mode_rules modes) ∙ (ap (λ (rules : List (ParserRule Atom)). rules ++ parser_rules (flat_map mode_rules modes)) (of_mode mode.rules) ∙ of_modes modes)
+
+-- so the parser rules are those of the default mode
+no_more : (rules : List Rule) (modes : List Mode) → parser_rules (rules ++ flat_map mode_rules modes) ≡ parser_rules rules
+no_more rules modes = filter_map-append parser_rule rules (flat_map mode_rules modes) ∙ (ap (λ (more : List (ParserRule Atom)). parser_rules rules ++ more) (of_modes modes) ∙ append-nil (parser_rules rules))
+
 module _ (source : Source) (grammar : Numbered) (given : GivesNumbered source (Ok grammar)) where
   pub source_types : All (λ rule. rule.symbol ≤ MOST_TYPES) grammar.token_rules
   source_types = subst (λ (rules : List TokenRule). All (λ rule. rule.symbol ≤ MOST_TYPES) rules) (sym (ap (λ (g : Numbered). g.token_rules) given.2)) (symbols_low (types_of [] source.rules) (token_lexers source.rules) given.1)
@@ -64,8 +83,10 @@ module _ (source : Source) (grammar : Numbered) (given : GivesNumbered source (O
     subst (λ (rules : List TokenRule). All TokenRuleIsQuiet rules) (sym (ap (λ (g : Numbered). g.token_rules) given.2)) (tokens_quiet (types_of [] source.rules) (token_lexers source.rules) (lexers_quiet source.rules h)),
   )
 
-  pub source_loops : All (λ rule. RuleHasEmptyLoop source.rules rule → ⊥) source.rules → HaveNoEmptyLoops grammar.rules
-  source_loops h = subst HaveNoEmptyLoops (sym (ap (λ (g : Numbered). g.rules) given.2)) (rules_loops (token_lexers source.rules) (types_of [] source.rules) source.rules h)
+  pub source_loops : HaveNoEmptyLoop (rules_of source) → HaveNoEmptyLoops grammar.rules
+  source_loops h =
+      let rules : List (ParserRule Atom) → List (ParserRule NumberedAtom) = λ parsers. map (numbered_rule (token_lexers source.rules) (types_of [] source.rules)) parsers in
+      subst HaveNoEmptyLoops (sym (ap (λ (g : Numbered). g.rules) given.2)) (subst (λ parsers. HaveNoEmptyLoops (rules parsers)) (no_more source.rules source.modes) (rules_loops (token_lexers source.rules) (types_of [] source.rules) (rules_of source) h))
 
 -- what the halves give, from the tokens that the parser rules name
 pub halves_err : (parsers : List (ParserRule Atom)) (lexers : List LexerRule) (tokens : List TokenReference) (fault : NumberFault) → tokens ≡ all_references (all_atoms parsers) → Starts (wanted lexers tokens) (Err fault) → GivesNumberedHalves parsers lexers (Err fault)

@@ -3,7 +3,8 @@ ghost use Rattle.std.specs.Prelude.{◌≡◌, ◌≤◌, All, Contains, IfOk, [
 ghost use Rattle.g4_symbols.specs.Symbols.{end_of_list};
 ghost use Rattle.g4_source.specs.Blocks.{HaveAlternatives, ParserRulesAreFull};
 ghost use Rattle.g4_grammar.specs.NumberedRules.{HaveNoEmptyLoops, NumberedRuleIsQuiet, RuleLeavesEnd};
-ghost use Rattle.g4_grammar.specs.Written.{RuleHasEmptyLoop, RuleIsQuiet, TokenRuleIsQuiet};
+ghost use Rattle.g4_grammar.specs.Written.{HaveNoEmptyLoop, RuleIsQuiet, TokenRuleIsQuiet};
+ghost use Rattle.g4_rules.specs.Rules.{rules_of};
 ghost use Rattle.g4_vocab.specs.Answers.{GivesNumbered, GivesNumberedHalves};
 ghost use Rattle.g4_vocab.specs.Numbering.{all_atoms, all_references, numbered_alternative, numbered_rule, numbered_with};
 ghost use Rattle.g4_vocab.specs.Tables.{reference_of};
@@ -148,7 +149,7 @@ pub fn number(alloc: Global, source: &Source) -> Result<Numbered, NumberFault>
     ensures few { IfOk result (λ grammar. length grammar.rules ≤ MOST_RULES) }
     ensures ends { IfOk result (λ grammar. All RuleLeavesEnd grammar.rules) }
     ensures quiet { All RuleIsQuiet source.now.rules → IfOk result (λ grammar. All NumberedRuleIsQuiet grammar.rules × All TokenRuleIsQuiet grammar.token_rules) }
-    ensures loops { All (λ rule. RuleHasEmptyLoop source.now.rules rule → ⊥) source.now.rules → IfOk result (λ grammar. HaveNoEmptyLoops grammar.rules) }
+    ensures loops { HaveNoEmptyLoop (rules_of source.now) → IfOk result (λ grammar. HaveNoEmptyLoops grammar.rules) }
 {
     if source.rules.len() > MOST_RULES {
         return Err(NumberFault::Rules);

@@ -1,23 +1,23 @@
-use Rattle.std.proofs.Common.{◌∙◌}
-use Rattle.g4_tool.specs.Building.{FromGrammar}
-use Rattle.g4_tool.proofs.Built.{reported, names_are, steps_are, lent_rules, build_exit, lexer_exit, interpreted}
+use Rattle.std.proofs.Common.{Ok}
+use Rattle.std.proofs.lemmas.Result.{err_from_is_err_and}
+use Rattle.g4_tool.proofs.Built.{after_network_forms, network_exit, networks_exit}
 use Rattle.g4_tool.proofs.interpreter.interpret.Goals as goal
 
-pub returns-in-Err-clause-interpreting : goal.returns-in-Err-clause-interpreting
-returns-in-Err-clause-interpreting c =
-    let names = names_are c.args.grammar _ _ c.in_ok-names.ensures c.as_slice.ensures in
-    let steps = steps_are c.args.grammar _ _ _ _ names (c.new-2.ensures ∙ c.new.ensures.items) c.into_vec.ensures c.in_ok-steps.ensures.steps in
-    reported (FromGrammar c.args.start.now c.args.grammar) _ _ c.in_ok-not_built-in-Err.ensures (build_exit _ c.args.grammar _ _ (c.as_slice-2.ensures.value ∙ steps) c.in-Err.ensures)
+pub build_networks-requires : goal.build_networks-requires
+build_networks-requires c =
+    let quiet = c.requires.quiet (c.in_ok-check_network_forms.ensures.quiet c.requires.forms) in
+    record { few = c.requires.few; full = c.requires.full; ends = c.requires.ends; quiet = quiet.0; loops = c.requires.loops; types = c.requires.types; token_quiet = quiet.1 }
 
-pub returns-then-not-lexer_network_fits-clause-interpreting : goal.returns-then-not-lexer_network_fits-clause-interpreting
-returns-then-not-lexer_network_fits-clause-interpreting c =
-    let names = names_are c.args.grammar _ _ c.in_ok-names.ensures c.as_slice.ensures in
-    let steps = steps_are c.args.grammar _ _ _ _ names (c.new-2.ensures ∙ c.new.ensures.items) c.into_vec.ensures c.in_ok-steps.ensures.steps in
-    lexer_exit _ c.args.grammar _ c.in-Ok.net (c.as_slice-2.ensures.value ∙ steps) c.in-Ok.ensures _ (lent_rules _ _ _ c.as_slice-3.ensures c.lexer_network_fits.ensures) c.if-not-lexer_network_fits.true
+pub returns-in_err-check_network_forms-clause-interpreting : goal.returns-in_err-check_network_forms-clause-interpreting
+returns-in_err-check_network_forms-clause-interpreting c =
+    let p = err_from_is_err_and c.from_residual.result c.from_residual.ensures.1 in
+    rw (p.1, p.2) (network_exit c.args.start.now c.args.loaded _ c.in_err-check_network_forms.ensures.forms)
+
+pub returns-in_err-interpreter-clause-interpreting : goal.returns-in_err-interpreter-clause-interpreting
+returns-in_err-interpreter-clause-interpreting c =
+    let p = err_from_is_err_and c.from_residual-in_err-interpreter.result c.from_residual-in_err-interpreter.ensures.1 in
+    rw (p.1, p.2) (networks_exit c.args.start.now c.args.loaded c.in_ok-check_network_forms.ensures.forms _ c.in_err-interpreter.ensures.interpreting)
 
 pub returns-clause-interpreting : goal.returns-clause-interpreting
 returns-clause-interpreting c =
-    let names = names_are c.args.grammar _ _ c.in_ok-names.ensures c.as_slice.ensures in
-    let steps = steps_are c.args.grammar _ _ _ _ names (c.new-2.ensures ∙ c.new.ensures.items) c.into_vec.ensures c.in_ok-steps.ensures.steps in
-    interpreted _ c.args.grammar _ c.in-Ok.net (c.as_slice-2.ensures.value ∙ steps) c.in-Ok.ensures _ (lent_rules _ _ _ c.as_slice-3.ensures c.lexer_network_fits.ensures)
-    _ names c.if-not-lexer_network_fits.false
+    after_network_forms c.args.start.now c.args.loaded c.in_ok-check_network_forms.ensures.forms (Ok c.in_ok-interpreter.interpreter) c.in_ok-interpreter.ensures.interpreting

@@ -12,8 +12,8 @@ returns-in_err-bytes-clause-content g c = λ files told.
 
 pub returns-in-Ok-clause-content : goal.returns-in-Ok-clause-content
 returns-in-Ok-clause-content g c = λ files told.
-    loaded files c.args.name.now c.in_ok-bytes.bytes (c.in_ok-bytes.ensures.content files told) (Ok c.in-Ok.grammar)
-    (subst (λ (bs : List ℕ). IsGrammarIn bs (Ok c.in-Ok.grammar)) c.as_slice.ensures c.in-Ok.ensures.grammar)
+    loaded files c.args.name.now c.in_ok-bytes.bytes (c.in_ok-bytes.ensures.content files told) (Ok c.in-Ok.loaded)
+    (subst (λ (bs : List ℕ). IsGrammarIn bs (Ok c.in-Ok.loaded)) c.as_slice.ensures c.in-Ok.ensures.grammar)
 
 pub returns-in-Err-Fault-clause-content : goal.returns-in-Err-Fault-clause-content
 returns-in-Err-Fault-clause-content g c = λ files told.

@@ -11,26 +11,37 @@ returns-in_err-source-clause-grammar c =
 pub returns-in_err-check_forms-clause-grammar : goal.returns-in_err-check_forms-clause-grammar
 returns-in_err-check_forms-clause-grammar c =
     let p = err_from_is_err_and c.from_residual-in_err-check_forms.result c.from_residual-in_err-check_forms.ensures.1 in
-    rw (p.1, p.2) (form_exit _ c.in_ok-source.source c.in_ok-source.ensures.reading _ c.in_err-check_forms.ensures.forms)
+    rw (p.1, p.2) (form_exit _ c.in_ok-source.source c.in_ok-source.ensures.reading _ c.in_err-check_forms.ensures)
 
 pub returns-in_err-check_names-clause-grammar : goal.returns-in_err-check_names-clause-grammar
 returns-in_err-check_names-clause-grammar c =
     let p = err_from_is_err_and c.from_residual-in_err-check_names.result c.from_residual-in_err-check_names.ensures.1 in
-    rw (p.1, p.2) (name_exit _ c.in_ok-source.source c.in_ok-source.ensures.reading c.in_ok-check_forms.ensures.forms _ c.in_err-check_names.ensures)
+    rw (p.1, p.2) (name_exit _ c.in_ok-source.source c.in_ok-source.ensures.reading c.in_ok-check_forms.ensures _ c.in_err-check_names.ensures)
 
 pub returns-in_err-grammar-clause-grammar : goal.returns-in_err-grammar-clause-grammar
 returns-in_err-grammar-clause-grammar c =
     let p = err_from_is_err_and c.from_residual-in_err-grammar.result c.from_residual-in_err-grammar.ensures.1 in
-    rw (p.1, p.2) (number_exit _ c.in_ok-source.source c.in_ok-source.ensures.reading c.in_ok-check_forms.ensures.forms c.in_ok-check_names.ensures _ c.in_err-grammar.ensures.numbered)
+    rw (p.1, p.2) (number_exit _ c.in_ok-source.source c.in_ok-source.ensures.reading c.in_ok-check_forms.ensures c.in_ok-check_names.ensures _ c.in_err-grammar.ensures.numbered)
 
 pub returns-in_err-check-clause-grammar : goal.returns-in_err-check-clause-grammar
 returns-in_err-check-clause-grammar c =
     let p = err_from_is_err_and c.from_residual-in_err-check.result c.from_residual-in_err-check.ensures.1 in
     rw (p.1, p.2)
-    (check_exit _ c.in_ok-source.source c.in_ok-source.ensures.reading c.in_ok-check_forms.ensures.forms c.in_ok-check_names.ensures c.in_ok-grammar.grammar c.in_ok-grammar.ensures.numbered
-    _ (c.in_err-check.ensures c.in_ok-check_forms.ensures.quiet))
+    (check_exit _ c.in_ok-source.source c.in_ok-source.ensures.reading c.in_ok-check_forms.ensures c.in_ok-check_names.ensures c.in_ok-grammar.grammar c.in_ok-grammar.ensures.numbered
+    _ c.in_err-check.ensures)
 
 pub returns-clause-grammar : goal.returns-clause-grammar
 returns-clause-grammar c =
-    checked _ c.in_ok-source.source c.in_ok-source.ensures.reading c.in_ok-check_forms.ensures.forms c.in_ok-check_names.ensures c.in_ok-grammar.grammar c.in_ok-grammar.ensures.numbered
-    (c.in_ok-check.ensures c.in_ok-check_forms.ensures.quiet)
+    checked _ c.in_ok-source.source c.in_ok-source.ensures.reading c.in_ok-check_forms.ensures c.in_ok-check_names.ensures c.in_ok-grammar.grammar c.in_ok-grammar.ensures.numbered
+    c.in_ok-check.ensures
+
+pub returns-clause-checked : goal.returns-clause-checked
+returns-clause-checked c = record {
+  few = c.in_ok-grammar.ensures.few;
+  full = c.in_ok-grammar.ensures.full c.in_ok-source.ensures.full;
+  ends = c.in_ok-grammar.ensures.ends;
+  loops = c.in_ok-grammar.ensures.loops c.in_ok-check.ensures.1.0.1;
+  types = c.in_ok-grammar.ensures.types;
+  forms = c.in_ok-check_forms.ensures;
+  quiet = c.in_ok-grammar.ensures.quiet;
+}

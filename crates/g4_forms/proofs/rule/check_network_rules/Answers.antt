@@ -1,0 +1,16 @@
+use Rattle.std.proofs.Common.{arith}
+use Rattle.std.proofs.lemmas.Result.{err_from_is_err_and}
+use Rattle.g4_forms.specs.Forms.{network_rule_forms}
+use Rattle.g4_forms.proofs.Firsts.{one_passed, one_told, all_passed}
+use Rattle.g4_forms.proofs.rule.check_network_rules.Goals as goal
+
+pub returns-in_err-check_network_rule : goal.returns-in_err-check_network_rule
+returns-in_err-check_network_rule c =
+    let p = err_from_is_err_and c.from_residual.result c.from_residual.ensures.1 in
+    rw (p.1, p.2) (one_told network_rule_forms c.args.rules.now c.loop-rule.rule-index c.rule-item.result c.in_err-check_network_rule.field-0.0 (omega arith) c.rule-item.is c.in_err-check_network_rule.ensures c.loop-rule.invariant)
+
+pub loop-rule-preserved : goal.loop-rule-preserved
+loop-rule-preserved c = one_passed network_rule_forms c.args.rules.now c.loop-rule.rule-index c.rule-item.result (omega arith) c.rule-item.is c.in_ok-check_network_rule.ensures c.loop-rule.invariant
+
+pub returns : goal.returns
+returns c = all_passed network_rule_forms c.args.rules.now c.loop-rule.rule-index (omega arith) c.loop-rule.invariant

@@ -1,0 +1,185 @@
+-- An atom of a rule and what it does before anything is read: both read the empty word, and both call the same rules. So the
+-- rules over leads are the rules over their atoms.
+use Rattle.std.proofs.Common.{◌≡◌, ◌↔◌, ◌⊎◌, ℕ, List, [], ◌∷◌, map, inl, inr, Bool, true, false, cond, codes, Option, Some, None, refl, sym, ap, ◌∙◌}
+use Rattle.std.specs.Str.{bytes_eq}
+use Rattle.g4_elements.specs.Elements.{Element, atom, block, Elements, empty, then, Alternatives, none, or, either}
+use Rattle.g4_elements.specs.Bind.{over, in_order_over, either_over}
+use Rattle.g4_source.specs.declared.atom.Atom.{Atom}
+use Rattle.g4_source.specs.declared.atom.AtomKind.{AtomKind}
+use Rattle.g4_source.specs.declared.atom.AtomKind.TheVariants as atoms
+use Rattle.g4_source.specs.declared.rule.Rule.{Rule}
+use Rattle.g4_source.specs.declared.rule.Rule.TheVariants as rule_variants
+use Rattle.g4_source.specs.declared.rule.RuleAlternative.{RuleAlternative}
+use Rattle.g4_source.specs.declared.rule.LexerAlternative.{LexerAlternative}
+use Rattle.g4_rules.specs.declared.kind.RuleKind.{RuleKind}
+use Rattle.g4_rules.specs.declared.kind.RuleKind.TheVariants.{Parser, Lexer}
+use Rattle.g4_rules.specs.Atoms.{AtomIn, atom_in, body_of, bodies_of}
+use Rattle.g4_rules.specs.declared.rules.RuleView.{RuleView}
+use Rattle.g4_rules.specs.Views.{rule_view}
+use Rattle.g4_rules.proofs.Lists.{map-map}
+use mathlib.Core.Path.{fun_ext}
+use Rattle.g4_grammar.specs.Written.{CallsIn, KindCalls, KindReads, ReadsIn}
+use Rattle.g4_grammar.proofs.Carried.{in_order_over_twice}
+use Rattle.g4_nullable.specs.declared.lead.Lead.{Lead}
+use Rattle.g4_nullable.specs.declared.lead.Lead.TheVariants.{Empty, Symbol, Call}
+use Rattle.g4_nullable.specs.declared.lead.LeadRule.{LeadRule}
+use Rattle.g4_nullable.specs.Leads.{ReadsLead, CallsLead, trees_of}
+use Rattle.g4_recursion.specs.declared.numbers.Numbers.{Numbers}
+use Rattle.g4_recursion.specs.Numbers.{AreNumbers, number_in, rule_number}
+use Rattle.g4_recursion.specs.Leads.{lead_by, lead_in, leads_by, leads_in, reference_lead, text_lead}
+
+-- a symbol does not read the empty word
+symbol_reads : ReadsLead Symbol [] → ⊥
+symbol_reads h = let e : [] ≡ h.0 ∷ [] = h.1 in let n : ⊥ = cc in n
+
+-- a reference does not read the empty word
+reference_reads : (o : Option ℕ) → ReadsLead (reference_lead o) [] → ⊥
+reference_reads None h = symbol_reads h
+reference_reads (Some k) h = h
+
+-- the rule that a reference calls
+reference_calls : (o : Option ℕ) (k : ℕ) → (o ≡ Some k) ↔ CallsLead (reference_lead o) k
+reference_calls None k = (λ e. absurd (let n : ⊥ = cc in n), λ h. absurd h)
+reference_calls (Some j) k = (λ e. let s : k ≡ j = cc in s, λ e. ap (λ (n : ℕ). Some n) (sym e))
+
+-- a text reads the empty word where it is empty
+text_reads : (cs : List ℕ) → ([] ≡ cs) ↔ ReadsLead (text_lead cs) []
+text_reads [] = (λ e. refl, λ e. refl)
+text_reads (c ∷ cs) = (λ e. absurd (let n : ⊥ = cc in n), λ h. absurd (symbol_reads h))
+
+-- the end of the file reads the empty word, and any other upper-case name of a lexer rule does not
+token_reads : (b : Bool) (o : Option ℕ) → (⊥ ⊎ ((b ≡ true) × (◌≡◌ {A = List ℕ} [] []))) ↔ ReadsLead (cond b Empty (reference_lead o)) []
+token_reads true o = (λ h. refl, λ h. inr (refl, refl))
+token_reads false o = (λ h. elim h [ inl n ↦ absurd n | inr e ↦ absurd (let wrong : false ≡ true = e.0 in let n : ⊥ = cc in n) ], λ h. absurd (reference_reads o h))
+
+-- the end of the file calls no rule
+token_calls : (b : Bool) (o : Option ℕ) (k : ℕ) → ((b ≡ false) × (o ≡ Some k)) ↔ CallsLead (cond b Empty (reference_lead o)) k
+token_calls true o k = (λ h. absurd (let wrong : true ≡ false = h.0 in let n : ⊥ = cc in n), λ h. absurd h)
+token_calls false o k = (λ h. (reference_calls o k).0 h.1, λ h. (refl, (reference_calls o k).1 h))
+
+-- what reads a character does not read the empty word
+one_character : {P : ℕ → Type 0} {Q : Type 0} → (((c : ℕ) × ([] ≡ c ∷ []) × P c) ⊎ (⊥ × Q)) ↔ ReadsLead Symbol []
+one_character = (λ h. elim h [ inl m ↦ absurd (let e : [] ≡ m.0 ∷ [] = m.1 in let n : ⊥ = cc in n) | inr n ↦ absurd n.0 ], λ h. absurd (symbol_reads h))
+
+-- what reads nothing at all
+no_word : {Q : Type 0} → (⊥ ⊎ (⊥ × Q)) ↔ ReadsLead Symbol []
+no_word = (λ h. elim h [ inl n ↦ absurd n | inr n ↦ absurd n.0 ], λ h. absurd (symbol_reads h))
+
+-- what reads the empty word alone
+empty_word : {Q : Type 0} → ((◌≡◌ {A = List ℕ} [] []) ⊎ (⊥ × Q)) ↔ ReadsLead Empty []
+empty_word = (λ h. refl, λ h. inl refl)
+
+module _ (rules : List Rule) where
+  -- what atoms do, by the numbers of these rules
+  abbrev lead : RuleKind → AtomKind → Lead
+  lead kind a = lead_by (rule_number rules) kind a
+
+  -- an atom of a rule of this kind reads the empty word where its lead does
+  reads_kind : (kind : RuleKind) (a : AtomKind) → KindReads kind a [] ↔ ReadsLead (lead kind a) []
+  reads_kind Parser (atoms.Rule name) = (λ h. absurd h, λ h. absurd (reference_reads (rule_number rules Parser name.text) h))
+  reads_kind Parser (atoms.Token name) = (λ h. h, λ h. h)
+  reads_kind Parser (atoms.Literal literal) = (λ h. h, λ h. h)
+  reads_kind Parser (atoms.Range place first last) = (λ h. absurd h, λ h. absurd (symbol_reads h))
+  reads_kind Parser (atoms.Set set) = (λ h. absurd h, λ h. absurd (symbol_reads h))
+  reads_kind Parser (atoms.Any place) = (λ h. h, λ h. h)
+  reads_kind Parser (atoms.NotTokens place tokens) = (λ h. h, λ h. h)
+  reads_kind Parser (atoms.NotCharacters place set) = (λ h. absurd h, λ h. absurd (symbol_reads h))
+  reads_kind Parser atoms.Action = (λ h. h, λ h. h)
+  reads_kind Parser (atoms.Predicate name) = (λ h. h, λ h. h)
+  reads_kind Lexer (atoms.Rule name) = no_word
+  reads_kind Lexer (atoms.Token name) = token_reads (bytes_eq name.text (codes "EOF")) (rule_number rules Lexer name.text)
+  reads_kind Lexer (atoms.Literal literal) = (λ h. elim h [ inl e ↦ (text_reads literal.characters).0 e | inr n ↦ absurd n.0 ], λ h. inl ((text_reads literal.characters).1 h))
+  reads_kind Lexer (atoms.Range place first last) = (λ h. elim h [ inl m ↦ (m.0, m.1) | inr n ↦ absurd n.0 ], λ h. absurd (symbol_reads h))
+  reads_kind Lexer (atoms.Set set) = (λ h. elim h [ inl m ↦ (m.0, m.1) | inr n ↦ absurd n.0 ], λ h. absurd (symbol_reads h))
+  reads_kind Lexer (atoms.Any place) = (λ h. elim h [ inl m ↦ (m.0, m.1) | inr n ↦ absurd n.0 ], λ h. absurd (symbol_reads h))
+  reads_kind Lexer (atoms.NotTokens place tokens) = no_word
+  reads_kind Lexer (atoms.NotCharacters place set) = (λ h. elim h [ inl m ↦ (m.0, m.1) | inr n ↦ absurd n.0 ], λ h. absurd (symbol_reads h))
+  reads_kind Lexer atoms.Action = empty_word
+  reads_kind Lexer (atoms.Predicate name) = empty_word
+
+  -- an atom reads the empty word where its lead does
+  pub reads : (a : AtomIn) → ReadsIn a [] ↔ ReadsLead (lead_in rules a) []
+  reads a = reads_kind a.kind a.atom.kind
+
+  -- an atom of a rule of this kind calls a rule where its lead does
+  calls_kind : (kind : RuleKind) (a : AtomKind) (k : ℕ) → KindCalls rules kind a k ↔ CallsLead (lead kind a) k
+  calls_kind Parser (atoms.Rule name) k = reference_calls (rule_number rules Parser name.text) k
+  calls_kind Parser (atoms.Token name) k = (λ h. h, λ h. h)
+  calls_kind Parser (atoms.Literal literal) k = (λ h. h, λ h. h)
+  calls_kind Parser (atoms.Range place first last) k = (λ h. h, λ h. h)
+  calls_kind Parser (atoms.Set set) k = (λ h. h, λ h. h)
+  calls_kind Parser (atoms.Any place) k = (λ h. h, λ h. h)
+  calls_kind Parser (atoms.NotTokens place tokens) k = (λ h. h, λ h. h)
+  calls_kind Parser (atoms.NotCharacters place set) k = (λ h. h, λ h. h)
+  calls_kind Parser atoms.Action k = (λ h. h, λ h. h)
+  calls_kind Parser (atoms.Predicate name) k = (λ h. h, λ h. h)
+  calls_kind Lexer (atoms.Rule name) k = (λ h. h, λ h. h)
+  calls_kind Lexer (atoms.Token name) k = token_calls (bytes_eq name.text (codes "EOF")) (rule_number rules Lexer name.text) k
+  calls_kind Lexer (atoms.Literal literal) k = by literal.characters
+    where
+      by : (cs : List ℕ) → ⊥ ↔ CallsLead (text_lead cs) k
+      by [] = (λ h. h, λ h. h)
+      by (c ∷ cs) = (λ h. h, λ h. h)
+  calls_kind Lexer (atoms.Range place first last) k = (λ h. h, λ h. h)
+  calls_kind Lexer (atoms.Set set) k = (λ h. h, λ h. h)
+  calls_kind Lexer (atoms.Any place) k = (λ h. h, λ h. h)
+  calls_kind Lexer (atoms.NotTokens place tokens) k = (λ h. h, λ h. h)
+  calls_kind Lexer (atoms.NotCharacters place set) k = (λ h. h, λ h. h)
+  calls_kind Lexer atoms.Action k = (λ h. h, λ h. h)
+  calls_kind Lexer (atoms.Predicate name) k = (λ h. h, λ h. h)
+
+  -- an atom calls a rule where its lead does
+  pub calls : (a : AtomIn) (k : ℕ) → CallsIn rules a k ↔ CallsLead (lead_in rules a) k
+  calls a k = calls_kind a.kind a.atom.kind k
+
+-- what calls a rule is a call of it
+pub is_call : (lead : Lead) (k : ℕ) → CallsLead lead k → lead ≡ Call k
+is_call Empty k h = absurd h
+is_call Symbol k h = absurd h
+is_call (Call j) k h = ap (λ (n : ℕ). Call n) (sym h)
+
+-- what becomes of items in two steps
+map_twice : {X Y Z : Type 0} (whole : X → Z) (first : X → Y) (second : Y → Z) → ((x : X) → whole x ≡ second (first x)) → (xs : List X) → map whole xs ≡ map second (map first xs)
+map_twice whole first second same [] = refl
+map_twice whole first second same (x ∷ xs) = let e = same x in let es = map_twice whole first second same xs in cc
+
+module _ (rules : List Rule) where
+  -- the alternatives of a parser rule over leads
+  pub parser_leads : (alternatives : List (RuleAlternative Atom)) →
+      map (λ a. in_order_over (λ b. lead_by (rule_number rules) Parser b.kind) a.elements) alternatives ≡ map (in_order_over (lead_in rules)) (map (λ a. in_order_over (atom_in Parser) a.elements) alternatives)
+  parser_leads alternatives =
+      map_twice (λ (a : RuleAlternative Atom). in_order_over (λ b. lead_by (rule_number rules) Parser b.kind) a.elements) (λ a. in_order_over (atom_in Parser) a.elements) (in_order_over (lead_in rules))
+      (λ a. sym (in_order_over_twice (lead_in rules) (atom_in Parser) a.elements)) alternatives
+
+  -- as trees
+  parser_trees : (alternatives : List (RuleAlternative Atom)) →
+      either (map (λ a. in_order_over (λ b. lead_by (rule_number rules) Parser b.kind) a.elements) alternatives) ≡ either_over (lead_in rules) (either_over (atom_in Parser) (either (map (λ a. a.elements) alternatives)))
+  parser_trees [] = refl
+  parser_trees (a ∷ more) = let e = in_order_over_twice (lead_in rules) (atom_in Parser) a.elements in let es = parser_trees more in cc
+
+  -- those of a lexer rule
+  lexer_trees : (alternatives : List LexerAlternative) →
+      either (map (λ a. in_order_over (λ b. lead_by (rule_number rules) Lexer b.kind) a.elements) alternatives) ≡ either_over (lead_in rules) (either_over (atom_in Lexer) (either (map (λ a. a.elements) alternatives)))
+  lexer_trees [] = refl
+  lexer_trees (a ∷ more) = let e = in_order_over_twice (lead_in rules) (atom_in Lexer) a.elements in let es = lexer_trees more in cc
+
+  -- the tree of a rule over leads
+  pub rule_tree : (rule : Rule) → either (leads_by (rule_number rules) rule) ≡ either_over (lead_in rules) (body_of rule)
+  rule_tree (rule_variants.Parser rule) = parser_trees rule.alternatives
+  rule_tree (rule_variants.Lexer rule) = lexer_trees rule.alternatives
+
+  -- the trees of some of the rules
+  some_trees : (some : List Rule) → map either (map (leads_by (rule_number rules)) some) ≡ map (either_over (lead_in rules)) (map body_of some)
+  some_trees [] = refl
+  some_trees (rule ∷ more) = let e = rule_tree rule in let es = some_trees more in cc
+
+  -- the trees of all rules over leads are their trees
+  pub trees_over : (leads : List LeadRule) → map (λ lead. lead.alternatives) leads ≡ leads_in rules → trees_of leads ≡ map (either_over (lead_in rules)) (bodies_of rules)
+  trees_over leads is = sym (map-map either (λ (lead : LeadRule). lead.alternatives) leads) ∙ (ap (map either) is ∙ some_trees rules)
+
+-- the leads that are made by the numbers of rules are theirs
+pub all_leads : (views : List RuleView) (numbers : Numbers) (made : List (List (Elements Lead))) →
+    AreNumbers (map rule_view views) numbers → made ≡ map (λ view. leads_by (number_in numbers) (rule_view view)) views → made ≡ leads_in (map rule_view views)
+all_leads views numbers made are is =
+    let same : number_in numbers ≡ rule_number (map rule_view views) = fun_ext (λ kind. fun_ext (λ name. are kind name)) in
+    is ∙ (ap (λ (find : RuleKind → List ℕ → Option ℕ). map (λ view. leads_by find (rule_view view)) views) same ∙ sym (map-map (leads_by (rule_number (map rule_view views))) rule_view views))

@@ -1,0 +1,7 @@
+mod Bridge
+mod Leading
+mod Numbering
+pub mod OneAnswer
+mod Over
+mod Read
+mod Searching
