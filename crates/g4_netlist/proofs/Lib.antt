@@ -1,0 +1,5 @@
+mod Contained
+mod Marking
+mod Marked
+mod Ends
+mod Same

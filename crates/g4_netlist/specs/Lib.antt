@@ -1,0 +1,4 @@
+pub mod Listing
+pub mod OfRule
+pub mod Searching
+pub mod Shown
