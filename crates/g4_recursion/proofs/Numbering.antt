@@ -1,54 +1,15 @@
 -- The numbers of rules by their names, one rule more at a time.
-use Rattle.std.proofs.Common.{◌≡◌, ℕ, ◌+◌, ◌<◌, ◌≤◌, not, List, [], ◌∷◌, ◌++◌, length, map, take, get_or, Bool, true, false, cond, Option, Some, None, refl, sym, ap, ◌∙◌, arith}
-use Rattle.std.specs.List.{position, position_or_len}
-use Rattle.std.specs.Option.{is_some, option_or}
-use Rattle.std.specs.Str.{bytes_eq}
-use Rattle.std.proofs.lemmas.Bool.Decides.{nat_tests}
-use Rattle.std.proofs.lemmas.List.{take_more, map-append, length-map, length-take, length-append}
-use Rattle.std.proofs.lemmas.List.Folds.{position_or_len_push}
-use Rattle.std.proofs.lemmas.List.Sums.{prefix_len-le-length}
-use Rattle.std.proofs.lemmas.Slice.Eq.{bytes_eq-Decides}
+use Rattle.std.proofs.Common.{◌≡◌, ℕ, ◌+◌, ◌<◌, List, [], ◌∷◌, ◌++◌, length, map, take, get_or, cond, Option, Some, None, sym, ap, ◌∙◌, arith}
+use Rattle.std.specs.List.{position}
+use Rattle.std.specs.Option.{option_or}
+use Rattle.std.proofs.lemmas.List.{take_more, map-append, length-map, length-take}
+use Rattle.g4_places.proofs.Firsts.{position-push}
 use Rattle.g4_rules.specs.declared.kind.RuleKind.{RuleKind}
 use Rattle.g4_rules.specs.declared.rules.RuleView.{RuleView}
 use Rattle.g4_rules.specs.Views.{rule_view}
 use Rattle.g4_grammar.specs.Written.{is_rule_of}
 use Rattle.g4_recursion.specs.declared.numbers.Numbers.{Numbers}
 use Rattle.g4_recursion.specs.Numbers.{AreNumbers, number_in, rule_number}
-
--- or nothing
-or_none : (o : Option ℕ) → option_or o None ≡ o
-or_none None = refl
-or_none (Some k) = refl
-
--- a name that is not there is given a number
-pub new_name : (old : List ℕ → Option ℕ) (name : List ℕ) (number : ℕ) → is_some (old name) ≡ false → (other : List ℕ) → cond (bytes_eq name other) (Some number) (old other) ≡ option_or (old other) (cond (bytes_eq name other) (Some number) None)
-new_name old name number absent other = by (bytes_eq name other) (old other) refl refl
-  where
-    by : (b : Bool) (o : Option ℕ) → bytes_eq name other ≡ b → old other ≡ o → cond b (Some number) o ≡ option_or o (cond b (Some number) None)
-    by true None e f = refl
-    by true (Some k) e f =
-        let same : name ≡ other = (bytes_eq-Decides name other).0 e in
-        let there : is_some (old name) ≡ true = ap (λ (n : List ℕ). is_some (old n)) same ∙ ap (λ (o : Option ℕ). is_some o) f in cc
-    by false o e f = sym (or_none o)
-
--- a name that is there keeps its number
-pub old_name : (old : List ℕ → Option ℕ) (name : List ℕ) (number : ℕ) → is_some (old name) ≡ true → (other : List ℕ) → old other ≡ option_or (old other) (cond (bytes_eq name other) (Some number) None)
-old_name old name number there other = by (bytes_eq name other) (old other) refl refl
-  where
-    by : (b : Bool) (o : Option ℕ) → bytes_eq name other ≡ b → old other ≡ o → o ≡ option_or o (cond b (Some number) None)
-    by true None e f =
-        let same : name ≡ other = (bytes_eq-Decides name other).0 e in
-        let absent : is_some (old name) ≡ false = ap (λ (n : List ℕ). is_some (old n)) same ∙ ap (λ (o : Option ℕ). is_some o) f in cc
-    by true (Some k) e f = refl
-    by false o e f = sym (or_none o)
-
--- the place of the first item that passes, with one item more
-position-push : {X : Type 0} (p : X → Bool) (xs : List X) (x : X) → position p (xs ++ x ∷ []) ≡ option_or (position p xs) (cond (p x) (Some (length xs)) None)
-position-push p xs x =
-    let short : position_or_len p xs ≤ length xs = prefix_len-le-length (λ y. not (p y)) xs in
-    let next = position_or_len_push p xs x in
-    let long = length-append xs (x ∷ []) in
-    grind (arith, nat_tests)
 
 -- these are the numbers of the rules before an index
 abbrev pub AreNumbered : List RuleView → ℕ → Numbers → Type 0

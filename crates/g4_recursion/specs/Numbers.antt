@@ -1,24 +1,17 @@
 -- The numbers of rules by their names.
 use Rattle.std.specs.Prelude.{◌≡◌, ℕ, List, Option}
-use Rattle.std.specs.Borrow.{Bor}
-use Rattle.std.specs.BTreeMap.{BTreeMap, get_by}
-use Rattle.std.specs.Cmp.Lexicographic.{slice_cmp}
 use Rattle.std.specs.List.{position}
-use Rattle.std.specs.Ordering.{nat_cmp}
+use Rattle.g4_places.specs.Places.{place_in}
 use Rattle.g4_source.specs.declared.rule.Rule.{Rule}
 use Rattle.g4_rules.specs.declared.kind.RuleKind.{RuleKind}
 use Rattle.g4_rules.specs.declared.kind.RuleKind.TheVariants.{Parser, Lexer}
 use Rattle.g4_grammar.specs.Written.{is_rule_of}
 use Rattle.g4_recursion.specs.declared.numbers.Numbers.{Numbers}
 
--- the number that a map has for a name
-abbrev pub number_at : BTreeMap (Bor (List ℕ)) ℕ → List ℕ → Option ℕ
-number_at numbers name = get_by (λ k. slice_cmp nat_cmp name k.now) numbers
-
 -- the number of a name of this kind
 abbrev pub number_in : Numbers → RuleKind → List ℕ → Option ℕ
-number_in numbers Parser name = number_at numbers.parsers name
-number_in numbers Lexer name = number_at numbers.lexers name
+number_in numbers Parser name = place_in numbers.parsers name
+number_in numbers Lexer name = place_in numbers.lexers name
 
 -- the number of the first rule of this kind and name
 abbrev pub rule_number : List Rule → RuleKind → List ℕ → Option ℕ

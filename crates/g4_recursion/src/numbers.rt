@@ -1,35 +1,20 @@
 // The numbers of rules by their names.
 ghost use Rattle.std.specs.Prelude.{◌≡◌, ◌<◌, ◌^◌, ℕ, List, IfOk, OnOk, if◌then◌else◌, length, map};
 ghost use Rattle.std.specs.Option.{option_or};
-ghost use Rattle.std.specs.Str.{bytes_eq};
 ghost use Rattle.g4_grammar.specs.Written.{is_rule_of};
 ghost use Rattle.g4_rules.specs.Views.{rule_view};
 ghost use Rattle.g4_rules.specs.declared.kind.RuleKind.{RuleKind as Kind};
-ghost use Rattle.g4_recursion.specs.Numbers.{AreNumbers, number_at, number_in};
+ghost use Rattle.g4_recursion.specs.Numbers.{AreNumbers, number_in};
 
+use g4_places::Places;
 use g4_rules::{RuleKind, RuleView};
 use std::alloc::{AllocError, Global};
-use std::collections::BTreeMap;
 
 /// The number of the first rule of each name, for parser rules and for lexer rules.
 #[derive(Drop)]
 pub struct Numbers<'a> {
-    parsers: BTreeMap<&'a str, u32>,
-    lexers: BTreeMap<&'a str, u32>,
-}
-
-/// Gives the name this number, unless it has one.
-fn insert_first<'a>(
-    numbers: &mut BTreeMap<&'a str, u32>,
-    name: &'a str,
-    number: u32,
-) -> Result<(), AllocError>
-    ensures { OnOk result ((other : List ℕ) → number_at numbers.new other ≡ option_or (number_at numbers.old other) (if bytes_eq name.now other then Some number else None)) }
-{
-    if !numbers.contains_key(name) {
-        numbers.insert(name, number)?;
-    }
-    Ok(())
+    parsers: Places<'a>,
+    lexers: Places<'a>,
 }
 
 impl<'a> Numbers<'a> {
@@ -38,8 +23,8 @@ impl<'a> Numbers<'a> {
         ensures { result ≡ number_in self.now kind name.now }
     {
         match kind {
-            RuleKind::Parser => self.parsers.get(name).copied(),
-            RuleKind::Lexer => self.lexers.get(name).copied(),
+            RuleKind::Parser => self.parsers.place_of(name),
+            RuleKind::Lexer => self.lexers.place_of(name),
         }
     }
 
@@ -49,10 +34,10 @@ impl<'a> Numbers<'a> {
     {
         match rule {
             RuleView::Parser(rule) => {
-                insert_first(&mut self.parsers, rule.name.as_str(), number)?;
+                self.parsers.add(rule.name.as_str(), number)?;
             }
             RuleView::Lexer(rule) => {
-                insert_first(&mut self.lexers, rule.name.as_str(), number)?;
+                self.lexers.add(rule.name.as_str(), number)?;
             }
         }
         Ok(())
@@ -71,8 +56,8 @@ pub fn numbers_of<'a>(alloc: Global, rules: &[RuleView<'a>]) -> Result<Numbers<'
         return Err(AllocError);
     }
     let mut numbers = Numbers {
-        parsers: BTreeMap::new(alloc),
-        lexers: BTreeMap::new(alloc),
+        parsers: Places::new(alloc),
+        lexers: Places::new(alloc),
     };
     for (number, rule) in rules.iter().enumerate() {
         numbers.add(*rule, number as u32)?;
