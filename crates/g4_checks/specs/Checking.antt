@@ -1,7 +1,6 @@
 -- The faults that are looked for in a grammar's rules: first those of what the rules name, and then those of how they call each
 -- other.
-use Rattle.std.specs.Prelude.{ℕ, List, Result, Ok, Err, ⊤}
-use Rattle.g4_base.specs.declared.place.Place.{Place}
+use Rattle.std.specs.Prelude.{Result, Ok, Err, ⊤}
 use Rattle.g4_source.specs.declared.source.Source.{Source}
 use Rattle.g4_rules.specs.Rules.{rules_of}
 use Rattle.g4_references.specs.declared.checking.ReferenceFault.{ReferenceFault}

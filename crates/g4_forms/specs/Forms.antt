@@ -1,5 +1,4 @@
--- The forms of the grammar language that are read but not run yet: some are refused directly after reading, those of parser
--- rules before a network is made of them.
+-- The forms of the grammar language that are read but not run yet.
 use Rattle.std.specs.Prelude.{ℕ, List, [], ◌∷◌, ◌++◌, Option, Some, None, codes, cond}
 use Rattle.std.specs.List.{flat_map}
 use Rattle.std.specs.Str.{bytes_eq}
@@ -19,15 +18,14 @@ use Rattle.g4_source.specs.declared.prequel.Setting.{Setting}
 use Rattle.g4_source.specs.declared.rule.Rule.{Rule}
 use Rattle.g4_source.specs.declared.rule.Rule.TheVariants as rules
 use Rattle.g4_source.specs.declared.rule.RuleAlternative.{RuleAlternative}
-use Rattle.g4_source.specs.declared.rule.AlternativeLabel.{AlternativeLabel}
 use Rattle.g4_source.specs.declared.rule.LexerAlternative.{LexerAlternative}
 use Rattle.g4_source.specs.declared.rule.Command.{Command}
 use Rattle.g4_source.specs.declared.source.GrammarKind.{GrammarKind}
 use Rattle.g4_source.specs.declared.source.GrammarKind.TheVariants as grammars
 use Rattle.g4_source.specs.declared.source.Source.{Source}
 use Rattle.g4_source.specs.Rules.{is_skip}
-use Rattle.g4_forms.specs.declared.stage.Stage.{Stage}
-use Rattle.g4_forms.specs.declared.stage.Stage.TheVariants.{Parser, Lexer, Network}
+use Rattle.g4_rules.specs.declared.kind.RuleKind.{RuleKind}
+use Rattle.g4_rules.specs.declared.kind.RuleKind.TheVariants.{Parser, Lexer}
 
 -- a form that is not run: the place of its first token, and the bytes of that token
 pub record Form : Type 0 where
@@ -42,12 +40,12 @@ one_form place text = record { place = place; text = text } ∷ []
 abbrev pub named : Name → List Form
 named name = one_form name.place name.text
 
--- an atom of a parser rule that has been read: only a predicate is refused
+-- an atom of a parser rule: only a predicate is not run
 abbrev pub parser_atom_forms : AtomKind → List Form
 parser_atom_forms (atoms.Predicate text) = named text
 parser_atom_forms a = []
 
--- an atom of a lexer rule that has been read: what calls a rule, is any character, is all but some, or tests anything
+-- an atom of a lexer rule: what calls a rule, is any character, is all but some, or tests anything
 abbrev pub lexer_atom_forms : AtomKind → List Form
 lexer_atom_forms (atoms.Rule name) = named name
 lexer_atom_forms (atoms.Token name) = named name
@@ -60,31 +58,20 @@ lexer_atom_forms (atoms.NotCharacters place set) = one_form place (codes "~")
 lexer_atom_forms atoms.Action = []
 lexer_atom_forms (atoms.Predicate text) = named text
 
--- an atom of a parser rule of which a network is to be made: what calls a rule, is any token, or is all but some
-abbrev pub network_atom_forms : AtomKind → List Form
-network_atom_forms (atoms.Rule name) = named name
-network_atom_forms (atoms.Range place first last) = one_form place first.written
-network_atom_forms (atoms.Any place) = one_form place (codes ".")
-network_atom_forms (atoms.NotTokens place tokens) = one_form place (codes "~")
-network_atom_forms (atoms.NotCharacters place set) = one_form place (codes "~")
-network_atom_forms a = []
-
--- an atom at this stage
-abbrev pub atom_forms : Stage → AtomKind → List Form
+-- an atom of a rule of this kind
+abbrev pub atom_forms : RuleKind → AtomKind → List Form
 atom_forms Parser a = parser_atom_forms a
 atom_forms Lexer a = lexer_atom_forms a
-atom_forms Network a = network_atom_forms a
 
 -- a label of an element
 abbrev pub named_label : Option Label → List Form
 named_label None = []
 named_label (Some label) = named label.name
 
--- the same at this stage
-abbrev pub label_forms : Stage → Option Label → List Form
+-- the same in a rule of this kind: every label of a parser rule is run
+abbrev pub label_forms : RuleKind → Option Label → List Form
 label_forms Parser label = []
 label_forms Lexer label = named_label label
-label_forms Network label = named_label label
 
 -- a loop's sign, which is run where it is greedy
 abbrev pub loop_forms : Suffix → List ℕ → List Form
@@ -97,42 +84,30 @@ repeat_forms (Optional suffix) = one_form suffix.place (codes "?")
 repeat_forms (Star suffix) = loop_forms suffix (codes "*")
 repeat_forms (Plus suffix) = loop_forms suffix (codes "+")
 
--- the same at this stage
-abbrev pub sign_forms : Stage → Repeat → List Form
+-- the same in a rule of this kind: every sign of a parser rule is run
+abbrev pub sign_forms : RuleKind → Repeat → List Form
 sign_forms Parser repeat = []
 sign_forms Lexer repeat = repeat_forms repeat
-sign_forms Network repeat = repeat_forms repeat
 
 abbrev mutual
-  -- an element at this stage: its label, what it is, and its sign
-  pub element_forms : Stage → Element Atom → List Form
-  element_forms stage (atom a) = label_forms stage a.label ++ atom_forms stage a.kind
-  element_forms stage (block label repeat xs) = label_forms stage label ++ (either_forms stage xs ++ sign_forms stage repeat)
+  -- an element of a rule of this kind: its label, what it is, and its sign
+  pub element_forms : RuleKind → Element Atom → List Form
+  element_forms kind (atom a) = label_forms kind a.label ++ atom_forms kind a.kind
+  element_forms kind (block label repeat xs) = label_forms kind label ++ (either_forms kind xs ++ sign_forms kind repeat)
 
   -- elements one after another
-  pub elements_forms : Stage → Elements Atom → List Form
-  elements_forms stage empty = []
-  elements_forms stage (then x xs) = element_forms stage x ++ elements_forms stage xs
+  pub elements_forms : RuleKind → Elements Atom → List Form
+  elements_forms kind empty = []
+  elements_forms kind (then x xs) = element_forms kind x ++ elements_forms kind xs
 
   -- alternatives in order
-  pub either_forms : Stage → Alternatives Atom → List Form
-  either_forms stage none = []
-  either_forms stage (or x xs) = elements_forms stage x ++ either_forms stage xs
+  pub either_forms : RuleKind → Alternatives Atom → List Form
+  either_forms kind none = []
+  either_forms kind (or x xs) = elements_forms kind x ++ either_forms kind xs
 
--- a label of an alternative
-abbrev pub placed_label : Option AlternativeLabel → List Form
-placed_label None = []
-placed_label (Some label) = one_form label.place (codes "#")
-
--- the same at this stage
-abbrev pub alternative_label_forms : Stage → Option AlternativeLabel → List Form
-alternative_label_forms Parser label = []
-alternative_label_forms Lexer label = []
-alternative_label_forms Network label = placed_label label
-
--- an alternative of a parser rule at this stage: its elements and its label
-abbrev pub parser_alternative_forms : Stage → RuleAlternative Atom → List Form
-parser_alternative_forms stage alternative = elements_forms stage alternative.elements ++ alternative_label_forms stage alternative.label
+-- an alternative of a parser rule: its elements
+abbrev pub parser_alternative_forms : RuleAlternative Atom → List Form
+parser_alternative_forms alternative = elements_forms Parser alternative.elements
 
 -- a command
 abbrev pub command_forms : Command → List Form
@@ -147,15 +122,10 @@ abbrev pub fragment_forms : Option Place → List Form
 fragment_forms None = []
 fragment_forms (Some place) = one_form place (codes "fragment")
 
--- a rule that has been read
+-- a rule
 abbrev pub rule_forms : Rule → List Form
-rule_forms (rules.Parser rule) = flat_map (parser_alternative_forms Parser) rule.alternatives
+rule_forms (rules.Parser rule) = flat_map parser_alternative_forms rule.alternatives
 rule_forms (rules.Lexer rule) = fragment_forms rule.fragment ++ flat_map lexer_alternative_forms rule.alternatives
-
--- a rule of which a network is to be made, if it is a parser rule
-abbrev pub network_rule_forms : Rule → List Form
-network_rule_forms (rules.Parser rule) = flat_map (parser_alternative_forms Network) rule.alternatives
-network_rule_forms (rules.Lexer rule) = []
 
 -- an option: only the tokens of another grammar are not run
 abbrev pub setting_forms : Setting → List Form
@@ -174,10 +144,6 @@ kind_forms place grammars.Combined = []
 kind_forms place grammars.Lexer = one_form place (codes "lexer")
 kind_forms place grammars.Parser = one_form place (codes "parser")
 
--- the forms with which a grammar is not checked, in order of the text; only a lexer grammar has modes, and it is not run at all
-abbrev pub forms_not_checked : Source → List Form
-forms_not_checked source = kind_forms source.place source.kind ++ (flat_map prequel_forms source.prequels ++ flat_map rule_forms source.rules)
-
--- the forms with which no network is made of a grammar, in order of the text
-abbrev pub forms_not_built : Source → List Form
-forms_not_built source = flat_map network_rule_forms source.rules
+-- the forms with which a grammar is not run, in order of the text; only a lexer grammar has modes, and it is not run at all
+abbrev pub forms_not_run : Source → List Form
+forms_not_run source = kind_forms source.place source.kind ++ (flat_map prequel_forms source.prequels ++ flat_map rule_forms source.rules)

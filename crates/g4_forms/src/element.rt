@@ -2,16 +2,16 @@
 ghost use Rattle.std.specs.Prelude.{◌++◌, map};
 ghost use Rattle.g4_elements.specs.Elements.{either};
 ghost use Rattle.g4_elements.specs.Trees.{alternative_of, element_of, in_order};
-ghost use Rattle.g4_forms.specs.Forms.{atom_forms, either_forms, element_forms, elements_forms, label_forms, lexer_atom_forms, loop_forms, named_label, network_atom_forms, parser_atom_forms, repeat_forms, sign_forms};
+ghost use Rattle.g4_forms.specs.Forms.{atom_forms, either_forms, element_forms, elements_forms, label_forms, lexer_atom_forms, loop_forms, named_label, parser_atom_forms, repeat_forms, sign_forms};
 ghost use Rattle.g4_forms.specs.Answers.{AreRun};
 
 use crate::fault::{FormFault, refuse};
-use crate::stage::Stage;
 use g4_elements::{Alternative, Element, Label, Repeat, Suffix};
+use g4_rules::RuleKind;
 use g4_source::{Atom, AtomKind};
 use std::alloc::Global;
 
-/// Looks at an atom of a parser rule that has been read.
+/// Looks at an atom of a parser rule.
 fn check_parser_atom(alloc: Global, atom: &AtomKind) -> Result<(), FormFault>
     ensures { AreRun (parser_atom_forms atom.now) result }
 {
@@ -21,7 +21,7 @@ fn check_parser_atom(alloc: Global, atom: &AtomKind) -> Result<(), FormFault>
     }
 }
 
-/// Looks at an atom of a lexer rule that has been read.
+/// Looks at an atom of a lexer rule.
 fn check_lexer_atom(alloc: Global, atom: &AtomKind) -> Result<(), FormFault>
     ensures { AreRun (lexer_atom_forms atom.now) result }
 {
@@ -39,28 +39,13 @@ fn check_lexer_atom(alloc: Global, atom: &AtomKind) -> Result<(), FormFault>
     }
 }
 
-/// Looks at an atom of a parser rule before a network is made of it.
-fn check_network_atom(alloc: Global, atom: &AtomKind) -> Result<(), FormFault>
-    ensures { AreRun (network_atom_forms atom.now) result }
+/// Looks at an atom of a rule of this kind.
+fn check_atom(alloc: Global, kind: RuleKind, atom: &AtomKind) -> Result<(), FormFault>
+    ensures { AreRun (atom_forms kind atom.now) result }
 {
-    match atom {
-        AtomKind::Rule(name) => refuse(alloc, name.place, name.text.as_str()),
-        AtomKind::Range(place, first, _) => refuse(alloc, *place, first.written.as_str()),
-        AtomKind::Any(place) => refuse(alloc, *place, "."),
-        AtomKind::NotTokens(place, _) => refuse(alloc, *place, "~"),
-        AtomKind::NotCharacters(place, _) => refuse(alloc, *place, "~"),
-        _ => Ok(()),
-    }
-}
-
-/// Looks at an atom at this stage.
-fn check_atom(alloc: Global, stage: Stage, atom: &AtomKind) -> Result<(), FormFault>
-    ensures { AreRun (atom_forms stage atom.now) result }
-{
-    match stage {
-        Stage::Parser => check_parser_atom(alloc, atom),
-        Stage::Lexer => check_lexer_atom(alloc, atom),
-        Stage::Network => check_network_atom(alloc, atom),
+    match kind {
+        RuleKind::Parser => check_parser_atom(alloc, atom),
+        RuleKind::Lexer => check_lexer_atom(alloc, atom),
     }
 }
 
@@ -74,14 +59,13 @@ fn refuse_label(alloc: Global, label: &Option<Label>) -> Result<(), FormFault>
     }
 }
 
-/// Looks at the label of an element at this stage.
-fn check_label(alloc: Global, stage: Stage, label: &Option<Label>) -> Result<(), FormFault>
-    ensures { AreRun (label_forms stage label.now) result }
+/// Looks at the label of an element in a rule of this kind.
+fn check_label(alloc: Global, kind: RuleKind, label: &Option<Label>) -> Result<(), FormFault>
+    ensures { AreRun (label_forms kind label.now) result }
 {
-    match stage {
-        Stage::Parser => Ok(()),
-        Stage::Lexer => refuse_label(alloc, label),
-        Stage::Network => refuse_label(alloc, label),
+    match kind {
+        RuleKind::Parser => Ok(()),
+        RuleKind::Lexer => refuse_label(alloc, label),
     }
 }
 
@@ -107,50 +91,49 @@ fn refuse_sign(alloc: Global, repeat: Repeat) -> Result<(), FormFault>
     }
 }
 
-/// Looks at the sign of a block at this stage.
-fn check_sign(alloc: Global, stage: Stage, repeat: Repeat) -> Result<(), FormFault>
-    ensures { AreRun (sign_forms stage repeat) result }
+/// Looks at the sign of a block in a rule of this kind.
+fn check_sign(alloc: Global, kind: RuleKind, repeat: Repeat) -> Result<(), FormFault>
+    ensures { AreRun (sign_forms kind repeat) result }
 {
-    match stage {
-        Stage::Parser => Ok(()),
-        Stage::Lexer => refuse_sign(alloc, repeat),
-        Stage::Network => refuse_sign(alloc, repeat),
+    match kind {
+        RuleKind::Parser => Ok(()),
+        RuleKind::Lexer => refuse_sign(alloc, repeat),
     }
 }
 
-/// Looks at an element without others in it at this stage.
-fn check_lone(alloc: Global, stage: Stage, atom: &Atom) -> Result<(), FormFault>
-    ensures { AreRun (label_forms stage atom.now.label ++ atom_forms stage atom.now.kind) result }
+/// Looks at an element without others in it.
+fn check_lone(alloc: Global, kind: RuleKind, atom: &Atom) -> Result<(), FormFault>
+    ensures { AreRun (label_forms kind atom.now.label ++ atom_forms kind atom.now.kind) result }
 {
-    check_label(alloc, stage, &atom.label)?;
-    check_atom(alloc, stage, &atom.kind)
+    check_label(alloc, kind, &atom.label)?;
+    check_atom(alloc, kind, &atom.kind)
 }
 
-/// Looks at a block at this stage.
+/// Looks at a block.
 #[cycle(check)]
 fn check_block(
     alloc: Global,
-    stage: Stage,
+    kind: RuleKind,
     label: &Option<Label>,
     repeat: Repeat,
     alternatives: &[Alternative<Atom>],
 ) -> Result<(), FormFault>
-    ensures { AreRun (label_forms stage label.now ++ (either_forms stage (either (map alternative_of alternatives.now)) ++ sign_forms stage repeat)) result }
+    ensures { AreRun (label_forms kind label.now ++ (either_forms kind (either (map alternative_of alternatives.now)) ++ sign_forms kind repeat)) result }
 {
-    check_label(alloc, stage, label)?;
-    check_either(alloc, stage, alternatives)?;
-    check_sign(alloc, stage, repeat)
+    check_label(alloc, kind, label)?;
+    check_either(alloc, kind, alternatives)?;
+    check_sign(alloc, kind, repeat)
 }
 
-/// Looks at an element at this stage.
+/// Looks at an element.
 #[cycle(check)]
-fn check_element(alloc: Global, stage: Stage, element: &Element<Atom>) -> Result<(), FormFault>
-    ensures { AreRun (element_forms stage (element_of element.now)) result }
+fn check_element(alloc: Global, kind: RuleKind, element: &Element<Atom>) -> Result<(), FormFault>
+    ensures { AreRun (element_forms kind (element_of element.now)) result }
 {
     match element {
-        Element::Atom(atom) => check_lone(alloc, stage, atom),
+        Element::Atom(atom) => check_lone(alloc, kind, atom),
         Element::Block(label, repeat, alternatives) => {
-            check_block(alloc, stage, label, *repeat, alternatives.as_slice())
+            check_block(alloc, kind, label, *repeat, alternatives.as_slice())
         }
     }
 }
@@ -159,13 +142,13 @@ fn check_element(alloc: Global, stage: Stage, element: &Element<Atom>) -> Result
 #[cycle(check)]
 fn check_either(
     alloc: Global,
-    stage: Stage,
+    kind: RuleKind,
     alternatives: &[Alternative<Atom>],
 ) -> Result<(), FormFault>
-    ensures { AreRun (either_forms stage (either (map alternative_of alternatives.now))) result }
+    ensures { AreRun (either_forms kind (either (map alternative_of alternatives.now))) result }
 {
     for alternative in alternatives {
-        check_elements(alloc, stage, alternative.elements.as_slice())?;
+        check_elements(alloc, kind, alternative.elements.as_slice())?;
     }
     Ok(())
 }
@@ -174,13 +157,13 @@ fn check_either(
 #[cycle(check)]
 pub fn check_elements(
     alloc: Global,
-    stage: Stage,
+    kind: RuleKind,
     elements: &[Element<Atom>],
 ) -> Result<(), FormFault>
-    ensures { AreRun (elements_forms stage (in_order (map element_of elements.now))) result }
+    ensures { AreRun (elements_forms kind (in_order (map element_of elements.now))) result }
 {
     for element in elements {
-        check_element(alloc, stage, element)?;
+        check_element(alloc, kind, element)?;
     }
     Ok(())
 }

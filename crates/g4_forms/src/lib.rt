@@ -1,5 +1,4 @@
-// The first form of the grammar language in a grammar, in order of the text, that is read but not checked yet, or checked but
-// not run yet.
+// The first form of the grammar language in a grammar, in order of the text, that is read but not run yet.
 #![tactic(auto)]
 
 mod checking;
@@ -8,10 +7,9 @@ mod fault;
 mod law;
 mod prequel;
 mod rule;
-mod stage;
 #[cfg(test)]
 mod tests;
 
-pub use checking::{check_forms, check_network_forms};
+pub use checking::check_forms;
 pub use fault::FormFault;
 pub use law::one_answer;

@@ -1,5 +1,5 @@
 // Grammars with forms that are not run, one or more, and what is reported of them, worked out by hand.
-use crate::{FormFault, check_forms, check_network_forms};
+use crate::{FormFault, check_forms};
 use g4_base::{Place, Sequence, Text};
 use g4_chars::CharSet;
 use g4_elements::{Alternative, Element, Elements, Label, Name, Repeat, Suffix};
@@ -203,47 +203,15 @@ fn told(alloc: Global, answer: Result<(), FormFault>) -> Result<String, AllocErr
     }
 }
 
-/// What is told of the source after reading, and before a network is made.
-fn both(alloc: Global, source: &Source) -> Result<String, AllocError> {
-    let read = told(alloc, check_forms(alloc, source))?;
-    let built = told(alloc, check_network_forms(alloc, source))?;
-    format!(in alloc; "{read}, {built}")
-}
-
 const PARSER: &[(&[(&str, &str, &str)], bool, &str)] = &[
     (
-        &[
-            ("", "A", ""),
-            ("", "'a'", "*"),
-            ("", "{}", ""),
-            ("", "(A", "+"),
-        ],
-        false,
-        "run, run",
-    ),
-    (&[("", "EOF", "+"), ("", "({}", "")], false, "run, run"),
-    (&[("", "A", ""), ("", "r", "")], false, "run, 22 r"),
-    (&[("", "r", "?"), ("x", "A", "")], false, "run, 12 r"),
-    (&[("x", "r", "?")], true, "run, 10 x"),
-    (&[("", "A", ""), ("", "A", "?")], true, "run, 24 ?"),
-    (&[("", "A", "*?"), ("", "r", "")], false, "run, 14 *"),
-    (&[("", "(A", "+?"), ("", "r", "")], false, "run, 14 +"),
-    (&[("", "(r", "??")], false, "run, 12 r"),
-    (&[("", "A", "??")], false, "run, 14 ?"),
-    (&[("", ".", ""), ("", "~A", "")], false, "run, 12 ."),
-    (&[("", "~A", ""), ("", ".", "")], false, "run, 12 ~"),
-    (
-        &[("", "(~[a-z]", "*"), ("", "{p}", "")],
-        false,
-        "22 {p}, 12 ~",
-    ),
-    (
-        &[("x", "{p}", "?"), ("", "'a'..'a'", "")],
+        &[("x", "A", ""), ("", "(r", "*?"), ("", "{}", "??")],
         true,
-        "12 {p}, 10 x",
+        "run",
     ),
-    (&[("", "'a'..'a'", "*?")], false, "run, 12 'a'"),
-    (&[("", "A", "")], true, "run, 99 #"),
+    (&[("", ".", ""), ("", "~A", "+?")], false, "run"),
+    (&[("", "(r", "*"), ("x", "{p}", "?")], false, "22 {p}"),
+    (&[("", "({p}", ""), ("", "{q}", "")], true, "12 {p}"),
 ];
 
 #[test]
@@ -252,7 +220,7 @@ fn finds_forms_of_parser_rules(rt: HostRuntime) -> Result<(), Fail> {
     for (words, label, wanted) in PARSER {
         let rule = parser_rule(alloc, *words, *label)?;
         let source = source(alloc, GrammarKind::Combined, Vec::new(alloc), rule)?;
-        let found = both(alloc, &source)?;
+        let found = told(alloc, check_forms(alloc, &source))?;
         assert_eq!(rt; found.as_str(), *wanted);
     }
     Ok(())
@@ -264,42 +232,42 @@ const LEXER: &[(bool, &[(&str, &str, &str)], &[&str], bool, &str)] = &[
         &[("", "'a'", ""), ("", "[a-z]", "+"), ("", "{}", "")],
         &[],
         false,
-        "run, run",
+        "run",
     ),
     (
         false,
         &[("", "([a-z]", "*")],
         &["skip", "skip"],
         false,
-        "run, run",
+        "run",
     ),
-    (false, &[("", "A", "?")], &[], false, "12 A, run"),
-    (false, &[("", "EOF", "")], &["more"], false, "12 EOF, run"),
-    (false, &[("", "r", "")], &[], false, "12 r, run"),
+    (false, &[("", "A", "?")], &[], false, "12 A"),
+    (false, &[("", "EOF", "")], &["more"], false, "12 EOF"),
+    (false, &[("", "r", "")], &[], false, "12 r"),
     (
         false,
         &[("", "'a'..'a'", ""), ("", ".", "")],
         &[],
         false,
-        "12 'a', run",
+        "12 'a'",
     ),
     (
         false,
         &[("", ".", "*?"), ("x", "'a'", "")],
         &[],
         false,
-        "12 ., run",
+        "12 .",
     ),
-    (false, &[("", "(~[a-z]", "")], &[], false, "12 ~, run"),
+    (false, &[("", "(~[a-z]", "")], &[], false, "12 ~"),
     (
         false,
         &[("", "'a'", "")],
         &["skip", "more", "type"],
         false,
-        "98 more, run",
+        "98 more",
     ),
-    (false, &[("", "'a'", "")], &["skip"], true, "98 skip, run"),
-    (true, &[("x", "A", "?")], &["more"], true, "1 fragment, run"),
+    (false, &[("", "'a'", "")], &["skip"], true, "98 skip"),
+    (true, &[("x", "A", "?")], &["more"], true, "1 fragment"),
 ];
 
 #[test]
@@ -308,7 +276,7 @@ fn finds_forms_of_lexer_rules(rt: HostRuntime) -> Result<(), Fail> {
     for (fragment, words, commands, argued, wanted) in LEXER {
         let rule = lexer_rule(alloc, *fragment, *words, *commands, *argued)?;
         let source = source(alloc, GrammarKind::Combined, Vec::new(alloc), rule)?;
-        let found = both(alloc, &source)?;
+        let found = told(alloc, check_forms(alloc, &source))?;
         assert_eq!(rt; found.as_str(), *wanted);
     }
     Ok(())
@@ -332,37 +300,21 @@ fn prequel(alloc: Global, word: &str, column: u32) -> Result<Prequel, AllocError
 }
 
 const BEFORE: &[(GrammarKind, [&str; 2], &str)] = &[
-    (
-        GrammarKind::Combined,
-        ["language", "superClass"],
-        "run, run",
-    ),
+    (GrammarKind::Combined, ["language", "superClass"], "run"),
     (
         GrammarKind::Combined,
         ["language", "tokenVocab"],
-        "6 tokenVocab, run",
+        "6 tokenVocab",
     ),
-    (
-        GrammarKind::Combined,
-        ["import", "tokenVocab"],
-        "5 import, run",
-    ),
-    (
-        GrammarKind::Combined,
-        ["tokens", "channels"],
-        "5 tokens, run",
-    ),
+    (GrammarKind::Combined, ["import", "tokenVocab"], "5 import"),
+    (GrammarKind::Combined, ["tokens", "channels"], "5 tokens"),
     (
         GrammarKind::Combined,
         ["language", "channels"],
-        "6 channels, run",
+        "6 channels",
     ),
-    (GrammarKind::Lexer, ["import", "language"], "0 lexer, run"),
-    (
-        GrammarKind::Parser,
-        ["language", "language"],
-        "0 parser, run",
-    ),
+    (GrammarKind::Lexer, ["import", "language"], "0 lexer"),
+    (GrammarKind::Parser, ["language", "language"], "0 parser"),
 ];
 
 #[test]
@@ -373,7 +325,7 @@ fn finds_forms_of_grammars(rt: HostRuntime) -> Result<(), Fail> {
         let prequels = vec![in alloc; prequel(alloc, first, 5)?, prequel(alloc, second, 6)?]?;
         let rule = parser_rule(alloc, &[("", "A", "*")], false)?;
         let source = source(alloc, *kind, prequels, rule)?;
-        let found = both(alloc, &source)?;
+        let found = told(alloc, check_forms(alloc, &source))?;
         assert_eq!(rt; found.as_str(), *wanted);
     }
     Ok(())

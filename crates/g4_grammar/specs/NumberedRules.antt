@@ -9,6 +9,7 @@ use Rattle.g4_source.specs.Rules.{alternatives_of}
 use Rattle.g4_grammar.specs.declared.numbered.NumberedAtom.{NumberedAtom}
 use Rattle.g4_grammar.specs.declared.numbered.NumberedKind.{NumberedKind}
 use Rattle.g4_grammar.specs.declared.numbered.NumberedKind.TheVariants.{Set, Rule, Predicate, Action}
+use Rattle.g4_grammar.specs.LeftCalls.{NoLeftCycle}
 use Rattle.g4_grammar.specs.Loops.{NoEmptyLoop}
 
 -- the words of an atom: one symbol of a set; predicates and actions read the empty word, and a reference reads nothing of its own
@@ -39,16 +40,35 @@ numbered_alternatives rules = none ∷ map alternatives_of rules
 abbrev pub HaveNoEmptyLoops : List (ParserRule NumberedAtom) → Type 0
 HaveNoEmptyLoops rules = NoEmptyLoop ReadsNumbered (CallsNumbered rules) (numbered_alternatives rules)
 
--- an atom that calls no rule and tests nothing
-abbrev pub NumberedKindIsQuiet : NumberedKind → Type 0
-NumberedKindIsQuiet (Set set) = Unit {0}
-NumberedKindIsQuiet (Rule name) = ⊥
-NumberedKindIsQuiet (Predicate name) = ⊥
-NumberedKindIsQuiet Action = Unit {0}
+-- no rule reaches itself by left calls
+abbrev pub HaveNoLeftCycles : List (ParserRule NumberedAtom) → Type 0
+HaveNoLeftCycles rules = NoLeftCycle ReadsNumbered (CallsNumbered rules) (numbered_alternatives rules)
+
+-- a reference to one of the rules of these names
+abbrev pub NumberedKindIsDefined : List (List ℕ) → NumberedKind → Type 0
+NumberedKindIsDefined names (Set set) = Unit {0}
+NumberedKindIsDefined names (Rule name) = (k : ℕ) × KindCalls names (Rule name) k
+NumberedKindIsDefined names (Predicate name) = Unit {0}
+NumberedKindIsDefined names Action = Unit {0}
+
+-- each reference of a rule is to one of the rules of these names
+abbrev pub NumberedRuleIsDefined : List (List ℕ) → ParserRule NumberedAtom → Type 0
+NumberedRuleIsDefined names rule = All (λ a. NumberedKindIsDefined names a.kind) (atoms_of_either (alternatives_of rule))
+
+-- each reference of the rules is to one of them
+abbrev pub NumberedRulesAreDefined : List (ParserRule NumberedAtom) → Type 0
+NumberedRulesAreDefined rules = All (NumberedRuleIsDefined (map (λ rule. rule.name) rules)) rules
+
+-- an atom that tests nothing
+abbrev pub NumberedKindIsUntested : NumberedKind → Type 0
+NumberedKindIsUntested (Set set) = Unit {0}
+NumberedKindIsUntested (Rule name) = Unit {0}
+NumberedKindIsUntested (Predicate name) = ⊥
+NumberedKindIsUntested Action = Unit {0}
 
 -- each atom of the rule is so
-abbrev pub NumberedRuleIsQuiet : ParserRule NumberedAtom → Type 0
-NumberedRuleIsQuiet rule = All (λ a. NumberedKindIsQuiet a.kind) (atoms_of_either (alternatives_of rule))
+abbrev pub NumberedRuleIsUntested : ParserRule NumberedAtom → Type 0
+NumberedRuleIsUntested rule = All (λ a. NumberedKindIsUntested a.kind) (atoms_of_either (alternatives_of rule))
 
 -- an atom that does not take END
 abbrev pub KindLeavesEnd : NumberedKind → Type 0

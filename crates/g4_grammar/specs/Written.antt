@@ -15,7 +15,7 @@ use Rattle.g4_source.specs.declared.rule.LexerRule.{LexerRule}
 use Rattle.g4_source.specs.Rules.{alternatives_of, lexer_alternatives_of}
 use Rattle.g4_rules.specs.declared.kind.RuleKind.{RuleKind}
 use Rattle.g4_rules.specs.declared.kind.RuleKind.TheVariants as rule_kinds
-use Rattle.g4_rules.specs.Atoms.{AtomIn, bodies_of}
+use Rattle.g4_rules.specs.Atoms.{AtomIn, all_atoms, bodies_of}
 use Rattle.g4_grammar.specs.declared.numbered.TokenRule.{TokenRule}
 use Rattle.g4_grammar.specs.LeftCalls.{LeftCalls, NoLeftCycle}
 use Rattle.g4_grammar.specs.Loops.{NoEmptyLoop}
@@ -94,6 +94,16 @@ HaveNoLeftCycle rules = NoLeftCycle ReadsIn (CallsIn rules) (bodies_of rules)
 abbrev pub HaveNoEmptyLoop : List Rule → Type 0
 HaveNoEmptyLoop rules = NoEmptyLoop ReadsIn (CallsIn rules) (bodies_of rules)
 
+-- an atom of a rule of this kind that calls one of the rules, if it is a reference
+abbrev pub KindIsDefined : List Rule → RuleKind → AtomKind → Type 0
+KindIsDefined rules rule_kinds.Parser (kinds.Rule name) = (k : ℕ) × KindCalls rules rule_kinds.Parser (kinds.Rule name) k
+KindIsDefined rules rule_kinds.Lexer (kinds.Token name) = bytes_eq name.text (codes "EOF") ≡ false → (k : ℕ) × KindCalls rules rule_kinds.Lexer (kinds.Token name) k
+KindIsDefined rules kind a = Unit {0}
+
+-- each reference of the rules is to one of them
+abbrev pub RulesAreDefined : List Rule → Type 0
+RulesAreDefined rules = All (λ a. KindIsDefined rules a.kind a.atom.kind) (all_atoms rules)
+
 -- the texts of an atom of a rule that makes tokens
 abbrev pub ReadsCharacters : Atom → List ℕ → Type 0
 ReadsCharacters a w = MatchesKind a.kind w
@@ -119,18 +129,18 @@ CallsTokenRule rules a k = LexerCalls (map (λ rule. rule.name) rules) a.kind k
 abbrev pub token_alternatives_of : TokenRule → Alternatives Atom
 token_alternatives_of rule = either (map (λ a. a.elements) rule.alternatives)
 
--- an atom of a parser rule that calls no rule and tests nothing
-abbrev pub ParserKindIsQuiet : AtomKind → Type 0
-ParserKindIsQuiet (kinds.Rule name) = ⊥
-ParserKindIsQuiet (kinds.Token name) = Unit {0}
-ParserKindIsQuiet (kinds.Literal literal) = Unit {0}
-ParserKindIsQuiet (kinds.Range place first last) = Unit {0}
-ParserKindIsQuiet (kinds.Set set) = Unit {0}
-ParserKindIsQuiet (kinds.Any place) = Unit {0}
-ParserKindIsQuiet (kinds.NotTokens place tokens) = Unit {0}
-ParserKindIsQuiet (kinds.NotCharacters place set) = Unit {0}
-ParserKindIsQuiet kinds.Action = Unit {0}
-ParserKindIsQuiet (kinds.Predicate name) = ⊥
+-- an atom of a parser rule that tests nothing
+abbrev pub ParserKindIsUntested : AtomKind → Type 0
+ParserKindIsUntested (kinds.Rule name) = Unit {0}
+ParserKindIsUntested (kinds.Token name) = Unit {0}
+ParserKindIsUntested (kinds.Literal literal) = Unit {0}
+ParserKindIsUntested (kinds.Range place first last) = Unit {0}
+ParserKindIsUntested (kinds.Set set) = Unit {0}
+ParserKindIsUntested (kinds.Any place) = Unit {0}
+ParserKindIsUntested (kinds.NotTokens place tokens) = Unit {0}
+ParserKindIsUntested (kinds.NotCharacters place set) = Unit {0}
+ParserKindIsUntested kinds.Action = Unit {0}
+ParserKindIsUntested (kinds.Predicate name) = ⊥
 
 -- an atom of a lexer rule that calls no rule
 abbrev pub LexerKindIsQuiet : AtomKind → Type 0
@@ -146,8 +156,8 @@ LexerKindIsQuiet kinds.Action = Unit {0}
 LexerKindIsQuiet (kinds.Predicate name) = Unit {0}
 
 -- each atom of the alternatives of a parser rule, of a lexer rule, or of a rule that makes tokens, is so
-abbrev pub ParserRuleIsQuiet : ParserRule Atom → Type 0
-ParserRuleIsQuiet rule = All (λ a. ParserKindIsQuiet a.kind) (atoms_of_either (alternatives_of rule))
+abbrev pub ParserRuleIsUntested : ParserRule Atom → Type 0
+ParserRuleIsUntested rule = All (λ a. ParserKindIsUntested a.kind) (atoms_of_either (alternatives_of rule))
 
 abbrev pub LexerRuleIsQuiet : LexerRule → Type 0
 LexerRuleIsQuiet rule = All (λ a. LexerKindIsQuiet a.kind) (atoms_of_either (lexer_alternatives_of rule))
@@ -155,7 +165,8 @@ LexerRuleIsQuiet rule = All (λ a. LexerKindIsQuiet a.kind) (atoms_of_either (le
 abbrev pub TokenRuleIsQuiet : TokenRule → Type 0
 TokenRuleIsQuiet rule = All (λ a. LexerKindIsQuiet a.kind) (atoms_of_either (token_alternatives_of rule))
 
--- a rule none of whose atoms calls a rule, nor tests anything in a parser rule, as those of every grammar that is run so far
+-- a parser rule none of whose atoms tests anything, or a lexer rule none of whose atoms calls a rule, as those of every grammar
+-- that is run so far
 abbrev pub RuleIsQuiet : Rule → Type 0
-RuleIsQuiet (Parser rule) = ParserRuleIsQuiet rule
+RuleIsQuiet (Parser rule) = ParserRuleIsUntested rule
 RuleIsQuiet (Lexer rule) = LexerRuleIsQuiet rule

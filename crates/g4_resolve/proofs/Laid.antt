@@ -1,9 +1,11 @@
--- Of quiet rules without END and without loops that can be empty, a network can be made.
-use Rattle.std.proofs.Common.{◌≡◌, ℕ, suc, inl, inr, List, [], ◌∷◌, ◌++◌, length, map, Some, option_map, refl, sym, ap, ◌∙◌, subst, get_or, slice_get}
-use Rattle.std.specs.List.{All}
-use Rattle.std.proofs.lemmas.List.{map-append}
-use Rattle.std.proofs.lemmas.List.Elements.{All-nil, All-cons, All-head, All-tail, All-map, All-weaker, All-get_or}
-use Rattle.std.proofs.lemmas.Option.{slice_get_within, get_or_from_slice_get, slice_get-get_or, slice_get-map}
+-- Of rules that test nothing and leave END alone, whose references are defined, without loops that can be empty and without left
+-- cycles, a network can be made.
+use Rattle.std.proofs.Common.{◌≡◌, ◌≤◌, ◌<◌, ◌⊎◌, ℕ, zero, suc, ◌+◌, inl, inr, List, [], ◌∷◌, ◌++◌, length, map, Option, Some, None, option_map, refl, sym, ap, ◌∙◌, subst, slice_get, arith}
+use Rattle.std.specs.List.{All, position}
+use Rattle.std.specs.Str.{bytes_eq}
+use Rattle.std.proofs.lemmas.List.{map-append, length-map}
+use Rattle.std.proofs.lemmas.List.Elements.{All-nil, All-cons, All-head, All-tail, All-map, All-weaker}
+use Rattle.std.proofs.lemmas.Option.{slice_get_within, slice_get-map}
 use Rattle.g4_base.specs.declared.place.Place.{Place}
 use Rattle.g4_elements.specs.Elements.{Element, atom, block, Elements, empty, then, Alternatives, none, or, either, atoms, atoms_in_order, atoms_of_either}
 use Rattle.g4_elements.specs.Bind.{over, in_order_over, either_over}
@@ -17,15 +19,14 @@ use Rattle.g4_grammar.specs.declared.numbered.NumberedAtom.{NumberedAtom}
 use Rattle.g4_grammar.specs.declared.numbered.NumberedKind.{NumberedKind}
 use Rattle.g4_grammar.specs.declared.numbered.NumberedKind.TheVariants.{Set, Rule, Predicate, Action}
 use Rattle.g4_grammar.specs.declared.step.Step.{Step}
-use Rattle.g4_grammar.specs.Derives.{NoCalls}
 use Rattle.g4_grammar.specs.Loops.{SomeHasEmptyLoop, NoEmptyLoop}
-use Rattle.g4_grammar.specs.LeftCalls.{IsLeftOf, IsLeftOfAll, IsLeftOfOne, LeftCalls, ReachesLeft, one_call, more_calls, NoLeftCycle, HasCall, OneHasCall, SomeHasCall}
-use Rattle.g4_grammar.specs.NumberedRules.{ReadsNumbered, CallsNumbered, numbered_alternatives, HaveNoEmptyLoops, NumberedKindIsQuiet, NumberedRuleIsQuiet, KindLeavesEnd, RuleLeavesEnd}
+use Rattle.g4_grammar.specs.LeftCalls.{NoLeftCycle, HasCall, OneHasCall, SomeHasCall}
+use Rattle.g4_grammar.specs.NumberedRules.{KindCalls, ReadsNumbered, CallsNumbered, numbered_alternatives, HaveNoEmptyLoops, HaveNoLeftCycles, NumberedKindIsDefined, NumberedRuleIsDefined, NumberedRulesAreDefined, NumberedKindIsUntested, NumberedRuleIsUntested, KindLeavesEnd, RuleLeavesEnd}
 use Rattle.g4_grammar.specs.StepRules.{StepRule, by_number, IsPlain, RuleIsPlain, CallsWithin, CanBeLaid}
 use Rattle.g4_grammar.specs.Steps.{CallsRule, ReadsSymbols}
-use Rattle.g4_grammar.proofs.Carried.{some_loop_back}
-use Rattle.g4_grammar.proofs.Silent.{IsSilent, no_calls_silent, some_loops_alone}
-use Rattle.g4_resolve.specs.Resolving.{step_of, resolved_alternative, resolved_rule}
+use Rattle.g4_grammar.proofs.Carried.{some_loop_back, no_cycle_over}
+use Rattle.g4_grammar.proofs.Positions.{found_within, within_found}
+use Rattle.g4_resolve.specs.Resolving.{place_named, step_of, resolved_alternative, resolved_rule}
 
 module _ {A B : Type 0} (f : A → B) where
   mutual
@@ -61,42 +62,28 @@ module _ {A B : Type 0} (f : A → B) where
     each_full_over none h = tt
     each_full_over (or x xs) h = (all_full_over x h.0, each_full_over xs h.1)
 
-module _ {A : Type 0} (Reads : A → List ℕ → Type 0) (Calls : A → ℕ → Type 0) (rules : List (Alternatives A)) (j : ℕ) where
-  mutual
-    -- where no atom calls a rule, there is no left call
-    no_left : (x : Element A) → All (IsSilent Calls) (atoms x) → IsLeftOf Reads Calls rules x j → ⊥
-    no_left (atom a) q l = All-head (IsSilent Calls) a [] q j l
-    no_left (block label repeat xs) q l = no_left_one xs q l
-
-    no_left_all : (xs : Elements A) → All (IsSilent Calls) (atoms_in_order xs) → IsLeftOfAll Reads Calls rules xs j → ⊥
-    no_left_all empty q l = l
-    no_left_all (then x xs) q (inl l) = no_left x (All-front (IsSilent Calls) (atoms x) (atoms_in_order xs) q) l
-    no_left_all (then x xs) q (inr (n, l)) = no_left_all xs (All-rest (IsSilent Calls) (atoms x) (atoms_in_order xs) q) l
-
-    pub no_left_one : (xs : Alternatives A) → All (IsSilent Calls) (atoms_of_either xs) → IsLeftOfOne Reads Calls rules xs j → ⊥
-    no_left_one none q l = l
-    no_left_one (or x xs) q (inl l) = no_left_all x (All-front (IsSilent Calls) (atoms_in_order x) (atoms_of_either xs) q) l
-    no_left_one (or x xs) q (inr l) = no_left_one xs (All-rest (IsSilent Calls) (atoms_in_order x) (atoms_of_either xs) q) l
+module _ {A : Type 0} (Calls : A → ℕ → Type 0) (P : ℕ → Type 0) where
+  -- what holds of each rule that the atom calls
+  abbrev CallsHave : A → Type 0
+  CallsHave a = (j : ℕ) → Calls a j → P j
 
   mutual
-    -- nor any call
-    no_call : (x : Element A) → All (IsSilent Calls) (atoms x) → HasCall Calls x j → ⊥
-    no_call (atom a) q l = All-head (IsSilent Calls) a [] q j l
-    no_call (block label repeat xs) q l = no_call_one xs q l
+    -- holds of each that the element calls
+    call_has : (x : Element A) → All CallsHave (atoms x) → (j : ℕ) → HasCall Calls x j → P j
+    call_has (atom a) q j c = All-head CallsHave a [] q j c
+    call_has (block label repeat xs) q j c = one_call_has xs q j c
 
-    no_call_all : (xs : Elements A) → All (IsSilent Calls) (atoms_in_order xs) → OneHasCall Calls xs j → ⊥
-    no_call_all empty q l = l
-    no_call_all (then x xs) q (inl l) = no_call x (All-front (IsSilent Calls) (atoms x) (atoms_in_order xs) q) l
-    no_call_all (then x xs) q (inr l) = no_call_all xs (All-rest (IsSilent Calls) (atoms x) (atoms_in_order xs) q) l
+    -- or the elements
+    all_calls_have : (xs : Elements A) → All CallsHave (atoms_in_order xs) → (j : ℕ) → OneHasCall Calls xs j → P j
+    all_calls_have empty q j c = absurd c
+    all_calls_have (then x xs) q j (inl c) = call_has x (All-front CallsHave (atoms x) (atoms_in_order xs) q) j c
+    all_calls_have (then x xs) q j (inr c) = all_calls_have xs (All-rest CallsHave (atoms x) (atoms_in_order xs) q) j c
 
-    pub no_call_one : (xs : Alternatives A) → All (IsSilent Calls) (atoms_of_either xs) → SomeHasCall Calls xs j → ⊥
-    no_call_one none q l = l
-    no_call_one (or x xs) q (inl l) = no_call_all x (All-front (IsSilent Calls) (atoms_in_order x) (atoms_of_either xs) q) l
-    no_call_one (or x xs) q (inr l) = no_call_one xs (All-rest (IsSilent Calls) (atoms_in_order x) (atoms_of_either xs) q) l
-
--- what holds of each item holds of the one at an index
-at_index : {X : Type 0} (P : X → Type 0) (xs : List X) (k : ℕ) (x : X) → All P xs → slice_get xs k ≡ Some x → P x
-at_index P xs k x all is = subst P (get_or_from_slice_get xs k x x is) (All-get_or P xs k x (slice_get_within xs k x is) all)
+    -- or the alternatives
+    one_call_has : (xs : Alternatives A) → All CallsHave (atoms_of_either xs) → (j : ℕ) → SomeHasCall Calls xs j → P j
+    one_call_has none q j c = absurd c
+    one_call_has (or x xs) q j (inl c) = all_calls_have x (All-front CallsHave (atoms_in_order x) (atoms_of_either xs) q) j c
+    one_call_has (or x xs) q j (inr c) = one_call_has xs (All-rest CallsHave (atoms_in_order x) (atoms_of_either xs) q) j c
 
 module _ (names : List (List ℕ)) (predicates : List Place) where
   -- the step of an atom
@@ -111,18 +98,64 @@ module _ (names : List (List ℕ)) (predicates : List Place) where
       go [] = refl
       go (x ∷ xs) = ap (or (in_order_over becomes x.elements)) (go xs)
 
-  -- a quiet atom without END is a plain step, which calls no rule
-  plain_step : (kind : NumberedKind) → NumberedKindIsQuiet kind → KindLeavesEnd kind → IsPlain (step_of names predicates kind)
+  -- what holds of the steps of all atoms of a rule, holds of the atoms of the rule over steps
+  each_step : (P : Step (List ℕ) → Type 0) (rule : ParserRule NumberedAtom) → All (λ a. P (becomes a)) (atoms_of_either (alternatives_of rule)) → All P (atoms_of_either (alternatives_of (resolved_rule names predicates rule)))
+  each_step P rule all =
+      subst (λ (xs : Alternatives (Step (List ℕ))). All P (atoms_of_either xs)) (sym (alternatives_over rule))
+      (subst (All P) (sym (atoms_either_over becomes (alternatives_of rule))) (All-map P becomes (atoms_of_either (alternatives_of rule)) all))
+
+  -- an atom that tests nothing and does not take END is a plain step
+  plain_step : (kind : NumberedKind) → NumberedKindIsUntested kind → KindLeavesEnd kind → IsPlain (step_of names predicates kind)
   plain_step (Set set) q e = e
-  plain_step (Rule name) q e = absurd q
+  plain_step (Rule name) q e = tt
   plain_step (Predicate name) q e = absurd q
   plain_step Action q e = tt
 
-  silent_step : (kind : NumberedKind) → NumberedKindIsQuiet kind → IsSilent CallsRule (step_of names predicates kind)
-  silent_step (Set set) q k c = c
-  silent_step (Rule name) q k c = absurd q
-  silent_step (Predicate name) q k c = c
-  silent_step Action q k c = c
+  both : (xs : List NumberedAtom) → All (λ a. NumberedKindIsUntested a.kind) xs → All (λ a. KindLeavesEnd a.kind) xs → All (λ a. IsPlain (becomes a)) xs
+  both [] q e = All-nil (λ a. IsPlain (becomes a))
+  both (x ∷ xs) q e =
+      let Q : NumberedAtom → Type 0 = λ a. NumberedKindIsUntested a.kind in
+      let E : NumberedAtom → Type 0 = λ a. KindLeavesEnd a.kind in
+      All-cons (λ a. IsPlain (becomes a)) x xs (plain_step x.kind (All-head Q x xs q) (All-head E x xs e)) (both xs (All-tail Q x xs q) (All-tail E x xs e))
+
+  plain_rules : (rules : List (ParserRule NumberedAtom)) → All NumberedRuleIsUntested rules → All RuleLeavesEnd rules → All RuleIsPlain (map (resolved_rule names predicates) rules)
+  plain_rules [] q e = All-nil RuleIsPlain
+  plain_rules (rule ∷ rules) q e =
+      All-cons RuleIsPlain (resolved_rule names predicates rule) (map (resolved_rule names predicates) rules)
+      (each_step IsPlain rule (both (atoms_of_either (alternatives_of rule)) (All-head NumberedRuleIsUntested rule rules q) (All-head RuleLeavesEnd rule rules e)))
+      (plain_rules rules (All-tail NumberedRuleIsUntested rule rules q) (All-tail RuleLeavesEnd rule rules e))
+
+  -- a rule keeps its alternatives
+  full_rule : (rule : ParserRule NumberedAtom) → ParserRuleIsFull rule → ParserRuleIsFull (resolved_rule names predicates rule)
+  full_rule rule full =
+      subst (λ (xs : Alternatives (Step (List ℕ))). IsSome xs × EachIsFull xs) (sym (alternatives_over rule)) (some_over becomes (alternatives_of rule) full.0, each_full_over becomes (alternatives_of rule) full.1)
+
+  full_rules : (rules : List (ParserRule NumberedAtom)) → ParserRulesAreFull rules → ParserRulesAreFull (map (resolved_rule names predicates) rules)
+  full_rules [] h = tt
+  full_rules (rule ∷ rules) h = (full_rule rule h.0, full_rules rules h.1)
+
+  -- one of the rules of these names
+  abbrev IsNumber : ℕ → Type 0
+  IsNumber j = (1 ≤ j) × (j ≤ length names)
+
+  -- the step of a reference that is defined calls one of them
+  number_called : (kind : NumberedKind) → NumberedKindIsDefined names kind → (j : ℕ) → CallsRule (step_of names predicates kind) j → IsNumber j
+  number_called (Set set) d j c = absurd c
+  number_called (Rule name) d j c =
+      let found : position (λ other. bytes_eq other name.text) names ≡ Some d.1.0 = d.1.1 in
+      let less : place_named names name.text < length names = found_within (λ other. bytes_eq other name.text) names d.1.0 found in
+      let same : j ≡ place_named names name.text + 1 = c in
+      (omega (arith, same), omega (arith, same, less))
+  number_called (Predicate name) d j c = absurd c
+  number_called Action d j c = absurd c
+
+  within_rules : (rules : List (ParserRule NumberedAtom)) → All (NumberedRuleIsDefined names) rules → All (CallsWithin (length names)) (map (resolved_rule names predicates) rules)
+  within_rules rules all =
+      All-map (CallsWithin (length names)) (resolved_rule names predicates) rules
+      (All-weaker (NumberedRuleIsDefined names) (λ (rule : ParserRule NumberedAtom). CallsWithin (length names) (resolved_rule names predicates rule))
+      (λ rule defined. one_call_has CallsRule IsNumber (alternatives_of (resolved_rule names predicates rule))
+      (each_step (CallsHave CallsRule IsNumber) rule (All-weaker (λ (a : NumberedAtom). NumberedKindIsDefined names a.kind) (λ a. CallsHave CallsRule IsNumber (becomes a)) (λ a d. number_called a.kind d) (atoms_of_either (alternatives_of rule)) defined)))
+      rules all)
 
   -- what a step reads of the empty word, its atom reads
   reads_back : (a : NumberedAtom) → ReadsSymbols (becomes a) [] → ReadsNumbered a []
@@ -134,105 +167,77 @@ module _ (names : List (List ℕ)) (predicates : List Place) where
       of_kind (Predicate name) h = h
       of_kind Action h = h
 
-  both : (xs : List NumberedAtom) → All (λ a. NumberedKindIsQuiet a.kind) xs → All (λ a. KindLeavesEnd a.kind) xs → All (λ a. IsPlain (becomes a)) xs
-  both [] q e = All-nil (λ a. IsPlain (becomes a))
-  both (x ∷ xs) q e =
-      let Q : NumberedAtom → Type 0 = λ a. NumberedKindIsQuiet a.kind in
-      let E : NumberedAtom → Type 0 = λ a. KindLeavesEnd a.kind in
-      All-cons (λ a. IsPlain (becomes a)) x xs (plain_step x.kind (All-head Q x xs q) (All-head E x xs e)) (both xs (All-tail Q x xs q) (All-tail E x xs e))
+module _ (predicates : List Place) (rules : List (ParserRule NumberedAtom)) where
+  -- the names of the rules
+  abbrev names : List (List ℕ)
+  names = map (λ rule. rule.name) rules
 
-  -- the steps of a quiet rule call no rule
-  silent_rule : (rule : ParserRule NumberedAtom) → NumberedRuleIsQuiet rule → All (IsSilent CallsRule) (atoms_of_either (alternatives_of (resolved_rule names predicates rule)))
-  silent_rule rule quiet =
-      subst (λ (xs : Alternatives (Step (List ℕ))). All (IsSilent CallsRule) (atoms_of_either xs)) (sym (alternatives_over rule))
-      (subst (All (IsSilent CallsRule)) (sym (atoms_either_over becomes (alternatives_of rule)))
-      (All-map (IsSilent CallsRule) becomes (atoms_of_either (alternatives_of rule))
-      (All-weaker (λ (a : NumberedAtom). NumberedKindIsQuiet a.kind) (λ a. IsSilent CallsRule (becomes a)) (λ a q. silent_step a.kind q) (atoms_of_either (alternatives_of rule)) quiet)))
+  -- the rules over steps
+  abbrev made : List StepRule
+  made = map (resolved_rule names predicates) rules
 
-  -- and are plain
-  plain_rule : (rule : ParserRule NumberedAtom) → NumberedRuleIsQuiet rule → RuleLeavesEnd rule → RuleIsPlain (resolved_rule names predicates rule)
-  plain_rule rule quiet ends =
-      subst (λ (xs : Alternatives (Step (List ℕ))). All IsPlain (atoms_of_either xs)) (sym (alternatives_over rule))
-      (subst (All IsPlain) (sym (atoms_either_over becomes (alternatives_of rule))) (All-map IsPlain becomes (atoms_of_either (alternatives_of rule)) (both (atoms_of_either (alternatives_of rule)) quiet ends)))
-
-  -- a rule keeps its alternatives
-  full_rule : (rule : ParserRule NumberedAtom) → ParserRuleIsFull rule → ParserRuleIsFull (resolved_rule names predicates rule)
-  full_rule rule full =
-      subst (λ (xs : Alternatives (Step (List ℕ))). IsSome xs × EachIsFull xs) (sym (alternatives_over rule)) (some_over becomes (alternatives_of rule) full.0, each_full_over becomes (alternatives_of rule) full.1)
-
-  full_rules : (rules : List (ParserRule NumberedAtom)) → ParserRulesAreFull rules → ParserRulesAreFull (map (resolved_rule names predicates) rules)
-  full_rules [] h = tt
-  full_rules (rule ∷ rules) h = (full_rule rule h.0, full_rules rules h.1)
-
-  plain_rules : (rules : List (ParserRule NumberedAtom)) → All NumberedRuleIsQuiet rules → All RuleLeavesEnd rules → All RuleIsPlain (map (resolved_rule names predicates) rules)
-  plain_rules [] q e = All-nil RuleIsPlain
-  plain_rules (rule ∷ rules) q e =
-      All-cons RuleIsPlain (resolved_rule names predicates rule) (map (resolved_rule names predicates) rules) (plain_rule rule (All-head NumberedRuleIsQuiet rule rules q) (All-head RuleLeavesEnd rule rules e)) (plain_rules rules (All-tail NumberedRuleIsQuiet rule rules q) (All-tail RuleLeavesEnd rule rules e))
-
-  -- no rule has a call at all
-  within_rules : (count : ℕ) (rules : List (ParserRule NumberedAtom)) → All NumberedRuleIsQuiet rules → All (CallsWithin count) (map (resolved_rule names predicates) rules)
-  within_rules count rules quiet =
-      All-map (CallsWithin count) (resolved_rule names predicates) rules
-      (All-weaker NumberedRuleIsQuiet (λ (rule : ParserRule NumberedAtom). CallsWithin count (resolved_rule names predicates rule))
-      (λ rule q j called. absurd (no_call_one ReadsSymbols CallsRule [] j (alternatives_of (resolved_rule names predicates rule)) (silent_rule rule q) called)) rules quiet)
-
-  -- the alternatives by number call no rule
-  abbrev IsQuietBody : Alternatives (Step (List ℕ)) → Type 0
-  IsQuietBody xs = All (IsSilent CallsRule) (atoms_of_either xs)
-
-  silent_bodies : (rules : List (ParserRule NumberedAtom)) → All NumberedRuleIsQuiet rules → All IsQuietBody (by_number (map (resolved_rule names predicates) rules))
-  silent_bodies rules quiet =
-      All-cons IsQuietBody none (map alternatives_of (map (resolved_rule names predicates) rules)) (All-nil (IsSilent CallsRule))
-      (All-map IsQuietBody alternatives_of (map (resolved_rule names predicates) rules)
-      (All-map (λ (rule : StepRule). IsQuietBody (alternatives_of rule)) (resolved_rule names predicates) rules (All-weaker NumberedRuleIsQuiet (λ (rule : ParserRule NumberedAtom). IsQuietBody (alternatives_of (resolved_rule names predicates rule))) silent_rule rules quiet)))
-
-  -- no rule reaches itself by left calls
-  no_cycle : (rules : List (ParserRule NumberedAtom)) → All NumberedRuleIsQuiet rules → NoLeftCycle ReadsSymbols CallsRule (by_number (map (resolved_rule names predicates) rules))
-  no_cycle rules quiet k reaches = last k reaches
+  -- a body of them is that of a rule
+  body_back : (k : ℕ) (ys : Alternatives (Step (List ℕ))) → slice_get (map alternatives_of made) k ≡ Some ys →
+      (xs : Alternatives NumberedAtom) × (slice_get (map alternatives_of rules) k ≡ Some xs) × (ys ≡ either_over (becomes names predicates) xs)
+  body_back k ys is = by (slice_get rules k) refl
     where
-      none_called : (i j : ℕ) → LeftCalls ReadsSymbols CallsRule (by_number (map (resolved_rule names predicates) rules)) i j → ⊥
-      none_called i j (xs, is, left) =
-          no_left_one ReadsSymbols CallsRule (by_number (map (resolved_rule names predicates) rules)) j xs (at_index IsQuietBody (by_number (map (resolved_rule names predicates) rules)) i xs (silent_bodies rules quiet) is) left
+      twice : slice_get (map alternatives_of made) k ≡ option_map alternatives_of (option_map (resolved_rule names predicates) (slice_get rules k))
+      twice = slice_get-map alternatives_of made k ∙ ap (option_map alternatives_of) (slice_get-map (resolved_rule names predicates) rules k)
 
-      last : (j : ℕ) → ReachesLeft ReadsSymbols CallsRule (by_number (map (resolved_rule names predicates) rules)) k j → ⊥
-      last j (one_call i called) = none_called k i called
-      last j (more_calls i h before called) = none_called i h called
+      by : (o : Option (ParserRule NumberedAtom)) → slice_get rules k ≡ o → (xs : Alternatives NumberedAtom) × (slice_get (map alternatives_of rules) k ≡ Some xs) × (ys ≡ either_over (becomes names predicates) xs)
+      by None e = absurd (let wrong : None ≡ Some ys = sym (twice ∙ ap (λ (o : Option (ParserRule NumberedAtom)). option_map alternatives_of (option_map (resolved_rule names predicates) o)) e) ∙ is in let k : ⊥ = cc in k)
+      by (Some rule) e =
+          let same : Some (alternatives_of (resolved_rule names predicates rule)) ≡ Some ys = sym (twice ∙ ap (λ (o : Option (ParserRule NumberedAtom)). option_map alternatives_of (option_map (resolved_rule names predicates) o)) e) ∙ is in
+          let here : ys ≡ alternatives_of (resolved_rule names predicates rule) = cc in
+          (alternatives_of rule, slice_get-map alternatives_of rules k ∙ ap (option_map alternatives_of) e, here ∙ alternatives_over names predicates rule)
 
-  -- a loop of a rule over steps that can be empty is one of the rule
-  loop_of_rule : (rules : List (ParserRule NumberedAtom)) (all : List (Alternatives (Step (List ℕ)))) (rule : ParserRule NumberedAtom) → NumberedRuleIsQuiet rule →
-      SomeHasEmptyLoop ReadsSymbols CallsRule all (alternatives_of (resolved_rule names predicates rule)) → SomeHasEmptyLoop ReadsNumbered (CallsNumbered rules) (numbered_alternatives rules) (alternatives_of rule)
-  loop_of_rule rules all rule quiet looped =
-      some_loops_alone ReadsNumbered NoCalls (CallsNumbered rules) [] (numbered_alternatives rules) (alternatives_of rule) (no_calls_silent (atoms_of_either (alternatives_of rule)))
-      (some_loop_back becomes ReadsNumbered ReadsSymbols NoCalls NoCalls [] [] reads_back (λ a k ys called is. absurd called) (alternatives_of rule)
-      (subst (λ (xs : Alternatives (Step (List ℕ))). SomeHasEmptyLoop ReadsSymbols NoCalls [] xs) (alternatives_over rule)
-      (some_loops_alone ReadsSymbols CallsRule NoCalls all [] (alternatives_of (resolved_rule names predicates rule)) (silent_rule rule quiet) looped)))
+  -- the same by number
+  bodies : (k : ℕ) (ys : Alternatives (Step (List ℕ))) → slice_get (by_number made) k ≡ Some ys →
+      (ys ≡ none) ⊎ ((xs : Alternatives NumberedAtom) × (slice_get (numbered_alternatives rules) k ≡ Some xs) × (ys ≡ either_over (becomes names predicates) xs))
+  bodies zero ys is = inl (let same : Some none ≡ Some ys = is in let e : ys ≡ none = cc in e)
+  bodies (suc k) ys is = inr (body_back k ys is)
 
-  -- the alternatives of a rule by its number
-  numbered_at : (rules : List (ParserRule NumberedAtom)) (k : ℕ) (rule : ParserRule NumberedAtom) → slice_get rules k ≡ Some rule → slice_get (numbered_alternatives rules) (suc k) ≡ Some (alternatives_of rule)
-  numbered_at rules k rule is = slice_get-map alternatives_of rules k ∙ ap (option_map alternatives_of) is
+  -- the rule of this name, where there is one
+  called_by : (name : List ℕ) (k : ℕ) (ys : Alternatives (Step (List ℕ))) → k ≡ place_named names name + 1 → slice_get (by_number made) k ≡ Some ys →
+      ((place : ℕ) × (position (λ other. bytes_eq other name) names ≡ Some place) × (k ≡ place + 1)) × ((xs : Alternatives NumberedAtom) × (slice_get (numbered_alternatives rules) k ≡ Some xs) × (ys ≡ either_over (becomes names predicates) xs))
+  called_by name zero ys same is = absurd (omega (arith, same))
+  called_by name (suc k) ys same is =
+      let body = body_back k ys is in
+      let less : k < length names = subst (λ (n : ℕ). k < n) (length-map rules alternatives_of ∙ sym (length-map rules (λ rule. rule.name))) (slice_get_within (map alternatives_of rules) k body.0 body.1) in
+      let here : place_named names name ≡ k = omega (arith, same) in
+      let found = within_found (λ other. bytes_eq other name) names (omega (arith, here, less)) in
+      ((place_named names name, found, same), body)
 
-  -- the rule has no loop that can be empty
-  abbrev HasNone : List (ParserRule NumberedAtom) → ParserRule NumberedAtom → Type 0
-  HasNone rules rule = SomeHasEmptyLoop ReadsNumbered (CallsNumbered rules) (numbered_alternatives rules) (alternatives_of rule) → ⊥
+  -- the rule that a step calls is the one that the atom calls
+  called_back : (kind : NumberedKind) (k : ℕ) (ys : Alternatives (Step (List ℕ))) → CallsRule (step_of names predicates kind) k → slice_get (by_number made) k ≡ Some ys →
+      KindCalls names kind k × ((xs : Alternatives NumberedAtom) × (slice_get (numbered_alternatives rules) k ≡ Some xs) × (ys ≡ either_over (becomes names predicates) xs))
+  called_back (Set set) k ys c is = absurd c
+  called_back (Rule name) k ys c is = called_by name.text k ys c is
+  called_back (Predicate name) k ys c is = absurd c
+  called_back Action k ys c is = absurd c
 
-  each_has_none : (rules : List (ParserRule NumberedAtom)) → HaveNoEmptyLoops rules → All (HasNone rules) rules
-  each_has_none rules loops k d less looped = loops (suc k) (alternatives_of (get_or rules k d)) (numbered_at rules k (get_or rules k d) (slice_get-get_or rules k d less)) looped
+  -- no rule over steps reaches itself by left calls
+  no_cycles : HaveNoLeftCycles rules → NoLeftCycle ReadsSymbols CallsRule (by_number made)
+  no_cycles h =
+      no_cycle_over (becomes names predicates) ReadsNumbered ReadsSymbols (CallsNumbered rules) CallsRule (numbered_alternatives rules) (by_number made) (λ k. k) (reads_back names predicates)
+      (λ a k ys c is. called_back a.kind k ys c is) bodies h
 
   -- no loop of the rules over steps can be empty
-  no_loops : (rules : List (ParserRule NumberedAtom)) → All NumberedRuleIsQuiet rules → HaveNoEmptyLoops rules → NoEmptyLoop ReadsSymbols CallsRule (by_number (map (resolved_rule names predicates) rules))
-  no_loops rules quiet loops k xs is looped =
-      let all = by_number (map (resolved_rule names predicates) rules) in
-      let P : Alternatives (Step (List ℕ)) → Type 0 = λ ys. SomeHasEmptyLoop ReadsSymbols CallsRule all ys → ⊥ in
-      let Q : ParserRule NumberedAtom → Type 0 = λ rule. P (alternatives_of (resolved_rule names predicates rule)) in
-      let each : All Q rules = λ n d less h. each_has_none rules loops n d less (loop_of_rule rules all (get_or rules n d) (quiet n d less) h) in
-      at_index P all k xs (All-cons P none (map alternatives_of (map (resolved_rule names predicates) rules)) (λ h. h)
-      (All-map P alternatives_of (map (resolved_rule names predicates) rules) (All-map (λ (rule : StepRule). P (alternatives_of rule)) (resolved_rule names predicates) rules each))) is looped
+  no_loops : HaveNoEmptyLoops rules → NoEmptyLoop ReadsSymbols CallsRule (by_number made)
+  no_loops h k ys is looped = elim (bodies k ys is) [
+    | inl e ↦ subst (SomeHasEmptyLoop ReadsSymbols CallsRule (by_number made)) e looped
+    | inr body ↦
+        h k body.0 body.1
+        (some_loop_back (becomes names predicates) ReadsNumbered ReadsSymbols (CallsNumbered rules) CallsRule (numbered_alternatives rules) (by_number made) (reads_back names predicates)
+        (λ a j zs c at. let called = called_back a.kind j zs c at in (j, called.0, called.1)) body.0 (subst (SomeHasEmptyLoop ReadsSymbols CallsRule (by_number made)) body.2 looped))
+  ]
 
-  pub can_be_laid : (rules : List (ParserRule NumberedAtom)) → ParserRulesAreFull rules → All RuleLeavesEnd rules → All NumberedRuleIsQuiet rules → HaveNoEmptyLoops rules → CanBeLaid (map (resolved_rule names predicates) rules)
-  can_be_laid rules full ends quiet loops = record {
-    plain = plain_rules rules quiet ends;
-    full = full_rules rules full;
-    within = within_rules (length (map (resolved_rule names predicates) rules)) rules quiet;
-    loops = no_loops rules quiet loops;
-    cycles = no_cycle rules quiet;
+  pub can_be_laid : ParserRulesAreFull rules → All RuleLeavesEnd rules → All NumberedRuleIsUntested rules → NumberedRulesAreDefined rules → HaveNoEmptyLoops rules → HaveNoLeftCycles rules → CanBeLaid made
+  can_be_laid full ends untested defined loops cycles = record {
+    plain = plain_rules names predicates rules untested ends;
+    full = full_rules names predicates rules full;
+    within =
+        subst (λ (n : ℕ). All (CallsWithin n) made) (length-map rules (λ rule. rule.name) ∙ sym (length-map rules (resolved_rule names predicates))) (within_rules names predicates rules defined);
+    loops = no_loops loops;
+    cycles = no_cycles cycles;
   }

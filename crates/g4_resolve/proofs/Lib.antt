@@ -1,2 +1,1 @@
 mod Laid
-mod Places

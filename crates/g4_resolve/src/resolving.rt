@@ -1,13 +1,15 @@
 // References to rules as calls by number, and predicates by theirs.
 ghost use Rattle.std.specs.Prelude.{◌≡◌, ◌≤◌, ◌<◌, ◌^◌, All, IfOk, length, map};
 ghost use Rattle.g4_source.specs.Blocks.{ParserRulesAreFull};
-ghost use Rattle.g4_grammar.specs.NumberedRules.{HaveNoEmptyLoops, NumberedRuleIsQuiet, RuleLeavesEnd};
+ghost use Rattle.g4_grammar.specs.NumberedRules.{HaveNoEmptyLoops, HaveNoLeftCycles, NumberedRuleIsUntested, NumberedRulesAreDefined, RuleLeavesEnd};
 ghost use Rattle.g4_grammar.specs.StepRules.{CanBeLaid};
+ghost use Rattle.g4_places.specs.Places.{ArePlaces};
 ghost use Rattle.g4_resolve.specs.Resolving.{place_named, place_of_predicate, resolved_alternative, resolved_rule, step_of};
 
 use g4_base::{Place, Sequence, Text};
 use g4_elements::{Element, Substitution, substituted};
 use g4_grammar::{NumberedAtom, NumberedKind, Step, StepRule};
+use g4_places::{Places, places_of};
 use g4_source::{ParserRule, RuleAlternative};
 use g4_symbols::Symbols;
 use std::alloc::{AllocError, Global};
@@ -22,13 +24,23 @@ pub struct Resolving {
     ghost few_predicates: { length predicates < 2 ^ 31 },
 }
 
+/// The same, with the places of the names.
+#[derive(Drop)]
+struct Stage<'a> {
+    given: &'a Resolving,
+    places: Places<'a>,
+    ghost named: { ArePlaces given.now.names places },
+}
+
 /// The place among the names of the first that is this one, or their number.
-fn place_named(names: &[Text], name: &str) -> usize
-    ensures place { result ≡ place_named names.now name.now }
-    ensures within { result ≤ length names.now }
+fn place_named(stage: &Stage<'_>, name: &str) -> usize
+    ensures place { result ≡ place_named stage.now.given.now.names name.now }
+    ensures within { result ≤ length stage.now.given.now.names }
 {
-    let place = names.iter().position(|other| other.as_str() == name);
-    place.unwrap_or(names.len())
+    match stage.places.place_of(name) {
+        Some(place) => place as usize,
+        None => stage.given.names.len(),
+    }
 }
 
 /// The number of the predicate at this place, or how many there are.
@@ -41,22 +53,22 @@ fn place_of_predicate(predicates: &[Place], place: Place) -> usize
     found.unwrap_or(predicates.len())
 }
 
-impl Resolving {
+impl Stage<'_> {
     /// The step that the atom is.
     fn step_of(&self, alloc: Global, kind: &NumberedKind) -> Result<Step<Symbols>, AllocError>
-        ensures { IfOk result (λ step. step ≡ step_of self.now.names self.now.predicates kind.now) }
+        ensures { IfOk result (λ step. step ≡ step_of self.now.given.now.names self.now.given.now.predicates kind.now) }
     {
         match kind {
             NumberedKind::Set(set) => Ok(Step::Edge(set.copy_of(alloc)?)),
             NumberedKind::Rule(name) => {
-                let place = place_named(self.names.as_slice(), name.text.as_str());
+                let place = place_named(self, name.text.as_str());
                 Ok(Step::Call {
                     rule: (place + 1) as u32,
                     level: 0,
                 })
             }
             NumberedKind::Predicate(name) => {
-                let number = place_of_predicate(self.predicates.as_slice(), name.place);
+                let number = place_of_predicate(self.given.predicates.as_slice(), name.place);
                 Ok(Step::Predicate(number as u32))
             }
             NumberedKind::Action => Ok(Step::Action),
@@ -64,13 +76,13 @@ impl Resolving {
     }
 }
 
-impl Substitution<NumberedAtom> for Resolving {
+impl Substitution<NumberedAtom> for Stage<'_> {
     type To = Step<Symbols>;
 
     ghost use Rattle.g4_elements.specs.Elements.{atom as lone};
     ghost use Rattle.g4_resolve.specs.Resolving.{step_of as becomes};
 
-    ghost image = { λ stage a. lone (becomes stage.names stage.predicates a.kind) };
+    ghost image = { λ stage a. lone (becomes stage.given.now.names stage.given.now.predicates a.kind) };
 
     #[tactic(auto, using(g4_elements::proofs::Trees::of_atom))]
     fn image(
@@ -86,10 +98,10 @@ impl Substitution<NumberedAtom> for Resolving {
 /// The alternative over steps.
 fn resolved_alternative(
     alloc: Global,
-    stage: &Resolving,
+    stage: &Stage<'_>,
     alternative: RuleAlternative<NumberedAtom>,
 ) -> Result<RuleAlternative<Step<Symbols>>, AllocError>
-    ensures { IfOk result (λ made. made ≡ resolved_alternative stage.now.names stage.now.predicates alternative) }
+    ensures { IfOk result (λ made. made ≡ resolved_alternative stage.now.given.now.names stage.now.given.now.predicates alternative) }
 {
     let RuleAlternative {
         right,
@@ -107,10 +119,10 @@ fn resolved_alternative(
 /// The rule over steps.
 fn resolved_rule(
     alloc: Global,
-    stage: &Resolving,
+    stage: &Stage<'_>,
     rule: ParserRule<NumberedAtom>,
 ) -> Result<StepRule, AllocError>
-    ensures { IfOk result (λ made. made ≡ resolved_rule stage.now.names stage.now.predicates rule) }
+    ensures { IfOk result (λ made. made ≡ resolved_rule stage.now.given.now.names stage.now.given.now.predicates rule) }
 {
     let ParserRule { name, alternatives } = rule;
     let mut all = Vec::new(alloc);
@@ -126,10 +138,10 @@ fn resolved_rule(
 /// The rules over steps.
 fn resolved_rules(
     alloc: Global,
-    stage: &Resolving,
+    stage: &Stage<'_>,
     rules: Vec<ParserRule<NumberedAtom>>,
 ) -> Result<Vec<StepRule>, AllocError>
-    ensures { IfOk result (λ made. made.items ≡ map (resolved_rule stage.now.names stage.now.predicates) rules.items) }
+    ensures { IfOk result (λ made. made.items ≡ map (resolved_rule stage.now.given.now.names stage.now.given.now.predicates) rules.items) }
 {
     let mut all = Vec::new(alloc);
     for rule in rules {
@@ -138,8 +150,8 @@ fn resolved_rules(
     Ok(all)
 }
 
-/// The rules over steps. Where no rule calls a rule, tests anything or takes END, and no loop can be empty, a network can be made
-/// of them.
+/// The rules over steps. Where the names are those of the rules, no rule tests anything or takes END, each reference is to one of
+/// the rules, no loop can be empty and no rule reaches itself by left calls, a network can be made of them.
 ///
 /// # Errors
 /// No memory.
@@ -149,9 +161,15 @@ pub fn resolve(
     rules: Vec<ParserRule<NumberedAtom>>,
 ) -> Result<Vec<StepRule>, AllocError>
     ensures steps { IfOk result (λ made. made.items ≡ map (resolved_rule stage.now.names stage.now.predicates) rules.items) }
-    ensures laid { ParserRulesAreFull rules.items → All RuleLeavesEnd rules.items → All NumberedRuleIsQuiet rules.items → HaveNoEmptyLoops rules.items →
+    ensures laid { stage.now.names ≡ map (λ rule. rule.name) rules.items → ParserRulesAreFull rules.items → All RuleLeavesEnd rules.items →
+        All NumberedRuleIsUntested rules.items → NumberedRulesAreDefined rules.items → HaveNoEmptyLoops rules.items → HaveNoLeftCycles rules.items →
         IfOk result (λ made. CanBeLaid made.items) }
 {
-    let made = resolved_rules(alloc, stage, rules)?;
+    let places = places_of(alloc, stage.names.as_slice())?;
+    let stage = Stage {
+        given: stage,
+        places,
+    };
+    let made = resolved_rules(alloc, &stage, rules)?;
     Ok(made)
 }

@@ -24,13 +24,13 @@ use Rattle.g4_source.specs.Rules.{parser_rules, lexer_rules, alternatives_of}
 use Rattle.g4_source.specs.Blocks.{ParserRuleIsFull, RulesAreFull, ParserRulesAreFull}
 use Rattle.g4_grammar.specs.declared.numbered.NumberedAtom.{NumberedAtom}
 use Rattle.g4_grammar.specs.declared.numbered.TokenRule.{TokenRule}
-use Rattle.g4_grammar.specs.Written.{RuleIsQuiet, ParserRuleIsQuiet, ParserKindIsQuiet, LexerRuleIsQuiet, LexerKindIsQuiet, TokenRuleIsQuiet}
+use Rattle.g4_grammar.specs.Written.{RuleIsQuiet, ParserRuleIsUntested, ParserKindIsUntested, LexerRuleIsQuiet, LexerKindIsQuiet, TokenRuleIsQuiet}
 use Rattle.g4_vocab.specs.declared.types.Key.{Key}
 use Rattle.g4_vocab.specs.declared.types.Key.TheVariants as keys
 use Rattle.g4_vocab.specs.declared.types.Entry.{Entry}
 use Rattle.g4_vocab.specs.Types.{is_key, number_of, type_of, greatest_type, all_types}
 use Rattle.g4_vocab.specs.Numbering.{numbered_atom, numbered_kind, numbered_alternative, numbered_rule, token_lexers, literal_key, symbol_of, types_without, literal_alternative, literal_rule, token_rule, token_rules}
-use Rattle.g4_grammar.specs.NumberedRules.{NumberedKindIsQuiet, NumberedRuleIsQuiet, KindLeavesEnd, RuleLeavesEnd}
+use Rattle.g4_grammar.specs.NumberedRules.{NumberedKindIsUntested, NumberedRuleIsUntested, KindLeavesEnd, RuleLeavesEnd}
 
 -- the first of some items, and the others
 pub all_head : {X : Type 0} (P : X → Type 0) (x : X) (xs : List X) → All P (x ∷ xs) → P x
@@ -106,7 +106,7 @@ module _ (lexers : List LexerRule) (types : List Entry) where
       by (x ∷ xs) = ap (or (in_order_over (numbered_atom lexers types) x.elements)) (by xs)
 
   -- the atoms of a numbered rule
-  atoms_are : (rule : ParserRule Atom) → atoms_of_either (alternatives_of (numbered_rule lexers types rule)) ≡ map (numbered_atom lexers types) (atoms_of_either (alternatives_of rule))
+  pub atoms_are : (rule : ParserRule Atom) → atoms_of_either (alternatives_of (numbered_rule lexers types rule)) ≡ map (numbered_atom lexers types) (atoms_of_either (alternatives_of rule))
   atoms_are rule = ap atoms_of_either (tree_of rule) ∙ either_atoms (numbered_atom lexers types) (alternatives_of rule)
 
   -- each block of a numbered rule has an alternative
@@ -121,32 +121,32 @@ module _ (lexers : List LexerRule) (types : List Entry) where
   rules_full (Parser rule ∷ rules) h = (rule_full rule h.0, rules_full rules h.1)
   rules_full (Lexer rule ∷ rules) h = rules_full rules h.1
 
-  -- a quiet atom stays quiet
-  kind_quiet : (kind : AtomKind) → ParserKindIsQuiet kind → NumberedKindIsQuiet (numbered_kind lexers types kind)
-  kind_quiet (kinds.Rule name) h = h
-  kind_quiet (kinds.Token name) h = tt
-  kind_quiet (kinds.Literal literal) h = tt
-  kind_quiet (kinds.Range place first last) h = tt
-  kind_quiet (kinds.Set set) h = tt
-  kind_quiet (kinds.Any place) h = tt
-  kind_quiet (kinds.NotTokens place tokens) h = tt
-  kind_quiet (kinds.NotCharacters place set) h = tt
-  kind_quiet kinds.Action h = tt
-  kind_quiet (kinds.Predicate name) h = h
+  -- an atom that tests nothing stays so
+  kind_untested : (kind : AtomKind) → ParserKindIsUntested kind → NumberedKindIsUntested (numbered_kind lexers types kind)
+  kind_untested (kinds.Rule name) h = tt
+  kind_untested (kinds.Token name) h = tt
+  kind_untested (kinds.Literal literal) h = tt
+  kind_untested (kinds.Range place first last) h = tt
+  kind_untested (kinds.Set set) h = tt
+  kind_untested (kinds.Any place) h = tt
+  kind_untested (kinds.NotTokens place tokens) h = tt
+  kind_untested (kinds.NotCharacters place set) h = tt
+  kind_untested kinds.Action h = tt
+  kind_untested (kinds.Predicate name) h = h
 
-  rule_quiet : (rule : ParserRule Atom) → ParserRuleIsQuiet rule → NumberedRuleIsQuiet (numbered_rule lexers types rule)
-  rule_quiet rule h =
-      let Q : NumberedAtom → Type 0 = λ a. NumberedKindIsQuiet a.kind in
-      let all : All (λ (a : Atom). Q (numbered_atom lexers types a)) (atoms_of_either (alternatives_of rule)) = λ k d less. kind_quiet _ (h k d less) in
+  rule_untested : (rule : ParserRule Atom) → ParserRuleIsUntested rule → NumberedRuleIsUntested (numbered_rule lexers types rule)
+  rule_untested rule h =
+      let Q : NumberedAtom → Type 0 = λ a. NumberedKindIsUntested a.kind in
+      let all : All (λ (a : Atom). Q (numbered_atom lexers types a)) (atoms_of_either (alternatives_of rule)) = λ k d less. kind_untested _ (h k d less) in
       let P : List NumberedAtom → Type 0 = λ xs. All Q xs in
       subst P (sym (atoms_are rule)) (All-map Q (numbered_atom lexers types) (atoms_of_either (alternatives_of rule)) all)
 
-  -- the parser rules of a quiet source are quiet
-  pub rules_quiet : (rules : List Rule) → All RuleIsQuiet rules → All NumberedRuleIsQuiet (map (numbered_rule lexers types) (parser_rules rules))
-  rules_quiet [] h = all_none NumberedRuleIsQuiet
-  rules_quiet (Parser rule ∷ rules) h =
-      All-cons NumberedRuleIsQuiet (numbered_rule lexers types rule) (map (numbered_rule lexers types) (parser_rules rules)) (rule_quiet rule (all_head RuleIsQuiet (Parser rule) rules h)) (rules_quiet rules (all_tail RuleIsQuiet (Parser rule) rules h))
-  rules_quiet (Lexer rule ∷ rules) h = rules_quiet rules (all_tail RuleIsQuiet (Lexer rule) rules h)
+  -- the parser rules of a quiet source test nothing
+  pub rules_untested : (rules : List Rule) → All RuleIsQuiet rules → All NumberedRuleIsUntested (map (numbered_rule lexers types) (parser_rules rules))
+  rules_untested [] h = all_none NumberedRuleIsUntested
+  rules_untested (Parser rule ∷ rules) h =
+      All-cons NumberedRuleIsUntested (numbered_rule lexers types rule) (map (numbered_rule lexers types) (parser_rules rules)) (rule_untested rule (all_head RuleIsQuiet (Parser rule) rules h)) (rules_untested rules (all_tail RuleIsQuiet (Parser rule) rules h))
+  rules_untested (Lexer rule ∷ rules) h = rules_untested rules (all_tail RuleIsQuiet (Lexer rule) rules h)
 
   -- symbols of tokens are below END
   symbol_low : (token : TokenReference) → greatest_type types ≤ MOST_TYPES → symbol_of lexers types token < end_of_list

@@ -1,6 +1,6 @@
 pub mod Keys
 mod Laws
-mod NumberedLoops
+mod Faultless
 pub mod Lists
 pub mod Nodes
 pub mod OneNaming

@@ -17,8 +17,8 @@ use Rattle.g4_source.specs.Blocks.{HaveAlternatives, ParserRulesAreFull}
 use Rattle.g4_grammar.specs.declared.numbered.Numbered.{Numbered}
 use Rattle.g4_grammar.specs.declared.numbered.NumberedAtom.{NumberedAtom}
 use Rattle.g4_grammar.specs.declared.numbered.TokenRule.{TokenRule}
-use Rattle.g4_grammar.specs.NumberedRules.{HaveNoEmptyLoops, NumberedRuleIsQuiet, RuleLeavesEnd}
-use Rattle.g4_grammar.specs.Written.{HaveNoEmptyLoop, RuleIsQuiet, TokenRuleIsQuiet}
+use Rattle.g4_grammar.specs.NumberedRules.{HaveNoEmptyLoops, HaveNoLeftCycles, NumberedRuleIsUntested, NumberedRulesAreDefined, RuleLeavesEnd}
+use Rattle.g4_grammar.specs.Written.{HaveNoEmptyLoop, HaveNoLeftCycle, RuleIsQuiet, RulesAreDefined, TokenRuleIsQuiet}
 use Rattle.g4_rules.specs.Rules.{mode_rules, rules_of}
 use Rattle.g4_vocab.specs.declared.fault.TheConstants.{MOST_RULES}
 use Rattle.g4_vocab.specs.declared.fault.NumberFault.{NumberFault}
@@ -30,8 +30,8 @@ use Rattle.g4_vocab.specs.Types.{greatest_type, with_keys}
 use Rattle.g4_vocab.specs.Halves.{AreHalves}
 use Rattle.g4_vocab.specs.Numbering.{numbered_rule, all_atoms, all_references, numbered_with, types_with, types_of, token_lexers, wanted}
 use Rattle.g4_vocab.specs.Answers.{CausesNumberFault, GivesNumbered, GivesNumberedHalves}
-use Rattle.g4_vocab.proofs.Laws.{parsers_few, rules_full, rules_quiet, rules_ends, lexers_quiet, tokens_quiet, symbols_low}
-use Rattle.g4_vocab.proofs.NumberedLoops.{rules_loops}
+use Rattle.g4_vocab.proofs.Laws.{parsers_few, rules_full, rules_untested, rules_ends, lexers_quiet, tokens_quiet, symbols_low}
+use Rattle.g4_vocab.proofs.Faultless.{rules_cycles, rules_defined, rules_loops}
 
 -- a fact of the halves is a fact of those of the source
 of_source : (P : List (ParserRule Atom) → List LexerRule → Type 0) (source : Source) (parsers : List (ParserRule Atom)) (lexers : List LexerRule) → AreHalves source.rules parsers lexers → P parsers lexers → P (parser_rules source.rules) (token_lexers source.rules)
@@ -77,16 +77,26 @@ module _ (source : Source) (grammar : Numbered) (given : GivesNumbered source (O
   pub source_ends : All RuleLeavesEnd grammar.rules
   source_ends = subst (λ (rules : List (ParserRule NumberedAtom)). All RuleLeavesEnd rules) (sym (ap (λ (g : Numbered). g.rules) given.2)) (rules_ends (token_lexers source.rules) (types_of [] source.rules) given.1 (parser_rules source.rules))
 
-  pub source_quiet : All RuleIsQuiet source.rules → All NumberedRuleIsQuiet grammar.rules × All TokenRuleIsQuiet grammar.token_rules
+  pub source_quiet : All RuleIsQuiet source.rules → All NumberedRuleIsUntested grammar.rules × All TokenRuleIsQuiet grammar.token_rules
   source_quiet h = (
-    subst (λ (rules : List (ParserRule NumberedAtom)). All NumberedRuleIsQuiet rules) (sym (ap (λ (g : Numbered). g.rules) given.2)) (rules_quiet (token_lexers source.rules) (types_of [] source.rules) source.rules h),
+    subst (λ (rules : List (ParserRule NumberedAtom)). All NumberedRuleIsUntested rules) (sym (ap (λ (g : Numbered). g.rules) given.2)) (rules_untested (token_lexers source.rules) (types_of [] source.rules) source.rules h),
     subst (λ (rules : List TokenRule). All TokenRuleIsQuiet rules) (sym (ap (λ (g : Numbered). g.token_rules) given.2)) (tokens_quiet (types_of [] source.rules) (token_lexers source.rules) (lexers_quiet source.rules h)),
   )
 
-  pub source_loops : HaveNoEmptyLoop (rules_of source) → HaveNoEmptyLoops grammar.rules
-  source_loops h =
+  -- what holds of the numbered rules of all rules, holds of those of the grammar
+  of_rules : (P : List (ParserRule NumberedAtom) → Type 0) → P (map (numbered_rule (token_lexers source.rules) (types_of [] source.rules)) (parser_rules (rules_of source))) → P grammar.rules
+  of_rules P h =
       let rules : List (ParserRule Atom) → List (ParserRule NumberedAtom) = λ parsers. map (numbered_rule (token_lexers source.rules) (types_of [] source.rules)) parsers in
-      subst HaveNoEmptyLoops (sym (ap (λ (g : Numbered). g.rules) given.2)) (subst (λ parsers. HaveNoEmptyLoops (rules parsers)) (no_more source.rules source.modes) (rules_loops (token_lexers source.rules) (types_of [] source.rules) (rules_of source) h))
+      subst P (sym (ap (λ (g : Numbered). g.rules) given.2)) (subst (λ parsers. P (rules parsers)) (no_more source.rules source.modes) h)
+
+  pub source_loops : HaveNoEmptyLoop (rules_of source) → HaveNoEmptyLoops grammar.rules
+  source_loops h = of_rules HaveNoEmptyLoops (rules_loops (token_lexers source.rules) (types_of [] source.rules) (rules_of source) h)
+
+  pub source_cycles : HaveNoLeftCycle (rules_of source) → HaveNoLeftCycles grammar.rules
+  source_cycles h = of_rules HaveNoLeftCycles (rules_cycles (token_lexers source.rules) (types_of [] source.rules) (rules_of source) h)
+
+  pub source_defined : RulesAreDefined (rules_of source) → NumberedRulesAreDefined grammar.rules
+  source_defined h = of_rules NumberedRulesAreDefined (rules_defined (token_lexers source.rules) (types_of [] source.rules) (rules_of source) h)
 
 -- what the halves give, from the tokens that the parser rules name
 pub halves_err : (parsers : List (ParserRule Atom)) (lexers : List LexerRule) (tokens : List TokenReference) (fault : NumberFault) → tokens ≡ all_references (all_atoms parsers) → Starts (wanted lexers tokens) (Err fault) → GivesNumberedHalves parsers lexers (Err fault)

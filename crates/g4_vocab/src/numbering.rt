@@ -2,8 +2,8 @@
 ghost use Rattle.std.specs.Prelude.{◌≡◌, ◌≤◌, All, Contains, IfOk, [], length, map};
 ghost use Rattle.g4_symbols.specs.Symbols.{end_of_list};
 ghost use Rattle.g4_source.specs.Blocks.{HaveAlternatives, ParserRulesAreFull};
-ghost use Rattle.g4_grammar.specs.NumberedRules.{HaveNoEmptyLoops, NumberedRuleIsQuiet, RuleLeavesEnd};
-ghost use Rattle.g4_grammar.specs.Written.{HaveNoEmptyLoop, RuleIsQuiet, TokenRuleIsQuiet};
+ghost use Rattle.g4_grammar.specs.NumberedRules.{HaveNoEmptyLoops, HaveNoLeftCycles, NumberedRuleIsUntested, NumberedRulesAreDefined, RuleLeavesEnd};
+ghost use Rattle.g4_grammar.specs.Written.{HaveNoEmptyLoop, HaveNoLeftCycle, RuleIsQuiet, RulesAreDefined, TokenRuleIsQuiet};
 ghost use Rattle.g4_rules.specs.Rules.{rules_of};
 ghost use Rattle.g4_vocab.specs.Answers.{GivesNumbered, GivesNumberedHalves};
 ghost use Rattle.g4_vocab.specs.Numbering.{all_atoms, all_references, numbered_alternative, numbered_rule, numbered_with};
@@ -138,7 +138,20 @@ fn number_halves<'a>(
     Ok(grammar)
 }
 
-/// The numbered grammar of a source.
+/// The numbered grammar of a source, where it has few enough rules.
+fn number_source(alloc: Global, source: &Source) -> Result<Numbered, NumberFault>
+    ensures { GivesNumbered source.now result }
+{
+    if source.rules.len() > MOST_RULES {
+        return Err(NumberFault::Rules);
+    }
+    let halves = halves_of(alloc, source.rules.as_slice())?;
+    let grammar = number_halves(alloc, halves.parsers.as_slice(), halves.lexers.as_slice())?;
+    Ok(grammar)
+}
+
+/// The numbered grammar of a source. What is checked of its rules, so that a network can be made of them, holds of the numbered
+/// rules too.
 ///
 /// # Errors
 /// More than 4,096 rules, then more than 4,096 types, or no memory.
@@ -148,13 +161,11 @@ pub fn number(alloc: Global, source: &Source) -> Result<Numbered, NumberFault>
     ensures full { HaveAlternatives source.now → IfOk result (λ grammar. ParserRulesAreFull grammar.rules) }
     ensures few { IfOk result (λ grammar. length grammar.rules ≤ MOST_RULES) }
     ensures ends { IfOk result (λ grammar. All RuleLeavesEnd grammar.rules) }
-    ensures quiet { All RuleIsQuiet source.now.rules → IfOk result (λ grammar. All NumberedRuleIsQuiet grammar.rules × All TokenRuleIsQuiet grammar.token_rules) }
+    ensures quiet { All RuleIsQuiet source.now.rules → IfOk result (λ grammar. All NumberedRuleIsUntested grammar.rules × All TokenRuleIsQuiet grammar.token_rules) }
+    ensures defined { RulesAreDefined (rules_of source.now) → IfOk result (λ grammar. NumberedRulesAreDefined grammar.rules) }
     ensures loops { HaveNoEmptyLoop (rules_of source.now) → IfOk result (λ grammar. HaveNoEmptyLoops grammar.rules) }
+    ensures cycles { HaveNoLeftCycle (rules_of source.now) → IfOk result (λ grammar. HaveNoLeftCycles grammar.rules) }
 {
-    if source.rules.len() > MOST_RULES {
-        return Err(NumberFault::Rules);
-    }
-    let halves = halves_of(alloc, source.rules.as_slice())?;
-    let grammar = number_halves(alloc, halves.parsers.as_slice(), halves.lexers.as_slice())?;
+    let grammar = number_source(alloc, source)?;
     Ok(grammar)
 }

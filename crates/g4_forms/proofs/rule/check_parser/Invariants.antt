@@ -3,4 +3,4 @@ use Rattle.g4_forms.proofs.Firsts.{AreLeft}
 use Rattle.g4_forms.proofs.rule.check_parser.Given as goal
 
 abbrev pub invariant-loop-alternative : goal.invariant-loop-alternative
-invariant-loop-alternative l = AreLeft (parser_alternative_forms l.stage) l.alternatives l.alternative-index
+invariant-loop-alternative l = AreLeft parser_alternative_forms l.alternatives l.alternative-index

@@ -1,92 +1,26 @@
-use Rattle.std.proofs.Common.{List, map, ap, ◌∙◌, arith}
-use Rattle.std.proofs.lemmas.Result.{err_from_is_err_and}
-use Rattle.g4_source.specs.declared.atom.Atom.{Atom}
-use Rattle.g4_source.specs.declared.rule.LexerRule.{LexerRule}
-use Rattle.g4_source.specs.declared.rule.ParserRule.{ParserRule}
-use Rattle.g4_source.specs.Rules.{parser_rules}
-use Rattle.g4_vocab.specs.Halves.{AreHalves}
-use Rattle.g4_vocab.specs.Numbering.{token_lexers}
-use Rattle.g4_vocab.proofs.Sources.{source_few, source_ok, source_err, source_types, source_full, source_ends, source_quiet, source_loops}
+use Rattle.g4_vocab.proofs.Sources.{source_types, source_full, source_few, source_ends, source_quiet, source_defined, source_loops, source_cycles}
 use Rattle.g4_vocab.proofs.numbering.number.Goals as goal
 
-pub returns-clause-numbered : goal.returns-clause-numbered
-returns-clause-numbered c =
-    let parsers : List (ParserRule Atom) = map (λ r. r.now) c.as_slice-2.result.now in
-    let lexers : List LexerRule = map (λ r. r.now) c.as_slice-3.result.now in
-    let h : AreHalves c.args.source.now.rules parsers lexers = record {
-      parsers_are = ap (map (λ r. r.now)) c.as_slice-2.ensures.value ∙ (c.in_ok-halves.ensures.parsers_are ∙ ap parser_rules c.as_slice.ensures);
-      lexers_are = ap (map (λ r. r.now)) c.as_slice-3.ensures.value ∙ (c.in_ok-halves.ensures.lexers_are ∙ ap token_lexers c.as_slice.ensures);
-    } in
-    source_ok c.args.source.now parsers lexers c.in_ok-grammar.grammar h (omega (arith, c.len.ensures)) c.in_ok-grammar.ensures
-
 pub returns-clause-types : goal.returns-clause-types
-returns-clause-types c =
-    let parsers : List (ParserRule Atom) = map (λ r. r.now) c.as_slice-2.result.now in
-    let lexers : List LexerRule = map (λ r. r.now) c.as_slice-3.result.now in
-    let h : AreHalves c.args.source.now.rules parsers lexers = record {
-      parsers_are = ap (map (λ r. r.now)) c.as_slice-2.ensures.value ∙ (c.in_ok-halves.ensures.parsers_are ∙ ap parser_rules c.as_slice.ensures);
-      lexers_are = ap (map (λ r. r.now)) c.as_slice-3.ensures.value ∙ (c.in_ok-halves.ensures.lexers_are ∙ ap token_lexers c.as_slice.ensures);
-    } in
-    source_types c.args.source.now c.in_ok-grammar.grammar (source_ok c.args.source.now parsers lexers c.in_ok-grammar.grammar h (omega (arith, c.len.ensures)) c.in_ok-grammar.ensures)
+returns-clause-types c = source_types c.args.source.now c.in_ok-grammar.grammar c.in_ok-grammar.ensures
 
 pub returns-clause-full : goal.returns-clause-full
-returns-clause-full c =
-    let parsers : List (ParserRule Atom) = map (λ r. r.now) c.as_slice-2.result.now in
-    let lexers : List LexerRule = map (λ r. r.now) c.as_slice-3.result.now in
-    let h : AreHalves c.args.source.now.rules parsers lexers = record {
-      parsers_are = ap (map (λ r. r.now)) c.as_slice-2.ensures.value ∙ (c.in_ok-halves.ensures.parsers_are ∙ ap parser_rules c.as_slice.ensures);
-      lexers_are = ap (map (λ r. r.now)) c.as_slice-3.ensures.value ∙ (c.in_ok-halves.ensures.lexers_are ∙ ap token_lexers c.as_slice.ensures);
-    } in
-    source_full c.args.source.now c.in_ok-grammar.grammar (source_ok c.args.source.now parsers lexers c.in_ok-grammar.grammar h (omega (arith, c.len.ensures)) c.in_ok-grammar.ensures)
-
-pub returns-clause-ends : goal.returns-clause-ends
-returns-clause-ends c =
-    let parsers : List (ParserRule Atom) = map (λ r. r.now) c.as_slice-2.result.now in
-    let lexers : List LexerRule = map (λ r. r.now) c.as_slice-3.result.now in
-    let h : AreHalves c.args.source.now.rules parsers lexers = record {
-      parsers_are = ap (map (λ r. r.now)) c.as_slice-2.ensures.value ∙ (c.in_ok-halves.ensures.parsers_are ∙ ap parser_rules c.as_slice.ensures);
-      lexers_are = ap (map (λ r. r.now)) c.as_slice-3.ensures.value ∙ (c.in_ok-halves.ensures.lexers_are ∙ ap token_lexers c.as_slice.ensures);
-    } in
-    source_ends c.args.source.now c.in_ok-grammar.grammar (source_ok c.args.source.now parsers lexers c.in_ok-grammar.grammar h (omega (arith, c.len.ensures)) c.in_ok-grammar.ensures)
-
-pub returns-clause-quiet : goal.returns-clause-quiet
-returns-clause-quiet c =
-    let parsers : List (ParserRule Atom) = map (λ r. r.now) c.as_slice-2.result.now in
-    let lexers : List LexerRule = map (λ r. r.now) c.as_slice-3.result.now in
-    let h : AreHalves c.args.source.now.rules parsers lexers = record {
-      parsers_are = ap (map (λ r. r.now)) c.as_slice-2.ensures.value ∙ (c.in_ok-halves.ensures.parsers_are ∙ ap parser_rules c.as_slice.ensures);
-      lexers_are = ap (map (λ r. r.now)) c.as_slice-3.ensures.value ∙ (c.in_ok-halves.ensures.lexers_are ∙ ap token_lexers c.as_slice.ensures);
-    } in
-    source_quiet c.args.source.now c.in_ok-grammar.grammar (source_ok c.args.source.now parsers lexers c.in_ok-grammar.grammar h (omega (arith, c.len.ensures)) c.in_ok-grammar.ensures)
-
-pub returns-clause-loops : goal.returns-clause-loops
-returns-clause-loops c =
-    let parsers : List (ParserRule Atom) = map (λ r. r.now) c.as_slice-2.result.now in
-    let lexers : List LexerRule = map (λ r. r.now) c.as_slice-3.result.now in
-    let h : AreHalves c.args.source.now.rules parsers lexers = record {
-      parsers_are = ap (map (λ r. r.now)) c.as_slice-2.ensures.value ∙ (c.in_ok-halves.ensures.parsers_are ∙ ap parser_rules c.as_slice.ensures);
-      lexers_are = ap (map (λ r. r.now)) c.as_slice-3.ensures.value ∙ (c.in_ok-halves.ensures.lexers_are ∙ ap token_lexers c.as_slice.ensures);
-    } in
-    source_loops c.args.source.now c.in_ok-grammar.grammar (source_ok c.args.source.now parsers lexers c.in_ok-grammar.grammar h (omega (arith, c.len.ensures)) c.in_ok-grammar.ensures)
-
-pub returns-in_err-grammar-clause-numbered : goal.returns-in_err-grammar-clause-numbered
-returns-in_err-grammar-clause-numbered c =
-    let p = err_from_is_err_and c.from_residual-in_err-grammar.result c.from_residual-in_err-grammar.ensures.1 in
-    let fault = c.in_err-grammar.field-0.0 in
-    let parsers : List (ParserRule Atom) = map (λ r. r.now) c.as_slice-2.result.now in
-    let lexers : List LexerRule = map (λ r. r.now) c.as_slice-3.result.now in
-    let h : AreHalves c.args.source.now.rules parsers lexers = record {
-      parsers_are = ap (map (λ r. r.now)) c.as_slice-2.ensures.value ∙ (c.in_ok-halves.ensures.parsers_are ∙ ap parser_rules c.as_slice.ensures);
-      lexers_are = ap (map (λ r. r.now)) c.as_slice-3.ensures.value ∙ (c.in_ok-halves.ensures.lexers_are ∙ ap token_lexers c.as_slice.ensures);
-    } in
-    rw (p.1, p.2) (source_err c.args.source.now parsers lexers fault h (omega (arith, c.len.ensures)) c.in_err-grammar.ensures)
+returns-clause-full c = source_full c.args.source.now c.in_ok-grammar.grammar c.in_ok-grammar.ensures
 
 pub returns-clause-few : goal.returns-clause-few
-returns-clause-few c =
-    let parsers : List (ParserRule Atom) = map (λ r. r.now) c.as_slice-2.result.now in
-    let lexers : List LexerRule = map (λ r. r.now) c.as_slice-3.result.now in
-    let h : AreHalves c.args.source.now.rules parsers lexers = record {
-      parsers_are = ap (map (λ r. r.now)) c.as_slice-2.ensures.value ∙ (c.in_ok-halves.ensures.parsers_are ∙ ap parser_rules c.as_slice.ensures);
-      lexers_are = ap (map (λ r. r.now)) c.as_slice-3.ensures.value ∙ (c.in_ok-halves.ensures.lexers_are ∙ ap token_lexers c.as_slice.ensures);
-    } in
-    source_few c.args.source.now c.in_ok-grammar.grammar (source_ok c.args.source.now parsers lexers c.in_ok-grammar.grammar h (omega (arith, c.len.ensures)) c.in_ok-grammar.ensures)
+returns-clause-few c = source_few c.args.source.now c.in_ok-grammar.grammar c.in_ok-grammar.ensures
+
+pub returns-clause-ends : goal.returns-clause-ends
+returns-clause-ends c = source_ends c.args.source.now c.in_ok-grammar.grammar c.in_ok-grammar.ensures
+
+pub returns-clause-quiet : goal.returns-clause-quiet
+returns-clause-quiet c = source_quiet c.args.source.now c.in_ok-grammar.grammar c.in_ok-grammar.ensures
+
+pub returns-clause-defined : goal.returns-clause-defined
+returns-clause-defined c = source_defined c.args.source.now c.in_ok-grammar.grammar c.in_ok-grammar.ensures
+
+pub returns-clause-loops : goal.returns-clause-loops
+returns-clause-loops c = source_loops c.args.source.now c.in_ok-grammar.grammar c.in_ok-grammar.ensures
+
+pub returns-clause-cycles : goal.returns-clause-cycles
+returns-clause-cycles c = source_cycles c.args.source.now c.in_ok-grammar.grammar c.in_ok-grammar.ensures
