@@ -113,12 +113,17 @@ command_at i = slice_index_or app.subs i top
 abbrev IsSomeCommand : List Text → Type 0
 IsSomeCommand words = (command : Command) × IsCommand words command
 
--- of three needed arguments, or of one, none is missing
+-- of three needed arguments, of two, or of one, none is missing
 three_given : (a b c : Bool) → cond (not a || (not b || (not c || false))) (MissingRequiredArgument ∷ []) [] ≡ [] → (a ≡ true) × (b ≡ true) × (c ≡ true)
 three_given true true true none = (refl, refl, refl)
 three_given true true false none = absurd (some_fault MissingRequiredArgument [] none)
 three_given true false c none = absurd (some_fault MissingRequiredArgument [] none)
 three_given false b c none = absurd (some_fault MissingRequiredArgument [] none)
+
+two_given : (a b : Bool) → cond (not a || (not b || false)) (MissingRequiredArgument ∷ []) [] ≡ [] → (a ≡ true) × (b ≡ true)
+two_given true true none = (refl, refl)
+two_given true false none = absurd (some_fault MissingRequiredArgument [] none)
+two_given false b none = absurd (some_fault MissingRequiredArgument [] none)
 
 one_given : (a : Bool) → cond (not a || false) (MissingRequiredArgument ∷ []) [] ≡ [] → a ≡ true
 one_given true none = refl
@@ -132,6 +137,13 @@ parse_fills = (fills_by_values (rule_of 0 0) refl, (fills_by_values (rule_of 0 1
 
 check_fills : FillAll (command_at 1).rules
 check_fills = (fills_by_values (rule_of 1 0) refl, (fills_by_help (rule_of 1 1) refl, tt))
+
+atn_fills : FillAll (command_at 2).rules
+atn_fills = (fills_by_values (rule_of 2 0) refl, (fills_by_values (rule_of 2 1) refl, (fills_by_help (rule_of 2 2) refl, tt)))
+
+-- the first of the commands whose name is met; the last is the request for help
+abbrev met_command : Bool → Bool → Bool → Bool → Option Shape
+met_command a b c d = cond a (Some (command_at 0)) (cond b (Some (command_at 1)) (cond c (Some (command_at 2)) (cond d (Some (command_at 3)) None)))
 
 or_false : (b : Bool) → (b || false) ≡ true → b ≡ true
 or_false true is = refl
@@ -170,20 +182,32 @@ module _ (words : List Text) (accepted : fault_of g4_app words ≡ []) (few : Ha
         record { accepted = accepted; name = codes "check"; rows = rows; given = given; named = (refl, grammar.one) },
       )
 
-  by_names : (a b c : Bool) (rest : List Text) → (c ≡ true → ⊥)
-      → subcommand_of g4_app words ≡ option_map (λ s. rows_at s rest) (cond a (Some (command_at 0)) (cond b (Some (command_at 1)) (cond c (Some (command_at 2)) None)))
-      → is_some (option_map (λ s. rows_at s rest) (cond a (Some (command_at 0)) (cond b (Some (command_at 1)) (cond c (Some (command_at 2)) None)))) ≡ true
-      → option_map_or (λ s. level_fault s [] nothing_held rest false []) (cond a (Some (command_at 0)) (cond b (Some (command_at 1)) (cond c (Some (command_at 2)) None))) [] ≡ []
+  atn_of : (rest : List Text) → subcommand_of g4_app words ≡ Some (codes "atn", rows_after (command_at 2).rules [] rest) → level_fault (command_at 2) [] nothing_held rest false [] ≡ [] → IsSomeCommand words
+  atn_of rest given none =
+      let rows = rows_after (command_at 2).rules [] rest in
+      let level = level_filled (command_at 2) atn_fills rest none in
+      let there = two_given (is_given (codes "grammar") rows) (is_given (codes "rule") rows) level.1 in
+      let grammar = given_has_value (codes "grammar") rows level.0 there.0 in
+      let rule = given_has_value (codes "rule") rows level.0 there.1 in (
+        commands.Atn (record { grammar = grammar.first; rule = rule.first }),
+        record { accepted = accepted; name = codes "atn"; rows = rows; given = given; named = (refl, record { grammar = grammar.one; rule = rule.one }) },
+      )
+
+  by_names : (a b c d : Bool) (rest : List Text) → (d ≡ true → ⊥)
+      → subcommand_of g4_app words ≡ option_map (λ s. rows_at s rest) (met_command a b c d)
+      → is_some (option_map (λ s. rows_at s rest) (met_command a b c d)) ≡ true
+      → option_map_or (λ s. level_fault s [] nothing_held rest false []) (met_command a b c d) [] ≡ []
       → IsSomeCommand words
-  by_names true b c rest no_help given some none = parse_of rest given none
-  by_names false true c rest no_help given some none = check_of rest given none
-  by_names false false true rest no_help given some none = absurd (no_help refl)
-  by_names false false false rest no_help given some none = cc
+  by_names true b c d rest no_help given some none = parse_of rest given none
+  by_names false true c d rest no_help given some none = check_of rest given none
+  by_names false false true d rest no_help given some none = atn_of rest given none
+  by_names false false false true rest no_help given some none = absurd (no_help refl)
+  by_names false false false false rest no_help given some none = cc
 
   by_entry : (stop : Option (Text × List Text)) → StopsElsewhere stop → subcommand_of g4_app words ≡ entered app stop → is_some (entered app stop) ≡ true → entered_fault app stop ≡ [] → IsSomeCommand words
   by_entry None elsewhere given some none = cc
   by_entry (Some p) elsewhere given some none =
-      by_names (bytes_eq (codes "parse") p.0 || false) (bytes_eq (codes "check") p.0 || false) (bytes_eq (codes "help") p.0 || false) p.1
+      by_names (bytes_eq (codes "parse") p.0 || false) (bytes_eq (codes "check") p.0 || false) (bytes_eq (codes "atn") p.0 || false) (bytes_eq (codes "help") p.0 || false) p.1
       (λ is. elsewhere ((bytes_eq-Decides (codes "help") p.0).0 (or_false (bytes_eq (codes "help") p.0) is))) given some none
 
   pub some_command : IsSomeCommand words

@@ -2,4 +2,5 @@ mod Accepted
 pub mod OneCommand
 mod Refused
 mod Rows
+mod Taken
 mod Walks

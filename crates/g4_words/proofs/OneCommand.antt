@@ -1,10 +1,11 @@
 -- Words are at most one command.
-use Rattle.std.proofs.Common.{◌≡◌, List, Option, Some, ap, ◌∙◌, subst, sym}
+use Rattle.std.proofs.Common.{◌≡◌, List, Option, Some, ap, ◌∙◌, refl, subst, sym}
 use Rattle.std.specs.Prelude.{codes, true, false}
 use Rattle.std.specs.Str.{bytes_eq}
 use Rattle.clap.specs.Words.{Row, Text, all_of, first_of, subcommand_of}
 use Rattle.g4_words.specs.App.{g4_app}
-use Rattle.g4_words.specs.Commands.{IsCheck, IsCommand, IsNamed, IsParse}
+use Rattle.g4_words.specs.Commands.{IsAtn, IsCheck, IsCommand, IsNamed, IsParse}
+use Rattle.g4_words.specs.declared.command.Atn.{Atn}
 use Rattle.g4_words.specs.declared.command.Check.{Check}
 use Rattle.g4_words.specs.declared.command.Command.{Command}
 use Rattle.g4_words.specs.declared.command.Command.TheVariants as commands
@@ -14,7 +15,7 @@ use Rattle.g4_words.specs.declared.command.Parse.{Parse}
 one_value : {X : Type 0} (given : Option X) (a b : X) → given ≡ Some a → given ≡ Some b → a ≡ b
 one_value given a b p q = cc
 
--- values are those of at most one `parse`, and of at most one `check`
+-- values are those of at most one `parse`, of at most one `check`, and of at most one `atn`
 one_parse : (rows : List Row) (a b : Parse) → IsParse rows a → IsParse rows b → a ≡ b
 one_parse rows a b p q =
     ap (λ (t : Text). record { grammar = t; start = a.start; files = a.files }) (one_value (first_of (codes "grammar") rows) a.grammar b.grammar p.grammar q.grammar)
@@ -24,19 +25,38 @@ one_parse rows a b p q =
 one_check : (rows : List Row) (a b : Check) → IsCheck rows a → IsCheck rows b → a ≡ b
 one_check rows a b p q = ap (λ (t : Text). record { grammar = t }) (one_value (first_of (codes "grammar") rows) a.grammar b.grammar p q)
 
+one_atn : (rows : List Row) (a b : Atn) → IsAtn rows a → IsAtn rows b → a ≡ b
+one_atn rows a b p q =
+    ap (λ (t : Text). record { grammar = t; rule = a.rule }) (one_value (first_of (codes "grammar") rows) a.grammar b.grammar p.grammar q.grammar)
+    ∙ ap (λ (t : Text). record { grammar = b.grammar; rule = t }) (one_value (first_of (codes "rule") rows) a.rule b.rule p.rule q.rule)
+
 -- no name is that of two commands
 no_way : true ≡ false → ⊥
 no_way h = cc
 
-apart : codes "parse" ≡ codes "check" → ⊥
-apart same = let told : true ≡ false = ap (bytes_eq (codes "parse")) same in no_way told
+apart : (one other : Text) → bytes_eq one one ≡ true → bytes_eq one other ≡ false → one ≡ other → ⊥
+apart one other itself not_other same = no_way (sym itself ∙ ap (bytes_eq one) same ∙ not_other)
+
+parse_is_not_check : codes "parse" ≡ codes "check" → ⊥
+parse_is_not_check = apart (codes "parse") (codes "check") refl refl
+
+parse_is_not_atn : codes "parse" ≡ codes "atn" → ⊥
+parse_is_not_atn = apart (codes "parse") (codes "atn") refl refl
+
+check_is_not_atn : codes "check" ≡ codes "atn" → ⊥
+check_is_not_atn = apart (codes "check") (codes "atn") refl refl
 
 -- a name and values are at most one command
 one_named : (name : Text) (rows : List Row) (a b : Command) → IsNamed name rows a → IsNamed name rows b → a ≡ b
 one_named name rows (commands.Parse a) (commands.Parse b) p q = ap commands.Parse (one_parse rows a b p.1 q.1)
-one_named name rows (commands.Parse a) (commands.Check b) p q = absurd (apart (sym p.0 ∙ q.0))
-one_named name rows (commands.Check a) (commands.Parse b) p q = absurd (apart (sym q.0 ∙ p.0))
+one_named name rows (commands.Parse a) (commands.Check b) p q = absurd (parse_is_not_check (sym p.0 ∙ q.0))
+one_named name rows (commands.Parse a) (commands.Atn b) p q = absurd (parse_is_not_atn (sym p.0 ∙ q.0))
+one_named name rows (commands.Check a) (commands.Parse b) p q = absurd (parse_is_not_check (sym q.0 ∙ p.0))
 one_named name rows (commands.Check a) (commands.Check b) p q = ap commands.Check (one_check rows a b p.1 q.1)
+one_named name rows (commands.Check a) (commands.Atn b) p q = absurd (check_is_not_atn (sym p.0 ∙ q.0))
+one_named name rows (commands.Atn a) (commands.Parse b) p q = absurd (parse_is_not_atn (sym q.0 ∙ p.0))
+one_named name rows (commands.Atn a) (commands.Check b) p q = absurd (check_is_not_atn (sym q.0 ∙ p.0))
+one_named name rows (commands.Atn a) (commands.Atn b) p q = ap commands.Atn (one_atn rows a b p.1 q.1)
 
 pub one_command : (words : List Text) (a b : Command) → IsCommand words a → IsCommand words b → a ≡ b
 one_command words a b p q =

@@ -35,10 +35,14 @@ parse_app = with_rule (with_rule (with_rule (new_app (codes "parse")) (needed_ru
 abbrev pub check_app : App
 check_app = with_rule (new_app (codes "check")) (needed_rule (word_rule (codes "grammar")))
 
+-- `atn GRAMMAR RULE`
+abbrev pub atn_app : App
+atn_app = with_rule (with_rule (new_app (codes "atn")) (needed_rule (word_rule (codes "grammar")))) (needed_rule (word_rule (codes "rule")))
+
 -- one of the commands is needed, and the program's own name is not among the words
 abbrev pub base_app : App
 base_app = record (new_app (codes "g4")) { top = record (new_app (codes "g4")).top { no_binary_name = true; subcommand_required = true } }
 
 -- the command line: one of these commands
 abbrev pub g4_app : App
-g4_app = with_subcommand (with_subcommand base_app parse_app.top) check_app.top
+g4_app = with_subcommand (with_subcommand (with_subcommand base_app parse_app.top) check_app.top) atn_app.top

@@ -3,6 +3,7 @@ use Rattle.std.specs.Prelude.{◌≡◌, ◌≢◌, ◌≤◌, List, [], Result,
 use Rattle.clap.specs.Words.{Row, Text, all_of, fault_of, first_of, subcommand_of, subcommand_rows_of}
 use Rattle.clap.specs.declared.parser.matches.ArgMatches.{ArgMatches}
 use Rattle.g4_words.specs.App.{g4_app}
+use Rattle.g4_words.specs.declared.command.Atn.{Atn}
 use Rattle.g4_words.specs.declared.command.Check.{Check}
 use Rattle.g4_words.specs.declared.command.Command.{Command}
 use Rattle.g4_words.specs.declared.command.Command.TheVariants as commands
@@ -22,10 +23,16 @@ pub record IsParse (rows : List Row) (parse : Parse) : Type 0 where
 abbrev pub IsCheck : List Row → Check → Type 0
 IsCheck rows check = first_of (codes "grammar") rows ≡ Some check.grammar
 
+-- the values of `atn`
+pub record IsAtn (rows : List Row) (atn : Atn) : Type 0 where
+  pub grammar : first_of (codes "grammar") rows ≡ Some atn.grammar
+  pub rule : first_of (codes "rule") rows ≡ Some atn.rule
+
 -- the command of this name with these values
 abbrev pub IsNamed : Text → List Row → Command → Type 0
 IsNamed name rows (commands.Parse parse) = (name ≡ codes "parse") × IsParse rows parse
 IsNamed name rows (commands.Check check) = (name ≡ codes "check") × IsCheck rows check
+IsNamed name rows (commands.Atn atn) = (name ≡ codes "atn") × IsAtn rows atn
 
 -- `clap` accepts the words for the command line of `g4`, and the command has the name and the values that it gives
 pub record IsCommand (words : List Text) (command : Command) : Type 0 where

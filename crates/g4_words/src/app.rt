@@ -1,8 +1,8 @@
 // The command line, as `clap` is told of it: one function for each kind of argument, and one for each command.
 ghost use Rattle.std.specs.Prelude.{◌≡◌, IfOk, false};
-ghost use Rattle.clap.specs.Words.{app_of, rule_of, with_rule};
+ghost use Rattle.clap.specs.Words.{app_of, rule_of, with_rule, with_subcommand};
 ghost use Rattle.clap.specs.declared.Command.TheViews.{out-Command as fields_of};
-ghost use Rattle.g4_words.specs.App.{check_app, g4_app, needed_rule, option_rule, parse_app, word_rule, words_rule};
+ghost use Rattle.g4_words.specs.App.{atn_app, base_app, check_app, g4_app, needed_rule, option_rule, parse_app, word_rule, words_rule};
 
 use clap::{Arg, ArgAction, Command};
 use std::alloc::{AllocError, Global};
@@ -71,15 +71,41 @@ fn check_command<'a>(alloc: Global) -> Result<Command<'a>, AllocError>
     Ok(command)
 }
 
-/// The whole command line: one of its commands, and nothing before it.
-pub(crate) fn g4_command<'a>(alloc: Global) -> Result<Command<'a>, AllocError>
-    ensures { IfOk result (λ c. app_of c ≡ g4_app) }
+/// `atn GRAMMAR RULE`
+fn atn_command<'a>(alloc: Global) -> Result<Command<'a>, AllocError>
+    ensures app { IfOk result (λ c. app_of c ≡ atn_app) }
+    ensures local { IfOk result (λ c. (fields_of c).has_globals ≡ false) }
 {
-    let parse = parse_command(alloc)?;
-    let check = check_command(alloc)?;
-    let command = Command::new(alloc, "g4")
+    let command = Command::new(alloc, "atn");
+    let command = with_arg(command, needed(word(alloc, "grammar")))?;
+    let command = with_arg(command, needed(word(alloc, "rule")))?;
+    Ok(command)
+}
+
+/// The command line without its commands, one of which is needed.
+fn base_command<'a>(alloc: Global) -> Command<'a>
+    ensures { app_of result ≡ base_app }
+{
+    Command::new(alloc, "g4")
         .no_binary_name(true)
         .subcommand_required(true)
-        .subcommand(parse)?;
-    command.subcommand(check)
+}
+
+/// The command line with one command more.
+fn with_command<'a>(line: Command<'a>, command: Command<'a>) -> Result<Command<'a>, AllocError>
+    requires { (fields_of command).has_globals ≡ false }
+    ensures { IfOk result (λ l. app_of l ≡ with_subcommand (app_of line.entry) (app_of command.entry).top) }
+{
+    line.subcommand(command)
+}
+
+/// The whole command line: one of its commands, and nothing before it.
+pub(crate) fn g4_command<'a>(alloc: Global) -> Result<Command<'a>, AllocError>
+    ensures { IfOk result (λ l. app_of l ≡ g4_app) }
+{
+    let line = base_command(alloc);
+    let line = with_command(line, parse_command(alloc)?)?;
+    let line = with_command(line, check_command(alloc)?)?;
+    let line = with_command(line, atn_command(alloc)?)?;
+    Ok(line)
 }

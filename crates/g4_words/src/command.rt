@@ -22,6 +22,15 @@ pub struct Check {
     pub grammar: Text,
 }
 
+/// `atn GRAMMAR RULE`: list the network of a rule.
+#[derive(Drop)]
+pub struct Atn {
+    /// The name of the grammar's file.
+    pub grammar: Text,
+    /// The name of the rule.
+    pub rule: Text,
+}
+
 /// What a command line asks for.
 #[derive(Drop)]
 pub enum Command {
@@ -29,4 +38,6 @@ pub enum Command {
     Parse(Parse),
     /// Check a grammar.
     Check(Check),
+    /// List the network of a rule.
+    Atn(Atn),
 }

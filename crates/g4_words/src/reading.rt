@@ -1,10 +1,10 @@
 // The command that words are.
 ghost use Rattle.std.specs.Prelude.{◌≡◌, IfOk, map, option_map, string_bytes};
 ghost use Rattle.clap.specs.Words.{all_of, first_of, found_of, rows_of};
-ghost use Rattle.g4_words.specs.Commands.{Accepts, Finds, IsCheck, IsCommand, IsNamed, IsParse};
+ghost use Rattle.g4_words.specs.Commands.{Accepts, Finds, IsAtn, IsCheck, IsCommand, IsNamed, IsParse};
 
 use crate::app::g4_command;
-use crate::command::{Check, Command, MOST_FILES, Parse};
+use crate::command::{Atn, Check, Command, MOST_FILES, Parse};
 use clap::ArgMatches;
 use clap::error::ErrorKind;
 use g4_base::{Sequence, Text};
@@ -101,6 +101,21 @@ fn read_check(alloc: Global, values: &ArgMatches<'_>) -> Result<Check, WordsFaul
     })
 }
 
+fn read_atn(alloc: Global, values: &ArgMatches<'_>) -> Result<Atn, WordsFault>
+    ensures { Finds (IsAtn (rows_of (found_of values.now))) result }
+{
+    let Some(grammar) = value_of(values, "grammar") else {
+        return Err(WordsFault::Usage);
+    };
+    let Some(rule) = value_of(values, "rule") else {
+        return Err(WordsFault::Usage);
+    };
+    Ok(Atn {
+        grammar: Text::copy_of(alloc, grammar)?,
+        rule: Text::copy_of(alloc, rule)?,
+    })
+}
+
 /// The command of this name with these values.
 fn read_named(alloc: Global, name: &str, values: &ArgMatches<'_>) -> Result<Command, WordsFault>
     ensures { Finds (IsNamed name.now (rows_of (found_of values.now))) result }
@@ -108,6 +123,7 @@ fn read_named(alloc: Global, name: &str, values: &ArgMatches<'_>) -> Result<Comm
     match name {
         "parse" => Ok(Command::Parse(read_parse(alloc, values)?)),
         "check" => Ok(Command::Check(read_check(alloc, values)?)),
+        "atn" => Ok(Command::Atn(read_atn(alloc, values)?)),
         _ => Err(WordsFault::Usage),
     }
 }

@@ -5,7 +5,7 @@ use std::fmt::Write;
 use std::test::Fail;
 
 /// The word lists of which each is a command, and this command. `_` is an empty word.
-const COMMANDS: [(&str, &str); 17] = [
+const COMMANDS: [(&str, &str); 23] = [
     ("parse -g G -s R a b c", "parse G R a b c"),
     ("parse -s R -g G a", "parse G R a"),
     ("parse a -g G b -s R c", "parse G R a b c"),
@@ -23,10 +23,16 @@ const COMMANDS: [(&str, &str); 17] = [
     ("check _", "check _"),
     ("check -- -G", "check -G"),
     ("check help", "check help"),
+    ("atn G R", "atn G R"),
+    ("atn R G", "atn R G"),
+    ("atn -- -G -R", "atn -G -R"),
+    ("atn G -- -R", "atn G -R"),
+    ("atn _ _", "atn _ _"),
+    ("atn check help", "atn check help"),
 ];
 
 /// The word lists that are no command.
-const OTHERS: [&str; 35] = [
+const OTHERS: [&str; 44] = [
     "",
     "_",
     "G",
@@ -56,8 +62,17 @@ const OTHERS: [&str; 35] = [
     "check G -s R",
     "check G --help",
     "check -G",
+    "atn",
+    "atn G",
+    "atn G --",
+    "atn G R S",
+    "atn -g G -s R",
+    "atn G -R",
+    "atn G R --help",
+    "-- atn G R",
     "chec G",
     "Check G",
+    "Atn G R",
     "help",
     "help check",
     "--help",
@@ -95,6 +110,12 @@ fn shown(alloc: Global, command: &Command) -> Result<String, AllocError> {
         Command::Check(check) => {
             let mut shown = String::from_str(alloc, "check")?;
             push_word(&mut shown, check.grammar.as_str())?;
+            Ok(shown)
+        }
+        Command::Atn(atn) => {
+            let mut shown = String::from_str(alloc, "atn")?;
+            push_word(&mut shown, atn.grammar.as_str())?;
+            push_word(&mut shown, atn.rule.as_str())?;
             Ok(shown)
         }
     }
@@ -199,5 +220,8 @@ fn reads_long_words(rt: HostRuntime) -> Result<(), Fail> {
     let check = format!(in alloc; "check {word}")?;
     let found = read(alloc, check.as_str())?;
     assert!(rt; found == check);
+    let atn = format!(in alloc; "atn {word} {word}")?;
+    let found = read(alloc, atn.as_str())?;
+    assert!(rt; found == atn);
     Ok(())
 }
