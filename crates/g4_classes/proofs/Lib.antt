@@ -1,0 +1,5 @@
+mod Dividing
+mod LeastOnes
+mod Naming
+mod Partitioning
+mod Places

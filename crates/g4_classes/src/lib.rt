@@ -1,0 +1,13 @@
+// Classes of symbols that no edge of a parser's network tells apart. A class is named by its least symbol.
+#![tactic(auto)]
+
+mod classes;
+mod index;
+mod law;
+mod least;
+mod partition;
+#[cfg(test)]
+mod tests;
+
+pub use classes::{Classes, classes_of};
+pub use law::one_classes;
