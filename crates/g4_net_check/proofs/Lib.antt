@@ -1,0 +1,7 @@
+mod Lists
+mod Paths
+mod Frames
+mod Clauses
+mod Nexts
+mod Returns
+mod Sound

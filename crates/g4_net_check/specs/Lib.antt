@@ -1,0 +1,4 @@
+pub mod Numbers
+pub mod Callers
+pub mod Steps
+pub mod Clauses
