@@ -2,4 +2,4 @@ mod Contained
 mod Marking
 mod Marked
 mod Ends
-mod Same
+pub mod OneListing

@@ -1,9 +1,6 @@
-mod Built
 mod Fetched
-mod OneBuilt
 mod OneByOne
 mod OneEnd
 mod OneOutcome
-mod OneStage
 mod Reports
 mod Written

@@ -1,125 +1,80 @@
 -- Words have at most one end over the same files.
 use Rattle.std.proofs.Common.{◌≡◌, ℕ, List, Result, Ok, Err, ap, sym, ◌∙◌, refl, subst}
-use Rattle.g4_tool.specs.declared.load.Loaded.{Loaded}
 use Rattle.g4_words.specs.Commands.{IsCommand}
+use Rattle.g4_words.specs.declared.command.Atn.{Atn}
 use Rattle.g4_words.specs.declared.command.Check.{Check}
 use Rattle.g4_words.specs.declared.command.Command.{Command}
 use Rattle.g4_words.specs.declared.command.Command.TheVariants as commands
 use Rattle.g4_words.specs.declared.command.Parse.{Parse}
 use Rattle.g4_words.proofs.OneCommand.{one_command}
+use Rattle.g4_load.proofs.OneBuilt.{one_built, one_listed, one_loaded}
+use Rattle.g4_load.specs.declared.interpreter.Interpreter.{Interpreter}
+use Rattle.g4_load.specs.declared.stop.Stop.{Stop}
+use Rattle.g4_load.specs.declared.stop.Stop.TheVariants as stops
+use Rattle.g4_load.specs.Files.{Files}
+use Rattle.g4_load.specs.Building.{Builds}
 use Rattle.g4_tool.specs.declared.inputs.Input.{Input}
-use Rattle.g4_tool.specs.declared.interpreter.Interpreter.{Interpreter}
 use Rattle.g4_tool.specs.declared.outcome.Outcome.{Outcome}
-use Rattle.g4_tool.specs.declared.stop.Stop.{Stop}
-use Rattle.g4_tool.specs.declared.stop.Stop.TheVariants as stops
-use Rattle.g4_tool.specs.Loading.{Loads}
-use Rattle.g4_tool.specs.Building.{Builds}
-use Rattle.g4_tool.specs.Inputs.{Files, inputs_of}
+use Rattle.g4_tool.specs.Inputs.{inputs_of}
 use Rattle.g4_tool.specs.Outcomes.{AreOutcomes}
-use Rattle.g4_tool.specs.Ends.{End, stopped, checked, all_parsed, output_of, HasEnd, no_command, not_checked, grammar_checked, not_built, file_absent, files_parsed}
-use Rattle.g4_tool.proofs.OneBuilt.{one_built, one_loaded}
+use Rattle.g4_tool.specs.Ends.{End, stopped, checked, listed, all_parsed, output_of, EndsCheck, not_checked, grammar_checked, EndsAtn, not_listed, rule_listed, EndsParse, not_built, file_absent, files_parsed, Ends, HasEnd, no_command, of_command}
 use Rattle.g4_tool.proofs.OneOutcome.{one_outcome_each}
 
-module _ (files : Files) (words : List (List ℕ)) where
-  -- words that check a grammar check one, and words that parse files parse them in one way
-  same_check : (a b : Check) → IsCommand words (commands.Check a) → IsCommand words (commands.Check b) → a ≡ b
-  same_check a b p q = let same = one_command words (commands.Check a) (commands.Check b) p q in cc
+module _ (files : Files) where
+  -- `check` has at most one end
+  one_check : (check : Check) (a b : End) → EndsCheck files check a → EndsCheck files check b → a ≡ b
+  one_check check _ _ (not_checked f s h) (not_checked g t k) = let same = one_loaded files check.grammar f g (Err s) (Err t) h k in let stop : s ≡ t = cc in ap stopped stop
+  one_check check _ _ (not_checked f s h) (grammar_checked g made k) = let same = one_loaded files check.grammar f g (Err s) (Ok made) h k in absurd (let no_way : ⊥ = cc in no_way)
+  one_check check _ _ (grammar_checked f made h) (not_checked g t k) = let same = one_loaded files check.grammar f g (Ok made) (Err t) h k in absurd (let no_way : ⊥ = cc in no_way)
+  one_check check _ _ (grammar_checked f made h) (grammar_checked g other k) = let same = one_loaded files check.grammar f g (Ok made) (Ok other) h k in let grammar : made ≡ other = cc in ap checked grammar
 
-  same_parse : (a b : Parse) → IsCommand words (commands.Parse a) → IsCommand words (commands.Parse b) → a ≡ b
-  same_parse a b p q = let same = one_command words (commands.Parse a) (commands.Parse b) p q in cc
+  -- `atn` has
+  one_atn : (atn : Atn) (a b : End) → EndsAtn files atn a → EndsAtn files atn b → a ≡ b
+  one_atn atn _ _ (not_listed f s h) (not_listed g t k) = let same = one_listed files atn.grammar atn.rule f g (Err s) (Err t) h k in let stop : s ≡ t = cc in ap stopped stop
+  one_atn atn _ _ (not_listed f s h) (rule_listed g made k) = let same = one_listed files atn.grammar atn.rule f g (Err s) (Ok made) h k in absurd (let no_way : ⊥ = cc in no_way)
+  one_atn atn _ _ (rule_listed f made h) (not_listed g t k) = let same = one_listed files atn.grammar atn.rule f g (Ok made) (Err t) h k in absurd (let no_way : ⊥ = cc in no_way)
+  one_atn atn _ _ (rule_listed f made h) (rule_listed g other k) = let same = one_listed files atn.grammar atn.rule f g (Ok made) (Ok other) h k in let listing : made ≡ other = cc in ap listed listing
 
-  -- no words do both
-  pub not_both : (a : Check) (b : Parse) → IsCommand words (commands.Check a) → IsCommand words (commands.Parse b) → ⊥
-  not_both a b p q = let same = one_command words (commands.Check a) (commands.Parse b) p q in cc
+  module _ (parse : Parse) where
+    -- the same interpreter, and the same files
+    pub same_built : (f g : List (List ℕ)) (r s : Result Interpreter Stop) → Builds files parse.grammar parse.start f r → Builds files parse.grammar parse.start g s → r ≡ s
+    same_built f g r s h k = one_built files parse.grammar parse.start f g r s h k
 
-  same_loaded : (a b : Check) (f g : List (List ℕ)) (r s : Result Loaded Stop) → IsCommand words (commands.Check a) → IsCommand words (commands.Check b) →
-      Loads files a.grammar f r → Loads files b.grammar g s → r ≡ s
-  same_loaded a b f g r s p q h k = one_loaded files b.grammar f g r s (subst (λ (c : Check). Loads files c.grammar f r) (same_check a b p q) h) k
+    pub same_inputs : (r s : Result (List Input) (List ℕ)) → inputs_of files parse.files ≡ r → inputs_of files parse.files ≡ s → r ≡ s
+    same_inputs r s h k = sym h ∙ k
 
-  pub same_built : (a b : Parse) (f g : List (List ℕ)) (r s : Result Interpreter Stop) → IsCommand words (commands.Parse a) → IsCommand words (commands.Parse b) →
-      Builds files a.grammar a.start f r → Builds files b.grammar b.start g s → r ≡ s
-  same_built a b f g r s p q h k = one_built files b.grammar b.start f g r s (subst (λ (c : Parse). Builds files c.grammar c.start f r) (same_parse a b p q) h) k
+    -- files that are all parsed
+    one_parsed : (i j : Interpreter) (is js : List Input) (os ps : List Outcome) → j ≡ i → js ≡ is → AreOutcomes i is os → AreOutcomes j js ps → all_parsed (output_of parse) i parse.files os ≡ all_parsed (output_of parse) j parse.files ps
+    one_parsed i j is js os ps interpreter inputs h k =
+        let also : AreOutcomes i is ps = subst (λ xs. AreOutcomes i xs ps) inputs (subst (λ x. AreOutcomes x js ps) interpreter k) in
+        ap (λ x. all_parsed (output_of parse) x parse.files os) (sym interpreter) ∙ ap (λ xs. all_parsed (output_of parse) j parse.files xs) (one_outcome_each i is os ps h also)
 
-  pub same_inputs : (a b : Parse) (r s : Result (List Input) (List ℕ)) → IsCommand words (commands.Parse a) → IsCommand words (commands.Parse b) → inputs_of files a.files ≡ r → inputs_of files b.files ≡ s → r ≡ s
-  same_inputs a b r s p q h k = sym h ∙ ap (λ (c : Parse). inputs_of files c.files) (same_parse a b p q) ∙ k
+    -- `parse` has at most one end
+    one_parse : (a b : End) → EndsParse files parse a → EndsParse files parse b → a ≡ b
+    one_parse _ _ (not_built f s h) (not_built g t k) = let same = same_built f g (Err s) (Err t) h k in let stop : s ≡ t = cc in ap stopped stop
+    one_parse _ _ (not_built f s h) (file_absent g j m k r) = let same = same_built f g (Err s) (Ok j) h k in absurd (let no_way : ⊥ = cc in no_way)
+    one_parse _ _ (not_built f s h) (files_parsed g j js ps k r w) = let same = same_built f g (Err s) (Ok j) h k in absurd (let no_way : ⊥ = cc in no_way)
+    one_parse _ _ (file_absent f i n h l) (not_built g t k) = let same = same_built f g (Ok i) (Err t) h k in absurd (let no_way : ⊥ = cc in no_way)
+    one_parse _ _ (file_absent f i n h l) (file_absent g j m k r) = let same = same_inputs (Err n) (Err m) l r in let names : n ≡ m = cc in ap (λ x. stopped (stops.Absent x)) names
+    one_parse _ _ (file_absent f i n h l) (files_parsed g j js ps k r w) = let same = same_inputs (Err n) (Ok js) l r in absurd (let no_way : ⊥ = cc in no_way)
+    one_parse _ _ (files_parsed f i is os h l u) (not_built g t k) = let same = same_built f g (Ok i) (Err t) h k in absurd (let no_way : ⊥ = cc in no_way)
+    one_parse _ _ (files_parsed f i is os h l u) (file_absent g j m k r) = let same = same_inputs (Ok is) (Err m) l r in absurd (let no_way : ⊥ = cc in no_way)
+    one_parse _ _ (files_parsed f i is os h l u) (files_parsed g j js ps k r w) =
+        let built = same_built f g (Ok i) (Ok j) h k in
+        let fetched = same_inputs (Ok is) (Ok js) l r in
+        let interpreter : j ≡ i = cc in
+        let inputs : js ≡ is = cc in
+        one_parsed i j is js os ps interpreter inputs u w
 
-  -- files that are all parsed
-  one_parsed : (a b : Parse) (i j : Interpreter) (is js : List Input) (os ps : List Outcome) → a ≡ b → j ≡ i → js ≡ is → AreOutcomes i is os → AreOutcomes j js ps →
-      all_parsed (output_of a) i a.files os ≡ all_parsed (output_of b) j b.files ps
-  one_parsed a b i j is js os ps command interpreter inputs h k =
-      let also : AreOutcomes i is ps = subst (λ xs. AreOutcomes i xs ps) inputs (subst (λ x. AreOutcomes x js ps) interpreter k) in
-      ap (λ (c : Parse). all_parsed (output_of c) i c.files os) command
-      ∙ ap (λ x. all_parsed (output_of b) x b.files os) (sym interpreter)
-      ∙ ap (λ xs. all_parsed (output_of b) j b.files xs) (one_outcome_each i is os ps h also)
+  -- a command has at most one end
+  one_of_command : (command : Command) (a b : End) → Ends files command a → Ends files command b → a ≡ b
+  one_of_command (commands.Check check) a b h k = one_check check a b h k
+  one_of_command (commands.Atn atn) a b h k = one_atn atn a b h k
+  one_of_command (commands.Parse parse) a b h k = one_parse parse a b h k
 
   -- words have at most one end
-  pub one_end : (a b : End) → HasEnd files words a → HasEnd files words b → a ≡ b
-  one_end a b (no_command n) (no_command o) = refl
-  one_end a b (no_command n) (not_checked d g t q k) = absurd (n (commands.Check d) q)
-  one_end a b (no_command n) (grammar_checked d g o q k) = absurd (n (commands.Check d) q)
-  one_end a b (no_command n) (not_built v g t q k) = absurd (n (commands.Parse v) q)
-  one_end a b (no_command n) (file_absent v g j m q k r) = absurd (n (commands.Parse v) q)
-  one_end a b (no_command n) (files_parsed v g j js ps q k r w) = absurd (n (commands.Parse v) q)
-  one_end a b (not_checked c f s p h) (no_command o) = absurd (o (commands.Check c) p)
-  one_end a b (not_checked c f s p h) (not_checked d g t q k) =
-      let same = same_loaded c d f g (Err s) (Err t) p q h k in
-      let stop_same : s ≡ t = cc in
-      ap (λ x. stopped x) stop_same
-  one_end a b (not_checked c f s p h) (grammar_checked d g o q k) =
-      let same = same_loaded c d f g (Err s) (Ok o) p q h k in
-      absurd (let no_way : ⊥ = cc in no_way)
-  one_end a b (not_checked c f s p h) (not_built v g t q k) = absurd (not_both c v p q)
-  one_end a b (not_checked c f s p h) (file_absent v g j m q k r) = absurd (not_both c v p q)
-  one_end a b (not_checked c f s p h) (files_parsed v g j js ps q k r w) = absurd (not_both c v p q)
-  one_end a b (grammar_checked c f made p h) (no_command o) = absurd (o (commands.Check c) p)
-  one_end a b (grammar_checked c f made p h) (not_checked d g t q k) =
-      let same = same_loaded c d f g (Ok made) (Err t) p q h k in
-      absurd (let no_way : ⊥ = cc in no_way)
-  one_end a b (grammar_checked c f made p h) (grammar_checked d g o q k) =
-      let same = same_loaded c d f g (Ok made) (Ok o) p q h k in
-      let grammar_same : made ≡ o = cc in
-      ap (λ (x : Loaded). checked x.grammar) grammar_same
-  one_end a b (grammar_checked c f made p h) (not_built v g t q k) = absurd (not_both c v p q)
-  one_end a b (grammar_checked c f made p h) (file_absent v g j m q k r) = absurd (not_both c v p q)
-  one_end a b (grammar_checked c f made p h) (files_parsed v g j js ps q k r w) = absurd (not_both c v p q)
-  one_end a b (not_built e f s p h) (no_command o) = absurd (o (commands.Parse e) p)
-  one_end a b (not_built e f s p h) (not_checked d g t q k) = absurd (not_both d e q p)
-  one_end a b (not_built e f s p h) (grammar_checked d g o q k) = absurd (not_both d e q p)
-  one_end a b (not_built e f s p h) (not_built v g t q k) =
-      let same = same_built e v f g (Err s) (Err t) p q h k in
-      let stop_same : s ≡ t = cc in
-      ap (λ x. stopped x) stop_same
-  one_end a b (not_built e f s p h) (file_absent v g j m q k r) =
-      let same = same_built e v f g (Err s) (Ok j) p q h k in
-      absurd (let no_way : ⊥ = cc in no_way)
-  one_end a b (not_built e f s p h) (files_parsed v g j js ps q k r w) =
-      let same = same_built e v f g (Err s) (Ok j) p q h k in
-      absurd (let no_way : ⊥ = cc in no_way)
-  one_end a b (file_absent e f i n p h l) (no_command o) = absurd (o (commands.Parse e) p)
-  one_end a b (file_absent e f i n p h l) (not_checked d g t q k) = absurd (not_both d e q p)
-  one_end a b (file_absent e f i n p h l) (grammar_checked d g o q k) = absurd (not_both d e q p)
-  one_end a b (file_absent e f i n p h l) (not_built v g t q k) =
-      let same = same_built e v f g (Ok i) (Err t) p q h k in
-      absurd (let no_way : ⊥ = cc in no_way)
-  one_end a b (file_absent e f i n p h l) (file_absent v g j m q k r) =
-      let same = same_inputs e v (Err n) (Err m) p q l r in
-      let names : n ≡ m = cc in
-      ap (λ x. stopped (stops.Absent x)) names
-  one_end a b (file_absent e f i n p h l) (files_parsed v g j js ps q k r w) =
-      let same = same_inputs e v (Err n) (Ok js) p q l r in
-      absurd (let no_way : ⊥ = cc in no_way)
-  one_end a b (files_parsed e f i is os p h l u) (no_command o) = absurd (o (commands.Parse e) p)
-  one_end a b (files_parsed e f i is os p h l u) (not_checked d g t q k) = absurd (not_both d e q p)
-  one_end a b (files_parsed e f i is os p h l u) (grammar_checked d g o q k) = absurd (not_both d e q p)
-  one_end a b (files_parsed e f i is os p h l u) (not_built v g t q k) =
-      let same = same_built e v f g (Ok i) (Err t) p q h k in
-      absurd (let no_way : ⊥ = cc in no_way)
-  one_end a b (files_parsed e f i is os p h l u) (file_absent v g j m q k r) =
-      let same = same_inputs e v (Ok is) (Err m) p q l r in
-      absurd (let no_way : ⊥ = cc in no_way)
-  one_end a b (files_parsed e f i is os p h l u) (files_parsed v g j js ps q k r w) =
-      let built = same_built e v f g (Ok i) (Ok j) p q h k in
-      let fetched = same_inputs e v (Ok is) (Ok js) p q l r in
-      let interpreter : j ≡ i = cc in
-      let inputs : js ≡ is = cc in
-      one_parsed e v i j is js os ps (same_parse e v p q) interpreter inputs u w
+  pub one_end : (words : List (List ℕ)) (a b : End) → HasEnd files words a → HasEnd files words b → a ≡ b
+  one_end words _ _ (no_command n) (no_command o) = refl
+  one_end words _ _ (no_command n) (of_command command b is k) = absurd (n command is)
+  one_end words _ _ (of_command command a is h) (no_command o) = absurd (o command is)
+  one_end words _ _ (of_command command a is h) (of_command other b was k) = one_of_command command a b h (subst (λ (c : Command). Ends files c b) (one_command words other command was is) k)

@@ -15,11 +15,11 @@ use Rattle.g4_parse.specs.Running.{Ending, parsed, not_viable, mismatch, failed_
 use Rattle.g4_parse.proofs.OneEnding.{one_end}
 use Rattle.g4_tool.specs.declared.inputs.Input.{Input}
 use Rattle.g4_tool.specs.declared.inputs.Input.TheVariants.{Bytes, TooLarge}
-use Rattle.g4_tool.specs.declared.interpreter.Interpreter.{Interpreter}
+use Rattle.g4_load.specs.declared.interpreter.Interpreter.{Interpreter}
 use Rattle.g4_tool.specs.declared.outcome.Outcome.{Outcome}
 use Rattle.g4_tool.specs.declared.outcome.Outcome.TheVariants as outcomes
 use Rattle.g4_tool.specs.Outcomes.{IsOutcome, too_large, not_lexed, not_parsed, parsed as has_tree, AreOutcomes}
-use Rattle.g4_tool.proofs.OneStage.{IsSingleBeside}
+use Rattle.g4_load.proofs.OneStage.{IsSingleBeside}
 
 -- what a run's ending is as a result
 abbrev result_of : Ending → Result (List Item) ParseFault

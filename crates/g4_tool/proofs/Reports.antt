@@ -1,33 +1,38 @@
 -- The reports and ends that the stages make.
 use Rattle.std.proofs.Common.{◌≡◌, ◌⊎◌, inl, inr, ◌++◌, ◌∷◌, [], ℕ, List, length, count_by, Bool, true, false, ◌==◌, if◌then◌else◌, Option, Some, Result, Ok, Err, ap, sym, ◌∙◌, refl, subst}
 use Rattle.std.specs.List.{list_all}
-use Rattle.g4_tool.specs.declared.load.Loaded.{Loaded}
+use Rattle.g4_grammar.specs.declared.numbered.Numbered.{Numbered}
 use Rattle.g4_tool.specs.declared.files.Parsed.{Parsed}
 use Rattle.g4_tool.specs.declared.inputs.Input.{Input}
-use Rattle.g4_tool.specs.declared.interpreter.Interpreter.{Interpreter}
+use Rattle.g4_load.specs.declared.interpreter.Interpreter.{Interpreter}
 use Rattle.g4_tool.specs.declared.report.Report.{Report}
 use Rattle.g4_tool.specs.declared.status.Status.{Status}
 use Rattle.g4_tool.specs.declared.status.Status.TheVariants.{Done, Refused}
-use Rattle.g4_tool.specs.declared.stop.Stop.TheVariants as stops
-use Rattle.g4_tool.specs.declared.stop.Halt.{Halt}
-use Rattle.g4_tool.specs.declared.stop.Halt.TheVariants as halts
+use Rattle.g4_load.specs.declared.stop.Stop.TheVariants as stops
+use Rattle.g4_load.specs.declared.stop.Halt.{Halt}
+use Rattle.g4_load.specs.declared.stop.Halt.TheVariants as halts
 use Rattle.g4_tool.specs.declared.write.Line.{Line}
 use Rattle.g4_tool.specs.Running.{HasReportedFront}
 use Rattle.g4_tool.specs.Writing.{Wrote, WroteFront}
 use Rattle.g4_tool.specs.Texts.{closing_line}
 use Rattle.g4_words.specs.Commands.{IsCommand}
+use Rattle.g4_words.specs.declared.command.Atn.{Atn}
 use Rattle.g4_words.specs.declared.command.Check.{Check}
+use Rattle.g4_words.specs.declared.command.Command.{Command}
 use Rattle.g4_words.specs.declared.command.Command.TheVariants as commands
 use Rattle.g4_words.specs.declared.command.Parse.{Parse}
-use Rattle.g4_tool.specs.Inputs.{Files, inputs_of, GivesInputs}
-use Rattle.g4_tool.specs.Loading.{Loads}
-use Rattle.g4_tool.specs.Building.{Builds}
-use Rattle.g4_tool.specs.Stages.{IsHaltOf}
+use Rattle.g4_load.specs.Files.{Files}
+use Rattle.g4_tool.specs.Inputs.{inputs_of, GivesInputs}
+use Rattle.g4_load.specs.Listing.{Lists}
+use Rattle.g4_load.specs.Loading.{Loads}
+use Rattle.g4_load.specs.Building.{Builds}
+use Rattle.g4_load.specs.Stages.{IsHaltOf}
 use Rattle.g4_tool.specs.Outcomes.{AreParsed, is_accepted, lines_of_files}
-use Rattle.g4_tool.specs.Ends.{End, stopped, checked, all_parsed, output_of, HasEnd, no_command, not_checked, grammar_checked, not_built, file_absent, files_parsed, status_of}
+use Rattle.g4_tool.specs.Ends.{End, stopped, checked, listed, all_parsed, output_of, EndsCheck, not_checked, grammar_checked, EndsAtn, not_listed, rule_listed, EndsParse, not_built, file_absent, files_parsed, Ends, HasEnd, no_command, of_command, status_of}
 use Rattle.g4_tool.specs.Report.{IsReportOf, IsReportOfFiles, IsReport, ReportsOrHalts, Means, ComesExactly, CanBeRun, IsComplete}
 use Rattle.g4_tool.proofs.OneByOne.{as_many, all_counted}
-use Rattle.g4_tool.proofs.OneEnd.{one_end, not_both, same_built, same_inputs}
+use Rattle.g4_tool.proofs.OneEnd.{one_end, same_built, same_inputs}
+use Rattle.g4_words.proofs.OneCommand.{one_command}
 
 -- the lines that are lent are written
 pub wrote_lent : {ob on eb en : Option (List ℕ)} (slice lines : List Line) → slice ≡ lines → Wrote slice ob on eb en → Wrote lines ob on eb en
@@ -41,18 +46,29 @@ reported_front {ob} {on} {eb} {en} files words slice report same is h = inr (rec
 module _ (files : Files) (words : List (List ℕ)) (check : Check) (fetched : List (List ℕ)) (command : IsCommand words (commands.Check check)) where
   -- a grammar that is not checked
   pub stops_unchecked : (halt : Halt) → IsHaltOf (Loads files check.grammar fetched) halt → ReportsOrHalts files words (Err halt)
-  stops_unchecked (halts.Stop stop) h = not_checked check fetched stop command h
+  stops_unchecked (halts.Stop stop) h = of_command (commands.Check check) (stopped stop) command (not_checked fetched stop h)
   stops_unchecked halts.Failed h = tt
   stops_unchecked halts.NoMemory h = tt
 
   -- a grammar that is checked
-  pub reports_checked : (loaded : Loaded) (report : Report) → Loads files check.grammar fetched (Ok loaded) → IsReportOf (checked loaded.grammar) report → IsReport files words report
-  reports_checked loaded report loads is = record { end = checked loaded.grammar; has = grammar_checked check fetched loaded command loads; is = is }
+  pub reports_checked : (grammar : Numbered) (report : Report) → Loads files check.grammar fetched (Ok grammar) → IsReportOf (checked grammar) report → IsReport files words report
+  reports_checked grammar report loads is = record { end = checked grammar; has = of_command (commands.Check check) (checked grammar) command (grammar_checked fetched grammar loads); is = is }
+
+module _ (files : Files) (words : List (List ℕ)) (atn : Atn) (fetched : List (List ℕ)) (command : IsCommand words (commands.Atn atn)) where
+  -- a rule that is not listed
+  pub stops_unlisted : (halt : Halt) → IsHaltOf (Lists files atn.grammar atn.rule fetched) halt → ReportsOrHalts files words (Err halt)
+  stops_unlisted (halts.Stop stop) h = of_command (commands.Atn atn) (stopped stop) command (not_listed fetched stop h)
+  stops_unlisted halts.Failed h = tt
+  stops_unlisted halts.NoMemory h = tt
+
+  -- a rule that is listed
+  pub reports_listed : (listing : List ℕ) (report : Report) → Lists files atn.grammar atn.rule fetched (Ok listing) → IsReportOf (listed listing) report → IsReport files words report
+  reports_listed listing report lists is = record { end = listed listing; has = of_command (commands.Atn atn) (listed listing) command (rule_listed fetched listing lists); is = is }
 
 module _ (files : Files) (words : List (List ℕ)) (parse : Parse) (fetched : List (List ℕ)) (command : IsCommand words (commands.Parse parse)) where
   -- a command without an interpreter
   pub stops_unbuilt : (halt : Halt) → IsHaltOf (Builds files parse.grammar parse.start fetched) halt → ReportsOrHalts files words (Err halt)
-  stops_unbuilt (halts.Stop stop) h = not_built parse fetched stop command h
+  stops_unbuilt (halts.Stop stop) h = of_command (commands.Parse parse) (stopped stop) command (not_built fetched stop h)
   stops_unbuilt halts.Failed h = tt
   stops_unbuilt halts.NoMemory h = tt
 
@@ -60,7 +76,7 @@ module _ (files : Files) (words : List (List ℕ)) (parse : Parse) (fetched : Li
     -- a command without one of its files
     pub stops_absent : {X : Type 0} (view : X → List Input) (halt : Halt) → GivesInputs view (inputs_of files parse.files) (Err halt) → ReportsOrHalts files words (Err halt)
     stops_absent view (halts.Stop stops.Usage) h = absurd h
-    stops_absent view (halts.Stop (stops.Absent name)) h = file_absent parse fetched interpreter name command built h
+    stops_absent view (halts.Stop (stops.Absent name)) h = of_command (commands.Parse parse) (stopped (stops.Absent name)) command (file_absent fetched interpreter name built h)
     stops_absent view (halts.Stop (stops.TooLarge name size)) h = absurd h
     stops_absent view (halts.Stop (stops.Fault name fault)) h = absurd h
     stops_absent view halts.Failed h = tt
@@ -72,7 +88,7 @@ module _ (files : Files) (words : List (List ℕ)) (parse : Parse) (fetched : Li
     reports_files inputs made count report there paired counted are is =
         let all : count ≡ length are.outcomes = counted ∙ paired ∙ sym (as_many interpreter inputs are.outcomes are.are) in record {
           end = all_parsed (output_of parse) interpreter parse.files are.outcomes;
-          has = files_parsed parse fetched interpreter inputs are.outcomes command built there are.are;
+          has = of_command (commands.Parse parse) (all_parsed (output_of parse) interpreter parse.files are.outcomes) command (files_parsed fetched interpreter inputs are.outcomes built there are.are);
           is = record {
             lines = is.lines ∙ ap (λ ls. ls ++ closing_line count made.accepted ∷ []) are.lines
                 ∙ ap (λ n. lines_of_files (output_of parse) interpreter parse.files are.outcomes ++ closing_line n made.accepted ∷ []) all
@@ -91,21 +107,22 @@ module _ (files : Files) (words : List (List ℕ)) (answer : Status) (report : R
   )
 
   -- the end of a command that can be run
-  done_or_refused : (end : End) → HasEnd files words end → CanBeRun files words → (status_of end ≡ Done) ⊎ (status_of end ≡ Refused)
-  done_or_refused end (no_command none) can = absurd (none (commands.Parse can.parse) can.command)
-  done_or_refused end (not_checked check fetched stop command h) can = absurd (not_both files words check can.parse command can.command)
-  done_or_refused end (grammar_checked check fetched grammar command h) can = inl refl
-  done_or_refused end (not_built parse fetched stop command h) can =
-      let same = same_built files words parse can.parse fetched can.fetched (Err stop) (Ok can.interpreter) command can.command h can.built in
+  parse_done : (can : CanBeRun files words) (end : End) → EndsParse files can.parse end → (status_of end ≡ Done) ⊎ (status_of end ≡ Refused)
+  parse_done can _ (not_built fetched stop h) =
+      let same = same_built files can.parse fetched can.fetched (Err stop) (Ok can.interpreter) h can.built in
       absurd (let no_way : ⊥ = cc in no_way)
-  done_or_refused end (file_absent parse fetched interpreter name command h k) can =
-      let same = same_inputs files words parse can.parse (Err name) (Ok can.inputs) command can.command k can.there in
+  parse_done can _ (file_absent fetched interpreter name h k) =
+      let same = same_inputs files can.parse (Err name) (Ok can.inputs) k can.there in
       absurd (let no_way : ⊥ = cc in no_way)
-  done_or_refused end (files_parsed parse fetched interpreter inputs outcomes command h k l) can = either (list_all is_accepted outcomes)
+  parse_done can _ (files_parsed fetched interpreter inputs outcomes h k l) = either (list_all is_accepted outcomes)
     where
       either : (b : Bool) → ((if b then Done else Refused) ≡ Done) ⊎ ((if b then Done else Refused) ≡ Refused)
       either true = inl refl
       either false = inr refl
+
+  done_or_refused : (end : End) → HasEnd files words end → CanBeRun files words → (status_of end ≡ Done) ⊎ (status_of end ≡ Refused)
+  done_or_refused _ (no_command none) can = absurd (none (commands.Parse can.parse) can.command)
+  done_or_refused _ (of_command command end is h) can = parse_done can end (subst (λ (c : Command). Ends files c end) (one_command words command (commands.Parse can.parse) is can.command) h)
 
   -- a command that can be run is Done or Refused
   pub is_complete : IsComplete files words answer

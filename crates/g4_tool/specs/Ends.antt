@@ -2,52 +2,76 @@
 use Rattle.std.specs.Prelude.{◌≡◌, ℕ, List, [], ◌∷◌, ◌++◌, length, count_by, Some, None, Ok, Err, codes, if◌then◌else◌}
 use Rattle.std.specs.List.{list_all}
 use Rattle.g4_words.specs.Commands.{IsCommand}
+use Rattle.g4_words.specs.declared.command.Atn.{Atn}
 use Rattle.g4_words.specs.declared.command.Check.{Check}
 use Rattle.g4_words.specs.declared.command.Command.{Command}
 use Rattle.g4_words.specs.declared.command.Command.TheVariants as commands
 use Rattle.g4_words.specs.declared.command.Parse.{Parse}
 use Rattle.g4_grammar.specs.declared.numbered.Numbered.{Numbered}
 use Rattle.g4_tool.specs.Texts.{usage_line, absent_line, large_line, not_utf8_line, syntax_line, bad_set_line, twice_line, no_rule_line, limit_line, undefined_line, unknown_command_line, lexer_predicate_line, unknown_predicate_line, label_clash_line, no_primary_line, empty_operator_line, empty_loop_line, left_cycle_line, checked_line, closing_line}
-use Rattle.g4_tool.specs.Loading.{Loads}
-use Rattle.g4_tool.specs.Building.{Builds}
-use Rattle.g4_tool.specs.Inputs.{Files, inputs_of}
+use Rattle.g4_load.specs.Listing.{Lists}
+use Rattle.g4_load.specs.Loading.{Loads}
+use Rattle.g4_load.specs.Building.{Builds}
+use Rattle.g4_load.specs.Files.{Files}
+use Rattle.g4_tool.specs.Inputs.{inputs_of}
 use Rattle.g4_tool.specs.Outcomes.{AreOutcomes, is_accepted, lines_of_files}
 use Rattle.g4_tool.specs.declared.inputs.Input.{Input}
 use Rattle.g4_tool.specs.declared.outcome.Outcome.{Outcome}
 use Rattle.g4_tool.specs.declared.outcome.Output.{Output}
 use Rattle.g4_tool.specs.declared.outcome.Output.TheVariants.{Trees}
 use Rattle.g4_tool.specs.declared.write.Line.{Line}
-use Rattle.g4_tool.specs.declared.interpreter.Interpreter.{Interpreter}
-use Rattle.g4_tool.specs.declared.load.Loaded.{Loaded}
-use Rattle.g4_tool.specs.declared.fault.GrammarFault.{GrammarFault}
-use Rattle.g4_tool.specs.declared.fault.GrammarFault.TheVariants as faults
-use Rattle.g4_tool.specs.declared.stop.Stop.{Stop}
-use Rattle.g4_tool.specs.declared.stop.Stop.TheVariants as stops
+use Rattle.g4_tool.specs.declared.write.Line.TheVariants.{ToOut}
+use Rattle.g4_load.specs.declared.interpreter.Interpreter.{Interpreter}
+use Rattle.g4_load.specs.declared.fault.GrammarFault.{GrammarFault}
+use Rattle.g4_load.specs.declared.fault.GrammarFault.TheVariants as faults
+use Rattle.g4_load.specs.declared.stop.Stop.{Stop}
+use Rattle.g4_load.specs.declared.stop.Stop.TheVariants as stops
 use Rattle.g4_tool.specs.declared.status.Status.{Status}
 use Rattle.g4_tool.specs.declared.status.Status.TheVariants as statuses
 
--- The end of a command line: it stops before any file is parsed, its grammar is checked, or each of its files has an outcome.
+-- The end of a command line: it stops before any file is parsed, its grammar is checked, a rule is listed, or each of its files
+-- has an outcome.
 pub data End : Type 0 where
   stopped : Stop → End
   checked : Numbered → End
+  listed : List ℕ → End
   all_parsed : Output → Interpreter → (names : List (List ℕ)) → List Outcome → End
-
--- the words are no command
-abbrev pub IsNoCommand : List (List ℕ) → Type 0
-IsNoCommand words = (command : Command) → IsCommand words command → ⊥
 
 -- what is written of the files that are accepted
 abbrev pub output_of : Parse → Output
 output_of parse = Trees
 
+-- The end of `check`: its grammar is loaded, or not.
+pub data EndsCheck (files : Files) (check : Check) : End → Type 0 where
+  not_checked : (fetched : List (List ℕ)) (stop : Stop) → Loads files check.grammar fetched (Err stop) → EndsCheck files check (stopped stop)
+  grammar_checked : (fetched : List (List ℕ)) (grammar : Numbered) → Loads files check.grammar fetched (Ok grammar) → EndsCheck files check (checked grammar)
+
+-- The end of `atn`: its rule is listed, or not.
+pub data EndsAtn (files : Files) (atn : Atn) : End → Type 0 where
+  not_listed : (fetched : List (List ℕ)) (stop : Stop) → Lists files atn.grammar atn.rule fetched (Err stop) → EndsAtn files atn (stopped stop)
+  rule_listed : (fetched : List (List ℕ)) (listing : List ℕ) → Lists files atn.grammar atn.rule fetched (Ok listing) → EndsAtn files atn (listed listing)
+
+-- The end of `parse`: its grammar is not built, or one of its files is absent, or each has an outcome.
+pub data EndsParse (files : Files) (parse : Parse) : End → Type 0 where
+  not_built : (fetched : List (List ℕ)) (stop : Stop) → Builds files parse.grammar parse.start fetched (Err stop) → EndsParse files parse (stopped stop)
+  file_absent : (fetched : List (List ℕ)) (interpreter : Interpreter) (name : List ℕ) → Builds files parse.grammar parse.start fetched (Ok interpreter) → inputs_of files parse.files ≡ Err name → EndsParse files parse (stopped (stops.Absent name))
+  files_parsed : (fetched : List (List ℕ)) (interpreter : Interpreter) (inputs : List Input) (outcomes : List Outcome) → Builds files parse.grammar parse.start fetched (Ok interpreter) → inputs_of files parse.files ≡ Ok inputs → AreOutcomes interpreter inputs outcomes →
+      EndsParse files parse (all_parsed (output_of parse) interpreter parse.files outcomes)
+
+-- the end of a command
+abbrev pub Ends : Files → Command → End → Type 0
+Ends files (commands.Check check) end = EndsCheck files check end
+Ends files (commands.Atn atn) end = EndsAtn files atn end
+Ends files (commands.Parse parse) end = EndsParse files parse end
+
+-- the words are no command
+abbrev pub IsNoCommand : List (List ℕ) → Type 0
+IsNoCommand words = (command : Command) → IsCommand words command → ⊥
+
 -- The end that a list of words has over the files.
 pub data HasEnd (files : Files) (words : List (List ℕ)) : End → Type 0 where
   no_command : IsNoCommand words → HasEnd files words (stopped stops.Usage)
-  not_checked : (check : Check) (fetched : List (List ℕ)) (stop : Stop) → IsCommand words (commands.Check check) → Loads files check.grammar fetched (Err stop) → HasEnd files words (stopped stop)
-  grammar_checked : (check : Check) (fetched : List (List ℕ)) (loaded : Loaded) → IsCommand words (commands.Check check) → Loads files check.grammar fetched (Ok loaded) → HasEnd files words (checked loaded.grammar)
-  not_built : (parse : Parse) (fetched : List (List ℕ)) (stop : Stop) → IsCommand words (commands.Parse parse) → Builds files parse.grammar parse.start fetched (Err stop) → HasEnd files words (stopped stop)
-  file_absent : (parse : Parse) (fetched : List (List ℕ)) (interpreter : Interpreter) (name : List ℕ) → IsCommand words (commands.Parse parse) → Builds files parse.grammar parse.start fetched (Ok interpreter) → inputs_of files parse.files ≡ Err name → HasEnd files words (stopped (stops.Absent name))
-  files_parsed : (parse : Parse) (fetched : List (List ℕ)) (interpreter : Interpreter) (inputs : List Input) (outcomes : List Outcome) → IsCommand words (commands.Parse parse) → Builds files parse.grammar parse.start fetched (Ok interpreter) → inputs_of files parse.files ≡ Ok inputs → AreOutcomes interpreter inputs outcomes → HasEnd files words (all_parsed (output_of parse) interpreter parse.files outcomes)
+  of_command : (command : Command) (end : End) → IsCommand words command → Ends files command end → HasEnd files words end
 
 -- the line of a grammar's fault
 abbrev pub fault_line : List ℕ → GrammarFault → Line
@@ -89,6 +113,7 @@ stop_status (stops.Fault name fault) = statuses.GrammarRefused
 -- the lines of an end
 abbrev pub lines_of : End → List Line
 lines_of (stopped stop) = stop_line stop ∷ []
+lines_of (listed listing) = ToOut listing ∷ []
 lines_of (checked grammar) = checked_line (length grammar.rules) (length grammar.shown) ∷ []
 lines_of (all_parsed output interpreter names outcomes) = lines_of_files output interpreter names outcomes ++ closing_line (length outcomes) (count_by is_accepted outcomes) ∷ []
 
@@ -96,6 +121,7 @@ lines_of (all_parsed output interpreter names outcomes) = lines_of_files output 
 abbrev pub status_of : End → Status
 status_of (stopped stop) = stop_status stop
 status_of (checked grammar) = statuses.Done
+status_of (listed listing) = statuses.Done
 status_of (all_parsed output interpreter names outcomes) = if list_all is_accepted outcomes then statuses.Done else statuses.Refused
 
 -- the number with which the program ends

@@ -1,15 +1,12 @@
 -- The files of a run.
 use Rattle.std.specs.Prelude.{◌≡◌, ◌≤◌, ℕ, List, [], ◌∷◌, length, Option, Some, None, Result, Ok, Err, nat_lt, cond}
 use Rattle.g4_base.specs.declared.limits.TheConstants.{MOST_BYTES}
+use Rattle.g4_load.specs.Files.{Files}
 use Rattle.g4_tool.specs.declared.inputs.Input.{Input}
 use Rattle.g4_tool.specs.declared.inputs.Input.TheVariants.{Bytes, TooLarge}
-use Rattle.g4_tool.specs.declared.stop.Stop.TheVariants as stops
-use Rattle.g4_tool.specs.declared.stop.Halt.{Halt}
-use Rattle.g4_tool.specs.declared.stop.Halt.TheVariants as halts
-
--- the files by their names
-abbrev pub Files : Type 0
-Files = List ℕ → Option (List ℕ)
+use Rattle.g4_load.specs.declared.stop.Stop.TheVariants as stops
+use Rattle.g4_load.specs.declared.stop.Halt.{Halt}
+use Rattle.g4_load.specs.declared.stop.Halt.TheVariants as halts
 
 -- what is fetched of a file: its bytes, or its size past the limit
 abbrev pub input_of : List ℕ → Input

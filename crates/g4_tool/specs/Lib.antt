@@ -1,9 +1,4 @@
 pub mod Texts
-pub mod Faults
-pub mod Stages
-pub mod Loading
-pub mod Building
-pub mod Usable
 pub mod Inputs
 pub mod Outcomes
 pub mod Ends

@@ -13,7 +13,7 @@ use Rattle.g4_parse.specs.TreeText.{tree_text}
 use Rattle.g4_tool.specs.Texts.{line_of_tree, mismatch_line, no_viable_line, too_deep_line, no_token_line, many_tokens_line, not_utf8_line, large_line}
 use Rattle.g4_tool.specs.declared.inputs.Input.{Input}
 use Rattle.g4_tool.specs.declared.inputs.Input.TheVariants as inputs
-use Rattle.g4_tool.specs.declared.interpreter.Interpreter.{Interpreter}
+use Rattle.g4_load.specs.declared.interpreter.Interpreter.{Interpreter}
 use Rattle.g4_tool.specs.declared.outcome.Outcome.{Outcome}
 use Rattle.g4_tool.specs.declared.outcome.Outcome.TheVariants as outcomes
 use Rattle.g4_tool.specs.declared.files.Parsed.{Parsed}

@@ -3,15 +3,16 @@ use Rattle.std.specs.Prelude.{◌≡◌, ◌↔◌, ◌⊎◌, ◌==◌, ℕ, Li
 use Rattle.g4_words.specs.Commands.{IsCommand}
 use Rattle.g4_words.specs.declared.command.Command.TheVariants as commands
 use Rattle.g4_words.specs.declared.command.Parse.{Parse}
-use Rattle.g4_tool.specs.Building.{Builds}
-use Rattle.g4_tool.specs.Inputs.{Files, inputs_of}
+use Rattle.g4_load.specs.Building.{Builds}
+use Rattle.g4_load.specs.Files.{Files}
+use Rattle.g4_tool.specs.Inputs.{inputs_of}
 use Rattle.g4_tool.specs.Texts.{closing_line}
 use Rattle.g4_tool.specs.Ends.{End, stopped, HasEnd, lines_of, status_of}
 use Rattle.g4_tool.specs.declared.files.Parsed.{Parsed}
-use Rattle.g4_tool.specs.declared.stop.Halt.{Halt}
-use Rattle.g4_tool.specs.declared.stop.Halt.TheVariants as halts
+use Rattle.g4_load.specs.declared.stop.Halt.{Halt}
+use Rattle.g4_load.specs.declared.stop.Halt.TheVariants as halts
 use Rattle.g4_tool.specs.declared.inputs.Input.{Input}
-use Rattle.g4_tool.specs.declared.interpreter.Interpreter.{Interpreter}
+use Rattle.g4_load.specs.declared.interpreter.Interpreter.{Interpreter}
 use Rattle.g4_tool.specs.declared.report.Report.{Report}
 use Rattle.g4_tool.specs.declared.status.Status.{Status}
 use Rattle.g4_tool.specs.declared.status.Status.TheVariants.{Done, Refused}

@@ -6,6 +6,7 @@ use Rattle.g4_base.specs.declared.place.Place.{Place}
 use Rattle.g4_base.specs.Place.{first_place}
 use Rattle.g4_base.specs.Shown.{shown}
 use Rattle.g4_symbols.specs.Symbols.{eof, end_of_list}
+use Rattle.g4_netlist.specs.Shown.{shown_set}
 use Rattle.g4_net.specs.declared.network.State.{State}
 use Rattle.g4_net.specs.declared.network.State.TheVariants.{Decision, End, Edge, Call, Predicate, Level, Action, Empty}
 use Rattle.g4_net.specs.Network.{ParserNetwork, state_at}
@@ -18,25 +19,6 @@ use Rattle.g4_tool.specs.declared.write.Line.TheVariants.{ToOut, ToErr}
 -- `NAME: line L:C `
 abbrev pub at_place : List ℕ → Place → List ℕ
 at_place name place = name ++ (codes ": line " ++ (decimal place.line ++ (codes ":" ++ (decimal place.column ++ codes " "))))
-
--- a text, or nothing
-abbrev pub or_nothing : Option (List ℕ) → List ℕ
-or_nothing None = []
-or_nothing (Some text) = text
-
--- what is shown of a symbol: EOF, or what is shown of its type, where these are shown of the types from 1 on
-abbrev pub shown_symbol : List (List ℕ) → ℕ → List ℕ
-shown_symbol types a = cond (a == eof) (codes "EOF") (cond (a == end_of_list) (codes "EOF") (or_nothing (slice_get types (a - 1))))
-
--- more shown symbols, `, ` before each
-abbrev pub more_symbols : List (List ℕ) → List ℕ → List ℕ
-more_symbols types symbols = flat_map (λ a. codes ", " ++ shown_symbol types a) symbols
-
--- what is shown of a set: its one symbol, or all of them in braces
-abbrev pub shown_set : List (List ℕ) → List ℕ → List ℕ
-shown_set types [] = codes "{}"
-shown_set types (a ∷ []) = shown_symbol types a
-shown_set types (a ∷ b ∷ more) = ((codes "{" ++ shown_symbol types a) ++ more_symbols types (b ∷ more)) ++ codes "}"
 
 -- the symbols that a state's edge takes
 abbrev pub taken_by : Option (State (List ℕ)) → List ℕ

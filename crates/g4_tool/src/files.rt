@@ -2,14 +2,14 @@
 ghost use Rattle.std.specs.Prelude.{◌≡◌, ◌<◌, ◌≤◌, All, IfOk, OnOk, length};
 ghost use Rattle.g4_tool.specs.Inputs.{IsSmall};
 ghost use Rattle.g4_tool.specs.Outcomes.{AreParsed, IsOneMore};
-ghost use Rattle.g4_tool.specs.Usable.{IsUsable};
+ghost use Rattle.g4_load.specs.Usable.{IsUsable};
 ghost use Rattle.g4_words.specs.declared.command.TheConstants.{MOST_FILES};
 
 use crate::inputs::Input;
-use crate::interpreter::Interpreter;
 use crate::outcome::{Output, is_accepted, outcome_of, push_outcome};
 use crate::write::Line;
 use g4_base::Text;
+use g4_load::Interpreter;
 use g4_ports::Gate;
 use std::alloc::{AllocError, Global};
 

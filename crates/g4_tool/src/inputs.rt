@@ -1,10 +1,11 @@
 // The files of a run, fetched in order.
 ghost use Rattle.std.specs.Prelude.{◌≡◌, All, IfOk, Some, length};
-ghost use Rattle.g4_tool.specs.Counting.{Counts};
-ghost use Rattle.g4_tool.specs.Inputs.{Files, inputs_of, GivesInputs, IsSmall};
+ghost use Rattle.g4_load.specs.Counting.{Counts};
+ghost use Rattle.g4_load.specs.Files.{Files};
+ghost use Rattle.g4_tool.specs.Inputs.{inputs_of, GivesInputs, IsSmall};
 
-use crate::stop::{Halt, Stop};
 use g4_base::{Octets, Text};
+use g4_load::{Halt, Stop};
 use g4_ports::{Got, Shelf};
 use std::alloc::Global;
 

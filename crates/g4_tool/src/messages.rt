@@ -1,14 +1,14 @@
 // The lines of faults.
 ghost use Rattle.std.specs.Prelude.{◌≡◌, ◌++◌, IfOk, OnOk, string_bytes, ◌-◌, []};
 ghost use Rattle.g4_net.specs.Network.{state_at};
-ghost use Rattle.g4_tool.specs.Texts.{at_place, shown_symbol, more_symbols, shown_set, taken_by, place_of_token, mismatch_line, no_viable_line, too_deep_line, no_token_line, many_tokens_line, not_utf8_line, large_line, absent_line, usage_line, syntax_line, bad_set_line, twice_line, no_rule_line, limit_line};
+ghost use Rattle.g4_tool.specs.Texts.{at_place, taken_by, place_of_token, mismatch_line, no_viable_line, too_deep_line, no_token_line, many_tokens_line, not_utf8_line, large_line, absent_line, usage_line, syntax_line, bad_set_line, twice_line, no_rule_line, limit_line};
 ghost use Rattle.g4_tool.specs.declared.write.Line.TheVariants.{ToErr};
 
 use crate::write::Line;
 use g4_base::{Place, Sequence, Text, push_shown};
 use g4_net::{ParserNetwork, State};
+use g4_netlist::push_set;
 use g4_parse::push_token;
-use g4_symbols::{END, EOF};
 use g4_token_list::{Token, Tokens};
 use std::alloc::{AllocError, Global};
 
@@ -34,43 +34,6 @@ pub fn start_line(alloc: Global, name: &str, place: Place) -> Result<String, All
     let column = place.column;
     let start = format!(in alloc; "{name}: line {line}:{column} ")?;
     Ok(start)
-}
-
-fn push_symbol(out: &mut Vec<u8>, types: &[Text], symbol: u32) -> Result<(), AllocError>
-    ensures { OnOk result (out.new.items ≡ out.old.items ++ shown_symbol types.now symbol) }
-{
-    if symbol == EOF || symbol == END {
-        return push(out, "EOF");
-    }
-    match types.get((symbol as usize).saturating_sub(1)) {
-        Some(shown) => push(out, shown.as_str()),
-        None => Ok(()),
-    }
-}
-
-fn push_more(out: &mut Vec<u8>, types: &[Text], symbols: &[u32]) -> Result<(), AllocError>
-    ensures { OnOk result (out.new.items ≡ out.old.items ++ more_symbols types.now symbols.now) }
-{
-    for symbol in symbols {
-        push(out, ", ")?;
-        push_symbol(out, types, *symbol)?;
-    }
-    Ok(())
-}
-
-fn push_set(out: &mut Vec<u8>, types: &[Text], symbols: &[u32]) -> Result<(), AllocError>
-    ensures { OnOk result (out.new.items ≡ out.old.items ++ shown_set types.now symbols.now) }
-{
-    match symbols {
-        [] => push(out, "{}"),
-        [only] => push_symbol(out, types, *only),
-        [first, more @ ..] => {
-            push(out, "{")?;
-            push_symbol(out, types, *first)?;
-            push_more(out, types, more)?;
-            push(out, "}")
-        }
-    }
 }
 
 fn set_at(alloc: Global, net: &ParserNetwork, state: u32) -> Result<Vec<u32>, AllocError>

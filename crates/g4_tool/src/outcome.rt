@@ -5,14 +5,14 @@ ghost use Rattle.g4_parse.specs.TreeText.{tree_text};
 ghost use Rattle.g4_tool.specs.Texts.{line_of_tree};
 ghost use Rattle.g4_tool.specs.Inputs.{IsSmall};
 ghost use Rattle.g4_tool.specs.Outcomes.{IsOutcome, is_accepted, lex_lines, lexing_refused, outcome_lines, parse_lines, parsing_refused};
-ghost use Rattle.g4_tool.specs.Usable.{IsUsable};
+ghost use Rattle.g4_load.specs.Usable.{IsUsable};
 
 use crate::inputs::Input;
-use crate::interpreter::Interpreter;
 use crate::messages::{large, many_tokens, mismatch, no_token, no_viable, not_utf8, too_deep};
 use crate::write::Line;
 use g4_base::{MOST_BYTES, Octets, Sequence};
 use g4_lexer::{LexFault, tokens};
+use g4_load::Interpreter;
 use g4_parse::{ParseFault, Tree, parse, print};
 use g4_token_list::Tokens;
 use std::alloc::{AllocError, Global};

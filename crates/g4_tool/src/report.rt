@@ -1,8 +1,9 @@
 // The report of a command line: its lines and its status, made before any of it is written.
 ghost use Rattle.std.specs.Prelude.{◌≡◌, ◌≤◌, ◌⊎◌, ℕ, List, IfOk, MatchResult, Some, Err, length, map, string_bytes};
-ghost use Rattle.g4_tool.specs.Counting.{Counts, ReportCounts};
-ghost use Rattle.g4_tool.specs.Ends.{IsNoCommand, checked, stopped};
-ghost use Rattle.g4_tool.specs.Inputs.{Files};
+ghost use Rattle.g4_load.specs.Counting.{Counts};
+ghost use Rattle.g4_tool.specs.Counting.{ReportCounts};
+ghost use Rattle.g4_tool.specs.Ends.{IsNoCommand, checked, listed, stopped};
+ghost use Rattle.g4_load.specs.Files.{Files};
 ghost use Rattle.g4_tool.specs.Report.{ReportsOrHalts, IsDoneOrRefused, IsReport, IsReportOf, IsReportOfFiles};
 ghost use Rattle.g4_words.specs.Commands.{IsCommand};
 ghost use Rattle.g4_words.specs.declared.command.Command.TheVariants as commands;
@@ -10,16 +11,15 @@ ghost use Rattle.g4_words.specs.declared.command.TheConstants.{MOST_FILES};
 
 use crate::files::{Parsed, parse_files};
 use crate::inputs::fetch_all;
-use crate::interpreter::build_interpreter;
-use crate::load::load;
 use crate::outcome::Output;
 use crate::status::Status;
-use crate::stop::{Halt, Stop};
+use crate::stop::{line_of, status_of};
 use crate::write::Line;
-use g4_base::Sequence;
+use g4_base::{Octets, Sequence};
 use g4_grammar::Numbered;
+use g4_load::{Halt, Stop, build_interpreter, list_named, load};
 use g4_ports::{Gate, Shelf};
-use g4_words::{Check, Command, Parse, WordsFault, read_words};
+use g4_words::{Atn, Check, Command, Parse, WordsFault, read_words};
 use std::alloc::{AllocError, Global};
 
 /// What a run writes, and how it ends where nothing fails.
@@ -52,10 +52,10 @@ impl From<AllocError> for Stopped {
 fn report_stop(alloc: Global, stop: &Stop) -> Result<Report, AllocError>
     ensures { IfOk result (IsReportOf (stopped stop.now)) }
 {
-    let line = stop.line(alloc)?;
+    let line = line_of(alloc, stop)?;
     Ok(Report {
         lines: Sequence::new(vec![in alloc; line]?),
-        status: stop.status(),
+        status: status_of(stop),
     })
 }
 
@@ -104,8 +104,34 @@ fn run_check<S: Shelf>(alloc: Global, shelf: &mut S, check: &Check) -> Result<Re
     ensures counts { Counts ⊥ (S.faults shelf.old) (S.faults shelf.new) (S.misses shelf.old) (S.misses shelf.new) result }
 {
     let name = check.grammar.as_str();
-    let loaded = load(alloc, shelf, name)?;
-    let report = report_checked(alloc, &loaded.grammar)?;
+    let grammar = load(alloc, shelf, name)?;
+    let report = report_checked(alloc, &grammar)?;
+    Ok(report)
+}
+
+/// The report of the listing of a rule.
+fn report_listed(alloc: Global, listing: Octets) -> Result<Report, AllocError>
+    ensures { IfOk result (IsReportOf (listed listing)) }
+{
+    let line = Line::ToOut(listing);
+    Ok(Report {
+        lines: Sequence::new(vec![in alloc; line]?),
+        status: Status::Done,
+    })
+}
+
+/// The report of `atn`, or why there is none.
+fn run_atn<S: Shelf>(alloc: Global, shelf: &mut S, atn: &Atn) -> Result<Report, Halt>
+    ensures keeps { S.told shelf.new ≡ S.told shelf.old }
+    ensures content { (files : Files) (words : List (List ℕ)) → S.told shelf.old ≡ Some files → IsCommand words (commands.Atn atn.now)
+        → ReportsOrHalts files words result }
+    ensures status { IfOk result (λ report. IsDoneOrRefused report.status) }
+    ensures counts { Counts ⊥ (S.faults shelf.old) (S.faults shelf.new) (S.misses shelf.old) (S.misses shelf.new) result }
+{
+    let name = atn.grammar.as_str();
+    let rule = atn.rule.as_str();
+    let listing = list_named(alloc, shelf, name, rule)?;
+    let report = report_listed(alloc, listing)?;
     Ok(report)
 }
 
@@ -149,6 +175,7 @@ fn run_words<S: Shelf, G: Gate>(
 {
     match read_words(alloc, words) {
         Ok(Command::Check(check)) => run_check(alloc, shelf, &check),
+        Ok(Command::Atn(atn)) => run_atn(alloc, shelf, &atn),
         Ok(Command::Parse(parse)) => run_parse(alloc, shelf, &parse, gate),
         Err(WordsFault::Usage) => Err(Halt::Stop(Stop::Usage)),
         Err(WordsFault::NoMemory) => Err(Halt::NoMemory),

@@ -1,9 +1,7 @@
-// How a command line ends before any file is parsed.
+// What is reported of a command line that ends before any file is parsed.
 ghost use Rattle.std.specs.Prelude.{◌≡◌, IfOk};
 ghost use Rattle.g4_tool.specs.Ends.{fault_line, stop_line, stop_status};
-ghost use Rattle.g4_tool.specs.declared.stop.Stop.TheVariants.{Fault, Absent};
 
-use crate::fault::GrammarFault;
 use crate::messages::{absent, bad_set, large, limit, no_rule, not_utf8, syntax, twice, usage};
 use crate::rule_messages::{
     empty_loop, empty_operator, label_clash, left_cycle, lexer_predicate, no_primary, undefined,
@@ -11,60 +9,8 @@ use crate::rule_messages::{
 };
 use crate::status::Status;
 use crate::write::Line;
-use g4_base::Text;
-use std::alloc::{AllocError, AllocFailed, Global};
-
-/// How a command line ends before any file is parsed.
-#[derive(Drop)]
-pub enum Stop {
-    /// The words are no command.
-    Usage,
-    /// No file has this name.
-    Absent(Text),
-    /// The grammar file of this name has this many bytes, which is past the limit.
-    TooLarge(Text, u64),
-    /// The grammar file of this name has this fault.
-    Fault(Text, GrammarFault),
-}
-
-/// Why no file is parsed.
-#[derive(Drop)]
-pub enum Halt {
-    Stop(Stop),
-    /// A fetch failed.
-    Failed,
-    NoMemory,
-}
-
-impl From<AllocError> for Halt {
-    ghost use Rattle.std.specs.Prelude.{◌≡◌};
-    ghost use Rattle.g4_tool.specs.declared.stop.Halt.TheVariants.{NoMemory};
-
-    ghost from_gives = { λ _ e. e ≡ NoMemory };
-
-    fn from(_: AllocError) -> Self {
-        Halt::NoMemory
-    }
-}
-
-impl<T: Drop> From<AllocFailed<T>> for Halt {
-    ghost use Rattle.std.specs.Prelude.{◌≡◌};
-    ghost use Rattle.g4_tool.specs.declared.stop.Halt.TheVariants.{NoMemory};
-
-    ghost from_gives = { λ _ e. e ≡ NoMemory };
-
-    fn from(_: AllocFailed<T>) -> Self {
-        Halt::NoMemory
-    }
-}
-
-/// The grammar file of this name has the fault.
-pub fn fault_of(alloc: Global, name: &str, fault: GrammarFault) -> Result<Stop, AllocError>
-    ensures { IfOk result (λ stop. stop ≡ Fault name.now fault) }
-{
-    let name = Text::copy_of(alloc, name)?;
-    Ok(Stop::Fault(name, fault))
-}
+use g4_load::{GrammarFault, Stop};
+use std::alloc::{AllocError, Global};
 
 /// The line of a grammar's fault.
 fn fault_line(alloc: Global, name: &str, fault: &GrammarFault) -> Result<Line, AllocError>
@@ -100,27 +46,25 @@ fn fault_line(alloc: Global, name: &str, fault: &GrammarFault) -> Result<Line, A
     }
 }
 
-impl Stop {
-    /// The line that is reported.
-    pub fn line(&self, alloc: Global) -> Result<Line, AllocError>
-        ensures { IfOk result (λ line. line ≡ stop_line self.now) }
-    {
-        match self {
-            Stop::Usage => usage(alloc),
-            Stop::Absent(name) => absent(alloc, name.as_str()),
-            Stop::TooLarge(name, size) => large(alloc, name.as_str(), *size),
-            Stop::Fault(name, fault) => fault_line(alloc, name.as_str(), fault),
-        }
+/// The line that is reported.
+pub fn line_of(alloc: Global, stop: &Stop) -> Result<Line, AllocError>
+    ensures { IfOk result (λ line. line ≡ stop_line stop.now) }
+{
+    match stop {
+        Stop::Usage => usage(alloc),
+        Stop::Absent(name) => absent(alloc, name.as_str()),
+        Stop::TooLarge(name, size) => large(alloc, name.as_str(), *size),
+        Stop::Fault(name, fault) => fault_line(alloc, name.as_str(), fault),
     }
+}
 
-    /// The status of the run.
-    pub fn status(&self) -> Status
-        ensures { result ≡ stop_status self.now }
-    {
-        match self {
-            Stop::Usage => Status::Usage,
-            Stop::Absent(_) | Stop::TooLarge(_, _) => Status::Unread,
-            Stop::Fault(_, _) => Status::GrammarRefused,
-        }
+/// The status of the run.
+pub fn status_of(stop: &Stop) -> Status
+    ensures { result ≡ stop_status stop.now }
+{
+    match stop {
+        Stop::Usage => Status::Usage,
+        Stop::Absent(_) | Stop::TooLarge(_, _) => Status::Unread,
+        Stop::Fault(_, _) => Status::GrammarRefused,
     }
 }

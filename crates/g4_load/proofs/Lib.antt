@@ -1,0 +1,4 @@
+mod Built
+mod Fetched
+pub mod OneBuilt
+pub mod OneStage

@@ -1,0 +1,197 @@
+-- A grammar file gives at most one grammar, and at most one interpreter and one listing from a start rule.
+use Rattle.std.proofs.Common.{◌≡◌, ℕ, List, [], ◌∷◌, length, Bool, true, false, Some, Result, Ok, Err, ap, sym, ◌∙◌, refl, subst, arith}
+use Rattle.g4_symbols.specs.Symbols.{eof}
+use Rattle.g4_grammar.specs.StepRules.{StepRule}
+use Rattle.g4_grammar.specs.declared.numbered.Numbered.{Numbered}
+use Rattle.g4_net.specs.Network.{ParserNetwork}
+use Rattle.g4_net.specs.declared.network.State.TheVariants.{Call}
+use Rattle.g4_netlist.specs.Listing.{IsListing}
+use Rattle.g4_netlist.proofs.OneListing.{one_listing}
+use Rattle.g4_source.specs.declared.source.Source.{Source}
+use Rattle.g4_reader.specs.Reading.{IsReading}
+use Rattle.g4_reader.specs.declared.reader.ReadFault.TheVariants as reading
+use Rattle.g4_reader.proofs.OneReading.{one_reading}
+use Rattle.g4_forms.specs.declared.fault.FormFault.TheVariants as forming
+use Rattle.g4_forms.specs.Forms.{forms_not_run}
+use Rattle.g4_forms.specs.Answers.{AreRun}
+use Rattle.g4_forms.proofs.OneAnswer.{one_answer}
+use Rattle.g4_vocab.specs.Names.{HasOwnNames}
+use Rattle.g4_vocab.specs.Answers.{GivesNumbered}
+use Rattle.g4_vocab.specs.declared.twice.NameFault.TheVariants as naming
+use Rattle.g4_vocab.specs.declared.fault.NumberFault.TheVariants as numbering
+use Rattle.g4_vocab.proofs.OneNaming.{one_naming}
+use Rattle.g4_checks.specs.Checking.{IsChecked}
+use Rattle.g4_checks.specs.declared.fault.CheckFault.TheVariants as checking
+use Rattle.g4_checks.proofs.OneCheck.{one_check}
+use Rattle.g4_build.specs.Answers.{GivesNetwork}
+use Rattle.g4_build.specs.declared.builder.BuildFault.TheVariants as building
+use Rattle.g4_layout.proofs.OneNetwork.{one_network}
+use Rattle.g4_load.specs.Faults.{of_read, of_form, of_name, of_number, of_check, of_build}
+use Rattle.g4_load.specs.Stages.{Gives, Then, stops, goes_on, OfFile}
+use Rattle.g4_load.specs.declared.interpreter.Interpreter.{Interpreter}
+use Rattle.g4_load.specs.declared.fault.GrammarFault.{GrammarFault}
+use Rattle.g4_load.specs.declared.stop.Stop.{Stop}
+use Rattle.g4_load.specs.declared.stop.Stop.TheVariants as stopping
+use Rattle.g4_load.specs.Building.{steps_of, interpreter_of, Lays, FitsLexer, FromGrammar, Builds}
+use Rattle.g4_load.specs.Listing.{IsStartRule, ListsStart, FromRule, Lists}
+use Rattle.g4_load.specs.Files.{Files}
+use Rattle.g4_load.specs.Loading.{Fetches, absent, too_large, there, Checks, Numbers, Loads}
+use Rattle.g4_load.proofs.OneStage.{IsSingle, IsSingleBeside, one_gift, one_then, one_of_file}
+
+-- a source has at most one numbering
+one_numbering : (source : Source) → IsSingleBeside numbering.NoMemory (GivesNumbered source)
+one_numbering source (Ok g) (Ok h) p q n m = ap (λ x. Ok x) (p.2 ∙ sym q.2)
+one_numbering source (Ok g) (Err numbering.Rules) p q n m = absurd (omega (arith, p.0, q))
+one_numbering source (Ok g) (Err numbering.Types) p q n m = absurd (omega (arith, p.1, q.1))
+one_numbering source (Ok g) (Err numbering.NoMemory) p q n m = absurd (m refl)
+one_numbering source (Err numbering.Rules) (Ok h) p q n m = absurd (omega (arith, p, q.0))
+one_numbering source (Err numbering.Rules) (Err numbering.Rules) p q n m = refl
+one_numbering source (Err numbering.Rules) (Err numbering.Types) p q n m = absurd (omega (arith, p, q.0))
+one_numbering source (Err numbering.Rules) (Err numbering.NoMemory) p q n m = absurd (m refl)
+one_numbering source (Err numbering.Types) (Ok h) p q n m = absurd (omega (arith, p.1, q.1))
+one_numbering source (Err numbering.Types) (Err numbering.Rules) p q n m = absurd (omega (arith, p.0, q))
+one_numbering source (Err numbering.Types) (Err numbering.Types) p q n m = refl
+one_numbering source (Err numbering.Types) (Err numbering.NoMemory) p q n m = absurd (m refl)
+one_numbering source (Err numbering.NoMemory) b p q n m = absurd (n refl)
+
+-- what holds and fails is not both
+not_both : (b : Bool) → b ≡ true → b ≡ false → ⊥
+not_both b p q = cc
+
+-- a grammar and a start rule have at most one network, or fault
+one_build : (rules : List StepRule) (start : List ℕ) → IsSingleBeside building.NoMemory (GivesNetwork rules start)
+one_build rules start (Ok a) (Ok b) p q n m = ap (λ x. Ok x) (one_network (eof ∷ []) rules start a b p q)
+one_build rules start (Ok a) (Err building.UnknownStart) p q n m = absurd (not_both _ p.known q)
+one_build rules start (Ok a) (Err building.Alternatives) p q n m = absurd (omega (arith, p.narrow q.1.0 q.1.1, q.1.2))
+one_build rules start (Ok a) (Err building.States) p q n m = absurd (omega (arith, p.fits, q.2))
+one_build rules start (Ok a) (Err building.NoMemory) p q n m = absurd (m refl)
+one_build rules start (Err building.UnknownStart) (Ok b) p q n m = absurd (not_both _ q.known p)
+one_build rules start (Err building.UnknownStart) (Err building.UnknownStart) p q n m = refl
+one_build rules start (Err building.UnknownStart) (Err building.Alternatives) p q n m = absurd (not_both _ q.0 p)
+one_build rules start (Err building.UnknownStart) (Err building.States) p q n m = absurd (not_both _ q.0 p)
+one_build rules start (Err building.UnknownStart) (Err building.NoMemory) p q n m = absurd (m refl)
+one_build rules start (Err building.Alternatives) (Ok b) p q n m = absurd (omega (arith, q.narrow p.1.0 p.1.1, p.1.2))
+one_build rules start (Err building.Alternatives) (Err building.UnknownStart) p q n m = absurd (not_both _ p.0 q)
+one_build rules start (Err building.Alternatives) (Err building.Alternatives) p q n m = refl
+one_build rules start (Err building.Alternatives) (Err building.States) p q n m = absurd (omega (arith, q.1 p.1.0 p.1.1, p.1.2))
+one_build rules start (Err building.Alternatives) (Err building.NoMemory) p q n m = absurd (m refl)
+one_build rules start (Err building.States) (Ok b) p q n m = absurd (omega (arith, q.fits, p.2))
+one_build rules start (Err building.States) (Err building.UnknownStart) p q n m = absurd (not_both _ p.0 q)
+one_build rules start (Err building.States) (Err building.Alternatives) p q n m = absurd (omega (arith, p.1 q.1.0 q.1.1, q.1.2))
+one_build rules start (Err building.States) (Err building.States) p q n m = refl
+one_build rules start (Err building.States) (Err building.NoMemory) p q n m = absurd (m refl)
+one_build rules start (Err building.NoMemory) b p q n m = absurd (n refl)
+
+-- a grammar is laid in at most one way
+one_laid : (start : List ℕ) (grammar : Numbered) → IsSingle (Lays start grammar)
+one_laid start grammar =
+    one_then (Gives (GivesNetwork (steps_of grammar) start) (of_build start)) (λ net result. result ≡ Ok (interpreter_of grammar net))
+    (one_gift (GivesNetwork (steps_of grammar) start) (of_build start) building.NoMemory refl (one_build (steps_of grammar) start)) (λ net a b p q. p ∙ sym q)
+
+-- a network goes with at most one lexer's network
+one_fit : (laid : Interpreter) → IsSingle (FitsLexer laid)
+one_fit laid (Ok a) (Ok b) p q = ap (λ x. Ok x) (p.1 ∙ sym q.1)
+one_fit laid (Ok a) (Err g) p q = absurd (omega (arith, p.0, q.0))
+one_fit laid (Err f) (Ok b) p q = absurd (omega (arith, p.0, q.0))
+one_fit laid (Err f) (Err g) p q = ap (λ x. Err x) (p.1 ∙ sym q.1)
+
+-- a grammar gives at most one thing to parse with
+one_from_grammar : (start : List ℕ) (grammar : Numbered) → IsSingle (FromGrammar start grammar)
+one_from_grammar start grammar = one_then (Lays start grammar) FitsLexer (one_laid start grammar) one_fit
+
+-- a network has one start rule
+one_start : (net : ParserNetwork) (r s : ℕ) → IsStartRule net r → IsStartRule net s → r ≡ s
+one_start net r s p q = let same : Some (Call r 0 p.0) ≡ Some (Call s 0 q.0) = sym p.1 ∙ q.1 in cc
+
+-- and one listing of it
+one_start_listing : (laid : Interpreter) → IsSingle (ListsStart laid)
+one_start_listing laid (Ok a) (Ok b) p q =
+    let also = subst (λ (r : ℕ). IsListing laid.names laid.shown laid.net r b) (one_start laid.net q.0 p.0 q.1 p.1) q.2 in
+    ap (λ (x : List ℕ). Ok x) (one_listing laid.names laid.shown laid.net p.0 a b p.2 also)
+one_start_listing laid (Ok a) (Err g) p q = absurd q
+one_start_listing laid (Err f) b p q = absurd p
+
+-- a grammar gives at most one listing of a rule
+one_from_rule : (rule : List ℕ) (grammar : Numbered) → IsSingle (FromRule rule grammar)
+one_from_rule rule grammar = one_then (Lays rule grammar) ListsStart (one_laid rule grammar) one_start_listing
+
+-- a source has at most one checked numbering
+one_checked : (source : Source) (grammar : Numbered) → IsSingle (Checks source grammar)
+one_checked source grammar = one_then (Gives (IsChecked source) of_check) (λ _ result. result ≡ Ok grammar) (one_gift (IsChecked source) of_check checking.NoMemory refl (one_check source)) (λ _ a b p q. p ∙ sym q)
+
+one_numbers : (source : Source) → IsSingle (Numbers source)
+one_numbers source =
+    one_then (Gives (AreRun (forms_not_run source)) of_form) (λ _. Then (Gives (HasOwnNames source.rules) of_name) (λ _. Then (Gives (GivesNumbered source) of_number) (Checks source)))
+    (one_gift (AreRun (forms_not_run source)) of_form forming.NoMemory refl (one_answer (forms_not_run source)))
+    (λ _. one_then (Gives (HasOwnNames source.rules) of_name) (λ _. Then (Gives (GivesNumbered source) of_number) (Checks source))
+    (one_gift (HasOwnNames source.rules) of_name naming.NoMemory refl (one_naming source.rules))
+    (λ _. one_then (Gives (GivesNumbered source) of_number) (Checks source) (one_gift (GivesNumbered source) of_number numbering.NoMemory refl (one_numbering source)) (one_checked source)))
+
+module _ (files : Files) (name : List ℕ) where
+  -- a name has at most one file
+  one_fetch : IsSingle (Fetches files name)
+  one_fetch a b (absent p) (absent q) = refl
+  one_fetch a b (absent p) (too_large bytes q large) = absurd (let no_way : ⊥ = cc in no_way)
+  one_fetch a b (absent p) (there bytes q small) = absurd (let no_way : ⊥ = cc in no_way)
+  one_fetch a b (too_large bytes p large) (absent q) = absurd (let no_way : ⊥ = cc in no_way)
+  one_fetch a b (too_large bytes p large) (too_large others q larger) =
+      let same : bytes ≡ others = cc in
+      ap (λ (bs : List ℕ). Err (stopping.TooLarge name (length bs))) same
+  one_fetch a b (too_large bytes p large) (there others q small) =
+      let same : bytes ≡ others = cc in
+      absurd (omega (arith, large, small, ap length same))
+  one_fetch a b (there bytes p small) (absent q) = absurd (let no_way : ⊥ = cc in no_way)
+  one_fetch a b (there bytes p small) (too_large others q large) =
+      let same : bytes ≡ others = cc in
+      absurd (omega (arith, large, small, ap length same))
+  one_fetch a b (there bytes p small) (there others q little) =
+      let same : bytes ≡ others = cc in
+      ap (λ bs. Ok bs) same
+
+  -- what follows the fetch
+  abbrev AfterFetch : List ℕ → Result Source Stop → Type 0
+  AfterFetch bytes = OfFile name (Gives (IsReading bytes) of_read)
+
+  -- one reading, and one loading, whatever names are fetched
+  abbrev ReadsAny : Result Source Stop → Type 0
+  ReadsAny = Then (Fetches files name) AfterFetch
+
+  one_reads : IsSingle ReadsAny
+  one_reads = one_then (Fetches files name) AfterFetch one_fetch (λ bytes. one_of_file name (Gives (IsReading bytes) of_read) (one_gift (IsReading bytes) of_read reading.NoMemory refl (one_reading bytes)))
+
+  abbrev LoadsAny : Result Numbered Stop → Type 0
+  LoadsAny = Then ReadsAny (λ source. OfFile name (Numbers source))
+
+  one_loads : IsSingle LoadsAny
+  one_loads = one_then ReadsAny (λ source. OfFile name (Numbers source)) one_reads (λ source. one_of_file name (Numbers source) (one_numbers source))
+
+  loads_any : (fetched : List (List ℕ)) (r : Result Numbered Stop) → Loads files name fetched r → LoadsAny r
+  loads_any fetched r (stops fault h) = stops fault h.1
+  loads_any fetched r (goes_on source s h k) = goes_on source s h.1 k
+
+  -- a file gives at most one numbered grammar, or stops at most one way
+  pub one_loaded : (f g : List (List ℕ)) (a b : Result Numbered Stop) → Loads files name f a → Loads files name g b → a ≡ b
+  one_loaded f g a b p q = one_loads a b (loads_any f a p) (loads_any g b q)
+
+  -- what is made of the grammar in a file
+  module _ {X : Type 0} (Stage : Numbered → Result X GrammarFault → Type 0) (one : (grammar : Numbered) → IsSingle (Stage grammar)) where
+    abbrev MakesAny : Result X Stop → Type 0
+    MakesAny = Then LoadsAny (λ grammar. OfFile name (Stage grammar))
+
+    abbrev Makes : List (List ℕ) → Result X Stop → Type 0
+    Makes fetched = Then (Loads files name fetched) (λ grammar. OfFile name (Stage grammar))
+
+    makes_any : (fetched : List (List ℕ)) (r : Result X Stop) → Makes fetched r → MakesAny r
+    makes_any fetched r (stops fault h) = stops fault (loads_any fetched (Err fault) h)
+    makes_any fetched r (goes_on grammar s h k) = goes_on grammar s (loads_any fetched (Ok grammar) h) k
+
+    one_made : (f g : List (List ℕ)) (a b : Result X Stop) → Makes f a → Makes g b → a ≡ b
+    one_made f g a b p q = one_then LoadsAny (λ grammar. OfFile name (Stage grammar)) one_loads (λ grammar. one_of_file name (Stage grammar) (one grammar)) a b (makes_any f a p) (makes_any g b q)
+
+  -- a file and a start rule give at most one interpreter, or stop at most one way
+  pub one_built : (start : List ℕ) (f g : List (List ℕ)) (a b : Result Interpreter Stop) → Builds files name start f a → Builds files name start g b → a ≡ b
+  one_built start f g a b p q = one_made (FromGrammar start) (one_from_grammar start) f g a b p q
+
+  -- a file and a rule give at most one listing, or stop at most one way
+  pub one_listed : (rule : List ℕ) (f g : List (List ℕ)) (a b : Result (List ℕ) Stop) → Lists files name rule f a → Lists files name rule g b → a ≡ b
+  one_listed rule f g a b p q = one_made (FromRule rule) (one_from_rule rule) f g a b p q

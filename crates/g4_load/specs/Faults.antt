@@ -1,0 +1,62 @@
+-- The faults of a grammar, from those of the stages.
+use Rattle.std.specs.Prelude.{ℕ, List}
+use Rattle.g4_reader.specs.declared.reader.ReadFault.{ReadFault}
+use Rattle.g4_reader.specs.declared.reader.ReadFault.TheVariants as reading
+use Rattle.g4_forms.specs.declared.fault.FormFault.{FormFault}
+use Rattle.g4_forms.specs.declared.fault.FormFault.TheVariants as forming
+use Rattle.g4_vocab.specs.declared.twice.NameFault.{NameFault}
+use Rattle.g4_vocab.specs.declared.twice.NameFault.TheVariants as naming
+use Rattle.g4_vocab.specs.declared.fault.NumberFault.{NumberFault}
+use Rattle.g4_vocab.specs.declared.fault.NumberFault.TheVariants as numbering
+use Rattle.g4_checks.specs.declared.fault.CheckFault.{CheckFault}
+use Rattle.g4_checks.specs.declared.fault.CheckFault.TheVariants as checking
+use Rattle.g4_build.specs.declared.builder.BuildFault.{BuildFault}
+use Rattle.g4_build.specs.declared.builder.BuildFault.TheVariants as building
+use Rattle.g4_load.specs.declared.fault.GrammarFault.TheVariants as faults
+use Rattle.g4_load.specs.declared.fault.CheckError.{CheckError}
+use Rattle.g4_load.specs.declared.fault.CheckError.TheVariants as errors
+
+-- of bytes that are no grammar
+abbrev pub of_read : ReadFault → CheckError
+of_read (reading.NotUtf8 at) = errors.Fault (faults.NotUtf8 at)
+of_read (reading.Syntax place characters) = errors.Fault (faults.Syntax place characters)
+of_read (reading.BadSet place) = errors.Fault (faults.BadSet place)
+of_read reading.NoMemory = errors.NoMemory
+
+-- of a grammar with a form that is not run yet
+abbrev pub of_form : FormFault → CheckError
+of_form (forming.NotRun place characters) = errors.Fault (faults.Syntax place characters)
+of_form forming.NoMemory = errors.NoMemory
+
+-- of a grammar with a rule name that is used twice
+abbrev pub of_name : NameFault → CheckError
+of_name (naming.RuleTwice name) = errors.Fault (faults.RuleTwice name)
+of_name naming.NoMemory = errors.NoMemory
+
+-- of a grammar that is not numbered
+abbrev pub of_number : NumberFault → CheckError
+of_number numbering.Rules = errors.Fault faults.Rules
+of_number numbering.Types = errors.Fault faults.Types
+of_number numbering.NoMemory = errors.NoMemory
+
+-- of a grammar that cannot be run
+abbrev pub of_check : CheckFault → CheckError
+of_check (checking.UndefinedRule name) = errors.Fault (faults.UndefinedRule name)
+of_check (checking.UnknownMode name) = errors.Fault (faults.UnknownMode name)
+of_check (checking.UnknownCommand name) = errors.Fault (faults.UnknownCommand name)
+of_check (checking.UnknownChannel name) = errors.Fault (faults.UnknownChannel name)
+of_check (checking.LexerPredicate place) = errors.Fault (faults.LexerPredicate place)
+of_check (checking.UnknownPredicate place) = errors.Fault (faults.UnknownPredicate place)
+of_check (checking.LabelClash name) = errors.Fault (faults.LabelClash name)
+of_check (checking.NoPrimary name) = errors.Fault (faults.NoPrimary name)
+of_check (checking.EmptyOperator name i) = errors.Fault (faults.EmptyOperator name i)
+of_check (checking.EmptyLoop name) = errors.Fault (faults.EmptyLoop name)
+of_check (checking.LeftCycle names) = errors.Fault (faults.LeftCycle names)
+of_check checking.NoMemory = errors.NoMemory
+
+-- of a numbered grammar without a network from this start rule
+abbrev pub of_build : List ℕ → BuildFault → CheckError
+of_build start building.UnknownStart = errors.Fault (faults.UnknownStart start)
+of_build start building.Alternatives = errors.Fault faults.Alternatives
+of_build start building.States = errors.Fault faults.States
+of_build start building.NoMemory = errors.NoMemory

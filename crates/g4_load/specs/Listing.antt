@@ -1,0 +1,34 @@
+-- The states of a rule of a grammar are listed.
+use Rattle.std.specs.Prelude.{◌≡◌, ℕ, List, Some, Result, Ok, Err}
+use Rattle.g4_grammar.specs.declared.numbered.Numbered.{Numbered}
+use Rattle.g4_net.specs.declared.network.State.TheVariants.{Call}
+use Rattle.g4_net.specs.Network.{ParserNetwork, state_at}
+use Rattle.g4_netlist.specs.Listing.{IsListing}
+use Rattle.g4_load.specs.Building.{Lays}
+use Rattle.g4_load.specs.Files.{Files}
+use Rattle.g4_load.specs.Loading.{Loads}
+use Rattle.g4_load.specs.Stages.{Then, OfFile}
+use Rattle.g4_load.specs.declared.interpreter.Interpreter.{Interpreter}
+use Rattle.g4_load.specs.declared.fault.GrammarFault.{GrammarFault}
+use Rattle.g4_load.specs.declared.stop.Stop.{Stop}
+
+-- the start rule of a network: the one that the added rule calls
+abbrev pub IsStartRule : ParserNetwork → ℕ → Type 0
+IsStartRule net rule = (back : ℕ) × (state_at net 0 ≡ Some (Call rule 0 back))
+
+-- the bytes are the listing of the start rule
+abbrev pub IsStartListing : Interpreter → List ℕ → Type 0
+IsStartListing interpreter bytes = (rule : ℕ) × IsStartRule interpreter.net rule × IsListing interpreter.names interpreter.shown interpreter.net rule bytes
+
+-- the listing of a grammar with its network, which has no fault
+abbrev pub ListsStart : Interpreter → Result (List ℕ) GrammarFault → Type 0
+ListsStart interpreter (Ok bytes) = IsStartListing interpreter bytes
+ListsStart interpreter (Err fault) = ⊥
+
+-- the listing of a rule of a grammar, whose network has it as its start rule, or the first fault of that
+abbrev pub FromRule : List ℕ → Numbered → Result (List ℕ) GrammarFault → Type 0
+FromRule rule grammar = Then (Lays rule grammar) ListsStart
+
+-- the listing of a rule of the grammar in a file, or the first fault of loading it and of its network
+abbrev pub Lists : Files → List ℕ → List ℕ → List (List ℕ) → Result (List ℕ) Stop → Type 0
+Lists files name rule fetched = Then (Loads files name fetched) (λ grammar. OfFile name (FromRule rule grammar))

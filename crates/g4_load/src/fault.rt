@@ -1,0 +1,189 @@
+// The faults of a grammar, from those of the layers that read, check and build it.
+ghost use Rattle.std.specs.Prelude.{◌≡◌, IfOk};
+ghost use Rattle.g4_load.specs.Faults.{of_build};
+
+use g4_base::{Place, Sequence, Text};
+use g4_build::BuildFault;
+use g4_checks::CheckFault;
+use g4_forms::FormFault;
+use g4_reader::ReadFault;
+use g4_vocab::{NameFault, NumberFault};
+use std::alloc::{AllocError, Global};
+
+/// The fault of a grammar, in the order in which faults are looked for.
+#[derive(Drop)]
+pub enum GrammarFault {
+    /// The longest front part that is UTF-8 has this many bytes.
+    NotUtf8(usize),
+    /// The place and the characters of the first syntax fault, or, there being none, of the first token of the first form
+    /// that is not run yet.
+    Syntax(Place, Sequence<char>),
+    /// The place of the first character set that is empty, has a range that runs backward or names an unknown property.
+    BadSet(Place),
+    /// The name of the first rule whose name an earlier rule has.
+    RuleTwice(Text),
+    /// More than 4,096 rules.
+    Rules,
+    /// More than 4,096 token types.
+    Types,
+    /// A rule that is named and that the grammar has not.
+    UndefinedRule(Text),
+    /// A mode that a command takes and that the grammar has not.
+    UnknownMode(Text),
+    /// The name of a command that is none, or that has an argument which it does not take, or lacks one.
+    UnknownCommand(Text),
+    /// A channel that a command takes and that the grammar has not.
+    UnknownChannel(Text),
+    /// The place of a predicate in a lexer rule.
+    LexerPredicate(Place),
+    /// The place of a predicate whose text is none.
+    UnknownPredicate(Place),
+    /// A label that clashes, or a rule that is partly labelled.
+    LabelClash(Text),
+    /// A rule each of whose alternatives begins with the rule itself.
+    NoPrimary(Text),
+    /// A rule, and the number of its alternative that begins with the rule itself and goes on with what derives the empty word.
+    EmptyOperator(Text, u32),
+    /// A rule with a loop that can be empty.
+    EmptyLoop(Text),
+    /// Rules of which each calls the next before anything is read, and the last the first.
+    LeftCycle(Sequence<Text>),
+    /// No parser rule has this name, which the start rule was to have.
+    UnknownStart(Text),
+    /// More than 1,024 alternatives of a decision.
+    Alternatives,
+    /// More than 65,536 states of the network or of the lexer's.
+    States,
+}
+
+/// Why a grammar is not checked or not built.
+#[derive(Drop)]
+pub enum CheckError {
+    Fault(GrammarFault),
+    NoMemory,
+}
+
+impl From<ReadFault> for CheckError {
+    ghost use Rattle.std.specs.Prelude.{◌≡◌};
+    ghost use Rattle.g4_load.specs.Faults.{of_read};
+
+    ghost from_gives = { λ d e. e ≡ of_read d };
+
+    fn from(fault: ReadFault) -> Self {
+        match fault {
+            ReadFault::NotUtf8(at) => CheckError::Fault(GrammarFault::NotUtf8(at)),
+            ReadFault::Syntax(place, characters) => {
+                CheckError::Fault(GrammarFault::Syntax(place, characters))
+            }
+            ReadFault::BadSet(place) => CheckError::Fault(GrammarFault::BadSet(place)),
+            ReadFault::NoMemory => CheckError::NoMemory,
+        }
+    }
+}
+
+impl From<FormFault> for CheckError {
+    ghost use Rattle.std.specs.Prelude.{◌≡◌};
+    ghost use Rattle.g4_load.specs.Faults.{of_form};
+
+    ghost from_gives = { λ d e. e ≡ of_form d };
+
+    fn from(fault: FormFault) -> Self {
+        match fault {
+            FormFault::NotRun(place, characters) => {
+                CheckError::Fault(GrammarFault::Syntax(place, characters))
+            }
+            FormFault::NoMemory => CheckError::NoMemory,
+        }
+    }
+}
+
+impl From<NameFault> for CheckError {
+    ghost use Rattle.std.specs.Prelude.{◌≡◌};
+    ghost use Rattle.g4_load.specs.Faults.{of_name};
+
+    ghost from_gives = { λ d e. e ≡ of_name d };
+
+    fn from(fault: NameFault) -> Self {
+        match fault {
+            NameFault::RuleTwice(name) => CheckError::Fault(GrammarFault::RuleTwice(name)),
+            NameFault::NoMemory => CheckError::NoMemory,
+        }
+    }
+}
+
+impl From<NumberFault> for CheckError {
+    ghost use Rattle.std.specs.Prelude.{◌≡◌};
+    ghost use Rattle.g4_load.specs.Faults.{of_number};
+
+    ghost from_gives = { λ d e. e ≡ of_number d };
+
+    fn from(fault: NumberFault) -> Self {
+        match fault {
+            NumberFault::Rules => CheckError::Fault(GrammarFault::Rules),
+            NumberFault::Types => CheckError::Fault(GrammarFault::Types),
+            NumberFault::NoMemory => CheckError::NoMemory,
+        }
+    }
+}
+
+impl From<AllocError> for CheckError {
+    ghost use Rattle.std.specs.Prelude.{◌≡◌};
+    ghost use Rattle.g4_load.specs.declared.fault.CheckError.TheVariants.{NoMemory};
+
+    ghost from_gives = { λ _ e. e ≡ NoMemory };
+
+    fn from(_: AllocError) -> Self {
+        CheckError::NoMemory
+    }
+}
+
+impl From<CheckFault> for CheckError {
+    ghost use Rattle.std.specs.Prelude.{◌≡◌};
+    ghost use Rattle.g4_load.specs.Faults.{of_check};
+
+    ghost from_gives = { λ d e. e ≡ of_check d };
+
+    fn from(fault: CheckFault) -> Self {
+        match fault {
+            CheckFault::UndefinedRule(name) => {
+                CheckError::Fault(GrammarFault::UndefinedRule(name))
+            }
+            CheckFault::UnknownMode(name) => CheckError::Fault(GrammarFault::UnknownMode(name)),
+            CheckFault::UnknownCommand(name) => {
+                CheckError::Fault(GrammarFault::UnknownCommand(name))
+            }
+            CheckFault::UnknownChannel(name) => {
+                CheckError::Fault(GrammarFault::UnknownChannel(name))
+            }
+            CheckFault::LexerPredicate(place) => {
+                CheckError::Fault(GrammarFault::LexerPredicate(place))
+            }
+            CheckFault::UnknownPredicate(place) => {
+                CheckError::Fault(GrammarFault::UnknownPredicate(place))
+            }
+            CheckFault::LabelClash(name) => CheckError::Fault(GrammarFault::LabelClash(name)),
+            CheckFault::NoPrimary(name) => CheckError::Fault(GrammarFault::NoPrimary(name)),
+            CheckFault::EmptyOperator(name, alternative) => {
+                CheckError::Fault(GrammarFault::EmptyOperator(name, alternative))
+            }
+            CheckFault::EmptyLoop(name) => CheckError::Fault(GrammarFault::EmptyLoop(name)),
+            CheckFault::LeftCycle(names) => CheckError::Fault(GrammarFault::LeftCycle(names)),
+            CheckFault::NoMemory => CheckError::NoMemory,
+        }
+    }
+}
+
+/// What is reported of a network that was not built from this start rule.
+pub fn not_built(alloc: Global, start: &str, fault: BuildFault) -> Result<CheckError, AllocError>
+    ensures { IfOk result (λ error. error ≡ of_build start.now fault) }
+{
+    match fault {
+        BuildFault::UnknownStart => {
+            let name = Text::copy_of(alloc, start)?;
+            Ok(CheckError::Fault(GrammarFault::UnknownStart(name)))
+        }
+        BuildFault::Alternatives => Ok(CheckError::Fault(GrammarFault::Alternatives)),
+        BuildFault::States => Ok(CheckError::Fault(GrammarFault::States)),
+        BuildFault::NoMemory => Ok(CheckError::NoMemory),
+    }
+}

@@ -1,0 +1,109 @@
+// From a numbered grammar to its network, and to what parses with it.
+ghost use Rattle.std.specs.Prelude.{◌≡◌, IfOk, Some, map, ◌∷◌, []};
+ghost use Rattle.g4_load.specs.Building.{Builds, FromGrammar, Lays};
+ghost use Rattle.g4_load.specs.Counting.{Counts};
+ghost use Rattle.g4_load.specs.Files.{Files};
+ghost use Rattle.g4_load.specs.Stages.{GivesOrHalts, IsAnswerOf};
+ghost use Rattle.g4_load.specs.Usable.{CanBeBuilt, IsUsable};
+
+use crate::fault::{CheckError, GrammarFault, not_built};
+use crate::loading::load;
+use crate::stop::{Halt, fault_of};
+use g4_base::{Sequence, Text};
+use g4_build::{build, lexer_network_fits};
+use g4_grammar::{Numbered, NumberedAtom, TokenRule};
+use g4_net::ParserNetwork;
+use g4_ports::Shelf;
+use g4_resolve::{Resolving, resolve};
+use g4_source::ParserRule;
+use std::alloc::{AllocError, Global};
+
+/// What files are parsed with: a grammar's tokens and the network of one of its rules.
+#[derive(Drop)]
+pub struct Interpreter {
+    /// The names of the parser rules, which count from 1.
+    pub names: Sequence<Text>,
+    /// What is shown of each token type from 1 on.
+    pub shown: Sequence<Text>,
+    /// What the lexer matches, the rules that win a tie first.
+    pub token_rules: Sequence<TokenRule>,
+    pub net: ParserNetwork,
+}
+
+/// The names of the rules in order.
+fn names_of(alloc: Global, rules: &[ParserRule<NumberedAtom>]) -> Result<Sequence<Text>, AllocError>
+    ensures { IfOk result (λ names. names ≡ map (λ rule. rule.name) rules.now) }
+{
+    let mut names = Vec::new(alloc);
+    for rule in rules {
+        names.push(Text::copy_of(alloc, rule.name.as_str())?)?;
+    }
+    Ok(Sequence::new(names))
+}
+
+/// The numbered grammar with its network from this start rule, or the first fault of that.
+pub fn lay(alloc: Global, grammar: Numbered, start: &str) -> Result<Interpreter, CheckError>
+    requires { CanBeBuilt grammar }
+    ensures laid { IsAnswerOf (Lays start.now grammar) result }
+    ensures usable { IfOk result IsUsable }
+{
+    let Numbered {
+        rules,
+        shown,
+        token_rules,
+    } = grammar;
+    let names = names_of(alloc, rules.as_slice())?;
+    let stage = Resolving {
+        names,
+        predicates: Sequence::new(Vec::new(alloc)),
+    };
+    let steps = resolve(alloc, &stage, rules.into_vec())?;
+    let net = match build(alloc, steps.as_slice(), start) {
+        Ok(net) => net,
+        Err(fault) => return Err(not_built(alloc, start, fault)?),
+    };
+    let Resolving { names, .. } = stage;
+    Ok(Interpreter {
+        names,
+        shown,
+        token_rules,
+        net,
+    })
+}
+
+/// What parses with the numbered grammar from this start rule, or the first fault of its networks.
+fn interpret(alloc: Global, grammar: Numbered, start: &str) -> Result<Interpreter, CheckError>
+    requires { CanBeBuilt grammar }
+    ensures interpreting { IsAnswerOf (FromGrammar start.now grammar) result }
+    ensures usable { IfOk result IsUsable }
+{
+    let laid = lay(alloc, grammar, start)?;
+    if !lexer_network_fits(laid.token_rules.as_slice()) {
+        return Err(CheckError::Fault(GrammarFault::States));
+    }
+    Ok(laid)
+}
+
+/// What parses from this start rule with the grammar in the file of this name.
+///
+/// # Errors
+/// The file is absent or too large, the first fault of the grammar or of its networks, a fetch that failed, or no memory.
+pub fn build_interpreter<S: Shelf>(
+    alloc: Global,
+    shelf: &mut S,
+    name: &str,
+    start: &str,
+) -> Result<Interpreter, Halt>
+    ensures keeps { S.told shelf.new ≡ S.told shelf.old }
+    ensures content { (files : Files) → S.told shelf.old ≡ Some files
+        → GivesOrHalts (Builds files name.now start.now (name.now ∷ [])) result }
+    ensures usable { IfOk result IsUsable }
+    ensures counts { Counts ⊥ (S.faults shelf.old) (S.faults shelf.new) (S.misses shelf.old) (S.misses shelf.new) result }
+{
+    let grammar = load(alloc, shelf, name)?;
+    match interpret(alloc, grammar, start) {
+        Ok(interpreter) => Ok(interpreter),
+        Err(CheckError::Fault(fault)) => Err(Halt::Stop(fault_of(alloc, name, fault)?)),
+        Err(CheckError::NoMemory) => Err(Halt::NoMemory),
+    }
+}

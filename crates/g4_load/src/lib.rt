@@ -1,0 +1,20 @@
+// Grammars by the names of their files: read, numbered and checked; with the networks of their rules, to parse with or to list.
+#![tactic(auto)]
+
+mod fault;
+#[cfg(test)]
+mod grammar_tests;
+mod interpreter;
+mod law;
+mod listing;
+mod loading;
+mod stop;
+#[cfg(test)]
+mod tests;
+
+pub use fault::GrammarFault;
+pub use interpreter::{Interpreter, build_interpreter};
+pub use law::{one_built, one_listed, one_loaded};
+pub use listing::list_named;
+pub use loading::load;
+pub use stop::{Halt, Stop};

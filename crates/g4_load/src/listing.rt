@@ -1,0 +1,76 @@
+// The listing of a rule of the grammar in a file.
+ghost use Rattle.std.specs.Prelude.{◌≡◌, IfOk, Some, ◌∷◌, []};
+ghost use Rattle.g4_net.specs.AddedRule.{IsReady};
+ghost use Rattle.g4_load.specs.Counting.{Counts};
+ghost use Rattle.g4_load.specs.Files.{Files};
+ghost use Rattle.g4_load.specs.Listing.{FromRule, IsStartListing, IsStartRule, Lists};
+ghost use Rattle.g4_load.specs.Stages.{GivesOrHalts, IsAnswerOf};
+ghost use Rattle.g4_load.specs.Usable.{CanBeBuilt, IsUsable};
+
+use crate::fault::CheckError;
+use crate::interpreter::{Interpreter, lay};
+use crate::loading::load;
+use crate::stop::{Halt, fault_of};
+use g4_base::Octets;
+use g4_grammar::Numbered;
+use g4_net::{ParserNetwork, State};
+use g4_netlist::list_rule;
+use g4_ports::Shelf;
+use std::alloc::{AllocError, Global};
+
+/// The rule that the added rule calls.
+fn start_rule(net: &ParserNetwork) -> u32
+    requires { IsReady net.now }
+    ensures { IsStartRule net.now result }
+{
+    match net.states.as_slice().first() {
+        Some(State::Call { rule, .. }) => *rule,
+        _ => 0,
+    }
+}
+
+/// The listing of the start rule.
+fn list_start(alloc: Global, interpreter: &Interpreter) -> Result<Octets, AllocError>
+    requires { IsUsable interpreter.now }
+    ensures { IfOk result (IsStartListing interpreter.now) }
+{
+    let rule = start_rule(&interpreter.net);
+    let names = interpreter.names.as_slice();
+    let shown = interpreter.shown.as_slice();
+    let listing = list_rule(alloc, names, shown, &interpreter.net, rule)?;
+    Ok(listing)
+}
+
+/// The listing of the rule of this name of a numbered grammar.
+fn list_from(alloc: Global, grammar: Numbered, rule: &str) -> Result<Octets, CheckError>
+    requires { CanBeBuilt grammar }
+    ensures { IsAnswerOf (FromRule rule.now grammar) result }
+{
+    let laid = lay(alloc, grammar, rule)?;
+    let listing = list_start(alloc, &laid)?;
+    Ok(listing)
+}
+
+/// The listing of the rule of this name of the grammar in the file of this name: the states of the rule in the network of which
+/// it is the start rule.
+///
+/// # Errors
+/// The file is absent or too large, the first fault of the grammar or of its network, a fetch that failed, or no memory.
+pub fn list_named<S: Shelf>(
+    alloc: Global,
+    shelf: &mut S,
+    name: &str,
+    rule: &str,
+) -> Result<Octets, Halt>
+    ensures keeps { S.told shelf.new ≡ S.told shelf.old }
+    ensures content { (files : Files) → S.told shelf.old ≡ Some files
+        → GivesOrHalts (Lists files name.now rule.now (name.now ∷ [])) result }
+    ensures counts { Counts ⊥ (S.faults shelf.old) (S.faults shelf.new) (S.misses shelf.old) (S.misses shelf.new) result }
+{
+    let grammar = load(alloc, shelf, name)?;
+    match list_from(alloc, grammar, rule) {
+        Ok(listing) => Ok(listing),
+        Err(CheckError::Fault(fault)) => Err(Halt::Stop(fault_of(alloc, name, fault)?)),
+        Err(CheckError::NoMemory) => Err(Halt::NoMemory),
+    }
+}

@@ -1,0 +1,66 @@
+// From the file of a grammar to its rules, numbered and checked.
+ghost use Rattle.std.specs.Prelude.{◌≡◌, ◌≤◌, IfOk, Some, length, ◌∷◌, []};
+ghost use Rattle.g4_load.specs.Counting.{Counts};
+ghost use Rattle.g4_load.specs.Files.{Files};
+ghost use Rattle.g4_load.specs.Loading.{Fetches, IsGrammarIn, Loads};
+ghost use Rattle.g4_load.specs.Stages.{GivesOrHalts, IsAnswerOf};
+ghost use Rattle.g4_load.specs.Usable.{CanBeBuilt};
+
+use crate::fault::CheckError;
+use crate::stop::{Halt, Stop, fault_of};
+use g4_base::{MOST_BYTES, Octets, Text};
+use g4_checks::check;
+use g4_forms::check_forms;
+use g4_grammar::Numbered;
+use g4_ports::{Got, Shelf};
+use g4_reader::read_grammar;
+use g4_vocab::{check_names, number};
+use std::alloc::Global;
+
+/// The bytes of a grammar file.
+fn fetch_grammar<S: Shelf>(alloc: Global, shelf: &mut S, name: &str) -> Result<Octets, Halt>
+    ensures keeps { S.told shelf.new ≡ S.told shelf.old }
+    ensures content { (files : Files) → S.told shelf.old ≡ Some files → GivesOrHalts (Fetches files name.now) result }
+    ensures small { IfOk result (λ bytes. length bytes ≤ MOST_BYTES) }
+    ensures counts { Counts ⊥ (S.faults shelf.old) (S.faults shelf.new) (S.misses shelf.old) (S.misses shelf.new) result }
+{
+    match shelf.fetch(alloc, name) {
+        Got::Bytes(bytes) => Ok(bytes),
+        Got::Absent => Err(Halt::Stop(Stop::Absent(Text::copy_of(alloc, name)?))),
+        Got::TooLarge(size) => Err(Halt::Stop(Stop::TooLarge(Text::copy_of(alloc, name)?, size))),
+        Got::Failed => Err(Halt::Failed),
+        Got::NoMemory => Err(Halt::NoMemory),
+    }
+}
+
+/// The grammar that these bytes are.
+fn read_and_check(alloc: Global, bytes: &[u8]) -> Result<Numbered, CheckError>
+    requires { length bytes.now ≤ MOST_BYTES }
+    ensures grammar { IsAnswerOf (IsGrammarIn bytes.now) result }
+    ensures checked { IfOk result CanBeBuilt }
+{
+    let source = read_grammar(alloc, bytes)?;
+    check_forms(alloc, &source)?;
+    check_names(alloc, &source)?;
+    let grammar = number(alloc, &source)?;
+    check(alloc, &source)?;
+    Ok(grammar)
+}
+
+/// The numbered grammar in the file of this name, whose rules are checked.
+///
+/// # Errors
+/// The file is absent or too large, the first fault of the grammar, a fetch that failed, or no memory.
+pub fn load<S: Shelf>(alloc: Global, shelf: &mut S, name: &str) -> Result<Numbered, Halt>
+    ensures keeps { S.told shelf.new ≡ S.told shelf.old }
+    ensures content { (files : Files) → S.told shelf.old ≡ Some files → GivesOrHalts (Loads files name.now (name.now ∷ [])) result }
+    ensures checked { IfOk result CanBeBuilt }
+    ensures counts { Counts ⊥ (S.faults shelf.old) (S.faults shelf.new) (S.misses shelf.old) (S.misses shelf.new) result }
+{
+    let bytes = fetch_grammar(alloc, shelf, name)?;
+    match read_and_check(alloc, bytes.as_slice()) {
+        Ok(grammar) => Ok(grammar),
+        Err(CheckError::Fault(fault)) => Err(Halt::Stop(fault_of(alloc, name, fault)?)),
+        Err(CheckError::NoMemory) => Err(Halt::NoMemory),
+    }
+}

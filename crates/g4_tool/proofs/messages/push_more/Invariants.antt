@@ -1,6 +1,0 @@
-use Rattle.std.proofs.Common.{◌≡◌, ◌++◌, drop}
-use Rattle.g4_tool.specs.Texts.{more_symbols}
-use Rattle.g4_tool.proofs.messages.push_more.Given as goal
-
-abbrev pub invariant-loop-symbol : goal.invariant-loop-symbol
-invariant-loop-symbol l = l.out.items ++ more_symbols l.types (drop l.symbol-index l.symbols) ≡ l.initial.out.items ++ more_symbols l.types l.symbols
