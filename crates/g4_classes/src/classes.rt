@@ -3,7 +3,7 @@ ghost use Rattle.std.specs.Prelude.{◌≡◌, ◌<◌, All, IfOk, length, map};
 ghost use Rattle.g4_classes.specs.Classes.{AreClassesOf};
 ghost use Rattle.g4_classes.specs.Indices.{class_in, symbol_at as symbol_in};
 
-use crate::index::{index_of, symbol_at};
+use crate::index::{SYMBOL_COUNT, index_of, symbol_at};
 use crate::partition::Partition;
 use g4_net::ParserNetwork;
 use std::alloc::{AllocError, Global};
@@ -18,12 +18,13 @@ pub struct Classes {
 
 impl Model for Classes {
     ghost use Rattle.std.specs.Prelude.{◌≡◌, List, length, ℕ};
+    ghost use Rattle.g4_classes.specs.declared.index.TheConstants.{SYMBOL_COUNT};
 
     ghost Value = { List ℕ };
 
     ghost view = { λ c. c.classes.items };
 
-    ghost invariant = { λ c. length c.classes.items ≡ 4098 };
+    ghost invariant = { λ c. length c.classes.items ≡ SYMBOL_COUNT };
 }
 
 impl Classes {
@@ -41,8 +42,8 @@ impl Classes {
 
 /// The classes that are named by these symbols, given by index.
 fn named(alloc: Global, least: &[usize]) -> Result<Classes, AllocError>
-    requires count { length least.now ≡ 4098 }
-    requires within { All (λ index. index < 4098) least.now }
+    requires count { length least.now ≡ SYMBOL_COUNT }
+    requires within { All (λ index. index < SYMBOL_COUNT) least.now }
     ensures { IfOk result (λ classes. classes ≡ map symbol_in least.now) }
 {
     let classes = least.iter().map(|index| symbol_at(*index)).collect(alloc)?;

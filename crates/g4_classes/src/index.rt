@@ -4,7 +4,13 @@ ghost use Rattle.g4_classes.specs.Indices.{index_of as index_in, symbol_at as sy
 
 use g4_symbols::{END, EOF, MOST_TYPES};
 
-/// How many symbols there are: the token types, `EOF` and `END`.
+/// The index of `EOF`, after those of the token types.
+const EOF_INDEX: usize = 4_096;
+
+/// The index of `END`, the last one.
+const END_INDEX: usize = 4_097;
+
+/// How many symbols there are.
 pub(crate) const SYMBOL_COUNT: usize = 4_098;
 
 /// The index of a symbol, if the number is one: symbols are in order.
@@ -13,8 +19,8 @@ pub(crate) fn index_of(symbol: u32) -> Option<usize>
 {
     match symbol {
         1..=MOST_TYPES => Some(symbol as usize - 1),
-        EOF => Some(4_096),
-        END => Some(4_097),
+        EOF => Some(EOF_INDEX),
+        END => Some(END_INDEX),
         _ => None,
     }
 }
@@ -25,8 +31,8 @@ pub(crate) fn symbol_at(index: usize) -> u32
     ensures { result ≡ symbol_in index }
 {
     match index {
-        4_096 => EOF,
-        4_097 => END,
+        EOF_INDEX => EOF,
+        END_INDEX => END,
         _ => index as u32 + 1,
     }
 }

@@ -1,6 +1,7 @@
 // A partition of all symbols that is refined by one set of symbols after another.
 ghost use Rattle.std.specs.Prelude.{◌≡◌, ◌<◌, ◌≤◌, ◌++◌, [], ◌∷◌, All, IfOk, List, OnOk, length, replicate, slice_index, ℕ};
 ghost use Rattle.g4_classes.specs.Blocks.{AreLeast};
+ghost use Rattle.g4_classes.specs.declared.index.TheConstants.{SYMBOL_COUNT};
 ghost use Rattle.g4_classes.specs.Partitions.{Divides, IsDividing, IsPartition, IsTarget, read_by};
 
 use crate::index::{SYMBOL_COUNT, index_of};
@@ -26,7 +27,7 @@ pub(crate) struct Partition {
     blocks: Vec<usize>,
     /// For each block the one to which members of it have moved last.
     moved: Vec<usize>,
-    ghost count: { length blocks.items ≡ 4098 },
+    ghost count: { length blocks.items ≡ SYMBOL_COUNT },
     ghost blocks_within: { All (λ block. block < length moved.items) blocks.items },
     ghost moved_within: { All (λ block. block < length moved.items) moved.items },
 }
