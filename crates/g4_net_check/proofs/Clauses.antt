@@ -105,13 +105,6 @@ adds_this head these before after clause pushed same is h needs =
 abbrev pub EdgeNeeds : List ℕ → List ℕ → Type 0
 EdgeNeeds targets needs = (t : ℕ) × Contains targets t × (needs ≡ t ∷ [])
 
--- no edge
-pub adds_none : (head : ℕ) (targets : List ℕ) (clauses : List Clause) → targets ≡ [] → AddsClauses head (EdgeNeeds targets) clauses clauses
-adds_none head targets clauses none h needs = (
-  λ has. inl has,
-  λ some. elim some [ inl old ↦ old | inr (same, (t, has, is)) ↦ absurd (in_nothing t (subst (λ (l : List ℕ). Contains l t) none has)) ],
-)
-
 -- one more edge
 pub adds_edge : (head t : ℕ) (some more : List ℕ) (before mid after : List Clause) (clause : Clause) → more ≡ some ++ t ∷ [] → after ≡ mid ++ clause ∷ [] → clause.head ≡ head → clause.needs.items ≡ t ∷ [] → AddsClauses head (EdgeNeeds some) before mid → AddsClauses head (EdgeNeeds more) before after
 adds_edge head t some more before mid after clause longer pushed same is adds h needs = (to, from)

@@ -10,7 +10,7 @@ use Rattle.g4_net.specs.declared.network.State.{State}
 use Rattle.g4_net.specs.declared.network.State.TheVariants.{Call}
 use Rattle.g4_net.specs.Network.{IsReturn}
 use Rattle.g4_net_check.specs.Callers.{HasReturn}
-use Rattle.g4_net_check.proofs.Lists.{in_nothing, added_to}
+use Rattle.g4_net_check.proofs.Lists.{added_to}
 
 -- one of the first states calls the rule and returns to t
 abbrev pub ReturnsBefore : {L : Type 0} → List (State L) → ℕ → ℕ → ℕ → Type 0
@@ -22,15 +22,6 @@ pub record AreReturns {L : Type 0} (states : List (State L)) (rules i : ℕ) (li
   pub returns : (rule t : ℕ) → EdgeOf lists rule t ↔ ReturnsBefore states i rule t
 
 module _ {L : Type 0} (states : List (State L)) (rules : ℕ) where
-  pub no_returns : (lists : Graph) → length lists ≡ rules → ((k : ℕ) → successors_of lists k ≡ []) → AreReturns states rules 0 lists
-  no_returns lists size none = record {
-    size = size;
-    returns = λ rule t. (
-      λ e. absurd (in_nothing t (subst (λ (l : List ℕ). Contains l t) (none rule) e)),
-      λ (p, level, less, at). absurd (omega (arith, less)),
-    );
-  }
-
   -- a state that calls nothing
   pub returns_other : (i : ℕ) (s : State L) (lists : Graph) → slice_get states i ≡ Some s → ((rule level back : ℕ) → s ≡ Call rule level back → ⊥) → AreReturns states rules i lists → AreReturns states rules (i + 1) lists
   returns_other i s lists here other are = record {

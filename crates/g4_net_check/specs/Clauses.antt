@@ -16,7 +16,7 @@ NeedsOf s needs = (t : ℕ) × Contains (epsilon_targets s) t × (needs ≡ t �
 abbrev pub HasClause : List Clause → ℕ → List ℕ → Type 0
 HasClause clauses head needs = (clause : Clause) × Contains clauses clause × (clause.head ≡ head) × (clause.needs.items ≡ needs)
 
--- the clauses added have this head, and such needs each
+-- the clauses after are those before and, for each list of such needs, one with this head
 abbrev pub AddsClauses : ℕ → (List ℕ → Type 0) → List Clause → List Clause → Type 0
 AddsClauses head Needs before after = (h : ℕ) (needs : List ℕ) → HasClause after h needs ↔ (HasClause before h needs ⊎ ((h ≡ head) × Needs needs))
 
