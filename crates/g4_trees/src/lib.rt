@@ -1,0 +1,15 @@
+// Trees: what they are, their text, their events, their nodes and the places of these.
+#![tactic(auto)]
+
+mod events;
+mod law;
+mod nodes;
+#[cfg(test)]
+mod tests;
+mod text;
+mod tree;
+
+pub use events::{Event, push_event};
+pub use law::one_tree;
+pub use text::{push_shown_bytes, push_token};
+pub use tree::{Item, Tree};
