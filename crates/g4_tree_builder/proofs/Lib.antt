@@ -1,0 +1,6 @@
+mod Forests
+mod Entries
+mod Standing
+mod Unwound
+mod Steps
+mod Places

@@ -1,0 +1,9 @@
+// A tree that grows in order of the text, at a cost that does not depend on how much of it there is.
+#![tactic(auto)]
+
+mod builder;
+#[cfg(test)]
+mod tests;
+mod unwinding;
+
+pub use builder::TreeBuilder;
