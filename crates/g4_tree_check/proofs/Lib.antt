@@ -1,0 +1,13 @@
+mod Bodies
+mod Counting
+mod Derivations
+mod Growing
+mod Members
+mod Nodes
+mod Outcomes
+mod Reached
+mod Reading
+mod Rest
+mod Shifts
+mod Stacks
+mod Words

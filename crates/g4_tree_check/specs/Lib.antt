@@ -1,0 +1,4 @@
+pub mod Children
+pub mod Marks
+pub mod Standing
+pub mod TreesOf

@@ -1,0 +1,13 @@
+// Whether a tree is one of a grammar over a list of tokens.
+#![tactic(auto)]
+
+mod check;
+mod child;
+mod ending;
+mod matching;
+mod shifting;
+mod standing;
+#[cfg(test)]
+mod tests;
+
+pub use check::check_tree;
