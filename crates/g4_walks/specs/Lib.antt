@@ -1,0 +1,3 @@
+pub mod Alternatives
+pub mod Letters
+pub mod Walks
