@@ -1,0 +1,6 @@
+mod Examples
+mod LastCalls
+mod Levels
+mod Lists
+mod Parts
+mod Steps

@@ -1,0 +1,79 @@
+-- The rewritten rules. Of n alternatives of a left-recursive rule e, alternative i has the precedence p = n - i + 1, and
+--
+--   e x e   becomes the operator   level p, x, e at level p + 1, or at level p where it is right associative
+--   e x     becomes the operator   level p, x
+--   x e     becomes the primary    x, e at level p
+--   x       stays a primary
+--
+-- where actions and predicates that follow the last e stay after it.
+use Rattle.std.specs.Prelude.{ℕ, ◌+◌, ◌-◌, List, map, Bool, cond, Option, Some, None, length}
+use Rattle.std.specs.List.{enumerate_from}
+use Rattle.g4_elements.specs.Elements.{atom, Elements, then}
+use Rattle.g4_elements.specs.Marks.{onto}
+use Rattle.g4_source.specs.declared.rule.RuleAlternative.{RuleAlternative}
+use Rattle.g4_grammar.specs.declared.step.Step.{Step}
+use Rattle.g4_grammar.specs.declared.step.Step.TheVariants.{Call, Level}
+use Rattle.g4_grammar.specs.StepRules.{StepRule}
+use Rattle.g4_leftrec.specs.declared.form.NumberedAlternative.{NumberedAlternative}
+use Rattle.g4_leftrec.specs.declared.form.RuleForm.{RuleForm}
+use Rattle.g4_leftrec.specs.declared.form.RuleForm.TheVariants.{AsWritten, LeftRecursive}
+use Rattle.g4_leftrec.specs.declared.form.FormedRule.{FormedRule}
+use Rattle.g4_leftrec.specs.OwnCalls.{LastSelf, Part, before_self, is_left_recursive, operators, primaries}
+use Rattle.g4_leftrec.specs.OwnSteps.{calls, is_silent}
+
+-- the atoms of a rule of a parser
+abbrev pub StepIn : Type 0
+StepIn = Step (List ℕ)
+
+-- an alternative of the rule, as it is written
+abbrev pub Written : Type 0
+Written = RuleAlternative StepIn
+
+-- the precedence of alternative i of n: the first has the highest, and the last has 1
+abbrev pub precedence : ℕ → ℕ → ℕ
+precedence n i = n + 1 - i
+
+-- the level of the right operand of an operator of this precedence: operators of the same precedence can be in it where it is right
+-- associative
+abbrev pub operand_level : ℕ → Bool → ℕ
+operand_level p right = cond right p (p + 1)
+
+-- rule k at this level, in its place among the elements
+abbrev pub last_at : ℕ → ℕ → Elements StepIn → Option (LastSelf StepIn) → Elements StepIn
+last_at k level xs None = xs
+last_at k level xs (Some last) = onto last.before (then (atom (Call k level)) last.trailing)
+
+-- the elements with rule k at this level, where it is the last of them
+abbrev pub with_last_at : ℕ → ℕ → Elements StepIn → Elements StepIn
+with_last_at k level xs = last_at k level xs (before_self (calls k) is_silent xs)
+
+-- the elements of an operator of rule k of this precedence, given what follows the rule itself
+abbrev pub operator_elements : ℕ → ℕ → Bool → Elements StepIn → Elements StepIn
+operator_elements k p right rest = then (atom (Level p)) (with_last_at k (operand_level p right) rest)
+
+-- an operator of rule k, which has n alternatives
+abbrev pub operator_form : ℕ → ℕ → Part StepIn → NumberedAlternative StepIn
+operator_form k n x = record { number = x.number; elements = operator_elements k (precedence n x.number) x.right x.elements }
+
+-- a primary
+abbrev pub primary_form : ℕ → ℕ → Part StepIn → NumberedAlternative StepIn
+primary_form k n x = record { number = x.number; elements = with_last_at k (precedence n x.number) x.elements }
+
+-- the operators of rule k of these alternatives, and the primaries
+abbrev pub operator_forms : ℕ → List Written → List (NumberedAlternative StepIn)
+operator_forms k alternatives = map (operator_form k (length alternatives)) (operators (calls k) alternatives)
+
+abbrev pub primary_forms : ℕ → List Written → List (NumberedAlternative StepIn)
+primary_forms k alternatives = map (primary_form k (length alternatives)) (primaries (calls k) alternatives)
+
+-- the form of rule k of these alternatives
+abbrev pub form_of : ℕ → List Written → RuleForm StepIn
+form_of k alternatives = cond (is_left_recursive (calls k) alternatives) (LeftRecursive (primary_forms k alternatives) (operator_forms k alternatives)) (AsWritten (map (λ a. a.elements) alternatives))
+
+-- a rule with its number in the form in which it is laid
+abbrev pub formed : ℕ × StepRule → FormedRule StepIn
+formed x = record { name = x.1.name; form = form_of x.0 x.1.alternatives }
+
+-- the rules, which count from 1, in the forms in which they are laid
+abbrev pub rewritten : List StepRule → List (FormedRule StepIn)
+rewritten rules = map formed (enumerate_from 1 rules)
