@@ -101,11 +101,11 @@ module _ (start : List ℕ) (grammar : Numbered) where
   build_exit steps e same is = stage_exit (GivesNetwork (steps_of grammar) start) (of_build start) (λ net result. result ≡ Ok (interpreter_of grammar net)) e (subst (λ (rs : List StepRule). GivesNetwork rs start (Err e)) same is)
 
   -- the grammar and its network
-  pub laid : (steps : List StepRule) (net : ParserNetwork) (names : List (List ℕ)) → steps ≡ steps_of grammar → GivesNetwork steps start (Ok net) → names ≡ names_of grammar →
-      Lays start grammar (Ok (record { names = names; shown = grammar.shown; token_rules = grammar.token_rules; net = net }))
-  laid steps net names same built named =
-      goes_on net (Ok (record { names = names; shown = grammar.shown; token_rules = grammar.token_rules; net = net })) (subst (λ (rs : List StepRule). GivesNetwork rs start (Ok net)) same built)
-      (ap (λ (n : List (List ℕ)). Ok (record { names = n; shown = grammar.shown; token_rules = grammar.token_rules; net = net })) named)
+  pub laid : (steps rules : List StepRule) (net : ParserNetwork) (names : List (List ℕ)) → steps ≡ steps_of grammar → rules ≡ steps_of grammar → GivesNetwork steps start (Ok net) → names ≡ names_of grammar →
+      Lays start grammar (Ok (record { names = names; rules = rules; shown = grammar.shown; token_rules = grammar.token_rules; net = net }))
+  laid steps rules net names same kept built named =
+      goes_on net (Ok (record { names = names; rules = rules; shown = grammar.shown; token_rules = grammar.token_rules; net = net })) (subst (λ (rs : List StepRule). GivesNetwork rs start (Ok net)) same built)
+      (ap (λ (n : List (List ℕ)). Ok (record { names = n; rules = rules; shown = grammar.shown; token_rules = grammar.token_rules; net = net })) named ∙ ap (λ (rs : List StepRule). Ok (record { names = names_of grammar; rules = rs; shown = grammar.shown; token_rules = grammar.token_rules; net = net })) kept)
 
 -- a stage that stops, stops what follows it
 pub stage_stops : {X Y : Type 0} (Stage : Result X GrammarFault → Type 0) (Second : X → Result Y GrammarFault → Type 0) (error : CheckError) → IsErrorOf Stage error → IsErrorOf (Then Stage Second) error

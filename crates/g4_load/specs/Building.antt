@@ -24,9 +24,9 @@ names_of grammar = map (λ rule. rule.name) grammar.rules
 abbrev pub steps_of : Numbered → List StepRule
 steps_of grammar = map (resolved_rule (names_of grammar) []) grammar.rules
 
--- a grammar with the network of its rules
+-- a grammar with its rules and their network
 abbrev pub interpreter_of : Numbered → ParserNetwork → Interpreter
-interpreter_of grammar net = record { names = names_of grammar; shown = grammar.shown; token_rules = grammar.token_rules; net = net }
+interpreter_of grammar net = record { names = names_of grammar; rules = steps_of grammar; shown = grammar.shown; token_rules = grammar.token_rules; net = net }
 
 -- the grammar with its network from the start rule, or the first fault of that
 abbrev pub Lays : List ℕ → Numbered → Result Interpreter GrammarFault → Type 0

@@ -11,7 +11,7 @@ use crate::loading::load;
 use crate::stop::{Halt, fault_of};
 use g4_base::{Sequence, Text};
 use g4_build::{build, lexer_network_fits};
-use g4_grammar::{Numbered, NumberedAtom, TokenRule};
+use g4_grammar::{Numbered, NumberedAtom, StepRule, TokenRule};
 use g4_net::ParserNetwork;
 use g4_ports::Shelf;
 use g4_resolve::{Resolving, resolve};
@@ -23,6 +23,8 @@ use std::alloc::{AllocError, Global};
 pub struct Interpreter {
     /// The names of the parser rules, which count from 1.
     pub names: Sequence<Text>,
+    /// The parser rules, with what their atoms are in a network.
+    pub rules: Sequence<StepRule>,
     /// What is shown of each token type from 1 on.
     pub shown: Sequence<Text>,
     /// What the lexer matches, the rules that win a tie first.
@@ -65,6 +67,7 @@ pub fn lay(alloc: Global, grammar: Numbered, start: &str) -> Result<Interpreter,
     let Resolving { names, .. } = stage;
     Ok(Interpreter {
         names,
+        rules: Sequence::new(steps),
         shown,
         token_rules,
         net,

@@ -1,7 +1,13 @@
-mod Flat
+pub mod Fitting
+mod Forests
+mod Grown
 mod Measure
+mod MoreWords
 pub mod OneEnding
+mod OneTree
 mod Onward
+mod OpenRules
+mod Parts
 mod Stages
 mod Turns
 mod Words

@@ -1,14 +1,13 @@
 -- A number that falls with every step of a run: the tokens left, and how far the moment can go on without one.
 use Rattle.std.proofs.Common.{◌≡◌, ◌+◌, ◌*◌, ◌-◌, ◌<◌, ◌∷◌, [], ℕ, suc, List, length, refl, sym, ◌∙◌, ap, subst, arith}
-use Rattle.std.specs.Prelude.{Option, Some, None, slice_get}
-use Rattle.std.specs.List.{Contains}
+use Rattle.std.specs.Prelude.{Option, Some, None}
 use Rattle.std.proofs.Math.ListN.{length-map}
 use Rattle.std.proofs.Math.Nat.{suc-mul}
-use Rattle.std.proofs.lemmas.Option.{slice_get_within, get_or_from_slice_get}
+use Rattle.std.proofs.lemmas.Option.{slice_get_within}
 use Rattle.g4_net.specs.declared.network.State.{State}
 use Rattle.g4_net.specs.declared.network.State.TheVariants.{Decision, End, Edge, Call, Predicate, Level, Action, Empty}
-use Rattle.g4_net.specs.Configurations.{Config, config, above_bottom, at}
-use Rattle.g4_net.specs.Network.{ParserNetwork, state_at, start_of, IsFirst}
+use Rattle.g4_net.specs.Configurations.{Config, config, above_bottom}
+use Rattle.g4_net.specs.Network.{ParserNetwork, state_at, start_of}
 use Rattle.g4_net.specs.Leads.{LeadsBy, Leads, WellFormed}
 use Rattle.g4_net.specs.AddedRule.{IsRunnable}
 use Rattle.g4_token_list.specs.TokenList.{EndsInEnd}
@@ -16,8 +15,8 @@ use Rattle.g4_net.proofs.Ranks.{IsShort, size, rank, rank_small, rank_falls}
 use Rattle.g4_lookahead.proofs.Proper.{proper_within}
 use Rattle.g4_parse.specs.Running.{Frame, Run, deepest, no_predicates, GoesBy, Goes, ClosesBy, begun, node_of}
 use Rattle.g4_parse.specs.Standing.{backs}
-use Rattle.g4_parse.proofs.Flat.{state_more, place_more}
-use Rattle.g4_parse.proofs.Stages.{Stage, advances, backs_alt, backs_more}
+use Rattle.g4_parse.proofs.Grown.{state_child, place_child}
+use Rattle.g4_parse.proofs.Stages.{Stage, first_in, advances, backs_alt, backs_child}
 
 -- where a run stands, as a configuration
 abbrev pub config_at : ℕ → List ℕ → Config
@@ -49,12 +48,12 @@ unfolding leads_to
 closing net word r ended [] s e is g = absurd g
 closing net word r ended (f ∷ fs) s e is g =
     let after : Run = record { state = f.back; place = r.place; frames = fs; tree = r.tree } in
-    let state : s.state ≡ f.back = ap (λ (x : Run). x.state) g ∙ state_more after fs (node_of f) in
-    let returns : backs s.frames ≡ backs fs = ap (λ (x : Run). backs x.frames) g ∙ backs_more after fs (node_of f) in
+    let state : s.state ≡ f.back = ap (λ (x : Run). x.state) g ∙ state_child after fs (node_of f) in
+    let returns : backs s.frames ≡ backs fs = ap (λ (x : Run). backs x.frames) g ∙ backs_child after fs (node_of f) in
     let to : config_at s.state (backs s.frames) ≡ config_at f.back (backs fs) = ap (λ (p : ℕ). config_at p (backs s.frames)) state ∙ ap (λ (bs : List ℕ). config_at f.back bs) returns in
     let from : config_at r.state (backs r.frames) ≡ config_at r.state (f.back ∷ backs fs) = ap (λ (gs : List Frame). config_at r.state (backs gs)) e in
     let step : Leads net (config_at r.state (f.back ∷ backs fs)) (config_at f.back (backs fs)) = subst (λ (o : Option (State (List ℕ))). LeadsBy net o (config_at r.state (f.back ∷ backs fs)) (config_at f.back (backs fs))) (sym is) refl in (
-      ap (λ (x : Run). x.place) g ∙ place_more after fs (node_of f),
+      ap (λ (x : Run). x.place) g ∙ place_child after fs (node_of f),
       subst (λ (c : Config). Leads net c (config_at s.state (backs s.frames))) (sym from) (subst (λ (d : Config). Leads net (config_at r.state (f.back ∷ backs fs)) d) (sym to) step),
     )
 
@@ -78,13 +77,7 @@ module _ {looped : List ℕ} (net : ParserNetwork) (rule loop : ℕ) (ready : Is
   unfolding leads_to measure_at
   falls_by r s None is h k g = absurd g
   falls_by r s (Some (Decision targets)) is h k (i, t, says, first, e) =
-      falls_along r s h (ap (λ (x : Run). x.place) e) (edge net r s t (Some (Decision targets)) is (t, first_in targets i t is first, refl) (ap (λ (x : Run). x.state) e) (ap (λ (x : Run). backs x.frames) e ∙ backs_alt (begun net t (state_at net t)) r.frames))
-    where
-      first_in : (targets : List ℕ) (i t : ℕ) → state_at net r.state ≡ Some (Decision targets) → IsFirst net r.state i t → Contains targets t
-      first_in targets i t is (us, k, at, has, num) =
-          let same : us ≡ targets = cc in
-          let got : slice_get targets k ≡ Some t = subst (λ (xs : List ℕ). slice_get xs k ≡ Some t) same has in
-          (k, slice_get_within targets k t got, get_or_from_slice_get targets k t t got)
+      falls_along r s h (ap (λ (x : Run). x.place) e) (edge net r s t (Some (Decision targets)) is (t, first_in net r.state i t targets is first, refl) (ap (λ (x : Run). x.state) e) (ap (λ (x : Run). backs x.frames) e ∙ backs_alt (begun net t (state_at net t)) r.frames))
   falls_by r s (Some (End ended)) is h k g = let c = closing net word r ended r.frames s refl is g in falls_along r s h c.0 c.1
   falls_by r s (Some (Edge set t)) is h k (a, next, has, e) =
       let place : s.place ≡ r.place + 1 = ap (λ (x : Run). x.place) e in

@@ -1,10 +1,11 @@
 -- A run has at most one ending.
-use Rattle.std.proofs.Common.{◌≡◌, ℕ, List, [], ◌∷◌, Option, Some, None, Contains, sym, ◌∙◌, subst, arith}
+use Rattle.std.proofs.Common.{◌≡◌, ℕ, List, [], ◌∷◌, Option, Some, None, Contains, sym, ◌∙◌, ap, subst, arith}
 use Rattle.g4_net.specs.declared.network.State.{State}
 use Rattle.g4_net.specs.declared.network.State.TheVariants.{Decision, End, Edge, Call, Predicate, Level, Action, Empty}
 use Rattle.g4_net.specs.Network.{ParserNetwork, state_at, IsFirst}
 use Rattle.g4_net.specs.Prediction.{Choice, chosen, no_viable}
-use Rattle.g4_parse.specs.Running.{Frame, Run, Ending, Values, ClosesBy, GoesBy, StopsBy, Predicts, Runs, stops, goes}
+use Rattle.g4_parse.specs.Running.{Frame, Run, Ending, Values, parsed, ClosesBy, GoesBy, StopsBy, Predicts, Runs, stops, goes}
+use Rattle.g4_trees.specs.Trees.{only}
 use Rattle.g4_lookahead.proofs.OneChoice.{one_first, one_choice}
 
 module _ (net : ParserNetwork) (values : Values) (word : List ℕ) where
@@ -44,7 +45,10 @@ module _ (net : ParserNetwork) (values : Values) (word : List ℕ) where
   stops_once (Some (Decision targets)) r a b (k, said, a_is) (l, said', b_is) =
       let same : no_viable k ≡ no_viable l = one_prediction r _ _ said said' in
       cc
-  stops_once (Some (End rule)) r a b p q = p.2 ∙ sym q.2
+  stops_once (Some (End rule)) r a b (_, _, (t, one, a_is)) (_, _, (u, other, b_is)) =
+      let same : only t ≡ only u = sym one ∙ other in
+      let tree : t ≡ u = cc in
+      a_is ∙ ap parsed tree ∙ sym b_is
   stops_once (Some (Edge set u)) r a b (x, _, _, a_is) (y, _, _, b_is) = a_is ∙ sym b_is
   stops_once (Some (Call rule level back)) r a b p q = p.1 ∙ sym q.1
   stops_once (Some (Predicate k u)) r a b p q = p.1 ∙ sym q.1

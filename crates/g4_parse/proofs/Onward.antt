@@ -1,5 +1,5 @@
 -- From the run's beginning to where the parser stands.
-use Rattle.std.proofs.Common.{◌≡◌, ◌<◌, [], ℕ, List, length, reverse, refl, sym, ◌∙◌, ap, subst, arith}
+use Rattle.std.proofs.Common.{◌≡◌, ◌<◌, [], ℕ, List, length, reverse, refl, sym, ◌∙◌, ap, subst, arith, append-nil}
 use Rattle.std.specs.Prelude.{Option, Some, Result, Ok, Err, IsErrAnd}
 use Rattle.g4_net.specs.declared.network.State.{State}
 use Rattle.g4_net.specs.declared.network.State.TheVariants.{End}
@@ -7,14 +7,17 @@ use Rattle.g4_token_list.specs.declared.token.Token.{Token}
 use Rattle.g4_net.specs.Network.{ParserNetwork, state_at}
 use Rattle.g4_net.specs.AddedRule.{IsRunnable}
 use Rattle.g4_token_list.specs.TokenList.{word_of, EndsInEnd}
-use Rattle.g4_parse.specs.declared.tree.Item.{Item}
+use Rattle.g4_trees.specs.declared.tree.Item.{Item}
+use Rattle.g4_trees.specs.Trees.{Tree, Forest, only, items_of, items_of_all}
+use Rattle.g4_tree_builder.specs.Kept.{HasGrown}
 use Rattle.g4_parse.specs.declared.parser.ParseFault.{ParseFault}
 use Rattle.g4_parse.specs.declared.parser.ParseFault.TheVariants.{NoViable, Mismatch, TooDeep, NoMemory}
 use Rattle.g4_parse.specs.declared.parser.Parser.{Parser}
 use Rattle.g4_parse.specs.Running.{Frame, Run, Ending, parsed, not_viable, mismatch, too_deep, beginning, no_predicates, StopsBy, Runs, stops, goes}
 use Rattle.g4_parse.specs.Parsing.{Ends, IsParseFault, IsParse}
-use Rattle.g4_parse.specs.Standing.{StandsFor, IsFitBy, IsFaultBy, IsTurnBy, IsUnderway, HasEnded, backs, flat}
-use Rattle.g4_parse.proofs.Flat.{reverse_returns}
+use Rattle.g4_parse.specs.Standing.{StandsFor, IsFitBy, IsFaultBy, IsTurnBy, IsUnderway, HasEnded, backs, grown}
+use Rattle.g4_parse.proofs.Grown.{reverse_returns}
+use Rattle.g4_parse.proofs.OneTree.{HasOneTree, one_tree_on, ended_tree}
 use Rattle.g4_parse.proofs.Measure.{measure_at, falls}
 use Rattle.g4_parse.proofs.Stages.{Stage, advances, fits, begins}
 use Rattle.g4_parse.proofs.Turns.{none_opened}
@@ -30,6 +33,7 @@ pub record Onward (net : ParserNetwork) (word : List ℕ) (p : Parser) : Type 0 
   pub run : Run
   pub stands : StandsFor p run
   pub stage : Stage net loop (length word) run
+  pub one : HasOneTree (backs run.frames) run.state run.tree
   pub onward : (e : Ending) → Runs net no_predicates word run e → Runs net no_predicates word beginning e
 
 -- the beginning
@@ -43,6 +47,7 @@ begun_onward net rule loop set word p ready ends stands = record {
   run = beginning;
   stands = stands;
   stage = begins net rule loop ready word ends;
+  one = (λ e. refl, λ n. absurd (n refl));
   onward = λ e runs. runs;
 }
 
@@ -67,6 +72,7 @@ turn_onward net word p q o turn =
       run = step.0;
       stands = step.2;
       stage = advances net o.rule o.loop o.ready word o.ends o.run step.0 o.stage step.1;
+      one = one_tree_on net o.rule o.loop o.ready (length word) word o.run step.0 o.stage step.1 o.one;
       onward = λ e runs. o.onward e (goes o.run step.0 e step.1 runs);
     }
 
@@ -91,15 +97,22 @@ fault_onward net word r NoMemory onward h = tt
 pub turn_fails : (net : ParserNetwork) (word : List ℕ) (p q : Parser) (fault : ParseFault) → Onward net word p → ((r : Run) → StandsFor p r → IsTurnBy net word (state_at net r.state) r q (Err fault)) → IsParseFault net word fault
 turn_fails net word p q fault o turn = fault_onward net word o.run fault o.onward (turn o.run o.stands)
 
--- at the end of the added rule the items are the tree
-pub ended_onward : (net : ParserNetwork) (word : List ℕ) (p : Parser) → Onward net word p → HasEnded net p → Ends net word (parsed p.items.items)
+-- at the end of the added rule there is one tree, which the parser has grown
+pub ended_onward : (net : ParserNetwork) (word : List ℕ) (p : Parser) → Onward net word p → HasEnded net p → (t : Tree) × Ends net word (parsed t) × HasGrown p.tree (record { nodes = []; trees = only t })
 ended_onward net word p o (none, (rule, at_end)) =
     let empty : o.run.frames ≡ [] = none_opened o.run.frames (sym o.stands.returns ∙ none) in
     let at_run : state_at net o.run.state ≡ Some (End rule) = ap (λ (n : ℕ). state_at net n) (sym o.stands.state) ∙ at_end in
     let fit : IsFitBy net (length word) (Some (End rule)) o.run = subst (λ (s : Option (State (List ℕ))). IsFitBy net (length word) s o.run) at_run (fits net o.rule o.loop o.ready word o.ends o.run o.stage) in
-    let stop : StopsBy net no_predicates word (state_at net o.run.state) o.run (parsed o.run.tree) = subst (λ (s : Option (State (List ℕ))). StopsBy net no_predicates word s o.run (parsed o.run.tree)) (sym at_run) (empty, fit empty, refl) in
-    let tree : p.items.items ≡ o.run.tree = o.stands.items ∙ ap (λ (fs : List Frame). flat fs o.run.tree) empty in
-    subst (λ (t : List Item). Ends net word (parsed t)) (sym tree) (o.onward (parsed o.run.tree) (stops o.run (parsed o.run.tree) stop))
+    let one = ended_tree net o.rule o.loop o.ready (length word) o.run rule empty at_run o.one in
+    let stop : StopsBy net no_predicates word (state_at net o.run.state) o.run (parsed one.0) = subst (λ (s : Option (State (List ℕ))). StopsBy net no_predicates word s o.run (parsed one.0)) (sym at_run) (empty, fit empty, (one.0, one.1, refl)) in
+    let tree : HasGrown p.tree (grown [] (only one.0)) = subst (λ (ts : Forest). HasGrown p.tree (grown [] ts)) one.1 (subst (λ (fs : List Frame). HasGrown p.tree (grown fs o.run.tree)) empty o.stands.tree) in
+    (one.0, o.onward (parsed one.0) (stops o.run (parsed one.0) stop), tree)
+
+-- the answer of a parser that has ended
+pub parse_ends : (net : ParserNetwork) (word : List ℕ) (p : Parser) (xs : List Item) → Onward net word p → HasEnded net p → ((trees : Forest) → HasGrown p.tree (record { nodes = []; trees = trees }) → xs ≡ items_of_all trees) → IsParse net word (Ok xs)
+parse_ends net word p xs o ended is =
+    let e = ended_onward net word p o ended in
+    (e.0, e.1, is (only e.0) e.2 ∙ append-nil (items_of e.0))
 
 -- an answer that is this fault
 pub parse_fails : (net : ParserNetwork) (word : List ℕ) (r : Result (List Item) ParseFault) (fault : ParseFault) → IsErrAnd r (λ e. e ≡ fault) → IsParseFault net word fault → IsParse net word r

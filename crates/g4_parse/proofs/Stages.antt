@@ -13,9 +13,10 @@ use Rattle.g4_net.specs.AddedRule.{IsRunnable}
 use Rattle.g4_net.specs.Proper.{start, IsProper, at_bottom}
 use Rattle.g4_lookahead.proofs.Proper.{IsStackFor, Inside, at_call, at_last, at_loop, at_turn, after_turn, at_end, after_end, inside_cases, stack_for, proper_within, proper_target, proper_call, proper_return}
 use Rattle.g4_token_list.specs.TokenList.{EndsInEnd}
-use Rattle.g4_parse.specs.Running.{Frame, Run, beginning, deepest, no_predicates, GoesBy, Goes, ClosesBy, with_children, with_token, with_alt, begun, node_of}
+use Rattle.g4_trees.specs.Trees.{Tree}
+use Rattle.g4_parse.specs.Running.{Frame, Run, beginning, deepest, no_predicates, GoesBy, Goes, ClosesBy, with_child, with_token, with_alt, begun, node_of}
 use Rattle.g4_parse.specs.Standing.{backs, IsFitBy}
-use Rattle.g4_parse.proofs.Flat.{state_more, place_more}
+use Rattle.g4_parse.proofs.Grown.{state_child, place_child}
 
 -- a symbol other than the last does not stand at the last place
 last_place : (front : List ℕ) (x i a : ℕ) → slice_get (front ++ x ∷ []) i ≡ Some a → (a ≡ x → ⊥) → i < length front
@@ -30,6 +31,13 @@ before_end word i a (front, same, once) e n =
     let within : i < length front = last_place front end_of_list i a (subst (λ (w : List ℕ). slice_get w i ≡ Some a) same e) n in
     omega (arith, ap length same, length-append front (end_of_list ∷ []))
 
+-- an alternative of a decision is one of its targets
+pub first_in : (net : ParserNetwork) (p i t : ℕ) (targets : List ℕ) → state_at net p ≡ Some (Decision targets) → IsFirst net p i t → Contains targets t
+first_in net p i t targets is (us, k, at, has, number) =
+    let same : us ≡ targets = cc in
+    let got : slice_get targets k ≡ Some t = subst (λ (xs : List ℕ). slice_get xs k ≡ Some t) same has in
+    (k, slice_get_within targets k t got, get_or_from_slice_get targets k t t got)
+
 -- what holds at a moment, the token list having n tokens
 pub record Stage (net : ParserNetwork) (loop n : ℕ) (r : Run) : Type 0 where
   pub state_in : r.state < length net.states
@@ -43,11 +51,11 @@ pub backs_alt : (i : ℕ) (fs : List Frame) → backs (with_alt i fs) ≡ backs 
 backs_alt i [] = refl
 backs_alt i (f ∷ fs) = refl
 
-pub backs_more : (r : Run) (fs : List Frame) (more : List _) → backs (with_children r fs more).frames ≡ backs fs
-backs_more r [] more = refl
-backs_more r (f ∷ fs) more = refl
+pub backs_child : (r : Run) (fs : List Frame) (t : Tree) → backs (with_child r fs t).frames ≡ backs fs
+backs_child r [] t = refl
+backs_child r (f ∷ fs) t = refl
 
-backs_token : (r : Run) (fs : List Frame) → r.frames ≡ fs → backs (with_token r fs).frames ≡ backs fs
+pub backs_token : (r : Run) (fs : List Frame) → r.frames ≡ fs → backs (with_token r fs).frames ≡ backs fs
 backs_token r [] e = ap backs e
 backs_token r (f ∷ fs) e = refl
 
@@ -55,9 +63,9 @@ length_alt : (i : ℕ) (fs : List Frame) → length (with_alt i fs) ≡ length f
 length_alt i [] = refl
 length_alt i (f ∷ fs) = refl
 
-length_more : (r : Run) (fs : List Frame) (more : List _) → length (with_children r fs more).frames ≡ length fs
-length_more r [] more = refl
-length_more r (f ∷ fs) more = refl
+length_child : (r : Run) (fs : List Frame) (t : Tree) → length (with_child r fs t).frames ≡ length fs
+length_child r [] t = refl
+length_child r (f ∷ fs) t = refl
 
 length_token : (r : Run) (fs : List Frame) → r.frames ≡ fs → length (with_token r fs).frames ≡ length fs
 length_token r [] e = ap length e
@@ -131,10 +139,10 @@ module _ {looped : List ℕ} (net : ParserNetwork) (rule loop : ℕ) (ready : Is
         let stack : IsStackFor loop r.state (f.back ∷ backs fs) = stack_for net rule loop ready.apart r.state (f.back ∷ backs fs) proper in
         let all : All (λ t. t < length net.states) (f.back ∷ backs fs) = proper_within net r.state (f.back ∷ backs fs) ready.well_formed proper in
         let after : Run = record { state = f.back; place = r.place; frames = fs; tree = r.tree } in
-        let state : s.state ≡ f.back = ap (λ (x : Run). x.state) g ∙ state_more after fs (node_of f) in
-        let place : s.place ≡ r.place = ap (λ (x : Run). x.place) g ∙ place_more after fs (node_of f) in
-        let returns : backs s.frames ≡ backs fs = ap (λ (x : Run). backs x.frames) g ∙ backs_more after fs (node_of f) in
-        let count : length s.frames ≡ length fs = ap (λ (x : Run). length x.frames) g ∙ length_more after fs (node_of f) in
+        let state : s.state ≡ f.back = ap (λ (x : Run). x.state) g ∙ state_child after fs (node_of f) in
+        let place : s.place ≡ r.place = ap (λ (x : Run). x.place) g ∙ place_child after fs (node_of f) in
+        let returns : backs s.frames ≡ backs fs = ap (λ (x : Run). backs x.frames) g ∙ backs_child after fs (node_of f) in
+        let count : length s.frames ≡ length fs = ap (λ (x : Run). length x.frames) g ∙ length_child after fs (node_of f) in
         record {
           state_in = let less = All-head (λ t. t < length net.states) f.back (backs fs) all in omega (arith, state);
           proper = subst (λ (bs : List ℕ). IsProper net s.state bs) (sym returns) (subst (λ (p : ℕ). IsProper net p (backs fs)) (sym state) (proper_return net r.state f.back (backs fs) proper));
@@ -146,15 +154,9 @@ module _ {looped : List ℕ} (net : ParserNetwork) (rule loop : ℕ) (ready : Is
     advances_by : (r s : Run) (o : Option (State (List ℕ))) → state_at net r.state ≡ o → Stage net loop (length word) r → GoesBy net no_predicates word o r s → Stage net loop (length word) s
     advances_by r s None is h g = absurd g
     advances_by r s (Some (Decision targets)) is h (i, t, says, first, e) =
-        moves r (Decision targets) t r.frames s h is (first_in targets i t is first) (ap (λ (x : Run). x.state) e) (ap (λ (x : Run). x.place) e)
+        moves r (Decision targets) t r.frames s h is (first_in net r.state i t targets is first) (ap (λ (x : Run). x.state) e) (ap (λ (x : Run). x.place) e)
         (ap (λ (x : Run). backs x.frames) e ∙ backs_alt (begun net t (state_at net t)) r.frames) (ap (λ (x : Run). length x.frames) e ∙ length_alt (begun net t (state_at net t)) r.frames)
         (λ x. left r (Decision targets) h is (λ e. cc) (λ e. cc))
-      where
-        first_in : (targets : List ℕ) (i t : ℕ) → state_at net r.state ≡ Some (Decision targets) → IsFirst net r.state i t → Contains targets t
-        first_in targets i t is (us, k, at, has, num) =
-            let same : us ≡ targets = cc in
-            let got : slice_get targets k ≡ Some t = subst (λ (xs : List ℕ). slice_get xs k ≡ Some t) same has in
-            (k, slice_get_within targets k t got, get_or_from_slice_get targets k t t got)
     advances_by r s (Some (End ended)) is h g = closes r ended r.frames s refl h is g
     advances_by r s (Some (Edge set t)) is h (a, next, has, e) = record {
       state_in = let less = ready.well_formed.targets r.state t (Edge set t) is refl in omega (arith, ap (λ (x : Run). x.state) e);
@@ -198,7 +200,7 @@ module _ {looped : List ℕ} (net : ParserNetwork) (rule loop : ℕ) (ready : Is
         let few = ready.few in
         (omega arith, omega arith)
     fits_by r (Some (Predicate k t)) is h = ready.untested r.state (Predicate k t) is
-    fits_by r (Some (Level q t)) is h = ready.untested r.state (Level q t) is
+    fits_by r (Some (Level q t)) is h = absurd (ready.untested r.state (Level q t) is)
     fits_by r (Some (Action t)) is h = tt
     fits_by r (Some (Empty t)) is h = tt
 

@@ -1,9 +1,8 @@
 -- What a turn of the parser is in the run.
-use Rattle.std.proofs.Common.{◌≡◌, ◌+◌, ◌-◌, ◌<◌, ◌≤◌, ◌++◌, ◌∷◌, [], ℕ, List, length, get_or, take, drop, reverse, false, cond, ◌==◌, refl, sym, ◌∙◌, ap, subst, arith, length-append}
+use Rattle.std.proofs.Common.{◌≡◌, ◌+◌, ◌-◌, ◌<◌, ◌≤◌, ◌++◌, ◌∷◌, [], ℕ, List, length, get_or, drop, reverse, false, cond, ◌==◌, refl, sym, ◌∙◌, ap, subst, arith, length-append}
 use Rattle.std.specs.Prelude.{Option, Some, Result, Ok, Err, IsErrAnd, ⊤, slice_get}
 use Rattle.std.proofs.lemmas.Option.{slice_get_within, get_or_from_slice_get}
 use Rattle.std.proofs.lemmas.List.Elements.{Contains-get_or}
-use Rattle.std.proofs.Math.Seq.{take-append_seam}
 use Rattle.std.proofs.lemmas.Bool.{false_from_ne_true}
 use Rattle.std.proofs.lemmas.Bool.Decides.{nat_tests}
 use Rattle.g4_net.specs.declared.network.State.{State}
@@ -20,13 +19,14 @@ use Rattle.g4_predict.proofs.Choosing.{untested, whatever_is_allowed}
 use Rattle.g4_predict.specs.declared.decision.DecideFault.{DecideFault}
 use Rattle.g4_predict.specs.declared.decision.DecideFault.TheVariants as deciding
 use Rattle.g4_parse.specs.Deciding.{of_decide}
-use Rattle.g4_parse.specs.declared.tree.Item.{Item}
-use Rattle.g4_parse.specs.declared.tree.Item.TheVariants as items
+use Rattle.g4_trees.specs.Trees.{leaf}
+use Rattle.g4_tree_builder.specs.Growing.{Growing, with_tree, with_alternative, with_close, with_wrap}
+use Rattle.g4_tree_builder.specs.Kept.{HasGrown}
 use Rattle.g4_parse.specs.declared.parser.Parser.{Parser}
 use Rattle.g4_parse.specs.declared.parser.ParseFault.{ParseFault}
-use Rattle.g4_parse.specs.Running.{Frame, Run, not_viable, no_predicates, Predicts, GoesBy, ClosesBy, with_children, with_alt, with_begun, begun, node_of, stack_of, AllowsAt}
-use Rattle.g4_parse.specs.Standing.{StandsFor, IsFaultBy, IsTurnBy, backs, returns_of, enters_of, flat}
-use Rattle.g4_parse.proofs.Flat.{flat_more, flat_node, returns_more, enters_more, place_more, state_more, returns_alt, enters_alt, reverse_returns}
+use Rattle.g4_parse.specs.Running.{Frame, Run, not_viable, no_predicates, Predicts, GoesBy, ClosesBy, with_child, with_token, with_begun, begun, wrapped, node_of, stack_of, AllowsAt}
+use Rattle.g4_parse.specs.Standing.{StandsFor, IsFaultBy, IsTurnBy, backs, returns_of, grown}
+use Rattle.g4_parse.proofs.Grown.{returns_child, place_child, state_child, grown_close, returns_alt, grown_alt, returns_wrapped, grown_wrapped, reverse_returns}
 
 -- lists that end alike are alike
 same_last : (xs ys : List ℕ) (x y : ℕ) → xs ++ x ∷ [] ≡ ys ++ y ∷ [] → (xs ≡ ys) × (x ≡ y)
@@ -39,71 +39,61 @@ same_last (a ∷ xs) (b ∷ ys) x y e =
     let same : (xs ≡ ys) × (x ≡ y) = same_last xs ys x y tail in
     (cc, same.1)
 
--- all but the last
-without_last : (xs : List ℕ) (x : ℕ) → take (length (xs ++ x ∷ []) - 1) (xs ++ x ∷ []) ≡ xs
-without_last xs x = let n : length (xs ++ x ∷ []) - 1 ≡ length xs = omega (arith, length-append xs (x ∷ [])) in ap (λ (k : ℕ). take k (xs ++ x ∷ [])) n ∙ front xs (x ∷ [])
-  where
-    front : (xs ys : List ℕ) → take (length xs) (xs ++ ys) ≡ xs
-    front xs ys = take-append_seam xs ys
-
--- the last
-last_of : (xs : List ℕ) (x : ℕ) → slice_get (xs ++ x ∷ []) (length (xs ++ x ∷ []) - 1) ≡ Some x
-last_of xs x = let n : length (xs ++ x ∷ []) - 1 ≡ length xs = omega (arith, length-append xs (x ∷ [])) in ap (λ (k : ℕ). slice_get (xs ++ x ∷ []) k) n ∙ at_seam xs
-  where
-    at_seam : (ys : List ℕ) → slice_get (ys ++ x ∷ []) (length ys) ≡ Some x
-    at_seam [] = refl
-    at_seam (y ∷ ys) = at_seam ys
-
 -- no rule is open where none is listed
 pub none_opened : (fs : List Frame) → returns_of fs ≡ [] → fs ≡ []
 none_opened [] e = refl
 none_opened (f ∷ fs) e = absurd (omega (arith, ap length e, length-append (returns_of fs) (f.back ∷ [])))
 
--- Popping the newest open rule and writing Exit is a step of the run.
-pub closes : (net : ParserNetwork) (word : List ℕ) (r : Run) (fs : List Frame) (p q : Parser) (back : ℕ) (rest : List ℕ) → r.frames ≡ fs → StandsFor p r → p.returns.items ≡ rest ++ back ∷ [] → q.state ≡ back → q.place ≡ p.place → q.returns.items ≡ rest → q.enters.items ≡ take (length p.enters.items - 1) p.enters.items → q.items.items ≡ p.items.items ++ items.Exit ∷ [] → (s : Run) × ClosesBy net no_predicates word r fs s × StandsFor q s
-closes net word r [] p q back rest same h popped a b d d_too e =
+-- Popping the newest open rule and closing its node is a step of the run.
+pub closes : (net : ParserNetwork) (word : List ℕ) (r : Run) (fs : List Frame) (p q : Parser) (back : ℕ) (rest : List ℕ) → r.frames ≡ fs → StandsFor p r → p.returns.items ≡ rest ++ back ∷ [] → q.state ≡ back → q.place ≡ p.place → q.returns.items ≡ rest → ((g : Growing) → HasGrown p.tree g → HasGrown q.tree (with_close g)) → (s : Run) × ClosesBy net no_predicates word r fs s × StandsFor q s
+closes net word r [] p q back rest same h popped a b d e =
     let none : rest ++ back ∷ [] ≡ [] = sym popped ∙ h.returns ∙ ap returns_of same in
     absurd (omega (arith, ap length none, length-append rest (back ∷ [])))
-closes net word r (f ∷ fs) p q back rest same h popped a b d d_too e =
+closes net word r (f ∷ fs) p q back rest same h popped a b d e =
     let after : Run = record { state = f.back; place = r.place; frames = fs; tree = r.tree } in
     let last : (returns_of fs ≡ rest) × (f.back ≡ back) = same_last (returns_of fs) rest f.back back (sym (ap returns_of same) ∙ sym h.returns ∙ popped) in
-    let entered : p.enters.items ≡ enters_of fs r.tree ++ length (flat fs r.tree) ∷ [] = h.enters ∙ ap (λ (gs : List Frame). enters_of gs r.tree) same in
-    let left : take (length p.enters.items - 1) p.enters.items ≡ enters_of fs r.tree = ap (λ (xs : List ℕ). take (length xs - 1) xs) entered ∙ without_last (enters_of fs r.tree) (length (flat fs r.tree)) in (
-      with_children after fs (node_of f),
+    let tree : HasGrown p.tree (grown (f ∷ fs) r.tree) = subst (λ (gs : List Frame). HasGrown p.tree (grown gs r.tree)) same h.tree in (
+      with_child after fs (node_of f),
       refl,
       record {
-        state = a ∙ sym last.1 ∙ sym (state_more after fs (node_of f));
-        place = b ∙ h.place ∙ sym (place_more after fs (node_of f));
-        returns = d ∙ sym last.0 ∙ sym (returns_more after fs (node_of f));
-        enters = d_too ∙ left ∙ sym (enters_more after fs (node_of f));
-        items = e ∙ ap (λ (xs : List Item). xs ++ items.Exit ∷ []) (h.items ∙ ap (λ (gs : List Frame). flat gs r.tree) same) ∙ sym (flat_node f (flat fs r.tree)) ∙ sym (flat_more after fs (node_of f));
+        state = a ∙ sym last.1 ∙ sym (state_child after fs (node_of f));
+        place = b ∙ h.place ∙ sym (place_child after fs (node_of f));
+        returns = d ∙ sym last.0 ∙ sym (returns_child after fs (node_of f));
+        tree = subst (HasGrown q.tree) (sym (grown_close after f fs)) (e (grown (f ∷ fs) r.tree) tree);
       },
     )
 
 -- an alternative other than 0 is the node's
-alt_is : (i alt : ℕ) → (i ≡ 0 → ⊥) → cond (i == 0) alt i ≡ i
+pub alt_is : (i alt : ℕ) → (i ≡ 0 → ⊥) → cond (i == 0) alt i ≡ i
 alt_is i alt n = let other : (i == 0) ≡ false = false_from_ne_true (i == 0) (λ e. n (grind (arith, nat_tests))) in rw other refl
 
--- Writing the alternative of the newest open rule's node, where its place is the last of those listed.
-pub begins_alt : (r : Run) (fs : List Frame) (p q : Parser) (i enter : ℕ) → r.frames ≡ fs → (i ≡ 0 → ⊥) → StandsFor p r → Some enter ≡ slice_get p.enters.items (length p.enters.items - 1) → q.state ≡ p.state → q.place ≡ p.place → q.returns.items ≡ p.returns.items → q.enters.items ≡ p.enters.items →
-    ((before after : List Item) (rule alt at : ℕ) → p.items.items ≡ before ++ items.Enter rule alt at ∷ after → enter ≡ length before → q.items.items ≡ before ++ items.Enter rule i at ∷ after) → StandsFor q (with_begun i r)
-begins_alt r [] p q i enter same n h last a b c d e =
-    let none : p.enters.items ≡ [] = h.enters ∙ ap (λ (gs : List Frame). enters_of gs r.tree) same in
-    let no_last : Some enter ≡ slice_get {X = ℕ} [] (length p.enters.items - 1) = last ∙ ap (λ (xs : List ℕ). slice_get xs (length p.enters.items - 1)) none in
-    absurd (let w = slice_get_within {A = ℕ} [] (length p.enters.items - 1) enter (sym no_last) in omega arith)
-begins_alt r (f ∷ fs) p q i enter same n h last a b c d e =
-    let entered : p.enters.items ≡ enters_of fs r.tree ++ length (flat fs r.tree) ∷ [] = h.enters ∙ ap (λ (gs : List Frame). enters_of gs r.tree) same in
-    let found : Some enter ≡ Some (length (flat fs r.tree)) = last ∙ ap (λ (xs : List ℕ). slice_get xs (length xs - 1)) entered ∙ last_of (enters_of fs r.tree) (length (flat fs r.tree)) in
-    let at_enter : enter ≡ length (flat fs r.tree) = cc in
-    let written : q.items.items ≡ flat fs r.tree ++ items.Enter f.rule i f.at ∷ f.children = e (flat fs r.tree) f.children f.rule f.alt f.at (h.items ∙ ap (λ (gs : List Frame). flat gs r.tree) same) at_enter in
-    let shown : flat (with_alt i r.frames) r.tree ≡ flat fs r.tree ++ items.Enter f.rule i f.at ∷ f.children = ap (λ (gs : List Frame). flat (with_alt i gs) r.tree) same ∙ ap (λ (j : ℕ). flat fs r.tree ++ items.Enter f.rule j f.at ∷ f.children) (alt_is i f.alt n) in
-    record {
-      state = a ∙ h.state;
-      place = b ∙ h.place;
-      returns = c ∙ h.returns ∙ sym (returns_alt i r.frames);
-      enters = d ∙ h.enters ∙ sym (enters_alt i r.frames r.tree);
-      items = written ∙ sym shown;
-    }
+-- Writing the alternative of the newest open rule's node.
+pub begins_alt : (r : Run) (p q : Parser) (i : ℕ) → (i ≡ 0 → ⊥) → StandsFor p r → q.state ≡ p.state → q.place ≡ p.place → q.returns.items ≡ p.returns.items → ((g : Growing) → HasGrown p.tree g → HasGrown q.tree (with_alternative i g)) → StandsFor q (with_begun i r)
+begins_alt r p q i n h a b c e = record {
+  state = a ∙ h.state;
+  place = b ∙ h.place;
+  returns = c ∙ h.returns ∙ sym (returns_alt i r.frames);
+  tree = subst (HasGrown q.tree) (sym (grown_alt i r.frames r (λ alt. alt_is i alt n))) (e (grown r.frames r.tree) h.tree);
+}
+
+-- Passing a level makes the node so far a first child.
+pub passes_level : (r : Run) (p q : Parser) (t i : ℕ) → StandsFor p r → q.state ≡ t → q.place ≡ p.place → q.returns.items ≡ p.returns.items → ((g : Growing) → HasGrown p.tree g → HasGrown q.tree (with_wrap i g)) → StandsFor q (record r { state = t; frames = wrapped i r.frames })
+passes_level r p q t i h a b c e = record {
+  state = a;
+  place = b ∙ h.place;
+  returns = c ∙ h.returns ∙ sym (returns_wrapped i r.frames);
+  tree = subst (HasGrown q.tree) (sym (grown_wrapped i r.frames r)) (e (grown r.frames r.tree) h.tree);
+}
+
+-- Keeping a token makes it a child of the newest open rule.
+pub keeps_token : (r : Run) (fs : List Frame) (p q : Parser) → r.frames ≡ fs → (returns_of fs ≡ [] → ⊥) → StandsFor p r → q.state ≡ p.state → q.place ≡ p.place → q.returns.items ≡ p.returns.items → ((g : Growing) → HasGrown p.tree g → HasGrown q.tree (with_tree (leaf p.place) g)) → StandsFor q (with_token r fs)
+keeps_token r [] p q same some h a b c e = absurd (some refl)
+keeps_token r (f ∷ fs) p q same some h a b c e = record {
+  state = a ∙ h.state;
+  place = b ∙ h.place;
+  returns = c ∙ h.returns ∙ ap returns_of same;
+  tree = subst (λ (k : ℕ). HasGrown q.tree (with_tree (leaf k) (grown (f ∷ fs) r.tree))) h.place (e (grown (f ∷ fs) r.tree) (subst (λ (gs : List Frame). HasGrown p.tree (grown gs r.tree)) same h.tree));
+}
 
 -- what is chosen at the parser's state is what prediction says in the run
 predicted : (net : ParserNetwork) (word : List ℕ) (r : Run) (p : Parser) (choice : Choice) → IsReady net → StandsFor p r → Decides net p.state (Allows Every) (above_bottom (reverse p.returns.items)) (drop p.place word) choice → Predicts net no_predicates word r choice
@@ -152,4 +142,4 @@ fails_with net word o r q fault (Err e) is h = subst (IsFaultBy net word o r) (s
 pub moved_to : (p : Parser) (r s : Run) (t : ℕ) → r ≡ s → StandsFor p r → StandsFor (record p { state = t }) (record s { state = t })
 moved_to p r s t same h =
     let k : StandsFor p s = subst (StandsFor p) same h in
-    record { state = refl; place = k.place; returns = k.returns; enters = k.enters; items = k.items }
+    record { state = refl; place = k.place; returns = k.returns; tree = k.tree }

@@ -1,5 +1,4 @@
 pub mod Deciding
 pub mod Running
 pub mod Parsing
-pub mod TreeText
 pub mod Standing

@@ -1,7 +1,8 @@
 -- What the parse call answers.
 use Rattle.g4_net.specs.Network.{ParserNetwork}
-use Rattle.std.specs.Prelude.{ℕ, List, Result, Ok, Err}
-use Rattle.g4_parse.specs.declared.tree.Item.{Item}
+use Rattle.std.specs.Prelude.{◌≡◌, ℕ, List, Result, Ok, Err}
+use Rattle.g4_trees.specs.declared.tree.Item.{Item}
+use Rattle.g4_trees.specs.Trees.{Tree, items_of}
 use Rattle.g4_parse.specs.declared.parser.ParseFault.{ParseFault}
 use Rattle.g4_parse.specs.declared.parser.ParseFault.TheVariants.{NoViable, Mismatch, TooDeep, NoMemory}
 use Rattle.g4_parse.specs.Running.{Ending, parsed, not_viable, mismatch, too_deep, beginning, no_predicates, Runs}
@@ -19,5 +20,5 @@ IsParseFault net word NoMemory = Unit {0}
 
 -- the call answers with the run's tree or its fault, unless memory runs out
 abbrev pub IsParse : ParserNetwork → List ℕ → Result (List Item) ParseFault → Type 0
-IsParse net word (Ok tree) = Ends net word (parsed tree)
+IsParse net word (Ok xs) = (t : Tree) × Ends net word (parsed t) × (xs ≡ items_of t)
 IsParse net word (Err fault) = IsParseFault net word fault

@@ -1,12 +1,11 @@
 -- The parse run over a network, as a relation.
-use Rattle.std.specs.Prelude.{◌≡◌, ◌≤◌, ◌<◌, ℕ, ◌+◌, List, [], ◌∷◌, ◌++◌, Option, Some, None, Bool, true, false, cond, ◌==◌, slice_get, length, drop, map, Contains}
+use Rattle.std.specs.Prelude.{◌≡◌, ◌≤◌, ◌<◌, ℕ, ◌+◌, List, [], ◌∷◌, Option, Some, None, Bool, true, false, cond, ◌==◌, slice_get, length, drop, map, Contains}
 use Rattle.g4_net.specs.declared.network.State.{State}
 use Rattle.g4_net.specs.declared.network.State.TheVariants.{Decision, End, Edge, Call, Predicate, Level, Action, Empty}
 use Rattle.g4_net.specs.Network.{ParserNetwork, state_at, start_of, IsFirst, written_at}
 use Rattle.g4_net.specs.Configurations.{Stack, above_bottom}
 use Rattle.g4_net.specs.Prediction.{Choice, chosen, no_viable, IsTestBy, Decides}
-use Rattle.g4_parse.specs.declared.tree.Item.{Item}
-use Rattle.g4_parse.specs.declared.tree.Item.TheVariants as items
+use Rattle.g4_trees.specs.Trees.{Tree, leaf, node, Forest, no_tree, and_then, only}
 
 -- An open rule: its return state and level; the node so far, with its rule, alternative and place, and its children.
 pub record Frame : Type 0 where
@@ -15,7 +14,7 @@ pub record Frame : Type 0 where
   pub rule : ℕ
   pub alt : ℕ
   pub at : ℕ
-  pub children : List Item
+  pub children : Forest
 
 -- A moment of the run: the state, the place in the token list, the open rules, newest first, and what the added rule,
 -- which has no node itself, has as its tree so far.
@@ -23,11 +22,11 @@ pub record Run : Type 0 where
   pub state : ℕ
   pub place : ℕ
   pub frames : List Frame
-  pub tree : List Item
+  pub tree : Forest
 
 -- how a run ends: with its tree, or with the fault at which no step exists
 pub data Ending : Type 0 where
-  parsed : List Item → Ending
+  parsed : Tree → Ending
   not_viable : ℕ → Ending
   mismatch : ℕ → ℕ → Ending
   failed_predicate : ℕ → ℕ → Ending
@@ -47,7 +46,7 @@ no_predicates k rules place = true
 
 -- the run's beginning
 abbrev pub beginning : Run
-beginning = record { state = 0; place = 0; frames = []; tree = [] }
+beginning = record { state = 0; place = 0; frames = []; tree = no_tree }
 
 -- the parser's stack
 abbrev pub stack_of : Run → Stack
@@ -68,18 +67,18 @@ rule_of [] = 0
 rule_of (f ∷ fs) = f.rule
 
 -- the node of an open rule with its children so far, closed
-abbrev pub node_of : Frame → List Item
-node_of f = items.Enter f.rule f.alt f.at ∷ f.children ++ items.Exit ∷ []
+abbrev pub node_of : Frame → Tree
+node_of f = node f.rule f.alt f.at f.children
 
--- the run with more children of the newest open rule
-abbrev pub with_children : Run → List Frame → List Item → Run
-with_children r [] more = record r { frames = []; tree = r.tree ++ more }
-with_children r (f ∷ fs) more = record r { frames = record f { children = f.children ++ more } ∷ fs }
+-- the run with one more child of the newest open rule
+abbrev pub with_child : Run → List Frame → Tree → Run
+with_child r [] t = record r { frames = []; tree = and_then r.tree (only t) }
+with_child r (f ∷ fs) t = record r { frames = record f { children = and_then f.children (only t) } ∷ fs }
 
 -- a token is a child of the newest open rule; the added rule keeps none
 abbrev pub with_token : Run → List Frame → Run
 with_token r [] = r
-with_token r (f ∷ fs) = with_children r (f ∷ fs) (items.Token r.place ∷ [])
+with_token r (f ∷ fs) = with_child r (f ∷ fs) (leaf r.place)
 
 -- the alternative of the newest node, where one as the grammar writes it begins at the state
 abbrev pub with_alt : ℕ → List Frame → List Frame
@@ -93,7 +92,7 @@ with_begun i r = record r { frames = with_alt i r.frames }
 -- a level edge makes the node so far the first child of a new node of the same rule, which begins where that child does
 abbrev pub wrapped : ℕ → List Frame → List Frame
 wrapped i [] = []
-wrapped i (f ∷ fs) = record f { alt = i; children = node_of f } ∷ fs
+wrapped i (f ∷ fs) = record f { alt = i; children = only (node_of f) } ∷ fs
 
 -- the alternative that a state begins, where no level edge will begin it
 abbrev pub begun : ParserNetwork → ℕ → Option (State (List ℕ)) → ℕ
@@ -125,7 +124,7 @@ module _ (net : ParserNetwork) (values : Values) (word : List ℕ) where
   -- the end of a rule closes its node, and the run goes on at the return state
   abbrev pub ClosesBy : Run → List Frame → Run → Type 0
   ClosesBy r [] s = ⊥
-  ClosesBy r (f ∷ fs) s = s ≡ with_children (record r { state = f.back; frames = fs }) fs (node_of f)
+  ClosesBy r (f ∷ fs) s = s ≡ with_child (record r { state = f.back; frames = fs }) fs (node_of f)
 
   -- one step of the run, by the state
   abbrev pub GoesBy : Option (State (List ℕ)) → Run → Run → Type 0
@@ -134,7 +133,7 @@ module _ (net : ParserNetwork) (values : Values) (word : List ℕ) where
   GoesBy (Some (End rule)) r s = ClosesBy r r.frames s
   GoesBy (Some (Edge set t)) r s = (a : ℕ) × (slice_get word r.place ≡ Some a) × Contains set a × (s ≡ record (with_token r r.frames) { state = t; place = r.place + 1 })
   GoesBy (Some (Call rule level back)) r s = (length r.frames < deepest)
-      × (s ≡ record r { state = start_of rule; frames = record { back = back; level = level; rule = rule; alt = written_at net (start_of rule); at = r.place; children = [] } ∷ r.frames })
+      × (s ≡ record r { state = start_of rule; frames = record { back = back; level = level; rule = rule; alt = written_at net (start_of rule); at = r.place; children = no_tree } ∷ r.frames })
   GoesBy (Some (Predicate k t)) r s = (values k (open_rules r) r.place ≡ true) × (s ≡ record r { state = t })
   GoesBy (Some (Level q t)) r s = s ≡ record r { state = t; frames = wrapped (written_at net r.state) r.frames }
   GoesBy (Some (Action t)) r s = s ≡ record r { state = t }
@@ -148,7 +147,7 @@ module _ (net : ParserNetwork) (values : Values) (word : List ℕ) where
   abbrev pub StopsBy : Option (State (List ℕ)) → Run → Ending → Type 0
   StopsBy None r e = ⊥
   StopsBy (Some (Decision targets)) r e = (k : ℕ) × Predicts r (no_viable k) × (e ≡ not_viable (r.place + k))
-  StopsBy (Some (End rule)) r e = (r.frames ≡ []) × (rule ≡ 0) × (e ≡ parsed r.tree)
+  StopsBy (Some (End rule)) r e = (r.frames ≡ []) × (rule ≡ 0) × ((t : Tree) × (r.tree ≡ only t) × (e ≡ parsed t))
   StopsBy (Some (Edge set t)) r e = (a : ℕ) × (slice_get word r.place ≡ Some a) × (Contains set a → ⊥) × (e ≡ mismatch r.place r.state)
   StopsBy (Some (Call rule level back)) r e = (deepest ≤ length r.frames) × (e ≡ too_deep r.place)
   StopsBy (Some (Predicate k t)) r e = (values k (open_rules r) r.place ≡ false) × (e ≡ failed_predicate r.place (rule_of r.frames))

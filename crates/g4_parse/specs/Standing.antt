@@ -5,8 +5,9 @@ use Rattle.g4_net.specs.declared.network.State.TheVariants.{Decision, End, Edge,
 use Rattle.g4_net.specs.Network.{ParserNetwork, state_at, start_of}
 use Rattle.g4_net.specs.AddedRule.{IsReady}
 use Rattle.g4_net.specs.Proper.{IsProper}
-use Rattle.g4_parse.specs.declared.tree.Item.{Item}
-use Rattle.g4_parse.specs.declared.tree.Item.TheVariants as items
+use Rattle.g4_trees.specs.Trees.{Forest}
+use Rattle.g4_tree_builder.specs.Growing.{Growing, OpenNode}
+use Rattle.g4_tree_builder.specs.Kept.{HasGrown}
 use Rattle.g4_parse.specs.declared.parser.ParseFault.{ParseFault}
 use Rattle.g4_parse.specs.declared.parser.ParseFault.TheVariants.{NoViable, Mismatch, TooDeep, NoMemory}
 use Rattle.g4_parse.specs.declared.parser.Parser.{Parser}
@@ -21,23 +22,20 @@ abbrev pub returns_of : List Frame → List ℕ
 returns_of [] = []
 returns_of (f ∷ fs) = returns_of fs ++ f.back ∷ []
 
--- the tree so far and then the open rules' nodes so far, as one flat list
-abbrev pub flat : List Frame → List Item → List Item
-flat [] tree = tree
-flat (f ∷ fs) tree = flat fs tree ++ (items.Enter f.rule f.alt f.at ∷ f.children)
+-- an open rule as an open node
+abbrev pub open_node : Frame → OpenNode
+open_node f = record { rule = f.rule; alt = f.alt; at = f.at; children = f.children }
 
--- where the nodes of the open rules begin in that list, newest last
-abbrev pub enters_of : List Frame → List Item → List ℕ
-enters_of [] tree = []
-enters_of (f ∷ fs) tree = enters_of fs tree ++ length (flat fs tree) ∷ []
+-- the open nodes, newest first, and the trees outside them
+abbrev pub grown : List Frame → Forest → Growing
+grown frames tree = record { nodes = map open_node frames; trees = tree }
 
 -- the parser is at this moment
 pub record StandsFor (p : Parser) (r : Run) : Type 0 where
   pub state : p.state ≡ r.state
   pub place : p.place ≡ r.place
   pub returns : p.returns.items ≡ returns_of r.frames
-  pub enters : p.enters.items ≡ enters_of r.frames r.tree
-  pub items : p.items.items ≡ flat r.frames r.tree
+  pub tree : HasGrown p.tree (grown r.frames r.tree)
 
 -- the run stops at this moment with the fault, unless memory ran out
 abbrev pub IsFaultBy : ParserNetwork → List ℕ → Option (State (List ℕ)) → Run → ParseFault → Type 0
@@ -66,7 +64,7 @@ IsFitBy net n (Some (End rule)) r = r.frames ≡ [] → rule ≡ 0
 IsFitBy net n (Some (Edge set t)) r = r.place < n
 IsFitBy net n (Some (Call rule level back)) r = (start_of rule < length net.written) × (start_of rule < 2 ^ 32)
 IsFitBy net n (Some (Predicate k t)) r = ⊥
-IsFitBy net n (Some (Level q t)) r = ⊥
+IsFitBy net n (Some (Level q t)) r = r.state < length net.written
 IsFitBy net n (Some (Action t)) r = Unit {0}
 IsFitBy net n (Some (Empty t)) r = Unit {0}
 

@@ -1,21 +1,23 @@
 // The parse run.
-ghost use Rattle.std.specs.Prelude.{◌≡◌, ◌<◌, ◌*◌, ◌^◌, ◌++◌, ◌∷◌, ◌↔◌, ℕ, List, Some, IsTrue, OnOk, length};
+ghost use Rattle.std.specs.Prelude.{◌≡◌, ◌<◌, ◌*◌, ◌^◌, ◌↔◌, ℕ, List, Some, IsTrue, IfOk, OnOk, length};
+ghost use Rattle.g4_grammar.specs.StepRules.{StepRule};
+ghost use Rattle.g4_layout.specs.Built.{IsBuilt};
 ghost use Rattle.g4_net.specs.AddedRule.{IsReady};
-ghost use Rattle.g4_net.specs.declared.network.State.TheVariants.{Call, Decision, Edge, End};
+ghost use Rattle.g4_net.specs.declared.network.State.TheVariants.{Call, Decision, Edge, End, Level};
 ghost use Rattle.g4_net.specs.Network.{ParserNetwork as Net, state_at};
-ghost use Rattle.g4_parse.specs.declared.tree.Item.{Item as Node};
-ghost use Rattle.g4_parse.specs.declared.tree.Item.TheVariants.{Enter};
 ghost use Rattle.g4_parse.specs.Parsing.{IsParse};
 ghost use Rattle.g4_parse.specs.Running.{Run, beginning, with_begun, with_token};
 ghost use Rattle.g4_parse.specs.Standing.{StandsFor, IsTurnBy, IsDeciding, IsUnderway, HasEnded};
 ghost use Rattle.g4_token_list.specs.TokenList.{word_of, EndsInEnd};
+ghost use Rattle.g4_tree_check.specs.TreesOf.{IsTreeOf};
 
 use crate::state::{begun, state_of};
-use crate::{Item, Tree};
 use g4_net::{Allowed, ParserNetwork, State};
 use g4_predict::{DecideFault, decide};
 use g4_symbols::Symbols;
 use g4_token_list::Token;
+use g4_tree_builder::TreeBuilder;
+use g4_trees::Tree;
 use std::alloc::{AllocError, AllocFailed, Global};
 
 /// Why a token list has no tree.
@@ -69,15 +71,14 @@ impl From<DecideFault> for ParseFault {
 /// The most rules that may be open.
 const DEEPEST: usize = 10_000;
 
-/// A moment of the run: the state and the place in the token list, the return states of the open rules and where their nodes begin among the items,
-/// newest last, and the tree so far.
+/// A moment of the run: the state and the place in the token list, the return states of the open rules, newest last, and the
+/// tree so far.
 #[derive(Drop)]
 struct Parser {
     state: u32,
     place: u32,
     returns: Vec<u32>,
-    enters: Vec<usize>,
-    items: Vec<Item>,
+    tree: TreeBuilder,
 }
 
 impl Parser {
@@ -89,8 +90,7 @@ impl Parser {
             state: 0,
             place: 0,
             returns: Vec::new(alloc),
-            enters: Vec::new(alloc),
-            items: Vec::new(alloc),
+            tree: TreeBuilder::new(alloc),
         }
     }
 
@@ -114,12 +114,7 @@ impl Parser {
         let start = 2 * rule;
         let alt = net.written.as_slice()[start as usize];
         self.returns.push(back)?;
-        self.enters.push(self.items.len())?;
-        self.items.push(Item::Enter {
-            rule,
-            alt,
-            at: self.place,
-        })?;
+        self.tree.open(rule, alt, self.place)?;
         self.state = start;
         Ok(())
     }
@@ -130,7 +125,7 @@ impl Parser {
         ensures kept { OnOk result ((r : Run) → StandsFor self.old r → StandsFor self.new (with_token r r.frames)) }
     {
         if !self.returns.is_empty() {
-            self.items.push(Item::Token(self.place))?;
+            self.tree.token(self.place)?;
         }
         Ok(())
     }
@@ -154,22 +149,6 @@ impl Parser {
         Ok(())
     }
 
-    /// Gives the node at the place among the items another alternative.
-    fn set_alternative(&mut self, enter: usize, alternative: u32)
-        ensures others { self.new ≡ record self.old { items = self.new.items } }
-        ensures items { (before after : List Node) (rule alt at : ℕ) → self.old.items.items ≡ before ++ Enter rule alt at ∷ after → enter ≡ length before → self.new.items.items ≡ before ++ Enter rule alternative at ∷ after }
-    {
-        if enter < self.items.len() {
-            if let Item::Enter { rule, at, .. } = self.items[enter] {
-                self.items[enter] = Item::Enter {
-                    rule,
-                    alt: alternative,
-                    at,
-                };
-            }
-        }
-    }
-
     /// Writes the alternative of the newest open rule's node, where one as the grammar writes it begins.
     fn begin_alternative(&mut self, alternative: u32)
         ensures { (r : Run) → StandsFor self.old r → StandsFor self.new (with_begun alternative r) }
@@ -177,10 +156,7 @@ impl Parser {
         if alternative == 0 {
             return;
         }
-        if let Some(enter) = self.enters.last() {
-            let enter = *enter;
-            self.set_alternative(enter, alternative);
-        }
+        self.tree.set_alternative(alternative);
     }
 
     /// Goes to the alternative that prediction chooses.
@@ -221,9 +197,19 @@ impl Parser {
         let Some(back) = self.returns.pop() else {
             unreachable!()
         };
-        self.enters.pop();
-        self.items.push(Item::Exit)?;
+        self.tree.close()?;
         self.state = back;
+        Ok(())
+    }
+
+    /// Makes the node so far of the newest open rule the first child of a new node of the same rule.
+    fn pass_level(&mut self, net: &ParserNetwork, target: u32) -> Result<(), ParseFault>
+        requires { self.now.state < length net.now.written }
+        ensures { (word : List ℕ) (level : ℕ) (r : Run) → StandsFor self.old r → IsTurnBy net.now word (Some (Level level target)) r self.new result }
+    {
+        let alternative = net.written.as_slice()[self.state as usize];
+        self.tree.wrap(alternative)?;
+        self.state = target;
         Ok(())
     }
 
@@ -254,7 +240,7 @@ impl Parser {
                 Ok(())
             }
             State::Predicate(..) => unreachable!(),
-            State::Level(..) => unreachable!(),
+            State::Level(_, target) => self.pass_level(net, *target),
         }
     }
 }
@@ -267,11 +253,13 @@ pub fn parse(alloc: Global, net: &ParserNetwork, tokens: &[Token]) -> Result<Tre
     requires ready { IsReady net.now }
     requires ends { EndsInEnd (word_of tokens.now) }
     requires few { length tokens.now < 2 ^ 32 }
-    ensures { IsParse net.now (word_of tokens.now) result }
+    ensures parse { IsParse net.now (word_of tokens.now) result }
+    ensures tree { (set : List ℕ) (rules : List StepRule) (start : List ℕ) → IsBuilt set rules start net.now → IfOk result (IsTreeOf rules (word_of tokens.now)) }
 {
     let mut parser = Parser::new(alloc);
     'run: while !parser.has_ended(net) {
         parser.turn(alloc, net, tokens)?;
     }
-    Ok(Tree::new(parser.items))
+    let tree = parser.tree.finish(alloc)?;
+    Ok(tree)
 }

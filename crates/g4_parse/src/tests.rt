@@ -1,10 +1,12 @@
 // Parses over networks written by hand, whose trees and faults were worked out from the definitions.
-use crate::{Item, ParseFault, Tree, parse, print};
+use crate::{ParseFault, parse};
 use g4_base::{Sequence, Text};
 use g4_hand_nets::{Row, is_ready, network, tokens, two_contexts};
 use g4_net::ParserNetwork;
+use g4_source::ParserRule;
 use g4_symbols::EOF;
 use g4_token_list::{Token, Tokens};
+use g4_trees::{Item, Tree};
 use std::alloc::{AllocError, Global};
 use std::process::Abort;
 use std::test::Fail;
@@ -46,10 +48,22 @@ fn fault_text(alloc: Global, fault: ParseFault) -> Result<String, AllocError> {
     }
 }
 
+/// Rules of these names, which have no alternatives.
+fn rules_of(alloc: Global, names: &[&str]) -> Result<Vec<ParserRule<u32>>, AllocError> {
+    let mut rules = Vec::new(alloc);
+    for name in names {
+        rules.push(ParserRule {
+            name: Text::copy_of(alloc, name)?,
+            alternatives: Sequence::new(Vec::new(alloc)),
+        })?;
+    }
+    Ok(rules)
+}
+
 /// The text of a tree of these tokens, whose rules are `s` and `r`.
 fn tree_text(
     alloc: Global,
-    tree: &[Item],
+    tree: &Tree,
     list: Vec<Token>,
     bytes: &str,
 ) -> Result<Vec<u8>, AllocError> {
@@ -58,11 +72,9 @@ fn tree_text(
         all: Sequence::new(Vec::new(alloc)),
         list: Sequence::new(list),
     };
-    let mut names = Vec::new(alloc);
-    names.push(Text::copy_of(alloc, "s")?)?;
-    names.push(Text::copy_of(alloc, "r")?)?;
+    let rules = rules_of(alloc, &["s", "r"])?;
     let mut out = Vec::new(alloc);
-    print(&mut out, tree, names.as_slice(), &file)?;
+    tree.print(&mut out, rules.as_slice(), &file)?;
     Ok(out)
 }
 
@@ -77,7 +89,7 @@ fn outcome(
     let (answer, list) = parsed(rt, alloc, net, symbols)?;
     match answer {
         Ok(tree) => {
-            let out = tree_text(alloc, tree.as_slice(), list, bytes)?;
+            let out = tree_text(alloc, &tree, list, bytes)?;
             Ok(out)
         }
         Err(fault) => {
@@ -155,7 +167,10 @@ fn items(
 ) -> Result<Vec<Item>, AllocError> {
     let (answer, _) = parsed(rt, alloc, net, symbols)?;
     match answer {
-        Ok(tree) => Ok(tree.into_vec()),
+        Ok(tree) => {
+            let items = tree.items().to_vec(alloc)?;
+            Ok(items)
+        }
         Err(_) => Ok(Vec::new(alloc)),
     }
 }

@@ -13,7 +13,7 @@ use Rattle.g4_tool.specs.declared.files.Parsed.{Parsed}
 use Rattle.g4_tool.specs.declared.inputs.Input.{Input}
 use Rattle.g4_load.specs.declared.interpreter.Interpreter.{Interpreter}
 use Rattle.g4_tool.specs.declared.outcome.Outcome.{Outcome}
-use Rattle.g4_tool.specs.declared.outcome.Output.{Output}
+use Rattle.g4_words.specs.declared.command.Output.{Output}
 use Rattle.g4_tool.specs.declared.write.Line.{Line}
 use Rattle.g4_tool.specs.Outcomes.{IsOutcome, AreOutcomes, AreParsed, IsOneMore, is_accepted, lexing_refused, parsing_refused, outcome_lines, lines_of_files}
 

@@ -17,7 +17,7 @@ use Rattle.g4_tool.specs.declared.inputs.Input.{Input}
 use Rattle.g4_tool.specs.declared.outcome.Outcome.{Outcome}
 use Rattle.g4_tool.specs.Inputs.{inputs_of}
 use Rattle.g4_tool.specs.Outcomes.{AreOutcomes}
-use Rattle.g4_tool.specs.Ends.{End, stopped, checked, listed, all_parsed, output_of, EndsCheck, not_checked, grammar_checked, EndsAtn, not_listed, rule_listed, EndsParse, not_built, file_absent, files_parsed, Ends, HasEnd, no_command, of_command}
+use Rattle.g4_tool.specs.Ends.{End, stopped, checked, listed, all_parsed, EndsCheck, not_checked, grammar_checked, EndsAtn, not_listed, rule_listed, EndsParse, not_built, file_absent, files_parsed, Ends, HasEnd, no_command, of_command}
 use Rattle.g4_tool.proofs.OneOutcome.{one_outcome_each}
 
 module _ (files : Files) where
@@ -44,10 +44,10 @@ module _ (files : Files) where
     same_inputs r s h k = sym h ∙ k
 
     -- files that are all parsed
-    one_parsed : (i j : Interpreter) (is js : List Input) (os ps : List Outcome) → j ≡ i → js ≡ is → AreOutcomes i is os → AreOutcomes j js ps → all_parsed (output_of parse) i parse.files os ≡ all_parsed (output_of parse) j parse.files ps
+    one_parsed : (i j : Interpreter) (is js : List Input) (os ps : List Outcome) → j ≡ i → js ≡ is → AreOutcomes i is os → AreOutcomes j js ps → all_parsed parse.output i parse.files os ≡ all_parsed parse.output j parse.files ps
     one_parsed i j is js os ps interpreter inputs h k =
         let also : AreOutcomes i is ps = subst (λ xs. AreOutcomes i xs ps) inputs (subst (λ x. AreOutcomes x js ps) interpreter k) in
-        ap (λ x. all_parsed (output_of parse) x parse.files os) (sym interpreter) ∙ ap (λ xs. all_parsed (output_of parse) j parse.files xs) (one_outcome_each i is os ps h also)
+        ap (λ x. all_parsed parse.output x parse.files os) (sym interpreter) ∙ ap (λ xs. all_parsed parse.output j parse.files xs) (one_outcome_each i is os ps h also)
 
     -- `parse` has at most one end
     one_parse : (a b : End) → EndsParse files parse a → EndsParse files parse b → a ≡ b

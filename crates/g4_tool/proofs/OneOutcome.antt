@@ -7,7 +7,8 @@ use Rattle.g4_lexer.specs.declared.fault.LexFault.{LexFault}
 use Rattle.g4_lexer.specs.declared.fault.LexFault.TheVariants as lexing
 use Rattle.g4_lexer.specs.Lexing.{IsLexing, most_tokens}
 use Rattle.g4_lexer.proofs.Unique.{one_answer}
-use Rattle.g4_parse.specs.declared.tree.Item.{Item}
+use Rattle.g4_trees.specs.declared.tree.Item.{Item}
+use Rattle.g4_trees.specs.Trees.{items_of}
 use Rattle.g4_parse.specs.declared.parser.ParseFault.{ParseFault}
 use Rattle.g4_parse.specs.declared.parser.ParseFault.TheVariants as parsing
 use Rattle.g4_parse.specs.Parsing.{IsParse, Ends}
@@ -23,7 +24,7 @@ use Rattle.g4_load.proofs.OneStage.{IsSingleBeside}
 
 -- what a run's ending is as a result
 abbrev result_of : Ending → Result (List Item) ParseFault
-result_of (parsed tree) = Ok tree
+result_of (parsed tree) = Ok (items_of tree)
 result_of (not_viable at) = Err (parsing.NoViable at)
 result_of (mismatch at state) = Err (parsing.Mismatch at state)
 result_of (failed_predicate at rule) = Err parsing.NoMemory
@@ -31,7 +32,7 @@ result_of (too_deep at) = Err (parsing.TooDeep at)
 
 -- a result is that of an ending, want of memory aside
 from_ending : (net : ParserNetwork) (word : List ℕ) (r : Result (List Item) ParseFault) → IsParse net word r → r ≢ Err parsing.NoMemory → (e : Ending) × Ends net word e × (result_of e ≡ r)
-from_ending net word (Ok tree) p n = (parsed tree, p, refl)
+from_ending net word (Ok tree) (t, p, e) n = (parsed t, p, ap Ok (sym e))
 from_ending net word (Err (parsing.NoViable at)) p n = (not_viable at, p, refl)
 from_ending net word (Err (parsing.Mismatch at state)) p n = (mismatch at state, p, refl)
 from_ending net word (Err (parsing.TooDeep at)) p n = (too_deep at, p, refl)

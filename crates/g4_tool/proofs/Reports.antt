@@ -28,7 +28,7 @@ use Rattle.g4_load.specs.Loading.{Loads}
 use Rattle.g4_load.specs.Building.{Builds}
 use Rattle.g4_load.specs.Stages.{IsHaltOf}
 use Rattle.g4_tool.specs.Outcomes.{AreParsed, is_accepted, lines_of_files}
-use Rattle.g4_tool.specs.Ends.{End, stopped, checked, listed, all_parsed, output_of, EndsCheck, not_checked, grammar_checked, EndsAtn, not_listed, rule_listed, EndsParse, not_built, file_absent, files_parsed, Ends, HasEnd, no_command, of_command, status_of}
+use Rattle.g4_tool.specs.Ends.{End, stopped, checked, listed, all_parsed, EndsCheck, not_checked, grammar_checked, EndsAtn, not_listed, rule_listed, EndsParse, not_built, file_absent, files_parsed, Ends, HasEnd, no_command, of_command, status_of}
 use Rattle.g4_tool.specs.Report.{IsReportOf, IsReportOfFiles, IsReport, ReportsOrHalts, Means, ComesExactly, CanBeRun, IsComplete}
 use Rattle.g4_tool.proofs.OneByOne.{as_many, all_counted}
 use Rattle.g4_tool.proofs.OneEnd.{one_end, same_built, same_inputs}
@@ -84,15 +84,15 @@ module _ (files : Files) (words : List (List ℕ)) (parse : Parse) (fetched : Li
 
     -- a command whose files are parsed
     pub reports_files : (inputs : List Input) (made : Parsed) (count : ℕ) (report : Report) → inputs_of files parse.files ≡ Ok inputs → length parse.files ≡ length inputs → count ≡ length parse.files →
-        AreParsed (output_of parse) interpreter parse.files inputs made → IsReportOfFiles made count report → IsReport files words report
+        AreParsed parse.output interpreter parse.files inputs made → IsReportOfFiles made count report → IsReport files words report
     reports_files inputs made count report there paired counted are is =
         let all : count ≡ length are.outcomes = counted ∙ paired ∙ sym (as_many interpreter inputs are.outcomes are.are) in record {
-          end = all_parsed (output_of parse) interpreter parse.files are.outcomes;
-          has = of_command (commands.Parse parse) (all_parsed (output_of parse) interpreter parse.files are.outcomes) command (files_parsed fetched interpreter inputs are.outcomes built there are.are);
+          end = all_parsed parse.output interpreter parse.files are.outcomes;
+          has = of_command (commands.Parse parse) (all_parsed parse.output interpreter parse.files are.outcomes) command (files_parsed fetched interpreter inputs are.outcomes built there are.are);
           is = record {
             lines = is.lines ∙ ap (λ ls. ls ++ closing_line count made.accepted ∷ []) are.lines
-                ∙ ap (λ n. lines_of_files (output_of parse) interpreter parse.files are.outcomes ++ closing_line n made.accepted ∷ []) all
-                ∙ ap (λ n. lines_of_files (output_of parse) interpreter parse.files are.outcomes ++ closing_line (length are.outcomes) n ∷ []) are.accepted;
+                ∙ ap (λ n. lines_of_files parse.output interpreter parse.files are.outcomes ++ closing_line n made.accepted ∷ []) all
+                ∙ ap (λ n. lines_of_files parse.output interpreter parse.files are.outcomes ++ closing_line (length are.outcomes) n ∷ []) are.accepted;
             status = is.status ∙ ap (λ (n : ℕ). if made.accepted == n then Done else Refused) all ∙ ap (λ (n : ℕ). if n == length are.outcomes then Done else Refused) are.accepted
                 ∙ ap (λ (b : Bool). if b then Done else Refused) (all_counted are.outcomes);
           };

@@ -17,8 +17,7 @@ use Rattle.g4_tool.specs.Inputs.{inputs_of}
 use Rattle.g4_tool.specs.Outcomes.{AreOutcomes, is_accepted, lines_of_files}
 use Rattle.g4_tool.specs.declared.inputs.Input.{Input}
 use Rattle.g4_tool.specs.declared.outcome.Outcome.{Outcome}
-use Rattle.g4_tool.specs.declared.outcome.Output.{Output}
-use Rattle.g4_tool.specs.declared.outcome.Output.TheVariants.{Trees}
+use Rattle.g4_words.specs.declared.command.Output.{Output}
 use Rattle.g4_tool.specs.declared.write.Line.{Line}
 use Rattle.g4_tool.specs.declared.write.Line.TheVariants.{ToOut}
 use Rattle.g4_load.specs.declared.interpreter.Interpreter.{Interpreter}
@@ -37,10 +36,6 @@ pub data End : Type 0 where
   listed : List ℕ → End
   all_parsed : Output → Interpreter → (names : List (List ℕ)) → List Outcome → End
 
--- what is written of the files that are accepted
-abbrev pub output_of : Parse → Output
-output_of parse = Trees
-
 -- The end of `check`: its grammar is loaded, or not.
 pub data EndsCheck (files : Files) (check : Check) : End → Type 0 where
   not_checked : (fetched : List (List ℕ)) (stop : Stop) → Loads files check.grammar fetched (Err stop) → EndsCheck files check (stopped stop)
@@ -56,7 +51,7 @@ pub data EndsParse (files : Files) (parse : Parse) : End → Type 0 where
   not_built : (fetched : List (List ℕ)) (stop : Stop) → Builds files parse.grammar parse.start fetched (Err stop) → EndsParse files parse (stopped stop)
   file_absent : (fetched : List (List ℕ)) (interpreter : Interpreter) (name : List ℕ) → Builds files parse.grammar parse.start fetched (Ok interpreter) → inputs_of files parse.files ≡ Err name → EndsParse files parse (stopped (stops.Absent name))
   files_parsed : (fetched : List (List ℕ)) (interpreter : Interpreter) (inputs : List Input) (outcomes : List Outcome) → Builds files parse.grammar parse.start fetched (Ok interpreter) → inputs_of files parse.files ≡ Ok inputs → AreOutcomes interpreter inputs outcomes →
-      EndsParse files parse (all_parsed (output_of parse) interpreter parse.files outcomes)
+      EndsParse files parse (all_parsed parse.output interpreter parse.files outcomes)
 
 -- the end of a command
 abbrev pub Ends : Files → Command → End → Type 0

@@ -5,20 +5,22 @@ use Rattle.g4_token_list.specs.TokenList.{word_of}
 use Rattle.g4_lexer.specs.Lexing.{IsLexing}
 use Rattle.g4_lexer.specs.declared.fault.LexFault.{LexFault}
 use Rattle.g4_lexer.specs.declared.fault.LexFault.TheVariants as lexing
-use Rattle.g4_parse.specs.declared.tree.Item.{Item}
+use Rattle.g4_trees.specs.declared.tree.Item.{Item}
+use Rattle.g4_trees.specs.Events.{tree_events}
+use Rattle.g4_trees.specs.Trees.{Tree, items_of}
+use Rattle.g4_trees.specs.TreeText.{tree_text}
 use Rattle.g4_parse.specs.declared.parser.ParseFault.{ParseFault}
 use Rattle.g4_parse.specs.declared.parser.ParseFault.TheVariants as parsing
 use Rattle.g4_parse.specs.Parsing.{IsParse}
-use Rattle.g4_parse.specs.TreeText.{tree_text}
-use Rattle.g4_tool.specs.Texts.{line_of_tree, mismatch_line, no_viable_line, too_deep_line, no_token_line, many_tokens_line, not_utf8_line, large_line}
+use Rattle.g4_tool.specs.Texts.{line_of_events, line_of_tree, mismatch_line, no_viable_line, too_deep_line, no_token_line, many_tokens_line, not_utf8_line, large_line}
 use Rattle.g4_tool.specs.declared.inputs.Input.{Input}
 use Rattle.g4_tool.specs.declared.inputs.Input.TheVariants as inputs
 use Rattle.g4_load.specs.declared.interpreter.Interpreter.{Interpreter}
 use Rattle.g4_tool.specs.declared.outcome.Outcome.{Outcome}
 use Rattle.g4_tool.specs.declared.outcome.Outcome.TheVariants as outcomes
 use Rattle.g4_tool.specs.declared.files.Parsed.{Parsed}
-use Rattle.g4_tool.specs.declared.outcome.Output.{Output}
-use Rattle.g4_tool.specs.declared.outcome.Output.TheVariants.{Trees}
+use Rattle.g4_words.specs.declared.command.Output.{Output}
+use Rattle.g4_words.specs.declared.command.Output.TheVariants.{Trees, Events}
 use Rattle.g4_tool.specs.declared.write.Line.{Line}
 
 -- The outcome of an input: its size past the limit, the fault of its lexing, or the tree or the fault of the run over its tokens.
@@ -69,13 +71,25 @@ parse_lines interpreter name tokens (parsing.NoViable at) = no_viable_line name 
 parse_lines interpreter name tokens (parsing.TooDeep at) = too_deep_line name tokens at ∷ []
 parse_lines interpreter name tokens parsing.NoMemory = []
 
--- the lines of a tree
-abbrev pub tree_lines : Output → Interpreter → List ℕ → Tokens → List Item → List Line
-tree_lines Trees interpreter name tokens tree = line_of_tree name (tree_text interpreter.names tokens tree) ∷ []
+-- what is written of the tree that has these items: its text in a line, or the lines of its events
+abbrev pub tree_line : Output → Interpreter → List ℕ → Tokens → List Item → Line
+tree_line Trees interpreter name tokens tree = line_of_tree name (tree_text interpreter.rules tokens tree)
+tree_line Events interpreter name tokens tree = line_of_events interpreter.rules tokens name (tree_events tree)
+
+-- the items are those of a tree
+abbrev pub HasTree : List Item → Type 0
+HasTree tree = (t : Tree) × (tree ≡ items_of t)
+
+-- where the file is accepted, its items are those of a tree
+abbrev pub IsNested : Outcome → Type 0
+IsNested (outcomes.Tree tokens tree) = HasTree tree
+IsNested (outcomes.Lex fault) = Unit {0}
+IsNested (outcomes.Parse tokens fault) = Unit {0}
+IsNested (outcomes.TooLarge size) = Unit {0}
 
 -- the lines of the outcome of a file of this name
 abbrev pub outcome_lines : Output → Interpreter → List ℕ → Outcome → List Line
-outcome_lines output interpreter name (outcomes.Tree tokens tree) = tree_lines output interpreter name tokens tree
+outcome_lines output interpreter name (outcomes.Tree tokens tree) = tree_line output interpreter name tokens tree ∷ []
 outcome_lines output interpreter name (outcomes.Lex fault) = lex_lines name fault
 outcome_lines output interpreter name (outcomes.Parse tokens fault) = parse_lines interpreter name tokens fault
 outcome_lines output interpreter name (outcomes.TooLarge size) = large_line name size ∷ []

@@ -12,7 +12,10 @@ use Rattle.g4_net.specs.declared.network.State.TheVariants.{Decision, End, Edge,
 use Rattle.g4_net.specs.Network.{ParserNetwork, state_at}
 use Rattle.g4_token_list.specs.declared.token.Token.{Token}
 use Rattle.g4_token_list.specs.declared.token.Tokens.{Tokens}
-use Rattle.g4_parse.specs.TreeText.{text_at}
+use Rattle.g4_grammar.specs.StepRules.{StepRule}
+use Rattle.g4_trees.specs.declared.events.Event.{Event}
+use Rattle.g4_trees.specs.Events.{event_lines}
+use Rattle.g4_trees.specs.TreeText.{text_at}
 use Rattle.g4_tool.specs.declared.write.Line.{Line}
 use Rattle.g4_tool.specs.declared.write.Line.TheVariants.{ToOut, ToErr}
 
@@ -44,6 +47,10 @@ place_of_token list at = place_by (slice_get list at)
 -- the line of a tree
 abbrev pub line_of_tree : List ℕ → List ℕ → Line
 line_of_tree name tree = ToOut (((name ++ codes ": ") ++ tree) ++ codes "\n")
+
+-- the lines of events
+abbrev pub line_of_events : List StepRule → Tokens → List ℕ → List Event → Line
+line_of_events rules tokens name events = ToOut (event_lines rules tokens name events)
 
 -- the line of a token that a state does not take
 abbrev pub mismatch_line : List (List ℕ) → ParserNetwork → List ℕ → Tokens → ℕ → ℕ → Line

@@ -6,11 +6,12 @@ ghost use Rattle.g4_load.specs.Usable.{IsUsable};
 ghost use Rattle.g4_words.specs.declared.command.TheConstants.{MOST_FILES};
 
 use crate::inputs::Input;
-use crate::outcome::{Output, is_accepted, outcome_of, push_outcome};
+use crate::outcome::{is_accepted, outcome_of, push_outcome};
 use crate::write::Line;
 use g4_base::Text;
 use g4_load::Interpreter;
 use g4_ports::Gate;
+use g4_words::Output;
 use std::alloc::{AllocError, Global};
 
 /// The lines of files, and how many of the files were accepted.

@@ -8,8 +8,8 @@ use crate::write::Line;
 use g4_base::{Place, Sequence, Text, push_shown};
 use g4_net::{ParserNetwork, State};
 use g4_netlist::push_set;
-use g4_parse::push_token;
 use g4_token_list::{Token, Tokens};
+use g4_trees::push_token;
 use std::alloc::{AllocError, Global};
 
 /// The line of a text on err.

@@ -1,10 +1,11 @@
 // What becomes of a file, and the lines that are written of it.
 ghost use Rattle.std.specs.Prelude.{◌≡◌, ◌≤◌, ◌<◌, ◌^◌, ◌++◌, IfOk, OnOk, length};
 ghost use Rattle.g4_token_list.specs.TokenList.{EndsInEnd, word_of};
-ghost use Rattle.g4_parse.specs.TreeText.{tree_text};
-ghost use Rattle.g4_tool.specs.Texts.{line_of_tree};
+ghost use Rattle.g4_trees.specs.Events.{tree_events};
+ghost use Rattle.g4_trees.specs.TreeText.{tree_text};
+ghost use Rattle.g4_tool.specs.Texts.{line_of_events, line_of_tree};
 ghost use Rattle.g4_tool.specs.Inputs.{IsSmall};
-ghost use Rattle.g4_tool.specs.Outcomes.{IsOutcome, is_accepted, lex_lines, lexing_refused, outcome_lines, parse_lines, parsing_refused};
+ghost use Rattle.g4_tool.specs.Outcomes.{HasTree, IsNested, IsOutcome, is_accepted, lex_lines, lexing_refused, outcome_lines, parse_lines, tree_line, parsing_refused};
 ghost use Rattle.g4_load.specs.Usable.{IsUsable};
 
 use crate::inputs::Input;
@@ -13,16 +14,11 @@ use crate::write::Line;
 use g4_base::{MOST_BYTES, Octets, Sequence};
 use g4_lexer::{LexFault, tokens};
 use g4_load::Interpreter;
-use g4_parse::{ParseFault, Tree, parse, print};
+use g4_parse::{ParseFault, parse};
 use g4_token_list::Tokens;
+use g4_trees::Tree;
+use g4_words::Output;
 use std::alloc::{AllocError, Global};
-
-/// What is written of a file that is accepted.
-#[derive(Clone, Copy)]
-pub enum Output {
-    /// Its tree, in a line.
-    Trees,
-}
 
 /// What becomes of a file.
 #[derive(Drop)]
@@ -64,7 +60,8 @@ fn outcome_of_bytes(
 ) -> Result<Outcome, AllocError>
     requires usable { IsUsable interpreter.now }
     requires small { length bytes ≤ MOST_BYTES }
-    ensures { IfOk result (IsOutcome interpreter.now (Input.Bytes bytes)) }
+    ensures outcome { IfOk result (IsOutcome interpreter.now (Input.Bytes bytes)) }
+    ensures nested { IfOk result IsNested }
 {
     let rules = interpreter.token_rules.as_slice();
     let tokens = match tokens(alloc, rules, bytes) {
@@ -95,7 +92,8 @@ pub fn outcome_of(
 ) -> Result<Outcome, AllocError>
     requires usable { IsUsable interpreter.now }
     requires small { IsSmall input }
-    ensures { IfOk result (IsOutcome interpreter.now input) }
+    ensures outcome { IfOk result (IsOutcome interpreter.now input) }
+    ensures nested { IfOk result IsNested }
 {
     match input {
         Input::Bytes(bytes) => outcome_of_bytes(alloc, interpreter, bytes),
@@ -104,22 +102,57 @@ pub fn outcome_of(
 }
 
 /// The line of a tree.
-fn tree_line(
+fn text_line(
     alloc: Global,
     interpreter: &Interpreter,
     name: &str,
     tokens: &Tokens,
     tree: &Tree,
 ) -> Result<Line, AllocError>
-    ensures { IfOk result (λ line. line ≡ line_of_tree name.now (tree_text interpreter.now.names tokens.now tree.now)) }
+    requires { HasTree tree.now }
+    ensures { IfOk result (λ line. line ≡ line_of_tree name.now (tree_text interpreter.now.rules tokens.now tree.now)) }
 {
     let mut line = Vec::new(alloc);
     line.extend_from_slice(name.as_bytes())?;
     line.extend_from_slice(b": ")?;
-    let names = interpreter.names.as_slice();
-    print(&mut line, tree.as_slice(), names, tokens)?;
+    tree.print(&mut line, interpreter.rules.as_slice(), tokens)?;
     line.extend_from_slice(b"\n")?;
     Ok(Line::ToOut(Sequence::new(line)))
+}
+
+/// The lines of the events of a tree, as one.
+fn events_line(
+    alloc: Global,
+    interpreter: &Interpreter,
+    name: &str,
+    tokens: &Tokens,
+    tree: &Tree,
+) -> Result<Line, AllocError>
+    requires { HasTree tree.now }
+    ensures { IfOk result (λ line. line ≡ line_of_events interpreter.now.rules tokens.now name.now (tree_events tree.now)) }
+{
+    let mut lines = Vec::new(alloc);
+    let rules = interpreter.rules.as_slice();
+    tree.print_events(alloc, &mut lines, name, rules, tokens)?;
+    Ok(Line::ToOut(Sequence::new(lines)))
+}
+
+/// What is written of a tree.
+fn tree_line(
+    alloc: Global,
+    output: Output,
+    interpreter: &Interpreter,
+    name: &str,
+    tokens: &Tokens,
+    tree: &Tree,
+) -> Result<Line, AllocError>
+    requires { HasTree tree.now }
+    ensures { IfOk result (λ line. line ≡ tree_line output interpreter.now name.now tokens.now tree.now) }
+{
+    match output {
+        Output::Trees => text_line(alloc, interpreter, name, tokens, tree),
+        Output::Events => events_line(alloc, interpreter, name, tokens, tree),
+    }
 }
 
 /// Adds the line of a lexer's fault.
@@ -175,12 +208,13 @@ pub fn push_outcome(
     name: &str,
     outcome: &Outcome,
 ) -> Result<(), AllocError>
+    requires { IsNested outcome.now }
     ensures { OnOk result (lines.new.items ≡ lines.old.items ++ outcome_lines output interpreter.now name.now outcome.now) }
 {
     match outcome {
-        Outcome::Tree(tokens, tree) => match output {
-            Output::Trees => lines.push(tree_line(alloc, interpreter, name, tokens, tree)?)?,
-        },
+        Outcome::Tree(tokens, tree) => {
+            lines.push(tree_line(alloc, output, interpreter, name, tokens, tree)?)?
+        }
         Outcome::Lex(fault) => push_lex(lines, alloc, name, fault)?,
         Outcome::Parse(tokens, fault) => {
             push_parse(lines, alloc, interpreter, name, tokens, fault)?

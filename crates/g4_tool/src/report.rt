@@ -11,7 +11,6 @@ ghost use Rattle.g4_words.specs.declared.command.TheConstants.{MOST_FILES};
 
 use crate::files::{Parsed, parse_files};
 use crate::inputs::fetch_all;
-use crate::outcome::Output;
 use crate::status::Status;
 use crate::stop::{line_of, status_of};
 use crate::write::Line;
@@ -154,7 +153,7 @@ fn run_parse<S: Shelf, G: Gate>(
     let interpreter = build_interpreter(alloc, shelf, grammar, start)?;
     let names = parse.files.as_slice();
     let inputs = fetch_all(alloc, shelf, names)?;
-    let parsed = parse_files(alloc, Output::Trees, &interpreter, names, inputs, gate)?;
+    let parsed = parse_files(alloc, parse.output, &interpreter, names, inputs, gate)?;
     let report = report_files(alloc, parsed, names.len())?;
     Ok(report)
 }

@@ -37,7 +37,7 @@ const PARSE: &str = "parse -g X.g4 -s r f";
 const CALLS: &str = "grammar X; r : (e ';')* ; e : t ('+' t)* ; t : '(' e ')' | 'x' ;";
 
 // Words, grammar and text, and what they give: out, err and the status.
-const REPORTS: [(&str, &str, &str, &str, &str, Status); 8] = [
+const REPORTS: [(&str, &str, &str, &str, &str, Status); 9] = [
     (
         PARSE,
         HELLO,
@@ -59,6 +59,14 @@ const REPORTS: [(&str, &str, &str, &str, &str, Status); 8] = [
         CALLS,
         "x+(x);",
         "f: (r (e (t x) + (t ( (e (t x)) ))) ;)\nfiles 1 accepted 1\n",
+        "",
+        Status::Done,
+    ),
+    (
+        "parse -g X.g4 -s e --events f",
+        "grammar X; e : t # Add ; t : 'x' ;",
+        "x",
+        "f: enter Add 1\nf: enter t 1\nf: token x\nf: exit t 1\nf: exit Add 1\nfiles 1 accepted 1\n",
         "",
         Status::Done,
     ),

@@ -1,5 +1,5 @@
 -- Words that `clap` accepts for the command line of `g4` are a command, where their files are few enough.
-use Rattle.std.proofs.Common.{◌≡◌, ◌&&◌, ◌||◌, ℕ, Bool, cond, true, false, not, List, [], ◌∷◌, Option, Some, None, is_some, refl, sym, subst, codes, slice_index_or}
+use Rattle.std.proofs.Common.{◌≡◌, ◌&&◌, ◌||◌, ℕ, Bool, cond, true, false, not, List, [], ◌∷◌, Option, Some, None, is_some, refl, sym, subst, codes, slice_index_or, arith}
 use Rattle.std.specs.Prelude.{fold, option_map}
 use Rattle.std.specs.Option.{option_map_or}
 use Rattle.std.specs.Str.{bytes_eq}
@@ -15,7 +15,8 @@ use Rattle.g4_words.specs.App.{g4_app}
 use Rattle.g4_words.specs.Commands.{HasFewFiles, IsCommand}
 use Rattle.g4_words.specs.declared.command.Command.{Command}
 use Rattle.g4_words.specs.declared.command.Command.TheVariants as commands
-use Rattle.g4_words.proofs.Rows.{FillAll, fills_by_help, fills_by_values, first_none, given_has_value, second_none, some_fault}
+use Rattle.g4_words.proofs.Outputs.{some_output}
+use Rattle.g4_words.proofs.Rows.{FillAll, fills_by_flag, fills_by_help, fills_by_values, first_none, given_has_value, second_none, some_fault}
 use Rattle.g4_words.proofs.Walks.{level_filled}
 
 -- ---- no walk without a fault stops at `help`
@@ -133,7 +134,10 @@ abbrev rule_of : ℕ → ℕ → Rule
 rule_of i k = slice_index_or (command_at i).rules k help_rule
 
 parse_fills : FillAll (command_at 0).rules
-parse_fills = (fills_by_values (rule_of 0 0) refl, (fills_by_values (rule_of 0 1) refl, (fills_by_values (rule_of 0 2) refl, (fills_by_help (rule_of 0 3) refl, tt))))
+parse_fills = (
+  fills_by_values (rule_of 0 0) refl,
+  (fills_by_values (rule_of 0 1) refl, (fills_by_flag (rule_of 0 2) (omega arith), (fills_by_values (rule_of 0 3) refl, (fills_by_help (rule_of 0 4) refl, tt)))),
+)
 
 check_fills : FillAll (command_at 1).rules
 check_fills = (fills_by_values (rule_of 1 0) refl, (fills_by_help (rule_of 1 1) refl, tt))
@@ -162,14 +166,15 @@ module _ (words : List Text) (accepted : fault_of g4_app words ≡ []) (few : Ha
       let there = three_given (is_given (codes "grammar") rows) (is_given (codes "start") rows) (is_given (codes "files") rows) level.1 in
       let grammar = given_has_value (codes "grammar") rows level.0 there.0 in
       let start = given_has_value (codes "start") rows level.0 there.1 in
-      let files = given_has_value (codes "files") rows level.0 there.2 in (
-        commands.Parse (record { grammar = grammar.first; start = start.first; files = files.first ∷ files.others }),
+      let files = given_has_value (codes "files") rows level.0 there.2 in
+      let output = some_output rows in (
+        commands.Parse (record { grammar = grammar.first; start = start.first; output = output.0; files = files.first ∷ files.others }),
         record {
           accepted = accepted;
           name = codes "parse";
           rows = rows;
           given = given;
-          named = (refl, record { grammar = grammar.one; start = start.one; files = files.all; few = few (codes "parse") rows (files.first ∷ files.others) given files.all });
+          named = (refl, record { grammar = grammar.one; start = start.one; output = output.1; files = files.all; few = few (codes "parse") rows (files.first ∷ files.others) given files.all });
         },
       )
 

@@ -1,5 +1,5 @@
 -- Words are at most one command.
-use Rattle.std.proofs.Common.{◌≡◌, List, Option, Some, ap, ◌∙◌, refl, subst, sym}
+use Rattle.std.proofs.Common.{◌≡◌, List, Option, Some, ap, ◌∙◌, refl, subst, sym, true≢false}
 use Rattle.std.specs.Prelude.{codes, true, false}
 use Rattle.std.specs.Str.{bytes_eq}
 use Rattle.clap.specs.Words.{Row, Text, all_of, first_of, subcommand_of}
@@ -9,7 +9,9 @@ use Rattle.g4_words.specs.declared.command.Atn.{Atn}
 use Rattle.g4_words.specs.declared.command.Check.{Check}
 use Rattle.g4_words.specs.declared.command.Command.{Command}
 use Rattle.g4_words.specs.declared.command.Command.TheVariants as commands
+use Rattle.g4_words.specs.declared.command.Output.{Output}
 use Rattle.g4_words.specs.declared.command.Parse.{Parse}
+use Rattle.g4_words.proofs.Outputs.{one_output}
 
 -- a value that is given is one
 one_value : {X : Type 0} (given : Option X) (a b : X) → given ≡ Some a → given ≡ Some b → a ≡ b
@@ -18,9 +20,10 @@ one_value given a b p q = cc
 -- values are those of at most one `parse`, of at most one `check`, and of at most one `atn`
 one_parse : (rows : List Row) (a b : Parse) → IsParse rows a → IsParse rows b → a ≡ b
 one_parse rows a b p q =
-    ap (λ (t : Text). record { grammar = t; start = a.start; files = a.files }) (one_value (first_of (codes "grammar") rows) a.grammar b.grammar p.grammar q.grammar)
-    ∙ ap (λ (t : Text). record { grammar = b.grammar; start = t; files = a.files }) (one_value (first_of (codes "start") rows) a.start b.start p.start q.start)
-    ∙ ap (λ (ts : List Text). record { grammar = b.grammar; start = b.start; files = ts }) (one_value (all_of (codes "files") rows) a.files b.files p.files q.files)
+    ap (λ (t : Text). record { grammar = t; start = a.start; output = a.output; files = a.files }) (one_value (first_of (codes "grammar") rows) a.grammar b.grammar p.grammar q.grammar)
+    ∙ ap (λ (t : Text). record { grammar = b.grammar; start = t; output = a.output; files = a.files }) (one_value (first_of (codes "start") rows) a.start b.start p.start q.start)
+    ∙ ap (λ (o : Output). record { grammar = b.grammar; start = b.start; output = o; files = a.files }) (one_output rows a.output b.output p.output q.output)
+    ∙ ap (λ (ts : List Text). record { grammar = b.grammar; start = b.start; output = b.output; files = ts }) (one_value (all_of (codes "files") rows) a.files b.files p.files q.files)
 
 one_check : (rows : List Row) (a b : Check) → IsCheck rows a → IsCheck rows b → a ≡ b
 one_check rows a b p q = ap (λ (t : Text). record { grammar = t }) (one_value (first_of (codes "grammar") rows) a.grammar b.grammar p q)
@@ -31,11 +34,8 @@ one_atn rows a b p q =
     ∙ ap (λ (t : Text). record { grammar = b.grammar; rule = t }) (one_value (first_of (codes "rule") rows) a.rule b.rule p.rule q.rule)
 
 -- no name is that of two commands
-no_way : true ≡ false → ⊥
-no_way h = cc
-
 apart : (one other : Text) → bytes_eq one one ≡ true → bytes_eq one other ≡ false → one ≡ other → ⊥
-apart one other itself not_other same = no_way (sym itself ∙ ap (bytes_eq one) same ∙ not_other)
+apart one other itself not_other same = true≢false (sym itself ∙ ap (bytes_eq one) same ∙ not_other)
 
 parse_is_not_check : codes "parse" ≡ codes "check" → ⊥
 parse_is_not_check = apart (codes "parse") (codes "check") refl refl

@@ -99,6 +99,11 @@ fills_by_values rule one again [] rows none h =
     absurd (some_fault InvalidValue [] (subst (λ n. or_else (range_kinds n (most_values rule) 0) (action_fault (action_of rule) again rule (values_or_missing rule []) rows) ≡ []) one none))
 fills_by_values rule one again (v ∷ vs) rows none h = filled-used_as (action_of rule) rule.id (reading_by rule) (v ∷ vs) rows (omega arith) h
 
+-- a flag, which has a value of its own
+pub fills_by_flag : (rule : Rule) → 0 < length rule.missing → Fills rule
+fills_by_flag rule some again [] rows none h = filled-used_as (action_of rule) rule.id (reading_by rule) rule.missing rows some h
+fills_by_flag rule some again (v ∷ vs) rows none h = filled-used_as (action_of rule) rule.id (reading_by rule) (v ∷ vs) rows (omega arith) h
+
 -- an argument that asks for help
 pub fills_by_help : (rule : Rule) → action_of rule ≡ Help → Fills rule
 fills_by_help rule is again values rows none h = subst (λ (x : ArgAction). Filled (used_as x rule.id (reading_by rule) (values_or_missing rule values) rows)) (sym is) h

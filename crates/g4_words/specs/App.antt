@@ -1,11 +1,15 @@
 -- The command line of `g4`, in the terms of `clap`.
 use Rattle.std.specs.Prelude.{ℕ, Some, true, codes}
 use Rattle.clap.specs.Words.{App, Rule, Text, new_app, new_rule, with_rule, with_subcommand}
-use Rattle.clap.specs.declared.builder.ArgAction.TheVariants.{Append, Set}
+use Rattle.clap.specs.declared.builder.ArgAction.TheVariants.{Append, Set, SetTrue}
 
 -- an option with one value, under a name of one letter
 abbrev pub option_rule : Text → ℕ → Rule
 option_rule id letter = record (new_rule id) { short = Some letter; action = Some Set }
+
+-- a flag, under its own name
+abbrev pub flag_rule : Text → Rule
+flag_rule name = record (new_rule name) { long = Some name; action = Some SetTrue }
 
 -- one word in its place
 abbrev pub word_rule : Text → Rule
@@ -26,10 +30,10 @@ letter_g = 103
 abbrev pub letter_s : ℕ
 letter_s = 115
 
--- `parse -g GRAMMAR -s RULE FILE..`
+-- `parse -g GRAMMAR -s RULE [--events] FILE..`
 abbrev pub parse_app : App
-parse_app = with_rule (with_rule (with_rule (new_app (codes "parse")) (needed_rule (option_rule (codes "grammar") letter_g)))
-    (needed_rule (option_rule (codes "start") letter_s))) (needed_rule (words_rule (codes "files")))
+parse_app = with_rule (with_rule (with_rule (with_rule (new_app (codes "parse")) (needed_rule (option_rule (codes "grammar") letter_g)))
+    (needed_rule (option_rule (codes "start") letter_s))) (flag_rule (codes "events"))) (needed_rule (words_rule (codes "files")))
 
 -- `check GRAMMAR`
 abbrev pub check_app : App

@@ -1,21 +1,38 @@
 -- Which words are a command.
-use Rattle.std.specs.Prelude.{◌≡◌, ◌≢◌, ◌≤◌, List, [], Result, Ok, Err, Some, codes, length}
-use Rattle.clap.specs.Words.{Row, Text, all_of, fault_of, first_of, subcommand_of, subcommand_rows_of}
+use Rattle.std.specs.Prelude.{◌≡◌, ◌≢◌, ◌≤◌, ◌⊎◌, List, [], Result, Ok, Err, Some, codes, length}
+use Rattle.clap.specs.Words.{Row, Text, all_of, fault_of, first_of, one_of, subcommand_of, subcommand_rows_of}
 use Rattle.clap.specs.declared.parser.matches.ArgMatches.{ArgMatches}
 use Rattle.g4_words.specs.App.{g4_app}
 use Rattle.g4_words.specs.declared.command.Atn.{Atn}
 use Rattle.g4_words.specs.declared.command.Check.{Check}
 use Rattle.g4_words.specs.declared.command.Command.{Command}
 use Rattle.g4_words.specs.declared.command.Command.TheVariants as commands
+use Rattle.g4_words.specs.declared.command.Output.{Output}
+use Rattle.g4_words.specs.declared.command.Output.TheVariants as outputs
 use Rattle.g4_words.specs.declared.command.Parse.{Parse}
 use Rattle.g4_words.specs.declared.command.TheConstants.{MOST_FILES}
 use Rattle.g4_words.specs.declared.reading.WordsFault.{WordsFault}
 use Rattle.g4_words.specs.declared.reading.WordsFault.TheVariants.{Usage, NoMemory}
 
+-- the flag is given: its value is `true`
+abbrev pub HasFlag : Text → List Row → Type 0
+HasFlag name rows = one_of name rows ≡ Some (codes "true")
+
+-- a flag asks for this output; none asks for the trees
+abbrev pub IsAskedFor : List Row → Output → Type 0
+IsAskedFor rows outputs.Trees = ⊥
+IsAskedFor rows outputs.Events = HasFlag (codes "events") rows
+
+-- the output is the only one that a flag asks for, or the trees where no flag asks for any
+pub record IsOutput (rows : List Row) (output : Output) : Type 0 where
+  pub only : (other : Output) → IsAskedFor rows other → other ≡ output
+  pub asked : (output ≡ outputs.Trees) ⊎ IsAskedFor rows output
+
 -- the values of `parse`
 pub record IsParse (rows : List Row) (parse : Parse) : Type 0 where
   pub grammar : first_of (codes "grammar") rows ≡ Some parse.grammar
   pub start : first_of (codes "start") rows ≡ Some parse.start
+  pub output : IsOutput rows parse.output
   pub files : all_of (codes "files") rows ≡ Some parse.files
   pub few : length parse.files ≤ MOST_FILES
 

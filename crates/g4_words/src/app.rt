@@ -2,7 +2,7 @@
 ghost use Rattle.std.specs.Prelude.{◌≡◌, IfOk, false};
 ghost use Rattle.clap.specs.Words.{app_of, rule_of, with_rule, with_subcommand};
 ghost use Rattle.clap.specs.declared.Command.TheViews.{out-Command as fields_of};
-ghost use Rattle.g4_words.specs.App.{atn_app, base_app, check_app, g4_app, needed_rule, option_rule, parse_app, word_rule, words_rule};
+ghost use Rattle.g4_words.specs.App.{atn_app, base_app, check_app, flag_rule, g4_app, needed_rule, option_rule, parse_app, word_rule, words_rule};
 
 use clap::{Arg, ArgAction, Command};
 use std::alloc::{AllocError, Global};
@@ -13,6 +13,14 @@ fn option<'a>(alloc: Global, id: &'a str, short: char) -> Arg<'a>
     ensures local { result.global ≡ false }
 {
     Arg::new(alloc, id).short(short).action(ArgAction::Set)
+}
+
+/// A flag, as `--NAME`.
+fn flag<'a>(alloc: Global, name: &'a str) -> Arg<'a>
+    ensures rule { rule_of result ≡ flag_rule name.entry.now }
+    ensures local { result.global ≡ false }
+{
+    Arg::new(alloc, name).long(name).action(ArgAction::SetTrue)
 }
 
 /// One word in its place.
@@ -49,7 +57,7 @@ fn with_arg<'a>(command: Command<'a>, arg: Arg<'a>) -> Result<Command<'a>, Alloc
     command.arg(arg)
 }
 
-/// `parse -g GRAMMAR -s RULE FILE..`
+/// `parse -g GRAMMAR -s RULE [--events] FILE..`
 fn parse_command<'a>(alloc: Global) -> Result<Command<'a>, AllocError>
     ensures app { IfOk result (λ c. app_of c ≡ parse_app) }
     ensures local { IfOk result (λ c. (fields_of c).has_globals ≡ false) }
@@ -57,6 +65,7 @@ fn parse_command<'a>(alloc: Global) -> Result<Command<'a>, AllocError>
     let command = Command::new(alloc, "parse");
     let command = with_arg(command, needed(option(alloc, "grammar", 'g')))?;
     let command = with_arg(command, needed(option(alloc, "start", 's')))?;
+    let command = with_arg(command, flag(alloc, "events"))?;
     let command = with_arg(command, needed(words(alloc, "files")))?;
     Ok(command)
 }

@@ -4,13 +4,24 @@ use g4_base::{Sequence, Text};
 /// The most files of a command line.
 pub const MOST_FILES: usize = 4_096;
 
-/// `parse -g GRAMMAR -s RULE FILE..`: parse files by a rule of a grammar.
+/// What is written of a file that is accepted.
+#[derive(Clone, Copy, Debug, PartialEq, Eq)]
+pub enum Output {
+    /// Its tree, in a line.
+    Trees,
+    /// The events of its tree, in a line each.
+    Events,
+}
+
+/// `parse -g GRAMMAR -s RULE [--events] FILE..`: parse files by a rule of a grammar.
 #[derive(Drop)]
 pub struct Parse {
     /// The name of the grammar's file.
     pub grammar: Text,
     /// The name of the start rule.
     pub start: Text,
+    /// What is written of each file.
+    pub output: Output,
     /// The names of the files to parse, in the order of the words.
     pub files: Sequence<Text>,
 }

@@ -9,6 +9,6 @@ mod reading;
 #[cfg(test)]
 mod tests;
 
-pub use command::{Atn, Check, Command, MOST_FILES, Parse};
+pub use command::{Atn, Check, Command, MOST_FILES, Output, Parse};
 pub use law::{one_command, some_command};
 pub use reading::{WordsFault, read_words};

@@ -1,10 +1,10 @@
 // The command that words are.
-ghost use Rattle.std.specs.Prelude.{◌≡◌, IfOk, map, option_map, string_bytes};
+ghost use Rattle.std.specs.Prelude.{◌≡◌, ◌↔◌, IfOk, true, map, option_map, string_bytes};
 ghost use Rattle.clap.specs.Words.{all_of, first_of, found_of, rows_of};
-ghost use Rattle.g4_words.specs.Commands.{Accepts, Finds, IsAtn, IsCheck, IsCommand, IsNamed, IsParse};
+ghost use Rattle.g4_words.specs.Commands.{Accepts, Finds, HasFlag, IsAtn, IsCheck, IsCommand, IsNamed, IsOutput, IsParse};
 
 use crate::app::g4_command;
-use crate::command::{Atn, Check, Command, MOST_FILES, Parse};
+use crate::command::{Atn, Check, Command, MOST_FILES, Output, Parse};
 use clap::ArgMatches;
 use clap::error::ErrorKind;
 use g4_base::{Sequence, Text};
@@ -58,6 +58,24 @@ fn values_of<'v, 'a>(values: &'v ArgMatches<'a>, id: &str) -> Option<&'v [&'a st
     values.get_strs(id)
 }
 
+/// Whether `clap` gives the flag.
+fn has_flag(values: &ArgMatches<'_>, name: &str) -> bool
+    ensures { (result ≡ true) ↔ HasFlag name.now (rows_of (found_of values.now)) }
+{
+    values.get_one::<bool>(name) == Some(true)
+}
+
+/// What the flags ask to be written.
+fn output_of(values: &ArgMatches<'_>) -> Output
+    ensures { IsOutput (rows_of (found_of values.now)) result }
+{
+    if has_flag(values, "events") {
+        Output::Events
+    } else {
+        Output::Trees
+    }
+}
+
 fn copies_of(alloc: Global, texts: &[&str]) -> Result<Sequence<Text>, AllocError>
     ensures { IfOk result (λ s. s ≡ map (λ t. t.now) texts.now) }
 {
@@ -86,6 +104,7 @@ fn read_parse(alloc: Global, values: &ArgMatches<'_>) -> Result<Parse, WordsFaul
     Ok(Parse {
         grammar: Text::copy_of(alloc, grammar)?,
         start: Text::copy_of(alloc, start)?,
+        output: output_of(values),
         files: copies_of(alloc, files)?,
     })
 }

@@ -1,11 +1,11 @@
 // Word lists, and the commands that they are.
-use crate::{Command, MOST_FILES, WordsFault, read_words};
+use crate::{Command, MOST_FILES, Output, WordsFault, read_words};
 use std::alloc::{AllocError, Global};
 use std::fmt::Write;
 use std::test::Fail;
 
-/// The word lists of which each is a command, and this command. `_` is an empty word.
-const COMMANDS: [(&str, &str); 23] = [
+/// The word lists of which each is a command, and this command: `events` is a `parse` that writes events. `_` is an empty word.
+const COMMANDS: [(&str, &str); 28] = [
     ("parse -g G -s R a b c", "parse G R a b c"),
     ("parse -s R -g G a", "parse G R a"),
     ("parse a -g G b -s R c", "parse G R a b c"),
@@ -19,6 +19,17 @@ const COMMANDS: [(&str, &str); 23] = [
     ("parse -g check -s parse -", "parse check parse -"),
     ("parse -g _ -s _ _ a", "parse _ _ _ a"),
     ("parse -g=-g -s-s a", "parse -g -s a"),
+    ("parse -g G -s R --events a b", "events G R a b"),
+    ("parse a --events b -s R -g G", "events G R a b"),
+    (
+        "parse -g=--events -s--events a",
+        "parse --events --events a",
+    ),
+    (
+        "parse -g G -s R -- --events --events",
+        "parse G R --events --events",
+    ),
+    ("parse -g G -s R events", "parse G R events"),
     ("check G", "check G"),
     ("check _", "check _"),
     ("check -- -G", "check -G"),
@@ -32,7 +43,7 @@ const COMMANDS: [(&str, &str); 23] = [
 ];
 
 /// The word lists that are no command.
-const OTHERS: [&str; 44] = [
+const OTHERS: [&str; 53] = [
     "",
     "_",
     "G",
@@ -53,13 +64,21 @@ const OTHERS: [&str; 44] = [
     "parse --grammar G -s R a",
     "parse -g G -s R a -h",
     "parse -g G -s R a --help",
+    "parse -g G -s R --events a --events",
+    "parse -g G -s R --events",
+    "parse -g G -s R --events=true a",
+    "parse -g G -s R --event a",
+    "parse -g G -s R -e a",
+    "parse -g --events -s R a",
     "-g G -s R parse a",
+    "--events parse -g G -s R a",
     "g4 parse -g G -s R a",
     "-- parse -g G -s R a",
     "check",
     "check G H",
     "check -g G",
     "check G -s R",
+    "check G --events",
     "check G --help",
     "check -G",
     "atn",
@@ -68,6 +87,7 @@ const OTHERS: [&str; 44] = [
     "atn G R S",
     "atn -g G -s R",
     "atn G -R",
+    "atn G R --events",
     "atn G R --help",
     "-- atn G R",
     "chec G",
@@ -96,10 +116,18 @@ fn push_word(shown: &mut String, word: &str) -> Result<(), AllocError> {
     shown.push_str(if word.is_empty() { "_" } else { word })
 }
 
+/// How a `parse` with this output is shown.
+fn parse_word(output: Output) -> &'static str {
+    match output {
+        Output::Trees => "parse",
+        Output::Events => "events",
+    }
+}
+
 fn shown(alloc: Global, command: &Command) -> Result<String, AllocError> {
     match command {
         Command::Parse(parse) => {
-            let mut shown = String::from_str(alloc, "parse")?;
+            let mut shown = String::from_str(alloc, parse_word(parse.output))?;
             push_word(&mut shown, parse.grammar.as_str())?;
             push_word(&mut shown, parse.start.as_str())?;
             for file in parse.files.as_slice() {

@@ -18,4 +18,4 @@ pub returns-clause-laid : goal.returns-clause-laid
 returns-clause-laid c =
     let names = names_are c.args.grammar _ _ c.in_ok-names.ensures c.as_slice.ensures in
     let steps = steps_are c.args.grammar _ _ _ _ names (c.new-2.ensures ∙ c.new.ensures.items) c.into_vec.ensures c.in_ok-steps.ensures.steps in
-    laid _ c.args.grammar _ c.in-Ok.net _ (c.as_slice-2.ensures.value ∙ steps) c.in-Ok.ensures names
+    laid _ c.args.grammar _ _ c.in-Ok.net _ (c.as_slice-2.ensures.value ∙ steps) (c.new-3.ensures ∙ steps) c.in-Ok.ensures names

@@ -1,9 +1,8 @@
-use Rattle.std.proofs.Common.{List, refl, sym, subst}
+use Rattle.std.proofs.Common.{Ok, refl}
 use Rattle.g4_token_list.specs.TokenList.{word_of}
-use Rattle.g4_parse.specs.declared.tree.Item.{Item}
-use Rattle.g4_parse.specs.Running.{parsed}
-use Rattle.g4_parse.specs.Parsing.{Ends}
-use Rattle.g4_parse.proofs.Onward.{begun_onward, state_within, underway, turn_onward, turn_falls, turn_fails, parse_fails, ended_onward}
+use Rattle.g4_parse.specs.Parsing.{IsParse}
+use Rattle.g4_parse.proofs.Fitting.{answer_fits}
+use Rattle.g4_parse.proofs.Onward.{begun_onward, state_within, underway, turn_onward, turn_falls, turn_fails, parse_fails, parse_ends}
 use Rattle.g4_parse.proofs.parser.parse.Goals as goal
 
 pub run-init : goal.run-init
@@ -22,7 +21,11 @@ pub run-preserved : goal.run-preserved
 run-preserved c = turn_onward c.args.net.now (word_of c.args.tokens.now) c.run.parser c.turn.new.self c.run.invariant c.in_ok-turn.ensures
 
 pub returns-in_err-turn : goal.returns-in_err-turn
-returns-in_err-turn c = parse_fails c.args.net.now (word_of c.args.tokens.now) c.from_residual.result c.in_err-turn.field-0.0 c.from_residual.ensures.1 (turn_fails c.args.net.now (word_of c.args.tokens.now) c.run.parser c.turn.new.self c.in_err-turn.field-0.0 c.run.invariant c.in_err-turn.ensures)
+returns-in_err-turn c =
+    let fails : IsParse c.args.net.now (word_of c.args.tokens.now) c.from_residual.result = parse_fails c.args.net.now (word_of c.args.tokens.now) c.from_residual.result c.in_err-turn.field-0.0 c.from_residual.ensures.1 (turn_fails c.args.net.now (word_of c.args.tokens.now) c.run.parser c.turn.new.self c.in_err-turn.field-0.0 c.run.invariant c.in_err-turn.ensures) in
+    record { parse = fails; tree = answer_fits c.args.net.now (word_of c.args.tokens.now) c.from_residual.result c.requires.ends fails }
 
 pub returns : goal.returns
-returns c = subst (λ (t : List Item). Ends c.args.net.now (word_of c.args.tokens.now) (parsed t)) (sym c.new.ensures) (ended_onward c.args.net.now (word_of c.args.tokens.now) c.run.parser c.run.invariant (c.run-test.ensures.0 refl))
+returns c =
+    let ends : IsParse c.args.net.now (word_of c.args.tokens.now) (Ok c.in_ok-tree.tree) = parse_ends c.args.net.now (word_of c.args.tokens.now) c.run.parser c.in_ok-tree.tree c.run.invariant (c.run-test.ensures.0 refl) c.in_ok-tree.ensures in
+    record { parse = ends; tree = answer_fits c.args.net.now (word_of c.args.tokens.now) (Ok c.in_ok-tree.tree) c.requires.ends ends }

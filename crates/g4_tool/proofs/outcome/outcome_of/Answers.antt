@@ -2,5 +2,5 @@ use Rattle.std.proofs.Common.{subst, sym}
 use Rattle.g4_tool.specs.Outcomes.{too_large}
 use Rattle.g4_tool.proofs.outcome.outcome_of.Goals as goal
 
-pub returns-in-TooLarge : goal.returns-in-TooLarge
-returns-in-TooLarge c = too_large c.in-TooLarge.size c.in-TooLarge.is
+pub returns-in-TooLarge-clause-outcome : goal.returns-in-TooLarge-clause-outcome
+returns-in-TooLarge-clause-outcome c = too_large c.in-TooLarge.size c.in-TooLarge.is

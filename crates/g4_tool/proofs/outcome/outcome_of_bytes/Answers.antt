@@ -8,21 +8,24 @@ use Rattle.g4_tool.specs.Outcomes.{not_lexed, not_parsed, parsed}
 use Rattle.g4_tool.proofs.OneByOne.{by_its_rules, lexed_apart, parsed_apart}
 use Rattle.g4_tool.proofs.outcome.outcome_of_bytes.Goals as goal
 
-pub returns-in-Err : goal.returns-in-Err
-returns-in-Err c =
+pub returns-in-Err-clause-outcome : goal.returns-in-Err-clause-outcome
+returns-in-Err-clause-outcome c =
     not_lexed c.args.bytes c.in-Err.fault refl
     (by_its_rules _ _ (λ (rs : List TokenRule). IsLexing rs c.args.bytes (Err c.in-Err.fault)) c.as_slice-rules.ensures c.requires.usable.quiet c.in-Err.ensures.lexing)
     (lexed_apart _ (sym c.lexing_refused.ensures ∙ c.if-lexing_refused.false))
 
-pub returns-in-Ok-parse : goal.returns-in-Ok-parse
-returns-in-Ok-parse c =
+pub returns-in-Ok-parse-clause-outcome : goal.returns-in-Ok-parse-clause-outcome
+returns-in-Ok-parse-clause-outcome c =
     parsed c.args.bytes c.in-Ok.tokens c.in-Ok-parse.tree refl
     (by_its_rules _ _ (λ (rs : List TokenRule). IsLexing rs c.args.bytes (Ok c.in-Ok.tokens)) c.as_slice-rules.ensures c.requires.usable.quiet c.in-Ok.ensures.lexing)
-    (subst (λ (ts : List Token). IsParse c.args.interpreter.now.net (word_of ts) (Ok c.in-Ok-parse.tree)) c.as_slice.ensures c.in-Ok-parse.ensures)
+    (subst (λ (ts : List Token). IsParse c.args.interpreter.now.net (word_of ts) (Ok c.in-Ok-parse.tree)) c.as_slice.ensures c.in-Ok-parse.ensures.parse)
 
-pub returns-else-parsing_refused : goal.returns-else-parsing_refused
-returns-else-parsing_refused c =
+pub returns-else-parsing_refused-clause-outcome : goal.returns-else-parsing_refused-clause-outcome
+returns-else-parsing_refused-clause-outcome c =
     not_parsed c.args.bytes c.in-Ok.tokens c.in-Err-parse.fault refl
     (by_its_rules _ _ (λ (rs : List TokenRule). IsLexing rs c.args.bytes (Ok c.in-Ok.tokens)) c.as_slice-rules.ensures c.requires.usable.quiet c.in-Ok.ensures.lexing)
-    (subst (λ (ts : List Token). IsParse c.args.interpreter.now.net (word_of ts) (Err c.in-Err-parse.fault)) c.as_slice.ensures c.in-Err-parse.ensures)
+    (subst (λ (ts : List Token). IsParse c.args.interpreter.now.net (word_of ts) (Err c.in-Err-parse.fault)) c.as_slice.ensures c.in-Err-parse.ensures.parse)
     (parsed_apart _ (sym c.parsing_refused.ensures ∙ c.if-parsing_refused.false))
+
+pub returns-in-Ok-parse-clause-nested : goal.returns-in-Ok-parse-clause-nested
+returns-in-Ok-parse-clause-nested c = (c.in-Ok-parse.ensures.parse.0, c.in-Ok-parse.ensures.parse.2)

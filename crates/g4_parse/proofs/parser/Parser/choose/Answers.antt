@@ -12,7 +12,7 @@ use Rattle.g4_predict.specs.Deciding.{IsDecideFault}
 use Rattle.g4_parse.specs.Deciding.{of_decide}
 use Rattle.g4_parse.specs.Running.{begun, with_begun}
 use Rattle.g4_parse.specs.Standing.{backs}
-use Rattle.g4_parse.proofs.Flat.{reverse_returns}
+use Rattle.g4_parse.proofs.Grown.{reverse_returns}
 use Rattle.g4_parse.proofs.Turns.{chooses, first_of, decides_fault, fails_with, moved_to, state_within}
 use Rattle.g4_parse.proofs.parser.Parser.choose.Goals as goal
 

@@ -28,7 +28,6 @@ returns c = λ net r h.
         state = refl;
         place = cc (h.place, c.in_ok-keep.ensures.place);
         returns = kept.returns;
-        enters = kept.enters;
-        items = kept.items;
+        tree = kept.tree;
       },
     )

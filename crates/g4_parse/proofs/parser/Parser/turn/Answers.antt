@@ -1,7 +1,7 @@
 use Rattle.std.proofs.Common.{◌∙◌, ℕ, List, ap, refl}
 use Rattle.std.specs.Prelude.{Some, Ok}
 use Rattle.g4_net.specs.declared.network.State.{State}
-use Rattle.g4_net.specs.declared.network.State.TheVariants.{Call, End, Action, Empty}
+use Rattle.g4_net.specs.declared.network.State.TheVariants.{Call, End, Level, Action, Empty}
 use Rattle.g4_token_list.specs.TokenList.{word_of}
 use Rattle.g4_parse.specs.Running.{Run}
 use Rattle.g4_parse.proofs.Turns.{turned}
@@ -19,9 +19,12 @@ returns-in-Edge c = λ r h. turned c.args.net.now (word_of c.args.tokens.now) r 
 pub returns-in-Action : goal.returns-in-Action
 returns-in-Action c = λ r h.
     let after : Run = record { state = c.in-Action.target; place = r.place; frames = r.frames; tree = r.tree } in
-    turned c.args.net.now (word_of c.args.tokens.now) r c.args.self.now _ (Action c.in-Action.target) (Ok tt) h (c.state_of.ensures ∙ ap (λ (s : State (List ℕ)). Some s) c.in-Action.is) (after, refl, record { state = refl; place = h.place; returns = h.returns; enters = h.enters; items = h.items })
+    turned c.args.net.now (word_of c.args.tokens.now) r c.args.self.now _ (Action c.in-Action.target) (Ok tt) h (c.state_of.ensures ∙ ap (λ (s : State (List ℕ)). Some s) c.in-Action.is) (after, refl, record { state = refl; place = h.place; returns = h.returns; tree = h.tree })
 
 pub returns-in-Empty : goal.returns-in-Empty
 returns-in-Empty c = λ r h.
     let after : Run = record { state = c.in-Empty.target; place = r.place; frames = r.frames; tree = r.tree } in
-    turned c.args.net.now (word_of c.args.tokens.now) r c.args.self.now _ (Empty c.in-Empty.target) (Ok tt) h (c.state_of.ensures ∙ ap (λ (s : State (List ℕ)). Some s) c.in-Empty.is) (after, refl, record { state = refl; place = h.place; returns = h.returns; enters = h.enters; items = h.items })
+    turned c.args.net.now (word_of c.args.tokens.now) r c.args.self.now _ (Empty c.in-Empty.target) (Ok tt) h (c.state_of.ensures ∙ ap (λ (s : State (List ℕ)). Some s) c.in-Empty.is) (after, refl, record { state = refl; place = h.place; returns = h.returns; tree = h.tree })
+
+pub returns-in-Level : goal.returns-in-Level
+returns-in-Level c = λ r h. turned c.args.net.now (word_of c.args.tokens.now) r c.args.self.now _ (Level c.in-Level.field-0 c.in-Level.target) _ h (c.state_of.ensures ∙ ap (λ (s : State (List ℕ)). Some s) c.in-Level.is) (c.pass_level.ensures (word_of c.args.tokens.now) c.in-Level.field-0 r h)

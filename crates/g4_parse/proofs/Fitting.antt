@@ -1,0 +1,207 @@
+-- Each tree that a parse over a network of rules gives is a tree of these rules over the word.
+use Rattle.std.proofs.Common.{◌≡◌, ℕ, ◌+◌, ◌*◌, List, [], ◌∷◌, ◌++◌, length, Option, Some, None, refl, sym, ◌∙◌, ap, subst, append_assoc, append-nil, Result, Ok, Err, IfOk}
+use Rattle.std.specs.List.{range_with_len}
+use Rattle.std.proofs.lemmas.List.FromFn.{length-range_with_len}
+use Rattle.g4_grammar.specs.StepRules.{StepRule}
+use Rattle.g4_net.specs.declared.network.State.{State}
+use Rattle.g4_net.specs.declared.network.State.TheVariants.{Decision, End, Edge, Call, Predicate, Level, Action, Empty}
+use Rattle.g4_net.specs.Network.{ParserNetwork, state_at}
+use Rattle.g4_layout.specs.Built.{IsBuilt}
+use Rattle.g4_layout.specs.Rules.{rule_number}
+use Rattle.g4_token_list.specs.TokenList.{EndsInEnd}
+use Rattle.g4_trees.specs.declared.tree.Item.{Item}
+use Rattle.g4_trees.specs.Trees.{Tree, node, Forest, no_tree, a_tree, and_then, only, items_of, tokens_of, tokens_of_all, leaf}
+use Rattle.g4_tree_check.specs.TreesOf.{Fits, IsTreeOf}
+use Rattle.g4_parse.specs.Running.{Frame, Run, Ending, parsed, beginning, no_predicates, ClosesBy, GoesBy, Goes, StopsBy, Runs, stops, goes, with_alt, with_token, with_child, node_of, begun}
+use Rattle.g4_parse.specs.declared.parser.ParseFault.{ParseFault}
+use Rattle.g4_parse.specs.Parsing.{Ends, IsParse}
+use Rattle.g4_parse.specs.Standing.{backs}
+use Rattle.g4_parse.proofs.Forests.{tokens_and_then, two_are_not_one, range_more}
+use Rattle.g4_parse.proofs.OneTree.{HasOneTree, one_tree_on}
+use Rattle.g4_parse.proofs.OpenRules.{AreOpen, open_decided, open_silently, open_token, open_call, node_fits, open_closed}
+use Rattle.g4_parse.proofs.Stages.{Stage, begins, advances}
+
+-- the places of the tokens of the open rules, those of the oldest rule first
+abbrev tokens_open : List Frame → List ℕ
+tokens_open [] = []
+tokens_open (f ∷ fs) = tokens_open fs ++ tokens_of_all f.children
+
+-- another alternative has the same tokens
+tokens_alt : (i : ℕ) (fs : List Frame) → tokens_open (with_alt i fs) ≡ tokens_open fs
+tokens_alt i [] = refl
+tokens_alt i (f ∷ fs) = refl
+
+-- so has a rule that is closed while another is open
+tokens_closed : (r : Run) (f g : Frame) (gs : List Frame) → tokens_open (with_child r (g ∷ gs) (node_of f)).frames ≡ tokens_open (f ∷ g ∷ gs)
+tokens_closed r f g gs =
+    ap (λ (w : List ℕ). tokens_open gs ++ w) (tokens_and_then g.children (only (node_of f)) ∙ ap (λ (w : List ℕ). tokens_of_all g.children ++ w) (append-nil (tokens_of_all f.children)))
+    ∙ sym (append_assoc (tokens_open gs) (tokens_of_all g.children) (tokens_of_all f.children))
+
+-- one more token
+tokens_more : (r : Run) (f : Frame) (fs : List Frame) → tokens_open (f ∷ fs) ≡ range_with_len 0 r.place → tokens_open (with_token r (f ∷ fs)).frames ≡ range_with_len 0 (r.place + 1)
+tokens_more r f fs are =
+    ap (λ (w : List ℕ). tokens_open fs ++ w) (tokens_and_then f.children (only (leaf r.place)))
+    ∙ sym (append_assoc (tokens_open fs) (tokens_of_all f.children) (r.place ∷ []))
+    ∙ ap (λ (w : List ℕ). w ++ r.place ∷ []) are
+    ∙ sym (range_more r.place)
+
+module _ (rules : List StepRule) (word : List ℕ) where
+  -- a node that fits, whose tokens are the first of the word
+  abbrev IsWhole : Tree → Type 0
+  IsWhole t = (rule alt at : ℕ) × (children : Forest) × (t ≡ node rule alt at children) × (tokens_of t ≡ range_with_len 0 (length (tokens_of t))) × Fits rules word t
+
+  -- its items are those of a tree of the rules
+  whole_is_tree : (t : Tree) → IsWhole t → IsTreeOf rules word (items_of t)
+  whole_is_tree t (rule, alt, at, children, is, tokens, fits) =
+      (rule, alt, at, children, ap items_of is, subst (λ (u : Tree). tokens_of u ≡ range_with_len 0 (length (tokens_of u))) is tokens, subst (Fits rules word) is fits)
+
+-- What holds at a moment of a run: the open rules are parts of words of their alternatives, the tokens of the open rules are all
+-- so far where no tree is outside, and a tree outside is whole.
+record IsFitting (set : List ℕ) (rules : List StepRule) (start : List ℕ) (net : ParserNetwork) (word : List ℕ) (r : Run) : Type 0 where
+  stage : Stage net (2 * length rules + 2) (length word) r
+  one : HasOneTree (backs r.frames) r.state r.tree
+  are_open : AreOpen set rules start net word r.state r.frames
+  tokens : r.tree ≡ no_tree → tokens_open r.frames ≡ range_with_len 0 r.place
+  whole : (t : Tree) → r.tree ≡ only t → IsWhole rules word t
+
+module _ (set : List ℕ) (rules : List StepRule) (start : List ℕ) (net : ParserNetwork) (word : List ℕ) (built : IsBuilt set rules start net) (ends : EndsInEnd word) where
+  abbrev Fitting : Run → Type 0
+  Fitting = IsFitting set rules start net word
+
+  abbrev Open : ℕ → List Frame → Type 0
+  Open = AreOpen set rules start net word
+
+  -- the open rules after closing one
+  closed_open : (r s : Run) (ended : ℕ) (fs : List Frame) → state_at net r.state ≡ Some (End ended) → ClosesBy net no_predicates word r fs s → Open r.state fs → Open s.state s.frames
+  closed_open r s ended [] is g h = absurd g
+  closed_open r s ended (f ∷ []) is g h = subst (λ (x : Run). Open x.state x.frames) (sym g) tt
+  closed_open r s ended (f ∷ k ∷ fs) is g h = subst (λ (x : Run). Open x.state x.frames) (sym g) (open_closed set rules start net word built r ended f (k ∷ fs) is h)
+
+  -- the open rules after a step
+  open_on : (r s : Run) (o : Option (State (List ℕ))) → state_at net r.state ≡ o → GoesBy net no_predicates word o r s → Open r.state r.frames → Open s.state s.frames
+  open_on r s None is g h = absurd g
+  open_on r s (Some (Decision targets)) is (i, t, says, first, e) h = subst (λ (x : Run). Open x.state x.frames) (sym e) (open_decided set rules start net word built r.state i t targets r.frames is first h)
+  open_on r s (Some (End ended)) is g h = closed_open r s ended r.frames is g h
+  open_on r s (Some (Edge taken t)) is (a, next, has, e) h = subst (λ (x : Run). Open x.state x.frames) (sym e) (open_token set rules start net word built r t a taken r.frames refl is next has h)
+  open_on r s (Some (Call callee level back)) is (room, e) h = subst (λ (x : Run). Open x.state x.frames) (sym e) (open_call set rules start net word built r.state callee level back r.place r.frames is h)
+  open_on r s (Some (Predicate k t)) is g h = absurd (built.runnable.untested r.state (Predicate k t) is)
+  open_on r s (Some (Level q t)) is g h = absurd (built.runnable.untested r.state (Level q t) is)
+  open_on r s (Some (Action t)) is e h = subst (λ (x : Run). Open x.state x.frames) (sym e) (open_silently set rules start net word built r.state t (Action t) r.frames is (λ targets f. cc) refl (refl, refl) h)
+  open_on r s (Some (Empty t)) is e h = subst (λ (x : Run). Open x.state x.frames) (sym e) (open_silently set rules start net word built r.state t (Empty t) r.frames is (λ targets f. cc) refl (refl, refl) h)
+
+  -- the tokens of the open rules are all so far
+  abbrev HasTokens : Run → Type 0
+  HasTokens r = r.tree ≡ no_tree → tokens_open r.frames ≡ range_with_len 0 r.place
+
+  -- where no rule is open, an edge is taken after the start rule is closed
+  outside_token : (r : Run) (taken : List ℕ) (t : ℕ) → state_at net r.state ≡ Some (Edge taken t) → HasOneTree [] r.state r.tree → r.tree ≡ no_tree → ⊥
+  outside_token r taken t is one none =
+      let h = one.1 (λ zero_is. let at = ap (state_at net) zero_is ∙ built.runnable.apart.added.call in cc) in
+      let tree = h.1 in cc
+
+  -- a token
+  token_tokens : (r : Run) (t : ℕ) (taken : List ℕ) (fs : List Frame) → r.frames ≡ fs → state_at net r.state ≡ Some (Edge taken t) → HasOneTree (backs fs) r.state r.tree → (r.tree ≡ no_tree → tokens_open fs ≡ range_with_len 0 r.place) →
+      (with_token r fs).tree ≡ no_tree → tokens_open (with_token r fs).frames ≡ range_with_len 0 (r.place + 1)
+  token_tokens r t taken [] same is one h none = absurd (outside_token r taken t is one none)
+  token_tokens r t taken (f ∷ fs) same is one h none = tokens_more r f fs (h none)
+
+  -- closing a rule
+  closed_tokens : (r s : Run) (fs : List Frame) → ClosesBy net no_predicates word r fs s → (r.tree ≡ no_tree → tokens_open fs ≡ range_with_len 0 r.place) → HasTokens s
+  closed_tokens r s [] g h = absurd g
+  closed_tokens r s (f ∷ []) g h = subst HasTokens (sym g) (λ none. absurd (not_none r.tree none))
+    where
+      not_none : (ts : Forest) → and_then ts (only (node_of f)) ≡ no_tree → ⊥
+      not_none no_tree e = cc
+      not_none (a_tree t ts) e = cc
+  closed_tokens r s (f ∷ k ∷ fs) g h = subst HasTokens (sym g) (λ none. tokens_closed (record r { state = f.back; frames = k ∷ fs }) f k fs ∙ h none)
+
+  tokens_on : (r s : Run) (o : Option (State (List ℕ))) → state_at net r.state ≡ o → GoesBy net no_predicates word o r s → HasOneTree (backs r.frames) r.state r.tree → HasTokens r → HasTokens s
+  tokens_on r s None is g one h = absurd g
+  tokens_on r s (Some (Decision targets)) is (i, t, says, first, e) one h = subst HasTokens (sym e) (λ none. tokens_alt (begun net t (state_at net t)) r.frames ∙ h none)
+  tokens_on r s (Some (End ended)) is g one h = closed_tokens r s r.frames g h
+  tokens_on r s (Some (Edge taken t)) is (a, next, has, e) one h = subst HasTokens (sym e) (token_tokens r t taken r.frames refl is one h)
+  tokens_on r s (Some (Call callee level back)) is (room, e) one h = subst HasTokens (sym e) (λ none. append-nil (tokens_open r.frames) ∙ h none)
+  tokens_on r s (Some (Predicate k t)) is g one h = absurd (built.runnable.untested r.state (Predicate k t) is)
+  tokens_on r s (Some (Level q t)) is g one h = absurd (built.runnable.untested r.state (Level q t) is)
+  tokens_on r s (Some (Action t)) is e one h = subst HasTokens (sym e) h
+  tokens_on r s (Some (Empty t)) is e one h = subst HasTokens (sym e) h
+
+  -- a tree outside the open rules is whole
+  abbrev HasWhole : Forest → Type 0
+  HasWhole ts = (t : Tree) → ts ≡ only t → IsWhole rules word t
+
+  -- the last open rule is closed
+  last_closed : (ts : Forest) (f : Frame) (place : ℕ) → Fits rules word (node_of f) → (ts ≡ no_tree → tokens_of_all f.children ≡ range_with_len 0 place) → HasWhole (and_then ts (only (node_of f)))
+  last_closed no_tree f place fits tokens t is =
+      let same : node_of f ≡ t = cc in
+      let count : length (tokens_of_all f.children) ≡ place = ap length (tokens refl) ∙ length-range_with_len 0 place in
+      let own : IsWhole rules word (node_of f) = (f.rule, f.alt, f.at, f.children, refl, rw count (tokens refl), fits) in
+      subst (IsWhole rules word) same own
+  last_closed (a_tree u ts) f place fits tokens t is = absurd (two_are_not_one u (node_of f) ts no_tree t is)
+
+  closed_whole : (r s : Run) (ended : ℕ) (fs : List Frame) → state_at net r.state ≡ Some (End ended) → ClosesBy net no_predicates word r fs s → Open r.state fs → (r.tree ≡ no_tree → tokens_open fs ≡ range_with_len 0 r.place) → HasWhole r.tree → HasWhole s.tree
+  closed_whole r s ended [] is g h tokens whole = absurd g
+  closed_whole r s ended (f ∷ []) is g h tokens whole = subst (λ (x : Run). HasWhole x.tree) (sym g) (last_closed r.tree f r.place (node_fits set rules start net word built r.state ended f [] is h) tokens)
+  closed_whole r s ended (f ∷ k ∷ fs) is g h tokens whole = subst (λ (x : Run). HasWhole x.tree) (sym g) whole
+
+  token_tree : (r : Run) (fs : List Frame) → HasWhole r.tree → HasWhole (with_token r fs).tree
+  token_tree r [] h = h
+  token_tree r (f ∷ fs) h = h
+
+  whole_on : (r s : Run) (o : Option (State (List ℕ))) → state_at net r.state ≡ o → GoesBy net no_predicates word o r s → Open r.state r.frames → HasTokens r → HasWhole r.tree → HasWhole s.tree
+  whole_on r s None is g h tokens whole = absurd g
+  whole_on r s (Some (Decision targets)) is (i, t, says, first, e) h tokens whole = subst (λ (x : Run). HasWhole x.tree) (sym e) whole
+  whole_on r s (Some (End ended)) is g h tokens whole = closed_whole r s ended r.frames is g h tokens whole
+  whole_on r s (Some (Edge taken t)) is (a, next, has, e) h tokens whole = subst (λ (x : Run). HasWhole x.tree) (sym e) (token_tree r r.frames whole)
+  whole_on r s (Some (Call callee level back)) is (room, e) h tokens whole = subst (λ (x : Run). HasWhole x.tree) (sym e) whole
+  whole_on r s (Some (Predicate k t)) is g h tokens whole = absurd (built.runnable.untested r.state (Predicate k t) is)
+  whole_on r s (Some (Level q t)) is g h tokens whole = absurd (built.runnable.untested r.state (Level q t) is)
+  whole_on r s (Some (Action t)) is e h tokens whole = subst (λ (x : Run). HasWhole x.tree) (sym e) whole
+  whole_on r s (Some (Empty t)) is e h tokens whole = subst (λ (x : Run). HasWhole x.tree) (sym e) whole
+
+  -- a step
+  fitting_on : (r s : Run) → Goes net no_predicates word r s → Fitting r → Fitting s
+  fitting_on r s g h = record {
+    stage = advances net (rule_number rules start) (2 * length rules + 2) built.runnable word ends r s h.stage g;
+    one = one_tree_on net (rule_number rules start) (2 * length rules + 2) built.runnable (length word) word r s h.stage g h.one;
+    are_open = open_on r s (state_at net r.state) refl g h.are_open;
+    tokens = tokens_on r s (state_at net r.state) refl g h.one h.tokens;
+    whole = whole_on r s (state_at net r.state) refl g h.are_open h.tokens h.whole;
+  }
+
+  -- the beginning
+  fitting_begins : Fitting beginning
+  fitting_begins = record {
+    stage = begins net (rule_number rules start) (2 * length rules + 2) built.runnable word ends;
+    one = (λ e. refl, λ n. absurd (n refl));
+    are_open = tt;
+    tokens = λ none. refl;
+    whole = λ t e. absurd (let k : ⊥ = cc in k);
+  }
+
+  -- where a run stops with a tree, this is the one outside
+  stops_whole : (r : Run) (o : Option (State (List ℕ))) (t : Tree) → StopsBy net no_predicates word o r (parsed t) → HasWhole r.tree → IsWhole rules word t
+  stops_whole r None t stop whole = absurd stop
+  stops_whole r (Some (Decision targets)) t (k, says, e) whole = absurd (let n : ⊥ = cc in n)
+  stops_whole r (Some (End rule)) t (none, added, (u, is, e)) whole = let same : u ≡ t = cc in subst (IsWhole rules word) same (whole u is)
+  stops_whole r (Some (Edge taken u)) t (a, next, has, e) whole = absurd (let n : ⊥ = cc in n)
+  stops_whole r (Some (Call callee level back)) t (deep, e) whole = absurd (let n : ⊥ = cc in n)
+  stops_whole r (Some (Predicate k u)) t (fails, e) whole = absurd (let n : ⊥ = cc in n)
+  stops_whole r (Some (Level q u)) t stop whole = absurd stop
+  stops_whole r (Some (Action u)) t stop whole = absurd stop
+  stops_whole r (Some (Empty u)) t stop whole = absurd stop
+
+  -- a run that stops with a tree
+  runs_whole : (r : Run) (e : Ending) (t : Tree) → Runs net no_predicates word r e → e ≡ parsed t → Fitting r → IsWhole rules word t
+  runs_whole r e t (stops _ _ stop) is h = stops_whole r (state_at net r.state) t (subst (StopsBy net no_predicates word (state_at net r.state) r) is stop) h.whole
+  runs_whole r e t (goes _ s _ step more) is h = runs_whole s e t more is (fitting_on r s step h)
+
+-- the tree of a run over the network of rules is one of the rules' trees
+pub tree_fits : (set : List ℕ) (rules : List StepRule) (start : List ℕ) (net : ParserNetwork) (word : List ℕ) → IsBuilt set rules start net → EndsInEnd word → (t : Tree) → Ends net word (parsed t) → IsTreeOf rules word (items_of t)
+tree_fits set rules start net word built ends t runs = whole_is_tree rules word t (runs_whole set rules start net word built ends beginning (parsed t) t runs refl (fitting_begins set rules start net word built ends))
+
+-- so what the parse call answers is the items of one of the rules' trees
+pub answer_fits : (net : ParserNetwork) (word : List ℕ) (x : Result (List Item) ParseFault) → EndsInEnd word → IsParse net word x →
+    (set : List ℕ) (rules : List StepRule) (start : List ℕ) → IsBuilt set rules start net → IfOk x (IsTreeOf rules word)
+answer_fits net word (Ok xs) ends (t, runs, is) set rules start built = subst (IsTreeOf rules word) (sym is) (tree_fits set rules start net word built ends t runs)
+answer_fits net word (Err fault) ends fails set rules start built = tt
