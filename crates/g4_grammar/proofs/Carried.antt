@@ -1,12 +1,13 @@
--- Rules over other atoms: a loop of them that can be empty is one of the rules themselves, and a left cycle of them one of the
--- rules, where an atom reads the empty word and calls a rule only if the atom of which it is made does.
-use Rattle.std.proofs.Common.{◌≡◌, ◌⊎◌, ℕ, List, [], inl, inr, Some, refl, ap, ◌∙◌, subst, slice_get}
+-- Rules over other atoms can be run where the rules themselves can, where an atom reads the empty word and calls a rule only if the
+-- atom of which it is made does.
+use Rattle.std.proofs.Common.{◌≡◌, ◌⊎◌, ◌↔◌, ℕ, List, [], inl, inr, Some, refl, ap, ◌∙◌, subst, slice_get}
 use Rattle.g4_elements.specs.declared.element.Repeat.TheVariants.{Once, Optional, Star, Plus}
 use Rattle.g4_elements.specs.Elements.{Element, atom, block, Elements, empty, then, Alternatives, none, or}
 use Rattle.g4_elements.specs.Bind.{over, in_order_over, either_over}
 use Rattle.g4_grammar.specs.Derives.{DerivesOne}
-use Rattle.g4_grammar.specs.LeftCalls.{Nullable, an_atom, a_call, a_block, an_optional, a_star, a_plus, AllNullable, nothing, one_more, OneNullable, this, another, IsLeftOf, IsLeftOfAll, IsLeftOfOne, LeftCalls, ReachesLeft, one_call, more_calls, NoLeftCycle}
+use Rattle.g4_grammar.specs.LeftCalls.{Nullable, an_atom, a_call, a_block, an_optional, a_star, a_plus, AllNullable, nothing, one_more, OneNullable, this, another, IsLeftOf, IsLeftOfAll, IsLeftOfOne, ReachesBy, one_call, more_calls}
 use Rattle.g4_grammar.specs.Loops.{HasEmptyLoop, OneHasEmptyLoop, SomeHasEmptyLoop}
+use Rattle.g4_grammar.specs.OwnCalls.{IsOneOf, IsOperator, LacksPrimary, HasEmptyOperator, IsLeftAsRun, IsLeftOfOneAsRun, LeftCallsAsRun, CanRun}
 use Rattle.g4_grammar.proofs.Empty.{one_derives_nothing, one_is_nullable}
 
 module _ {A B C : Type 0} (f : B → C) (g : A → B) where
@@ -98,6 +99,9 @@ module _ {A B : Type 0} (f : A → B) (Reads : A → List ℕ → Type 0) (Reads
   nullable_itself : (x : Element A) → Nullable ReadsOver CallsOver made (over f x) → Nullable Reads Calls rules x
   nullable_itself x h = nullable_back f Reads ReadsOver Calls CallsOver rules made reads (λ a k ys c is. let called = calls a k ys c is in (number k, called.0, called.1)) (over f x) h x refl
 
+  all_itself : (xs : Elements A) → AllNullable ReadsOver CallsOver made (in_order_over f xs) → AllNullable Reads Calls rules xs
+  all_itself xs h = all_back f Reads ReadsOver Calls CallsOver rules made reads (λ a k ys c is. let called = calls a k ys c is in (number k, called.0, called.1)) (in_order_over f xs) h xs refl
+
   module _ (j : ℕ) (zs : Alternatives B) (at : slice_get made j ≡ Some zs) where
     mutual
       -- a left call
@@ -117,23 +121,91 @@ module _ {A B : Type 0} (f : A → B) (Reads : A → List ℕ → Type 0) (Reads
       left_one_back (or x xs) (inl l) = inl (left_all_back x l)
       left_one_back (or x xs) (inr l) = inr (left_one_back xs l)
 
-  -- a rule that calls one that is made, calls it itself
-  left_call_back : (k j : ℕ) (zs : Alternatives B) → slice_get made j ≡ Some zs → LeftCalls ReadsOver CallsOver made k j → LeftCalls Reads Calls rules (number k) (number j)
-  left_call_back k j zs at (ys, is, l) = elim (bodies k ys is) [
-    | inl e ↦ absurd (subst (λ (xs : Alternatives B). IsLeftOfOne ReadsOver CallsOver made xs j) e l)
-    | inr body ↦ (body.0, body.1, left_one_back j zs at body.0 (subst (λ (xs : Alternatives B). IsLeftOfOne ReadsOver CallsOver made xs j) body.2 l))
-  ]
+  module _ (Own : A → ℕ → Type 0) (OwnOver : B → ℕ → Type 0) (k : ℕ) (own : (a : A) → OwnOver (f a) k ↔ Own a (number k)) where
+    -- an alternative of rules over other atoms that calls a rule before anything is read, as it is run
+    as_run_back : (j : ℕ) (zs : Alternatives B) → slice_get made j ≡ Some zs → (x : Elements A) → IsLeftAsRun ReadsOver CallsOver OwnOver made k (in_order_over f x) j → IsLeftAsRun Reads Calls Own rules (number k) x (number j)
+    as_run_back j zs at empty l = l
+    as_run_back j zs at (then (atom a) xs) (inl l) = inl ((calls a j zs l.0 at).0, λ o. l.1 ((own a).1 o))
+    as_run_back j zs at (then (atom a) xs) (inr l) = inr (nullable_itself (atom a) l.0, left_all_back j zs at xs l.1)
+    as_run_back j zs at (then (block label repeat ys) xs) l = left_all_back j zs at (then (block label repeat ys) xs) l
 
-  -- a chain of left calls
-  reaches_back : (k j : ℕ) (zs : Alternatives B) → slice_get made j ≡ Some zs → ReachesLeft ReadsOver CallsOver made k j → ReachesLeft Reads Calls rules (number k) (number j)
-  reaches_back k _ zs at (one_call j c) = one_call (number j) (left_call_back k j zs at c)
-  reaches_back k _ zs at (more_calls i j h c) = more_calls (number i) (number j) (reaches_back k i c.0 c.1 h) (left_call_back i j zs at c)
+    -- one of several
+    one_as_run_back : (j : ℕ) (zs : Alternatives B) → slice_get made j ≡ Some zs → (xs : Alternatives A) → IsLeftOfOneAsRun ReadsOver CallsOver OwnOver made k (either_over f xs) j →
+        IsLeftOfOneAsRun Reads Calls Own rules (number k) xs (number j)
+    one_as_run_back j zs at none l = l
+    one_as_run_back j zs at (or x xs) (inl l) = inl (as_run_back j zs at x l)
+    one_as_run_back j zs at (or x xs) (inr l) = inr (one_as_run_back j zs at xs l)
 
-  -- where it begins is a rule
-  first_body : (k j : ℕ) → ReachesLeft ReadsOver CallsOver made k j → (ys : Alternatives B) × (slice_get made k ≡ Some ys)
-  first_body k _ (one_call j c) = (c.0, c.1)
-  first_body k _ (more_calls i j h c) = first_body k i h
+    -- an alternative over other atoms is made of one
+    one_of_back : (xs : Alternatives A) (y : Elements B) → IsOneOf (either_over f xs) y → (x : Elements A) × IsOneOf xs x × (y ≡ in_order_over f x)
+    one_of_back none y h = absurd h
+    one_of_back (or x xs) y (inl same) = (x, inl refl, same)
+    one_of_back (or x xs) y (inr h) = let found = one_of_back xs y h in (found.0, inr found.1, found.2)
 
-  -- where no rule reaches itself by left calls, no rule over other atoms does
-  pub no_cycle_over : NoLeftCycle Reads Calls rules → NoLeftCycle ReadsOver CallsOver made
-  no_cycle_over h k r = let body = first_body k k r in h (number k) (reaches_back k k body.0 body.1 r)
+    one_of_on : (xs : Alternatives A) (x : Elements A) → IsOneOf xs x → IsOneOf (either_over f xs) (in_order_over f x)
+    one_of_on none x h = absurd h
+    one_of_on (or y ys) x (inl same) = inl (ap (in_order_over f) same)
+    one_of_on (or y ys) x (inr h) = inr (one_of_on ys x h)
+
+    -- and an operator of an operator
+    operator_back : (x : Elements A) (rest : Elements B) → IsOperator OwnOver k (in_order_over f x) rest → (others : Elements A) × IsOperator Own (number k) x others × (rest ≡ in_order_over f others)
+    operator_back empty rest o = absurd o
+    operator_back (then (atom a) xs) rest o = (xs, ((own a).0 o.0, refl), o.1)
+    operator_back (then (block label repeat ys) xs) rest o = absurd o
+
+    lacks_back : (xs : Alternatives A) → LacksPrimary OwnOver k (either_over f xs) → LacksPrimary Own (number k) xs
+    lacks_back xs l = record {
+      some =
+          let (y, rest, among, operator) = l.some in
+          let found = one_of_back xs y among in
+          let o = operator_back found.0 rest (subst (λ (z : Elements B). IsOperator OwnOver k z rest) found.2 operator) in
+          (found.0, o.0, found.1, o.1);
+      each = λ x among.
+          let o = l.each (in_order_over f x) (one_of_on xs x among) in
+          let back = operator_back x o.0 o.1 in
+          (back.0, back.1);
+    }
+
+    empty_operator_back : (xs : Alternatives A) → HasEmptyOperator ReadsOver CallsOver OwnOver made k (either_over f xs) → HasEmptyOperator Reads Calls Own rules (number k) xs
+    empty_operator_back xs (y, rest, among, operator, silent) =
+        let found = one_of_back xs y among in
+        let o = operator_back found.0 rest (subst (λ (z : Elements B). IsOperator OwnOver k z rest) found.2 operator) in
+        (found.0, o.0, found.1, o.1, all_itself o.0 (subst (AllNullable ReadsOver CallsOver made) o.2 silent))
+
+  module _ (Own : A → ℕ → Type 0) (OwnOver : B → ℕ → Type 0) (own : (a : A) (k : ℕ) (ys : Alternatives B) → slice_get made k ≡ Some ys → OwnOver (f a) k ↔ Own a (number k)) where
+    -- a rule that calls one that is made, calls it itself
+    left_call_back : (k j : ℕ) (zs : Alternatives B) → slice_get made j ≡ Some zs → LeftCallsAsRun ReadsOver CallsOver OwnOver made k j → LeftCallsAsRun Reads Calls Own rules (number k) (number j)
+    left_call_back k j zs at (ys, is, l) = elim (bodies k ys is) [
+      | inl e ↦ absurd (subst (λ (xs : Alternatives B). IsLeftOfOneAsRun ReadsOver CallsOver OwnOver made k xs j) e l)
+      | inr body ↦ (body.0, body.1, one_as_run_back Own OwnOver k (λ a. own a k ys is) j zs at body.0 (subst (λ (xs : Alternatives B). IsLeftOfOneAsRun ReadsOver CallsOver OwnOver made k xs j) body.2 l))
+    ]
+
+    -- a chain of left calls
+    reaches_back : (k j : ℕ) (zs : Alternatives B) → slice_get made j ≡ Some zs → ReachesBy (LeftCallsAsRun ReadsOver CallsOver OwnOver made) k j → ReachesBy (LeftCallsAsRun Reads Calls Own rules) (number k) (number j)
+    reaches_back k _ zs at (one_call j c) = one_call (number j) (left_call_back k j zs at c)
+    reaches_back k _ zs at (more_calls i j h c) = more_calls (number i) (number j) (reaches_back k i c.0 c.1 h) (left_call_back i j zs at c)
+
+    -- where it begins is a rule
+    first_body : (k j : ℕ) → ReachesBy (LeftCallsAsRun ReadsOver CallsOver OwnOver made) k j → (ys : Alternatives B) × (slice_get made k ≡ Some ys)
+    first_body k _ (one_call j c) = (c.0, c.1)
+    first_body k _ (more_calls i j h c) = first_body k i h
+
+    -- rules over other atoms can be run where the rules themselves can
+    pub can_run_over : CanRun Reads Calls Own rules → CanRun ReadsOver CallsOver OwnOver made
+    can_run_over can = record {
+      loops = λ k ys is looped. elim (bodies k ys is) [
+        | inl e ↦ subst (SomeHasEmptyLoop ReadsOver CallsOver made) e looped
+        | inr body ↦ can.loops (number k) body.0 body.1
+            (some_loop_back f Reads ReadsOver Calls CallsOver rules made reads (λ a i zs c at. let called = calls a i zs c at in (number i, called.0, called.1)) body.0
+            (subst (SomeHasEmptyLoop ReadsOver CallsOver made) body.2 looped))
+      ];
+      primaries = λ k ys is lacks. elim (bodies k ys is) [
+        | inl e ↦ (subst (LacksPrimary OwnOver k) e lacks).some.2
+        | inr body ↦ can.primaries (number k) body.0 body.1 (lacks_back Own OwnOver k (λ a. own a k ys is) body.0 (subst (LacksPrimary OwnOver k) body.2 lacks))
+      ];
+      operators = λ k ys is has. elim (bodies k ys is) [
+        | inl e ↦ (subst (HasEmptyOperator ReadsOver CallsOver OwnOver made k) e has).2
+        | inr body ↦ can.operators (number k) body.0 body.1 (empty_operator_back Own OwnOver k (λ a. own a k ys is) body.0 (subst (HasEmptyOperator ReadsOver CallsOver OwnOver made k) body.2 has))
+      ];
+      cycles = λ k r. let body = first_body k k r in can.cycles (number k) (reaches_back k k body.0 body.1 r);
+    }

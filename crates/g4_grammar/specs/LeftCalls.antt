@@ -46,14 +46,22 @@ module _ {A : Type 0} (Reads : A → List ℕ → Type 0) (Calls : A → ℕ →
   abbrev pub LeftCalls : ℕ → ℕ → Type 0
   LeftCalls k j = (xs : Alternatives A) × (slice_get rules k ≡ Some xs) × IsLeftOfOne xs j
 
--- rule k reaches rule j by left calls, one or more
-pub data ReachesLeft {A : Type 0} (Reads : A → List ℕ → Type 0) (Calls : A → ℕ → Type 0) (rules : List (Alternatives A)) (k : ℕ) : ℕ → Type 0 where
-  one_call : (j : ℕ) → LeftCalls Reads Calls rules k j → ReachesLeft Reads Calls rules k j
-  more_calls : (i j : ℕ) → ReachesLeft Reads Calls rules k i → LeftCalls Reads Calls rules i j → ReachesLeft Reads Calls rules k j
+-- by calls of one kind, one or more, k reaches j
+pub data ReachesBy (Call : ℕ → ℕ → Type 0) (k : ℕ) : ℕ → Type 0 where
+  one_call : (j : ℕ) → Call k j → ReachesBy Call k j
+  more_calls : (i j : ℕ) → ReachesBy Call k i → Call i j → ReachesBy Call k j
+
+-- none reaches itself
+abbrev pub NoCycle : (ℕ → ℕ → Type 0) → Type 0
+NoCycle Call = (k : ℕ) → ReachesBy Call k k → ⊥
+
+-- rule k reaches rule j by left calls
+abbrev pub ReachesLeft : {A : Type 0} → (A → List ℕ → Type 0) → (A → ℕ → Type 0) → List (Alternatives A) → ℕ → ℕ → Type 0
+ReachesLeft Reads Calls rules k j = ReachesBy (LeftCalls Reads Calls rules) k j
 
 -- no rule reaches itself by left calls
 abbrev pub NoLeftCycle : {A : Type 0} → (A → List ℕ → Type 0) → (A → ℕ → Type 0) → List (Alternatives A) → Type 0
-NoLeftCycle Reads Calls rules = (k : ℕ) → ReachesLeft Reads Calls rules k k → ⊥
+NoLeftCycle Reads Calls rules = NoCycle (LeftCalls Reads Calls rules)
 
 module _ {A : Type 0} (Calls : A → ℕ → Type 0) where
   abbrev mutual

@@ -9,8 +9,7 @@ use Rattle.g4_source.specs.Rules.{alternatives_of}
 use Rattle.g4_grammar.specs.declared.numbered.NumberedAtom.{NumberedAtom}
 use Rattle.g4_grammar.specs.declared.numbered.NumberedKind.{NumberedKind}
 use Rattle.g4_grammar.specs.declared.numbered.NumberedKind.TheVariants.{Set, Rule, Predicate, Action}
-use Rattle.g4_grammar.specs.LeftCalls.{NoLeftCycle}
-use Rattle.g4_grammar.specs.Loops.{NoEmptyLoop}
+use Rattle.g4_grammar.specs.OwnCalls.{CanRun}
 
 -- the words of an atom: one symbol of a set; predicates and actions read the empty word, and a reference reads nothing of its own
 abbrev pub ReadsKind : NumberedKind → List ℕ → Type 0
@@ -36,13 +35,9 @@ CallsNumbered rules a k = KindCalls (map (λ rule. rule.name) rules) a.kind k
 abbrev pub numbered_alternatives : List (ParserRule NumberedAtom) → List (Alternatives NumberedAtom)
 numbered_alternatives rules = none ∷ map alternatives_of rules
 
--- no rule has a loop whose body derives the empty word
-abbrev pub HaveNoEmptyLoops : List (ParserRule NumberedAtom) → Type 0
-HaveNoEmptyLoops rules = NoEmptyLoop ReadsNumbered (CallsNumbered rules) (numbered_alternatives rules)
-
--- no rule reaches itself by left calls
-abbrev pub HaveNoLeftCycles : List (ParserRule NumberedAtom) → Type 0
-HaveNoLeftCycles rules = NoLeftCycle ReadsNumbered (CallsNumbered rules) (numbered_alternatives rules)
+-- the rules can be run: any reference to a rule may begin an operator of it
+abbrev pub NumberedRulesCanRun : List (ParserRule NumberedAtom) → Type 0
+NumberedRulesCanRun rules = CanRun ReadsNumbered (CallsNumbered rules) (CallsNumbered rules) (numbered_alternatives rules)
 
 -- a reference to one of the rules of these names
 abbrev pub NumberedKindIsDefined : List (List ℕ) → NumberedKind → Type 0

@@ -6,7 +6,7 @@ use Rattle.g4_elements.specs.declared.element.Repeat.{Repeat}
 use Rattle.g4_elements.specs.declared.element.Repeat.TheVariants.{Star}
 use Rattle.g4_elements.specs.Elements.{atom, block, empty, then, Alternatives, only}
 use Rattle.g4_grammar.specs.declared.step.Step.{Step}
-use Rattle.g4_grammar.specs.declared.step.Step.TheVariants.{Edge, Call, Predicate, Level, Action}
+use Rattle.g4_grammar.specs.declared.step.Step.TheVariants.{Edge, Call, Predicate, Level, Action, Empty}
 
 -- the words of a step, given what labels take: one symbol that its label takes; a call reads nothing of its own, and any other
 -- step reads the empty word
@@ -16,6 +16,7 @@ ReadsStep Takes (Call rule level) w = ⊥
 ReadsStep Takes (Predicate k) w = w ≡ []
 ReadsStep Takes (Level q) w = w ≡ []
 ReadsStep Takes Action w = w ≡ []
+ReadsStep Takes Empty w = w ≡ []
 
 -- the step calls the rule of this number
 abbrev pub CallsRule : {L : Type 0} → Step L → ℕ → Type 0
@@ -24,6 +25,7 @@ CallsRule (Call rule level) k = k ≡ rule
 CallsRule (Predicate n) k = ⊥
 CallsRule (Level q) k = ⊥
 CallsRule Action k = ⊥
+CallsRule Empty k = ⊥
 
 -- the words of a parser's step, whose labels are sets of symbols
 abbrev pub ReadsSymbols : Step (List ℕ) → List ℕ → Type 0

@@ -17,8 +17,9 @@ use Rattle.g4_rules.specs.declared.kind.RuleKind.{RuleKind}
 use Rattle.g4_rules.specs.declared.kind.RuleKind.TheVariants as rule_kinds
 use Rattle.g4_rules.specs.Atoms.{AtomIn, all_atoms, bodies_of}
 use Rattle.g4_grammar.specs.declared.numbered.TokenRule.{TokenRule}
-use Rattle.g4_grammar.specs.LeftCalls.{LeftCalls, NoLeftCycle}
+use Rattle.g4_grammar.specs.LeftCalls.{NoCycle}
 use Rattle.g4_grammar.specs.Loops.{NoEmptyLoop}
+use Rattle.g4_grammar.specs.OwnCalls.{CanRun, LeftCallsAsRun}
 
 -- the words of an atom of a parser rule, while it is not known which symbol its tokens are: any one symbol; predicates and
 -- actions read nothing, and a reference reads nothing of its own
@@ -82,17 +83,25 @@ KindCalls rules kind a k = ⊥
 abbrev pub CallsIn : List Rule → AtomIn → ℕ → Type 0
 CallsIn rules a k = KindCalls rules a.kind a.atom.kind k
 
--- rule k of these calls rule j before anything is read
+-- a reference with which an operator of rule k may begin: lexer rules have none
+abbrev pub OwnIn : List Rule → AtomIn → ℕ → Type 0
+OwnIn rules a k = (a.kind ≡ rule_kinds.Parser) × CallsIn rules a k
+
+-- rule k of these calls rule j before anything is read, as it is run
 abbrev pub RuleLeftCalls : List Rule → ℕ → ℕ → Type 0
-RuleLeftCalls rules k j = LeftCalls ReadsIn (CallsIn rules) (bodies_of rules) k j
+RuleLeftCalls rules k j = LeftCallsAsRun ReadsIn (CallsIn rules) (OwnIn rules) (bodies_of rules) k j
 
 -- no rule of these reaches itself by left calls
 abbrev pub HaveNoLeftCycle : List Rule → Type 0
-HaveNoLeftCycle rules = NoLeftCycle ReadsIn (CallsIn rules) (bodies_of rules)
+HaveNoLeftCycle rules = NoCycle (RuleLeftCalls rules)
 
 -- none of these rules has a loop whose body derives the empty word, or for a lexer rule matches no character
 abbrev pub HaveNoEmptyLoop : List Rule → Type 0
 HaveNoEmptyLoop rules = NoEmptyLoop ReadsIn (CallsIn rules) (bodies_of rules)
+
+-- the rules can be run
+abbrev pub RulesCanRun : List Rule → Type 0
+RulesCanRun rules = CanRun ReadsIn (CallsIn rules) (OwnIn rules) (bodies_of rules)
 
 -- an atom of a rule of this kind that calls one of the rules, if it is a reference
 abbrev pub KindIsDefined : List Rule → RuleKind → AtomKind → Type 0

@@ -1,4 +1,5 @@
-// What the atoms of rules are in a network.
+// What the atoms of rules are in a network, and what is written of a rule's states.
+use g4_base::Sequence;
 use g4_source::ParserRule;
 use g4_symbols::Symbols;
 
@@ -14,7 +15,18 @@ pub enum Step<L> {
     /// A level that the open rule's must not pass.
     Level(u32),
     Action,
+    /// Nothing is done.
+    Empty,
 }
 
 /// A parser rule whose atoms are steps.
 pub type StepRule = ParserRule<Step<Symbols>>;
+
+/// The numbers of a rule's alternatives, as the grammar writes them, at the states where these begin. Alternatives count from 1.
+#[derive(Drop)]
+pub struct Numbering {
+    /// The numbers of the alternatives that begin where the rule starts, in order.
+    pub starts: Sequence<u32>,
+    /// How many alternatives the rule has. At level q alternative `count + 1 - q` begins.
+    pub count: u32,
+}

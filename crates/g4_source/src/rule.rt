@@ -35,7 +35,7 @@ pub struct ParserRule<A> {
 /// An alternative of a parser rule.
 #[derive(Drop)]
 pub struct RuleAlternative<A> {
-    /// Whether `<assoc=right>` begins it.
+    /// Whether it is right associative, by an `<assoc=right>` that begins it; once its atoms are steps, also by one on an element.
     pub right: bool,
     pub elements: Elements<A>,
     pub label: Option<AlternativeLabel>,
