@@ -28,7 +28,7 @@ pub enum CheckFault {
     EmptyOperator(Text, u32),
     /// A rule with a loop whose body derives the empty word.
     EmptyLoop(Text),
-    /// Rules of which each calls the next before anything is read, and the last the first.
+    /// Rules of which each, as it is run, calls the next before anything is read, and the last the first.
     LeftCycle(Sequence<Text>),
     NoMemory,
 }

@@ -9,30 +9,38 @@ use g4_source::{
 use std::alloc::{AllocError, Global};
 use std::test::Fail;
 
-/// A reference to a rule by its name.
-fn reference(alloc: Global, name: &str) -> Result<Element<Atom>, AllocError> {
-    let name = Name {
-        text: Text::copy_of(alloc, name)?,
-        place: Place::START,
-    };
-    Ok(Element::Atom(Atom {
-        label: None,
-        right: false,
-        kind: AtomKind::Rule(name),
-    }))
+/// What a word is: any token, an action, or a reference to a rule by its name.
+fn kind(alloc: Global, word: &str) -> Result<AtomKind, AllocError> {
+    match word {
+        "." => Ok(AtomKind::Any(Place::START)),
+        "{}" => Ok(AtomKind::Action),
+        name => Ok(AtomKind::Rule(Name {
+            text: Text::copy_of(alloc, name)?,
+            place: Place::START,
+        })),
+    }
 }
 
-/// A parser rule with an alternative for each word, which is a reference, or with `-` nothing.
-fn parser_rule(alloc: Global, name: &str, words: &[&str]) -> Result<Rule, AllocError> {
+/// The elements of the words of a text.
+fn elements(alloc: Global, text: &str) -> Result<Vec<Element<Atom>>, AllocError> {
+    let mut all = Vec::new(alloc);
+    for word in text.split_whitespace() {
+        all.push(Element::Atom(Atom {
+            label: None,
+            right: false,
+            kind: kind(alloc, word)?,
+        }))?;
+    }
+    Ok(all)
+}
+
+/// A parser rule with an alternative for each text.
+fn parser_rule(alloc: Global, name: &str, texts: &[&str]) -> Result<Rule, AllocError> {
     let mut alternatives = Vec::new(alloc);
-    for word in words {
-        let mut elements = Vec::new(alloc);
-        if *word != "-" {
-            elements.push(reference(alloc, *word)?)?;
-        }
+    for text in texts {
         alternatives.push(RuleAlternative {
             right: false,
-            elements: Elements::new(elements),
+            elements: Elements::new(elements(alloc, *text)?),
             label: None,
         })?;
     }
@@ -64,10 +72,10 @@ fn lexer_rule(alloc: Global, name: &str, command: &str) -> Result<Rule, AllocErr
 }
 
 /// What is reported of a parser rule `a` with these alternatives and a lexer rule with this command.
-fn reported(alloc: Global, words: &[&str], command: &str) -> Result<String, AllocError> {
+fn reported(alloc: Global, texts: &[&str], command: &str) -> Result<String, AllocError> {
     let rules = vec![in alloc;
         lexer_rule(alloc, "T", command)?,
-        parser_rule(alloc, "a", words)?,
+        parser_rule(alloc, "a", texts)?,
     ]?;
     let source = Source {
         place: Place::START,
@@ -83,23 +91,26 @@ fn reported(alloc: Global, words: &[&str], command: &str) -> Result<String, Allo
         Err(CheckFault::UnknownCommand(_)) => String::from_str(alloc, "command"),
         Err(CheckFault::NoPrimary(_)) => String::from_str(alloc, "primary"),
         Err(CheckFault::EmptyOperator(_, _)) => String::from_str(alloc, "operator"),
+        Err(CheckFault::LeftCycle(_)) => String::from_str(alloc, "cycle"),
         Err(_) => String::from_str(alloc, "another"),
     }
 }
 
 const ROWS: &[(&[&str], &str, &str)] = &[
-    (&["-"], "skip", "none"),
-    (&["-", "b"], "no", "rule"),
+    (&[""], "skip", "none"),
+    (&["", "b"], "no", "rule"),
     (&["a"], "no", "command"),
     (&["a"], "skip", "primary"),
-    (&["-", "a"], "skip", "operator"),
-    (&["a", "-"], "more", "operator"),
+    (&["", "a"], "skip", "operator"),
+    (&["a", ""], "more", "operator"),
+    (&["a . a", "a .", ". a", "."], "skip", "none"),
+    (&["{} a .", "."], "skip", "cycle"),
 ];
 
 #[test]
 fn reports_the_first_kind(rt: HostRuntime) -> Result<(), Fail> {
-    for (words, command, wanted) in ROWS {
-        let found = reported(rt.alloc(), *words, *command)?;
+    for (texts, command, wanted) in ROWS {
+        let found = reported(rt.alloc(), *texts, *command)?;
         assert_eq!(rt; found.as_str(), *wanted, "{command}");
     }
     Ok(())

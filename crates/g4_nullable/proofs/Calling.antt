@@ -1,21 +1,32 @@
 -- The left calls that are found, by what elements are made of.
-use Rattle.std.proofs.Common.{◌≡◌, ◌↔◌, ℕ, ◌+◌, ◌≤◌, ◌⊎◌, inl, inr, List, [], ◌∷◌, ◌++◌, length, drop, Bool, true, false, ◌||◌, IsTrue, Option, Some, Vec, refl, sym, ap, ◌∙◌, subst}
-use Rattle.std.specs.Global.{Global}
+use Rattle.std.proofs.Common.{◌≡◌, ◌↔◌, ℕ, ◌+◌, ◌≤◌, ◌⊎◌, inl, inr, List, [], ◌∷◌, ◌++◌, length, drop, Bool, true, false, ◌||◌, IsTrue, Option, Some, refl, sym, ap, subst}
 use Rattle.std.specs.List.{slice_get, Contains}
 use Rattle.std.proofs.lemmas.List.{drop_all}
 use Rattle.std.proofs.lemmas.List.Elements.{Contains-push, Contains-push_cases, Contains-append_left}
-use Rattle.std.proofs.lemmas.Option.{same_Some}
 use Rattle.g4_elements.specs.declared.name.Label.{Label}
 use Rattle.g4_elements.specs.declared.element.Repeat.{Repeat}
 use Rattle.g4_elements.specs.Elements.{Element, atom, block, Elements, empty, then, Alternatives, none, or, either}
 use Rattle.g4_elements.specs.Trees.{in_order}
-use Rattle.g4_grammar.specs.LeftCalls.{Nullable, AllNullable, nothing, OneNullable, IsLeftOf, IsLeftOfAll, IsLeftOfOne, LeftCalls}
+use Rattle.g4_grammar.specs.LeftCalls.{Nullable, AllNullable, nothing, OneNullable, IsLeftOf, IsLeftOfAll, IsLeftOfOne}
 use Rattle.g4_nullable.specs.declared.lead.Lead.{Lead}
 use Rattle.g4_nullable.specs.declared.lead.Lead.TheVariants.{Call}
 use Rattle.g4_nullable.specs.Leads.{ReadsLead, CallsLead}
 use Rattle.g4_nullable.specs.Finds.{TellsCalls}
 use Rattle.g4_nullable.proofs.Parts.{one_parts, not_one_of_none, all_parts}
-use Rattle.g4_nullable.proofs.Steps.{drop_at, in_nothing, pushed_cases, or_more}
+use Rattle.g4_nullable.proofs.Steps.{drop_at, or_more}
+
+-- one more alternative: its calls are added to those of before
+pub calls_more : (Later Now One Rest : Type 0) → (Later ↔ (Now ⊎ One)) → (Later ⊎ Rest) ↔ (Now ⊎ (One ⊎ Rest))
+calls_more Later Now One Rest one = (to, from)
+  where
+    to : Later ⊎ Rest → Now ⊎ (One ⊎ Rest)
+    to (inl h) = elim (one.0 h) [ inl old ↦ inl old | inr new ↦ inr (inl new) ]
+    to (inr r) = inr (inr r)
+
+    from : Now ⊎ (One ⊎ Rest) → Later ⊎ Rest
+    from (inl old) = inl (one.1 (inl old))
+    from (inr (inl new)) = inl (one.1 (inr new))
+    from (inr (inr r)) = inr r
 
 module _ (rules : List (Alternatives Lead)) where
   -- What is found of an element, of elements one after another, and of alternatives, and the calls from before and after.
@@ -54,19 +65,6 @@ module _ (rules : List (Alternatives Lead)) where
     calls = λ j. (λ h. h, λ h. h);
   }
 
-  -- one more alternative
-  calls_more : (x : Elements Lead) (rest : Alternatives Lead) (now later : List ℕ) (j : ℕ) → (Contains later j ↔ (Contains now j ⊎ IsLeftOfAll ReadsLead CallsLead rules x j)) → (Contains later j ⊎ IsLeftOfOne ReadsLead CallsLead rules rest j) ↔ (Contains now j ⊎ IsLeftOfOne ReadsLead CallsLead rules (or x rest) j)
-  calls_more x rest now later j one = (to, from)
-    where
-      to : Contains later j ⊎ IsLeftOfOne ReadsLead CallsLead rules rest j → Contains now j ⊎ (IsLeftOfAll ReadsLead CallsLead rules x j ⊎ IsLeftOfOne ReadsLead CallsLead rules rest j)
-      to (inl h) = elim (one.0 h) [ inl old ↦ inl old | inr new ↦ inr (inl new) ]
-      to (inr r) = inr (inr r)
-
-      from : Contains now j ⊎ (IsLeftOfAll ReadsLead CallsLead rules x j ⊎ IsLeftOfOne ReadsLead CallsLead rules rest j) → Contains later j ⊎ IsLeftOfOne ReadsLead CallsLead rules rest j
-      from (inl old) = inl (one.1 (inl old))
-      from (inr (inl new)) = inl (one.1 (inr new))
-      from (inr (inr r)) = inr r
-
   pub calls_step : (xs : List (Elements Lead)) (i : ℕ) (x : Elements Lead) (found one new : Bool) (before now later : List ℕ) → slice_get xs i ≡ Some x → CallsAll one now later x → new ≡ (found || one) → CallsLeft xs found before now i → CallsLeft xs new before later (i + 1)
   calls_step xs i x found one new before now later at t is w =
       let rest : Alternatives Lead = either (drop (i + 1) xs) in
@@ -76,7 +74,7 @@ module _ (rules : List (Alternatives Lead)) where
             new found one is t.nullable (one_parts rules x rest)
             (subst (λ (ys : Alternatives Lead). (IsTrue found ⊎ OneNullable ReadsLead CallsLead rules ys) ↔ OneNullable ReadsLead CallsLead rules (either xs)) split w.nullable);
         calls = λ j.
-            let more = calls_more x rest now later j (t.calls j) in
+            let more = calls_more (Contains later j) (Contains now j) (IsLeftOfAll ReadsLead CallsLead rules x j) (IsLeftOfOne ReadsLead CallsLead rules rest j) (t.calls j) in
             let so_far : (Contains now j ⊎ IsLeftOfOne ReadsLead CallsLead rules (or x rest) j) ↔ (Contains before j ⊎ IsLeftOfOne ReadsLead CallsLead rules (either xs) j) =
             subst (λ (ys : Alternatives Lead). (Contains now j ⊎ IsLeftOfOne ReadsLead CallsLead rules ys j) ↔ (Contains before j ⊎ IsLeftOfOne ReadsLead CallsLead rules (either xs) j)) split (w.calls j) in
             (λ h. so_far.0 (more.0 h), λ h. more.1 (so_far.1 h));
@@ -157,29 +155,6 @@ module _ (rules : List (Alternatives Lead)) where
           λ h. elim ((w.calls j).1 h) [ inl old ↦ old | inr n ↦ absurd (subst (λ (ys : Elements Lead). IsLeftOfAll ReadsLead CallsLead rules ys j) last n) ],
         );
       }
-
-  -- all alternatives of a rule, from no calls on
-  pub rule_calls : (xs : List (Elements Lead)) (i : ℕ) (found : Bool) (now : List ℕ) → length xs ≤ i → CallsLeft xs found [] now i → (j : ℕ) → Contains now j ↔ IsLeftOfOne ReadsLead CallsLead rules (either xs) j
-  rule_calls xs i found now past w j =
-      let calls = (calls_end xs i found [] now past w).calls j in
-      (λ h. elim (calls.0 h) [ inl old ↦ absurd (in_nothing j old) | inr new ↦ new ], λ h. calls.1 (inr h))
-
-  -- The lists are the left calls of the first rules.
-  abbrev pub AreLeftCalls : List (Vec ℕ Global) → Type 0
-  AreLeftCalls all = (k : ℕ) (calls : Vec ℕ Global) → slice_get all k ≡ Some calls → (j : ℕ) → Contains calls.items j ↔ LeftCalls ReadsLead CallsLead rules k j
-
-  -- one more rule
-  pub left_calls_more : (all : List (Vec ℕ Global)) (calls : Vec ℕ Global) (i : ℕ) (xs : Alternatives Lead) → length all ≡ i → slice_get rules i ≡ Some xs → ((j : ℕ) → Contains calls.items j ↔ IsLeftOfOne ReadsLead CallsLead rules xs j) → AreLeftCalls all → AreLeftCalls (all ++ calls ∷ [])
-  left_calls_more all calls i xs count at one before k some there = elim (pushed_cases all calls k some there) [
-    | inl old ↦ before k some old
-    | inr new ↦ λ j.
-        let found : slice_get rules k ≡ Some xs = ap (slice_get rules) (new.0 ∙ count) ∙ at in
-        let same : calls ≡ some = new.1 in
-        let this : Contains some.items j ↔ IsLeftOfOne ReadsLead CallsLead rules xs j = subst (λ (v : Vec ℕ Global). Contains v.items j ↔ IsLeftOfOne ReadsLead CallsLead rules xs j) same (one j) in (
-          λ h. (xs, found, this.0 h),
-          λ h. this.1 (subst (λ (ys : Alternatives Lead). IsLeftOfOne ReadsLead CallsLead rules ys j) (same_Some h.0 xs (sym h.1 ∙ found)) h.2),
-        )
-  ]
 
   -- a block has the left calls of its alternatives
   pub block_calls : (label : Option Label) (repeat : Repeat) (xs : Alternatives Lead) (body answer : Bool) (before after : List ℕ) → CallsOne body before after xs → (IsTrue answer ↔ Nullable ReadsLead CallsLead rules (block label repeat xs)) → CallsElement answer before after (block label repeat xs)

@@ -4,5 +4,6 @@ mod Looping
 mod Nodes
 mod Nullability
 mod Parts
+pub mod Running
 mod Steps
 mod Trees

@@ -1,6 +1,6 @@
 -- Rules whose atoms are seen by what they do before anything is read.
-use Rattle.std.specs.Prelude.{◌≡◌, ℕ, List, [], ◌∷◌, map, Some, slice_get}
-use Rattle.g4_elements.specs.Elements.{Alternatives, either}
+use Rattle.std.specs.Prelude.{◌≡◌, ℕ, List, [], ◌∷◌, Bool, true, map, Some, slice_get}
+use Rattle.g4_elements.specs.Elements.{atom, Elements, then, Alternatives, either}
 use Rattle.g4_grammar.specs.LeftCalls.{OneNullable}
 use Rattle.g4_nullable.specs.declared.lead.Lead.{Lead}
 use Rattle.g4_nullable.specs.declared.lead.Lead.TheVariants.{Empty, Symbol, Call}
@@ -25,6 +25,18 @@ alternatives_of rule = either rule.alternatives
 -- the same of each rule
 abbrev pub trees_of : List LeadRule → List (Alternatives Lead)
 trees_of rules = map alternatives_of rules
+
+-- of each rule, whether it may have operators
+abbrev pub operators_of : List LeadRule → List Bool
+operators_of rules = map (λ rule. rule.may_have_operators) rules
+
+-- an atom with which an operator of rule k may begin: a call of rule k, which by these answers may have operators
+abbrev pub OwnLead : List Bool → Lead → ℕ → Type 0
+OwnLead operators a k = CallsLead a k × (slice_get operators k ≡ Some true)
+
+-- the elements begin with a plain call of rule k, and the others follow it
+abbrev pub FollowsCall : ℕ → Elements Lead → Elements Lead → Type 0
+FollowsCall k elements rest = elements ≡ then (atom (Call k)) rest
 
 -- rule k derives the empty word
 abbrev pub IsNullableRule : List (Alternatives Lead) → ℕ → Type 0

@@ -1,18 +1,20 @@
 // Which rules a rule calls before anything is read.
-ghost use Rattle.std.specs.Prelude.{◌≡◌, ◌↔◌, IsTrue, ℕ, List, map, Option, Some, Vec, IfOk, OnOk, Contains, length, slice_get, vec_len, ◌||◌};
+ghost use Rattle.std.specs.Prelude.{◌≡◌, ◌↔◌, ◌⊎◌, Bool, IsTrue, ℕ, List, map, Option, Some, Vec, IfOk, OnOk, Contains, length, slice_get, vec_len, ◌||◌};
 ghost use Rattle.std.specs.Global.{Global as TheGlobal};
 ghost use Rattle.g4_elements.specs.declared.name.Label.{Label as Named};
 ghost use Rattle.g4_elements.specs.Elements.{atom as lone, block, Alternatives, either};
 ghost use Rattle.g4_elements.specs.Trees.{element_of, alternative_of, in_order};
-ghost use Rattle.g4_grammar.specs.LeftCalls.{Nullable, AllNullable, OneNullable, IsLeftOf, IsLeftOfAll, IsLeftOfOne, LeftCalls};
+ghost use Rattle.g4_grammar.specs.LeftCalls.{Nullable, AllNullable, OneNullable, IsLeftOf, IsLeftOfAll, IsLeftOfOne};
+ghost use Rattle.g4_grammar.specs.OwnCalls.{IsLeftAsRun, IsLeftOfOneAsRun, LeftCallsAsRun};
 ghost use Rattle.g4_horn.specs.Follows.{Tells};
 ghost use Rattle.g4_nullable.specs.declared.lead.Lead.{Lead as Atom};
-ghost use Rattle.g4_nullable.specs.Leads.{ReadsLead, CallsLead, IsNullableRule, trees_of};
+ghost use Rattle.g4_nullable.specs.Leads.{ReadsLead, CallsLead, IsNullableRule, OwnLead, alternatives_of, operators_of, trees_of};
 ghost use Rattle.g4_nullable.specs.Finds.{TellsCalls};
 
-use crate::lead::is_nullable;
+use crate::lead::{is_nullable, says};
+use crate::own::after_own_call;
 use crate::{Lead, LeadRule};
-use g4_elements::{Alternative, Element, Elements, Repeat};
+use g4_elements::{Alternative, Element, Repeat};
 use std::alloc::{AllocError, Global};
 
 /// Adds the call of an atom, and says whether the atom derives the empty word.
@@ -100,23 +102,48 @@ fn of_elements(
     Ok(true)
 }
 
-/// The left calls of the alternatives of a rule.
+/// Adds the left calls of an alternative of the rule of this number, which may have operators or not, as the rule is run.
+fn of_alternative(
+    nullable: &[bool],
+    may_have_operators: bool,
+    number: usize,
+    elements: &[Element<Lead>],
+    calls: &mut Vec<u32>,
+) -> Result<(), AllocError>
+    ensures { OnOk result ((rules : List (Alternatives Atom)) (operators : List Bool) → Tells nullable.now (IsNullableRule rules) → slice_get operators number ≡ Some may_have_operators → (j : ℕ) → Contains calls.new.items j ↔ (Contains calls.old.items j ⊎ IsLeftAsRun ReadsLead CallsLead (OwnLead operators) rules number (in_order (map element_of elements.now)) j)) }
+{
+    match after_own_call(may_have_operators, number, elements) {
+        Some(rest) => {
+            if says(nullable, number) {
+                of_elements(nullable, rest, calls)?;
+            }
+        }
+        None => {
+            of_elements(nullable, elements, calls)?;
+        }
+    }
+    Ok(())
+}
+
+/// The left calls of the rule of this number, as it is run.
 fn of_rule(
     alloc: Global,
     nullable: &[bool],
-    alternatives: &[Elements<Lead>],
+    number: usize,
+    rule: &LeadRule,
 ) -> Result<Vec<u32>, AllocError>
-    ensures { IfOk result (λ calls. (rules : List (Alternatives Atom)) → Tells nullable.now (IsNullableRule rules) → (j : ℕ) → Contains calls.items j ↔ IsLeftOfOne ReadsLead CallsLead rules (either alternatives.now) j) }
+    ensures { IfOk result (λ calls. (rules : List (Alternatives Atom)) (operators : List Bool) → Tells nullable.now (IsNullableRule rules) → slice_get operators number ≡ Some rule.now.may_have_operators → (j : ℕ) → Contains calls.items j ↔ IsLeftOfOneAsRun ReadsLead CallsLead (OwnLead operators) rules number (alternatives_of rule.now) j) }
 {
     let mut calls = Vec::new(alloc);
-    for elements in alternatives {
-        of_elements(nullable, elements.as_slice(), &mut calls)?;
+    let operators = rule.may_have_operators;
+    for elements in rule.alternatives.as_slice() {
+        of_alternative(nullable, operators, number, elements.as_slice(), &mut calls)?;
     }
     Ok(calls)
 }
 
-/// Of each rule, the rules that it calls before anything is read, perhaps with repetitions, where it is given which rules derive
-/// the empty word.
+/// Of each rule, the rules that it calls before anything is read, as it is run, perhaps with repetitions, where it is given which
+/// rules derive the empty word.
 ///
 /// # Errors
 /// No memory.
@@ -127,11 +154,11 @@ pub fn left_calls(
 ) -> Result<Vec<Vec<u32>>, AllocError>
     requires { Tells nullable.now (IsNullableRule (trees_of rules.now)) }
     ensures count { IfOk result (λ all. vec_len all ≡ length rules.now) }
-    ensures calls { IfOk result (λ all. (k : ℕ) (calls : Vec ℕ TheGlobal) → slice_get all.items k ≡ Some calls → (j : ℕ) → Contains calls.items j ↔ LeftCalls ReadsLead CallsLead (trees_of rules.now) k j) }
+    ensures calls { IfOk result (λ all. (k : ℕ) (calls : Vec ℕ TheGlobal) → slice_get all.items k ≡ Some calls → (j : ℕ) → Contains calls.items j ↔ LeftCallsAsRun ReadsLead CallsLead (OwnLead (operators_of rules.now)) (trees_of rules.now) k j) }
 {
     let mut all = Vec::with_capacity(alloc, rules.len())?;
-    for rule in rules {
-        all.push(of_rule(alloc, nullable, rule.alternatives.as_slice())?)?;
+    for (number, rule) in rules.iter().enumerate() {
+        all.push(of_rule(alloc, nullable, number, rule)?)?;
     }
     Ok(all)
 }

@@ -20,17 +20,21 @@ pub enum Lead {
     Call(u32),
 }
 
-/// A rule whose atoms are leads: its alternatives in order.
+/// A rule whose atoms are leads.
 #[derive(Drop)]
 pub struct LeadRule {
+    /// Whether its alternatives that begin with a plain call of the rule itself are operators: it is run as a loop, and this call
+    /// is a turn of the loop.
+    pub may_have_operators: bool,
+    /// The alternatives in order.
     pub alternatives: Sequence<Elements<Lead>>,
 }
 
 /// Whether the answer for a rule is yes: it is not where there is none.
-fn says(answers: &[bool], rule: u32) -> bool
+pub(crate) fn says(answers: &[bool], rule: usize) -> bool
     ensures { IsTrue result ↔ (slice_get answers.now rule ≡ Some true) }
 {
-    answers.get(rule as usize).copied().unwrap_or(false)
+    answers.get(rule).copied().unwrap_or(false)
 }
 
 /// Whether the atom derives the empty word, by which rules do.
@@ -40,6 +44,6 @@ pub(crate) fn is_nullable(nullable: &[bool], lead: Lead) -> bool
     match lead {
         Lead::Empty => true,
         Lead::Symbol => false,
-        Lead::Call(rule) => says(nullable, rule),
+        Lead::Call(rule) => says(nullable, rule as usize),
     }
 }

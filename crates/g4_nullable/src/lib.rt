@@ -7,6 +7,7 @@ mod clauses;
 mod empty_rules;
 mod lead;
 mod loops;
+mod own;
 #[cfg(test)]
 mod tests;
 
@@ -14,3 +15,4 @@ pub use calls::left_calls;
 pub use empty_rules::nullable;
 pub use lead::{Lead, LeadRule};
 pub use loops::{are_nullable, has_empty_loop};
+pub use own::after_call;

@@ -51,13 +51,18 @@ fn elements(alloc: Global, text: &str) -> Result<Vec<Element<Lead>>, AllocError>
     Ok(all)
 }
 
-/// A rule by its alternatives, with `|` between them.
+/// A rule by its alternatives, with `|` between them. A `^` before them says that it may have operators.
 fn rule(alloc: Global, text: &str) -> Result<LeadRule, AllocError> {
+    let (may_have_operators, text) = match text.strip_prefix('^') {
+        Some(rest) => (true, rest),
+        None => (false, text),
+    };
     let mut all = Vec::new(alloc);
     for alternative in text.split('|') {
         all.push(Elements::new(elements(alloc, alternative)?))?;
     }
     Ok(LeadRule {
+        may_have_operators,
         alternatives: Sequence::new(all),
     })
 }
@@ -111,7 +116,7 @@ fn found(alloc: Global, text: &str) -> Result<String, AllocError> {
     Ok(found)
 }
 
-static TABLE: [(&str, &str, &str); 17] = [
+static TABLE: [(&str, &str, &str); 24] = [
     ("a symbol, and nothing", ". !", ": e: "),
     ("an empty alternative", ".| 0", "e: e:0 "),
     ("a chain in the bad order", "1 2 3 !", "e:1 e:2 e:3 e: "),
@@ -137,6 +142,17 @@ static TABLE: [(&str, &str, &str); 17] = [
     ("an empty loop in a later alternative", ".|1+. !", "l:1 e: "),
     ("calls of each alternative", ".|1|2 . .", ":12 : : "),
     ("calls in blocks", "1(2? . !", "e:1 : e: "),
+    ("operators are turns of a loop", "^0.0|.0|.", ": "),
+    ("a rule without operators", "0.|.", ":0 "),
+    ("own calls in a block", "^0(.|.", ":0 "),
+    ("own calls behind others", "^10.|. !", ":10 e: "),
+    (
+        "behind the own call of a rule that can be empty",
+        "^01|! ^0.",
+        "e:1 :0 ",
+    ),
+    ("and of one that cannot", "^01|. ^0.", ": :0 "),
+    ("the own call of another rule", "^1. ^.|1.", ":1 : "),
 ];
 
 #[test]
@@ -157,6 +173,7 @@ fn repeating(alloc: Global, lead: Lead) -> Result<LeadRule, AllocError> {
         block(alloc, Repeat::Optional(GREEDY), symbol)?,
     ]?;
     Ok(LeadRule {
+        may_have_operators: true,
         alternatives: Sequence::new(vec![in alloc; Elements::new(all)]?),
     })
 }

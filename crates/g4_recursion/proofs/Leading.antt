@@ -1,9 +1,12 @@
 -- An atom of a rule and what it does before anything is read: both read the empty word, and both call the same rules. So the
 -- rules over leads are the rules over their atoms.
-use Rattle.std.proofs.Common.{◌≡◌, ◌↔◌, ◌⊎◌, ℕ, List, [], ◌∷◌, map, inl, inr, Bool, true, false, cond, codes, Option, Some, None, refl, sym, ap, ◌∙◌}
+use Rattle.std.proofs.Common.{◌≡◌, ◌↔◌, ◌⊎◌, ℕ, List, [], ◌∷◌, map, inl, inr, Bool, true, false, cond, codes, Option, Some, None, refl, sym, ap, ◌∙◌, subst, arith}
+use Rattle.std.specs.List.{position, slice_get}
+use Rattle.std.proofs.lemmas.Bool.{cases_Bool}
+use Rattle.std.proofs.lemmas.Option.{same_Some}
 use Rattle.std.specs.Str.{bytes_eq}
-use Rattle.g4_elements.specs.Elements.{Element, atom, block, Elements, empty, then, Alternatives, none, or, either}
-use Rattle.g4_elements.specs.Bind.{over, in_order_over, either_over}
+use Rattle.g4_elements.specs.Elements.{Elements, either}
+use Rattle.g4_elements.specs.Bind.{in_order_over, either_over}
 use Rattle.g4_source.specs.declared.atom.Atom.{Atom}
 use Rattle.g4_source.specs.declared.atom.AtomKind.{AtomKind}
 use Rattle.g4_source.specs.declared.atom.AtomKind.TheVariants as atoms
@@ -18,15 +21,17 @@ use Rattle.g4_rules.specs.declared.rules.RuleView.{RuleView}
 use Rattle.g4_rules.specs.Views.{rule_view}
 use Rattle.g4_rules.proofs.Lists.{map-map}
 use mathlib.Core.Path.{fun_ext}
-use Rattle.g4_grammar.specs.Written.{CallsIn, KindCalls, KindReads, ReadsIn}
+use Rattle.g4_grammar.specs.Written.{CallsIn, is_rule_of, KindCalls, KindReads, OwnIn, ReadsIn}
 use Rattle.g4_grammar.proofs.Carried.{in_order_over_twice}
+use Rattle.g4_grammar.proofs.Positions.{at_first, found_within, from_later}
 use Rattle.g4_nullable.specs.declared.lead.Lead.{Lead}
-use Rattle.g4_nullable.specs.declared.lead.Lead.TheVariants.{Empty, Symbol, Call}
+use Rattle.g4_nullable.specs.declared.lead.Lead.TheVariants.{Empty, Symbol}
 use Rattle.g4_nullable.specs.declared.lead.LeadRule.{LeadRule}
-use Rattle.g4_nullable.specs.Leads.{ReadsLead, CallsLead, trees_of}
+use Rattle.g4_nullable.specs.Leads.{ReadsLead, CallsLead, OwnLead, trees_of}
 use Rattle.g4_recursion.specs.declared.numbers.Numbers.{Numbers}
 use Rattle.g4_recursion.specs.Numbers.{AreNumbers, number_in, rule_number}
-use Rattle.g4_recursion.specs.Leads.{lead_by, lead_in, leads_by, leads_in, reference_lead, text_lead}
+use Rattle.g4_recursion.specs.Leads.{lead_by, lead_in, leads_by, leads_in, may_have_operators, operators_in, reference_lead, text_lead}
+use Rattle.g4_recursion.proofs.Over.{mapped_at}
 
 -- a symbol does not read the empty word
 symbol_reads : ReadsLead Symbol [] → ⊥
@@ -132,11 +137,66 @@ module _ (rules : List Rule) where
   pub calls : (a : AtomIn) (k : ℕ) → CallsIn rules a k ↔ CallsLead (lead_in rules a) k
   calls a k = calls_kind a.kind a.atom.kind k
 
--- what calls a rule is a call of it
-pub is_call : (lead : Lead) (k : ℕ) → CallsLead lead k → lead ≡ Call k
-is_call Empty k h = absurd h
-is_call Symbol k h = absurd h
-is_call (Call j) k h = ap (λ (n : ℕ). Call n) (sym h)
+-- the item that is found is one of which the test holds
+found_item : {X : Type 0} (p : X → Bool) (xs : List X) (k : ℕ) → position p xs ≡ Some k → (x : X) × (slice_get xs k ≡ Some x) × (p x ≡ true)
+found_item p [] k is = absurd (omega (arith, found_within p [] k is))
+found_item p (x ∷ xs) k is = elim (cases_Bool (p x)) [
+  | inl holds ↦
+      let here : Some 0 ≡ Some k = sym (at_first p x xs holds) ∙ is in
+      let first : 0 ≡ k = cc in
+      (x, subst (λ (n : ℕ). slice_get (x ∷ xs) n ≡ Some x) first refl, holds)
+  | inr fails ↦
+      let (j, later, next) = from_later p x xs k fails is in
+      let (y, at, holds) = found_item p xs j later in
+      (y, subst (λ (n : ℕ). slice_get (x ∷ xs) n ≡ Some y) (sym next) at, holds)
+]
+
+-- a rule of a kind may have operators where this is the kind of parser rules
+kinds_agree : (kind : RuleKind) (name : List ℕ) (rule : Rule) → is_rule_of kind name rule ≡ true → (kind ≡ Parser) ↔ (may_have_operators rule ≡ true)
+kinds_agree Parser name (rule_variants.Parser rule) is = (λ h. refl, λ h. refl)
+kinds_agree Parser name (rule_variants.Lexer rule) is = absurd (let n : ⊥ = cc in n)
+kinds_agree Lexer name (rule_variants.Parser rule) is = absurd (let n : ⊥ = cc in n)
+kinds_agree Lexer name (rule_variants.Lexer rule) is = (λ h. absurd (let n : ⊥ = cc in n), λ h. absurd (let n : ⊥ = cc in n))
+
+module _ (rules : List Rule) where
+  -- a rule that an atom calls has the kind and the name that the atom says
+  called : (kind : RuleKind) (a : AtomKind) (k : ℕ) → KindCalls rules kind a k → (name : List ℕ) × (position (is_rule_of kind name) rules ≡ Some k)
+  called Parser (atoms.Rule name) k h = (name.text, h)
+  called Parser (atoms.Token name) k h = absurd h
+  called Parser (atoms.Literal literal) k h = absurd h
+  called Parser (atoms.Range place first last) k h = absurd h
+  called Parser (atoms.Set set) k h = absurd h
+  called Parser (atoms.Any place) k h = absurd h
+  called Parser (atoms.NotTokens place tokens) k h = absurd h
+  called Parser (atoms.NotCharacters place set) k h = absurd h
+  called Parser atoms.Action k h = absurd h
+  called Parser (atoms.Predicate name) k h = absurd h
+  called Lexer (atoms.Rule name) k h = absurd h
+  called Lexer (atoms.Token name) k h = (name.text, h.1)
+  called Lexer (atoms.Literal literal) k h = absurd h
+  called Lexer (atoms.Range place first last) k h = absurd h
+  called Lexer (atoms.Set set) k h = absurd h
+  called Lexer (atoms.Any place) k h = absurd h
+  called Lexer (atoms.NotTokens place tokens) k h = absurd h
+  called Lexer (atoms.NotCharacters place set) k h = absurd h
+  called Lexer atoms.Action k h = absurd h
+  called Lexer (atoms.Predicate name) k h = absurd h
+
+  -- a rule that an atom calls may have operators where the atom is one of a parser rule
+  called_may : (a : AtomIn) (k : ℕ) → CallsIn rules a k → (a.kind ≡ Parser) ↔ (slice_get (operators_in rules) k ≡ Some true)
+  called_may a k calls =
+      let (name, is) = called a.kind a.atom.kind k calls in
+      let (rule, at, holds) = found_item (is_rule_of a.kind name) rules k is in
+      let here : slice_get (operators_in rules) k ≡ Some (may_have_operators rule) = mapped_at may_have_operators rules k rule at in
+      let both = kinds_agree a.kind name rule holds in
+      (λ h. here ∙ ap (λ (b : Bool). Some b) (both.0 h), λ h. both.1 (same_Some (may_have_operators rule) true (sym here ∙ h)))
+
+  -- an atom begins an operator of a rule where its lead does
+  pub own : (a : AtomIn) (k : ℕ) → OwnIn rules a k ↔ OwnLead (operators_in rules) (lead_in rules a) k
+  own a k = (
+    λ h. ((calls rules a k).0 h.1, (called_may a k h.1).0 h.0),
+    λ h. let there = (calls rules a k).1 h.0 in ((called_may a k there).1 h.1, there),
+  )
 
 -- what becomes of items in two steps
 map_twice : {X Y Z : Type 0} (whole : X → Z) (first : X → Y) (second : Y → Z) → ((x : X) → whole x ≡ second (first x)) → (xs : List X) → map whole xs ≡ map second (map first xs)

@@ -4,4 +4,5 @@ mod Numbering
 pub mod OneAnswer
 mod Over
 mod Read
+pub mod Running
 mod Searching

@@ -8,8 +8,9 @@ use Rattle.g4_elements.specs.declared.element.Repeat.TheVariants.{Once, Optional
 use Rattle.g4_elements.specs.Elements.{Element, atom, block, Elements, empty, then, Alternatives, none, or}
 use Rattle.g4_elements.specs.Bind.{over, in_order_over, either_over}
 use Rattle.g4_grammar.specs.Derives.{DerivesOne}
-use Rattle.g4_grammar.specs.LeftCalls.{Nullable, an_atom, a_call, a_block, an_optional, a_star, a_plus, AllNullable, nothing, one_more, OneNullable, this, another, IsLeftOf, IsLeftOfAll, IsLeftOfOne, LeftCalls}
+use Rattle.g4_grammar.specs.LeftCalls.{Nullable, an_atom, a_call, a_block, an_optional, a_star, a_plus, AllNullable, nothing, one_more, OneNullable, this, another, IsLeftOf, IsLeftOfAll, IsLeftOfOne}
 use Rattle.g4_grammar.specs.Loops.{HasEmptyLoop, OneHasEmptyLoop, SomeHasEmptyLoop}
+use Rattle.g4_grammar.specs.OwnCalls.{IsLeftAsRun, IsLeftOfOneAsRun, LeftCallsAsRun}
 use Rattle.g4_grammar.proofs.Empty.{one_derives_nothing, one_is_nullable}
 
 -- an item of a list as what it becomes
@@ -171,14 +172,42 @@ module _ {A B : Type 0} (f : A → B) (Reads : A → List ℕ → Type 0) (Reads
     one_left_back (or x xs) j (inl h) = inl (all_left_back x j h)
     one_left_back (or x xs) j (inr h) = inr (one_left_back xs j h)
 
-  -- the left calls of rules are those over the other atoms
-  pub left_calls_over : (k j : ℕ) → LeftCalls Reads Calls rules k j ↔ LeftCalls ReadsOver CallsOver made k j
-  left_calls_over k j = (to, from)
-    where
-      to : LeftCalls Reads Calls rules k j → LeftCalls ReadsOver CallsOver made k j
-      to (xs, at, left) = (either_over f xs, mapped_at (either_over f) rules k xs at, one_left_over xs j left)
+  -- an atom begins an operator of a rule exactly where the atom that it becomes does
+  module _ (Own : A → ℕ → Type 0) (OwnOver : B → ℕ → Type 0) (own : (a : A) (k : ℕ) → Own a k ↔ OwnOver (f a) k) where
+    -- a left call of an alternative of rule k as it is run, over the other atoms
+    run_over : (k : ℕ) (xs : Elements A) (j : ℕ) → IsLeftAsRun Reads Calls Own rules k xs j → IsLeftAsRun ReadsOver CallsOver OwnOver made k (in_order_over f xs) j
+    run_over k empty j h = h
+    run_over k (then (atom a) xs) j (inl h) = inl ((calls a j).0 h.0, λ o. h.1 ((own a k).1 o))
+    run_over k (then (atom a) xs) j (inr h) = inr (nullable_over h.0, all_left_over xs j h.1)
+    run_over k (then (block label repeat ys) xs) j h = all_left_over (then (block label repeat ys) xs) j h
 
-      from : LeftCalls ReadsOver CallsOver made k j → LeftCalls Reads Calls rules k j
-      from (ys, at, left) =
-          let (xs, there, is) = mapped_back (either_over f) rules k ys at in
-          (xs, there, one_left_back xs j (subst (λ (zs : Alternatives B). IsLeftOfOne ReadsOver CallsOver made zs j) is left))
+    -- of alternatives
+    one_run_over : (k : ℕ) (xs : Alternatives A) (j : ℕ) → IsLeftOfOneAsRun Reads Calls Own rules k xs j → IsLeftOfOneAsRun ReadsOver CallsOver OwnOver made k (either_over f xs) j
+    one_run_over k none j h = h
+    one_run_over k (or x xs) j (inl h) = inl (run_over k x j h)
+    one_run_over k (or x xs) j (inr h) = inr (one_run_over k xs j h)
+
+    -- and back
+    run_back : (k : ℕ) (xs : Elements A) (j : ℕ) → IsLeftAsRun ReadsOver CallsOver OwnOver made k (in_order_over f xs) j → IsLeftAsRun Reads Calls Own rules k xs j
+    run_back k empty j h = h
+    run_back k (then (atom a) xs) j (inl h) = inl ((calls a j).1 h.0, λ o. h.1 ((own a k).0 o))
+    run_back k (then (atom a) xs) j (inr h) = inr (nullable_back (atom (f a)) h.0 (atom a) refl, all_left_back xs j h.1)
+    run_back k (then (block label repeat ys) xs) j h = all_left_back (then (block label repeat ys) xs) j h
+
+    -- of alternatives
+    one_run_back : (k : ℕ) (xs : Alternatives A) (j : ℕ) → IsLeftOfOneAsRun ReadsOver CallsOver OwnOver made k (either_over f xs) j → IsLeftOfOneAsRun Reads Calls Own rules k xs j
+    one_run_back k none j h = h
+    one_run_back k (or x xs) j (inl h) = inl (run_back k x j h)
+    one_run_back k (or x xs) j (inr h) = inr (one_run_back k xs j h)
+
+    -- the left calls of rules as they are run are those over the other atoms
+    pub left_calls_over : (k j : ℕ) → LeftCallsAsRun Reads Calls Own rules k j ↔ LeftCallsAsRun ReadsOver CallsOver OwnOver made k j
+    left_calls_over k j = (to, from)
+      where
+        to : LeftCallsAsRun Reads Calls Own rules k j → LeftCallsAsRun ReadsOver CallsOver OwnOver made k j
+        to (xs, at, left) = (either_over f xs, mapped_at (either_over f) rules k xs at, one_run_over k xs j left)
+
+        from : LeftCallsAsRun ReadsOver CallsOver OwnOver made k j → LeftCallsAsRun Reads Calls Own rules k j
+        from (ys, at, left) =
+            let (xs, there, is) = mapped_back (either_over f) rules k ys at in
+            (xs, there, one_run_back k xs j (subst (λ (zs : Alternatives B). IsLeftOfOneAsRun ReadsOver CallsOver OwnOver made k zs j) is left))

@@ -10,25 +10,27 @@ use Rattle.g4_source.specs.declared.rule.Rule.TheVariants.{Parser, Lexer}
 use Rattle.g4_source.specs.declared.rule.ParserRule.{ParserRule}
 use Rattle.g4_source.specs.declared.rule.LexerRule.{LexerRule}
 use Rattle.g4_source.specs.declared.atom.Atom.{Atom}
+use Rattle.g4_source.specs.Rules.{lexer_alternatives_of}
+use Rattle.g4_rules.specs.Atoms.{AtomIn, body_of}
 use Rattle.g4_rules.specs.Views.{rule_view}
 use Rattle.g4_rules.specs.declared.rules.RuleView.{RuleView}
 use Rattle.g4_cycles.specs.Cycles.{Answers, IsFirstCycle}
 use Rattle.g4_cycles.specs.Edges.{EdgeOf}
 use Rattle.g4_cycles.proofs.SameEdges.{answer_carries}
-use Rattle.g4_grammar.specs.LeftCalls.{LeftCalls}
+use Rattle.g4_grammar.specs.OwnCalls.{IsOneOf, LeftCallsAsRun}
 use Rattle.g4_grammar.specs.Loops.{SomeHasEmptyLoop}
 use Rattle.g4_grammar.specs.Written.{HaveNoLeftCycle, RuleLeftCalls}
 use Rattle.g4_horn.specs.Follows.{Tells}
 use Rattle.g4_nullable.specs.declared.lead.Lead.{Lead}
 use Rattle.g4_nullable.specs.declared.lead.LeadRule.{LeadRule}
-use Rattle.g4_nullable.specs.Leads.{ReadsLead, CallsLead, IsNullableRule, alternatives_of, trees_of}
+use Rattle.g4_nullable.specs.Leads.{ReadsLead, CallsLead, IsNullableRule, OwnLead, alternatives_of, operators_of, trees_of}
 use Rattle.g4_recursion.specs.Checking.{HasEmptyLoop, IsEmptyOperator, LacksPrimary}
 use Rattle.g4_recursion.specs.Grammars.{AreLeads, rules_in}
 use Rattle.g4_recursion.specs.Leads.{AllBegin, IsEmptyAt, leads_by}
 use Rattle.g4_recursion.specs.Least.{FindsLeast}
 use Rattle.g4_recursion.specs.Numbers.{rule_number}
 use Rattle.g4_recursion.specs.declared.grammar.Grammar.{Grammar}
-use Rattle.g4_recursion.proofs.Bridge.{empty_loop, empty_operator, lacks_primary, least_same, made, no_left_cycle, not_in_lexer, same_calls, first_within, trees}
+use Rattle.g4_recursion.proofs.Bridge.{empty_loop, empty_operator, lacks_primary, least_same, made, no_left_cycle, no_lexer_operator, not_in_lexer, same_calls, first_within, trees}
 use Rattle.g4_recursion.proofs.Leading.{parser_leads, trees_over}
 use Rattle.g4_recursion.proofs.Over.{mapped_at}
 
@@ -94,7 +96,9 @@ module _ (g : Grammar) (leads : AreLeads g) where
   module _ (k : ℕ) (rule : LexerRule) (at : slice_get (rules_in g) k ≡ Some (Lexer rule)) where
     -- it does not lack a primary
     pub no_primary_sought : LacksPrimary (rules_in g) k → ⊥
-    no_primary_sought lacks = let (i, (rest, (xs, alternative, begins))) = lacks.some in not_in_lexer (rules_in g) k i xs rule at alternative
+    no_primary_sought (body, there, lacks) =
+        let same : body ≡ body_of (Lexer rule) = same_Some body (body_of (Lexer rule)) (sym there ∙ mapped_at body_of (rules_in g) k (Lexer rule) at) in
+        no_lexer_operator (rules_in g) k (lexer_alternatives_of rule) lacks.some.0 lacks.some.1 (subst (λ (ys : Alternatives AtomIn). IsOneOf ys lacks.some.0) same lacks.some.2) lacks.some.3
 
     -- it has no empty operator
     pub no_operator_sought : (i : ℕ) → IsEmptyOperator (rules_in g) k i → ⊥
@@ -102,9 +106,9 @@ module _ (g : Grammar) (leads : AreLeads g) where
 
   -- the first cycle of the lists of left calls is that of the rules
   pub cycle_found : (lent : List LeadRule) (graph all : List (Vec ℕ Global)) (answer : Option (List ℕ)) → lent ≡ g.leads.items → graph ≡ all → length all ≡ length lent →
-      ((k : ℕ) (listed : Vec ℕ Global) → slice_get all k ≡ Some listed → (j : ℕ) → Contains listed.items j ↔ LeftCalls ReadsLead CallsLead (trees_of lent) k j) → Answers (EdgeOf graph) answer → Answers (RuleLeftCalls (rules_in g)) answer
+      ((k : ℕ) (listed : Vec ℕ Global) → slice_get all k ≡ Some listed → (j : ℕ) → Contains listed.items j ↔ LeftCallsAsRun ReadsLead CallsLead (OwnLead (operators_of lent)) (trees_of lent) k j) → Answers (EdgeOf graph) answer → Answers (RuleLeftCalls (rules_in g)) answer
   cycle_found lent graph all answer is same count listed found =
-      let edges = same_calls (rules_in g) lent all (ap (map (λ (lead : LeadRule). lead.alternatives)) is ∙ leads.leads) count listed in
+      let edges = same_calls (rules_in g) lent all (ap (map (λ (lead : LeadRule). lead.alternatives)) is ∙ leads.leads) (ap operators_of is ∙ leads.operators) count listed in
       answer_carries (EdgeOf all) (RuleLeftCalls (rules_in g)) edges answer (subst (λ (gr : List (Vec ℕ Global)). Answers (EdgeOf gr) answer) same found)
 
 -- the rules of the first cycle are there

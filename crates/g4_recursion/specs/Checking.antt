@@ -1,7 +1,7 @@
 -- The faults of how rules call each other before anything is read, and of loops that can be empty, in the order in which they
 -- are looked for. Rules are numbered from 0 in order, those of both kinds together.
 use Rattle.std.specs.Prelude.{◌≡◌, ℕ, ◌+◌, List, map, Some, slice_get, Result, Ok, Err, ⊤}
-use Rattle.g4_elements.specs.Elements.{atom, block, Elements, empty, then, Alternatives}
+use Rattle.g4_elements.specs.Elements.{Elements, Alternatives}
 use Rattle.g4_elements.specs.Bind.{in_order_over}
 use Rattle.g4_source.specs.declared.atom.Atom.{Atom}
 use Rattle.g4_source.specs.declared.rule.ParserRule.{ParserRule}
@@ -12,7 +12,9 @@ use Rattle.g4_rules.specs.declared.kind.RuleKind.TheVariants as kinds
 use Rattle.g4_rules.specs.Atoms.{AtomIn, atom_in, bodies_of}
 use Rattle.g4_grammar.specs.LeftCalls.{AllNullable}
 use Rattle.g4_grammar.specs.Loops.{SomeHasEmptyLoop}
-use Rattle.g4_grammar.specs.Written.{CallsIn, HaveNoEmptyLoop, HaveNoLeftCycle, ReadsIn, RuleLeftCalls}
+use Rattle.g4_grammar.specs.OwnCalls.{IsOperator}
+use Rattle.g4_grammar.specs.OwnCalls as own_calls
+use Rattle.g4_grammar.specs.Written.{CallsIn, HaveNoEmptyLoop, HaveNoLeftCycle, OwnIn, ReadsIn, RuleLeftCalls}
 use Rattle.g4_cycles.specs.Cycles.{IsFirstCycle}
 use Rattle.g4_recursion.specs.Least.{IsLeast}
 use Rattle.g4_recursion.specs.declared.checking.RecursionFault.{RecursionFault}
@@ -39,20 +41,13 @@ module _ (rules : List Rule) where
     pub number : i ≡ place + 1
     pub among : slice_get (alternatives_in rule) place ≡ Some elements
 
-  -- the first of the elements is a plain call of rule k, and the others follow it
-  abbrev pub BeginsWithCall : ℕ → Elements AtomIn → Elements AtomIn → Type 0
-  BeginsWithCall k empty rest = ⊥
-  BeginsWithCall k (then (atom a) others) rest = CallsIn rules a k × (rest ≡ others)
-  BeginsWithCall k (then (block label repeat body) others) rest = ⊥
-
   -- alternative i of parser rule k begins with the rule itself, and these elements follow
   abbrev pub IsDirect : ℕ → ℕ → Elements AtomIn → Type 0
-  IsDirect k i rest = (elements : Elements AtomIn) × IsAlternative k i elements × BeginsWithCall k elements rest
+  IsDirect k i rest = (elements : Elements AtomIn) × IsAlternative k i elements × IsOperator (OwnIn rules) k elements rest
 
-  -- some alternative of parser rule k begins with the rule itself, and so does each one
-  pub record LacksPrimary (k : ℕ) : Type 0 where
-    pub some : (i : ℕ) × ((rest : Elements AtomIn) × IsDirect k i rest)
-    pub each : (i : ℕ) (elements : Elements AtomIn) → IsAlternative k i elements → (rest : Elements AtomIn) × BeginsWithCall k elements rest
+  -- some alternative of rule k begins with the rule itself, and so does each one
+  abbrev pub LacksPrimary : ℕ → Type 0
+  LacksPrimary k = (body : Alternatives AtomIn) × (slice_get (bodies_of rules) k ≡ Some body) × own_calls.LacksPrimary (OwnIn rules) k body
 
   -- alternative i of parser rule k begins with the rule itself, and what follows derives the empty word
   abbrev pub IsEmptyOperator : ℕ → ℕ → Type 0

@@ -1,7 +1,7 @@
 -- What the atoms of rules do before anything is read, by the numbers of rules.
-use Rattle.std.specs.Prelude.{◌≡◌, ◌<◌, ℕ, List, [], ◌∷◌, map, Option, Some, None, slice_get, codes, cond, length}
+use Rattle.std.specs.Prelude.{◌≡◌, ◌<◌, ℕ, List, [], ◌∷◌, Bool, true, false, map, Option, Some, None, slice_get, codes, cond, length}
 use Rattle.std.specs.Str.{bytes_eq}
-use Rattle.g4_elements.specs.Elements.{atom, Alternatives, Elements, then}
+use Rattle.g4_elements.specs.Elements.{Alternatives, Elements}
 use Rattle.g4_elements.specs.Bind.{in_order_over}
 use Rattle.g4_source.specs.declared.atom.AtomKind.{AtomKind}
 use Rattle.g4_source.specs.declared.atom.AtomKind.TheVariants.{Rule as Reference, Token, Literal, Action, Predicate}
@@ -13,7 +13,7 @@ use Rattle.g4_rules.specs.Atoms.{AtomIn}
 use Rattle.g4_grammar.specs.LeftCalls.{AllNullable}
 use Rattle.g4_nullable.specs.declared.lead.Lead.{Lead}
 use Rattle.g4_nullable.specs.declared.lead.Lead.TheVariants.{Empty, Symbol, Call}
-use Rattle.g4_nullable.specs.Leads.{ReadsLead, CallsLead}
+use Rattle.g4_nullable.specs.Leads.{ReadsLead, CallsLead, FollowsCall}
 use Rattle.g4_recursion.specs.Numbers.{rule_number}
 
 -- a reference to the rule of this number. Where there is no such rule, it derives nothing, and in particular not the empty word
@@ -52,9 +52,14 @@ lead_in rules a = lead_by (rule_number rules) a.kind a.atom.kind
 abbrev pub leads_in : List Rule → List (List (Elements Lead))
 leads_in rules = map (leads_by (rule_number rules)) rules
 
--- the elements begin with a call of rule k, and the others follow it
-abbrev pub FollowsCall : ℕ → Elements Lead → Elements Lead → Type 0
-FollowsCall k elements rest = elements ≡ then (atom (Call k)) rest
+-- a parser rule may have operators, a lexer rule has none
+abbrev pub may_have_operators : Rule → Bool
+may_have_operators (rule_variants.Parser rule) = true
+may_have_operators (rule_variants.Lexer rule) = false
+
+-- the same of each of the rules
+abbrev pub operators_in : List Rule → List Bool
+operators_in rules = map may_have_operators rules
 
 -- there are alternatives, and each begins with a call of rule k
 pub record AllBegin (k : ℕ) (alternatives : List (Elements Lead)) : Type 0 where

@@ -44,9 +44,7 @@ impl Grammar<'_> {
         ensures { IsTrue result ↔ LacksPrimary (rules_in self.now) rule }
     {
         match self.rules[rule] {
-            RuleView::Parser(_) => {
-                all_begin(rule as u32, self.leads[rule].alternatives.as_slice())
-            }
+            RuleView::Parser(_) => all_begin(rule, self.leads[rule].alternatives.as_slice()),
             RuleView::Lexer(_) => false,
         }
     }
@@ -61,7 +59,7 @@ impl Grammar<'_> {
         match self.rules[rule] {
             RuleView::Parser(_) => first_empty(
                 self.nullable.as_slice(),
-                rule as u32,
+                rule,
                 self.leads[rule].alternatives.as_slice(),
             ),
             RuleView::Lexer(_) => None,
@@ -120,7 +118,7 @@ impl Grammar<'_> {
         None
     }
 
-    /// The first cycle of rules of which each calls the next before anything is read.
+    /// The first cycle of rules of which each, as it is run, calls the next before anything is read.
     ///
     /// # Errors
     /// No memory.

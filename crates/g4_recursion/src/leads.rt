@@ -3,7 +3,8 @@ ghost use Rattle.std.specs.Prelude.{◌≡◌, ◌<◌, ◌^◌, IfOk, OnOk, len
 ghost use Rattle.g4_elements.specs.Bind.{in_order_over};
 ghost use Rattle.g4_rules.specs.Views.{rule_view};
 ghost use Rattle.g4_rules.specs.declared.kind.RuleKind.TheVariants as kinds;
-ghost use Rattle.g4_recursion.specs.Leads.{lead_by, leads_by, leads_in, reference_lead, text_lead};
+ghost use Rattle.g4_nullable.specs.Leads.{operators_of};
+ghost use Rattle.g4_recursion.specs.Leads.{lead_by, leads_by, leads_in, may_have_operators, operators_in, reference_lead, text_lead};
 ghost use Rattle.g4_recursion.specs.Numbers.{number_in};
 
 use crate::numbers::{Numbers, numbers_of};
@@ -132,24 +133,31 @@ fn lexer_leads(
     Ok(Sequence::new(all))
 }
 
-/// A rule over leads.
+/// A rule over leads. A parser rule may have operators, a lexer rule has none.
 fn lead_rule(
     alloc: Global,
     numbers: &Numbers<'_>,
     rule: RuleView<'_>,
 ) -> Result<LeadRule, AllocError>
-    ensures { IfOk result (λ made. made.alternatives ≡ leads_by (number_in numbers.now) (rule_view rule.entry)) }
+    ensures leads { IfOk result (λ made. made.alternatives ≡ leads_by (number_in numbers.now) (rule_view rule.entry)) }
+    ensures operators { IfOk result (λ made. made.may_have_operators ≡ may_have_operators (rule_view rule.entry)) }
 {
     match rule {
         RuleView::Parser(rule) => {
             let kind = RuleKind::Parser;
             let alternatives = parser_leads(alloc, &Leading { numbers, kind }, rule)?;
-            Ok(LeadRule { alternatives })
+            Ok(LeadRule {
+                may_have_operators: true,
+                alternatives,
+            })
         }
         RuleView::Lexer(rule) => {
             let kind = RuleKind::Lexer;
             let alternatives = lexer_leads(alloc, &Leading { numbers, kind }, rule)?;
-            Ok(LeadRule { alternatives })
+            Ok(LeadRule {
+                may_have_operators: false,
+                alternatives,
+            })
         }
     }
 }
@@ -161,6 +169,7 @@ fn lead_rule(
 pub fn lead_rules(alloc: Global, rules: &[RuleView<'_>]) -> Result<Vec<LeadRule>, AllocError>
     ensures few { OnOk result (length rules.now < 2 ^ 32) }
     ensures leads { IfOk result (λ made. map (λ lead. lead.alternatives) made.items ≡ leads_in (map rule_view rules.now)) }
+    ensures operators { IfOk result (λ made. operators_of made.items ≡ operators_in (map rule_view rules.now)) }
 {
     let numbers = numbers_of(alloc, rules)?;
     let mut all = Vec::with_capacity(alloc, rules.len())?;

@@ -1,23 +1,25 @@
-use Rattle.std.proofs.Common.{◌≡◌, List, [], false, map, Some, refl, sym, subst, arith, ◌||◌}
+use Rattle.std.proofs.Common.{◌≡◌, ◌≤◌, List, length, map, Some, ap, subst, arith}
 use Rattle.std.specs.List.{slice_get}
+use Rattle.g4_elements.specs.Elements.{Elements}
 use Rattle.g4_elements.specs.Trees.{element_of, in_order}
-use Rattle.g4_nullable.proofs.Calling.{CallsLeft, calls_start, calls_step, rule_calls}
+use Rattle.g4_nullable.specs.declared.lead.Lead.{Lead}
 use Rattle.g4_nullable.proofs.Nodes.{elements_at}
+use Rattle.g4_nullable.proofs.Running.{runs_end, runs_step}
 use Rattle.g4_nullable.proofs.calls.of_rule.Goals as goal
-
-pub loop-elements-init : goal.loop-elements-init
-loop-elements-init c = λ rules told. (false, subst (λ (now : List _). CallsLeft rules c.args.alternatives.now false [] now 0) (sym c.new-calls.ensures.items) (calls_start rules c.args.alternatives.now []))
 
 pub loop-elements-preserved : goal.loop-elements-preserved
 loop-elements-preserved c =
-    let xs = c.args.alternatives.now in
+    let xs = c.args.rule.now.alternatives in
     let i = c.loop-elements.elements-index in
     let x = in_order (map element_of c.as_slice.result.now) in
-    let here : slice_get xs i ≡ Some x = elements_at xs i c.elements-item.result c.as_slice.result.now (omega arith) c.elements-item.is c.as_slice.ensures in
-    λ rules told.
-    let (found, w) = c.loop-elements.invariant rules told in
-    (found || c.in_ok-of_elements.field-0, calls_step rules xs i x found c.in_ok-of_elements.field-0 (found || c.in_ok-of_elements.field-0) [] c.loop-elements.calls.items c.of_elements.new.calls.items here (c.in_ok-of_elements.ensures rules told) refl w)
+    let lent = c.as_slice-elements-items.result.now in
+    let whole : lent ≡ xs = c.as_slice-elements-items.ensures in
+    let here : slice_get xs i ≡ Some x = subst (λ (ys : List (Elements Lead)). slice_get ys i ≡ Some x) whole (elements_at lent i c.elements-item.result c.as_slice.result.now (omega arith) c.elements-item.is c.as_slice.ensures) in
+    λ rules operators told may.
+    runs_step rules operators c.args.number xs i x c.loop-elements.calls.items c.of_alternative.new.calls.items here (c.in_ok-of_alternative.ensures rules operators told may) (c.loop-elements.invariant rules operators told may)
 
 pub returns : goal.returns
 returns c =
-    λ rules told. let (found, w) = c.loop-elements.invariant rules told in rule_calls rules c.args.alternatives.now c.loop-elements.elements-index found c.loop-elements.calls.items (omega arith) w
+    let xs = c.args.rule.now.alternatives in
+    let past : length xs ≤ c.loop-elements.elements-index = omega (arith, ap length c.as_slice-elements-items.ensures) in
+    λ rules operators told may. runs_end rules operators c.args.number xs c.loop-elements.elements-index c.loop-elements.calls.items past (c.loop-elements.invariant rules operators told may)

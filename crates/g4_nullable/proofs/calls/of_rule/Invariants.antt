@@ -1,10 +1,12 @@
-use Rattle.std.proofs.Common.{List, [], Bool}
+use Rattle.std.proofs.Common.{◌≡◌, List, Bool, Some}
+use Rattle.std.specs.List.{slice_get}
 use Rattle.g4_elements.specs.Elements.{Alternatives}
 use Rattle.g4_horn.specs.Follows.{Tells}
 use Rattle.g4_nullable.specs.declared.lead.Lead.{Lead}
 use Rattle.g4_nullable.specs.Leads.{IsNullableRule}
-use Rattle.g4_nullable.proofs.Calling.{CallsLeft}
+use Rattle.g4_nullable.proofs.Running.{RunsLeft}
 use Rattle.g4_nullable.proofs.calls.of_rule.Given as goal
 
 abbrev pub invariant-loop-elements : goal.invariant-loop-elements
-invariant-loop-elements l = (rules : List (Alternatives Lead)) → Tells l.nullable (IsNullableRule rules) → (found : Bool) × CallsLeft rules l.alternatives found [] l.calls.items l.elements-index
+invariant-loop-elements l =
+    (rules : List (Alternatives Lead)) (operators : List Bool) → Tells l.nullable (IsNullableRule rules) → slice_get operators l.number ≡ Some l.rule.may_have_operators → RunsLeft rules operators l.number l.rule.alternatives l.calls.items l.elements-index

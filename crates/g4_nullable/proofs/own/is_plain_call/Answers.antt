@@ -4,7 +4,7 @@ use Rattle.g4_elements.specs.Trees.{element_of}
 use Rattle.g4_elements.proofs.Trees.{of_atom, of_block}
 use Rattle.g4_nullable.specs.declared.lead.Lead.{Lead}
 use Rattle.g4_nullable.specs.declared.lead.Lead.TheVariants.{Call}
-use Rattle.g4_recursion.proofs.direct.is_plain_call.Goals as goal
+use Rattle.g4_nullable.proofs.own.is_plain_call.Goals as goal
 
 pub returns-in-Atom : goal.returns-in-Atom
 returns-in-Atom c =
