@@ -1,13 +1,14 @@
 // References to rules as calls by number, and predicates by theirs.
 ghost use Rattle.std.specs.Prelude.{◌≡◌, ◌≤◌, ◌<◌, ◌^◌, All, IfOk, length, map};
 ghost use Rattle.g4_source.specs.Blocks.{ParserRulesAreFull};
-ghost use Rattle.g4_grammar.specs.NumberedRules.{HaveNoEmptyLoops, HaveNoLeftCycles, NumberedRuleIsUntested, NumberedRulesAreDefined, RuleLeavesEnd};
-ghost use Rattle.g4_grammar.specs.StepRules.{CanBeLaid};
+ghost use Rattle.g4_elements.specs.Trees.{element_of};
+ghost use Rattle.g4_grammar.specs.NumberedRules.{NumberedRuleIsUntested, NumberedRulesAreDefined, NumberedRulesCanRun, RuleLeavesEnd};
+ghost use Rattle.g4_grammar.specs.StepRules.{CanBeRewritten};
 ghost use Rattle.g4_places.specs.Places.{ArePlaces};
-ghost use Rattle.g4_resolve.specs.Resolving.{place_named, place_of_predicate, resolved_alternative, resolved_rule, step_of};
+ghost use Rattle.g4_resolve.specs.Resolving.{has_right, is_right, place_named, place_of_predicate, resolved_alternative, resolved_rule, step_of};
 
 use g4_base::{Place, Sequence, Text};
-use g4_elements::{Element, Substitution, substituted};
+use g4_elements::{Element, Elements, Substitution, substituted};
 use g4_grammar::{NumberedAtom, NumberedKind, Step, StepRule};
 use g4_places::{Places, places_of};
 use g4_source::{ParserRule, RuleAlternative};
@@ -95,7 +96,25 @@ impl Substitution<NumberedAtom> for Stage<'_> {
     }
 }
 
-/// The alternative over steps.
+/// Whether the element is an atom that `<assoc=right>` follows.
+#[tactic(auto, using(g4_elements::proofs::Trees::of_atom, g4_elements::proofs::Trees::of_block))]
+fn is_right(element: &Element<NumberedAtom>) -> bool
+    ensures { result ≡ is_right (element_of element.now) }
+{
+    match element {
+        Element::Atom(atom) => atom.right,
+        Element::Block(..) => false,
+    }
+}
+
+/// Whether one of the elements is: atoms in blocks do not count.
+fn has_right(elements: &Elements<NumberedAtom>) -> bool
+    ensures { result ≡ has_right elements.now }
+{
+    elements.as_slice().iter().any(|element| is_right(element))
+}
+
+/// The alternative over steps. It is right associative where it begins with `<assoc=right>`, or one of its elements has it.
 fn resolved_alternative(
     alloc: Global,
     stage: &Stage<'_>,
@@ -108,6 +127,7 @@ fn resolved_alternative(
         elements,
         label,
     } = alternative;
+    let right = right || has_right(&elements);
     let elements = substituted(alloc, stage, &elements)?;
     Ok(RuleAlternative {
         right,
@@ -151,7 +171,7 @@ fn resolved_rules(
 }
 
 /// The rules over steps. Where the names are those of the rules, no rule tests anything or takes END, each reference is to one of
-/// the rules, no loop can be empty and no rule reaches itself by left calls, a network can be made of them.
+/// the rules, and the rules can be run, they can be rewritten.
 ///
 /// # Errors
 /// No memory.
@@ -161,9 +181,8 @@ pub fn resolve(
     rules: Vec<ParserRule<NumberedAtom>>,
 ) -> Result<Vec<StepRule>, AllocError>
     ensures steps { IfOk result (λ made. made.items ≡ map (resolved_rule stage.now.names stage.now.predicates) rules.items) }
-    ensures laid { stage.now.names ≡ map (λ rule. rule.name) rules.items → ParserRulesAreFull rules.items → All RuleLeavesEnd rules.items →
-        All NumberedRuleIsUntested rules.items → NumberedRulesAreDefined rules.items → HaveNoEmptyLoops rules.items → HaveNoLeftCycles rules.items →
-        IfOk result (λ made. CanBeLaid made.items) }
+    ensures rewritten { stage.now.names ≡ map (λ rule. rule.name) rules.items → ParserRulesAreFull rules.items → All RuleLeavesEnd rules.items →
+        All NumberedRuleIsUntested rules.items → NumberedRulesAreDefined rules.items → NumberedRulesCanRun rules.items → IfOk result (λ made. CanBeRewritten made.items) }
 {
     let places = places_of(alloc, stage.names.as_slice())?;
     let stage = Stage {

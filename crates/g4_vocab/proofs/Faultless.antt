@@ -1,11 +1,11 @@
--- Numbered rules have no loop whose body derives the empty word, no left cycle and no reference to a rule that is not there, where
--- the rules as written have none.
-use Rattle.std.proofs.Common.{◌≡◌, ℕ, zero, suc, ◌+◌, ◌⊎◌, inl, inr, List, [], ◌∷◌, map, false, Option, Some, None, option_map, refl, sym, ap, ◌∙◌, subst, slice_get, Contains, arith}
-use Rattle.std.specs.List.{All, position}
+-- Numbered rules can be run, and have no reference to a rule that is not there, where the same holds of the rules as written.
+use Rattle.std.proofs.Common.{◌≡◌, ◌<◌, ◌↔◌, ℕ, zero, suc, ◌+◌, ◌⊎◌, inl, inr, List, [], ◌∷◌, length, map, Bool, false, Option, Some, None, option_map, refl, sym, ap, ◌∙◌, subst, slice_get, Contains, arith}
+use Rattle.std.specs.List.{All, position, position_or_len}
 use Rattle.std.specs.Str.{bytes_eq}
 use Rattle.std.proofs.lemmas.Bool.{cases_Bool}
+use Rattle.std.proofs.lemmas.List.{length-map}
 use Rattle.std.proofs.lemmas.List.Elements.{All-cons, All-map, All-weaker}
-use Rattle.std.proofs.lemmas.Option.{slice_get-map}
+use Rattle.std.proofs.lemmas.Option.{slice_get_within, slice_get-map}
 use Rattle.g4_elements.specs.Elements.{Alternatives, none, atoms_of_either}
 use Rattle.g4_elements.specs.Bind.{either_over}
 use Rattle.g4_elements.proofs.Parts.{All-front, All-rest}
@@ -22,13 +22,12 @@ use Rattle.g4_rules.specs.declared.kind.RuleKind.TheVariants as rule_kinds
 use Rattle.g4_rules.specs.Atoms.{AtomIn, all_atoms, atom_in, body_of, bodies_of, rule_atoms}
 use Rattle.g4_grammar.specs.declared.numbered.NumberedAtom.{NumberedAtom}
 use Rattle.g4_grammar.specs.declared.numbered.NumberedKind.TheVariants.{Set}
-use Rattle.g4_grammar.specs.Loops.{SomeHasEmptyLoop}
-use Rattle.g4_grammar.specs.Written.{ReadsAnySymbol, ReadsIn, KindReads, CallsIn, is_rule_of, HaveNoEmptyLoop, HaveNoLeftCycle, KindIsDefined, RulesAreDefined}
+use Rattle.g4_grammar.specs.Written.{ReadsAnySymbol, ReadsIn, KindReads, CallsIn, OwnIn, is_rule_of, RulesCanRun, KindIsDefined, RulesAreDefined}
 use Rattle.g4_grammar.specs.Written as written
 use Rattle.g4_vocab.specs.declared.types.Entry.{Entry}
-use Rattle.g4_grammar.specs.NumberedRules.{ReadsKind, ReadsNumbered, KindCalls, CallsNumbered, numbered_alternatives, HaveNoEmptyLoops, HaveNoLeftCycles, NumberedKindIsDefined, NumberedRuleIsDefined, NumberedRulesAreDefined}
-use Rattle.g4_grammar.proofs.Carried.{either_over_twice, some_loop_back, no_cycle_over}
-use Rattle.g4_grammar.proofs.Positions.{at_first, at_later, from_later}
+use Rattle.g4_grammar.specs.NumberedRules.{ReadsKind, ReadsNumbered, KindCalls, CallsNumbered, numbered_alternatives, NumberedRulesCanRun, NumberedKindIsDefined, NumberedRuleIsDefined, NumberedRulesAreDefined}
+use Rattle.g4_grammar.proofs.Carried.{either_over_twice, can_run_over}
+use Rattle.g4_grammar.proofs.Positions.{at_first, at_later, from_later, found_within, within_found}
 use Rattle.g4_vocab.specs.Numbering.{numbered_atom, numbered_kind, numbered_rule}
 use Rattle.g4_vocab.proofs.Laws.{all_head, all_tail, all_none, atoms_are, tree_of}
 
@@ -86,6 +85,32 @@ first_parser (Parser rule ∷ all) name place is = elim (cases_Bool (bytes_eq ru
       (suc rest.0, at_later (λ other. bytes_eq other name) rule.name (parser_names all) rest.0 e rest.1)
 ]
 
+-- what is found is an item of the list
+found_less : {X : Type 0} (p : X → Bool) (xs : List X) (n : ℕ) → position p xs ≡ Some n → n < length xs
+found_less p xs n is =
+    let less : position_or_len p xs < length xs = found_within p xs n is in
+    let same : Some (position_or_len p xs) ≡ Some n = sym (within_found p xs less) ∙ is in
+    let here : position_or_len p xs ≡ n = cc in
+    omega (arith, here, less)
+
+-- parser rules at one place are one
+one_place : (all : List Rule) (j k : ℕ) → j < length (parser_rules all) → k < length (parser_rules all) → place_of all j ≡ place_of all k → j ≡ k
+one_place [] j k first second same = absurd (omega (arith, first))
+one_place (Lexer rule ∷ all) j k first second same = one_place all j k first second (cc)
+one_place (Parser rule ∷ all) zero zero first second same = refl
+one_place (Parser rule ∷ all) zero (suc k) first second same = cc
+one_place (Parser rule ∷ all) (suc j) zero first second same = cc
+one_place (Parser rule ∷ all) (suc j) (suc k) first second same = ap suc (one_place all j k (omega (arith, first)) (omega (arith, second)) (cc))
+
+-- where parser rule k is at the first place of a parser rule of a name, it is the first of this name
+first_of_place : (all : List Rule) (name : List ℕ) (k : ℕ) → k < length (parser_rules all) → position (is_rule_of rule_kinds.Parser name) all ≡ Some (place_of all k) → position (λ other. bytes_eq other name) (parser_names all) ≡ Some k
+first_of_place all name k less is =
+    let first = first_parser all name (place_of all k) is in
+    let within : first.0 < length (parser_rules all) = subst (λ (n : ℕ). first.0 < n) (length-map (parser_rules all) (λ rule. rule.name)) (found_less (λ other. bytes_eq other name) (parser_names all) first.0 first.1) in
+    let places : Some (place_of all first.0) ≡ Some (place_of all k) = sym (first_place all name first.0 first.1) ∙ is in
+    let same : first.0 ≡ k = one_place all first.0 k within less (cc) in
+    first.1 ∙ ap (λ (n : ℕ). Some n) same
+
 module _ (lexers : List LexerRule) (types : List Entry) where
   -- what a numbered atom reads, the atom reads
   reads : (kind : AtomKind) (w : List ℕ) → ReadsKind (numbered_kind lexers types kind) w → ReadsAnySymbol kind w
@@ -142,9 +167,9 @@ module _ (lexers : List LexerRule) (types : List Entry) where
     abbrev made : List (ParserRule NumberedAtom)
     made = map (numbered_rule lexers types) (parser_rules all)
 
-    -- the place among all rules of the rule with this number, where the numbers of parser rules count from 1
+    -- the place among all rules of the rule with this number, where the numbers of parser rules count from 1, and none has number 0
     abbrev number : ℕ → ℕ
-    number zero = zero
+    number zero = length all
     number (suc k) = place_of all k
 
     -- this is made of the body of the rule with this number
@@ -190,24 +215,38 @@ module _ (lexers : List LexerRule) (types : List Entry) where
     called_in rule_kinds.Parser a k ys c is = called_back a.kind k ys c is
     called_in rule_kinds.Lexer a k ys c is = absurd c
 
-    -- a loop of a numbered rule that can be empty is one of the rule
-    loop_back : (xs : Alternatives AtomIn) → SomeHasEmptyLoop ReadsNumbered (CallsNumbered made) (numbered_alternatives made) (either_over numbered_in xs) → SomeHasEmptyLoop ReadsIn (CallsIn all) (bodies_of all) xs
-    loop_back xs loop =
-        some_loop_back numbered_in ReadsIn ReadsNumbered (CallsIn all) (CallsNumbered made) (bodies_of all) (numbered_alternatives made) (λ a r. reads_in a.kind a.atom r)
-        (λ a k zs c at. let called = called_in a.kind a.atom k zs c at in (number k, called.0, called.1)) xs loop
+    -- a reference to the rule of a number is one over symbols
+    called_on : (name : List ℕ) (k : ℕ) (ys : Alternatives NumberedAtom) → slice_get (numbered_alternatives made) k ≡ Some ys → position (is_rule_of rule_kinds.Parser name) all ≡ Some (number k) →
+        (place : ℕ) × (position (λ other. bytes_eq other name) (map (λ rule. rule.name) made) ≡ Some place) × (k ≡ place + 1)
+    called_on name zero ys is c = absurd (omega (arith, found_less (is_rule_of rule_kinds.Parser name) all (length all) c))
+    called_on name (suc k) ys is c =
+        let rule = rule_back (parser_rules all) k ys is in
+        let less : k < length (parser_rules all) = slice_get_within (parser_rules all) k rule.0 rule.1 in
+        (k, ap (position (λ other. bytes_eq other name)) (names (parser_rules all)) ∙ first_of_place all name k less c, omega arith)
 
-    -- the numbered rules have no such loop
-    pub rules_loops : HaveNoEmptyLoop all → HaveNoEmptyLoops made
-    rules_loops h k ys is loop = elim (bodies k ys is) [
-      | inl e ↦ subst (SomeHasEmptyLoop ReadsNumbered (CallsNumbered made) (numbered_alternatives made)) e loop
-      | inr body ↦ h (number k) body.0 body.1 (loop_back body.0 (subst (SomeHasEmptyLoop ReadsNumbered (CallsNumbered made) (numbered_alternatives made)) body.2 loop))
-    ]
+    -- so is any atom that calls this rule
+    calls_on : (kind : AtomKind) (k : ℕ) (ys : Alternatives NumberedAtom) → slice_get (numbered_alternatives made) k ≡ Some ys → written.KindCalls all rule_kinds.Parser kind (number k) → KindCalls (map (λ rule. rule.name) made) (numbered_kind lexers types kind) k
+    calls_on (kinds.Rule name) k ys is c = called_on name.text k ys is c
+    calls_on (kinds.Token name) k ys is c = absurd c
+    calls_on (kinds.Literal literal) k ys is c = absurd c
+    calls_on (kinds.Range place first last) k ys is c = absurd c
+    calls_on (kinds.Set set) k ys is c = absurd c
+    calls_on (kinds.Any place) k ys is c = absurd c
+    calls_on (kinds.NotTokens place tokens) k ys is c = absurd c
+    calls_on (kinds.NotCharacters place set) k ys is c = absurd c
+    calls_on kinds.Action k ys is c = absurd c
+    calls_on (kinds.Predicate name) k ys is c = absurd c
 
-    -- and none of them reaches itself by left calls
-    pub rules_cycles : HaveNoLeftCycle all → HaveNoLeftCycles made
-    rules_cycles h =
-        no_cycle_over numbered_in ReadsIn ReadsNumbered (CallsIn all) (CallsNumbered made) (bodies_of all) (numbered_alternatives made) number (λ a r. reads_in a.kind a.atom r)
-        (λ a k ys c is. called_in a.kind a.atom k ys c is) bodies h
+    -- an operator of a rule may begin with an atom exactly where one of the rule over symbols may begin with what the atom becomes
+    own : (kind : RuleKind) (a : Atom) (k : ℕ) (ys : Alternatives NumberedAtom) → slice_get (numbered_alternatives made) k ≡ Some ys → CallsNumbered made (numbered_as kind a) k ↔ OwnIn all (atom_in kind a) (number k)
+    own rule_kinds.Parser a k ys is = (λ c. (refl, (called_back a.kind k ys c is).0), λ o. calls_on a.kind k ys is o.1)
+    own rule_kinds.Lexer a k ys is = (λ c. absurd c, λ o. let wrong : rule_kinds.Lexer ≡ rule_kinds.Parser = o.0 in absurd (let n : ⊥ = cc in n))
+
+    -- the numbered rules can be run
+    pub rules_run : RulesCanRun all → NumberedRulesCanRun made
+    rules_run can =
+        can_run_over numbered_in ReadsIn ReadsNumbered (CallsIn all) (CallsNumbered made) (bodies_of all) (numbered_alternatives made) number (λ a r. reads_in a.kind a.atom r)
+        (λ a k ys c is. called_in a.kind a.atom k ys c is) bodies (OwnIn all) (CallsNumbered made) (λ a k ys is. own a.kind a.atom k ys is) can
 
     -- a numbered reference is to one of the rules
     kind_defined : (kind : AtomKind) → KindIsDefined all rule_kinds.Parser kind → NumberedKindIsDefined (parser_names all) (numbered_kind lexers types kind)

@@ -17,8 +17,8 @@ use Rattle.g4_source.specs.Blocks.{HaveAlternatives, ParserRulesAreFull}
 use Rattle.g4_grammar.specs.declared.numbered.Numbered.{Numbered}
 use Rattle.g4_grammar.specs.declared.numbered.NumberedAtom.{NumberedAtom}
 use Rattle.g4_grammar.specs.declared.numbered.TokenRule.{TokenRule}
-use Rattle.g4_grammar.specs.NumberedRules.{HaveNoEmptyLoops, HaveNoLeftCycles, NumberedRuleIsUntested, NumberedRulesAreDefined, RuleLeavesEnd}
-use Rattle.g4_grammar.specs.Written.{HaveNoEmptyLoop, HaveNoLeftCycle, RuleIsQuiet, RulesAreDefined, TokenRuleIsQuiet}
+use Rattle.g4_grammar.specs.NumberedRules.{NumberedRuleIsUntested, NumberedRulesAreDefined, NumberedRulesCanRun, RuleLeavesEnd}
+use Rattle.g4_grammar.specs.Written.{RuleIsQuiet, RulesAreDefined, RulesCanRun, TokenRuleIsQuiet}
 use Rattle.g4_rules.specs.Rules.{mode_rules, rules_of}
 use Rattle.g4_vocab.specs.declared.fault.TheConstants.{MOST_RULES}
 use Rattle.g4_vocab.specs.declared.fault.NumberFault.{NumberFault}
@@ -31,7 +31,7 @@ use Rattle.g4_vocab.specs.Halves.{AreHalves}
 use Rattle.g4_vocab.specs.Numbering.{numbered_rule, all_atoms, all_references, numbered_with, types_with, types_of, token_lexers, wanted}
 use Rattle.g4_vocab.specs.Answers.{CausesNumberFault, GivesNumbered, GivesNumberedHalves}
 use Rattle.g4_vocab.proofs.Laws.{parsers_few, rules_full, rules_untested, rules_ends, lexers_quiet, tokens_quiet, symbols_low}
-use Rattle.g4_vocab.proofs.Faultless.{rules_cycles, rules_defined, rules_loops}
+use Rattle.g4_vocab.proofs.Faultless.{rules_defined, rules_run}
 
 -- a fact of the halves is a fact of those of the source
 of_source : (P : List (ParserRule Atom) → List LexerRule → Type 0) (source : Source) (parsers : List (ParserRule Atom)) (lexers : List LexerRule) → AreHalves source.rules parsers lexers → P parsers lexers → P (parser_rules source.rules) (token_lexers source.rules)
@@ -89,11 +89,8 @@ module _ (source : Source) (grammar : Numbered) (given : GivesNumbered source (O
       let rules : List (ParserRule Atom) → List (ParserRule NumberedAtom) = λ parsers. map (numbered_rule (token_lexers source.rules) (types_of [] source.rules)) parsers in
       subst P (sym (ap (λ (g : Numbered). g.rules) given.2)) (subst (λ parsers. P (rules parsers)) (no_more source.rules source.modes) h)
 
-  pub source_loops : HaveNoEmptyLoop (rules_of source) → HaveNoEmptyLoops grammar.rules
-  source_loops h = of_rules HaveNoEmptyLoops (rules_loops (token_lexers source.rules) (types_of [] source.rules) (rules_of source) h)
-
-  pub source_cycles : HaveNoLeftCycle (rules_of source) → HaveNoLeftCycles grammar.rules
-  source_cycles h = of_rules HaveNoLeftCycles (rules_cycles (token_lexers source.rules) (types_of [] source.rules) (rules_of source) h)
+  pub source_run : RulesCanRun (rules_of source) → NumberedRulesCanRun grammar.rules
+  source_run can = of_rules NumberedRulesCanRun (rules_run (token_lexers source.rules) (types_of [] source.rules) (rules_of source) can)
 
   pub source_defined : RulesAreDefined (rules_of source) → NumberedRulesAreDefined grammar.rules
   source_defined h = of_rules NumberedRulesAreDefined (rules_defined (token_lexers source.rules) (types_of [] source.rules) (rules_of source) h)

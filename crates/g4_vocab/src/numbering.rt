@@ -2,8 +2,8 @@
 ghost use Rattle.std.specs.Prelude.{◌≡◌, ◌≤◌, All, Contains, IfOk, [], length, map};
 ghost use Rattle.g4_symbols.specs.Symbols.{end_of_list};
 ghost use Rattle.g4_source.specs.Blocks.{HaveAlternatives, ParserRulesAreFull};
-ghost use Rattle.g4_grammar.specs.NumberedRules.{HaveNoEmptyLoops, HaveNoLeftCycles, NumberedRuleIsUntested, NumberedRulesAreDefined, RuleLeavesEnd};
-ghost use Rattle.g4_grammar.specs.Written.{HaveNoEmptyLoop, HaveNoLeftCycle, RuleIsQuiet, RulesAreDefined, TokenRuleIsQuiet};
+ghost use Rattle.g4_grammar.specs.NumberedRules.{NumberedRuleIsUntested, NumberedRulesAreDefined, NumberedRulesCanRun, RuleLeavesEnd};
+ghost use Rattle.g4_grammar.specs.Written.{RuleIsQuiet, RulesAreDefined, RulesCanRun, TokenRuleIsQuiet};
 ghost use Rattle.g4_rules.specs.Rules.{rules_of};
 ghost use Rattle.g4_vocab.specs.Answers.{GivesNumbered, GivesNumberedHalves};
 ghost use Rattle.g4_vocab.specs.Numbering.{all_atoms, all_references, numbered_alternative, numbered_rule, numbered_with};
@@ -163,8 +163,7 @@ pub fn number(alloc: Global, source: &Source) -> Result<Numbered, NumberFault>
     ensures ends { IfOk result (λ grammar. All RuleLeavesEnd grammar.rules) }
     ensures quiet { All RuleIsQuiet source.now.rules → IfOk result (λ grammar. All NumberedRuleIsUntested grammar.rules × All TokenRuleIsQuiet grammar.token_rules) }
     ensures defined { RulesAreDefined (rules_of source.now) → IfOk result (λ grammar. NumberedRulesAreDefined grammar.rules) }
-    ensures loops { HaveNoEmptyLoop (rules_of source.now) → IfOk result (λ grammar. HaveNoEmptyLoops grammar.rules) }
-    ensures cycles { HaveNoLeftCycle (rules_of source.now) → IfOk result (λ grammar. HaveNoLeftCycles grammar.rules) }
+    ensures run { RulesCanRun (rules_of source.now) → IfOk result (λ grammar. NumberedRulesCanRun grammar.rules) }
 {
     let grammar = number_source(alloc, source)?;
     Ok(grammar)

@@ -1,4 +1,4 @@
-use Rattle.g4_vocab.proofs.Sources.{source_types, source_full, source_few, source_ends, source_quiet, source_defined, source_loops, source_cycles}
+use Rattle.g4_vocab.proofs.Sources.{source_types, source_full, source_few, source_ends, source_quiet, source_defined, source_run}
 use Rattle.g4_vocab.proofs.numbering.number.Goals as goal
 
 pub returns-clause-types : goal.returns-clause-types
@@ -19,8 +19,5 @@ returns-clause-quiet c = source_quiet c.args.source.now c.in_ok-grammar.grammar 
 pub returns-clause-defined : goal.returns-clause-defined
 returns-clause-defined c = source_defined c.args.source.now c.in_ok-grammar.grammar c.in_ok-grammar.ensures
 
-pub returns-clause-loops : goal.returns-clause-loops
-returns-clause-loops c = source_loops c.args.source.now c.in_ok-grammar.grammar c.in_ok-grammar.ensures
-
-pub returns-clause-cycles : goal.returns-clause-cycles
-returns-clause-cycles c = source_cycles c.args.source.now c.in_ok-grammar.grammar c.in_ok-grammar.ensures
+pub returns-clause-run : goal.returns-clause-run
+returns-clause-run c = source_run c.args.source.now c.in_ok-grammar.grammar c.in_ok-grammar.ensures

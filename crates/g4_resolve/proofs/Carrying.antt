@@ -1,6 +1,6 @@
--- Of rules that test nothing and leave END alone, whose references are defined, without loops that can be empty and without left
--- cycles, a network can be made.
-use Rattle.std.proofs.Common.{◌≡◌, ◌≤◌, ◌<◌, ◌⊎◌, ℕ, zero, suc, ◌+◌, inl, inr, List, [], ◌∷◌, ◌++◌, length, map, Option, Some, None, option_map, refl, sym, ap, ◌∙◌, subst, slice_get, arith}
+-- Rules that test nothing and leave END alone, whose references are defined and which can be run, can be rewritten once they are over
+-- steps.
+use Rattle.std.proofs.Common.{◌≡◌, ◌≤◌, ◌<◌, ◌⊎◌, ◌↔◌, ℕ, zero, suc, ◌+◌, inl, inr, List, [], ◌∷◌, ◌++◌, length, map, Bool, Option, Some, None, option_map, refl, sym, ap, ◌∙◌, subst, slice_get, arith}
 use Rattle.std.specs.List.{All, position}
 use Rattle.std.specs.Str.{bytes_eq}
 use Rattle.std.proofs.lemmas.List.{map-append, length-map}
@@ -19,12 +19,12 @@ use Rattle.g4_grammar.specs.declared.numbered.NumberedAtom.{NumberedAtom}
 use Rattle.g4_grammar.specs.declared.numbered.NumberedKind.{NumberedKind}
 use Rattle.g4_grammar.specs.declared.numbered.NumberedKind.TheVariants.{Set, Rule, Predicate, Action}
 use Rattle.g4_grammar.specs.declared.step.Step.{Step}
-use Rattle.g4_grammar.specs.Loops.{SomeHasEmptyLoop, NoEmptyLoop}
-use Rattle.g4_grammar.specs.LeftCalls.{NoLeftCycle, HasCall, OneHasCall, SomeHasCall}
-use Rattle.g4_grammar.specs.NumberedRules.{KindCalls, ReadsNumbered, CallsNumbered, numbered_alternatives, HaveNoEmptyLoops, HaveNoLeftCycles, NumberedKindIsDefined, NumberedRuleIsDefined, NumberedRulesAreDefined, NumberedKindIsUntested, NumberedRuleIsUntested, KindLeavesEnd, RuleLeavesEnd}
-use Rattle.g4_grammar.specs.StepRules.{StepRule, by_number, IsPlain, RuleIsPlain, CallsWithin, CanBeLaid}
+use Rattle.g4_grammar.specs.LeftCalls.{HasCall, OneHasCall, SomeHasCall}
+use Rattle.g4_grammar.specs.OwnCalls.{CanRun}
+use Rattle.g4_grammar.specs.NumberedRules.{KindCalls, ReadsNumbered, CallsNumbered, numbered_alternatives, NumberedRulesCanRun, NumberedKindIsDefined, NumberedRuleIsDefined, NumberedRulesAreDefined, NumberedKindIsUntested, NumberedRuleIsUntested, KindLeavesEnd, RuleLeavesEnd}
+use Rattle.g4_grammar.specs.StepRules.{StepRule, by_number, IsPlain, RuleIsPlain, CallsWithin, CanBeRewritten}
 use Rattle.g4_grammar.specs.Steps.{CallsRule, ReadsSymbols}
-use Rattle.g4_grammar.proofs.Carried.{some_loop_back, no_cycle_over}
+use Rattle.g4_grammar.proofs.Carried.{can_run_over}
 use Rattle.g4_grammar.proofs.Positions.{found_within, within_found}
 use Rattle.g4_resolve.specs.Resolving.{place_named, step_of, resolved_alternative, resolved_rule}
 
@@ -216,28 +216,33 @@ module _ (predicates : List Place) (rules : List (ParserRule NumberedAtom)) wher
   called_back (Predicate name) k ys c is = absurd c
   called_back Action k ys c is = absurd c
 
-  -- no rule over steps reaches itself by left calls
-  no_cycles : HaveNoLeftCycles rules → NoLeftCycle ReadsSymbols CallsRule (by_number made)
-  no_cycles h =
-      no_cycle_over (becomes names predicates) ReadsNumbered ReadsSymbols (CallsNumbered rules) CallsRule (numbered_alternatives rules) (by_number made) (λ k. k) (reads_back names predicates)
-      (λ a k ys c is. called_back a.kind k ys c is) bodies h
+  -- an atom that calls a rule is a step that calls it
+  calls_on : (kind : NumberedKind) (k : ℕ) → KindCalls names kind k → CallsRule (step_of names predicates kind) k
+  calls_on (Set set) k c = absurd c
+  calls_on (Rule name) k (place, found, same) =
+      let test : List ℕ → Bool = λ other. bytes_eq other name.text in
+      let twice : Some place ≡ Some (place_named names name.text) = sym found ∙ within_found test names (found_within test names place found) in
+      let here : place ≡ place_named names name.text = cc in
+      same ∙ ap (λ (n : ℕ). n + 1) here
+  calls_on (Predicate name) k c = absurd c
+  calls_on Action k c = absurd c
 
-  -- no loop of the rules over steps can be empty
-  no_loops : HaveNoEmptyLoops rules → NoEmptyLoop ReadsSymbols CallsRule (by_number made)
-  no_loops h k ys is looped = elim (bodies k ys is) [
-    | inl e ↦ subst (SomeHasEmptyLoop ReadsSymbols CallsRule (by_number made)) e looped
-    | inr body ↦
-        h k body.0 body.1
-        (some_loop_back (becomes names predicates) ReadsNumbered ReadsSymbols (CallsNumbered rules) CallsRule (numbered_alternatives rules) (by_number made) (reads_back names predicates)
-        (λ a j zs c at. let called = called_back a.kind j zs c at in (j, called.0, called.1)) body.0 (subst (SomeHasEmptyLoop ReadsSymbols CallsRule (by_number made)) body.2 looped))
-  ]
+  -- so both call the same rules
+  same_calls : (kind : NumberedKind) (k : ℕ) (ys : Alternatives (Step (List ℕ))) → slice_get (by_number made) k ≡ Some ys → CallsRule (step_of names predicates kind) k ↔ KindCalls names kind k
+  same_calls kind k ys is = (λ c. (called_back kind k ys c is).0, calls_on kind k)
 
-  pub can_be_laid : ParserRulesAreFull rules → All RuleLeavesEnd rules → All NumberedRuleIsUntested rules → NumberedRulesAreDefined rules → HaveNoEmptyLoops rules → HaveNoLeftCycles rules → CanBeLaid made
-  can_be_laid full ends untested defined loops cycles = record {
+  -- the rules over steps can be run
+  steps_run : NumberedRulesCanRun rules → CanRun ReadsSymbols CallsRule CallsRule (by_number made)
+  steps_run can =
+      can_run_over (becomes names predicates) ReadsNumbered ReadsSymbols (CallsNumbered rules) CallsRule (numbered_alternatives rules) (by_number made) (λ k. k) (reads_back names predicates)
+      (λ a k ys c is. called_back a.kind k ys c is) bodies (CallsNumbered rules) CallsRule (λ a k ys is. same_calls a.kind k ys is) can
+
+  -- they can be rewritten
+  pub can_be_rewritten : ParserRulesAreFull rules → All RuleLeavesEnd rules → All NumberedRuleIsUntested rules → NumberedRulesAreDefined rules → NumberedRulesCanRun rules → CanBeRewritten made
+  can_be_rewritten full ends untested defined can = record {
     plain = plain_rules names predicates rules untested ends;
     full = full_rules names predicates rules full;
     within =
         subst (λ (n : ℕ). All (CallsWithin n) made) (length-map rules (λ rule. rule.name) ∙ sym (length-map rules (resolved_rule names predicates))) (within_rules names predicates rules defined);
-    loops = no_loops loops;
-    cycles = no_cycles cycles;
+    run = steps_run can;
   }
