@@ -12,6 +12,7 @@ use Rattle.g4_elements.specs.declared.element.Repeat.{Repeat}
 use Rattle.g4_elements.specs.declared.element.Repeat.TheVariants.{Once, Optional, Star, Plus}
 use Rattle.g4_grammar.specs.declared.step.Step.{Step}
 use Rattle.g4_grammar.specs.declared.step.Step.TheVariants.{Edge, Call, Predicate, Level, Action}
+use Rattle.g4_grammar.specs.declared.step.Step.TheVariants as steps
 use Rattle.g4_build.specs.Drafts.{Among, linked, Grows, Shares, IsLaid, AreBeside, BlockIsLaid, state_of, stepped, joined, passed_by, starred, choice_of, repeated_once, closed, states_after, AreApart, states_of_block}
 use Rattle.g4_layout.specs.Layout as lay
 use Rattle.g4_layout.specs.Layout.{with_exit, Lies, LieSideBySide, AllLeadTo}
@@ -227,6 +228,7 @@ module _ {L : Type 0} where
   step_lies net (Predicate k) s n at = lay.a_predicate k s n at
   step_lies net (Level q) s n at = lay.a_level q s n at
   step_lies net Action s n at = lay.an_action s n at
+  step_lies net steps.Empty s n at = lay.an_empty s n at
 
   -- one step lies
   pub step_laid : (old new : List (State L)) (s t : ℕ) (step : Step L) → s < length old → t ≡ length old → new ≡ stepped s step old → IsLaid old new s t (atom step)

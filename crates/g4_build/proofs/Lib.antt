@@ -6,6 +6,8 @@ pub mod Drafts
 pub mod Runs
 pub mod Weights
 pub mod RulesLaid
+pub mod Numbered
+pub mod Starts
 pub mod Returns
 pub mod Drawn
 pub mod Widths

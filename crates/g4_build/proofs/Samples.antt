@@ -15,6 +15,7 @@ use Rattle.g4_source.specs.declared.rule.RuleAlternative.{RuleAlternative}
 use Rattle.g4_elements.specs.Elements.{Element, atom, block, Elements, empty, then, Alternatives, none, or, only, either, atoms_in_order, atoms_of_either}
 use Rattle.g4_source.specs.Blocks.{ParserRulesAreFull}
 use Rattle.g4_source.specs.Rules.{alternatives_of}
+use Rattle.g4_grammar.specs.declared.step.Numbering.{Numbering}
 use Rattle.g4_grammar.specs.declared.step.Step.{Step}
 use Rattle.g4_grammar.specs.declared.step.Step.TheVariants.{Edge}
 use Rattle.g4_grammar.specs.Derives as derives
@@ -22,8 +23,9 @@ use Rattle.g4_grammar.specs.Derives.{Derives, DerivesAll, DerivesOne}
 use Rattle.g4_grammar.specs.LeftCalls.{IsLeftOfAll, IsLeftOfOne, LeftCalls, ReachesLeft, one_call, more_calls, OneHasCall, SomeHasCall}
 use Rattle.g4_grammar.specs.Loops.{OneHasEmptyLoop, SomeHasEmptyLoop}
 use Rattle.g4_grammar.specs.Steps.{CallsRule, ReadsSymbols}
-use Rattle.g4_grammar.specs.StepRules.{StepRule, by_number, IsPlain, RuleIsPlain, CallsWithin, CanBeLaid}
-use Rattle.g4_build.specs.Samples.{IsSymbol, AreSymbols, IsSample, AreSamples}
+use Rattle.g4_grammar.specs.StepRules.{StepRule, by_number, IsPlainLaid, RuleIsPlainLaid, CallsWithin, CanBeLaid}
+use Rattle.g4_layout.specs.Numbers.{BeginsWithBlock, CanStartWith, NumberingsFit, OneBeginsWithBlock}
+use Rattle.g4_build.specs.Samples.{IsSymbol, AreSymbols, IsSample, AreSamples, HasOneStart}
 
 -- the tree of a sample
 abbrev tree : Repeat → Alternatives (Step (List ℕ)) → Alternatives (Step (List ℕ))
@@ -44,10 +46,10 @@ symbols_call (or x xs) j h (inl here) = one x h.0 here
 symbols_call (or x xs) j h (inr more) = symbols_call xs j h.1 more
 
 -- they are plain
-symbols_plain : (xs : Alternatives (Step (List ℕ))) → AreSymbols xs → All IsPlain (atoms_of_either xs)
-symbols_plain none h = All-nil IsPlain
+symbols_plain : (xs : Alternatives (Step (List ℕ))) → AreSymbols xs → All IsPlainLaid (atoms_of_either xs)
+symbols_plain none h = All-nil IsPlainLaid
 symbols_plain (or x xs) h =
-    subst (λ (y : Elements (Step (List ℕ))). All IsPlain (atoms_in_order y ++ atoms_of_either xs)) (sym h.0.2) (All-cons IsPlain (Edge (h.0.0 ∷ [])) (atoms_of_either xs) (no_end h.0.0 h.0.1) (symbols_plain xs h.1))
+    subst (λ (y : Elements (Step (List ℕ))). All IsPlainLaid (atoms_in_order y ++ atoms_of_either xs)) (sym h.0.2) (All-cons IsPlainLaid (Edge (h.0.0 ∷ [])) (atoms_of_either xs) (no_end h.0.0 h.0.1) (symbols_plain xs h.1))
   where
     no_end : (a : ℕ) → a ≤ 65536 → Contains (a ∷ []) end_of_list → ⊥
     no_end a low (zero, less, is) = omega arith
@@ -123,14 +125,14 @@ no_reach rules h k j (one_call _ left) = no_left_call rules h k j left
 no_reach rules h k j (more_calls i _ reach left) = no_left_call rules h i j left
 
 -- the steps of samples are plain
-are_plain : (rules : List StepRule) → AreSamples rules → All RuleIsPlain rules
-are_plain [] h = All-nil RuleIsPlain
-are_plain (rule ∷ rules) h = All-cons RuleIsPlain rule rules (one rule h.0) (are_plain rules h.1)
+are_plain : (rules : List StepRule) → AreSamples rules → All RuleIsPlainLaid rules
+are_plain [] h = All-nil RuleIsPlainLaid
+are_plain (rule ∷ rules) h = All-cons RuleIsPlainLaid rule rules (one rule h.0) (are_plain rules h.1)
   where
-    one : (rule : StepRule) → IsSample rule → RuleIsPlain rule
+    one : (rule : StepRule) → IsSample rule → RuleIsPlainLaid rule
     one rule h =
-        subst (λ (y : Alternatives (Step (List ℕ))). All IsPlain (atoms_of_either y)) (sym h.4)
-        (subst (λ (steps : List (Step (List ℕ))). All IsPlain steps) (sym (append-nil (atoms_of_either h.1 ++ []) ∙ append-nil (atoms_of_either h.1))) (symbols_plain h.1 h.3))
+        subst (λ (y : Alternatives (Step (List ℕ))). All IsPlainLaid (atoms_of_either y)) (sym h.4)
+        (subst (λ (steps : List (Step (List ℕ))). All IsPlainLaid steps) (sym (append-nil (atoms_of_either h.1 ++ []) ∙ append-nil (atoms_of_either h.1))) (symbols_plain h.1 h.3))
 
 -- they have alternatives
 are_full : (rules : List StepRule) → AreSamples rules → ParserRulesAreFull rules
@@ -195,7 +197,61 @@ pub push_sample : (rules : List StepRule) (rule : StepRule) → AreSamples rules
 push_sample [] rule h k = (k, tt)
 push_sample (r ∷ rules) rule h k = (h.0, push_sample rules rule h.1 k)
 
+-- with one more rule of one start the numberings fit
+push_fit : (rules : List StepRule) (numberings : List Numbering) (rule : StepRule) (numbering : Numbering) → NumberingsFit (map alternatives_of rules) numberings → HasOneStart numbering →
+    NumberingsFit (map alternatives_of (rules ++ rule ∷ [])) (numberings ++ numbering ∷ [])
+push_fit [] [] rule numbering fit one = ((subst (CanStartWith (alternatives_of rule)) (sym one.0) tt, omega (arith, one.1)), tt)
+push_fit [] (n ∷ ns) rule numbering fit one = absurd fit
+push_fit (r ∷ rules) [] rule numbering fit one = absurd fit
+push_fit (r ∷ rules) (n ∷ ns) rule numbering fit one = (fit.0, push_fit rules ns rule numbering fit.1 one)
+
+-- the same of lists that are told to be so
+pub pushed_fit : (rules : List StepRule) (numberings : List Numbering) (rule : StepRule) (numbering : Numbering) (more : List StepRule) (others : List Numbering) → more ≡ rules ++ rule ∷ [] → others ≡ numberings ++ numbering ∷ [] →
+    NumberingsFit (map alternatives_of rules) numberings → HasOneStart numbering → NumberingsFit (map alternatives_of more) others
+pushed_fit rules numberings rule numbering more others pushed numbered fit one =
+    subst (λ (rs : List StepRule). NumberingsFit (map alternatives_of rs) others) (sym pushed)
+    (subst (λ (ns : List Numbering). NumberingsFit (map alternatives_of (rules ++ rule ∷ [])) ns) (sym numbered) (push_fit rules numberings rule numbering fit one))
+
 -- with one more atom
 pub push_atom : (xs : List (Node (Step (List ℕ)))) (x : Node (Step (List ℕ))) (a : Step (List ℕ)) → x ≡ nodes.Atom a → AreFull (in_order (map element_of xs)) → AreFull (in_order (map element_of (xs ++ x ∷ [])))
 push_atom [] x a is h = (subst (λ (y : Element (Step (List ℕ))). IsFull y) (sym (ap element_of is ∙ of_atom a)) tt, tt)
 push_atom (y ∷ xs) x a is h = (h.0, push_atom xs x a is h.1)
+
+-- with a block after them elements stay full
+pub push_block : (xs : List (Node (Step (List ℕ)))) (repeat : Repeat) (sides : Vec (Side (Step (List ℕ))) Global) → AreFull (in_order (map element_of xs)) → IsSome (either (map alternative_of sides.items)) →
+    EachIsFull (either (map alternative_of sides.items)) → AreFull (in_order (map element_of (xs ++ nodes.Block None repeat sides ∷ [])))
+push_block [] repeat sides h some full = (subst (λ (y : Element (Step (List ℕ))). IsFull y) (sym (of_block None repeat sides)) (some, full), tt)
+push_block (x ∷ xs) repeat sides h some full = (h.0, push_block xs repeat sides h.1 some full)
+
+-- whether elements begin with a block hangs on the first of them alone
+same_first : (x : Element (Step (List ℕ))) (xs ys : Elements (Step (List ℕ))) (n : ℕ) → BeginsWithBlock (then x xs) n → BeginsWithBlock (then x ys) n
+same_first (atom a) xs ys n h = h
+same_first (block label Once zs) xs ys n h = h
+same_first (block label (Optional sign) zs) xs ys n h = h
+same_first (block label (Star sign) zs) xs ys n h = h
+same_first (block label (Plus sign) zs) xs ys n h = h
+
+-- and so it stays, whatever comes after them
+pub begins_still : (xs ys : List (Node (Step (List ℕ)))) (n : ℕ) → BeginsWithBlock (in_order (map element_of xs)) n → BeginsWithBlock (in_order (map element_of (xs ++ ys))) n
+begins_still [] ys n h = absurd h
+begins_still (x ∷ xs) ys n h = same_first (element_of x) (in_order (map element_of xs)) (in_order (map element_of (xs ++ ys))) n h
+
+-- a block of two full alternatives
+pub two_sides : (first : List (Node (Step (List ℕ)))) (sides : Vec (Side (Step (List ℕ))) Global) (a b : Side (Step (List ℕ))) → first ≡ nodes.Block None Once sides ∷ [] → sides.items ≡ a ∷ b ∷ [] → AreFull (alternative_of a) →
+    AreFull (alternative_of b) → AreFull (in_order (map element_of first)) × BeginsWithBlock (in_order (map element_of first)) 2
+two_sides first sides a b is items one other =
+    let all : in_order (map element_of first) ≡ then (block None Once (or (alternative_of a) (or (alternative_of b) none))) empty =
+    ap (λ (xs : List (Node (Step (List ℕ)))). in_order (map element_of xs)) is ∙
+    (ap (λ (x : Element (Step (List ℕ))). then x empty) (of_block None Once sides) ∙ ap (λ (xs : List (Side (Step (List ℕ)))). then (block None Once (either (map alternative_of xs))) empty) items) in (
+      subst AreFull (sym all) ((tt, (one, (other, tt))), tt),
+      subst (λ (xs : Elements (Step (List ℕ))). BeginsWithBlock xs 2) (sym all) refl,
+    )
+
+-- the numbering of a rule whose only alternative begins with two
+pub two_fit : (rules : List StepRule) (rule : StepRule) (bodies : List (RuleAlternative (Step (List ℕ)))) (body : RuleAlternative (Step (List ℕ))) (numberings : List Numbering) (starts : List ℕ) → rules ≡ rule ∷ [] →
+    rule.alternatives ≡ bodies → bodies ≡ body ∷ [] → BeginsWithBlock body.elements 2 → numberings ≡ record { starts = starts; count = 4 } ∷ [] → starts ≡ 3 ∷ 4 ∷ [] → NumberingsFit (map alternatives_of rules) numberings
+two_fit rules rule bodies body numberings starts one alternatives only_one begins numbered two =
+    let tree : alternatives_of rule ≡ only body.elements = ap (λ (xs : List (RuleAlternative (Step (List ℕ)))). either (map (λ a. a.elements) xs)) (alternatives ∙ only_one) in
+    let fits : CanStartWith (alternatives_of rule) (3 ∷ 4 ∷ []) = inr (subst (λ (xs : Alternatives (Step (List ℕ))). OneBeginsWithBlock xs 2) (sym tree) begins) in
+    let known : NumberingsFit (map alternatives_of (rule ∷ [])) (record { starts = starts; count = 4 } ∷ []) = ((subst (CanStartWith (alternatives_of rule)) (sym two) fits, omega arith), tt) in
+    subst (λ (rs : List StepRule). NumberingsFit (map alternatives_of rs) numberings) (sym one) (subst (λ (ns : List Numbering). NumberingsFit (map alternatives_of (rule ∷ [])) ns) (sym numbered) known)

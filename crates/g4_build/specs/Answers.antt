@@ -2,6 +2,7 @@
 use Rattle.std.specs.Prelude.{◌≡◌, ◌<◌, ℕ, List, [], ◌∷◌, map, true, false, Result, Ok, Err}
 use Rattle.g4_symbols.specs.Symbols.{eof}
 use Rattle.g4_source.specs.Rules.{alternatives_of}
+use Rattle.g4_grammar.specs.declared.step.Numbering.{Numbering}
 use Rattle.g4_grammar.specs.StepRules.{StepRule}
 use Rattle.g4_net.specs.Network.{ParserNetwork}
 use Rattle.g4_layout.specs.Built.{IsBuilt}
@@ -18,7 +19,7 @@ CausesBuildFault rules start Alternatives = (has_parser_rule rules start ≡ tru
 CausesBuildFault rules start States = (has_parser_rule rules start ≡ true) × AreNarrow (map alternatives_of rules) × (MOST_STATES < state_count rules)
 CausesBuildFault rules start NoMemory = Unit {0}
 
--- building gives the network that the rules have, whose added rule takes EOF, or a fault with its cause
-abbrev pub GivesNetwork : List StepRule → List ℕ → Result ParserNetwork BuildFault → Type 0
-GivesNetwork rules start (Ok net) = IsBuilt (eof ∷ []) rules start net
-GivesNetwork rules start (Err fault) = CausesBuildFault rules start fault
+-- building gives the network that the rules have with their numberings, whose added rule takes EOF, or a fault with its cause
+abbrev pub GivesNetwork : List StepRule → List Numbering → List ℕ → Result ParserNetwork BuildFault → Type 0
+GivesNetwork rules numberings start (Ok net) = IsBuilt (eof ∷ []) rules numberings start net
+GivesNetwork rules numberings start (Err fault) = CausesBuildFault rules start fault

@@ -75,6 +75,7 @@ state_of (steps.Call rule level) t = Call rule level t
 state_of (steps.Predicate k) t = Predicate k t
 state_of (steps.Level q) t = Level q t
 state_of steps.Action t = Action t
+state_of steps.Empty t = Empty t
 
 -- the states after one step
 abbrev pub stepped : {L : Type 0} → ℕ → Step L → List (State L) → List (State L)

@@ -1,18 +1,20 @@
--- The states and numbers of rules while they are made.
-use Rattle.std.specs.Prelude.{◌≡◌, ◌≢◌, ◌≤◌, ◌<◌, ◌⊎◌, ℕ, zero, suc, ◌+◌, ◌*◌, List, [], ◌∷◌, ◌++◌, length, map, sum_by, Some, slice_get, slice_index, slice_set}
+-- The states of rules while they are made.
+use Rattle.std.specs.Prelude.{◌≡◌, ◌≢◌, ◌≤◌, ◌<◌, ◌⊎◌, ℕ, zero, suc, ◌+◌, ◌*◌, List, [], ◌∷◌, ◌++◌, length, map, sum_by, Some, slice_get}
 use Rattle.g4_symbols.specs.Symbols.{end_of_list}
 use Rattle.g4_elements.specs.Blocks.{IsSome, EachIsFull}
 use Rattle.g4_elements.specs.Elements.{Alternatives}
 use Rattle.g4_source.specs.Rules.{alternatives_of}
+use Rattle.g4_grammar.specs.declared.step.Numbering.{Numbering}
 use Rattle.g4_grammar.specs.declared.step.Step.{Step}
 use Rattle.g4_grammar.specs.Steps.{added_rule}
 use Rattle.g4_grammar.specs.StepRules.{StepRule}
 use Rattle.g4_net.specs.declared.network.Network.{Network}
 use Rattle.g4_net.specs.declared.network.State.{State}
 use Rattle.g4_net.specs.declared.network.State.TheVariants.{Decision, End, Edge, Empty}
-use Rattle.g4_net.specs.Network.{ParserNetwork, state_at, start_of, end_of, written_at}
+use Rattle.g4_net.specs.Network.{ParserNetwork, state_at, start_of, end_of}
 use Rattle.g4_layout.specs.Callers.{callers_of}
-use Rattle.g4_layout.specs.Layout.{LiesAsRule, BeginsOne, BeginsAny, RulesLie, IsNetworkOf}
+use Rattle.g4_layout.specs.Layout.{LiesAsRule, RulesLie, IsNetworkOf}
+use Rattle.g4_layout.specs.Numbers.{AreNumbered, added_numbering}
 use Rattle.g4_layout.specs.Rules.{state_count}
 use Rattle.g4_layout.specs.Size.{states_of_rule}
 use Rattle.g4_build.specs.Drafts.{Grows}
@@ -26,33 +28,23 @@ abbrev pub AreFullTrees : {A : Type 0} → List (Alternatives A) → Type 0
 AreFullTrees [] = Unit {0}
 AreFullTrees (xs ∷ more) = TreeIsFull xs × AreFullTrees more
 
--- the numbers, those at the listed places counting up from i
-abbrev pub marked : ℕ → List ℕ → List ℕ → List ℕ
-marked i [] written = written
-marked i (p ∷ more) written = marked (i + 1) more (slice_set written p i)
+-- the network has the states at the rule's start and from n on
+abbrev pub SharesRule : {L : Type 0} → Network L → List (State L) → ℕ → ℕ → Type 0
+SharesRule net states rule n = (p : ℕ) → (p ≡ start_of rule) ⊎ (n ≤ p) → p < length states → state_at net p ≡ slice_get states p
 
--- the network has the states and the numbers at the rule's start and from n on
-pub record SharesRule {L : Type 0} (net : Network L) (states : List (State L)) (written : List ℕ) (rule n : ℕ) : Type 0 where
-  pub same : (p : ℕ) → (p ≡ start_of rule) ⊎ (n ≤ p) → p < length states → state_at net p ≡ slice_get states p
-  pub numbers : (p : ℕ) → (p ≡ start_of rule) ⊎ (n ≤ p) → p < length states → written_at net p ≡ slice_index written p
-
--- the rule lies, its other states being new, and nothing is written of those where no alternative of it begins
-pub record RuleIsLaid {L : Type 0} (old new : List (State L)) (blank written : List ℕ) (rule : ℕ) (xs : Alternatives (Step L)) : Type 0 where
+-- the rule lies, its other states being new
+pub record RuleIsLaid {L : Type 0} (old new : List (State L)) (rule : ℕ) (xs : Alternatives (Step L)) : Type 0 where
   pub size : length new ≡ length old + states_of_rule xs
   pub grown : Grows old new (start_of rule)
-  pub numbered : length written ≡ length new
-  pub kept : (p : ℕ) → p < length old → p ≢ start_of rule → slice_index written p ≡ slice_index blank p
-  pub lies : (net : Network L) → SharesRule net new written rule (length old) → LiesAsRule net rule xs (length old) (length new)
-  pub unwritten : (net : Network L) → SharesRule net new written rule (length old) → (p : ℕ) → length old ≤ p → p < length new → (BeginsOne net rule xs p → ⊥) → written_at net p ≡ 0
+  pub lies : (net : Network L) → SharesRule net new rule (length old) → LiesAsRule net rule xs (length old) (length new)
 
 -- a state of a rule's start and end, or from n on, of the rules before this one
 abbrev pub IsBefore : ℕ → ℕ → ℕ → Type 0
 IsBefore rule n p = (p < start_of rule) ⊎ (n ≤ p)
 
--- the network has the states and the numbers of the rules before this one
-pub record SharesRules {L : Type 0} (net : Network L) (states : List (State L)) (written : List ℕ) (rule n : ℕ) : Type 0 where
-  pub same : (p : ℕ) → IsBefore rule n p → p < length states → state_at net p ≡ slice_get states p
-  pub numbers : (p : ℕ) → IsBefore rule n p → p < length states → written_at net p ≡ slice_index written p
+-- the network has the states of the rules before this one
+abbrev pub SharesRules : {L : Type 0} → Network L → List (State L) → ℕ → ℕ → Type 0
+SharesRules net states rule n = (p : ℕ) → IsBefore rule n p → p < length states → state_at net p ≡ slice_get states p
 
 -- no rule from 1 up to this one starts at the state
 abbrev pub StartsNone : ℕ → ℕ → Type 0
@@ -62,17 +54,17 @@ StartsNone rule p = (j : ℕ) → 1 ≤ j → j < rule → p ≢ start_of j
 abbrev pub HaveEnds : {L : Type 0} → Network L → ℕ → Type 0
 HaveEnds net count = (j : ℕ) → 1 ≤ j → j ≤ count → state_at net (end_of j) ≡ Some (End j)
 
--- The rules before this one lie, the rest being the last of all; their other states are new, and nothing is written of
--- those where no alternative begins.
-pub record HaveLaid {L : Type 0} (old now : List (State L)) (blank written : List ℕ) (rule : ℕ) (all rest : List (Alternatives (Step L))) : Type 0 where
+-- The rules before this one lie, the rest being the last of all; their other states are new.
+pub record HaveLaid {L : Type 0} (old now : List (State L)) (rule : ℕ) (all rest : List (Alternatives (Step L))) : Type 0 where
   pub size : length now + sum_by states_of_rule rest ≡ length old + sum_by states_of_rule all
   pub longer : length old ≤ length now
   pub kept : (p : ℕ) → p < length old → StartsNone rule p → slice_get now p ≡ slice_get old p
-  pub numbered : length written ≡ length now
-  pub still : (p : ℕ) → p < length old → StartsNone rule p → slice_index written p ≡ slice_index blank p
-  pub lie : (net : Network L) → SharesRules net now written rule (length old) → HaveEnds net (length all) → (m : ℕ) → RulesLie net rule rest (length now) m → RulesLie net 1 all (length old) m
-  pub begins : (net : Network L) (p : ℕ) → BeginsAny net rule rest p → BeginsAny net 1 all p
-  pub unwritten : (net : Network L) → SharesRules net now written rule (length old) → (p : ℕ) → length old ≤ p → p < length now → (BeginsAny net 1 all p → ⊥) → written_at net p ≡ 0
+  pub lie : (net : Network L) → SharesRules net now rule (length old) → HaveEnds net (length all) → (m : ℕ) → RulesLie net rule rest (length now) m → RulesLie net 1 all (length old) m
+
+-- where the states of each rule end, those of the first being the states from n on
+abbrev pub ends_from : {A : Type 0} → ℕ → List (Alternatives A) → List ℕ
+ends_from n [] = []
+ends_from n (xs ∷ more) = (n + states_of_rule xs) ∷ ends_from (n + states_of_rule xs) more
 
 -- the starts and ends of so many rules, the starts being open
 pub record HasHeads {L : Type 0} (count : ℕ) (states : List (State L)) : Type 0 where
@@ -90,9 +82,9 @@ with_return rule back [] = []
 with_return zero back (returns ∷ more) = (returns ++ back ∷ []) ∷ more
 with_return (suc rule) back (returns ∷ more) = returns ∷ with_return rule back more
 
--- the network of the rules, the added rule calling this one
-pub record IsDrawn (set : List ℕ) (rules : List StepRule) (start : ℕ) (net : ParserNetwork) : Type 0 where
+-- the network of the rules with their numberings, the added rule calling this one
+pub record IsDrawn (set : List ℕ) (rules : List StepRule) (numberings : List Numbering) (start : ℕ) (net : ParserNetwork) : Type 0 where
   pub network : IsNetworkOf (added_rule set start ∷ map alternatives_of rules) net
   pub size : length net.states ≡ state_count rules
   pub callers : net.callers ≡ callers_of net.states (length rules + 1)
-  pub unwritten : (p : ℕ) → (BeginsAny net 0 (added_rule set start ∷ map alternatives_of rules) p → ⊥) → written_at net p ≡ 0
+  pub numbered : AreNumbered net 0 (2 * length rules + 2) (added_rule set start ∷ map alternatives_of rules) (added_numbering ∷ numberings)

@@ -4,6 +4,7 @@ use Rattle.g4_elements.specs.declared.element.Repeat.{Repeat}
 use Rattle.g4_elements.specs.Blocks.{IsSome}
 use Rattle.g4_elements.specs.Elements.{atom, block, Elements, empty, then, Alternatives, none, or, only}
 use Rattle.g4_source.specs.Rules.{alternatives_of}
+use Rattle.g4_grammar.specs.declared.step.Numbering.{Numbering}
 use Rattle.g4_grammar.specs.declared.step.Step.{Step}
 use Rattle.g4_grammar.specs.declared.step.Step.TheVariants.{Edge}
 use Rattle.g4_grammar.specs.StepRules.{StepRule}
@@ -20,6 +21,10 @@ AreSymbols (or x xs) = IsSymbol x × AreSymbols xs
 -- the rule is one block of some symbols
 abbrev pub IsSample : StepRule → Type 0
 IsSample rule = (repeat : Repeat) × (xs : Alternatives (Step (List ℕ))) × IsSome xs × AreSymbols xs × (alternatives_of rule ≡ only (then (block None repeat xs) empty))
+
+-- the numbering of one alternative
+abbrev pub HasOneStart : Numbering → Type 0
+HasOneStart numbering = (numbering.starts ≡ 1 ∷ []) × (numbering.count ≡ 1)
 
 -- each of the rules is
 abbrev pub AreSamples : List StepRule → Type 0

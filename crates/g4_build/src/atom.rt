@@ -38,6 +38,7 @@ impl Atom for Step<Symbols> {
             Step::Predicate(number) => Ok(Step::Predicate(*number)),
             Step::Level(level) => Ok(Step::Level(*level)),
             Step::Action => Ok(Step::Action),
+            Step::Empty => Ok(Step::Empty),
         }
     }
 }

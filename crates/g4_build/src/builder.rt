@@ -1,15 +1,17 @@
 // The network of parser rules whose atoms are steps.
-ghost use Rattle.std.specs.Prelude.{◌≡◌, ◌≤◌, ◌↔◌, IsTrue};
+ghost use Rattle.std.specs.Prelude.{◌≡◌, ◌≤◌, ◌↔◌, IsTrue, map};
 ghost use Rattle.std.specs.List.{position};
 ghost use Rattle.std.specs.Str.{bytes_eq};
+ghost use Rattle.g4_source.specs.Rules.{alternatives_of};
 ghost use Rattle.g4_grammar.specs.StepRules.{CanBeLaid};
+ghost use Rattle.g4_layout.specs.Numbers.{NumberingsFit};
 ghost use Rattle.g4_layout.specs.Rules.{state_count};
 ghost use Rattle.g4_build.specs.Answers.{GivesNetwork};
 
 use crate::count::past_rules;
 use crate::drawing::draw;
 use crate::width::some_rule_is_wide;
-use g4_grammar::StepRule;
+use g4_grammar::{Numbering, StepRule};
 use g4_net::{MOST_STATES, ParserNetwork};
 use g4_symbols::{EOF, Symbols};
 use std::alloc::{AllocError, Global};
@@ -54,14 +56,20 @@ pub fn fits(rules: &[StepRule]) -> bool
     past_rules(MOST_STATES - 7 - 2 * rules.len(), rules).is_some()
 }
 
-/// The network of the rules, whose added rule calls the rule of this name. Of the faults that they have, the answer is the
+/// The network of the rules with their numberings, whose added rule calls the rule of this name. Of the faults that they have, the answer is the
 /// first in their order.
 ///
 /// # Errors
 /// No rule has the name, a decision has too many alternatives, there are too many states, or there is no memory.
-pub fn build(alloc: Global, rules: &[StepRule], start: &str) -> Result<ParserNetwork, BuildFault>
-    requires { CanBeLaid rules.now }
-    ensures { GivesNetwork rules.now start.now result }
+pub fn build(
+    alloc: Global,
+    rules: &[StepRule],
+    numberings: &[Numbering],
+    start: &str,
+) -> Result<ParserNetwork, BuildFault>
+    requires laid { CanBeLaid rules.now }
+    requires fit { NumberingsFit (map alternatives_of rules.now) numberings.now }
+    ensures { GivesNetwork rules.now numberings.now start.now result }
 {
     let Some(place) = place_of(rules, start) else {
         return Err(BuildFault::UnknownStart);
@@ -73,6 +81,6 @@ pub fn build(alloc: Global, rules: &[StepRule], start: &str) -> Result<ParserNet
         return Err(BuildFault::States);
     }
     let file_end = Symbols::one(alloc, EOF)?;
-    let net = draw(alloc, rules, &file_end, place as u32 + 1)?;
+    let net = draw(alloc, rules, numberings, &file_end, place as u32 + 1)?;
     Ok(net)
 }

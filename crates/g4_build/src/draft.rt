@@ -192,6 +192,7 @@ fn lay_step<L: Drop>(
         Step::Predicate(number) => State::Predicate(number, next),
         Step::Level(level) => State::Level(level, next),
         Step::Action => State::Action(next),
+        Step::Empty => State::Empty(next),
     };
     states.push(State::Empty(0))?;
     Ok(next)

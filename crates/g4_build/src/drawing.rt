@@ -1,15 +1,18 @@
 // The network of rules: heads, the added rule, the rules, and who calls them.
-ghost use Rattle.std.specs.Prelude.{◌≡◌, ◌≤◌, ◌<◌, ◌+◌, ◌++◌, IfOk, OnOk, length, slice_set};
+ghost use Rattle.std.specs.Prelude.{◌≡◌, ◌≤◌, ◌<◌, ◌+◌, ◌++◌, IfOk, OnOk, length, map, slice_set};
 ghost use Rattle.g4_source.specs.Blocks.{ParserRulesAreFull};
+ghost use Rattle.g4_source.specs.Rules.{alternatives_of};
 ghost use Rattle.g4_net.specs.declared.network.State.TheVariants.{Call};
+ghost use Rattle.g4_layout.specs.Numbers.{NumberingsFit};
 ghost use Rattle.g4_layout.specs.Rules.{state_count};
 ghost use Rattle.g4_build.specs.Rules.{HasHeads, IsDrawn, added_states};
 ghost use Rattle.g4_net.specs.declared.network.TheConstants.{MOST_STATES};
 
 use crate::callers::callers;
-use crate::rule::{lay_rules, pad};
+use crate::numbering::numbers;
+use crate::rule::lay_rules;
 use g4_base::Sequence;
-use g4_grammar::StepRule;
+use g4_grammar::{Numbering, StepRule};
 use g4_net::{Network, ParserNetwork, State};
 use g4_symbols::{END, Symbols};
 use std::alloc::{AllocError, Global};
@@ -54,27 +57,28 @@ fn add_start(
     Ok(())
 }
 
-/// The network of the rules, whose added rule calls this one and then takes any number of symbols of the set.
+/// The network of the rules with their numberings, whose added rule calls this one and then takes any number of symbols of
+/// the set.
 pub fn draw(
     alloc: Global,
     rules: &[StepRule],
+    numberings: &[Numbering],
     set: &Symbols,
     start: u32,
 ) -> Result<ParserNetwork, AllocError>
     requires full { ParserRulesAreFull rules.now }
+    requires fit { NumberingsFit (map alternatives_of rules.now) numberings.now }
     requires low { 1 ≤ start }
     requires high { start ≤ length rules.now }
     requires room { state_count rules.now ≤ MOST_STATES }
-    ensures { IfOk result (λ net. IsDrawn set.now rules.now start net) }
+    ensures { IfOk result (λ net. IsDrawn set.now rules.now numberings.now start net) }
 {
     let count = rules.len() as u32 + 1;
     let mut states = heads(alloc, count)?;
     add_start(alloc, &mut states, set, start)?;
-    let mut written = Vec::new(alloc);
-    written.push(1)?;
-    pad(&mut written, states.len() - 1)?;
-    lay_rules(alloc, &mut states, &mut written, rules)?;
+    let ends = lay_rules(alloc, &mut states, rules)?;
     let callers = callers(alloc, states.as_slice(), count)?;
+    let written = numbers(alloc, states.as_slice(), ends.as_slice(), numberings)?;
     Ok(Network {
         states: Sequence::new(states),
         callers: Sequence::new(callers),

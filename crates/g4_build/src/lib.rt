@@ -9,6 +9,7 @@ mod count;
 mod draft;
 mod drawing;
 mod lexer_size;
+mod numbering;
 mod rule;
 #[cfg(test)]
 mod tests;

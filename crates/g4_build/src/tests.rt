@@ -2,10 +2,14 @@
 ghost use Rattle.std.specs.Prelude.{◌≡◌, ◌≤◌, IfOk, length, map};
 ghost use Rattle.g4_elements.specs.Blocks.{AreFull};
 ghost use Rattle.g4_elements.specs.Elements.{either};
-ghost use Rattle.g4_elements.specs.Trees.{alternative_of};
+ghost use Rattle.g4_elements.specs.Trees.{alternative_of, element_of, in_order};
 ghost use Rattle.g4_source.specs.Blocks.{ParserRulesAreFull};
+ghost use Rattle.g4_source.specs.Rules.{alternatives_of};
 ghost use Rattle.g4_grammar.specs.StepRules.{CanBeLaid};
-ghost use Rattle.g4_build.specs.Samples.{AreSymbols, IsSample};
+ghost use Rattle.g4_layout.specs.Numbers.{NumberingsFit};
+ghost use Rattle.g4_build.specs.Samples.{AreSymbols, HasOneStart, IsSample};
+
+mod turns;
 
 use crate::builder::{build, fits};
 use crate::drawing::draw;
@@ -13,12 +17,19 @@ use crate::lexer_size::lexer_network_fits;
 use crate::width::some_rule_is_wide;
 use g4_base::{Place, Sequence, Text};
 use g4_elements::{Alternative, Element, Elements, Repeat, Suffix};
-use g4_grammar::{Step, StepRule, TokenRule};
+use g4_grammar::{Numbering, Step, StepRule, TokenRule};
 use g4_net::{ParserNetwork, State};
 use g4_source::{Atom, AtomKind, LexerAlternative, Literal, RuleAlternative};
 use g4_symbols::{EOF, Symbols};
 use std::alloc::{AllocError, Global};
 use std::test::Fail;
+
+// Rules and their numberings.
+#[derive(Drop)]
+struct Grammar {
+    rules: Vec<StepRule>,
+    numberings: Vec<Numbering>,
+}
 
 // A sign, greedy or not.
 const fn sign(greedy: bool) -> Suffix {
@@ -58,21 +69,30 @@ fn sample(alloc: Global, repeat: Repeat, count: u16) -> Result<StepRule, AllocEr
     Ok(rule)
 }
 
+// The numbering of a rule of one alternative.
+fn one_alternative(alloc: Global) -> Result<Numbering, AllocError>
+    ensures { IfOk result (λ numbering. HasOneStart numbering) }
+{
+    let starts = Sequence::new(vec![in alloc; 1]?);
+    Ok(Numbering { starts, count: 1 })
+}
+
 // So many such rules.
-fn samples(
-    alloc: Global,
-    rules: u16,
-    repeat: Repeat,
-    count: u16,
-) -> Result<Vec<StepRule>, AllocError>
+fn samples(alloc: Global, rules: u16, repeat: Repeat, count: u16) -> Result<Grammar, AllocError>
     requires { 1 ≤ count }
-    ensures { IfOk result (λ rules. CanBeLaid rules.items) }
+    ensures laid { IfOk result (λ grammar. CanBeLaid grammar.rules.items) }
+    ensures fit { IfOk result (λ grammar. NumberingsFit (map alternatives_of grammar.rules.items) grammar.numberings.items) }
 {
     let mut all = Vec::new(alloc);
+    let mut numberings = Vec::new(alloc);
     for _ in 0..rules {
         all.push(sample(alloc, repeat, count)?)?;
+        numberings.push(one_alternative(alloc)?)?;
     }
-    Ok(all)
+    Ok(Grammar {
+        rules: all,
+        numberings,
+    })
 }
 
 // A rule of these alternatives.
@@ -87,17 +107,28 @@ fn rule(
     Ok(StepRule { name, alternatives })
 }
 
-// An alternative of these steps, one after another.
+// These steps, one after another.
+fn atoms(
+    alloc: Global,
+    steps: Vec<Step<Symbols>>,
+) -> Result<Vec<Element<Step<Symbols>>>, AllocError>
+    ensures { IfOk result (λ elements. AreFull (in_order (map element_of elements.items))) }
+{
+    let mut elements = Vec::new(alloc);
+    for step in steps {
+        elements.push(Element::Atom(step))?;
+    }
+    Ok(elements)
+}
+
+// An alternative of these steps.
 fn body(
     alloc: Global,
     steps: Vec<Step<Symbols>>,
 ) -> Result<RuleAlternative<Step<Symbols>>, AllocError>
     ensures { IfOk result (λ body. AreFull body.elements) }
 {
-    let mut elements = Vec::new(alloc);
-    for step in steps {
-        elements.push(Element::Atom(step))?;
-    }
+    let elements = atoms(alloc, steps)?;
     Ok(RuleAlternative {
         right: false,
         elements: Elements::new(elements),
@@ -106,8 +137,9 @@ fn body(
 }
 
 // A rule that calls itself at its end, or the other rule before an action.
-fn calling(alloc: Global) -> Result<Vec<StepRule>, AllocError>
-    ensures { IfOk result (λ rules. ParserRulesAreFull rules.items) }
+fn calling(alloc: Global) -> Result<Grammar, AllocError>
+    ensures full { IfOk result (λ grammar. ParserRulesAreFull grammar.rules.items) }
+    ensures fit { IfOk result (λ grammar. NumberingsFit (map alternatives_of grammar.rules.items) grammar.numberings.items) }
 {
     let edge = Step::Edge(Symbols::one(alloc, 1)?);
     let again = body(
@@ -123,7 +155,12 @@ fn calling(alloc: Global) -> Result<Vec<StepRule>, AllocError>
     let last = body(alloc, vec![in alloc; edge]?)?;
     let second = rule(alloc, vec![in alloc; last]?)?;
     let rules = vec![in alloc; first, second]?;
-    Ok(rules)
+    let two = Numbering {
+        starts: Sequence::new(vec![in alloc; 1, 2]?),
+        count: 2,
+    };
+    let numberings = vec![in alloc; two, one_alternative(alloc)?]?;
+    Ok(Grammar { rules, numberings })
 }
 
 fn numbers_text(alloc: Global, numbers: &[u32]) -> Result<String, AllocError> {
@@ -147,8 +184,9 @@ fn state_text(alloc: Global, state: &State<Symbols>) -> Result<String, AllocErro
         }
         State::Call { rule, level, back } => format!(in alloc; "call {rule} {level} {back}; "),
         State::Empty(target) => format!(in alloc; "to {target}; "),
+        State::Level(level, target) => format!(in alloc; "level {level} to {target}; "),
         State::Action(target) => format!(in alloc; "act {target}; "),
-        _ => String::from_str(alloc, "other; "),
+        State::Predicate(number, target) => format!(in alloc; "if {number} to {target}; "),
     }
 }
 
@@ -170,8 +208,8 @@ fn network_text(alloc: Global, net: &ParserNetwork) -> Result<String, AllocError
 fn built(alloc: Global, repeat: Repeat, count: u16) -> Result<String, AllocError>
     requires { 1 ≤ count }
 {
-    let rules = samples(alloc, 1, repeat, count)?;
-    match build(alloc, rules.as_slice(), "r") {
+    let Grammar { rules, numberings } = samples(alloc, 1, repeat, count)?;
+    match build(alloc, rules.as_slice(), numberings.as_slice(), "r") {
         Ok(net) => network_text(alloc, &net),
         Err(_) => String::from_str(alloc, "no network"),
     }
@@ -186,8 +224,8 @@ fn states_of_many(
 ) -> Result<usize, AllocError>
     requires { 1 ≤ count }
 {
-    let rules = samples(alloc, rules, repeat, count)?;
-    match build(alloc, rules.as_slice(), "r") {
+    let Grammar { rules, numberings } = samples(alloc, rules, repeat, count)?;
+    match build(alloc, rules.as_slice(), numberings.as_slice(), "r") {
         Ok(net) => Ok(net.states.len()),
         Err(_) => Ok(0),
     }
@@ -241,20 +279,24 @@ fn blocks(rt: HostRuntime) -> Result<(), Fail> {
     Ok(())
 }
 
-// The network of rules that call each other, in text.
-fn drawn(alloc: Global) -> Result<String, AllocError> {
-    let rules = calling(alloc)?;
+// The network of rules whose first is the start rule, in text.
+fn drawn(alloc: Global, grammar: Grammar) -> Result<String, AllocError>
+    requires full { ParserRulesAreFull grammar.rules.items }
+    requires fit { NumberingsFit (map alternatives_of grammar.rules.items) grammar.numberings.items }
+{
+    let Grammar { rules, numberings } = grammar;
     let set = Symbols::one(alloc, EOF)?;
-    if rules.len() != 2 || !fits(rules.as_slice()) {
+    if rules.is_empty() || !fits(rules.as_slice()) {
         return String::from_str(alloc, "no network");
     }
-    let net = draw(alloc, rules.as_slice(), &set, 1)?;
+    let net = draw(alloc, rules.as_slice(), numberings.as_slice(), &set, 1)?;
     network_text(alloc, &net)
 }
 
 #[test]
 fn calls(rt: HostRuntime) -> Result<(), Fail> {
-    let text = drawn(rt.alloc())?;
+    let grammar = calling(rt.alloc())?;
+    let text = drawn(rt.alloc(), grammar)?;
     assert_eq!(rt;
         text.as_str(),
         "call 1 0 6; end 0; decide 11 14; end 1; take 2 to 17; end 2; decide 7 9; take 65536 to 8; to 6; take 65537 to 10; to 1; take 1 to 12; call 1 0 13; to 3; call 2 3 15; act 16; to 3; to 5;  1 0 0 0 1 0 0 0 0 0 0 1 0 0 2 0 0 0 | | 6 13 | 15"

@@ -51,8 +51,8 @@ in_order_added (one_more _ _ s _ _ _ _ _ (a_call start _ _ n called)
 -- one alternative begins at the start of its rule
 of_only : {net : ParserNetwork} {rule n m : ℕ} {x : Elements (Step (List ℕ))} → LiesAsRule net rule (or x none) n m →
     (last : ℕ) × LieInOrder net x (start_of rule) last n m × (state_at net last ≡ Some (Empty (end_of rule)))
-of_only (of_one rule last n m x l leads w) = (last, l, leads)
-of_only (of_several rule n m xs firsts lasts two is l a w z) = let one = one_first l in absurd (omega arith)
+of_only (of_one rule last n m x l leads) = (last, l, leads)
+of_only (of_several rule n m xs firsts lasts two is l a) = let one = one_first l in absurd (omega arith)
 
 -- the added rule, whose states after the heads of the rules are the five from n on
 pub added_at : {net : ParserNetwork} {set : List ℕ} {start n m : ℕ} → LiesAsRule net 0 (added_rule set start) n m → state_at net 1 ≡ Some (End 0) → HasAddedRule net start n set × (m ≡ n + 5)

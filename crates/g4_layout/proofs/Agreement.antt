@@ -5,10 +5,10 @@ use Rattle.g4_elements.specs.Elements.{Element, Elements, Alternatives}
 use Rattle.g4_grammar.specs.declared.step.Step.{Step}
 use Rattle.g4_net.specs.declared.network.Network.{Network}
 use Rattle.g4_net.specs.declared.network.State.TheVariants.{Decision, Empty}
-use Rattle.g4_net.specs.Network.{state_at, written_at}
+use Rattle.g4_net.specs.Network.{state_at}
 use Rattle.g4_net.proofs.Pigeons.{In}
 use Rattle.g4_layout.specs.Layout as lay
-use Rattle.g4_layout.specs.Layout.{with_exit, AllLeadTo, AreWritten, Lies, LieInOrder, LieSideBySide}
+use Rattle.g4_layout.specs.Layout.{with_exit, AllLeadTo, Lies, LieInOrder, LieSideBySide}
 use Rattle.g4_layout.proofs.Spans.{one_first}
 
 -- two numbers are the same or not
@@ -129,6 +129,7 @@ module _ {L : Type 0} (a b : Network L) where
     element_agrees (lay.a_predicate k s n is) (lay.a_predicate _ _ _ is') = lone s n (is ∙ sym is')
     element_agrees (lay.a_level q s n is) (lay.a_level _ _ _ is') = lone s n (is ∙ sym is')
     element_agrees (lay.an_action s n is) (lay.an_action _ _ is') = lone s n (is ∙ sym is')
+    element_agrees (lay.an_empty s n is) (lay.an_empty _ _ is') = lone s n (is ∙ sym is')
     element_agrees (lay.one_alternative name x s t n m l) (lay.one_alternative _ _ _ t' _ m' l') = in_order_agree l l'
     element_agrees (lay.one_alternative name x s t n m l) (lay.a_block _ _ firsts lasts _ _ m' two is l' leads) = absurd (let one = one_first l' in omega arith)
     element_agrees (lay.a_block name xs firsts lasts s n m two is l leads) (lay.one_alternative _ _ _ t _ m' l') = absurd (let one = one_first l in omega arith)
@@ -186,12 +187,3 @@ module _ {L : Type 0} (a b : Network L) where
             | no after ↦ rest.same p (omega arith) high (λ h. non (inr h))
           ];
         }
-
-  -- the numbers of alternatives that begin at the same states
-  pub marks_same : (i : ℕ) (firsts firsts' : List ℕ) → firsts ≡ firsts' → AreWritten a i firsts → AreWritten b i firsts' → (p : ℕ) → In p firsts → written_at a p ≡ written_at b p
-  marks_same i [] firsts' same x y p h = absurd h
-  marks_same i (c ∷ cs) [] same x y p h = absurd (let k : ⊥ = cc in k)
-  marks_same i (c ∷ cs) (d ∷ ds) same x y p (inl e) =
-      let first : d ≡ p = cc in
-      subst (λ (q : ℕ). written_at a q ≡ i) (sym e) x.0 ∙ sym (subst (λ (q : ℕ). written_at b q ≡ i) first y.0)
-  marks_same i (c ∷ cs) (d ∷ ds) same x y p (inr h) = let rest : cs ≡ ds = cc in marks_same (i + 1) cs ds rest x.1 y.1 p h

@@ -88,8 +88,10 @@ module _ {L : Type 0} (Takes : L → ℕ → Type 0) (rules : List (Alternatives
     through (a_call _ _ _ called at h) (lay.a_predicate k s n is) returns = absurd called
     through (a_call _ _ _ called at h) (lay.a_level q s n is) returns = absurd called
     through (a_call _ _ _ called at h) (lay.an_action s n is) returns = absurd called
+    through (a_call _ _ _ called at h) (lay.an_empty s n is) returns = absurd called
     through (an_atom _ reads) (lay.a_call rule level s n is) returns = absurd reads
     through (an_atom _ reads) (lay.an_action s n is) returns = one_step (step_by s (Some (Action n)) is returns (bottomed n i returns) refl)
+    through (an_atom _ reads) (lay.an_empty s n is) returns = one_step (step_by s (Some (Empty n)) is returns (bottomed n i returns) refl)
     through (a_call _ j xs called at h) (lay.a_call rule level s n is) returns =
         let found_at : slice_get rules rule ≡ Some xs = subst (λ (q : ℕ). slice_get rules q ≡ Some xs) called at in
         let r = rule_laid rules net network rule (slice_get_within rules rule xs found_at) in
@@ -130,13 +132,13 @@ module _ {L : Type 0} (Takes : L → ℕ → Type 0) (rules : List (Alternatives
 
     -- through a rule
     pub rule_through : {xs : Alternatives (Step L)} {rule n m : ℕ} → OneNullable Reads CallsRule rules xs → LiesAsRule net rule xs n m → (returns : List ℕ) → Goes returns (start_of rule) (end_of rule)
-    rule_through (this _ _ d) (of_one rule last n m x l leads w) returns =
+    rule_through (this _ _ d) (of_one rule last n m x l leads) returns =
         further (bottomed last i returns) (bottomed (end_of rule) i returns) (in_order_through d l returns) (pass returns last (end_of rule) leads)
-    rule_through (another _ _ d) (of_one rule last n m x l leads w) returns = absurd (some_nullable d refl)
-    rule_through (this _ _ d) (of_several rule n m _ _ _ two is (lay.another x xs last _ k _ firsts lasts l ls) a w z) returns =
+    rule_through (another _ _ d) (of_one rule last n m x l leads) returns = absurd (some_nullable d refl)
+    rule_through (this _ _ d) (of_several rule n m _ _ _ two is (lay.another x xs last _ k _ firsts lasts l ls) a) returns =
         further (bottomed last i returns) (bottomed (end_of rule) i returns)
         (reach_then (one_step (decide returns (start_of rule) n (n ∷ firsts) is (0, omega arith, refl))) (in_order_through d l returns)) (pass returns last (end_of rule) a.0)
-    rule_through (another _ _ d) (of_several rule n m _ _ _ two is (lay.another x xs last _ k _ firsts lasts l ls) a w z) returns =
+    rule_through (another _ _ d) (of_several rule n m _ _ _ two is (lay.another x xs last _ k _ firsts lasts l ls) a) returns =
         let b = body_through d ls (end_of rule) a.1 in reach_then (one_step (decide returns (start_of rule) b.0 (n ∷ firsts) is (later n firsts b.0 b.1))) (b.2 returns)
 
   -- the state leads to the rule's start
@@ -157,6 +159,7 @@ module _ {L : Type 0} (Takes : L → ℕ → Type 0) (rules : List (Alternatives
     first_calls j (lay.a_predicate k s n is) h returns = absurd h
     first_calls j (lay.a_level q s n is) h returns = absurd h
     first_calls j (lay.an_action s n is) h returns = absurd h
+    first_calls j (lay.an_empty s n is) h returns = absurd h
     first_calls j (lay.one_alternative name x s t n m l) (inl h) returns = in_order_calls j l h returns
     first_calls j (lay.one_alternative name x s t n m l) (inr h) returns = absurd h
     first_calls j (lay.a_block name xs firsts lasts s n m two is l a) h returns =
@@ -185,9 +188,9 @@ module _ {L : Type 0} (Takes : L → ℕ → Type 0) (rules : List (Alternatives
 
   -- a rule's start leads to the start of each rule that it calls before anything is read
   rule_calls : (j : ℕ) {xs : Alternatives (Step L)} {rule n m : ℕ} → LiesAsRule net rule xs n m → IsLeftOfOne Reads CallsRule rules xs j → (returns : List ℕ) → Leaves returns (start_of rule) j
-  rule_calls j (of_one rule last n m x l leads w) (inl h) returns = in_order_calls j l h returns
-  rule_calls j (of_one rule last n m x l leads w) (inr h) returns = absurd h
-  rule_calls j (of_several rule n m xs firsts lasts two is l a w z) h returns =
+  rule_calls j (of_one rule last n m x l leads) (inl h) returns = in_order_calls j l h returns
+  rule_calls j (of_one rule last n m x l leads) (inr h) returns = absurd h
+  rule_calls j (of_several rule n m xs firsts lasts two is l a) h returns =
       let b = body_calls j l h in calls_after returns (start_of rule) b.0 j (one_step (decide returns (start_of rule) b.0 firsts is b.1)) (b.2 returns)
 
   -- one left call
@@ -226,6 +229,7 @@ module _ {L : Type 0} (Takes : L → ℕ → Type 0) (rules : List (Alternatives
     loop_back (lay.a_predicate k s n is) h = absurd h
     loop_back (lay.a_level q s n is) h = absurd h
     loop_back (lay.an_action s n is) h = absurd h
+    loop_back (lay.an_empty s n is) h = absurd h
     loop_back (lay.one_alternative name x s t n m l) (inl h) = in_order_back l h
     loop_back (lay.one_alternative name x s t n m l) (inr h) = absurd h
     loop_back (lay.a_block name xs firsts lasts s n m two is l a) h = bodies_back l h
@@ -251,9 +255,9 @@ module _ {L : Type 0} (Takes : L → ℕ → Type 0) (rules : List (Alternatives
 
   -- a rule does
   rule_back : {xs : Alternatives (Step L)} {rule n m : ℕ} → LiesAsRule net rule xs n m → SomeHasEmptyLoop Reads CallsRule rules xs → ComesBack
-  rule_back (of_one rule last n m x l leads w) (inl h) = in_order_back l h
-  rule_back (of_one rule last n m x l leads w) (inr h) = absurd h
-  rule_back (of_several rule n m xs firsts lasts two is l a w z) h = bodies_back l h
+  rule_back (of_one rule last n m x l leads) (inl h) = in_order_back l h
+  rule_back (of_one rule last n m x l leads) (inr h) = absurd h
+  rule_back (of_several rule n m xs firsts lasts two is l a) h = bodies_back l h
 
   -- a network that never comes back to a state has rules without empty loops and left cycles
   pub only_so : ((p : ℕ) (returns : List ℕ) → LeadsOn net (bottomed p i []) (bottomed p i returns) → ⊥) → NoEmptyLoop Reads CallsRule rules × NoLeftCycle Reads CallsRule rules

@@ -9,7 +9,7 @@ use Rattle.g4_grammar.specs.Steps.{CallsRule, ReadsStep}
 use Rattle.g4_grammar.specs.Loops.{IsEmptyBody, HasEmptyLoop, OneHasEmptyLoop, SomeHasEmptyLoop}
 use Rattle.g4_grammar.specs.LeftCalls.{Nullable, an_atom, a_call, a_block, an_optional, a_star, AllNullable, nothing, one_more, OneNullable, this, another, IsLeftOf, IsLeftOfAll, IsLeftOfOne, HasCall, OneHasCall, SomeHasCall}
 use Rattle.g4_net.specs.declared.network.Network.{Network}
-use Rattle.g4_net.specs.declared.network.State.TheVariants.{Edge, Predicate, Level, Action}
+use Rattle.g4_net.specs.declared.network.State.TheVariants.{Edge, Predicate, Level, Action, Empty}
 use Rattle.g4_net.specs.Network.{start_of}
 use Rattle.g4_layout.specs.Layout.{AllLeadTo, Lies, LieInOrder, LieSideBySide}
 use Rattle.g4_layout.specs.Layout as lay
@@ -43,6 +43,7 @@ module _ {L : Type 0} (Takes : L → ℕ → Type 0) (net : Network L) (rules : 
     first_ends (lay.a_predicate k s n is) loops calls returns h = ends_by net i returns s (Some (Predicate k n)) is (λ d l. subst (Ends net) (sym l) (h (an_atom (steps.Predicate k) refl)))
     first_ends (lay.a_level q s n is) loops calls returns h = ends_by net i returns s (Some (Level q n)) is (λ d l. subst (Ends net) (sym l) (h (an_atom (steps.Level q) refl)))
     first_ends (lay.an_action s n is) loops calls returns h = ends_by net i returns s (Some (Action n)) is (λ d l. subst (Ends net) (sym l) (h (an_atom steps.Action refl)))
+    first_ends (lay.an_empty s n is) loops calls returns h = ends_by net i returns s (Some (Empty n)) is (λ d l. subst (Ends net) (sym l) (h (an_atom steps.Empty refl)))
     first_ends (lay.one_alternative name x s t n m l) loops calls returns h =
         in_order_ends l (λ e. loops (inl e)) (λ j c. calls j (inl c)) returns (λ d. h (a_block name (or x none) (this x none d)))
     first_ends (lay.a_block name xs firsts lasts s n m two is l a) loops calls returns h =
@@ -90,6 +91,7 @@ module _ {L : Type 0} (Takes : L → ℕ → Type 0) (net : Network L) (rules : 
     within_ends (lay.a_predicate k s n is) loops calls returns h p from below = let same : n ≡ p = omega arith in subst (EndsAt net i returns) same h
     within_ends (lay.a_level r s n is) loops calls returns h p from below = let same : n ≡ p = omega arith in subst (EndsAt net i returns) same h
     within_ends (lay.an_action s n is) loops calls returns h p from below = let same : n ≡ p = omega arith in subst (EndsAt net i returns) same h
+    within_ends (lay.an_empty s n is) loops calls returns h p from below = let same : n ≡ p = omega arith in subst (EndsAt net i returns) same h
     within_ends (lay.one_alternative name x s t n m l) loops calls returns h p from below = within_in_order_ends l (λ e. loops (inl e)) (λ j c. calls j (inl c)) returns h p from below
     within_ends (lay.a_block name xs firsts lasts s n m two is l a) loops calls returns h p from below =
         at_or_below m (λ q q_from q_below. within_bodies_end l m a loops calls returns h q q_from q_below) h p from below

@@ -7,10 +7,10 @@ use Rattle.g4_elements.specs.Blocks.{EachIsFull}
 use Rattle.g4_source.specs.Rules.{alternatives_of}
 use Rattle.g4_source.specs.Blocks.{ParserRulesAreFull}
 use Rattle.g4_grammar.specs.declared.step.Step.{Step}
-use Rattle.g4_grammar.specs.declared.step.Step.TheVariants.{Edge, Call, Predicate, Level, Action}
+use Rattle.g4_grammar.specs.declared.step.Step.TheVariants.{Edge, Call, Predicate, Level, Action, Empty}
 use Rattle.g4_grammar.specs.LeftCalls.{OneNullable, this, another, one_more, an_atom, a_call, SomeHasCall, CallsAreInRange, NoLeftCycle}
 use Rattle.g4_grammar.specs.Loops.{SomeHasEmptyLoop, NoEmptyLoop}
-use Rattle.g4_grammar.specs.StepRules.{StepRule, IsPlain, CanBeLaid}
+use Rattle.g4_grammar.specs.StepRules.{StepRule, IsPlainLaid, CanBeLaid}
 use Rattle.g4_grammar.specs.Steps.{CallsRule, ReadsSymbols, added_rule}
 use Rattle.g4_grammar.proofs.Empty.{one_is_nullable}
 use Rattle.g4_layout.proofs.FirstRule.{no_loop_over, no_cycle_over}
@@ -60,21 +60,23 @@ added_loops rules set start (inr h) = h
 added_full : (set : List ℕ) (start : ℕ) → EachIsFull (added_rule set start)
 added_full set start = ((tt, ((tt, ((tt, tt), tt)), (tt, tt))), tt)
 
--- no predicate and no level
-abbrev pub IsTestless : Step (List ℕ) → Type 0
-IsTestless (Edge set) = Unit {0}
-IsTestless (Call rule level) = Unit {0}
-IsTestless (Predicate k) = ⊥
-IsTestless (Level q) = ⊥
-IsTestless Action = Unit {0}
+-- no predicate
+abbrev pub IsUnpredicated : Step (List ℕ) → Type 0
+IsUnpredicated (Edge set) = Unit {0}
+IsUnpredicated (Call rule level) = Unit {0}
+IsUnpredicated (Predicate k) = ⊥
+IsUnpredicated (Level q) = Unit {0}
+IsUnpredicated Action = Unit {0}
+IsUnpredicated Empty = Unit {0}
 
 -- a plain step is none
-plain_testless : (step : Step (List ℕ)) → IsPlain step → IsTestless step
-plain_testless (Edge set) h = tt
-plain_testless (Call rule level) h = tt
-plain_testless (Predicate k) h = h
-plain_testless (Level q) h = h
-plain_testless Action h = tt
+plain_unpredicated : (step : Step (List ℕ)) → IsPlainLaid step → IsUnpredicated step
+plain_unpredicated (Edge set) h = tt
+plain_unpredicated (Call rule level) h = tt
+plain_unpredicated (Predicate k) h = h
+plain_unpredicated (Level q) h = tt
+plain_unpredicated Action h = tt
+plain_unpredicated Empty h = tt
 
 module _ (set : List ℕ) (start : ℕ) (rules : List StepRule) (can : CanBeLaid rules) (from : 1 ≤ start) (within : start ≤ length rules) where
   -- the alternatives of all rules of the network
@@ -112,13 +114,13 @@ module _ (set : List ℕ) (start : ℕ) (rules : List StepRule) (can : CanBeLaid
   all_full (suc k) xs is = full_each rules can.full k xs is
 
   -- the steps of a rule other than the added one are plain, and they call such rules
-  pub plain_trees : (k : ℕ) (xs : Alternatives (Step (List ℕ))) → slice_get (map alternatives_of rules) k ≡ Some xs → EachIsSound (CallsKnown IsPlain CallsRule (λ j. (1 ≤ j) × (j ≤ length rules))) xs
-  plain_trees k xs is = each_sound IsPlain CallsRule (λ j. (1 ≤ j) × (j ≤ length rules)) xs (full_each rules can.full k xs is)
-      (of_each (λ ys. All IsPlain (atoms_of_either ys)) rules can.plain k xs is) (λ j h. calls_within k j xs is h)
+  pub plain_trees : (k : ℕ) (xs : Alternatives (Step (List ℕ))) → slice_get (map alternatives_of rules) k ≡ Some xs → EachIsSound (CallsKnown IsPlainLaid CallsRule (λ j. (1 ≤ j) × (j ≤ length rules))) xs
+  plain_trees k xs is = each_sound IsPlainLaid CallsRule (λ j. (1 ≤ j) × (j ≤ length rules)) xs (full_each rules can.full k xs is)
+      (of_each (λ ys. All IsPlainLaid (atoms_of_either ys)) rules can.plain k xs is) (λ j h. calls_within k j xs is h)
 
-  -- no step of any rule is a predicate or a level
-  pub testless_trees : (k : ℕ) (xs : Alternatives (Step (List ℕ))) → slice_get all_rules k ≡ Some xs → EachIsSound (CallsKnown IsTestless CallsRule (λ j. Unit {0})) xs
-  testless_trees zero xs is = let same : added_rule set start ≡ xs = cc in
-      subst (EachIsSound (CallsKnown IsTestless CallsRule (λ j. Unit {0}))) same (((tt, λ j c. tt), ((tt, (((tt, λ j c. tt), tt), tt)), ((tt, λ j c. tt), tt))), tt)
-  testless_trees (suc k) xs is = each_sound IsTestless CallsRule (λ j. Unit {0}) xs (full_each rules can.full k xs is)
-      (All-weaker IsPlain IsTestless plain_testless (atoms_of_either xs) (of_each (λ ys. All IsPlain (atoms_of_either ys)) rules can.plain k xs is)) (λ j h. tt)
+  -- no step of any rule is a predicate
+  pub unpredicated_trees : (k : ℕ) (xs : Alternatives (Step (List ℕ))) → slice_get all_rules k ≡ Some xs → EachIsSound (CallsKnown IsUnpredicated CallsRule (λ j. Unit {0})) xs
+  unpredicated_trees zero xs is = let same : added_rule set start ≡ xs = cc in
+      subst (EachIsSound (CallsKnown IsUnpredicated CallsRule (λ j. Unit {0}))) same (((tt, λ j c. tt), ((tt, (((tt, λ j c. tt), tt), tt)), ((tt, λ j c. tt), tt))), tt)
+  unpredicated_trees (suc k) xs is = each_sound IsUnpredicated CallsRule (λ j. Unit {0}) xs (full_each rules can.full k xs is)
+      (All-weaker IsPlainLaid IsUnpredicated plain_unpredicated (atoms_of_either xs) (of_each (λ ys. All IsPlainLaid (atoms_of_either ys)) rules can.plain k xs is)) (λ j h. tt)

@@ -14,5 +14,7 @@ pub mod Added
 pub mod Laying
 pub mod Runnable
 pub mod Agreement
+pub mod Sizes
+pub mod Numbering
 pub mod OneNetwork
 pub mod Converse

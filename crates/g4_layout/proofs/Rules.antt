@@ -35,9 +35,9 @@ pub record IsWithinRule {L : Type 0} (net : Network L) (rules : List (Alternativ
 
 module _ {L : Type 0} where
   -- the states of a rule are in order
-  rule_up : {net : Network L} {rule n m : ℕ} {xs : Alternatives (Step L)} → LiesAsRule net rule xs n m → n ≤ m
-  rule_up (of_one rule last n m x l leads w) = (in_order_spans l).up
-  rule_up (of_several rule n m xs firsts lasts two is l a w z) = side_by_side_up l
+  pub rule_up : {net : Network L} {rule n m : ℕ} {xs : Alternatives (Step L)} → LiesAsRule net rule xs n m → n ≤ m
+  rule_up (of_one rule last n m x l leads) = (in_order_spans l).up
+  rule_up (of_several rule n m xs firsts lasts two is l a) = side_by_side_up l
 
   -- the states of rules are in order
   pub rules_up : {net : Network L} {rule n m : ℕ} {rules : List (Alternatives (Step L))} → RulesLie net rule rules n m → n ≤ m

@@ -28,17 +28,17 @@ module _ {L : Type 0} (Takes : L → ℕ → Type 0) (rules : List (Alternatives
   -- a rule's start ends, if its end does where the rule derives the empty word
   start_ends : {rule n m : ℕ} {xs : Alternatives (Step L)} → LiesAsRule net rule xs n m → (SomeHasEmptyLoop Reads Calls rules xs → ⊥) →
       ((j : ℕ) → IsLeftOfOne Reads Calls rules xs j → CallEnds Takes net rules i j) → (returns : List ℕ) → (OneNullable Reads Calls rules xs → EndsAt net i returns (end_of rule)) → EndsAt net i returns (start_of rule)
-  start_ends (of_one rule last n m x l leads w) loops calls returns h =
+  start_ends (of_one rule last n m x l leads) loops calls returns h =
       in_order_ends Takes net rules i l (λ e. loops (inl e)) (λ j c. calls j (inl c)) returns (λ d. ends_empty net i returns last (end_of rule) leads (h (this x none d)))
-  start_ends (of_several rule n m xs firsts lasts two is l a w z) loops calls returns h =
+  start_ends (of_several rule n m xs firsts lasts two is l a) loops calls returns h =
       ends_decision net i returns (start_of rule) firsts is (bodies_end Takes net rules i l (end_of rule) a loops calls returns h)
 
   -- the other states of a rule end if its end does
   inside_ends : {rule n m : ℕ} {xs : Alternatives (Step L)} → LiesAsRule net rule xs n m → (SomeHasEmptyLoop Reads Calls rules xs → ⊥) →
       ((j : ℕ) → SomeHasCall Calls xs j → CallEnds Takes net rules i j) → (returns : List ℕ) → EndsAt net i returns (end_of rule) → (p : ℕ) → n ≤ p → p < m → EndsAt net i returns p
-  inside_ends (of_one rule last n m x l leads w) loops calls returns h =
+  inside_ends (of_one rule last n m x l leads) loops calls returns h =
       within_in_order_ends Takes net rules i l (λ e. loops (inl e)) (λ j c. calls j (inl c)) returns (ends_empty net i returns last (end_of rule) leads h)
-  inside_ends (of_several rule n m xs firsts lasts two is l a w z) loops calls returns h = within_bodies_end Takes net rules i l (end_of rule) a loops calls returns h
+  inside_ends (of_several rule n m xs firsts lasts two is l a) loops calls returns h = within_bodies_end Takes net rules i l (end_of rule) a loops calls returns h
 
 module _ {L : Type 0} (Takes : L → ℕ → Type 0) (rules : List (Alternatives (Step L))) (net : Network L) (network : IsNetworkOf rules net) (in_range : CallsAreInRange CallsRule rules)
     (no_loop : NoEmptyLoop (ReadsStep Takes) CallsRule rules) (no_cycle : NoLeftCycle (ReadsStep Takes) CallsRule rules) (i : ℕ) where

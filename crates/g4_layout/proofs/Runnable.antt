@@ -6,34 +6,34 @@ use Rattle.g4_symbols.specs.Symbols.{end_of_list}
 use Rattle.g4_elements.specs.Elements.{Alternatives}
 use Rattle.g4_source.specs.Rules.{alternatives_of}
 use Rattle.g4_grammar.specs.declared.step.Step.{Step}
-use Rattle.g4_grammar.specs.StepRules.{StepRule, IsPlain, CanBeLaid}
+use Rattle.g4_grammar.specs.StepRules.{StepRule, IsPlainLaid, CanBeLaid}
 use Rattle.g4_grammar.specs.Steps.{CallsRule, added_rule}
 use Rattle.g4_net.specs.declared.network.State.{State}
 use Rattle.g4_net.specs.declared.network.State.TheVariants.{Decision, End, Edge, Call, Predicate, Level, Action, Empty}
-use Rattle.g4_net.specs.AddedRule.{HasAddedRule, IsOutside, IsApart, IsUntested, IsRunnable}
+use Rattle.g4_net.specs.AddedRule.{HasAddedRule, IsOutside, IsApart, IsNoPredicate, IsRunnable}
 use Rattle.g4_net.specs.Network.{ParserNetwork, state_at, start_of, end_of}
 use Rattle.g4_layout.specs.Callers.{callers_of}
 use Rattle.g4_layout.specs.Layout.{RulesLie, a_rule, IsNetworkOf}
 use Rattle.g4_layout.specs.Rules.{rule_number, rules_of}
 use Rattle.g4_layout.proofs.Added.{added_at}
 use Rattle.g4_layout.proofs.Formed.{well_formed}
-use Rattle.g4_layout.proofs.Laying.{IsTestless, all_length, all_in_range, all_loops, all_cycles, all_full, plain_trees, testless_trees}
+use Rattle.g4_layout.proofs.Laying.{IsUnpredicated, all_length, all_in_range, all_loops, all_cycles, all_full, plain_trees, unpredicated_trees}
 use Rattle.g4_layout.proofs.Rules.{half, Laid, IsWithinRule, every_rule, rules_up}
 use Rattle.g4_layout.proofs.RulesSound.{state_sound, heads_sound, others_sound}
 use Rattle.g4_layout.proofs.Sound.{IsSoundState, SoundAt, AreAllowed, target_allowed}
 use Rattle.g4_layout.proofs.Trees.{EachIsSound, CallsKnown}
 use Rattle.g4_net.specs.declared.network.TheConstants.{MOST_STATES}
 
--- a state whose step is no predicate and no level
-untested_state : (Ended Allowed : ℕ → Type 0) (s : State (List ℕ)) → IsSoundState (CallsKnown IsTestless CallsRule (λ j. Unit {0})) Ended Allowed (Some s) → IsUntested s
-untested_state Ended Allowed (Decision targets) h = tt
-untested_state Ended Allowed (End rule) h = tt
-untested_state Ended Allowed (Edge set t) h = tt
-untested_state Ended Allowed (Call rule level back) h = tt
-untested_state Ended Allowed (Predicate k t) h = h.0.0
-untested_state Ended Allowed (Level q t) h = h.0.0
-untested_state Ended Allowed (Action t) h = tt
-untested_state Ended Allowed (Empty t) h = tt
+-- a state whose step is no predicate
+unpredicated_state : (Ended Allowed : ℕ → Type 0) (s : State (List ℕ)) → IsSoundState (CallsKnown IsUnpredicated CallsRule (λ j. Unit {0})) Ended Allowed (Some s) → IsNoPredicate s
+unpredicated_state Ended Allowed (Decision targets) h = tt
+unpredicated_state Ended Allowed (End rule) h = tt
+unpredicated_state Ended Allowed (Edge set t) h = tt
+unpredicated_state Ended Allowed (Call rule level back) h = tt
+unpredicated_state Ended Allowed (Predicate k t) h = h.0.0
+unpredicated_state Ended Allowed (Level q t) h = tt
+unpredicated_state Ended Allowed (Action t) h = tt
+unpredicated_state Ended Allowed (Empty t) h = tt
 
 -- how the rules after the added one lie
 record AfterAdded (net : ParserNetwork) (all : List (Alternatives (Step (List ℕ)))) (count loop : ℕ) : Type 0 where
@@ -56,14 +56,14 @@ added_and_others net set start loop m list all (a_rule _ _ k _ _ _ l last rest) 
 
 module _ (net : ParserNetwork) (set : List ℕ) (start : ℕ) (list : List (Alternatives (Step (List ℕ)))) (loop : ℕ) (loop_is : loop ≡ 2 * length list + 2)
     (added : HasAddedRule net start loop set) (others : AfterAdded net (added_rule set start ∷ list) (length list) loop) (from : 1 ≤ start) (within : start ≤ length list)
-    (trees : (k : ℕ) (xs : Alternatives (Step (List ℕ))) → slice_get list k ≡ Some xs → EachIsSound (CallsKnown IsPlain CallsRule (λ j. (1 ≤ j) × (j ≤ length list))) xs) where
+    (trees : (k : ℕ) (xs : Alternatives (Step (List ℕ))) → slice_get list k ≡ Some xs → EachIsSound (CallsKnown IsPlainLaid CallsRule (λ j. (1 ≤ j) × (j ≤ length list))) xs) where
   -- the rules, the added one first
   abbrev all : List (Alternatives (Step (List ℕ)))
   all = added_rule set start ∷ list
 
   -- a plain step, which calls none but rules after the added one
   abbrev IsGood : Step (List ℕ) → Type 0
-  IsGood = CallsKnown IsPlain CallsRule (λ j. (1 ≤ j) × (j ≤ length list))
+  IsGood = CallsKnown IsPlainLaid CallsRule (λ j. (1 ≤ j) × (j ≤ length list))
 
   -- a rule after the added one
   abbrev IsOther : ℕ → Type 0
@@ -143,9 +143,9 @@ runnable set rules start net can within no_end network few callers =
       well_formed = well_formed Contains all net network (all_in_range set number rules can from within) (all_full set number rules can from within) (all_loops set number rules can from within)
           (all_cycles set number rules can from within) (callers ∙ ap (λ (n : ℕ). callers_of net.states n) (sym size));
       apart = apart net set number (map alternatives_of rules) (2 * length rules + 2) (omega arith) parts.0 parts.1 from (omega arith)
-          (subst (λ (n : ℕ). (k : ℕ) (xs : Alternatives (Step (List ℕ))) → slice_get (map alternatives_of rules) k ≡ Some xs → EachIsSound (CallsKnown IsPlain CallsRule (λ j. (1 ≤ j) × (j ≤ n))) xs)
+          (subst (λ (n : ℕ). (k : ℕ) (xs : Alternatives (Step (List ℕ))) → slice_get (map alternatives_of rules) k ≡ Some xs → EachIsSound (CallsKnown IsPlainLaid CallsRule (λ j. (1 ≤ j) × (j ≤ n))) xs)
           (sym long) (plain_trees set number rules can from within)) no_end;
-      untested = λ p s is. untested_state (λ k. k < length all) (λ q. q < length net.states) s
-          (state_sound all net network (CallsKnown IsTestless CallsRule (λ j. Unit {0})) (testless_trees set number rules can from within) p s is);
+      unpredicated = λ p s is. unpredicated_state (λ k. k < length all) (λ q. q < length net.states) s
+          (state_sound all net network (CallsKnown IsUnpredicated CallsRule (λ j. Unit {0})) (unpredicated_trees set number rules can from within) p s is);
       few = few;
     }

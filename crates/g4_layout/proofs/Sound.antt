@@ -11,7 +11,7 @@ use Rattle.g4_net.specs.declared.network.State.{State}
 use Rattle.g4_net.specs.declared.network.State.TheVariants.{Decision, End, Edge, Call, Predicate, Level, Action, Empty}
 use Rattle.g4_net.specs.Leads.{IsTarget}
 use Rattle.g4_net.specs.Network.{state_at}
-use Rattle.g4_layout.specs.Layout.{AllLeadTo, with_exit, Lies, an_edge, a_call, a_predicate, a_level, an_action, one_alternative, a_block, an_optional, a_star, a_plus_of_one, a_plus, LieInOrder, no_more, one_more, LieSideBySide, no_other, another}
+use Rattle.g4_layout.specs.Layout.{AllLeadTo, with_exit, Lies, an_edge, a_call, a_predicate, a_level, an_action, an_empty, one_alternative, a_block, an_optional, a_star, a_plus_of_one, a_plus, LieInOrder, no_more, one_more, LieSideBySide, no_other, another}
 use Rattle.g4_layout.proofs.Ends.{with_exit_cases, at_or_below, at_two}
 use Rattle.g4_layout.proofs.Spans.{Spans, lies_spans, in_order_spans, side_by_side_up, firsts_between, some_first}
 use Rattle.g4_layout.proofs.Trees.{IsSound, AreSound, EachIsSound}
@@ -80,6 +80,7 @@ module _ {L : Type 0} (net : Network L) (Good : Step L → Type 0) (Ended Allowe
     first_sound (a_predicate k s n is) sound allowed = inr (sound_by s (Some (Predicate k n)) is (sound, allowed n (omega arith) (omega arith)))
     first_sound (a_level q s n is) sound allowed = inr (sound_by s (Some (Level q n)) is (sound, allowed n (omega arith) (omega arith)))
     first_sound (an_action s n is) sound allowed = inr (sound_by s (Some (Action n)) is (sound, allowed n (omega arith) (omega arith)))
+    first_sound (an_empty s n is) sound allowed = inr (sound_by s (Some (Empty n)) is (allowed n (omega arith) (omega arith)))
     first_sound (one_alternative name x s t n m l) sound allowed = in_order_sound l sound.1.0 allowed
     first_sound (a_block name xs firsts lasts s n m two is l a) sound allowed =
         inr (sound_by s (Some (Decision firsts)) is (two, λ t c. let b = firsts_between l t c in allowed t b.0 (omega arith)))
@@ -113,6 +114,7 @@ module _ {L : Type 0} (net : Network L) (Good : Step L → Type 0) (Ended Allowe
     within_sound (a_predicate k s n is) sound s_allowed allowed p from below = inl (omega arith)
     within_sound (a_level q s n is) sound s_allowed allowed p from below = inl (omega arith)
     within_sound (an_action s n is) sound s_allowed allowed p from below = inl (omega arith)
+    within_sound (an_empty s n is) sound s_allowed allowed p from below = inl (omega arith)
     within_sound (one_alternative name x s t n m l) sound s_allowed allowed p from below = within_in_order_sound l sound.1.0 s_allowed allowed p from below
     within_sound (a_block name xs firsts lasts s n m two is l a) sound s_allowed allowed p from below =
         let up = side_by_side_up l in

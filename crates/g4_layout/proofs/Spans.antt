@@ -4,7 +4,7 @@ use Rattle.g4_elements.specs.Elements.{Element, Elements, Alternatives, none, or
 use Rattle.g4_elements.specs.Blocks.{IsSome}
 use Rattle.g4_grammar.specs.declared.step.Step.{Step}
 use Rattle.g4_net.specs.declared.network.Network.{Network}
-use Rattle.g4_layout.specs.Layout.{Lies, an_edge, a_call, a_predicate, a_level, an_action, one_alternative, a_block, an_optional, a_star, a_plus_of_one, a_plus, LieInOrder, no_more, one_more, LieSideBySide, no_other, another}
+use Rattle.g4_layout.specs.Layout.{Lies, an_edge, a_call, a_predicate, a_level, an_action, an_empty, one_alternative, a_block, an_optional, a_star, a_plus_of_one, a_plus, LieInOrder, no_more, one_more, LieSideBySide, no_other, another}
 
 -- the states from n up to m are in order, and t is s or one of them
 pub record Spans (s t n m : ℕ) : Type 0 where
@@ -39,6 +39,7 @@ module _ {L : Type 0} where
     lies_spans (a_predicate k s n is) = ends_after s n n (n + 1) (omega arith) (omega arith)
     lies_spans (a_level q s n is) = ends_after s n n (n + 1) (omega arith) (omega arith)
     lies_spans (an_action s n is) = ends_after s n n (n + 1) (omega arith) (omega arith)
+    lies_spans (an_empty s n is) = ends_after s n n (n + 1) (omega arith) (omega arith)
     lies_spans (one_alternative name x s t n m l) = in_order_spans l
     lies_spans (a_block name xs firsts lasts s n m two is l a) = let up = side_by_side_up l in ends_after s m n (m + 1) up (omega arith)
     lies_spans (an_optional name sign xs firsts lasts s n m is l a exit) = let up = side_by_side_up l in ends_after s (m + 1) n (m + 2) (omega arith) (omega arith)

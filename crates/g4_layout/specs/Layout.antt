@@ -1,6 +1,6 @@
 -- How elements lie in a network over any labels: the table of states and edges, by cases. States are numbered as they are
 -- made.
-use Rattle.std.specs.Prelude.{◌≡◌, ◌≤◌, ℕ, ◌+◌, ◌*◌, ◌⊎◌, List, [], ◌∷◌, ◌++◌, length, Option, Bool, true, false, Some}
+use Rattle.std.specs.Prelude.{◌≡◌, ◌≤◌, ℕ, ◌+◌, ◌*◌, List, [], ◌∷◌, ◌++◌, length, Option, Bool, true, false, Some}
 use Rattle.g4_elements.specs.declared.name.Label.{Label}
 use Rattle.g4_elements.specs.declared.element.Suffix.{Suffix}
 use Rattle.g4_elements.specs.declared.element.Repeat.TheVariants.{Once, Optional, Star, Plus}
@@ -9,7 +9,7 @@ use Rattle.g4_grammar.specs.declared.step.Step.{Step}
 use Rattle.g4_grammar.specs.declared.step.Step.TheVariants as steps
 use Rattle.g4_net.specs.declared.network.Network.{Network}
 use Rattle.g4_net.specs.declared.network.State.TheVariants.{Decision, End, Edge, Call, Predicate, Level, Action, Empty}
-use Rattle.g4_net.specs.Network.{state_at, start_of, end_of, written_at, IsFirst}
+use Rattle.g4_net.specs.Network.{state_at, start_of, end_of}
 
 -- the edges of a decision: the exit branch last where it is greedy, else first
 abbrev pub with_exit : Bool → List ℕ → ℕ → List ℕ
@@ -29,6 +29,7 @@ mutual
     a_predicate : (k s n : ℕ) → state_at net s ≡ Some (Predicate k n) → Lies net (atom (steps.Predicate k)) s n n (n + 1)
     a_level : (q s n : ℕ) → state_at net s ≡ Some (Level q n) → Lies net (atom (steps.Level q)) s n n (n + 1)
     an_action : (s n : ℕ) → state_at net s ≡ Some (Action n) → Lies net (atom steps.Action) s n n (n + 1)
+    an_empty : (s n : ℕ) → state_at net s ≡ Some (Empty n) → Lies net (atom steps.Empty) s n n (n + 1)
     -- a block of one alternative is that alternative
     one_alternative : (name : Option Label) (x : Elements (Step L)) (s t n m : ℕ) → LieInOrder net x s t n m → Lies net (block name Once (only x)) s t n m
     -- a block of several is a decision at s, then its bodies, then t
@@ -59,29 +60,12 @@ mutual
     another : (x : Elements (Step L)) (xs : Alternatives (Step L)) (last n k m : ℕ) (firsts lasts : List ℕ) → LieInOrder net x n last (n + 1) k → LieSideBySide net xs firsts lasts k m →
         LieSideBySide net (or x xs) (n ∷ firsts) (last ∷ lasts) n m
 
--- the alternatives as written begin at these states, numbered from i
-abbrev pub AreWritten : {L : Type 0} → Network L → ℕ → List ℕ → Type 0
-AreWritten net i [] = Unit {0}
-AreWritten net i (a ∷ more) = (written_at net a ≡ i) × AreWritten net (i + 1) more
-
 -- A rule lies from its start to its end, its other states being those from n up to m. One alternative begins at the
 -- start; of several the start is the decision.
 pub data LiesAsRule {L : Type 0} (net : Network L) : ℕ → Alternatives (Step L) → ℕ → ℕ → Type 0 where
-  of_one : (rule last n m : ℕ) (x : Elements (Step L)) → LieInOrder net x (start_of rule) last n m → state_at net last ≡ Some (Empty (end_of rule)) →
-      written_at net (start_of rule) ≡ 1 → LiesAsRule net rule (only x) n m
+  of_one : (rule last n m : ℕ) (x : Elements (Step L)) → LieInOrder net x (start_of rule) last n m → state_at net last ≡ Some (Empty (end_of rule)) → LiesAsRule net rule (only x) n m
   of_several : (rule n m : ℕ) (xs : Alternatives (Step L)) (firsts lasts : List ℕ) → 2 ≤ length firsts → state_at net (start_of rule) ≡ Some (Decision firsts) →
-      LieSideBySide net xs firsts lasts n m → AllLeadTo net lasts (end_of rule) → AreWritten net 1 firsts → written_at net (start_of rule) ≡ 0 → LiesAsRule net rule xs n m
-
--- an alternative of the rule begins at the state: one at the rule's start, of several each at a first state of the decision there
-abbrev pub BeginsOne : {L : Type 0} → Network L → ℕ → Alternatives (Step L) → ℕ → Type 0
-BeginsOne net rule none p = ⊥
-BeginsOne net rule (or x none) p = p ≡ start_of rule
-BeginsOne net rule (or x (or y more)) p = (i : ℕ) × IsFirst net (start_of rule) i p
-
--- an alternative of one of the rules from this number on begins at the state
-abbrev pub BeginsAny : {L : Type 0} → Network L → ℕ → List (Alternatives (Step L)) → ℕ → Type 0
-BeginsAny net rule [] p = ⊥
-BeginsAny net rule (xs ∷ more) p = BeginsOne net rule xs p ⊎ BeginsAny net (rule + 1) more p
+      LieSideBySide net xs firsts lasts n m → AllLeadTo net lasts (end_of rule) → LiesAsRule net rule xs n m
 
 -- the rules from this number on lie one after another, each ending in its end state
 pub data RulesLie {L : Type 0} (net : Network L) : ℕ → List (Alternatives (Step L)) → ℕ → ℕ → Type 0 where

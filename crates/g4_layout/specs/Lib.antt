@@ -2,5 +2,6 @@ pub mod Built
 pub mod Callers
 pub mod Decisions
 pub mod Layout
+pub mod Numbers
 pub mod Rules
 pub mod Size

@@ -6,6 +6,7 @@ ghost use Rattle.g4_grammar.specs.LeftCalls.{CallsAreInRange, NoLeftCycle};
 ghost use Rattle.g4_grammar.specs.Loops.{NoEmptyLoop};
 ghost use Rattle.g4_grammar.specs.StepRules.{CanBeLaid, StepRule};
 ghost use Rattle.g4_grammar.specs.Steps.{CallsRule, ReadsSymbols};
+ghost use Rattle.g4_grammar.specs.declared.step.Numbering.{Numbering};
 ghost use Rattle.g4_grammar.specs.declared.step.Step.{Step};
 ghost use Rattle.g4_layout.specs.Built.{IsBuilt};
 ghost use Rattle.g4_layout.specs.Callers.{callers_of};
@@ -46,7 +47,7 @@ pub fn callers_are_returns<L>()
     ensures { (net : Network L) (count rule t : ℕ) (listed : List ℕ) → slice_get (callers_of net.states count) rule ≡ Some listed → Contains listed t ↔ IsReturn net rule t }
 {}
 
-/// A set, rules and a start rule have at most one network.
+/// A set, rules with their numberings and a start rule have at most one network.
 pub fn one_network()
-    ensures { (set : List ℕ) (rules : List StepRule) (start : List ℕ) (a b : ParserNetwork) → IsBuilt set rules start a → IsBuilt set rules start b → a ≡ b }
+    ensures { (set : List ℕ) (rules : List StepRule) (numberings : List Numbering) (start : List ℕ) (a b : ParserNetwork) → IsBuilt set rules numberings start a → IsBuilt set rules numberings start b → a ≡ b }
 {}

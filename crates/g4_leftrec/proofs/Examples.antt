@@ -1,12 +1,13 @@
--- Worked examples: alternatives of rule 1, which is e, and the forms in which they are laid.
-use Rattle.std.proofs.Common.{◌≡◌, ℕ, List, [], ◌∷◌, true, false, None, refl}
+-- Worked examples: alternatives of rule 1, which is e, as they are laid, and the numbers with which the rule starts.
+use Rattle.std.proofs.Common.{◌≡◌, ℕ, List, [], ◌∷◌, map, true, false, None, refl}
 use Rattle.g4_elements.specs.declared.element.Repeat.TheVariants.{Once}
-use Rattle.g4_elements.specs.Elements.{Element, atom, block, only}
+use Rattle.g4_elements.specs.Elements.{Element, atom, block, only, either}
 use Rattle.g4_elements.specs.Trees.{in_order}
-use Rattle.g4_grammar.specs.declared.step.Step.TheVariants.{Edge, Call, Predicate, Level, Action}
-use Rattle.g4_leftrec.specs.declared.form.NumberedAlternative.{NumberedAlternative}
-use Rattle.g4_leftrec.specs.declared.form.RuleForm.TheVariants.{AsWritten, LeftRecursive}
-use Rattle.g4_leftrec.specs.Rewriting.{StepIn, Written, form_of}
+use Rattle.g4_grammar.specs.declared.step.Step.TheVariants.{Edge, Call, Predicate, Level, Action, Empty}
+use Rattle.g4_grammar.specs.Steps.{any_number}
+use Rattle.g4_leftrec.specs.OwnCalls.{is_left_recursive}
+use Rattle.g4_leftrec.specs.OwnSteps.{calls}
+use Rattle.g4_leftrec.specs.Rewriting.{StepIn, Written, loop_of, starts_of}
 
 -- a token
 abbrev token : ℕ → Element StepIn
@@ -24,6 +25,10 @@ level p = atom (Level p)
 abbrev action : Element StepIn
 action = atom Action
 
+-- the empty step
+abbrev nothing : Element StepIn
+nothing = atom Empty
+
 -- an alternative as it is written
 abbrev written : List (Element StepIn) → Written
 written xs = record { right = false; elements = in_order xs; label = None }
@@ -32,9 +37,13 @@ written xs = record { right = false; elements = in_order xs; label = None }
 abbrev right : List (Element StepIn) → Written
 right xs = record { right = true; elements = in_order xs; label = None }
 
--- an alternative with its number
-abbrev alternative : ℕ → List (Element StepIn) → NumberedAlternative StepIn
-alternative number xs = record { number = number; elements = in_order xs }
+-- one of these alternatives
+abbrev one_of : List (List (Element StepIn)) → Element StepIn
+one_of xs = block None Once (either (map in_order xs))
+
+-- any number of these operators
+abbrev turns : List (List (Element StepIn)) → Element StepIn
+turns xs = block None any_number (either (map in_order xs))
 
 abbrev times : Element StepIn
 times = token 1
@@ -55,37 +64,53 @@ abbrev integer : Element StepIn
 integer = token 6
 
 -- e : e '*' e | e '+' e | '(' e ')' | INT
-arithmetic : form_of 1 (written (e 0 ∷ times ∷ e 0 ∷ []) ∷ written (e 0 ∷ plus ∷ e 0 ∷ []) ∷ written (open_bracket ∷ e 0 ∷ close_bracket ∷ []) ∷ written (integer ∷ []) ∷ [])
-    ≡ LeftRecursive (alternative 3 (open_bracket ∷ e 0 ∷ close_bracket ∷ []) ∷ alternative 4 (integer ∷ []) ∷ [])
-    (alternative 1 (level 4 ∷ times ∷ e 5 ∷ []) ∷ alternative 2 (level 3 ∷ plus ∷ e 4 ∷ []) ∷ [])
-arithmetic = refl
+abbrev arithmetic : List Written
+arithmetic = written (e 0 ∷ times ∷ e 0 ∷ []) ∷ written (e 0 ∷ plus ∷ e 0 ∷ []) ∷ written (open_bracket ∷ e 0 ∷ close_bracket ∷ []) ∷ written (integer ∷ []) ∷ []
+
+arithmetic_laid : loop_of 1 arithmetic ≡ in_order (one_of ((open_bracket ∷ e 0 ∷ close_bracket ∷ []) ∷ (integer ∷ []) ∷ []) ∷ turns ((level 4 ∷ times ∷ e 5 ∷ []) ∷ (level 3 ∷ plus ∷ e 4 ∷ []) ∷ []) ∷ [])
+arithmetic_laid = refl
+
+arithmetic_starts : starts_of 1 arithmetic ≡ 3 ∷ 4 ∷ []
+arithmetic_starts = refl
 
 -- e : <assoc=right> e '^' e | INT
-power : form_of 1 (right (e 0 ∷ token 7 ∷ e 0 ∷ []) ∷ written (integer ∷ []) ∷ []) ≡ LeftRecursive (alternative 2 (integer ∷ []) ∷ []) (alternative 1 (level 2 ∷ token 7 ∷ e 2 ∷ []) ∷ [])
-power = refl
+abbrev power : List Written
+power = right (e 0 ∷ token 7 ∷ e 0 ∷ []) ∷ written (integer ∷ []) ∷ []
+
+power_laid : loop_of 1 power ≡ in_order (integer ∷ nothing ∷ turns ((level 2 ∷ token 7 ∷ e 2 ∷ []) ∷ []) ∷ [])
+power_laid = refl
+
+power_starts : starts_of 1 power ≡ 2 ∷ []
+power_starts = refl
 
 -- e : e '*' e | '-' e | e '+' e | INT
-prefix : form_of 1 (written (e 0 ∷ times ∷ e 0 ∷ []) ∷ written (minus ∷ e 0 ∷ []) ∷ written (e 0 ∷ plus ∷ e 0 ∷ []) ∷ written (integer ∷ []) ∷ [])
-    ≡ LeftRecursive (alternative 2 (minus ∷ e 3 ∷ []) ∷ alternative 4 (integer ∷ []) ∷ []) (alternative 1 (level 4 ∷ times ∷ e 5 ∷ []) ∷ alternative 3 (level 2 ∷ plus ∷ e 3 ∷ []) ∷ [])
+prefix : loop_of 1 (written (e 0 ∷ times ∷ e 0 ∷ []) ∷ written (minus ∷ e 0 ∷ []) ∷ written (e 0 ∷ plus ∷ e 0 ∷ []) ∷ written (integer ∷ []) ∷ [])
+    ≡ in_order (one_of ((minus ∷ e 3 ∷ []) ∷ (integer ∷ []) ∷ []) ∷ turns ((level 4 ∷ times ∷ e 5 ∷ []) ∷ (level 2 ∷ plus ∷ e 3 ∷ []) ∷ []) ∷ [])
 prefix = refl
 
 -- e : e '!' | e | INT, where nothing follows the second e
-suffix : form_of 1 (written (e 0 ∷ token 8 ∷ []) ∷ written (e 0 ∷ []) ∷ written (integer ∷ []) ∷ []) ≡ LeftRecursive (alternative 3 (integer ∷ []) ∷ []) (alternative 1 (level 3 ∷ token 8 ∷ []) ∷ alternative 2 (level 2 ∷ []) ∷ [])
+suffix : loop_of 1 (written (e 0 ∷ token 8 ∷ []) ∷ written (e 0 ∷ []) ∷ written (integer ∷ []) ∷ []) ≡ in_order (integer ∷ nothing ∷ turns ((level 3 ∷ token 8 ∷ []) ∷ (level 2 ∷ []) ∷ []) ∷ [])
 suffix = refl
 
 -- e : e '?' e ':' e | INT
-ternary : form_of 1 (written (e 0 ∷ token 9 ∷ e 0 ∷ token 10 ∷ e 0 ∷ []) ∷ written (integer ∷ []) ∷ []) ≡ LeftRecursive (alternative 2 (integer ∷ []) ∷ []) (alternative 1 (level 2 ∷ token 9 ∷ e 0 ∷ token 10 ∷ e 3 ∷ []) ∷ [])
+ternary : loop_of 1 (written (e 0 ∷ token 9 ∷ e 0 ∷ token 10 ∷ e 0 ∷ []) ∷ written (integer ∷ []) ∷ []) ≡ in_order (integer ∷ nothing ∷ turns ((level 2 ∷ token 9 ∷ e 0 ∷ token 10 ∷ e 3 ∷ []) ∷ []) ∷ [])
 ternary = refl
 
 -- e : e e | INT
-application : form_of 1 (written (e 0 ∷ e 0 ∷ []) ∷ written (integer ∷ []) ∷ []) ≡ LeftRecursive (alternative 2 (integer ∷ []) ∷ []) (alternative 1 (level 2 ∷ e 3 ∷ []) ∷ [])
+application : loop_of 1 (written (e 0 ∷ e 0 ∷ []) ∷ written (integer ∷ []) ∷ []) ≡ in_order (integer ∷ nothing ∷ turns ((level 2 ∷ e 3 ∷ []) ∷ []) ∷ [])
 application = refl
 
 -- e : e '+' e {..} {..}? | '-' e {..} | INT {..}
-trailing : form_of 1 (written (e 0 ∷ plus ∷ e 0 ∷ action ∷ atom (Predicate 0) ∷ []) ∷ written (minus ∷ e 0 ∷ action ∷ []) ∷ written (integer ∷ action ∷ []) ∷ [])
-    ≡ LeftRecursive (alternative 2 (minus ∷ e 2 ∷ action ∷ []) ∷ alternative 3 (integer ∷ action ∷ []) ∷ []) (alternative 1 (level 3 ∷ plus ∷ e 4 ∷ action ∷ atom (Predicate 0) ∷ []) ∷ [])
+trailing : loop_of 1 (written (e 0 ∷ plus ∷ e 0 ∷ action ∷ atom (Predicate 0) ∷ []) ∷ written (minus ∷ e 0 ∷ action ∷ []) ∷ written (integer ∷ action ∷ []) ∷ [])
+    ≡ in_order (one_of ((minus ∷ e 2 ∷ action ∷ []) ∷ (integer ∷ action ∷ []) ∷ []) ∷ turns ((level 3 ∷ plus ∷ e 4 ∷ action ∷ atom (Predicate 0) ∷ []) ∷ []) ∷ [])
 trailing = refl
 
 -- e : (e) '+' e | INT, which does not begin with a plain e
-bracketed : form_of 1 (written (block None Once (only (in_order (e 0 ∷ []))) ∷ plus ∷ e 0 ∷ []) ∷ written (integer ∷ []) ∷ []) ≡ AsWritten (in_order (block None Once (only (in_order (e 0 ∷ []))) ∷ plus ∷ e 0 ∷ []) ∷ in_order (integer ∷ []) ∷ [])
-bracketed = refl
+abbrev bracketed : List Written
+bracketed = written (block None Once (only (in_order (e 0 ∷ []))) ∷ plus ∷ e 0 ∷ []) ∷ written (integer ∷ []) ∷ []
+
+bracketed_stays : is_left_recursive (calls 1) bracketed ≡ false
+bracketed_stays = refl
+
+bracketed_starts : starts_of 1 bracketed ≡ 1 ∷ 2 ∷ []
+bracketed_starts = refl

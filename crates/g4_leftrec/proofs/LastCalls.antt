@@ -20,7 +20,7 @@ and_right true b h = h
 and_right false b h = absurd (cc)
 
 -- elements one after another in two parts
-in_order_append : {A : Type 0} (xs ys : List (Element A)) → in_order (xs ++ ys) ≡ onto (in_order xs) (in_order ys)
+pub in_order_append : {A : Type 0} (xs ys : List (Element A)) → in_order (xs ++ ys) ≡ onto (in_order xs) (in_order ys)
 in_order_append [] ys = refl
 in_order_append (x ∷ xs) ys = ap (then x) (in_order_append xs ys)
 

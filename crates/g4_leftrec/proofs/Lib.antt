@@ -1,6 +1,20 @@
+mod Among
+mod Calls
+mod EmptyLoops
+mod EmptyWord
 mod Examples
+mod Fit
+mod Fullness
+pub mod Kept
+mod Laid
 mod LastCalls
+mod LeftCalls
 mod Levels
-mod Lists
+pub mod Lists
+mod Made
+mod Numbers
+pub mod OtherLevel
 mod Parts
+mod Plainness
+mod Sources
 mod Steps

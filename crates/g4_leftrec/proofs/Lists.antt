@@ -1,6 +1,6 @@
 -- Lists with their numbers, an item at a time.
-use Rattle.std.proofs.Common.{◌≡◌, ℕ, ◌+◌, List, [], ◌∷◌, ◌++◌, Option, Some, None, length, map, refl, sym, ap, ◌∙◌, arith}
-use Rattle.std.specs.List.{enumerate_from, filter_map, cons_option}
+use Rattle.std.proofs.Common.{◌≡◌, ℕ, zero, suc, ◌+◌, List, [], ◌∷◌, ◌++◌, Option, Some, None, length, map, refl, sym, ap, ◌∙◌, arith}
+use Rattle.std.specs.List.{enumerate_from, filter_map, cons_option, range_with_len}
 use Rattle.std.proofs.lemmas.List.{map-append}
 
 -- one more item with its number
@@ -39,7 +39,16 @@ pushed_more f xs x j old new y e pushed same before =
     pushed ∙ (ap (λ (zs : List _). zs ++ y ∷ []) before ∙ (ap (λ (z : _). map f (enumerate_from 1 xs) ++ z ∷ []) same ∙ sym (made_more f xs x j e)))
 
 -- what is kept of one more item is added
-pub added_more : {X Y Z : Type 0} (f : ℕ → Y → Z) (h : ℕ × X → Option Y) (xs : List X) (x : X) (j count n : ℕ) (old new : List Z) → j ≡ length xs + 1 → count ≡ n → new ≡ old ++ map (f count) (filter_map h ((j, x) ∷ [])) →
-    old ≡ map (f n) (filter_map h (enumerate_from 1 xs)) → new ≡ map (f n) (filter_map h (enumerate_from 1 (xs ++ x ∷ [])))
-added_more f h xs x j count n old new e same added before =
-    added ∙ (ap (λ (m : ℕ). old ++ map (f m) (filter_map h ((j, x) ∷ []))) same ∙ (ap (λ (zs : List _). zs ++ map (f n) (filter_map h ((j, x) ∷ []))) before ∙ sym (kept_more (f n) h xs x j e)))
+pub added_more : {X Y Z : Type 0} (f : Y → Z) (h : ℕ × X → Option Y) (xs : List X) (x : X) (j : ℕ) (old new : List Z) → j ≡ length xs + 1 → new ≡ old ++ map f (filter_map h ((j, x) ∷ [])) →
+    old ≡ map f (filter_map h (enumerate_from 1 xs)) → new ≡ map f (filter_map h (enumerate_from 1 (xs ++ x ∷ [])))
+added_more f h xs x j old new e added before = added ∙ (ap (λ (zs : List _). zs ++ map f (filter_map h ((j, x) ∷ []))) before ∙ sym (kept_more f h xs x j e))
+
+-- one more number
+pub range_more : (n k j : ℕ) → n + k ≡ j → range_with_len n (k + 1) ≡ range_with_len n k ++ j ∷ []
+range_more n zero j e = ap (λ (m : ℕ). m ∷ []) (omega (arith, e))
+range_more n (suc k) j e = let same : suc k + 1 ≡ suc (k + 1) = omega arith in ap (range_with_len n) same ∙ ap (λ (ms : List ℕ). n ∷ ms) (range_more (n + 1) k j (omega (arith, e)))
+
+-- the numbers of numbered items
+pub numbers_of : {X : Type 0} (n : ℕ) (xs : List X) → map (λ x. x.0) (enumerate_from n xs) ≡ range_with_len n (length xs)
+numbers_of n [] = refl
+numbers_of n (x ∷ xs) = ap (λ (ms : List ℕ). n ∷ ms) (numbers_of (n + 1) xs)

@@ -1,7 +1,7 @@
 -- Which steps call their own rule, and which read nothing and call nothing.
 use Rattle.std.specs.Prelude.{ℕ, Bool, true, false, ◌==◌}
 use Rattle.g4_grammar.specs.declared.step.Step.{Step}
-use Rattle.g4_grammar.specs.declared.step.Step.TheVariants.{Edge, Call, Predicate, Level, Action}
+use Rattle.g4_grammar.specs.declared.step.Step.TheVariants.{Edge, Call, Predicate, Level, Action, Empty}
 
 -- a call of this rule
 abbrev pub calls : {L : Type 0} → ℕ → Step L → Bool
@@ -10,6 +10,7 @@ calls k (Call rule level) = rule == k
 calls k (Predicate n) = false
 calls k (Level q) = false
 calls k Action = false
+calls k Empty = false
 
 -- a predicate or an action
 abbrev pub is_silent : {L : Type 0} → Step L → Bool
@@ -18,3 +19,4 @@ is_silent (Call rule level) = false
 is_silent (Predicate n) = true
 is_silent (Level q) = false
 is_silent Action = true
+is_silent Empty = false

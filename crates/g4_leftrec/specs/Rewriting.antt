@@ -5,19 +5,19 @@
 --   x e     becomes the primary    x, e at level p
 --   x       stays a primary
 --
--- where actions and predicates that follow the last e stay after it.
-use Rattle.std.specs.Prelude.{ℕ, ◌+◌, ◌-◌, List, map, Bool, cond, Option, Some, None, length}
+-- where actions and predicates that follow the last e stay after it. The rule has one alternative then: the primaries in order as a
+-- block, or the only one and an empty step, and after that the operators in order, any number of times.
+use Rattle.std.specs.Prelude.{ℕ, ◌+◌, ◌-◌, List, [], ◌∷◌, map, Bool, false, cond, Option, Some, None, length}
 use Rattle.std.specs.List.{enumerate_from}
-use Rattle.g4_elements.specs.Elements.{atom, Elements, then}
+use Rattle.g4_elements.specs.declared.element.Repeat.TheVariants.{Once}
+use Rattle.g4_elements.specs.Elements.{atom, block, Elements, empty, then, none, either}
 use Rattle.g4_elements.specs.Marks.{onto}
 use Rattle.g4_source.specs.declared.rule.RuleAlternative.{RuleAlternative}
+use Rattle.g4_grammar.specs.declared.step.Numbering.{Numbering}
 use Rattle.g4_grammar.specs.declared.step.Step.{Step}
-use Rattle.g4_grammar.specs.declared.step.Step.TheVariants.{Call, Level}
+use Rattle.g4_grammar.specs.declared.step.Step.TheVariants.{Call, Level, Empty}
+use Rattle.g4_grammar.specs.Steps.{any_number}
 use Rattle.g4_grammar.specs.StepRules.{StepRule}
-use Rattle.g4_leftrec.specs.declared.form.NumberedAlternative.{NumberedAlternative}
-use Rattle.g4_leftrec.specs.declared.form.RuleForm.{RuleForm}
-use Rattle.g4_leftrec.specs.declared.form.RuleForm.TheVariants.{AsWritten, LeftRecursive}
-use Rattle.g4_leftrec.specs.declared.form.FormedRule.{FormedRule}
 use Rattle.g4_leftrec.specs.OwnCalls.{LastSelf, Part, before_self, is_left_recursive, operators, primaries}
 use Rattle.g4_leftrec.specs.OwnSteps.{calls, is_silent}
 
@@ -52,28 +52,54 @@ abbrev pub operator_elements : ℕ → ℕ → Bool → Elements StepIn → Elem
 operator_elements k p right rest = then (atom (Level p)) (with_last_at k (operand_level p right) rest)
 
 -- an operator of rule k, which has n alternatives
-abbrev pub operator_form : ℕ → ℕ → Part StepIn → NumberedAlternative StepIn
-operator_form k n x = record { number = x.number; elements = operator_elements k (precedence n x.number) x.right x.elements }
+abbrev pub operator_form : ℕ → ℕ → Part StepIn → Elements StepIn
+operator_form k n x = operator_elements k (precedence n x.number) x.right x.elements
 
 -- a primary
-abbrev pub primary_form : ℕ → ℕ → Part StepIn → NumberedAlternative StepIn
-primary_form k n x = record { number = x.number; elements = with_last_at k (precedence n x.number) x.elements }
+abbrev pub primary_form : ℕ → ℕ → Part StepIn → Elements StepIn
+primary_form k n x = with_last_at k (precedence n x.number) x.elements
 
 -- the operators of rule k of these alternatives, and the primaries
-abbrev pub operator_forms : ℕ → List Written → List (NumberedAlternative StepIn)
+abbrev pub operator_forms : ℕ → List Written → List (Elements StepIn)
 operator_forms k alternatives = map (operator_form k (length alternatives)) (operators (calls k) alternatives)
 
-abbrev pub primary_forms : ℕ → List Written → List (NumberedAlternative StepIn)
+abbrev pub primary_forms : ℕ → List Written → List (Elements StepIn)
 primary_forms k alternatives = map (primary_form k (length alternatives)) (primaries (calls k) alternatives)
 
--- the form of rule k of these alternatives
-abbrev pub form_of : ℕ → List Written → RuleForm StepIn
-form_of k alternatives = cond (is_left_recursive (calls k) alternatives) (LeftRecursive (primary_forms k alternatives) (operator_forms k alternatives)) (AsWritten (map (λ a. a.elements) alternatives))
+-- the elements of one of the primaries, and then these
+abbrev pub after_primary : List (Elements StepIn) → Elements StepIn → Elements StepIn
+after_primary [] more = then (block None Once none) more
+after_primary (x ∷ []) more = onto x (then (atom Empty) more)
+after_primary (x ∷ y ∷ others) more = then (block None Once (either (x ∷ y ∷ others))) more
+
+-- operators, any number of times
+abbrev pub turns_of : List (Elements StepIn) → Elements StepIn
+turns_of operators = then (block None any_number (either operators)) empty
+
+-- the one alternative of rule k of these alternatives, where it is left-recursive
+abbrev pub loop_of : ℕ → List Written → Elements StepIn
+loop_of k alternatives = after_primary (primary_forms k alternatives) (turns_of (operator_forms k alternatives))
+
+-- an alternative without a flag and a label
+abbrev pub plain_alternative : Elements StepIn → Written
+plain_alternative x = record { right = false; elements = x; label = None }
 
 -- a rule with its number in the form in which it is laid
-abbrev pub formed : ℕ × StepRule → FormedRule StepIn
-formed x = record { name = x.1.name; form = form_of x.0 x.1.alternatives }
+abbrev pub formed : ℕ × StepRule → StepRule
+formed x = record { name = x.1.name; alternatives = cond (is_left_recursive (calls x.0) x.1.alternatives) (plain_alternative (loop_of x.0 x.1.alternatives) ∷ []) x.1.alternatives }
 
 -- the rules, which count from 1, in the forms in which they are laid
-abbrev pub rewritten : List StepRule → List (FormedRule StepIn)
+abbrev pub rewritten : List StepRule → List StepRule
 rewritten rules = map formed (enumerate_from 1 rules)
+
+-- the numbers of the alternatives with which rule k starts: all of them, or the primaries
+abbrev pub starts_of : ℕ → List Written → List ℕ
+starts_of k alternatives = cond (is_left_recursive (calls k) alternatives) (map (λ x. x.number) (primaries (calls k) alternatives)) (map (λ x. x.0) (enumerate_from 1 alternatives))
+
+-- what is written of the states of a rule with its number
+abbrev pub numbering_of : ℕ × StepRule → Numbering
+numbering_of x = record { starts = starts_of x.0 x.1.alternatives; count = length x.1.alternatives }
+
+-- the same of each rule
+abbrev pub numberings : List StepRule → List Numbering
+numberings rules = map numbering_of (enumerate_from 1 rules)

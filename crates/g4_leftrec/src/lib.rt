@@ -1,13 +1,12 @@
 // Left-recursive rules as primaries and operators: what calls the rule itself at an end is given a level of precedence.
 #![tactic(auto)]
 
-mod form;
+mod kinds;
 mod law;
 mod places;
 mod rewriting;
 #[cfg(test)]
 mod tests;
 
-pub use form::{FormedRule, NumberedAlternative, RuleForm};
 pub use law::{each_alternative_is_kept, only_left_recursive_rules_have_operators};
-pub use rewriting::rewrite;
+pub use rewriting::{Rewritten, rewrite};

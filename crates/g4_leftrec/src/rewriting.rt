@@ -1,211 +1,190 @@
-// Rules in the forms in which they are laid.
-ghost use Rattle.std.specs.Prelude.{◌≡◌, ◌<◌, ◌^◌, ◌+◌, ◌-◌, ◌++◌, [], ◌∷◌, IfOk, OnOk, Some, map, true};
-ghost use Rattle.std.specs.List.{filter_map, list_any};
+// Rules in the form in which they are laid.
+ghost use Rattle.std.specs.Prelude.{◌≡◌, ◌<◌, ◌^◌, ◌+◌, ◌-◌, [], ◌∷◌, IfOk, length, map};
+ghost use Rattle.std.specs.List.{enumerate_from, range_with_len};
 ghost use Rattle.g4_elements.specs.Elements.{Elements as Tree};
-ghost use Rattle.g4_elements.specs.Trees.{element_of, in_order};
-ghost use Rattle.g4_leftrec.specs.OwnCalls.{after_self, is_left_recursive, is_some, operator_of, primary_of};
+ghost use Rattle.g4_elements.specs.Marks.{onto};
+ghost use Rattle.g4_elements.specs.Trees.{alternative_of, element_of, in_order};
+ghost use Rattle.g4_source.specs.Rules.{alternatives_of};
+ghost use Rattle.g4_grammar.specs.StepRules.{CanBeLaid, CanBeRewritten};
+ghost use Rattle.g4_layout.specs.Numbers.{NumberingsFit};
+ghost use Rattle.g4_leftrec.specs.OwnCalls.{primaries};
 ghost use Rattle.g4_leftrec.specs.OwnSteps.{calls};
-ghost use Rattle.g4_leftrec.specs.Rewriting.{StepIn, form_of, formed, operand_level, operator_elements, operator_form, primary_form, primary_forms, operator_forms, rewritten, with_last_at};
+ghost use Rattle.g4_leftrec.specs.Rewriting.{StepIn, after_primary, formed, loop_of, numbering_of, numberings, plain_alternative, rewritten, turns_of};
 
-use crate::places::{begins_with_call, place_of_last_call};
-use crate::{FormedRule, NumberedAlternative, RuleForm};
-use g4_base::Sequence;
-use g4_elements::{Element, Elements};
-use g4_grammar::{Step, StepRule};
+use crate::kinds::{Kinds, is_left_recursive, kinds_of};
+use g4_base::{Place, Sequence, Text};
+use g4_elements::{Alternative, Element, Elements, Repeat, Suffix};
+use g4_grammar::{Numbering, Step, StepRule};
 use g4_source::{ParserRule, RuleAlternative};
 use g4_symbols::Symbols;
 use std::alloc::{AllocError, Global};
 
-/// The alternatives of a left-recursive rule so far, with their levels.
+/// Rules in the form in which they are laid, and the numbers of their alternatives.
 #[derive(Drop)]
-struct Parts {
-    primaries: Vec<NumberedAlternative<Step<Symbols>>>,
-    operators: Vec<NumberedAlternative<Step<Symbols>>>,
+pub struct Rewritten {
+    pub rules: Vec<StepRule>,
+    /// The numbering of each rule, in order.
+    pub numberings: Vec<Numbering>,
 }
 
-/// Whether some alternative begins with a plain call of the rule.
-fn is_left_recursive(rule: u32, alternatives: &[RuleAlternative<Step<Symbols>>]) -> bool
-    ensures { result ≡ is_left_recursive (calls rule) alternatives.now }
-{
-    for alternative in alternatives {
-        if begins_with_call(rule, alternative.elements.as_slice()) {
-            return true;
-        }
-    }
-    false
+/// A rule in the form in which it is laid, and its numbering.
+#[derive(Drop)]
+struct Laid {
+    rule: StepRule,
+    numbering: Numbering,
 }
 
-/// The elements, with the rule at this level where it is the last of them.
-fn with_last_at(
-    rule: u32,
-    level: u32,
-    mut elements: Vec<Element<Step<Symbols>>>,
-) -> Vec<Element<Step<Symbols>>>
-    ensures { in_order (map element_of result.items) ≡ with_last_at rule level (in_order (map element_of elements.items)) }
-{
-    match place_of_last_call(rule, elements.as_slice()) {
-        Some(place) => {
-            elements[place] = Element::Atom(Step::Call { rule, level });
-            elements
-        }
-        None => elements,
-    }
-}
-
-/// The level of the right operand of an operator of this precedence.
-fn operand_level(precedence: u32, right: bool) -> u32
-    requires { precedence < 2 ^ 32 - 1 }
-    ensures { result ≡ operand_level precedence right }
-{
-    if right { precedence } else { precedence + 1 }
-}
-
-/// The elements of an operator of this precedence, given those of its alternative.
-fn operator_elements(
-    rule: u32,
-    precedence: u32,
-    right: bool,
-    mut elements: Vec<Element<Step<Symbols>>>,
-) -> Elements<Step<Symbols>>
-    requires precedence { precedence < 2 ^ 32 - 1 }
-    requires begins { is_some (after_self (calls rule) (in_order (map element_of elements.items))) ≡ true }
-    ensures { (rest : Tree StepIn) → after_self (calls rule) (in_order (map element_of elements.items)) ≡ Some rest → result ≡ operator_elements rule precedence right rest }
-{
-    elements[0] = Element::Atom(Step::Level(precedence));
-    let level = operand_level(precedence, right);
-    Elements::new(with_last_at(rule, level, elements))
-}
-
-/// Adds the alternative of this number to the primaries or to the operators of a rule that has so many alternatives.
-fn add_alternative(
-    parts: &mut Parts,
-    rule: u32,
-    count: u32,
-    number: u32,
-    alternative: RuleAlternative<Step<Symbols>>,
-) -> Result<(), AllocError>
-    requires count { count < 2 ^ 32 - 1 }
-    requires number { 0 < number }
-    ensures primaries { OnOk result (parts.new.primaries.items ≡ parts.old.primaries.items ++ map (primary_form rule count) (filter_map (primary_of (calls rule)) ((number, alternative) ∷ []))) }
-    ensures operators { OnOk result (parts.new.operators.items ≡ parts.old.operators.items ++ map (operator_form rule count) (filter_map (operator_of (calls rule)) ((number, alternative) ∷ []))) }
-{
-    let RuleAlternative {
-        right,
-        elements,
-        ..
-    } = alternative;
-    let elements = elements.into_vec();
-    let precedence = (count + 1).saturating_sub(number);
-    if begins_with_call(rule, elements.as_slice()) {
-        let elements = operator_elements(rule, precedence, right, elements);
-        parts
-            .operators
-            .push(NumberedAlternative { number, elements })?;
-        return Ok(());
-    }
-    let elements = Elements::new(with_last_at(rule, precedence, elements));
-    parts
-        .primaries
-        .push(NumberedAlternative { number, elements })?;
-    Ok(())
-}
-
-/// The primaries and the operators of the rule.
-fn parts_of(
+/// The elements of one of the primaries, which are a block where there are several.
+fn primary_elements(
     alloc: Global,
-    rule: u32,
-    alternatives: Vec<RuleAlternative<Step<Symbols>>>,
-) -> Result<Parts, AllocError>
-    ensures primaries { IfOk result (λ parts. parts.primaries.items ≡ primary_forms rule alternatives.items) }
-    ensures operators { IfOk result (λ parts. parts.operators.items ≡ operator_forms rule alternatives.items) }
+    mut primaries: Vec<Alternative<Step<Symbols>>>,
+) -> Result<Vec<Element<Step<Symbols>>>, AllocError>
+    ensures { IfOk result (λ made. (more : Tree StepIn) → onto (in_order (map element_of made.items)) more ≡ after_primary (map alternative_of primaries.items) more) }
+{
+    if primaries.len() != 1 {
+        let block = Element::Block(None, Repeat::Once, primaries);
+        let elements = vec![in alloc; block]?;
+        return Ok(elements);
+    }
+    let Alternative { mut elements } = primaries.remove(0);
+    elements.push(Element::Atom(Step::Empty))?;
+    Ok(elements)
+}
+
+/// The operators, any number of times.
+#[tactic(auto, using(g4_elements::proofs::Trees::of_block))]
+fn turns_of(operators: Vec<Alternative<Step<Symbols>>>) -> Element<Step<Symbols>>
+    ensures { in_order (element_of result ∷ []) ≡ turns_of (map alternative_of operators.items) }
+{
+    let sign = Suffix {
+        place: Place::START,
+        greedy: true,
+    };
+    Element::Block(None, Repeat::Star(sign), operators)
+}
+
+/// The one alternative of a left-recursive rule: one of the primaries, and then operators any number of times.
+fn loop_of(
+    alloc: Global,
+    primaries: Vec<Alternative<Step<Symbols>>>,
+    operators: Vec<Alternative<Step<Symbols>>>,
+) -> Result<RuleAlternative<Step<Symbols>>, AllocError>
+    ensures { IfOk result (λ made. made ≡ plain_alternative (after_primary (map alternative_of primaries.items) (turns_of (map alternative_of operators.items)))) }
+{
+    let mut elements = primary_elements(alloc, primaries)?;
+    elements.push(turns_of(operators))?;
+    Ok(RuleAlternative {
+        right: false,
+        elements: Elements::new(elements),
+        label: None,
+    })
+}
+
+/// The numbers of so many alternatives, in order.
+#[tactic(auto, using(crate::proofs::Lists::range_more))]
+fn first_numbers(alloc: Global, count: u32) -> Result<Vec<u32>, AllocError>
+    requires { count < 2 ^ 32 - 1 }
+    ensures { IfOk result (λ numbers. numbers.items ≡ range_with_len 1 count) }
+{
+    let mut numbers = Vec::new(alloc);
+    for before in 0..count {
+        numbers.push(before + 1)?;
+    }
+    Ok(numbers)
+}
+
+/// How many alternatives there are, with an error where that and one are no numbers of 32 bits.
+fn count_of(alternatives: &[RuleAlternative<Step<Symbols>>]) -> Result<u32, AllocError>
+    ensures count { IfOk result (λ count. count ≡ length alternatives.now) }
+    ensures small { IfOk result (λ count. count < 2 ^ 32 - 1) }
 {
     if alternatives.len() >= u32::MAX as usize {
         return Err(AllocError);
     }
-    let count = alternatives.len() as u32;
-    let mut parts = Parts {
-        primaries: Vec::new(alloc),
-        operators: Vec::new(alloc),
-    };
-    let mut number = 0u32;
-    for alternative in alternatives {
-        let Some(next) = number.checked_add(1) else {
-            return Err(AllocError);
-        };
-        number = next;
-        add_alternative(&mut parts, rule, count, number, alternative)?;
-    }
-    Ok(parts)
+    Ok(alternatives.len() as u32)
 }
 
-/// The elements of the alternatives, in order.
-fn bodies_of(
-    alloc: Global,
-    alternatives: Vec<RuleAlternative<Step<Symbols>>>,
-) -> Result<Vec<Elements<Step<Symbols>>>, AllocError>
-    ensures { IfOk result (λ bodies. bodies.items ≡ map (λ a. a.elements) alternatives.items) }
-{
-    let mut bodies = Vec::new(alloc);
-    for alternative in alternatives {
-        bodies.push(alternative.elements)?;
-    }
-    Ok(bodies)
-}
-
-/// The form of the rule.
-fn form_of(
-    alloc: Global,
-    rule: u32,
-    alternatives: Vec<RuleAlternative<Step<Symbols>>>,
-) -> Result<RuleForm<Step<Symbols>>, AllocError>
-    ensures { IfOk result (λ form. form ≡ form_of rule alternatives.items) }
-{
-    if is_left_recursive(rule, alternatives.as_slice()) {
-        let Parts {
-            primaries,
-            operators,
-        } = parts_of(alloc, rule, alternatives)?;
-        return Ok(RuleForm::LeftRecursive {
-            primaries: Sequence::new(primaries),
-            operators: Sequence::new(operators),
-        });
-    }
-    let bodies = bodies_of(alloc, alternatives)?;
-    Ok(RuleForm::AsWritten(Sequence::new(bodies)))
-}
-
-/// The rule of this number in the form in which it is laid.
-fn formed(
+/// The left-recursive rule of this number and these alternatives, so many of them, as a loop over its operators, and its numbering.
+fn looped(
     alloc: Global,
     number: u32,
-    rule: StepRule,
-) -> Result<FormedRule<Step<Symbols>>, AllocError>
-    ensures { IfOk result (λ made. made ≡ formed (number, rule)) }
+    count: u32,
+    name: Text,
+    alternatives: Vec<RuleAlternative<Step<Symbols>>>,
+) -> Result<Laid, AllocError>
+    requires count { count ≡ length alternatives.items }
+    requires small { count < 2 ^ 32 - 1 }
+    ensures rule { IfOk result (λ made. made.rule ≡ record { name = name; alternatives = plain_alternative (loop_of number alternatives.items) ∷ [] }) }
+    ensures numbering { IfOk result (λ made. made.numbering ≡ record { starts = map (λ x. x.number) (primaries (calls number) alternatives.items); count = count }) }
 {
-    let ParserRule { name, alternatives } = rule;
-    let form = form_of(alloc, number, alternatives.into_vec())?;
-    Ok(FormedRule { name, form })
+    let Kinds {
+        primaries,
+        operators,
+        starts,
+    } = kinds_of(alloc, number, count, alternatives)?;
+    let only = loop_of(alloc, primaries, operators)?;
+    let alternatives = vec![in alloc; only]?;
+    Ok(Laid {
+        rule: ParserRule {
+            name,
+            alternatives: Sequence::new(alternatives),
+        },
+        numbering: Numbering {
+            starts: Sequence::new(starts),
+            count,
+        },
+    })
 }
 
-/// The rules, which count from 1, in the forms in which they are laid: a rule with an alternative that begins with a plain call of
-/// the rule itself becomes its primaries and operators, and any other stays as it is written.
+/// The rule of this number in the form in which it is laid, and its numbering.
+fn formed(alloc: Global, number: u32, rule: StepRule) -> Result<Laid, AllocError>
+    ensures rule { IfOk result (λ made. made.rule ≡ formed (number, rule)) }
+    ensures numbering { IfOk result (λ made. made.numbering ≡ numbering_of (number, rule)) }
+    ensures small { IfOk result (λ made. made.numbering.count + 1 < 2 ^ 32) }
+{
+    let ParserRule { name, alternatives } = rule;
+    let alternatives = alternatives.into_vec();
+    let count = count_of(alternatives.as_slice())?;
+    if is_left_recursive(number, alternatives.as_slice()) {
+        return looped(alloc, number, count, name, alternatives);
+    }
+    let starts = first_numbers(alloc, count)?;
+    Ok(Laid {
+        rule: ParserRule {
+            name,
+            alternatives: Sequence::new(alternatives),
+        },
+        numbering: Numbering {
+            starts: Sequence::new(starts),
+            count,
+        },
+    })
+}
+
+/// The rules, which count from 1, in the form in which they are laid, with their numberings: a rule with an alternative that begins
+/// with a plain call of the rule itself becomes a loop over its operators, and any other stays as it is written.
 ///
 /// # Errors
 /// No memory, also where there are more rules, or more alternatives of a rule and one, than numbers of 32 bits.
-pub fn rewrite(
-    alloc: Global,
-    rules: Vec<StepRule>,
-) -> Result<Vec<FormedRule<Step<Symbols>>>, AllocError>
-    ensures { IfOk result (λ made. made.items ≡ rewritten rules.items) }
+pub fn rewrite(alloc: Global, rules: Vec<StepRule>) -> Result<Rewritten, AllocError>
+    ensures rules { IfOk result (λ made. made.rules.items ≡ rewritten rules.items) }
+    ensures numberings { IfOk result (λ made. made.numberings.items ≡ numberings rules.items) }
+    ensures laid { CanBeRewritten rules.items → IfOk result (λ made. CanBeLaid made.rules.items) }
+    ensures fit { CanBeRewritten rules.items → IfOk result (λ made. NumberingsFit (map alternatives_of made.rules.items) made.numberings.items) }
 {
-    let mut made = Vec::new(alloc);
+    let mut made = Rewritten {
+        rules: Vec::new(alloc),
+        numberings: Vec::new(alloc),
+    };
     let mut number = 0u32;
     for rule in rules {
         let Some(next) = number.checked_add(1) else {
             return Err(AllocError);
         };
         number = next;
-        made.push(formed(alloc, number, rule)?)?;
+        let laid = formed(alloc, number, rule)?;
+        made.rules.push(laid.rule)?;
+        made.numberings.push(laid.numbering)?;
     }
     Ok(made)
 }

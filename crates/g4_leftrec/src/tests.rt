@@ -1,8 +1,8 @@
-// Rules of a few alternatives, with forms worked out by hand from the table of kinds, and large ones.
-use crate::{FormedRule, NumberedAlternative, RuleForm, rewrite};
+// Rules of a few alternatives, with what is laid of them worked out by hand from the table of kinds, and large ones.
+use crate::rewrite;
 use g4_base::{Place, Sequence, Text};
 use g4_elements::{Alternative, Element, Elements, Repeat, Suffix};
-use g4_grammar::{Step, StepRule};
+use g4_grammar::{Numbering, Step, StepRule};
 use g4_source::{ParserRule, RuleAlternative};
 use g4_symbols::Symbols;
 use std::alloc::{AllocError, Global};
@@ -74,17 +74,18 @@ fn push_step(alloc: Global, shown: &mut String, step: &Step<Symbols>) -> Result<
         Step::Predicate(_) => String::from_str(alloc, "?")?,
         Step::Level(level) => format!(in alloc; "<{level}>")?,
         Step::Action => String::from_str(alloc, "!")?,
+        Step::Empty => String::from_str(alloc, "_")?,
     };
     shown.push_str(text.as_str())
 }
 
-/// Shows elements: calls with their levels, tests of levels in `<` and `>`, and each block as `#`.
-fn push_elements(
+/// Shows elements of a block: calls with their levels, tests of levels in `<` and `>`, the empty step as `_`, and a block as `#`.
+fn push_inner(
     alloc: Global,
     shown: &mut String,
-    elements: &Elements<Step<Symbols>>,
+    elements: &[Element<Step<Symbols>>],
 ) -> Result<(), AllocError> {
-    for element in elements.as_slice() {
+    for element in elements {
         match element {
             Element::Atom(step) => push_step(alloc, shown, step)?,
             Element::Block(..) => shown.push('#')?,
@@ -93,101 +94,127 @@ fn push_elements(
     Ok(())
 }
 
-/// Shows alternatives by their numbers.
-fn push_numbered(
+/// Shows the alternatives of a block, with `|` between them.
+fn push_sides(
     alloc: Global,
     shown: &mut String,
-    alternatives: &[NumberedAlternative<Step<Symbols>>],
+    alternatives: &[Alternative<Step<Symbols>>],
 ) -> Result<(), AllocError> {
+    let mut first = true;
     for alternative in alternatives {
-        let number = alternative.number;
-        shown.push_str(format!(in alloc; " {number}:")?.as_str())?;
-        push_elements(alloc, shown, &alternative.elements)?;
+        if !first {
+            shown.push('|')?;
+        }
+        first = false;
+        push_inner(alloc, shown, alternative.elements.as_slice())?;
     }
     Ok(())
 }
 
-fn push_written(
+/// How a repeat is shown.
+fn sign(repeat: &Repeat) -> &'static str {
+    match repeat {
+        Repeat::Once => "",
+        Repeat::Optional(_) => "?",
+        Repeat::Star(sign) => { if sign.greedy { "*" } else { "*?" } }
+        Repeat::Plus(_) => "+",
+    }
+}
+
+/// Shows the elements of an alternative of a rule: a block as its alternatives in brackets, with its sign.
+fn push_elements(
     alloc: Global,
     shown: &mut String,
-    alternatives: &[Elements<Step<Symbols>>],
+    elements: &Elements<Step<Symbols>>,
 ) -> Result<(), AllocError> {
-    for elements in alternatives {
-        shown.push(' ')?;
-        push_elements(alloc, shown, elements)?;
+    for element in elements.as_slice() {
+        match element {
+            Element::Atom(step) => push_step(alloc, shown, step)?,
+            Element::Block(_, repeat, alternatives) => {
+                shown.push('[')?;
+                push_sides(alloc, shown, alternatives)?;
+                shown.push(']')?;
+                shown.push_str(sign(repeat))?;
+            }
+        }
     }
     Ok(())
 }
 
-/// Shows a rule: as it is written, or its primaries, `;` and its operators.
-fn shown(alloc: Global, rule: &FormedRule<Step<Symbols>>) -> Result<String, AllocError> {
+/// Shows a rule: its name and its alternatives.
+fn shown(alloc: Global, rule: &StepRule) -> Result<String, AllocError> {
     let mut shown = String::from_str(alloc, rule.name.as_str())?;
-    match &rule.form {
-        RuleForm::AsWritten(alternatives) => {
-            push_written(alloc, &mut shown, alternatives.as_slice())?;
-        }
-        RuleForm::LeftRecursive {
-            primaries,
-            operators,
-        } => {
-            push_numbered(alloc, &mut shown, primaries.as_slice())?;
-            shown.push(';')?;
-            push_numbered(alloc, &mut shown, operators.as_slice())?;
-        }
+    for alternative in rule.alternatives.as_slice() {
+        shown.push(' ')?;
+        push_elements(alloc, &mut shown, &alternative.elements)?;
     }
     Ok(shown)
 }
 
-/// The rules of the words of a text, rewritten and shown, with `/` between them.
+/// Shows a numbering: the numbers with which the rule starts, and how many alternatives it has.
+fn numbers(alloc: Global, numbering: &Numbering) -> Result<String, AllocError> {
+    let mut shown = String::from_str(alloc, " =")?;
+    for number in numbering.starts.as_slice() {
+        shown.push_str(format!(in alloc; " {number}")?.as_str())?;
+    }
+    let count = numbering.count;
+    shown.push_str(format!(in alloc; " of {count}")?.as_str())?;
+    Ok(shown)
+}
+
+/// The rules of the words of a text, rewritten and shown, each with its numbering and `/` after it.
 fn rewritten(alloc: Global, text: &str) -> Result<String, AllocError> {
     let mut rules = Vec::new(alloc);
     for word in text.split(' ') {
         rules.push(rule(alloc, word)?)?;
     }
+    let made = rewrite(alloc, rules)?;
     let mut all = String::new(alloc);
-    for rule in &rewrite(alloc, rules)? {
+    for (rule, numbering) in made.rules.iter().zip(&made.numberings) {
         all.push_str(shown(alloc, rule)?.as_str())?;
+        all.push_str(numbers(alloc, numbering)?.as_str())?;
         all.push('/')?;
     }
     Ok(all)
 }
 
-static TABLE: [(&str, &str, &str); 15] = [
+static TABLE: [(&str, &str, &str); 16] = [
     (
         "binary operators and primaries",
         "e.e|e.e|.e.|.",
-        "r 3:.e0. 4:.; 1:<4>.e5 2:<3>.e4/",
+        "r [.e0.|.][<4>.e5|<3>.e4]* = 3 4 of 4/",
     ),
     (
         "right in one alternative only",
         ">e.e|e.e|.",
-        "r 3:.; 1:<3>.e3 2:<2>.e3/",
+        "r ._[<3>.e3|<2>.e3]* = 3 of 3/",
     ),
     (
         "a prefix between two operators",
         "e.e|.e|e.e|.",
-        "r 2:.e3 4:.; 1:<4>.e5 3:<2>.e3/",
+        "r [.e3|.][<4>.e5|<2>.e3]* = 2 4 of 4/",
     ),
-    ("a suffix", "e.|.", "r 2:.; 1:<2>./"),
-    ("three operands", "e.e.e|.", "r 2:.; 1:<2>.e0.e3/"),
-    ("nothing between two", "ee|.", "r 2:.; 1:<2>e3/"),
-    ("the rule alone", "e|.", "r 2:.; 1:<2>/"),
+    ("a suffix", "e.|.", "r ._[<2>.]* = 2 of 2/"),
+    ("three operands", "e.e.e|.", "r ._[<2>.e0.e3]* = 2 of 2/"),
+    ("nothing between two", "ee|.", "r ._[<2>e3]* = 2 of 2/"),
+    ("the rule alone", "e|.", "r ._[<2>]* = 2 of 2/"),
     (
         "actions at the end",
         "e.e!?|.e!|e.!|.!",
-        "r 2:.e3! 4:.!; 1:<4>.e5!? 3:<2>.!/",
+        "r [.e3!|.!][<4>.e5!?|<2>.!]* = 2 4 of 4/",
     ),
-    ("an action first", "e.|!e|.", "r 2:!e2 3:.; 1:<3>./"),
-    ("actions alone", "e!|!|", "r 2:! 3:; 1:<3>!/"),
-    ("no primary", "e.e", "r; 1:<1>.e2/"),
-    ("a block first", "e(.e|.", "r #.e0 ./"),
-    ("a sign first", "e~.|.", "r #. ./"),
-    ("a block last", "e.|.e(", "r 2:#; 1:<2>./"),
+    ("an action first", "e.|!e|.", "r [!e2|.][<3>.]* = 2 3 of 3/"),
+    ("actions alone", "e!|!|", "r [!|][<3>!]* = 2 3 of 3/"),
+    ("no primary", "e.e", "r [][<1>.e2]* = of 1/"),
+    ("a block first", "e(.e|.", "r [e0].e0 . = 1 2 of 2/"),
+    ("a sign first", "e~.|.", "r [e0]?. . = 1 2 of 2/"),
+    ("a block last", "e.|.e(", "r [.e0]_[<2>.]* = 2 of 2/"),
     (
         "calls of other rules",
         "f.f|e.f|. f.e|.",
-        "r 1:f0.f0 3:.; 2:<2>.f0/r 2:.; 1:<2>.e0/",
+        "r [f0.f0|.][<2>.f0]* = 1 3 of 3/r ._[<2>.e0]* = 2 of 2/",
     ),
+    ("nothing to rewrite", ".e.", "r .e0. = 1 of 1/"),
 ];
 
 #[test]
@@ -211,12 +238,12 @@ fn repeated(alloc: Global, text: &str, count: u32) -> Result<String, AllocError>
 #[test]
 fn many_alternatives(rt: HostRuntime) -> Result<(), Fail> {
     let alloc = rt.alloc();
-    let mut text = repeated(alloc, "e.e|", 4_999)?;
-    text.push('.')?;
+    let mut text = repeated(alloc, "e.e|", 1_998)?;
+    text.push_str(".|.")?;
     let found = rewritten(alloc, text.as_str())?;
     let found = found.as_str();
-    assert!(rt; found.starts_with("r 5000:.; 1:<5000>.e5001 2:<4999>.e5000 "));
-    assert!(rt; found.ends_with(" 4998:<3>.e4 4999:<2>.e3/"));
+    assert!(rt; found.starts_with("r [.|.][<2000>.e2001|<1999>.e2000|"));
+    assert!(rt; found.ends_with("|<4>.e5|<3>.e4]* = 1999 2000 of 2000/"));
     Ok(())
 }
 
@@ -230,8 +257,8 @@ fn long_alternative(rt: HostRuntime) -> Result<(), Fail> {
     let text = format!(in alloc; "e{body}{ending}|.")?;
     let found = rewritten(alloc, text.as_str())?;
     let found = found.as_str();
-    assert_eq!(rt; found.len(), 80_013);
-    assert!(rt; found.starts_with("r 2:.; 1:<2>.e0.e0.e0"));
-    assert!(rt; found.ends_with("!!!/"));
+    assert_eq!(rt; found.len(), 80_020);
+    assert!(rt; found.starts_with("r ._[<2>.e0.e0.e0"));
+    assert!(rt; found.ends_with("!!!]* = 2 of 2/"));
     Ok(())
 }

@@ -1,8 +1,4 @@
-use Rattle.std.proofs.Common.{ℕ, ◌-◌, List, arith, refl, ap}
-use Rattle.std.proofs.Math.ListN.{set}
-use Rattle.std.proofs.lemmas.List.{length-set}
-use Rattle.g4_net.specs.Network.{start_of, end_of}
-use Rattle.g4_net.specs.declared.network.State.TheVariants.{Empty}
+use Rattle.std.proofs.Common.{arith, refl, ap}
 use Rattle.g4_layout.specs.Size.{states_in_order}
 use Rattle.g4_build.specs.Trees.{run_of}
 use Rattle.g4_build.proofs.Trees.{body_run}
@@ -22,5 +18,4 @@ lay_run-requires-clause-room g c =
 pub returns : goal.returns
 returns g c =
     let e = body_run g.A.Atom.step c.args.alternative.now.elements c.as_slice.result.now c.as_slice.ensures in
-    rw (← e) (lone_rule _ c.lay_run.new.states.items _ _ _ _ c.in_ok-last.last (c.len.result - c.len-2.result) (run_of g.A.Atom.step c.as_slice.result.now) c.requires.rule c.requires.numbered c.in_ok-last.ensures refl
-    (omega (arith, c.len.ensures, c.len-2.ensures, c.requires.numbered, c.in_ok-last.ensures.size, length-set c.lay_run.new.states.items c.in_ok-last.last (Empty (end_of c.args.rule)), c.lay_run.new.states.ok.0, c.args.written.now.ok.0)) (ap (λ (w : List ℕ). set w (start_of c.args.rule) 1) c.in_ok-pad.ensures))
+    rw (← e) (lone_rule _ c.lay_run.new.states.items _ _ _ (run_of g.A.Atom.step c.as_slice.result.now) c.requires.rule c.in_ok-last.ensures refl)

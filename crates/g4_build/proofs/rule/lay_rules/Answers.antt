@@ -1,9 +1,10 @@
-use Rattle.std.proofs.Common.{◌≡◌, ◌+◌, drop, sum_by, arith, refl, length, ap}
+use Rattle.std.proofs.Common.{◌≡◌, ℕ, ◌+◌, ◌++◌, ◌∷◌, [], drop, sum_by, arith, refl, length, ap, sym, ◌∙◌}
+use Rattle.std.proofs.lemmas.List.{append-nil}
 use Rattle.std.proofs.lemmas.List.Sums.{sum_by-cons}
 use Rattle.g4_layout.specs.Size.{states_of_rule}
 use Rattle.g4_build.specs.Trees.{bodies_over, rules_over}
 use Rattle.g4_build.proofs.Trees.{next_tree, no_tree, length_trees}
-use Rattle.g4_build.proofs.RulesLaid.{more_have}
+use Rattle.g4_build.proofs.RulesLaid.{more_have, next_end}
 use Rattle.g4_build.proofs.rule.lay_rules.Goals as goal
 
 pub lay_rule-requires-clause-full : goal.lay_rule-requires-clause-full
@@ -24,12 +25,16 @@ loop-rule-preserved g c =
     record {
       counted = omega (arith, c.loop-rule.invariant.counted);
       full = (rw e at c.loop-rule.invariant.full).1;
-      laid = more_have _ _ _ _ _ _ _ _ _ _ _ (omega (arith, c.loop-rule.invariant.counted)) refl (omega (arith, c.loop-rule.invariant.counted, length_trees g.A.Atom.step c.args.rules.now))
+      laid = more_have _ _ _ _ _ _ _ _ (omega (arith, c.loop-rule.invariant.counted)) refl (omega (arith, c.loop-rule.invariant.counted, length_trees g.A.Atom.step c.args.rules.now))
           (omega (arith, c.loop-rule.invariant.counted, c.requires.heads)) (rw e at c.loop-rule.invariant.laid) c.in_ok-lay_rule.ensures;
+      ends = next_end _ _ _ _ _ _ _ (rw e at c.loop-rule.invariant.ends) c.in_ok-lay_rule.ensures.size (c.in_ok-push.ensures.items ∙ ap (λ (m : ℕ). c.loop-rule.ends.items ++ m ∷ []) (omega (arith, c.len.ensures, c.lay_rule.new.states.ok.0)));
     }
 
 pub returns : goal.returns
 returns g c =
     let done = no_tree g.A.Atom.step c.args.rules.now c.loop-rule.rule-index c.loop-rule-test.false in
     let counted : c.loop-rule.number ≡ length c.args.rules.now + 1 = omega (arith, c.loop-rule.invariant.counted, c.loop-rule.auto.rule-index-end, c.loop-rule-test.false) in
-    rw (done, counted) at c.loop-rule.invariant.laid
+    record {
+      laid = rw (done, counted) at c.loop-rule.invariant.laid;
+      ends = sym (append-nil c.loop-rule.ends.items) ∙ rw done at c.loop-rule.invariant.ends;
+    }
