@@ -1,12 +1,12 @@
 -- Where the alternatives of rules begin, and how they lie from there.
-use Rattle.std.proofs.Common.{◌≡◌, ℕ, zero, suc, ◌+◌, List, [], ◌∷◌, Some, refl, sym, ◌∙◌, ap, subst, arith, slice_get}
+use Rattle.std.proofs.Common.{◌≡◌, ℕ, zero, suc, ◌+◌, List, [], ◌∷◌, Some, refl, sym, ap, subst, arith, slice_get}
 use Rattle.std.proofs.lemmas.Option.{slice_get_within}
 use Rattle.g4_elements.specs.Elements.{Elements, Alternatives, none, or, either}
 use Rattle.g4_grammar.specs.declared.step.Step.{Step}
 use Rattle.g4_net.specs.declared.network.Network.{Network}
 use Rattle.g4_net.specs.declared.network.State.TheVariants.{Decision, End, Empty}
-use Rattle.g4_net.specs.Network.{state_at, start_of, end_of, written_at, IsFirst}
-use Rattle.g4_layout.specs.Layout.{AllLeadTo, AreWritten, LieInOrder, LieSideBySide, no_other, another, LiesAsRule, of_one, of_several, IsNetworkOf}
+use Rattle.g4_net.specs.Network.{state_at, start_of, end_of, IsFirst}
+use Rattle.g4_layout.specs.Layout.{AllLeadTo, LieInOrder, LieSideBySide, no_other, another, LiesAsRule, of_one, of_several, IsNetworkOf}
 use Rattle.g4_layout.proofs.Rules.{rule_laid}
 use Rattle.g4_layout.proofs.Spans.{one_first}
 use Rattle.g4_walks.specs.Alternatives.{each_of, IsAlternative, BeginsAt}
@@ -39,48 +39,38 @@ pub record LiesTo {L : Type 0} (net : Network L) (x : Elements (Step L)) (a t : 
 
 module _ {L : Type 0} where
   -- body j of those side by side, which lead to t
-  body_at : {net : Network L} {xs : Alternatives (Step L)} {firsts lasts : List ℕ} {n m : ℕ} → LieSideBySide net xs firsts lasts n m → (t : ℕ) → AllLeadTo net lasts t → (j a : ℕ) → slice_get firsts j ≡ Some a →
+  pub body_at : {net : Network L} {xs : Alternatives (Step L)} {firsts lasts : List ℕ} {n m : ℕ} → LieSideBySide net xs firsts lasts n m → (t : ℕ) → AllLeadTo net lasts t → (j a : ℕ) → slice_get firsts j ≡ Some a →
       (x : Elements (Step L)) × (slice_get (each_of xs) j ≡ Some x) × LiesTo net x a t
   body_at (no_other n) t leads j a is = absurd (let k : ⊥ = cc in k)
   body_at {net} (another x xs last n k m firsts lasts l ls) t leads zero a is =
       let same : n ≡ a = cc in (x, refl, subst (λ (q : ℕ). LiesTo net x q t) same (record { last = last; from = n + 1; upto = k; lies = l; leads = leads.0 }))
   body_at (another x xs last n k m firsts lasts l ls) t leads (suc j) a is = body_at ls t leads.1 j a is
 
-  -- the number of an alternative is written where it begins
-  written_first : (net : Network L) (i : ℕ) (firsts : List ℕ) → AreWritten net i firsts → (j a : ℕ) → slice_get firsts j ≡ Some a → written_at net a ≡ i + j
-  written_first net i [] w j a is = absurd (let k : ⊥ = cc in k)
-  written_first net i (f ∷ fs) w zero a is = let same : f ≡ a = cc in let none_more : i ≡ i + 0 = omega arith in subst (λ (q : ℕ). written_at net q ≡ i + 0) same (w.0 ∙ none_more)
-  written_first net i (f ∷ fs) w (suc j) a is = let next : i + 1 + j ≡ i + suc j = omega arith in written_first net (i + 1) fs w.1 j a is ∙ next
-
-  -- Alternative i of the rule begins at a: there is such an alternative, it lies from there to the rule's end, and its number is
-  -- written there.
+  -- Alternative i of the rule begins at a: there is such an alternative, and it lies from there to the rule's end.
   pub record Begun (net : Network L) (xs : Alternatives (Step L)) (rule i a : ℕ) : Type 0 where
     pub alternative : Elements (Step L)
     pub is : IsAlternative xs i alternative
     pub lies : LiesTo net alternative a (end_of rule)
-    pub written : written_at net a ≡ i
 
   -- of several alternatives
   several : {net : Network L} {rule i a n m : ℕ} {xs : Alternatives (Step L)} (firsts lasts : List ℕ) → state_at net (start_of rule) ≡ Some (Decision firsts) → LieSideBySide net xs firsts lasts n m →
-      AllLeadTo net lasts (end_of rule) → AreWritten net 1 firsts → IsFirst net (start_of rule) i a → Begun net xs rule i a
-  several {net} {rule} {i} {a} firsts lasts is l leads w (targets, k, found, at, number) =
+      AllLeadTo net lasts (end_of rule) → IsFirst net (start_of rule) i a → Begun net xs rule i a
+  several {net} {rule} {i} {a} firsts lasts is l leads (targets, k, found, at, number) =
       let same : targets ≡ firsts = cc in
       let here : slice_get firsts k ≡ Some a = subst (λ (ts : List ℕ). slice_get ts k ≡ Some a) same at in
       let b = body_at l (end_of rule) leads k a here in
-      let next : 1 + k ≡ i = omega arith in
-      record { alternative = b.0; is = (k, b.1, number); lies = b.2; written = written_first net 1 firsts w k a here ∙ next }
+      record { alternative = b.0; is = (k, b.1, number); lies = b.2 }
 
   -- where an alternative of a rule begins
   begun : {net : Network L} {rule i a n m : ℕ} {xs : Alternatives (Step L)} → LiesAsRule net rule xs n m → BeginsAt net rule xs i a → Begun net xs rule i a
-  begun {net} {i = i} {a = a} (of_one rule last n m x l leads w) (first, start) = record {
+  begun {net} {i = i} {a = a} (of_one rule last n m x l leads) (first, start) = record {
     alternative = x;
-    is = (0, refl, omega arith);
+    is = (0, refl, omega (arith, first));
     lies = record { last = last; from = n; upto = m; lies = subst (λ (q : ℕ). LieInOrder net x q last n m) (sym start) l; leads = leads };
-    written = ap (written_at net) start ∙ w ∙ sym first;
   }
-  begun (of_several rule n m none firsts lasts two is l leads w z) b = absurd b
-  begun (of_several rule n m (or x none) firsts lasts two is l leads w z) b = let one = one_first l in absurd (omega arith)
-  begun (of_several rule n m (or x (or y more)) firsts lasts two is l leads w z) b = several firsts lasts is l leads w b
+  begun (of_several rule n m none firsts lasts two is l leads) b = absurd b
+  begun (of_several rule n m (or x none) firsts lasts two is l leads) b = let one = one_first l in absurd (omega arith)
+  begun (of_several rule n m (or x (or y more)) firsts lasts two is l leads) b = several firsts lasts is l leads b
 
 module _ {L : Type 0} (rules : List (Alternatives (Step L))) (net : Network L) (network : IsNetworkOf rules net) (k : ℕ) (xs : Alternatives (Step L)) (is : slice_get rules k ≡ Some xs) where
   -- rule k as it lies

@@ -5,7 +5,21 @@ mod Along
 pub mod Beginnings
 pub mod Words
 mod Targets
-pub mod Starts
-pub mod Decided
-pub mod Numbers
 mod Example
+mod ExampleLoop
+mod LevelFree
+mod LastCall
+mod Starting
+mod Placed
+mod Shapes
+mod Spelling
+mod RuleLevels
+mod RuleTargets
+mod Turning
+mod Items
+mod KnownStarts
+mod OfRules
+mod RuleStarts
+mod RuleEdges
+mod Operators
+pub mod Rewritten

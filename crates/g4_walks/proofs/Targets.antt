@@ -9,7 +9,7 @@ use Rattle.g4_net.specs.declared.network.State.{State}
 use Rattle.g4_net.specs.declared.network.State.TheVariants.{Decision, End, Edge, Call, Predicate, Level, Action, Empty}
 use Rattle.g4_net.specs.Leads.{IsTarget}
 use Rattle.g4_net.specs.Network.{state_at}
-use Rattle.g4_layout.specs.Layout.{AllLeadTo, with_exit, Lies, an_edge, a_call, a_predicate, a_level, an_action, one_alternative, a_block, an_optional, a_star, a_plus_of_one, a_plus, LieInOrder, no_more, one_more, LieSideBySide, no_other, another}
+use Rattle.g4_layout.specs.Layout.{AllLeadTo, with_exit, Lies, an_edge, a_call, a_predicate, a_level, an_action, an_empty, one_alternative, a_block, an_optional, a_star, a_plus_of_one, a_plus, LieInOrder, no_more, one_more, LieSideBySide, no_other, another}
 use Rattle.g4_layout.proofs.Ends.{with_exit_cases, at_or_below, at_two}
 use Rattle.g4_layout.proofs.Spans.{Spans, lies_spans, in_order_spans, side_by_side_up, firsts_between, member_cases}
 
@@ -72,6 +72,7 @@ module _ {L : Type 0} (net : Network L) (Chosen Allowed : ℕ → Type 0) where
     first_leads (a_predicate k s n is) chosen allowed = inr (leads_by s (Some (Predicate k n)) is (allowed n (omega arith) (omega arith)))
     first_leads (a_level q s n is) chosen allowed = inr (leads_by s (Some (Level q n)) is (allowed n (omega arith) (omega arith)))
     first_leads (an_action s n is) chosen allowed = inr (leads_by s (Some (Action n)) is (allowed n (omega arith) (omega arith)))
+    first_leads (an_empty s n is) chosen allowed = inr (leads_by s (Some (Empty n)) is (allowed n (omega arith) (omega arith)))
     first_leads (one_alternative name x s t n m l) chosen allowed = in_order_first l chosen allowed
     first_leads (a_block name xs firsts lasts s n m two is l a) chosen allowed = inr (decision_leads s is l (λ q from below. chosen q from (omega arith)))
     first_leads (an_optional name sign xs firsts lasts s n m is l a exit) chosen allowed =
@@ -103,6 +104,7 @@ module _ {L : Type 0} (net : Network L) (Chosen Allowed : ℕ → Type 0) where
     within_leads (a_predicate k s n is) chosen allowed s_allowed p from below = inl (omega arith)
     within_leads (a_level q s n is) chosen allowed s_allowed p from below = inl (omega arith)
     within_leads (an_action s n is) chosen allowed s_allowed p from below = inl (omega arith)
+    within_leads (an_empty s n is) chosen allowed s_allowed p from below = inl (omega arith)
     within_leads (one_alternative name x s t n m l) chosen allowed s_allowed p from below = within_in_order l chosen allowed s_allowed p from below
     within_leads (a_block name xs firsts lasts s n m two is l a) chosen allowed s_allowed p from below =
         let up = side_by_side_up l in

@@ -1,10 +1,15 @@
 -- The alternatives of a rule by their numbers, and where they begin.
-use Rattle.std.specs.Prelude.{◌≡◌, ◌≤◌, ℕ, ◌+◌, List, [], ◌∷◌, Some, slice_get}
+use Rattle.std.specs.Prelude.{◌≡◌, ◌≤◌, ℕ, ◌+◌, List, [], ◌∷◌, Some, slice_get, length}
 use Rattle.g4_elements.specs.Elements.{Elements, Alternatives, none, or}
+use Rattle.g4_source.specs.Rules.{alternatives_of}
+use Rattle.g4_grammar.specs.StepRules.{StepRule}
+use Rattle.g4_grammar.specs.declared.step.Numbering.{Numbering}
 use Rattle.g4_grammar.specs.declared.step.Step.{Step}
 use Rattle.g4_net.specs.declared.network.Network.{Network}
-use Rattle.g4_net.specs.Network.{start_of, IsFirst}
-use Rattle.g4_layout.specs.Decisions.{number_of}
+use Rattle.g4_net.specs.declared.network.State.TheVariants.{Level}
+use Rattle.g4_net.specs.Network.{state_at, start_of, IsFirst}
+use Rattle.g4_layout.specs.Numbers.{added_numbering}
+use Rattle.g4_leftrec.specs.Rewriting.{numberings}
 
 -- the alternatives as a list
 abbrev pub each_of : {A : Type 0} → Alternatives A → List (Elements A)
@@ -21,6 +26,19 @@ BeginsAt net rule none i p = ⊥
 BeginsAt net rule (or x none) i p = (i ≡ 1) × (p ≡ start_of rule)
 BeginsAt net rule (or x (or y more)) i p = IsFirst net (start_of rule) i p
 
--- the start of a rule of several alternatives, where a decision between these is
-abbrev pub IsOuterStart : {L : Type 0} → List (Alternatives (Step L)) → ℕ → Type 0
-IsOuterStart {L = L} rules p = (k : ℕ) × (xs : Alternatives (Step L)) × (slice_get rules k ≡ Some xs) × (2 ≤ number_of xs) × (p ≡ start_of k)
+-- the start of a rule that starts with several alternatives, where a decision between these is; the numberings are those of the
+-- rules by their numbers
+abbrev pub IsOuterStart : List Numbering → ℕ → Type 0
+IsOuterStart numberings p = (k : ℕ) × (x : Numbering) × (slice_get numberings k ≡ Some x) × (2 ≤ length x.starts) × (p ≡ start_of k)
+
+-- x is alternative i of rule k, as the rules are written; rules count from 1
+abbrev pub IsWrittenAs : List StepRule → ℕ → ℕ → Elements (Step (List ℕ)) → Type 0
+IsWrittenAs rules k i x = (j : ℕ) × (r : StepRule) × (k ≡ j + 1) × (slice_get rules j ≡ Some r) × IsAlternative (alternatives_of r) i x
+
+-- the state is no level
+abbrev pub IsNoLevel : {L : Type 0} → Network L → ℕ → Type 0
+IsNoLevel net p = (q t : ℕ) → state_at net p ≡ Some (Level q t) → ⊥
+
+-- the numberings of the rules by their numbers, the added rule first
+abbrev pub all_numberings : List StepRule → List Numbering
+all_numberings rules = added_numbering ∷ numberings rules

@@ -1,3 +1,4 @@
 pub mod Alternatives
 pub mod Letters
+pub mod Spelling
 pub mod Walks

@@ -4,5 +4,7 @@
 mod law;
 
 pub use law::{
-    no_edge_to_outer_starts, numbers_are_written, only_outer_starts_begin, walks_derive,
+    levels_begin_operators, levels_follow_whole_alternatives, no_edge_to_outer_starts,
+    only_outer_starts_begin, rules_start_with_alternatives, rules_start_with_one, walks_derive,
+    walks_over_levels_derive,
 };

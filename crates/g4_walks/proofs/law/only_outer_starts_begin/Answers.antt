@@ -1,5 +1,6 @@
-use Rattle.g4_walks.proofs.Decided.{decides_unbegun}
+use Rattle.g4_walks.specs.Letters.{NamesRule, TakesSymbol}
+use Rattle.g4_walks.proofs.Rewritten.{unbegun}
 use Rattle.g4_walks.proofs.law.only_outer_starts_begin.Goals as goal
 
 pub returns : goal.returns
-returns g c = λ rules net network. decides_unbegun rules net network
+returns c = λ set rules start net can built. unbegun TakesSymbol NamesRule set rules start net can built

@@ -1,9 +1,10 @@
 use Rattle.g4_walks.specs.Letters.{NamesRule, TakesSymbol}
+use Rattle.g4_walks.specs.Walks.{NoLevel}
 use Rattle.g4_walks.proofs.Words as words
 use Rattle.g4_walks.proofs.law.walks_derive.Goals as goal
 
 pub returns : goal.returns
 returns c = λ rules net network k xs is i a x alternative start w. (
-  λ walk. words.walk_derives TakesSymbol NamesRule rules net network k xs is i a x alternative start walk.0 w walk.1,
-  λ derived. words.derived_walks TakesSymbol NamesRule rules net network k xs is i a x alternative start w derived,
+  λ walk. words.walk_derives TakesSymbol NamesRule NoLevel rules net network k xs is i a x alternative start walk.0 w walk.1,
+  λ derived. words.derived_walks TakesSymbol NamesRule NoLevel rules net network k xs is i a x alternative start w derived,
 )
