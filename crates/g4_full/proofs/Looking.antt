@@ -1,5 +1,5 @@
 -- What the loop over the tokens keeps, with full stacks.
-use Rattle.std.proofs.Common.{ℕ, ◌+◌, ◌<◌, List, ◌∷◌, drop, length, get_or, sym, subst, add-one, Contains}
+use Rattle.std.proofs.Common.{ℕ, ◌+◌, ◌<◌, List, drop, length, get_or, sym, subst, add-one, Contains}
 use Rattle.g4_symbols.specs.Symbols.{end_of_list}
 use Rattle.g4_net.specs.Network.{ParserNetwork}
 use Rattle.g4_token_list.specs.declared.token.Token.{Token}
@@ -7,7 +7,7 @@ use Rattle.g4_net.specs.AddedRule.{IsReady}
 use Rattle.g4_net.specs.Proper.{IsProper}
 use Rattle.g4_net.specs.Configurations.{Stack, Config, above_bottom, IsWithin}
 use Rattle.g4_net.specs.Lookahead.{Start, Next}
-use Rattle.g4_net.specs.Prediction.{Any, Choice, FullFrom, Full}
+use Rattle.g4_net.specs.Prediction.{Choice, FullFrom, Full}
 use Rattle.g4_token_list.specs.TokenList.{word_of}
 use Rattle.g4_lookahead.specs.EndOfList.{GoesOnFull}
 use Rattle.g4_lookahead.proofs.Judging.{AreSame, full_same}
@@ -19,20 +19,20 @@ use Rattle.g4_full.specs.Verdicts.{choice_of, SettlesWith}
 use Rattle.g4_full.proofs.Ending.{full_settles, full_goes_on}
 
 -- What the loop with full stacks keeps.
-pub record IsSettling (net : ParserNetwork) (d : ℕ) (z : Stack) (tokens : List Token) (k : ℕ) (C : Config → Type 0) : Type 0 where
+pub record IsSettling (net : ParserNetwork) (d : ℕ) (A : ℕ → Type 0) (z : Stack) (tokens : List Token) (k : ℕ) (C : Config → Type 0) : Type 0 where
   pub looking : IsLooking net z tokens k C
-  pub says : (c : Choice) → FullFrom net C (word_of (drop k tokens)) k c → Full net d Any z (word_of tokens) c
+  pub says : (c : Choice) → FullFrom net C (word_of (drop k tokens)) k c → Full net d A z (word_of tokens) c
 
 -- it holds of the start set
-pub settling_start : (net : ParserNetwork) (d : ℕ) (returns : List ℕ) (tokens : List Token) (C : Config → Type 0) → IsReady net → IsProper net d returns → AreSame C (Start net d Any (above_bottom returns)) → ((c : Config) → C c → IsWithin net c) → Contains (word_of tokens) end_of_list → IsSettling net d (above_bottom returns) tokens 0 C
-settling_start net d returns tokens C (rule, loop, set, runnable) proper has within ends = record {
-  looking = looking_start net d Any (above_bottom returns) tokens C (rule, loop, set, runnable, stands_apart net rule loop runnable.apart d returns proper) has within ends;
-  says = λ c h. full_same net C (Start net d Any (above_bottom returns)) (λ x. (has x).0) (λ x. (has x).1) (word_of tokens) 0 c h;
+pub settling_start : (net : ParserNetwork) (d : ℕ) (A : ℕ → Type 0) (returns : List ℕ) (tokens : List Token) (C : Config → Type 0) → IsReady net → IsProper net d returns → AreSame C (Start net d A (above_bottom returns)) → ((c : Config) → C c → IsWithin net c) → Contains (word_of tokens) end_of_list → IsSettling net d A (above_bottom returns) tokens 0 C
+settling_start net d A returns tokens C (rule, loop, set, runnable) proper has within ends = record {
+  looking = looking_start net d A (above_bottom returns) tokens C (rule, loop, set, runnable, stands_apart net rule loop runnable.apart d returns proper) has within ends;
+  says = λ c h. full_same net C (Start net d A (above_bottom returns)) (λ x. (has x).0) (λ x. (has x).1) (word_of tokens) 0 c h;
 }
 
 -- it holds of the next set, where full stacks go on after it
-pub settling_next : (net : ParserNetwork) (d : ℕ) (z : Stack) (tokens : List Token) (k : ℕ) (t : Token) (C D : Config → Type 0) → k < length tokens → AreSame D (Next net C (get_or tokens k t).symbol) → ((c : Config) → D c → IsWithin net c) → GoesOnFull D → IsSettling net d z tokens k C → IsSettling net d z tokens (k + 1) D
-settling_next net d z tokens k t C D less has within g h = record {
+pub settling_next : (net : ParserNetwork) (d : ℕ) (A : ℕ → Type 0) (z : Stack) (tokens : List Token) (k : ℕ) (t : Token) (C D : Config → Type 0) → k < length tokens → AreSame D (Next net C (get_or tokens k t).symbol) → ((c : Config) → D c → IsWithin net c) → GoesOnFull D → IsSettling net d A z tokens k C → IsSettling net d A z tokens (k + 1) D
+settling_next net d A z tokens k t C D less has within g h = record {
   looking = looking_next net z tokens k t C D less has within (λ p y one. settled_full p y D one g) h.looking;
   says = λ c s.
       h.says c
@@ -42,7 +42,7 @@ settling_next net d z tokens k t C D less has within g h = record {
 }
 
 -- what full stacks end with at the next set is their choice
-pub settled : (net : ParserNetwork) (d : ℕ) (z : Stack) (tokens : List Token) (k : ℕ) (t : Token) (C D : Config → Type 0) (s : Settled) → k < length tokens → AreSame D (Next net C (get_or tokens k t).symbol) → SettlesWith D k s → IsSettling net d z tokens k C → Full net d Any z (word_of tokens) (choice_of s)
-settled net d z tokens k t C D s less has e h =
+pub settled : (net : ParserNetwork) (d : ℕ) (A : ℕ → Type 0) (z : Stack) (tokens : List Token) (k : ℕ) (t : Token) (C D : Config → Type 0) (s : Settled) → k < length tokens → AreSame D (Next net C (get_or tokens k t).symbol) → SettlesWith D k s → IsSettling net d A z tokens k C → Full net d A z (word_of tokens) (choice_of s)
+settled net d A z tokens k t C D s less has e h =
     h.says (choice_of s) (subst (λ (w : List ℕ). FullFrom net C w k (choice_of s)) (sym (left tokens k t less))
     (full_settles net C D (get_or tokens k t).symbol (word_of (drop (k + 1) tokens)) k s has e))

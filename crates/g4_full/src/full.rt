@@ -3,8 +3,9 @@ ghost use Rattle.std.specs.Prelude.{◌<◌, ◌^◌, Contains, IfOk, MatchOptio
 ghost use Rattle.g4_configs.specs.Configs.{Holds};
 ghost use Rattle.g4_symbols.specs.Symbols.{end_of_list};
 ghost use Rattle.g4_net.specs.AddedRule.{IsReady};
+ghost use Rattle.g4_net.specs.Allowed.{Allows};
 ghost use Rattle.g4_net.specs.Configurations.{above_bottom};
-ghost use Rattle.g4_net.specs.Prediction.{Any, Full};
+ghost use Rattle.g4_net.specs.Prediction.{Full};
 ghost use Rattle.g4_net.specs.Proper.{IsProper};
 ghost use Rattle.g4_token_list.specs.TokenList.{word_of};
 ghost use Rattle.g4_lookahead.specs.EndOfList.{GoesOnFull};
@@ -41,11 +42,16 @@ fn settle(alloc: Global, set: &Configs, k: u32) -> Result<Option<Settled>, Alloc
     Ok(None)
 }
 
-/// The choice of a decision, with the return states of the parser's stack, newest last, on the tokens from it on.
+/// The choice of a decision, over the allowed alternatives and with the return states of the parser's stack, newest last, on the
+/// tokens from it on.
+///
+/// # Errors
+/// No memory.
 pub fn decide_full(
     alloc: Global,
     net: &ParserNetwork,
     decision: u32,
+    allowed: &Allowed,
     returns: &[u32],
     tokens: &[Token],
 ) -> Result<Settled, AllocError>
@@ -53,9 +59,9 @@ pub fn decide_full(
     requires proper { IsProper net.now decision (reverse returns.now) }
     requires ends { Contains (word_of tokens.now) end_of_list }
     requires few { length tokens.now < 2 ^ 32 }
-    ensures { IfOk result (λ settled. Full net.now decision Any (above_bottom (reverse returns.now)) (word_of tokens.now) (choice_of settled)) }
+    ensures { IfOk result (λ settled. Full net.now decision (Allows allowed.now) (above_bottom (reverse returns.now)) (word_of tokens.now) (choice_of settled)) }
 {
-    let mut set = start(alloc, net, decision, &Allowed::Every, returns, false)?;
+    let mut set = start(alloc, net, decision, allowed, returns, false)?;
     for (k, token) in tokens.iter().enumerate() {
         set = advance(alloc, net, set, token.symbol)?;
         if let Some(settled) = settle(alloc, &set, k as u32)? {

@@ -4,7 +4,7 @@ use Rattle.std.specs.Prelude.{slice_index}
 use Rattle.std.proofs.lemmas.Option.{slice_get_within}
 use Rattle.std.proofs.lemmas.List.Elements.{All-cons, All-head, All-tail}
 use Rattle.g4_symbols.specs.Symbols.{end_of_list}
-use Rattle.g4_net.specs.AddedRule.{HasAddedRule, IsApart, IsOutside, IsUntested, IsReady}
+use Rattle.g4_net.specs.AddedRule.{HasAddedRule, IsApart, IsOutside, IsNoPredicate, IsReady}
 use Rattle.g4_net.specs.Configurations.{Config, config, at, above_bottom}
 use Rattle.g4_net.specs.declared.network.State.{State}
 use Rattle.g4_net.specs.declared.network.State.TheVariants.{Decision, End, Edge, Call, Predicate, Level, Action, Empty}
@@ -47,7 +47,7 @@ module _ (net : ParserNetwork) (ranks : List ℕ) (fit : (p : ℕ) (s : State (L
         bottomed = w;
       })
   step_by p c d (Some (Predicate k t)) is low all w l = absurd (fit c.state (Predicate k t) is)
-  step_by p c d (Some (Level q t)) is low all w l = absurd (fit c.state (Level q t) is)
+  step_by p c d (Some (Level q t)) is low all w l = moved p t c d low all w (fit c.state (Level q t) is) l
   step_by p c d (Some (Action t)) is low all w l = moved p t c d low all w (fit c.state (Action t) is) l
   step_by p c d (Some (Empty t)) is low all w l = moved p t c d low all w (fit c.state (Empty t) is) l
 
@@ -70,20 +70,20 @@ module _ (net : ParserNetwork) (ranks : List ℕ) (fit : (p : ℕ) (s : State (L
   targets_in p t (Edge set u) f to = omega arith
   targets_in p t (Call rule level back) f to = let within = f.returns.within in omega arith
   targets_in p t (Predicate k u) f to = absurd f
-  targets_in p t (Level q u) f to = absurd f
+  targets_in p t (Level q u) f to = let within = f.within in omega arith
   targets_in p t (Action u) f to = let within = f.within in omega arith
   targets_in p t (Empty u) f to = let within = f.within in omega arith
 
-  -- no state is a predicate or a level
-  untested_by : (p : ℕ) (s : State (List ℕ)) → Fits net ranks p s → IsUntested s
-  untested_by p (Decision ts) f = tt
-  untested_by p (End rule) f = tt
-  untested_by p (Edge set u) f = tt
-  untested_by p (Call rule level back) f = tt
-  untested_by p (Predicate k u) f = f
-  untested_by p (Level q u) f = f
-  untested_by p (Action u) f = tt
-  untested_by p (Empty u) f = tt
+  -- no state is a predicate
+  unpredicated_by : (p : ℕ) (s : State (List ℕ)) → Fits net ranks p s → IsNoPredicate s
+  unpredicated_by p (Decision ts) f = tt
+  unpredicated_by p (End rule) f = tt
+  unpredicated_by p (Edge set u) f = tt
+  unpredicated_by p (Call rule level back) f = tt
+  unpredicated_by p (Predicate k u) f = f
+  unpredicated_by p (Level q u) f = tt
+  unpredicated_by p (Action u) f = tt
+  unpredicated_by p (Empty u) f = tt
 
   -- the return states listed are those of the rule's calls
   callers_by : ((rule : ℕ) (listed : List ℕ) → slice_get net.callers rule ≡ Some listed → AreReturned net rule listed) → (rule t : ℕ) (listed : List ℕ) → slice_get net.callers rule ≡ Some listed → (Contains listed t → IsReturn net rule t) × (IsReturn net rule t → Contains listed t)
@@ -112,8 +112,8 @@ module _ (net : ParserNetwork) (ranks : List ℕ) (fit : (p : ℕ) (s : State (L
     never_again = never;
   }
 
-  pub untested : (p : ℕ) (s : State (List ℕ)) → state_at net p ≡ Some s → IsUntested s
-  untested p s is = untested_by p s (fit p s is)
+  pub unpredicated : (p : ℕ) (s : State (List ℕ)) → state_at net p ≡ Some s → IsNoPredicate s
+  unpredicated p s is = unpredicated_by p s (fit p s is)
 
 module _ (net : ParserNetwork) (loop : ℕ) (last : length net.states ≡ loop + 5) (fit : (p : ℕ) (s : State (List ℕ)) → IsOwn loop p → state_at net p ≡ Some s → FitsOwn loop s) where
   -- a state that is outside the added rule
@@ -131,7 +131,7 @@ module _ (net : ParserNetwork) (loop : ℕ) (last : length net.states ≡ loop +
   targets_own t (Edge set u) f to = subst (IsOwn loop) (sym to) f.0
   targets_own t (Call rule level back) f to = subst (IsOwn loop) (sym to) f.1
   targets_own t (Predicate k u) f to = absurd f
-  targets_own t (Level q u) f to = absurd f
+  targets_own t (Level q u) f to = subst (IsOwn loop) (sym to) f
   targets_own t (Action u) f to = subst (IsOwn loop) (sym to) f
   targets_own t (Empty u) f to = subst (IsOwn loop) (sym to) f
 
@@ -157,7 +157,7 @@ ready net ranks loop last room few has own all = (
   record {
     well_formed = well_formed net ranks all.states all.callers all.rules all.written;
     apart = is_apart net loop last own has.turn.0 added has.turn.2 room;
-    untested = untested net ranks all.states;
+    unpredicated = unpredicated net ranks all.states;
     few = few;
   },
 )

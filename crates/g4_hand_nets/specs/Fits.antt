@@ -27,7 +27,7 @@ pub record CallFits (net : ParserNetwork) (ranks : List ℕ) (p rule back : ℕ)
   pub returns : FallsTo net ranks p back
   pub listed : IsListed net rule back
 
--- The numbers of a state are in range, it is no predicate or level, and each step from it without a symbol leads to a state of
+-- The numbers of a state are in range, it is no predicate, and each step from it without a symbol leads to a state of
 -- a lower rank, and so does what a call returns to.
 abbrev pub Fits : ParserNetwork → List ℕ → ℕ → State (List ℕ) → Type 0
 Fits net ranks p (Decision targets) = (2 ≤ length targets) × All (FallsTo net ranks p) targets
@@ -35,7 +35,7 @@ Fits net ranks p (End rule) = rule < length net.callers
 Fits net ranks p (Edge set t) = t < length net.states
 Fits net ranks p (Call rule level back) = CallFits net ranks p rule back
 Fits net ranks p (Predicate k t) = ⊥
-Fits net ranks p (Level q t) = ⊥
+Fits net ranks p (Level q t) = FallsTo net ranks p t
 Fits net ranks p (Action t) = FallsTo net ranks p t
 Fits net ranks p (Empty t) = FallsTo net ranks p t
 
@@ -50,7 +50,7 @@ FitsOwn loop (End rule) = 1 ≤ rule
 FitsOwn loop (Edge set t) = IsOwn loop t × (Contains set end_of_list → ⊥)
 FitsOwn loop (Call rule level back) = IsOwn loop (start_of rule) × IsOwn loop back
 FitsOwn loop (Predicate k t) = ⊥
-FitsOwn loop (Level q t) = ⊥
+FitsOwn loop (Level q t) = IsOwn loop t
 FitsOwn loop (Action t) = IsOwn loop t
 FitsOwn loop (Empty t) = IsOwn loop t
 

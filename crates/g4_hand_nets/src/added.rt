@@ -34,7 +34,7 @@ fn state_is_own(first: u32, state: &State<Symbols>) -> bool
             *rule < 65_536 && is_own(first, 2 * *rule) && is_own(first, *back)
         }
         State::Predicate(..) => false,
-        State::Level(..) => false,
+        State::Level(_, target) => is_own(first, *target),
         State::Action(target) => is_own(first, *target),
         State::Empty(target) => is_own(first, *target),
     }

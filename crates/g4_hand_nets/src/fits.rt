@@ -1,4 +1,4 @@
-// Whether a network is well formed and has no predicates and levels, by its states.
+// Whether a network is well formed and has no predicates, by its states.
 ghost use Rattle.std.specs.Prelude.{◌≡◌, ◌<◌, ◌≤◌, ◌↔◌, ◌^◌, ℕ, List, Some, All, IsTrue, length, slice_get};
 ghost use Rattle.g4_hand_nets.specs.Fits.{AreReturned, CallFits, Falls, FallsTo, Fits, IsListed, IsReturned};
 ghost use Rattle.g4_net.specs.declared.network.State.{State as Node};
@@ -62,7 +62,7 @@ fn state_fits(net: &ParserNetwork, ranks: &[u32], number: u32, state: &State<Sym
         State::Edge(_, target) => (*target as usize) < net.states.len(),
         State::Call { rule, back, .. } => call_fits(net, ranks, number, *rule, *back),
         State::Predicate(..) => false,
-        State::Level(..) => false,
+        State::Level(_, target) => falls_to(net, ranks, number, *target),
         State::Action(target) => falls_to(net, ranks, number, *target),
         State::Empty(target) => falls_to(net, ranks, number, *target),
     }

@@ -26,6 +26,7 @@ fn asked(net: &ParserNetwork, ranks: &[u32], number: usize) -> u32 {
         Some(State::Call { rule, back, .. }) => {
             above(ranks, rule.saturating_mul(2)).max(above(ranks, *back))
         }
+        Some(State::Level(_, target)) => above(ranks, *target),
         Some(State::Action(target)) => above(ranks, *target),
         Some(State::Empty(target)) => above(ranks, *target),
         _ => 0,

@@ -17,6 +17,8 @@ pub enum Row<'a> {
     Edge(u32, u32),
     /// A call of a rule, and the state to which it returns.
     Call(u32, u32),
+    /// A level, and the target.
+    Level(u32, u32),
     /// An action's target.
     Action(u32),
     /// An empty edge's target.
@@ -36,6 +38,7 @@ fn state_of(alloc: Global, row: Row) -> Result<State<Symbols>, AllocError> {
             level: 0,
             back,
         }),
+        Row::Level(level, target) => Ok(State::Level(level, target)),
         Row::Action(target) => Ok(State::Action(target)),
         Row::Empty(target) => Ok(State::Empty(target)),
     }

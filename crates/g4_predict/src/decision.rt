@@ -1,13 +1,15 @@
 // The alternative that prediction chooses at a decision.
-ghost use Rattle.std.specs.Prelude.{◌≡◌, ◌<◌, ◌^◌, ℕ, List, Some, length, drop, reverse};
+ghost use Rattle.std.specs.Prelude.{◌≡◌, ◌+◌, ◌<◌, ◌≤◌, ◌^◌, ℕ, List, Some, Contains, length, drop, reverse};
 ghost use Rattle.g4_net.specs.AddedRule.{IsReady};
 ghost use Rattle.g4_net.specs.Allowed.{Allows};
 ghost use Rattle.g4_net.specs.declared.network.State.TheVariants.{Decision};
 ghost use Rattle.g4_net.specs.Network.{state_at};
 ghost use Rattle.g4_net.specs.Proper.{IsProper};
+ghost use Rattle.g4_symbols.specs.Symbols.{end_of_list};
 ghost use Rattle.g4_token_list.specs.TokenList.{EndsInEnd, word_of};
-ghost use Rattle.g4_predict.specs.Deciding.{IsDecided};
+ghost use Rattle.g4_predict.specs.Deciding.{IsDecided, IsFullyDecided};
 
+use crate::first_tests::has_test;
 use g4_full::{Settled, decide_full};
 use g4_net::{Allowed, ParserNetwork};
 use g4_path::Verdict;
@@ -34,9 +36,32 @@ impl From<AllocError> for DecideFault {
     }
 }
 
+/// The alternative, counted from 1, that full stacks choose at a decision, over the allowed ones and with the return states of
+/// the parser's stack, newest last, on the rest of the tokens, which begins at a place.
+fn decide_by_stack(
+    alloc: Global,
+    net: &ParserNetwork,
+    decision: u32,
+    allowed: &Allowed,
+    returns: &[u32],
+    rest: &[Token],
+    from: u32,
+) -> Result<u32, DecideFault>
+    requires ready { IsReady net.now }
+    requires proper { IsProper net.now decision (reverse returns.now) }
+    requires ends { Contains (word_of rest.now) end_of_list }
+    requires few { from + length rest.now < 2 ^ 32 }
+    ensures { IsFullyDecided net.now decision (Allows allowed.now) (reverse returns.now) (word_of rest.now) from result }
+{
+    match decide_full(alloc, net, decision, allowed, returns, rest)? {
+        Settled::Chosen(alternative) => Ok(alternative),
+        Settled::NoViable(k) => Err(DecideFault::NoViable { at: from + k }),
+    }
+}
+
 /// The alternative, counted from 1, that prediction chooses at a decision, over the allowed ones and with the return states of
-/// the parser's stack, newest last, on the tokens from a place on. No alternative begins with a predicate or a level so far,
-/// so the choice is the same whatever is allowed.
+/// the parser's stack, newest last, on the tokens from a place on. Where no alternative begins with a predicate or a level, the
+/// choice is the same whatever is allowed.
 ///
 /// # Errors
 /// No alternative is viable, or no memory.
@@ -58,12 +83,14 @@ pub fn decide(
     ensures { IsDecided net.now decision (Allows allowed.now) (reverse returns.now) (drop from (word_of tokens.now)) from result }
 {
     let rest = &tokens[from as usize..];
+    if has_test(net, decision) {
+        return decide_by_stack(alloc, net, decision, allowed, returns, rest, from);
+    }
     match verdict(alloc, net, decision, rest)? {
         Verdict::Answer(alternative) => Ok(alternative),
         Verdict::ErrorAt(k) => Err(DecideFault::NoViable { at: from + k }),
-        Verdict::Sensitive(_) => match decide_full(alloc, net, decision, returns, rest)? {
-            Settled::Chosen(alternative) => Ok(alternative),
-            Settled::NoViable(k) => Err(DecideFault::NoViable { at: from + k }),
-        },
+        Verdict::Sensitive(_) => {
+            decide_by_stack(alloc, net, decision, &Allowed::Every, returns, rest, from)
+        }
     }
 }

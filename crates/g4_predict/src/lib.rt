@@ -1,10 +1,13 @@
-// Adaptive LL prediction: SLL first, full stacks where SLL says that the parser's stack matters.
+// Adaptive LL prediction: SLL first, full stacks where SLL says that the parser's stack matters, and at once where an
+// alternative begins with a predicate or a level.
 #![tactic(auto)]
 
 mod decision;
+mod first_tests;
 #[cfg(test)]
 mod tests;
 #[cfg(test)]
 mod walk;
 
 pub use decision::{DecideFault, decide};
+pub use first_tests::has_test;

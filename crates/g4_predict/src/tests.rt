@@ -18,6 +18,8 @@ enum Said {
 
 use Said::{Alternative, NoViable};
 
+mod levels;
+
 fn answer_of(answer: Result<u32, DecideFault>) -> Said {
     match answer {
         Ok(alternative) => Said::Alternative(alternative),
@@ -324,6 +326,9 @@ fn whatever_is_allowed(rt: HostRuntime) -> Result<(), Fail> {
     let net = two_contexts(alloc, 0)?;
     let allowed = Allowed::Listed(Sequence::new(vec![in alloc; 1]?));
     let answer = decided(&rt, alloc, &net, &allowed, &[2, 6, 9, 4], &[1, 3, 4], 1)?;
+    assert_eq!(rt; answer, Alternative(2));
+    let none = Allowed::Listed(Sequence::new(Vec::new(alloc)));
+    let answer = decided(&rt, alloc, &net, &none, &[2, 6, 9, 4], &[1, 3, 4], 1)?;
     assert_eq!(rt; answer, Alternative(2));
     Ok(())
 }

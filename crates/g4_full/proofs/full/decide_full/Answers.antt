@@ -1,4 +1,5 @@
 use Rattle.std.proofs.Common.{reverse}
+use Rattle.g4_net.specs.Allowed.{Allows}
 use Rattle.g4_net.specs.Configurations.{above_bottom}
 use Rattle.g4_configs.specs.Configs.{Holds}
 use Rattle.g4_lookahead.specs.EndOfList.{GoesOnFull}
@@ -13,13 +14,13 @@ start-requires-clause-within c = turned_within c.args.net.now c.args.decision c.
 
 pub loop-k-init : goal.loop-k-init
 loop-k-init c =
-    settling_start c.args.net.now c.args.decision (reverse c.args.returns.now) c.args.tokens.now (Holds c.in_ok-set.set) c.requires.ready c.requires.proper c.in_ok-set.ensures.members c.in_ok-set.ensures.within c.requires.ends
+    settling_start c.args.net.now c.args.decision (Allows c.args.allowed.now) (reverse c.args.returns.now) c.args.tokens.now (Holds c.in_ok-set.set) c.requires.ready c.requires.proper c.in_ok-set.ensures.members c.in_ok-set.ensures.within c.requires.ends
 
 pub loop-k-preserved : goal.loop-k-preserved
 loop-k-preserved c =
-    settling_next c.args.net.now c.args.decision (above_bottom (reverse c.args.returns.now)) c.args.tokens.now c.loop-k.k _ (Holds c.loop-k.set) (Holds c.in_ok-set-2.set) c.loop-k-test.true
+    settling_next c.args.net.now c.args.decision (Allows c.args.allowed.now) (above_bottom (reverse c.args.returns.now)) c.args.tokens.now c.loop-k.k _ (Holds c.loop-k.set) (Holds c.in_ok-set-2.set) c.loop-k-test.true
     c.in_ok-set-2.ensures.members c.in_ok-set-2.ensures.within (when_none (GoesOnFull (Holds c.in_ok-set-2.set)) (SettlesWith (Holds c.in_ok-set-2.set) c.loop-k.k) c.in_ok-settled.field-0 c.in_default.is c.in_ok-settled.ensures) c.loop-k.invariant
 
 pub returns-in-Some : goal.returns-in-Some
 returns-in-Some c =
-    settled c.args.net.now c.args.decision (above_bottom (reverse c.args.returns.now)) c.args.tokens.now c.loop-k.k _ (Holds c.loop-k.set) (Holds c.in_ok-set-2.set) c.in-Some.settled c.loop-k-test.true c.in_ok-set-2.ensures.members (when_some (GoesOnFull (Holds c.in_ok-set-2.set)) (SettlesWith (Holds c.in_ok-set-2.set) c.loop-k.k) c.in_ok-settled.field-0 c.in-Some.settled c.in-Some.is c.in_ok-settled.ensures) c.loop-k.invariant
+    settled c.args.net.now c.args.decision (Allows c.args.allowed.now) (above_bottom (reverse c.args.returns.now)) c.args.tokens.now c.loop-k.k _ (Holds c.loop-k.set) (Holds c.in_ok-set-2.set) c.in-Some.settled c.loop-k-test.true c.in_ok-set-2.ensures.members (when_some (GoesOnFull (Holds c.in_ok-set-2.set)) (SettlesWith (Holds c.in_ok-set-2.set) c.loop-k.k) c.in_ok-settled.field-0 c.in-Some.settled c.in-Some.is c.in_ok-settled.ensures) c.loop-k.invariant
