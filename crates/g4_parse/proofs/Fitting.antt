@@ -2,23 +2,24 @@
 use Rattle.std.proofs.Common.{◌≡◌, ℕ, ◌+◌, ◌*◌, List, [], ◌∷◌, ◌++◌, length, Option, Some, None, refl, sym, ◌∙◌, ap, subst, append_assoc, append-nil, Result, Ok, Err, IfOk}
 use Rattle.std.specs.List.{range_with_len}
 use Rattle.std.proofs.lemmas.List.FromFn.{length-range_with_len}
-use Rattle.g4_grammar.specs.StepRules.{StepRule}
+use Rattle.g4_grammar.specs.StepRules.{StepRule, CanBeRewritten}
 use Rattle.g4_net.specs.declared.network.State.{State}
 use Rattle.g4_net.specs.declared.network.State.TheVariants.{Decision, End, Edge, Call, Predicate, Level, Action, Empty}
-use Rattle.g4_net.specs.Network.{ParserNetwork, state_at}
+use Rattle.g4_net.specs.Network.{ParserNetwork, state_at, written_at}
 use Rattle.g4_layout.specs.Built.{IsBuilt}
 use Rattle.g4_layout.specs.Rules.{rule_number}
+use Rattle.g4_leftrec.specs.Rewriting.{rewritten, numberings}
 use Rattle.g4_token_list.specs.TokenList.{EndsInEnd}
 use Rattle.g4_trees.specs.declared.tree.Item.{Item}
 use Rattle.g4_trees.specs.Trees.{Tree, node, Forest, no_tree, a_tree, and_then, only, items_of, tokens_of, tokens_of_all, leaf}
 use Rattle.g4_tree_check.specs.TreesOf.{Fits, IsTreeOf}
-use Rattle.g4_parse.specs.Running.{Frame, Run, Ending, parsed, beginning, no_predicates, ClosesBy, GoesBy, Goes, StopsBy, Runs, stops, goes, with_alt, with_token, with_child, node_of, begun}
+use Rattle.g4_parse.specs.Running.{Frame, Run, Ending, parsed, beginning, no_predicates, ClosesBy, GoesBy, Goes, StopsBy, Runs, stops, goes, with_alt, with_token, with_child, wrapped, node_of, begun}
 use Rattle.g4_parse.specs.declared.parser.ParseFault.{ParseFault}
 use Rattle.g4_parse.specs.Parsing.{Ends, IsParse}
 use Rattle.g4_parse.specs.Standing.{backs}
 use Rattle.g4_parse.proofs.Forests.{tokens_and_then, two_are_not_one, range_more}
 use Rattle.g4_parse.proofs.OneTree.{HasOneTree, one_tree_on}
-use Rattle.g4_parse.proofs.OpenRules.{AreOpen, open_decided, open_silently, open_token, open_call, node_fits, open_closed}
+use Rattle.g4_parse.proofs.OpenRules.{AreOpen, open_decided, open_silently, open_token, open_call, node_fits, open_closed, open_wrapped}
 use Rattle.g4_parse.proofs.Stages.{Stage, begins, advances}
 
 -- the places of the tokens of the open rules, those of the oldest rule first
@@ -36,6 +37,11 @@ tokens_closed : (r : Run) (f g : Frame) (gs : List Frame) → tokens_open (with_
 tokens_closed r f g gs =
     ap (λ (w : List ℕ). tokens_open gs ++ w) (tokens_and_then g.children (only (node_of f)) ∙ ap (λ (w : List ℕ). tokens_of_all g.children ++ w) (append-nil (tokens_of_all f.children)))
     ∙ sym (append_assoc (tokens_open gs) (tokens_of_all g.children) (tokens_of_all f.children))
+
+-- so has a node that becomes a first child
+tokens_wrapped : (i : ℕ) (fs : List Frame) → tokens_open (wrapped i fs) ≡ tokens_open fs
+tokens_wrapped i [] = refl
+tokens_wrapped i (f ∷ fs) = ap (λ (w : List ℕ). tokens_open fs ++ w) (append-nil (tokens_of_all f.children))
 
 -- one more token
 tokens_more : (r : Run) (f : Frame) (fs : List Frame) → tokens_open (f ∷ fs) ≡ range_with_len 0 r.place → tokens_open (with_token r (f ∷ fs)).frames ≡ range_with_len 0 (r.place + 1)
@@ -57,37 +63,37 @@ module _ (rules : List StepRule) (word : List ℕ) where
 
 -- What holds at a moment of a run: the open rules are parts of words of their alternatives, the tokens of the open rules are all
 -- so far where no tree is outside, and a tree outside is whole.
-record IsFitting (set : List ℕ) (rules : List StepRule) (start : List ℕ) (net : ParserNetwork) (word : List ℕ) (r : Run) : Type 0 where
-  stage : Stage net (2 * length rules + 2) (length word) r
+record IsFitting (rules : List StepRule) (net : ParserNetwork) (word : List ℕ) (r : Run) : Type 0 where
+  stage : Stage net (2 * length (rewritten rules) + 2) (length word) r
   one : HasOneTree (backs r.frames) r.state r.tree
-  are_open : AreOpen set rules start net word r.state r.frames
+  are_open : AreOpen rules net word r.state r.frames
   tokens : r.tree ≡ no_tree → tokens_open r.frames ≡ range_with_len 0 r.place
   whole : (t : Tree) → r.tree ≡ only t → IsWhole rules word t
 
-module _ (set : List ℕ) (rules : List StepRule) (start : List ℕ) (net : ParserNetwork) (word : List ℕ) (built : IsBuilt set rules start net) (ends : EndsInEnd word) where
+module _ (set : List ℕ) (rules : List StepRule) (start : List ℕ) (net : ParserNetwork) (word : List ℕ) (can : CanBeRewritten rules) (built : IsBuilt set (rewritten rules) (numberings rules) start net) (ends : EndsInEnd word) where
   abbrev Fitting : Run → Type 0
-  Fitting = IsFitting set rules start net word
+  Fitting = IsFitting rules net word
 
   abbrev Open : ℕ → List Frame → Type 0
-  Open = AreOpen set rules start net word
+  Open = AreOpen rules net word
 
   -- the open rules after closing one
   closed_open : (r s : Run) (ended : ℕ) (fs : List Frame) → state_at net r.state ≡ Some (End ended) → ClosesBy net no_predicates word r fs s → Open r.state fs → Open s.state s.frames
   closed_open r s ended [] is g h = absurd g
   closed_open r s ended (f ∷ []) is g h = subst (λ (x : Run). Open x.state x.frames) (sym g) tt
-  closed_open r s ended (f ∷ k ∷ fs) is g h = subst (λ (x : Run). Open x.state x.frames) (sym g) (open_closed set rules start net word built r ended f (k ∷ fs) is h)
+  closed_open r s ended (f ∷ k ∷ fs) is g h = subst (λ (x : Run). Open x.state x.frames) (sym g) (open_closed rules net word set start can built r ended f (k ∷ fs) is h)
 
   -- the open rules after a step
   open_on : (r s : Run) (o : Option (State (List ℕ))) → state_at net r.state ≡ o → GoesBy net no_predicates word o r s → Open r.state r.frames → Open s.state s.frames
   open_on r s None is g h = absurd g
-  open_on r s (Some (Decision targets)) is (i, t, says, first, e) h = subst (λ (x : Run). Open x.state x.frames) (sym e) (open_decided set rules start net word built r.state i t targets r.frames is first h)
+  open_on r s (Some (Decision targets)) is (i, t, says, first, e) h = subst (λ (x : Run). Open x.state x.frames) (sym e) (open_decided rules net word set start can built r.state i t targets r.frames is first h)
   open_on r s (Some (End ended)) is g h = closed_open r s ended r.frames is g h
-  open_on r s (Some (Edge taken t)) is (a, next, has, e) h = subst (λ (x : Run). Open x.state x.frames) (sym e) (open_token set rules start net word built r t a taken r.frames refl is next has h)
-  open_on r s (Some (Call callee level back)) is (room, e) h = subst (λ (x : Run). Open x.state x.frames) (sym e) (open_call set rules start net word built r.state callee level back r.place r.frames is h)
-  open_on r s (Some (Predicate k t)) is g h = absurd (built.runnable.untested r.state (Predicate k t) is)
-  open_on r s (Some (Level q t)) is g h = absurd (built.runnable.untested r.state (Level q t) is)
-  open_on r s (Some (Action t)) is e h = subst (λ (x : Run). Open x.state x.frames) (sym e) (open_silently set rules start net word built r.state t (Action t) r.frames is (λ targets f. cc) refl (refl, refl) h)
-  open_on r s (Some (Empty t)) is e h = subst (λ (x : Run). Open x.state x.frames) (sym e) (open_silently set rules start net word built r.state t (Empty t) r.frames is (λ targets f. cc) refl (refl, refl) h)
+  open_on r s (Some (Edge taken t)) is (a, next, has, e) h = subst (λ (x : Run). Open x.state x.frames) (sym e) (open_token rules net word set start can built r t a taken r.frames refl is next has h)
+  open_on r s (Some (Call callee level back)) is (room, e) h = subst (λ (x : Run). Open x.state x.frames) (sym e) (open_call rules net word set start can built r.state callee level back r.place r.frames is h)
+  open_on r s (Some (Predicate k t)) is g h = absurd (built.runnable.unpredicated r.state (Predicate k t) is)
+  open_on r s (Some (Level q t)) is (below, e) h = subst (λ (x : Run). Open x.state x.frames) (sym e) (open_wrapped rules net word set start can built r.state q t r.frames is h)
+  open_on r s (Some (Action t)) is e h = subst (λ (x : Run). Open x.state x.frames) (sym e) (open_silently rules net word set start can built r.state t (Action t) r.frames is (λ targets f. cc) refl (refl, refl) h)
+  open_on r s (Some (Empty t)) is e h = subst (λ (x : Run). Open x.state x.frames) (sym e) (open_silently rules net word set start can built r.state t (Empty t) r.frames is (λ targets f. cc) refl (refl, refl) h)
 
   -- the tokens of the open rules are all so far
   abbrev HasTokens : Run → Type 0
@@ -121,8 +127,8 @@ module _ (set : List ℕ) (rules : List StepRule) (start : List ℕ) (net : Pars
   tokens_on r s (Some (End ended)) is g one h = closed_tokens r s r.frames g h
   tokens_on r s (Some (Edge taken t)) is (a, next, has, e) one h = subst HasTokens (sym e) (token_tokens r t taken r.frames refl is one h)
   tokens_on r s (Some (Call callee level back)) is (room, e) one h = subst HasTokens (sym e) (λ none. append-nil (tokens_open r.frames) ∙ h none)
-  tokens_on r s (Some (Predicate k t)) is g one h = absurd (built.runnable.untested r.state (Predicate k t) is)
-  tokens_on r s (Some (Level q t)) is g one h = absurd (built.runnable.untested r.state (Level q t) is)
+  tokens_on r s (Some (Predicate k t)) is g one h = absurd (built.runnable.unpredicated r.state (Predicate k t) is)
+  tokens_on r s (Some (Level q t)) is (below, e) one h = subst HasTokens (sym e) (λ none. tokens_wrapped (written_at net r.state) r.frames ∙ h none)
   tokens_on r s (Some (Action t)) is e one h = subst HasTokens (sym e) h
   tokens_on r s (Some (Empty t)) is e one h = subst HasTokens (sym e) h
 
@@ -141,7 +147,7 @@ module _ (set : List ℕ) (rules : List StepRule) (start : List ℕ) (net : Pars
 
   closed_whole : (r s : Run) (ended : ℕ) (fs : List Frame) → state_at net r.state ≡ Some (End ended) → ClosesBy net no_predicates word r fs s → Open r.state fs → (r.tree ≡ no_tree → tokens_open fs ≡ range_with_len 0 r.place) → HasWhole r.tree → HasWhole s.tree
   closed_whole r s ended [] is g h tokens whole = absurd g
-  closed_whole r s ended (f ∷ []) is g h tokens whole = subst (λ (x : Run). HasWhole x.tree) (sym g) (last_closed r.tree f r.place (node_fits set rules start net word built r.state ended f [] is h) tokens)
+  closed_whole r s ended (f ∷ []) is g h tokens whole = subst (λ (x : Run). HasWhole x.tree) (sym g) (last_closed r.tree f r.place (node_fits rules net word set start can built r.state ended f [] is h) tokens)
   closed_whole r s ended (f ∷ k ∷ fs) is g h tokens whole = subst (λ (x : Run). HasWhole x.tree) (sym g) whole
 
   token_tree : (r : Run) (fs : List Frame) → HasWhole r.tree → HasWhole (with_token r fs).tree
@@ -154,16 +160,16 @@ module _ (set : List ℕ) (rules : List StepRule) (start : List ℕ) (net : Pars
   whole_on r s (Some (End ended)) is g h tokens whole = closed_whole r s ended r.frames is g h tokens whole
   whole_on r s (Some (Edge taken t)) is (a, next, has, e) h tokens whole = subst (λ (x : Run). HasWhole x.tree) (sym e) (token_tree r r.frames whole)
   whole_on r s (Some (Call callee level back)) is (room, e) h tokens whole = subst (λ (x : Run). HasWhole x.tree) (sym e) whole
-  whole_on r s (Some (Predicate k t)) is g h tokens whole = absurd (built.runnable.untested r.state (Predicate k t) is)
-  whole_on r s (Some (Level q t)) is g h tokens whole = absurd (built.runnable.untested r.state (Level q t) is)
+  whole_on r s (Some (Predicate k t)) is g h tokens whole = absurd (built.runnable.unpredicated r.state (Predicate k t) is)
+  whole_on r s (Some (Level q t)) is (below, e) h tokens whole = subst (λ (x : Run). HasWhole x.tree) (sym e) whole
   whole_on r s (Some (Action t)) is e h tokens whole = subst (λ (x : Run). HasWhole x.tree) (sym e) whole
   whole_on r s (Some (Empty t)) is e h tokens whole = subst (λ (x : Run). HasWhole x.tree) (sym e) whole
 
   -- a step
   fitting_on : (r s : Run) → Goes net no_predicates word r s → Fitting r → Fitting s
   fitting_on r s g h = record {
-    stage = advances net (rule_number rules start) (2 * length rules + 2) built.runnable word ends r s h.stage g;
-    one = one_tree_on net (rule_number rules start) (2 * length rules + 2) built.runnable (length word) word r s h.stage g h.one;
+    stage = advances net (rule_number (rewritten rules) start) (2 * length (rewritten rules) + 2) built.runnable word ends r s h.stage g;
+    one = one_tree_on net (rule_number (rewritten rules) start) (2 * length (rewritten rules) + 2) built.runnable (length word) word r s h.stage g h.one;
     are_open = open_on r s (state_at net r.state) refl g h.are_open;
     tokens = tokens_on r s (state_at net r.state) refl g h.one h.tokens;
     whole = whole_on r s (state_at net r.state) refl g h.are_open h.tokens h.whole;
@@ -172,7 +178,7 @@ module _ (set : List ℕ) (rules : List StepRule) (start : List ℕ) (net : Pars
   -- the beginning
   fitting_begins : Fitting beginning
   fitting_begins = record {
-    stage = begins net (rule_number rules start) (2 * length rules + 2) built.runnable word ends;
+    stage = begins net (rule_number (rewritten rules) start) (2 * length (rewritten rules) + 2) built.runnable word ends;
     one = (λ e. refl, λ n. absurd (n refl));
     are_open = tt;
     tokens = λ none. refl;
@@ -187,7 +193,7 @@ module _ (set : List ℕ) (rules : List StepRule) (start : List ℕ) (net : Pars
   stops_whole r (Some (Edge taken u)) t (a, next, has, e) whole = absurd (let n : ⊥ = cc in n)
   stops_whole r (Some (Call callee level back)) t (deep, e) whole = absurd (let n : ⊥ = cc in n)
   stops_whole r (Some (Predicate k u)) t (fails, e) whole = absurd (let n : ⊥ = cc in n)
-  stops_whole r (Some (Level q u)) t stop whole = absurd stop
+  stops_whole r (Some (Level q u)) t (above, e) whole = absurd (let n : ⊥ = cc in n)
   stops_whole r (Some (Action u)) t stop whole = absurd stop
   stops_whole r (Some (Empty u)) t stop whole = absurd stop
 
@@ -196,12 +202,12 @@ module _ (set : List ℕ) (rules : List StepRule) (start : List ℕ) (net : Pars
   runs_whole r e t (stops _ _ stop) is h = stops_whole r (state_at net r.state) t (subst (StopsBy net no_predicates word (state_at net r.state) r) is stop) h.whole
   runs_whole r e t (goes _ s _ step more) is h = runs_whole s e t more is (fitting_on r s step h)
 
--- the tree of a run over the network of rules is one of the rules' trees
-pub tree_fits : (set : List ℕ) (rules : List StepRule) (start : List ℕ) (net : ParserNetwork) (word : List ℕ) → IsBuilt set rules start net → EndsInEnd word → (t : Tree) → Ends net word (parsed t) → IsTreeOf rules word (items_of t)
-tree_fits set rules start net word built ends t runs = whole_is_tree rules word t (runs_whole set rules start net word built ends beginning (parsed t) t runs refl (fitting_begins set rules start net word built ends))
+-- the tree of a run over the network of rules is one of the trees of the rules as they are written
+pub tree_fits : (set : List ℕ) (rules : List StepRule) (start : List ℕ) (net : ParserNetwork) (word : List ℕ) → CanBeRewritten rules → IsBuilt set (rewritten rules) (numberings rules) start net → EndsInEnd word → (t : Tree) → Ends net word (parsed t) → IsTreeOf rules word (items_of t)
+tree_fits set rules start net word can built ends t runs = whole_is_tree rules word t (runs_whole set rules start net word can built ends beginning (parsed t) t runs refl (fitting_begins set rules start net word can built ends))
 
 -- so what the parse call answers is the items of one of the rules' trees
 pub answer_fits : (net : ParserNetwork) (word : List ℕ) (x : Result (List Item) ParseFault) → EndsInEnd word → IsParse net word x →
-    (set : List ℕ) (rules : List StepRule) (start : List ℕ) → IsBuilt set rules start net → IfOk x (IsTreeOf rules word)
-answer_fits net word (Ok xs) ends (t, runs, is) set rules start built = subst (IsTreeOf rules word) (sym is) (tree_fits set rules start net word built ends t runs)
-answer_fits net word (Err fault) ends fails set rules start built = tt
+    (set : List ℕ) (rules : List StepRule) (start : List ℕ) → CanBeRewritten rules → IsBuilt set (rewritten rules) (numberings rules) start net → IfOk x (IsTreeOf rules word)
+answer_fits net word (Ok xs) ends (t, runs, is) set rules start can built = subst (IsTreeOf rules word) (sym is) (tree_fits set rules start net word can built ends t runs)
+answer_fits net word (Err fault) ends fails set rules start can built = tt

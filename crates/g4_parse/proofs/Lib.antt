@@ -1,4 +1,6 @@
 pub mod Fitting
+mod Allowing
+mod Begun
 mod Forests
 mod Grown
 mod Measure

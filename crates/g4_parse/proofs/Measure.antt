@@ -7,7 +7,7 @@ use Rattle.std.proofs.lemmas.Option.{slice_get_within}
 use Rattle.g4_net.specs.declared.network.State.{State}
 use Rattle.g4_net.specs.declared.network.State.TheVariants.{Decision, End, Edge, Call, Predicate, Level, Action, Empty}
 use Rattle.g4_net.specs.Configurations.{Config, config, above_bottom}
-use Rattle.g4_net.specs.Network.{ParserNetwork, state_at, start_of}
+use Rattle.g4_net.specs.Network.{ParserNetwork, state_at, start_of, written_at}
 use Rattle.g4_net.specs.Leads.{LeadsBy, Leads, WellFormed}
 use Rattle.g4_net.specs.AddedRule.{IsRunnable}
 use Rattle.g4_token_list.specs.TokenList.{EndsInEnd}
@@ -16,7 +16,7 @@ use Rattle.g4_lookahead.proofs.Proper.{proper_within}
 use Rattle.g4_parse.specs.Running.{Frame, Run, deepest, no_predicates, GoesBy, Goes, ClosesBy, begun, node_of}
 use Rattle.g4_parse.specs.Standing.{backs}
 use Rattle.g4_parse.proofs.Grown.{state_child, place_child}
-use Rattle.g4_parse.proofs.Stages.{Stage, first_in, advances, backs_alt, backs_child}
+use Rattle.g4_parse.proofs.Stages.{Stage, first_in, advances, backs_alt, backs_child, backs_wrapped}
 
 -- where a run stands, as a configuration
 abbrev pub config_at : ℕ → List ℕ → Config
@@ -91,8 +91,9 @@ module _ {looped : List ℕ} (net : ParserNetwork) (rule loop : ℕ) (ready : Is
       called_to : (r s : Run) (called level back : ℕ) → state_at net r.state ≡ Some (Call called level back) → config_at s.state (backs s.frames) ≡ config_at (start_of called) (back ∷ backs r.frames) → leads_to net r s
       called_to r s called level back is to =
           subst (λ (d : Config). Leads net (config_at r.state (backs r.frames)) d) (sym to) (subst (λ (o : Option (State (List ℕ))). LeadsBy net o (config_at r.state (backs r.frames)) (config_at (start_of called) (back ∷ backs r.frames))) (sym is) refl)
-  falls_by r s (Some (Predicate n t)) is h k g = absurd (ready.untested r.state (Predicate n t) is)
-  falls_by r s (Some (Level q t)) is h k g = absurd (ready.untested r.state (Level q t) is)
+  falls_by r s (Some (Predicate n t)) is h k g = absurd (ready.unpredicated r.state (Predicate n t) is)
+  falls_by r s (Some (Level q t)) is h k (below, e) =
+      falls_along r s h (ap (λ (x : Run). x.place) e) (edge net r s t (Some (Level q t)) is refl (ap (λ (x : Run). x.state) e) (ap (λ (x : Run). backs x.frames) e ∙ backs_wrapped (written_at net r.state) r.frames))
   falls_by r s (Some (Action t)) is h k e = falls_along r s h (ap (λ (x : Run). x.place) e) (edge net r s t (Some (Action t)) is refl (ap (λ (x : Run). x.state) e) (ap (λ (x : Run). backs x.frames) e))
   falls_by r s (Some (Empty t)) is h k e = falls_along r s h (ap (λ (x : Run). x.place) e) (edge net r s t (Some (Empty t)) is refl (ap (λ (x : Run). x.state) e) (ap (λ (x : Run). backs x.frames) e))
 

@@ -35,7 +35,7 @@ module _ (net : ParserNetwork) (values : Values) (word : List ℕ) where
   goes_once (Some (Edge set u)) r s t (a, _, _, s_is) (b, _, _, t_is) = s_is ∙ sym t_is
   goes_once (Some (Call rule level back)) r s t p q = p.1 ∙ sym q.1
   goes_once (Some (Predicate k u)) r s t p q = p.1 ∙ sym q.1
-  goes_once (Some (Level n u)) r s t p q = p ∙ sym q
+  goes_once (Some (Level n u)) r s t p q = p.1 ∙ sym q.1
   goes_once (Some (Action u)) r s t p q = p ∙ sym q
   goes_once (Some (Empty u)) r s t p q = p ∙ sym q
 
@@ -52,7 +52,7 @@ module _ (net : ParserNetwork) (values : Values) (word : List ℕ) where
   stops_once (Some (Edge set u)) r a b (x, _, _, a_is) (y, _, _, b_is) = a_is ∙ sym b_is
   stops_once (Some (Call rule level back)) r a b p q = p.1 ∙ sym q.1
   stops_once (Some (Predicate k u)) r a b p q = p.1 ∙ sym q.1
-  stops_once (Some (Level n u)) r a b p q = absurd p
+  stops_once (Some (Level n u)) r a b p q = p.1 ∙ sym q.1
   stops_once (Some (Action u)) r a b p q = absurd p
   stops_once (Some (Empty u)) r a b p q = absurd p
 
@@ -68,7 +68,7 @@ module _ (net : ParserNetwork) (values : Values) (word : List ℕ) where
       refuses (subst (λ (n : ℕ). Contains set n) same takes)
   never_both (Some (Call rule level back)) r s e p q = omega (arith, p.0, q.0)
   never_both (Some (Predicate k u)) r s e p q = let holds = p.0 in let fails = q.0 in cc
-  never_both (Some (Level n u)) r s e p q = q
+  never_both (Some (Level n u)) r s e p q = omega (arith, p.0, q.0)
   never_both (Some (Action u)) r s e p q = q
   never_both (Some (Empty u)) r s e p q = q
 

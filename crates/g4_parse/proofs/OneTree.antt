@@ -5,14 +5,14 @@ use Rattle.std.specs.List.{Contains}
 use Rattle.g4_symbols.specs.Symbols.{end_of_list}
 use Rattle.g4_net.specs.declared.network.State.{State}
 use Rattle.g4_net.specs.declared.network.State.TheVariants.{Decision, End, Edge, Call, Predicate, Level, Action, Empty}
-use Rattle.g4_net.specs.Network.{ParserNetwork, state_at}
+use Rattle.g4_net.specs.Network.{ParserNetwork, state_at, written_at}
 use Rattle.g4_net.specs.Leads.{IsTarget}
 use Rattle.g4_net.specs.AddedRule.{IsRunnable}
 use Rattle.g4_lookahead.proofs.Proper.{IsStackFor, Inside, at_call, at_last, at_loop, at_turn, after_turn, at_end, after_end, inside_cases, stack_for}
 use Rattle.g4_trees.specs.Trees.{Tree, Forest, no_tree, and_then, only}
 use Rattle.g4_parse.specs.Running.{Frame, Run, no_predicates, GoesBy, Goes, ClosesBy, with_token, begun, node_of}
 use Rattle.g4_parse.specs.Standing.{backs}
-use Rattle.g4_parse.proofs.Stages.{Stage, first_in, backs_alt, backs_token}
+use Rattle.g4_parse.proofs.Stages.{Stage, first_in, backs_alt, backs_token, backs_wrapped}
 
 -- what is outside the open rules, which have these return states, newest first: nothing before the start rule is called and
 -- while it is open, and then one tree
@@ -105,8 +105,9 @@ module _ {looped : List ℕ} (net : ParserNetwork) (rule loop : ℕ) (ready : Is
   one_tree_by word r s (Some (Edge set t)) is h (a, next, has, e) one =
       along r s (Edge set t) t h is refl (λ callee level back f. cc) (ap (λ (x : Run). x.state) e) (ap (λ (x : Run). backs x.frames) e ∙ backs_token r r.frames refl) (ap (λ (x : Run). x.tree) e ∙ token_tree r r.frames) one
   one_tree_by word r s (Some (Call callee level back)) is h (room, e) one = called_one r s callee level back r.frames refl h is (ap (λ (x : Run). backs x.frames) e) (ap (λ (x : Run). x.tree) e) one
-  one_tree_by word r s (Some (Predicate k t)) is h g one = absurd (ready.untested r.state (Predicate k t) is)
-  one_tree_by word r s (Some (Level q t)) is h g one = absurd (ready.untested r.state (Level q t) is)
+  one_tree_by word r s (Some (Predicate k t)) is h g one = absurd (ready.unpredicated r.state (Predicate k t) is)
+  one_tree_by word r s (Some (Level q t)) is h (below, e) one =
+      along r s (Level q t) t h is refl (λ callee level back f. cc) (ap (λ (x : Run). x.state) e) (ap (λ (x : Run). backs x.frames) e ∙ backs_wrapped (written_at net r.state) r.frames) (ap (λ (x : Run). x.tree) e) one
   one_tree_by word r s (Some (Action t)) is h e one = along r s (Action t) t h is refl (λ callee level back f. cc) (ap (λ (x : Run). x.state) e) (ap (λ (x : Run). backs x.frames) e) (ap (λ (x : Run). x.tree) e) one
   one_tree_by word r s (Some (Empty t)) is h e one = along r s (Empty t) t h is refl (λ callee level back f. cc) (ap (λ (x : Run). x.state) e) (ap (λ (x : Run). backs x.frames) e) (ap (λ (x : Run). x.tree) e) one
 

@@ -11,9 +11,9 @@ use Rattle.g4_trees.specs.declared.tree.Item.{Item}
 use Rattle.g4_trees.specs.Trees.{Tree, Forest, only, items_of, items_of_all}
 use Rattle.g4_tree_builder.specs.Kept.{HasGrown}
 use Rattle.g4_parse.specs.declared.parser.ParseFault.{ParseFault}
-use Rattle.g4_parse.specs.declared.parser.ParseFault.TheVariants.{NoViable, Mismatch, TooDeep, NoMemory}
+use Rattle.g4_parse.specs.declared.parser.ParseFault.TheVariants.{NoViable, Mismatch, FailedPredicate, TooDeep, NoMemory}
 use Rattle.g4_parse.specs.declared.parser.Parser.{Parser}
-use Rattle.g4_parse.specs.Running.{Frame, Run, Ending, parsed, not_viable, mismatch, too_deep, beginning, no_predicates, StopsBy, Runs, stops, goes}
+use Rattle.g4_parse.specs.Running.{Frame, Run, Ending, parsed, not_viable, mismatch, failed_predicate, too_deep, beginning, no_predicates, StopsBy, Runs, stops, goes}
 use Rattle.g4_parse.specs.Parsing.{Ends, IsParseFault, IsParse}
 use Rattle.g4_parse.specs.Standing.{StandsFor, IsFitBy, IsFaultBy, IsTurnBy, IsUnderway, HasEnded, backs, grown}
 use Rattle.g4_parse.proofs.Grown.{reverse_returns}
@@ -90,6 +90,7 @@ turn_falls net tokens p q o turn =
 fault_onward : (net : ParserNetwork) (word : List ℕ) (r : Run) (fault : ParseFault) → ((e : Ending) → Runs net no_predicates word r e → Runs net no_predicates word beginning e) → IsFaultBy net word (state_at net r.state) r fault → IsParseFault net word fault
 fault_onward net word r (NoViable at) onward h = onward (not_viable at) (stops r (not_viable at) h)
 fault_onward net word r (Mismatch at state) onward h = onward (mismatch at state) (stops r (mismatch at state) h)
+fault_onward net word r (FailedPredicate at rule) onward h = onward (failed_predicate at rule) (stops r (failed_predicate at rule) h)
 fault_onward net word r (TooDeep at) onward h = onward (too_deep at) (stops r (too_deep at) h)
 fault_onward net word r NoMemory onward h = tt
 

@@ -1,21 +1,19 @@
 -- The children so far of an open rule are part of a word of its alternative: what walks from its state to the end of the rule
--- read completes them to such a word.
-use Rattle.std.proofs.Common.{◌≡◌, ℕ, suc, ◌+◌, List, [], ◌∷◌, ◌++◌, map, Option, Some, refl, sym, ◌∙◌, ap, subst, append_assoc, append-nil, arith, slice_get}
-use Rattle.std.proofs.lemmas.Option.{slice_get-map}
-use Rattle.g4_elements.specs.Elements.{Elements}
-use Rattle.g4_source.specs.Rules.{bodies_of, alternatives_of}
+-- read, without passing a level, completes them to such a word.
+use Rattle.std.proofs.Common.{◌≡◌, ℕ, ◌+◌, List, [], ◌∷◌, ◌++◌, Option, Some, refl, sym, ◌∙◌, ap, subst, append_assoc, append-nil}
+use Rattle.g4_elements.specs.Elements.{atom, Elements, then}
+use Rattle.g4_source.specs.Rules.{bodies_of}
 use Rattle.g4_grammar.specs.declared.step.Step.{Step}
 use Rattle.g4_grammar.specs.declared.step.Step.TheVariants as steps
+use Rattle.g4_grammar.specs.Derives.{an_atom, one_more}
 use Rattle.g4_grammar.specs.StepRules.{StepRule}
 use Rattle.g4_net.specs.declared.network.State.{State}
 use Rattle.g4_net.specs.declared.network.State.TheVariants.{End}
 use Rattle.g4_net.specs.Network.{ParserNetwork, state_at}
-use Rattle.g4_layout.specs.Layout.{IsNetworkOf}
-use Rattle.g4_layout.specs.Rules.{rules_of}
-use Rattle.g4_walks.specs.Alternatives.{IsAlternative, BeginsAt}
-use Rattle.g4_walks.specs.Walks.{ReadsLetter, MovesBy, Walk, stays, goes}
-use Rattle.g4_walks.proofs.Beginnings.{begins, item_of_alternative}
-use Rattle.g4_walks.proofs.Words.{walk_ends}
+use Rattle.g4_walks.specs.Alternatives.{IsWrittenAs}
+use Rattle.g4_walks.specs.Spelling.{IsSpelled}
+use Rattle.g4_walks.specs.Walks.{NoLevel, ReadsLetter, MovesBy, Walk, WalksTo, stays, goes}
+use Rattle.g4_walks.proofs.Beginnings.{item_of_alternative}
 use Rattle.g4_trees.specs.declared.tree.Item.{Item}
 use Rattle.g4_trees.specs.declared.tree.Item.TheVariants as items
 use Rattle.g4_tree_check.specs.TreesOf.{IsTakenAt, ReadsChildren, IsBody, DerivesChildren}
@@ -34,7 +32,7 @@ EntersRule rule (items.Enter entered alt at) = entered ≡ rule
 EntersRule rule items.Exit = ⊥
 
 -- what a walk reads of a step, a node's children are
-reads_children : (word : List ℕ) (a : Step (List ℕ)) (w : List Item) → ReadsLetter (TakesToken word) EntersRule a w → ReadsChildren word a w
+reads_children : (word : List ℕ) (a : Step (List ℕ)) (w : List Item) → ReadsLetter (TakesToken word) EntersRule NoLevel a w → ReadsChildren word a w
 reads_children word (steps.Edge set) w (items.Token at, taken, is) = (at, is, taken)
 reads_children word (steps.Edge set) w (items.Enter rule alt at, taken, is) = absurd taken
 reads_children word (steps.Edge set) w (items.Exit, taken, is) = absurd taken
@@ -42,23 +40,20 @@ reads_children word (steps.Call rule level) w (items.Token at, entered, is) = ab
 reads_children word (steps.Call rule level) w (items.Enter other alt at, entered, is) = (alt, at, is ∙ ap (λ (q : ℕ). items.Enter q alt at ∷ []) entered)
 reads_children word (steps.Call rule level) w (items.Exit, entered, is) = absurd entered
 reads_children word (steps.Predicate k) w h = h
-reads_children word (steps.Level q) w h = h
+reads_children word (steps.Level q) w h = absurd h.0
 reads_children word steps.Action w h = h
+reads_children word steps.Empty w h = h
 
--- the rule of this number, which is none of the added rule's
-abbrev pub IsRule : List StepRule → ℕ → StepRule → Type 0
-IsRule rules rule r = (k : ℕ) × (rule ≡ k + 1) × (slice_get rules k ≡ Some r)
-
--- an alternative of it is one of its bodies
-body_of : (rules : List StepRule) (rule i : ℕ) (r : StepRule) (x : Elements (Step (List ℕ))) → IsRule rules rule r → IsAlternative (alternatives_of r) i x → IsBody rules rule i x
-body_of rules rule i r x (k, number, is) alternative =
+-- an alternative as it is written is one of the rule's bodies
+pub body_of : (rules : List StepRule) (rule i : ℕ) (x : Elements (Step (List ℕ))) → IsWrittenAs rules rule i x → IsBody rules rule i x
+body_of rules rule i x (k, r, number, is, alternative) =
     let h = item_of_alternative (bodies_of r) i x alternative in
     (k, h.0, r, number, h.2, is, h.1)
 
 module _ (rules : List StepRule) (net : ParserNetwork) (word : List ℕ) where
-  -- a walk of items
+  -- a walk of items that passes no level
   abbrev WalkOfItems : ℕ → ℕ → ℕ → List Item → Type 0
-  WalkOfItems = Walk (TakesToken word) EntersRule net
+  WalkOfItems = Walk (TakesToken word) EntersRule NoLevel net
 
   -- what walks from the state to the end of a rule read completes these items to a word of the elements
   abbrev Completes : Elements (Step (List ℕ)) → List Item → ℕ → Type 0
@@ -68,35 +63,43 @@ module _ (rules : List StepRule) (net : ParserNetwork) (word : List ℕ) where
   abbrev pub IsPart : ℕ → ℕ → List Item → ℕ → Type 0
   IsPart rule alt done p = (x : Elements (Step (List ℕ))) × IsBody rules rule alt x × Completes x done p
 
+  -- the items are a word of an alternative
+  abbrev pub IsWord : ℕ → ℕ → List Item → Type 0
+  IsWord rule alt done = (x : Elements (Step (List ℕ))) × IsBody rules rule alt x × DerivesChildren word x done
+
   -- one step more
-  pub part_on : (rule alt p t : ℕ) (done u : List Item) (o : Option (State (List ℕ))) → state_at net p ≡ o → MovesBy (TakesToken word) EntersRule o t u → IsPart rule alt done p → IsPart rule alt (done ++ u) t
+  pub part_on : (rule alt p t : ℕ) (done u : List Item) (o : Option (State (List ℕ))) → state_at net p ≡ o → MovesBy (TakesToken word) EntersRule NoLevel o t u → IsPart rule alt done p → IsPart rule alt (done ++ u) t
   part_on rule alt p t done u o is moves (x, body, completes) = (
     x,
     body,
     λ e ended n w end walk.
-        let step = subst (λ (s : Option (State (List ℕ))). MovesBy (TakesToken word) EntersRule s t u) (sym is) moves in
+        let step = subst (λ (s : Option (State (List ℕ))). MovesBy (TakesToken word) EntersRule NoLevel s t u) (sym is) moves in
         subst (DerivesChildren word x) (sym (append_assoc done u w)) (completes e ended (n + 1) (u ++ w) end (goes n p t e u w (u ++ w) step walk refl)),
   )
 
-  -- at the end of a rule nothing is to come
-  pub part_ends : (rule alt p ended : ℕ) (done : List Item) → state_at net p ≡ Some (End ended) → IsPart rule alt done p → (x : Elements (Step (List ℕ))) × IsBody rules rule alt x × DerivesChildren word x done
-  part_ends rule alt p ended done is (x, body, completes) = (x, body, subst (DerivesChildren word x) (append-nil done) (completes p ended 0 [] is (stays p)))
+  -- where a walk to the end of a rule reads nothing, nothing needs to come
+  pub part_whole : (rule alt p e ended : ℕ) (done : List Item) → state_at net e ≡ Some (End ended) → WalksTo (TakesToken word) EntersRule NoLevel net p e [] → IsPart rule alt done p → IsWord rule alt done
+  part_whole rule alt p e ended done end (n, walk) (x, body, completes) = (x, body, subst (DerivesChildren word x) (append-nil done) (completes e ended n [] end walk))
 
-  module _ (set start : List ℕ) (network : IsNetworkOf (rules_of set rules start) net) where
-    -- the alternatives of a rule
-    pub in_network : (rule : ℕ) (r : StepRule) → IsRule rules rule r → slice_get (rules_of set rules start) rule ≡ Some (alternatives_of r)
-    in_network rule r (k, number, is) =
-        let next : suc k ≡ rule = omega arith in
-        let at : slice_get (map alternatives_of rules) k ≡ Some (alternatives_of r) = slice_get-map alternatives_of rules k ∙ rw is refl in
-        subst (λ (q : ℕ). slice_get (rules_of set rules start) q ≡ Some (alternatives_of r)) next at
+  -- so it is at the end itself
+  pub part_ends : (rule alt p ended : ℕ) (done : List Item) → state_at net p ≡ Some (End ended) → IsPart rule alt done p → IsWord rule alt done
+  part_ends rule alt p ended done is = part_whole rule alt p p ended done is (0, stays p)
 
-    -- where an alternative begins, all is to come
-    pub part_begins : (rule i a : ℕ) (r : StepRule) → IsRule rules rule r → BeginsAt net rule (alternatives_of r) i a → IsPart rule i [] a
-    part_begins rule i a r is_rule start_at =
-        let is = in_network rule r is_rule in
-        let b = begins (rules_of set rules start) net network rule (alternatives_of r) is i a start_at in (
-          b.alternative,
-          body_of rules rule i r b.alternative is_rule b.is,
-          λ e ended n w end walk. all_derive_more (ReadsLetter (TakesToken word) EntersRule) (ReadsChildren word) (reads_children word)
-              (walk_ends (TakesToken word) EntersRule (rules_of set rules start) net network rule (alternatives_of r) is i a b.alternative b.is start_at e ended n w end walk).2,
-        )
+  -- where an alternative begins, all is to come
+  pub part_begins : (rule i p : ℕ) (x : Elements (Step (List ℕ))) → IsWrittenAs rules rule i x → IsSpelled (TakesToken word) EntersRule net rule x p → IsPart rule i [] p
+  part_begins rule i p x written spelled = (
+    x,
+    body_of rules rule i x written,
+    λ e ended n w end walk. all_derive_more (ReadsLetter (TakesToken word) EntersRule NoLevel) (ReadsChildren word) (reads_children word) (spelled.derives e ended n w end walk),
+  )
+
+  -- where an operator begins, a node of its rule is there and what follows is to come
+  pub part_continues : (rule i level p alt at : ℕ) (x : Elements (Step (List ℕ))) → IsWrittenAs rules rule i (then (atom (steps.Call rule level)) x) → IsSpelled (TakesToken word) EntersRule net rule x p → IsPart rule i (items.Enter rule alt at ∷ []) p
+  part_continues rule i level p alt at x written spelled = (
+    then (atom (steps.Call rule level)) x,
+    body_of rules rule i (then (atom (steps.Call rule level)) x) written,
+    λ e ended n w end walk.
+        let rest : DerivesChildren word x w = all_derive_more (ReadsLetter (TakesToken word) EntersRule NoLevel) (ReadsChildren word) (reads_children word) (spelled.derives e ended n w end walk) in
+        let node : List Item = items.Enter rule alt at ∷ [] in
+        one_more (atom (steps.Call rule level)) x node w (node ++ w) (an_atom (steps.Call rule level) node (alt, at, refl)) rest refl,
+  )

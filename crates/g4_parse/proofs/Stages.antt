@@ -7,14 +7,14 @@ use Rattle.std.proofs.lemmas.List.Elements.{All-head}
 use Rattle.g4_symbols.specs.Symbols.{end_of_list}
 use Rattle.g4_net.specs.declared.network.State.{State}
 use Rattle.g4_net.specs.declared.network.State.TheVariants.{Decision, End, Edge, Call, Predicate, Level, Action, Empty}
-use Rattle.g4_net.specs.Network.{ParserNetwork, state_at, start_of, IsFirst}
+use Rattle.g4_net.specs.Network.{ParserNetwork, state_at, start_of, IsFirst, written_at}
 use Rattle.g4_net.specs.Leads.{IsTarget}
 use Rattle.g4_net.specs.AddedRule.{IsRunnable}
 use Rattle.g4_net.specs.Proper.{start, IsProper, at_bottom}
 use Rattle.g4_lookahead.proofs.Proper.{IsStackFor, Inside, at_call, at_last, at_loop, at_turn, after_turn, at_end, after_end, inside_cases, stack_for, proper_within, proper_target, proper_call, proper_return}
 use Rattle.g4_token_list.specs.TokenList.{EndsInEnd}
 use Rattle.g4_trees.specs.Trees.{Tree}
-use Rattle.g4_parse.specs.Running.{Frame, Run, beginning, deepest, no_predicates, GoesBy, Goes, ClosesBy, with_child, with_token, with_alt, begun, node_of}
+use Rattle.g4_parse.specs.Running.{Frame, Run, beginning, deepest, no_predicates, GoesBy, Goes, ClosesBy, with_child, with_token, with_alt, wrapped, begun, node_of}
 use Rattle.g4_parse.specs.Standing.{backs, IsFitBy}
 use Rattle.g4_parse.proofs.Grown.{state_child, place_child}
 
@@ -58,6 +58,14 @@ backs_child r (f ∷ fs) t = refl
 pub backs_token : (r : Run) (fs : List Frame) → r.frames ≡ fs → backs (with_token r fs).frames ≡ backs fs
 backs_token r [] e = ap backs e
 backs_token r (f ∷ fs) e = refl
+
+pub backs_wrapped : (i : ℕ) (fs : List Frame) → backs (wrapped i fs) ≡ backs fs
+backs_wrapped i [] = refl
+backs_wrapped i (f ∷ fs) = refl
+
+length_wrapped : (i : ℕ) (fs : List Frame) → length (wrapped i fs) ≡ length fs
+length_wrapped i [] = refl
+length_wrapped i (f ∷ fs) = refl
 
 length_alt : (i : ℕ) (fs : List Frame) → length (with_alt i fs) ≡ length fs
 length_alt i [] = refl
@@ -173,8 +181,11 @@ module _ {looped : List ℕ} (net : ParserNetwork) (rule loop : ℕ) (ready : Is
       short = omega (arith, ap (λ (x : Run). length x.frames) e);
       more = λ x y. let less = left r (Call callee level back) h is (λ e. cc) (λ e. cc) in omega (arith, ap (λ (x : Run). x.place) e);
     }
-    advances_by r s (Some (Predicate k t)) is h g = absurd (ready.untested r.state (Predicate k t) is)
-    advances_by r s (Some (Level q t)) is h g = absurd (ready.untested r.state (Level q t) is)
+    advances_by r s (Some (Predicate k t)) is h g = absurd (ready.unpredicated r.state (Predicate k t) is)
+    advances_by r s (Some (Level q t)) is h (below, e) =
+        moves r (Level q t) t r.frames s h is refl (ap (λ (x : Run). x.state) e) (ap (λ (x : Run). x.place) e)
+        (ap (λ (x : Run). backs x.frames) e ∙ backs_wrapped (written_at net r.state) r.frames) (ap (λ (x : Run). length x.frames) e ∙ length_wrapped (written_at net r.state) r.frames)
+        (λ x. left r (Level q t) h is (λ u. cc) (λ u. cc))
     advances_by r s (Some (Action t)) is h e =
         moves r (Action t) t r.frames s h is refl (ap (λ (x : Run). x.state) e) (ap (λ (x : Run). x.place) e) (ap (λ (x : Run). backs x.frames) e) (ap (λ (x : Run). length x.frames) e)
         (λ x. left r (Action t) h is (λ u. cc) (λ u. cc))
@@ -199,8 +210,8 @@ module _ {looped : List ℕ} (net : ParserNetwork) (rule loop : ℕ) (ready : Is
         let same = ready.well_formed.written in
         let few = ready.few in
         (omega arith, omega arith)
-    fits_by r (Some (Predicate k t)) is h = ready.untested r.state (Predicate k t) is
-    fits_by r (Some (Level q t)) is h = absurd (ready.untested r.state (Level q t) is)
+    fits_by r (Some (Predicate k t)) is h = ready.unpredicated r.state (Predicate k t) is
+    fits_by r (Some (Level q t)) is h = let within = h.state_in in omega (arith, ready.well_formed.written)
     fits_by r (Some (Action t)) is h = tt
     fits_by r (Some (Empty t)) is h = tt
 

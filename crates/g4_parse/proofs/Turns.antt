@@ -1,5 +1,5 @@
 -- What a turn of the parser is in the run.
-use Rattle.std.proofs.Common.{◌≡◌, ◌+◌, ◌-◌, ◌<◌, ◌≤◌, ◌++◌, ◌∷◌, [], ℕ, List, length, get_or, drop, reverse, false, cond, ◌==◌, refl, sym, ◌∙◌, ap, subst, arith, length-append}
+use Rattle.std.proofs.Common.{◌≡◌, ◌+◌, ◌-◌, ◌<◌, ◌≤◌, ◌++◌, ◌∷◌, [], ℕ, ◌↔◌, List, length, get_or, take, drop, reverse, false, cond, ◌==◌, refl, sym, ◌∙◌, ap, subst, arith, length-append}
 use Rattle.std.specs.Prelude.{Option, Some, Result, Ok, Err, IsErrAnd, ⊤, slice_get}
 use Rattle.std.proofs.lemmas.Option.{slice_get_within, get_or_from_slice_get}
 use Rattle.std.proofs.lemmas.List.Elements.{Contains-get_or}
@@ -8,25 +8,27 @@ use Rattle.std.proofs.lemmas.Bool.Decides.{nat_tests}
 use Rattle.g4_net.specs.declared.network.State.{State}
 use Rattle.g4_net.specs.declared.network.State.TheVariants.{Decision}
 use Rattle.g4_net.specs.Network.{ParserNetwork, state_at, IsFirst}
-use Rattle.g4_net.specs.AddedRule.{IsReady}
 use Rattle.g4_net.specs.Allowed.{Allows}
-use Rattle.g4_net.specs.declared.allowed.Allowed.TheVariants.{Every}
-use Rattle.g4_net.specs.Configurations.{above_bottom}
-use Rattle.g4_net.specs.Prediction.{Choice, chosen, no_viable, Decides}
+use Rattle.g4_net.specs.declared.allowed.Allowed.{Allowed}
+use Rattle.g4_net.specs.Configurations.{Stack, above_bottom}
+use Rattle.g4_net.specs.Lookahead.{Start}
+use Rattle.g4_net.specs.Prediction.{Choice, chosen, no_viable, HasTests, Decides, by_answer, by_error, by_full, by_tests}
 use Rattle.g4_net.specs.Leads.{WellFormed}
+use Rattle.g4_lookahead.proofs.Judging.{Within, full_same}
 use Rattle.g4_predict.specs.Deciding.{IsDecideFault}
-use Rattle.g4_predict.proofs.Choosing.{untested, whatever_is_allowed}
 use Rattle.g4_predict.specs.declared.decision.DecideFault.{DecideFault}
 use Rattle.g4_predict.specs.declared.decision.DecideFault.TheVariants as deciding
 use Rattle.g4_parse.specs.Deciding.{of_decide}
 use Rattle.g4_trees.specs.Trees.{leaf}
 use Rattle.g4_tree_builder.specs.Growing.{Growing, with_tree, with_alternative, with_close, with_wrap}
 use Rattle.g4_tree_builder.specs.Kept.{HasGrown}
+use Rattle.g4_parse.specs.declared.parser.Opened.{Opened}
 use Rattle.g4_parse.specs.declared.parser.Parser.{Parser}
 use Rattle.g4_parse.specs.declared.parser.ParseFault.{ParseFault}
 use Rattle.g4_parse.specs.Running.{Frame, Run, not_viable, no_predicates, Predicts, GoesBy, ClosesBy, with_child, with_token, with_begun, begun, wrapped, node_of, stack_of, AllowsAt}
-use Rattle.g4_parse.specs.Standing.{StandsFor, IsFaultBy, IsTurnBy, backs, returns_of, grown}
-use Rattle.g4_parse.proofs.Grown.{returns_child, place_child, state_child, grown_close, returns_alt, grown_alt, returns_wrapped, grown_wrapped, reverse_returns}
+use Rattle.g4_parse.specs.Allowing.{IsAllowed}
+use Rattle.g4_parse.specs.Standing.{StandsFor, IsFaultBy, IsTurnBy, backs, returns_of, opened_of, grown}
+use Rattle.g4_parse.proofs.Grown.{all_but_last, returns_child, opened_child, place_child, state_child, grown_close, returns_alt, opened_alt, grown_alt, returns_wrapped, opened_wrapped, grown_wrapped, reverse_returns}
 
 -- lists that end alike are alike
 same_last : (xs ys : List ℕ) (x y : ℕ) → xs ++ x ∷ [] ≡ ys ++ y ∷ [] → (xs ≡ ys) × (x ≡ y)
@@ -45,20 +47,23 @@ none_opened [] e = refl
 none_opened (f ∷ fs) e = absurd (omega (arith, ap length e, length-append (returns_of fs) (f.back ∷ [])))
 
 -- Popping the newest open rule and closing its node is a step of the run.
-pub closes : (net : ParserNetwork) (word : List ℕ) (r : Run) (fs : List Frame) (p q : Parser) (back : ℕ) (rest : List ℕ) → r.frames ≡ fs → StandsFor p r → p.returns.items ≡ rest ++ back ∷ [] → q.state ≡ back → q.place ≡ p.place → q.returns.items ≡ rest → ((g : Growing) → HasGrown p.tree g → HasGrown q.tree (with_close g)) → (s : Run) × ClosesBy net no_predicates word r fs s × StandsFor q s
-closes net word r [] p q back rest same h popped a b d e =
+pub closes : (net : ParserNetwork) (word : List ℕ) (r : Run) (fs : List Frame) (p q : Parser) (back : ℕ) (rest : List ℕ) → r.frames ≡ fs → StandsFor p r → p.returns.items ≡ rest ++ back ∷ [] → q.state ≡ back → q.place ≡ p.place → q.returns.items ≡ rest → q.opened.items ≡ take (length p.opened.items - 1) p.opened.items → ((g : Growing) → HasGrown p.tree g → HasGrown q.tree (with_close g)) → (s : Run) × ClosesBy net no_predicates word r fs s × StandsFor q s
+closes net word r [] p q back rest same h popped a b d o e =
     let none : rest ++ back ∷ [] ≡ [] = sym popped ∙ h.returns ∙ ap returns_of same in
     absurd (omega (arith, ap length none, length-append rest (back ∷ [])))
-closes net word r (f ∷ fs) p q back rest same h popped a b d e =
+closes net word r (f ∷ fs) p q back rest same h popped a b d o e =
     let after : Run = record { state = f.back; place = r.place; frames = fs; tree = r.tree } in
     let last : (returns_of fs ≡ rest) × (f.back ≡ back) = same_last (returns_of fs) rest f.back back (sym (ap returns_of same) ∙ sym h.returns ∙ popped) in
-    let tree : HasGrown p.tree (grown (f ∷ fs) r.tree) = subst (λ (gs : List Frame). HasGrown p.tree (grown gs r.tree)) same h.tree in (
+    let tree : HasGrown p.tree (grown (f ∷ fs) r.tree) = subst (λ (gs : List Frame). HasGrown p.tree (grown gs r.tree)) same h.tree in
+    let newest : Opened = record { rule = f.rule; level = f.level } in
+    let rest_open : take (length p.opened.items - 1) p.opened.items ≡ opened_of fs = ap (λ (xs : List Opened). take (length xs - 1) xs) (h.opened ∙ ap opened_of same) ∙ all_but_last (opened_of fs) newest in (
       with_child after fs (node_of f),
       refl,
       record {
         state = a ∙ sym last.1 ∙ sym (state_child after fs (node_of f));
         place = b ∙ h.place ∙ sym (place_child after fs (node_of f));
         returns = d ∙ sym last.0 ∙ sym (returns_child after fs (node_of f));
+        opened = o ∙ rest_open ∙ sym (opened_child after fs (node_of f));
         tree = subst (HasGrown q.tree) (sym (grown_close after f fs)) (e (grown (f ∷ fs) r.tree) tree);
       },
     )
@@ -68,45 +73,59 @@ pub alt_is : (i alt : ℕ) → (i ≡ 0 → ⊥) → cond (i == 0) alt i ≡ i
 alt_is i alt n = let other : (i == 0) ≡ false = false_from_ne_true (i == 0) (λ e. n (grind (arith, nat_tests))) in rw other refl
 
 -- Writing the alternative of the newest open rule's node.
-pub begins_alt : (r : Run) (p q : Parser) (i : ℕ) → (i ≡ 0 → ⊥) → StandsFor p r → q.state ≡ p.state → q.place ≡ p.place → q.returns.items ≡ p.returns.items → ((g : Growing) → HasGrown p.tree g → HasGrown q.tree (with_alternative i g)) → StandsFor q (with_begun i r)
-begins_alt r p q i n h a b c e = record {
+pub begins_alt : (r : Run) (p q : Parser) (i : ℕ) → (i ≡ 0 → ⊥) → StandsFor p r → q.state ≡ p.state → q.place ≡ p.place → q.returns.items ≡ p.returns.items → q.opened.items ≡ p.opened.items → ((g : Growing) → HasGrown p.tree g → HasGrown q.tree (with_alternative i g)) → StandsFor q (with_begun i r)
+begins_alt r p q i n h a b c o e = record {
   state = a ∙ h.state;
   place = b ∙ h.place;
   returns = c ∙ h.returns ∙ sym (returns_alt i r.frames);
+  opened = o ∙ h.opened ∙ sym (opened_alt i r.frames);
   tree = subst (HasGrown q.tree) (sym (grown_alt i r.frames r (λ alt. alt_is i alt n))) (e (grown r.frames r.tree) h.tree);
 }
 
 -- Passing a level makes the node so far a first child.
-pub passes_level : (r : Run) (p q : Parser) (t i : ℕ) → StandsFor p r → q.state ≡ t → q.place ≡ p.place → q.returns.items ≡ p.returns.items → ((g : Growing) → HasGrown p.tree g → HasGrown q.tree (with_wrap i g)) → StandsFor q (record r { state = t; frames = wrapped i r.frames })
-passes_level r p q t i h a b c e = record {
+pub passes_level : (r : Run) (p q : Parser) (t i : ℕ) → StandsFor p r → q.state ≡ t → q.place ≡ p.place → q.returns.items ≡ p.returns.items → q.opened.items ≡ p.opened.items → ((g : Growing) → HasGrown p.tree g → HasGrown q.tree (with_wrap i g)) → StandsFor q (record r { state = t; frames = wrapped i r.frames })
+passes_level r p q t i h a b c o e = record {
   state = a;
   place = b ∙ h.place;
   returns = c ∙ h.returns ∙ sym (returns_wrapped i r.frames);
+  opened = o ∙ h.opened ∙ sym (opened_wrapped i r.frames);
   tree = subst (HasGrown q.tree) (sym (grown_wrapped i r.frames r)) (e (grown r.frames r.tree) h.tree);
 }
 
 -- Keeping a token makes it a child of the newest open rule.
-pub keeps_token : (r : Run) (fs : List Frame) (p q : Parser) → r.frames ≡ fs → (returns_of fs ≡ [] → ⊥) → StandsFor p r → q.state ≡ p.state → q.place ≡ p.place → q.returns.items ≡ p.returns.items → ((g : Growing) → HasGrown p.tree g → HasGrown q.tree (with_tree (leaf p.place) g)) → StandsFor q (with_token r fs)
-keeps_token r [] p q same some h a b c e = absurd (some refl)
-keeps_token r (f ∷ fs) p q same some h a b c e = record {
+pub keeps_token : (r : Run) (fs : List Frame) (p q : Parser) → r.frames ≡ fs → (returns_of fs ≡ [] → ⊥) → StandsFor p r → q.state ≡ p.state → q.place ≡ p.place → q.returns.items ≡ p.returns.items → q.opened.items ≡ p.opened.items → ((g : Growing) → HasGrown p.tree g → HasGrown q.tree (with_tree (leaf p.place) g)) → StandsFor q (with_token r fs)
+keeps_token r [] p q same some h a b c o e = absurd (some refl)
+keeps_token r (f ∷ fs) p q same some h a b c o e = record {
   state = a ∙ h.state;
   place = b ∙ h.place;
   returns = c ∙ h.returns ∙ ap returns_of same;
+  opened = o ∙ h.opened ∙ ap opened_of same;
   tree = subst (λ (k : ℕ). HasGrown q.tree (with_tree (leaf k) (grown (f ∷ fs) r.tree))) h.place (e (grown (f ∷ fs) r.tree) (subst (λ (gs : List Frame). HasGrown p.tree (grown gs r.tree)) same h.tree));
 }
 
+-- the first states of alternatives that are allowed lead to the same where as much is allowed
+starts_same : (net : ParserNetwork) (d : ℕ) (A B : ℕ → Type 0) (z : Stack) → ((i : ℕ) → A i → B i) → Within (Start net d A z) (Start net d B z)
+starts_same net d A B z more c (first, (allowed, is_first, stack), reaches, kept) = (first, (more first.alt allowed, is_first, stack), reaches, kept)
+
+-- where as much is allowed at a decision with tests, the choice is the same
+pub as_allowed : (net : ParserNetwork) (d : ℕ) (A B : ℕ → Type 0) (z : Stack) (w : List ℕ) (c : Choice) → (HasTests net d → (i : ℕ) → A i ↔ B i) → Decides net d A z w c → Decides net d B z w c
+as_allowed net d A B z w c same (by_answer i path n sll) = by_answer i path n sll
+as_allowed net d A B z w c same (by_error k path n sll) = by_error k path n sll
+as_allowed net d A B z w c same (by_full k path _ n sll full) = by_full k path c n sll full
+as_allowed net d A B z w c same (by_tests _ some full) = by_tests c some (full_same net (Start net d A z) (Start net d B z) (starts_same net d A B z (λ i. (same some i).0)) (starts_same net d B A z (λ i. (same some i).1)) w 0 c full)
+
 -- what is chosen at the parser's state is what prediction says in the run
-predicted : (net : ParserNetwork) (word : List ℕ) (r : Run) (p : Parser) (choice : Choice) → IsReady net → StandsFor p r → Decides net p.state (Allows Every) (above_bottom (reverse p.returns.items)) (drop p.place word) choice → Predicts net no_predicates word r choice
-predicted net word r p choice (rule, loop, set, ready) h says =
+predicted : (net : ParserNetwork) (word : List ℕ) (r : Run) (p : Parser) (allowed : Allowed) (choice : Choice) → IsAllowed net p allowed → StandsFor p r → Decides net p.state (Allows allowed) (above_bottom (reverse p.returns.items)) (drop p.place word) choice → Predicts net no_predicates word r choice
+predicted net word r p allowed choice allows h says =
     let stack : reverse p.returns.items ≡ backs r.frames = ap reverse h.returns ∙ reverse_returns r.frames in
-    let said : Decides net r.state (Allows Every) (above_bottom (backs r.frames)) (drop r.place word) choice = rw (← h.state, ← h.place, ← stack) says in
-    whatever_is_allowed net r.state (Allows Every) (AllowsAt net no_predicates word r) (stack_of r) (drop r.place word) choice (untested net rule loop r.state ready) said
+    let said : Decides net r.state (Allows allowed) (above_bottom (backs r.frames)) (drop r.place word) choice = rw (← h.state, ← h.place, ← stack) says in
+    as_allowed net r.state (Allows allowed) (AllowsAt net no_predicates word r) (stack_of r) (drop r.place word) choice (allows word r h) said
 
 -- Going to the alternative that prediction says is a step of the run.
-pub chooses : (net : ParserNetwork) (word : List ℕ) (r : Run) (p q : Parser) (targets : List ℕ) (i t : ℕ) → IsReady net → StandsFor p r → Decides net p.state (Allows Every) (above_bottom (reverse p.returns.items)) (drop p.place word) (chosen i) → IsFirst net p.state i t → StandsFor q (record (with_begun (begun net t (state_at net t)) r) { state = t }) → (s : Run) × GoesBy net no_predicates word (Some (Decision targets)) r s × StandsFor q s
-chooses net word r p q targets i t ready h says first after = (
+pub chooses : (net : ParserNetwork) (word : List ℕ) (r : Run) (p q : Parser) (allowed : Allowed) (targets : List ℕ) (i t : ℕ) → IsAllowed net p allowed → StandsFor p r → Decides net p.state (Allows allowed) (above_bottom (reverse p.returns.items)) (drop p.place word) (chosen i) → IsFirst net p.state i t → StandsFor q (record (with_begun (begun net t (state_at net t)) r) { state = t }) → (s : Run) × GoesBy net no_predicates word (Some (Decision targets)) r s × StandsFor q s
+chooses net word r p q allowed targets i t allows h says first after = (
   record (with_begun (begun net t (state_at net t)) r) { state = t },
-  (i, t, predicted net word r p (chosen i) ready h says, subst (λ (n : ℕ). IsFirst net n i t) h.state first, refl),
+  (i, t, predicted net word r p allowed (chosen i) allows h says, subst (λ (n : ℕ). IsFirst net n i t) h.state first, refl),
   after,
 )
 
@@ -128,10 +147,10 @@ pub state_within : (net : ParserNetwork) (d : ℕ) (targets : List ℕ) (k : ℕ
 state_within net d targets k well at_d less = well.targets d (get_or targets k 0) (Decision targets) at_d (Contains-get_or targets k 0 less)
 
 -- where prediction finds no alternative the run stops
-pub decides_fault : (net : ParserNetwork) (word : List ℕ) (r : Run) (p : Parser) (targets : List ℕ) (fault : DecideFault) → IsReady net → StandsFor p r → IsDecideFault net p.state (Allows Every) (reverse p.returns.items) (drop p.place word) p.place fault → IsFaultBy net word (Some (Decision targets)) r (of_decide fault)
-decides_fault net word r p targets (deciding.NoViable at) ready h (k, says, is) =
-    (k, predicted net word r p (no_viable k) ready h says, ap not_viable (is ∙ ap (λ (n : ℕ). n + k) h.place))
-decides_fault net word r p targets deciding.NoMemory ready h is = tt
+pub decides_fault : (net : ParserNetwork) (word : List ℕ) (r : Run) (p : Parser) (allowed : Allowed) (targets : List ℕ) (fault : DecideFault) → IsAllowed net p allowed → StandsFor p r → IsDecideFault net p.state (Allows allowed) (reverse p.returns.items) (drop p.place word) p.place fault → IsFaultBy net word (Some (Decision targets)) r (of_decide fault)
+decides_fault net word r p allowed targets (deciding.NoViable at) allows h (k, says, is) =
+    (k, predicted net word r p allowed (no_viable k) allows h says, ap not_viable (is ∙ ap (λ (n : ℕ). n + k) h.place))
+decides_fault net word r p allowed targets deciding.NoMemory allows h is = tt
 
 -- a turn that answers with this fault
 pub fails_with : (net : ParserNetwork) (word : List ℕ) (o : Option (State (List ℕ))) (r : Run) (q : Parser) (fault : ParseFault) (x : Result ⊤ ParseFault) → IsErrAnd x (λ e. e ≡ fault) → IsFaultBy net word o r fault → IsTurnBy net word o r q x
@@ -142,4 +161,4 @@ fails_with net word o r q fault (Err e) is h = subst (IsFaultBy net word o r) (s
 pub moved_to : (p : Parser) (r s : Run) (t : ℕ) → r ≡ s → StandsFor p r → StandsFor (record p { state = t }) (record s { state = t })
 moved_to p r s t same h =
     let k : StandsFor p s = subst (StandsFor p) same h in
-    record { state = refl; place = k.place; returns = k.returns; tree = k.tree }
+    record { state = refl; place = k.place; returns = k.returns; opened = k.opened; tree = k.tree }

@@ -1,3 +1,4 @@
+pub mod Allowing
 pub mod Deciding
 pub mod Running
 pub mod Parsing

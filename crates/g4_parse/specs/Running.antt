@@ -135,7 +135,7 @@ module _ (net : ParserNetwork) (values : Values) (word : List ℕ) where
   GoesBy (Some (Call rule level back)) r s = (length r.frames < deepest)
       × (s ≡ record r { state = start_of rule; frames = record { back = back; level = level; rule = rule; alt = written_at net (start_of rule); at = r.place; children = no_tree } ∷ r.frames })
   GoesBy (Some (Predicate k t)) r s = (values k (open_rules r) r.place ≡ true) × (s ≡ record r { state = t })
-  GoesBy (Some (Level q t)) r s = s ≡ record r { state = t; frames = wrapped (written_at net r.state) r.frames }
+  GoesBy (Some (Level q t)) r s = (level_of r.frames ≤ q) × (s ≡ record r { state = t; frames = wrapped (written_at net r.state) r.frames })
   GoesBy (Some (Action t)) r s = s ≡ record r { state = t }
   GoesBy (Some (Empty t)) r s = s ≡ record r { state = t }
 
@@ -151,7 +151,7 @@ module _ (net : ParserNetwork) (values : Values) (word : List ℕ) where
   StopsBy (Some (Edge set t)) r e = (a : ℕ) × (slice_get word r.place ≡ Some a) × (Contains set a → ⊥) × (e ≡ mismatch r.place r.state)
   StopsBy (Some (Call rule level back)) r e = (deepest ≤ length r.frames) × (e ≡ too_deep r.place)
   StopsBy (Some (Predicate k t)) r e = (values k (open_rules r) r.place ≡ false) × (e ≡ failed_predicate r.place (rule_of r.frames))
-  StopsBy (Some (Level q t)) r e = ⊥
+  StopsBy (Some (Level q t)) r e = (q < level_of r.frames) × (e ≡ failed_predicate r.place (rule_of r.frames))
   StopsBy (Some (Action t)) r e = ⊥
   StopsBy (Some (Empty t)) r e = ⊥
 

@@ -9,9 +9,10 @@ use Rattle.g4_trees.specs.Trees.{Forest}
 use Rattle.g4_tree_builder.specs.Growing.{Growing, OpenNode}
 use Rattle.g4_tree_builder.specs.Kept.{HasGrown}
 use Rattle.g4_parse.specs.declared.parser.ParseFault.{ParseFault}
-use Rattle.g4_parse.specs.declared.parser.ParseFault.TheVariants.{NoViable, Mismatch, TooDeep, NoMemory}
+use Rattle.g4_parse.specs.declared.parser.ParseFault.TheVariants.{NoViable, Mismatch, FailedPredicate, TooDeep, NoMemory}
+use Rattle.g4_parse.specs.declared.parser.Opened.{Opened}
 use Rattle.g4_parse.specs.declared.parser.Parser.{Parser}
-use Rattle.g4_parse.specs.Running.{Frame, Run, not_viable, mismatch, too_deep, no_predicates, GoesBy, StopsBy}
+use Rattle.g4_parse.specs.Running.{Frame, Run, not_viable, mismatch, failed_predicate, too_deep, level_of, no_predicates, rule_of, GoesBy, StopsBy}
 
 -- the return states of the open rules, newest first
 abbrev pub backs : List Frame → List ℕ
@@ -21,6 +22,15 @@ backs frames = map (λ f. f.back) frames
 abbrev pub returns_of : List Frame → List ℕ
 returns_of [] = []
 returns_of (f ∷ fs) = returns_of fs ++ f.back ∷ []
+
+-- the numbers and levels of the open rules, newest last
+abbrev pub opened_of : List Frame → List Opened
+opened_of [] = []
+opened_of (f ∷ fs) = opened_of fs ++ record { rule = f.rule; level = f.level } ∷ []
+
+-- this is the number and the level of the newest open rule
+abbrev pub IsNewestOf : List Frame → Opened → Type 0
+IsNewestOf frames opened = (opened.rule ≡ rule_of frames) × (opened.level ≡ level_of frames)
 
 -- an open rule as an open node
 abbrev pub open_node : Frame → OpenNode
@@ -35,12 +45,14 @@ pub record StandsFor (p : Parser) (r : Run) : Type 0 where
   pub state : p.state ≡ r.state
   pub place : p.place ≡ r.place
   pub returns : p.returns.items ≡ returns_of r.frames
+  pub opened : p.opened.items ≡ opened_of r.frames
   pub tree : HasGrown p.tree (grown r.frames r.tree)
 
 -- the run stops at this moment with the fault, unless memory ran out
 abbrev pub IsFaultBy : ParserNetwork → List ℕ → Option (State (List ℕ)) → Run → ParseFault → Type 0
 IsFaultBy net word state r (NoViable at) = StopsBy net no_predicates word state r (not_viable at)
 IsFaultBy net word state r (Mismatch at from) = StopsBy net no_predicates word state r (mismatch at from)
+IsFaultBy net word state r (FailedPredicate at rule) = StopsBy net no_predicates word state r (failed_predicate at rule)
 IsFaultBy net word state r (TooDeep at) = StopsBy net no_predicates word state r (too_deep at)
 IsFaultBy net word state r NoMemory = Unit {0}
 

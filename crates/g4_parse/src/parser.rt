@@ -1,19 +1,23 @@
 // The parse run.
 ghost use Rattle.std.specs.Prelude.{◌≡◌, ◌<◌, ◌*◌, ◌^◌, ◌↔◌, ℕ, List, Some, IsTrue, IfOk, OnOk, length};
-ghost use Rattle.g4_grammar.specs.StepRules.{StepRule};
+ghost use Rattle.g4_grammar.specs.StepRules.{CanBeRewritten, StepRule};
 ghost use Rattle.g4_layout.specs.Built.{IsBuilt};
+ghost use Rattle.g4_leftrec.specs.Rewriting.{numberings, rewritten};
 ghost use Rattle.g4_net.specs.AddedRule.{IsReady};
 ghost use Rattle.g4_net.specs.declared.network.State.TheVariants.{Call, Decision, Edge, End, Level};
 ghost use Rattle.g4_net.specs.Network.{ParserNetwork as Net, state_at};
+ghost use Rattle.g4_parse.specs.Allowing.{IsAllowed};
 ghost use Rattle.g4_parse.specs.Parsing.{IsParse};
 ghost use Rattle.g4_parse.specs.Running.{Run, beginning, with_begun, with_token};
-ghost use Rattle.g4_parse.specs.Standing.{StandsFor, IsTurnBy, IsDeciding, IsUnderway, HasEnded};
+ghost use Rattle.g4_parse.specs.Standing.{StandsFor, IsNewestOf, IsTurnBy, IsDeciding, IsUnderway, HasEnded};
 ghost use Rattle.g4_token_list.specs.TokenList.{word_of, EndsInEnd};
 ghost use Rattle.g4_tree_check.specs.TreesOf.{IsTreeOf};
 
+use crate::allowed::passing;
 use crate::state::{begun, state_of};
+use g4_base::Sequence;
 use g4_net::{Allowed, ParserNetwork, State};
-use g4_predict::{DecideFault, decide};
+use g4_predict::{DecideFault, decide, has_test};
 use g4_symbols::Symbols;
 use g4_token_list::Token;
 use g4_tree_builder::TreeBuilder;
@@ -27,6 +31,9 @@ pub enum ParseFault {
     NoViable { at: u32 },
     /// The edge of this state does not take the token at this place.
     Mismatch { at: u32, state: u32 },
+    /// A predicate or a level that is false where it is passed, at this place, in the open rule of this number, which is 0 in
+    /// the added rule.
+    FailedPredicate { at: u32, rule: u32 },
     /// A call with 10,000 rules open, at this place.
     TooDeep { at: u32 },
     NoMemory,
@@ -71,13 +78,21 @@ impl From<DecideFault> for ParseFault {
 /// The most rules that may be open.
 const DEEPEST: usize = 10_000;
 
-/// A moment of the run: the state and the place in the token list, the return states of the open rules, newest last, and the
-/// tree so far.
+/// An open rule: its number, and the level at which it was called.
+#[derive(Clone, Copy)]
+struct Opened {
+    rule: u32,
+    level: u32,
+}
+
+/// A moment of the run: the state and the place in the token list, the return states of the open rules, newest last, with their
+/// numbers and levels, and the tree so far.
 #[derive(Drop)]
 struct Parser {
     state: u32,
     place: u32,
     returns: Vec<u32>,
+    opened: Vec<Opened>,
     tree: TreeBuilder,
 }
 
@@ -90,6 +105,7 @@ impl Parser {
             state: 0,
             place: 0,
             returns: Vec::new(alloc),
+            opened: Vec::new(alloc),
             tree: TreeBuilder::new(alloc),
         }
     }
@@ -102,19 +118,30 @@ impl Parser {
         self.returns.is_empty() && matches!(state_of(net, self.state), State::End(_))
     }
 
+    /// The newest open rule. Of the added rule the number and the level are 0.
+    fn newest(&self) -> Opened
+        ensures { (r : Run) → StandsFor self.now r → IsNewestOf r.frames result }
+    {
+        match self.opened.last() {
+            Some(opened) => *opened,
+            None => Opened { rule: 0, level: 0 },
+        }
+    }
+
     /// Opens a rule.
-    fn call(&mut self, net: &ParserNetwork, rule: u32, back: u32) -> Result<(), ParseFault>
-        requires starts { 2 * rule < length net.now.written }
-        requires fits { 2 * rule < 2 ^ 32 }
-        ensures { (word : List ℕ) (level : ℕ) (r : Run) → StandsFor self.old r → IsTurnBy net.now word (Some (Call rule level back)) r self.new result }
+    fn call(&mut self, net: &ParserNetwork, opened: Opened, back: u32) -> Result<(), ParseFault>
+        requires starts { 2 * opened.rule < length net.now.written }
+        requires fits { 2 * opened.rule < 2 ^ 32 }
+        ensures { (word : List ℕ) (r : Run) → StandsFor self.old r → IsTurnBy net.now word (Some (Call opened.rule opened.level back)) r self.new result }
     {
         if self.returns.len() >= DEEPEST {
             return Err(ParseFault::TooDeep { at: self.place });
         }
-        let start = 2 * rule;
+        let start = 2 * opened.rule;
         let alt = net.written.as_slice()[start as usize];
         self.returns.push(back)?;
-        self.tree.open(rule, alt, self.place)?;
+        self.opened.push(opened)?;
+        self.tree.open(opened.rule, alt, self.place)?;
         self.state = start;
         Ok(())
     }
@@ -159,6 +186,24 @@ impl Parser {
         self.tree.set_alternative(alternative);
     }
 
+    /// The alternatives of the decision whose first levels are all true. Where none begins with a level, these are all of them.
+    fn allowed(
+        &self,
+        alloc: Global,
+        net: &ParserNetwork,
+        targets: &[u32],
+    ) -> Result<Allowed, AllocError>
+        requires ready { IsReady net.now }
+        requires decides { state_at net.now self.now.state ≡ Some (Decision targets.now) }
+        ensures { IfOk result (IsAllowed net.now self.now) }
+    {
+        if !has_test(net, self.state) {
+            return Ok(Allowed::Every);
+        }
+        let found = passing(alloc, net, targets, self.newest().level)?;
+        Ok(Allowed::Listed(Sequence::new(found)))
+    }
+
     /// Goes to the alternative that prediction chooses.
     fn choose(
         &mut self,
@@ -173,15 +218,10 @@ impl Parser {
         requires few { length tokens.now < 2 ^ 32 }
         ensures { (r : Run) → StandsFor self.old r → IsTurnBy net.now (word_of tokens.now) (Some (Decision targets.now)) r self.new result }
     {
+        let allowed = self.allowed(alloc, net, targets)?;
         let returns = self.returns.as_slice();
         let alternative = decide(
-            alloc,
-            net,
-            self.state,
-            &Allowed::Every,
-            returns,
-            tokens,
-            self.place,
+            alloc, net, self.state, &allowed, returns, tokens, self.place,
         )?;
         let target = targets[alternative as usize - 1];
         self.begin_alternative(begun(net, target));
@@ -197,16 +237,24 @@ impl Parser {
         let Some(back) = self.returns.pop() else {
             unreachable!()
         };
+        self.opened.pop();
         self.tree.close()?;
         self.state = back;
         Ok(())
     }
 
-    /// Makes the node so far of the newest open rule the first child of a new node of the same rule.
-    fn pass_level(&mut self, net: &ParserNetwork, target: u32) -> Result<(), ParseFault>
+    /// Makes the node so far of the newest open rule the first child of a new node of the same rule, where the level is true.
+    fn pass_level(&mut self, net: &ParserNetwork, most: u32, target: u32) -> Result<(), ParseFault>
         requires { self.now.state < length net.now.written }
-        ensures { (word : List ℕ) (level : ℕ) (r : Run) → StandsFor self.old r → IsTurnBy net.now word (Some (Level level target)) r self.new result }
+        ensures { (word : List ℕ) (r : Run) → StandsFor self.old r → IsTurnBy net.now word (Some (Level most target)) r self.new result }
     {
+        let newest = self.newest();
+        if newest.level > most {
+            return Err(ParseFault::FailedPredicate {
+                at: self.place,
+                rule: newest.rule,
+            });
+        }
         let alternative = net.written.as_slice()[self.state as usize];
         self.tree.wrap(alternative)?;
         self.state = target;
@@ -227,7 +275,10 @@ impl Parser {
         ensures { (r : Run) → StandsFor self.old r → IsTurnBy net.now (word_of tokens.now) (state_at net.now r.state) r self.new result }
     {
         match state_of(net, self.state) {
-            State::Call { rule, back, .. } => self.call(net, *rule, *back),
+            State::Call { rule, level, back } => {
+                let (rule, level) = (*rule, *level);
+                self.call(net, Opened { rule, level }, *back)
+            }
             State::Edge(set, target) => self.take(set, *target, tokens),
             State::Decision(targets) => self.choose(alloc, net, targets.as_slice(), tokens),
             State::End(_) => self.close(),
@@ -240,7 +291,7 @@ impl Parser {
                 Ok(())
             }
             State::Predicate(..) => unreachable!(),
-            State::Level(_, target) => self.pass_level(net, *target),
+            State::Level(most, target) => self.pass_level(net, *most, *target),
         }
     }
 }
@@ -254,7 +305,7 @@ pub fn parse(alloc: Global, net: &ParserNetwork, tokens: &[Token]) -> Result<Tre
     requires ends { EndsInEnd (word_of tokens.now) }
     requires few { length tokens.now < 2 ^ 32 }
     ensures parse { IsParse net.now (word_of tokens.now) result }
-    ensures tree { (set : List ℕ) (rules : List StepRule) (start : List ℕ) → IsBuilt set rules start net.now → IfOk result (IsTreeOf rules (word_of tokens.now)) }
+    ensures tree { (set : List ℕ) (rules : List StepRule) (start : List ℕ) → CanBeRewritten rules → IsBuilt set (rewritten rules) (numberings rules) start net.now → IfOk result (IsTreeOf rules (word_of tokens.now)) }
 {
     let mut parser = Parser::new(alloc);
     'run: while !parser.has_ended(net) {

@@ -43,6 +43,9 @@ fn fault_text(alloc: Global, fault: ParseFault) -> Result<String, AllocError> {
     match fault {
         ParseFault::NoViable { at } => format!(in alloc; "no alternative at {at}"),
         ParseFault::Mismatch { at, state } => format!(in alloc; "not taken at {at} by {state}"),
+        ParseFault::FailedPredicate { at, rule } => {
+            format!(in alloc; "false at {at} in rule {rule}")
+        }
         ParseFault::TooDeep { at } => format!(in alloc; "too deep at {at}"),
         ParseFault::NoMemory => format!(in alloc; "no memory"),
     }
@@ -102,9 +105,10 @@ fn outcome(
 
 /// A row of a table: the symbols, their bytes, and the text of the tree or of the fault.
 #[derive(Drop)]
-struct Case<'a>(&'a [u32], &'a str, &'a str);
+pub(crate) struct Case<'a>(pub &'a [u32], pub &'a str, pub &'a str);
 
-fn check_all(
+/// Each of the rows has this outcome.
+pub(crate) fn check_all(
     rt: &impl Abort,
     alloc: Global,
     net: &ParserNetwork,
@@ -159,7 +163,7 @@ fn actions(rt: HostRuntime) -> Result<(), Fail> {
 }
 
 /// The items of the tree of these symbols, none where there is a fault.
-fn items(
+pub(crate) fn items(
     rt: &impl Abort,
     alloc: Global,
     net: &ParserNetwork,

@@ -2,7 +2,7 @@
 use Rattle.std.proofs.Common.{◌≡◌, ◌↔◌, ℕ, List, [], ◌∷◌, Option, Some, None, Bool, false, IsTrue, Contains, refl, sym, ap, subst, eq-eqb, eqb-true}
 use Rattle.std.specs.List.{slice_get}
 use Rattle.g4_grammar.specs.declared.step.Step.{Step}
-use Rattle.g4_grammar.specs.declared.step.Step.TheVariants.{Edge, Call, Predicate, Level, Action}
+use Rattle.g4_grammar.specs.declared.step.Step.TheVariants.{Edge, Call, Predicate, Level, Action, Empty}
 use Rattle.g4_trees.specs.declared.tree.Item.{Item}
 use Rattle.g4_trees.specs.declared.tree.Item.TheVariants as items
 use Rattle.g4_tree_check.specs.Children.{child_of, symbol_child, takes, is_quiet}
@@ -16,6 +16,7 @@ quiet_child word (Call rule level) = (λ h. absurd (cc), λ h. let n : ⊥ = cc 
 quiet_child word (Predicate k) = (λ h. refl, λ h. refl)
 quiet_child word (Level q) = (λ h. refl, λ h. refl)
 quiet_child word Action = (λ h. refl, λ h. refl)
+quiet_child word Empty = (λ h. refl, λ h. refl)
 
 -- a step reads one child at most
 pub one_child : (word : List ℕ) (step : Step (List ℕ)) (c : Item) (w : List Item) → ReadsChildren word step (c ∷ w) → w ≡ []
@@ -24,6 +25,7 @@ one_child word (Call rule level) c w h = let e = h.2 in cc
 one_child word (Predicate k) c w h = absurd (let n : ⊥ = cc in n)
 one_child word (Level q) c w h = absurd (let n : ⊥ = cc in n)
 one_child word Action c w h = absurd (let n : ⊥ = cc in n)
+one_child word Empty c w h = absurd (let n : ⊥ = cc in n)
 
 -- a token that is looked up, by its symbol
 token_read : (word set : List ℕ) (at : ℕ) (found : Option ℕ) → slice_get word at ≡ found → IsTrue (takes (symbol_child found) (Edge set)) ↔ ReadsChildren word (Edge set) (items.Token at ∷ [])
@@ -46,9 +48,9 @@ quiet_not_taken : (c : Item) (b : Bool) → b ≡ false → IsTrue b ↔ (◌≡
 quiet_not_taken c b is = (λ h. absurd (cc), λ h. let n : ⊥ = cc in absurd n)
 
 -- nothing is taken for a token by such a step
-untaken : (found : Option ℕ) → (takes (symbol_child found) Action ≡ false) × ((k : ℕ) → takes (symbol_child found) (Predicate k) ≡ false) × ((q : ℕ) → takes (symbol_child found) (Level q) ≡ false)
-untaken None = (refl, λ k. refl, λ q. refl)
-untaken (Some a) = (refl, λ k. refl, λ q. refl)
+untaken : (found : Option ℕ) → (takes (symbol_child found) Action ≡ false) × ((k : ℕ) → takes (symbol_child found) (Predicate k) ≡ false) × ((q : ℕ) → takes (symbol_child found) (Level q) ≡ false) × (takes (symbol_child found) Empty ≡ false)
+untaken None = (refl, λ k. refl, λ q. refl, refl)
+untaken (Some a) = (refl, λ k. refl, λ q. refl, refl)
 
 -- a step that reads this child
 pub taken_child : (word : List ℕ) (c : Item) (step : Step (List ℕ)) → IsTrue (takes (child_of word c) step) ↔ ReadsChildren word step (c ∷ [])
@@ -60,13 +62,16 @@ taken_child word (items.Enter rule alt at) (Call called level) = (
 taken_child word (items.Enter rule alt at) (Predicate k) = quiet_not_taken (items.Enter rule alt at) false refl
 taken_child word (items.Enter rule alt at) (Level q) = quiet_not_taken (items.Enter rule alt at) false refl
 taken_child word (items.Enter rule alt at) Action = quiet_not_taken (items.Enter rule alt at) false refl
+taken_child word (items.Enter rule alt at) Empty = quiet_not_taken (items.Enter rule alt at) false refl
 taken_child word (items.Token at) (Edge set) = token_read word set at (slice_get word at) refl
 taken_child word (items.Token at) (Call called level) = token_not_called word called level at (slice_get word at)
 taken_child word (items.Token at) (Predicate k) = quiet_not_taken (items.Token at) (takes (symbol_child (slice_get word at)) (Predicate k)) ((untaken (slice_get word at)).1 k)
 taken_child word (items.Token at) (Level q) = quiet_not_taken (items.Token at) (takes (symbol_child (slice_get word at)) (Level q)) ((untaken (slice_get word at)).2 q)
 taken_child word (items.Token at) Action = quiet_not_taken (items.Token at) (takes (symbol_child (slice_get word at)) Action) (untaken (slice_get word at)).0
+taken_child word (items.Token at) Empty = quiet_not_taken (items.Token at) (takes (symbol_child (slice_get word at)) Empty) (untaken (slice_get word at)).3
 taken_child word items.Exit (Edge set) = (λ h. absurd (cc), λ h. let e = h.1 in let n : ⊥ = cc in absurd n)
 taken_child word items.Exit (Call called level) = (λ h. absurd (cc), λ h. let e = h.2 in let n : ⊥ = cc in absurd n)
 taken_child word items.Exit (Predicate k) = quiet_not_taken items.Exit false refl
 taken_child word items.Exit (Level q) = quiet_not_taken items.Exit false refl
 taken_child word items.Exit Action = quiet_not_taken items.Exit false refl
+taken_child word items.Exit Empty = quiet_not_taken items.Exit false refl

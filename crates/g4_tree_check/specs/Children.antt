@@ -2,7 +2,7 @@
 use Rattle.std.specs.Prelude.{ℕ, List, Bool, true, false, ◌==◌, Option, Some, None, slice_get}
 use Rattle.std.specs.List.{list_any}
 use Rattle.g4_grammar.specs.declared.step.Step.{Step}
-use Rattle.g4_grammar.specs.declared.step.Step.TheVariants.{Edge, Call, Predicate, Level, Action}
+use Rattle.g4_grammar.specs.declared.step.Step.TheVariants.{Edge, Call, Predicate, Level, Action, Empty}
 use Rattle.g4_trees.specs.declared.tree.Item.{Item}
 use Rattle.g4_trees.specs.declared.tree.Item.TheVariants as items
 use Rattle.g4_tree_check.specs.declared.child.Child.{Child}
@@ -32,3 +32,4 @@ is_quiet (Call rule level) = false
 is_quiet (Predicate k) = true
 is_quiet (Level q) = true
 is_quiet Action = true
+is_quiet Empty = true

@@ -5,7 +5,7 @@ use Rattle.std.specs.List.{range_with_len}
 use Rattle.g4_elements.specs.Elements.{Elements}
 use Rattle.g4_source.specs.Rules.{bodies_of}
 use Rattle.g4_grammar.specs.declared.step.Step.{Step}
-use Rattle.g4_grammar.specs.declared.step.Step.TheVariants.{Edge, Call, Predicate, Level, Action}
+use Rattle.g4_grammar.specs.declared.step.Step.TheVariants.{Edge, Call, Predicate, Level, Action, Empty}
 use Rattle.g4_grammar.specs.Derives.{DerivesAll, NoCalls}
 use Rattle.g4_grammar.specs.StepRules.{StepRule}
 use Rattle.g4_trees.specs.declared.tree.Item.{Item}
@@ -34,6 +34,7 @@ ReadsChildren word (Call rule level) w = (alt at : ℕ) × (w ≡ items.Enter ru
 ReadsChildren word (Predicate k) w = w ≡ []
 ReadsChildren word (Level q) w = w ≡ []
 ReadsChildren word Action w = w ≡ []
+ReadsChildren word Empty w = w ≡ []
 
 -- the alternative of this number in the rule of this number; both count from 1
 abbrev pub IsBody : List StepRule → ℕ → ℕ → Elements (Step (List ℕ)) → Type 0

@@ -60,5 +60,6 @@ pub(crate) fn is_quiet(step: &Step<Symbols>) -> bool
         Step::Predicate(_) => true,
         Step::Level(_) => true,
         Step::Action => true,
+        Step::Empty => true,
     }
 }

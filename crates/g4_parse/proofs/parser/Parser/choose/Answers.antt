@@ -1,7 +1,6 @@
 use Rattle.std.proofs.Common.{ℕ, List, ◌≡◌, ◌-◌, get_or, drop, reverse, sym, subst, ◌∙◌, ap}
 use Rattle.std.specs.Prelude.{Some}
 use Rattle.g4_net.specs.Allowed.{Allows}
-use Rattle.g4_net.specs.declared.allowed.Allowed.TheVariants.{Every}
 use Rattle.g4_net.specs.Configurations.{above_bottom}
 use Rattle.g4_net.specs.Proper.{IsProper}
 use Rattle.g4_net.specs.declared.network.State.TheVariants.{Decision}
@@ -37,8 +36,8 @@ begun-requires-clause-within c =
 pub returns-in_err-alternative : goal.returns-in_err-alternative
 returns-in_err-alternative c = λ r h.
     let word : List ℕ = word_of c.args.tokens.now in
-    let said = subst (λ (bs : List ℕ). IsDecideFault c.args.net.now c.args.self.now.state (Allows Every) (reverse bs) (drop c.args.self.now.place word) c.args.self.now.place c.in_err-alternative.field-0.0) c.as_slice-returns.ensures.value c.in_err-alternative.ensures in
-    fails_with c.args.net.now word (Some (Decision c.args.targets.now)) r _ (of_decide c.in_err-alternative.field-0.0) c.from_residual.result c.from_residual.ensures.1 (decides_fault c.args.net.now word r c.args.self.now c.args.targets.now c.in_err-alternative.field-0.0 c.requires.deciding.2.ready h said)
+    let said = subst (λ (bs : List ℕ). IsDecideFault c.args.net.now c.args.self.now.state (Allows c.in_ok-allowed.allowed) (reverse bs) (drop c.args.self.now.place word) c.args.self.now.place c.in_err-alternative.field-0.0) c.as_slice-returns.ensures.value c.in_err-alternative.ensures in
+    fails_with c.args.net.now word (Some (Decision c.args.targets.now)) r _ (of_decide c.in_err-alternative.field-0.0) c.from_residual-in_err-alternative.result c.from_residual-in_err-alternative.ensures.1 (decides_fault c.args.net.now word r c.args.self.now c.in_ok-allowed.allowed c.args.targets.now c.in_err-alternative.field-0.0 c.in_ok-allowed.ensures h said)
 
 pub returns : goal.returns
 returns c = λ r h.
@@ -47,6 +46,6 @@ returns c = λ r h.
     let i : ℕ = c.in_ok-alternative.alternative in
     let f = c.in_ok-alternative.ensures.1 in
     let at = first_of net c.args.self.now.state i f.0 c.args.targets.now c.requires.decides f.1 in
-    let says = subst (λ (bs : List ℕ). Decides net c.args.self.now.state (Allows Every) (above_bottom (reverse bs)) (drop c.args.self.now.place word) (chosen i)) c.as_slice-returns.ensures.value c.in_ok-alternative.ensures.0 in
+    let says = subst (λ (bs : List ℕ). Decides net c.args.self.now.state (Allows c.in_ok-allowed.allowed) (above_bottom (reverse bs)) (drop c.args.self.now.place word) (chosen i)) c.as_slice-returns.ensures.value c.in_ok-alternative.ensures.0 in
     let begins = c.begin_alternative.ensures r h in
-    chooses net word r c.args.self.now _ c.args.targets.now i (get_or c.args.targets.now (i - 1) 0) c.requires.deciding.2.ready h says (subst (λ (t : ℕ). IsFirst net c.args.self.now.state i t) (sym at.1) f.1) (moved_to c.begin_alternative.new.self (with_begun c.begun.result r) (with_begun (begun net (get_or c.args.targets.now (i - 1) 0) (state_at net (get_or c.args.targets.now (i - 1) 0))) r) (get_or c.args.targets.now (i - 1) 0) (ap (λ (n : ℕ). with_begun n r) c.begun.ensures) begins)
+    chooses net word r c.args.self.now _ c.in_ok-allowed.allowed c.args.targets.now i (get_or c.args.targets.now (i - 1) 0) c.in_ok-allowed.ensures h says (subst (λ (t : ℕ). IsFirst net c.args.self.now.state i t) (sym at.1) f.1) (moved_to c.begin_alternative.new.self (with_begun c.begun.result r) (with_begun (begun net (get_or c.args.targets.now (i - 1) 0) (state_at net (get_or c.args.targets.now (i - 1) 0))) r) (get_or c.args.targets.now (i - 1) 0) (ap (λ (n : ℕ). with_begun n r) c.begun.ensures) begins)

@@ -28,6 +28,7 @@ returns c = λ net r h.
         state = refl;
         place = cc (h.place, c.in_ok-keep.ensures.place);
         returns = kept.returns;
+        opened = kept.opened;
         tree = kept.tree;
       },
     )
