@@ -1,6 +1,6 @@
 -- The stages of loading and building a grammar, and the exits from them.
 use Rattle.std.specs.Prelude.{⊤, All}
-use Rattle.std.proofs.Common.{◌≡◌, ◌≤◌, ◌<◌, ◌↔◌, ◌⊎◌, inl, inr, ℕ, List, Result, Ok, Err, [], ◌∷◌, map, Bool, true, false, IsTrue, ap, ◌∙◌, subst, sym, refl, arith}
+use Rattle.std.proofs.Common.{◌≡◌, ◌≤◌, ◌<◌, ◌↔◌, ◌⊎◌, inl, inr, ℕ, List, Result, Ok, Err, [], ◌∷◌, ◌+◌, ◌*◌, length, map, Bool, true, false, IsTrue, ap, ◌∙◌, subst, sym, refl, arith}
 use Rattle.g4_base.specs.declared.place.Place.{Place}
 use Rattle.g4_source.specs.declared.rule.ParserRule.{ParserRule}
 use Rattle.g4_source.specs.declared.source.Source.{Source}
@@ -16,9 +16,14 @@ use Rattle.g4_vocab.specs.declared.fault.NumberFault.{NumberFault}
 use Rattle.g4_checks.specs.Checking.{IsChecked}
 use Rattle.g4_checks.specs.declared.fault.CheckFault.{CheckFault}
 use Rattle.g4_source.specs.Blocks.{ParserRulesAreFull}
-use Rattle.g4_grammar.specs.NumberedRules.{HaveNoEmptyLoops, HaveNoLeftCycles, NumberedRuleIsUntested, NumberedRulesAreDefined, RuleLeavesEnd}
-use Rattle.g4_grammar.specs.StepRules.{StepRule, CanBeLaid}
-use Rattle.g4_load.specs.Usable.{CanBeBuilt}
+use Rattle.g4_grammar.specs.NumberedRules.{NumberedRuleIsUntested, NumberedRulesAreDefined, NumberedRulesCanRun, RuleLeavesEnd}
+use Rattle.g4_grammar.specs.StepRules.{StepRule, CanBeRewritten}
+use Rattle.g4_grammar.specs.declared.step.Numbering.{Numbering}
+use Rattle.g4_leftrec.specs.Rewriting.{rewritten, numberings}
+use Rattle.g4_load.specs.Usable.{CanBeBuilt, IsUsable}
+use Rattle.g4_layout.specs.Built.{IsBuilt}
+use Rattle.g4_layout.specs.Rules.{rule_number}
+use Rattle.g4_symbols.specs.Symbols.{eof}
 use Rattle.g4_grammar.specs.declared.numbered.Numbered.{Numbered}
 use Rattle.g4_grammar.specs.declared.numbered.NumberedAtom.{NumberedAtom}
 use Rattle.g4_grammar.specs.declared.numbered.TokenRule.{TokenRule}
@@ -38,7 +43,7 @@ use Rattle.g4_load.specs.declared.stop.Halt.TheVariants as halts
 use Rattle.g4_load.specs.Stages.{Gives, Then, stops, goes_on, OfFile, passes, fails, IsErrorOf, IsHaltOf}
 use Rattle.g4_load.specs.Files.{Files}
 use Rattle.g4_load.specs.Loading.{Fetches, IsGrammarIn, Checks, Numbers, Loads}
-use Rattle.g4_load.specs.Building.{names_of, steps_of, interpreter_of, Lays}
+use Rattle.g4_load.specs.Building.{names_of, steps_of, interpreter_of, GivesRewritten, Lays}
 use Rattle.g4_net.specs.declared.network.TheConstants.{MOST_STATES}
 
 -- a layer's fault at which a stage ends
@@ -83,29 +88,50 @@ steps_are grammar names predicates rules steps names_is predicates_is rules_is m
 pub lent_rules : (fits : Bool) (rules slice : List TokenRule) → slice ≡ rules → IsTrue fits ↔ lexer_state_count slice ≤ MOST_STATES → IsTrue fits ↔ lexer_state_count rules ≤ MOST_STATES
 lent_rules fits rules slice same is = subst (λ (rs : List TokenRule). IsTrue fits ↔ lexer_state_count rs ≤ MOST_STATES) same is
 
--- what resolving asks of rules, so that they can be laid
-abbrev pub AreLaid : List (List ℕ) → List (ParserRule NumberedAtom) → List StepRule → Type 0
-AreLaid names rules steps =
-    names ≡ map (λ rule. rule.name) rules → ParserRulesAreFull rules → All RuleLeavesEnd rules → All NumberedRuleIsUntested rules → NumberedRulesAreDefined rules → HaveNoEmptyLoops rules → HaveNoLeftCycles rules →
-    CanBeLaid steps
+-- what resolving asks of rules, so that they can be rewritten
+abbrev pub AreRewritable : List (List ℕ) → List (ParserRule NumberedAtom) → List StepRule → Type 0
+AreRewritable names rules steps =
+    names ≡ map (λ rule. rule.name) rules → ParserRulesAreFull rules → All RuleLeavesEnd rules → All NumberedRuleIsUntested rules → NumberedRulesAreDefined rules → NumberedRulesCanRun rules → CanBeRewritten steps
 
 -- the rules of a grammar that can be built
-pub can_be_laid : (grammar : Numbered) (names : List (List ℕ)) (rules : List (ParserRule NumberedAtom)) (steps slice : List StepRule) → CanBeBuilt grammar → names ≡ names_of grammar → rules ≡ grammar.rules → slice ≡ steps → AreLaid names rules steps → CanBeLaid slice
-can_be_laid grammar names rules steps slice can named same lent laid =
-    let here : AreLaid names grammar.rules steps = subst (λ (rs : List (ParserRule NumberedAtom)). AreLaid names rs steps) same laid in
-    subst (λ (ss : List StepRule). CanBeLaid ss) (sym lent) (here named can.full can.ends can.untested can.defined can.loops can.cycles)
+pub can_be_rewritten : (grammar : Numbered) (names : List (List ℕ)) (rules : List (ParserRule NumberedAtom)) (steps : List StepRule) → CanBeBuilt grammar → names ≡ names_of grammar → rules ≡ grammar.rules →
+    AreRewritable names rules steps → CanBeRewritten steps
+can_be_rewritten grammar names rules steps can named same h =
+    let here : AreRewritable names grammar.rules steps = subst (λ (rs : List (ParserRule NumberedAtom)). AreRewritable names rs steps) same h in
+    here named can.full can.ends can.untested can.defined can.run
 
 module _ (start : List ℕ) (grammar : Numbered) where
+  -- the answer of building, where the rules are those of the grammar
+  pub gives_rewritten : (steps made : List StepRule) (numbers : List Numbering) (r : Result ParserNetwork BuildFault) → steps ≡ steps_of grammar → made ≡ rewritten steps → numbers ≡ numberings steps →
+      GivesNetwork made numbers start r → GivesRewritten start grammar r
+  gives_rewritten steps made numbers r same laid numbered is =
+      subst (λ (ss : List StepRule). GivesNetwork (rewritten ss) (numberings ss) start r) same
+      (subst (λ (ns : List Numbering). GivesNetwork (rewritten steps) ns start r) numbered (subst (λ (ms : List StepRule). GivesNetwork ms numbers start r) laid is))
+
   -- a numbered grammar without a network
-  pub build_exit : (steps : List StepRule) (e : BuildFault) → steps ≡ steps_of grammar → GivesNetwork steps start (Err e) → IsErrorOf (Lays start grammar) (of_build start e)
-  build_exit steps e same is = stage_exit (GivesNetwork (steps_of grammar) start) (of_build start) (λ net result. result ≡ Ok (interpreter_of grammar net)) e (subst (λ (rs : List StepRule). GivesNetwork rs start (Err e)) same is)
+  pub build_exit : (e : BuildFault) → GivesRewritten start grammar (Err e) → IsErrorOf (Lays start grammar) (of_build start e)
+  build_exit e is = stage_exit (GivesRewritten start grammar) (of_build start) (λ net result. result ≡ Ok (interpreter_of grammar net)) e is
 
   -- the grammar and its network
-  pub laid : (steps rules : List StepRule) (net : ParserNetwork) (names : List (List ℕ)) → steps ≡ steps_of grammar → rules ≡ steps_of grammar → GivesNetwork steps start (Ok net) → names ≡ names_of grammar →
-      Lays start grammar (Ok (record { names = names; rules = rules; shown = grammar.shown; token_rules = grammar.token_rules; net = net }))
-  laid steps rules net names same kept built named =
-      goes_on net (Ok (record { names = names; rules = rules; shown = grammar.shown; token_rules = grammar.token_rules; net = net })) (subst (λ (rs : List StepRule). GivesNetwork rs start (Ok net)) same built)
-      (ap (λ (n : List (List ℕ)). Ok (record { names = n; rules = rules; shown = grammar.shown; token_rules = grammar.token_rules; net = net })) named ∙ ap (λ (rs : List StepRule). Ok (record { names = names_of grammar; rules = rs; shown = grammar.shown; token_rules = grammar.token_rules; net = net })) kept)
+  pub laid : (kept : List StepRule) (net : ParserNetwork) (names : List (List ℕ)) → kept ≡ steps_of grammar → GivesRewritten start grammar (Ok net) → names ≡ names_of grammar →
+      Lays start grammar (Ok (record { names = names; rules = kept; shown = grammar.shown; token_rules = grammar.token_rules; net = net }))
+  laid kept net names same built named =
+      goes_on net (Ok (record { names = names; rules = kept; shown = grammar.shown; token_rules = grammar.token_rules; net = net })) built
+      (ap (λ (n : List (List ℕ)). Ok (record { names = n; rules = kept; shown = grammar.shown; token_rules = grammar.token_rules; net = net })) named
+      ∙ ap (λ (rs : List StepRule). Ok (record { names = names_of grammar; rules = rs; shown = grammar.shown; token_rules = grammar.token_rules; net = net })) same)
+
+  -- what parses with it is usable
+  pub usable : CanBeBuilt grammar → (steps kept made : List StepRule) (numbers : List Numbering) (net : ParserNetwork) (names : List (List ℕ)) → kept ≡ steps → CanBeRewritten steps → made ≡ rewritten steps → numbers ≡ numberings steps →
+      GivesNetwork made numbers start (Ok net) → IsUsable (record { names = names; rules = kept; shown = grammar.shown; token_rules = grammar.token_rules; net = net })
+  usable can steps kept made numbers net names same rewritable laid numbered built =
+      let here : IsBuilt (eof ∷ []) (rewritten steps) (numberings steps) start net =
+      subst (λ (ns : List Numbering). IsBuilt (eof ∷ []) (rewritten steps) ns start net) numbered (subst (λ (ms : List StepRule). IsBuilt (eof ∷ []) ms numbers start net) laid built) in record {
+        ready = (rule_number (rewritten steps) start, 2 * length (rewritten steps) + 2, eof ∷ [], here.runnable);
+        rules = subst (λ (ss : List StepRule). CanBeRewritten ss) (sym same) rewritable;
+        built = (start, subst (λ (ss : List StepRule). IsBuilt (eof ∷ []) (rewritten ss) (numberings ss) start net) (sym same) here);
+        types = can.types;
+        quiet = can.token_quiet;
+      }
 
 -- a stage that stops, stops what follows it
 pub stage_stops : {X Y : Type 0} (Stage : Result X GrammarFault → Type 0) (Second : X → Result Y GrammarFault → Type 0) (error : CheckError) → IsErrorOf Stage error → IsErrorOf (Then Stage Second) error

@@ -1,4 +1,5 @@
 mod Built
+mod Kept
 mod Fetched
 pub mod OneBuilt
 pub mod OneStage

@@ -2,6 +2,8 @@
 use Rattle.std.proofs.Common.{◌≡◌, ℕ, List, [], ◌∷◌, length, Bool, true, false, Some, Result, Ok, Err, ap, sym, ◌∙◌, refl, subst, arith}
 use Rattle.g4_symbols.specs.Symbols.{eof}
 use Rattle.g4_grammar.specs.StepRules.{StepRule}
+use Rattle.g4_grammar.specs.declared.step.Numbering.{Numbering}
+use Rattle.g4_leftrec.specs.Rewriting.{rewritten, numberings}
 use Rattle.g4_grammar.specs.declared.numbered.Numbered.{Numbered}
 use Rattle.g4_net.specs.Network.{ParserNetwork}
 use Rattle.g4_net.specs.declared.network.State.TheVariants.{Call}
@@ -32,7 +34,7 @@ use Rattle.g4_load.specs.declared.interpreter.Interpreter.{Interpreter}
 use Rattle.g4_load.specs.declared.fault.GrammarFault.{GrammarFault}
 use Rattle.g4_load.specs.declared.stop.Stop.{Stop}
 use Rattle.g4_load.specs.declared.stop.Stop.TheVariants as stopping
-use Rattle.g4_load.specs.Building.{steps_of, interpreter_of, Lays, FitsLexer, FromGrammar, Builds}
+use Rattle.g4_load.specs.Building.{steps_of, interpreter_of, Lays, FitsLexer, FromGrammar, Builds, GivesRewritten}
 use Rattle.g4_load.specs.Listing.{IsStartRule, ListsStart, FromRule, Lists}
 use Rattle.g4_load.specs.Files.{Files}
 use Rattle.g4_load.specs.Loading.{Fetches, absent, too_large, there, Checks, Numbers, Loads}
@@ -58,35 +60,35 @@ one_numbering source (Err numbering.NoMemory) b p q n m = absurd (n refl)
 not_both : (b : Bool) → b ≡ true → b ≡ false → ⊥
 not_both b p q = cc
 
--- a grammar and a start rule have at most one network, or fault
-one_build : (rules : List StepRule) (start : List ℕ) → IsSingleBeside building.NoMemory (GivesNetwork rules start)
-one_build rules start (Ok a) (Ok b) p q n m = ap (λ x. Ok x) (one_network (eof ∷ []) rules start a b p q)
-one_build rules start (Ok a) (Err building.UnknownStart) p q n m = absurd (not_both _ p.known q)
-one_build rules start (Ok a) (Err building.Alternatives) p q n m = absurd (omega (arith, p.narrow q.1.0 q.1.1, q.1.2))
-one_build rules start (Ok a) (Err building.States) p q n m = absurd (omega (arith, p.fits, q.2))
-one_build rules start (Ok a) (Err building.NoMemory) p q n m = absurd (m refl)
-one_build rules start (Err building.UnknownStart) (Ok b) p q n m = absurd (not_both _ q.known p)
-one_build rules start (Err building.UnknownStart) (Err building.UnknownStart) p q n m = refl
-one_build rules start (Err building.UnknownStart) (Err building.Alternatives) p q n m = absurd (not_both _ q.0 p)
-one_build rules start (Err building.UnknownStart) (Err building.States) p q n m = absurd (not_both _ q.0 p)
-one_build rules start (Err building.UnknownStart) (Err building.NoMemory) p q n m = absurd (m refl)
-one_build rules start (Err building.Alternatives) (Ok b) p q n m = absurd (omega (arith, q.narrow p.1.0 p.1.1, p.1.2))
-one_build rules start (Err building.Alternatives) (Err building.UnknownStart) p q n m = absurd (not_both _ p.0 q)
-one_build rules start (Err building.Alternatives) (Err building.Alternatives) p q n m = refl
-one_build rules start (Err building.Alternatives) (Err building.States) p q n m = absurd (omega (arith, q.1 p.1.0 p.1.1, p.1.2))
-one_build rules start (Err building.Alternatives) (Err building.NoMemory) p q n m = absurd (m refl)
-one_build rules start (Err building.States) (Ok b) p q n m = absurd (omega (arith, q.fits, p.2))
-one_build rules start (Err building.States) (Err building.UnknownStart) p q n m = absurd (not_both _ p.0 q)
-one_build rules start (Err building.States) (Err building.Alternatives) p q n m = absurd (omega (arith, p.1 q.1.0 q.1.1, q.1.2))
-one_build rules start (Err building.States) (Err building.States) p q n m = refl
-one_build rules start (Err building.States) (Err building.NoMemory) p q n m = absurd (m refl)
-one_build rules start (Err building.NoMemory) b p q n m = absurd (n refl)
+-- rules with their numberings and a start rule have at most one network, or fault
+one_build : (rules : List StepRule) (numbers : List Numbering) (start : List ℕ) → IsSingleBeside building.NoMemory (GivesNetwork rules numbers start)
+one_build rules numbers start (Ok a) (Ok b) p q n m = ap (λ x. Ok x) (one_network (eof ∷ []) rules numbers start a b p q)
+one_build rules numbers start (Ok a) (Err building.UnknownStart) p q n m = absurd (not_both _ p.known q)
+one_build rules numbers start (Ok a) (Err building.Alternatives) p q n m = absurd (omega (arith, p.narrow q.1.0 q.1.1, q.1.2))
+one_build rules numbers start (Ok a) (Err building.States) p q n m = absurd (omega (arith, p.fits, q.2))
+one_build rules numbers start (Ok a) (Err building.NoMemory) p q n m = absurd (m refl)
+one_build rules numbers start (Err building.UnknownStart) (Ok b) p q n m = absurd (not_both _ q.known p)
+one_build rules numbers start (Err building.UnknownStart) (Err building.UnknownStart) p q n m = refl
+one_build rules numbers start (Err building.UnknownStart) (Err building.Alternatives) p q n m = absurd (not_both _ q.0 p)
+one_build rules numbers start (Err building.UnknownStart) (Err building.States) p q n m = absurd (not_both _ q.0 p)
+one_build rules numbers start (Err building.UnknownStart) (Err building.NoMemory) p q n m = absurd (m refl)
+one_build rules numbers start (Err building.Alternatives) (Ok b) p q n m = absurd (omega (arith, q.narrow p.1.0 p.1.1, p.1.2))
+one_build rules numbers start (Err building.Alternatives) (Err building.UnknownStart) p q n m = absurd (not_both _ p.0 q)
+one_build rules numbers start (Err building.Alternatives) (Err building.Alternatives) p q n m = refl
+one_build rules numbers start (Err building.Alternatives) (Err building.States) p q n m = absurd (omega (arith, q.1 p.1.0 p.1.1, p.1.2))
+one_build rules numbers start (Err building.Alternatives) (Err building.NoMemory) p q n m = absurd (m refl)
+one_build rules numbers start (Err building.States) (Ok b) p q n m = absurd (omega (arith, q.fits, p.2))
+one_build rules numbers start (Err building.States) (Err building.UnknownStart) p q n m = absurd (not_both _ p.0 q)
+one_build rules numbers start (Err building.States) (Err building.Alternatives) p q n m = absurd (omega (arith, p.1 q.1.0 q.1.1, q.1.2))
+one_build rules numbers start (Err building.States) (Err building.States) p q n m = refl
+one_build rules numbers start (Err building.States) (Err building.NoMemory) p q n m = absurd (m refl)
+one_build rules numbers start (Err building.NoMemory) b p q n m = absurd (n refl)
 
 -- a grammar is laid in at most one way
 one_laid : (start : List ℕ) (grammar : Numbered) → IsSingle (Lays start grammar)
 one_laid start grammar =
-    one_then (Gives (GivesNetwork (steps_of grammar) start) (of_build start)) (λ net result. result ≡ Ok (interpreter_of grammar net))
-    (one_gift (GivesNetwork (steps_of grammar) start) (of_build start) building.NoMemory refl (one_build (steps_of grammar) start)) (λ net a b p q. p ∙ sym q)
+    one_then (Gives (GivesRewritten start grammar) (of_build start)) (λ net result. result ≡ Ok (interpreter_of grammar net))
+    (one_gift (GivesRewritten start grammar) (of_build start) building.NoMemory refl (one_build (rewritten (steps_of grammar)) (numberings (steps_of grammar)) start)) (λ net a b p q. p ∙ sym q)
 
 -- a network goes with at most one lexer's network
 one_fit : (laid : Interpreter) → IsSingle (FitsLexer laid)

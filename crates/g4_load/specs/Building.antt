@@ -4,7 +4,9 @@ use Rattle.g4_grammar.specs.declared.numbered.Numbered.{Numbered}
 use Rattle.g4_grammar.specs.StepRules.{StepRule}
 use Rattle.g4_net.specs.Network.{ParserNetwork}
 use Rattle.g4_resolve.specs.Resolving.{resolved_rule}
+use Rattle.g4_leftrec.specs.Rewriting.{rewritten, numberings}
 use Rattle.g4_build.specs.Answers.{GivesNetwork}
+use Rattle.g4_build.specs.declared.builder.BuildFault.{BuildFault}
 use Rattle.g4_build.specs.LexerSize.{lexer_state_count}
 use Rattle.g4_load.specs.Faults.{of_build}
 use Rattle.g4_load.specs.Files.{Files}
@@ -28,9 +30,13 @@ steps_of grammar = map (resolved_rule (names_of grammar) []) grammar.rules
 abbrev pub interpreter_of : Numbered → ParserNetwork → Interpreter
 interpreter_of grammar net = record { names = names_of grammar; rules = steps_of grammar; shown = grammar.shown; token_rules = grammar.token_rules; net = net }
 
+-- the network of a grammar's rewritten rules from the start rule, or why they have none
+abbrev pub GivesRewritten : List ℕ → Numbered → Result ParserNetwork BuildFault → Type 0
+GivesRewritten start grammar = GivesNetwork (rewritten (steps_of grammar)) (numberings (steps_of grammar)) start
+
 -- the grammar with its network from the start rule, or the first fault of that
 abbrev pub Lays : List ℕ → Numbered → Result Interpreter GrammarFault → Type 0
-Lays start grammar = Then (Gives (GivesNetwork (steps_of grammar) start) (of_build start)) (λ net result. result ≡ Ok (interpreter_of grammar net))
+Lays start grammar = Then (Gives (GivesRewritten start grammar) (of_build start)) (λ net result. result ≡ Ok (interpreter_of grammar net))
 
 -- the same, where the lexer's network has no more than 65,536 states
 abbrev pub FitsLexer : Interpreter → Result Interpreter GrammarFault → Type 0

@@ -6,12 +6,14 @@ ghost use Rattle.g4_load.specs.Files.{Files};
 ghost use Rattle.g4_load.specs.Stages.{GivesOrHalts, IsAnswerOf};
 ghost use Rattle.g4_load.specs.Usable.{CanBeBuilt, IsUsable};
 
+use crate::copies;
 use crate::fault::{CheckError, GrammarFault, not_built};
 use crate::loading::load;
 use crate::stop::{Halt, fault_of};
 use g4_base::{Sequence, Text};
 use g4_build::{build, lexer_network_fits};
 use g4_grammar::{Numbered, NumberedAtom, StepRule, TokenRule};
+use g4_leftrec::rewrite;
 use g4_net::ParserNetwork;
 use g4_ports::Shelf;
 use g4_resolve::{Resolving, resolve};
@@ -23,7 +25,7 @@ use std::alloc::{AllocError, Global};
 pub struct Interpreter {
     /// The names of the parser rules, which count from 1.
     pub names: Sequence<Text>,
-    /// The parser rules, with what their atoms are in a network.
+    /// The parser rules as they are written, with what their atoms are in a network.
     pub rules: Sequence<StepRule>,
     /// What is shown of each token type from 1 on.
     pub shown: Sequence<Text>,
@@ -60,14 +62,21 @@ pub fn lay(alloc: Global, grammar: Numbered, start: &str) -> Result<Interpreter,
         predicates: Sequence::new(Vec::new(alloc)),
     };
     let steps = resolve(alloc, &stage, rules.into_vec())?;
-    let net = match build(alloc, steps.as_slice(), start) {
+    let kept = copies::rules(alloc, steps.as_slice())?;
+    let laid = rewrite(alloc, steps)?;
+    let net = match build(
+        alloc,
+        laid.rules.as_slice(),
+        laid.numberings.as_slice(),
+        start,
+    ) {
         Ok(net) => net,
         Err(fault) => return Err(not_built(alloc, start, fault)?),
     };
     let Resolving { names, .. } = stage;
     Ok(Interpreter {
         names,
-        rules: Sequence::new(steps),
+        rules: Sequence::new(kept),
         shown,
         token_rules,
         net,

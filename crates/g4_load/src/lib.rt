@@ -1,6 +1,7 @@
 // Grammars by the names of their files: read, numbered and checked; with the networks of their rules, to parse with or to list.
 #![tactic(auto)]
 
+mod copies;
 mod fault;
 #[cfg(test)]
 mod grammar_tests;

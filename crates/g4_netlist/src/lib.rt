@@ -10,5 +10,6 @@ mod shown;
 mod tests;
 
 pub use law::one_listing;
+pub use line::push_name;
 pub use listing::list_rule;
 pub use shown::push_set;

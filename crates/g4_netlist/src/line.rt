@@ -9,8 +9,11 @@ use g4_net::State;
 use g4_symbols::Symbols;
 use std::alloc::{AllocError, Global};
 
-/// Adds the name of a rule: rule 0 is the added rule `S'`.
-pub(crate) fn push_name(out: &mut Vec<u8>, names: &[Text], rule: u32) -> Result<(), AllocError>
+/// Adds the name of a rule: rule 0 is the added rule `S'`, and these are the names of the rules from 1 on.
+///
+/// # Errors
+/// No memory.
+pub fn push_name(out: &mut Vec<u8>, names: &[Text], rule: u32) -> Result<(), AllocError>
     ensures { OnOk result (out.new.items ≡ out.old.items ++ name_of names.now rule) }
 {
     if rule == 0 {

@@ -27,7 +27,7 @@ abbrev result_of : Ending → Result (List Item) ParseFault
 result_of (parsed tree) = Ok (items_of tree)
 result_of (not_viable at) = Err (parsing.NoViable at)
 result_of (mismatch at state) = Err (parsing.Mismatch at state)
-result_of (failed_predicate at rule) = Err parsing.NoMemory
+result_of (failed_predicate at rule) = Err (parsing.FailedPredicate at rule)
 result_of (too_deep at) = Err (parsing.TooDeep at)
 
 -- a result is that of an ending, want of memory aside
@@ -35,6 +35,7 @@ from_ending : (net : ParserNetwork) (word : List ℕ) (r : Result (List Item) Pa
 from_ending net word (Ok tree) (t, p, e) n = (parsed t, p, ap Ok (sym e))
 from_ending net word (Err (parsing.NoViable at)) p n = (not_viable at, p, refl)
 from_ending net word (Err (parsing.Mismatch at state)) p n = (mismatch at state, p, refl)
+from_ending net word (Err (parsing.FailedPredicate at rule)) p n = (failed_predicate at rule, p, refl)
 from_ending net word (Err (parsing.TooDeep at)) p n = (too_deep at, p, refl)
 from_ending net word (Err parsing.NoMemory) p n = absurd (n refl)
 

@@ -12,7 +12,7 @@ use Rattle.g4_trees.specs.TreeText.{tree_text}
 use Rattle.g4_parse.specs.declared.parser.ParseFault.{ParseFault}
 use Rattle.g4_parse.specs.declared.parser.ParseFault.TheVariants as parsing
 use Rattle.g4_parse.specs.Parsing.{IsParse}
-use Rattle.g4_tool.specs.Texts.{line_of_events, line_of_tree, mismatch_line, no_viable_line, too_deep_line, no_token_line, many_tokens_line, not_utf8_line, large_line}
+use Rattle.g4_tool.specs.Texts.{line_of_events, line_of_tree, mismatch_line, no_viable_line, failed_predicate_line, too_deep_line, no_token_line, many_tokens_line, not_utf8_line, large_line}
 use Rattle.g4_tool.specs.declared.inputs.Input.{Input}
 use Rattle.g4_tool.specs.declared.inputs.Input.TheVariants as inputs
 use Rattle.g4_load.specs.declared.interpreter.Interpreter.{Interpreter}
@@ -47,6 +47,7 @@ lexing_refused lexing.NoMemory = true
 abbrev pub parsing_refused : ParseFault → Bool
 parsing_refused (parsing.Mismatch at state) = false
 parsing_refused (parsing.NoViable at) = false
+parsing_refused (parsing.FailedPredicate at rule) = false
 parsing_refused (parsing.TooDeep at) = false
 parsing_refused parsing.NoMemory = true
 
@@ -68,6 +69,7 @@ lex_lines name lexing.NoMemory = []
 abbrev pub parse_lines : Interpreter → List ℕ → Tokens → ParseFault → List Line
 parse_lines interpreter name tokens (parsing.Mismatch at state) = mismatch_line interpreter.shown interpreter.net name tokens at state ∷ []
 parse_lines interpreter name tokens (parsing.NoViable at) = no_viable_line name tokens at ∷ []
+parse_lines interpreter name tokens (parsing.FailedPredicate at rule) = failed_predicate_line interpreter.names name tokens at rule ∷ []
 parse_lines interpreter name tokens (parsing.TooDeep at) = too_deep_line name tokens at ∷ []
 parse_lines interpreter name tokens parsing.NoMemory = []
 

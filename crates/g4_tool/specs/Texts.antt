@@ -6,6 +6,7 @@ use Rattle.g4_base.specs.declared.place.Place.{Place}
 use Rattle.g4_base.specs.Place.{first_place}
 use Rattle.g4_base.specs.Shown.{shown}
 use Rattle.g4_symbols.specs.Symbols.{eof, end_of_list}
+use Rattle.g4_netlist.specs.Listing.{name_of}
 use Rattle.g4_netlist.specs.Shown.{shown_set}
 use Rattle.g4_net.specs.declared.network.State.{State}
 use Rattle.g4_net.specs.declared.network.State.TheVariants.{Decision, End, Edge, Call, Predicate, Level, Action, Empty}
@@ -60,6 +61,10 @@ mismatch_line types net name tokens at state =
 -- the line of a token with which no alternative continues
 abbrev pub no_viable_line : List ℕ → Tokens → ℕ → Line
 no_viable_line name tokens at = ToErr (((at_place name (place_of_token tokens.list at) ++ codes "no viable alternative at input '") ++ text_at tokens at) ++ codes "'\n")
+
+-- the line of a predicate or level that is false in an open rule
+abbrev pub failed_predicate_line : List (List ℕ) → List ℕ → Tokens → ℕ → ℕ → Line
+failed_predicate_line names name tokens at rule = ToErr (((at_place name (place_of_token tokens.list at) ++ codes "rule ") ++ name_of names rule) ++ codes " failed predicate\n")
 
 -- the line of a call with too many rules open
 abbrev pub too_deep_line : List ℕ → Tokens → ℕ → Line

@@ -1,13 +1,13 @@
 // The lines of faults.
 ghost use Rattle.std.specs.Prelude.{◌≡◌, ◌++◌, IfOk, OnOk, string_bytes, ◌-◌, []};
 ghost use Rattle.g4_net.specs.Network.{state_at};
-ghost use Rattle.g4_tool.specs.Texts.{at_place, taken_by, place_of_token, mismatch_line, no_viable_line, too_deep_line, no_token_line, many_tokens_line, not_utf8_line, large_line, absent_line, usage_line, syntax_line, bad_set_line, twice_line, no_rule_line, limit_line};
+ghost use Rattle.g4_tool.specs.Texts.{at_place, taken_by, place_of_token, mismatch_line, no_viable_line, failed_predicate_line, too_deep_line, no_token_line, many_tokens_line, not_utf8_line, large_line, absent_line, usage_line, syntax_line, bad_set_line, twice_line, no_rule_line, limit_line};
 ghost use Rattle.g4_tool.specs.declared.write.Line.TheVariants.{ToErr};
 
 use crate::write::Line;
 use g4_base::{Place, Sequence, Text, push_shown};
 use g4_net::{ParserNetwork, State};
-use g4_netlist::push_set;
+use g4_netlist::{push_name, push_set};
 use g4_token_list::{Token, Tokens};
 use g4_trees::push_token;
 use std::alloc::{AllocError, Global};
@@ -86,6 +86,25 @@ pub fn no_viable(alloc: Global, name: &str, tokens: &Tokens, at: u32) -> Result<
     push(&mut line, "no viable alternative at input '")?;
     push_token(&mut line, tokens, at)?;
     push(&mut line, "'\n")?;
+    Ok(Line::ToErr(Sequence::new(line)))
+}
+
+/// A predicate or level that is false in the open rule of this number, where the rules have these names.
+pub fn failed_predicate(
+    alloc: Global,
+    names: &[Text],
+    name: &str,
+    tokens: &Tokens,
+    at: u32,
+    rule: u32,
+) -> Result<Line, AllocError>
+    ensures { IfOk result (λ line. line ≡ failed_predicate_line names.now name.now tokens.now at rule) }
+{
+    let place = place_at(tokens.list.as_slice(), at);
+    let mut line = start_line(alloc, name, place)?.into_bytes();
+    push(&mut line, "rule ")?;
+    push_name(&mut line, names, rule)?;
+    push(&mut line, " failed predicate\n")?;
     Ok(Line::ToErr(Sequence::new(line)))
 }
 

@@ -9,7 +9,9 @@ ghost use Rattle.g4_tool.specs.Outcomes.{HasTree, IsNested, IsOutcome, is_accept
 ghost use Rattle.g4_load.specs.Usable.{IsUsable};
 
 use crate::inputs::Input;
-use crate::messages::{large, many_tokens, mismatch, no_token, no_viable, not_utf8, too_deep};
+use crate::messages::{
+    failed_predicate, large, many_tokens, mismatch, no_token, no_viable, not_utf8, too_deep,
+};
 use crate::write::Line;
 use g4_base::{MOST_BYTES, Octets, Sequence};
 use g4_lexer::{LexFault, tokens};
@@ -192,6 +194,10 @@ fn push_parse(
             mismatch(alloc, types, net, name, tokens, *at, *state)?
         }
         ParseFault::NoViable { at } => no_viable(alloc, name, tokens, *at)?,
+        ParseFault::FailedPredicate { at, rule } => {
+            let names = interpreter.names.as_slice();
+            failed_predicate(alloc, names, name, tokens, *at, *rule)?
+        }
         ParseFault::TooDeep { at } => too_deep(alloc, name, tokens, *at)?,
         ParseFault::NoMemory => return Ok(()),
     };

@@ -64,9 +64,9 @@ const REPORTS: [(&str, &str, &str, &str, &str, Status); 9] = [
     ),
     (
         "parse -g X.g4 -s e --events f",
-        "grammar X; e : t # Add ; t : 'x' ;",
-        "x",
-        "f: enter Add 1\nf: enter t 1\nf: token x\nf: exit t 1\nf: exit Add 1\nfiles 1 accepted 1\n",
+        "grammar X; e : e '!' # F | 'x' # X ;",
+        "x!",
+        "f: enter F 1\nf: enter X 2\nf: token x\nf: exit X 2\nf: token !\nf: exit F 1\nfiles 1 accepted 1\n",
         "",
         Status::Done,
     ),

@@ -42,8 +42,7 @@ returns-clause-checked c =
       ends = c.in_ok-grammar.ensures.ends;
       untested = quiet.0;
       defined = c.in_ok-grammar.ensures.defined c.in_ok-check.ensures.defined;
-      loops = c.in_ok-grammar.ensures.loops c.in_ok-check.ensures.loops;
-      cycles = c.in_ok-grammar.ensures.cycles c.in_ok-check.ensures.cycles;
+      run = c.in_ok-grammar.ensures.run c.in_ok-check.ensures.run;
       types = c.in_ok-grammar.ensures.types;
       token_quiet = quiet.1;
     }
