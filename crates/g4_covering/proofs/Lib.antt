@@ -1,0 +1,6 @@
+pub mod Covered
+pub mod Listed
+pub mod Nexts
+pub mod Judged
+pub mod Choices
+pub mod Presumed

@@ -1,0 +1,6 @@
+// What holds of full stacks where one alternative goes on wherever the others do.
+#![tactic(auto)]
+
+mod law;
+
+pub use law::{covering_chooses, full_stacks_choose};
