@@ -1,3 +1,8 @@
 mod Ending
 mod Looking
 mod Options
+mod Lists
+mod Takers
+mod Spreading
+mod Showing
+mod Foreseeing

@@ -1,1 +1,3 @@
 pub mod Verdicts
+pub mod Looks
+pub mod Foreseeing

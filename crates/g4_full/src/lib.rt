@@ -1,6 +1,10 @@
-// Full stacks: looking ahead from a decision with the parser's own stack.
+// Full stacks: looking ahead from a decision with the parser's own stack, and what can be foreseen of it.
 #![tactic(auto)]
 
+mod covering;
+mod foreseen;
 mod full;
+mod ways;
 
+pub use foreseen::{Foreseen, foresee_full};
 pub use full::{Settled, decide_full};

@@ -4,10 +4,10 @@ use Rattle.std.proofs.lemmas.List.{take_rest, drop-map, drop-append-le, length-m
 use Rattle.std.proofs.lemmas.List.Elements.{Contains-push}
 use Rattle.g4_symbols.specs.Symbols.{end_of_list}
 use Rattle.g4_token_list.specs.declared.token.Token as tokens
-use Rattle.g4_net.specs.Configurations.{Stack, wildcard, above_bottom}
+use Rattle.g4_net.specs.Configurations.{wildcard, above_bottom}
 use Rattle.g4_net.specs.Lookahead.{Start}
 use Rattle.g4_net.specs.Network.{ParserNetwork, IsFirst}
-use Rattle.g4_net.specs.Prediction.{Any, Path, answer, error_at, sensitive, Sll, Full, chosen, no_viable, HasTests, Choice, Decides, by_answer, by_error, by_full, by_tests}
+use Rattle.g4_net.specs.Prediction.{Any, Path, answer, error_at, sensitive, Sll, Full, chosen, no_viable, HasTests, Decides, by_answer, by_error, by_full, by_tests}
 use Rattle.g4_token_list.specs.TokenList.{word_of, EndsInEnd}
 use Rattle.g4_path.specs.declared.verdict.Verdict as said
 use Rattle.g4_path.specs.declared.verdict.Verdict.TheVariants.{Answer, ErrorAt, Sensitive}
@@ -41,13 +41,6 @@ pub ends_ahead : (from : ℕ) (ts : List tokens.Token) → EndsInEnd (word_of ts
 ends_ahead from ts ends less =
     let long : length (word_of ts) ≡ length ts = length-map ts (λ (t : tokens.Token). t.symbol) in
     subst (λ (v : List ℕ). Contains v end_of_list) (sym (word_from from ts)) (ahead from (word_of ts) ends (omega arith))
-
--- where no alternative begins with a predicate or a level, the choice is the same whatever is allowed
-pub whatever_is_allowed : (net : ParserNetwork) (d : ℕ) (A B : ℕ → Type 0) (z : Stack) (w : List ℕ) (c : Choice) → (HasTests net d → ⊥) → Decides net d A z w c → Decides net d B z w c
-whatever_is_allowed net d A B z w c none (by_answer i path n sll) = by_answer i path n sll
-whatever_is_allowed net d A B z w c none (by_error k path n sll) = by_error k path n sll
-whatever_is_allowed net d A B z w c none (by_full k path _ n sll full) = by_full k path c n sll full
-whatever_is_allowed net d A B z w c none (by_tests _ some full) = absurd (none some)
 
 -- what SLL said of the tokens from a place on
 abbrev pub Said : ParserNetwork → ℕ → ℕ → List tokens.Token → said.Verdict → Type 0

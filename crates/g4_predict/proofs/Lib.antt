@@ -1,2 +1,3 @@
 pub mod Choosing
+mod Foretelling
 mod Testing

@@ -1,6 +1,6 @@
 // Decisions on networks written by hand, whose answers were worked out from the definitions.
 use crate::walk::{is_decision, walked};
-use crate::{DecideFault, decide};
+use crate::{DecideFault, Foresight, decide, foresee};
 use g4_base::Sequence;
 use g4_hand_nets::{Row, is_ready, network, tokens, two_contexts};
 use g4_net::{Allowed, ParserNetwork};
@@ -18,18 +18,74 @@ enum Said {
 
 use Said::{Alternative, NoViable};
 
+/// What a decision answered, and what was foreseen.
+#[derive(Clone, Copy)]
+struct Answers {
+    decided: Said,
+    foreseen: Said,
+    presumed: bool,
+}
+
+impl Answers {
+    /// Whether the same was foreseen, or an alternative was presumed and none is viable.
+    fn agree(self) -> bool {
+        self.foreseen == self.decided || self.presumed && self.decided.is_fault()
+    }
+}
+
+impl Said {
+    /// Whether no alternative is viable.
+    fn is_fault(self) -> bool {
+        match self {
+            Said::NoViable(_) => true,
+            _ => false,
+        }
+    }
+}
+
+mod foreseeing;
 mod levels;
+
+fn fault_of(fault: DecideFault) -> Said {
+    match fault {
+        DecideFault::NoViable { at } => Said::NoViable(at),
+        DecideFault::NoMemory => Said::NoMemory,
+    }
+}
 
 fn answer_of(answer: Result<u32, DecideFault>) -> Said {
     match answer {
         Ok(alternative) => Said::Alternative(alternative),
-        Err(DecideFault::NoViable { at }) => Said::NoViable(at),
-        Err(DecideFault::NoMemory) => Said::NoMemory,
+        Err(fault) => fault_of(fault),
     }
 }
 
-/// What is decided at the end of a path through the network, on the symbols from a place on.
-fn decided(
+fn answers_of(
+    decided: Result<u32, DecideFault>,
+    foreseen: Result<Foresight, DecideFault>,
+) -> Answers {
+    let decided = answer_of(decided);
+    match foreseen {
+        Ok(
+            Foresight {
+                alternative,
+                presumed,
+            },
+        ) => Answers {
+            decided,
+            foreseen: Said::Alternative(alternative),
+            presumed,
+        },
+        Err(fault) => Answers {
+            decided,
+            foreseen: fault_of(fault),
+            presumed: false,
+        },
+    }
+}
+
+/// What is decided, and what is foreseen, at the end of a path through the network, on the symbols from a place on.
+fn both_answers(
     rt: &impl Abort,
     alloc: Global,
     net: &ParserNetwork,
@@ -37,7 +93,7 @@ fn decided(
     path: &[u32],
     symbols: &[u32],
     from: u32,
-) -> Result<Said, AllocError> {
+) -> Result<Answers, AllocError> {
     let list = tokens(alloc, symbols)?;
     if list.len() >= 100_000 || from as usize >= list.len() {
         panic!(rt; "no such place");
@@ -49,16 +105,41 @@ fn decided(
     if !ready || !is_decision(net, at.state) {
         panic!(rt; "no decision of a network that can be parsed with");
     }
-    let answer = decide(
+    let returns = at.returns.as_slice();
+    let decided = decide(
         alloc,
         net,
         at.state,
         allowed,
-        at.returns.as_slice(),
+        returns,
         list.as_slice(),
         from,
     );
-    Ok(answer_of(answer))
+    let foreseen = foresee(
+        alloc,
+        net,
+        at.state,
+        allowed,
+        returns,
+        list.as_slice(),
+        from,
+    );
+    Ok(answers_of(decided, foreseen))
+}
+
+/// What is decided there, which must agree with what is foreseen.
+fn decided(
+    rt: &impl Abort,
+    alloc: Global,
+    net: &ParserNetwork,
+    allowed: &Allowed,
+    path: &[u32],
+    symbols: &[u32],
+    from: u32,
+) -> Result<Said, AllocError> {
+    let answers = both_answers(rt, alloc, net, allowed, path, symbols, from)?;
+    assert!(rt; answers.agree());
+    Ok(answers.decided)
 }
 
 /// A row of a table: its name, the symbols, the place from which on they are looked at, and the answer.

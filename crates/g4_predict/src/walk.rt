@@ -43,6 +43,8 @@ fn has_edge(net: &ParserNetwork, number: u32, to: u32) -> bool
     match net.states.as_slice().get(number as usize) {
         Some(State::Decision(targets)) => targets.as_slice().contains(&to),
         Some(State::Edge(_, target)) => *target == to,
+        Some(State::Level(_, target)) => *target == to,
+        Some(State::Empty(target)) => *target == to,
         _ => false,
     }
 }
