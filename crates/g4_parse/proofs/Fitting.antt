@@ -21,6 +21,7 @@ use Rattle.g4_parse.proofs.Forests.{tokens_and_then, two_are_not_one, range_more
 use Rattle.g4_parse.proofs.OneTree.{HasOneTree, one_tree_on}
 use Rattle.g4_parse.proofs.OpenRules.{AreOpen, open_decided, open_silently, open_token, open_call, node_fits, open_closed, open_wrapped}
 use Rattle.g4_parse.proofs.Stages.{Stage, begins, advances}
+use Rattle.g4_parse.proofs.Steps.{proceeds_by}
 
 -- the places of the tokens of the open rules, those of the oldest rule first
 abbrev tokens_open : List Frame → List ℕ
@@ -168,8 +169,8 @@ module _ (set : List ℕ) (rules : List StepRule) (start : List ℕ) (net : Pars
   -- a step
   fitting_on : (r s : Run) → Goes net no_predicates word r s → Fitting r → Fitting s
   fitting_on r s g h = record {
-    stage = advances net (rule_number (rewritten rules) start) (2 * length (rewritten rules) + 2) built.runnable word ends r s h.stage g;
-    one = one_tree_on net (rule_number (rewritten rules) start) (2 * length (rewritten rules) + 2) built.runnable (length word) word r s h.stage g h.one;
+    stage = advances net (rule_number (rewritten rules) start) (2 * length (rewritten rules) + 2) built.runnable word ends r s h.stage (proceeds_by net word (state_at net r.state) r s g);
+    one = one_tree_on net (rule_number (rewritten rules) start) (2 * length (rewritten rules) + 2) built.runnable (length word) word r s h.stage (proceeds_by net word (state_at net r.state) r s g) h.one;
     are_open = open_on r s (state_at net r.state) refl g h.are_open;
     tokens = tokens_on r s (state_at net r.state) refl g h.one h.tokens;
     whole = whole_on r s (state_at net r.state) refl g h.are_open h.tokens h.whole;

@@ -1,6 +1,7 @@
 pub mod Fitting
 mod Allowing
 mod Begun
+mod Foreseen
 mod Forests
 mod Grown
 mod Measure
@@ -11,5 +12,7 @@ mod Onward
 mod OpenRules
 mod Parts
 mod Stages
+mod Steps
 mod Turns
+mod Viable
 mod Words

@@ -10,9 +10,10 @@ use Rattle.g4_net.specs.Leads.{IsTarget}
 use Rattle.g4_net.specs.AddedRule.{IsRunnable}
 use Rattle.g4_lookahead.proofs.Proper.{IsStackFor, Inside, at_call, at_last, at_loop, at_turn, after_turn, at_end, after_end, inside_cases, stack_for}
 use Rattle.g4_trees.specs.Trees.{Tree, Forest, no_tree, and_then, only}
-use Rattle.g4_parse.specs.Running.{Frame, Run, no_predicates, GoesBy, Goes, ClosesBy, with_token, begun, node_of}
+use Rattle.g4_parse.specs.Running.{Frame, Run, no_predicates, ClosesBy, with_token, begun, node_of}
 use Rattle.g4_parse.specs.Standing.{backs}
-use Rattle.g4_parse.proofs.Stages.{Stage, first_in, backs_alt, backs_token, backs_wrapped}
+use Rattle.g4_parse.proofs.Stages.{Stage}
+use Rattle.g4_parse.proofs.Steps.{ProceedsBy, Proceeds, first_in, backs_alt, backs_token, backs_wrapped}
 
 -- what is outside the open rules, which have these return states, newest first: nothing before the start rule is called and
 -- while it is open, and then one tree
@@ -93,9 +94,9 @@ module _ {looped : List ℕ} (net : ParserNetwork) (rule loop : ℕ) (ready : Is
   token_tree r (f ∷ fs) = refl
 
   -- a step
-  one_tree_by : (word : List ℕ) (r s : Run) (o : Option (State (List ℕ))) → state_at net r.state ≡ o → Stage net loop n r → GoesBy net no_predicates word o r s → HasOneTree (backs r.frames) r.state r.tree → HasOneTree (backs s.frames) s.state s.tree
+  one_tree_by : (word : List ℕ) (r s : Run) (o : Option (State (List ℕ))) → state_at net r.state ≡ o → Stage net loop n r → ProceedsBy net word o r s → HasOneTree (backs r.frames) r.state r.tree → HasOneTree (backs s.frames) s.state s.tree
   one_tree_by word r s None is h g one = absurd g
-  one_tree_by word r s (Some (Decision targets)) is h (i, t, says, first, e) one =
+  one_tree_by word r s (Some (Decision targets)) is h (i, t, first, e) one =
       along r s (Decision targets) t h is (first_in net r.state i t targets is first) (λ callee level back f. cc) (ap (λ (x : Run). x.state) e) (ap (λ (x : Run). backs x.frames) e ∙ backs_alt (begun net t (state_at net t)) r.frames) (ap (λ (x : Run). x.tree) e) one
   one_tree_by word r s (Some (End ended)) is h g one = closed r r.frames s refl (closes_any r.frames g) one
     where
@@ -111,7 +112,7 @@ module _ {looped : List ℕ} (net : ParserNetwork) (rule loop : ℕ) (ready : Is
   one_tree_by word r s (Some (Action t)) is h e one = along r s (Action t) t h is refl (λ callee level back f. cc) (ap (λ (x : Run). x.state) e) (ap (λ (x : Run). backs x.frames) e) (ap (λ (x : Run). x.tree) e) one
   one_tree_by word r s (Some (Empty t)) is h e one = along r s (Empty t) t h is refl (λ callee level back f. cc) (ap (λ (x : Run). x.state) e) (ap (λ (x : Run). backs x.frames) e) (ap (λ (x : Run). x.tree) e) one
 
-  pub one_tree_on : (word : List ℕ) (r s : Run) → Stage net loop n r → Goes net no_predicates word r s → HasOneTree (backs r.frames) r.state r.tree → HasOneTree (backs s.frames) s.state s.tree
+  pub one_tree_on : (word : List ℕ) (r s : Run) → Stage net loop n r → Proceeds net word r s → HasOneTree (backs r.frames) r.state r.tree → HasOneTree (backs s.frames) s.state s.tree
   one_tree_on word r s h g one = one_tree_by word r s (state_at net r.state) refl h g one
 
   -- at the end of a rule, where none is open, there is one tree

@@ -26,7 +26,7 @@ use Rattle.g4_parse.specs.Running.{Frame, Run, begun, with_alt, with_token, with
 use Rattle.g4_parse.proofs.Begun.{IsNoOuterStart, IsNewest, has_begun, begun_on, begun_silently, chosen_begins, decides_inside, called_begins, wrapped_begins}
 use Rattle.g4_parse.proofs.Forests.{heads_and_then, fit_and_then}
 use Rattle.g4_parse.proofs.Parts.{TakesToken, EntersRule, IsPart, part_on, part_ends}
-use Rattle.g4_parse.proofs.Stages.{first_in}
+use Rattle.g4_parse.proofs.Steps.{first_in}
 
 module _ (rules : List StepRule) (net : ParserNetwork) (word : List ℕ) where
   -- an open rule that has called a rule and goes on at this return state

@@ -2,21 +2,22 @@
 use Rattle.std.proofs.Common.{◌≡◌, ◌+◌, ◌<◌, ◌≤◌, ◌++◌, ◌∷◌, [], ℕ, zero, suc, List, length, All, refl, sym, ◌∙◌, ap, subst, arith, length-append}
 use Rattle.std.specs.Prelude.{Option, Some, None, slice_get}
 use Rattle.std.specs.List.{Contains}
-use Rattle.std.proofs.lemmas.Option.{slice_get_within, get_or_from_slice_get, slice_get-get_or}
+use Rattle.std.proofs.lemmas.Option.{slice_get_within, slice_get-get_or}
 use Rattle.std.proofs.lemmas.List.Elements.{All-head}
 use Rattle.g4_symbols.specs.Symbols.{end_of_list}
 use Rattle.g4_net.specs.declared.network.State.{State}
 use Rattle.g4_net.specs.declared.network.State.TheVariants.{Decision, End, Edge, Call, Predicate, Level, Action, Empty}
-use Rattle.g4_net.specs.Network.{ParserNetwork, state_at, start_of, IsFirst, written_at}
+use Rattle.g4_net.specs.Network.{ParserNetwork, state_at, start_of, written_at}
 use Rattle.g4_net.specs.Leads.{IsTarget}
 use Rattle.g4_net.specs.AddedRule.{IsRunnable}
 use Rattle.g4_net.specs.Proper.{start, IsProper, at_bottom}
 use Rattle.g4_lookahead.proofs.Proper.{IsStackFor, Inside, at_call, at_last, at_loop, at_turn, after_turn, at_end, after_end, inside_cases, stack_for, proper_within, proper_target, proper_call, proper_return}
 use Rattle.g4_token_list.specs.TokenList.{EndsInEnd}
 use Rattle.g4_trees.specs.Trees.{Tree}
-use Rattle.g4_parse.specs.Running.{Frame, Run, beginning, deepest, no_predicates, GoesBy, Goes, ClosesBy, with_child, with_token, with_alt, wrapped, begun, node_of}
+use Rattle.g4_parse.specs.Running.{Frame, Run, beginning, deepest, no_predicates, ClosesBy, with_child, with_token, with_alt, wrapped, begun, node_of}
 use Rattle.g4_parse.specs.Standing.{backs, IsFitBy}
 use Rattle.g4_parse.proofs.Grown.{state_child, place_child}
+use Rattle.g4_parse.proofs.Steps.{ProceedsBy, Proceeds, first_in, backs_alt, backs_child, backs_token, backs_wrapped}
 
 -- a symbol other than the last does not stand at the last place
 last_place : (front : List ℕ) (x i a : ℕ) → slice_get (front ++ x ∷ []) i ≡ Some a → (a ≡ x → ⊥) → i < length front
@@ -31,13 +32,6 @@ before_end word i a (front, same, once) e n =
     let within : i < length front = last_place front end_of_list i a (subst (λ (w : List ℕ). slice_get w i ≡ Some a) same e) n in
     omega (arith, ap length same, length-append front (end_of_list ∷ []))
 
--- an alternative of a decision is one of its targets
-pub first_in : (net : ParserNetwork) (p i t : ℕ) (targets : List ℕ) → state_at net p ≡ Some (Decision targets) → IsFirst net p i t → Contains targets t
-first_in net p i t targets is (us, k, at, has, number) =
-    let same : us ≡ targets = cc in
-    let got : slice_get targets k ≡ Some t = subst (λ (xs : List ℕ). slice_get xs k ≡ Some t) same has in
-    (k, slice_get_within targets k t got, get_or_from_slice_get targets k t t got)
-
 -- what holds at a moment, the token list having n tokens
 pub record Stage (net : ParserNetwork) (loop n : ℕ) (r : Run) : Type 0 where
   pub state_in : r.state < length net.states
@@ -46,23 +40,7 @@ pub record Stage (net : ParserNetwork) (loop n : ℕ) (r : Run) : Type 0 where
   -- a token is left, but after END
   pub more : (r.state ≡ loop + 4 → ⊥) → (r.state ≡ 1 → ⊥) → r.place < n
 
--- other alternatives and more children open no rule
-pub backs_alt : (i : ℕ) (fs : List Frame) → backs (with_alt i fs) ≡ backs fs
-backs_alt i [] = refl
-backs_alt i (f ∷ fs) = refl
-
-pub backs_child : (r : Run) (fs : List Frame) (t : Tree) → backs (with_child r fs t).frames ≡ backs fs
-backs_child r [] t = refl
-backs_child r (f ∷ fs) t = refl
-
-pub backs_token : (r : Run) (fs : List Frame) → r.frames ≡ fs → backs (with_token r fs).frames ≡ backs fs
-backs_token r [] e = ap backs e
-backs_token r (f ∷ fs) e = refl
-
-pub backs_wrapped : (i : ℕ) (fs : List Frame) → backs (wrapped i fs) ≡ backs fs
-backs_wrapped i [] = refl
-backs_wrapped i (f ∷ fs) = refl
-
+-- other alternatives, more children and levels open no rule
 length_wrapped : (i : ℕ) (fs : List Frame) → length (wrapped i fs) ≡ length fs
 length_wrapped i [] = refl
 length_wrapped i (f ∷ fs) = refl
@@ -159,9 +137,9 @@ module _ {looped : List ℕ} (net : ParserNetwork) (rule loop : ℕ) (ready : Is
         }
 
     -- a step
-    advances_by : (r s : Run) (o : Option (State (List ℕ))) → state_at net r.state ≡ o → Stage net loop (length word) r → GoesBy net no_predicates word o r s → Stage net loop (length word) s
+    advances_by : (r s : Run) (o : Option (State (List ℕ))) → state_at net r.state ≡ o → Stage net loop (length word) r → ProceedsBy net word o r s → Stage net loop (length word) s
     advances_by r s None is h g = absurd g
-    advances_by r s (Some (Decision targets)) is h (i, t, says, first, e) =
+    advances_by r s (Some (Decision targets)) is h (i, t, first, e) =
         moves r (Decision targets) t r.frames s h is (first_in net r.state i t targets is first) (ap (λ (x : Run). x.state) e) (ap (λ (x : Run). x.place) e)
         (ap (λ (x : Run). backs x.frames) e ∙ backs_alt (begun net t (state_at net t)) r.frames) (ap (λ (x : Run). length x.frames) e ∙ length_alt (begun net t (state_at net t)) r.frames)
         (λ x. left r (Decision targets) h is (λ e. cc) (λ e. cc))
@@ -193,7 +171,7 @@ module _ {looped : List ℕ} (net : ParserNetwork) (rule loop : ℕ) (ready : Is
         moves r (Empty t) t r.frames s h is refl (ap (λ (x : Run). x.state) e) (ap (λ (x : Run). x.place) e) (ap (λ (x : Run). backs x.frames) e) (ap (λ (x : Run). length x.frames) e)
         (λ x. left r (Empty t) h is (λ u. x cc) (λ u. cc))
 
-    pub advances : (r s : Run) → Stage net loop (length word) r → Goes net no_predicates word r s → Stage net loop (length word) s
+    pub advances : (r s : Run) → Stage net loop (length word) r → Proceeds net word r s → Stage net loop (length word) s
     advances r s h g = advances_by r s (state_at net r.state) refl h g
 
     -- what each state asks

@@ -1,5 +1,5 @@
 -- What a turn of the parser is in the run.
-use Rattle.std.proofs.Common.{◌≡◌, ◌+◌, ◌-◌, ◌<◌, ◌≤◌, ◌++◌, ◌∷◌, [], ℕ, ◌↔◌, List, length, get_or, take, drop, reverse, false, cond, ◌==◌, refl, sym, ◌∙◌, ap, subst, arith, length-append}
+use Rattle.std.proofs.Common.{◌≡◌, ◌+◌, ◌-◌, ◌<◌, ◌≤◌, ◌++◌, ◌∷◌, [], ℕ, ◌↔◌, List, length, get_or, take, drop, reverse, Bool, true, false, inl, inr, cond, ◌==◌, refl, sym, ◌∙◌, ap, subst, arith, length-append}
 use Rattle.std.specs.Prelude.{Option, Some, Result, Ok, Err, IsErrAnd, ⊤, slice_get}
 use Rattle.std.proofs.lemmas.Option.{slice_get_within, get_or_from_slice_get}
 use Rattle.std.proofs.lemmas.List.Elements.{Contains-get_or}
@@ -10,12 +10,16 @@ use Rattle.g4_net.specs.declared.network.State.TheVariants.{Decision}
 use Rattle.g4_net.specs.Network.{ParserNetwork, state_at, IsFirst}
 use Rattle.g4_net.specs.Allowed.{Allows}
 use Rattle.g4_net.specs.declared.allowed.Allowed.{Allowed}
+use Rattle.g4_net.specs.declared.allowed.Allowed.TheVariants.{Every}
 use Rattle.g4_net.specs.Configurations.{Stack, above_bottom}
 use Rattle.g4_net.specs.Lookahead.{Start}
-use Rattle.g4_net.specs.Prediction.{Choice, chosen, no_viable, HasTests, Decides, by_answer, by_error, by_full, by_tests}
+use Rattle.g4_net.specs.Prediction.{Choice, chosen, no_viable, HasTests, Any, Full, Decides, by_answer, by_error, by_full, by_tests}
 use Rattle.g4_net.specs.Leads.{WellFormed}
+use Rattle.g4_net.specs.Proper.{IsProper}
 use Rattle.g4_lookahead.proofs.Judging.{Within, full_same}
 use Rattle.g4_predict.specs.Deciding.{IsDecideFault}
+use Rattle.g4_predict.specs.Foreseeing.{IsRightOver, IsForeseen}
+use Rattle.g4_predict.specs.declared.foresight.Foresight.{Foresight}
 use Rattle.g4_predict.specs.declared.decision.DecideFault.{DecideFault}
 use Rattle.g4_predict.specs.declared.decision.DecideFault.TheVariants as deciding
 use Rattle.g4_parse.specs.Deciding.{of_decide}
@@ -25,9 +29,10 @@ use Rattle.g4_tree_builder.specs.Kept.{HasGrown}
 use Rattle.g4_parse.specs.declared.parser.Opened.{Opened}
 use Rattle.g4_parse.specs.declared.parser.Parser.{Parser}
 use Rattle.g4_parse.specs.declared.parser.ParseFault.{ParseFault}
-use Rattle.g4_parse.specs.Running.{Frame, Run, not_viable, no_predicates, Predicts, GoesBy, ClosesBy, with_child, with_token, with_begun, begun, wrapped, node_of, stack_of, AllowsAt}
+use Rattle.g4_parse.specs.Running.{Frame, Run, not_viable, no_predicates, Predicts, ClosesBy, with_child, with_token, with_begun, begun, wrapped, node_of, stack_of, AllowsAt}
 use Rattle.g4_parse.specs.Allowing.{IsAllowed}
-use Rattle.g4_parse.specs.Standing.{StandsFor, IsFaultBy, IsTurnBy, backs, returns_of, opened_of, grown}
+use Rattle.g4_parse.specs.Foreseen.{IsForeseenAt, IsForeseenTurnBy}
+use Rattle.g4_parse.specs.Standing.{StandsFor, IsFaultBy, IsTurnBy, IsDeciding, backs, returns_of, opened_of, grown}
 use Rattle.g4_parse.proofs.Grown.{all_but_last, returns_child, opened_child, place_child, state_child, grown_close, returns_alt, opened_alt, grown_alt, returns_wrapped, opened_wrapped, grown_wrapped, reverse_returns}
 
 -- lists that end alike are alike
@@ -121,13 +126,41 @@ predicted net word r p allowed choice allows h says =
     let said : Decides net r.state (Allows allowed) (above_bottom (backs r.frames)) (drop r.place word) choice = rw (← h.state, ← h.place, ← stack) says in
     as_allowed net r.state (Allows allowed) (AllowsAt net no_predicates word r) (stack_of r) (drop r.place word) choice (allows word r h) said
 
--- Going to the alternative that prediction says is a step of the run.
-pub chooses : (net : ParserNetwork) (word : List ℕ) (r : Run) (p q : Parser) (allowed : Allowed) (targets : List ℕ) (i t : ℕ) → IsAllowed net p allowed → StandsFor p r → Decides net p.state (Allows allowed) (above_bottom (reverse p.returns.items)) (drop p.place word) (chosen i) → IsFirst net p.state i t → StandsFor q (record (with_begun (begun net t (state_at net t)) r) { state = t }) → (s : Run) × GoesBy net no_predicates word (Some (Decision targets)) r s × StandsFor q s
-chooses net word r p q allowed targets i t allows h says first after = (
+-- what full stacks say in the run they say where the parser stands
+full_at : (net : ParserNetwork) (word : List ℕ) (r : Run) (p : Parser) (B : ℕ → Type 0) (choice : Choice) → StandsFor p r → Full net p.state B (above_bottom (reverse p.returns.items)) (drop p.place word) choice → Full net r.state B (stack_of r) (drop r.place word) choice
+full_at net word r p B choice h full =
+    let stack : reverse p.returns.items ≡ backs r.frames = ap reverse h.returns ∙ reverse_returns r.frames in
+    subst (λ (d : ℕ). Full net d B (stack_of r) (drop r.place word) choice) h.state
+    (subst (λ (at : ℕ). Full net p.state B (stack_of r) (drop at word) choice) h.place (subst (λ (bs : List ℕ). Full net p.state B (above_bottom bs) (drop p.place word) choice) stack full))
+
+-- so what full stacks bear out where the parser stands, they do in the run
+right_at : (net : ParserNetwork) (word : List ℕ) (r : Run) (p : Parser) (allowed : Allowed) (B : ℕ → Type 0) (i : ℕ) → IsAllowed net p allowed → StandsFor p r → IsRightOver B net p.state (Allows allowed) (above_bottom (reverse p.returns.items)) (drop p.place word) i →
+    IsRightOver B net r.state (AllowsAt net no_predicates word r) (stack_of r) (drop r.place word) i
+right_at net word r p allowed B i allows h (has, right) = (has, λ some. predicted net word r p allowed (chosen i) allows h (right (λ k none. some k (full_at net word r p B (no_viable k) h none))))
+
+-- what is foreseen at the parser's state is foreseen in the run
+foreseen_at : (net : ParserNetwork) (word : List ℕ) (r : Run) (p : Parser) (allowed : Allowed) (f : Foresight) (presumed : Bool) → f.presumed ≡ presumed → IsAllowed net p allowed → StandsFor p r → IsForeseen net p.state (Allows allowed) (above_bottom (reverse p.returns.items)) (drop p.place word) f →
+    IsForeseenAt net word r presumed f.alternative
+foreseen_at net word r p allowed f false is allows h says = predicted net word r p allowed (chosen f.alternative) allows h (says.exact is)
+foreseen_at net word r p allowed f true is allows h says = elim (says.presumed is) [
+  | inl right ↦ (allowed, right_at net word r p allowed (Allows allowed) f.alternative allows h right)
+  | inr right ↦ (Every, right_at net word r p allowed Any f.alternative allows h right)
+]
+
+-- Going to the alternative that is foreseen is a turn of the parser.
+pub chooses : (net : ParserNetwork) (word : List ℕ) (r : Run) (p q : Parser) (allowed : Allowed) (targets : List ℕ) (f : Foresight) (t : ℕ) → IsAllowed net p allowed → StandsFor p r → IsForeseen net p.state (Allows allowed) (above_bottom (reverse p.returns.items)) (drop p.place word) f → IsFirst net p.state f.alternative t →
+    StandsFor q (record (with_begun (begun net t (state_at net t)) r) { state = t }) → IsForeseenTurnBy net word (Some (Decision targets)) r q (Ok f.presumed)
+chooses net word r p q allowed targets f t allows h says first after = (
   record (with_begun (begun net t (state_at net t)) r) { state = t },
-  (i, t, predicted net word r p allowed (chosen i) allows h says, subst (λ (n : ℕ). IsFirst net n i t) h.state first, refl),
+  (f.alternative, t, foreseen_at net word r p allowed f f.presumed refl allows h says, subst (λ (n : ℕ). IsFirst net n f.alternative t) h.state first, refl),
   after,
 )
+
+-- the stack of a parser at a decision is proper
+pub proper_stack : (net : ParserNetwork) (n : ℕ) (p : Parser) (returns : List ℕ) → returns ≡ p.returns.items → IsDeciding net n p → IsProper net p.state (reverse returns)
+proper_stack net n p returns are (r, stands, fit) =
+    let stack : reverse returns ≡ backs r.frames = ap reverse (are ∙ stands.returns) ∙ reverse_returns r.frames in
+    subst (λ (bs : List ℕ). IsProper net p.state bs) (sym stack) (subst (λ (at : ℕ). IsProper net at (backs r.frames)) (sym stands.state) fit.proper)
 
 -- a turn by the state where the parser stands is one by the state of the moment
 pub turned : (net : ParserNetwork) (word : List ℕ) (r : Run) (p q : Parser) (s : State (List ℕ)) (x : Result ⊤ ParseFault) → StandsFor p r → state_at net p.state ≡ Some s → IsTurnBy net word (Some s) r q x → IsTurnBy net word (state_at net r.state) r q x
@@ -153,8 +186,8 @@ decides_fault net word r p allowed targets (deciding.NoViable at) allows h (k, s
 decides_fault net word r p allowed targets deciding.NoMemory allows h is = tt
 
 -- a turn that answers with this fault
-pub fails_with : (net : ParserNetwork) (word : List ℕ) (o : Option (State (List ℕ))) (r : Run) (q : Parser) (fault : ParseFault) (x : Result ⊤ ParseFault) → IsErrAnd x (λ e. e ≡ fault) → IsFaultBy net word o r fault → IsTurnBy net word o r q x
-fails_with net word o r q fault (Ok done) is h = absurd is
+pub fails_with : (net : ParserNetwork) (word : List ℕ) (o : Option (State (List ℕ))) (r : Run) (q : Parser) (fault : ParseFault) (x : Result Bool ParseFault) → IsErrAnd x (λ e. e ≡ fault) → IsFaultBy net word o r fault → IsForeseenTurnBy net word o r q x
+fails_with net word o r q fault (Ok presumed) is h = absurd is
 fails_with net word o r q fault (Err e) is h = subst (IsFaultBy net word o r) (sym is) h
 
 -- the parser at another state is at the moment of that state

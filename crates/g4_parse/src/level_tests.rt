@@ -1,5 +1,5 @@
 // Parses over networks with levels, written by hand, whose trees and faults were worked out from the definitions.
-use crate::tests::{Case, check_all, items};
+use crate::tests::{Case, check_all, items, outcome};
 use g4_base::Sequence;
 use g4_hand_nets::{Row, network};
 use g4_net::{Network, ParserNetwork, State};
@@ -138,5 +138,52 @@ fn a_thousand_operators(rt: HostRuntime) -> Result<(), Fail> {
     }
     let found = items(&rt, alloc, &net, symbols.as_slice())?;
     assert_eq!(rt; found.len(), 6_003);
+    Ok(())
+}
+
+/// An operand, then `+2*3` so many times, and what follows.
+fn alternating(alloc: Global, times: u32, ending: &[u32]) -> Result<Vec<u32>, AllocError> {
+    let mut symbols = vec![in alloc; 1u32]?;
+    for _ in 0..times {
+        symbols.extend_from_slice(&[3, 1, 2, 1])?;
+    }
+    symbols.extend_from_slice(ending)?;
+    Ok(symbols)
+}
+
+#[test]
+fn a_thousand_operators_of_two_levels(rt: HostRuntime) -> Result<(), Fail> {
+    let alloc = rt.alloc();
+    let net = sums(alloc)?;
+    let symbols = alternating(alloc, 500, &[])?;
+    let found = items(&rt, alloc, &net, symbols.as_slice())?;
+    assert_eq!(rt; found.len(), 6_003);
+    Ok(())
+}
+
+/// A row of a table: how often `+2*3` stands there, what follows, and the text of the fault.
+#[derive(Drop)]
+struct Chain<'a>(u32, &'a [u32], &'a str);
+
+#[test]
+fn faults_late_in_a_chain(rt: HostRuntime) -> Result<(), Fail> {
+    let alloc = rt.alloc();
+    let net = sums(alloc)?;
+    let cases = [
+        Chain(0, &[3, 2], "not taken at 2 by 2"),
+        Chain(1, &[3, 2], "no alternative at 6"),
+        Chain(1, &[3], "no alternative at 6"),
+        Chain(1, &[2, 1, 3], "no alternative at 8"),
+        Chain(10, &[3, 2], "no alternative at 42"),
+        Chain(10, &[3, 2, 3, 1], "no alternative at 42"),
+        Chain(10, &[3], "no alternative at 42"),
+        Chain(10, &[2], "no alternative at 42"),
+        Chain(10, &[1], "no alternative at 41"),
+    ];
+    for Chain(times, ending, want) in &cases {
+        let symbols = alternating(alloc, *times, ending)?;
+        let out = outcome(&rt, alloc, &net, symbols.as_slice(), "")?;
+        assert_eq!(rt; out.as_slice(), want.as_bytes(), "{want}");
+    }
     Ok(())
 }

@@ -2,13 +2,16 @@
 #![tactic(auto)]
 
 mod allowed;
+mod faults;
 mod law;
 #[cfg(test)]
 mod level_tests;
 mod parser;
+mod runs;
 mod state;
 #[cfg(test)]
 mod tests;
 
 pub use law::one_ending;
-pub use parser::{ParseFault, parse};
+pub use parser::ParseFault;
+pub use runs::parse;

@@ -1,28 +1,29 @@
 // The parse run.
-ghost use Rattle.std.specs.Prelude.{◌≡◌, ◌<◌, ◌*◌, ◌^◌, ◌↔◌, ℕ, List, Some, IsTrue, IfOk, OnOk, length};
-ghost use Rattle.g4_grammar.specs.StepRules.{CanBeRewritten, StepRule};
-ghost use Rattle.g4_layout.specs.Built.{IsBuilt};
-ghost use Rattle.g4_leftrec.specs.Rewriting.{numberings, rewritten};
+ghost use Rattle.std.specs.Prelude.{◌≡◌, ◌<◌, ◌*◌, ◌^◌, ◌↔◌, ℕ, List, [], Some, false, IsTrue, IfOk, OnOk, length, drop, reverse};
 ghost use Rattle.g4_net.specs.AddedRule.{IsReady};
+ghost use Rattle.g4_net.specs.Allowed.{Allows};
 ghost use Rattle.g4_net.specs.declared.network.State.TheVariants.{Call, Decision, Edge, End, Level};
 ghost use Rattle.g4_net.specs.Network.{ParserNetwork as Net, state_at};
+ghost use Rattle.g4_predict.specs.Foreseeing.{IsForesight};
+ghost use Rattle.g4_parse.specs.declared.parser.Choosing.TheVariants.{Exact};
 ghost use Rattle.g4_parse.specs.Allowing.{IsAllowed};
-ghost use Rattle.g4_parse.specs.Parsing.{IsParse};
+ghost use Rattle.g4_parse.specs.Foreseen.{IsForeseenTurnBy};
 ghost use Rattle.g4_parse.specs.Running.{Run, beginning, with_begun, with_token};
 ghost use Rattle.g4_parse.specs.Standing.{StandsFor, IsNewestOf, IsTurnBy, IsDeciding, IsUnderway, HasEnded};
 ghost use Rattle.g4_token_list.specs.TokenList.{word_of, EndsInEnd};
-ghost use Rattle.g4_tree_check.specs.TreesOf.{IsTreeOf};
+ghost use Rattle.g4_tree_builder.specs.Kept.{HasGrown};
+ghost use Rattle.g4_trees.specs.Trees.{Forest, items_of_all};
 
 use crate::allowed::passing;
 use crate::state::{begun, state_of};
 use g4_base::Sequence;
 use g4_net::{Allowed, ParserNetwork, State};
-use g4_predict::{DecideFault, decide, has_test};
+use g4_predict::{DecideFault, Foresight, decide, foresee, has_test};
 use g4_symbols::Symbols;
 use g4_token_list::Token;
 use g4_tree_builder::TreeBuilder;
 use g4_trees::Tree;
-use std::alloc::{AllocError, AllocFailed, Global};
+use std::alloc::{AllocError, Global};
 
 /// Why a token list has no tree.
 #[derive(Drop)]
@@ -39,42 +40,6 @@ pub enum ParseFault {
     NoMemory,
 }
 
-impl From<AllocError> for ParseFault {
-    ghost use Rattle.std.specs.Prelude.{◌≡◌};
-    ghost use Rattle.g4_parse.specs.declared.parser.ParseFault.TheVariants.{NoMemory};
-
-    ghost from_gives = { λ _ e. e ≡ NoMemory };
-
-    fn from(_: AllocError) -> Self {
-        ParseFault::NoMemory
-    }
-}
-
-impl<T: Drop> From<AllocFailed<T>> for ParseFault {
-    ghost use Rattle.std.specs.Prelude.{◌≡◌};
-    ghost use Rattle.g4_parse.specs.declared.parser.ParseFault.TheVariants.{NoMemory};
-
-    ghost from_gives = { λ _ e. e ≡ NoMemory };
-
-    fn from(_: AllocFailed<T>) -> Self {
-        ParseFault::NoMemory
-    }
-}
-
-impl From<DecideFault> for ParseFault {
-    ghost use Rattle.std.specs.Prelude.{◌≡◌};
-    ghost use Rattle.g4_parse.specs.Deciding.{of_decide};
-
-    ghost from_gives = { λ d e. e ≡ of_decide d };
-
-    fn from(fault: DecideFault) -> Self {
-        match fault {
-            DecideFault::NoViable { at } => ParseFault::NoViable { at },
-            DecideFault::NoMemory => ParseFault::NoMemory,
-        }
-    }
-}
-
 /// The most rules that may be open.
 const DEEPEST: usize = 10_000;
 
@@ -85,10 +50,19 @@ struct Opened {
     level: u32,
 }
 
+/// How the parser chooses at a decision.
+#[derive(Clone, Copy)]
+pub enum Choosing {
+    /// As prediction says.
+    Exact,
+    /// As prediction says, or by presuming what it will say of a text without an error.
+    Presuming,
+}
+
 /// A moment of the run: the state and the place in the token list, the return states of the open rules, newest last, with their
 /// numbers and levels, and the tree so far.
 #[derive(Drop)]
-struct Parser {
+pub struct Parser {
     state: u32,
     place: u32,
     returns: Vec<u32>,
@@ -98,7 +72,7 @@ struct Parser {
 
 impl Parser {
     /// The run's beginning.
-    fn new(alloc: Global) -> Self
+    pub fn new(alloc: Global) -> Self
         ensures { StandsFor result beginning }
     {
         Parser {
@@ -111,7 +85,7 @@ impl Parser {
     }
 
     /// Whether the run is at the end of a rule with no rule open.
-    fn has_ended(&self, net: &ParserNetwork) -> bool
+    pub fn has_ended(&self, net: &ParserNetwork) -> bool
         requires { self.now.state < length net.now.states }
         ensures { IsTrue result ↔ HasEnded net.now self.now }
     {
@@ -204,29 +178,61 @@ impl Parser {
         Ok(Allowed::Listed(Sequence::new(found)))
     }
 
-    /// Goes to the alternative that prediction chooses.
+    /// The alternative that prediction chooses over the allowed ones.
+    fn foresee(
+        &self,
+        alloc: Global,
+        net: &ParserNetwork,
+        allowed: &Allowed,
+        tokens: &[Token],
+        choosing: Choosing,
+    ) -> Result<Foresight, DecideFault>
+        requires deciding { IsDeciding net.now (length tokens.now) self.now }
+        requires decides { (targets : List ℕ) × (state_at net.now self.now.state ≡ Some (Decision targets)) }
+        requires ends { EndsInEnd (word_of tokens.now) }
+        requires few { length tokens.now < 2 ^ 32 }
+        ensures foreseen { IsForesight net.now self.now.state (Allows allowed.now) (reverse self.now.returns.items) (drop self.now.place (word_of tokens.now)) self.now.place result }
+        ensures exact { choosing ≡ Exact → IfOk result (λ foresight. foresight.presumed ≡ false) }
+    {
+        let returns = self.returns.as_slice();
+        match choosing {
+            Choosing::Exact => {
+                let alternative = decide(
+                    alloc, net, self.state, allowed, returns, tokens, self.place,
+                )?;
+                Ok(Foresight {
+                    alternative,
+                    presumed: false,
+                })
+            }
+            Choosing::Presuming => foresee(
+                alloc, net, self.state, allowed, returns, tokens, self.place,
+            ),
+        }
+    }
+
+    /// Goes to the alternative that prediction chooses. The answer is whether it was presumed.
     fn choose(
         &mut self,
         alloc: Global,
         net: &ParserNetwork,
         targets: &[u32],
         tokens: &[Token],
-    ) -> Result<(), ParseFault>
+        choosing: Choosing,
+    ) -> Result<bool, ParseFault>
         requires deciding { IsDeciding net.now (length tokens.now) self.old }
         requires decides { state_at net.now self.old.state ≡ Some (Decision targets.now) }
         requires ends { EndsInEnd (word_of tokens.now) }
         requires few { length tokens.now < 2 ^ 32 }
-        ensures { (r : Run) → StandsFor self.old r → IsTurnBy net.now (word_of tokens.now) (Some (Decision targets.now)) r self.new result }
+        ensures turns { (r : Run) → StandsFor self.old r → IsForeseenTurnBy net.now (word_of tokens.now) (Some (Decision targets.now)) r self.new result }
+        ensures exact { choosing ≡ Exact → IfOk result (λ presumed. presumed ≡ false) }
     {
         let allowed = self.allowed(alloc, net, targets)?;
-        let returns = self.returns.as_slice();
-        let alternative = decide(
-            alloc, net, self.state, &allowed, returns, tokens, self.place,
-        )?;
-        let target = targets[alternative as usize - 1];
+        let foresight = self.foresee(alloc, net, &allowed, tokens, choosing)?;
+        let target = targets[foresight.alternative as usize - 1];
         self.begin_alternative(begun(net, target));
         self.state = target;
-        Ok(())
+        Ok(foresight.presumed)
     }
 
     /// Closes the newest open rule.
@@ -261,16 +267,11 @@ impl Parser {
         Ok(())
     }
 
-    /// One step of the run.
-    fn turn(
-        &mut self,
-        alloc: Global,
-        net: &ParserNetwork,
-        tokens: &[Token],
-    ) -> Result<(), ParseFault>
+    /// One step of the run, at a state that is no decision.
+    fn step(&mut self, net: &ParserNetwork, tokens: &[Token]) -> Result<(), ParseFault>
         requires underway { IsUnderway net.now (length tokens.now) self.old }
         requires goes_on { HasEnded net.now self.old → ⊥ }
-        requires ends { EndsInEnd (word_of tokens.now) }
+        requires chooses_none { (targets : List ℕ) → state_at net.now self.old.state ≡ Some (Decision targets) → ⊥ }
         requires few { length tokens.now < 2 ^ 32 }
         ensures { (r : Run) → StandsFor self.old r → IsTurnBy net.now (word_of tokens.now) (state_at net.now r.state) r self.new result }
     {
@@ -280,7 +281,6 @@ impl Parser {
                 self.call(net, Opened { rule, level }, *back)
             }
             State::Edge(set, target) => self.take(set, *target, tokens),
-            State::Decision(targets) => self.choose(alloc, net, targets.as_slice(), tokens),
             State::End(_) => self.close(),
             State::Action(target) => {
                 self.state = *target;
@@ -290,27 +290,38 @@ impl Parser {
                 self.state = *target;
                 Ok(())
             }
+            State::Decision(_) => unreachable!(),
             State::Predicate(..) => unreachable!(),
             State::Level(most, target) => self.pass_level(net, *most, *target),
         }
     }
-}
 
-/// The tree of a token list.
-///
-/// # Errors
-/// The fault at which the run stops, or no memory.
-pub fn parse(alloc: Global, net: &ParserNetwork, tokens: &[Token]) -> Result<Tree, ParseFault>
-    requires ready { IsReady net.now }
-    requires ends { EndsInEnd (word_of tokens.now) }
-    requires few { length tokens.now < 2 ^ 32 }
-    ensures parse { IsParse net.now (word_of tokens.now) result }
-    ensures tree { (set : List ℕ) (rules : List StepRule) (start : List ℕ) → CanBeRewritten rules → IsBuilt set (rewritten rules) (numberings rules) start net.now → IfOk result (IsTreeOf rules (word_of tokens.now)) }
-{
-    let mut parser = Parser::new(alloc);
-    'run: while !parser.has_ended(net) {
-        parser.turn(alloc, net, tokens)?;
+    /// One step of the run. The answer is whether its choice was presumed.
+    pub fn turn(
+        &mut self,
+        alloc: Global,
+        net: &ParserNetwork,
+        tokens: &[Token],
+        choosing: Choosing,
+    ) -> Result<bool, ParseFault>
+        requires underway { IsUnderway net.now (length tokens.now) self.old }
+        requires goes_on { HasEnded net.now self.old → ⊥ }
+        requires ends { EndsInEnd (word_of tokens.now) }
+        requires few { length tokens.now < 2 ^ 32 }
+        ensures turns { (r : Run) → StandsFor self.old r → IsForeseenTurnBy net.now (word_of tokens.now) (state_at net.now r.state) r self.new result }
+        ensures exact { choosing ≡ Exact → IfOk result (λ presumed. presumed ≡ false) }
+    {
+        if let State::Decision(targets) = state_of(net, self.state) {
+            return self.choose(alloc, net, targets.as_slice(), tokens, choosing);
+        }
+        self.step(net, tokens)?;
+        Ok(false)
     }
-    let tree = parser.tree.finish(alloc)?;
-    Ok(tree)
+
+    /// The tree of a run that has ended.
+    pub fn finish(self, alloc: Global) -> Result<Tree, AllocError>
+        ensures { IfOk result (λ items. (trees : Forest) → HasGrown self.tree (record { nodes = []; trees = trees }) → items ≡ items_of_all trees) }
+    {
+        self.tree.finish(alloc)
+    }
 }

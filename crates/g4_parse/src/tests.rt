@@ -82,7 +82,7 @@ fn tree_text(
 }
 
 /// The text of the tree of these symbols, each shown by one of the bytes, or of the fault.
-fn outcome(
+pub(crate) fn outcome(
     rt: &impl Abort,
     alloc: Global,
     net: &ParserNetwork,

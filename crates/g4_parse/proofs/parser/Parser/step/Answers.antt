@@ -5,7 +5,7 @@ use Rattle.g4_net.specs.declared.network.State.TheVariants.{Call, End, Level, Ac
 use Rattle.g4_token_list.specs.TokenList.{word_of}
 use Rattle.g4_parse.specs.Running.{Run}
 use Rattle.g4_parse.proofs.Turns.{turned}
-use Rattle.g4_parse.proofs.parser.Parser.turn.Goals as goal
+use Rattle.g4_parse.proofs.parser.Parser.step.Goals as goal
 
 pub returns-in-Call : goal.returns-in-Call
 returns-in-Call c = λ r h. turned c.args.net.now (word_of c.args.tokens.now) r c.args.self.now _ (Call c.in-Call.rule c.in-Call.level c.in-Call.back) _ h (c.state_of.ensures ∙ ap (λ (s : State (List ℕ)). Some s) c.in-Call.is) (c.call.ensures (word_of c.args.tokens.now) r h)

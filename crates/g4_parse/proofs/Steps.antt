@@ -1,0 +1,128 @@
+-- One step of a run, at a decision along any alternative: it takes a token, or it leads its configuration on.
+use Rattle.std.proofs.Common.{◌≡◌, ◌⊎◌, inl, inr, ◌+◌, ◌∷◌, [], ℕ, List, Contains, slice_get, refl, sym, ◌∙◌, ap, subst}
+use Rattle.std.specs.Prelude.{Option, Some, None}
+use Rattle.std.proofs.lemmas.Option.{slice_get_within, get_or_from_slice_get}
+use Rattle.g4_net.specs.declared.network.State.{State}
+use Rattle.g4_net.specs.declared.network.State.TheVariants.{Decision, End, Edge, Call, Predicate, Level, Action, Empty}
+use Rattle.g4_net.specs.Configurations.{Config, config, above_bottom}
+use Rattle.g4_net.specs.Network.{ParserNetwork, state_at, start_of, IsFirst, written_at}
+use Rattle.g4_net.specs.Leads.{LeadsBy, Leads}
+use Rattle.g4_trees.specs.Trees.{Tree}
+use Rattle.g4_parse.specs.Running.{Frame, Run, no_predicates, GoesBy, ClosesBy, with_child, with_token, with_alt, wrapped, begun, node_of, stack_of}
+use Rattle.g4_parse.specs.Standing.{backs}
+use Rattle.g4_parse.proofs.Grown.{state_child, place_child}
+
+-- one step of the run by the state, at a decision along any of its alternatives
+abbrev pub ProceedsBy : ParserNetwork → List ℕ → Option (State (List ℕ)) → Run → Run → Type 0
+ProceedsBy net word (Some (Decision targets)) r s = (i t : ℕ) × IsFirst net r.state i t × (s ≡ record r { state = t; frames = with_alt (begun net t (state_at net t)) r.frames })
+ProceedsBy net word o r s = GoesBy net no_predicates word o r s
+
+-- one step of the run, at a decision along any of its alternatives
+abbrev pub Proceeds : ParserNetwork → List ℕ → Run → Run → Type 0
+Proceeds net word r s = ProceedsBy net word (state_at net r.state) r s
+
+-- a step along the chosen alternative is one
+pub proceeds_by : (net : ParserNetwork) (word : List ℕ) (o : Option (State (List ℕ))) (r s : Run) → GoesBy net no_predicates word o r s → ProceedsBy net word o r s
+proceeds_by net word None r s g = g
+proceeds_by net word (Some (Decision targets)) r s (i, t, says, first, e) = (i, t, first, e)
+proceeds_by net word (Some (End rule)) r s g = g
+proceeds_by net word (Some (Edge set t)) r s g = g
+proceeds_by net word (Some (Call rule level back)) r s g = g
+proceeds_by net word (Some (Predicate k t)) r s g = g
+proceeds_by net word (Some (Level q t)) r s g = g
+proceeds_by net word (Some (Action t)) r s g = g
+proceeds_by net word (Some (Empty t)) r s g = g
+
+-- an alternative of a decision is one of its targets
+pub first_in : (net : ParserNetwork) (p i t : ℕ) (targets : List ℕ) → state_at net p ≡ Some (Decision targets) → IsFirst net p i t → Contains targets t
+first_in net p i t targets is (us, k, at, has, number) =
+    let same : us ≡ targets = cc in
+    let got : slice_get targets k ≡ Some t = subst (λ (xs : List ℕ). slice_get xs k ≡ Some t) same has in
+    (k, slice_get_within targets k t got, get_or_from_slice_get targets k t t got)
+
+-- other alternatives and more children open no rule
+pub backs_alt : (i : ℕ) (fs : List Frame) → backs (with_alt i fs) ≡ backs fs
+backs_alt i [] = refl
+backs_alt i (f ∷ fs) = refl
+
+pub backs_child : (r : Run) (fs : List Frame) (t : Tree) → backs (with_child r fs t).frames ≡ backs fs
+backs_child r [] t = refl
+backs_child r (f ∷ fs) t = refl
+
+pub backs_token : (r : Run) (fs : List Frame) → r.frames ≡ fs → backs (with_token r fs).frames ≡ backs fs
+backs_token r [] e = ap backs e
+backs_token r (f ∷ fs) e = refl
+
+pub backs_wrapped : (i : ℕ) (fs : List Frame) → backs (wrapped i fs) ≡ backs fs
+backs_wrapped i [] = refl
+backs_wrapped i (f ∷ fs) = refl
+
+-- where a run stands, as a configuration of an alternative
+abbrev pub config_of : ℕ → Run → Config
+config_of i r = config r.state i (stack_of r)
+
+-- A step that takes a token, along the edge of its state.
+pub record TakesToken (net : ParserNetwork) (word : List ℕ) (r s : Run) : Type 0 where
+  pub set : List ℕ
+  pub target : ℕ
+  pub symbol : ℕ
+  pub edge : state_at net r.state ≡ Some (Edge set target)
+  pub next : slice_get word r.place ≡ Some symbol
+  pub takes : Contains set symbol
+  pub state : s.state ≡ target
+  pub place : s.place ≡ r.place + 1
+  pub returns : backs s.frames ≡ backs r.frames
+
+-- A step that takes none: the configuration of each alternative leads on.
+pub record TakesNone (net : ParserNetwork) (r s : Run) : Type 0 where
+  pub place : s.place ≡ r.place
+  pub leads : (i : ℕ) → Leads net (config_of i r) (config_of i s)
+
+-- where a run stands is told by its state and the return states
+config_is : (i : ℕ) (s : Run) (t : ℕ) (returns : List ℕ) → s.state ≡ t → backs s.frames ≡ returns → config_of i s ≡ config t i (above_bottom returns)
+config_is i s t returns a b = ap (λ (p : ℕ). config p i (stack_of s)) a ∙ ap (λ (bs : List ℕ). config t i (above_bottom bs)) b
+
+-- an edge that is taken as empty
+silent_edge : (net : ParserNetwork) (r s : Run) (t : ℕ) (o : Option (State (List ℕ))) (returns : List ℕ) → state_at net r.state ≡ o → ((i : ℕ) → LeadsBy net o (config_of i r) (config t i (above_bottom returns))) → s.state ≡ t → s.place ≡ r.place → backs s.frames ≡ returns → TakesNone net r s
+silent_edge net r s t o returns is l state place same = record {
+  place = place;
+  leads = λ i. subst (λ (d : Config). Leads net (config_of i r) d) (sym (config_is i s t returns state same)) (subst (λ (x : Option (State (List ℕ))). LeadsBy net x (config_of i r) (config t i (above_bottom returns))) (sym is) (l i));
+}
+
+-- closing a rule
+closing : (net : ParserNetwork) (word : List ℕ) (r : Run) (ended : ℕ) (fs : List Frame) (s : Run) → r.frames ≡ fs → state_at net r.state ≡ Some (End ended) → ClosesBy net no_predicates word r fs s → TakesNone net r s
+closing net word r ended [] s e is g = absurd g
+closing net word r ended (f ∷ fs) s e is g =
+    let after : Run = record { state = f.back; place = r.place; frames = fs; tree = r.tree } in
+    let state : s.state ≡ f.back = ap (λ (x : Run). x.state) g ∙ state_child after fs (node_of f) in
+    let place : s.place ≡ r.place = ap (λ (x : Run). x.place) g ∙ place_child after fs (node_of f) in
+    let returns : backs s.frames ≡ backs fs = ap (λ (x : Run). backs x.frames) g ∙ backs_child after fs (node_of f) in
+    silent_edge net r s f.back (Some (End ended)) (backs fs) is (λ i. subst (λ (gs : List Frame). LeadsBy net (Some (End ended)) (config r.state i (above_bottom (backs gs))) (config f.back i (above_bottom (backs fs)))) (sym e) refl) state place returns
+
+-- each step is one of the two
+pub token_or_none : (net : ParserNetwork) (word : List ℕ) (r s : Run) (o : Option (State (List ℕ))) → state_at net r.state ≡ o → ProceedsBy net word o r s → TakesNone net r s ⊎ TakesToken net word r s
+token_or_none net word r s None is g = absurd g
+token_or_none net word r s (Some (Decision targets)) is (i, t, first, e) =
+    inl (silent_edge net r s t (Some (Decision targets)) (backs r.frames) is (λ j. (t, first_in net r.state i t targets is first, refl)) (ap (λ (x : Run). x.state) e) (ap (λ (x : Run). x.place) e) (ap (λ (x : Run). backs x.frames) e ∙ backs_alt (begun net t (state_at net t)) r.frames))
+token_or_none net word r s (Some (End ended)) is g = inl (closing net word r ended r.frames s refl is g)
+token_or_none net word r s (Some (Edge set t)) is (a, next, has, e) = inr (record {
+  set = set;
+  target = t;
+  symbol = a;
+  edge = is;
+  next = next;
+  takes = has;
+  state = ap (λ (x : Run). x.state) e;
+  place = ap (λ (x : Run). x.place) e;
+  returns = ap (λ (x : Run). backs x.frames) e ∙ backs_token r r.frames refl;
+})
+token_or_none net word r s (Some (Call called level back)) is (room, e) =
+    inl (silent_edge net r s (start_of called) (Some (Call called level back)) (back ∷ backs r.frames) is (λ i. refl) (ap (λ (x : Run). x.state) e) (ap (λ (x : Run). x.place) e) (ap (λ (x : Run). backs x.frames) e))
+token_or_none net word r s (Some (Predicate k t)) is (holds, e) =
+    inl (silent_edge net r s t (Some (Predicate k t)) (backs r.frames) is (λ i. refl) (ap (λ (x : Run). x.state) e) (ap (λ (x : Run). x.place) e) (ap (λ (x : Run). backs x.frames) e))
+token_or_none net word r s (Some (Level q t)) is (below, e) =
+    inl (silent_edge net r s t (Some (Level q t)) (backs r.frames) is (λ i. refl) (ap (λ (x : Run). x.state) e) (ap (λ (x : Run). x.place) e) (ap (λ (x : Run). backs x.frames) e ∙ backs_wrapped (written_at net r.state) r.frames))
+token_or_none net word r s (Some (Action t)) is e =
+    inl (silent_edge net r s t (Some (Action t)) (backs r.frames) is (λ i. refl) (ap (λ (x : Run). x.state) e) (ap (λ (x : Run). x.place) e) (ap (λ (x : Run). backs x.frames) e))
+token_or_none net word r s (Some (Empty t)) is e =
+    inl (silent_edge net r s t (Some (Empty t)) (backs r.frames) is (λ i. refl) (ap (λ (x : Run). x.state) e) (ap (λ (x : Run). x.place) e) (ap (λ (x : Run). backs x.frames) e))

@@ -1,0 +1,76 @@
+// Runs of the parser over a token list: one with presumed choices, and where that may tell the wrong fault, one without.
+ghost use Rattle.std.specs.Prelude.{◌<◌, ◌^◌, List, ℕ, IfOk, length};
+ghost use Rattle.g4_grammar.specs.StepRules.{CanBeRewritten, StepRule};
+ghost use Rattle.g4_layout.specs.Built.{IsBuilt};
+ghost use Rattle.g4_leftrec.specs.Rewriting.{numberings, rewritten};
+ghost use Rattle.g4_net.specs.AddedRule.{IsReady};
+ghost use Rattle.g4_parse.specs.Foreseen.{IsRun};
+ghost use Rattle.g4_parse.specs.Parsing.{IsParse};
+ghost use Rattle.g4_token_list.specs.TokenList.{word_of, EndsInEnd};
+ghost use Rattle.g4_tree_check.specs.TreesOf.{IsTreeOf};
+
+use crate::parser::{Choosing, ParseFault, Parser};
+use g4_net::ParserNetwork;
+use g4_token_list::Token;
+use g4_trees::Tree;
+use std::alloc::Global;
+
+/// Why a run stopped, and whether it had presumed a choice.
+#[derive(Drop)]
+struct Stopped {
+    fault: ParseFault,
+    presumed: bool,
+}
+
+/// The tree of a token list, by one run.
+fn run(
+    alloc: Global,
+    net: &ParserNetwork,
+    tokens: &[Token],
+    choosing: Choosing,
+) -> Result<Tree, Stopped>
+    requires ready { IsReady net.now }
+    requires ends { EndsInEnd (word_of tokens.now) }
+    requires few { length tokens.now < 2 ^ 32 }
+    ensures { IsRun net.now (word_of tokens.now) choosing result }
+{
+    let mut parser = Parser::new(alloc);
+    let mut presumed = false;
+    'run: while !parser.has_ended(net) {
+        match parser.turn(alloc, net, tokens, choosing) {
+            Ok(presumes) => presumed = presumed || presumes,
+            Err(fault) => return Err(Stopped { fault, presumed }),
+        }
+    }
+    match parser.finish(alloc) {
+        Ok(tree) => Ok(tree),
+        Err(_) => Err(Stopped {
+            fault: ParseFault::NoMemory,
+            presumed,
+        }),
+    }
+}
+
+/// The tree of a token list.
+///
+/// # Errors
+/// The fault at which the run stops, or no memory.
+pub fn parse(alloc: Global, net: &ParserNetwork, tokens: &[Token]) -> Result<Tree, ParseFault>
+    requires ready { IsReady net.now }
+    requires ends { EndsInEnd (word_of tokens.now) }
+    requires few { length tokens.now < 2 ^ 32 }
+    ensures parse { IsParse net.now (word_of tokens.now) result }
+    ensures tree { (set : List ℕ) (rules : List StepRule) (start : List ℕ) → CanBeRewritten rules → IsBuilt set (rewritten rules) (numberings rules) start net.now → IfOk result (IsTreeOf rules (word_of tokens.now)) }
+{
+    let stopped = match run(alloc, net, tokens, Choosing::Presuming) {
+        Ok(tree) => return Ok(tree),
+        Err(stopped) => stopped,
+    };
+    if !stopped.presumed || matches!(stopped.fault, ParseFault::NoMemory) {
+        return Err(stopped.fault);
+    }
+    match run(alloc, net, tokens, Choosing::Exact) {
+        Ok(tree) => Ok(tree),
+        Err(stopped) => Err(stopped.fault),
+    }
+}
