@@ -1,0 +1,15 @@
+pub mod Lists
+pub mod Steps
+pub mod Members
+pub mod Walked
+pub mod Once
+pub mod Spelled
+pub mod Matched
+pub mod Order
+pub mod Deciding
+pub mod Ending
+pub mod Exists
+pub mod Single
+pub mod Best
+pub mod Repetitions
+pub mod First

@@ -1,0 +1,9 @@
+pub mod Network
+pub mod Configurations
+pub mod Leads
+pub mod Lists
+pub mod Walks
+pub mod Spelling
+pub mod Greedy
+pub mod Single
+pub mod Matching
