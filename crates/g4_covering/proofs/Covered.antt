@@ -10,41 +10,13 @@ use Rattle.g4_net.specs.Network.{ParserNetwork, state_at, start_of}
 use Rattle.g4_net.specs.Prediction.{Choice, chosen, no_viable, Settles, FullFrom}
 use Rattle.g4_net.specs.Prediction as prediction
 use Rattle.g4_net.proofs.Finite.{reached_keeps}
-use Rattle.g4_covering.specs.Covering.{IsSilent, EndsAtOnce, at_end, along, Extends, Covers, Takers}
-
--- these return states, above that mark
-abbrev marked : List ℕ → Bool → Stack
-marked returns wild = record { returns = returns; wild = wild }
+use Rattle.g4_ways.specs.Ways.{EndsAtOnce}
+use Rattle.g4_ways.proofs.Ends.{marked, ReachesEnd, pop, reaches_end}
+use Rattle.g4_covering.specs.Covering.{Extends, Covers, Takers}
 
 -- each configuration of the set is above the bottom of the parser's stack
 abbrev pub AreAboveBottom : (Config → Type 0) → Type 0
 AreAboveBottom C = (c : Config) → C c → c.stack.wild ≡ false
-
--- an edge that reads nothing and opens no rule is a step, whatever the stack
-silent_leads : (net : ParserNetwork) (s : State (List ℕ)) (t : ℕ) (c : Config) → IsSilent s t → LeadsBy net (Some s) c (at c t)
-silent_leads net (Decision targets) t c h = (t, h, refl)
-silent_leads net (End rule) t c h = absurd h
-silent_leads net (Edge set u) t c h = absurd h
-silent_leads net (Call rule level back) t c h = absurd h
-silent_leads net (Predicate k u) t c h = ap (at c) h
-silent_leads net (Level q u) t c h = ap (at c) h
-silent_leads net (Action u) t c h = ap (at c) h
-silent_leads net (Empty u) t c h = ap (at c) h
-
--- the configuration reaches the end of some rule, for the alternative and with the stack
-abbrev ReachesEnd : ParserNetwork → Config → ℕ → Stack → Type 0
-ReachesEnd net b i z = (p : ℕ) × (rule : ℕ) × (state_at net p ≡ Some (End rule)) × Reaches net b (config p i z)
-
--- what reaches a state at which the rule ends at once reaches its end, with the same stack
-reaches_end : (net : ParserNetwork) (b : Config) (i p : ℕ) (z : Stack) → EndsAtOnce net p → Reaches net b (config p i z) → ReachesEnd net b i z
-reaches_end net b i p z (at_end _ rule is) r = (p, rule, is, r)
-reaches_end net b i p z (along _ t s is edge ends) r =
-    let step : Leads net (config p i z) (config t i z) = subst (λ (o : Option (State (List ℕ))). LeadsBy net o (config p i z) (config t i z)) (sym is) (silent_leads net s t (config p i z) edge) in
-    reaches_end net b i t z ends (further (config p i z) (config t i z) r step)
-
--- a rule's end pops the first return state
-pop : (net : ParserNetwork) (i p rule t : ℕ) (rest : List ℕ) (wild : Bool) → state_at net p ≡ Some (End rule) → Leads net (config p i (marked (t ∷ rest) wild)) (config t i (marked rest wild))
-pop net i p rule t rest wild is = subst (λ (o : Option (State (List ℕ))). LeadsBy net o (config p i (marked (t ∷ rest) wild)) (config t i (marked rest wild))) (sym is) refl
 
 -- from a rule's end, return states at which the rules end at once are popped one after the other
 pops_more : (net : ParserNetwork) (b : Config) (i : ℕ) (below : List ℕ) (wild : Bool) (more : List ℕ) → All (EndsAtOnce net) more → ReachesEnd net b i (marked (more ++ below) wild) → ReachesEnd net b i (marked below wild)
@@ -145,7 +117,7 @@ covered_next net C a i bottom covers d (e, (c, in_c, takes, is), r, k) =
     (longest, (start, (config c.state i (marked longer e.stack.wild), in_longer', takes, refl), r', k), extends'')
 
 -- no alternative of the set is less
-abbrev AreFrom : (Config → Type 0) → ℕ → Type 0
+abbrev pub AreFrom : (Config → Type 0) → ℕ → Type 0
 AreFrom C i = (c : Config) → C c → i ≤ c.alt
 
 -- no alternative of a set's next set is less, if none of its takers is
@@ -188,7 +160,7 @@ settles_covered net D i k Later covers from later _ (prediction.least j alike h)
 settles_covered net D i k Later covers from later _ (prediction.goes_on c e n s l) = later c l
 
 -- full stacks choose the covering alternative of such takers, or none is viable
-chooses : (net : ParserNetwork) (C : Config → Type 0) (a i : ℕ) (w : List ℕ) (k : ℕ) (c : Choice) → AreAboveBottom C → Covers net (Takers net C a) i → AreFrom (Takers net C a) i → FullFrom net C (a ∷ w) k c → IsChosen i c
+pub chooses : (net : ParserNetwork) (C : Config → Type 0) (a i : ℕ) (w : List ℕ) (k : ℕ) (c : Choice) → AreAboveBottom C → Covers net (Takers net C a) i → AreFrom (Takers net C a) i → FullFrom net C (a ∷ w) k c → IsChosen i c
 chooses net C a i [] k c bottom covers from full =
     settles_covered net (Next net C a) i k (FullFrom net (Next net C a) [] (suc k)) (covered_next net C a i bottom covers) (next_from net C a i from) (λ d l. absurd l) c full
 chooses net C a i (b ∷ w) k c bottom covers from full =

@@ -4,3 +4,5 @@ pub mod Nexts
 pub mod Judged
 pub mod Choices
 pub mod Presumed
+pub mod Parted
+pub mod Nearby

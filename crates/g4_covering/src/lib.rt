@@ -3,4 +3,4 @@
 
 mod law;
 
-pub use law::{covering_chooses, full_stacks_choose};
+pub use law::{covering_chooses, full_stacks_choose, near_chooses};

@@ -1,20 +1,25 @@
 -- What the loop over the tokens keeps, where it looks for an alternative that can be presumed.
-use Rattle.std.proofs.Common.{◌≡◌, ℕ, ◌+◌, ◌<◌, List, drop, length, get_or, ap, subst, Contains}
+use Rattle.std.proofs.Common.{◌≡◌, inl, inr, ℕ, ◌+◌, ◌<◌, List, ◌∷◌, drop, length, get_or, ap, subst, Contains}
 use Rattle.g4_symbols.specs.Symbols.{end_of_list}
 use Rattle.g4_covering.specs.Covering.{Covers, Takers}
 use Rattle.g4_net.specs.Network.{ParserNetwork, IsFirst}
 use Rattle.g4_token_list.specs.declared.token.Token.{Token}
 use Rattle.g4_net.specs.AddedRule.{IsReady}
+use Rattle.g4_net.specs.Allowed.{Allows}
+use Rattle.g4_net.specs.declared.allowed.Allowed.{Allowed}
 use Rattle.g4_net.specs.Proper.{IsProper}
 use Rattle.g4_net.specs.Configurations.{Stack, Config, above_bottom, IsRow, IsWithin}
 use Rattle.g4_net.specs.Lookahead.{IsLeast, Start, Next}
-use Rattle.g4_net.specs.Prediction.{FullFrom, chosen, no_viable}
+use Rattle.g4_net.specs.Prediction.{Full, FullFrom, chosen, no_viable}
 use Rattle.g4_net.proofs.Finite.{reached_keeps}
 use Rattle.g4_token_list.specs.TokenList.{word_of}
 use Rattle.g4_lookahead.specs.EndOfList.{GoesOnFull}
 use Rattle.g4_lookahead.proofs.Judging.{AreSame}
 use Rattle.g4_full.specs.Foreseeing.{IsPresumed}
+use Rattle.g4_full.specs.Telling.{IsTold}
 use Rattle.g4_full.proofs.Looking.{IsSettling, settling_start, settling_next}
+use Rattle.g4_covering.proofs.Choices.{full_choice}
+use Rattle.g4_covering.proofs.Nearby.{near_chooses}
 use Rattle.g4_covering.proofs.Presumed.{presumed}
 
 -- each configuration's alternative is allowed and one of the decision's
@@ -84,3 +89,16 @@ presumes net d A returns tokens k i t C less covers least h =
           h.settling.says (chosen i)
           (presumed net returns tokens k i t C h.row.0 less h.settling.looking h.row.1 covers least (λ m f. none m (h.settling.says (no_viable m) f)));
     }
+
+-- an alternative that can be told near on the first symbol is presumed
+pub told_presumed : (net : ParserNetwork) (d : ℕ) (allowed : Allowed) (returns w more : List ℕ) (a i : ℕ) → IsReady net → IsProper net d returns → Contains w end_of_list → w ≡ a ∷ more → IsTold net d (Allows allowed) returns a i → IsPresumed net d (Allows allowed) (above_bottom returns) w i
+told_presumed net d allowed returns w more a i ready proper ends is told = record {
+  allowed = told.allowed;
+  first = told.first;
+  right = λ none.
+      let (c, full) = full_choice net d allowed returns w ready proper ends in
+      elim (near_chooses net d (Allows allowed) returns a i told.near more c (subst (λ (v : List ℕ). Full net d (Allows allowed) (above_bottom returns) v c) is full)) [
+        | inl same ↦ subst (Full net d (Allows allowed) (above_bottom returns) w) same full
+        | inr (k, same) ↦ absurd (none k (subst (Full net d (Allows allowed) (above_bottom returns) w) same full))
+      ];
+}

@@ -6,3 +6,8 @@ mod Takers
 mod Spreading
 mod Showing
 mod Foreseeing
+mod Leaving
+mod Told
+mod Walking
+mod Sighted
+mod States

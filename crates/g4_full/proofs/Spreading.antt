@@ -3,7 +3,8 @@ use Rattle.std.proofs.Common.{◌≡◌, ◌⊎◌, inl, inr, ℕ, zero, suc, �
 use Rattle.std.proofs.lemmas.List.Elements.{All-nil, All-push}
 use Rattle.g4_stacks.specs.Graph.{Content, HasTops, In, IsNode, Keeps}
 use Rattle.g4_stacks.specs.Stack.{pushed}
-use Rattle.g4_covering.specs.Covering.{Covers, EndsAtOnce, HasExtended}
+use Rattle.g4_covering.specs.Covering.{Covers, HasExtended}
+use Rattle.g4_ways.specs.Ways.{EndsAtOnce}
 use Rattle.g4_net.specs.Configurations.{Config, Stack, config}
 use Rattle.g4_net.specs.Network.{ParserNetwork}
 use Rattle.g4_configs.specs.declared.group.Group.{Group}

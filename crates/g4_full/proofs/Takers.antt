@@ -45,7 +45,7 @@ pub contains_says : (b : Bool) (set : List ℕ) (a : ℕ) → IsTrue b ↔ Conta
 contains_says b set a h = same_test b (has_symbol set a) (λ t. let r = h.0 t in in_has set a (In-from set a r.0 r.1 r.2)) (λ t. h.1 (In-to set a (has_in set a t)))
 
 -- where the test holds an edge takes the symbol
-takes_true : (a : ℕ) (o : Option (State (List ℕ))) → takes_by a o ≡ true → (t : ℕ) × TakesBy o a t
+pub takes_true : (a : ℕ) (o : Option (State (List ℕ))) → takes_by a o ≡ true → (t : ℕ) × TakesBy o a t
 takes_true a (Some (Edge set t)) h = (t, (In-to set a (has_in set a h), refl))
 takes_true a (Some (Decision targets)) h = absurd (true≢false (sym h))
 takes_true a (Some (End rule)) h = absurd (true≢false (sym h))
@@ -57,7 +57,7 @@ takes_true a (Some (Empty t)) h = absurd (true≢false (sym h))
 takes_true a None h = absurd (true≢false (sym h))
 
 -- and where one does the test holds
-true_takes : (a u : ℕ) (o : Option (State (List ℕ))) → TakesBy o a u → takes_by a o ≡ true
+pub true_takes : (a u : ℕ) (o : Option (State (List ℕ))) → TakesBy o a u → takes_by a o ≡ true
 true_takes a u (Some (Edge set t)) ((k, less, is), e) = in_has set a (In-from set a k less is)
 true_takes a u (Some (Decision targets)) h = absurd h
 true_takes a u (Some (End rule)) h = absurd h

@@ -1,3 +1,4 @@
 pub mod Verdicts
 pub mod Looks
 pub mod Foreseeing
+pub mod Telling

@@ -5,7 +5,7 @@ use Rattle.g4_closure.specs.Steps.{has_symbol}
 use Rattle.g4_configs.specs.declared.group.Group.{Group}
 use Rattle.g4_configs.specs.Configs.{Holds, IsOfGroup, View}
 use Rattle.g4_configs.specs.Groups.{AreKnown, InSome, Same}
-use Rattle.g4_covering.specs.Covering.{Covers, EndsAtOnce, IsSilent, Takers}
+use Rattle.g4_covering.specs.Covering.{Covers, Takers}
 use Rattle.g4_net.specs.Configurations.{Config}
 use Rattle.g4_net.specs.declared.network.State.{State}
 use Rattle.g4_net.specs.declared.network.State.TheVariants.{Decision, End, Edge, Call, Predicate, Level, Action, Empty}
@@ -13,16 +13,9 @@ use Rattle.g4_net.specs.Lookahead.{IsLeast}
 use Rattle.g4_net.specs.Network.{ParserNetwork, state_at}
 use Rattle.g4_stacks.specs.Graph.{Content}
 use Rattle.g4_stacks.specs.Stack.{pushed}
+use Rattle.g4_ways.specs.Ways.{EndsAtOnce}
 use Rattle.g4_full.specs.declared.covering.Look.{Look}
 use Rattle.g4_full.specs.declared.covering.Look.TheVariants.{Covered, Open}
-use Rattle.g4_full.specs.declared.ways.Way.{Way}
-use Rattle.g4_full.specs.declared.ways.Way.TheVariants.{Ended, To, Stuck}
-
--- the state is the end of a rule, or leads there without a symbol read and with no rule opened
-abbrev pub IsWay : ParserNetwork → ℕ → Way → Type 0
-IsWay net p Ended = (rule : ℕ) × (state_at net p ≡ Some (End rule))
-IsWay net p (To t) = (s : State (List ℕ)) × (state_at net p ≡ Some s) × IsSilent s t
-IsWay net p Stuck = Unit {0}
 
 -- whether an edge of the state takes the symbol
 abbrev pub takes_by : ℕ → Option (State (List ℕ)) → Bool

@@ -7,10 +7,10 @@ ghost use Rattle.g4_net.specs.Configurations.{Config, config};
 ghost use Rattle.g4_net.specs.Network.{state_at};
 ghost use Rattle.g4_full.specs.Looks.{AreLeft, ArePopped, IsLeft, IsLook, own_of, takers_of, takes_by};
 
-use crate::ways::ends_at_once;
 use g4_configs::{Configs, Group};
 use g4_net::{ParserNetwork, State};
 use g4_symbols::Symbols;
+use g4_ways::ends_at_once;
 use std::alloc::{AllocError, Global};
 use std::collections::BTreeSet;
 
@@ -37,7 +37,7 @@ fn takes(state: &State<Symbols>, symbol: u32) -> bool
 }
 
 /// Whether the state of this number has an edge that takes the symbol.
-fn takes_at(net: &ParserNetwork, number: u32, symbol: u32) -> bool
+pub(crate) fn takes_at(net: &ParserNetwork, number: u32, symbol: u32) -> bool
     ensures { result ≡ takes_by symbol (state_at net.now number) }
 {
     match net.states.as_slice().get(number as usize) {
@@ -74,7 +74,7 @@ fn own(alloc: Global, groups: &[Group], alternative: u32) -> Result<Vec<Group>, 
 }
 
 /// The set of these groups, the set being empty.
-fn filled(mut set: Configs, groups: &[Group]) -> Result<Configs, AllocError>
+pub(crate) fn filled(mut set: Configs, groups: &[Group]) -> Result<Configs, AllocError>
     requires empty { (c : Config) → Holds set c → ⊥ }
     requires known { AreKnown set.graph groups.now }
     ensures keeps { IfOk result (λ found. KeepsStacks set found) }

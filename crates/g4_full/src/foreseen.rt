@@ -10,6 +10,7 @@ ghost use Rattle.g4_full.specs.Foreseeing.{IsForeseen};
 
 use crate::covering::{Look, look_ahead};
 use crate::full::{Settled, settle};
+use crate::near::look_near;
 use g4_closure::{advance, start};
 use g4_net::{Allowed, ParserNetwork};
 use g4_token_list::Token;
@@ -24,8 +25,8 @@ pub enum Foreseen {
     Presumed(u32),
 }
 
-/// What is foreseen of the choice that `decide_full` makes: an alternative is presumed as soon as it covers the others that take
-/// the next token.
+/// What is foreseen of the choice that `decide_full` makes: an alternative is presumed where it can be told near, or as soon as it
+/// covers the others that take the next token.
 ///
 /// # Errors
 /// No memory.
@@ -43,6 +44,11 @@ pub fn foresee_full(
     requires few { length tokens.now < 2 ^ 32 }
     ensures { IfOk result (λ foreseen. IsForeseen net.now decision (Allows allowed.now) (above_bottom (reverse returns.now)) (word_of tokens.now) foreseen) }
 {
+    if let Some(token) = tokens.first() {
+        if let Some(near) = look_near(alloc, net, decision, allowed, returns, token.symbol)? {
+            return Ok(Foreseen::Presumed(near));
+        }
+    }
     let mut set = start(alloc, net, decision, allowed, returns, false)?;
     for (k, token) in tokens.iter().enumerate() {
         let open = match look_ahead(alloc, net, set, token.symbol)? {

@@ -4,7 +4,7 @@
 mod covering;
 mod foreseen;
 mod full;
-mod ways;
+mod near;
 
 pub use foreseen::{Foreseen, foresee_full};
 pub use full::{Settled, decide_full};

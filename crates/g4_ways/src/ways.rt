@@ -1,7 +1,6 @@
 // Whether a rule can end at once from a state.
 ghost use Rattle.std.specs.Prelude.{IsTrue, Some};
-ghost use Rattle.g4_covering.specs.Covering.{EndsAtOnce};
-ghost use Rattle.g4_full.specs.Looks.{IsWay};
+ghost use Rattle.g4_ways.specs.Ways.{EndsAtOnce, IsWay};
 
 use g4_net::{ParserNetwork, State};
 
@@ -38,7 +37,8 @@ fn way_from(net: &ParserNetwork, number: u32) -> Way
 }
 
 /// Whether a few edges that read nothing lead from the state to the end of a rule. A decision is left by its last alternative.
-pub(crate) fn ends_at_once(net: &ParserNetwork, state: u32) -> bool
+/// It says no of some states from which a rule can end at once.
+pub fn ends_at_once(net: &ParserNetwork, state: u32) -> bool
     ensures { IsTrue result → EndsAtOnce net.now state }
 {
     let mut at = state;

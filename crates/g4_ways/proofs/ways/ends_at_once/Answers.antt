@@ -1,5 +1,5 @@
-use Rattle.g4_covering.specs.Covering.{at_end, along}
-use Rattle.g4_full.proofs.ways.ends_at_once.Goals as goal
+use Rattle.g4_ways.specs.Ways.{at_end, along}
+use Rattle.g4_ways.proofs.ways.ends_at_once.Goals as goal
 
 pub returns-in-Ended : goal.returns-in-Ended
 returns-in-Ended c = λ yes. c.loop.invariant (at_end c.loop.at c.in-Ended.ensures.0 c.in-Ended.ensures.1)
