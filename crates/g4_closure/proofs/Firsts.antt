@@ -9,7 +9,7 @@ use Rattle.g4_net.specs.Configurations.{Stack, Config, IsWithin}
 use Rattle.g4_net.specs.Network.{ParserNetwork, state_at}
 use Rattle.g4_net.specs.Leads.{WellFormed}
 use Rattle.g4_net.specs.Lookahead.{Firsts}
-use Rattle.g4_net.proofs.Pigeons.{In, In-from, In-to}
+use Rattle.g4_net.proofs.Pigeons.{In-from, In-to}
 use Rattle.g4_configs.specs.declared.group.Group.{Group}
 use Rattle.g4_configs.specs.Groups.{AreKnown, InSome, Same}
 use Rattle.g4_configs.proofs.Listing.{some_at, at_some}

@@ -1,5 +1,7 @@
 mod Joining
 mod Closing
+mod Opening
+mod Returned
 mod Bounding
 mod Missing
 mod Stepping

@@ -1,5 +1,5 @@
 -- What holds of all numbers of a list holds of all of it the other way.
-use Rattle.std.proofs.Common.{◌≡◌, ℕ, ◌<◌, List, [], ◌∷◌, ◌++◌, All, reverse, sym, subst, arith}
+use Rattle.std.proofs.Common.{ℕ, List, [], ◌∷◌, All, reverse, sym, subst, arith}
 use Rattle.std.proofs.lemmas.List.{reverse-append}
 use Rattle.std.proofs.lemmas.List.Elements.{All-head, All-tail, All-cons, All-append}
 

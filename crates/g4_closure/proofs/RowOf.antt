@@ -1,5 +1,5 @@
 -- A set whose configurations are all in some list has a row.
-use Rattle.std.proofs.Common.{◌≡◌, ℕ, ◌↔◌, inl, inr, List, [], ◌∷◌, Contains, length, refl, sym, subst}
+use Rattle.std.proofs.Common.{inl, inr, List, [], ◌∷◌, length, sym, subst}
 use Rattle.g4_stacks.specs.Graph.{Content}
 use Rattle.g4_stacks.specs.Canonical.{IsCanonical}
 use Rattle.g4_net.specs.Configurations.{Config, IsRow, IsWithin}

@@ -1,6 +1,6 @@
 -- Groups added to a set and, where it grew, to a work list.
-use Rattle.std.specs.Prelude.{◌≤◌, ◌⊎◌, ℕ, ◌+◌, List, length}
-use Rattle.g4_stacks.specs.Graph.{Content, Keeps}
+use Rattle.std.specs.Prelude.{◌≤◌, ◌⊎◌, ◌+◌, List, length}
+use Rattle.g4_stacks.specs.Graph.{Keeps}
 use Rattle.g4_net.specs.Configurations.{Config}
 use Rattle.g4_net.proofs.Pigeons.{In}
 use Rattle.g4_configs.specs.declared.group.Group.{Group}

@@ -1,5 +1,5 @@
 -- Where groups of configurations lead.
-use Rattle.std.specs.Prelude.{◌≡◌, ◌<◌, ◌==◌, ℕ, ◌+◌, List, [], ◌∷◌, ◌++◌, ◌↔◌, Bool, true, false, Contains, Option, Some, None, slice_get, if◌then◌else◌}
+use Rattle.std.specs.Prelude.{◌≡◌, ◌<◌, ◌==◌, ℕ, ◌+◌, List, [], ◌∷◌, ◌++◌, ◌↔◌, Bool, Contains, Option, Some, None, slice_get, if◌then◌else◌}
 use Rattle.std.specs.List.{list_any}
 use Rattle.g4_net.specs.declared.network.State.{State}
 use Rattle.g4_net.specs.declared.network.State.TheVariants.{Decision, End, Edge, Call, Predicate, Level, Action, Empty}
@@ -15,6 +15,10 @@ LedFrom net C d = (c : Config) × C c × Leads net c d
 -- what some member of the set leads to in any number of steps
 abbrev pub ReachedFrom : ParserNetwork → (Config → Type 0) → Config → Type 0
 ReachedFrom net C d = (c : Config) × C c × Reaches net c d
+
+-- the set has what its members lead to
+abbrev pub IsClosed : ParserNetwork → (Config → Type 0) → Type 0
+IsClosed net C = (c d : Config) → C c → Leads net c d → C d
 
 -- what some member of the set leads to in one step, its state being this
 abbrev pub SteppedFrom : ParserNetwork → Option (State (List ℕ)) → (Config → Type 0) → Config → Type 0

@@ -1,7 +1,7 @@
 // What groups of configurations lead to without a symbol read.
-ghost use Rattle.std.specs.Prelude.{◌≡◌, ◌↔◌, ◌<◌, ◌≤◌, ◌*◌, ◌^◌, ◌++◌, ℕ, [], OnOk, Some, length, map, slice_get};
+ghost use Rattle.std.specs.Prelude.{◌≡◌, ◌↔◌, ◌⊎◌, ◌<◌, ◌≤◌, ◌*◌, ◌^◌, ◌++◌, ℕ, [], OnOk, Some, length, map, slice_get};
 ghost use Rattle.g4_closure.specs.Joined.{Joined};
-ghost use Rattle.g4_closure.specs.Steps.{LedFrom, ReachedFrom, ReturnedFrom, SteppedFrom, listed_by, placed, popped_to};
+ghost use Rattle.g4_closure.specs.Steps.{IsClosed, LedFrom, ReachedFrom, ReturnedFrom, SteppedFrom, listed_by, placed, popped_to};
 ghost use Rattle.g4_configs.specs.Configs.{Holds, IsOfGroup, IsStacks, KeepsStacks};
 ghost use Rattle.g4_configs.specs.Groups.{AreKnown, InSome, Same};
 ghost use Rattle.g4_net.specs.Configurations.{Config, IsWithin};
@@ -10,6 +10,7 @@ ghost use Rattle.g4_net.specs.declared.network.TheConstants.{MOST_STATES};
 ghost use Rattle.g4_net.specs.Leads.{WellFormed};
 ghost use Rattle.g4_net.specs.Network.{state_at};
 
+use crate::returns::with_returns;
 use g4_configs::{Configs, Group};
 use g4_net::{ParserNetwork, State};
 use g4_symbols::Symbols;
@@ -176,7 +177,41 @@ fn successors(
     }
 }
 
-/// Adds to an empty set all that the groups lead to, in any number of steps.
+/// Adds a group to a set that has all that its members lead to, and all that the group leads to. The starts lead to all of it. The
+/// two lists are there to be used again.
+fn close(
+    set: &mut Configs,
+    net: &ParserNetwork,
+    starts: &[Group],
+    group: Group,
+    work: &mut Vec<Group>,
+    found: &mut Vec<Group>,
+) -> Result<(), AllocError>
+    requires well_formed { WellFormed net.now }
+    requires few { length net.now.states ≤ MOST_STATES }
+    requires within { (c : Config) → InSome set.old.graph starts.now c → IsWithin net.now c }
+    requires sound { (c : Config) → Holds set.old c → ReachedFrom net.now (InSome set.old.graph starts.now) c }
+    requires closed { IsClosed net.now (Holds set.old) }
+    requires stacks { IsStacks set.old group.stacks }
+    requires reached { (c : Config) → IsOfGroup set.old group c → ReachedFrom net.now (InSome set.old.graph starts.now) c }
+    requires none { work.old.items ≡ [] }
+    ensures keeps { OnOk result (KeepsStacks set.old set.new) }
+    ensures sound { OnOk result ((c : Config) → Holds set.new c → ReachedFrom net.now (InSome set.old.graph starts.now) c) }
+    ensures has { OnOk result ((c : Config) → Holds set.old c ⊎ IsOfGroup set.old group c → Holds set.new c) }
+    ensures closed { OnOk result (IsClosed net.now (Holds set.new)) }
+    ensures none { OnOk result (work.new.items ≡ []) }
+{
+    set.is_canonical();
+    add_all(set, work, &[group])?;
+    while let Some(next) = work.pop() {
+        successors(set, net, next, found)?;
+        add_all(set, work, found.as_slice())?;
+    }
+    Ok(())
+}
+
+/// Adds to an empty set all that the groups lead to, in any number of steps. Where the end of a rule leads down the stacks, the lowest
+/// are added first, so that each merge goes by those before it.
 pub(crate) fn reach(
     alloc: Global,
     net: &ParserNetwork,
@@ -191,13 +226,11 @@ pub(crate) fn reach(
     ensures keeps { OnOk result (KeepsStacks set.old set.new) }
     ensures members { OnOk result (Same (Holds set.new) (ReachedFrom net.now (InSome set.old.graph starts.now))) }
 {
-    set.is_canonical();
+    let mut first = with_returns(alloc, net, set, starts)?;
     let mut work = Vec::new(alloc);
     let mut found = Vec::new(alloc);
-    add_all(set, &mut work, starts)?;
-    while let Some(group) = work.pop() {
-        successors(set, net, group, &mut found)?;
-        add_all(set, &mut work, found.as_slice())?;
+    while let Some(group) = first.pop() {
+        close(set, net, starts, group, &mut work, &mut found)?;
     }
     Ok(())
 }

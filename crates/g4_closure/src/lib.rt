@@ -3,6 +3,7 @@
 
 mod closure;
 mod lookahead;
+mod returns;
 #[cfg(test)]
 mod tests;
 

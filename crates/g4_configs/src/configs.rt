@@ -1,8 +1,8 @@
 // A set of configurations.
-ghost use Rattle.std.specs.Prelude.{◌≡◌, ◌↔◌, ◌⊎◌, IsTrue, IfOk, OnErr, OnOk, false, reverse};
+ghost use Rattle.std.specs.Prelude.{◌≡◌, ◌↔◌, ◌⊎◌, [], IsTrue, IfOk, OnErr, OnOk, false, reverse};
 ghost use Rattle.g4_configs.specs.Configs.{AreGroups, IsOfGroup, HasStack, Holds, IsStacks, KeepsStacks};
 ghost use Rattle.g4_configs.specs.Groups.{Subset};
-ghost use Rattle.g4_net.specs.Configurations.{Config, Stack, wildcard};
+ghost use Rattle.g4_net.specs.Configurations.{Config, Stack, above_bottom, wildcard};
 ghost use Rattle.g4_stacks.specs.Canonical.{IsCanonical};
 ghost use Rattle.g4_stacks.specs.Graph.{HasTops, IsPushed};
 
@@ -97,6 +97,14 @@ impl Configs {
         ensures { IsTrue result ↔ HasStack self.now stacks wildcard }
     {
         self.graph.has_wild(stacks)
+    }
+
+    /// Whether the bottom of the parser's stack alone is one of the stacks.
+    pub fn has_end(&self, stacks: u32) -> bool
+        requires { IsStacks self.now stacks }
+        ensures { IsTrue result ↔ HasStack self.now stacks (above_bottom []) }
+    {
+        self.graph.has_end(stacks)
     }
 
     /// The states on top of the stacks, ascending, each with the set of what is below it.

@@ -1,8 +1,8 @@
-use Rattle.std.proofs.Common.{◌≡◌, ◌<◌, length, List, reverse, sym, subst}
+use Rattle.std.proofs.Common.{◌<◌, length, reverse}
 use Rattle.g4_net.specs.Allowed.{Allows}
-use Rattle.g4_net.specs.Configurations.{Config, IsWithin, Stack}
+use Rattle.g4_net.specs.Configurations.{Stack}
 use Rattle.g4_net.specs.Lookahead.{Firsts}
-use Rattle.g4_configs.specs.Groups.{InSome, Same}
+use Rattle.g4_configs.specs.Groups.{InSome}
 use Rattle.g4_closure.proofs.Firsts.{firsts_exact, firsts_known, firsts_within}
 use Rattle.g4_closure.proofs.Keeping.{rest_of}
 use Rattle.g4_closure.proofs.Reversed.{all_reversed}

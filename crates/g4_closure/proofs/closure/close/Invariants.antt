@@ -1,0 +1,14 @@
+use Rattle.std.proofs.Common.{◌⊎◌, ◌+◌, length}
+use Rattle.g4_configs.specs.Configs.{Holds, IsOfGroup}
+use Rattle.g4_configs.specs.Groups.{InSome}
+use Rattle.g4_closure.specs.Missing.{lacks}
+use Rattle.g4_closure.specs.Steps.{ReachedFrom}
+use Rattle.g4_closure.proofs.Bounding.{universe_of}
+use Rattle.g4_closure.proofs.Closing.{IsClosing}
+use Rattle.g4_closure.proofs.closure.close.Given as goal
+
+abbrev pub invariant-loop-next : goal.invariant-loop-next
+invariant-loop-next l = IsClosing l.net (ReachedFrom l.net (InSome l.fn.set.graph l.starts)) (λ c. Holds l.fn.set c ⊎ IsOfGroup l.fn.set l.fn.group c) l.fn.set.graph l.set l.work.items
+
+abbrev pub decreases-loop-next : goal.decreases-loop-next
+decreases-loop-next l = lacks l.set (universe_of (length l.net.states) l.starts) + length l.work.items
