@@ -92,8 +92,8 @@ fn operators_in_an_operand(rt: HostRuntime) -> Result<(), Fail> {
             &[1, 3],
             &[1, 3, 1, 1],
             3,
-            NoViable(3),
-            false,
+            last,
+            true,
             NoViable(3),
         ),
         Case(
