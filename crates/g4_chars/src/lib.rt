@@ -10,8 +10,6 @@ mod part;
 mod property;
 mod range;
 mod set_text;
-#[cfg(test)]
-mod tests;
 
 pub use char_set::CharSet;
 pub use escape::{Context, Escape, Meaning, read_escape};

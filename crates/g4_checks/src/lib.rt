@@ -4,8 +4,6 @@
 mod checking;
 mod fault;
 mod law;
-#[cfg(test)]
-mod tests;
 
 pub use checking::check;
 pub use fault::CheckFault;

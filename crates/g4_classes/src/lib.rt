@@ -6,8 +6,6 @@ mod index;
 mod law;
 mod least;
 mod partition;
-#[cfg(test)]
-mod tests;
 
 pub use classes::{Classes, classes_of};
 pub use law::one_classes;

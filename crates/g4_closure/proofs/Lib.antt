@@ -10,4 +10,3 @@ mod Firsts
 mod Keeping
 mod Reversed
 mod RowOf
-mod Checked

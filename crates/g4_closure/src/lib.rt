@@ -4,7 +4,5 @@
 mod closure;
 mod lookahead;
 mod returns;
-#[cfg(test)]
-mod tests;
 
 pub use lookahead::{advance, start};

@@ -7,8 +7,6 @@ mod group;
 mod kept;
 mod set;
 mod snapshot;
-#[cfg(test)]
-mod tests;
 mod verdicts;
 
 pub use configs::Configs;

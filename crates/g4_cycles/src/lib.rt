@@ -7,8 +7,6 @@ mod distances;
 mod graph;
 mod law;
 mod order;
-#[cfg(test)]
-mod tests;
 
 pub use cycle::first_cycle;
 pub use law::{on_a_cycle, one_answer, one_first_cycle};

@@ -7,8 +7,6 @@ mod fault;
 mod law;
 mod prequel;
 mod rule;
-#[cfg(test)]
-mod tests;
 
 pub use checking::check_forms;
 pub use fault::FormFault;

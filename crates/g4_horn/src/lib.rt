@@ -3,8 +3,6 @@
 
 mod chaining;
 mod clause;
-#[cfg(test)]
-mod tests;
 
 pub use chaining::consequences;
 pub use clause::Clause;

@@ -5,8 +5,6 @@ mod kinds;
 mod law;
 mod places;
 mod rewriting;
-#[cfg(test)]
-mod tests;
 
 pub use law::{each_alternative_is_kept, only_left_recursive_rules_have_operators};
 pub use rewriting::{Rewritten, rewrite};

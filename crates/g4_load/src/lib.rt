@@ -3,15 +3,11 @@
 
 mod copies;
 mod fault;
-#[cfg(test)]
-mod grammar_tests;
 mod interpreter;
 mod law;
 mod listing;
 mod loading;
 mod stop;
-#[cfg(test)]
-mod tests;
 
 pub use fault::GrammarFault;
 pub use interpreter::{Interpreter, build_interpreter};

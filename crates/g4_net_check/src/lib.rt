@@ -7,7 +7,5 @@ mod members;
 mod nullable;
 mod numbers;
 mod steps;
-#[cfg(test)]
-mod tests;
 
 pub use check::check_net;

@@ -6,8 +6,6 @@ mod line;
 mod listing;
 mod search;
 mod shown;
-#[cfg(test)]
-mod tests;
 
 pub use law::one_listing;
 pub use line::push_name;

@@ -8,8 +8,6 @@ mod empty_rules;
 mod lead;
 mod loops;
 mod own;
-#[cfg(test)]
-mod tests;
 
 pub use calls::left_calls;
 pub use empty_rules::nullable;

@@ -13,11 +13,12 @@ use Rattle.g4_token_list.specs.TokenList.{EndsInEnd}
 use Rattle.g4_trees.specs.declared.tree.Item.{Item}
 use Rattle.g4_trees.specs.Trees.{Tree, node, Forest, no_tree, a_tree, and_then, only, items_of, tokens_of, tokens_of_all, leaf}
 use Rattle.g4_tree_check.specs.TreesOf.{Fits, IsTreeOf}
-use Rattle.g4_parse.specs.Running.{Frame, Run, Ending, parsed, beginning, no_predicates, ClosesBy, GoesBy, Goes, StopsBy, Runs, stops, goes, with_alt, with_token, with_child, wrapped, node_of, begun}
+use Rattle.g4_parse.specs.Running.{Frame, Run, Ending, parsed, beginning, no_predicates, ClosesBy, GoesBy, Goes, StopsBy, Runs, stops, goes, with_alt, with_token, with_child, wrapped, node_of, begun, deepest}
 use Rattle.g4_parse.specs.declared.parser.ParseFault.{ParseFault}
 use Rattle.g4_parse.specs.Parsing.{Ends, IsParse}
 use Rattle.g4_parse.specs.Standing.{backs}
 use Rattle.g4_parse.proofs.Forests.{tokens_and_then, two_are_not_one, range_more}
+use Rattle.g4_parse.proofs.Limits.{goes_far}
 use Rattle.g4_parse.proofs.OneTree.{HasOneTree, one_tree_on}
 use Rattle.g4_parse.proofs.OpenRules.{AreOpen, open_decided, open_silently, open_token, open_call, node_fits, open_closed, open_wrapped}
 use Rattle.g4_parse.proofs.Stages.{Stage, begins, advances}
@@ -85,7 +86,7 @@ module _ (set : List ℕ) (rules : List StepRule) (start : List ℕ) (net : Pars
   closed_open r s ended (f ∷ k ∷ fs) is g h = subst (λ (x : Run). Open x.state x.frames) (sym g) (open_closed rules net word set start can built r ended f (k ∷ fs) is h)
 
   -- the open rules after a step
-  open_on : (r s : Run) (o : Option (State (List ℕ))) → state_at net r.state ≡ o → GoesBy net no_predicates word o r s → Open r.state r.frames → Open s.state s.frames
+  open_on : (r s : Run) (o : Option (State (List ℕ))) → state_at net r.state ≡ o → GoesBy net no_predicates word deepest o r s → Open r.state r.frames → Open s.state s.frames
   open_on r s None is g h = absurd g
   open_on r s (Some (Decision targets)) is (i, t, says, first, e) h = subst (λ (x : Run). Open x.state x.frames) (sym e) (open_decided rules net word set start can built r.state i t targets r.frames is first h)
   open_on r s (Some (End ended)) is g h = closed_open r s ended r.frames is g h
@@ -122,7 +123,7 @@ module _ (set : List ℕ) (rules : List StepRule) (start : List ℕ) (net : Pars
       not_none (a_tree t ts) e = cc
   closed_tokens r s (f ∷ k ∷ fs) g h = subst HasTokens (sym g) (λ none. tokens_closed (record r { state = f.back; frames = k ∷ fs }) f k fs ∙ h none)
 
-  tokens_on : (r s : Run) (o : Option (State (List ℕ))) → state_at net r.state ≡ o → GoesBy net no_predicates word o r s → HasOneTree (backs r.frames) r.state r.tree → HasTokens r → HasTokens s
+  tokens_on : (r s : Run) (o : Option (State (List ℕ))) → state_at net r.state ≡ o → GoesBy net no_predicates word deepest o r s → HasOneTree (backs r.frames) r.state r.tree → HasTokens r → HasTokens s
   tokens_on r s None is g one h = absurd g
   tokens_on r s (Some (Decision targets)) is (i, t, says, first, e) one h = subst HasTokens (sym e) (λ none. tokens_alt (begun net t (state_at net t)) r.frames ∙ h none)
   tokens_on r s (Some (End ended)) is g one h = closed_tokens r s r.frames g h
@@ -155,7 +156,7 @@ module _ (set : List ℕ) (rules : List StepRule) (start : List ℕ) (net : Pars
   token_tree r [] h = h
   token_tree r (f ∷ fs) h = h
 
-  whole_on : (r s : Run) (o : Option (State (List ℕ))) → state_at net r.state ≡ o → GoesBy net no_predicates word o r s → Open r.state r.frames → HasTokens r → HasWhole r.tree → HasWhole s.tree
+  whole_on : (r s : Run) (o : Option (State (List ℕ))) → state_at net r.state ≡ o → GoesBy net no_predicates word deepest o r s → Open r.state r.frames → HasTokens r → HasWhole r.tree → HasWhole s.tree
   whole_on r s None is g h tokens whole = absurd g
   whole_on r s (Some (Decision targets)) is (i, t, says, first, e) h tokens whole = subst (λ (x : Run). HasWhole x.tree) (sym e) whole
   whole_on r s (Some (End ended)) is g h tokens whole = closed_whole r s ended r.frames is g h tokens whole
@@ -167,10 +168,10 @@ module _ (set : List ℕ) (rules : List StepRule) (start : List ℕ) (net : Pars
   whole_on r s (Some (Empty t)) is e h tokens whole = subst (λ (x : Run). HasWhole x.tree) (sym e) whole
 
   -- a step
-  fitting_on : (r s : Run) → Goes net no_predicates word r s → Fitting r → Fitting s
+  fitting_on : (r s : Run) → Goes net no_predicates word deepest r s → Fitting r → Fitting s
   fitting_on r s g h = record {
-    stage = advances net (rule_number (rewritten rules) start) (2 * length (rewritten rules) + 2) built.runnable word ends r s h.stage (proceeds_by net word (state_at net r.state) r s g);
-    one = one_tree_on net (rule_number (rewritten rules) start) (2 * length (rewritten rules) + 2) built.runnable (length word) word r s h.stage (proceeds_by net word (state_at net r.state) r s g) h.one;
+    stage = advances net (rule_number (rewritten rules) start) (2 * length (rewritten rules) + 2) built.runnable word ends r s h.stage (proceeds_by net word (state_at net r.state) r s (goes_far net word (state_at net r.state) r s g));
+    one = one_tree_on net (rule_number (rewritten rules) start) (2 * length (rewritten rules) + 2) built.runnable (length word) word r s h.stage (proceeds_by net word (state_at net r.state) r s (goes_far net word (state_at net r.state) r s g)) h.one;
     are_open = open_on r s (state_at net r.state) refl g h.are_open;
     tokens = tokens_on r s (state_at net r.state) refl g h.one h.tokens;
     whole = whole_on r s (state_at net r.state) refl g h.are_open h.tokens h.whole;
@@ -187,7 +188,7 @@ module _ (set : List ℕ) (rules : List StepRule) (start : List ℕ) (net : Pars
   }
 
   -- where a run stops with a tree, this is the one outside
-  stops_whole : (r : Run) (o : Option (State (List ℕ))) (t : Tree) → StopsBy net no_predicates word o r (parsed t) → HasWhole r.tree → IsWhole rules word t
+  stops_whole : (r : Run) (o : Option (State (List ℕ))) (t : Tree) → StopsBy net no_predicates word deepest o r (parsed t) → HasWhole r.tree → IsWhole rules word t
   stops_whole r None t stop whole = absurd stop
   stops_whole r (Some (Decision targets)) t (k, says, e) whole = absurd (let n : ⊥ = cc in n)
   stops_whole r (Some (End rule)) t (none, added, (u, is, e)) whole = let same : u ≡ t = cc in subst (IsWhole rules word) same (whole u is)
@@ -199,8 +200,8 @@ module _ (set : List ℕ) (rules : List StepRule) (start : List ℕ) (net : Pars
   stops_whole r (Some (Empty u)) t stop whole = absurd stop
 
   -- a run that stops with a tree
-  runs_whole : (r : Run) (e : Ending) (t : Tree) → Runs net no_predicates word r e → e ≡ parsed t → Fitting r → IsWhole rules word t
-  runs_whole r e t (stops _ _ stop) is h = stops_whole r (state_at net r.state) t (subst (StopsBy net no_predicates word (state_at net r.state) r) is stop) h.whole
+  runs_whole : (r : Run) (e : Ending) (t : Tree) → Runs net no_predicates word deepest r e → e ≡ parsed t → Fitting r → IsWhole rules word t
+  runs_whole r e t (stops _ _ stop) is h = stops_whole r (state_at net r.state) t (subst (StopsBy net no_predicates word deepest (state_at net r.state) r) is stop) h.whole
   runs_whole r e t (goes _ s _ step more) is h = runs_whole s e t more is (fitting_on r s step h)
 
 -- the tree of a run over the network of rules is one of the trees of the rules as they are written

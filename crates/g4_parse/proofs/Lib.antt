@@ -4,6 +4,7 @@ mod Begun
 mod Foreseen
 mod Forests
 mod Grown
+mod Limits
 mod Measure
 mod MoreWords
 pub mod OneEnding

@@ -14,8 +14,8 @@ use Rattle.g4_net.specs.Proper.{start, IsProper, at_bottom}
 use Rattle.g4_lookahead.proofs.Proper.{IsStackFor, Inside, at_call, at_last, at_loop, at_turn, after_turn, at_end, after_end, inside_cases, stack_for, proper_within, proper_target, proper_call, proper_return}
 use Rattle.g4_token_list.specs.TokenList.{EndsInEnd}
 use Rattle.g4_trees.specs.Trees.{Tree}
-use Rattle.g4_parse.specs.Running.{Frame, Run, beginning, deepest, no_predicates, ClosesBy, with_child, with_token, with_alt, wrapped, begun, node_of}
-use Rattle.g4_parse.specs.Standing.{backs, IsFitBy}
+use Rattle.g4_parse.specs.Running.{Frame, Run, beginning, no_predicates, ClosesBy, with_child, with_token, with_alt, wrapped, begun, node_of}
+use Rattle.g4_parse.specs.Standing.{backs, IsFitBy, farthest}
 use Rattle.g4_parse.proofs.Grown.{state_child, place_child}
 use Rattle.g4_parse.proofs.Steps.{ProceedsBy, Proceeds, first_in, backs_alt, backs_child, backs_token, backs_wrapped}
 
@@ -36,7 +36,7 @@ before_end word i a (front, same, once) e n =
 pub record Stage (net : ParserNetwork) (loop n : ℕ) (r : Run) : Type 0 where
   pub state_in : r.state < length net.states
   pub proper : IsProper net r.state (backs r.frames)
-  pub short : length r.frames ≤ deepest
+  pub short : length r.frames ≤ farthest
   -- a token is left, but after END
   pub more : (r.state ≡ loop + 4 → ⊥) → (r.state ≡ 1 → ⊥) → r.place < n
 

@@ -20,7 +20,7 @@ use Rattle.g4_lookahead.proofs.Proper.{IsStackFor, Inside, at_call, at_last, at_
 use Rattle.g4_token_list.specs.TokenList.{EndsInEnd}
 use Rattle.g4_trees.specs.Trees.{Tree}
 use Rattle.g4_parse.specs.Running.{Frame, Run, Ending, parsed, no_predicates, ClosesBy, StopsBy, Runs, stops, goes, begun, with_alt, node_of, stack_of}
-use Rattle.g4_parse.specs.Standing.{backs}
+use Rattle.g4_parse.specs.Standing.{backs, farthest}
 use Rattle.g4_parse.proofs.Grown.{state_child}
 use Rattle.g4_parse.proofs.Stages.{Stage, advances}
 use Rattle.g4_parse.proofs.Steps.{ProceedsBy, Proceeds, proceeds_by, first_in, backs_alt, config_of, TakesToken, token_or_none}
@@ -132,7 +132,7 @@ module _ {looped : List ℕ} (net : ParserNetwork) (rule loop : ℕ) (ready : Is
     goes_far : (k m : ℕ) → FullFrom net (Rest net F) (drop place word) k (no_viable m) → ⊥
 
   -- where the run ends with its tree
-  viable_stop : (i : ℕ) (r : Run) (o : Option (State (List ℕ))) (tree : Tree) (F : Config → Type 0) → state_at net r.state ≡ o → StopsBy net no_predicates word o r (parsed tree) → Stage net loop (length word) r → IsSpent r → LeadsTo F i r → IsViable F r.place
+  viable_stop : (i : ℕ) (r : Run) (o : Option (State (List ℕ))) (tree : Tree) (F : Config → Type 0) → state_at net r.state ≡ o → StopsBy net no_predicates word farthest o r (parsed tree) → Stage net loop (length word) r → IsSpent r → LeadsTo F i r → IsViable F r.place
   viable_stop i r None tree F is stop h spent leads = absurd stop
   viable_stop i r (Some (Decision targets)) tree F is (k, says, e) h spent leads = absurd (let no : ⊥ = cc in no)
   viable_stop i r (Some (End ended)) tree F is (none, added, one) h spent leads = record {
@@ -188,8 +188,8 @@ module _ {looped : List ℕ} (net : ParserNetwork) (rule loop : ℕ) (ready : Is
           drop-cons word r.place 0 within ∙ ap (λ (a : ℕ). a ∷ drop (suc r.place) word) (get_or_from_slice_get word r.place step.symbol 0 step.next) ∙ ap (λ (n : ℕ). step.symbol ∷ drop n word) (sym (add-one r.place) ∙ sym step.place)
 
   -- a run that ends with its tree
-  viable_run : (i : ℕ) (r : Run) (e : Ending) (tree : Tree) → Runs net no_predicates word r e → e ≡ parsed tree → Stage net loop (length word) r → IsSpent r → (F : Config → Type 0) → LeadsTo F i r → IsViable F r.place
-  viable_run i r e tree (stops _ _ stop) is h spent F leads = viable_stop i r (state_at net r.state) tree F refl (subst (StopsBy net no_predicates word (state_at net r.state) r) is stop) h spent leads
+  viable_run : (i : ℕ) (r : Run) (e : Ending) (tree : Tree) → Runs net no_predicates word farthest r e → e ≡ parsed tree → Stage net loop (length word) r → IsSpent r → (F : Config → Type 0) → LeadsTo F i r → IsViable F r.place
+  viable_run i r e tree (stops _ _ stop) is h spent F leads = viable_stop i r (state_at net r.state) tree F refl (subst (StopsBy net no_predicates word farthest (state_at net r.state) r) is stop) h spent leads
   viable_run i r e tree (goes _ s _ step more) is h spent F leads =
       let on : Proceeds net word r s = proceeds_by net word (state_at net r.state) r s step in
       let stage : Stage net loop (length word) s = advances net rule loop ready word ends r s h on in
@@ -200,7 +200,7 @@ module _ {looped : List ℕ} (net : ParserNetwork) (rule loop : ℕ) (ready : Is
       ]
 
   -- so full stacks do not say that none is viable at a decision whence the run ends with its tree
-  pub viable : (r s : Run) (i t : ℕ) (B : ℕ → Type 0) → Stage net loop (length word) r → B i → IsFirst net r.state i t → s ≡ record r { state = t; frames = with_alt (begun net t (state_at net t)) r.frames } → (tree : Tree) → Runs net no_predicates word s (parsed tree) →
+  pub viable : (r s : Run) (i t : ℕ) (B : ℕ → Type 0) → Stage net loop (length word) r → B i → IsFirst net r.state i t → s ≡ record r { state = t; frames = with_alt (begun net t (state_at net t)) r.frames } → (tree : Tree) → Runs net no_predicates word farthest s (parsed tree) →
       (k : ℕ) → Full net r.state B (stack_of r) (drop r.place word) (no_viable k) → ⊥
   viable r s i t B h allowed first e tree runs k full =
       (subst (IsViable (Firsts net r.state B (stack_of r))) (ap (λ (x : Run). x.place) e) (viable_run i s (parsed tree) tree runs refl stage spent (Firsts net r.state B (stack_of r)) (config_of i s, (allowed, is_first, stack), here))).goes_far 0 k full

@@ -15,7 +15,7 @@ use Rattle.g4_parse.specs.declared.parser.Parser.{Parser}
 use Rattle.g4_parse.specs.declared.runs.Stopped.{Stopped}
 use Rattle.g4_parse.specs.Parsing.{IsParseFault, IsParse}
 use Rattle.g4_parse.specs.Running.{Run, no_predicates, stack_of, with_alt, begun, AllowsAt, Predicts, GoesBy}
-use Rattle.g4_parse.specs.Standing.{StandsFor, IsFaultBy}
+use Rattle.g4_parse.specs.Standing.{StandsFor, farthest, IsFaultBy}
 
 -- Prediction chooses the alternative at this moment. Where it is presumed, it does unless full stacks over some alternatives, of
 -- which this is one, say that none is viable.
@@ -26,13 +26,13 @@ IsForeseenAt net word r true i = (allowed : Allowed) × IsRightOver (Allows allo
 -- one step of the run by the state, at a decision along an alternative that is foreseen
 abbrev pub ForeseesBy : ParserNetwork → List ℕ → Bool → Option (State (List ℕ)) → Run → Run → Type 0
 ForeseesBy net word presumed (Some (Decision targets)) r s = (i t : ℕ) × IsForeseenAt net word r presumed i × IsFirst net r.state i t × (s ≡ record r { state = t; frames = with_alt (begun net t (state_at net t)) r.frames })
-ForeseesBy net word presumed (Some (End rule)) r s = GoesBy net no_predicates word (Some (End rule)) r s
-ForeseesBy net word presumed (Some (Edge set t)) r s = GoesBy net no_predicates word (Some (Edge set t)) r s
-ForeseesBy net word presumed (Some (Call rule level back)) r s = GoesBy net no_predicates word (Some (Call rule level back)) r s
-ForeseesBy net word presumed (Some (Predicate k t)) r s = GoesBy net no_predicates word (Some (Predicate k t)) r s
-ForeseesBy net word presumed (Some (Level q t)) r s = GoesBy net no_predicates word (Some (Level q t)) r s
-ForeseesBy net word presumed (Some (Action t)) r s = GoesBy net no_predicates word (Some (Action t)) r s
-ForeseesBy net word presumed (Some (Empty t)) r s = GoesBy net no_predicates word (Some (Empty t)) r s
+ForeseesBy net word presumed (Some (End rule)) r s = GoesBy net no_predicates word farthest (Some (End rule)) r s
+ForeseesBy net word presumed (Some (Edge set t)) r s = GoesBy net no_predicates word farthest (Some (Edge set t)) r s
+ForeseesBy net word presumed (Some (Call rule level back)) r s = GoesBy net no_predicates word farthest (Some (Call rule level back)) r s
+ForeseesBy net word presumed (Some (Predicate k t)) r s = GoesBy net no_predicates word farthest (Some (Predicate k t)) r s
+ForeseesBy net word presumed (Some (Level q t)) r s = GoesBy net no_predicates word farthest (Some (Level q t)) r s
+ForeseesBy net word presumed (Some (Action t)) r s = GoesBy net no_predicates word farthest (Some (Action t)) r s
+ForeseesBy net word presumed (Some (Empty t)) r s = GoesBy net no_predicates word farthest (Some (Empty t)) r s
 ForeseesBy net word presumed None r s = ⊥
 
 -- from this moment the run goes by the state, or along an alternative that is presumed, to one that the parser is at, or it
@@ -41,8 +41,8 @@ abbrev pub IsForeseenTurnBy : ParserNetwork → List ℕ → Option (State (List
 IsForeseenTurnBy net word state r p (Ok presumed) = (s : Run) × ForeseesBy net word presumed state r s × StandsFor p s
 IsForeseenTurnBy net word state r p (Err fault) = IsFaultBy net word state r fault
 
--- The run gives the tree that parsing gives. Where it has presumed no choice, it stops with the fault of parsing, and it presumes
--- none where choices are exact.
+-- The run gives the tree that parsing gives. Where no choice that it presumed may be the cause, it stops with the fault of parsing,
+-- and it presumes none where choices are exact.
 abbrev pub IsRun : ParserNetwork → List ℕ → Choosing → Result (List Item) Stopped → Type 0
 IsRun net word choosing (Ok tree) = IsParse net word (Ok tree)
 IsRun net word choosing (Err stopped) = (stopped.presumed ≡ false → IsParseFault net word stopped.fault) × (choosing ≡ Exact → stopped.presumed ≡ false)

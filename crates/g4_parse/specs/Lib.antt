@@ -1,5 +1,6 @@
 pub mod Allowing
 pub mod Deciding
+pub mod Depth
 pub mod Foreseen
 pub mod Running
 pub mod Parsing

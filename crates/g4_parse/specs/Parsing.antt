@@ -5,11 +5,11 @@ use Rattle.g4_trees.specs.declared.tree.Item.{Item}
 use Rattle.g4_trees.specs.Trees.{Tree, items_of}
 use Rattle.g4_parse.specs.declared.parser.ParseFault.{ParseFault}
 use Rattle.g4_parse.specs.declared.parser.ParseFault.TheVariants.{NoViable, Mismatch, FailedPredicate, TooDeep, NoMemory}
-use Rattle.g4_parse.specs.Running.{Ending, parsed, not_viable, mismatch, failed_predicate, too_deep, beginning, no_predicates, Runs}
+use Rattle.g4_parse.specs.Running.{Ending, parsed, not_viable, mismatch, failed_predicate, too_deep, beginning, deepest, no_predicates, Runs}
 
 -- the run over the whole word has this ending
 abbrev pub Ends : ParserNetwork → List ℕ → Ending → Type 0
-Ends net word e = Runs net no_predicates word beginning e
+Ends net word e = Runs net no_predicates word deepest beginning e
 
 -- what a fault says of the run
 abbrev pub IsParseFault : ParserNetwork → List ℕ → ParseFault → Type 0

@@ -126,40 +126,42 @@ module _ (net : ParserNetwork) (values : Values) (word : List ℕ) where
   ClosesBy r [] s = ⊥
   ClosesBy r (f ∷ fs) s = s ≡ with_child (record r { state = f.back; frames = fs }) fs (node_of f)
 
-  -- one step of the run, by the state
-  abbrev pub GoesBy : Option (State (List ℕ)) → Run → Run → Type 0
-  GoesBy None r s = ⊥
-  GoesBy (Some (Decision targets)) r s = (i t : ℕ) × Predicts r (chosen i) × IsFirst net r.state i t × (s ≡ record r { state = t; frames = with_alt (begun net t (state_at net t)) r.frames })
-  GoesBy (Some (End rule)) r s = ClosesBy r r.frames s
-  GoesBy (Some (Edge set t)) r s = (a : ℕ) × (slice_get word r.place ≡ Some a) × Contains set a × (s ≡ record (with_token r r.frames) { state = t; place = r.place + 1 })
-  GoesBy (Some (Call rule level back)) r s = (length r.frames < deepest)
-      × (s ≡ record r { state = start_of rule; frames = record { back = back; level = level; rule = rule; alt = written_at net (start_of rule); at = r.place; children = no_tree } ∷ r.frames })
-  GoesBy (Some (Predicate k t)) r s = (values k (open_rules r) r.place ≡ true) × (s ≡ record r { state = t })
-  GoesBy (Some (Level q t)) r s = (level_of r.frames ≤ q) × (s ≡ record r { state = t; frames = wrapped (written_at net r.state) r.frames })
-  GoesBy (Some (Action t)) r s = s ≡ record r { state = t }
-  GoesBy (Some (Empty t)) r s = s ≡ record r { state = t }
+  -- with at most so many rules open
+  module _ (limit : ℕ) where
+    -- one step of the run, by the state
+    abbrev pub GoesBy : Option (State (List ℕ)) → Run → Run → Type 0
+    GoesBy None r s = ⊥
+    GoesBy (Some (Decision targets)) r s = (i t : ℕ) × Predicts r (chosen i) × IsFirst net r.state i t × (s ≡ record r { state = t; frames = with_alt (begun net t (state_at net t)) r.frames })
+    GoesBy (Some (End rule)) r s = ClosesBy r r.frames s
+    GoesBy (Some (Edge set t)) r s = (a : ℕ) × (slice_get word r.place ≡ Some a) × Contains set a × (s ≡ record (with_token r r.frames) { state = t; place = r.place + 1 })
+    GoesBy (Some (Call rule level back)) r s = (length r.frames < limit)
+        × (s ≡ record r { state = start_of rule; frames = record { back = back; level = level; rule = rule; alt = written_at net (start_of rule); at = r.place; children = no_tree } ∷ r.frames })
+    GoesBy (Some (Predicate k t)) r s = (values k (open_rules r) r.place ≡ true) × (s ≡ record r { state = t })
+    GoesBy (Some (Level q t)) r s = (level_of r.frames ≤ q) × (s ≡ record r { state = t; frames = wrapped (written_at net r.state) r.frames })
+    GoesBy (Some (Action t)) r s = s ≡ record r { state = t }
+    GoesBy (Some (Empty t)) r s = s ≡ record r { state = t }
 
-  -- one step of the run
-  abbrev pub Goes : Run → Run → Type 0
-  Goes r s = GoesBy (state_at net r.state) r s
+    -- one step of the run
+    abbrev pub Goes : Run → Run → Type 0
+    Goes r s = GoesBy (state_at net r.state) r s
 
-  -- where no step exists: the end of the added rule, or a fault
-  abbrev pub StopsBy : Option (State (List ℕ)) → Run → Ending → Type 0
-  StopsBy None r e = ⊥
-  StopsBy (Some (Decision targets)) r e = (k : ℕ) × Predicts r (no_viable k) × (e ≡ not_viable (r.place + k))
-  StopsBy (Some (End rule)) r e = (r.frames ≡ []) × (rule ≡ 0) × ((t : Tree) × (r.tree ≡ only t) × (e ≡ parsed t))
-  StopsBy (Some (Edge set t)) r e = (a : ℕ) × (slice_get word r.place ≡ Some a) × (Contains set a → ⊥) × (e ≡ mismatch r.place r.state)
-  StopsBy (Some (Call rule level back)) r e = (deepest ≤ length r.frames) × (e ≡ too_deep r.place)
-  StopsBy (Some (Predicate k t)) r e = (values k (open_rules r) r.place ≡ false) × (e ≡ failed_predicate r.place (rule_of r.frames))
-  StopsBy (Some (Level q t)) r e = (q < level_of r.frames) × (e ≡ failed_predicate r.place (rule_of r.frames))
-  StopsBy (Some (Action t)) r e = ⊥
-  StopsBy (Some (Empty t)) r e = ⊥
+    -- where no step exists: the end of the added rule, or a fault
+    abbrev pub StopsBy : Option (State (List ℕ)) → Run → Ending → Type 0
+    StopsBy None r e = ⊥
+    StopsBy (Some (Decision targets)) r e = (k : ℕ) × Predicts r (no_viable k) × (e ≡ not_viable (r.place + k))
+    StopsBy (Some (End rule)) r e = (r.frames ≡ []) × (rule ≡ 0) × ((t : Tree) × (r.tree ≡ only t) × (e ≡ parsed t))
+    StopsBy (Some (Edge set t)) r e = (a : ℕ) × (slice_get word r.place ≡ Some a) × (Contains set a → ⊥) × (e ≡ mismatch r.place r.state)
+    StopsBy (Some (Call rule level back)) r e = (limit ≤ length r.frames) × (e ≡ too_deep r.place)
+    StopsBy (Some (Predicate k t)) r e = (values k (open_rules r) r.place ≡ false) × (e ≡ failed_predicate r.place (rule_of r.frames))
+    StopsBy (Some (Level q t)) r e = (q < level_of r.frames) × (e ≡ failed_predicate r.place (rule_of r.frames))
+    StopsBy (Some (Action t)) r e = ⊥
+    StopsBy (Some (Empty t)) r e = ⊥
 
-  -- the run stops here with this ending
-  abbrev pub Stops : Run → Ending → Type 0
-  Stops r e = StopsBy (state_at net r.state) r e
+    -- the run stops here with this ending
+    abbrev pub Stops : Run → Ending → Type 0
+    Stops r e = StopsBy (state_at net r.state) r e
 
-  -- the run from this moment has this ending
-  pub data Runs : Run → Ending → Type 0 where
-    stops : (r : Run) (e : Ending) → Stops r e → Runs r e
-    goes : (r s : Run) (e : Ending) → Goes r s → Runs s e → Runs r e
+    -- the run from this moment has this ending
+    pub data Runs : Run → Ending → Type 0 where
+      stops : (r : Run) (e : Ending) → Stops r e → Runs r e
+      goes : (r s : Run) (e : Ending) → Goes r s → Runs s e → Runs r e

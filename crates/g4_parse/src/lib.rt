@@ -4,13 +4,9 @@
 mod allowed;
 mod faults;
 mod law;
-#[cfg(test)]
-mod level_tests;
 mod parser;
 mod runs;
 mod state;
-#[cfg(test)]
-mod tests;
 
 pub use law::one_ending;
 pub use parser::ParseFault;

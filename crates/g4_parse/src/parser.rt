@@ -7,6 +7,7 @@ ghost use Rattle.g4_net.specs.Network.{ParserNetwork as Net, state_at};
 ghost use Rattle.g4_predict.specs.Foreseeing.{IsForesight};
 ghost use Rattle.g4_parse.specs.declared.parser.Choosing.TheVariants.{Exact};
 ghost use Rattle.g4_parse.specs.Allowing.{IsAllowed};
+ghost use Rattle.g4_parse.specs.Depth.{IsLimitOf};
 ghost use Rattle.g4_parse.specs.Foreseen.{IsForeseenTurnBy};
 ghost use Rattle.g4_parse.specs.Running.{Run, beginning, with_begun, with_token};
 ghost use Rattle.g4_parse.specs.Standing.{StandsFor, IsNewestOf, IsTurnBy, IsDeciding, IsUnderway, HasEnded};
@@ -42,6 +43,9 @@ pub enum ParseFault {
 
 /// The most rules that may be open.
 const DEEPEST: usize = 10_000;
+
+/// The limit of a run that goes on past `DEEPEST`: more rules than are ever open.
+const FARTHEST: usize = 1_099_511_627_776;
 
 /// An open rule: its number, and the level at which it was called.
 #[derive(Clone, Copy)]
@@ -102,13 +106,27 @@ impl Parser {
         }
     }
 
-    /// Opens a rule.
+    /// The place, where the run is at a call with as many rules open as may be.
+    pub fn at_limit(&self, net: &ParserNetwork) -> Option<u32>
+        requires { self.now.state < length net.now.states }
+        ensures { IsLimitOf net.now self.now result }
+    {
+        if self.returns.len() < DEEPEST {
+            return None;
+        }
+        match state_of(net, self.state) {
+            State::Call { .. } => Some(self.place),
+            _ => None,
+        }
+    }
+
+    /// Opens a rule, also where as many are open as may be.
     fn call(&mut self, net: &ParserNetwork, opened: Opened, back: u32) -> Result<(), ParseFault>
         requires starts { 2 * opened.rule < length net.now.written }
         requires fits { 2 * opened.rule < 2 ^ 32 }
         ensures { (word : List ℕ) (r : Run) → StandsFor self.old r → IsTurnBy net.now word (Some (Call opened.rule opened.level back)) r self.new result }
     {
-        if self.returns.len() >= DEEPEST {
+        if self.returns.len() >= FARTHEST {
             return Err(ParseFault::TooDeep { at: self.place });
         }
         let start = 2 * opened.rule;

@@ -1,10 +1,12 @@
 // Runs of the parser over a token list: one with presumed choices, and where that may tell the wrong fault, one without.
-ghost use Rattle.std.specs.Prelude.{◌<◌, ◌^◌, List, ℕ, IfOk, length};
+ghost use Rattle.std.specs.Prelude.{◌≡◌, ◌<◌, false, ◌^◌, List, ℕ, IfOk, length};
 ghost use Rattle.g4_grammar.specs.StepRules.{CanBeRewritten, StepRule};
 ghost use Rattle.g4_layout.specs.Built.{IsBuilt};
 ghost use Rattle.g4_leftrec.specs.Rewriting.{numberings, rewritten};
 ghost use Rattle.g4_net.specs.AddedRule.{IsReady};
+ghost use Rattle.g4_parse.specs.Depth.{IsFirstReached};
 ghost use Rattle.g4_parse.specs.Foreseen.{IsRun};
+ghost use Rattle.g4_parse.specs.declared.parser.ParseFault.TheVariants.{TooDeep};
 ghost use Rattle.g4_parse.specs.Parsing.{IsParse};
 ghost use Rattle.g4_token_list.specs.TokenList.{word_of, EndsInEnd};
 ghost use Rattle.g4_tree_check.specs.TreesOf.{IsTreeOf};
@@ -15,14 +17,36 @@ use g4_token_list::Token;
 use g4_trees::Tree;
 use std::alloc::Global;
 
-/// Why a run stopped, and whether it had presumed a choice.
+/// Why a run stopped, and whether that may be due to a choice that it presumed.
 #[derive(Drop)]
 struct Stopped {
     fault: ParseFault,
     presumed: bool,
 }
 
-/// The tree of a token list, by one run.
+/// The run with exact choices comes to the limit on open rules at this place.
+fn stopped_too_deep(at: u32) -> Stopped
+    ensures { result ≡ record { fault = TooDeep at; presumed = false } }
+{
+    Stopped {
+        fault: ParseFault::TooDeep { at },
+        presumed: false,
+    }
+}
+
+/// The place at which the run has come to the limit on open rules first: one that is known from before, or this one.
+fn first_reached(net: &ParserNetwork, parser: &Parser, before: Option<u32>) -> Option<u32>
+    requires { parser.now.state < length net.now.states }
+    ensures { IsFirstReached net.now parser.now before result }
+{
+    match before {
+        Some(at) => Some(at),
+        None => parser.at_limit(net),
+    }
+}
+
+/// The tree of a token list, by one run. Where it has presumed a choice, it goes on past the limit on open rules: should it reach
+/// its tree, each choice was right, so the run with exact choices stops at the limit.
 fn run(
     alloc: Global,
     net: &ParserNetwork,
@@ -36,11 +60,21 @@ fn run(
 {
     let mut parser = Parser::new(alloc);
     let mut presumed = false;
+    let mut reached = None;
     'run: while !parser.has_ended(net) {
+        reached = first_reached(net, &parser, reached);
+        if let Some(at) = reached
+            && !presumed
+        {
+            return Err(stopped_too_deep(at));
+        }
         match parser.turn(alloc, net, tokens, choosing) {
             Ok(presumes) => presumed = presumed || presumes,
             Err(fault) => return Err(Stopped { fault, presumed }),
         }
+    }
+    if let Some(at) = reached {
+        return Err(stopped_too_deep(at));
     }
     match parser.finish(alloc) {
         Ok(tree) => Ok(tree),

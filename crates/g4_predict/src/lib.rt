@@ -5,10 +5,6 @@
 mod decision;
 mod first_tests;
 mod foresight;
-#[cfg(test)]
-mod tests;
-#[cfg(test)]
-mod walk;
 
 pub use decision::{DecideFault, decide};
 pub use first_tests::has_test;

@@ -12,8 +12,6 @@ mod piece;
 mod predicate;
 mod scanner;
 mod test_reader;
-#[cfg(test)]
-mod tests;
 mod token;
 
 pub use law::one_reading;

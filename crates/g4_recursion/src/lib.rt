@@ -7,8 +7,6 @@ mod grammar;
 mod law;
 mod leads;
 mod numbers;
-#[cfg(test)]
-mod tests;
 
 pub use checking::{RecursionFault, check_recursion};
 pub use law::one_recursion;

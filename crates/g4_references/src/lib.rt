@@ -15,8 +15,6 @@ mod names;
 mod parts;
 mod predicates;
 mod readings;
-#[cfg(test)]
-mod tests;
 mod undefined;
 
 pub use checking::{ReferenceFault, check_references};

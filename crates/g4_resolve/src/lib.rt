@@ -3,7 +3,5 @@
 #![tactic(auto)]
 
 mod resolving;
-#[cfg(test)]
-mod tests;
 
 pub use resolving::{Resolving, resolve};

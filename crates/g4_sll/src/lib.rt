@@ -2,7 +2,5 @@
 #![tactic(auto)]
 
 mod sll;
-#[cfg(test)]
-mod tests;
 
 pub use sll::{simulate, verdict};

@@ -3,8 +3,6 @@
 
 mod set;
 mod symbol;
-#[cfg(test)]
-mod tests;
 
 pub use set::Symbols;
 pub use symbol::{END, EOF, MOST_TYPES};

@@ -12,8 +12,6 @@ mod quote;
 mod scanner;
 mod spelling;
 mod statement;
-#[cfg(test)]
-mod tests;
 mod token;
 
 pub use law::one_scan;

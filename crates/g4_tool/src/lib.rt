@@ -3,8 +3,6 @@
 
 mod files;
 mod inputs;
-#[cfg(test)]
-mod large_tests;
 mod law;
 mod messages;
 mod outcome;
@@ -12,8 +10,6 @@ mod report;
 mod rule_messages;
 mod status;
 mod stop;
-#[cfg(test)]
-mod tests;
 mod tool;
 mod write;
 

@@ -2,8 +2,6 @@
 #![tactic(auto)]
 
 mod builder;
-#[cfg(test)]
-mod tests;
 mod unwinding;
 
 pub use builder::TreeBuilder;

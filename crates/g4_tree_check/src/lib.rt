@@ -7,7 +7,5 @@ mod ending;
 mod matching;
 mod shifting;
 mod standing;
-#[cfg(test)]
-mod tests;
 
 pub use check::check_tree;

@@ -4,8 +4,6 @@
 mod events;
 mod law;
 mod nodes;
-#[cfg(test)]
-mod tests;
 mod text;
 mod tree;
 

@@ -10,8 +10,6 @@ mod naming;
 mod numbering;
 mod references;
 mod symbol;
-#[cfg(test)]
-mod tests;
 mod token_rule;
 mod twice;
 mod types;

@@ -6,8 +6,6 @@ mod app;
 mod command;
 mod law;
 mod reading;
-#[cfg(test)]
-mod tests;
 
 pub use command::{Atn, Check, Command, MOST_FILES, Output, Parse};
 pub use law::{one_command, some_command};

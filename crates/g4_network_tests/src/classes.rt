@@ -1,0 +1,167 @@
+// Classes in networks of a few sets written by hand, and in networks of many sets.
+ghost use Rattle.std.specs.Prelude.{◌<◌};
+
+use g4_base::Sequence;
+use g4_classes::classes_of;
+use g4_net::{ParserNetwork, State};
+use g4_symbols::{END, EOF, MOST_TYPES, Symbols};
+use std::alloc::{AllocError, Global};
+use std::collections::BTreeSet;
+use std::test::Fail;
+
+/// The sets that the edges of a network take, and the classes of some numbers.
+struct Case {
+    name: &'static str,
+    sets: &'static [&'static [u32]],
+    classes: &'static [(u32, u32)],
+}
+
+static CASES: [Case; 8] = [
+    Case {
+        name: "no edge",
+        sets: &[],
+        classes: &[(1, 1), (2, 1), (MOST_TYPES, 1), (EOF, 1), (END, 1)],
+    },
+    Case {
+        name: "two sets with one type in common",
+        sets: &[&[1, 2], &[2, 3]],
+        classes: &[(1, 1), (2, 2), (3, 3), (4, 4), (EOF, 4), (END, 4)],
+    },
+    Case {
+        name: "all of four types but one",
+        sets: &[&[1, 3, 4]],
+        classes: &[(1, 1), (2, 2), (3, 1), (4, 1), (5, 2), (EOF, 2)],
+    },
+    Case {
+        name: "sets within others, and one twice",
+        sets: &[&[2, 3, 4], &[3, 4], &[4], &[3, 4]],
+        classes: &[(1, 1), (2, 2), (3, 3), (4, 4), (5, 1)],
+    },
+    Case {
+        name: "EOF and a type",
+        sets: &[&[3, EOF]],
+        classes: &[(1, 1), (2, 1), (3, 3), (4, 1), (EOF, 3), (END, 1)],
+    },
+    Case {
+        name: "END alone",
+        sets: &[&[END]],
+        classes: &[(1, 1), (MOST_TYPES, 1), (EOF, 1), (END, END)],
+    },
+    Case {
+        name: "EOF alone",
+        sets: &[&[EOF]],
+        classes: &[(1, 1), (EOF, EOF), (END, 1)],
+    },
+    Case {
+        name: "numbers that are no symbols",
+        sets: &[&[0], &[4_097], &[2, 4_097]],
+        classes: &[
+            (0, 0),
+            (1, 1),
+            (2, 2),
+            (3, 1),
+            (4_097, 4_097),
+            (65_535, 65_535),
+            (65_538, 65_538),
+            (u32::MAX, u32::MAX),
+        ],
+    },
+];
+
+/// The numbers from 1 to before the greatest that are not among the members.
+fn others(alloc: Global, members: &[u32], greatest: u32) -> Result<BTreeSet<u32>, AllocError> {
+    let mut others = BTreeSet::new(alloc);
+    for number in 1..greatest {
+        if !members.contains(&number) {
+            others.insert(number)?;
+        }
+    }
+    Ok(others)
+}
+
+/// The set of these symbols.
+fn set_of(alloc: Global, members: &[u32]) -> Result<Symbols, AllocError> {
+    match members {
+        [] => Symbols::up_to(alloc, 0),
+        [one] => Symbols::one(alloc, *one),
+        [.., greatest] => {
+            let greatest = (*greatest).min(END);
+            Symbols::up_to_without(alloc, greatest, &others(alloc, members, greatest)?)
+        }
+    }
+}
+
+/// The network of these states.
+fn network_of(alloc: Global, states: Vec<State<Symbols>>) -> ParserNetwork {
+    ParserNetwork {
+        states: Sequence::new(states),
+        callers: Sequence::new(Vec::new(alloc)),
+        written: Sequence::new(Vec::new(alloc)),
+    }
+}
+
+/// The network that has an edge for each of the sets, and an action before each.
+fn network(alloc: Global, sets: &[&[u32]]) -> Result<ParserNetwork, AllocError> {
+    let mut states = Vec::new(alloc);
+    for set in sets {
+        states.push(State::Action(0))?;
+        states.push(State::Edge(set_of(alloc, set)?, 0))?;
+    }
+    Ok(network_of(alloc, states))
+}
+
+#[test]
+fn classes_of_small_networks(rt: HostRuntime) -> Result<(), Fail> {
+    for case in &CASES {
+        let net = network(rt.alloc(), case.sets)?;
+        let classes = classes_of(rt.alloc(), &net)?;
+        for (number, class) in case.classes {
+            assert_eq!(rt;
+                classes.class_of(*number),
+                *class,
+                "{}: {number}",
+                case.name
+            );
+        }
+    }
+    Ok(())
+}
+
+/// A network of so many edges that take one of the first 4,000 types each, and then so many that take all types to 3,801, to
+/// 3,802 and so on.
+fn many_edges(alloc: Global, single: u32, wide: u32) -> Result<ParserNetwork, AllocError>
+    requires { wide < 1000 }
+{
+    let mut states = Vec::new(alloc);
+    for edge in 0..single {
+        states.push(State::Edge(Symbols::one(alloc, edge % 4_000 + 1)?, 0))?;
+    }
+    for edge in 0..wide {
+        states.push(State::Edge(Symbols::up_to(alloc, 3_801 + edge)?, 0))?;
+    }
+    Ok(network_of(alloc, states))
+}
+
+#[test]
+fn classes_of_large_networks(rt: HostRuntime) -> Result<(), Fail> {
+    let alloc = rt.alloc();
+    let net = many_edges(alloc, 60_000, 200)?;
+    let classes = classes_of(alloc, &net)?;
+    assert!(rt;
+        (1..4_001u32).all(|symbol| classes.class_of(symbol) == symbol),
+        "each alone"
+    );
+    assert_eq!(rt; classes.class_of(EOF), 4_001, "the others");
+    let net = many_edges(alloc, 0, 200)?;
+    let classes = classes_of(alloc, &net)?;
+    assert!(rt;
+        (1..3_802u32).all(|symbol| classes.class_of(symbol) == 1),
+        "in each set"
+    );
+    assert!(rt;
+        (3_802..4_001u32).all(|symbol| classes.class_of(symbol) == symbol),
+        "in some"
+    );
+    assert_eq!(rt; classes.class_of(END), 4_001, "in no set");
+    Ok(())
+}

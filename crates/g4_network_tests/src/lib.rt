@@ -1,0 +1,11 @@
+// Networks: their listing, the classes of their symbols, their checks, and the rewriting of left recursion.
+#![tactic(auto)]
+
+#[cfg(test)]
+mod classes;
+#[cfg(test)]
+mod left_recursion;
+#[cfg(test)]
+mod listings;
+#[cfg(test)]
+mod net_checks;

@@ -1,0 +1,255 @@
+// Word lists, and the commands that they are.
+use g4_words::{Command, MOST_FILES, Output, WordsFault, read_words};
+use std::alloc::{AllocError, Global};
+use std::fmt::Write;
+use std::test::Fail;
+
+/// The word lists of which each is a command, and this command: `events` is a `parse` that writes events. `_` is an empty word.
+const COMMANDS: [(&str, &str); 28] = [
+    ("parse -g G -s R a b c", "parse G R a b c"),
+    ("parse -s R -g G a", "parse G R a"),
+    ("parse a -g G b -s R c", "parse G R a b c"),
+    ("parse -gG.g4 -sR a", "parse G.g4 R a"),
+    ("parse -g=G.g4 -s=R a", "parse G.g4 R a"),
+    ("parse -gs -sg a", "parse s g a"),
+    ("parse -g G -s R -- -a -- -g", "parse G R -a -- -g"),
+    ("parse a -g G -s R -- --help", "parse G R a --help"),
+    ("parse -g G -s R a a", "parse G R a a"),
+    ("parse -g G -s R help check", "parse G R help check"),
+    ("parse -g check -s parse -", "parse check parse -"),
+    ("parse -g _ -s _ _ a", "parse _ _ _ a"),
+    ("parse -g=-g -s-s a", "parse -g -s a"),
+    ("parse -g G -s R --events a b", "events G R a b"),
+    ("parse a --events b -s R -g G", "events G R a b"),
+    (
+        "parse -g=--events -s--events a",
+        "parse --events --events a",
+    ),
+    (
+        "parse -g G -s R -- --events --events",
+        "parse G R --events --events",
+    ),
+    ("parse -g G -s R events", "parse G R events"),
+    ("check G", "check G"),
+    ("check _", "check _"),
+    ("check -- -G", "check -G"),
+    ("check help", "check help"),
+    ("atn G R", "atn G R"),
+    ("atn R G", "atn R G"),
+    ("atn -- -G -R", "atn -G -R"),
+    ("atn G -- -R", "atn G -R"),
+    ("atn _ _", "atn _ _"),
+    ("atn check help", "atn check help"),
+];
+
+/// The word lists that are no command.
+const OTHERS: [&str; 53] = [
+    "",
+    "_",
+    "G",
+    "parse",
+    "parse -g G -s R",
+    "parse -g G -s R --",
+    "parse -g G a",
+    "parse -s R a",
+    "parse G R a",
+    "parse a -g G -s",
+    "parse -g -s R a",
+    "parse -g -- -s R a",
+    "parse -g -G -s R a",
+    "parse -g G -g G -s R a",
+    "parse -g G -s R a -s R",
+    "parse -g G -s R -x a",
+    "parse -G G -s R a",
+    "parse --grammar G -s R a",
+    "parse -g G -s R a -h",
+    "parse -g G -s R a --help",
+    "parse -g G -s R --events a --events",
+    "parse -g G -s R --events",
+    "parse -g G -s R --events=true a",
+    "parse -g G -s R --event a",
+    "parse -g G -s R -e a",
+    "parse -g --events -s R a",
+    "-g G -s R parse a",
+    "--events parse -g G -s R a",
+    "g4 parse -g G -s R a",
+    "-- parse -g G -s R a",
+    "check",
+    "check G H",
+    "check -g G",
+    "check G -s R",
+    "check G --events",
+    "check G --help",
+    "check -G",
+    "atn",
+    "atn G",
+    "atn G --",
+    "atn G R S",
+    "atn -g G -s R",
+    "atn G -R",
+    "atn G R --events",
+    "atn G R --help",
+    "-- atn G R",
+    "chec G",
+    "Check G",
+    "Atn G R",
+    "help",
+    "help check",
+    "--help",
+    "--version",
+];
+
+fn word_of(alloc: Global, word: &str) -> Result<String, AllocError> {
+    String::from_str(alloc, if word == "_" { "" } else { word })
+}
+
+fn words_of(alloc: Global, line: &str) -> Result<Vec<String>, AllocError> {
+    let mut words = Vec::new(alloc);
+    for word in line.split_whitespace() {
+        words.push(word_of(alloc, word)?)?;
+    }
+    Ok(words)
+}
+
+fn push_word(shown: &mut String, word: &str) -> Result<(), AllocError> {
+    shown.push(' ')?;
+    shown.push_str(if word.is_empty() { "_" } else { word })
+}
+
+/// How a `parse` with this output is shown.
+fn parse_word(output: Output) -> &'static str {
+    match output {
+        Output::Trees => "parse",
+        Output::Events => "events",
+    }
+}
+
+fn shown(alloc: Global, command: &Command) -> Result<String, AllocError> {
+    match command {
+        Command::Parse(parse) => {
+            let mut shown = String::from_str(alloc, parse_word(parse.output))?;
+            push_word(&mut shown, parse.grammar.as_str())?;
+            push_word(&mut shown, parse.start.as_str())?;
+            for file in parse.files.as_slice() {
+                push_word(&mut shown, file.as_str())?;
+            }
+            Ok(shown)
+        }
+        Command::Check(check) => {
+            let mut shown = String::from_str(alloc, "check")?;
+            push_word(&mut shown, check.grammar.as_str())?;
+            Ok(shown)
+        }
+        Command::Atn(atn) => {
+            let mut shown = String::from_str(alloc, "atn")?;
+            push_word(&mut shown, atn.grammar.as_str())?;
+            push_word(&mut shown, atn.rule.as_str())?;
+            Ok(shown)
+        }
+    }
+}
+
+/// What the words of the line are.
+fn read(alloc: Global, line: &str) -> Result<String, AllocError> {
+    let words = words_of(alloc, line)?;
+    match read_words(alloc, &words) {
+        Ok(command) => shown(alloc, &command),
+        Err(WordsFault::Usage) => String::from_str(alloc, "usage"),
+        Err(WordsFault::NoMemory) => String::from_str(alloc, "no memory"),
+    }
+}
+
+fn push_row(wrong: &mut String, line: &str, found: &str) -> Result<(), AllocError> {
+    wrong.push_str(line)?;
+    wrong.push_str(" => ")?;
+    wrong.push_str(found)?;
+    wrong.push('\n')
+}
+
+/// The rows of commands that are read as something else.
+fn wrong_commands(alloc: Global) -> Result<String, AllocError> {
+    let mut wrong = String::new(alloc);
+    for (line, wanted) in COMMANDS {
+        let found = read(alloc, line)?;
+        if found.as_str() != wanted {
+            push_row(&mut wrong, line, found.as_str())?;
+        }
+    }
+    Ok(wrong)
+}
+
+/// The other rows that are read as something.
+fn wrong_others(alloc: Global) -> Result<String, AllocError> {
+    let mut wrong = String::new(alloc);
+    for line in OTHERS {
+        let found = read(alloc, line)?;
+        if found.as_str() != "usage" {
+            push_row(&mut wrong, line, found.as_str())?;
+        }
+    }
+    Ok(wrong)
+}
+
+#[test]
+fn reads_commands(rt: HostRuntime) -> Result<(), Fail> {
+    let wrong = wrong_commands(rt.alloc())?;
+    assert_eq!(rt; wrong.as_str(), "");
+    Ok(())
+}
+
+#[test]
+fn refuses_other_words(rt: HostRuntime) -> Result<(), Fail> {
+    let wrong = wrong_others(rt.alloc())?;
+    assert_eq!(rt; wrong.as_str(), "");
+    Ok(())
+}
+
+/// A command line with so many files, `f0`, `f1` and so on.
+fn line_of(alloc: Global, files: usize) -> Result<String, AllocError> {
+    let mut line = String::from_str(alloc, "parse -g G -s R")?;
+    for file in 0..files {
+        write!(line, " f{file}")?;
+    }
+    Ok(line)
+}
+
+#[test]
+fn reads_as_many_files_as_allowed(rt: HostRuntime) -> Result<(), Fail> {
+    let alloc = rt.alloc();
+    let most = read(alloc, line_of(alloc, MOST_FILES)?.as_str())?;
+    assert!(rt; most.as_str().starts_with("parse G R f0 f1 f2 "));
+    assert!(rt; most.as_str().ends_with(" f4094 f4095"));
+    assert_eq!(rt; most.as_str().split_whitespace().count(), 4_099);
+    let more = read(alloc, line_of(alloc, MOST_FILES + 1)?.as_str())?;
+    assert_eq!(rt; more.as_str(), "usage");
+    Ok(())
+}
+
+/// How long a long word is, in bytes.
+const LONG: usize = 1_000_000;
+
+fn long_word(alloc: Global) -> Result<String, AllocError> {
+    let mut word = String::new(alloc);
+    for _ in 0..LONG {
+        word.push('w')?;
+    }
+    Ok(word)
+}
+
+#[test]
+fn reads_long_words(rt: HostRuntime) -> Result<(), Fail> {
+    let alloc = rt.alloc();
+    let word = long_word(alloc)?;
+    let word = word.as_str();
+    let parse = format!(in alloc; "parse -g{word} -s {word} {word}")?;
+    let parse = read(alloc, parse.as_str())?;
+    let wanted = format!(in alloc; "parse {word} {word} {word}")?;
+    assert!(rt; parse == wanted);
+    let check = format!(in alloc; "check {word}")?;
+    let found = read(alloc, check.as_str())?;
+    assert!(rt; found == check);
+    let atn = format!(in alloc; "atn {word} {word}")?;
+    let found = read(alloc, atn.as_str())?;
+    assert!(rt; found == atn);
+    Ok(())
+}

@@ -1,0 +1,203 @@
+// Texts and their predicates, worked out by hand.
+use g4_base::Place;
+use g4_preds::{Node, Predicate, PredicateFault, Test};
+use std::alloc::{AllocError, Global};
+use std::fmt::Write;
+use std::test::Fail;
+
+const PLACE: Place = Place { line: 3, column: 7 };
+
+fn push_test(out: &mut String, test: &Test) -> Result<(), AllocError> {
+    match test {
+        Test::Constant(true) => out.push_str("true"),
+        Test::Constant(false) => out.push_str("false"),
+        Test::Flag(name) => write!(out, "flag:{}", name.as_str()),
+        Test::Inside(rule) => write!(out, "inside:{}", rule.as_str()),
+        Test::TextIs { nth, text } => {
+            write!(out, "text{nth}:")?;
+            for c in text.as_slice() {
+                out.push(*c)?;
+            }
+            Ok(())
+        }
+    }
+}
+
+/// The nodes of a predicate in postfix order.
+fn written(alloc: Global, nodes: &[Node]) -> Result<String, AllocError> {
+    let mut out = String::new(alloc);
+    for node in nodes {
+        match node {
+            Node::Operand(test) => push_test(&mut out, test)?,
+            Node::Not => out.push('!')?,
+            Node::And => out.push('&')?,
+            Node::Or => out.push('|')?,
+        }
+        out.push(' ')?;
+    }
+    Ok(out)
+}
+
+/// The nodes of the predicate that the text is, or why it is none.
+fn answer(alloc: Global, text: &str) -> Result<String, AllocError> {
+    match Predicate::read(alloc, text, PLACE) {
+        Ok(predicate) => written(alloc, predicate.nodes()),
+        Err(PredicateFault::Unknown(place)) => format!(in alloc;
+            "unknown {}:{}",
+            place.line, place.column
+        ),
+        Err(PredicateFault::NoMemory) => String::from_str(alloc, "no memory"),
+    }
+}
+
+const PREDICATES: &[(&str, &str)] = &[
+    ("true", "true "),
+    (" \t\nfalse ", "false "),
+    ("flag(a)", "flag:a "),
+    ("flag(true)", "flag:true "),
+    ("flag(flag)", "flag:flag "),
+    ("flag(é1_)", "flag:é1_ "),
+    ("inside ( r ) ", "inside:r "),
+    ("text(1)=='a\\n\\u0062\\''", "text1:a\nb' "),
+    ("text ( 8 ) == ' ' ", "text8:  "),
+    ("!flag(a)&&flag(b)", "flag:a ! flag:b & "),
+    ("!!true", "true ! ! "),
+    ("!(true && false)", "true false & ! "),
+    ("true||false&&flag(c)", "true false flag:c & | "),
+    ("true&&false||flag(c)", "true false & flag:c | "),
+    ("(true||false)&&flag(c)", "true false | flag:c & "),
+    ("true&&false&&flag(c)", "true false & flag:c & "),
+    ("true||false||!flag(c)", "true false | flag:c ! | "),
+    ("((true))", "true "),
+];
+
+const NO_PREDICATES: &[&str] = &[
+    "",
+    " ",
+    "flag",
+    "flag()",
+    "flag(1)",
+    "flag(_a)",
+    "flag(a b)",
+    "flag(a",
+    "flagx(a)",
+    "inside",
+    "true1",
+    "true_",
+    "True",
+    "name",
+    "text(0)=='a'",
+    "text(9)=='a'",
+    "text(12)=='a'",
+    "text()=='a'",
+    "text(1)",
+    "text(1)=='",
+    "text(1)==''",
+    "text(1)=='a",
+    "text(1)=='a\nb'",
+    "text(1)=='\\q'",
+    "text(1)='a'",
+    "text(1)= ='a'",
+    "'a'==text(1)",
+    "true|false",
+    "true&false",
+    "true& &false",
+    "true false",
+    "true&&",
+    "&&true",
+    "true||",
+    "true&&||false",
+    "()",
+    "(true",
+    "true)",
+    "!",
+    "true!",
+    "true\r",
+    "true /* */",
+    "true;",
+];
+
+#[test]
+fn predicates_are_read(rt: HostRuntime) -> Result<(), Fail> {
+    for (text, wanted) in PREDICATES {
+        let found = answer(rt.alloc(), text)?;
+        assert_eq!(rt; found.as_str(), *wanted, "at {text}");
+    }
+    Ok(())
+}
+
+#[test]
+fn other_texts_are_none(rt: HostRuntime) -> Result<(), Fail> {
+    for text in NO_PREDICATES {
+        let found = answer(rt.alloc(), text)?;
+        assert_eq!(rt; found.as_str(), "unknown 3:7", "at {text}");
+    }
+    Ok(())
+}
+
+/// How often the large texts repeat a part.
+const MANY: usize = 300_000;
+
+/// The first part many times, then the second, then the last many times.
+fn repeated(alloc: Global, first: &str, second: &str, last: &str) -> Result<String, AllocError> {
+    let mut text = String::new(alloc);
+    for _ in 0..MANY {
+        text.push_str(first)?;
+    }
+    text.push_str(second)?;
+    for _ in 0..MANY {
+        text.push_str(last)?;
+    }
+    Ok(text)
+}
+
+/// How many nodes the predicate has and how many rules it names, or why it is none.
+fn counts(alloc: Global, text: &str) -> Result<String, AllocError> {
+    match Predicate::read(alloc, text, PLACE) {
+        Ok(predicate) => {
+            let rules = predicate.rules_named(alloc)?;
+            let nodes = predicate.nodes().len();
+            format!(in alloc; "{nodes} {}", rules.len())
+        }
+        Err(PredicateFault::Unknown(_)) => String::from_str(alloc, "unknown"),
+        Err(PredicateFault::NoMemory) => String::from_str(alloc, "no memory"),
+    }
+}
+
+const LARGE: &[(&str, &str, &str, &str)] = &[
+    ("(", "true", ")", "1 0"),
+    ("(", "true", "", "unknown"),
+    ("!", "true", "", "300001 0"),
+    ("!(", "true", ")", "300001 0"),
+    ("inside(r)&&", "true", "", "600001 300000"),
+    ("inside(r)||", "true", "||inside(s)", "1200001 600000"),
+    ("!true&&(true||", "inside(r)", ")", "1500001 1"),
+    (" ", "flag(name", "", "unknown"),
+    ("", "text(1)=='a", "", "unknown"),
+];
+
+#[test]
+fn large_texts_are_read(rt: HostRuntime) -> Result<(), Fail> {
+    for (first, second, last, wanted) in LARGE {
+        let text = repeated(rt.alloc(), first, second, last)?;
+        let found = counts(rt.alloc(), text.as_str())?;
+        assert_eq!(rt; found.as_str(), *wanted, "at {first}{second}{last}");
+    }
+    Ok(())
+}
+
+#[test]
+fn rules_are_named_in_order(rt: HostRuntime) -> Result<(), Fail> {
+    let text = "inside(a) && (!inside(b) || flag(c)) || inside(a)";
+    let predicate = match Predicate::read(rt.alloc(), text, PLACE) {
+        Ok(predicate) => predicate,
+        Err(_) => return Err(Fail::from("no predicate")),
+    };
+    let rules = predicate.rules_named(rt.alloc())?;
+    let mut names = String::new(rt.alloc());
+    for rule in rules.as_slice() {
+        writeln!(names, "{}", rule.as_str())?;
+    }
+    assert_eq!(rt; names.as_str(), "a\nb\na\n");
+    Ok(())
+}
