@@ -1,5 +1,5 @@
 -- The parts of a network of rules.
-use Rattle.std.proofs.Common.{◌≡◌, ℕ, suc, ◌+◌, ◌*◌, ◌<◌, ◌≤◌, inl, inr, List, [], ◌∷◌, ◌++◌, length, map, true, refl, sym, ◌∙◌, ap, subst, arith, slice_get, Some, None, sum_by}
+use Rattle.std.proofs.Common.{◌≡◌, ℕ, suc, ◌+◌, ◌*◌, ◌<◌, ◌≤◌, List, [], ◌∷◌, ◌++◌, length, map, true, refl, sym, ◌∙◌, ap, subst, arith, slice_get, Some, None, sum_by}
 use Rattle.std.proofs.Math.ListN.{set as put}
 use Rattle.std.proofs.lemmas.List.{length-append, length-set, length-map}
 use Rattle.std.proofs.lemmas.List.Sums.{sum_by-cons}
@@ -14,47 +14,22 @@ use Rattle.g4_grammar.specs.declared.step.Step.{Step}
 use Rattle.g4_grammar.specs.declared.step.Step.TheVariants as steps
 use Rattle.g4_grammar.specs.Steps.{any_number, added_rule}
 use Rattle.g4_grammar.specs.StepRules.{StepRule}
-use Rattle.g4_net.specs.declared.network.Network.{Network}
 use Rattle.g4_net.specs.declared.network.State.{State}
 use Rattle.g4_net.specs.declared.network.State.TheVariants.{Decision, End, Edge, Call, Empty}
 use Rattle.g4_net.specs.Network.{ParserNetwork, state_at, end_of}
 use Rattle.g4_layout.specs.Callers.{callers_of}
 use Rattle.g4_layout.specs.Layout as lay
 use Rattle.g4_layout.specs.Layout.{Lies, LieInOrder, LieSideBySide, LiesAsRule, IsNetworkOf, RulesLie}
-use Rattle.g4_layout.specs.Numbers.{AreNumbered, NumberingsFit, added_numbering}
+use Rattle.g4_layout.specs.Numbers.{NumberingsFit, added_numbering}
 use Rattle.g4_layout.specs.Rules.{state_count}
 use Rattle.g4_layout.specs.Size.{states_of_rule}
-use Rattle.g4_build.specs.Rules.{AreFullTrees, HasHeads, IsDrawn, added_states, HaveLaid, ends_from}
-use Rattle.g4_build.specs.Numberings.{AllAreWritten, CanAllBeNumbered, HaveNumbers}
-use Rattle.g4_build.proofs.Lists.{get_set_same, get_set_other, get_left, get_right, same_or_not, length_pushed}
-use Rattle.g4_build.proofs.Starts.{can_all}
-
--- no heads
-pub no_heads : (L : Type 0) → HasHeads {L = L} 0 []
-no_heads L = record {
-  size = refl;
-  ends = λ j less. absurd (omega arith);
-}
-
--- the heads of one rule more
-pub more_heads : {L : Type 0} (count : ℕ) (old mid new : List (State L)) → HasHeads count old → mid ≡ old ++ Empty 0 ∷ [] → new ≡ mid ++ End count ∷ [] → HasHeads (count + 1) new
-more_heads {L} count old mid new so_far first second =
-    let a : length mid ≡ length old + 1 = length_pushed mid old (Empty 0) first in
-    let b : length new ≡ length mid + 1 = length_pushed new mid (End count) second in
-    let size : length old ≡ 2 * count = so_far.size in
-    record {
-      size = omega arith;
-      ends = λ j less. elim (same_or_not j count) [
-        | inl e ↦ at new second (end_of j) ∙ (get_right mid (End count ∷ []) (end_of j) 0 (omega arith) ∙ ap (λ (k : ℕ). Some (end_at k)) (sym e))
-        | inr ne ↦ let low : j < count = omega arith in at new second (end_of j) ∙ (get_left mid (End count ∷ []) (end_of j) (omega arith) ∙ (at mid first (end_of j) ∙ (get_left old (Empty 0 ∷ []) (end_of j) (omega arith) ∙ so_far.ends j low)))
-      ];
-    }
-  where
-    end_at : ℕ → State L
-    end_at k = End k
-
-    at : (xs : List (State L)) {ys : List (State L)} → xs ≡ ys → (q : ℕ) → slice_get xs q ≡ slice_get ys q
-    at xs e q = ap (λ (zs : List (State L)). slice_get zs q) e
+use Rattle.g4_draft.specs.Rules.{AreFullTrees, HasHeads, HaveLaid, ends_from}
+use Rattle.g4_draft.specs.Numberings.{CanAllBeNumbered, HaveNumbers}
+use Rattle.g4_draft.proofs.Lists.{get_set_same, get_set_other, get_left, get_right}
+use Rattle.g4_draft.proofs.Numbered.{same_ends}
+use Rattle.g4_draft.proofs.Starts.{can_all}
+use Rattle.g4_build.specs.Numberings.{AllAreWritten}
+use Rattle.g4_build.specs.Rules.{IsDrawn, added_states}
 
 -- `*` of the added rule
 abbrev greedy : Suffix
@@ -92,7 +67,7 @@ added_lies net set start n calls turns takes again leaves last =
 record HasMade (set : List ℕ) (rules : List StepRule) (start : ℕ) (s0 s1 s2 : List (State (List ℕ))) : Type 0 where
   heads : HasHeads (length rules + 1) s0
   added : s1 ≡ put s0 0 (Call start 0 (length s0)) ++ added_states set (length s0)
-  laid : HaveLaid s1 s2 (length rules + 1) (map alternatives_of rules) []
+  laid : HaveLaid 1 s1 s2 (1 + length rules) (map alternatives_of rules) []
 
 -- how many states there are before the rules are laid
 made_size : (set : List ℕ) (rules : List StepRule) (start : ℕ) (s0 s1 s2 : List (State (List ℕ))) → HasMade set rules start s0 s1 s2 → (length s0 ≡ 2 * length rules + 2) × (length s1 ≡ length s0 + 5)
@@ -148,17 +123,8 @@ sum_of_map (r ∷ rules) =
     let b = sum_by-cons (λ (rule : StepRule). states_of_rule (alternatives_of rule)) r rules in
     omega (arith, sum_of_map rules)
 
--- the ends of rules, by how many states these have
-pub same_ends : {L : Type 0} (net : Network L) (rule n : ℕ) (ends : List ℕ) (rules : List (Alternatives (Step L))) (numberings : List Numbering) → ends ≡ ends_from n rules → HaveNumbers net rule n ends numberings → AreNumbered net rule n rules numberings
-same_ends net rule n ends [] [] is h = tt
-same_ends net rule n ends [] (numbering ∷ others) is h = subst (λ (ms : List ℕ). HaveNumbers net rule n ms (numbering ∷ others)) is h
-same_ends net rule n ends (xs ∷ more) [] is h = subst (λ (ms : List ℕ). HaveNumbers net rule n ms []) is h
-same_ends net rule n ends (xs ∷ more) (numbering ∷ others) is h =
-    let known = subst (λ (ms : List ℕ). HaveNumbers net rule n ms (numbering ∷ others)) is h in
-    (known.0, same_ends net (rule + 1) (n + states_of_rule xs) (ends_from (n + states_of_rule xs) more) more others refl known.1)
-
 module _ (set : List ℕ) (rules : List StepRule) (numberings : List Numbering) (start : ℕ) (s0 s1 s2 : List (State (List ℕ))) (heads : HasHeads (length rules + 1) s0)
-    (added : s1 ≡ put s0 0 (Call start 0 (length s0)) ++ added_states set (length s0)) (laid : HaveLaid s1 s2 (length rules + 1) (map alternatives_of rules) []) (fit : NumberingsFit (map alternatives_of rules) numberings) where
+    (added : s1 ≡ put s0 0 (Call start 0 (length s0)) ++ added_states set (length s0)) (laid : HaveLaid 1 s1 s2 (1 + length rules) (map alternatives_of rules) []) (fit : NumberingsFit (map alternatives_of rules) numberings) where
   -- what is made
   made : HasMade set rules start s0 s1 s2
   made = record { heads = heads; added = added; laid = laid }
@@ -181,7 +147,7 @@ module _ (set : List ℕ) (rules : List StepRule) (numberings : List Numbering) 
       added_lies net set start n (there 0 ∙ at_call set rules start s0 s1 s2 made) (there n ∙ at n 0 (omega arith) (omega arith)) (there (n + 1) ∙ at (n + 1) 1 refl (omega arith))
       (there (n + 2) ∙ at (n + 2) 2 refl (omega arith)) (there (n + 3) ∙ at (n + 3) 3 refl (omega arith)) (there (n + 4) ∙ at (n + 4) 4 refl (omega arith)) in
       let rest : RulesLie net 1 (map alternatives_of rules) (length s1) (length s2) =
-      laid.lie net (λ p place less. there p) (λ j low high. there (end_of j) ∙ at_heads set rules start s0 s1 s2 made j (omega arith)) (length s2) (lay.no_rule (length rules + 1) (length s2)) in
+      laid.lie net (λ p place less. there p) (λ j low high. there (end_of j) ∙ at_heads set rules start s0 s1 s2 made j (omega arith)) (length s2) (lay.no_rule (1 + length rules) (length s2)) in
       let all : RulesLie net 0 all_trees n (length s2) =
       lay.a_rule 0 n (n + 5) (length s2) (added_rule set start) (map alternatives_of rules) first (there 1 ∙ at_heads set rules start s0 s1 s2 made 0 (omega arith))
       (subst (λ (m : ℕ). RulesLie net 1 (map alternatives_of rules) m (length s2)) sizes.1 rest) in

@@ -1,14 +1,4 @@
-pub mod Trees
-pub mod Counts
-pub mod Apart
-pub mod Lists
-pub mod Drafts
-pub mod Runs
-pub mod Weights
-pub mod RulesLaid
-pub mod Numbered
-pub mod Starts
-pub mod Returns
+pub mod Written
 pub mod Drawn
 pub mod Widths
 pub mod Named

@@ -2,28 +2,10 @@
 use Rattle.std.specs.Prelude.{ℕ, ◌+◌, ◌*◌, List, length, map, sum_by}
 use Rattle.g4_elements.specs.Elements.{Alternatives, either}
 use Rattle.g4_source.specs.declared.atom.Atom.{Atom}
-use Rattle.g4_source.specs.declared.atom.AtomKind.{AtomKind}
-use Rattle.g4_source.specs.declared.atom.AtomKind.TheVariants.{Rule, Token, Literal, Range, Set, Any, NotTokens, NotCharacters, Action, Predicate}
 use Rattle.g4_source.specs.declared.rule.LexerAlternative.{LexerAlternative}
 use Rattle.g4_grammar.specs.declared.numbered.TokenRule.{TokenRule}
 use Rattle.g4_layout.specs.Size.{states_of_rule_by}
-
--- a literal makes a state for each of its characters, any other atom one
-abbrev pub states_of_kind : AtomKind → ℕ
-states_of_kind (Rule name) = 1
-states_of_kind (Token name) = 1
-states_of_kind (Literal literal) = length literal.characters
-states_of_kind (Range place first last) = 1
-states_of_kind (Set set) = 1
-states_of_kind (Any place) = 1
-states_of_kind (NotTokens place tokens) = 1
-states_of_kind (NotCharacters place set) = 1
-states_of_kind Action = 1
-states_of_kind (Predicate name) = 1
-
--- the states of an atom
-abbrev pub states_of_atom : Atom → ℕ
-states_of_atom atom = states_of_kind atom.kind
+use Rattle.g4_draft.specs.AtomSizes.{states_of_atom}
 
 -- the alternatives of a lexer rule, commands aside
 abbrev pub lexer_bodies : List LexerAlternative → Alternatives Atom

@@ -8,9 +8,9 @@ ghost use Rattle.g4_layout.specs.Numbers.{NumberingsFit};
 ghost use Rattle.g4_layout.specs.Rules.{state_count};
 ghost use Rattle.g4_build.specs.Answers.{GivesNetwork};
 
-use crate::count::past_rules;
 use crate::drawing::draw;
 use crate::width::some_rule_is_wide;
+use g4_draft::past_rules;
 use g4_grammar::{Numbering, StepRule};
 use g4_net::{MOST_STATES, ParserNetwork};
 use g4_symbols::{EOF, Symbols};

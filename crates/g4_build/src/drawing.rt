@@ -5,29 +5,16 @@ ghost use Rattle.g4_source.specs.Rules.{alternatives_of};
 ghost use Rattle.g4_net.specs.declared.network.State.TheVariants.{Call};
 ghost use Rattle.g4_layout.specs.Numbers.{NumberingsFit};
 ghost use Rattle.g4_layout.specs.Rules.{state_count};
-ghost use Rattle.g4_build.specs.Rules.{HasHeads, IsDrawn, added_states};
+ghost use Rattle.g4_build.specs.Rules.{IsDrawn, added_states};
 ghost use Rattle.g4_net.specs.declared.network.TheConstants.{MOST_STATES};
 
-use crate::callers::callers;
 use crate::numbering::numbers;
-use crate::rule::lay_rules;
 use g4_base::Sequence;
+use g4_draft::{callers, heads, lay_rules};
 use g4_grammar::{Numbering, StepRule};
 use g4_net::{Network, ParserNetwork, State};
 use g4_symbols::{END, Symbols};
 use std::alloc::{AllocError, Global};
-
-/// The starts and ends of so many rules.
-fn heads<L: Drop>(alloc: Global, count: u32) -> Result<Vec<State<L>>, AllocError>
-    ensures { IfOk result (λ states. HasHeads count states.items) }
-{
-    let mut states = Vec::new(alloc);
-    for rule in 0..count {
-        states.push(State::Empty(0))?;
-        states.push(State::End(rule))?;
-    }
-    Ok(states)
-}
 
 /// Adds the states of the added rule, which calls this one and whose loop takes the symbols of the set.
 fn add_start(
@@ -76,7 +63,7 @@ pub fn draw(
     let count = rules.len() as u32 + 1;
     let mut states = heads(alloc, count)?;
     add_start(alloc, &mut states, set, start)?;
-    let ends = lay_rules(alloc, &mut states, rules)?;
+    let ends = lay_rules(alloc, &mut states, 1, rules)?;
     let callers = callers(alloc, states.as_slice(), count)?;
     let written = numbers(alloc, states.as_slice(), ends.as_slice(), numberings)?;
     Ok(Network {

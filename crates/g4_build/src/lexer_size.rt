@@ -2,7 +2,7 @@
 ghost use Rattle.std.specs.Prelude.{◌≤◌, ◌↔◌, IsTrue};
 ghost use Rattle.g4_build.specs.LexerSize.{lexer_state_count};
 
-use crate::count::past_token_rules;
+use g4_draft::past_rules;
 use g4_grammar::TokenRule;
 use g4_net::MOST_STATES;
 
@@ -13,5 +13,5 @@ pub fn lexer_network_fits(rules: &[TokenRule]) -> bool
     if rules.len() > MOST_STATES / 2 {
         return false;
     }
-    past_token_rules(MOST_STATES - 2 * rules.len(), rules).is_some()
+    past_rules(MOST_STATES - 2 * rules.len(), rules).is_some()
 }

@@ -1,5 +1,5 @@
 -- Two networks of the same rules are the same.
-use Rattle.std.proofs.Common.{◌≡◌, ℕ, zero, suc, ◌+◌, ◌*◌, ◌<◌, ◌≤◌, ◌⊎◌, inl, inr, List, [], ◌∷◌, length, Option, Some, refl, sym, ◌∙◌, ap, subst, arith, get_or, slice_get}
+use Rattle.std.proofs.Common.{◌≡◌, ℕ, ◌+◌, ◌*◌, ◌<◌, ◌≤◌, inl, inr, List, ◌∷◌, length, Some, refl, sym, ◌∙◌, ap, subst, arith, get_or, slice_get}
 use native.Mathlib.Decide.{dec_lt}
 use Rattle.std.proofs.lemmas.Grind.{same_number_lists}
 use Rattle.std.proofs.lemmas.List.{same_lists, length-map}
@@ -11,8 +11,8 @@ use Rattle.g4_grammar.specs.declared.step.Step.{Step}
 use Rattle.g4_grammar.specs.StepRules.{StepRule}
 use Rattle.g4_net.specs.declared.network.Network.{Network}
 use Rattle.g4_net.specs.declared.network.State.{State}
-use Rattle.g4_net.specs.declared.network.State.TheVariants.{Decision, Empty}
-use Rattle.g4_net.specs.Network.{ParserNetwork, state_at, start_of, end_of, written_at}
+use Rattle.g4_net.specs.declared.network.State.TheVariants.{Empty}
+use Rattle.g4_net.specs.Network.{ParserNetwork, state_at, start_of, end_of}
 use Rattle.g4_layout.specs.Built.{IsBuilt}
 use Rattle.g4_layout.specs.Callers.{callers_of}
 use Rattle.g4_layout.specs.Layout as lay

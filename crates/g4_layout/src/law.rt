@@ -11,6 +11,7 @@ ghost use Rattle.g4_grammar.specs.declared.step.Step.{Step};
 ghost use Rattle.g4_layout.specs.Built.{IsBuilt};
 ghost use Rattle.g4_layout.specs.Callers.{callers_of};
 ghost use Rattle.g4_layout.specs.Layout.{IsNetworkOf};
+ghost use Rattle.g4_layout.specs.Numbered.{IsNumberedNetworkOf};
 ghost use Rattle.g4_layout.specs.Rules.{rule_number, rules_of};
 ghost use Rattle.g4_net.specs.AddedRule.{IsRunnable};
 ghost use Rattle.g4_net.specs.Configurations.{above_bottom, config};
@@ -50,4 +51,9 @@ pub fn callers_are_returns<L>()
 /// A set, rules with their numberings and a start rule have at most one network.
 pub fn one_network()
     ensures { (set : List ℕ) (rules : List StepRule) (numberings : List Numbering) (start : List ℕ) (a b : ParserNetwork) → IsBuilt set rules numberings start a → IsBuilt set rules numberings start b → a ≡ b }
+{}
+
+/// Rules with their numberings have at most one network, whatever its labels are.
+pub fn one_numbered_network<L>()
+    ensures { (rules : List (Alternatives (Step L))) (numberings : List Numbering) (a b : Network L) → IsNumberedNetworkOf rules numberings a → IsNumberedNetworkOf rules numberings b → a ≡ b }
 {}

@@ -5,7 +5,7 @@ use Rattle.g4_elements.specs.Trees.{alternative_of}
 use Rattle.g4_grammar.specs.declared.step.Step.{Step}
 use Rattle.g4_grammar.specs.declared.step.Step.TheVariants.{Edge}
 use Rattle.g4_build.specs.Samples.{AreSymbols}
-use Rattle.g4_build.proofs.Lists.{length_pushed}
+use Rattle.g4_draft.proofs.Lists.{length_pushed}
 use Rattle.g4_build.proofs.Samples.{push_symbol, one_symbol}
 use Rattle.g4_build.proofs.tests.symbols.Goals as goal
 

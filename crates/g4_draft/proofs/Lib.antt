@@ -1,0 +1,11 @@
+pub mod Trees
+pub mod Counts
+pub mod Apart
+pub mod Lists
+pub mod Drafts
+pub mod Runs
+pub mod Weights
+pub mod RulesLaid
+pub mod Numbered
+pub mod Starts
+pub mod Returns

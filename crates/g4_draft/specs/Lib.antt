@@ -1,0 +1,5 @@
+pub mod AtomSizes
+pub mod Drafts
+pub mod Numberings
+pub mod Rules
+pub mod Trees
