@@ -1,0 +1,12 @@
+mod Sets
+mod Lists
+mod Chains
+mod Starts
+mod Drawn
+mod Trees
+mod CanStart
+mod Laws
+mod Matches
+mod Carry
+mod Emptied
+mod Lexed

@@ -1,0 +1,5 @@
+pub mod Lexable
+pub mod LexNets
+pub mod Rules
+pub mod Starts
+pub mod Steps
