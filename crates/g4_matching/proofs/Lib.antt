@@ -1,0 +1,14 @@
+mod Lookups
+mod Stores
+mod Numbering
+mod Indexed
+mod Same
+mod Known
+mod Backwards
+mod Totals
+mod Spreading
+mod Ended
+mod Taking
+mod Kept
+mod Matched
+mod Telling
