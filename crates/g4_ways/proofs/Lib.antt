@@ -1,1 +1,2 @@
+mod Exactly
 pub mod Ends

@@ -18,5 +18,5 @@ returns-then-are_among c =
     let ends : IsTrue c.ends_at_once.result = search rules in
     let yes : IsTrue c.are_among.result = search rules in
     let all : All (IsAmong c.in_ok-bare.bare c.args.states.now) c.in_ok-shown.shown.items = subst (All (IsAmong c.in_ok-bare.bare c.args.states.now)) same (c.are_among.ensures yes) in
-    let passed = all_passed c.args.net.now c.bottom.new.self c.args.symbol c.in_ok-bare.bare c.in_ok-groups.groups.items c.in_ok-shown.shown.items c.in_ok-groups.ensures is c.in_ok-bare.ensures.means c.args.top c.args.states.now (c.ends_at_once.ensures ends) all in
+    let passed = all_passed c.args.net.now c.bottom.new.self c.args.symbol c.in_ok-bare.bare c.in_ok-groups.groups.items c.in_ok-shown.shown.items c.in_ok-groups.ensures is c.in_ok-bare.ensures.means c.args.top c.args.states.now (c.ends_at_once.ensures.ends ends) all in
     (passed.0, λ d s. passed.1 d ((c.in_ok-bare.ensures.same d).1 s.0, s.1))
