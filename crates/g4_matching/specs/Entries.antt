@@ -1,5 +1,5 @@
 -- What entries are, given the lists of return states.
-use Rattle.std.specs.Prelude.{◌≡◌, ℕ, ◌<◌, List, [], Some, length, map, reverse, slice_index_or}
+use Rattle.std.specs.Prelude.{◌≡◌, ℕ, ◌<◌, List, [], Some, length, map, reverse, slice_index_or, Option, None, ◌∷◌}
 use Rattle.g4_chars.specs.declared.range.Range.{Range}
 use Rattle.g4_chars.specs.CharSets.{Has}
 use Rattle.g4_net.specs.declared.network.State.TheVariants.{Edge}
@@ -37,6 +37,11 @@ AreKnown lists es = (e : Entry) → In e es → IsKnown lists e
 -- the same entry at another state
 abbrev pub placed : Entry → ℕ → Entry
 placed e t = record e { state = t }
+
+-- the entry at this state, if there is one
+abbrev pub moved_to : Entry → Option ℕ → List Entry
+moved_to e None = []
+moved_to e (Some t) = placed e t ∷ []
 
 -- an edge of the state takes the character, and leads to t
 abbrev pub Takes : LexerNetwork → ℕ → ℕ → ℕ → Type 0

@@ -1,10 +1,11 @@
 // Entries that wait, and what they lead to without a character.
 ghost use Rattle.std.specs.Prelude.{◌≡◌, ◌<◌, [], ◌∷◌, ◌++◌, ◌||◌, ℕ, OnOk, Some, MatchOption, length, map, reverse};
-ghost use Rattle.g4_net.specs.Network.{state_at};
+ghost use Rattle.g4_net.specs.Network.{start_of, state_at};
+ghost use Rattle.g4_ordered.specs.Configurations.{at, at_with, through};
 ghost use Rattle.g4_ordered.specs.Leads.{leads, leads_by, leads_past, returned};
 ghost use Rattle.g4_ordered.specs.Lists.{ReadAll};
 ghost use Rattle.g4_ordered.specs.Network.{is_reluctant};
-ghost use Rattle.g4_matching.specs.Entries.{AreKnown, IsKnown, Takes, config_of, configs_of, placed, starts_of, stacked};
+ghost use Rattle.g4_matching.specs.Entries.{AreKnown, IsKnown, Takes, config_of, configs_of, moved_to, placed, starts_of, stacked};
 ghost use Rattle.g4_matching.specs.Waiting.{Adds};
 
 use crate::entry::Entry;
@@ -70,6 +71,20 @@ fn read_to(net: &LexerNetwork, state: usize, character: char) -> Option<usize>
     }
 }
 
+/// Puts the entry at the state on top, if there is one.
+fn push_moved(
+    entries: &mut Vec<Entry>,
+    entry: &Entry,
+    target: Option<usize>,
+) -> Result<(), AllocError>
+    ensures { OnOk result (entries.new.items ≡ entries.old.items ++ moved_to entry.now target) }
+{
+    if let Some(state) = target {
+        entries.push(Entry { state, ..*entry })?;
+    }
+    Ok(())
+}
+
 impl Waiting {
     /// No entries.
     pub fn new(alloc: Global) -> Waiting
@@ -120,6 +135,43 @@ impl Waiting {
         }
     }
 
+    /// Puts the targets of a decision on top.
+    fn push_through(&mut self, from: Entry, targets: &[u32]) -> Result<(), AllocError>
+        requires known { IsKnown self.old.returns from }
+        requires waiting { AreKnown self.old.returns self.old.entries.items }
+        ensures { OnOk result (Adds self.old self.new (map (through (is_reluctant targets.now) (config_of self.old.returns from)) targets.now)) }
+    {
+        let passed = passes(targets, from.passed);
+        push_each(&mut self.entries, Entry { passed, ..from }, targets)?;
+        Ok(())
+    }
+
+    /// Puts the start of a rule that is called on top.
+    fn push_called(&mut self, from: Entry, rule: u32, back: u32) -> Result<(), AllocError>
+        requires known { IsKnown self.old.returns from }
+        requires waiting { AreKnown self.old.returns self.old.entries.items }
+        ensures { OnOk result (let c = config_of self.old.returns from in Adds self.old self.new (at_with c (start_of rule) (back ∷ c.returns) ∷ [])) }
+    {
+        let returns = self.returns.push(back, from.returns)?;
+        let state = 2 * rule as usize;
+        self.entries.push(Entry {
+            state,
+            returns,
+            ..from
+        })?;
+        Ok(())
+    }
+
+    /// Puts the target of an empty edge on top.
+    fn push_empty(&mut self, from: Entry, target: u32) -> Result<(), AllocError>
+        requires known { IsKnown self.old.returns from }
+        requires waiting { AreKnown self.old.returns self.old.entries.items }
+        ensures { OnOk result (Adds self.old self.new (at (config_of self.old.returns from) target ∷ [])) }
+    {
+        push_each(&mut self.entries, from, &[target])?;
+        Ok(())
+    }
+
     /// Puts on top where the edges of a state lead without a character.
     fn push_by(&mut self, last: bool, state: &State<Reads>, from: Entry) -> Result<(), AllocError>
         requires known { IsKnown self.old.returns from }
@@ -127,49 +179,14 @@ impl Waiting {
         ensures { OnOk result (Adds self.old self.new (leads_by last (Some state.now) (config_of self.old.returns from))) }
     {
         match state {
-            State::Decision(targets) => {
-                let passed = passes(targets.as_slice(), from.passed);
-                push_each(
-                    &mut self.entries,
-                    Entry { passed, ..from },
-                    targets.as_slice(),
-                )?;
-                Ok(())
-            }
-            State::End(_) => {
-                self.push_returned(from)?;
-                Ok(())
-            }
-            State::Edge(label, target) => {
-                self.push_past(last, label, from, *target)?;
-                Ok(())
-            }
-            State::Call { rule, back, .. } => {
-                let returns = self.returns.push(*back, from.returns)?;
-                let state = 2 * *rule as usize;
-                self.entries.push(Entry {
-                    state,
-                    returns,
-                    ..from
-                })?;
-                Ok(())
-            }
-            State::Predicate(_, target) => {
-                push_each(&mut self.entries, from, &[*target])?;
-                Ok(())
-            }
-            State::Level(_, target) => {
-                push_each(&mut self.entries, from, &[*target])?;
-                Ok(())
-            }
-            State::Action(target) => {
-                push_each(&mut self.entries, from, &[*target])?;
-                Ok(())
-            }
-            State::Empty(target) => {
-                push_each(&mut self.entries, from, &[*target])?;
-                Ok(())
-            }
+            State::Decision(targets) => self.push_through(from, targets.as_slice()),
+            State::End(_) => self.push_returned(from),
+            State::Edge(label, target) => self.push_past(last, label, from, *target),
+            State::Call { rule, back, .. } => self.push_called(from, *rule, *back),
+            State::Predicate(_, target) => self.push_empty(from, *target),
+            State::Level(_, target) => self.push_empty(from, *target),
+            State::Action(target) => self.push_empty(from, *target),
+            State::Empty(target) => self.push_empty(from, *target),
         }
     }
 
@@ -226,9 +243,8 @@ impl Waiting {
     {
         self.entries.clear();
         for entry in list.iter().rev() {
-            if let Some(state) = read_to(net, entry.state, character) {
-                self.entries.push(Entry { state, ..*entry })?;
-            }
+            let target = read_to(net, entry.state, character);
+            push_moved(&mut self.entries, entry, target)?;
         }
         Ok(())
     }
