@@ -6,6 +6,9 @@ mod Bounding
 mod Missing
 mod Stepping
 mod Taking
+mod Ways
+mod Following
+mod Remaining
 mod Firsts
 mod Keeping
 mod Reversed

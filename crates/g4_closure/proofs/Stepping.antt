@@ -39,7 +39,7 @@ some_placed g alt node [] d i = absurd i
 some_placed g alt node (t ∷ ts) d (inl i) = (t, inl refl, i)
 some_placed g alt node (t ∷ ts) d (inr i) = let r = some_placed g alt node ts d i in (r.0, inr r.1, r.2)
 
-placed_some : (g : List Content) (alt node : ℕ) (ts : List ℕ) (d : Config) (t : ℕ) → In t ts → InGroup g (placed alt node t) d → InSome g (map (placed alt node) ts) d
+pub placed_some : (g : List Content) (alt node : ℕ) (ts : List ℕ) (d : Config) (t : ℕ) → In t ts → InGroup g (placed alt node t) d → InSome g (map (placed alt node) ts) d
 placed_some g alt node [] d t j i = absurd j
 placed_some g alt node (u ∷ ts) d t (inl e) i = inl (subst (λ (v : ℕ). InGroup g (placed alt node v) d) e i)
 placed_some g alt node (u ∷ ts) d t (inr j) i = inr (placed_some g alt node ts d t j i)
@@ -84,7 +84,7 @@ some_popped g alt [] d i = absurd i
 some_popped g alt (e ∷ es) d (inl i) = (e.0, e.1, inl refl, i)
 some_popped g alt (e ∷ es) d (inr i) = let r = some_popped g alt es d i in (r.0, r.1, inr r.2, r.3)
 
-popped_some : (g : List Content) (alt : ℕ) (tops : List (ℕ × ℕ)) (d : Config) (e : ℕ × ℕ) → graphs.In e tops → InGroup g (popped_to alt e) d → InSome g (map (popped_to alt) tops) d
+pub popped_some : (g : List Content) (alt : ℕ) (tops : List (ℕ × ℕ)) (d : Config) (e : ℕ × ℕ) → graphs.In e tops → InGroup g (popped_to alt e) d → InSome g (map (popped_to alt) tops) d
 popped_some g alt [] d e j i = absurd j
 popped_some g alt (f ∷ es) d e (inl is) i = inl (subst (λ (y : ℕ × ℕ). InGroup g (popped_to alt y) d) is i)
 popped_some g alt (f ∷ es) d e (inr j) i = inr (popped_some g alt es d e j i)
@@ -103,7 +103,7 @@ listed_exact net rule well None is t = ((λ i. absurd (omega (arith, i.1))), λ 
 
 module _ (net : ParserNetwork) (well : WellFormed net) (rule : ℕ) (g : List Content) (x : Group) (tops : List (ℕ × ℕ)) (has : HasTops g x.stacks tops) where
   -- what is popped of stacks with return states
-  popped_to_returns : (d : Config) → InSome g (map (popped_to x.alternative) tops) d → ReturnedFrom net rule (InGroup g x) d
+  pub popped_to_returns : (d : Config) → InSome g (map (popped_to x.alternative) tops) d → ReturnedFrom net rule (InGroup g x) d
   popped_to_returns d i =
       let r = some_popped g x.alternative tops d i in
       let held : HasOf g x.stacks (r.0 ∷ d.stack.returns) d.stack.wild = (has.rests r.0 r.1 r.2 (record { returns = d.stack.returns; wild = d.stack.wild })).0 r.3.stack in (

@@ -70,7 +70,7 @@ fn push_popped(
 }
 
 /// The return states listed of the calls of a rule.
-fn callers_of(net: &ParserNetwork, rule: u32) -> &[u32]
+pub(crate) fn callers_of(net: &ParserNetwork, rule: u32) -> &[u32]
     ensures { result.now ≡ listed_by (slice_get net.now.callers rule) }
 {
     match net.callers.as_slice().get(rule as usize) {

@@ -17,7 +17,7 @@ use g4_symbols::Symbols;
 use std::alloc::{AllocError, Global};
 
 /// The kept configurations that the groups lead to, the set being empty.
-fn rest(
+pub(crate) fn rest(
     alloc: Global,
     net: &ParserNetwork,
     mut set: Configs,
@@ -106,7 +106,7 @@ fn push_moved(found: &mut Vec<Group>, group: &Group, target: Option<u32>) -> Res
 }
 
 /// Where the edges that take the symbol lead from these groups.
-fn targets(
+pub(crate) fn targets(
     alloc: Global,
     net: &ParserNetwork,
     groups: &[Group],

@@ -1,12 +1,12 @@
 -- What SLL's loops over the tokens keep.
-use Rattle.std.proofs.Common.{◌≡◌, ℕ, ◌+◌, ◌<◌, List, [], ◌∷◌, ◌++◌, Option, Some, None, map, drop, length, get_or, append_assoc, refl, sym, ap, ◌∙◌, subst, add-one, Contains}
+use Rattle.std.proofs.Common.{◌≡◌, ℕ, ◌+◌, ◌<◌, List, [], ◌∷◌, ◌++◌, map, drop, length, get_or, append_assoc, refl, sym, ap, ◌∙◌, subst, add-one, Contains}
 use Rattle.std.proofs.lemmas.List.{map-append}
 use Rattle.g4_symbols.specs.Symbols.{end_of_list}
 use Rattle.g4_net.specs.Network.{ParserNetwork}
 use Rattle.g4_token_list.specs.declared.token.Token.{Token}
 use Rattle.g4_net.specs.AddedRule.{IsReady}
 use Rattle.g4_net.specs.Configurations.{Config, wildcard, IsRow}
-use Rattle.g4_net.specs.Lookahead.{Start}
+use Rattle.g4_net.specs.Lookahead.{Next, Start}
 use Rattle.g4_net.specs.Prediction.{Any, Verdict, Looked, SllFrom, Sll}
 use Rattle.g4_token_list.specs.TokenList.{word_of}
 use Rattle.g4_lookahead.proofs.Judging.{AreSame, row_of_set, sll_same}
@@ -15,9 +15,8 @@ use Rattle.g4_lookahead.proofs.Settling.{settled_sll}
 use Rattle.g4_path.specs.declared.path.Looked as code
 use Rattle.g4_path.specs.declared.verdict.Verdict as said
 use Rattle.g4_path.specs.Paths.{looked_of, verdict_of}
-use Rattle.g4_sll.specs.Verdicts.{EndsWith, IsLookedAt, IsStartSet}
+use Rattle.g4_sll.specs.Verdicts.{EndsWith, IsOnward, IsStartSet}
 use Rattle.g4_sll.proofs.Ending.{last_entry, next_entry, sll_ends, sll_goes_on}
-use Rattle.g4_sll.proofs.Options.{when_none, when_some}
 
 -- the symbol of the token at k
 abbrev symbol_at : List Token → ℕ → Token → ℕ
@@ -44,11 +43,11 @@ with_entry net d w v start looked entry more h =
     subst (λ (all : List Looked). Sll net d Any w v (record { start = start; looked = all })) (sym (append_assoc looked (entry ∷ []) more)) h
 
 -- it holds of the next set, where SLL goes on after it
-pub simulating_next : (net : ParserNetwork) (d : ℕ) (tokens : List Token) (k : ℕ) (t : Token) (C D : Config → Type 0) (start row : List Config) (looked : List Looked) (o : Option said.Verdict) → k < length tokens → IsLookedAt net C (symbol_at tokens k t) k D o → o ≡ None → IsRow row D → IsSimulating net d tokens k C start looked → IsSimulating net d tokens (k + 1) D start (looked ++ next_entry (symbol_at tokens k t) row ∷ [])
-simulating_next net d tokens k t C D start row looked o less found none is h =
+pub simulating_next : (net : ParserNetwork) (d : ℕ) (tokens : List Token) (k : ℕ) (t : Token) (C D : Config → Type 0) (start row : List Config) (looked : List Looked) → k < length tokens → IsOnward net (Next net C (symbol_at tokens k t)) D → IsRow row D → IsSimulating net d tokens k C start looked → IsSimulating net d tokens (k + 1) D start (looked ++ next_entry (symbol_at tokens k t) row ∷ [])
+simulating_next net d tokens k t C D start row looked less found is h =
     let a = symbol_at tokens k t in
     let w = word_of (drop (k + 1) tokens) in
-    let g = when_none _ (EndsWith D k) o none found.judged in
+    let g = found.goes_on in
     record {
       looking = looking_next net wildcard tokens k t C D less found.members found.within (λ p y one. settled_sll p y D one g) h.looking;
       says = λ v more s.
@@ -59,10 +58,10 @@ simulating_next net d tokens k t C D start row looked o less found none is h =
     }
 
 -- what SLL ends with at the next set is its verdict
-pub simulated : (net : ParserNetwork) (d : ℕ) (tokens : List Token) (k : ℕ) (t : Token) (C D : Config → Type 0) (start : List Config) (looked : List Looked) (o : Option said.Verdict) (v : said.Verdict) → k < length tokens → IsLookedAt net C (symbol_at tokens k t) k D o → o ≡ Some v → IsSimulating net d tokens k C start looked → Sll net d Any (word_of tokens) (verdict_of v) (record { start = start; looked = looked ++ last_entry (symbol_at tokens k t) (verdict_of v) ∷ [] })
-simulated net d tokens k t C D start looked o v less found some h =
+pub simulated : (net : ParserNetwork) (d : ℕ) (tokens : List Token) (k : ℕ) (t : Token) (C : Config → Type 0) (start : List Config) (looked : List Looked) (v : said.Verdict) → k < length tokens → EndsWith (Next net C (symbol_at tokens k t)) k v → IsSimulating net d tokens k C start looked → Sll net d Any (word_of tokens) (verdict_of v) (record { start = start; looked = looked ++ last_entry (symbol_at tokens k t) (verdict_of v) ∷ [] })
+simulated net d tokens k t C start looked v less ends h =
     let a = symbol_at tokens k t in
-    let s = sll_ends net C D a (word_of (drop (k + 1) tokens)) k v found.members (when_some _ (EndsWith D k) o v some found.judged) in
+    let s = sll_ends net C a (word_of (drop (k + 1) tokens)) k v ends in
     h.says (verdict_of v) (last_entry a (verdict_of v) ∷ []) (subst (λ (w : List ℕ). SllFrom net C w k (verdict_of v) (last_entry a (verdict_of v) ∷ [])) (sym (left tokens k t less)) s)
 
 -- the entries of the code and one more

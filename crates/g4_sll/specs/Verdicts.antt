@@ -1,14 +1,16 @@
 -- The sets that SLL goes through, and when one has a verdict.
-use Rattle.std.specs.Prelude.{◌≡◌, ℕ, List, Option}
-use Rattle.std.specs.Option.{MatchOption}
+use Rattle.std.specs.Prelude.{◌≡◌, ℕ, List}
+use Rattle.g4_configs.specs.Configs.{Holds}
 use Rattle.g4_configs.specs.Groups.{Same}
 use Rattle.g4_net.specs.Configurations.{Config, wildcard, IsRow, IsWithin}
-use Rattle.g4_net.specs.Lookahead.{Start, Next, IsEmpty, IsOnly}
+use Rattle.g4_net.specs.Lookahead.{Start, IsEmpty, IsOnly}
 use Rattle.g4_net.specs.Network.{ParserNetwork}
 use Rattle.g4_net.specs.Prediction.{Any}
 use Rattle.g4_lookahead.specs.EndOfList.{GoesOn, Matters}
 use Rattle.g4_path.specs.declared.verdict.Verdict.{Verdict}
 use Rattle.g4_path.specs.declared.verdict.Verdict.TheVariants.{Answer, ErrorAt, Sensitive}
+use Rattle.g4_sll.specs.declared.sll.Seen.{Seen}
+use Rattle.g4_sll.specs.declared.sll.Seen.TheVariants.{Ended, Onward}
 
 -- SLL ends with this at the set after symbol k
 abbrev pub EndsWith : (Config → Type 0) → ℕ → Verdict → Type 0
@@ -22,9 +24,14 @@ pub record IsStartSet (net : ParserNetwork) (d : ℕ) (C : Config → Type 0) : 
   pub within : (c : Config) → C c → IsWithin net c
   pub row : (row : List Config) × IsRow row C
 
--- The set D is the next one from C on symbol k, with the verdict on it, if SLL ends there.
-pub record IsLookedAt (net : ParserNetwork) (C : Config → Type 0) (symbol k : ℕ) (D : Config → Type 0) (verdict : Option Verdict) : Type 0 where
-  pub members : Same D (Next net C symbol)
-  pub within : (c : Config) → D c → IsWithin net c
-  pub row : (row : List Config) × IsRow row D
-  pub judged : MatchOption verdict (GoesOn D) (EndsWith D k)
+-- The set H is the set D, after which SLL looks at another symbol.
+pub record IsOnward (net : ParserNetwork) (D H : Config → Type 0) : Type 0 where
+  pub members : Same H D
+  pub within : (c : Config) → H c → IsWithin net c
+  pub row : (row : List Config) × IsRow row H
+  pub goes_on : GoesOn H
+
+-- what SLL sees at the next set D, which is that after symbol k
+abbrev pub IsSeen : ParserNetwork → (Config → Type 0) → ℕ → Seen → Type 0
+IsSeen net D k (Ended verdict) = EndsWith D k verdict
+IsSeen net D k (Onward set) = IsOnward net D (Holds set)

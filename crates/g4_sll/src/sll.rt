@@ -1,19 +1,20 @@
 // SLL: looking ahead from a decision as if any rule had called the one that is open.
-ghost use Rattle.std.specs.Prelude.{◌≡◌, ◌<◌, ◌≤◌, ◌^◌, ◌↔◌, Contains, IfOk, IsTrue, MatchOption, length};
+ghost use Rattle.std.specs.Prelude.{◌≡◌, ◌<◌, ◌≤◌, ◌^◌, ◌↔◌, Contains, IfOk, IsTrue, length};
 ghost use Rattle.g4_configs.specs.Configs.{Holds};
 ghost use Rattle.g4_symbols.specs.Symbols.{end_of_list};
 ghost use Rattle.g4_net.specs.AddedRule.{IsReady};
 ghost use Rattle.g4_net.specs.Configurations.{Config, IsWithin};
 ghost use Rattle.g4_net.specs.declared.network.TheConstants.{MOST_STATES};
 ghost use Rattle.g4_net.specs.Leads.{WellFormed};
+ghost use Rattle.g4_net.specs.Lookahead.{Next};
 ghost use Rattle.g4_net.specs.Prediction.{Any, Path as Way, Sll};
 ghost use Rattle.g4_token_list.specs.TokenList.{word_of};
-ghost use Rattle.g4_lookahead.specs.EndOfList.{GoesOn, Matters};
+ghost use Rattle.g4_lookahead.specs.EndOfList.{Matters};
 ghost use Rattle.g4_path.specs.Paths.{path_of, verdict_of};
-ghost use Rattle.g4_sll.specs.Verdicts.{EndsWith, IsLookedAt, IsStartSet};
+ghost use Rattle.g4_sll.specs.Verdicts.{IsSeen, IsStartSet};
 
 use g4_base::Sequence;
-use g4_closure::{advance, start};
+use g4_closure::{Left, left_after, start};
 use g4_configs::Configs;
 use g4_net::{Allowed, ParserNetwork};
 use g4_path::{Led, Looked, Path, Verdict};
@@ -31,22 +32,6 @@ fn stack_matters(alloc: Global, set: &Configs) -> Result<bool, AllocError>
     Ok(!lone)
 }
 
-/// The verdict on the set after symbol k, if SLL ends there.
-fn judge(alloc: Global, set: &Configs, k: u32) -> Result<Option<Verdict>, AllocError>
-    ensures { IfOk result (λ verdict. MatchOption verdict (GoesOn (Holds set.now)) (EndsWith (Holds set.now) k)) }
-{
-    if set.least_alternative().is_none() {
-        return Ok(Some(Verdict::ErrorAt(k)));
-    }
-    if let Some(alternative) = set.single_alternative() {
-        return Ok(Some(Verdict::Answer(alternative)));
-    }
-    if stack_matters(alloc, set)? {
-        return Ok(Some(Verdict::Sensitive(k)));
-    }
-    Ok(None)
-}
-
 /// The start set of a decision, over all its alternatives and above the wildcard.
 fn start_set(alloc: Global, net: &ParserNetwork, decision: u32) -> Result<Configs, AllocError>
     requires well_formed { WellFormed net.now }
@@ -57,22 +42,39 @@ fn start_set(alloc: Global, net: &ParserNetwork, decision: u32) -> Result<Config
     Ok(set)
 }
 
-/// The next set on symbol k, and the verdict on it, if SLL ends there.
+/// Where looking at a symbol leads.
+enum Seen {
+    /// SLL ends at the next set.
+    Ended(Verdict),
+    /// Another symbol is looked at after the next set.
+    Onward(Configs),
+}
+
+/// What SLL sees on symbol k after a set.
 fn look(
     alloc: Global,
     net: &ParserNetwork,
     set: Configs,
     symbol: u32,
     k: u32,
-) -> Result<(Configs, Option<Verdict>), AllocError>
+) -> Result<Seen, AllocError>
     requires well_formed { WellFormed net.now }
     requires few { length net.now.states ≤ MOST_STATES }
     requires within { (c : Config) → Holds set c → IsWithin net.now c }
-    ensures { IfOk result (λ found. IsLookedAt net.now (Holds set) symbol k (Holds found.0) found.1) }
+    ensures { IfOk result (IsSeen net.now (Next net.now (Holds set) symbol) k) }
 {
-    let next = advance(alloc, net, set, symbol)?;
-    let verdict = judge(alloc, &next, k)?;
-    Ok((next, verdict))
+    let left = left_after(alloc, net, set, symbol)?;
+    match left {
+        Left::Nothing => Ok(Seen::Ended(Verdict::ErrorAt(k))),
+        Left::Only(alternative) => Ok(Seen::Ended(Verdict::Answer(alternative))),
+        Left::Several(next) => {
+            let matters = stack_matters(alloc, &next)?;
+            if matters {
+                return Ok(Seen::Ended(Verdict::Sensitive(k)));
+            }
+            Ok(Seen::Onward(next))
+        }
+    }
 }
 
 /// The SLL verdict of a decision on the tokens from it on, and its path.
@@ -96,21 +98,25 @@ pub fn simulate(
     let mut looked = Vec::new(alloc);
     for (k, token) in tokens.iter().enumerate() {
         let symbol = token.symbol;
-        let (next, verdict) = look(alloc, net, set, symbol, k as u32)?;
-        if let Some(verdict) = verdict {
-            let led = Led::Ended(verdict);
-            looked.push(Looked { symbol, led })?;
-            let path = Path {
-                decision,
-                start: first,
-                looked: Sequence::new(looked),
-            };
-            return Ok((verdict, path));
+        let seen = look(alloc, net, set, symbol, k as u32)?;
+        match seen {
+            Seen::Ended(verdict) => {
+                let led = Led::Ended(verdict);
+                looked.push(Looked { symbol, led })?;
+                let path = Path {
+                    decision,
+                    start: first,
+                    looked: Sequence::new(looked),
+                };
+                return Ok((verdict, path));
+            }
+            Seen::Onward(next) => {
+                let row = next.snapshot(alloc)?;
+                let led = Led::Row(row);
+                looked.push(Looked { symbol, led })?;
+                set = next;
+            }
         }
-        let row = next.snapshot(alloc)?;
-        let led = Led::Row(row);
-        looked.push(Looked { symbol, led })?;
-        set = next;
     }
     unreachable!()
 }
@@ -132,11 +138,11 @@ pub fn verdict(
 {
     let mut set = start_set(alloc, net, decision)?;
     for (k, token) in tokens.iter().enumerate() {
-        let (next, verdict) = look(alloc, net, set, token.symbol, k as u32)?;
-        if let Some(verdict) = verdict {
-            return Ok(verdict);
+        let seen = look(alloc, net, set, token.symbol, k as u32)?;
+        match seen {
+            Seen::Ended(verdict) => return Ok(verdict),
+            Seen::Onward(next) => set = next,
         }
-        set = next;
     }
     unreachable!()
 }

@@ -1,5 +1,6 @@
 use Rattle.std.proofs.Common.{[]}
 use Rattle.g4_configs.specs.Configs.{Holds}
+use Rattle.g4_sll.proofs.Ending.{seen_ended, seen_onward}
 use Rattle.g4_sll.proofs.Looking.{simulated, simulating_next, simulating_start}
 use Rattle.g4_sll.proofs.sll.verdict.Goals as goal
 
@@ -11,15 +12,17 @@ loop-k-init c =
 pub loop-k-preserved : goal.loop-k-preserved
 loop-k-preserved c =
     let (start, looked, h) = c.loop-k.invariant in
-    let (row, is) = c.in_ok-next.ensures.row in (
+    let onward = seen_onward c.args.net.now _ c.loop-k.k c.in_ok-seen.seen c.in-Onward.next c.in-Onward.is c.in_ok-seen.ensures in
+    let (row, is) = onward.row in (
       start,
       _,
-      simulating_next c.args.net.now c.args.decision c.args.tokens.now c.loop-k.k _ (Holds c.loop-k.set) (Holds c.in_ok-next.next) start row looked c.in_ok-next.verdict c.loop-k-test.true c.in_ok-next.ensures c.in_default.is is h,
+      simulating_next c.args.net.now c.args.decision c.args.tokens.now c.loop-k.k _ (Holds c.loop-k.set) (Holds c.in-Onward.next) start row looked c.loop-k-test.true onward is h,
     )
 
-pub returns-in-Some : goal.returns-in-Some
-returns-in-Some c =
+pub returns-in-Ended : goal.returns-in-Ended
+returns-in-Ended c =
     let (start, looked, h) = c.loop-k.invariant in (
       _,
-      simulated c.args.net.now c.args.decision c.args.tokens.now c.loop-k.k _ (Holds c.loop-k.set) (Holds c.in_ok-next.next) start looked c.in_ok-next.verdict c.in-Some.verdict c.loop-k-test.true c.in_ok-next.ensures c.in-Some.is h,
+      simulated c.args.net.now c.args.decision c.args.tokens.now c.loop-k.k _ (Holds c.loop-k.set) start looked c.in-Ended.verdict c.loop-k-test.true
+          (seen_ended c.args.net.now _ c.loop-k.k c.in_ok-seen.seen c.in-Ended.verdict c.in-Ended.is c.in_ok-seen.ensures) h,
     )
