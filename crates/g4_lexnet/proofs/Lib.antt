@@ -3,10 +3,10 @@ mod Lists
 mod Chains
 mod Starts
 mod Drawn
-mod Trees
+pub mod Trees
 mod CanStart
-mod Laws
-mod Matches
+pub mod Laws
+pub mod Matches
 mod Carry
 mod Emptied
-mod Lexed
+pub mod Lexed

@@ -1,0 +1,15 @@
+mod Joined
+mod Substituted
+mod Covers
+mod Atoms
+mod Spelt
+mod Placed
+mod Derived
+mod Rising
+mod Carried
+mod Modes
+mod Eager
+mod Deciding
+mod Matched
+mod EndOfFile
+mod Begins

@@ -1,0 +1,6 @@
+pub mod Begins
+pub mod Canonical
+pub mod Fronts
+pub mod Greedy
+pub mod Marks
+pub mod Matches
