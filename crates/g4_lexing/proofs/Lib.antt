@@ -1,0 +1,10 @@
+pub mod Carried
+pub mod Closed
+pub mod Encoded
+pub mod Moved
+pub mod OneDecoding
+pub mod OneMatch
+pub mod Reached
+pub mod Scanned
+pub mod TokenTypes
+pub mod Unique

@@ -1,0 +1,7 @@
+pub mod Commands
+pub mod Decoding
+pub mod Lexers
+pub mod Lexing
+pub mod Positions
+pub mod Scanning
+pub mod Tokens

@@ -1,0 +1,59 @@
+// What a lexer goes by.
+ghost use Rattle.std.specs.Prelude.{◌≡◌, slice_index_or, []};
+ghost use Rattle.g4_matching.specs.Entries.{starts_of};
+ghost use Rattle.g4_lexing.specs.Lexers.{commands_of, starts_in, type_of};
+
+use crate::command::LexerCommand;
+use g4_base::Sequence;
+use g4_matching::Start;
+use g4_ordered::LexerNetwork;
+
+/// What a lexer goes by: its network, and what is known of its modes and rules by their numbers.
+#[derive(Drop)]
+pub struct Lexer {
+    pub net: LexerNetwork,
+    /// For each mode the places where a match may begin, those that win a tie first. A file begins in mode 0.
+    pub modes: Sequence<Sequence<Start>>,
+    /// For each rule the type of its tokens.
+    pub types: Sequence<u32>,
+    /// For each rule the commands of its outer alternatives, which count from 1.
+    pub commands: Sequence<Sequence<Sequence<LexerCommand>>>,
+}
+
+impl Lexer {
+    /// The places where a match may begin in a mode; none where there is no such mode.
+    pub(crate) fn starts(&self, mode: u32) -> &[Start]
+        ensures { starts_of result.now ≡ starts_in self.now mode }
+    {
+        match self.modes.as_slice().get(mode as usize) {
+            Some(starts) => starts.as_slice(),
+            None => &[],
+        }
+    }
+
+    /// The type of a rule's tokens; 0 where it has none.
+    pub(crate) fn rule_type(&self, rule: u32) -> u32
+        ensures { result ≡ type_of self.now rule }
+    {
+        match self.types.as_slice().get(rule as usize) {
+            Some(symbol) => *symbol,
+            None => 0,
+        }
+    }
+
+    /// The commands of a rule's alternative; none where there is no such alternative.
+    pub(crate) fn commands(&self, rule: u32, alternative: u32) -> &[LexerCommand]
+        ensures { result.now ≡ commands_of self.now rule alternative }
+    {
+        if alternative == 0 {
+            return &[];
+        }
+        let Some(alternatives) = self.commands.as_slice().get(rule as usize) else {
+            return &[];
+        };
+        match alternatives.as_slice().get(alternative as usize - 1) {
+            Some(commands) => commands.as_slice(),
+            None => &[],
+        }
+    }
+}

@@ -1,0 +1,162 @@
+// Lexers by grammar texts, and what files are lexed to.
+ghost use Rattle.std.specs.Prelude.{IfOk};
+ghost use Rattle.g4_source.specs.Blocks.{ModesAreFull};
+
+use g4_base::Sequence;
+use g4_lexable::is_lexable;
+use g4_lexing::{LexFault, Lexer, LexerCommand, tokens_within};
+use g4_lexnet::{LexNet, LexStart, build_lexer};
+use g4_matching::Start;
+use g4_reader::read_grammar;
+use g4_source::Mode;
+use g4_token_list::Tokens;
+use std::alloc::{AllocError, Global};
+use std::fmt::Write;
+
+/// For some rules the commands of their alternatives.
+pub(crate) type Commands = &'static [(usize, &'static [&'static [LexerCommand]])];
+
+/// The modes of a lexer grammar with this text after its name.
+fn modes(alloc: Global, rules: &str) -> Result<Vec<Mode>, AllocError>
+    ensures { IfOk result (λ modes. ModesAreFull modes.items) }
+{
+    let mut text = String::new(alloc);
+    write!(text, "lexer grammar L;\n{rules}")?;
+    if text.len() > 16_777_216 {
+        return Err(AllocError);
+    }
+    match read_grammar(alloc, text.as_bytes()) {
+        Ok(source) => Ok(source.modes.into_vec()),
+        Err(_) => Err(AllocError),
+    }
+}
+
+/// The places where a match may begin.
+fn starts(alloc: Global, starts: &[LexStart]) -> Result<Sequence<Start>, AllocError> {
+    let mut made = Vec::new(alloc);
+    for start in starts {
+        made.push(Start {
+            rule: start.rule,
+            alternative: start.alternative,
+            state: start.state,
+        })?;
+    }
+    Ok(Sequence::new(made))
+}
+
+/// The commands of a rule's alternatives.
+fn commands_of(
+    alloc: Global,
+    commands: Commands,
+    rule: usize,
+) -> Result<Sequence<Sequence<LexerCommand>>, AllocError> {
+    let mut made = Vec::new(alloc);
+    for (other, alternatives) in commands {
+        if *other == rule {
+            for commands in *alternatives {
+                made.push(Sequence::new(commands.to_vec(alloc)?))?;
+            }
+        }
+    }
+    Ok(Sequence::new(made))
+}
+
+/// A lexer by its network, whose rules have the types 1, 2 and so on.
+fn lexer_of(alloc: Global, built: LexNet, commands: Commands) -> Result<Lexer, AllocError> {
+    let mut modes = Vec::new(alloc);
+    for mode in built.modes.as_slice() {
+        modes.push(starts(alloc, mode.as_slice())?)?;
+    }
+    let mut types = Vec::new(alloc);
+    let mut all = Vec::new(alloc);
+    let mut symbol: u32 = 0;
+    for rule in 0..built.commands.len() {
+        symbol = symbol.saturating_add(1);
+        types.push(symbol)?;
+        all.push(commands_of(alloc, commands, rule)?)?;
+    }
+    Ok(Lexer {
+        net: built.net,
+        modes: Sequence::new(modes),
+        types: Sequence::new(types),
+        commands: Sequence::new(all),
+    })
+}
+
+/// The lexer of these rules with these commands.
+pub(crate) fn lexer(alloc: Global, rules: &str, commands: Commands) -> Result<Lexer, AllocError> {
+    let modes = modes(alloc, rules)?;
+    match build_lexer(alloc, Vec::new(alloc), modes) {
+        Ok(built) => lexer_of(alloc, built, commands),
+        Err(_) => Err(AllocError),
+    }
+}
+
+/// The tokens: types, channels, places and spans; the types that the parser sees; and the end of the file.
+fn write_tokens(out: &mut String, found: &Tokens) -> Result<(), AllocError> {
+    for token in found.all.as_slice() {
+        let symbol = token.symbol;
+        let channel = token.channel;
+        let line = token.place.line;
+        let column = token.place.column;
+        let start = token.start;
+        let end = token.end;
+        write!(out, "{symbol}.{channel} {line}:{column} {start}..{end}; ")?;
+    }
+    write!(out, "|")?;
+    for token in found.list.as_slice() {
+        let symbol = token.symbol;
+        write!(out, " {symbol}")?;
+    }
+    if let Some(last) = found.list.as_slice().last() {
+        let line = last.place.line;
+        let column = last.place.column;
+        let end = last.end;
+        write!(out, " at {line}:{column} {end}")?;
+    }
+    Ok(())
+}
+
+fn write_fault(out: &mut String, fault: &LexFault) -> Result<(), AllocError> {
+    match fault {
+        LexFault::NotUtf8(count) => write!(out, "not UTF-8 after {count}"),
+        LexFault::NoToken(place, found) => {
+            let line = place.line;
+            let column = place.column;
+            match found {
+                Some(character) => write!(out, "no token at {line}:{column} of {character}"),
+                None => write!(out, "no token at {line}:{column} of the end"),
+            }
+        }
+        LexFault::EmptyModeStack(place) => {
+            let line = place.line;
+            let column = place.column;
+            write!(out, "no mode at {line}:{column}")
+        }
+        LexFault::Tokens(place) => {
+            let line = place.line;
+            let column = place.column;
+            write!(out, "no room at {line}:{column}")
+        }
+        LexFault::NoMemory => out.push_str("no memory"),
+    }
+}
+
+/// What the bytes are lexed to, with so much room.
+pub(crate) fn lexed(
+    alloc: Global,
+    lexer: &Lexer,
+    bytes: &[u8],
+    room: usize,
+) -> Result<String, AllocError> {
+    let mut out = String::new(alloc);
+    if bytes.len() > 16_777_216 || !is_lexable(alloc, &lexer.net)? {
+        return Ok(out);
+    }
+    let bytes = Sequence::new(bytes.to_vec(alloc)?);
+    match tokens_within(alloc, lexer, bytes, room) {
+        Ok(found) => write_tokens(&mut out, &found)?,
+        Err(fault) => write_fault(&mut out, &fault)?,
+    }
+    Ok(out)
+}
