@@ -1,5 +1,4 @@
 pub mod Answers
-pub mod LexerSize
 pub mod Numberings
 pub mod Rules
 pub mod Samples

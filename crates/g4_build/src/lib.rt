@@ -3,11 +3,9 @@
 
 mod builder;
 mod drawing;
-mod lexer_size;
 mod numbering;
 #[cfg(test)]
 mod tests;
 mod width;
 
 pub use builder::{BuildFault, build};
-pub use lexer_size::lexer_network_fits;

@@ -13,13 +13,12 @@ mod turns;
 
 use crate::builder::{build, fits};
 use crate::drawing::draw;
-use crate::lexer_size::lexer_network_fits;
 use crate::width::some_rule_is_wide;
 use g4_base::{Place, Sequence, Text};
 use g4_elements::{Alternative, Element, Elements, Repeat, Suffix};
-use g4_grammar::{Numbering, Step, StepRule, TokenRule};
+use g4_grammar::{Numbering, Step, StepRule};
 use g4_net::{ParserNetwork, State};
-use g4_source::{Atom, AtomKind, LexerAlternative, Literal, RuleAlternative};
+use g4_source::RuleAlternative;
 use g4_symbols::{EOF, Symbols};
 use std::alloc::{AllocError, Global};
 use std::test::Fail;
@@ -350,57 +349,5 @@ fn decisions(rt: HostRuntime) -> Result<(), Fail> {
         false
     );
     assert_eq!(rt; is_wide_block(alloc, Repeat::Plus(sign(true)), 1024)?, true);
-    Ok(())
-}
-
-// An atom of a lexer rule that is a literal of so many characters.
-fn literal(alloc: Global, count: usize) -> Result<Element<Atom>, AllocError> {
-    let mut characters = Vec::new(alloc);
-    for _ in 0..count {
-        characters.push('a')?;
-    }
-    let literal = Literal {
-        characters: Sequence::new(characters),
-        written: Text::copy_of(alloc, "'a'")?,
-    };
-    Ok(Element::Atom(Atom {
-        label: None,
-        right: false,
-        kind: AtomKind::Literal(literal),
-    }))
-}
-
-// A token rule that is such a literal.
-fn literal_rule(alloc: Global, count: usize) -> Result<TokenRule, AllocError> {
-    let elements = Elements::new(vec![in alloc; literal(alloc, count)?]?);
-    let alternative = LexerAlternative {
-        elements,
-        commands: Sequence::new(Vec::new(alloc)),
-    };
-    Ok(TokenRule {
-        name: Text::copy_of(alloc, "T")?,
-        symbol: 1,
-        alternatives: Sequence::new(vec![in alloc; alternative]?),
-    })
-}
-
-// Whether the lexer's network of so many rules, each a literal of so many characters, is small enough.
-fn literals_fit(alloc: Global, count: usize, characters: usize) -> Result<bool, AllocError> {
-    let mut rules = Vec::new(alloc);
-    for _ in 0..count {
-        rules.push(literal_rule(alloc, characters)?)?;
-    }
-    Ok(lexer_network_fits(rules.as_slice()))
-}
-
-#[test]
-fn lexer_networks(rt: HostRuntime) -> Result<(), Fail> {
-    let alloc = rt.alloc();
-    assert_eq!(rt; literals_fit(alloc, 1, 65_534)?, true);
-    assert_eq!(rt; literals_fit(alloc, 1, 65_535)?, false);
-    assert_eq!(rt; literals_fit(alloc, 16_384, 2)?, true);
-    assert_eq!(rt; literals_fit(alloc, 16_385, 2)?, false);
-    assert_eq!(rt; literals_fit(alloc, 32_768, 0)?, true);
-    assert_eq!(rt; literals_fit(alloc, 32_769, 0)?, false);
     Ok(())
 }

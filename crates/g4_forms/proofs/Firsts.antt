@@ -1,14 +1,14 @@
 -- The first of some forms, a part of the forms at a time.
-use Rattle.std.proofs.Common.{◌≡◌, ℕ, ◌+◌, ◌<◌, ◌≤◌, List, [], ◌∷◌, ◌++◌, length, drop, get_or, Result, sym, ap, subst, ◌∙◌}
+use Rattle.std.proofs.Common.{◌≡◌, ℕ, ◌+◌, ◌<◌, ◌≤◌, List, [], ◌∷◌, ◌++◌, length, drop, get_or, sym, ap, subst, ◌∙◌}
 use Rattle.std.specs.List.{flat_map}
 use Rattle.std.proofs.lemmas.List.{drop_all, drop_more}
 use Rattle.g4_forms.specs.declared.fault.FormFault.{FormFault}
 use Rattle.g4_forms.specs.declared.fault.FormFault.TheVariants.{NotRun, NoMemory}
 use Rattle.g4_forms.specs.Forms.{Form}
-use Rattle.g4_forms.specs.Answers.{TellsFirst, AreRun}
+use Rattle.g4_forms.specs.Answers.{TellsFirst}
 
 -- the first of some forms is the first of those and more
-pub first_of_more : (xs ys : List Form) (fault : FormFault) → TellsFirst xs fault → TellsFirst (xs ++ ys) fault
+first_of_more : (xs ys : List Form) (fault : FormFault) → TellsFirst xs fault → TellsFirst (xs ++ ys) fault
 first_of_more xs ys NoMemory h = forms_any (xs ++ ys)
   where
     forms_any : (xs : List Form) → TellsFirst xs NoMemory
@@ -16,14 +16,6 @@ first_of_more xs ys NoMemory h = forms_any (xs ++ ys)
     forms_any (x ∷ xs) = tt
 first_of_more [] ys (NotRun place characters) h = absurd h
 first_of_more (x ∷ xs) ys (NotRun place characters) h = h
-
--- behind none, the first is that of the others
-pub first_behind : (xs ys : List Form) (fault : FormFault) → xs ≡ [] → TellsFirst ys fault → TellsFirst (xs ++ ys) fault
-first_behind xs ys fault none h = subst (λ (zs : List Form). TellsFirst (zs ++ ys) fault) (sym none) h
-
--- behind none, what is told of the others is told of all
-pub run_behind : {A : Type 0} (xs ys : List Form) (result : Result A FormFault) → xs ≡ [] → AreRun ys result → AreRun (xs ++ ys) result
-run_behind xs ys result none h = subst (λ (zs : List Form). AreRun (zs ++ ys) result) (sym none) h
 
 module _ {X : Type 0} (forms : X → List Form) (xs : List X) (i : ℕ) where
   -- the forms are those of the items that are left

@@ -1,4 +1,4 @@
 mod Firsts
 mod Nodes
 pub mod OneAnswer
-mod Quiet
+mod Untested

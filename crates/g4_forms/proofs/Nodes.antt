@@ -1,17 +1,19 @@
 -- The forms of the elements and alternatives of the code.
 use Rattle.std.proofs.Common.{◌≡◌, List, [], ◌∷◌, ◌++◌, Option, map, Vec, Global, refl, sym, ap, ◌∙◌}
 use Rattle.std.specs.List.{flat_map}
+use Rattle.std.proofs.lemmas.List.{append-nil}
+use Rattle.std.proofs.lemmas.Grind.{flat_map-append}
 use Rattle.g4_elements.specs.declared.name.Label.{Label}
 use Rattle.g4_elements.specs.declared.element.Repeat.{Repeat}
 use Rattle.g4_elements.specs.declared.element.Element.{Element as Node}
 use Rattle.g4_elements.specs.declared.element.Element.TheVariants as nodes
 use Rattle.g4_elements.specs.declared.element.Alternative.{Alternative as Side, out-Alternative}
-use Rattle.g4_elements.specs.Elements.{either}
+use Rattle.g4_elements.specs.Elements.{either, atoms, atoms_in_order, atoms_of_either}
 use Rattle.g4_elements.specs.Trees.{element_of, alternative_of, in_order}
 use Rattle.g4_elements.proofs.Trees.{of_atom, of_block, of_alternative}
 use Rattle.g4_source.specs.declared.atom.Atom.{Atom}
 use Rattle.g4_rules.specs.declared.kind.RuleKind.{RuleKind}
-use Rattle.g4_forms.specs.Forms.{Form, atom_forms, label_forms, sign_forms, element_forms, elements_forms, either_forms}
+use Rattle.g4_forms.specs.Forms.{Form, atom_forms, element_forms, elements_forms, either_forms}
 
 module _ (kind : RuleKind) where
   -- the forms of an element of the code
@@ -23,25 +25,24 @@ module _ (kind : RuleKind) where
   side_forms x = elements_forms kind (alternative_of x)
 
   -- an element that is an atom
-  pub atom_node : (x : Node Atom) (a : Atom) → x ≡ nodes.Atom a → node_forms x ≡ label_forms kind a.label ++ atom_forms kind a.kind
-  atom_node x a is = ap (λ (y : Node Atom). node_forms y) is ∙ ap (element_forms kind) (of_atom a)
+  pub atom_node : (x : Node Atom) (a : Atom) → x ≡ nodes.Atom a → node_forms x ≡ atom_forms kind a
+  atom_node x a is = ap (λ (y : Node Atom). node_forms y) is ∙ (ap (element_forms kind) (of_atom a) ∙ append-nil (atom_forms kind a))
 
   -- an element that is a block
   pub block_node : (x : Node Atom) (label : Option Label) (repeat : Repeat) (alternatives : Vec (Side Atom) Global) (sides : List (Side Atom)) → x ≡ nodes.Block label repeat alternatives → sides ≡ alternatives.items →
-      node_forms x ≡ label_forms kind label ++ (either_forms kind (either (map alternative_of sides)) ++ sign_forms kind repeat)
+      node_forms x ≡ either_forms kind (either (map alternative_of sides))
   block_node x label repeat alternatives sides is whole =
-      ap (λ (y : Node Atom). node_forms y) is ∙ (ap (element_forms kind) (of_block label repeat alternatives)
-      ∙ ap (λ (xs : List (Side Atom)). label_forms kind label ++ (either_forms kind (either (map alternative_of xs)) ++ sign_forms kind repeat)) (sym whole))
+      ap (λ (y : Node Atom). node_forms y) is ∙ (ap (element_forms kind) (of_block label repeat alternatives) ∙ ap (λ (xs : List (Side Atom)). either_forms kind (either (map alternative_of xs))) (sym whole))
 
   -- elements one after another
   pub elements_are : (xs : List (Node Atom)) → elements_forms kind (in_order (map element_of xs)) ≡ flat_map node_forms xs
   elements_are [] = refl
-  elements_are (x ∷ xs) = ap (λ (zs : List Form). node_forms x ++ zs) (elements_are xs)
+  elements_are (x ∷ xs) = flat_map-append (atom_forms kind) (atoms (element_of x)) (atoms_in_order (in_order (map element_of xs))) ∙ ap (λ (zs : List Form). node_forms x ++ zs) (elements_are xs)
 
   -- alternatives in order
   pub either_are : (xs : List (Side Atom)) → either_forms kind (either (map alternative_of xs)) ≡ flat_map side_forms xs
   either_are [] = refl
-  either_are (x ∷ xs) = ap (λ (zs : List Form). side_forms x ++ zs) (either_are xs)
+  either_are (x ∷ xs) = flat_map-append (atom_forms kind) (atoms_in_order (alternative_of x)) (atoms_of_either (either (map alternative_of xs))) ∙ ap (λ (zs : List Form). side_forms x ++ zs) (either_are xs)
 
   -- an alternative of these elements
   pub side_is : (side : Side Atom) (elements : List (Node Atom)) → elements ≡ (out-Alternative Atom side).elements.items → elements_forms kind (in_order (map element_of elements)) ≡ side_forms side

@@ -1,11 +1,10 @@
 // The forms of rules that are not run.
 ghost use Rattle.std.specs.List.{flat_map};
-ghost use Rattle.g4_forms.specs.Forms.{command_forms, fragment_forms, lexer_alternative_forms, parser_alternative_forms, rule_forms};
+ghost use Rattle.g4_forms.specs.Forms.{command_forms, lexer_alternative_forms, parser_alternative_forms, rule_forms};
 ghost use Rattle.g4_forms.specs.Answers.{AreRun};
 
 use crate::element::check_elements;
 use crate::fault::{FormFault, refuse};
-use g4_base::Place;
 use g4_rules::RuleKind;
 use g4_source::{Atom, Command, LexerAlternative, Rule, RuleAlternative};
 use std::alloc::Global;
@@ -68,26 +67,13 @@ fn check_lexer(alloc: Global, alternatives: &[LexerAlternative]) -> Result<(), F
     Ok(())
 }
 
-/// Looks at the `fragment` before a lexer rule.
-fn check_fragment(alloc: Global, fragment: Option<Place>) -> Result<(), FormFault>
-    ensures { AreRun (fragment_forms fragment) result }
-{
-    match fragment {
-        Some(place) => refuse(alloc, place, "fragment"),
-        None => Ok(()),
-    }
-}
-
 /// Looks at a rule.
 fn check_rule(alloc: Global, rule: &Rule) -> Result<(), FormFault>
     ensures { AreRun (rule_forms rule.now) result }
 {
     match rule {
         Rule::Parser(rule) => check_parser(alloc, rule.alternatives.as_slice()),
-        Rule::Lexer(rule) => {
-            check_fragment(alloc, rule.fragment)?;
-            check_lexer(alloc, rule.alternatives.as_slice())
-        }
+        Rule::Lexer(rule) => check_lexer(alloc, rule.alternatives.as_slice()),
     }
 }
 

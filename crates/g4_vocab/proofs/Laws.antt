@@ -1,10 +1,10 @@
 -- What holds of every numbered grammar.
-use Rattle.std.proofs.Common.{◌≡◌, ℕ, zero, suc, ◌+◌, ◌<◌, ◌≤◌, ◌==◌, List, [], ◌∷◌, ◌++◌, length, map, not, Bool, true, false, cond, codes, Some, None, max, refl, sym, ap, ◌∙◌, subst, arith, slice_index_or, All, Contains}
-use Rattle.std.specs.Option.{unwrap_or, is_none}
+use Rattle.std.proofs.Common.{◌≡◌, ℕ, zero, suc, ◌+◌, ◌<◌, ◌≤◌, ◌==◌, List, [], ◌∷◌, ◌++◌, length, map, not, Bool, true, false, cond, codes, Some, max, refl, sym, ap, ◌∙◌, subst, arith, slice_index_or, All, Contains}
+use Rattle.std.specs.Option.{unwrap_or}
 use Rattle.std.specs.Str.{bytes_eq}
 use Rattle.std.specs.List.{filter_map, range_with_len, list_any}
 use Rattle.std.proofs.lemmas.List.{map-append}
-use Rattle.std.proofs.lemmas.List.Elements.{All-append, All-map, All-filter, All-cons}
+use Rattle.std.proofs.lemmas.List.Elements.{All-append, All-map, All-filter, All-cons, All-contains_itself, Contains-append_right}
 use Rattle.g4_symbols.specs.declared.symbol.TheConstants.{MOST_TYPES}
 use Rattle.g4_symbols.specs.Symbols.{eof, end_of_list}
 use Rattle.g4_elements.specs.Elements.{Element, atom, block, Elements, empty, then, Alternatives, none, or, either, atoms, atoms_in_order, atoms_of_either}
@@ -20,16 +20,16 @@ use Rattle.g4_source.specs.declared.rule.Rule.TheVariants.{Parser, Lexer}
 use Rattle.g4_source.specs.declared.rule.ParserRule.{ParserRule}
 use Rattle.g4_source.specs.declared.rule.LexerRule.{LexerRule}
 use Rattle.g4_source.specs.declared.rule.RuleAlternative.{RuleAlternative}
-use Rattle.g4_source.specs.Rules.{parser_rules, lexer_rules, alternatives_of}
+use Rattle.g4_source.specs.Rules.{parser_rules, alternatives_of}
 use Rattle.g4_source.specs.Blocks.{ParserRuleIsFull, RulesAreFull, ParserRulesAreFull}
 use Rattle.g4_grammar.specs.declared.numbered.NumberedAtom.{NumberedAtom}
 use Rattle.g4_grammar.specs.declared.numbered.TokenRule.{TokenRule}
-use Rattle.g4_grammar.specs.Written.{RuleIsQuiet, ParserRuleIsUntested, ParserKindIsUntested, LexerRuleIsQuiet, LexerKindIsQuiet, TokenRuleIsQuiet}
+use Rattle.g4_grammar.specs.Written.{ParserRuleIsUntested, ParserKindIsUntested}
 use Rattle.g4_vocab.specs.declared.types.Key.{Key}
 use Rattle.g4_vocab.specs.declared.types.Key.TheVariants as keys
 use Rattle.g4_vocab.specs.declared.types.Entry.{Entry}
 use Rattle.g4_vocab.specs.Types.{is_key, number_of, type_of, greatest_type, all_types}
-use Rattle.g4_vocab.specs.Numbering.{numbered_atom, numbered_kind, numbered_alternative, numbered_rule, token_lexers, literal_key, symbol_of, types_without, literal_alternative, literal_rule, token_rule, token_rules}
+use Rattle.g4_vocab.specs.Numbering.{numbered_atom, numbered_kind, numbered_alternative, numbered_rule, literal_key, symbol_of, types_without, literal_rule, token_rule, token_rules}
 use Rattle.g4_grammar.specs.NumberedRules.{NumberedKindIsUntested, NumberedRuleIsUntested, KindLeavesEnd, RuleLeavesEnd}
 
 -- the first of some items, and the others
@@ -141,12 +141,9 @@ module _ (lexers : List LexerRule) (types : List Entry) where
       let P : List NumberedAtom → Type 0 = λ xs. All Q xs in
       subst P (sym (atoms_are rule)) (All-map Q (numbered_atom lexers types) (atoms_of_either (alternatives_of rule)) all)
 
-  -- the parser rules of a quiet source test nothing
-  pub rules_untested : (rules : List Rule) → All RuleIsQuiet rules → All NumberedRuleIsUntested (map (numbered_rule lexers types) (parser_rules rules))
-  rules_untested [] h = all_none NumberedRuleIsUntested
-  rules_untested (Parser rule ∷ rules) h =
-      All-cons NumberedRuleIsUntested (numbered_rule lexers types rule) (map (numbered_rule lexers types) (parser_rules rules)) (rule_untested rule (all_head RuleIsQuiet (Parser rule) rules h)) (rules_untested rules (all_tail RuleIsQuiet (Parser rule) rules h))
-  rules_untested (Lexer rule ∷ rules) h = rules_untested rules (all_tail RuleIsQuiet (Lexer rule) rules h)
+  -- numbered rules of rules that test nothing
+  pub rules_untested : (rules : List (ParserRule Atom)) → All ParserRuleIsUntested rules → All NumberedRuleIsUntested (map (numbered_rule lexers types) rules)
+  rules_untested rules h = All-map NumberedRuleIsUntested (numbered_rule lexers types) rules (λ k d less. rule_untested (slice_index_or rules k d) (h k d less))
 
   -- symbols of tokens are below END
   symbol_low : (token : TokenReference) → greatest_type types ≤ MOST_TYPES → symbol_of lexers types token < end_of_list
@@ -188,30 +185,13 @@ module _ (lexers : List LexerRule) (types : List Entry) where
   rules_ends few [] = all_none RuleLeavesEnd
   rules_ends few (rule ∷ rules) = All-cons RuleLeavesEnd (numbered_rule lexers types rule) (map (numbered_rule lexers types) rules) (rule_ends few rule) (rules_ends few rules)
 
--- the lexer rules of a quiet source are quiet
-pub lexers_quiet : (rules : List Rule) → All RuleIsQuiet rules → All LexerRuleIsQuiet (token_lexers rules)
-lexers_quiet rules h = All-filter (λ (rule : LexerRule). is_none rule.fragment) LexerRuleIsQuiet (lexer_rules rules) (all rules h)
-  where
-    all : (rules : List Rule) → All RuleIsQuiet rules → All LexerRuleIsQuiet (lexer_rules rules)
-    all [] h = all_none LexerRuleIsQuiet
-    all (Parser rule ∷ rules) h = all rules (all_tail RuleIsQuiet (Parser rule) rules h)
-    all (Lexer rule ∷ rules) h = All-cons LexerRuleIsQuiet rule (lexer_rules rules) (all_head RuleIsQuiet (Lexer rule) rules h) (all rules (all_tail RuleIsQuiet (Lexer rule) rules h))
-
--- a rule that is a literal is quiet
-one_quiet : (type : ℕ) (shown characters : List ℕ) → TokenRuleIsQuiet (record { name = shown; symbol = type; alternatives = literal_alternative (record { characters = characters; written = shown }) ∷ [] })
-one_quiet type shown characters = All-cons (λ (a : Atom). LexerKindIsQuiet a.kind) (record { label = None; right = false; kind = kinds.Literal (record { characters = characters; written = shown }) }) [] tt (all_none (λ (a : Atom). LexerKindIsQuiet a.kind))
-
--- the token rules of a quiet source are quiet
-pub tokens_quiet : (types : List Entry) (lexers : List LexerRule) → All LexerRuleIsQuiet lexers → All TokenRuleIsQuiet (token_rules types lexers)
-tokens_quiet types lexers h = All-append TokenRuleIsQuiet (filter_map literal_rule types) (map (token_rule types) lexers) (literals types) (All-map TokenRuleIsQuiet (token_rule types) lexers h)
-  where
-    literals : (entries : List Entry) → All TokenRuleIsQuiet (filter_map literal_rule entries)
-    literals [] = all_none TokenRuleIsQuiet
-    literals (entry ∷ entries) = by entry.key (literals entries)
-      where
-        by : (key : Key) → All TokenRuleIsQuiet (filter_map literal_rule entries) → All TokenRuleIsQuiet (filter_map literal_rule (record { key = key; number = entry.number; shown = entry.shown } ∷ entries))
-        by (keys.Name name) rest = rest
-        by (keys.Literal characters) rest = All-cons TokenRuleIsQuiet _ (filter_map literal_rule entries) (one_quiet entry.number entry.shown characters) rest
+-- what holds of each parser rule among rules
+pub each_parser_rule : (P : ParserRule Atom → Type 0) (rules : List Rule) → ((rule : ParserRule Atom) → Contains rules (Parser rule) → P rule) → All P (parser_rules rules)
+each_parser_rule P [] h = all_none P
+each_parser_rule P (Parser rule ∷ rules) h =
+    All-cons P rule (parser_rules rules) (h rule (all_head (Contains (Parser rule ∷ rules)) (Parser rule) rules (All-contains_itself (Parser rule ∷ rules))))
+    (each_parser_rule P rules (λ other has. h other (Contains-append_right (Parser rule ∷ []) rules (Parser other) has)))
+each_parser_rule P (Lexer rule ∷ rules) h = each_parser_rule P rules (λ other has. h other (Contains-append_right (Lexer rule ∷ []) rules (Parser other) has))
 
 -- there are no more parser rules than rules
 pub parsers_few : (rules : List Rule) → length (parser_rules rules) ≤ length rules

@@ -1,5 +1,5 @@
 -- The numbered grammar of a source, from that of its parser rules and lexer rules.
-use Rattle.std.proofs.Common.{◌≡◌, ◌≤◌, ◌<◌, ◌++◌, ◌∷◌, ℕ, List, [], length, map, Ok, Err, refl, sym, ap, ◌∙◌, subst, All, arith}
+use Rattle.std.proofs.Common.{◌≡◌, ◌≤◌, ◌<◌, ◌++◌, ◌∷◌, ℕ, List, [], length, map, Ok, Err, refl, sym, ap, ◌∙◌, subst, All, Contains, arith}
 use Rattle.std.specs.List.{flat_map}
 use Rattle.std.proofs.lemmas.List.{append-nil, length-map}
 use Rattle.std.proofs.lemmas.List.Elements.{filter_map-append}
@@ -10,7 +10,7 @@ use Rattle.g4_source.specs.declared.rule.ParserRule.{ParserRule}
 use Rattle.g4_source.specs.declared.rule.LexerRule.{LexerRule}
 use Rattle.g4_source.specs.declared.source.Source.{Source}
 use Rattle.g4_source.specs.declared.rule.Rule.{Rule}
-use Rattle.g4_source.specs.declared.rule.Rule.TheVariants.{Lexer}
+use Rattle.g4_source.specs.declared.rule.Rule.TheVariants.{Parser, Lexer}
 use Rattle.g4_source.specs.declared.source.Mode.{Mode}
 use Rattle.g4_source.specs.Rules.{parser_rule, parser_rules}
 use Rattle.g4_source.specs.Blocks.{HaveAlternatives, ParserRulesAreFull}
@@ -18,7 +18,7 @@ use Rattle.g4_grammar.specs.declared.numbered.Numbered.{Numbered}
 use Rattle.g4_grammar.specs.declared.numbered.NumberedAtom.{NumberedAtom}
 use Rattle.g4_grammar.specs.declared.numbered.TokenRule.{TokenRule}
 use Rattle.g4_grammar.specs.NumberedRules.{NumberedRuleIsUntested, NumberedRulesAreDefined, NumberedRulesCanRun, RuleLeavesEnd}
-use Rattle.g4_grammar.specs.Written.{RuleIsQuiet, RulesAreDefined, RulesCanRun, TokenRuleIsQuiet}
+use Rattle.g4_grammar.specs.Written.{ParserRuleIsUntested, RulesAreDefined, RulesCanRun}
 use Rattle.g4_rules.specs.Rules.{mode_rules, rules_of}
 use Rattle.g4_vocab.specs.declared.fault.TheConstants.{MOST_RULES}
 use Rattle.g4_vocab.specs.declared.fault.NumberFault.{NumberFault}
@@ -30,7 +30,7 @@ use Rattle.g4_vocab.specs.Types.{greatest_type, with_keys}
 use Rattle.g4_vocab.specs.Halves.{AreHalves}
 use Rattle.g4_vocab.specs.Numbering.{numbered_rule, all_atoms, all_references, numbered_with, types_with, types_of, token_lexers, wanted}
 use Rattle.g4_vocab.specs.Answers.{CausesNumberFault, GivesNumbered, GivesNumberedHalves}
-use Rattle.g4_vocab.proofs.Laws.{parsers_few, rules_full, rules_untested, rules_ends, lexers_quiet, tokens_quiet, symbols_low}
+use Rattle.g4_vocab.proofs.Laws.{parsers_few, rules_full, rules_untested, rules_ends, each_parser_rule, symbols_low}
 use Rattle.g4_vocab.proofs.Faultless.{rules_defined, rules_run}
 
 -- a fact of the halves is a fact of those of the source
@@ -77,11 +77,9 @@ module _ (source : Source) (grammar : Numbered) (given : GivesNumbered source (O
   pub source_ends : All RuleLeavesEnd grammar.rules
   source_ends = subst (λ (rules : List (ParserRule NumberedAtom)). All RuleLeavesEnd rules) (sym (ap (λ (g : Numbered). g.rules) given.2)) (rules_ends (token_lexers source.rules) (types_of [] source.rules) given.1 (parser_rules source.rules))
 
-  pub source_quiet : All RuleIsQuiet source.rules → All NumberedRuleIsUntested grammar.rules × All TokenRuleIsQuiet grammar.token_rules
-  source_quiet h = (
-    subst (λ (rules : List (ParserRule NumberedAtom)). All NumberedRuleIsUntested rules) (sym (ap (λ (g : Numbered). g.rules) given.2)) (rules_untested (token_lexers source.rules) (types_of [] source.rules) source.rules h),
-    subst (λ (rules : List TokenRule). All TokenRuleIsQuiet rules) (sym (ap (λ (g : Numbered). g.token_rules) given.2)) (tokens_quiet (types_of [] source.rules) (token_lexers source.rules) (lexers_quiet source.rules h)),
-  )
+  pub source_untested : ((rule : ParserRule Atom) → Contains source.rules (Parser rule) → ParserRuleIsUntested rule) → All NumberedRuleIsUntested grammar.rules
+  source_untested h =
+      subst (λ (rules : List (ParserRule NumberedAtom)). All NumberedRuleIsUntested rules) (sym (ap (λ (g : Numbered). g.rules) given.2)) (rules_untested (token_lexers source.rules) (types_of [] source.rules) (parser_rules source.rules) (each_parser_rule ParserRuleIsUntested source.rules h))
 
   -- what holds of the numbered rules of all rules, holds of those of the grammar
   of_rules : (P : List (ParserRule NumberedAtom) → Type 0) → P (map (numbered_rule (token_lexers source.rules) (types_of [] source.rules)) (parser_rules (rules_of source))) → P grammar.rules

@@ -1,9 +1,12 @@
 // From a source to its numbered grammar.
 ghost use Rattle.std.specs.Prelude.{◌≡◌, ◌≤◌, All, Contains, IfOk, [], length, map};
 ghost use Rattle.g4_symbols.specs.Symbols.{end_of_list};
+ghost use Rattle.g4_source.specs.declared.atom.Atom.{Atom};
+ghost use Rattle.g4_source.specs.declared.rule.ParserRule.{ParserRule};
+ghost use Rattle.g4_source.specs.declared.rule.Rule.TheVariants.{Parser};
 ghost use Rattle.g4_source.specs.Blocks.{HaveAlternatives, ParserRulesAreFull};
 ghost use Rattle.g4_grammar.specs.NumberedRules.{NumberedRuleIsUntested, NumberedRulesAreDefined, NumberedRulesCanRun, RuleLeavesEnd};
-ghost use Rattle.g4_grammar.specs.Written.{RuleIsQuiet, RulesAreDefined, RulesCanRun, TokenRuleIsQuiet};
+ghost use Rattle.g4_grammar.specs.Written.{ParserRuleIsUntested, RulesAreDefined, RulesCanRun};
 ghost use Rattle.g4_rules.specs.Rules.{rules_of};
 ghost use Rattle.g4_vocab.specs.Answers.{GivesNumbered, GivesNumberedHalves};
 ghost use Rattle.g4_vocab.specs.Numbering.{all_atoms, all_references, numbered_alternative, numbered_rule, numbered_with};
@@ -161,7 +164,7 @@ pub fn number(alloc: Global, source: &Source) -> Result<Numbered, NumberFault>
     ensures full { HaveAlternatives source.now → IfOk result (λ grammar. ParserRulesAreFull grammar.rules) }
     ensures few { IfOk result (λ grammar. length grammar.rules ≤ MOST_RULES) }
     ensures ends { IfOk result (λ grammar. All RuleLeavesEnd grammar.rules) }
-    ensures quiet { All RuleIsQuiet source.now.rules → IfOk result (λ grammar. All NumberedRuleIsUntested grammar.rules × All TokenRuleIsQuiet grammar.token_rules) }
+    ensures untested { ((rule : ParserRule Atom) → Contains source.now.rules (Parser rule) → ParserRuleIsUntested rule) → IfOk result (λ grammar. All NumberedRuleIsUntested grammar.rules) }
     ensures defined { RulesAreDefined (rules_of source.now) → IfOk result (λ grammar. NumberedRulesAreDefined grammar.rules) }
     ensures run { RulesCanRun (rules_of source.now) → IfOk result (λ grammar. NumberedRulesCanRun grammar.rules) }
 {

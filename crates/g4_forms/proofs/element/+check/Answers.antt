@@ -2,7 +2,7 @@ use Rattle.std.proofs.Common.{List, arith, sym, subst, ◌∙◌}
 use Rattle.std.proofs.lemmas.Result.{err_from_is_err_and}
 use Rattle.g4_forms.specs.Forms.{Form}
 use Rattle.g4_forms.specs.Answers.{TellsFirst, AreRun}
-use Rattle.g4_forms.proofs.Firsts.{first_of_more, first_behind, run_behind, one_passed, one_told, all_passed}
+use Rattle.g4_forms.proofs.Firsts.{one_passed, one_told, all_passed}
 use Rattle.g4_forms.proofs.Nodes.{node_forms, side_forms, atom_node, block_node, elements_are, either_are, side_is}
 use Rattle.g4_forms.proofs.element.+check.Goals as goal
 
@@ -23,27 +23,12 @@ check_either-loop-alternative-preserved t c =
 pub check_either-returns : goal.check_either-returns
 check_either-returns t c = either_are c.args.kind c.args.alternatives.now ∙ all_passed (side_forms c.args.kind) c.args.alternatives.now c.loop-alternative.alternative-index (omega arith) c.loop-alternative.invariant
 
-pub check_block-returns-in_err-check_either : goal.check_block-returns-in_err-check_either
-check_block-returns-in_err-check_either t c =
-    let p = err_from_is_err_and c.from_residual-in_err-check_either.result c.from_residual-in_err-check_either.ensures.1 in
-    let fault = c.in_err-check_either.field-0.0 in
-    rw (p.1, p.2) (first_behind _ _ fault c.in_ok-check_label.ensures (first_of_more _ _ fault c.in_err-check_either.ensures))
-
-pub check_block-returns-in_err-check_label : goal.check_block-returns-in_err-check_label
-check_block-returns-in_err-check_label t c =
-    let p = err_from_is_err_and c.from_residual.result c.from_residual.ensures.1 in
-    let fault = c.in_err-check_label.field-0.0 in
-    rw (p.1, p.2) (first_of_more _ _ fault c.in_err-check_label.ensures)
-
-pub check_block-returns : goal.check_block-returns
-check_block-returns t c = run_behind _ _ c.check_sign.result c.in_ok-check_label.ensures (run_behind _ _ c.check_sign.result c.in_ok-check_either.ensures c.check_sign.ensures)
-
 pub check_element-returns-in-Atom : goal.check_element-returns-in-Atom
-check_element-returns-in-Atom t c = subst (λ (zs : List Form). AreRun zs c.check_lone.result) (sym (atom_node c.args.kind c.args.element.now c.in-Atom.atom c.in-Atom.is)) c.check_lone.ensures
+check_element-returns-in-Atom t c = subst (λ (zs : List Form). AreRun zs c.check_atom.result) (sym (atom_node c.args.kind c.args.element.now c.in-Atom.atom c.in-Atom.is)) c.check_atom.ensures
 
 pub check_element-returns-in-Block : goal.check_element-returns-in-Block
 check_element-returns-in-Block t c =
-    subst (λ (zs : List Form). AreRun zs c.check_block.result) (sym (block_node c.args.kind c.args.element.now c.in-Block.label c.in-Block.repeat c.in-Block.alternatives c.as_slice.result.now c.in-Block.is c.as_slice.ensures.value)) c.check_block.ensures
+    subst (λ (zs : List Form). AreRun zs c.check_either.result) (sym (block_node c.args.kind c.args.element.now _ _ c.in-Block.alternatives c.as_slice.result.now c.in-Block.is c.as_slice.ensures.value)) c.check_either.ensures
 
 pub check_elements-returns-in_err-check_element : goal.check_elements-returns-in_err-check_element
 check_elements-returns-in_err-check_element t c =

@@ -1,4 +1,4 @@
-use Rattle.g4_vocab.proofs.Sources.{source_types, source_full, source_few, source_ends, source_quiet, source_defined, source_run}
+use Rattle.g4_vocab.proofs.Sources.{source_types, source_full, source_few, source_ends, source_untested, source_defined, source_run}
 use Rattle.g4_vocab.proofs.numbering.number.Goals as goal
 
 pub returns-clause-types : goal.returns-clause-types
@@ -13,8 +13,8 @@ returns-clause-few c = source_few c.args.source.now c.in_ok-grammar.grammar c.in
 pub returns-clause-ends : goal.returns-clause-ends
 returns-clause-ends c = source_ends c.args.source.now c.in_ok-grammar.grammar c.in_ok-grammar.ensures
 
-pub returns-clause-quiet : goal.returns-clause-quiet
-returns-clause-quiet c = source_quiet c.args.source.now c.in_ok-grammar.grammar c.in_ok-grammar.ensures
+pub returns-clause-untested : goal.returns-clause-untested
+returns-clause-untested c = source_untested c.args.source.now c.in_ok-grammar.grammar c.in_ok-grammar.ensures
 
 pub returns-clause-defined : goal.returns-clause-defined
 returns-clause-defined c = source_defined c.args.source.now c.in_ok-grammar.grammar c.in_ok-grammar.ensures
