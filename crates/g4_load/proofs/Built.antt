@@ -20,17 +20,15 @@ use Rattle.g4_grammar.specs.NumberedRules.{NumberedRuleIsUntested, NumberedRules
 use Rattle.g4_grammar.specs.StepRules.{StepRule, CanBeRewritten}
 use Rattle.g4_grammar.specs.declared.step.Numbering.{Numbering}
 use Rattle.g4_leftrec.specs.Rewriting.{rewritten, numberings}
-use Rattle.g4_load.specs.Usable.{CanBeBuilt, IsUsable}
+use Rattle.g4_load.specs.Usable.{CanBeBuilt, IsSound}
 use Rattle.g4_layout.specs.Built.{IsBuilt}
 use Rattle.g4_layout.specs.Rules.{rule_number}
 use Rattle.g4_symbols.specs.Symbols.{eof}
 use Rattle.g4_grammar.specs.declared.numbered.Numbered.{Numbered}
 use Rattle.g4_grammar.specs.declared.numbered.NumberedAtom.{NumberedAtom}
-use Rattle.g4_grammar.specs.declared.numbered.TokenRule.{TokenRule}
 use Rattle.g4_net.specs.Network.{ParserNetwork}
 use Rattle.g4_resolve.specs.Resolving.{resolved_rule}
 use Rattle.g4_build.specs.Answers.{GivesNetwork}
-use Rattle.g4_build.specs.LexerSize.{lexer_state_count}
 use Rattle.g4_build.specs.declared.builder.BuildFault.{BuildFault}
 use Rattle.g4_load.specs.declared.fault.GrammarFault.{GrammarFault}
 use Rattle.g4_load.specs.declared.fault.CheckError.{CheckError}
@@ -42,9 +40,18 @@ use Rattle.g4_load.specs.declared.stop.Halt.{Halt}
 use Rattle.g4_load.specs.declared.stop.Halt.TheVariants as halts
 use Rattle.g4_load.specs.Stages.{Gives, Then, stops, goes_on, OfFile, passes, fails, IsErrorOf, IsHaltOf}
 use Rattle.g4_load.specs.Files.{Files}
-use Rattle.g4_load.specs.Loading.{Fetches, IsGrammarIn, Checks, Numbers, Loads}
-use Rattle.g4_load.specs.Building.{names_of, steps_of, interpreter_of, GivesRewritten, Lays}
-use Rattle.g4_net.specs.declared.network.TheConstants.{MOST_STATES}
+use Rattle.g4_source.specs.Blocks.{HaveAlternatives, LexerRulesAreFull, ModesAreFull}
+use Rattle.g4_rules.specs.Rules.{rules_of}
+use Rattle.g4_grammar.specs.Written.{RulesAreDefined, RulesCanRun}
+use Rattle.g4_symbols.specs.declared.symbol.TheConstants.{MOST_TYPES}
+use Rattle.g4_lexrules.specs.Rules.{IsLexerRulesOf}
+use Rattle.g4_lexrules.specs.declared.lexer_rules.LexerRules.{LexerRules}
+use Rattle.g4_lexrules.proofs.Checked.{can_be_lexed}
+use Rattle.g4_load.specs.Lexers.{CanBeMade, GivesLexer}
+use Rattle.g4_load.specs.Loading.{Fetches, IsGrammarIn, Checks, Numbers, Loads, lexer_of, loaded_of}
+use Rattle.g4_load.specs.declared.loading.Loaded.{Loaded}
+use Rattle.g4_load.specs.Building.{names_of, steps_of, laid_of, GivesRewritten, Lays, FromGrammar}
+use Rattle.g4_load.specs.declared.interpreter.Laid.{Laid}
 
 -- a layer's fault at which a stage ends
 pub stage_exit : {X Y E : Type 0} (IsAnswer : Result X E → Type 0) (seen : E → CheckError) (Second : X → Result Y GrammarFault → Type 0) (e : E) →
@@ -64,19 +71,12 @@ error_within : {X : Type 0} (Stage Whole : Result X GrammarFault → Type 0) (wi
 error_within Stage Whole within (errors.Fault fault) h = within (Err fault) h
 error_within Stage Whole within errors.NoMemory h = tt
 
--- a test that fails leaves too many states
-pub too_many : (fits : Bool) (n : ℕ) → fits ≡ false → IsTrue fits ↔ n ≤ MOST_STATES → MOST_STATES < n
-too_many fits n is test = elim (cut n 65536) [ inl low ↦ absurd (let e : fits ≡ true = test.1 low in let k : ⊥ = cc in k) | inr high ↦ high ]
-  where
-    cut : (n m : ℕ) → (n ≤ m) ⊎ (m < n)
-    cut n m = grind arith
-
 -- the names that are kept, the rules being lent
-pub names_are : (grammar : Numbered) (names : List (List ℕ)) (slice : List (ParserRule NumberedAtom)) → names ≡ map (λ rule. rule.name) slice → slice ≡ grammar.rules → names ≡ names_of grammar
+pub names_are : (grammar : Loaded) (names : List (List ℕ)) (slice : List (ParserRule NumberedAtom)) → names ≡ map (λ rule. rule.name) slice → slice ≡ grammar.rules → names ≡ names_of grammar
 names_are grammar names slice made lent = made ∙ ap (map (λ rule. rule.name)) lent
 
 -- the rules over steps, no predicate having a place yet
-pub steps_are : (grammar : Numbered) (names : List (List ℕ)) (predicates : List Place) (rules : List (ParserRule NumberedAtom)) (steps : List StepRule) →
+pub steps_are : (grammar : Loaded) (names : List (List ℕ)) (predicates : List Place) (rules : List (ParserRule NumberedAtom)) (steps : List StepRule) →
     names ≡ names_of grammar → predicates ≡ [] → rules ≡ grammar.rules → steps ≡ map (resolved_rule names predicates) rules → steps ≡ steps_of grammar
 steps_are grammar names predicates rules steps names_is predicates_is rules_is made =
     made
@@ -84,23 +84,19 @@ steps_are grammar names predicates rules steps names_is predicates_is rules_is m
     ∙ (ap (λ (ps : List Place). map (resolved_rule (names_of grammar) ps) rules) predicates_is
     ∙ ap (map (resolved_rule (names_of grammar) [])) rules_is))
 
--- the token rules, where they are lent
-pub lent_rules : (fits : Bool) (rules slice : List TokenRule) → slice ≡ rules → IsTrue fits ↔ lexer_state_count slice ≤ MOST_STATES → IsTrue fits ↔ lexer_state_count rules ≤ MOST_STATES
-lent_rules fits rules slice same is = subst (λ (rs : List TokenRule). IsTrue fits ↔ lexer_state_count rs ≤ MOST_STATES) same is
-
 -- what resolving asks of rules, so that they can be rewritten
 abbrev pub AreRewritable : List (List ℕ) → List (ParserRule NumberedAtom) → List StepRule → Type 0
 AreRewritable names rules steps =
     names ≡ map (λ rule. rule.name) rules → ParserRulesAreFull rules → All RuleLeavesEnd rules → All NumberedRuleIsUntested rules → NumberedRulesAreDefined rules → NumberedRulesCanRun rules → CanBeRewritten steps
 
 -- the rules of a grammar that can be built
-pub can_be_rewritten : (grammar : Numbered) (names : List (List ℕ)) (rules : List (ParserRule NumberedAtom)) (steps : List StepRule) → CanBeBuilt grammar → names ≡ names_of grammar → rules ≡ grammar.rules →
+pub can_be_rewritten : (grammar : Loaded) (names : List (List ℕ)) (rules : List (ParserRule NumberedAtom)) (steps : List StepRule) → CanBeBuilt grammar → names ≡ names_of grammar → rules ≡ grammar.rules →
     AreRewritable names rules steps → CanBeRewritten steps
 can_be_rewritten grammar names rules steps can named same h =
     let here : AreRewritable names grammar.rules steps = subst (λ (rs : List (ParserRule NumberedAtom)). AreRewritable names rs steps) same h in
     here named can.full can.ends can.untested can.defined can.run
 
-module _ (start : List ℕ) (grammar : Numbered) where
+module _ (start : List ℕ) (grammar : Loaded) where
   -- the answer of building, where the rules are those of the grammar
   pub gives_rewritten : (steps made : List StepRule) (numbers : List Numbering) (r : Result ParserNetwork BuildFault) → steps ≡ steps_of grammar → made ≡ rewritten steps → numbers ≡ numberings steps →
       GivesNetwork made numbers start r → GivesRewritten start grammar r
@@ -110,33 +106,53 @@ module _ (start : List ℕ) (grammar : Numbered) where
 
   -- a numbered grammar without a network
   pub build_exit : (e : BuildFault) → GivesRewritten start grammar (Err e) → IsErrorOf (Lays start grammar) (of_build start e)
-  build_exit e is = stage_exit (GivesRewritten start grammar) (of_build start) (λ net result. result ≡ Ok (interpreter_of grammar net)) e is
+  build_exit e is = stage_exit (GivesRewritten start grammar) (of_build start) (λ net result. result ≡ Ok (laid_of grammar net)) e is
 
   -- the grammar and its network
   pub laid : (kept : List StepRule) (net : ParserNetwork) (names : List (List ℕ)) → kept ≡ steps_of grammar → GivesRewritten start grammar (Ok net) → names ≡ names_of grammar →
-      Lays start grammar (Ok (record { names = names; rules = kept; shown = grammar.shown; token_rules = grammar.token_rules; net = net }))
+      Lays start grammar (Ok (record { names = names; rules = kept; shown = grammar.shown; lexer = grammar.lexer; net = net }))
   laid kept net names same built named =
-      goes_on net (Ok (record { names = names; rules = kept; shown = grammar.shown; token_rules = grammar.token_rules; net = net })) built
-      (ap (λ (n : List (List ℕ)). Ok (record { names = n; rules = kept; shown = grammar.shown; token_rules = grammar.token_rules; net = net })) named
-      ∙ ap (λ (rs : List StepRule). Ok (record { names = names_of grammar; rules = rs; shown = grammar.shown; token_rules = grammar.token_rules; net = net })) same)
+      goes_on net (Ok (record { names = names; rules = kept; shown = grammar.shown; lexer = grammar.lexer; net = net })) built
+      (ap (λ (n : List (List ℕ)). Ok (record { names = n; rules = kept; shown = grammar.shown; lexer = grammar.lexer; net = net })) named
+      ∙ ap (λ (rs : List StepRule). Ok (record { names = names_of grammar; rules = rs; shown = grammar.shown; lexer = grammar.lexer; net = net })) same)
 
-  -- what parses with it is usable
-  pub usable : CanBeBuilt grammar → (steps kept made : List StepRule) (numbers : List Numbering) (net : ParserNetwork) (names : List (List ℕ)) → kept ≡ steps → CanBeRewritten steps → made ≡ rewritten steps → numbers ≡ numberings steps →
-      GivesNetwork made numbers start (Ok net) → IsUsable (record { names = names; rules = kept; shown = grammar.shown; token_rules = grammar.token_rules; net = net })
-  usable can steps kept made numbers net names same rewritable laid numbered built =
+  -- it can be parsed with, and its lexer made
+  pub sound : CanBeBuilt grammar → (steps kept made : List StepRule) (numbers : List Numbering) (net : ParserNetwork) (names : List (List ℕ)) → kept ≡ steps → CanBeRewritten steps → made ≡ rewritten steps → numbers ≡ numberings steps →
+      GivesNetwork made numbers start (Ok net) → IsSound (record { names = names; rules = kept; shown = grammar.shown; lexer = grammar.lexer; net = net })
+  sound can steps kept made numbers net names same rewritable laid numbered built =
       let here : IsBuilt (eof ∷ []) (rewritten steps) (numberings steps) start net =
       subst (λ (ns : List Numbering). IsBuilt (eof ∷ []) (rewritten steps) ns start net) numbered (subst (λ (ms : List StepRule). IsBuilt (eof ∷ []) ms numbers start net) laid built) in record {
-        ready = (rule_number (rewritten steps) start, 2 * length (rewritten steps) + 2, eof ∷ [], here.runnable);
-        rules = subst (λ (ss : List StepRule). CanBeRewritten ss) (sym same) rewritable;
-        built = (start, subst (λ (ss : List StepRule). IsBuilt (eof ∷ []) (rewritten ss) (numberings ss) start net) (sym same) here);
-        types = can.types;
-        quiet = can.token_quiet;
+        parsing = record {
+          ready = (rule_number (rewritten steps) start, 2 * length (rewritten steps) + 2, eof ∷ [], here.runnable);
+          rewritable = subst (λ (ss : List StepRule). CanBeRewritten ss) (sym same) rewritable;
+          built = (start, subst (λ (ss : List StepRule). IsBuilt (eof ∷ []) (rewritten ss) (numberings ss) start net) (sym same) here);
+        };
+        lexer = can.lexer;
       }
+
+-- the rules of a source's lexer
+lexer_is : (source : Source) (made : LexerRules) → IsLexerRulesOf source made → made ≡ lexer_of source
+lexer_is source made are = rw (are.literals, are.modes, are.types) refl
+
+-- so they can be made a lexer of, where the source is checked
+pub can_be_made : (source : Source) (made : LexerRules) → IsLexerRulesOf source made → HaveAlternatives source → RulesAreDefined (rules_of source) → RulesCanRun (rules_of source) → LexerRulesAreFull made.literals × ModesAreFull made.modes →
+    All (λ type. type ≤ MOST_TYPES) made.types → CanBeMade made
+can_be_made source made are have defined can full low = record {
+  literals = full.0;
+  modes = full.1;
+  lexed = can_be_lexed source made are have defined can;
+  types = low;
+}
 
 -- a stage that stops, stops what follows it
 pub stage_stops : {X Y : Type 0} (Stage : Result X GrammarFault → Type 0) (Second : X → Result Y GrammarFault → Type 0) (error : CheckError) → IsErrorOf Stage error → IsErrorOf (Then Stage Second) error
 stage_stops Stage Second (errors.Fault fault) h = stops fault h
 stage_stops Stage Second errors.NoMemory h = tt
+
+-- a lexer with too many states
+pub lexer_exit : (start : List ℕ) (grammar : Loaded) (laid : Laid) (e : CheckError) → Lays start grammar (Ok laid) → IsErrorOf (GivesLexer laid.lexer) e → IsErrorOf (FromGrammar start grammar) e
+lexer_exit start grammar laid (errors.Fault fault) is h = goes_on laid (Err fault) is (stops fault h)
+lexer_exit start grammar laid errors.NoMemory is h = tt
 
 module _ (bytes : List ℕ) where
   -- bytes that are no grammar
@@ -144,14 +160,14 @@ module _ (bytes : List ℕ) where
   read_exit e is = stage_exit (IsReading bytes) of_read Numbers e is
 
   module _ (source : Source) (read : IsReading bytes (Ok source)) where
-    after_reading : (r : Result Numbered GrammarFault) → Numbers source r → IsGrammarIn bytes r
+    after_reading : (r : Result Loaded GrammarFault) → Numbers source r → IsGrammarIn bytes r
     after_reading r h = goes_on source r read h
 
     -- what follows the forms, and the names
-    abbrev WithForms : Result Numbered GrammarFault → Type 0
+    abbrev WithForms : Result Loaded GrammarFault → Type 0
     WithForms = Then (Gives (HasOwnNames source.rules) of_name) (λ _. Then (Gives (GivesNumbered source) of_number) (Checks source))
 
-    abbrev WithNames : Result Numbered GrammarFault → Type 0
+    abbrev WithNames : Result Loaded GrammarFault → Type 0
     WithNames = Then (Gives (GivesNumbered source) of_number) (Checks source)
 
     -- a grammar with a form that is not run yet
@@ -159,7 +175,7 @@ module _ (bytes : List ℕ) where
     form_exit e is = error_within (Numbers source) (IsGrammarIn bytes) after_reading (of_form e) (stage_exit (AreRun {A = ⊤} (forms_not_run source)) of_form (λ _. WithForms) e is)
 
     module _ (run : AreRun {A = ⊤} (forms_not_run source) (Ok tt)) where
-      after_forms : (r : Result Numbered GrammarFault) → WithForms r → IsGrammarIn bytes r
+      after_forms : (r : Result Loaded GrammarFault) → WithForms r → IsGrammarIn bytes r
       after_forms r h = after_reading r (goes_on tt r run h)
 
       -- a grammar with a rule name that is used twice
@@ -167,7 +183,7 @@ module _ (bytes : List ℕ) where
       name_exit e is = error_within WithForms (IsGrammarIn bytes) after_forms (of_name e) (stage_exit (HasOwnNames source.rules) of_name (λ _. WithNames) e is)
 
       module _ (named : HasOwnNames source.rules (Ok tt)) where
-        after_names : (r : Result Numbered GrammarFault) → WithNames r → IsGrammarIn bytes r
+        after_names : (r : Result Loaded GrammarFault) → WithNames r → IsGrammarIn bytes r
         after_names r h = after_forms r (goes_on tt r named h)
 
         -- a grammar that is not numbered
@@ -175,16 +191,18 @@ module _ (bytes : List ℕ) where
         number_exit e is = error_within WithNames (IsGrammarIn bytes) after_names (of_number e) (stage_exit (GivesNumbered source) of_number (Checks source) e is)
 
         module _ (grammar : Numbered) (numbered : GivesNumbered source (Ok grammar)) where
-          after_numbers : (r : Result Numbered GrammarFault) → Checks source grammar r → IsGrammarIn bytes r
+          after_numbers : (r : Result Loaded GrammarFault) → Checks source grammar r → IsGrammarIn bytes r
           after_numbers r h = after_names r (goes_on grammar r numbered h)
 
           -- a grammar that cannot be run
           pub check_exit : (e : CheckFault) → IsChecked source (Err e) → IsErrorOf (IsGrammarIn bytes) (of_check e)
-          check_exit e is = error_within (Checks source grammar) (IsGrammarIn bytes) after_numbers (of_check e) (stage_exit (IsChecked source) of_check (λ _ result. result ≡ Ok grammar) e is)
+          check_exit e is = error_within (Checks source grammar) (IsGrammarIn bytes) after_numbers (of_check e) (stage_exit (IsChecked source) of_check (λ _ result. result ≡ Ok (loaded_of source grammar)) e is)
 
           -- a grammar without fault
-          pub checked : IsChecked source (Ok tt) → IsGrammarIn bytes (Ok grammar)
-          checked is = after_numbers (Ok grammar) (goes_on tt (Ok grammar) is refl)
+          pub checked : IsChecked source (Ok tt) → (lexer : LexerRules) → IsLexerRulesOf source lexer → IsGrammarIn bytes (Ok (record { rules = grammar.rules; shown = grammar.shown; lexer = lexer }))
+          checked is lexer are =
+              after_numbers (Ok (record { rules = grammar.rules; shown = grammar.shown; lexer = lexer })) (goes_on tt (Ok (record { rules = grammar.rules; shown = grammar.shown; lexer = lexer })) is
+              (ap (λ (l : LexerRules). Ok (record { rules = grammar.rules; shown = grammar.shown; lexer = l })) (lexer_is source lexer are)))
 
 -- what a stage over the grammar of one file gives of a command line
 abbrev pub of_one : {X : Type 0} → List ℕ → Result X GrammarFault → Result X Stop
@@ -197,7 +215,7 @@ over_file name Stage (Err fault) h = fails fault h
 
 module _ (files : Files) (name bytes : List ℕ) (fetched : Fetches files name (Ok bytes)) where
   -- the grammar of a file that is fetched
-  pub loaded : (r : Result Numbered GrammarFault) → IsGrammarIn bytes r → Loads files name (name ∷ []) (of_one name r)
+  pub loaded : (r : Result Loaded GrammarFault) → IsGrammarIn bytes r → Loads files name (name ∷ []) (of_one name r)
   loaded r (stops fault h) = stops (stopping.Fault name fault) (refl, goes_on bytes (Err (stopping.Fault name fault)) fetched (fails fault h))
   loaded r (goes_on source s h k) = goes_on source (of_one name s) (refl, goes_on bytes (Ok source) fetched (passes source h)) (over_file name (Numbers source) s k)
 
@@ -208,7 +226,7 @@ module _ (files : Files) (name : List ℕ) where
   not_fetched halts.Failed h = tt
   not_fetched halts.NoMemory h = tt
 
-  module _ {X : Type 0} (Stage : Numbered → Result X GrammarFault → Type 0) where
+  module _ {X : Type 0} (Stage : Loaded → Result X GrammarFault → Type 0) where
     -- what is made of the grammar in a file
     abbrev pub Makes : Result X Stop → Type 0
     Makes = Then (Loads files name (name ∷ [])) (λ grammar. OfFile name (Stage grammar))
@@ -220,5 +238,5 @@ module _ (files : Files) (name : List ℕ) where
     not_loaded halts.NoMemory h = tt
 
     -- what is made of a grammar that is loaded
-    pub made_of : (grammar : Numbered) (r : Result X GrammarFault) → Loads files name (name ∷ []) (Ok grammar) → Stage grammar r → Makes (of_one name r)
+    pub made_of : (grammar : Loaded) (r : Result X GrammarFault) → Loads files name (name ∷ []) (Ok grammar) → Stage grammar r → Makes (of_one name r)
     made_of grammar r h k = goes_on grammar (of_one name r) h (over_file name (Stage grammar) r k)

@@ -1,4 +1,5 @@
 mod Built
+mod LexerMade
 mod Kept
 mod Fetched
 pub mod OneBuilt

@@ -28,16 +28,22 @@ use Rattle.g4_checks.proofs.OneCheck.{one_check}
 use Rattle.g4_build.specs.Answers.{GivesNetwork}
 use Rattle.g4_build.specs.declared.builder.BuildFault.TheVariants as building
 use Rattle.g4_layout.proofs.OneNetwork.{one_network}
+use Rattle.g4_lexnet.proofs.Laws.{one_lex_net}
+use Rattle.g4_lexnet.specs.declared.lex_net.LexNet.{LexNet}
+use Rattle.g4_lexrules.specs.declared.lexer_rules.LexerRules.{LexerRules}
 use Rattle.g4_load.specs.Faults.{of_read, of_form, of_name, of_number, of_check, of_build}
 use Rattle.g4_load.specs.Stages.{Gives, Then, stops, goes_on, OfFile}
 use Rattle.g4_load.specs.declared.interpreter.Interpreter.{Interpreter}
 use Rattle.g4_load.specs.declared.fault.GrammarFault.{GrammarFault}
 use Rattle.g4_load.specs.declared.stop.Stop.{Stop}
 use Rattle.g4_load.specs.declared.stop.Stop.TheVariants as stopping
-use Rattle.g4_load.specs.Building.{steps_of, interpreter_of, Lays, FitsLexer, FromGrammar, Builds, GivesRewritten}
+use Rattle.g4_load.specs.Building.{steps_of, laid_of, interpreter_of, Lays, HasLexer, FromGrammar, Builds, GivesRewritten}
+use Rattle.g4_load.specs.Lexers.{GivesLexer, lexer_of}
+use Rattle.g4_load.specs.declared.interpreter.Laid.{Laid}
+use Rattle.g4_load.specs.declared.loading.Loaded.{Loaded}
 use Rattle.g4_load.specs.Listing.{IsStartRule, ListsStart, FromRule, Lists}
 use Rattle.g4_load.specs.Files.{Files}
-use Rattle.g4_load.specs.Loading.{Fetches, absent, too_large, there, Checks, Numbers, Loads}
+use Rattle.g4_load.specs.Loading.{Fetches, absent, too_large, there, Checks, Numbers, Loads, loaded_of}
 use Rattle.g4_load.proofs.OneStage.{IsSingle, IsSingleBeside, one_gift, one_then, one_of_file}
 
 -- a source has at most one numbering
@@ -85,28 +91,32 @@ one_build rules numbers start (Err building.States) (Err building.NoMemory) p q 
 one_build rules numbers start (Err building.NoMemory) b p q n m = absurd (n refl)
 
 -- a grammar is laid in at most one way
-one_laid : (start : List ℕ) (grammar : Numbered) → IsSingle (Lays start grammar)
+one_laid : (start : List ℕ) (grammar : Loaded) → IsSingle (Lays start grammar)
 one_laid start grammar =
-    one_then (Gives (GivesRewritten start grammar) (of_build start)) (λ net result. result ≡ Ok (interpreter_of grammar net))
+    one_then (Gives (GivesRewritten start grammar) (of_build start)) (λ net result. result ≡ Ok (laid_of grammar net))
     (one_gift (GivesRewritten start grammar) (of_build start) building.NoMemory refl (one_build (rewritten (steps_of grammar)) (numberings (steps_of grammar)) start)) (λ net a b p q. p ∙ sym q)
 
--- a network goes with at most one lexer's network
-one_fit : (laid : Interpreter) → IsSingle (FitsLexer laid)
-one_fit laid (Ok a) (Ok b) p q = ap (λ x. Ok x) (p.1 ∙ sym q.1)
-one_fit laid (Ok a) (Err g) p q = absurd (omega (arith, p.0, q.0))
-one_fit laid (Err f) (Ok b) p q = absurd (omega (arith, p.0, q.0))
-one_fit laid (Err f) (Err g) p q = ap (λ x. Err x) (p.1 ∙ sym q.1)
+-- the rules of a lexer give at most one lexer
+one_lexer : (rules : LexerRules) → IsSingle (GivesLexer rules)
+one_lexer rules (Ok a) (Ok b) p q = ap (λ x. Ok x) (p.2 ∙ ap (λ (m : LexNet). lexer_of m rules.types) (one_lex_net rules.literals rules.modes p.0 q.0 p.1 q.1) ∙ sym q.2)
+one_lexer rules (Ok a) (Err g) p q = absurd (omega (arith, p.1.fits, q.0))
+one_lexer rules (Err f) (Ok b) p q = absurd (omega (arith, q.1.fits, p.0))
+one_lexer rules (Err f) (Err g) p q = ap (λ x. Err x) (p.1 ∙ sym q.1)
+
+-- a network goes with at most one lexer
+one_with_lexer : (laid : Laid) → IsSingle (HasLexer laid)
+one_with_lexer laid = one_then (GivesLexer laid.lexer) (λ lexer result. result ≡ Ok (interpreter_of laid lexer)) (one_lexer laid.lexer) (λ lexer a b p q. p ∙ sym q)
 
 -- a grammar gives at most one thing to parse with
-one_from_grammar : (start : List ℕ) (grammar : Numbered) → IsSingle (FromGrammar start grammar)
-one_from_grammar start grammar = one_then (Lays start grammar) FitsLexer (one_laid start grammar) one_fit
+one_from_grammar : (start : List ℕ) (grammar : Loaded) → IsSingle (FromGrammar start grammar)
+one_from_grammar start grammar = one_then (Lays start grammar) HasLexer (one_laid start grammar) one_with_lexer
 
 -- a network has one start rule
 one_start : (net : ParserNetwork) (r s : ℕ) → IsStartRule net r → IsStartRule net s → r ≡ s
 one_start net r s p q = let same : Some (Call r 0 p.0) ≡ Some (Call s 0 q.0) = sym p.1 ∙ q.1 in cc
 
 -- and one listing of it
-one_start_listing : (laid : Interpreter) → IsSingle (ListsStart laid)
+one_start_listing : (laid : Laid) → IsSingle (ListsStart laid)
 one_start_listing laid (Ok a) (Ok b) p q =
     let also = subst (λ (r : ℕ). IsListing laid.names laid.shown laid.net r b) (one_start laid.net q.0 p.0 q.1 p.1) q.2 in
     ap (λ (x : List ℕ). Ok x) (one_listing laid.names laid.shown laid.net p.0 a b p.2 also)
@@ -114,12 +124,12 @@ one_start_listing laid (Ok a) (Err g) p q = absurd q
 one_start_listing laid (Err f) b p q = absurd p
 
 -- a grammar gives at most one listing of a rule
-one_from_rule : (rule : List ℕ) (grammar : Numbered) → IsSingle (FromRule rule grammar)
+one_from_rule : (rule : List ℕ) (grammar : Loaded) → IsSingle (FromRule rule grammar)
 one_from_rule rule grammar = one_then (Lays rule grammar) ListsStart (one_laid rule grammar) one_start_listing
 
 -- a source has at most one checked numbering
 one_checked : (source : Source) (grammar : Numbered) → IsSingle (Checks source grammar)
-one_checked source grammar = one_then (Gives (IsChecked source) of_check) (λ _ result. result ≡ Ok grammar) (one_gift (IsChecked source) of_check checking.NoMemory refl (one_check source)) (λ _ a b p q. p ∙ sym q)
+one_checked source grammar = one_then (Gives (IsChecked source) of_check) (λ _ result. result ≡ Ok (loaded_of source grammar)) (one_gift (IsChecked source) of_check checking.NoMemory refl (one_check source)) (λ _ a b p q. p ∙ sym q)
 
 one_numbers : (source : Source) → IsSingle (Numbers source)
 one_numbers source =
@@ -161,22 +171,22 @@ module _ (files : Files) (name : List ℕ) where
   one_reads : IsSingle ReadsAny
   one_reads = one_then (Fetches files name) AfterFetch one_fetch (λ bytes. one_of_file name (Gives (IsReading bytes) of_read) (one_gift (IsReading bytes) of_read reading.NoMemory refl (one_reading bytes)))
 
-  abbrev LoadsAny : Result Numbered Stop → Type 0
+  abbrev LoadsAny : Result Loaded Stop → Type 0
   LoadsAny = Then ReadsAny (λ source. OfFile name (Numbers source))
 
   one_loads : IsSingle LoadsAny
   one_loads = one_then ReadsAny (λ source. OfFile name (Numbers source)) one_reads (λ source. one_of_file name (Numbers source) (one_numbers source))
 
-  loads_any : (fetched : List (List ℕ)) (r : Result Numbered Stop) → Loads files name fetched r → LoadsAny r
+  loads_any : (fetched : List (List ℕ)) (r : Result Loaded Stop) → Loads files name fetched r → LoadsAny r
   loads_any fetched r (stops fault h) = stops fault h.1
   loads_any fetched r (goes_on source s h k) = goes_on source s h.1 k
 
   -- a file gives at most one numbered grammar, or stops at most one way
-  pub one_loaded : (f g : List (List ℕ)) (a b : Result Numbered Stop) → Loads files name f a → Loads files name g b → a ≡ b
+  pub one_loaded : (f g : List (List ℕ)) (a b : Result Loaded Stop) → Loads files name f a → Loads files name g b → a ≡ b
   one_loaded f g a b p q = one_loads a b (loads_any f a p) (loads_any g b q)
 
   -- what is made of the grammar in a file
-  module _ {X : Type 0} (Stage : Numbered → Result X GrammarFault → Type 0) (one : (grammar : Numbered) → IsSingle (Stage grammar)) where
+  module _ {X : Type 0} (Stage : Loaded → Result X GrammarFault → Type 0) (one : (grammar : Loaded) → IsSingle (Stage grammar)) where
     abbrev MakesAny : Result X Stop → Type 0
     MakesAny = Then LoadsAny (λ grammar. OfFile name (Stage grammar))
 

@@ -6,3 +6,4 @@ pub mod Listing
 pub mod Loading
 pub mod Stages
 pub mod Usable
+pub mod Lexers

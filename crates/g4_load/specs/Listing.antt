@@ -1,6 +1,5 @@
 -- The states of a rule of a grammar are listed.
 use Rattle.std.specs.Prelude.{◌≡◌, ℕ, List, Some, Result, Ok, Err}
-use Rattle.g4_grammar.specs.declared.numbered.Numbered.{Numbered}
 use Rattle.g4_net.specs.declared.network.State.TheVariants.{Call}
 use Rattle.g4_net.specs.Network.{ParserNetwork, state_at}
 use Rattle.g4_netlist.specs.Listing.{IsListing}
@@ -8,7 +7,8 @@ use Rattle.g4_load.specs.Building.{Lays}
 use Rattle.g4_load.specs.Files.{Files}
 use Rattle.g4_load.specs.Loading.{Loads}
 use Rattle.g4_load.specs.Stages.{Then, OfFile}
-use Rattle.g4_load.specs.declared.interpreter.Interpreter.{Interpreter}
+use Rattle.g4_load.specs.declared.interpreter.Laid.{Laid}
+use Rattle.g4_load.specs.declared.loading.Loaded.{Loaded}
 use Rattle.g4_load.specs.declared.fault.GrammarFault.{GrammarFault}
 use Rattle.g4_load.specs.declared.stop.Stop.{Stop}
 
@@ -17,16 +17,16 @@ abbrev pub IsStartRule : ParserNetwork → ℕ → Type 0
 IsStartRule net rule = (back : ℕ) × (state_at net 0 ≡ Some (Call rule 0 back))
 
 -- the bytes are the listing of the start rule
-abbrev pub IsStartListing : Interpreter → List ℕ → Type 0
-IsStartListing interpreter bytes = (rule : ℕ) × IsStartRule interpreter.net rule × IsListing interpreter.names interpreter.shown interpreter.net rule bytes
+abbrev pub IsStartListing : Laid → List ℕ → Type 0
+IsStartListing laid bytes = (rule : ℕ) × IsStartRule laid.net rule × IsListing laid.names laid.shown laid.net rule bytes
 
 -- the listing of a grammar with its network, which has no fault
-abbrev pub ListsStart : Interpreter → Result (List ℕ) GrammarFault → Type 0
-ListsStart interpreter (Ok bytes) = IsStartListing interpreter bytes
-ListsStart interpreter (Err fault) = ⊥
+abbrev pub ListsStart : Laid → Result (List ℕ) GrammarFault → Type 0
+ListsStart laid (Ok bytes) = IsStartListing laid bytes
+ListsStart laid (Err fault) = ⊥
 
 -- the listing of a rule of a grammar, whose network has it as its start rule, or the first fault of that
-abbrev pub FromRule : List ℕ → Numbered → Result (List ℕ) GrammarFault → Type 0
+abbrev pub FromRule : List ℕ → Loaded → Result (List ℕ) GrammarFault → Type 0
 FromRule rule grammar = Then (Lays rule grammar) ListsStart
 
 -- the listing of a rule of the grammar in a file, or the first fault of loading it and of its network

@@ -1,5 +1,5 @@
 -- A grammar is loaded: its file is read, and its rules are checked and numbered.
-use Rattle.std.specs.Prelude.{◌≡◌, ◌≤◌, ◌<◌, ℕ, List, [], ◌∷◌, length, Some, None, Result, Ok, Err, ⊤}
+use Rattle.std.specs.Prelude.{◌≡◌, ◌≤◌, ◌<◌, ℕ, List, [], ◌∷◌, length, map, Some, None, Result, Ok, Err, ⊤}
 use Rattle.g4_source.specs.declared.source.Source.{Source}
 use Rattle.g4_grammar.specs.declared.numbered.Numbered.{Numbered}
 use Rattle.g4_reader.specs.Reading.{IsReading}
@@ -9,6 +9,9 @@ use Rattle.g4_vocab.specs.Names.{HasOwnNames}
 use Rattle.g4_vocab.specs.Answers.{GivesNumbered}
 use Rattle.g4_checks.specs.Checking.{IsChecked}
 use Rattle.g4_base.specs.declared.limits.TheConstants.{MOST_BYTES}
+use Rattle.g4_lexrules.specs.Rules.{lexer_modes, types_of_rules, literal_tokens, rule_of_token}
+use Rattle.g4_lexrules.specs.declared.lexer_rules.LexerRules.{LexerRules}
+use Rattle.g4_load.specs.declared.loading.Loaded.{Loaded}
 use Rattle.g4_load.specs.Faults.{of_read, of_form, of_name, of_number, of_check}
 use Rattle.g4_load.specs.Files.{Files}
 use Rattle.g4_load.specs.Stages.{Gives, Then, OfFile}
@@ -26,19 +29,27 @@ pub data Fetches (files : Files) (name : List ℕ) : Result (List ℕ) Stop → 
 abbrev pub Reads : Files → List ℕ → List (List ℕ) → Result Source Stop → Type 0
 Reads files name fetched result = (fetched ≡ name ∷ []) × Then (Fetches files name) (λ bytes. OfFile name (Gives (IsReading bytes) of_read)) result
 
--- the numbered grammar, where its rules have no fault
-abbrev pub Checks : Source → Numbered → Result Numbered GrammarFault → Type 0
-Checks source grammar = Then (Gives (IsChecked source) of_check) (λ _ result. result ≡ Ok grammar)
+-- the rules of the lexer of a source: of the literals that have tokens of their own, of all modes, and the type of each
+abbrev pub lexer_of : Source → LexerRules
+lexer_of source = record { literals = map rule_of_token (literal_tokens source); modes = lexer_modes source; types = types_of_rules source }
 
--- the numbered grammar of a source, or its first fault: a form that is not run yet, a rule name used twice, a limit, a fault of the rules
-abbrev pub Numbers : Source → Result Numbered GrammarFault → Type 0
+-- a source whose numbered grammar is this, as it is handed on
+abbrev pub loaded_of : Source → Numbered → Loaded
+loaded_of source grammar = record { rules = grammar.rules; shown = grammar.shown; lexer = lexer_of source }
+
+-- the grammar, where its rules have no fault
+abbrev pub Checks : Source → Numbered → Result Loaded GrammarFault → Type 0
+Checks source grammar = Then (Gives (IsChecked source) of_check) (λ _ result. result ≡ Ok (loaded_of source grammar))
+
+-- the grammar of a source, or its first fault: a form that is not run yet, a rule name used twice, a limit, a fault of the rules
+abbrev pub Numbers : Source → Result Loaded GrammarFault → Type 0
 Numbers source =
     Then (Gives (AreRun {A = ⊤} (forms_not_run source)) of_form) (λ _. Then (Gives (HasOwnNames source.rules) of_name) (λ _. Then (Gives (GivesNumbered source) of_number) (Checks source)))
 
 -- the grammar that the bytes are, or its first fault
-abbrev pub IsGrammarIn : List ℕ → Result Numbered GrammarFault → Type 0
+abbrev pub IsGrammarIn : List ℕ → Result Loaded GrammarFault → Type 0
 IsGrammarIn bytes = Then (Gives (IsReading bytes) of_read) Numbers
 
 -- the grammar that is read, numbered and checked, or the fault at which that ends
-abbrev pub Loads : Files → List ℕ → List (List ℕ) → Result Numbered Stop → Type 0
+abbrev pub Loads : Files → List ℕ → List (List ℕ) → Result Loaded Stop → Type 0
 Loads files name fetched = Then (Reads files name fetched) (λ source. OfFile name (Numbers source))

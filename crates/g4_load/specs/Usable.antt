@@ -2,34 +2,44 @@
 use Rattle.std.specs.Prelude.{◌≤◌, ℕ, List, [], ◌∷◌, All, length}
 use Rattle.g4_symbols.specs.Symbols.{eof}
 use Rattle.g4_source.specs.Blocks.{ParserRulesAreFull}
-use Rattle.g4_grammar.specs.declared.numbered.Numbered.{Numbered}
 use Rattle.g4_grammar.specs.NumberedRules.{NumberedRuleIsUntested, NumberedRulesAreDefined, NumberedRulesCanRun, RuleLeavesEnd}
-use Rattle.g4_grammar.specs.StepRules.{CanBeRewritten}
-use Rattle.g4_grammar.specs.Written.{TokenRuleIsQuiet}
+use Rattle.g4_grammar.specs.StepRules.{StepRule, CanBeRewritten}
+use Rattle.g4_net.specs.Network.{ParserNetwork}
+use Rattle.g4_ordered.specs.Network.{IsLexable}
+use Rattle.g4_lexing.specs.Lexers.{HasTokenTypes}
 use Rattle.g4_vocab.specs.declared.fault.TheConstants.{MOST_RULES}
 use Rattle.g4_net.specs.AddedRule.{IsReady}
 use Rattle.g4_layout.specs.Built.{IsBuilt}
 use Rattle.g4_leftrec.specs.Rewriting.{rewritten, numberings}
+use Rattle.g4_load.specs.Lexers.{CanBeMade}
 use Rattle.g4_load.specs.declared.interpreter.Interpreter.{Interpreter}
-use Rattle.g4_symbols.specs.declared.symbol.TheConstants.{MOST_TYPES}
+use Rattle.g4_load.specs.declared.interpreter.Laid.{Laid}
+use Rattle.g4_load.specs.declared.loading.Loaded.{Loaded}
 
 -- There are few enough rules, each block has an alternative, each reference is to a rule, the rules can be run, none takes END, and
--- so far none tests anything. What makes tokens gives them types and, so far, calls no rule.
-pub record CanBeBuilt (grammar : Numbered) : Type 0 where
+-- so far none tests anything. The lexer's rules can be lexed with, and have token types.
+pub record CanBeBuilt (grammar : Loaded) : Type 0 where
   pub few : length grammar.rules ≤ MOST_RULES
   pub full : ParserRulesAreFull grammar.rules
   pub ends : All RuleLeavesEnd grammar.rules
   pub untested : All NumberedRuleIsUntested grammar.rules
   pub defined : NumberedRulesAreDefined grammar.rules
   pub run : NumberedRulesCanRun grammar.rules
-  pub types : All (λ rule. rule.symbol ≤ MOST_TYPES) grammar.token_rules
-  pub token_quiet : All TokenRuleIsQuiet grammar.token_rules
+  pub lexer : CanBeMade grammar.lexer
 
--- Its rules can be rewritten, its network is that of the rewritten rules from some start rule, and what makes its tokens gives them
--- types and, so far, calls no rule.
+-- Its rules can be rewritten, and its network is that of the rewritten rules from some start rule.
+pub record IsParsing (rules : List StepRule) (net : ParserNetwork) : Type 0 where
+  pub ready : IsReady net
+  pub rewritable : CanBeRewritten rules
+  pub built : (start : List ℕ) × IsBuilt (eof ∷ []) (rewritten rules) (numberings rules) start net
+
+-- A grammar with its network can be parsed with, and its lexer's rules can be lexed with.
+pub record IsSound (laid : Laid) : Type 0 where
+  pub parsing : IsParsing laid.rules laid.net
+  pub lexer : CanBeMade laid.lexer
+
+-- Its network can be parsed with, and its lexer can be lexed with and gives token types.
 pub record IsUsable (interpreter : Interpreter) : Type 0 where
-  pub ready : IsReady interpreter.net
-  pub rules : CanBeRewritten interpreter.rules
-  pub built : (start : List ℕ) × IsBuilt (eof ∷ []) (rewritten interpreter.rules) (numberings interpreter.rules) start interpreter.net
-  pub types : All (λ rule. rule.symbol ≤ MOST_TYPES) interpreter.token_rules
-  pub quiet : All TokenRuleIsQuiet interpreter.token_rules
+  pub parsing : IsParsing interpreter.rules interpreter.net
+  pub lexable : IsLexable interpreter.lexer.net
+  pub types : HasTokenTypes interpreter.lexer

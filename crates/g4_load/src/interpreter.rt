@@ -4,23 +4,26 @@ ghost use Rattle.g4_load.specs.Building.{Builds, FromGrammar, Lays};
 ghost use Rattle.g4_load.specs.Counting.{Counts};
 ghost use Rattle.g4_load.specs.Files.{Files};
 ghost use Rattle.g4_load.specs.Stages.{GivesOrHalts, IsAnswerOf};
-ghost use Rattle.g4_load.specs.Usable.{CanBeBuilt, IsUsable};
+ghost use Rattle.g4_load.specs.Usable.{CanBeBuilt, IsSound, IsUsable};
 
 use crate::copies;
-use crate::fault::{CheckError, GrammarFault, not_built};
-use crate::loading::load;
+use crate::fault::{CheckError, not_built};
+use crate::lexer::make_lexer;
+use crate::loading::{Loaded, load};
 use crate::stop::{Halt, fault_of};
 use g4_base::{Sequence, Text};
-use g4_build::{build, lexer_network_fits};
-use g4_grammar::{Numbered, NumberedAtom, StepRule, TokenRule};
+use g4_build::build;
+use g4_grammar::{NumberedAtom, StepRule};
 use g4_leftrec::rewrite;
+use g4_lexing::Lexer;
+use g4_lexrules::LexerRules;
 use g4_net::ParserNetwork;
 use g4_ports::Shelf;
 use g4_resolve::{Resolving, resolve};
 use g4_source::ParserRule;
 use std::alloc::{AllocError, Global};
 
-/// What files are parsed with: a grammar's tokens and the network of one of its rules.
+/// What files are parsed with: a grammar's lexer, and the network of one of its rules.
 #[derive(Drop)]
 pub struct Interpreter {
     /// The names of the parser rules, which count from 1.
@@ -29,8 +32,18 @@ pub struct Interpreter {
     pub rules: Sequence<StepRule>,
     /// What is shown of each token type from 1 on.
     pub shown: Sequence<Text>,
-    /// What the lexer matches, the rules that win a tie first.
-    pub token_rules: Sequence<TokenRule>,
+    pub lexer: Lexer,
+    pub net: ParserNetwork,
+}
+
+/// A grammar with the network of one of its rules.
+#[derive(Drop)]
+pub(crate) struct Laid {
+    pub names: Sequence<Text>,
+    pub rules: Sequence<StepRule>,
+    pub shown: Sequence<Text>,
+    /// The rules of the lexer with their token types.
+    pub lexer: LexerRules,
     pub net: ParserNetwork,
 }
 
@@ -45,16 +58,16 @@ fn names_of(alloc: Global, rules: &[ParserRule<NumberedAtom>]) -> Result<Sequenc
     Ok(Sequence::new(names))
 }
 
-/// The numbered grammar with its network from this start rule, or the first fault of that.
-pub fn lay(alloc: Global, grammar: Numbered, start: &str) -> Result<Interpreter, CheckError>
+/// The grammar with its network from this start rule, or the first fault of that.
+pub(crate) fn lay(alloc: Global, grammar: Loaded, start: &str) -> Result<Laid, CheckError>
     requires { CanBeBuilt grammar }
     ensures laid { IsAnswerOf (Lays start.now grammar) result }
-    ensures usable { IfOk result IsUsable }
+    ensures sound { IfOk result IsSound }
 {
-    let Numbered {
+    let Loaded {
         rules,
         shown,
-        token_rules,
+        lexer,
     } = grammar;
     let names = names_of(alloc, rules.as_slice())?;
     let stage = Resolving {
@@ -74,26 +87,37 @@ pub fn lay(alloc: Global, grammar: Numbered, start: &str) -> Result<Interpreter,
         Err(fault) => return Err(not_built(alloc, start, fault)?),
     };
     let Resolving { names, .. } = stage;
-    Ok(Interpreter {
+    Ok(Laid {
         names,
         rules: Sequence::new(kept),
         shown,
-        token_rules,
+        lexer,
         net,
     })
 }
 
-/// What parses with the numbered grammar from this start rule, or the first fault of its networks.
-fn interpret(alloc: Global, grammar: Numbered, start: &str) -> Result<Interpreter, CheckError>
+/// What parses with the grammar from this start rule, or the first fault of its networks.
+fn interpret(alloc: Global, grammar: Loaded, start: &str) -> Result<Interpreter, CheckError>
     requires { CanBeBuilt grammar }
     ensures interpreting { IsAnswerOf (FromGrammar start.now grammar) result }
     ensures usable { IfOk result IsUsable }
 {
     let laid = lay(alloc, grammar, start)?;
-    if !lexer_network_fits(laid.token_rules.as_slice()) {
-        return Err(CheckError::Fault(GrammarFault::States));
-    }
-    Ok(laid)
+    let Laid {
+        names,
+        rules,
+        shown,
+        lexer,
+        net,
+    } = laid;
+    let lexer = make_lexer(alloc, lexer)?;
+    Ok(Interpreter {
+        names,
+        rules,
+        shown,
+        lexer,
+        net,
+    })
 }
 
 /// What parses from this start rule with the grammar in the file of this name.

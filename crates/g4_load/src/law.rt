@@ -1,16 +1,16 @@
 // What holds of all grammars in files.
 ghost use Rattle.std.specs.Prelude.{◌≡◌, ℕ, List, Result};
-ghost use Rattle.g4_grammar.specs.declared.numbered.Numbered.{Numbered};
 ghost use Rattle.g4_load.specs.Building.{Builds};
 ghost use Rattle.g4_load.specs.Files.{Files};
 ghost use Rattle.g4_load.specs.Listing.{Lists};
 ghost use Rattle.g4_load.specs.Loading.{Loads};
 ghost use Rattle.g4_load.specs.declared.interpreter.Interpreter.{Interpreter as Made};
+ghost use Rattle.g4_load.specs.declared.loading.Loaded.{Loaded as Grammar};
 ghost use Rattle.g4_load.specs.declared.stop.Stop.{Stop};
 
 /// A file is loaded in at most one way, or stops a command line in at most one way.
 pub fn one_loaded()
-    ensures { (files : Files) (name : List ℕ) (f g : List (List ℕ)) (a b : Result Numbered Stop) → Loads files name f a → Loads files name g b → a ≡ b }
+    ensures { (files : Files) (name : List ℕ) (f g : List (List ℕ)) (a b : Result Grammar Stop) → Loads files name f a → Loads files name g b → a ≡ b }
 {}
 
 /// A file and a start rule give at most one interpreter, or stop a command line in at most one way.

@@ -5,14 +5,13 @@ ghost use Rattle.g4_load.specs.Counting.{Counts};
 ghost use Rattle.g4_load.specs.Files.{Files};
 ghost use Rattle.g4_load.specs.Listing.{FromRule, IsStartListing, IsStartRule, Lists};
 ghost use Rattle.g4_load.specs.Stages.{GivesOrHalts, IsAnswerOf};
-ghost use Rattle.g4_load.specs.Usable.{CanBeBuilt, IsUsable};
+ghost use Rattle.g4_load.specs.Usable.{CanBeBuilt, IsSound};
 
 use crate::fault::CheckError;
-use crate::interpreter::{Interpreter, lay};
-use crate::loading::load;
+use crate::interpreter::{Laid, lay};
+use crate::loading::{Loaded, load};
 use crate::stop::{Halt, fault_of};
 use g4_base::Octets;
-use g4_grammar::Numbered;
 use g4_net::{ParserNetwork, State};
 use g4_netlist::list_rule;
 use g4_ports::Shelf;
@@ -30,19 +29,19 @@ fn start_rule(net: &ParserNetwork) -> u32
 }
 
 /// The listing of the start rule.
-fn list_start(alloc: Global, interpreter: &Interpreter) -> Result<Octets, AllocError>
-    requires { IsUsable interpreter.now }
-    ensures { IfOk result (IsStartListing interpreter.now) }
+fn list_start(alloc: Global, laid: &Laid) -> Result<Octets, AllocError>
+    requires { IsSound laid.now }
+    ensures { IfOk result (IsStartListing laid.now) }
 {
-    let rule = start_rule(&interpreter.net);
-    let names = interpreter.names.as_slice();
-    let shown = interpreter.shown.as_slice();
-    let listing = list_rule(alloc, names, shown, &interpreter.net, rule)?;
+    let rule = start_rule(&laid.net);
+    let names = laid.names.as_slice();
+    let shown = laid.shown.as_slice();
+    let listing = list_rule(alloc, names, shown, &laid.net, rule)?;
     Ok(listing)
 }
 
-/// The listing of the rule of this name of a numbered grammar.
-fn list_from(alloc: Global, grammar: Numbered, rule: &str) -> Result<Octets, CheckError>
+/// The listing of the rule of this name of a grammar.
+fn list_from(alloc: Global, grammar: Loaded, rule: &str) -> Result<Octets, CheckError>
     requires { CanBeBuilt grammar }
     ensures { IsAnswerOf (FromRule rule.now grammar) result }
 {

@@ -8,14 +8,27 @@ ghost use Rattle.g4_load.specs.Usable.{CanBeBuilt};
 
 use crate::fault::CheckError;
 use crate::stop::{Halt, Stop, fault_of};
-use g4_base::{MOST_BYTES, Octets, Text};
+use g4_base::{MOST_BYTES, Octets, Sequence, Text};
 use g4_checks::check;
 use g4_forms::check_forms;
-use g4_grammar::Numbered;
+use g4_grammar::{Numbered, NumberedAtom};
+use g4_lexrules::{LexerRules, lexer_rules_of};
 use g4_ports::{Got, Shelf};
 use g4_reader::read_grammar;
+use g4_source::ParserRule;
 use g4_vocab::{check_names, number};
 use std::alloc::Global;
+
+/// A grammar whose rules are checked.
+#[derive(Drop)]
+pub struct Loaded {
+    /// The parser rules over symbols, which count from 1.
+    pub rules: Sequence<ParserRule<NumberedAtom>>,
+    /// What is shown of each token type from 1 on.
+    pub shown: Sequence<Text>,
+    /// The rules of the lexer with their token types.
+    pub lexer: LexerRules,
+}
 
 /// The bytes of a grammar file.
 fn fetch_grammar<S: Shelf>(alloc: Global, shelf: &mut S, name: &str) -> Result<Octets, Halt>
@@ -34,7 +47,7 @@ fn fetch_grammar<S: Shelf>(alloc: Global, shelf: &mut S, name: &str) -> Result<O
 }
 
 /// The grammar that these bytes are.
-fn read_and_check(alloc: Global, bytes: &[u8]) -> Result<Numbered, CheckError>
+fn read_and_check(alloc: Global, bytes: &[u8]) -> Result<Loaded, CheckError>
     requires { length bytes.now ≤ MOST_BYTES }
     ensures grammar { IsAnswerOf (IsGrammarIn bytes.now) result }
     ensures checked { IfOk result CanBeBuilt }
@@ -44,14 +57,24 @@ fn read_and_check(alloc: Global, bytes: &[u8]) -> Result<Numbered, CheckError>
     check_names(alloc, &source)?;
     let grammar = number(alloc, &source)?;
     check(alloc, &source)?;
-    Ok(grammar)
+    let Numbered {
+        rules,
+        shown,
+        token_rules,
+    } = grammar;
+    let lexer = lexer_rules_of(alloc, source, token_rules)?;
+    Ok(Loaded {
+        rules,
+        shown,
+        lexer,
+    })
 }
 
-/// The numbered grammar in the file of this name, whose rules are checked.
+/// The grammar in the file of this name, whose rules are checked.
 ///
 /// # Errors
 /// The file is absent or too large, the first fault of the grammar, a fetch that failed, or no memory.
-pub fn load<S: Shelf>(alloc: Global, shelf: &mut S, name: &str) -> Result<Numbered, Halt>
+pub fn load<S: Shelf>(alloc: Global, shelf: &mut S, name: &str) -> Result<Loaded, Halt>
     ensures keeps { S.told shelf.new ≡ S.told shelf.old }
     ensures content { (files : Files) → S.told shelf.old ≡ Some files → GivesOrHalts (Loads files name.now (name.now ∷ [])) result }
     ensures checked { IfOk result CanBeBuilt }

@@ -1,12 +1,10 @@
 -- The outcomes of files one by one, their lines and how many are accepted.
-use Rattle.std.proofs.Common.{◌≡◌, ◌≢◌, ◌<◌, ◌+◌, ℕ, suc, List, [], ◌∷◌, ◌++◌, length, take, get_or, count_by, cond, ◌≤◌, ◌&&◌, Bool, true, false, ◌==◌, All, subst, sym, ap, ◌∙◌, arith, refl}
+use Rattle.std.proofs.Common.{◌≡◌, ◌≢◌, ◌<◌, ◌+◌, ℕ, suc, List, [], ◌∷◌, ◌++◌, length, take, get_or, count_by, cond, ◌≤◌, ◌&&◌, Bool, true, false, ◌==◌, sym, ap, ◌∙◌, arith, refl}
 use Rattle.std.specs.List.{list_all}
 use Rattle.std.proofs.lemmas.List.{take_more, append_assoc, length-take-le}
 use Rattle.std.proofs.lemmas.List.Sums.{count_by-le-length, sum_by-append, sum_by-cons}
-use Rattle.g4_grammar.specs.declared.numbered.TokenRule.{TokenRule}
-use Rattle.g4_grammar.specs.Written.{TokenRuleIsQuiet}
-use Rattle.g4_lexer.specs.declared.fault.LexFault.{LexFault}
-use Rattle.g4_lexer.specs.declared.fault.LexFault.TheVariants as lexing
+use Rattle.g4_lexing.specs.declared.fault.LexFault.{LexFault}
+use Rattle.g4_lexing.specs.declared.fault.LexFault.TheVariants as lexing
 use Rattle.g4_parse.specs.declared.parser.ParseFault.{ParseFault}
 use Rattle.g4_parse.specs.declared.parser.ParseFault.TheVariants as parsing
 use Rattle.g4_tool.specs.declared.files.Parsed.{Parsed}
@@ -70,10 +68,6 @@ all_counted (o ∷ os) =
 -- the names up to a place, and the next
 pub names_then : (names : List (List ℕ)) (k : ℕ) (next name : List ℕ) → k < length names → next ≡ get_or names k next → name ≡ next → take (k + 1) names ≡ take k names ++ name ∷ []
 names_then names k next name within is same = take_more names k next within ∙ ap (λ (x : List ℕ). take k names ++ x ∷ []) (sym (same ∙ is))
-
--- the token rules that are lent lex as the interpreter's
-pub by_its_rules : (rules lent : List TokenRule) (P : List TokenRule → Type 0) → lent ≡ rules → All TokenRuleIsQuiet rules → (All TokenRuleIsQuiet lent → P lent) → P rules
-by_its_rules rules lent P same quiet lexes = subst P same (lexes (subst (λ (rs : List TokenRule). All TokenRuleIsQuiet rs) (sym same) quiet))
 
 -- a fault for which memory was not refused
 pub lexed_apart : (fault : LexFault) → lexing_refused fault ≡ false → fault ≢ lexing.NoMemory

@@ -1,6 +1,5 @@
 -- Words have at most one end over the same files.
 use Rattle.std.proofs.Common.{◌≡◌, ℕ, List, Result, Ok, Err, ap, sym, ◌∙◌, refl, subst}
-use Rattle.g4_words.specs.Commands.{IsCommand}
 use Rattle.g4_words.specs.declared.command.Atn.{Atn}
 use Rattle.g4_words.specs.declared.command.Check.{Check}
 use Rattle.g4_words.specs.declared.command.Command.{Command}

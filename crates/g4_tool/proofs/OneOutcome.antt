@@ -3,10 +3,11 @@ use Rattle.std.proofs.Common.{◌≡◌, ◌≢◌, ℕ, List, [], ◌∷◌, Re
 use Rattle.g4_net.specs.Network.{ParserNetwork}
 use Rattle.g4_token_list.specs.declared.token.Tokens.{Tokens}
 use Rattle.g4_token_list.specs.TokenList.{word_of}
-use Rattle.g4_lexer.specs.declared.fault.LexFault.{LexFault}
-use Rattle.g4_lexer.specs.declared.fault.LexFault.TheVariants as lexing
-use Rattle.g4_lexer.specs.Lexing.{IsLexing, most_tokens}
-use Rattle.g4_lexer.proofs.Unique.{one_answer}
+use Rattle.g4_lexing.specs.declared.fault.LexFault.{LexFault}
+use Rattle.g4_lexing.specs.declared.fault.LexFault.TheVariants as lexing
+use Rattle.g4_lexing.specs.Lexing.{IsLexing}
+use Rattle.g4_lexing.specs.declared.lexing.TheConstants.{MOST_TOKENS}
+use Rattle.g4_lexing.proofs.Unique.{one_answer}
 use Rattle.g4_trees.specs.declared.tree.Item.{Item}
 use Rattle.g4_trees.specs.Trees.{items_of}
 use Rattle.g4_parse.specs.declared.parser.ParseFault.{ParseFault}
@@ -15,7 +16,6 @@ use Rattle.g4_parse.specs.Parsing.{IsParse, Ends}
 use Rattle.g4_parse.specs.Running.{Ending, parsed, not_viable, mismatch, failed_predicate, too_deep, beginning, no_predicates}
 use Rattle.g4_parse.proofs.OneEnding.{one_end}
 use Rattle.g4_tool.specs.declared.inputs.Input.{Input}
-use Rattle.g4_tool.specs.declared.inputs.Input.TheVariants.{Bytes, TooLarge}
 use Rattle.g4_load.specs.declared.interpreter.Interpreter.{Interpreter}
 use Rattle.g4_tool.specs.declared.outcome.Outcome.{Outcome}
 use Rattle.g4_tool.specs.declared.outcome.Outcome.TheVariants as outcomes
@@ -48,8 +48,8 @@ one_parse net word a b p q n m =
 
 module _ (interpreter : Interpreter) where
   -- one lexing of the bytes, and one run over the tokens
-  one_lexing : (a b : List ℕ) (r s : Result Tokens LexFault) → a ≡ b → IsLexing interpreter.token_rules a r → IsLexing interpreter.token_rules b s → r ≢ Err lexing.NoMemory → s ≢ Err lexing.NoMemory → r ≡ s
-  one_lexing a b r s same h k n m = one_answer interpreter.token_rules most_tokens b r s (subst (λ bs. IsLexing interpreter.token_rules bs r) same h) k n m
+  one_lexing : (a b : List ℕ) (r s : Result Tokens LexFault) → a ≡ b → IsLexing interpreter.lexer a r → IsLexing interpreter.lexer b s → r ≢ Err lexing.NoMemory → s ≢ Err lexing.NoMemory → r ≡ s
+  one_lexing a b r s same h k n m = one_answer interpreter.lexer MOST_TOKENS b r s (subst (λ bs. IsLexing interpreter.lexer bs r) same h) k n m
 
   one_run : (a b : Tokens) (r s : Result (List Item) ParseFault) → ◌≡◌ {A = Result Tokens LexFault} (Ok a) (Ok b) → IsParse interpreter.net (word_of a.list) r → IsParse interpreter.net (word_of b.list) s → r ≢ Err parsing.NoMemory → s ≢ Err parsing.NoMemory → r ≡ s
   one_run a b r s ok h k n m =

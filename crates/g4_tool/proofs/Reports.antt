@@ -1,7 +1,7 @@
 -- The reports and ends that the stages make.
-use Rattle.std.proofs.Common.{◌≡◌, ◌⊎◌, inl, inr, ◌++◌, ◌∷◌, [], ℕ, List, length, count_by, Bool, true, false, ◌==◌, if◌then◌else◌, Option, Some, Result, Ok, Err, ap, sym, ◌∙◌, refl, subst}
+use Rattle.std.proofs.Common.{◌≡◌, ◌⊎◌, inl, inr, ◌++◌, ◌∷◌, [], ℕ, List, length, Bool, true, false, ◌==◌, if◌then◌else◌, Option, Ok, Err, ap, sym, ◌∙◌, refl, subst}
 use Rattle.std.specs.List.{list_all}
-use Rattle.g4_grammar.specs.declared.numbered.Numbered.{Numbered}
+use Rattle.g4_load.specs.declared.loading.Loaded.{Loaded}
 use Rattle.g4_tool.specs.declared.files.Parsed.{Parsed}
 use Rattle.g4_tool.specs.declared.inputs.Input.{Input}
 use Rattle.g4_load.specs.declared.interpreter.Interpreter.{Interpreter}
@@ -28,8 +28,8 @@ use Rattle.g4_load.specs.Loading.{Loads}
 use Rattle.g4_load.specs.Building.{Builds}
 use Rattle.g4_load.specs.Stages.{IsHaltOf}
 use Rattle.g4_tool.specs.Outcomes.{AreParsed, is_accepted, lines_of_files}
-use Rattle.g4_tool.specs.Ends.{End, stopped, checked, listed, all_parsed, EndsCheck, not_checked, grammar_checked, EndsAtn, not_listed, rule_listed, EndsParse, not_built, file_absent, files_parsed, Ends, HasEnd, no_command, of_command, status_of}
-use Rattle.g4_tool.specs.Report.{IsReportOf, IsReportOfFiles, IsReport, ReportsOrHalts, Means, ComesExactly, CanBeRun, IsComplete}
+use Rattle.g4_tool.specs.Ends.{End, stopped, checked, listed, all_parsed, not_checked, grammar_checked, not_listed, rule_listed, EndsParse, not_built, file_absent, files_parsed, Ends, HasEnd, no_command, of_command, status_of}
+use Rattle.g4_tool.specs.Report.{IsReportOf, IsReportOfFiles, IsReport, ReportsOrHalts, ComesExactly, CanBeRun, IsComplete}
 use Rattle.g4_tool.proofs.OneByOne.{as_many, all_counted}
 use Rattle.g4_tool.proofs.OneEnd.{one_end, same_built, same_inputs}
 use Rattle.g4_words.proofs.OneCommand.{one_command}
@@ -51,7 +51,7 @@ module _ (files : Files) (words : List (List ℕ)) (check : Check) (fetched : Li
   stops_unchecked halts.NoMemory h = tt
 
   -- a grammar that is checked
-  pub reports_checked : (grammar : Numbered) (report : Report) → Loads files check.grammar fetched (Ok grammar) → IsReportOf (checked grammar) report → IsReport files words report
+  pub reports_checked : (grammar : Loaded) (report : Report) → Loads files check.grammar fetched (Ok grammar) → IsReportOf (checked grammar) report → IsReport files words report
   reports_checked grammar report loads is = record { end = checked grammar; has = of_command (commands.Check check) (checked grammar) command (grammar_checked fetched grammar loads); is = is }
 
 module _ (files : Files) (words : List (List ℕ)) (atn : Atn) (fetched : List (List ℕ)) (command : IsCommand words (commands.Atn atn)) where

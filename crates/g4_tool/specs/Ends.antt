@@ -1,5 +1,5 @@
 -- How a command line ends over files by their names, and what is reported of that.
-use Rattle.std.specs.Prelude.{◌≡◌, ℕ, List, [], ◌∷◌, ◌++◌, length, count_by, Some, None, Ok, Err, codes, if◌then◌else◌}
+use Rattle.std.specs.Prelude.{◌≡◌, ℕ, List, [], ◌∷◌, ◌++◌, length, count_by, Ok, Err, codes, if◌then◌else◌}
 use Rattle.std.specs.List.{list_all}
 use Rattle.g4_words.specs.Commands.{IsCommand}
 use Rattle.g4_words.specs.declared.command.Atn.{Atn}
@@ -7,7 +7,7 @@ use Rattle.g4_words.specs.declared.command.Check.{Check}
 use Rattle.g4_words.specs.declared.command.Command.{Command}
 use Rattle.g4_words.specs.declared.command.Command.TheVariants as commands
 use Rattle.g4_words.specs.declared.command.Parse.{Parse}
-use Rattle.g4_grammar.specs.declared.numbered.Numbered.{Numbered}
+use Rattle.g4_load.specs.declared.loading.Loaded.{Loaded}
 use Rattle.g4_tool.specs.Texts.{usage_line, absent_line, large_line, not_utf8_line, syntax_line, bad_set_line, twice_line, no_rule_line, limit_line, undefined_line, unknown_command_line, lexer_predicate_line, unknown_predicate_line, label_clash_line, no_primary_line, empty_operator_line, empty_loop_line, left_cycle_line, checked_line, closing_line}
 use Rattle.g4_load.specs.Listing.{Lists}
 use Rattle.g4_load.specs.Loading.{Loads}
@@ -32,14 +32,14 @@ use Rattle.g4_tool.specs.declared.status.Status.TheVariants as statuses
 -- has an outcome.
 pub data End : Type 0 where
   stopped : Stop → End
-  checked : Numbered → End
+  checked : Loaded → End
   listed : List ℕ → End
   all_parsed : Output → Interpreter → (names : List (List ℕ)) → List Outcome → End
 
 -- The end of `check`: its grammar is loaded, or not.
 pub data EndsCheck (files : Files) (check : Check) : End → Type 0 where
   not_checked : (fetched : List (List ℕ)) (stop : Stop) → Loads files check.grammar fetched (Err stop) → EndsCheck files check (stopped stop)
-  grammar_checked : (fetched : List (List ℕ)) (grammar : Numbered) → Loads files check.grammar fetched (Ok grammar) → EndsCheck files check (checked grammar)
+  grammar_checked : (fetched : List (List ℕ)) (grammar : Loaded) → Loads files check.grammar fetched (Ok grammar) → EndsCheck files check (checked grammar)
 
 -- The end of `atn`: its rule is listed, or not.
 pub data EndsAtn (files : Files) (atn : Atn) : End → Type 0 where

@@ -2,9 +2,9 @@
 use Rattle.std.specs.Prelude.{◌≡◌, ◌≢◌, ℕ, ◌+◌, List, [], ◌∷◌, ◌++◌, count_by, Bool, true, false, Ok, Err}
 use Rattle.g4_token_list.specs.declared.token.Tokens.{Tokens}
 use Rattle.g4_token_list.specs.TokenList.{word_of}
-use Rattle.g4_lexer.specs.Lexing.{IsLexing}
-use Rattle.g4_lexer.specs.declared.fault.LexFault.{LexFault}
-use Rattle.g4_lexer.specs.declared.fault.LexFault.TheVariants as lexing
+use Rattle.g4_lexing.specs.Lexing.{IsLexing}
+use Rattle.g4_lexing.specs.declared.fault.LexFault.{LexFault}
+use Rattle.g4_lexing.specs.declared.fault.LexFault.TheVariants as lexing
 use Rattle.g4_trees.specs.declared.tree.Item.{Item}
 use Rattle.g4_trees.specs.Events.{tree_events}
 use Rattle.g4_trees.specs.Trees.{Tree, items_of}
@@ -12,7 +12,7 @@ use Rattle.g4_trees.specs.TreeText.{tree_text}
 use Rattle.g4_parse.specs.declared.parser.ParseFault.{ParseFault}
 use Rattle.g4_parse.specs.declared.parser.ParseFault.TheVariants as parsing
 use Rattle.g4_parse.specs.Parsing.{IsParse}
-use Rattle.g4_tool.specs.Texts.{line_of_events, line_of_tree, mismatch_line, no_viable_line, failed_predicate_line, too_deep_line, no_token_line, many_tokens_line, not_utf8_line, large_line}
+use Rattle.g4_tool.specs.Texts.{line_of_events, line_of_tree, mismatch_line, no_viable_line, failed_predicate_line, too_deep_line, no_token_line, empty_mode_stack_line, many_tokens_line, not_utf8_line, large_line}
 use Rattle.g4_tool.specs.declared.inputs.Input.{Input}
 use Rattle.g4_tool.specs.declared.inputs.Input.TheVariants as inputs
 use Rattle.g4_load.specs.declared.interpreter.Interpreter.{Interpreter}
@@ -26,9 +26,9 @@ use Rattle.g4_tool.specs.declared.write.Line.{Line}
 -- The outcome of an input: its size past the limit, the fault of its lexing, or the tree or the fault of the run over its tokens.
 pub data IsOutcome (interpreter : Interpreter) (input : Input) : Outcome → Type 0 where
   too_large : (size : ℕ) → input ≡ inputs.TooLarge size → IsOutcome interpreter input (outcomes.TooLarge size)
-  not_lexed : (bytes : List ℕ) (fault : LexFault) → input ≡ inputs.Bytes bytes → IsLexing interpreter.token_rules bytes (Err fault) → fault ≢ lexing.NoMemory → IsOutcome interpreter input (outcomes.Lex fault)
-  not_parsed : (bytes : List ℕ) (tokens : Tokens) (fault : ParseFault) → input ≡ inputs.Bytes bytes → IsLexing interpreter.token_rules bytes (Ok tokens) → IsParse interpreter.net (word_of tokens.list) (Err fault) → fault ≢ parsing.NoMemory → IsOutcome interpreter input (outcomes.Parse tokens fault)
-  parsed : (bytes : List ℕ) (tokens : Tokens) (tree : List Item) → input ≡ inputs.Bytes bytes → IsLexing interpreter.token_rules bytes (Ok tokens) → IsParse interpreter.net (word_of tokens.list) (Ok tree) → IsOutcome interpreter input (outcomes.Tree tokens tree)
+  not_lexed : (bytes : List ℕ) (fault : LexFault) → input ≡ inputs.Bytes bytes → IsLexing interpreter.lexer bytes (Err fault) → fault ≢ lexing.NoMemory → IsOutcome interpreter input (outcomes.Lex fault)
+  not_parsed : (bytes : List ℕ) (tokens : Tokens) (fault : ParseFault) → input ≡ inputs.Bytes bytes → IsLexing interpreter.lexer bytes (Ok tokens) → IsParse interpreter.net (word_of tokens.list) (Err fault) → fault ≢ parsing.NoMemory → IsOutcome interpreter input (outcomes.Parse tokens fault)
+  parsed : (bytes : List ℕ) (tokens : Tokens) (tree : List Item) → input ≡ inputs.Bytes bytes → IsLexing interpreter.lexer bytes (Ok tokens) → IsParse interpreter.net (word_of tokens.list) (Ok tree) → IsOutcome interpreter input (outcomes.Tree tokens tree)
 
 -- an outcome for each input, in order
 abbrev pub AreOutcomes : Interpreter → List Input → List Outcome → Type 0
@@ -41,6 +41,7 @@ AreOutcomes interpreter (input ∷ is) (outcome ∷ os) = IsOutcome interpreter 
 abbrev pub lexing_refused : LexFault → Bool
 lexing_refused (lexing.NotUtf8 at) = false
 lexing_refused (lexing.NoToken place character) = false
+lexing_refused (lexing.EmptyModeStack place) = false
 lexing_refused (lexing.Tokens place) = false
 lexing_refused lexing.NoMemory = true
 
@@ -62,6 +63,7 @@ is_accepted (outcomes.TooLarge size) = false
 abbrev pub lex_lines : List ℕ → LexFault → List Line
 lex_lines name (lexing.NotUtf8 at) = not_utf8_line name at ∷ []
 lex_lines name (lexing.NoToken place character) = no_token_line name place character ∷ []
+lex_lines name (lexing.EmptyModeStack place) = empty_mode_stack_line name place ∷ []
 lex_lines name (lexing.Tokens place) = many_tokens_line name place ∷ []
 lex_lines name lexing.NoMemory = []
 

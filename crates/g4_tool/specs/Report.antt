@@ -1,5 +1,5 @@
 -- The report of a command line over files by their names: the lines for out and err, and the status.
-use Rattle.std.specs.Prelude.{◌≡◌, ◌↔◌, ◌⊎◌, ◌==◌, ℕ, List, [], ◌∷◌, ◌++◌, Some, Result, Ok, Err, if◌then◌else◌}
+use Rattle.std.specs.Prelude.{◌≡◌, ◌↔◌, ◌⊎◌, ◌==◌, ℕ, List, [], ◌∷◌, ◌++◌, Result, Ok, Err, if◌then◌else◌}
 use Rattle.g4_words.specs.Commands.{IsCommand}
 use Rattle.g4_words.specs.declared.command.Command.TheVariants as commands
 use Rattle.g4_words.specs.declared.command.Parse.{Parse}

@@ -1,11 +1,10 @@
 -- The lines of a report, as bytes.
-use Rattle.std.specs.Prelude.{ℕ, ◌-◌, List, [], ◌∷◌, ◌++◌, Option, Some, None, cond, ◌==◌, codes, slice_get}
+use Rattle.std.specs.Prelude.{ℕ, List, [], ◌∷◌, ◌++◌, Option, Some, None, codes, slice_get}
 use Rattle.std.specs.List.{flat_map}
 use Rattle.std.specs.Fmt.{decimal}
 use Rattle.g4_base.specs.declared.place.Place.{Place}
 use Rattle.g4_base.specs.Place.{first_place}
 use Rattle.g4_base.specs.Shown.{shown}
-use Rattle.g4_symbols.specs.Symbols.{eof, end_of_list}
 use Rattle.g4_netlist.specs.Listing.{name_of}
 use Rattle.g4_netlist.specs.Shown.{shown_set}
 use Rattle.g4_net.specs.declared.network.State.{State}
@@ -70,9 +69,18 @@ failed_predicate_line names name tokens at rule = ToErr (((at_place name (place_
 abbrev pub too_deep_line : List ℕ → Tokens → ℕ → Line
 too_deep_line name tokens at = ToErr (at_place name (place_of_token tokens.list at) ++ codes "more than 10000 open rules\n")
 
--- the line of a character at which no token begins
-abbrev pub no_token_line : List ℕ → Place → ℕ → Line
-no_token_line name place c = ToErr (((at_place name place ++ codes "token recognition error at: '") ++ shown (c ∷ [])) ++ codes "'\n")
+-- what is shown of a character, or of the end of the file
+abbrev pub character_text : Option ℕ → List ℕ
+character_text (Some c) = shown (c ∷ [])
+character_text None = codes "<EOF>"
+
+-- the line of a character at which no token begins, or of the end of the file in a token that has begun
+abbrev pub no_token_line : List ℕ → Place → Option ℕ → Line
+no_token_line name place character = ToErr (((at_place name place ++ codes "token recognition error at: '") ++ character_text character) ++ codes "'\n")
+
+-- the line of a match whose command goes back to a mode, where none is pushed
+abbrev pub empty_mode_stack_line : List ℕ → Place → Line
+empty_mode_stack_line name place = ToErr (at_place name place ++ codes "mode stack is empty\n")
 
 -- the line of a file with too many tokens: where the first of them past the limit begins
 abbrev pub many_tokens_line : List ℕ → Place → Line

@@ -1,7 +1,7 @@
 // The lines of faults.
 ghost use Rattle.std.specs.Prelude.{◌≡◌, ◌++◌, IfOk, OnOk, string_bytes, ◌-◌, []};
 ghost use Rattle.g4_net.specs.Network.{state_at};
-ghost use Rattle.g4_tool.specs.Texts.{at_place, taken_by, place_of_token, mismatch_line, no_viable_line, failed_predicate_line, too_deep_line, no_token_line, many_tokens_line, not_utf8_line, large_line, absent_line, usage_line, syntax_line, bad_set_line, twice_line, no_rule_line, limit_line};
+ghost use Rattle.g4_tool.specs.Texts.{at_place, taken_by, place_of_token, mismatch_line, no_viable_line, failed_predicate_line, too_deep_line, character_text, no_token_line, empty_mode_stack_line, many_tokens_line, not_utf8_line, large_line, absent_line, usage_line, syntax_line, bad_set_line, twice_line, no_rule_line, limit_line};
 ghost use Rattle.g4_tool.specs.declared.write.Line.TheVariants.{ToErr};
 
 use crate::write::Line;
@@ -118,19 +118,38 @@ pub fn too_deep(alloc: Global, name: &str, tokens: &Tokens, at: u32) -> Result<L
     Ok(to_err(line))
 }
 
-/// A character at which no token begins.
+/// Adds the character, or at the end of the file that this is reached.
+fn push_character(line: &mut String, character: Option<char>) -> Result<(), AllocError>
+    ensures { OnOk result (string_bytes line.new ≡ string_bytes line.old ++ character_text character) }
+{
+    match character {
+        Some(character) => push_shown(line, &[character]),
+        None => line.push_str("<EOF>"),
+    }
+}
+
+/// A character at which no token begins, or the end of the file in a token that has begun.
 pub fn no_token(
     alloc: Global,
     name: &str,
     place: Place,
-    character: char,
+    character: Option<char>,
 ) -> Result<Line, AllocError>
     ensures { IfOk result (λ line. line ≡ no_token_line name.now place character) }
 {
     let mut line = start_line(alloc, name, place)?;
     line.push_str("token recognition error at: '")?;
-    push_shown(&mut line, &[character])?;
+    push_character(&mut line, character)?;
     line.push_str("'\n")?;
+    Ok(to_err(line))
+}
+
+/// A match whose command goes back to a mode, where none is pushed.
+pub fn empty_mode_stack(alloc: Global, name: &str, place: Place) -> Result<Line, AllocError>
+    ensures { IfOk result (λ line. line ≡ empty_mode_stack_line name.now place) }
+{
+    let mut line = start_line(alloc, name, place)?;
+    line.push_str("mode stack is empty\n")?;
     Ok(to_err(line))
 }
 

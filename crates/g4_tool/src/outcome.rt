@@ -10,11 +10,12 @@ ghost use Rattle.g4_load.specs.Usable.{IsUsable};
 
 use crate::inputs::Input;
 use crate::messages::{
-    failed_predicate, large, many_tokens, mismatch, no_token, no_viable, not_utf8, too_deep,
+    empty_mode_stack, failed_predicate, large, many_tokens, mismatch, no_token, no_viable,
+    not_utf8, too_deep,
 };
 use crate::write::Line;
 use g4_base::{MOST_BYTES, Octets, Sequence};
-use g4_lexer::{LexFault, tokens};
+use g4_lexing::{LexFault, tokens};
 use g4_load::Interpreter;
 use g4_parse::{ParseFault, parse};
 use g4_token_list::Tokens;
@@ -65,8 +66,7 @@ fn outcome_of_bytes(
     ensures outcome { IfOk result (IsOutcome interpreter.now (Input.Bytes bytes)) }
     ensures nested { IfOk result IsNested }
 {
-    let rules = interpreter.token_rules.as_slice();
-    let tokens = match tokens(alloc, rules, bytes) {
+    let tokens = match tokens(alloc, &interpreter.lexer, bytes) {
         Ok(tokens) => tokens,
         Err(fault) => {
             if lexing_refused(&fault) {
@@ -169,6 +169,7 @@ fn push_lex(
     let line = match fault {
         LexFault::NotUtf8(at) => not_utf8(alloc, name, *at)?,
         LexFault::NoToken(place, character) => no_token(alloc, name, *place, *character)?,
+        LexFault::EmptyModeStack(place) => empty_mode_stack(alloc, name, *place)?,
         LexFault::Tokens(place) => many_tokens(alloc, name, *place)?,
         LexFault::NoMemory => return Ok(()),
     };

@@ -15,8 +15,7 @@ use crate::status::Status;
 use crate::stop::{line_of, status_of};
 use crate::write::Line;
 use g4_base::{Octets, Sequence};
-use g4_grammar::Numbered;
-use g4_load::{Halt, Stop, build_interpreter, list_named, load};
+use g4_load::{Halt, Loaded, Stop, build_interpreter, list_named, load};
 use g4_ports::{Gate, Shelf};
 use g4_words::{Atn, Check, Command, Parse, WordsFault, read_words};
 use std::alloc::{AllocError, Global};
@@ -81,7 +80,7 @@ fn report_files(alloc: Global, parsed: Parsed, files: usize) -> Result<Report, A
 }
 
 /// The report of a grammar that is checked: how many parser rules it has, and its greatest token type.
-fn report_checked(alloc: Global, grammar: &Numbered) -> Result<Report, AllocError>
+fn report_checked(alloc: Global, grammar: &Loaded) -> Result<Report, AllocError>
     ensures { IfOk result (IsReportOf (checked grammar.now)) }
 {
     let rules = grammar.rules.len();

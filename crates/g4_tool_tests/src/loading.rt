@@ -60,7 +60,7 @@ fn builds_a_large_grammar(rt: HostRuntime) -> Result<(), Fail> {
     };
     assert_eq!(rt; interpreter.names.len(), PARSERS);
     assert_eq!(rt; interpreter.shown.len(), PARSERS + LEXERS + 2);
-    assert_eq!(rt; interpreter.token_rules.len(), PARSERS + LEXERS + 2);
+    assert_eq!(rt; interpreter.lexer.types.len(), PARSERS + LEXERS + 2);
     assert!(rt; 10 * PARSERS < interpreter.net.states.len());
     Ok(())
 }

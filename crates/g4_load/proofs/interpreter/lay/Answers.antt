@@ -4,7 +4,7 @@ use Rattle.g4_grammar.specs.declared.step.Numbering.{Numbering}
 use Rattle.g4_grammar.specs.StepRules.{StepRule, CanBeLaid}
 use Rattle.g4_layout.specs.Numbers.{NumberingsFit}
 use Rattle.g4_load.specs.Building.{Lays}
-use Rattle.g4_load.proofs.Built.{reported, names_are, steps_are, can_be_rewritten, gives_rewritten, build_exit, laid, usable}
+use Rattle.g4_load.proofs.Built.{reported, names_are, steps_are, can_be_rewritten, gives_rewritten, build_exit, laid, sound}
 use Rattle.g4_load.proofs.interpreter.lay.Goals as goal
 
 pub build-requires-clause-laid : goal.build-requires-clause-laid
@@ -36,9 +36,9 @@ returns-clause-laid c =
     (gives_rewritten c.args.start.now c.args.grammar c.in_ok-steps.steps.items c.as_slice-3.result.now c.as_slice-4.result.now (Ok c.in-Ok.net) steps
     (c.as_slice-3.ensures.value ∙ c.in_ok-laid.ensures.rules) (c.as_slice-4.ensures.value ∙ c.in_ok-laid.ensures.numberings) c.in-Ok.ensures) names
 
-pub returns-clause-usable : goal.returns-clause-usable
-returns-clause-usable c =
+pub returns-clause-sound : goal.returns-clause-sound
+returns-clause-sound c =
     let names = names_are c.args.grammar _ _ c.in_ok-names.ensures c.as_slice.ensures in
     let can = can_be_rewritten c.args.grammar _ _ _ c.requires names c.into_vec.ensures c.in_ok-steps.ensures.rewritten in
-    usable c.args.start.now c.args.grammar c.requires c.in_ok-steps.steps.items _ c.as_slice-3.result.now c.as_slice-4.result.now c.in-Ok.net _ (c.new-3.ensures ∙ (c.in_ok-kept.ensures ∙ c.as_slice-2.ensures.value)) can
+    sound c.args.start.now c.args.grammar c.requires c.in_ok-steps.steps.items _ c.as_slice-3.result.now c.as_slice-4.result.now c.in-Ok.net _ (c.new-3.ensures ∙ (c.in_ok-kept.ensures ∙ c.as_slice-2.ensures.value)) can
     (c.as_slice-3.ensures.value ∙ c.in_ok-laid.ensures.rules) (c.as_slice-4.ensures.value ∙ c.in_ok-laid.ensures.numberings) c.in-Ok.ensures

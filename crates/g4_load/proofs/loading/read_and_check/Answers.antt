@@ -1,5 +1,5 @@
 use Rattle.std.proofs.lemmas.Result.{err_from_is_err_and}
-use Rattle.g4_load.proofs.Built.{read_exit, form_exit, name_exit, number_exit, check_exit, checked}
+use Rattle.g4_load.proofs.Built.{read_exit, form_exit, name_exit, number_exit, check_exit, checked, can_be_made}
 use Rattle.g4_load.proofs.loading.read_and_check.Goals as goal
 
 pub returns-in_err-source-clause-grammar : goal.returns-in_err-source-clause-grammar
@@ -32,17 +32,17 @@ returns-in_err-check-clause-grammar c =
 pub returns-clause-grammar : goal.returns-clause-grammar
 returns-clause-grammar c =
     checked _ c.in_ok-source.source c.in_ok-source.ensures.reading c.in_ok-check_forms.ensures.forms c.in_ok-check_names.ensures c.in_ok-grammar.grammar c.in_ok-grammar.ensures.numbered
-    c.in_ok-check.ensures.checked
+    c.in_ok-check.ensures.checked c.in_ok-lexer.lexer c.in_ok-lexer.ensures.rules
 
 pub returns-clause-checked : goal.returns-clause-checked
 returns-clause-checked c =
-    let quiet = c.in_ok-grammar.ensures.quiet c.in_ok-check_forms.ensures.quiet in record {
+    record {
       few = c.in_ok-grammar.ensures.few;
       full = c.in_ok-grammar.ensures.full c.in_ok-source.ensures.full;
       ends = c.in_ok-grammar.ensures.ends;
-      untested = quiet.0;
+      untested = c.in_ok-grammar.ensures.untested c.in_ok-check_forms.ensures.untested;
       defined = c.in_ok-grammar.ensures.defined c.in_ok-check.ensures.defined;
       run = c.in_ok-grammar.ensures.run c.in_ok-check.ensures.run;
-      types = c.in_ok-grammar.ensures.types;
-      token_quiet = quiet.1;
+      lexer = can_be_made c.in_ok-source.source c.in_ok-lexer.lexer c.in_ok-lexer.ensures.rules c.in_ok-source.ensures.full c.in_ok-check.ensures.defined c.in_ok-check.ensures.run
+          (c.in_ok-lexer.ensures.full c.in_ok-source.ensures.full) (c.in_ok-lexer.ensures.low c.in_ok-grammar.ensures.types);
     }

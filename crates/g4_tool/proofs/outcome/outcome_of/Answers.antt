@@ -1,4 +1,3 @@
-use Rattle.std.proofs.Common.{subst, sym}
 use Rattle.g4_tool.specs.Outcomes.{too_large}
 use Rattle.g4_tool.proofs.outcome.outcome_of.Goals as goal
 

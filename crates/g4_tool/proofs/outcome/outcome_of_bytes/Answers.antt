@@ -1,29 +1,27 @@
 use Rattle.std.proofs.Common.{List, Ok, Err, refl, sym, ◌∙◌, subst}
-use Rattle.g4_grammar.specs.declared.numbered.TokenRule.{TokenRule}
 use Rattle.g4_token_list.specs.declared.token.Token.{Token}
 use Rattle.g4_token_list.specs.TokenList.{word_of}
-use Rattle.g4_lexer.specs.Lexing.{IsLexing}
 use Rattle.g4_parse.specs.Parsing.{IsParse}
 use Rattle.g4_tool.specs.Outcomes.{not_lexed, not_parsed, parsed}
-use Rattle.g4_tool.proofs.OneByOne.{by_its_rules, lexed_apart, parsed_apart}
+use Rattle.g4_tool.proofs.OneByOne.{lexed_apart, parsed_apart}
 use Rattle.g4_tool.proofs.outcome.outcome_of_bytes.Goals as goal
 
 pub returns-in-Err-clause-outcome : goal.returns-in-Err-clause-outcome
 returns-in-Err-clause-outcome c =
     not_lexed c.args.bytes c.in-Err.fault refl
-    (by_its_rules _ _ (λ (rs : List TokenRule). IsLexing rs c.args.bytes (Err c.in-Err.fault)) c.as_slice-rules.ensures c.requires.usable.quiet c.in-Err.ensures.lexing)
+    c.in-Err.ensures.lexing
     (lexed_apart _ (sym c.lexing_refused.ensures ∙ c.if-lexing_refused.false))
 
 pub returns-in-Ok-parse-clause-outcome : goal.returns-in-Ok-parse-clause-outcome
 returns-in-Ok-parse-clause-outcome c =
     parsed c.args.bytes c.in-Ok.tokens c.in-Ok-parse.tree refl
-    (by_its_rules _ _ (λ (rs : List TokenRule). IsLexing rs c.args.bytes (Ok c.in-Ok.tokens)) c.as_slice-rules.ensures c.requires.usable.quiet c.in-Ok.ensures.lexing)
+    c.in-Ok.ensures.lexing
     (subst (λ (ts : List Token). IsParse c.args.interpreter.now.net (word_of ts) (Ok c.in-Ok-parse.tree)) c.as_slice.ensures c.in-Ok-parse.ensures.parse)
 
 pub returns-else-parsing_refused-clause-outcome : goal.returns-else-parsing_refused-clause-outcome
 returns-else-parsing_refused-clause-outcome c =
     not_parsed c.args.bytes c.in-Ok.tokens c.in-Err-parse.fault refl
-    (by_its_rules _ _ (λ (rs : List TokenRule). IsLexing rs c.args.bytes (Ok c.in-Ok.tokens)) c.as_slice-rules.ensures c.requires.usable.quiet c.in-Ok.ensures.lexing)
+    c.in-Ok.ensures.lexing
     (subst (λ (ts : List Token). IsParse c.args.interpreter.now.net (word_of ts) (Err c.in-Err-parse.fault)) c.as_slice.ensures c.in-Err-parse.ensures.parse)
     (parsed_apart _ (sym c.parsing_refused.ensures ∙ c.if-parsing_refused.false))
 

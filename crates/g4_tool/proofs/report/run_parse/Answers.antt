@@ -22,3 +22,13 @@ returns-clause-content g c = λ files words told command.
     reports_files files words _ _ command c.in_ok-interpreter.interpreter (rw (c.as_str-grammar.ensures, c.as_str-start.ensures) at (c.in_ok-interpreter.ensures.content files told)) _ _ _ _
     (rw c.as_slice-names.ensures at (c.in_ok-inputs.ensures.content files (c.in_ok-interpreter.ensures.keeps ∙ told))) (rw c.as_slice-names.ensures at c.in_ok-inputs.ensures.paired)
     (ap length c.as_slice-names.ensures) (rw c.as_slice-names.ensures at c.in_ok-parsed.ensures) c.in_ok-report.ensures.report
+
+pub returns-in_err-parsed-clause-content : goal.returns-in_err-parsed-clause-content
+returns-in_err-parsed-clause-content g c = λ files words told command.
+    let p = err_from_is_err_and c.from_residual-in_err-parsed.result c.from_residual-in_err-parsed.ensures.1 in
+    rw (p.1, p.2) tt
+
+pub returns-in_err-report-clause-content : goal.returns-in_err-report-clause-content
+returns-in_err-report-clause-content g c = λ files words told command.
+    let p = err_from_is_err_and c.from_residual-in_err-report.result c.from_residual-in_err-report.ensures.1 in
+    rw (p.1, p.2) tt
