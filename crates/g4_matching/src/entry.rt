@@ -9,3 +9,15 @@ pub(crate) struct Entry {
     pub returns: u32,
     pub passed: bool,
 }
+
+impl Entry {
+    ghost use Rattle.std.specs.Prelude.{◌≡◌};
+    ghost use Rattle.g4_matching.specs.Listed.{key_of};
+
+    /// What the entry is looked for by.
+    pub fn key(&self) -> usize
+        ensures { result ≡ key_of self.now }
+    {
+        self.state ^ self.returns as usize
+    }
+}

@@ -8,9 +8,9 @@ use crate::places::Places;
 use std::alloc::{AllocError, Global};
 use std::marker::Model;
 
-/// Entries in order. For each state the place of the newest entry at it is noted, and for each entry that of the one before
-/// it at the same state. What was noted of a list that is cleared does no harm: a place counts only where it has an entry at
-/// that state.
+/// Entries in order. For each key the place of the newest entry with it is noted, and for each entry that of the one before
+/// it with the same key. What was noted of a list that is cleared does no harm: a place counts only where it has an entry with
+/// that key.
 #[derive(Drop)]
 pub(crate) struct Listed {
     entries: Vec<Entry>,
@@ -65,23 +65,25 @@ impl Listed {
         self.entries.as_slice()
     }
 
-    /// The place of the newest entry at a state.
-    fn newest(&self, state: usize) -> Option<usize>
-        ensures { IsNewest self.now state result }
+    /// The place of the newest entry with a key.
+    fn newest(&self, key: usize) -> Option<usize>
+        ensures { IsNewest self.now key result }
     {
-        let place = self.newest.get(state)?;
+        let place = self.newest.get(key)?;
         let entry = self.entries.get(place)?;
-        if entry.state != state {
+        let found = entry.key();
+        if found != key {
             return None;
         }
         Some(place)
     }
 
-    /// Whether the entry is in the list. Only those at its state are looked at.
+    /// Whether the entry is in the list. Only those with its key are looked at.
     pub fn has(&self, entry: &Entry) -> bool
         ensures { IsTrue result ↔ In entry.now self.now }
     {
-        let mut next = self.newest(entry.state);
+        let key = entry.key();
+        let mut next = self.newest(key);
         while let Some(place) = next {
             if self.entries[place] == *entry {
                 return true;
@@ -96,10 +98,11 @@ impl Listed {
         ensures { OnOk result (self.new ≡ self.old ++ entry ∷ []) }
     {
         let place = self.entries.len();
-        let before = self.newest(entry.state);
+        let key = entry.key();
+        let before = self.newest(key);
         self.entries.reserve(1)?;
         self.earlier.reserve(1)?;
-        self.newest.set(entry.state, place)?;
+        self.newest.set(key, place)?;
         self.earlier.push_reserved(before);
         self.entries.push_reserved(entry);
         Ok(())

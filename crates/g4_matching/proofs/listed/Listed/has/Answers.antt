@@ -1,12 +1,13 @@
 use Rattle.std.proofs.Common.{rules, ◌≡◌, ◌<◌, Some, None, slice_get, length, refl, subst, sym, ◌∙◌, ap, arith}
 use Rattle.std.proofs.lemmas.Bool.{false≢true}
+use Rattle.g4_matching.specs.Listed.{IsNewest}
 use Rattle.g4_matching.proofs.Lookups.{got, in_at}
 use Rattle.g4_matching.proofs.Indexed.{Searching, begins, within, goes_back, link_falls, left, not_in}
 use Rattle.g4_matching.proofs.Same.{tells, differs}
 use Rattle.g4_matching.proofs.listed.Listed.has.Goals as goal
 
 pub loop-next-init : goal.loop-next-init
-loop-next-init c = begins _ _ _ c.newest-next.ensures
+loop-next-init c = begins _ _ _ (subst (λ n. IsNewest c.args.self.now n c.newest-next.result) c.key-key.ensures c.newest-next.ensures)
 
 pub index-requires : goal.index-requires
 index-requires c =
