@@ -3,7 +3,7 @@ use Rattle.std.specs.Prelude.{◌≡◌, ◌≤◌, ◌⊎◌, ℕ, List, [], �
 use Rattle.std.specs.List.{position}
 use Rattle.std.specs.Str.{bytes_eq}
 use Rattle.g4_chars.specs.CharSets.{Has}
-use Rattle.g4_elements.specs.Elements.{Alternatives, either, atoms_of_either}
+use Rattle.g4_elements.specs.Elements.{atoms_of_either}
 use Rattle.g4_source.specs.declared.atom.Atom.{Atom}
 use Rattle.g4_source.specs.declared.atom.AtomKind.{AtomKind}
 use Rattle.g4_source.specs.declared.atom.AtomKind.TheVariants as kinds
@@ -11,12 +11,10 @@ use Rattle.g4_source.specs.declared.atom.Literal.{Literal}
 use Rattle.g4_source.specs.declared.rule.Rule.{Rule}
 use Rattle.g4_source.specs.declared.rule.Rule.TheVariants.{Parser, Lexer}
 use Rattle.g4_source.specs.declared.rule.ParserRule.{ParserRule}
-use Rattle.g4_source.specs.declared.rule.LexerRule.{LexerRule}
-use Rattle.g4_source.specs.Rules.{alternatives_of, lexer_alternatives_of}
+use Rattle.g4_source.specs.Rules.{alternatives_of}
 use Rattle.g4_rules.specs.declared.kind.RuleKind.{RuleKind}
 use Rattle.g4_rules.specs.declared.kind.RuleKind.TheVariants as rule_kinds
 use Rattle.g4_rules.specs.Atoms.{AtomIn, all_atoms, bodies_of}
-use Rattle.g4_grammar.specs.declared.numbered.TokenRule.{TokenRule}
 use Rattle.g4_grammar.specs.LeftCalls.{NoCycle}
 use Rattle.g4_grammar.specs.Loops.{NoEmptyLoop}
 use Rattle.g4_grammar.specs.OwnCalls.{CanRun, LeftCallsAsRun}
@@ -130,14 +128,6 @@ LexerCalls names (kinds.NotCharacters place set) k = ⊥
 LexerCalls names kinds.Action k = ⊥
 LexerCalls names (kinds.Predicate name) k = ⊥
 
--- the same of atoms in the rules that make tokens
-abbrev pub CallsTokenRule : List TokenRule → Atom → ℕ → Type 0
-CallsTokenRule rules a k = LexerCalls (map (λ rule. rule.name) rules) a.kind k
-
--- the alternatives of a rule that makes tokens
-abbrev pub token_alternatives_of : TokenRule → Alternatives Atom
-token_alternatives_of rule = either (map (λ a. a.elements) rule.alternatives)
-
 -- an atom of a parser rule that tests nothing
 abbrev pub ParserKindIsUntested : AtomKind → Type 0
 ParserKindIsUntested (kinds.Rule name) = Unit {0}
@@ -151,31 +141,6 @@ ParserKindIsUntested (kinds.NotCharacters place set) = Unit {0}
 ParserKindIsUntested kinds.Action = Unit {0}
 ParserKindIsUntested (kinds.Predicate name) = ⊥
 
--- an atom of a lexer rule that calls no rule
-abbrev pub LexerKindIsQuiet : AtomKind → Type 0
-LexerKindIsQuiet (kinds.Rule name) = Unit {0}
-LexerKindIsQuiet (kinds.Token name) = ⊥
-LexerKindIsQuiet (kinds.Literal literal) = Unit {0}
-LexerKindIsQuiet (kinds.Range place first last) = Unit {0}
-LexerKindIsQuiet (kinds.Set set) = Unit {0}
-LexerKindIsQuiet (kinds.Any place) = Unit {0}
-LexerKindIsQuiet (kinds.NotTokens place tokens) = Unit {0}
-LexerKindIsQuiet (kinds.NotCharacters place set) = Unit {0}
-LexerKindIsQuiet kinds.Action = Unit {0}
-LexerKindIsQuiet (kinds.Predicate name) = Unit {0}
-
--- each atom of the alternatives of a parser rule, of a lexer rule, or of a rule that makes tokens, is so
+-- no atom of the alternatives of a parser rule tests anything
 abbrev pub ParserRuleIsUntested : ParserRule Atom → Type 0
 ParserRuleIsUntested rule = All (λ a. ParserKindIsUntested a.kind) (atoms_of_either (alternatives_of rule))
-
-abbrev pub LexerRuleIsQuiet : LexerRule → Type 0
-LexerRuleIsQuiet rule = All (λ a. LexerKindIsQuiet a.kind) (atoms_of_either (lexer_alternatives_of rule))
-
-abbrev pub TokenRuleIsQuiet : TokenRule → Type 0
-TokenRuleIsQuiet rule = All (λ a. LexerKindIsQuiet a.kind) (atoms_of_either (token_alternatives_of rule))
-
--- a parser rule none of whose atoms tests anything, or a lexer rule none of whose atoms calls a rule, as those of every grammar
--- that is run so far
-abbrev pub RuleIsQuiet : Rule → Type 0
-RuleIsQuiet (Parser rule) = ParserRuleIsUntested rule
-RuleIsQuiet (Lexer rule) = LexerRuleIsQuiet rule

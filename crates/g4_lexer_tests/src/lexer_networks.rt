@@ -5,9 +5,9 @@ ghost use Rattle.g4_source.specs.Blocks.{LexerRuleIsFull, LexerRulesAreFull, Mod
 use g4_base::{Sequence, Text};
 use g4_chars::CharSet;
 use g4_elements::{Element, Elements};
-use g4_lexnet::{LexFault, LexNet, LexStart, build_lexer};
+use g4_lexnet::{LexFault, LexNet, build_lexer};
 use g4_net::State;
-use g4_ordered::Reads;
+use g4_ordered::{Reads, Start};
 use g4_reader::{ReadFault, read_grammar};
 use g4_source::{Atom, AtomKind, Command, LexerAlternative, LexerRule, Literal, Mode};
 use std::alloc::{AllocError, Global};
@@ -77,7 +77,7 @@ fn states(alloc: Global, made: &LexNet) -> Result<String, AllocError> {
 }
 
 /// The starts of a mode: rule, alternative and state.
-fn push_starts(out: &mut String, starts: &[LexStart]) -> Result<(), AllocError> {
+fn push_starts(out: &mut String, starts: &[Start]) -> Result<(), AllocError> {
     for start in starts {
         let rule = start.rule;
         let alternative = start.alternative;

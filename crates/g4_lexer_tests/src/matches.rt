@@ -2,9 +2,9 @@
 use crate::lexable::is_lexable;
 use g4_base::Sequence;
 use g4_chars::CharSet;
-use g4_matching::{Match, Matcher, Start};
+use g4_matching::{Match, Matcher};
 use g4_net::{Network, State};
-use g4_ordered::{LexerNetwork, Reads};
+use g4_ordered::{LexerNetwork, Reads, Start};
 use std::alloc::{AllocError, Global};
 use std::process::Abort;
 use std::test::Fail;

@@ -2,7 +2,7 @@
 use Rattle.std.specs.Prelude.{◌≤◌, ℕ, zero, suc, List, [], All, slice_index_or}
 use Rattle.g4_symbols.specs.declared.symbol.TheConstants.{MOST_TYPES}
 use Rattle.g4_ordered.specs.Configurations.{LexerConfig}
-use Rattle.g4_matching.specs.Entries.{starts_of}
+use Rattle.g4_ordered.specs.Starts.{starts_of}
 use Rattle.g4_lexing.specs.declared.command.LexerCommand.{LexerCommand}
 use Rattle.g4_lexing.specs.declared.command.LexerCommand.TheVariants as commands
 use Rattle.g4_lexing.specs.declared.lexer.Lexer.{Lexer}

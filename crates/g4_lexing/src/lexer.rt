@@ -1,12 +1,11 @@
 // What a lexer goes by.
 ghost use Rattle.std.specs.Prelude.{◌≡◌, slice_index_or, []};
-ghost use Rattle.g4_matching.specs.Entries.{starts_of};
+ghost use Rattle.g4_ordered.specs.Starts.{starts_of};
 ghost use Rattle.g4_lexing.specs.Lexers.{commands_of, starts_in, type_of};
 
 use crate::command::LexerCommand;
 use g4_base::Sequence;
-use g4_matching::Start;
-use g4_ordered::LexerNetwork;
+use g4_ordered::{LexerNetwork, Start};
 
 /// What a lexer goes by: its network, and what is known of its modes and rules by their numbers.
 #[derive(Drop)]

@@ -5,8 +5,7 @@ ghost use Rattle.g4_source.specs.Blocks.{ModesAreFull};
 use g4_base::Sequence;
 use g4_lexable::is_lexable;
 use g4_lexing::{LexFault, Lexer, LexerCommand, tokens_within};
-use g4_lexnet::{LexNet, LexStart, build_lexer};
-use g4_matching::Start;
+use g4_lexnet::{LexNet, build_lexer};
 use g4_reader::read_grammar;
 use g4_source::Mode;
 use g4_token_list::Tokens;
@@ -31,19 +30,6 @@ fn modes(alloc: Global, rules: &str) -> Result<Vec<Mode>, AllocError>
     }
 }
 
-/// The places where a match may begin.
-fn starts(alloc: Global, starts: &[LexStart]) -> Result<Sequence<Start>, AllocError> {
-    let mut made = Vec::new(alloc);
-    for start in starts {
-        made.push(Start {
-            rule: start.rule,
-            alternative: start.alternative,
-            state: start.state,
-        })?;
-    }
-    Ok(Sequence::new(made))
-}
-
 /// The commands of a rule's alternatives.
 fn commands_of(
     alloc: Global,
@@ -63,10 +49,6 @@ fn commands_of(
 
 /// A lexer by its network, whose rules have the types 1, 2 and so on.
 fn lexer_of(alloc: Global, built: LexNet, commands: Commands) -> Result<Lexer, AllocError> {
-    let mut modes = Vec::new(alloc);
-    for mode in built.modes.as_slice() {
-        modes.push(starts(alloc, mode.as_slice())?)?;
-    }
     let mut types = Vec::new(alloc);
     let mut all = Vec::new(alloc);
     let mut symbol: u32 = 0;
@@ -77,7 +59,7 @@ fn lexer_of(alloc: Global, built: LexNet, commands: Commands) -> Result<Lexer, A
     }
     Ok(Lexer {
         net: built.net,
-        modes: Sequence::new(modes),
+        modes: built.modes,
         types: Sequence::new(types),
         commands: Sequence::new(all),
     })

@@ -7,7 +7,7 @@ use Rattle.g4_source.specs.declared.source.Mode.{Mode}
 use Rattle.g4_layout.proofs.OneNetwork.{one_network_of}
 use Rattle.g4_ordered.specs.Network.{LexerNetwork}
 use Rattle.g4_lexnet.specs.declared.lex_net.LexNet.{LexNet}
-use Rattle.g4_lexnet.specs.declared.lex_net.LexStart.{LexStart}
+use Rattle.g4_ordered.specs.declared.start.Start.{Start}
 use Rattle.g4_lexnet.specs.LexNets.{IsLexNet}
 use Rattle.g4_lexnet.specs.Rules.{all_rules, lexer_states, numberings_of, trees_of}
 use Rattle.g4_lexnet.specs.Starts.{mode_starts}
@@ -18,7 +18,7 @@ use Rattle.g4_lexnet.proofs.Trees.{tree, trees_states}
 same_parts : (a b : LexNet) → a.net ≡ b.net → a.modes ≡ b.modes → a.commands ≡ b.commands → a ≡ b
 same_parts a b net modes commands =
     ap (λ (n : LexerNetwork). record { net = n; modes = a.modes; commands = a.commands }) net ∙
-    (ap (λ (ms : List (List LexStart)). record { net = b.net; modes = ms; commands = a.commands }) modes ∙
+    (ap (λ (ms : List (List Start)). record { net = b.net; modes = ms; commands = a.commands }) modes ∙
     ap (λ (cs : List (List (List Command))). record { net = b.net; modes = b.modes; commands = cs }) commands)
 
 -- there is at most one network

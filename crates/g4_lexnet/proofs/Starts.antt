@@ -9,7 +9,7 @@ use Rattle.g4_net.specs.declared.network.State.{State}
 use Rattle.g4_net.specs.declared.network.State.TheVariants.{Decision, End, Edge, Call, Predicate, Level, Action, Empty}
 use Rattle.g4_net.specs.Network.{start_of}
 use Rattle.g4_ordered.specs.declared.network.Reads.{Reads}
-use Rattle.g4_lexnet.specs.declared.lex_net.LexStart.{LexStart}
+use Rattle.g4_ordered.specs.declared.start.Start.{Start}
 use Rattle.g4_lexnet.specs.Rules.{rules_of_modes}
 use Rattle.g4_lexnet.specs.Starts.{AllCanStart, CanStart, decided_starts, matched_starts, numbered_starts, rule_starts, starts_by_sizes, starts_from, starts_of_modes}
 
@@ -95,12 +95,12 @@ drop_front [] ys = refl
 drop_front (x ∷ xs) ys = drop_front xs ys
 
 -- the rules of all modes in one list, so many of them being each mode's
-by_modes : (states : List (State Reads)) (front : List LexStart) (k : ℕ) (modes : List Mode) → starts_by_sizes states front k (rules_of_modes modes) (map (λ mode. length mode.rules) modes) ≡ starts_of_modes states front k modes
+by_modes : (states : List (State Reads)) (front : List Start) (k : ℕ) (modes : List Mode) → starts_by_sizes states front k (rules_of_modes modes) (map (λ mode. length mode.rules) modes) ≡ starts_of_modes states front k modes
 by_modes states front k [] = refl
 by_modes states front k (mode ∷ modes) =
     ap (λ (rules : List LexerRule). (front ++ starts_from states k rules) ∷ starts_by_sizes states front (k + length mode.rules) (drop (length mode.rules) (mode.rules ++ rules_of_modes modes)) (map (λ mode. length mode.rules) modes))
     (take_front mode.rules (rules_of_modes modes)) ∙
-    ap (λ (all : List (List LexStart)). (front ++ starts_from states k mode.rules) ∷ all)
+    ap (λ (all : List (List Start)). (front ++ starts_from states k mode.rules) ∷ all)
     (ap (λ (rules : List LexerRule). starts_by_sizes states front (k + length mode.rules) rules (map (λ mode. length mode.rules) modes)) (drop_front mode.rules (rules_of_modes modes)) ∙ by_modes states front (k + length mode.rules) modes)
 
 -- those of the literals come first
@@ -113,7 +113,7 @@ all_modes states literals modes =
     by_modes states (starts_from states 0 literals) (length literals) modes)
 
 -- the next mode
-pub next_sizes : (states : List (State Reads)) (front : List LexStart) (k : ℕ) (rules : List LexerRule) (sizes : List ℕ) (i : ℕ) → i < length sizes →
+pub next_sizes : (states : List (State Reads)) (front : List Start) (k : ℕ) (rules : List LexerRule) (sizes : List ℕ) (i : ℕ) → i < length sizes →
     starts_by_sizes states front k (drop k rules) (drop i sizes)
     ≡ (front ++ starts_from states k (take (get_or sizes i 0) (drop k rules))) ∷ starts_by_sizes states front (k + get_or sizes i 0) (drop (k + get_or sizes i 0) rules) (drop (i + 1) sizes)
 next_sizes states front k rules sizes i less =

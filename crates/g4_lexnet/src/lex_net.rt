@@ -1,16 +1,8 @@
 // What a lexer goes by.
 use g4_base::Sequence;
-use g4_ordered::LexerNetwork;
+use g4_ordered::{LexerNetwork, Start};
 use g4_source::Command;
 use std::alloc::AllocError;
-
-/// A place where a match may begin: an outer alternative of a rule, and its first state. Rules count from 0, alternatives from 1.
-#[derive(Clone, Copy, Debug, PartialEq, Eq)]
-pub struct LexStart {
-    pub rule: u32,
-    pub alternative: u32,
-    pub state: u32,
-}
 
 /// The network of a lexer, and what is known of its rules.
 #[derive(Drop)]
@@ -18,7 +10,7 @@ pub struct LexNet {
     /// The rules of literals that have tokens of their own come first, then those of each mode.
     pub net: LexerNetwork,
     /// For each mode the places where a match may begin, those that win a tie first.
-    pub modes: Sequence<Sequence<LexStart>>,
+    pub modes: Sequence<Sequence<Start>>,
     /// For each rule the commands of its outer alternatives, as they are written.
     pub commands: Sequence<Sequence<Sequence<Command>>>,
 }

@@ -15,4 +15,4 @@ mod step;
 
 pub use building::build_lexer;
 pub use law::{is_lexable, one_lex_net, sets_match, states_are_counted};
-pub use lex_net::{LexFault, LexNet, LexStart};
+pub use lex_net::{LexFault, LexNet};

@@ -5,21 +5,20 @@ ghost use Rattle.g4_net.specs.declared.network.State.TheVariants.{Decision};
 ghost use Rattle.g4_net.specs.declared.network.TheConstants.{MOST_STATES};
 ghost use Rattle.g4_lexnet.specs.Starts.{AllCanStart, numbered_starts, rule_starts, starts_from, starts_by_sizes};
 
-use crate::lex_net::LexStart;
 use g4_base::Sequence;
 use g4_net::State;
-use g4_ordered::Reads;
+use g4_ordered::{Reads, Start};
 use g4_source::{LexerAlternative, LexerRule};
 use std::alloc::{AllocError, Global};
 
 /// Adds the starts of a rule whose alternatives begin at these states.
-fn add_numbered(starts: &mut Vec<LexStart>, rule: u32, firsts: &[u32]) -> Result<(), AllocError>
+fn add_numbered(starts: &mut Vec<Start>, rule: u32, firsts: &[u32]) -> Result<(), AllocError>
     requires few { length firsts.now ≤ MOST_STATES }
     ensures { OnOk result (starts.new.items ≡ starts.old.items ++ numbered_starts rule 1 firsts.now) }
 {
     let mut alternative = 1;
     for first in firsts {
-        starts.push(LexStart {
+        starts.push(Start {
             rule,
             alternative,
             state: *first,
@@ -31,7 +30,7 @@ fn add_numbered(starts: &mut Vec<LexStart>, rule: u32, firsts: &[u32]) -> Result
 
 /// Adds the starts of a rule of these alternatives.
 fn add_rule(
-    starts: &mut Vec<LexStart>,
+    starts: &mut Vec<Start>,
     states: &[State<Reads>],
     rule: u32,
     alternatives: &[LexerAlternative],
@@ -43,7 +42,7 @@ fn add_rule(
     ensures { OnOk result (starts.new.items ≡ starts.old.items ++ rule_starts states.now rule alternatives.now) }
 {
     if alternatives.len() == 1 {
-        starts.push(LexStart {
+        starts.push(Start {
             rule,
             alternative: 1,
             state: 2 * rule,
@@ -56,7 +55,7 @@ fn add_rule(
 
 /// Adds the starts of the rules, the first of which has this number, but those of fragments.
 fn add_rules(
-    starts: &mut Vec<LexStart>,
+    starts: &mut Vec<Start>,
     states: &[State<Reads>],
     number: u32,
     rules: &[LexerRule],
@@ -83,7 +82,7 @@ pub fn starts_of_modes(
     rules: &[LexerRule],
     literals: usize,
     sizes: &[usize],
-) -> Result<Vec<Sequence<LexStart>>, AllocError>
+) -> Result<Vec<Sequence<Start>>, AllocError>
     requires can { AllCanStart states.now 0 rules.now }
     requires within { start_of (length rules.now) ≤ length states.now }
     requires few { length states.now ≤ MOST_STATES }

@@ -4,7 +4,6 @@ use Rattle.std.specs.List.{flat_map}
 use Rattle.g4_symbols.specs.declared.symbol.TheConstants.{MOST_TYPES}
 use Rattle.g4_source.specs.Blocks.{LexerRulesAreFull, ModesAreFull}
 use Rattle.g4_lexnet.specs.Lexable.{CanBeLexed}
-use Rattle.g4_matching.specs.declared.waiting.Start.{Start}
 use Rattle.g4_net.specs.declared.network.TheConstants.{MOST_STATES}
 use Rattle.g4_source.specs.declared.rule.Command.{Command}
 use Rattle.g4_source.specs.Rules.{is_skip}
@@ -14,14 +13,9 @@ use Rattle.g4_lexing.specs.declared.lexer.Lexer.{Lexer}
 use Rattle.g4_lexnet.specs.LexNets.{IsLexNet}
 use Rattle.g4_lexnet.specs.Rules.{all_rules, lexer_states}
 use Rattle.g4_lexnet.specs.declared.lex_net.LexNet.{LexNet}
-use Rattle.g4_lexnet.specs.declared.lex_net.LexStart.{LexStart}
 use Rattle.g4_lexrules.specs.declared.lexer_rules.LexerRules.{LexerRules}
 use Rattle.g4_load.specs.declared.fault.GrammarFault.{GrammarFault}
 use Rattle.g4_load.specs.declared.fault.GrammarFault.TheVariants as faults
-
--- a place where a match may begin
-abbrev pub start_of : LexStart → Start
-start_of start = record { rule = start.rule; alternative = start.alternative; state = start.state }
 
 -- what a command does, of which only `skip` is run yet
 abbrev pub command_of : Command → List LexerCommand
@@ -29,7 +23,7 @@ command_of command = cond (is_skip command) (Skip ∷ []) []
 
 -- the lexer by a network and the token types of its rules
 abbrev pub lexer_of : LexNet → List ℕ → Lexer
-lexer_of made types = record { net = made.net; modes = map (map start_of) made.modes; types = types; commands = map (map (flat_map command_of)) made.commands }
+lexer_of made types = record { net = made.net; modes = made.modes; types = types; commands = map (map (flat_map command_of)) made.commands }
 
 -- The rules can be lexed with, each block of them has an alternative, and each has a token type or none.
 pub record CanBeMade (rules : LexerRules) : Type 0 where

@@ -2,47 +2,17 @@
 ghost use Rattle.std.specs.Prelude.{◌≡◌, IfOk, map};
 ghost use Rattle.std.specs.List.{flat_map};
 ghost use Rattle.g4_lexing.specs.Lexers.{HasTokenTypes};
-ghost use Rattle.g4_load.specs.Lexers.{CanBeMade, GivesLexer, command_of, lexer_of, start_of};
+ghost use Rattle.g4_load.specs.Lexers.{CanBeMade, GivesLexer, command_of, lexer_of};
 ghost use Rattle.g4_load.specs.Stages.{IsAnswerOf};
 ghost use Rattle.g4_ordered.specs.Network.{IsLexable};
 
 use crate::fault::{CheckError, GrammarFault};
 use g4_base::Sequence;
 use g4_lexing::{Lexer, LexerCommand};
-use g4_lexnet::{LexFault, LexNet, LexStart, build_lexer};
+use g4_lexnet::{LexFault, LexNet, build_lexer};
 use g4_lexrules::LexerRules;
-use g4_matching::Start;
 use g4_source::Command;
 use std::alloc::{AllocError, Global};
-
-/// The places where a match may begin.
-fn starts_of(alloc: Global, starts: &[LexStart]) -> Result<Sequence<Start>, AllocError>
-    ensures { IfOk result (λ made. made ≡ map start_of starts.now) }
-{
-    let mut made = Vec::new(alloc);
-    for start in starts {
-        made.push(Start {
-            rule: start.rule,
-            alternative: start.alternative,
-            state: start.state,
-        })?;
-    }
-    Ok(Sequence::new(made))
-}
-
-/// The same for each mode.
-fn modes_of(
-    alloc: Global,
-    modes: &[Sequence<LexStart>],
-) -> Result<Sequence<Sequence<Start>>, AllocError>
-    ensures { IfOk result (λ made. made ≡ map (map start_of) modes.now) }
-{
-    let mut made = Vec::new(alloc);
-    for starts in modes {
-        made.push(starts_of(alloc, starts.as_slice())?)?;
-    }
-    Ok(Sequence::new(made))
-}
 
 /// The commands of an alternative, of which only `skip` is run yet.
 fn commands_of(alloc: Global, commands: &[Command]) -> Result<Sequence<LexerCommand>, AllocError>
@@ -89,11 +59,10 @@ fn all_commands_of(
 fn lexer_by(alloc: Global, made: LexNet, types: Sequence<u32>) -> Result<Lexer, AllocError>
     ensures { IfOk result (λ lexer. lexer ≡ lexer_of made types) }
 {
-    let modes = modes_of(alloc, made.modes.as_slice())?;
     let commands = all_commands_of(alloc, made.commands.as_slice())?;
     Ok(Lexer {
         net: made.net,
-        modes,
+        modes: made.modes,
         types,
         commands,
     })

@@ -5,9 +5,10 @@ use Rattle.g4_ordered.specs.Network.{LexerNetwork}
 use Rattle.g4_ordered.specs.Configurations.{LexerConfig, start}
 use Rattle.g4_ordered.specs.Lists.{ReadAll, taken, refused}
 use Rattle.g4_matching.specs.declared.entry.Entry.{Entry}
-use Rattle.g4_matching.specs.declared.waiting.Start.{Start}
+use Rattle.g4_ordered.specs.declared.start.Start.{Start}
+use Rattle.g4_ordered.specs.Starts.{starts_of}
 use Rattle.g4_matching.specs.Returns.{IsEmptyFirst}
-use Rattle.g4_matching.specs.Entries.{config_of, configs_of, stacked, starts_of, placed, Takes, IsKnown, AreKnown, moved_to}
+use Rattle.g4_matching.specs.Entries.{config_of, configs_of, stacked, placed, Takes, IsKnown, AreKnown, moved_to}
 use Rattle.g4_matching.proofs.Known.{on_top, known_both, known_one}
 
 -- one further back comes to the front of what was gone over

@@ -6,9 +6,8 @@ use Rattle.g4_net.specs.declared.network.State.TheVariants.{Edge}
 use Rattle.g4_net.specs.Network.{state_at}
 use Rattle.g4_ordered.specs.declared.network.Reads.TheVariants.{Characters}
 use Rattle.g4_ordered.specs.Network.{LexerNetwork}
-use Rattle.g4_ordered.specs.Configurations.{LexerConfig, In, start}
+use Rattle.g4_ordered.specs.Configurations.{LexerConfig, In}
 use Rattle.g4_matching.specs.declared.entry.Entry.{Entry}
-use Rattle.g4_matching.specs.declared.waiting.Start.{Start}
 
 -- the configuration of an entry
 abbrev pub config_of : List (List ℕ) → Entry → LexerConfig
@@ -21,10 +20,6 @@ configs_of lists es = map (config_of lists) es
 -- those of entries that wait, the next first
 abbrev pub stacked : List (List ℕ) → List Entry → List LexerConfig
 stacked lists es = configs_of lists (reverse es)
-
--- those that a match begins with
-abbrev pub starts_of : List Start → List LexerConfig
-starts_of starts = map (λ s. start s.rule s.alternative s.state) starts
 
 -- the entry's return states are in the store
 abbrev pub IsKnown : List (List ℕ) → Entry → Type 0

@@ -11,4 +11,3 @@ mod rule_end;
 mod waiting;
 
 pub use matcher::{Match, Matcher};
-pub use waiting::Start;

@@ -3,8 +3,9 @@ ghost use Rattle.std.specs.Prelude.{◌≡◌, ◌↔◌, ◌≤◌, ◌⊎◌, 
 ghost use Rattle.g4_ordered.specs.Lists.{Keeps, ListOf, Never};
 ghost use Rattle.g4_ordered.specs.Matching.{IsLeastEnd, IsMatch, NoMatch};
 ghost use Rattle.g4_ordered.specs.Network.{IsLexable};
+ghost use Rattle.g4_ordered.specs.Starts.{starts_of};
 ghost use Rattle.g4_matching.specs.Ends.{HasNoEnd};
-ghost use Rattle.g4_matching.specs.Entries.{AreKnown, configs_of, starts_of};
+ghost use Rattle.g4_matching.specs.Entries.{AreKnown, configs_of};
 ghost use Rattle.g4_matching.specs.Expanding.{all_of};
 ghost use Rattle.g4_matching.specs.Matcher.{IsNext, IsReady, listed};
 
@@ -12,8 +13,7 @@ use crate::entry::Entry;
 use crate::expanding::Expanding;
 use crate::returns::Returns;
 use crate::rule_end::{RuleEnd, is_at_end, is_kept};
-use crate::waiting::Start;
-use g4_ordered::LexerNetwork;
+use g4_ordered::{LexerNetwork, Start};
 use std::alloc::{AllocError, Global};
 
 /// How many lists of return states are kept from match to match.

@@ -5,22 +5,15 @@ ghost use Rattle.g4_ordered.specs.Configurations.{at, at_with, through};
 ghost use Rattle.g4_ordered.specs.Leads.{leads, leads_by, leads_past, returned};
 ghost use Rattle.g4_ordered.specs.Lists.{ReadAll};
 ghost use Rattle.g4_ordered.specs.Network.{is_reluctant};
-ghost use Rattle.g4_matching.specs.Entries.{AreKnown, IsKnown, Takes, config_of, configs_of, moved_to, placed, starts_of, stacked};
+ghost use Rattle.g4_ordered.specs.Starts.{starts_of};
+ghost use Rattle.g4_matching.specs.Entries.{AreKnown, IsKnown, Takes, config_of, configs_of, moved_to, placed, stacked};
 ghost use Rattle.g4_matching.specs.Waiting.{Adds};
 
 use crate::entry::Entry;
 use crate::returns::Returns;
 use g4_net::State;
-use g4_ordered::{LexerNetwork, Reads};
+use g4_ordered::{LexerNetwork, Reads, Start};
 use std::alloc::{AllocError, Global};
-
-/// Where the match of a rule's alternative begins.
-#[derive(Clone, Copy)]
-pub struct Start {
-    pub rule: u32,
-    pub alternative: u32,
-    pub state: u32,
-}
 
 /// Entries that wait, the next of them last, and the store of their return states.
 #[derive(Drop)]

@@ -1,9 +1,10 @@
-pub mod Network
 pub mod Configurations
+pub mod Starts
+pub mod Greedy
 pub mod Leads
 pub mod Lists
-pub mod Walks
-pub mod Spelling
-pub mod Greedy
-pub mod Single
 pub mod Matching
+pub mod Network
+pub mod Single
+pub mod Spelling
+pub mod Walks

@@ -16,7 +16,7 @@ use Rattle.g4_walks.specs.Alternatives.{each_of}
 use Rattle.g4_walks.specs.Alternatives as walks
 use Rattle.g4_walks.proofs.Beginnings.{laid_as}
 use Rattle.g4_lexnet.specs.declared.lex_net.LexNet.{LexNet}
-use Rattle.g4_lexnet.specs.declared.lex_net.LexStart.{LexStart}
+use Rattle.g4_ordered.specs.declared.start.Start.{Start}
 use Rattle.g4_lexnet.specs.Lexable.{CanBeLexed}
 use Rattle.g4_lexnet.specs.LexNets.{IsLexNet}
 use Rattle.g4_lexnet.specs.Rules.{all_rules, rules_of_modes, trees_of}
@@ -28,11 +28,11 @@ use Rattle.g4_spelling.proofs.Modes.{AreFrom, item_after, item_front, mode_is, o
 use Rattle.g4_spelling.proofs.Placed.{all_laid, alternative_laid, at_is_member, begins_at, item_below, laid, tree_of}
 
 -- what is left of the starts of a rule is of one that is no fragment
-no_fragment : (place : Option Place) (starts : List LexStart) (s : LexStart) → In s (unless_fragment place starts) → place ≡ None
+no_fragment : (place : Option Place) (starts : List Start) (s : Start) → In s (unless_fragment place starts) → place ≡ None
 no_fragment None starts s i = refl
 no_fragment (Some place) starts s i = absurd i
 
-unless_in : (place : Option Place) (starts : List LexStart) (s : LexStart) → place ≡ None → In s starts → In s (unless_fragment place starts)
+unless_in : (place : Option Place) (starts : List Start) (s : Start) → place ≡ None → In s starts → In s (unless_fragment place starts)
 unless_in None starts s e i = i
 unless_in (Some place) starts s e i = absurd (let n : ⊥ = cc in n)
 
@@ -58,14 +58,14 @@ begins_in net all r i a (x ∷ y ∷ more) (targets, k, is, at, number) =
 
 module _ (states : List (State Reads)) where
   -- of which rule a start is
-  record OfRule (n : ℕ) (rules : List LexerRule) (s : LexStart) : Type 0 where
+  record OfRule (n : ℕ) (rules : List LexerRule) (s : Start) : Type 0 where
     place : ℕ
     rule : LexerRule
     at : slice_get rules place ≡ Some rule
     number : s.rule ≡ n + place
     whole : rule.fragment ≡ None
 
-  rule_of : (n : ℕ) (rules : List LexerRule) (s : LexStart) → In s (starts_from states n rules) → OfRule n rules s
+  rule_of : (n : ℕ) (rules : List LexerRule) (s : Start) → In s (starts_from states n rules) → OfRule n rules s
   rule_of n [] s i = absurd i
   rule_of n (rule ∷ rules) s i = elim (In-cases (matched_starts states n rule) (starts_from states (n + 1) rules) s i) [
     | inl own ↦ (
@@ -75,7 +75,7 @@ module _ (states : List (State Reads)) where
   ]
 
   -- a start of a rule that is no fragment is one of the rules'
-  rule_in : (n : ℕ) (rules : List LexerRule) (k : ℕ) (rule : LexerRule) → slice_get rules k ≡ Some rule → rule.fragment ≡ None → (r : ℕ) → r ≡ n + k → (s : LexStart) → In s (rule_starts states r rule.alternatives) → In s (starts_from states n rules)
+  rule_in : (n : ℕ) (rules : List LexerRule) (k : ℕ) (rule : LexerRule) → slice_get rules k ≡ Some rule → rule.fragment ≡ None → (r : ℕ) → r ≡ n + k → (s : Start) → In s (rule_starts states r rule.alternatives) → In s (starts_from states n rules)
   rule_in n [] k rule is whole r number s i = absurd (let e : ⊥ = cc in e)
   rule_in n (x ∷ rules) zero rule is whole r number s i =
       let same : rule ≡ x = (let e : Some x ≡ Some rule = is in cc) in
@@ -87,7 +87,7 @@ module _ (states : List (State Reads)) where
       In-right (matched_starts states n x) (starts_from states (n + 1) rules) s (rule_in (n + 1) rules k rule is whole r (omega (arith, number)) s i)
 
   -- the starts of mode m
-  mode_at : (front : List LexStart) (n : ℕ) (modes : List Mode) (m : ℕ) (starts : List LexStart) → slice_get (starts_of_modes states front n modes) m ≡ Some starts →
+  mode_at : (front : List Start) (n : ℕ) (modes : List Mode) (m : ℕ) (starts : List Start) → slice_get (starts_of_modes states front n modes) m ≡ Some starts →
       (mode : Mode) × (slice_get modes m ≡ Some mode) × (starts ≡ front ++ starts_from states (first_of_mode n modes m) mode.rules)
   mode_at front n [] m starts is = absurd (let e : ⊥ = cc in e)
   mode_at front n (mode ∷ modes) zero starts is = (mode, refl, let e : Some (front ++ starts_from states n mode.rules) ≡ Some starts = is in cc)
@@ -105,7 +105,7 @@ module _ (states : List (State Reads)) where
       let there : n + (length x.rules + k) ≡ n + length x.rules + k = omega arith in
       subst (λ (q : ℕ). slice_get all q ≡ Some rule) there (are (length x.rules + k) rule (item_after x.rules (rules_of_modes modes) k ∙ e)))
 
-module _ (literals : List LexerRule) (modes : List Mode) (made : LexNet) (lex : IsLexNet literals modes made) (can : CanBeLexed (all_rules literals modes)) (m : ℕ) (starts : List LexStart) (is : slice_get made.modes m ≡ Some starts) where
+module _ (literals : List LexerRule) (modes : List Mode) (made : LexNet) (lex : IsLexNet literals modes made) (can : CanBeLexed (all_rules literals modes)) (m : ℕ) (starts : List Start) (is : slice_get made.modes m ≡ Some starts) where
   -- all rules, and the states
   abbrev rules : List LexerRule
   rules = all_rules literals modes
@@ -113,7 +113,7 @@ module _ (literals : List LexerRule) (modes : List Mode) (made : LexNet) (lex : 
   abbrev states : List (State Reads)
   states = made.net.states
 
-  abbrev front : List LexStart
+  abbrev front : List Start
   front = starts_from states 0 literals
 
   abbrev first : ℕ
@@ -121,7 +121,7 @@ module _ (literals : List LexerRule) (modes : List Mode) (made : LexNet) (lex : 
 
   -- the mode and its starts
   here : (mode : Mode) × (slice_get modes m ≡ Some mode) × (starts ≡ front ++ starts_from states first mode.rules)
-  here = mode_at states front (length literals) modes m starts (subst (λ (all : List (List LexStart)). slice_get all m ≡ Some starts) lex.starts is)
+  here = mode_at states front (length literals) modes m starts (subst (λ (all : List (List Start)). slice_get all m ≡ Some starts) lex.starts is)
 
   -- the rules of the literals, and those of the mode
   of_literals : AreFrom states rules 0 literals
@@ -133,7 +133,7 @@ module _ (literals : List LexerRule) (modes : List Mode) (made : LexNet) (lex : 
   -- with a start a match may begin
   pub started_may : (r i : ℕ) → IsStarted starts r i → MayBegin literals modes m r i
   started_may r i (a, c) =
-      let s : LexStart = record { rule = r; alternative = i; state = a } in
+      let s : Start = record { rule = r; alternative = i; state = a } in
       let begins = (mode_is literals modes made lex starts (at_is_member made.modes m starts is)).begin s (In-from starts s c) in
       let x = alternative_there literals modes made lex can r i a begins in
       let inside = subst (In s) here.2 (In-from starts s c) in
@@ -157,7 +157,7 @@ module _ (literals : List LexerRule) (modes : List Mode) (made : LexNet) (lex : 
       let e : Some other ≡ Some rule = sym also ∙ at in cc
 
   -- it has a start among those of the mode, or of the literals
-  among_starts : (r : ℕ) (rule : LexerRule) (s : LexStart) → slice_get rules r ≡ Some rule → rule.fragment ≡ None → In s (rule_starts states r rule.alternatives) → (r < length literals) ⊎ IsRuleOfMode literals modes m r → In s starts
+  among_starts : (r : ℕ) (rule : LexerRule) (s : Start) → slice_get rules r ≡ Some rule → rule.fragment ≡ None → In s (rule_starts states r rule.alternatives) → (r < length literals) ⊎ IsRuleOfMode literals modes m r → In s starts
   among_starts r rule s at whole i (inl below) =
       let other = item_below literals r below in
       let number : r ≡ 0 + r = omega arith in
@@ -184,6 +184,6 @@ module _ (literals : List LexerRule) (modes : List Mode) (made : LexNet) (lex : 
       let b = begins_at lies.2 y.0 (laid rules x.elements) y.1 in
       let number : y.0 + 1 ≡ i = omega (arith, alternative.4, y.2) in
       let begins : walks.BeginsAt net r (all_laid rules own) i b.0 = subst (λ (q : ℕ). walks.BeginsAt net r (all_laid rules own) q b.0) number b.1 in
-      let s : LexStart = record { rule = r; alternative = i; state = b.0 } in
+      let s : Start = record { rule = r; alternative = i; state = b.0 } in
       let i_in : In s (rule_starts states r alternative.0.alternatives) = begins_in net rules r i b.0 alternative.0.alternatives begins in
       (b.0, In-to starts s (among_starts r rule s at whole (subst (λ (z : LexerRule). In s (rule_starts states r z.alternatives)) same i_in) whose))

@@ -26,7 +26,8 @@ use Rattle.g4_ordered.specs.Matching.{IsGreedyRule}
 use Rattle.g4_ordered.specs.Network.{LexerNetwork, is_reluctant}
 use Rattle.g4_ordered.specs.declared.network.Reads.{Reads}
 use Rattle.g4_lexnet.specs.declared.lex_net.LexNet.{LexNet}
-use Rattle.g4_lexnet.specs.declared.lex_net.LexStart.{LexStart}
+use Rattle.g4_ordered.specs.declared.start.Start.{Start}
+use Rattle.g4_ordered.specs.Starts.{starts_of}
 use Rattle.g4_lexnet.specs.Lexable.{CanBeLexed}
 use Rattle.g4_lexnet.specs.LexNets.{IsLexNet}
 use Rattle.g4_lexnet.specs.Rules.{all_rules, names_of, trees_of}
@@ -34,7 +35,6 @@ use Rattle.g4_lexnet.specs.Starts.{decided_starts, rule_starts}
 use Rattle.g4_lexnet.proofs.Trees.{trees_full}
 use Rattle.g4_spelling.specs.Fronts.{IsLexStart}
 use Rattle.g4_spelling.specs.Greedy.{EachIsGreedy, IsPartOf, IsWrittenGreedy, RuleCalls}
-use Rattle.g4_spelling.specs.Matches.{begun_at}
 use Rattle.g4_spelling.proofs.Carried.{either_calls, either_greedy}
 use Rattle.g4_spelling.proofs.Modes.{mode_is, start_at}
 use Rattle.g4_spelling.proofs.Placed.{all_laid, at_is_member, call_known, decided_at, member_at, tree_of}
@@ -65,7 +65,7 @@ begins_within net r i a xs c = by xs c
     by : (xs : List LexerAlternative) → Contains (rule_starts net.states r xs) (record { rule = r; alternative = i; state = a }) → Within net (start_of r) a
     by [] c = decided c
     by (x ∷ []) c = elim (member_at (record { rule = r; alternative = 1; state = start_of r }) (record { rule = r; alternative = i; state = a }) [] c) [
-      | inl same ↦ subst (Within net (start_of r)) (ap (λ (s : LexStart). s.state) same) greedy.start
+      | inl same ↦ subst (Within net (start_of r)) (ap (λ (s : Start). s.state) same) greedy.start
       | inr more ↦ absurd (omega (arith, more.1))
     ]
     by (x ∷ y ∷ more) c = decided c
@@ -175,7 +175,7 @@ module _ (literals : List LexerRule) (modes : List Mode) (made : LexNet) (lex : 
       let n : ⊥ = (let e : true ≡ false = sym reluctant ∙ eager in cc) in n
 
   -- a rule that is written without non-greedy parts has none
-  pub greedy_rule : (starts : List LexStart) → Contains made.modes starts → (r : ℕ) → IsWrittenGreedy rules r → IsGreedyRule net (begun_at starts) r
+  pub greedy_rule : (starts : List Start) → Contains made.modes starts → (r : ℕ) → IsWrittenGreedy rules r → IsGreedyRule net (starts_of starts) r
   greedy_rule starts c r written s i same =
       let h = start_at starts s i in
       let begins = (mode_is literals modes made lex starts c).begin h.0 h.1 in

@@ -18,7 +18,8 @@ use Rattle.g4_ordered.proofs.Lists.{In-to, In-from}
 use Rattle.g4_walks.specs.Alternatives as walks
 use Rattle.g4_walks.proofs.Beginnings.{begins, item_of_alternative}
 use Rattle.g4_lexnet.specs.declared.lex_net.LexNet.{LexNet}
-use Rattle.g4_lexnet.specs.declared.lex_net.LexStart.{LexStart}
+use Rattle.g4_ordered.specs.declared.start.Start.{Start}
+use Rattle.g4_ordered.specs.Starts.{starts_of}
 use Rattle.g4_lexnet.specs.Lexable.{CanBeLexed}
 use Rattle.g4_lexnet.specs.LexNets.{IsLexNet}
 use Rattle.g4_lexnet.specs.Rules.{all_rules, lowered, names_of, trees_of}
@@ -28,7 +29,7 @@ use Rattle.g4_lexnet.proofs.Trees.{some_alternative}
 use Rattle.g4_spelling.specs.Canonical.{SetsAreCanonical}
 use Rattle.g4_spelling.specs.Fronts.{IsLexStart, IsAlternativeOf}
 use Rattle.g4_spelling.specs.Greedy.{IsWrittenGreedy}
-use Rattle.g4_spelling.specs.Matches.{Matches, MatchesDerived, begun_at, by_derivation, by_the_list}
+use Rattle.g4_spelling.specs.Matches.{Matches, MatchesDerived, by_derivation, by_the_list}
 use Rattle.g4_spelling.proofs.Atoms.{kind_of}
 use Rattle.g4_spelling.proofs.Deciding.{decide_greedy}
 use Rattle.g4_spelling.proofs.Derived.{derived_spells, spelled_derives}
@@ -75,13 +76,13 @@ module _ (literals : List LexerRule) (modes : List Mode) (made : LexNet) (lex : 
   abbrev net : LexerNetwork
   net = made.net
 
-  module _ (starts : List LexStart) (among : Contains made.modes starts) (text : List ℕ) where
+  module _ (starts : List Start) (among : Contains made.modes starts) (text : List ℕ) where
     -- where a start begins
-    begins_at : (s : LexStart) → Contains starts s → IsLexStart net.states rules s.rule s.alternative s.state
+    begins_at : (s : Start) → Contains starts s → IsLexStart net.states rules s.rule s.alternative s.state
     begins_at s c = (mode_is literals modes made lex starts among).begin s (In-from starts s c)
 
     -- what is spelled at the front is derived
-    spelled_derived : (r i n : ℕ) → SpellsFront net (begun_at starts) text r i n → MatchesDerived rules starts text r i n
+    spelled_derived : (r i n : ℕ) → SpellsFront net (starts_of starts) text r i n → MatchesDerived rules starts text r i n
     spelled_derived r i n (room, (c, at, rule_is, alternative_is, spells)) =
         let h = start_at starts c at in
         let s = h.0 in
@@ -95,41 +96,41 @@ module _ (literals : List LexerRule) (modes : List Mode) (made : LexNet) (lex : 
         (room, (s.state, here), (x.0, x.1, spelled_derives literals modes made lex can canonical r i s.state x.0 x.1 begun text (drop n text) (subst (λ (q : ℕ). SpellsText net q text (drop n text)) (ap (λ (d : LexerConfig). d.state) h.2) spells)))
 
     -- and the other way round
-    derived_spelled : (r i n : ℕ) → MatchesDerived rules starts text r i n → SpellsFront net (begun_at starts) text r i n
+    derived_spelled : (r i n : ℕ) → MatchesDerived rules starts text r i n → SpellsFront net (starts_of starts) text r i n
     derived_spelled r i n (room, (a, here), (x, alternative, front)) =
-        let s : LexStart = record { rule = r; alternative = i; state = a } in
+        let s : Start = record { rule = r; alternative = i; state = a } in
         (room, (start r i a, at_start starts s here, refl, refl, derived_spells literals modes made lex can canonical r i a x alternative (begins_at s here) text (drop n text) front))
 
     -- a rule without non-greedy parts matches alone what it derives
-    pub alone_derives : (r i n : ℕ) → IsWrittenGreedy rules r → MatchesAlone net (begun_at starts) text r i n → MatchesDerived rules starts text r i n
+    pub alone_derives : (r i n : ℕ) → IsWrittenGreedy rules r → MatchesAlone net (starts_of starts) text r i n → MatchesDerived rules starts text r i n
     alone_derives r i n written m =
-        spelled_derived r i n (alone_spells net (begun_at starts) text r i n (is_lexable literals modes made lex can) (fresh starts) (greedy_rule literals modes made lex can starts among r written) m)
+        spelled_derived r i n (alone_spells net (starts_of starts) text r i n (is_lexable literals modes made lex can) (fresh starts) (greedy_rule literals modes made lex can starts among r written) m)
 
     -- and the other way round
-    pub derived_alone : (r i n : ℕ) → IsWrittenGreedy rules r → MatchesDerived rules starts text r i n → MatchesAlone net (begun_at starts) text r i n
+    pub derived_alone : (r i n : ℕ) → IsWrittenGreedy rules r → MatchesDerived rules starts text r i n → MatchesAlone net (starts_of starts) text r i n
     derived_alone r i n written d =
-        spells_alone net (begun_at starts) text r i n (is_lexable literals modes made lex can) (fresh starts) (greedy_rule literals modes made lex can starts among r written) (derived_spelled r i n d)
+        spells_alone net (starts_of starts) text r i n (is_lexable literals modes made lex can) (fresh starts) (greedy_rule literals modes made lex can starts among r written) (derived_spelled r i n d)
 
     -- what a rule matches alone, it matches
-    alone_matches : (r i n : ℕ) → MatchesAlone net (begun_at starts) text r i n → Matches rules net starts text r i n
+    alone_matches : (r i n : ℕ) → MatchesAlone net (starts_of starts) text r i n → Matches rules net starts text r i n
     alone_matches r i n m = elim (decide_greedy rules can.within r) [
       | inl written ↦ by_derivation written (alone_derives r i n written m)
       | inr not ↦ by_the_list not m
     ]
 
     -- and no more
-    matches_alone : (r i n : ℕ) → Matches rules net starts text r i n → MatchesAlone net (begun_at starts) text r i n
+    matches_alone : (r i n : ℕ) → Matches rules net starts text r i n → MatchesAlone net (starts_of starts) text r i n
     matches_alone r i n (by_derivation written d) = derived_alone r i n written d
     matches_alone r i n (by_the_list not m) = m
 
     -- the match by the list of all rules is the best of what they match
-    pub match_best : (n r i : ℕ) → IsMatch net (begun_at starts) text n r i → IsBest (Matches rules net starts text) n r i
+    pub match_best : (n r i : ℕ) → IsMatch net (starts_of starts) text n r i → IsBest (Matches rules net starts text) n r i
     match_best n r i m =
-        same_best {P = MatchesAlone net (begun_at starts) text} {Q = Matches rules net starts text} alone_matches matches_alone n r i
-        (match_is_best net (begun_at starts) text n r i (is_lexable literals modes made lex can) (mode_is literals modes made lex starts among).in_order m)
+        same_best {P = MatchesAlone net (starts_of starts) text} {Q = Matches rules net starts text} alone_matches matches_alone n r i
+        (match_is_best net (starts_of starts) text n r i (is_lexable literals modes made lex can) (mode_is literals modes made lex starts among).in_order m)
 
     -- and the best is the match
-    pub best_match : (n r i : ℕ) → IsBest (Matches rules net starts text) n r i → IsMatch net (begun_at starts) text n r i
+    pub best_match : (n r i : ℕ) → IsBest (Matches rules net starts text) n r i → IsMatch net (starts_of starts) text n r i
     best_match n r i b =
-        best_is_match net (begun_at starts) text n r i (is_lexable literals modes made lex can) (mode_is literals modes made lex starts among).in_order
-        (same_best {P = Matches rules net starts text} {Q = MatchesAlone net (begun_at starts) text} matches_alone alone_matches n r i b)
+        best_is_match net (starts_of starts) text n r i (is_lexable literals modes made lex can) (mode_is literals modes made lex starts among).in_order
+        (same_best {P = Matches rules net starts text} {Q = MatchesAlone net (starts_of starts) text} matches_alone alone_matches n r i b)

@@ -12,24 +12,24 @@ use Rattle.g4_ordered.specs.Matching.{AreFresh, InOrder, no_more, more}
 use Rattle.g4_ordered.specs.declared.network.Reads.{Reads}
 use Rattle.g4_ordered.proofs.Lists.{In-cases, In-from, In-map, In-to, map-In}
 use Rattle.g4_lexnet.specs.declared.lex_net.LexNet.{LexNet}
-use Rattle.g4_lexnet.specs.declared.lex_net.LexStart.{LexStart}
+use Rattle.g4_ordered.specs.declared.start.Start.{Start}
+use Rattle.g4_ordered.specs.Starts.{starts_of}
 use Rattle.g4_lexnet.specs.LexNets.{IsLexNet}
 use Rattle.g4_lexnet.specs.Rules.{all_rules, rules_of_modes}
 use Rattle.g4_lexnet.specs.Starts.{decided_starts, matched_starts, mode_starts, numbered_starts, rule_starts, starts_from, starts_of_modes, unless_fragment}
 use Rattle.g4_spelling.specs.Fronts.{IsLexStart}
-use Rattle.g4_spelling.specs.Matches.{begun_at}
 
 -- the configuration of a start
-abbrev begun : LexStart → LexerConfig
+abbrev begun : Start → LexerConfig
 begun s = start s.rule s.alternative s.state
 
 -- alternatives that are numbered are of the rule, and have these numbers
-numbered_rule : (r n : ℕ) (ps : List ℕ) (s : LexStart) → In s (numbered_starts r n ps) → (s.rule ≡ r) × (n ≤ s.alternative)
+numbered_rule : (r n : ℕ) (ps : List ℕ) (s : Start) → In s (numbered_starts r n ps) → (s.rule ≡ r) × (n ≤ s.alternative)
 numbered_rule r n [] s i = absurd i
-numbered_rule r n (p ∷ ps) s (inl is) = (ap (λ (t : LexStart). t.rule) is, let e = ap (λ (t : LexStart). t.alternative) is in omega (arith, e))
+numbered_rule r n (p ∷ ps) s (inl is) = (ap (λ (t : Start). t.rule) is, let e = ap (λ (t : Start). t.alternative) is in omega (arith, e))
 numbered_rule r n (p ∷ ps) s (inr i) = let h = numbered_rule r (n + 1) ps s i in (h.0, omega (arith, h.1))
 
-decided_rule : (r : ℕ) (o : Option (State Reads)) (s : LexStart) → In s (decided_starts r o) → s.rule ≡ r
+decided_rule : (r : ℕ) (o : Option (State Reads)) (s : Start) → In s (decided_starts r o) → s.rule ≡ r
 decided_rule r None s i = absurd i
 decided_rule r (Some (Decision targets)) s i = (numbered_rule r 1 targets s i).0
 decided_rule r (Some (End ended)) s i = absurd i
@@ -40,41 +40,41 @@ decided_rule r (Some (Level q t)) s i = absurd i
 decided_rule r (Some (Action t)) s i = absurd i
 decided_rule r (Some (Empty t)) s i = absurd i
 
-pub own_rule : (states : List (State Reads)) (r : ℕ) (xs : List LexerAlternative) (s : LexStart) → In s (rule_starts states r xs) → s.rule ≡ r
+pub own_rule : (states : List (State Reads)) (r : ℕ) (xs : List LexerAlternative) (s : Start) → In s (rule_starts states r xs) → s.rule ≡ r
 own_rule states r [] s i = decided_rule r (slice_get states (start_of r)) s i
-own_rule states r (x ∷ []) s (inl is) = ap (λ (t : LexStart). t.rule) is
+own_rule states r (x ∷ []) s (inl is) = ap (λ (t : Start). t.rule) is
 own_rule states r (x ∷ []) s (inr i) = absurd i
 own_rule states r (x ∷ y ∷ others) s i = decided_rule r (slice_get states (start_of r)) s i
 
 -- a rule that is no fragment
-pub unfragmented : (place : Option Place) (starts : List LexStart) (s : LexStart) → In s (unless_fragment place starts) → In s starts
+pub unfragmented : (place : Option Place) (starts : List Start) (s : Start) → In s (unless_fragment place starts) → In s starts
 unfragmented None starts s i = i
 unfragmented (Some place) starts s i = absurd i
 
 -- two lists of starts, of different rules
-both : (xs ys : List LexStart) → InOrder (begun_at xs) → InOrder (begun_at ys) → ((s t : LexStart) → In s xs → In t ys → t.rule ≡ s.rule → ⊥) → InOrder (begun_at (xs ++ ys))
+both : (xs ys : List Start) → InOrder (starts_of xs) → InOrder (starts_of ys) → ((s t : Start) → In s xs → In t ys → t.rule ≡ s.rule → ⊥) → InOrder (starts_of (xs ++ ys))
 both [] ys a b apart = b
-both (x ∷ xs) ys (more _ _ f g) b apart = more (begun x) (begun_at (xs ++ ys)) later (both xs ys g b (λ s t i j. apart s t (inr i) j))
+both (x ∷ xs) ys (more _ _ f g) b apart = more (begun x) (starts_of (xs ++ ys)) later (both xs ys g b (λ s t i j. apart s t (inr i) j))
   where
-    later : (d : LexerConfig) → In d (begun_at (xs ++ ys)) → d.rule ≡ x.rule → x.alternative ≤ d.alternative
+    later : (d : LexerConfig) → In d (starts_of (xs ++ ys)) → d.rule ≡ x.rule → x.alternative ≤ d.alternative
     later d i e =
         let h = In-map begun (xs ++ ys) d i in
         elim (In-cases xs ys h.0 h.1) [
-          | inl j ↦ f d (subst (λ (c : LexerConfig). In c (begun_at xs)) (sym h.2) (map-In begun xs h.0 j)) e
+          | inl j ↦ f d (subst (λ (c : LexerConfig). In c (starts_of xs)) (sym h.2) (map-In begun xs h.0 j)) e
           | inr j ↦ absurd (apart x h.0 (inl refl) j (sym (ap (λ (c : LexerConfig). c.rule) h.2) ∙ e))
         ]
 
-numbered_order : (r n : ℕ) (ps : List ℕ) → InOrder (begun_at (numbered_starts r n ps))
+numbered_order : (r n : ℕ) (ps : List ℕ) → InOrder (starts_of (numbered_starts r n ps))
 numbered_order r n [] = no_more
-numbered_order r n (p ∷ ps) = more (start r n p) (begun_at (numbered_starts r (n + 1) ps)) later (numbered_order r (n + 1) ps)
+numbered_order r n (p ∷ ps) = more (start r n p) (starts_of (numbered_starts r (n + 1) ps)) later (numbered_order r (n + 1) ps)
   where
-    later : (d : LexerConfig) → In d (begun_at (numbered_starts r (n + 1) ps)) → d.rule ≡ r → n ≤ d.alternative
+    later : (d : LexerConfig) → In d (starts_of (numbered_starts r (n + 1) ps)) → d.rule ≡ r → n ≤ d.alternative
     later d i e =
         let h = In-map begun (numbered_starts r (n + 1) ps) d i in
         let k = numbered_rule r (n + 1) ps h.0 h.1 in
         let same = ap (λ (c : LexerConfig). c.alternative) h.2 in omega (arith, k.1, same)
 
-decided_order : (r : ℕ) (o : Option (State Reads)) → InOrder (begun_at (decided_starts r o))
+decided_order : (r : ℕ) (o : Option (State Reads)) → InOrder (starts_of (decided_starts r o))
 decided_order r None = no_more
 decided_order r (Some (Decision targets)) = numbered_order r 1 targets
 decided_order r (Some (End ended)) = no_more
@@ -85,12 +85,12 @@ decided_order r (Some (Level q t)) = no_more
 decided_order r (Some (Action t)) = no_more
 decided_order r (Some (Empty t)) = no_more
 
-own_order : (states : List (State Reads)) (r : ℕ) (xs : List LexerAlternative) → InOrder (begun_at (rule_starts states r xs))
+own_order : (states : List (State Reads)) (r : ℕ) (xs : List LexerAlternative) → InOrder (starts_of (rule_starts states r xs))
 own_order states r [] = decided_order r (slice_get states (start_of r))
 own_order states r (x ∷ []) = more (start r 1 (start_of r)) [] (λ d i e. absurd i) no_more
 own_order states r (x ∷ y ∷ others) = decided_order r (slice_get states (start_of r))
 
-unfragmented_order : (place : Option Place) (starts : List LexStart) → InOrder (begun_at starts) → InOrder (begun_at (unless_fragment place starts))
+unfragmented_order : (place : Option Place) (starts : List Start) → InOrder (starts_of starts) → InOrder (starts_of (unless_fragment place starts))
 unfragmented_order None starts h = h
 unfragmented_order (Some place) starts h = no_more
 
@@ -106,7 +106,7 @@ item_after (x ∷ xs) ys k = let e : length (x ∷ xs) + k ≡ suc (length xs + 
 
 module _ (states : List (State Reads)) (all : List LexerRule) where
   -- an alternative of a rule with a number from n up to m begins there
-  abbrev IsPlace : ℕ → ℕ → LexStart → Type 0
+  abbrev IsPlace : ℕ → ℕ → Start → Type 0
   IsPlace n m s = (n ≤ s.rule) × (s.rule < m) × IsLexStart states all s.rule s.alternative s.state
 
   -- these are the rules from number n on
@@ -117,7 +117,7 @@ module _ (states : List (State Reads)) (all : List LexerRule) where
   next_from : (n : ℕ) (rule : LexerRule) (rules : List LexerRule) → AreFrom n (rule ∷ rules) → AreFrom (n + 1) rules
   next_from n rule rules are k x is = let e : n + suc k ≡ n + 1 + k = omega arith in subst (λ (q : ℕ). slice_get all q ≡ Some x) e (are (suc k) x is)
 
-  places : (n : ℕ) (rules : List LexerRule) → AreFrom n rules → (s : LexStart) → In s (starts_from states n rules) → IsPlace n (n + length rules) s
+  places : (n : ℕ) (rules : List LexerRule) → AreFrom n rules → (s : Start) → In s (starts_from states n rules) → IsPlace n (n + length rules) s
   places n [] are s i = absurd i
   places n (rule ∷ rules) are s i = elim (In-cases (matched_starts states n rule) (starts_from states (n + 1) rules) s i) [
     | inl own ↦ (
@@ -128,7 +128,7 @@ module _ (states : List (State Reads)) (all : List LexerRule) where
     | inr later ↦ (let h = places (n + 1) rules (next_from n rule rules are) s later in (omega (arith, h.0), omega (arith, h.1), h.2))
   ]
 
-  order : (n : ℕ) (rules : List LexerRule) → AreFrom n rules → InOrder (begun_at (starts_from states n rules))
+  order : (n : ℕ) (rules : List LexerRule) → AreFrom n rules → InOrder (starts_of (starts_from states n rules))
   order n [] are = no_more
   order n (rule ∷ rules) are =
       both (matched_starts states n rule) (starts_from states (n + 1) rules) (unfragmented_order rule.fragment (rule_starts states n rule.alternatives) (own_order states n rule.alternatives)) (order (n + 1) rules (next_from n rule rules are))
@@ -138,11 +138,11 @@ module _ (states : List (State Reads)) (all : List LexerRule) where
       omega (arith, same, h.0, e))
 
   -- starts of a mode: alternatives begin there, those of one rule in their order
-  pub record AreStarts (starts : List LexStart) : Type 0 where
-    pub begin : (s : LexStart) → In s starts → IsLexStart states all s.rule s.alternative s.state
-    pub in_order : InOrder (begun_at starts)
+  pub record AreStarts (starts : List Start) : Type 0 where
+    pub begin : (s : Start) → In s starts → IsLexStart states all s.rule s.alternative s.state
+    pub in_order : InOrder (starts_of starts)
 
-  module _ (front : List LexStart) (low : ℕ) (front_places : (s : LexStart) → In s front → IsPlace 0 low s) (front_order : InOrder (begun_at front)) where
+  module _ (front : List Start) (low : ℕ) (front_places : (s : Start) → In s front → IsPlace 0 low s) (front_order : InOrder (starts_of front)) where
     -- those that come before, and those of some rules
     one_mode : (n : ℕ) (rules : List LexerRule) → low ≤ n → AreFrom n rules → AreStarts (front ++ starts_from states n rules)
     one_mode n rules up are = record {
@@ -152,7 +152,7 @@ module _ (states : List (State Reads)) (all : List LexerRule) where
     }
 
     -- of each mode
-    each_mode : (n : ℕ) (modes : List Mode) → low ≤ n → AreFrom n (rules_of_modes modes) → (starts : List LexStart) → In starts (starts_of_modes states front n modes) → AreStarts starts
+    each_mode : (n : ℕ) (modes : List Mode) → low ≤ n → AreFrom n (rules_of_modes modes) → (starts : List Start) → In starts (starts_of_modes states front n modes) → AreStarts starts
     each_mode n [] up are starts i = absurd i
     each_mode n (mode ∷ modes) up are starts (inl is) =
         subst AreStarts (sym is) (one_mode n mode.rules up (λ k rule e. are k rule (item_front mode.rules (rules_of_modes modes) k rule e)))
@@ -163,7 +163,7 @@ module _ (states : List (State Reads)) (all : List LexerRule) where
         subst (λ (q : ℕ). slice_get all q ≡ Some rule) there (are (length mode.rules + k) rule (item_after mode.rules (rules_of_modes modes) k ∙ e))) starts i
 
 -- the starts of a mode of a lexer's network
-pub mode_is : (literals : List LexerRule) (modes : List Mode) (made : LexNet) → IsLexNet literals modes made → (starts : List LexStart) → Contains made.modes starts → AreStarts made.net.states (all_rules literals modes) starts
+pub mode_is : (literals : List LexerRule) (modes : List Mode) (made : LexNet) → IsLexNet literals modes made → (starts : List Start) → Contains made.modes starts → AreStarts made.net.states (all_rules literals modes) starts
 mode_is literals modes made lex starts c =
     let states = made.net.states in
     let all = all_rules literals modes in
@@ -171,16 +171,16 @@ mode_is literals modes made lex starts c =
     let others : AreFrom states all (length literals) (rules_of_modes modes) = λ k rule is. item_after literals (rules_of_modes modes) k ∙ is in
     each_mode states all (starts_from states 0 literals) (length literals)
     (λ s i. let h = places states all 0 literals are s i in (h.0, omega (arith, h.1), h.2)) (order states all 0 literals are) (length literals) modes (omega arith) others starts
-    (In-from (mode_starts states literals modes) starts (subst (λ (m : List (List LexStart)). Contains m starts) lex.starts c))
+    (In-from (mode_starts states literals modes) starts (subst (λ (m : List (List Start)). Contains m starts) lex.starts c))
 
 -- a match begins with no open call, and with no reluctant decision behind it
-pub fresh : (starts : List LexStart) → AreFresh (begun_at starts)
+pub fresh : (starts : List Start) → AreFresh (starts_of starts)
 fresh starts c i = let h = In-map begun starts c i in (ap (λ (d : LexerConfig). d.returns) h.2, ap (λ (d : LexerConfig). d.passed) h.2)
 
 -- of which start a configuration is
-pub start_at : (starts : List LexStart) (c : LexerConfig) → In c (begun_at starts) → (s : LexStart) × In s starts × (c ≡ start s.rule s.alternative s.state)
+pub start_at : (starts : List Start) (c : LexerConfig) → In c (starts_of starts) → (s : Start) × In s starts × (c ≡ start s.rule s.alternative s.state)
 start_at starts c i = In-map begun starts c i
 
 -- the configuration of a start
-pub at_start : (starts : List LexStart) (s : LexStart) → Contains starts s → In (start s.rule s.alternative s.state) (begun_at starts)
+pub at_start : (starts : List Start) (s : Start) → Contains starts s → In (start s.rule s.alternative s.state) (starts_of starts)
 at_start starts s c = map-In begun starts s (In-from starts s c)

@@ -27,7 +27,7 @@ use Rattle.g4_walks.specs.Alternatives.{each_of, IsAlternative}
 use Rattle.g4_walks.specs.Alternatives as walks
 use Rattle.g4_walks.proofs.Beginnings.{alternative_of_list}
 use Rattle.g4_lexnet.specs.declared.lex_net.LexNet.{LexNet}
-use Rattle.g4_lexnet.specs.declared.lex_net.LexStart.{LexStart}
+use Rattle.g4_ordered.specs.declared.start.Start.{Start}
 use Rattle.g4_lexnet.specs.Lexable.{CanBeLexed}
 use Rattle.g4_lexnet.specs.LexNets.{IsLexNet}
 use Rattle.g4_lexnet.specs.Rules.{all_rules, lowered, names_of, trees_of}
@@ -55,7 +55,7 @@ item_below (x ∷ xs) zero below = (x, refl)
 item_below (x ∷ xs) (suc k) below = item_below xs k (omega (arith, below))
 
 -- a member is at a place
-pub member_at : (x y : LexStart) (xs : List LexStart) → Contains (x ∷ xs) y → (x ≡ y) ⊎ Contains xs y
+pub member_at : (x y : Start) (xs : List Start) → Contains (x ∷ xs) y → (x ≡ y) ⊎ Contains xs y
 member_at x y xs (zero, below, is) = inl is
 member_at x y xs (suc k, below, is) = inr (k, omega (arith, below), is)
 
@@ -63,7 +63,7 @@ member_at x y xs (suc k, below, is) = inr (k, omega (arith, below), is)
 pub numbered_at : (r n : ℕ) (ps : List ℕ) (i a : ℕ) → Contains (numbered_starts r n ps) (record { rule = r; alternative = i; state = a }) → (k : ℕ) × (slice_get ps k ≡ Some a) × (i ≡ n + k)
 numbered_at r n [] i a c = absurd (omega (arith, c.1))
 numbered_at r n (p ∷ ps) i a c = elim (member_at (record { rule = r; alternative = n; state = p }) (record { rule = r; alternative = i; state = a }) (numbered_starts r (n + 1) ps) c) [
-  | inl same ↦ (0, ap (λ (s : LexStart). Some s.state) same, let e = ap (λ (s : LexStart). s.alternative) same in omega (arith, e))
+  | inl same ↦ (0, ap (λ (s : Start). Some s.state) same, let e = ap (λ (s : Start). s.alternative) same in omega (arith, e))
   | inr more ↦ (let h = numbered_at r (n + 1) ps i a more in (suc h.0, h.1, omega (arith, h.2)))
 ]
 
@@ -124,7 +124,7 @@ module _ (all : List LexerRule) where
       walks.BeginsAt net r (all_laid (either (map (λ y. y.elements) xs))) i a
   begins_laid net r i a [] c j x is = absurd (let n : ⊥ = cc in n)
   begins_laid net r i a (y ∷ []) c j x is = elim (member_at (record { rule = r; alternative = 1; state = start_of r }) (record { rule = r; alternative = i; state = a }) [] c) [
-    | inl same ↦ (sym (ap (λ (s : LexStart). s.alternative) same), sym (ap (λ (s : LexStart). s.state) same))
+    | inl same ↦ (sym (ap (λ (s : Start). s.alternative) same), sym (ap (λ (s : Start). s.state) same))
     | inr more ↦ absurd (omega (arith, more.1))
   ]
   begins_laid net r i a (y ∷ z ∷ more) c j x is = decided_at r (slice_get net.states (start_of r)) i a c

@@ -12,12 +12,13 @@ ghost use Rattle.g4_lexnet.specs.Lexable.{CanBeLexed};
 ghost use Rattle.g4_lexnet.specs.LexNets.{IsLexNet};
 ghost use Rattle.g4_lexnet.specs.Rules.{all_rules};
 ghost use Rattle.g4_lexnet.specs.declared.lex_net.LexNet.{LexNet as Made};
-ghost use Rattle.g4_lexnet.specs.declared.lex_net.LexStart.{LexStart};
+ghost use Rattle.g4_ordered.specs.declared.start.Start.{Start};
+ghost use Rattle.g4_ordered.specs.Starts.{starts_of};
 ghost use Rattle.g4_spelling.specs.Begins.{MayBegin};
 ghost use Rattle.g4_spelling.specs.Canonical.{SetsAreCanonical};
 ghost use Rattle.g4_spelling.specs.Fronts.{IsLexStart, IsAlternativeOf, DerivesFront};
 ghost use Rattle.g4_spelling.specs.Greedy.{IsWrittenGreedy};
-ghost use Rattle.g4_spelling.specs.Matches.{IsStarted, Matches, MatchesDerived, begun_at};
+ghost use Rattle.g4_spelling.specs.Matches.{IsStarted, Matches, MatchesDerived};
 
 /// From where an alternative begins the network spells exactly what the alternative, as it is written, matches by derivation.
 pub fn spelled_where_derived()
@@ -29,27 +30,27 @@ pub fn spelled_where_derived()
 /// A rule that is written without non-greedy parts has none in the network.
 pub fn greedy_where_written()
     ensures { (literals : List Rule) (modes : List ModeOf) (made : Made) → IsLexNet literals modes made → CanBeLexed (all_rules literals modes) →
-        (starts : List LexStart) → Contains made.modes starts → (r : ℕ) → IsWrittenGreedy (all_rules literals modes) r → IsGreedyRule made.net (begun_at starts) r }
+        (starts : List Start) → Contains made.modes starts → (r : ℕ) → IsWrittenGreedy (all_rules literals modes) r → IsGreedyRule made.net (starts_of starts) r }
 {}
 
 /// The starts of a mode are those of the alternatives with which a match in the mode may begin, as the rules are written.
 pub fn started_where_written()
     ensures { (literals : List Rule) (modes : List ModeOf) (made : Made) → IsLexNet literals modes made → CanBeLexed (all_rules literals modes) →
-        (m : ℕ) (starts : List LexStart) → slice_get made.modes m ≡ Some starts → (r i : ℕ) → IsStarted starts r i ↔ MayBegin literals modes m r i }
+        (m : ℕ) (starts : List Start) → slice_get made.modes m ≡ Some starts → (r i : ℕ) → IsStarted starts r i ↔ MayBegin literals modes m r i }
 {}
 
 /// A rule without non-greedy parts matches alone exactly what its alternatives match by derivation.
 pub fn matches_where_derived()
     ensures { (literals : List Rule) (modes : List ModeOf) (made : Made) → IsLexNet literals modes made → CanBeLexed (all_rules literals modes) → SetsAreCanonical (all_rules literals modes) →
-        (starts : List LexStart) → Contains made.modes starts → (text : List ℕ) (r i n : ℕ) → IsWrittenGreedy (all_rules literals modes) r →
-        MatchesAlone made.net (begun_at starts) text r i n ↔ MatchesDerived (all_rules literals modes) starts text r i n }
+        (starts : List Start) → Contains made.modes starts → (text : List ℕ) (r i n : ℕ) → IsWrittenGreedy (all_rules literals modes) r →
+        MatchesAlone made.net (starts_of starts) text r i n ↔ MatchesDerived (all_rules literals modes) starts text r i n }
 {}
 
 /// The match by the ordered list is the best of what the alternatives match: by derivation, of rules without non-greedy parts.
 pub fn match_by_derivation()
     ensures { (literals : List Rule) (modes : List ModeOf) (made : Made) → IsLexNet literals modes made → CanBeLexed (all_rules literals modes) → SetsAreCanonical (all_rules literals modes) →
-        (starts : List LexStart) → Contains made.modes starts → (text : List ℕ) (n rule alternative : ℕ) →
-        IsMatch made.net (begun_at starts) text n rule alternative ↔ IsBest (Matches (all_rules literals modes) made.net starts text) n rule alternative }
+        (starts : List Start) → Contains made.modes starts → (text : List ℕ) (n rule alternative : ℕ) →
+        IsMatch made.net (starts_of starts) text n rule alternative ↔ IsBest (Matches (all_rules literals modes) made.net starts text) n rule alternative }
 {}
 
 /// A rule either has no non-greedy part or has one, so `Matches` says of every rule what it matches.

@@ -1,6 +1,6 @@
 use Rattle.std.proofs.Common.{◌≡◌, ◌-◌, length, take, drop, ap, sym, ◌∙◌, refl, Some, Option, Ok, arith, rules}
 use Rattle.g4_ordered.specs.Matching.{IsMatch}
-use Rattle.g4_matching.specs.Entries.{starts_of}
+use Rattle.g4_ordered.specs.Starts.{starts_of}
 use Rattle.g4_lexing.specs.declared.effects.Effects.{Effects}
 use Rattle.g4_lexing.specs.Commands.{after_commands}
 use Rattle.g4_lexing.specs.Lexing.{Course, NextMatch}

@@ -1,5 +1,5 @@
 use Rattle.std.proofs.Common.{◌≡◌, ℕ, ◌+◌, ◌-◌, ◌++◌, List, [], ◌∷◌, take, drop, get_or, arith, ap, subst, ◌∙◌}
-use Rattle.g4_lexnet.specs.declared.lex_net.LexStart.{LexStart}
+use Rattle.g4_ordered.specs.declared.start.Start.{Start}
 use Rattle.g4_lexnet.specs.Starts.{AllCanStart, starts_by_sizes, starts_from}
 use Rattle.g4_lexnet.proofs.Starts.{added, can_take, can_drop, next_sizes, sum_left}
 use Rattle.g4_lexnet.proofs.starting.starts_of_modes.Goals as goal
@@ -21,7 +21,7 @@ loop-size-preserved c =
     let front = c.add_rules.new.starts.items in
     let size : at + n - at ≡ n = omega arith in
     let made : c.new.result ≡ front ++ starts_from states at (take n (drop at rules)) =
-    c.new.ensures ∙ (c.in_ok-add_rules-2.ensures ∙ (ap (λ (xs : List LexStart). xs ++ starts_from states at (take (at + n - at) (drop at rules))) (c.in_ok-starts.ensures.items ∙ c.as_slice.ensures.value) ∙
+    c.new.ensures ∙ (c.in_ok-add_rules-2.ensures ∙ (ap (λ (xs : List Start). xs ++ starts_from states at (take (at + n - at) (drop at rules))) (c.in_ok-starts.ensures.items ∙ c.as_slice.ensures.value) ∙
     ap (λ (k : ℕ). front ++ starts_from states at (take k (drop at rules))) size)) in
     record {
       room = omega (arith, c.loop-size.invariant.room, sum_left c.args.sizes.now c.loop-size.size-index c.loop-size-test.true);

@@ -1,6 +1,7 @@
 use Rattle.std.proofs.Common.{◌≡◌, ◌+◌, inl, inr, ◌∙◌, arith, ap, []}
+use Rattle.g4_ordered.specs.Starts.{starts_of}
 use Rattle.std.proofs.lemmas.List.{get_or_read}
-use Rattle.g4_matching.specs.Entries.{starts_of, configs_of}
+use Rattle.g4_matching.specs.Entries.{configs_of}
 use Rattle.g4_matching.specs.Matcher.{listed}
 use Rattle.g4_matching.proofs.Matched.{begins, goes_on, with_end, without_end, whole, last_at, last_first, empty_by}
 use Rattle.g4_matching.proofs.matcher.Matcher.longest_match.Goals as goal

@@ -1,5 +1,5 @@
 use Rattle.std.proofs.Common.{length, ◌-◌}
-use Rattle.g4_matching.specs.Entries.{starts_of}
+use Rattle.g4_ordered.specs.Starts.{starts_of}
 use Rattle.g4_matching.specs.Matcher.{IsReady, listed}
 use Rattle.g4_matching.proofs.Matched.{SoFar}
 use Rattle.g4_matching.proofs.matcher.Matcher.longest_match.Given as goal
