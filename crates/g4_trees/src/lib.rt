@@ -9,5 +9,5 @@ mod tree;
 
 pub use events::{Event, push_event};
 pub use law::one_tree;
-pub use text::{push_shown_bytes, push_token};
+pub use text::{push_shown_bytes, push_token, push_token_text};
 pub use tree::{Item, Tree};

@@ -59,7 +59,10 @@ pub fn push_shown_bytes(out: &mut Vec<u8>, bytes: &[u8]) -> Result<(), AllocErro
 }
 
 /// Adds a token of a file of these bytes as it is shown: its bytes, and EOF and END as `<EOF>`.
-fn push_token_text(out: &mut Vec<u8>, bytes: &[u8], token: &Token) -> Result<(), AllocError>
+///
+/// # Errors
+/// No memory. A front part may be added then.
+pub fn push_token_text(out: &mut Vec<u8>, bytes: &[u8], token: &Token) -> Result<(), AllocError>
     ensures { Adds (token_text bytes.now token.now) out.old.items out.new.items result }
 {
     if token.symbol == EOF || token.symbol == END {
