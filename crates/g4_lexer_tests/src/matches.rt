@@ -110,6 +110,32 @@ fn mixed(alloc: Global) -> Result<LexerNetwork, AllocError> {
     network(alloc, 1, states)
 }
 
+/// Rule 0 is `A : 'a' EOF | 'a'`, each alternative a start of its own.
+fn ended(alloc: Global) -> Result<LexerNetwork, AllocError> {
+    let states = vec![in alloc;
+        choice(alloc, &[2, 4])?,
+        State::End(0),
+        reads(alloc, 'a', 'a', 3)?,
+        State::Edge(Reads::EndOfText, 1),
+        reads(alloc, 'a', 'a', 1)?,
+    ]?;
+    network(alloc, 1, states)
+}
+
+/// Rule 0 is `LOW : [é-ü]+`, rule 1 `HIGH : [一-\u{D7FF}] | [\u{E000}-😀]`.
+fn beyond_ascii(alloc: Global) -> Result<LexerNetwork, AllocError> {
+    let states = vec![in alloc;
+        reads(alloc, 'é', 'ü', 4)?,
+        State::End(0),
+        choice(alloc, &[5, 6])?,
+        State::End(1),
+        choice(alloc, &[0, 1])?,
+        reads(alloc, '一', '\u{D7FF}', 3)?,
+        reads(alloc, '\u{E000}', '😀', 3)?,
+    ]?;
+    network(alloc, 2, states)
+}
+
 fn start(rule: u32, alternative: u32, state: u32) -> Start {
     Start {
         rule,
@@ -131,7 +157,54 @@ fn shown(alloc: Global, found: Option<Match>) -> Result<String, AllocError> {
     }
 }
 
-/// The match at the front of each text.
+/// In which mode, the text, and the match at its front.
+type Row<'a> = (u32, &'a str, &'a str);
+
+/// The match at the front of each text by one matcher, so many times: first as lists are learned, and then along them.
+fn check_modes(
+    rt: &impl Abort,
+    alloc: Global,
+    net: &LexerNetwork,
+    modes: &[Sequence<Start>],
+    rows: &[Row<'_>],
+    times: u32,
+) -> Result<(), Fail> {
+    let lexable = is_lexable(alloc, net)?;
+    assert!(rt; lexable, "the network can be lexed with");
+    let mut matcher = Matcher::new(alloc, net, modes)?;
+    for time in 0..times {
+        for (mode, text, wanted) in rows {
+            let characters = text.chars().collect::<Vec<char>>(alloc)?;
+            let found = matcher.longest_match(*mode, characters.as_slice())?;
+            let found = shown(alloc, found)?;
+            assert_eq!(rt;
+                found.as_str(),
+                *wanted,
+                "{text} in mode {mode}, time {time}"
+            );
+        }
+    }
+    Ok(())
+}
+
+/// The same where there is one mode.
+fn check_times(
+    rt: &impl Abort,
+    alloc: Global,
+    net: &LexerNetwork,
+    starts: &[Start],
+    rows: &[(&str, &str)],
+    times: u32,
+) -> Result<(), Fail> {
+    let modes = [Sequence::new(starts.to_vec(alloc)?)];
+    let mut all = Vec::new(alloc);
+    for (text, wanted) in rows {
+        all.push((0, *text, *wanted))?;
+    }
+    check_modes(rt, alloc, net, &modes, all.as_slice(), times)
+}
+
+/// Each match twice.
 fn check(
     rt: &impl Abort,
     alloc: Global,
@@ -139,16 +212,7 @@ fn check(
     starts: &[Start],
     rows: &[(&str, &str)],
 ) -> Result<(), Fail> {
-    let lexable = is_lexable(alloc, net)?;
-    assert!(rt; lexable, "the network can be lexed with");
-    let mut matcher = Matcher::new(alloc);
-    for (text, wanted) in rows {
-        let characters = text.chars().collect::<Vec<char>>(alloc)?;
-        let found = matcher.longest_match(net, starts, characters.as_slice())?;
-        let found = shown(alloc, found)?;
-        assert_eq!(rt; found.as_str(), *wanted, "{text}");
-    }
-    Ok(())
+    check_times(rt, alloc, net, starts, rows, 2)
 }
 
 #[test]
@@ -206,6 +270,66 @@ fn ends_empty_alternatives_and_recursion(rt: HostRuntime) -> Result<(), Fail> {
     )
 }
 
+#[test]
+fn modes_in_turn(rt: HostRuntime) -> Result<(), Fail> {
+    let net = words(rt.alloc())?;
+    let keywords = vec![in rt.alloc(); start(0, 1, 0)]?;
+    let names = vec![in rt.alloc(); start(1, 1, 2)]?;
+    let modes = [Sequence::new(keywords), Sequence::new(names)];
+    let rows = [
+        (0, "ifs", "2:0:1"),
+        (1, "ifs", "3:1:1"),
+        (0, "is", "none"),
+        (1, "is", "2:1:1"),
+        (2, "is", "none"),
+    ];
+    check_modes(&rt, rt.alloc(), &net, &modes, &rows, 2)
+}
+
+#[test]
+fn the_last_character(rt: HostRuntime) -> Result<(), Fail> {
+    let net = ended(rt.alloc())?;
+    let rows = [
+        ("ab", "1:0:2"),
+        ("a", "1:0:1"),
+        ("aa", "1:0:2"),
+        ("b", "none"),
+    ];
+    check(
+        &rt,
+        rt.alloc(),
+        &net,
+        &[start(0, 1, 2), start(0, 2, 4)],
+        &rows,
+    )
+}
+
+#[test]
+fn bounds_of_sets_past_ascii(rt: HostRuntime) -> Result<(), Fail> {
+    let net = beyond_ascii(rt.alloc())?;
+    let rows = [
+        ("éüê?", "3:0:1"),
+        ("éèé", "1:0:1"),
+        ("éý", "1:0:1"),
+        ("è", "none"),
+        ("ý", "none"),
+        ("一", "1:1:1"),
+        ("丁", "1:1:1"),
+        ("\u{4DFF}", "none"),
+        ("\u{D7FF}", "1:1:1"),
+        ("\u{E000}", "1:1:1"),
+        ("😀", "1:1:1"),
+        ("😁", "none"),
+    ];
+    check(
+        &rt,
+        rt.alloc(),
+        &net,
+        &[start(0, 1, 0), start(1, 1, 2)],
+        &rows,
+    )
+}
+
 /// A character so many times, and then another as often.
 fn runs(alloc: Global, first: char, other: char, count: u32) -> Result<String, AllocError> {
     let mut text = String::new(alloc);
@@ -232,10 +356,15 @@ fn a_long_name(rt: HostRuntime) -> Result<(), Fail> {
     )
 }
 
+/// More lists are made than are kept.
 #[test]
 fn many_open_calls(rt: HostRuntime) -> Result<(), Fail> {
     let net = mixed(rt.alloc())?;
-    let text = runs(rt.alloc(), '(', ')', 50_000)?;
-    let rows = [(text.as_str(), "100000:0:3"), ("b", "none")];
-    check(&rt, rt.alloc(), &net, &[start(0, 3, 6)], &rows)
+    let text = runs(rt.alloc(), '(', ')', 60_000)?;
+    let rows = [
+        (text.as_str(), "120000:0:3"),
+        ("b", "none"),
+        ("()", "2:0:3"),
+    ];
+    check_times(&rt, rt.alloc(), &net, &[start(0, 3, 6)], &rows, 1)
 }

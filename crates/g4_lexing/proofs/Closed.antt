@@ -1,10 +1,10 @@
 -- The tokens of a file and those that close it.
-use Rattle.std.proofs.Common.{◌≡◌, ℕ, zero, suc, ◌≤◌, List, [], ◌∷◌, ◌++◌, length, Bool, true, false, cond, ◌==◌, All, Contains, refl, sym, ap, ◌∙◌, subst, arith}
+use Rattle.std.proofs.Common.{◌≡◌, ℕ, zero, suc, ◌≤◌, inl, inr, List, [], ◌∷◌, ◌++◌, length, Bool, true, false, cond, ◌==◌, All, Contains, refl, sym, ap, ◌∙◌, subst, arith}
 use Rattle.std.specs.Str.{encode_utf8_all}
 use Rattle.std.proofs.lemmas.List.Elements.{All-append, All-nil, All-cons}
 use Rattle.std.proofs.lemmas.Str.{encodes-chars}
 use Rattle.g4_symbols.specs.Symbols.{eof, end_of_list}
-use Rattle.g4_symbols.specs.declared.symbol.TheConstants.{MOST_TYPES}
+use Rattle.g4_lexing.specs.Lexers.{IsTokenType}
 use Rattle.g4_token_list.specs.declared.token.Token.{Token}
 use Rattle.g4_token_list.specs.TokenList.{word_of, EndsInEnd}
 use Rattle.g4_lexing.specs.declared.position.Position.{Position}
@@ -22,17 +22,22 @@ low_lacks [] low (k, less, is) = omega arith
 low_lacks (a ∷ w) low (zero, less, is) = omega (arith, low.0)
 low_lacks (a ∷ w) low (suc k, less, is) = low_lacks w low.1 (k, omega arith, is)
 
+-- a token type or EOF is
+low_type : (symbol : ℕ) → IsTokenType symbol → symbol ≤ eof
+low_type symbol (inl low) = omega arith
+low_type symbol (inr is) = omega arith
+
 -- the symbols of the tokens, and of four EOF behind them, are low
-word_low : (found : List Token) → All (λ (token : Token). token.symbol ≤ MOST_TYPES) found → AreLow (word_of found ++ eof ∷ eof ∷ eof ∷ eof ∷ [])
+word_low : (found : List Token) → All (λ (token : Token). IsTokenType token.symbol) found → AreLow (word_of found ++ eof ∷ eof ∷ eof ∷ eof ∷ [])
 word_low [] types = (omega arith, (omega arith, (omega arith, (omega arith, tt))))
-word_low (t ∷ ts) types = (let first : t.symbol ≤ MOST_TYPES = types 0 t (omega arith) in omega arith, word_low ts (λ k d less. types (suc k) d (omega arith)))
+word_low (t ∷ ts) types = (low_type t.symbol (types 0 t (omega arith)), word_low ts (λ k d less. types (suc k) d (omega arith)))
 
 word_closed : (found : List Token) (end : Position) → word_of (found ++ closing_at end) ≡ (word_of found ++ eof ∷ eof ∷ eof ∷ eof ∷ []) ++ end_of_list ∷ []
 word_closed [] end = refl
 word_closed (t ∷ ts) end = ap (λ w. t.symbol ∷ w) (word_closed ts end)
 
 -- tokens of token types, closed, end in END
-pub ends_in_end : (tokens found : List Token) (end : Position) → tokens ≡ found ++ closing_at end → All (λ (token : Token). token.symbol ≤ MOST_TYPES) found → EndsInEnd (word_of tokens)
+pub ends_in_end : (tokens found : List Token) (end : Position) → tokens ≡ found ++ closing_at end → All (λ (token : Token). IsTokenType token.symbol) found → EndsInEnd (word_of tokens)
 ends_in_end tokens found end is types =
     subst (λ (ts : List Token). EndsInEnd (word_of ts)) (sym is)
     (word_of found ++ eof ∷ eof ∷ eof ∷ eof ∷ [], word_closed found end, low_lacks (word_of found ++ eof ∷ eof ∷ eof ∷ eof ∷ []) (word_low found types))

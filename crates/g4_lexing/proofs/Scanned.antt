@@ -1,10 +1,13 @@
 -- One turn of the loop that finds the tokens of a text.
-use Rattle.std.proofs.Common.{◌≡◌, ℕ, ◌+◌, ◌-◌, ◌≤◌, ◌<◌, List, [], ◌++◌, length, take, drop, Option, Some, None, Ok, Err, All, refl, sym, ap, ◌∙◌, subst, get_or, unwrap_or, true, false, true≢false, arith}
+use Rattle.std.proofs.Common.{◌≡◌, ℕ, ◌+◌, ◌-◌, ◌≤◌, ◌<◌, List, [], ◌++◌, length, take, drop, Option, Some, None, Ok, Err, All, refl, sym, ap, ◌∙◌, subst, get_or, unwrap_or, true, false, true≢false, arith, inl, slice_index_or}
 use Rattle.std.specs.Option.{is_some}
 use Rattle.std.proofs.lemmas.List.{take_rest, length-append, length-drop}
 use Rattle.std.proofs.lemmas.List.Elements.{All-append, All-nil, All-cons}
-use Rattle.g4_symbols.specs.declared.symbol.TheConstants.{MOST_TYPES}
-use Rattle.g4_ordered.specs.Configurations.{LexerConfig}
+use Rattle.g4_ordered.specs.declared.start.Start.{Start}
+use Rattle.g4_ordered.specs.Network.{LexerNetwork}
+use Rattle.g4_ordered.specs.Starts.{starts_of}
+use Rattle.g4_matching.specs.declared.found.Match.{Match}
+use Rattle.g4_matching.specs.Matcher.{IsFound}
 use Rattle.g4_ordered.specs.Matching.{IsMatch, NoMatch}
 use Rattle.g4_token_list.specs.declared.token.Token.{Token}
 use Rattle.g4_lexing.specs.declared.command.LexerCommand.{LexerCommand}
@@ -17,7 +20,7 @@ use Rattle.g4_lexing.specs.declared.lexer.Lexer.{Lexer}
 use Rattle.g4_lexing.specs.declared.position.Position.{Position}
 use Rattle.g4_lexing.specs.declared.token.Begun.{Begun}
 use Rattle.g4_lexing.specs.Commands.{after_commands, CarriesOut}
-use Rattle.g4_lexing.specs.Lexers.{starts_in, type_of, commands_of, HasTokenTypes}
+use Rattle.g4_lexing.specs.Lexers.{starts_in, type_of, commands_of, HasTokenTypes, IsTokenType}
 use Rattle.g4_lexing.specs.Lexing.{Course, current, before_commands, NextMatch, made_at, course_after, LexesText, no_token, empty_mode_stack, too_many}
 use Rattle.g4_lexing.specs.Positions.{first_position, position_after}
 use Rattle.g4_lexing.specs.Scanning.{IsScanFault}
@@ -61,13 +64,16 @@ some_of : (o : Option Begun) → is_some o ≡ true → (begun : Begun) × (o �
 some_of None is = absurd (true≢false (sym is))
 some_of (Some begun) is = (begun, refl)
 
+-- what a matcher by the lexer's network and modes finds
+pub found_here : (lexer : Lexer) (mode : ℕ) (rest : List ℕ) (found : Option Match) (matcher : LexerNetwork × List (List Start)) → matcher ≡ (lexer.net, lexer.modes) → IsFound matcher.0 (starts_of (slice_index_or matcher.1 mode [])) rest found → IsFound lexer.net (starts_in lexer mode) rest found
+found_here lexer mode rest found matcher is h = subst (λ (m : LexerNetwork × List (List Start)). IsFound m.0 (starts_of (slice_index_or m.1 mode [])) rest found) is h
+
 module _ (lexer : Lexer) (text : List ℕ) (start : ℕ) (s : Course) where
   -- the next match, as the code has it
-  pub found_next : (starts : List LexerConfig) (n rule alternative symbol : ℕ) (commands : List LexerCommand) (token : Begun) (e : Effects) (o : Option Effects) → starts ≡ starts_in lexer s.mode → IsMatch lexer.net starts (take (length text - start) (drop start text)) n rule alternative →
+  pub found_next : (n rule alternative symbol : ℕ) (commands : List LexerCommand) (token : Begun) (e : Effects) (o : Option Effects) → IsMatch lexer.net (starts_in lexer s.mode) (take (length text - start) (drop start text)) n rule alternative →
       commands ≡ commands_of lexer rule alternative → token ≡ current s → symbol ≡ type_of lexer rule → e ≡ record { mode = s.mode; pushed = s.pushed; channel = token.channel; fate = fates.Token symbol } → after_commands commands e ≡ o → NextMatch lexer s (drop start text) n o
-  found_next starts n rule alternative symbol commands token e o starts_are m commands_are token_is symbol_is e_is done =
-      let here = subst (λ (cs : List LexerConfig). IsMatch lexer.net cs (take (length text - start) (drop start text)) n rule alternative) starts_are m in
-      let there = subst (λ w. IsMatch lexer.net (starts_in lexer s.mode) w n rule alternative) (take_rest text start) here in
+  found_next n rule alternative symbol commands token e o m commands_are token_is symbol_is e_is done =
+      let there = subst (λ w. IsMatch lexer.net (starts_in lexer s.mode) w n rule alternative) (take_rest text start) m in
       let channel_is = ap (λ (b : Begun). record { mode = s.mode; pushed = s.pushed; channel = b.channel; fate = fates.Token symbol }) token_is in
       let type_is = ap (λ t. record { mode = s.mode; pushed = s.pushed; channel = (current s).channel; fate = fates.Token t }) symbol_is in
       let begins : e ≡ before_commands lexer s rule = e_is ∙ channel_is ∙ type_is in
@@ -80,10 +86,9 @@ module _ (lexer : Lexer) (text : List ℕ) (start : ℕ) (s : Course) where
 
   module _ (room : ℕ) (old : List Token) (r : Reached lexer text room old start s) where
     -- no rule matches, as the code has it
-    pub stuck_here : (starts : List LexerConfig) (x : ℕ) → start < length text → x ≡ get_or (take (length text - start) (drop start text)) 0 x → starts ≡ starts_in lexer s.mode → NoMatch lexer.net starts (take (length text - start) (drop start text)) → LexesText lexer room text (Err (no_token s.at.place (Some x)))
-    stuck_here starts x less is starts_are none =
-        let here = subst (λ (cs : List LexerConfig). NoMatch lexer.net cs (take (length text - start) (drop start text))) starts_are none in
-        reached_stuck lexer text room old start x s r less (is ∙ ap (λ (w : List ℕ). get_or w 0 x) (take_rest text start)) (subst (λ w. NoMatch lexer.net (starts_in lexer s.mode) w) (take_rest text start) here)
+    pub stuck_here : (x : ℕ) → start < length text → x ≡ get_or (take (length text - start) (drop start text)) 0 x → NoMatch lexer.net (starts_in lexer s.mode) (take (length text - start) (drop start text)) → LexesText lexer room text (Err (no_token s.at.place (Some x)))
+    stuck_here x less is none =
+        reached_stuck lexer text room old start x s r less (is ∙ ap (λ (w : List ℕ). get_or w 0 x) (take_rest text start)) (subst (λ w. NoMatch lexer.net (starts_in lexer s.mode) w) (take_rest text start) none)
 
     -- a command is refused
     pub refused_here : (n : ℕ) (wanted : Option Effects) (e : Effects) (fault : LexFault) → ((o : Option Effects) → wanted ≡ o → NextMatch lexer s (drop start text) n o) → CarriesOut wanted s.at.place e (Err fault) → IsScanFault room lexer text fault
@@ -137,11 +142,11 @@ module _ (lexer : Lexer) (text : List ℕ) (start : ℕ) (s : Course) where
         pub few_more : length old ≤ start → length new ≤ start + n
         few_more few = omega (arith, ap length h.0, length-append old (made token e end), made_few e.fate token e.channel end, next.matches.some)
 
-        pub types_more : (HasTokenTypes lexer → All (λ (t : Token). t.symbol ≤ MOST_TYPES) old) → HasTokenTypes lexer → All (λ (t : Token). t.symbol ≤ MOST_TYPES) new
+        pub types_more : (HasTokenTypes lexer → All (λ (t : Token). IsTokenType t.symbol) old) → HasTokenTypes lexer → All (λ (t : Token). IsTokenType t.symbol) new
         types_more types has =
-            let low = commands_type (commands_of lexer next.rule next.alternative) (before_commands lexer s next.rule) (has.commands next.rule next.alternative) (has.rules next.rule) in
+            let low = commands_type (commands_of lexer next.rule next.alternative) (before_commands lexer s next.rule) (has.commands next.rule next.alternative) (inl (has.rules next.rule)) in
             let fate : HasTokenType e.fate = subst HaveTokenType next.carried_out low in
-            subst (λ (ts : List Token). All (λ (t : Token). t.symbol ≤ MOST_TYPES) ts) (sym h.0) (All-append (λ (t : Token). t.symbol ≤ MOST_TYPES) old (made token e end) (types has) (made_types e.fate token e.channel end fate))
+            subst (λ (ts : List Token). All (λ (t : Token). IsTokenType t.symbol) ts) (sym h.0) (All-append (λ (t : Token). IsTokenType t.symbol) old (made token e end) (types has) (made_types e.fate token e.channel end fate))
 
         further : s.at.offset ≤ end.offset
         further = omega (arith, ap (λ (p : Position). p.offset) moved)

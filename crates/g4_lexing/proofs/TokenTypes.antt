@@ -1,8 +1,7 @@
 -- The types of tokens, where rules have token types and commands give them.
-use Rattle.std.proofs.Common.{ℕ, suc, ◌≤◌, List, [], ◌∷◌, Option, Some, None, All, arith}
+use Rattle.std.proofs.Common.{ℕ, suc, List, [], ◌∷◌, Option, Some, None, All, arith}
 use Rattle.std.specs.Option.{option_and_then}
 use Rattle.std.proofs.lemmas.List.Elements.{All-nil, All-cons}
-use Rattle.g4_symbols.specs.declared.symbol.TheConstants.{MOST_TYPES}
 use Rattle.g4_token_list.specs.declared.token.Token.{Token}
 use Rattle.g4_lexing.specs.declared.command.LexerCommand.{LexerCommand}
 use Rattle.g4_lexing.specs.declared.command.LexerCommand.TheVariants as commands
@@ -12,14 +11,14 @@ use Rattle.g4_lexing.specs.declared.effects.Fate.TheVariants as fates
 use Rattle.g4_lexing.specs.declared.position.Position.{Position}
 use Rattle.g4_lexing.specs.declared.token.Begun.{Begun}
 use Rattle.g4_lexing.specs.Commands.{gone_back, after_command, after_commands}
-use Rattle.g4_lexing.specs.Lexers.{GivesTokenType}
+use Rattle.g4_lexing.specs.Lexers.{GivesTokenType, IsTokenType}
 use Rattle.g4_lexing.specs.Tokens.{made_by}
 
 -- the match makes a token of a token type, if it makes one
 abbrev pub HasTokenType : Fate → Type 0
 HasTokenType fates.Dropped = Unit {0}
 HasTokenType fates.Kept = Unit {0}
-HasTokenType (fates.Token symbol) = symbol ≤ MOST_TYPES
+HasTokenType (fates.Token symbol) = IsTokenType symbol
 
 -- the same of effects, if there are some
 abbrev pub HaveTokenType : Option Effects → Type 0
@@ -49,7 +48,7 @@ commands_type [] e g h = h
 commands_type (c ∷ cs) e g h = then_type (after_commands cs) (after_command c e) (λ x k. commands_type cs x (λ i d less. g (suc i) d (omega arith)) k) (command_type c e (g 0 c (omega arith)) h)
 
 -- so the token that a match makes has one
-pub made_types : (fate : Fate) (begun : Begun) (channel : ℕ) (end : Position) → HasTokenType fate → All (λ (t : Token). t.symbol ≤ MOST_TYPES) (made_by fate begun channel end)
+pub made_types : (fate : Fate) (begun : Begun) (channel : ℕ) (end : Position) → HasTokenType fate → All (λ (t : Token). IsTokenType t.symbol) (made_by fate begun channel end)
 made_types fates.Dropped begun channel end h = λ k d less. absurd (omega arith)
 made_types fates.Kept begun channel end h = λ k d less. absurd (omega arith)
-made_types (fates.Token symbol) begun channel end h = All-cons (λ (t : Token). t.symbol ≤ MOST_TYPES) _ [] h (All-nil (λ (t : Token). t.symbol ≤ MOST_TYPES))
+made_types (fates.Token symbol) begun channel end h = All-cons (λ (t : Token). IsTokenType t.symbol) _ [] h (All-nil (λ (t : Token). IsTokenType t.symbol))

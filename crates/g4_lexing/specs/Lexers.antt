@@ -1,6 +1,7 @@
 -- What a lexer says of its modes and rules, by their numbers.
-use Rattle.std.specs.Prelude.{◌≤◌, ℕ, zero, suc, List, [], All, slice_index_or}
+use Rattle.std.specs.Prelude.{◌≡◌, ◌≤◌, ◌⊎◌, ℕ, zero, suc, List, [], All, slice_index_or}
 use Rattle.g4_symbols.specs.declared.symbol.TheConstants.{MOST_TYPES}
+use Rattle.g4_symbols.specs.Symbols.{eof}
 use Rattle.g4_ordered.specs.Configurations.{LexerConfig}
 use Rattle.g4_ordered.specs.Starts.{starts_of}
 use Rattle.g4_lexing.specs.declared.command.LexerCommand.{LexerCommand}
@@ -24,11 +25,15 @@ of_alternative alternatives (suc k) = slice_index_or alternatives k []
 abbrev pub commands_of : Lexer → ℕ → ℕ → List LexerCommand
 commands_of lexer rule alternative = of_alternative (slice_index_or lexer.commands rule []) alternative
 
+-- the symbol is a token type, as of a rule, or EOF
+abbrev pub IsTokenType : ℕ → Type 0
+IsTokenType symbol = (symbol ≤ MOST_TYPES) ⊎ (symbol ≡ eof)
+
 -- the command gives no type that is not a token type
 abbrev pub GivesTokenType : LexerCommand → Type 0
 GivesTokenType commands.Skip = Unit {0}
 GivesTokenType commands.More = Unit {0}
-GivesTokenType (commands.Type symbol) = symbol ≤ MOST_TYPES
+GivesTokenType (commands.Type symbol) = IsTokenType symbol
 GivesTokenType (commands.Channel channel) = Unit {0}
 GivesTokenType (commands.Mode mode) = Unit {0}
 GivesTokenType (commands.PushMode mode) = Unit {0}

@@ -1,7 +1,6 @@
 // What a lexer goes by.
-ghost use Rattle.std.specs.Prelude.{◌≡◌, slice_index_or, []};
-ghost use Rattle.g4_ordered.specs.Starts.{starts_of};
-ghost use Rattle.g4_lexing.specs.Lexers.{commands_of, starts_in, type_of};
+ghost use Rattle.std.specs.Prelude.{◌≡◌};
+ghost use Rattle.g4_lexing.specs.Lexers.{commands_of, type_of};
 
 use crate::command::LexerCommand;
 use g4_base::Sequence;
@@ -20,16 +19,6 @@ pub struct Lexer {
 }
 
 impl Lexer {
-    /// The places where a match may begin in a mode; none where there is no such mode.
-    pub(crate) fn starts(&self, mode: u32) -> &[Start]
-        ensures { starts_of result.now ≡ starts_in self.now mode }
-    {
-        match self.modes.as_slice().get(mode as usize) {
-            Some(starts) => starts.as_slice(),
-            None => &[],
-        }
-    }
-
     /// The type of a rule's tokens; 0 where it has none.
     pub(crate) fn rule_type(&self, rule: u32) -> u32
         ensures { result ≡ type_of self.now rule }

@@ -1,9 +1,8 @@
 // The tokens of the characters of a file.
 ghost use Rattle.std.specs.Prelude.{◌≡◌, ◌≤◌, All, IfOk, length};
 ghost use Rattle.g4_base.specs.declared.limits.TheConstants.{MOST_BYTES};
-ghost use Rattle.g4_symbols.specs.declared.symbol.TheConstants.{MOST_TYPES};
 ghost use Rattle.g4_ordered.specs.Network.{IsLexable};
-ghost use Rattle.g4_lexing.specs.Lexers.{HasTokenTypes};
+ghost use Rattle.g4_lexing.specs.Lexers.{HasTokenTypes, IsTokenType};
 ghost use Rattle.g4_lexing.specs.Positions.{first_position, position_after};
 ghost use Rattle.g4_lexing.specs.Scanning.{IsScan};
 ghost use Rattle.g4_lexing.specs.Tokens.{EndsBy};
@@ -40,10 +39,10 @@ pub(crate) fn scan(
     ensures end { IfOk result (λ found. found.end ≡ position_after first_position text.now) }
     ensures few { IfOk result (λ found. length found.tokens.items ≤ length text.now) }
     ensures limited { IfOk result (λ found. length found.tokens.items ≤ room) }
-    ensures types { HasTokenTypes lexer.now → IfOk result (λ found. All (λ token. token.symbol ≤ MOST_TYPES) found.tokens.items) }
+    ensures types { HasTokenTypes lexer.now → IfOk result (λ found. All (λ token. IsTokenType token.symbol) found.tokens.items) }
     ensures spans { IfOk result (λ found. All (EndsBy found.end.offset) found.tokens.items) }
 {
-    let mut matcher = Matcher::new(alloc);
+    let mut matcher = Matcher::new(alloc, &lexer.net, lexer.modes.as_slice())?;
     let mut effects = Effects::new(alloc);
     let mut tokens = Vec::new(alloc);
     let mut begun: Option<Begun> = None;
@@ -51,8 +50,7 @@ pub(crate) fn scan(
     let mut at = Position::START;
     while start < text.len() {
         let rest = &text[start..];
-        let starts = lexer.starts(effects.mode);
-        let Some(matched) = matcher.longest_match(&lexer.net, starts, rest)? else {
+        let Some(matched) = matcher.longest_match(effects.mode, rest)? else {
             return Err(LexFault::NoToken(at.place, Some(rest[0])));
         };
         let token = begun.unwrap_or(Begun {

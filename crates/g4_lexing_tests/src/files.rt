@@ -321,3 +321,69 @@ fn a_large_file(rt: HostRuntime) -> Result<(), Fail> {
     }
     Ok(())
 }
+
+/// Comments with comments in them, in two forms. In the second the list keeps each way in which those so far may be open.
+const COMMENTS: &str = "mode M; C : '/*' (C | ~[/*])* '*/' ; D : '{*' (D | .)*? '*}' ;";
+
+/// What opens and what closes a comment, so many times each, and what that is lexed to.
+const NESTED: &[(&str, &str, u32, &str)] = &[
+    (
+        "/*",
+        "*/",
+        2_000,
+        "1.0 1:0 0..8000; | 1 65536 65536 65536 65536 65537 at 1:8000 8000",
+    ),
+    (
+        "{*",
+        "*}",
+        100,
+        "2.0 1:0 0..400; | 2 65536 65536 65536 65536 65537 at 1:400 400",
+    ),
+];
+
+#[test]
+fn comments_nested_deep(rt: HostRuntime) -> Result<(), Fail> {
+    let alloc = rt.alloc();
+    let lexer = lexer(alloc, COMMENTS, &[])?;
+    for (open, close, depth, wanted) in NESTED {
+        let mut text = String::new(alloc);
+        for _ in 0..*depth {
+            text.push_str(open)?;
+        }
+        for _ in 0..*depth {
+            text.push_str(close)?;
+        }
+        let found = lexed(alloc, &lexer, text.as_bytes(), 9)?;
+        assert_eq!(rt; found.as_str(), *wanted, "{open} {depth}");
+    }
+    Ok(())
+}
+
+/// A string is one token by two modes: a quote begins it and pushes the second mode, where another quote ends it.
+const STRING_RULES: &str = "mode D; Q : '\"' ; mode STR; S : '\"' ; T : . ;";
+
+const STRING_COMMANDS: Commands = &[
+    (0, &[&[More, PushMode(1)]]),
+    (1, &[&[PopMode]]),
+    (2, &[&[More]]),
+];
+
+/// Texts, and what they are lexed to.
+const STRINGS: &[(&str, &str)] = &[
+    (
+        "\"ab\"",
+        "2.0 1:0 0..4; | 2 65536 65536 65536 65536 65537 at 1:4 4",
+    ),
+    ("\"ab", "no token at 1:3 of the end"),
+];
+
+#[test]
+fn strings_by_a_mode(rt: HostRuntime) -> Result<(), Fail> {
+    let alloc = rt.alloc();
+    let lexer = lexer(alloc, STRING_RULES, STRING_COMMANDS)?;
+    for (text, wanted) in STRINGS {
+        let found = lexed(alloc, &lexer, text.as_bytes(), 9)?;
+        assert_eq!(rt; found.as_str(), *wanted, "{text}");
+    }
+    Ok(())
+}

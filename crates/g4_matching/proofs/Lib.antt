@@ -12,3 +12,5 @@ mod Taking
 mod Kept
 mod Matched
 mod Telling
+mod Learning
+mod Numbered

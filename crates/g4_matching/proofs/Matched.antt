@@ -1,5 +1,5 @@
 -- What the loops of a match keep.
-use Rattle.std.proofs.Common.{◌≡◌, ℕ, ◌+◌, ◌<◌, ◌≤◌, ◌⊎◌, inl, inr, List, [], ◌∷◌, ◌++◌, Bool, true, false, Option, Some, None, length, drop, get_or, eqb, eq-eqb, length-append, refl, sym, ◌∙◌, ap, subst, arith, MatchOption}
+use Rattle.std.proofs.Common.{◌≡◌, ℕ, zero, suc, ◌+◌, ◌<◌, ◌≤◌, ◌⊎◌, inl, inr, List, [], ◌∷◌, ◌++◌, Bool, true, false, Option, Some, None, length, drop, get_or, eqb, length-append, refl, sym, ◌∙◌, ap, subst, arith, MatchOption}
 use Rattle.std.proofs.lemmas.List.{drop_more, length-drop}
 use Rattle.std.proofs.lemmas.Bool.{eqb-true}
 use Rattle.g4_ordered.specs.Network.{LexerNetwork}
@@ -10,15 +10,11 @@ use Rattle.g4_ordered.specs.Matching.{IsFirst, here, later, EndsRule, ListAfter,
 use Rattle.g4_ordered.proofs.Lists.{In-cases, only}
 use Rattle.g4_ordered.proofs.Once.{one_list}
 use Rattle.g4_ordered.proofs.Walked.{at_rest, same_rest}
-use Rattle.g4_matching.specs.declared.matcher.Match.{Match}
+use Rattle.g4_matching.specs.declared.found.Match.{Match}
 use Rattle.g4_matching.specs.declared.rule_end.RuleEnd.{RuleEnd}
-use Rattle.g4_matching.specs.Ends.{HasNoEnd}
-use Rattle.g4_matching.specs.Matcher.{IsNext}
-
--- what is found so far of a list's ends
-abbrev pub Tells : LexerNetwork → List LexerConfig → Option RuleEnd → Type 0
-Tells net list None = HasNoEnd net list
-Tells net list (Some b) = IsLeastEnd net list b.rule b.alternative
+use Rattle.g4_matching.specs.Ends.{HasNoEnd, TellsEnd}
+use Rattle.g4_matching.specs.Listing.{IsNext}
+use Rattle.g4_matching.specs.Matcher.{best_after}
 
 -- an end of a rule that is not greater was found
 abbrev pub IsAsGood : Option RuleEnd → ℕ → Type 0
@@ -36,7 +32,7 @@ module _ (net : LexerNetwork) where
   first_at rule (x ∷ xs) y none p = later y x (xs ++ y ∷ []) (none x (inl refl)) (first_at rule xs y (λ z i. none z (inr i)) p)
 
   -- one more that is no end, or not of a lesser rule
-  pub tells_same : (xs : List LexerConfig) (y : LexerConfig) (best : Option RuleEnd) → (IsAtEnd net y → IsAsGood best y.rule) → Tells net xs best → Tells net (xs ++ y ∷ []) best
+  pub tells_same : (xs : List LexerConfig) (y : LexerConfig) (best : Option RuleEnd) → (IsAtEnd net y → IsAsGood best y.rule) → TellsEnd net xs best → TellsEnd net (xs ++ y ∷ []) best
   tells_same xs y None h t = λ e i end. elim (In-cases xs (y ∷ []) e i) [
     | inl j ↦ t e j end
     | inr j ↦ h (subst (IsAtEnd net) (only y e j) end)
@@ -61,7 +57,7 @@ module _ (net : LexerNetwork) where
       go (inr lt) = lt
 
   -- the first end, or the first of a lesser rule
-  pub tells_new : (xs : List LexerConfig) (y : LexerConfig) (best : Option RuleEnd) → IsAtEnd net y → (IsAsGood best y.rule → ⊥) → Tells net xs best → IsLeastEnd net (xs ++ y ∷ []) y.rule y.alternative
+  pub tells_new : (xs : List LexerConfig) (y : LexerConfig) (best : Option RuleEnd) → IsAtEnd net y → (IsAsGood best y.rule → ⊥) → TellsEnd net xs best → IsLeastEnd net (xs ++ y ∷ []) y.rule y.alternative
   tells_new xs y None end h t = record {
     first = (y, first_at y.rule xs y (λ x i e. t x i e.1) (refl, end), refl);
     least = λ r e. elim (In-cases xs (y ∷ []) e.0 e.1) [
@@ -133,7 +129,7 @@ module _ (net : LexerNetwork) (starts : List LexerConfig) (text : List ℕ) wher
       (omega arith, step a (drop (n + 1) text) list h.read new (subst (λ v. ListAt net starts text v list) cut so.after.1) h.reads (subst (λ b. ListOf net b (BehindEnd net) h.read new) is h.makes))
 
   -- with a rule's end
-  pub with_end : (n : ℕ) (new : List LexerConfig) (end : RuleEnd) → ListAfter net starts text (n + 1) new → IsLeastEnd net new end.rule end.alternative → SoFar net starts text (n + 1) new (Some (record { length = n + 1; rule = end.rule; alternative = end.alternative }))
+  with_end : (n : ℕ) (new : List LexerConfig) (end : RuleEnd) → ListAfter net starts text (n + 1) new → IsLeastEnd net new end.rule end.alternative → SoFar net starts text (n + 1) new (Some (record { length = n + 1; rule = end.rule; alternative = end.alternative }))
   with_end n new end at least = record { after = at; best_is = (new, omega arith, omega arith, at, least, λ m r l lt le o e. absurd (omega arith)) }
 
   -- no end after one character more
@@ -147,11 +143,16 @@ module _ (net : LexerNetwork) (starts : List LexerConfig) (text : List ℕ) wher
       split m le = grind arith
 
   -- without one
-  pub without_end : (n : ℕ) (list new : List LexerConfig) (best : Option Match) → ListAfter net starts text (n + 1) new → HasNoEnd net new → SoFar net starts text n list best → SoFar net starts text (n + 1) new best
+  without_end : (n : ℕ) (list new : List LexerConfig) (best : Option Match) → ListAfter net starts text (n + 1) new → HasNoEnd net new → SoFar net starts text n list best → SoFar net starts text (n + 1) new best
   without_end n list new None at none so = record { after = at; best_is = up_to 0 n new at none so.best_is }
   without_end n list new (Some b) at none so =
       let h = so.best_is in
       record { after = at; best_is = (h.0, h.1, (let le = h.2 in omega arith), h.3, h.4, up_to b.length n new at none h.5) }
+
+  -- with what the list tells
+  pub best_on : (n : ℕ) (list new : List LexerConfig) (best : Option Match) (end : Option RuleEnd) → ListAfter net starts text (n + 1) new → TellsEnd net new end → SoFar net starts text n list best → SoFar net starts text (n + 1) new (best_after best (n + 1) end)
+  best_on n list new best None at none so = without_end n list new best at none so
+  best_on n list new best (Some end) at least so = with_end n new end at least
 
   -- nothing comes of an empty list
   empty_stays : (v : List ℕ) → ListAt net starts text v [] → (w : List ℕ) (list : List LexerConfig) → ListAt net starts text w list → length w ≤ length v → list ≡ []
@@ -201,15 +202,20 @@ is_last_by true (x ∷ xs) f g = let n = f refl in absurd (omega arith)
 is_last_by false [] f g = g refl
 is_last_by false (x ∷ xs) f g = refl
 
--- after n characters
-pub last_at : (n : ℕ) (text : List ℕ) → n ≤ length text → eqb n (length text) ≡ is_last (drop n text)
-last_at n text le = is_last_by _ (drop n text) (λ t. let e = eqb-true n (length text) t in let d = length-drop n text in omega arith) (λ z. let d = length-drop n text in eq-eqb n (length text) (omega arith))
+-- characters are left where fewer are read
+pub not_last : (n : ℕ) (text : List ℕ) → n < length text → false ≡ is_last (drop n text)
+not_last n text lt = is_last_by false (drop n text) (λ e. absurd (cc)) (λ z. let d = length-drop n text in absurd (omega arith))
 
--- and before the text
-pub last_first : (text : List ℕ) → eqb (length text) 0 ≡ is_last text
-last_first text = is_last_by _ text (λ t. eqb-true (length text) 0 t) (λ z. eq-eqb (length text) 0 z)
+-- and none where all are
+pub whole_read : (n : ℕ) (text : List ℕ) → length text ≤ n → true ≡ is_last (drop n text)
+whole_read n text le = is_last_by true (drop n text) (λ e. let d = length-drop n text in omega arith) (λ z. refl)
 
 -- a list that is told to be empty
 pub empty_by : {X : Type 0} (b : Bool) (n : ℕ) (xs : List X) → b ≡ true → b ≡ eqb n 0 → n ≡ length xs → xs ≡ []
 empty_by b n [] on is len = refl
 empty_by b n (x ∷ xs) on is len = let e = eqb-true n 0 (sym is ∙ on) in absurd (omega arith)
+
+-- and one that is told not to be
+pub not_empty_by : (b : Bool) (n : ℕ) → b ≡ false → b ≡ eqb n 0 → 0 < n
+not_empty_by b zero off is = absurd (cc)
+not_empty_by b (suc n) off is = omega arith

@@ -1,6 +1,7 @@
 -- When two entries are equal.
-use Rattle.std.proofs.Common.{◌≡◌, ℕ, Bool, true, false, ◌&&◌, eqb, eq-eqb, refl, sym, ◌∙◌, ap}
+use Rattle.std.proofs.Common.{◌≡◌, ℕ, List, [], ◌∷◌, Bool, true, false, ◌&&◌, eqb, eq-eqb, refl, sym, ◌∙◌, ap}
 use Rattle.std.proofs.lemmas.Bool.{eqb-true, false≢true}
+use lib.Pointwise.{pointwise}
 use mathlib.Core.Bool.{beq}
 use Rattle.g4_matching.specs.declared.entry.Entry.{Entry}
 
@@ -52,3 +53,10 @@ holds a = and _ _ (eq-eqb a.state a.state refl) (and _ _ (eq-eqb a.rule a.rule r
 -- so where it fails they differ
 pub differs : (a b : Entry) → test a b ≡ false → a ≡ b → ⊥
 differs a b e same = false≢true (sym e ∙ ap (test a) (sym same) ∙ holds a)
+
+-- lists of equal entries are equal
+pub all_same : (xs ys : List Entry) → pointwise test xs ys ≡ true → xs ≡ ys
+all_same [] [] e = refl
+all_same [] (y ∷ ys) e = absurd (false≢true e)
+all_same (x ∷ xs) [] e = absurd (false≢true e)
+all_same (x ∷ xs) (y ∷ ys) e = let h = both (test x y) (pointwise test xs ys) e in ap (λ (z : Entry). z ∷ xs) (tells x y h.0) ∙ ap (λ (l : List Entry). y ∷ l) (all_same xs ys h.1)

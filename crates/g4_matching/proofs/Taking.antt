@@ -12,9 +12,11 @@ use Rattle.g4_matching.specs.declared.waiting.Waiting.{Waiting}
 use Rattle.g4_matching.specs.declared.expanding.Expanding.{Expanding}
 use Rattle.g4_matching.specs.Entries.{AreKnown, IsKnown, config_of, configs_of, stacked}
 use Rattle.g4_matching.specs.Ends.{AreEnds}
+use Rattle.g4_matching.specs.Returns.{Grows}
 use Rattle.g4_matching.specs.Waiting.{Adds}
 use Rattle.g4_matching.specs.Expanding.{waiting_of, all_of, IsSound, TakesIn, IsExpansion}
 use Rattle.g4_matching.proofs.Known.{grown_known, grown_config, grown_configs, known_both, known_one, on_top}
+use Rattle.g4_matching.proofs.Stores.{grows_on}
 use Rattle.g4_matching.proofs.Totals.{total, total_append, size}
 use Rattle.g4_matching.proofs.Spreading.{Spreading, begins, passes_over, takes_in, ended, late_lasts, size_weighs}
 
@@ -27,6 +29,7 @@ taken_in net last entry old new w sound known adds is_w is_all ends = record {
     listed = subst (λ (v : Waiting). AreKnown v.returns new.all) (sym is_w) (subst (AreKnown w.returns) (sym is_all) both);
     ends = subst (λ (l : List Entry). AreEnds net l new.ends) (sym is_all) ends;
   };
+  grows = subst (λ (v : Waiting). Grows old.waiting.returns v.returns) (sym is_w) adds.grows;
   appended = ap (λ (v : Waiting). configs_of v.returns new.all) is_w ∙ ap (configs_of w.returns) is_all ∙ map-append (config_of w.returns) old.all (entry ∷ [])
       ∙ ap (λ (l : List LexerConfig). l ++ config_of w.returns entry ∷ []) (grown_configs old.waiting.returns w.returns old.all adds.grows sound.listed)
       ∙ ap (λ (c : LexerConfig). configs_of old.waiting.returns old.all ++ c ∷ []) (grown_config old.waiting.returns w.returns entry adds.grows known);
@@ -136,3 +139,7 @@ module _ (net : LexerNetwork) (last in_step : Bool) (starts : List LexerConfig) 
       let r = ended net last (size net last (steps_of net starts)) (EndsWithin net last (steps_of net starts)) (late_in net in_step) starts (all_of x)
       (subst (Spreading net last (size net last (steps_of net starts)) (EndsWithin net last (steps_of net starts)) (late_in net in_step) starts (all_of x)) empty h.spreading) in
       record { expansion = r.0; expands = r.1; appends = r.2 }
+
+-- the store grew until the entry was taken off, which leaves it, and grows as the entry is taken in
+pub grown_in : (net : LexerNetwork) (last : Bool) (first : List (List ℕ)) (old mid new : Expanding) (entry : Entry) → Popped old entry mid → TakesIn net last entry mid new → Grows first old.waiting.returns → Grows first new.waiting.returns
+grown_in net last first old mid new entry p taken g = grows_on first mid.waiting.returns new.waiting.returns (subst (Grows first) (sym p.returns) g) taken.grows

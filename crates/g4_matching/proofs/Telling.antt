@@ -9,12 +9,12 @@ use Rattle.g4_matching.specs.declared.entry.Entry.{Entry}
 use Rattle.g4_matching.specs.declared.rule_end.RuleEnd.{RuleEnd}
 use Rattle.g4_matching.specs.Returns.{IsDistinct, IsEmptyFirst}
 use Rattle.g4_matching.specs.Entries.{config_of, configs_of, IsKnown, AreKnown}
-use Rattle.g4_matching.specs.Ends.{EndsAt, KeptAt}
+use Rattle.g4_matching.specs.Ends.{EndsAt, KeptAt, TellsEnd}
 use Rattle.g4_matching.proofs.Lookups.{in_read}
 use Rattle.g4_matching.proofs.Known.{known_both, known_one}
 use Rattle.g4_matching.proofs.Ended.{end_config, config_end, kept_config, config_kept}
 use Rattle.g4_matching.proofs.Kept.{keeps_more, leaves_more}
-use Rattle.g4_matching.proofs.Matched.{Tells, IsAsGood, tells_same, tells_new}
+use Rattle.g4_matching.proofs.Matched.{IsAsGood, tells_same, tells_new}
 
 -- an entry that no list has
 abbrev pub blank : Entry
@@ -37,11 +37,11 @@ module _ (net : LexerNetwork) (lists : List (List ℕ)) (distinct : IsDistinct l
       same xs k less = get_or_default xs k blank (get_or xs k blank) less
 
   -- it tells nothing new
-  pub tell_same : (best : Option RuleEnd) → (EndsAt net (entry_at list i) → IsAsGood best (entry_at list i).rule) → Tells net (configs_of lists (take i list)) best → Tells net (configs_of lists (take (i + 1) list)) best
-  tell_same best good h = subst (λ (l : List LexerConfig). Tells net l best) (sym more) (tells_same net (configs_of lists (take i list)) (config_of lists (entry_at list i)) best (λ end. good (config_end net lists distinct first (entry_at list i) is_known end)) h)
+  pub tell_same : (best : Option RuleEnd) → (EndsAt net (entry_at list i) → IsAsGood best (entry_at list i).rule) → TellsEnd net (configs_of lists (take i list)) best → TellsEnd net (configs_of lists (take (i + 1) list)) best
+  tell_same best good h = subst (λ (l : List LexerConfig). TellsEnd net l best) (sym more) (tells_same net (configs_of lists (take i list)) (config_of lists (entry_at list i)) best (λ end. good (config_end net lists distinct first (entry_at list i) is_known end)) h)
 
   -- it tells an end
-  pub tell_new : (best : Option RuleEnd) → EndsAt net (entry_at list i) → (IsAsGood best (entry_at list i).rule → ⊥) → Tells net (configs_of lists (take i list)) best
+  pub tell_new : (best : Option RuleEnd) → EndsAt net (entry_at list i) → (IsAsGood best (entry_at list i).rule → ⊥) → TellsEnd net (configs_of lists (take i list)) best
       → IsLeastEnd net (configs_of lists (take (i + 1) list)) (entry_at list i).rule (entry_at list i).alternative
   tell_new best end better h = subst (λ (l : List LexerConfig). IsLeastEnd net l (entry_at list i).rule (entry_at list i).alternative) (sym more) (tells_new net (configs_of lists (take i list)) (config_of lists (entry_at list i)) best (end_config net lists distinct first (entry_at list i) end) better h)
 

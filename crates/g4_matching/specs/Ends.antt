@@ -1,10 +1,12 @@
 -- Ends of rules in a list of entries.
-use Rattle.std.specs.Prelude.{◌≡◌, ℕ, ◌⊎◌, List, Some, slice_get}
+use Rattle.std.specs.Prelude.{◌≡◌, ℕ, ◌⊎◌, List, Option, Some, None, slice_get}
 use Rattle.g4_net.specs.Network.{state_at}
 use Rattle.g4_ordered.specs.Network.{LexerNetwork}
 use Rattle.g4_ordered.specs.Configurations.{LexerConfig, In}
 use Rattle.g4_ordered.specs.Lists.{IsEndBy, IsCharacterBy, IsAtEnd}
+use Rattle.g4_ordered.specs.Matching.{IsLeastEnd}
 use Rattle.g4_matching.specs.declared.entry.Entry.{Entry}
+use Rattle.g4_matching.specs.declared.rule_end.RuleEnd.{RuleEnd}
 
 -- the entry is at the end of its rule
 abbrev pub EndsAt : LexerNetwork → Entry → Type 0
@@ -29,3 +31,8 @@ AreEnds net list ends = (k : ℕ) (e : Entry) → slice_get list k ≡ Some e �
 -- no rule ends in the list
 abbrev pub HasNoEnd : LexerNetwork → List LexerConfig → Type 0
 HasNoEnd net list = (e : LexerConfig) → In e list → IsAtEnd net e → ⊥
+
+-- what the list tells: an end, or that no rule ends in it
+abbrev pub TellsEnd : LexerNetwork → List LexerConfig → Option RuleEnd → Type 0
+TellsEnd net list None = HasNoEnd net list
+TellsEnd net list (Some end) = IsLeastEnd net list end.rule end.alternative

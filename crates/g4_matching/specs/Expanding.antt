@@ -9,6 +9,7 @@ use Rattle.g4_matching.specs.declared.waiting.Waiting.{Waiting}
 use Rattle.g4_matching.specs.declared.expanding.Expanding.{Expanding}
 use Rattle.g4_matching.specs.Entries.{AreKnown, config_of, configs_of, stacked}
 use Rattle.g4_matching.specs.Ends.{AreEnds}
+use Rattle.g4_matching.specs.Returns.{Grows}
 
 -- the configurations that wait, the next first
 abbrev pub waiting_of : Waiting → List LexerConfig
@@ -27,6 +28,7 @@ pub record IsSound (net : LexerNetwork) (x : Expanding) : Type 0 where
 -- the entry is appended, and what it leads to put on top
 pub record TakesIn (net : LexerNetwork) (last : Bool) (entry : Entry) (old new : Expanding) : Type 0 where
   pub sound : IsSound net new
+  pub grows : Grows old.waiting.returns new.waiting.returns
   pub appended : all_of new ≡ all_of old ++ config_of old.waiting.returns entry ∷ []
   pub leading : waiting_of new.waiting ≡ leads net last (config_of old.waiting.returns entry) ++ waiting_of old.waiting
 

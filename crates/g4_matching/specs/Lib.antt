@@ -5,4 +5,7 @@ pub mod Entries
 pub mod Waiting
 pub mod Ends
 pub mod Expanding
+pub mod Listing
+pub mod Cells
+pub mod Automaton
 pub mod Matcher

@@ -1,21 +1,16 @@
--- The list that a matcher has.
-use Rattle.std.specs.Prelude.{List, Bool, ℕ}
+-- What is found.
+use Rattle.std.specs.Prelude.{ℕ, List, Option, Some, None, MatchOption}
 use Rattle.g4_ordered.specs.Network.{LexerNetwork}
 use Rattle.g4_ordered.specs.Configurations.{LexerConfig}
-use Rattle.g4_ordered.specs.Lists.{ListOf, ReadAll, BehindEnd}
-use Rattle.g4_matching.specs.declared.matcher.Matcher.{Matcher}
-use Rattle.g4_matching.specs.Entries.{AreKnown, configs_of}
+use Rattle.g4_ordered.specs.Matching.{IsMatch, NoMatch}
+use Rattle.g4_matching.specs.declared.found.Match.{Match}
+use Rattle.g4_matching.specs.declared.rule_end.RuleEnd.{RuleEnd}
 
--- its configurations
-abbrev pub listed : Matcher → List LexerConfig
-listed m = configs_of m.expanding.waiting.returns m.list.items
+-- the match at the front of the text, or that there is none
+abbrev pub IsFound : LexerNetwork → List LexerConfig → List ℕ → Option Match → Type 0
+IsFound net starts text found = MatchOption found (NoMatch net starts text) (λ m. IsMatch net starts text m.length m.rule m.alternative)
 
--- their return states are in the store
-abbrev pub IsReady : Matcher → Type 0
-IsReady m = AreKnown m.expanding.waiting.returns m.list.items
-
--- the list after a character
-pub record IsNext (net : LexerNetwork) (last : Bool) (a : ℕ) (list next : List LexerConfig) : Type 0 where
-  pub read : List LexerConfig
-  pub reads : ReadAll net a list read
-  pub makes : ListOf net last (BehindEnd net) read next
+-- the best match so far is that of the list after so many characters, if that tells an end
+abbrev pub best_after : Option Match → ℕ → Option RuleEnd → Option Match
+best_after best length None = best
+best_after best length (Some end) = Some (record { length = length; rule = end.rule; alternative = end.alternative })

@@ -5,6 +5,7 @@ ghost use Rattle.g4_ordered.specs.Network.{IsLexable};
 ghost use Rattle.g4_matching.specs.Ends.{AreEnds, HasRuleEnd};
 ghost use Rattle.g4_matching.specs.Entries.{AreKnown, IsKnown, config_of};
 ghost use Rattle.g4_matching.specs.Expanding.{IsExpansion, IsSound, TakesIn, all_of, waiting_of};
+ghost use Rattle.g4_matching.specs.Returns.{Grows};
 
 use crate::entry::Entry;
 use crate::listed::Listed;
@@ -102,6 +103,7 @@ impl Expanding {
     ) -> Result<(), AllocError>
         requires lexable { IsLexable net.now }
         requires known { AreKnown self.old.waiting.returns self.old.waiting.entries.items }
+        ensures grows { OnOk result (Grows self.old.waiting.returns self.new.waiting.returns) }
         ensures known { OnOk result (AreKnown self.new.waiting.returns self.new.all) }
         ensures expanded { OnOk result (IsExpansion net.now last in_step (waiting_of self.old.waiting) (all_of self.new)) }
     {

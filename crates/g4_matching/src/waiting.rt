@@ -205,6 +205,7 @@ impl Waiting {
 
     /// Makes the starts wait, and nothing else.
     pub fn begin(&mut self, starts: &[Start]) -> Result<(), AllocError>
+        ensures same { OnOk result (self.new.returns ≡ self.old.returns) }
         ensures known { OnOk result (AreKnown self.new.returns self.new.entries.items) }
         ensures waiting { OnOk result (stacked self.new.returns self.new.entries.items ≡ starts_of starts.now) }
     {

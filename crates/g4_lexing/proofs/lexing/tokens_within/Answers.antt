@@ -1,7 +1,7 @@
-use Rattle.std.proofs.Common.{◌≡◌, ◌≤◌, ◌++◌, ◌==◌, ◌∙◌, ap, length, List, arith}
+use Rattle.std.proofs.Common.{◌≡◌, ◌++◌, ◌==◌, ◌∙◌, ap, length, List, arith}
 use Rattle.std.proofs.lemmas.List.{length-append}
 use Rattle.std.proofs.lemmas.List.Elements.{All-filter}
-use Rattle.g4_symbols.specs.declared.symbol.TheConstants.{MOST_TYPES}
+use Rattle.g4_lexing.specs.Lexers.{IsTokenType}
 use Rattle.g4_token_list.specs.declared.token.Token.{Token}
 use Rattle.g4_lexing.specs.Decoding.{AreCharacters}
 use Rattle.g4_lexing.specs.Tokens.{EndsBy, closing_at, visible}
@@ -26,7 +26,7 @@ returns-clause-ends c =
     let found = c.in_ok-found.found in
     let list_is : c.new-2.result ≡ visible found.tokens.items ++ closing_at found.end = c.new-2.ensures ∙ c.in_ok-close.ensures ∙ ap (λ (ts : List Token). ts ++ closing_at found.end) (c.in_ok-list.ensures ∙ ap visible c.deref-2.ensures.value) in
     λ types.
-    ends_in_end c.new-2.result (visible found.tokens.items) found.end list_is (All-filter (λ (t : Token). t.channel == 0) (λ (t : Token). t.symbol ≤ MOST_TYPES) found.tokens.items (c.in_ok-found.ensures.types types))
+    ends_in_end c.new-2.result (visible found.tokens.items) found.end list_is (All-filter (λ (t : Token). t.channel == 0) (λ (t : Token). IsTokenType t.symbol) found.tokens.items (c.in_ok-found.ensures.types types))
 
 pub returns-clause-spans : goal.returns-clause-spans
 returns-clause-spans c =

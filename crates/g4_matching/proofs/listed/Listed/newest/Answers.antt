@@ -1,5 +1,5 @@
 use Rattle.std.proofs.Common.{rules, ◌≡◌, sym, ◌∙◌, Some, None, slice_get, subst}
-use Rattle.g4_matching.specs.Listed.{IsNewest, key_of}
+use Rattle.g4_matching.specs.Listed.{IsNewest}
 use Rattle.g4_matching.proofs.Lookups.{got, got_none}
 use Rattle.g4_matching.proofs.Indexed.{none_noted, none_there, none_of_state, newest_there}
 use Rattle.g4_matching.proofs.listed.Listed.newest.Goals as goal
