@@ -190,6 +190,11 @@ pub with_three : (start one two : List Entry) (a b c : List Wanted) → one ≡ 
 with_three start one two a b c first second =
     ap (λ (es : List Entry). with_keys es c) second ∙ (sym (with_keys-append one b c) ∙ (ap (λ (es : List Entry). with_keys es (b ++ c)) first ∙ sym (with_keys-append start a (b ++ c))))
 
+-- four lists of keys
+pub with_four : (start one two three : List Entry) (a b c d : List Wanted) → one ≡ with_keys start a → two ≡ with_keys one b → three ≡ with_keys two c → with_keys three d ≡ with_keys start (a ++ (b ++ (c ++ d)))
+with_four start one two three a b c d first second third =
+    ap (λ (es : List Entry). with_keys es d) third ∙ (sym (with_keys-append two c d) ∙ with_three start one two a b (c ++ d) first second)
+
 -- a fault from the empty table
 pub starts_err : (start : List Entry) (keys : List Wanted) (new : List Entry) (fault : NumberFault) → start ≡ [] → Adds start keys new (Err fault) → Starts keys (Err fault)
 starts_err start keys new Rules none h = h

@@ -23,13 +23,14 @@ use Rattle.g4_source.specs.declared.rule.RuleAlternative.{RuleAlternative}
 use Rattle.g4_source.specs.Rules.{parser_rules, alternatives_of}
 use Rattle.g4_source.specs.Blocks.{ParserRuleIsFull, RulesAreFull, ParserRulesAreFull}
 use Rattle.g4_grammar.specs.declared.numbered.NumberedAtom.{NumberedAtom}
+use Rattle.g4_grammar.specs.declared.numbered.TokenName.{TokenName}
 use Rattle.g4_grammar.specs.declared.numbered.TokenRule.{TokenRule}
 use Rattle.g4_grammar.specs.Written.{ParserRuleIsUntested, ParserKindIsUntested}
 use Rattle.g4_vocab.specs.declared.types.Key.{Key}
 use Rattle.g4_vocab.specs.declared.types.Key.TheVariants as keys
 use Rattle.g4_vocab.specs.declared.types.Entry.{Entry}
 use Rattle.g4_vocab.specs.Types.{is_key, number_of, type_of, greatest_type, all_types}
-use Rattle.g4_vocab.specs.Numbering.{numbered_atom, numbered_kind, numbered_alternative, numbered_rule, literal_key, symbol_of, types_without, literal_rule, token_rule, token_rules}
+use Rattle.g4_vocab.specs.Numbering.{numbered_atom, numbered_kind, numbered_alternative, numbered_rule, literal_key, symbol_of, types_without, literal_rule, names_of, token_rule, token_rules}
 use Rattle.g4_grammar.specs.NumberedRules.{NumberedKindIsUntested, NumberedRuleIsUntested, KindLeavesEnd, RuleLeavesEnd}
 
 -- the first of some items, and the others
@@ -215,3 +216,12 @@ symbols_low types lexers few =
         by : (key : Key) → All (λ rule. rule.symbol ≤ MOST_TYPES) (filter_map literal_rule entries) → All (λ rule. rule.symbol ≤ MOST_TYPES) (filter_map literal_rule (record { key = key; number = entry.number; shown = entry.shown } ∷ entries))
         by (keys.Name name) rest = rest
         by (keys.Literal characters) rest = All-cons (λ (rule : TokenRule). rule.symbol ≤ MOST_TYPES) _ (filter_map literal_rule entries) (omega (arith, few)) rest
+
+-- so are those of the types that have names
+pub names_low : (types : List Entry) → greatest_type types ≤ MOST_TYPES → All (λ name. name.symbol ≤ MOST_TYPES) (names_of types)
+names_low [] few = all_none (λ (name : TokenName). name.symbol ≤ MOST_TYPES)
+names_low (entry ∷ types) few = by entry.key (names_low types (omega (arith, few)))
+  where
+    by : (key : Key) → All (λ name. name.symbol ≤ MOST_TYPES) (names_of types) → All (λ name. name.symbol ≤ MOST_TYPES) (names_of (record { key = key; number = entry.number; shown = entry.shown } ∷ types))
+    by (keys.Name name) rest = All-cons (λ (name : TokenName). name.symbol ≤ MOST_TYPES) _ (names_of types) (omega (arith, few)) rest
+    by (keys.Literal characters) rest = rest

@@ -1,3 +1,4 @@
+mod CommandedTokens
 pub mod Keys
 mod Laws
 mod Faultless

@@ -12,10 +12,11 @@ use Rattle.g4_source.specs.declared.source.Source.{Source}
 use Rattle.g4_source.specs.declared.rule.Rule.{Rule}
 use Rattle.g4_source.specs.declared.rule.Rule.TheVariants.{Parser, Lexer}
 use Rattle.g4_source.specs.declared.source.Mode.{Mode}
-use Rattle.g4_source.specs.Rules.{parser_rule, parser_rules}
+use Rattle.g4_source.specs.Rules.{parser_rule, parser_rules, lexer_rules}
 use Rattle.g4_source.specs.Blocks.{HaveAlternatives, ParserRulesAreFull}
 use Rattle.g4_grammar.specs.declared.numbered.Numbered.{Numbered}
 use Rattle.g4_grammar.specs.declared.numbered.NumberedAtom.{NumberedAtom}
+use Rattle.g4_grammar.specs.declared.numbered.TokenName.{TokenName}
 use Rattle.g4_grammar.specs.declared.numbered.TokenRule.{TokenRule}
 use Rattle.g4_grammar.specs.NumberedRules.{NumberedRuleIsUntested, NumberedRulesAreDefined, NumberedRulesCanRun, RuleLeavesEnd}
 use Rattle.g4_grammar.specs.Written.{ParserRuleIsUntested, RulesAreDefined, RulesCanRun}
@@ -28,26 +29,35 @@ use Rattle.g4_vocab.specs.declared.types.Types.{Types as Table}
 use Rattle.g4_vocab.specs.Tables.{Starts}
 use Rattle.g4_vocab.specs.Types.{greatest_type, with_keys}
 use Rattle.g4_vocab.specs.Halves.{AreHalves}
-use Rattle.g4_vocab.specs.Numbering.{numbered_rule, all_atoms, all_references, numbered_with, types_with, types_of, token_lexers, wanted}
+use Rattle.g4_vocab.specs.Numbering.{numbered_rule, all_atoms, all_references, all_commanded, numbered_with, types_with, types_of, token_lexers, wanted}
 use Rattle.g4_vocab.specs.Answers.{CausesNumberFault, GivesNumbered, GivesNumberedHalves}
-use Rattle.g4_vocab.proofs.Laws.{parsers_few, rules_full, rules_untested, rules_ends, each_parser_rule, symbols_low}
+use Rattle.g4_vocab.proofs.Laws.{parsers_few, rules_full, rules_untested, rules_ends, each_parser_rule, symbols_low, names_low}
 use Rattle.g4_vocab.proofs.Faultless.{rules_defined, rules_run}
 
 -- a fact of the halves is a fact of those of the source
 of_source : (P : List (ParserRule Atom) → List LexerRule → Type 0) (source : Source) (parsers : List (ParserRule Atom)) (lexers : List LexerRule) → AreHalves source.rules parsers lexers → P parsers lexers → P (parser_rules source.rules) (token_lexers source.rules)
 of_source P source parsers lexers halves p = subst (P (parser_rules source.rules)) halves.lexers_are (subst (λ (ps : List (ParserRule Atom)). P ps lexers) halves.parsers_are p)
 
+-- the tokens that the commands of a source name
+abbrev pub commanded_in : Source → List TokenReference
+commanded_in source = all_commanded (lexer_rules source.rules)
+
 -- the numbered grammar
-pub source_ok : (source : Source) (parsers : List (ParserRule Atom)) (lexers : List LexerRule) (grammar : Numbered) → AreHalves source.rules parsers lexers → length source.rules ≤ MOST_RULES → GivesNumberedHalves parsers lexers (Ok grammar) → GivesNumbered source (Ok grammar)
-source_ok source parsers lexers grammar halves few given =
-    let P : List (ParserRule Atom) → List LexerRule → Type 0 = λ ps ls. (greatest_type (types_with [] ps ls) ≤ MOST_TYPES) × (grammar ≡ numbered_with ps ls (types_with [] ps ls)) in
-    let all = of_source P source parsers lexers halves given in (few, all.0, all.1)
+pub source_ok : (source : Source) (parsers : List (ParserRule Atom)) (lexers : List LexerRule) (commanded : List TokenReference) (grammar : Numbered) → AreHalves source.rules parsers lexers → commanded ≡ commanded_in source → length source.rules ≤ MOST_RULES →
+    GivesNumberedHalves parsers lexers commanded (Ok grammar) → GivesNumbered source (Ok grammar)
+source_ok source parsers lexers commanded grammar halves are few given =
+    let types : List (ParserRule Atom) → List LexerRule → List Entry = λ ps ls. types_with [] ps ls (commanded_in source) in
+    let P : List (ParserRule Atom) → List LexerRule → Type 0 = λ ps ls. (greatest_type (types ps ls) ≤ MOST_TYPES) × (grammar ≡ numbered_with ps ls (types ps ls)) in
+    let all = of_source P source parsers lexers halves (subst (λ (cs : List TokenReference). GivesNumberedHalves parsers lexers cs (Ok grammar)) are given) in (few, all.0, all.1)
 
 -- a fault
-pub source_err : (source : Source) (parsers : List (ParserRule Atom)) (lexers : List LexerRule) (fault : NumberFault) → AreHalves source.rules parsers lexers → length source.rules ≤ MOST_RULES → GivesNumberedHalves parsers lexers (Err fault) → CausesNumberFault source fault
-source_err source parsers lexers Rules halves few given = absurd given
-source_err source parsers lexers Types halves few given = (few, of_source (λ ps ls. MOST_TYPES < greatest_type (types_with [] ps ls)) source parsers lexers halves given)
-source_err source parsers lexers NoMemory halves few given = tt
+pub source_err : (source : Source) (parsers : List (ParserRule Atom)) (lexers : List LexerRule) (commanded : List TokenReference) (fault : NumberFault) → AreHalves source.rules parsers lexers → commanded ≡ commanded_in source → length source.rules ≤ MOST_RULES →
+    GivesNumberedHalves parsers lexers commanded (Err fault) → CausesNumberFault source fault
+source_err source parsers lexers commanded Rules halves are few given = absurd given
+source_err source parsers lexers commanded Types halves are few given =
+    let P : List (ParserRule Atom) → List LexerRule → Type 0 = λ ps ls. MOST_TYPES < greatest_type (types_with [] ps ls (commanded_in source)) in
+    (few, of_source P source parsers lexers halves (subst (λ (cs : List TokenReference). MOST_TYPES < greatest_type (types_with [] parsers lexers cs)) are given))
+source_err source parsers lexers commanded NoMemory halves are few given = tt
 
 -- modes have no parser rules
 of_mode : (rules : List LexerRule) → parser_rules (map Lexer rules) ≡ []
@@ -65,6 +75,9 @@ no_more rules modes = filter_map-append parser_rule rules (flat_map mode_rules m
 module _ (source : Source) (grammar : Numbered) (given : GivesNumbered source (Ok grammar)) where
   pub source_types : All (λ rule. rule.symbol ≤ MOST_TYPES) grammar.token_rules
   source_types = subst (λ (rules : List TokenRule). All (λ rule. rule.symbol ≤ MOST_TYPES) rules) (sym (ap (λ (g : Numbered). g.token_rules) given.2)) (symbols_low (types_of [] source.rules) (token_lexers source.rules) given.1)
+
+  pub source_names : All (λ name. name.symbol ≤ MOST_TYPES) grammar.names
+  source_names = subst (λ (names : List TokenName). All (λ name. name.symbol ≤ MOST_TYPES) names) (sym (ap (λ (g : Numbered). g.names) given.2)) (names_low (types_of [] source.rules) given.1)
 
   pub source_few : length grammar.rules ≤ MOST_RULES
   source_few =
@@ -94,14 +107,14 @@ module _ (source : Source) (grammar : Numbered) (given : GivesNumbered source (O
   source_defined h = of_rules NumberedRulesAreDefined (rules_defined (token_lexers source.rules) (types_of [] source.rules) (rules_of source) h)
 
 -- what the halves give, from the tokens that the parser rules name
-pub halves_err : (parsers : List (ParserRule Atom)) (lexers : List LexerRule) (tokens : List TokenReference) (fault : NumberFault) → tokens ≡ all_references (all_atoms parsers) → Starts (wanted lexers tokens) (Err fault) → GivesNumberedHalves parsers lexers (Err fault)
-halves_err parsers lexers tokens Rules are h = h
-halves_err parsers lexers tokens Types are h = subst (λ (ts : List TokenReference). MOST_TYPES < greatest_type (with_keys [] (wanted lexers ts))) are h
-halves_err parsers lexers tokens NoMemory are h = tt
+pub halves_err : (parsers : List (ParserRule Atom)) (lexers : List LexerRule) (tokens commanded : List TokenReference) (fault : NumberFault) → tokens ≡ all_references (all_atoms parsers) → Starts (wanted lexers tokens commanded) (Err fault) → GivesNumberedHalves parsers lexers commanded (Err fault)
+halves_err parsers lexers tokens commanded Rules are h = h
+halves_err parsers lexers tokens commanded Types are h = subst (λ (ts : List TokenReference). MOST_TYPES < greatest_type (with_keys [] (wanted lexers ts commanded))) are h
+halves_err parsers lexers tokens commanded NoMemory are h = tt
 
-pub halves_ok : (parsers : List (ParserRule Atom)) (lexers : List LexerRule) (tokens : List TokenReference) (table : Table) (grammar : Numbered) → tokens ≡ all_references (all_atoms parsers) → Starts (wanted lexers tokens) (Ok table) → grammar ≡ numbered_with parsers lexers table.entries.items →
-    GivesNumberedHalves parsers lexers (Ok grammar)
-halves_ok parsers lexers tokens table grammar are h is =
-    let entries : table.entries.items ≡ types_with [] parsers lexers = h.1 ∙ ap (λ (ts : List TokenReference). with_keys [] (wanted lexers ts)) are in
+pub halves_ok : (parsers : List (ParserRule Atom)) (lexers : List LexerRule) (tokens commanded : List TokenReference) (table : Table) (grammar : Numbered) → tokens ≡ all_references (all_atoms parsers) → Starts (wanted lexers tokens commanded) (Ok table) →
+    grammar ≡ numbered_with parsers lexers table.entries.items → GivesNumberedHalves parsers lexers commanded (Ok grammar)
+halves_ok parsers lexers tokens commanded table grammar are h is =
+    let entries : table.entries.items ≡ types_with [] parsers lexers commanded = h.1 ∙ ap (λ (ts : List TokenReference). with_keys [] (wanted lexers ts commanded)) are in
     let few : greatest_type table.entries.items ≤ MOST_TYPES = subst (λ (n : ℕ). n ≤ MOST_TYPES) h.0.greatest h.0.within in
     (subst (λ (es : List Entry). greatest_type es ≤ MOST_TYPES) entries few, is ∙ ap (numbered_with parsers lexers) entries)

@@ -1,6 +1,7 @@
 -- What numbering answers.
 use Rattle.std.specs.Prelude.{◌≡◌, ◌≤◌, ◌<◌, length, List, [], Result, Ok, Err}
 use Rattle.g4_source.specs.declared.atom.Atom.{Atom}
+use Rattle.g4_source.specs.declared.atom.TokenReference.{TokenReference}
 use Rattle.g4_source.specs.declared.rule.LexerRule.{LexerRule}
 use Rattle.g4_source.specs.declared.rule.ParserRule.{ParserRule}
 use Rattle.g4_source.specs.declared.source.Source.{Source}
@@ -23,9 +24,9 @@ abbrev pub GivesNumbered : Source → Result Numbered NumberFault → Type 0
 GivesNumbered source (Ok grammar) = (length source.rules ≤ MOST_RULES) × (greatest_type (types_of [] source.rules) ≤ MOST_TYPES) × (grammar ≡ numbered [] source.rules)
 GivesNumbered source (Err fault) = CausesNumberFault source fault
 
--- the same of parser rules and lexer rules without `fragment`
-abbrev pub GivesNumberedHalves : List (ParserRule Atom) → List LexerRule → Result Numbered NumberFault → Type 0
-GivesNumberedHalves parsers lexers (Ok grammar) = (greatest_type (types_with [] parsers lexers) ≤ MOST_TYPES) × (grammar ≡ numbered_with parsers lexers (types_with [] parsers lexers))
-GivesNumberedHalves parsers lexers (Err Rules) = ⊥
-GivesNumberedHalves parsers lexers (Err Types) = MOST_TYPES < greatest_type (types_with [] parsers lexers)
-GivesNumberedHalves parsers lexers (Err NoMemory) = Unit {0}
+-- the same of parser rules, lexer rules without `fragment` and tokens that commands name
+abbrev pub GivesNumberedHalves : List (ParserRule Atom) → List LexerRule → List TokenReference → Result Numbered NumberFault → Type 0
+GivesNumberedHalves parsers lexers commanded (Ok grammar) = (greatest_type (types_with [] parsers lexers commanded) ≤ MOST_TYPES) × (grammar ≡ numbered_with parsers lexers (types_with [] parsers lexers commanded))
+GivesNumberedHalves parsers lexers commanded (Err Rules) = ⊥
+GivesNumberedHalves parsers lexers commanded (Err Types) = MOST_TYPES < greatest_type (types_with [] parsers lexers commanded)
+GivesNumberedHalves parsers lexers commanded (Err NoMemory) = Unit {0}

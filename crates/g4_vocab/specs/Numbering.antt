@@ -1,5 +1,5 @@
 -- The numbering of token types: first the literals of parser rules that need a token of their own, then the lexer rules,
--- then the other token names of parser rules.
+-- then the other token names of parser rules, then the names in `type(..)` commands of lexer rules.
 use Rattle.std.specs.Prelude.{ℕ, ◌==◌, List, [], ◌∷◌, ◌++◌, map, filter, Option, Some, None, Bool, false, not, cond, codes}
 use Rattle.std.specs.List.{filter_map, flat_map, list_any}
 use Rattle.std.specs.Option.{is_some, is_none}
@@ -18,11 +18,15 @@ use Rattle.g4_source.specs.declared.rule.ParserRule.{ParserRule}
 use Rattle.g4_source.specs.declared.rule.RuleAlternative.{RuleAlternative}
 use Rattle.g4_source.specs.declared.rule.LexerRule.{LexerRule}
 use Rattle.g4_source.specs.declared.rule.LexerAlternative.{LexerAlternative}
+use Rattle.g4_source.specs.declared.rule.Command.{Command}
+use Rattle.g4_source.specs.declared.rule.Argument.{Argument}
+use Rattle.g4_source.specs.declared.rule.Argument.TheVariants as arguments
 use Rattle.g4_source.specs.Rules.{parser_rules, lexer_rules, alternatives_of}
 use Rattle.g4_grammar.specs.declared.numbered.Numbered.{Numbered}
 use Rattle.g4_grammar.specs.declared.numbered.NumberedAtom.{NumberedAtom}
 use Rattle.g4_grammar.specs.declared.numbered.NumberedKind.{NumberedKind}
 use Rattle.g4_grammar.specs.declared.numbered.NumberedKind.TheVariants as numbers
+use Rattle.g4_grammar.specs.declared.numbered.TokenName.{TokenName}
 use Rattle.g4_grammar.specs.declared.numbered.TokenRule.{TokenRule}
 use Rattle.g4_vocab.specs.declared.types.Key.{Key}
 use Rattle.g4_vocab.specs.declared.types.Key.TheVariants as keys
@@ -131,22 +135,40 @@ shown_rule lexers rule = shown_literal lexers rule.name (whole_literal rule.alte
 abbrev pub rule_token : List LexerRule → LexerRule → Wanted
 rule_token lexers rule = record { key = keys.Name rule.name; shown = shown_rule lexers rule }
 
--- a token name of a parser rule: `EOF` is none
+-- the token that a command's argument names: a number names none
+abbrev pub argument_name : Option Argument → Option TokenReference
+argument_name None = None
+argument_name (Some (arguments.Name name)) = Some (refs.Token name)
+argument_name (Some (arguments.Number digits)) = None
+
+-- the token that a command names: `type` with a name names one
+abbrev pub commanded_token : Command → Option TokenReference
+commanded_token command = cond (bytes_eq command.name.text (codes "type")) (argument_name command.argument) None
+
+-- the tokens that commands of an alternative name, in order
+abbrev pub commanded_by : LexerAlternative → List TokenReference
+commanded_by alternative = filter_map commanded_token alternative.commands
+
+-- the tokens that commands of lexer rules name, in order of the text
+abbrev pub all_commanded : List LexerRule → List TokenReference
+all_commanded lexers = flat_map (λ rule. flat_map commanded_by rule.alternatives) lexers
+
+-- a token name of a parser rule or of a command: `EOF` is none
 abbrev pub token_name : TokenReference → Option Wanted
 token_name (refs.Token name) = cond (bytes_eq name (codes "EOF")) None (Some (record { key = keys.Name name; shown = name }))
 token_name (refs.Literal literal) = None
 
 -- what types are given to, in order
-abbrev pub wanted : List LexerRule → List TokenReference → List Wanted
-wanted lexers tokens = filter_map (own_literal lexers) tokens ++ (map (rule_token lexers) lexers ++ filter_map token_name tokens)
+abbrev pub wanted : List LexerRule → List TokenReference → List TokenReference → List Wanted
+wanted lexers tokens commanded = filter_map (own_literal lexers) tokens ++ (map (rule_token lexers) lexers ++ (filter_map token_name tokens ++ filter_map token_name commanded))
 
--- the types of parser rules and lexer rules without `fragment`, which a table of types begins
-abbrev pub types_with : List Entry → List (ParserRule Atom) → List LexerRule → List Entry
-types_with table parsers lexers = with_keys table (wanted lexers (all_references (all_atoms parsers)))
+-- the types of parser rules, lexer rules without `fragment` and tokens that commands name, which a table of types begins
+abbrev pub types_with : List Entry → List (ParserRule Atom) → List LexerRule → List TokenReference → List Entry
+types_with table parsers lexers commanded = with_keys table (wanted lexers (all_references (all_atoms parsers)) commanded)
 
 -- the types of a grammar's rules
 abbrev pub types_of : List Entry → List Rule → List Entry
-types_of table rules = types_with table (parser_rules rules) (token_lexers rules)
+types_of table rules = types_with table (parser_rules rules) (token_lexers rules) (all_commanded (lexer_rules rules))
 
 -- the symbol of a token that is named: EOF, or a type
 abbrev pub symbol_of : List LexerRule → List Entry → TokenReference → ℕ
@@ -202,11 +224,25 @@ token_rule types rule = record { name = rule.name; symbol = type_of types (keys.
 abbrev pub token_rules : List Entry → List LexerRule → List TokenRule
 token_rules types lexers = filter_map literal_rule types ++ map (token_rule types) lexers
 
+-- a type with its name, where its key is a name
+abbrev pub name_by : ℕ → Key → Option TokenName
+name_by type (keys.Name name) = Some (record { name = name; symbol = type })
+name_by type (keys.Literal characters) = None
+
+-- the same of an entry of the table
+abbrev pub entry_name : Entry → Option TokenName
+entry_name entry = name_by entry.number entry.key
+
+-- the types that have names, with these, in the order of the table
+abbrev pub names_of : List Entry → List TokenName
+names_of types = filter_map entry_name types
+
 -- the numbered grammar of parser rules and lexer rules without `fragment`, with these types
 abbrev pub numbered_with : List (ParserRule Atom) → List LexerRule → List Entry → Numbered
 numbered_with parsers lexers types = record {
   rules = map (numbered_rule lexers types) parsers;
   shown = map (λ entry. entry.shown) types;
+  names = names_of types;
   token_rules = token_rules types lexers;
 }
 

@@ -1,11 +1,13 @@
 // Whether the rules of a grammar's source have names of their own; and from the source to its numbered grammar.
 #![tactic(auto)]
 
+mod commanded;
 mod copies;
 mod fault;
 mod halves;
 mod law;
 mod literal;
+mod names;
 mod naming;
 mod numbering;
 mod references;

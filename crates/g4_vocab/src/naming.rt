@@ -49,7 +49,7 @@ fn add_rules<'a>(
     Ok(())
 }
 
-/// Gives types to the other token names.
+/// Gives types to the names of these tokens that have none.
 fn add_names<'a>(
     alloc: Global,
     types: &mut Types<'a>,
@@ -69,32 +69,35 @@ fn add_names<'a>(
     Ok(())
 }
 
-/// Gives types to all that these rules and tokens name.
+/// Gives types to what parser rules name, to these rules and to what commands name, in the order of types.
 fn add_all<'a>(
     alloc: Global,
     types: &mut Types<'a>,
     wholes: &Wholes<'_, 'a>,
     tokens: &[Reference<'a>],
+    commanded: &[Reference<'a>],
 ) -> Result<(), NumberFault>
     requires { IsTable types.old }
     ensures table { OnOk result (IsTable types.new) }
-    ensures added { Adds types.old.entries.items (wanted (map (λ r. r.now) wholes.now.rules.now) (map reference_of tokens.now)) types.new.entries.items result }
+    ensures added { Adds types.old.entries.items (wanted (map (λ r. r.now) wholes.now.rules.now) (map reference_of tokens.now) (map reference_of commanded.now)) types.new.entries.items result }
 {
     add_own_literals(alloc, types, wholes, tokens)?;
     add_rules(alloc, types, wholes, wholes.rules)?;
     add_names(alloc, types, tokens)?;
+    add_names(alloc, types, commanded)?;
     Ok(())
 }
 
-/// The types of a grammar whose parser rules name these tokens.
+/// The types of a grammar whose parser rules name these tokens, and whose commands name the others.
 pub fn types_of<'a>(
     alloc: Global,
     wholes: &Wholes<'_, 'a>,
     tokens: &[Reference<'a>],
+    commanded: &[Reference<'a>],
 ) -> Result<Types<'a>, NumberFault>
-    ensures { Starts (wanted (map (λ r. r.now) wholes.now.rules.now) (map reference_of tokens.now)) result }
+    ensures { Starts (wanted (map (λ r. r.now) wholes.now.rules.now) (map reference_of tokens.now) (map reference_of commanded.now)) result }
 {
     let mut types = Types::new(alloc);
-    add_all(alloc, &mut types, wholes, tokens)?;
+    add_all(alloc, &mut types, wholes, tokens, commanded)?;
     Ok(types)
 }

@@ -12,9 +12,11 @@ ghost use Rattle.g4_vocab.specs.Answers.{GivesNumbered, GivesNumberedHalves};
 ghost use Rattle.g4_vocab.specs.Numbering.{all_atoms, all_references, numbered_alternative, numbered_rule, numbered_with};
 ghost use Rattle.g4_vocab.specs.Tables.{reference_of};
 
+use crate::commanded::commanded_of;
 use crate::copies;
 use crate::fault::{MOST_RULES, NumberFault};
 use crate::halves::halves_of;
+use crate::names::names_of;
 use crate::naming::types_of;
 use crate::references::{Reference, references_of};
 use crate::symbol::Numbering;
@@ -100,25 +102,28 @@ fn numbered(
 {
     let rules = numbered_rules(alloc, numbering, parsers)?;
     let shown = shown_types(alloc, numbering.types.entries.as_slice())?;
+    let names = names_of(alloc, numbering.types.entries.as_slice())?;
     let token_rules = token_rules(alloc, numbering, numbering.wholes.rules)?;
     Ok(Numbered {
         rules,
         shown,
+        names,
         token_rules,
     })
 }
 
-/// The numbered grammar of parser rules that name these tokens.
+/// The numbered grammar of parser rules that name these tokens, with commands that name the others.
 fn number_tokens<'a>(
     alloc: Global,
     parsers: &[&ParserRule<Atom>],
     wholes: &Wholes<'_, 'a>,
     tokens: &[Reference<'a>],
+    commanded: &[Reference<'a>],
 ) -> Result<Numbered, NumberFault>
     requires { map reference_of tokens.now ≡ all_references (all_atoms (map (λ r. r.now) parsers.now)) }
-    ensures { GivesNumberedHalves (map (λ r. r.now) parsers.now) (map (λ r. r.now) wholes.now.rules.now) result }
+    ensures { GivesNumberedHalves (map (λ r. r.now) parsers.now) (map (λ r. r.now) wholes.now.rules.now) (map reference_of commanded.now) result }
 {
-    let types = types_of(alloc, wholes, tokens)?;
+    let types = types_of(alloc, wholes, tokens, commanded)?;
     let numbering = Numbering {
         wholes,
         types: &types,
@@ -127,17 +132,18 @@ fn number_tokens<'a>(
     Ok(grammar)
 }
 
-/// The numbered grammar of parser rules and lexer rules without `fragment`.
+/// The numbered grammar of parser rules and lexer rules without `fragment`, with commands that name these tokens.
 fn number_halves<'a>(
     alloc: Global,
     parsers: &[&'a ParserRule<Atom>],
     lexers: &[&'a LexerRule],
+    commanded: &[Reference<'a>],
 ) -> Result<Numbered, NumberFault>
-    ensures { GivesNumberedHalves (map (λ r. r.now) parsers.now) (map (λ r. r.now) lexers.now) result }
+    ensures { GivesNumberedHalves (map (λ r. r.now) parsers.now) (map (λ r. r.now) lexers.now) (map reference_of commanded.now) result }
 {
     let tokens = references_of(alloc, parsers)?;
     let wholes = Wholes::new(alloc, lexers)?;
-    let grammar = number_tokens(alloc, parsers, &wholes, tokens.as_slice())?;
+    let grammar = number_tokens(alloc, parsers, &wholes, tokens.as_slice(), commanded)?;
     Ok(grammar)
 }
 
@@ -149,7 +155,10 @@ fn number_source(alloc: Global, source: &Source) -> Result<Numbered, NumberFault
         return Err(NumberFault::Rules);
     }
     let halves = halves_of(alloc, source.rules.as_slice())?;
-    let grammar = number_halves(alloc, halves.parsers.as_slice(), halves.lexers.as_slice())?;
+    let commanded = commanded_of(alloc, source.rules.as_slice())?;
+    let parsers = halves.parsers.as_slice();
+    let lexers = halves.lexers.as_slice();
+    let grammar = number_halves(alloc, parsers, lexers, commanded.as_slice())?;
     Ok(grammar)
 }
 
@@ -161,6 +170,7 @@ fn number_source(alloc: Global, source: &Source) -> Result<Numbered, NumberFault
 pub fn number(alloc: Global, source: &Source) -> Result<Numbered, NumberFault>
     ensures numbered { GivesNumbered source.now result }
     ensures types { IfOk result (λ grammar. All (λ rule. rule.symbol ≤ MOST_TYPES) grammar.token_rules) }
+    ensures names { IfOk result (λ grammar. All (λ name. name.symbol ≤ MOST_TYPES) grammar.names) }
     ensures full { HaveAlternatives source.now → IfOk result (λ grammar. ParserRulesAreFull grammar.rules) }
     ensures few { IfOk result (λ grammar. length grammar.rules ≤ MOST_RULES) }
     ensures ends { IfOk result (λ grammar. All RuleLeavesEnd grammar.rules) }

@@ -1,8 +1,11 @@
-use Rattle.g4_vocab.proofs.Sources.{source_types, source_full, source_few, source_ends, source_untested, source_defined, source_run}
+use Rattle.g4_vocab.proofs.Sources.{source_types, source_names, source_full, source_few, source_ends, source_untested, source_defined, source_run}
 use Rattle.g4_vocab.proofs.numbering.number.Goals as goal
 
 pub returns-clause-types : goal.returns-clause-types
 returns-clause-types c = source_types c.args.source.now c.in_ok-grammar.grammar c.in_ok-grammar.ensures
+
+pub returns-clause-names : goal.returns-clause-names
+returns-clause-names c = source_names c.args.source.now c.in_ok-grammar.grammar c.in_ok-grammar.ensures
 
 pub returns-clause-full : goal.returns-clause-full
 returns-clause-full c = source_full c.args.source.now c.in_ok-grammar.grammar c.in_ok-grammar.ensures
