@@ -1,0 +1,5 @@
+mod Carried
+mod ByDigits
+mod Once
+mod Symbols
+mod TokenTypes

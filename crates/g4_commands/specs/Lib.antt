@@ -1,0 +1,3 @@
+pub mod Commands
+pub mod Known
+pub mod Tables
