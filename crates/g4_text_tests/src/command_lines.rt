@@ -4,8 +4,9 @@ use std::alloc::{AllocError, Global};
 use std::fmt::Write;
 use std::test::Fail;
 
-/// The word lists of which each is a command, and this command: `events` is a `parse` that writes events. `_` is an empty word.
-const COMMANDS: [(&str, &str); 28] = [
+/// The word lists of which each is a command, and this command: `events` is a `parse` that writes events, `tokens` one that
+/// writes tokens. `_` is an empty word.
+const COMMANDS: [(&str, &str); 33] = [
     ("parse -g G -s R a b c", "parse G R a b c"),
     ("parse -s R -g G a", "parse G R a"),
     ("parse a -g G b -s R c", "parse G R a b c"),
@@ -30,6 +31,14 @@ const COMMANDS: [(&str, &str); 28] = [
         "parse G R --events --events",
     ),
     ("parse -g G -s R events", "parse G R events"),
+    ("parse --tokens -g G -s R a b", "tokens G R a b"),
+    ("parse a b -g G -s R --tokens", "tokens G R a b"),
+    ("parse -g=--tokens -s R a", "parse --tokens R a"),
+    (
+        "parse --events -g G -s R -- --tokens",
+        "events G R --tokens",
+    ),
+    ("parse -g G -s R tokens", "parse G R tokens"),
     ("check G", "check G"),
     ("check _", "check _"),
     ("check -- -G", "check -G"),
@@ -43,7 +52,7 @@ const COMMANDS: [(&str, &str); 28] = [
 ];
 
 /// The word lists that are no command.
-const OTHERS: [&str; 53] = [
+const OTHERS: [&str; 60] = [
     "",
     "_",
     "G",
@@ -70,6 +79,12 @@ const OTHERS: [&str; 53] = [
     "parse -g G -s R --event a",
     "parse -g G -s R -e a",
     "parse -g --events -s R a",
+    "parse -g G -s R --tokens a --tokens",
+    "parse -g G -s R --tokens",
+    "parse -g G -s R --tokens=true a",
+    "parse -g G -s R --token a",
+    "parse -g G -s R --events --tokens a",
+    "parse --tokens a -g G -s R b --events",
     "-g G -s R parse a",
     "--events parse -g G -s R a",
     "g4 parse -g G -s R a",
@@ -79,6 +94,7 @@ const OTHERS: [&str; 53] = [
     "check -g G",
     "check G -s R",
     "check G --events",
+    "check G --tokens",
     "check G --help",
     "check -G",
     "atn",
@@ -121,6 +137,7 @@ fn parse_word(output: Output) -> &'static str {
     match output {
         Output::Trees => "parse",
         Output::Events => "events",
+        Output::Tokens => "tokens",
     }
 }
 

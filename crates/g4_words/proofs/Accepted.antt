@@ -1,4 +1,4 @@
--- Words that `clap` accepts for the command line of `g4` are a command, where their files are few enough.
+-- Words that `clap` accepts for the command line of `g4` are a command, where their files are few enough and their flags ask for one output.
 use Rattle.std.proofs.Common.{◌≡◌, ◌&&◌, ◌||◌, ℕ, Bool, cond, true, false, not, List, [], ◌∷◌, Option, Some, None, is_some, refl, sym, subst, codes, slice_index_or, arith}
 use Rattle.std.specs.Prelude.{fold, option_map}
 use Rattle.std.specs.Option.{option_map_or}
@@ -12,7 +12,7 @@ use Rattle.clap.specs.Kinds.{or_else}
 use Rattle.clap.specs.Faults.{check_fault, defaults_fault, entered_fault, fault_of, level_fault, other_fault, settle_fault, step_fault, turn_fault, walk_fault, word_fault}
 use Rattle.clap.specs.declared.error.kind.ErrorKind.TheVariants.{DisplayHelp, InvalidSubcommand, MissingRequiredArgument, MissingSubcommand}
 use Rattle.g4_words.specs.App.{g4_app}
-use Rattle.g4_words.specs.Commands.{HasFewFiles, IsCommand}
+use Rattle.g4_words.specs.Commands.{HasFewFiles, HasOneOutput, IsCommand}
 use Rattle.g4_words.specs.declared.command.Command.{Command}
 use Rattle.g4_words.specs.declared.command.Command.TheVariants as commands
 use Rattle.g4_words.proofs.Outputs.{some_output}
@@ -136,7 +136,7 @@ rule_of i k = slice_index_or (command_at i).rules k help_rule
 parse_fills : FillAll (command_at 0).rules
 parse_fills = (
   fills_by_values (rule_of 0 0) refl,
-  (fills_by_values (rule_of 0 1) refl, (fills_by_flag (rule_of 0 2) (omega arith), (fills_by_values (rule_of 0 3) refl, (fills_by_help (rule_of 0 4) refl, tt)))),
+  (fills_by_values (rule_of 0 1) refl, (fills_by_flag (rule_of 0 2) (omega arith), (fills_by_flag (rule_of 0 3) (omega arith), (fills_by_values (rule_of 0 4) refl, (fills_by_help (rule_of 0 5) refl, tt))))),
 )
 
 check_fills : FillAll (command_at 1).rules
@@ -158,7 +158,7 @@ entered_one : (rows : List Row) (b : Bool) → check_fault top rows b ≡ [] →
 entered_one rows true none = refl
 entered_one rows false none = absurd (some_fault MissingSubcommand [] none)
 
-module _ (words : List Text) (accepted : fault_of g4_app words ≡ []) (few : HasFewFiles words) where
+module _ (words : List Text) (accepted : fault_of g4_app words ≡ []) (few : HasFewFiles words) (one : HasOneOutput words) where
   parse_of : (rest : List Text) → subcommand_of g4_app words ≡ Some (codes "parse", rows_after (command_at 0).rules [] rest) → level_fault (command_at 0) [] nothing_held rest false [] ≡ [] → IsSomeCommand words
   parse_of rest given none =
       let rows = rows_after (command_at 0).rules [] rest in
@@ -167,7 +167,7 @@ module _ (words : List Text) (accepted : fault_of g4_app words ≡ []) (few : Ha
       let grammar = given_has_value (codes "grammar") rows level.0 there.0 in
       let start = given_has_value (codes "start") rows level.0 there.1 in
       let files = given_has_value (codes "files") rows level.0 there.2 in
-      let output = some_output rows in (
+      let output = some_output rows (λ a b. one (codes "parse") rows a b given) in (
         commands.Parse (record { grammar = grammar.first; start = start.first; output = output.0; files = files.first ∷ files.others }),
         record {
           accepted = accepted;

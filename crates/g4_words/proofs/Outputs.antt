@@ -1,12 +1,17 @@
 -- The flags that are given ask for one output.
 use Rattle.std.proofs.Common.{◌≡◌, ◌⊎◌, Bool, List, Option, Some, None, true, false, inl, inr, refl, sym, true≢false, ◌∙◌}
-use Rattle.std.specs.Prelude.{codes}
+use Rattle.std.specs.Prelude.{Err, codes}
 use Rattle.std.specs.Str.{bytes_eq}
 use Rattle.std.proofs.lemmas.Slice.Eq.{bytes_eq-Decides}
 use Rattle.clap.specs.Words.{Row, Text, one_of}
-use Rattle.g4_words.specs.Commands.{HasFlag, IsAskedFor, IsOutput}
+use Rattle.g4_words.specs.Commands.{Finds, HasFlag, IsAskedFor, IsOutput, IsParse}
 use Rattle.g4_words.specs.declared.command.Output.{Output}
 use Rattle.g4_words.specs.declared.command.Output.TheVariants as outputs
+use Rattle.g4_words.specs.declared.reading.WordsFault.{WordsFault}
+use Rattle.g4_words.specs.declared.reading.WordsFault.TheVariants.{Usage, NoMemory}
+
+events_are_not_tokens : outputs.Events ≡ outputs.Tokens → ⊥
+events_are_not_tokens same = cc
 
 module _ (rows : List Row) where
   -- flags ask for at most one output
@@ -18,32 +23,62 @@ module _ (rows : List Row) where
       by_asked (inl trees) (inr asked) = sym (p.only b asked)
       by_asked (inl trees) (inl others) = trees ∙ sym others
 
-  -- the events, where their flag is given
-  is_events : HasFlag (codes "events") rows → IsOutput rows outputs.Events
-  is_events given = record { only = only_events; asked = inr given }
+  -- the trees, where no flag is given
+  is_trees : (HasFlag (codes "events") rows → ⊥) → (HasFlag (codes "tokens") rows → ⊥) → IsOutput rows outputs.Trees
+  is_trees no_events no_tokens = record { only = only_trees; asked = inl refl }
+    where
+      only_trees : (other : Output) → IsAskedFor rows other → other ≡ outputs.Trees
+      only_trees outputs.Trees asked = refl
+      only_trees outputs.Events asked = absurd (no_events asked)
+      only_trees outputs.Tokens asked = absurd (no_tokens asked)
+
+  -- the events, where their flag is given alone
+  is_events : HasFlag (codes "events") rows → (HasFlag (codes "tokens") rows → ⊥) → IsOutput rows outputs.Events
+  is_events given no_tokens = record { only = only_events; asked = inr given }
     where
       only_events : (other : Output) → IsAskedFor rows other → other ≡ outputs.Events
       only_events outputs.Trees asked = absurd asked
       only_events outputs.Events asked = refl
+      only_events outputs.Tokens asked = absurd (no_tokens asked)
 
-  -- the trees, where it is not
-  is_trees : (HasFlag (codes "events") rows → ⊥) → IsOutput rows outputs.Trees
-  is_trees missing = record { only = only_trees; asked = inl refl }
+  -- the tokens, where their flag is given alone
+  is_tokens : (HasFlag (codes "events") rows → ⊥) → HasFlag (codes "tokens") rows → IsOutput rows outputs.Tokens
+  is_tokens no_events given = record { only = only_tokens; asked = inr given }
     where
-      only_trees : (other : Output) → IsAskedFor rows other → other ≡ outputs.Trees
-      only_trees outputs.Trees asked = refl
-      only_trees outputs.Events asked = absurd (missing asked)
+      only_tokens : (other : Output) → IsAskedFor rows other → other ≡ outputs.Tokens
+      only_tokens outputs.Trees asked = absurd asked
+      only_tokens outputs.Events asked = absurd (no_events asked)
+      only_tokens outputs.Tokens asked = refl
 
-  by_value : (given : Option Text) → given ≡ one_of (codes "events") rows → (output : Output) × IsOutput rows output
-  by_value None is = (outputs.Trees, is_trees (λ asked. cc))
-  by_value (Some value) is = by_test (bytes_eq value (codes "true")) refl
+  -- no output, where both flags are given
+  pub not_both : HasFlag (codes "events") rows → HasFlag (codes "tokens") rows → (output : Output) → IsOutput rows output → ⊥
+  not_both events tokens output is = events_are_not_tokens (is.only outputs.Events events ∙ sym (is.only outputs.Tokens tokens))
+
+  -- values that ask for no output are those of no `parse`
+  pub no_parse : (fault : WordsFault) → Finds (IsOutput rows) (Err fault) → Finds (IsParse rows) (Err fault)
+  no_parse Usage none = λ parse is. none parse.output is.output
+  no_parse NoMemory none = tt
+
+  -- a flag is given or not
+  has_or_not : (name : Text) → HasFlag name rows ⊎ (HasFlag name rows → ⊥)
+  has_or_not name = by_value (one_of name rows) refl
     where
-      by_test : (same : Bool) → bytes_eq value (codes "true") ≡ same → (output : Output) × IsOutput rows output
-      by_test true same = (outputs.Events, is_events (cc ((bytes_eq-Decides value (codes "true")).0 same)))
-      by_test false same =
-          let is_not_true : value ≡ codes "true" → ⊥ = λ is_true. true≢false (sym ((bytes_eq-Decides value (codes "true")).1 is_true) ∙ same) in
-          (outputs.Trees, is_trees (λ asked. let is_true : value ≡ codes "true" = cc in is_not_true is_true))
+      by_value : (given : Option Text) → given ≡ one_of name rows → HasFlag name rows ⊎ (HasFlag name rows → ⊥)
+      by_value None is = inr (λ has. cc)
+      by_value (Some value) is = by_test (bytes_eq value (codes "true")) refl
+        where
+          by_test : (same : Bool) → bytes_eq value (codes "true") ≡ same → HasFlag name rows ⊎ (HasFlag name rows → ⊥)
+          by_test true same = inl (cc ((bytes_eq-Decides value (codes "true")).0 same))
+          by_test false same =
+              let is_not_true : value ≡ codes "true" → ⊥ = λ is_true. true≢false (sym ((bytes_eq-Decides value (codes "true")).1 is_true) ∙ same) in
+              inr (λ has. let is_true : value ≡ codes "true" = cc in is_not_true is_true)
 
-  -- the values that `clap` gives ask for some output
-  pub some_output : (output : Output) × IsOutput rows output
-  some_output = by_value (one_of (codes "events") rows) refl
+  -- flags that ask for no more than one output ask for some
+  pub some_output : ((a b : Output) → IsAskedFor rows a → IsAskedFor rows b → a ≡ b) → (output : Output) × IsOutput rows output
+  some_output one = by_flags (has_or_not (codes "events")) (has_or_not (codes "tokens"))
+    where
+      by_flags : (HasFlag (codes "events") rows ⊎ (HasFlag (codes "events") rows → ⊥)) → (HasFlag (codes "tokens") rows ⊎ (HasFlag (codes "tokens") rows → ⊥)) → (output : Output) × IsOutput rows output
+      by_flags (inl events) (inl tokens) = absurd (events_are_not_tokens (one outputs.Events outputs.Tokens events tokens))
+      by_flags (inl events) (inr no_tokens) = (outputs.Events, is_events events no_tokens)
+      by_flags (inr no_events) (inl tokens) = (outputs.Tokens, is_tokens no_events tokens)
+      by_flags (inr no_events) (inr no_tokens) = (outputs.Trees, is_trees no_events no_tokens)

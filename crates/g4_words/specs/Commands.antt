@@ -22,8 +22,9 @@ HasFlag name rows = one_of name rows ≡ Some (codes "true")
 abbrev pub IsAskedFor : List Row → Output → Type 0
 IsAskedFor rows outputs.Trees = ⊥
 IsAskedFor rows outputs.Events = HasFlag (codes "events") rows
+IsAskedFor rows outputs.Tokens = HasFlag (codes "tokens") rows
 
--- the output is the only one that a flag asks for, or the trees where no flag asks for any
+-- the output is the only one that a flag asks for, or the trees where no flag asks for any; where flags ask for several there is none
 pub record IsOutput (rows : List Row) (output : Output) : Type 0 where
   pub only : (other : Output) → IsAskedFor rows other → other ≡ output
   pub asked : (output ≡ outputs.Trees) ⊎ IsAskedFor rows output
@@ -62,6 +63,10 @@ pub record IsCommand (words : List Text) (command : Command) : Type 0 where
 -- the words have no more files than are allowed
 abbrev pub HasFewFiles : List Text → Type 0
 HasFewFiles words = (name : Text) (rows : List Row) (files : List Text) → subcommand_of g4_app words ≡ Some (name, rows) → all_of (codes "files") rows ≡ Some files → length files ≤ MOST_FILES
+
+-- the flags of the words ask for no more than one output
+abbrev pub HasOneOutput : List Text → Type 0
+HasOneOutput words = (name : Text) (rows : List Row) (a b : Output) → subcommand_of g4_app words ≡ Some (name, rows) → IsAskedFor rows a → IsAskedFor rows b → a ≡ b
 
 -- the answer is a thing of this kind, or Usage where there is none, unless memory runs out
 abbrev pub Finds : {T : Type 0} → (T → Type 0) → Result T WordsFault → Type 0

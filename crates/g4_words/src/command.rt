@@ -11,9 +11,11 @@ pub enum Output {
     Trees,
     /// The events of its tree, in a line each.
     Events,
+    /// Its tokens, in a line each.
+    Tokens,
 }
 
-/// `parse -g GRAMMAR -s RULE [--events] FILE..`: parse files by a rule of a grammar.
+/// `parse -g GRAMMAR -s RULE [--events | --tokens] FILE..`: parse files by a rule of a grammar.
 #[derive(Drop)]
 pub struct Parse {
     /// The name of the grammar's file.

@@ -65,14 +65,15 @@ fn has_flag(values: &ArgMatches<'_>, name: &str) -> bool
     values.get_one::<bool>(name) == Some(true)
 }
 
-/// What the flags ask to be written.
-fn output_of(values: &ArgMatches<'_>) -> Output
-    ensures { IsOutput (rows_of (found_of values.now)) result }
+/// What is to be written: the trees, or what the one flag asks for. Both flags are Usage.
+fn output_of(values: &ArgMatches<'_>) -> Result<Output, WordsFault>
+    ensures { Finds (IsOutput (rows_of (found_of values.now))) result }
 {
-    if has_flag(values, "events") {
-        Output::Events
-    } else {
-        Output::Trees
+    match (has_flag(values, "events"), has_flag(values, "tokens")) {
+        (false, false) => Ok(Output::Trees),
+        (true, false) => Ok(Output::Events),
+        (false, true) => Ok(Output::Tokens),
+        (true, true) => Err(WordsFault::Usage),
     }
 }
 
@@ -101,10 +102,11 @@ fn read_parse(alloc: Global, values: &ArgMatches<'_>) -> Result<Parse, WordsFaul
     if files.len() > MOST_FILES {
         return Err(WordsFault::Usage);
     }
+    let output = output_of(values)?;
     Ok(Parse {
         grammar: Text::copy_of(alloc, grammar)?,
         start: Text::copy_of(alloc, start)?,
-        output: output_of(values),
+        output,
         files: copies_of(alloc, files)?,
     })
 }
@@ -150,7 +152,7 @@ fn read_named(alloc: Global, name: &str, values: &ArgMatches<'_>) -> Result<Comm
 /// The command that the words are. The program's own name is not among them.
 ///
 /// # Errors
-/// `Usage` where they are no command, as where they ask for help or have more than `MOST_FILES` files; `NoMemory` where
+/// `Usage` where they are no command, as where they ask for help, have more than `MOST_FILES` files or have both flags; `NoMemory` where
 /// memory runs out.
 pub fn read_words(alloc: Global, words: &[String]) -> Result<Command, WordsFault>
     ensures { Finds (IsCommand (map string_bytes words.now)) result }

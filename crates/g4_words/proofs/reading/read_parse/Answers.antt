@@ -1,0 +1,8 @@
+use Rattle.std.proofs.lemmas.Result.{err_from_is_err_and}
+use Rattle.g4_words.proofs.Outputs.{no_parse}
+use Rattle.g4_words.proofs.reading.read_parse.Goals as goal
+
+pub returns-in_err-output : goal.returns-in_err-output
+returns-in_err-output c =
+    let p = err_from_is_err_and c.from_residual.result c.from_residual.ensures.1 in
+    rw (p.1, p.2) (no_parse _ c.in_err-output.field-0.0 c.in_err-output.ensures)
