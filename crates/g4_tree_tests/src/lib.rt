@@ -10,6 +10,8 @@ mod level_parses;
 #[cfg(test)]
 mod parses;
 #[cfg(test)]
+mod token_lines;
+#[cfg(test)]
 mod tree_checks;
 #[cfg(test)]
 mod trees;
