@@ -15,11 +15,9 @@ use Rattle.g4_source.specs.declared.rule.Rule.{Rule}
 use Rattle.g4_source.specs.declared.rule.Rule.TheVariants as rules
 use Rattle.g4_source.specs.declared.rule.RuleAlternative.{RuleAlternative}
 use Rattle.g4_source.specs.declared.rule.LexerAlternative.{LexerAlternative}
-use Rattle.g4_source.specs.declared.rule.Command.{Command}
 use Rattle.g4_source.specs.declared.source.GrammarKind.{GrammarKind}
 use Rattle.g4_source.specs.declared.source.GrammarKind.TheVariants as grammars
 use Rattle.g4_source.specs.declared.source.Source.{Source}
-use Rattle.g4_source.specs.Rules.{is_skip}
 use Rattle.g4_rules.specs.declared.kind.RuleKind.{RuleKind}
 use Rattle.g4_rules.specs.declared.kind.RuleKind.TheVariants.{Parser, Lexer}
 
@@ -74,13 +72,9 @@ either_forms kind xs = flat_map (atom_forms kind) (atoms_of_either xs)
 abbrev pub parser_alternative_forms : RuleAlternative Atom → List Form
 parser_alternative_forms alternative = elements_forms Parser alternative.elements
 
--- a command
-abbrev pub command_forms : Command → List Form
-command_forms command = cond (is_skip command) [] (named command.name)
-
--- an alternative of a lexer rule: its elements and its commands
+-- an alternative of a lexer rule: its elements; all commands are run
 abbrev pub lexer_alternative_forms : LexerAlternative → List Form
-lexer_alternative_forms alternative = elements_forms Lexer alternative.elements ++ flat_map command_forms alternative.commands
+lexer_alternative_forms alternative = elements_forms Lexer alternative.elements
 
 -- a rule
 abbrev pub rule_forms : Rule → List Form
@@ -96,7 +90,7 @@ abbrev pub prequel_forms : Prequel → List Form
 prequel_forms (Options settings) = flat_map setting_forms settings
 prequel_forms (Import place names) = one_form place (codes "import")
 prequel_forms (Tokens place names) = one_form place (codes "tokens")
-prequel_forms (Channels place names) = one_form place (codes "channels")
+prequel_forms (Channels place names) = []
 
 -- the first word of a grammar of rules of one kind
 abbrev pub kind_forms : Place → GrammarKind → List Form

@@ -48,7 +48,7 @@ fn check_prequel(alloc: Global, prequel: &Prequel) -> Result<(), FormFault>
         Prequel::Options(settings) => check_settings(alloc, settings.as_slice()),
         Prequel::Import(place, _) => refuse(alloc, *place, "import"),
         Prequel::Tokens(place, _) => refuse(alloc, *place, "tokens"),
-        Prequel::Channels(place, _) => refuse(alloc, *place, "channels"),
+        Prequel::Channels(_, _) => Ok(()),
     }
 }
 

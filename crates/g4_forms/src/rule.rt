@@ -1,12 +1,12 @@
 // The forms of rules that are not run.
 ghost use Rattle.std.specs.List.{flat_map};
-ghost use Rattle.g4_forms.specs.Forms.{command_forms, lexer_alternative_forms, parser_alternative_forms, rule_forms};
+ghost use Rattle.g4_forms.specs.Forms.{lexer_alternative_forms, parser_alternative_forms, rule_forms};
 ghost use Rattle.g4_forms.specs.Answers.{AreRun};
 
 use crate::element::check_elements;
 use crate::fault::{FormFault, refuse};
 use g4_rules::RuleKind;
-use g4_source::{Atom, Command, LexerAlternative, Rule, RuleAlternative};
+use g4_source::{Atom, LexerAlternative, Rule, RuleAlternative};
 use std::alloc::Global;
 
 /// Looks at an alternative of a parser rule.
@@ -29,32 +29,11 @@ fn check_parser(alloc: Global, alternatives: &[RuleAlternative<Atom>]) -> Result
     Ok(())
 }
 
-/// Looks at a command.
-fn check_command(alloc: Global, command: &Command) -> Result<(), FormFault>
-    ensures { AreRun (command_forms command.now) result }
-{
-    if command.is_skip() {
-        return Ok(());
-    }
-    refuse(alloc, command.name.place, command.name.text.as_str())
-}
-
-/// Looks at the commands of an alternative.
-fn check_commands(alloc: Global, commands: &[Command]) -> Result<(), FormFault>
-    ensures { AreRun (flat_map command_forms commands.now) result }
-{
-    for command in commands {
-        check_command(alloc, command)?;
-    }
-    Ok(())
-}
-
 /// Looks at an alternative of a lexer rule.
 fn check_lexer_alternative(alloc: Global, alternative: &LexerAlternative) -> Result<(), FormFault>
     ensures { AreRun (lexer_alternative_forms alternative.now) result }
 {
-    check_elements(alloc, RuleKind::Lexer, alternative.elements.as_slice())?;
-    check_commands(alloc, alternative.commands.as_slice())
+    check_elements(alloc, RuleKind::Lexer, alternative.elements.as_slice())
 }
 
 /// Looks at the alternatives of a lexer rule.

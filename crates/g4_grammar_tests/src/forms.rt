@@ -268,15 +268,14 @@ const LEXER: &[(bool, &[(&str, &str, &str)], &[&str], bool, &str)] = &[
         false,
         "22 {p}",
     ),
-    (false, &[("", "EOF", "")], &["more"], false, "98 more"),
+    (false, &[("", "EOF", "")], &["more"], false, "run"),
     (
         false,
         &[("", "'a'", "")],
         &["skip", "more", "type"],
-        false,
-        "98 more",
+        true,
+        "run",
     ),
-    (false, &[("", "'a'", "")], &["skip"], true, "98 skip"),
 ];
 
 #[test]
@@ -317,11 +316,8 @@ const BEFORE: &[(GrammarKind, [&str; 2], &str)] = &[
     ),
     (GrammarKind::Combined, ["import", "tokenVocab"], "5 import"),
     (GrammarKind::Combined, ["tokens", "channels"], "5 tokens"),
-    (
-        GrammarKind::Combined,
-        ["language", "channels"],
-        "6 channels",
-    ),
+    (GrammarKind::Combined, ["language", "channels"], "run"),
+    (GrammarKind::Combined, ["channels", "import"], "6 import"),
     (GrammarKind::Lexer, ["import", "language"], "0 lexer"),
     (GrammarKind::Parser, ["language", "language"], "0 parser"),
 ];

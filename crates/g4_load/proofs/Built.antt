@@ -26,6 +26,7 @@ use Rattle.g4_layout.specs.Rules.{rule_number}
 use Rattle.g4_symbols.specs.Symbols.{eof}
 use Rattle.g4_grammar.specs.declared.numbered.Numbered.{Numbered}
 use Rattle.g4_grammar.specs.declared.numbered.NumberedAtom.{NumberedAtom}
+use Rattle.g4_grammar.specs.declared.numbered.TokenName.{TokenName}
 use Rattle.g4_net.specs.Network.{ParserNetwork}
 use Rattle.g4_resolve.specs.Resolving.{resolved_rule}
 use Rattle.g4_build.specs.Answers.{GivesNetwork}
@@ -44,11 +45,13 @@ use Rattle.g4_source.specs.Blocks.{HaveAlternatives, LexerRulesAreFull, ModesAre
 use Rattle.g4_rules.specs.Rules.{rules_of}
 use Rattle.g4_grammar.specs.Written.{RulesAreDefined, RulesCanRun}
 use Rattle.g4_symbols.specs.declared.symbol.TheConstants.{MOST_TYPES}
+use Rattle.g4_commands.specs.Tables.{tables_of}
+use Rattle.g4_commands.specs.declared.tables.CommandTables.{CommandTables}
 use Rattle.g4_lexrules.specs.Rules.{IsLexerRulesOf}
 use Rattle.g4_lexrules.specs.declared.lexer_rules.LexerRules.{LexerRules}
 use Rattle.g4_lexrules.proofs.Checked.{can_be_lexed}
 use Rattle.g4_load.specs.Lexers.{CanBeMade, GivesLexer}
-use Rattle.g4_load.specs.Loading.{Fetches, IsGrammarIn, Checks, Numbers, Loads, lexer_of, loaded_of}
+use Rattle.g4_load.specs.Loading.{Fetches, IsGrammarIn, Checks, Numbers, Loads, rules_of_lexer, loaded_of}
 use Rattle.g4_load.specs.declared.loading.Loaded.{Loaded}
 use Rattle.g4_load.specs.Building.{names_of, steps_of, laid_of, GivesRewritten, Lays, FromGrammar}
 use Rattle.g4_load.specs.declared.interpreter.Laid.{Laid}
@@ -110,15 +113,15 @@ module _ (start : List ℕ) (grammar : Loaded) where
 
   -- the grammar and its network
   pub laid : (kept : List StepRule) (net : ParserNetwork) (names : List (List ℕ)) → kept ≡ steps_of grammar → GivesRewritten start grammar (Ok net) → names ≡ names_of grammar →
-      Lays start grammar (Ok (record { names = names; rules = kept; shown = grammar.shown; lexer = grammar.lexer; net = net }))
+      Lays start grammar (Ok (record { names = names; rules = kept; shown = grammar.shown; lexer = grammar.lexer; tables = grammar.tables; net = net }))
   laid kept net names same built named =
-      goes_on net (Ok (record { names = names; rules = kept; shown = grammar.shown; lexer = grammar.lexer; net = net })) built
-      (ap (λ (n : List (List ℕ)). Ok (record { names = n; rules = kept; shown = grammar.shown; lexer = grammar.lexer; net = net })) named
-      ∙ ap (λ (rs : List StepRule). Ok (record { names = names_of grammar; rules = rs; shown = grammar.shown; lexer = grammar.lexer; net = net })) same)
+      goes_on net (Ok (record { names = names; rules = kept; shown = grammar.shown; lexer = grammar.lexer; tables = grammar.tables; net = net })) built
+      (ap (λ (n : List (List ℕ)). Ok (record { names = n; rules = kept; shown = grammar.shown; lexer = grammar.lexer; tables = grammar.tables; net = net })) named
+      ∙ ap (λ (rs : List StepRule). Ok (record { names = names_of grammar; rules = rs; shown = grammar.shown; lexer = grammar.lexer; tables = grammar.tables; net = net })) same)
 
   -- it can be parsed with, and its lexer made
   pub sound : CanBeBuilt grammar → (steps kept made : List StepRule) (numbers : List Numbering) (net : ParserNetwork) (names : List (List ℕ)) → kept ≡ steps → CanBeRewritten steps → made ≡ rewritten steps → numbers ≡ numberings steps →
-      GivesNetwork made numbers start (Ok net) → IsSound (record { names = names; rules = kept; shown = grammar.shown; lexer = grammar.lexer; net = net })
+      GivesNetwork made numbers start (Ok net) → IsSound (record { names = names; rules = kept; shown = grammar.shown; lexer = grammar.lexer; tables = grammar.tables; net = net })
   sound can steps kept made numbers net names same rewritable laid numbered built =
       let here : IsBuilt (eof ∷ []) (rewritten steps) (numberings steps) start net =
       subst (λ (ns : List Numbering). IsBuilt (eof ∷ []) (rewritten steps) ns start net) numbered (subst (λ (ms : List StepRule). IsBuilt (eof ∷ []) ms numbers start net) laid built) in record {
@@ -131,18 +134,23 @@ module _ (start : List ℕ) (grammar : Loaded) where
       }
 
 -- the rules of a source's lexer
-lexer_is : (source : Source) (made : LexerRules) → IsLexerRulesOf source made → made ≡ lexer_of source
+lexer_is : (source : Source) (made : LexerRules) → IsLexerRulesOf source made → made ≡ rules_of_lexer source
 lexer_is source made are = rw (are.literals, are.modes, are.types) refl
 
 -- so they can be made a lexer of, where the source is checked
 pub can_be_made : (source : Source) (made : LexerRules) → IsLexerRulesOf source made → HaveAlternatives source → RulesAreDefined (rules_of source) → RulesCanRun (rules_of source) → LexerRulesAreFull made.literals × ModesAreFull made.modes →
-    All (λ type. type ≤ MOST_TYPES) made.types → CanBeMade made
-can_be_made source made are have defined can full low = record {
+    All (λ type. type ≤ MOST_TYPES) made.types → (tables : CommandTables) → All (λ name. name.symbol ≤ MOST_TYPES) tables.types → CanBeMade made tables
+can_be_made source made are have defined can full low tables named = record {
   literals = full.0;
   modes = full.1;
   lexed = can_be_lexed source made are have defined can;
   types = low;
+  named = named;
 }
+
+-- the names of types that commands can take are those of the numbered grammar
+pub named_low : (source : Source) (names : List TokenName) → (tables : CommandTables) → tables ≡ tables_of source names → All (λ name. name.symbol ≤ MOST_TYPES) names → All (λ name. name.symbol ≤ MOST_TYPES) tables.types
+named_low source names tables are low = subst (λ (t : CommandTables). All (λ name. name.symbol ≤ MOST_TYPES) t.types) (sym are) low
 
 -- a stage that stops, stops what follows it
 pub stage_stops : {X Y : Type 0} (Stage : Result X GrammarFault → Type 0) (Second : X → Result Y GrammarFault → Type 0) (error : CheckError) → IsErrorOf Stage error → IsErrorOf (Then Stage Second) error
@@ -150,7 +158,7 @@ stage_stops Stage Second (errors.Fault fault) h = stops fault h
 stage_stops Stage Second errors.NoMemory h = tt
 
 -- a lexer with too many states
-pub lexer_exit : (start : List ℕ) (grammar : Loaded) (laid : Laid) (e : CheckError) → Lays start grammar (Ok laid) → IsErrorOf (GivesLexer laid.lexer) e → IsErrorOf (FromGrammar start grammar) e
+pub lexer_exit : (start : List ℕ) (grammar : Loaded) (laid : Laid) (e : CheckError) → Lays start grammar (Ok laid) → IsErrorOf (GivesLexer laid.lexer laid.tables) e → IsErrorOf (FromGrammar start grammar) e
 lexer_exit start grammar laid (errors.Fault fault) is h = goes_on laid (Err fault) is (stops fault h)
 lexer_exit start grammar laid errors.NoMemory is h = tt
 
@@ -199,10 +207,13 @@ module _ (bytes : List ℕ) where
           check_exit e is = error_within (Checks source grammar) (IsGrammarIn bytes) after_numbers (of_check e) (stage_exit (IsChecked source) of_check (λ _ result. result ≡ Ok (loaded_of source grammar)) e is)
 
           -- a grammar without fault
-          pub checked : IsChecked source (Ok tt) → (lexer : LexerRules) → IsLexerRulesOf source lexer → IsGrammarIn bytes (Ok (record { rules = grammar.rules; shown = grammar.shown; lexer = lexer }))
-          checked is lexer are =
-              after_numbers (Ok (record { rules = grammar.rules; shown = grammar.shown; lexer = lexer })) (goes_on tt (Ok (record { rules = grammar.rules; shown = grammar.shown; lexer = lexer })) is
-              (ap (λ (l : LexerRules). Ok (record { rules = grammar.rules; shown = grammar.shown; lexer = l })) (lexer_is source lexer are)))
+          pub checked : IsChecked source (Ok tt) → (tables : CommandTables) → tables ≡ tables_of source grammar.names → (lexer : LexerRules) → IsLexerRulesOf source lexer →
+              IsGrammarIn bytes (Ok (record { rules = grammar.rules; shown = grammar.shown; lexer = lexer; tables = tables }))
+          checked is tables named lexer are =
+              after_numbers (Ok (record { rules = grammar.rules; shown = grammar.shown; lexer = lexer; tables = tables }))
+              (goes_on tt (Ok (record { rules = grammar.rules; shown = grammar.shown; lexer = lexer; tables = tables })) is
+              (ap (λ (l : LexerRules). Ok (record { rules = grammar.rules; shown = grammar.shown; lexer = l; tables = tables })) (lexer_is source lexer are)
+              ∙ ap (λ (t : CommandTables). Ok (record { rules = grammar.rules; shown = grammar.shown; lexer = rules_of_lexer source; tables = t })) named))
 
 -- what a stage over the grammar of one file gives of a command line
 abbrev pub of_one : {X : Type 0} → List ℕ → Result X GrammarFault → Result X Stop

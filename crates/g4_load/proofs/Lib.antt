@@ -1,6 +1,12 @@
 mod Built
+mod CarriedOut
 mod LexerMade
 mod Kept
+mod KnownCommands
 mod Fetched
+mod NoModes
 pub mod OneBuilt
 pub mod OneStage
+mod Stages
+mod TokenNames
+mod WrittenCommands

@@ -30,6 +30,7 @@ use Rattle.g4_build.specs.declared.builder.BuildFault.TheVariants as building
 use Rattle.g4_layout.proofs.OneNetwork.{one_network}
 use Rattle.g4_lexnet.proofs.Laws.{one_lex_net}
 use Rattle.g4_lexnet.specs.declared.lex_net.LexNet.{LexNet}
+use Rattle.g4_commands.specs.declared.tables.CommandTables.{CommandTables}
 use Rattle.g4_lexrules.specs.declared.lexer_rules.LexerRules.{LexerRules}
 use Rattle.g4_load.specs.Faults.{of_read, of_form, of_name, of_number, of_check, of_build}
 use Rattle.g4_load.specs.Stages.{Gives, Then, stops, goes_on, OfFile}
@@ -38,12 +39,12 @@ use Rattle.g4_load.specs.declared.fault.GrammarFault.{GrammarFault}
 use Rattle.g4_load.specs.declared.stop.Stop.{Stop}
 use Rattle.g4_load.specs.declared.stop.Stop.TheVariants as stopping
 use Rattle.g4_load.specs.Building.{steps_of, laid_of, interpreter_of, Lays, HasLexer, FromGrammar, Builds, GivesRewritten}
-use Rattle.g4_load.specs.Lexers.{GivesLexer, lexer_of}
+use Rattle.g4_load.specs.Lexers.{GivesLexer, lexer_with}
 use Rattle.g4_load.specs.declared.interpreter.Laid.{Laid}
 use Rattle.g4_load.specs.declared.loading.Loaded.{Loaded}
 use Rattle.g4_load.specs.Listing.{IsStartRule, ListsStart, FromRule, Lists}
 use Rattle.g4_load.specs.Files.{Files}
-use Rattle.g4_load.specs.Loading.{Fetches, absent, too_large, there, Checks, Numbers, Loads, loaded_of}
+use Rattle.g4_load.specs.Loading.{Fetches, absent, too_large, there, Checks, Numbers, Reads, Loads, loaded_of}
 use Rattle.g4_load.proofs.OneStage.{IsSingle, IsSingleBeside, one_gift, one_then, one_of_file}
 
 -- a source has at most one numbering
@@ -97,15 +98,15 @@ one_laid start grammar =
     (one_gift (GivesRewritten start grammar) (of_build start) building.NoMemory refl (one_build (rewritten (steps_of grammar)) (numberings (steps_of grammar)) start)) (λ net a b p q. p ∙ sym q)
 
 -- the rules of a lexer give at most one lexer
-one_lexer : (rules : LexerRules) → IsSingle (GivesLexer rules)
-one_lexer rules (Ok a) (Ok b) p q = ap (λ x. Ok x) (p.2 ∙ ap (λ (m : LexNet). lexer_of m rules.types) (one_lex_net rules.literals rules.modes p.0 q.0 p.1 q.1) ∙ sym q.2)
-one_lexer rules (Ok a) (Err g) p q = absurd (omega (arith, p.1.fits, q.0))
-one_lexer rules (Err f) (Ok b) p q = absurd (omega (arith, q.1.fits, p.0))
-one_lexer rules (Err f) (Err g) p q = ap (λ x. Err x) (p.1 ∙ sym q.1)
+one_lexer : (rules : LexerRules) (tables : CommandTables) → IsSingle (GivesLexer rules tables)
+one_lexer rules tables (Ok a) (Ok b) p q = ap (λ x. Ok x) (p.2 ∙ ap (λ (m : LexNet). lexer_with m rules.types tables) (one_lex_net rules.literals rules.modes p.0 q.0 p.1 q.1) ∙ sym q.2)
+one_lexer rules tables (Ok a) (Err g) p q = absurd (omega (arith, p.1.fits, q.0))
+one_lexer rules tables (Err f) (Ok b) p q = absurd (omega (arith, q.1.fits, p.0))
+one_lexer rules tables (Err f) (Err g) p q = ap (λ x. Err x) (p.1 ∙ sym q.1)
 
 -- a network goes with at most one lexer
 one_with_lexer : (laid : Laid) → IsSingle (HasLexer laid)
-one_with_lexer laid = one_then (GivesLexer laid.lexer) (λ lexer result. result ≡ Ok (interpreter_of laid lexer)) (one_lexer laid.lexer) (λ lexer a b p q. p ∙ sym q)
+one_with_lexer laid = one_then (GivesLexer laid.lexer laid.tables) (λ lexer result. result ≡ Ok (interpreter_of laid lexer)) (one_lexer laid.lexer laid.tables) (λ lexer a b p q. p ∙ sym q)
 
 -- a grammar gives at most one thing to parse with
 one_from_grammar : (start : List ℕ) (grammar : Loaded) → IsSingle (FromGrammar start grammar)
@@ -170,6 +171,10 @@ module _ (files : Files) (name : List ℕ) where
 
   one_reads : IsSingle ReadsAny
   one_reads = one_then (Fetches files name) AfterFetch one_fetch (λ bytes. one_of_file name (Gives (IsReading bytes) of_read) (one_gift (IsReading bytes) of_read reading.NoMemory refl (one_reading bytes)))
+
+  -- a file is at most one source, or stops at most one way
+  pub one_read : (f g : List (List ℕ)) (a b : Result Source Stop) → Reads files name f a → Reads files name g b → a ≡ b
+  one_read f g a b p q = one_reads a b p.1 q.1
 
   abbrev LoadsAny : Result Loaded Stop → Type 0
   LoadsAny = Then ReadsAny (λ source. OfFile name (Numbers source))

@@ -28,7 +28,7 @@ steps_of grammar = map (resolved_rule (names_of grammar) []) grammar.rules
 
 -- a grammar with its rules and their network
 abbrev pub laid_of : Loaded → ParserNetwork → Laid
-laid_of grammar net = record { names = names_of grammar; rules = steps_of grammar; shown = grammar.shown; lexer = grammar.lexer; net = net }
+laid_of grammar net = record { names = names_of grammar; rules = steps_of grammar; shown = grammar.shown; lexer = grammar.lexer; tables = grammar.tables; net = net }
 
 -- the same with its lexer
 abbrev pub interpreter_of : Laid → Lexer → Interpreter
@@ -44,7 +44,7 @@ Lays start grammar = Then (Gives (GivesRewritten start grammar) (of_build start)
 
 -- the same with its lexer, whose network has no more than 65,536 states, or that it would have more
 abbrev pub HasLexer : Laid → Result Interpreter GrammarFault → Type 0
-HasLexer laid = Then (GivesLexer laid.lexer) (λ lexer result. result ≡ Ok (interpreter_of laid lexer))
+HasLexer laid = Then (GivesLexer laid.lexer laid.tables) (λ lexer result. result ≡ Ok (interpreter_of laid lexer))
 
 -- a grammar with both networks, the parser's from the start rule, or the first fault of them
 abbrev pub FromGrammar : List ℕ → Loaded → Result Interpreter GrammarFault → Type 0

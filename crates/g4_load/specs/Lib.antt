@@ -1,4 +1,5 @@
 pub mod Building
+pub mod Commands
 pub mod Counting
 pub mod Faults
 pub mod Files

@@ -9,6 +9,7 @@ use Rattle.g4_vocab.specs.Names.{HasOwnNames}
 use Rattle.g4_vocab.specs.Answers.{GivesNumbered}
 use Rattle.g4_checks.specs.Checking.{IsChecked}
 use Rattle.g4_base.specs.declared.limits.TheConstants.{MOST_BYTES}
+use Rattle.g4_commands.specs.Tables.{tables_of}
 use Rattle.g4_lexrules.specs.Rules.{lexer_modes, types_of_rules, literal_tokens, rule_of_token}
 use Rattle.g4_lexrules.specs.declared.lexer_rules.LexerRules.{LexerRules}
 use Rattle.g4_load.specs.declared.loading.Loaded.{Loaded}
@@ -30,12 +31,12 @@ abbrev pub Reads : Files → List ℕ → List (List ℕ) → Result Source Stop
 Reads files name fetched result = (fetched ≡ name ∷ []) × Then (Fetches files name) (λ bytes. OfFile name (Gives (IsReading bytes) of_read)) result
 
 -- the rules of the lexer of a source: of the literals that have tokens of their own, of all modes, and the type of each
-abbrev pub lexer_of : Source → LexerRules
-lexer_of source = record { literals = map rule_of_token (literal_tokens source); modes = lexer_modes source; types = types_of_rules source }
+abbrev pub rules_of_lexer : Source → LexerRules
+rules_of_lexer source = record { literals = map rule_of_token (literal_tokens source); modes = lexer_modes source; types = types_of_rules source }
 
 -- a source whose numbered grammar is this, as it is handed on
 abbrev pub loaded_of : Source → Numbered → Loaded
-loaded_of source grammar = record { rules = grammar.rules; shown = grammar.shown; lexer = lexer_of source }
+loaded_of source grammar = record { rules = grammar.rules; shown = grammar.shown; lexer = rules_of_lexer source; tables = tables_of source grammar.names }
 
 -- the grammar, where its rules have no fault
 abbrev pub Checks : Source → Numbered → Result Loaded GrammarFault → Type 0

@@ -25,7 +25,7 @@ pub record CanBeBuilt (grammar : Loaded) : Type 0 where
   pub untested : All NumberedRuleIsUntested grammar.rules
   pub defined : NumberedRulesAreDefined grammar.rules
   pub run : NumberedRulesCanRun grammar.rules
-  pub lexer : CanBeMade grammar.lexer
+  pub lexer : CanBeMade grammar.lexer grammar.tables
 
 -- Its rules can be rewritten, and its network is that of the rewritten rules from some start rule.
 pub record IsParsing (rules : List StepRule) (net : ParserNetwork) : Type 0 where
@@ -36,7 +36,7 @@ pub record IsParsing (rules : List StepRule) (net : ParserNetwork) : Type 0 wher
 -- A grammar with its network can be parsed with, and its lexer's rules can be lexed with.
 pub record IsSound (laid : Laid) : Type 0 where
   pub parsing : IsParsing laid.rules laid.net
-  pub lexer : CanBeMade laid.lexer
+  pub lexer : CanBeMade laid.lexer laid.tables
 
 -- Its network can be parsed with, and its lexer can be lexed with and gives token types.
 pub record IsUsable (interpreter : Interpreter) : Type 0 where

@@ -13,6 +13,7 @@ use crate::loading::{Loaded, load};
 use crate::stop::{Halt, fault_of};
 use g4_base::{Sequence, Text};
 use g4_build::build;
+use g4_commands::CommandTables;
 use g4_grammar::{NumberedAtom, StepRule};
 use g4_leftrec::rewrite;
 use g4_lexing::Lexer;
@@ -44,6 +45,8 @@ pub(crate) struct Laid {
     pub shown: Sequence<Text>,
     /// The rules of the lexer with their token types.
     pub lexer: LexerRules,
+    /// What the commands of these rules name.
+    pub tables: CommandTables,
     pub net: ParserNetwork,
 }
 
@@ -68,6 +71,7 @@ pub(crate) fn lay(alloc: Global, grammar: Loaded, start: &str) -> Result<Laid, C
         rules,
         shown,
         lexer,
+        tables,
     } = grammar;
     let names = names_of(alloc, rules.as_slice())?;
     let stage = Resolving {
@@ -92,6 +96,7 @@ pub(crate) fn lay(alloc: Global, grammar: Loaded, start: &str) -> Result<Laid, C
         rules: Sequence::new(kept),
         shown,
         lexer,
+        tables,
         net,
     })
 }
@@ -108,9 +113,10 @@ fn interpret(alloc: Global, grammar: Loaded, start: &str) -> Result<Interpreter,
         rules,
         shown,
         lexer,
+        tables,
         net,
     } = laid;
-    let lexer = make_lexer(alloc, lexer)?;
+    let lexer = make_lexer(alloc, lexer, &tables)?;
     Ok(Interpreter {
         names,
         rules,

@@ -1,12 +1,17 @@
 // What holds of all grammars in files.
-ghost use Rattle.std.specs.Prelude.{◌≡◌, ℕ, List, Result};
+ghost use Rattle.std.specs.Prelude.{◌≡◌, ℕ, All, List, Ok, Result};
+ghost use Rattle.g4_references.specs.Checking.{commands_in};
+ghost use Rattle.g4_source.specs.declared.source.Source.{Source};
 ghost use Rattle.g4_load.specs.Building.{Builds};
+ghost use Rattle.g4_load.specs.Commands.{CarriesOutAll, IsCarriedOut};
 ghost use Rattle.g4_load.specs.Files.{Files};
 ghost use Rattle.g4_load.specs.Listing.{Lists};
-ghost use Rattle.g4_load.specs.Loading.{Loads};
+ghost use Rattle.g4_load.specs.Loading.{Loads, Reads};
 ghost use Rattle.g4_load.specs.declared.interpreter.Interpreter.{Interpreter as Made};
 ghost use Rattle.g4_load.specs.declared.loading.Loaded.{Loaded as Grammar};
 ghost use Rattle.g4_load.specs.declared.stop.Stop.{Stop};
+
+use g4_commands::known_commands_are_carried_out;
 
 /// A file is loaded in at most one way, or stops a command line in at most one way.
 pub fn one_loaded()
@@ -22,3 +27,13 @@ pub fn one_built()
 pub fn one_listed()
     ensures { (files : Files) (name rule : List ℕ) (f g : List (List ℕ)) (a b : Result (List ℕ) Stop) → Lists files name rule f a → Lists files name rule g b → a ≡ b }
 {}
+
+/// Each command of the lexer rules of a grammar that is loaded is carried out. The lexer of an interpreter has what each of them does,
+/// in order, so none is passed over.
+pub fn commands_are_carried_out()
+    ensures each { (files : Files) (name : List ℕ) (f g : List (List ℕ)) (source : Source) (grammar : Grammar) → Reads files name f (Ok source) → Loads files name g (Ok grammar) → All (IsCarriedOut grammar) (commands_in source) }
+    ensures all { (files : Files) (name start : List ℕ) (f g : List (List ℕ)) (grammar : Grammar) (made : Made) → Loads files name f (Ok grammar) → Builds files name start g (Ok made) → CarriesOutAll grammar made.lexer }
+{
+    // The checks before leave no command that is not known.
+    known_commands_are_carried_out();
+}

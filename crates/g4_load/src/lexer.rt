@@ -1,65 +1,30 @@
 // The lexer of a grammar: its network, and what is known of its rules.
-ghost use Rattle.std.specs.Prelude.{◌≡◌, IfOk, map};
-ghost use Rattle.std.specs.List.{flat_map};
-ghost use Rattle.g4_lexing.specs.Lexers.{HasTokenTypes};
-ghost use Rattle.g4_load.specs.Lexers.{CanBeMade, GivesLexer, command_of, lexer_of};
+ghost use Rattle.std.specs.Prelude.{◌≡◌, ◌≤◌, All, IfOk};
+ghost use Rattle.g4_symbols.specs.declared.symbol.TheConstants.{MOST_TYPES};
+ghost use Rattle.g4_lexing.specs.Lexers.{GivesTokenType, HasTokenTypes};
+ghost use Rattle.g4_load.specs.Lexers.{CanBeMade, GivesLexer, lexer_with};
 ghost use Rattle.g4_load.specs.Stages.{IsAnswerOf};
 ghost use Rattle.g4_ordered.specs.Network.{IsLexable};
 
 use crate::fault::{CheckError, GrammarFault};
 use g4_base::Sequence;
-use g4_lexing::{Lexer, LexerCommand};
+use g4_commands::{CommandTables, lexer_commands};
+use g4_lexing::Lexer;
 use g4_lexnet::{LexFault, LexNet, build_lexer};
 use g4_lexrules::LexerRules;
-use g4_source::Command;
 use std::alloc::{AllocError, Global};
 
-/// The commands of an alternative, of which only `skip` is run yet.
-fn commands_of(alloc: Global, commands: &[Command]) -> Result<Sequence<LexerCommand>, AllocError>
-    ensures { IfOk result (λ made. made ≡ flat_map command_of commands.now) }
-{
-    let mut made = Vec::new(alloc);
-    for command in commands {
-        if command.is_skip() {
-            made.push(LexerCommand::Skip)?;
-        }
-    }
-    Ok(Sequence::new(made))
-}
-
-/// The same for each alternative of a rule.
-fn rule_commands_of(
+/// The lexer by a network, the token types of its rules, and what their commands name.
+fn lexer_with(
     alloc: Global,
-    alternatives: &[Sequence<Command>],
-) -> Result<Sequence<Sequence<LexerCommand>>, AllocError>
-    ensures { IfOk result (λ made. made ≡ map (flat_map command_of) alternatives.now) }
+    made: LexNet,
+    types: Sequence<u32>,
+    tables: &CommandTables,
+) -> Result<Lexer, AllocError>
+    ensures made { IfOk result (λ lexer. lexer ≡ lexer_with made types tables.now) }
+    ensures types { All (λ name. name.symbol ≤ MOST_TYPES) tables.now.types → IfOk result (λ lexer. All (All (All GivesTokenType)) lexer.commands) }
 {
-    let mut made = Vec::new(alloc);
-    for commands in alternatives {
-        made.push(commands_of(alloc, commands.as_slice())?)?;
-    }
-    Ok(Sequence::new(made))
-}
-
-/// The same for each rule.
-fn all_commands_of(
-    alloc: Global,
-    rules: &[Sequence<Sequence<Command>>],
-) -> Result<Sequence<Sequence<Sequence<LexerCommand>>>, AllocError>
-    ensures { IfOk result (λ made. made ≡ map (map (flat_map command_of)) rules.now) }
-{
-    let mut made = Vec::new(alloc);
-    for alternatives in rules {
-        made.push(rule_commands_of(alloc, alternatives.as_slice())?)?;
-    }
-    Ok(Sequence::new(made))
-}
-
-/// The lexer by a network.
-fn lexer_by(alloc: Global, made: LexNet, types: Sequence<u32>) -> Result<Lexer, AllocError>
-    ensures { IfOk result (λ lexer. lexer ≡ lexer_of made types) }
-{
-    let commands = all_commands_of(alloc, made.commands.as_slice())?;
+    let commands = lexer_commands(alloc, tables, made.commands.as_slice())?;
     Ok(Lexer {
         net: made.net,
         modes: made.modes,
@@ -69,9 +34,13 @@ fn lexer_by(alloc: Global, made: LexNet, types: Sequence<u32>) -> Result<Lexer, 
 }
 
 /// The lexer of these rules, or that its network would have too many states.
-pub(crate) fn make_lexer(alloc: Global, rules: LexerRules) -> Result<Lexer, CheckError>
-    requires { CanBeMade rules }
-    ensures lexer { IsAnswerOf (GivesLexer rules) result }
+pub(crate) fn make_lexer(
+    alloc: Global,
+    rules: LexerRules,
+    tables: &CommandTables,
+) -> Result<Lexer, CheckError>
+    requires { CanBeMade rules tables.now }
+    ensures lexer { IsAnswerOf (GivesLexer rules tables.now) result }
     ensures lexable { IfOk result (λ lexer. IsLexable lexer.net) }
     ensures types { IfOk result HasTokenTypes }
 {
@@ -82,7 +51,7 @@ pub(crate) fn make_lexer(alloc: Global, rules: LexerRules) -> Result<Lexer, Chec
     } = rules;
     match build_lexer(alloc, literals.into_vec(), modes.into_vec()) {
         Ok(made) => {
-            let lexer = lexer_by(alloc, made, types)?;
+            let lexer = lexer_with(alloc, made, types, tables)?;
             Ok(lexer)
         }
         Err(LexFault::States) => Err(CheckError::Fault(GrammarFault::States)),

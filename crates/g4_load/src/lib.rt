@@ -12,7 +12,7 @@ mod stop;
 
 pub use fault::GrammarFault;
 pub use interpreter::{Interpreter, build_interpreter};
-pub use law::{one_built, one_listed, one_loaded};
+pub use law::{commands_are_carried_out, one_built, one_listed, one_loaded};
 pub use listing::list_named;
 pub use loading::{Loaded, load};
 pub use stop::{Halt, Stop};

@@ -10,6 +10,7 @@ use crate::fault::CheckError;
 use crate::stop::{Halt, Stop, fault_of};
 use g4_base::{MOST_BYTES, Octets, Sequence, Text};
 use g4_checks::check;
+use g4_commands::{CommandTables, tables_of};
 use g4_forms::check_forms;
 use g4_grammar::{Numbered, NumberedAtom};
 use g4_lexrules::{LexerRules, lexer_rules_of};
@@ -28,6 +29,8 @@ pub struct Loaded {
     pub shown: Sequence<Text>,
     /// The rules of the lexer with their token types.
     pub lexer: LexerRules,
+    /// What the commands of these rules name.
+    pub tables: CommandTables,
 }
 
 /// The bytes of a grammar file.
@@ -60,13 +63,16 @@ fn read_and_check(alloc: Global, bytes: &[u8]) -> Result<Loaded, CheckError>
     let Numbered {
         rules,
         shown,
+        names,
         token_rules,
     } = grammar;
+    let tables = tables_of(alloc, &source, names)?;
     let lexer = lexer_rules_of(alloc, source, token_rules)?;
     Ok(Loaded {
         rules,
         shown,
         lexer,
+        tables,
     })
 }
 

@@ -12,7 +12,7 @@ use Rattle.g4_trees.specs.TreeText.{tree_text}
 use Rattle.g4_parse.specs.declared.parser.ParseFault.{ParseFault}
 use Rattle.g4_parse.specs.declared.parser.ParseFault.TheVariants as parsing
 use Rattle.g4_parse.specs.Parsing.{IsParse}
-use Rattle.g4_tool.specs.Texts.{line_of_events, line_of_tree, mismatch_line, no_viable_line, failed_predicate_line, too_deep_line, no_token_line, empty_mode_stack_line, many_tokens_line, not_utf8_line, large_line}
+use Rattle.g4_tool.specs.Texts.{line_of_events, line_of_tokens, line_of_tree, mismatch_line, no_viable_line, failed_predicate_line, too_deep_line, no_token_line, empty_mode_stack_line, many_tokens_line, not_utf8_line, large_line}
 use Rattle.g4_tool.specs.declared.inputs.Input.{Input}
 use Rattle.g4_tool.specs.declared.inputs.Input.TheVariants as inputs
 use Rattle.g4_load.specs.declared.interpreter.Interpreter.{Interpreter}
@@ -20,7 +20,7 @@ use Rattle.g4_tool.specs.declared.outcome.Outcome.{Outcome}
 use Rattle.g4_tool.specs.declared.outcome.Outcome.TheVariants as outcomes
 use Rattle.g4_tool.specs.declared.files.Parsed.{Parsed}
 use Rattle.g4_words.specs.declared.command.Output.{Output}
-use Rattle.g4_words.specs.declared.command.Output.TheVariants.{Trees, Events}
+use Rattle.g4_words.specs.declared.command.Output.TheVariants as outputs
 use Rattle.g4_tool.specs.declared.write.Line.{Line}
 
 -- The outcome of an input: its size past the limit, the fault of its lexing, or the tree or the fault of the run over its tokens.
@@ -75,10 +75,12 @@ parse_lines interpreter name tokens (parsing.FailedPredicate at rule) = failed_p
 parse_lines interpreter name tokens (parsing.TooDeep at) = too_deep_line name tokens at ∷ []
 parse_lines interpreter name tokens parsing.NoMemory = []
 
--- what is written of the tree that has these items: its text in a line, or the lines of its events
-abbrev pub tree_line : Output → Interpreter → List ℕ → Tokens → List Item → Line
-tree_line Trees interpreter name tokens tree = line_of_tree name (tree_text interpreter.rules tokens tree)
-tree_line Events interpreter name tokens tree = line_of_events interpreter.rules tokens name (tree_events tree)
+-- what is written of a file with these tokens and the tree that has these items: the tree's text in a line, the lines of its
+-- events, or those of the tokens
+abbrev pub accepted_line : Output → Interpreter → List ℕ → Tokens → List Item → Line
+accepted_line outputs.Trees interpreter name tokens tree = line_of_tree name (tree_text interpreter.rules tokens tree)
+accepted_line outputs.Events interpreter name tokens tree = line_of_events interpreter.rules tokens name (tree_events tree)
+accepted_line outputs.Tokens interpreter name tokens tree = line_of_tokens interpreter.shown name tokens
 
 -- the items are those of a tree
 abbrev pub HasTree : List Item → Type 0
@@ -93,7 +95,7 @@ IsNested (outcomes.TooLarge size) = Unit {0}
 
 -- the lines of the outcome of a file of this name
 abbrev pub outcome_lines : Output → Interpreter → List ℕ → Outcome → List Line
-outcome_lines output interpreter name (outcomes.Tree tokens tree) = tree_line output interpreter name tokens tree ∷ []
+outcome_lines output interpreter name (outcomes.Tree tokens tree) = accepted_line output interpreter name tokens tree ∷ []
 outcome_lines output interpreter name (outcomes.Lex fault) = lex_lines name fault
 outcome_lines output interpreter name (outcomes.Parse tokens fault) = parse_lines interpreter name tokens fault
 outcome_lines output interpreter name (outcomes.TooLarge size) = large_line name size ∷ []

@@ -16,6 +16,7 @@ use Rattle.g4_grammar.specs.StepRules.{StepRule}
 use Rattle.g4_trees.specs.declared.events.Event.{Event}
 use Rattle.g4_trees.specs.Events.{event_lines}
 use Rattle.g4_trees.specs.TreeText.{text_at}
+use Rattle.g4_token_lines.specs.TokenLines.{token_lines}
 use Rattle.g4_tool.specs.declared.write.Line.{Line}
 use Rattle.g4_tool.specs.declared.write.Line.TheVariants.{ToOut, ToErr}
 
@@ -51,6 +52,10 @@ line_of_tree name tree = ToOut (((name ++ codes ": ") ++ tree) ++ codes "\n")
 -- the lines of events
 abbrev pub line_of_events : List StepRule → Tokens → List ℕ → List Event → Line
 line_of_events rules tokens name events = ToOut (event_lines rules tokens name events)
+
+-- the lines of all tokens
+abbrev pub line_of_tokens : List (List ℕ) → List ℕ → Tokens → Line
+line_of_tokens types name tokens = ToOut (token_lines types name tokens)
 
 -- the line of a token that a state does not take
 abbrev pub mismatch_line : List (List ℕ) → ParserNetwork → List ℕ → Tokens → ℕ → ℕ → Line

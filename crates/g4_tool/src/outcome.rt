@@ -3,9 +3,9 @@ ghost use Rattle.std.specs.Prelude.{◌≡◌, ◌≤◌, ◌<◌, ◌^◌, ◌+
 ghost use Rattle.g4_token_list.specs.TokenList.{EndsInEnd, word_of};
 ghost use Rattle.g4_trees.specs.Events.{tree_events};
 ghost use Rattle.g4_trees.specs.TreeText.{tree_text};
-ghost use Rattle.g4_tool.specs.Texts.{line_of_events, line_of_tree};
+ghost use Rattle.g4_tool.specs.Texts.{line_of_events, line_of_tokens, line_of_tree};
 ghost use Rattle.g4_tool.specs.Inputs.{IsSmall};
-ghost use Rattle.g4_tool.specs.Outcomes.{HasTree, IsNested, IsOutcome, is_accepted, lex_lines, lexing_refused, outcome_lines, parse_lines, tree_line, parsing_refused};
+ghost use Rattle.g4_tool.specs.Outcomes.{HasTree, IsNested, IsOutcome, accepted_line, is_accepted, lex_lines, lexing_refused, outcome_lines, parse_lines, parsing_refused};
 ghost use Rattle.g4_load.specs.Usable.{IsUsable};
 
 use crate::inputs::Input;
@@ -18,6 +18,7 @@ use g4_base::{MOST_BYTES, Octets, Sequence};
 use g4_lexing::{LexFault, tokens};
 use g4_load::Interpreter;
 use g4_parse::{ParseFault, parse};
+use g4_token_lines::push_token_lines;
 use g4_token_list::Tokens;
 use g4_trees::Tree;
 use g4_words::Output;
@@ -139,8 +140,22 @@ fn events_line(
     Ok(Line::ToOut(Sequence::new(lines)))
 }
 
-/// What is written of a tree.
-fn tree_line(
+/// The lines of the tokens of a file, as one.
+fn tokens_line(
+    alloc: Global,
+    interpreter: &Interpreter,
+    name: &str,
+    tokens: &Tokens,
+) -> Result<Line, AllocError>
+    ensures { IfOk result (λ line. line ≡ line_of_tokens interpreter.now.shown name.now tokens.now) }
+{
+    let mut lines = Vec::new(alloc);
+    push_token_lines(&mut lines, name, interpreter.shown.as_slice(), tokens)?;
+    Ok(Line::ToOut(Sequence::new(lines)))
+}
+
+/// What is written of an accepted file.
+fn accepted_line(
     alloc: Global,
     output: Output,
     interpreter: &Interpreter,
@@ -149,11 +164,12 @@ fn tree_line(
     tree: &Tree,
 ) -> Result<Line, AllocError>
     requires { HasTree tree.now }
-    ensures { IfOk result (λ line. line ≡ tree_line output interpreter.now name.now tokens.now tree.now) }
+    ensures { IfOk result (λ line. line ≡ accepted_line output interpreter.now name.now tokens.now tree.now) }
 {
     match output {
         Output::Trees => text_line(alloc, interpreter, name, tokens, tree),
         Output::Events => events_line(alloc, interpreter, name, tokens, tree),
+        Output::Tokens => tokens_line(alloc, interpreter, name, tokens),
     }
 }
 
@@ -220,7 +236,7 @@ pub fn push_outcome(
 {
     match outcome {
         Outcome::Tree(tokens, tree) => {
-            lines.push(tree_line(alloc, output, interpreter, name, tokens, tree)?)?
+            lines.push(accepted_line(alloc, output, interpreter, name, tokens, tree)?)?
         }
         Outcome::Lex(fault) => push_lex(lines, alloc, name, fault)?,
         Outcome::Parse(tokens, fault) => {

@@ -1,5 +1,5 @@
 use Rattle.std.proofs.lemmas.Result.{err_from_is_err_and}
-use Rattle.g4_load.proofs.Built.{read_exit, form_exit, name_exit, number_exit, check_exit, checked, can_be_made}
+use Rattle.g4_load.proofs.Built.{read_exit, form_exit, name_exit, number_exit, check_exit, checked, can_be_made, named_low}
 use Rattle.g4_load.proofs.loading.read_and_check.Goals as goal
 
 pub returns-in_err-source-clause-grammar : goal.returns-in_err-source-clause-grammar
@@ -32,7 +32,7 @@ returns-in_err-check-clause-grammar c =
 pub returns-clause-grammar : goal.returns-clause-grammar
 returns-clause-grammar c =
     checked _ c.in_ok-source.source c.in_ok-source.ensures.reading c.in_ok-check_forms.ensures.forms c.in_ok-check_names.ensures c.in_ok-grammar.grammar c.in_ok-grammar.ensures.numbered
-    c.in_ok-check.ensures.checked c.in_ok-lexer.lexer c.in_ok-lexer.ensures.rules
+    c.in_ok-check.ensures.checked c.in_ok-tables.tables c.in_ok-tables.ensures c.in_ok-lexer.lexer c.in_ok-lexer.ensures.rules
 
 pub returns-clause-checked : goal.returns-clause-checked
 returns-clause-checked c =
@@ -44,5 +44,6 @@ returns-clause-checked c =
       defined = c.in_ok-grammar.ensures.defined c.in_ok-check.ensures.defined;
       run = c.in_ok-grammar.ensures.run c.in_ok-check.ensures.run;
       lexer = can_be_made c.in_ok-source.source c.in_ok-lexer.lexer c.in_ok-lexer.ensures.rules c.in_ok-source.ensures.full c.in_ok-check.ensures.defined c.in_ok-check.ensures.run
-          (c.in_ok-lexer.ensures.full c.in_ok-source.ensures.full) (c.in_ok-lexer.ensures.low c.in_ok-grammar.ensures.types);
+          (c.in_ok-lexer.ensures.full c.in_ok-source.ensures.full) (c.in_ok-lexer.ensures.low c.in_ok-grammar.ensures.types)
+          c.in_ok-tables.tables (named_low c.in_ok-source.source c.in_ok-grammar.grammar.names c.in_ok-tables.tables c.in_ok-tables.ensures c.in_ok-grammar.ensures.names);
     }
