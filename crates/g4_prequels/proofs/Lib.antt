@@ -1,5 +1,3 @@
-pub mod Beginnings
-pub mod Choices
-pub mod Repetitions
-pub mod Sequences
+pub mod Moving
 pub mod Tokens
+pub mod Turning

@@ -1,28 +1,27 @@
--- Which tokens stand at an index of the code's tokens.
-use Rattle.std.proofs.Common.{◌≡◌, ℕ, ◌≤◌, List, length, Bool, true, false, ◌&&◌, ◌⊎◌, Some, None, slice_get, refl, sym, ◌∙◌, ap, drop_of_length-le}
+-- What the first of the code's tokens is.
+use Rattle.std.proofs.Common.{◌≡◌, ℕ, ◌+◌, List, [], ◌∷◌, length, Bool, true, false, ◌&&◌, ◌||◌, arith, ◌⊎◌, refl, sym, ◌∙◌, ap, add-one}
 use Rattle.std.specs.Prelude.{◌==◌, bytes_eq}
-use Rattle.std.proofs.lemmas.Option.{slice_get_cases}
 use Rattle.std.proofs.lemmas.Bool.{eq-eqb}
 use Rattle.std.proofs.lemmas.Bool.Decides.{eqb_tells}
 use mathlib.Core.Logic.{inl, inr}
 use denote.Enum.Bare.{sameb}
 use denote.Enum.Declared.{tag_of}
-use Rattle.g4_base.specs.declared.place.Place.{Place}
 use Rattle.g4_tokens.specs.contracts.token.Kind.{the_type}
 use Rattle.g4_tokens.specs.declared.token.Kind.{Kind}
 use Rattle.g4_tokens.specs.declared.token.Kind.TheVariants as kinds
 use Rattle.g4_tokens.specs.declared.token.Token.{Token}
-use Rattle.g4_elements.specs.declared.name.Name.{Name}
-use Rattle.g4_syntax.specs.Notation.{number_of, is_kind, Expression, word}
-use Rattle.g4_syntax.specs.Trees.{begins_there}
+use Rattle.g4_syntax.specs.Notation.{Spelled, Expression, number_of, is_kind, sign, word, name}
 use Rattle.g4_prequels.specs.Parts.{IsPart, AreParts, each_is}
-use Rattle.g4_prequels.specs.Steps.{from}
-use Rattle.g4_prequels.specs.Texts.{bytes_of}
-use Rattle.g4_prequels.proofs.Sequences.{from_token}
+use Rattle.g4_prequels.specs.Progress.{Progress, reading, stopped, progress, is_next}
+use Rattle.g4_prequels.specs.Texts.{bytes_of, spelled}
 
--- a token at an index is a part of the text
-pub part_at : {text : List ℕ} {tokens : List Token} (at : ℕ) (token : Token) → AreParts text tokens → slice_get tokens at ≡ Some token → IsPart text token
-part_at at token (each_is each) is = each at token is
+-- the first token is a part of the text
+pub first_part : {text : List ℕ} {tokens : List Token} (token : Token) (others : List Token) → tokens ≡ token ∷ others → AreParts text tokens → IsPart text token
+first_part token others is (each_is each) = each 0 token (rw is refl)
+
+-- the other tokens are parts of the text
+pub other_parts : {text : List ℕ} {tokens : List Token} (token : Token) (others : List Token) → tokens ≡ token ∷ others → AreParts text tokens → AreParts text others
+other_parts token others is (each_is each) = each_is (λ at other there. each (at + 1) other (rw (is, add-one) there))
 
 -- two different numbers differ whichever is first
 either_way_apart : (a b : ℕ) → (a ≡ b → ⊥) → ((b == a) ≡ true) × (b ≡ a) ⊎ ((b == a) ≡ false) × (b ≡ a → ⊥) → false ≡ (b == a)
@@ -42,23 +41,32 @@ same_number _ = refl
 pub same_kind : (kind other : Kind) → sameb the_type kind other ≡ is_kind other kind
 same_kind kind other = ap (λ (n : ℕ). n == tag_of the_type other) (same_number kind) ∙ ap (λ (n : ℕ). number_of kind == n) (same_number other) ∙ either_way (number_of kind) (number_of other)
 
--- past the end no expression begins
-pub none_past : (x : Expression) (text : List ℕ) (tokens : List Token) (at : ℕ) → slice_get tokens at ≡ None → begins_there x (from text tokens at) ≡ false
-none_past x text tokens at is =
-    let past : length tokens ≤ at = elim (slice_get_cases tokens at).1 [ inl there ↦ absurd (apart there.2) | inr beyond ↦ beyond.0 ] in
-    rw (drop_of_length-le tokens past) refl
-  where
-    apart : {token : Token} → slice_get tokens at ≡ Some token → ⊥
-    apart there = cc
+-- whether the first token is of this kind
+pub kind_next : (text : List ℕ) {tokens : List Token} (token : Token) (others : List Token) (kind : Kind) → tokens ≡ token ∷ others → sameb the_type token.kind kind ≡ is_next (sign kind) (progress false (spelled text tokens))
+unfolding is_next
+kind_next text token others kind is = rw is (same_kind token.kind kind)
 
--- where a lower-case name stands, its bytes tell whether it is this word
-pub word_at : (spelling text : List ℕ) (tokens : List Token) (at : ℕ) (token : Token) → slice_get tokens at ≡ Some token → sameb the_type (token.kind) kinds.Lower ≡ true → begins_there (word spelling) (from text tokens at) ≡ bytes_eq (bytes_of text token) spelling
-word_at spelling text tokens at token is lower = rw (from_token text tokens at token is) (ap (λ (b : Bool). b && bytes_eq (bytes_of text token) spelling) (sym (same_kind (token.kind) kinds.Lower) ∙ lower))
+-- where reading has stopped nothing is next
+pub none_stopped : (x : Expression) (rest : List Spelled) → false ≡ is_next x (progress true rest)
+unfolding is_next
+none_stopped x rest = refl
 
--- where no lower-case name stands, no word does
-pub no_word_at : (spelling text : List ℕ) (tokens : List Token) (at : ℕ) (token : Token) → slice_get tokens at ≡ Some token → sameb the_type (token.kind) kinds.Lower ≡ false → begins_there (word spelling) (from text tokens at) ≡ false
-no_word_at spelling text tokens at token is other = rw (from_token text tokens at token is) (ap (λ (b : Bool). b && bytes_eq (bytes_of text token) spelling) (sym (same_kind (token.kind) kinds.Lower) ∙ other))
+-- at the end nothing is next
+pub none_past : (x : Expression) (text : List ℕ) (tokens : List Token) (has : Bool) → length tokens ≡ 0 → false ≡ is_next x (progress has (spelled text tokens))
+unfolding is_next
+none_past x text [] true none = refl
+none_past x text [] false none = refl
+none_past x text (token ∷ others) has none = absurd (omega arith)
 
--- names are the same that are written alike at one place
-pub named_so : {written text : List ℕ} {place : Place} → written ≡ text → ◌≡◌ {A = Name} (record { text = written; place = place }) (record { text = text; place = place })
-named_so is = rw is refl
+-- whether the first token, which is a lower-case name or not, is this word
+pub word_next : (text spelling : List ℕ) {tokens : List Token} (token : Token) (others : List Token) (has lower : Bool) → tokens ≡ token ∷ others → lower ≡ is_next (sign kinds.Lower) (progress has (spelled text tokens)) → (lower && bytes_eq (bytes_of text token) spelling) ≡ is_next (word spelling) (progress has (spelled text tokens))
+unfolding is_next
+word_next text spelling token others true lower is next = rw next refl
+word_next text spelling token others false lower is next = rw (next, is) refl
+
+-- whether the next token is a name of either case
+pub name_next : (s : Progress) → is_next name s ≡ (is_next (sign kinds.Lower) s || is_next (sign kinds.Upper) s)
+unfolding is_next
+name_next (reading []) = refl
+name_next (reading (token ∷ _)) = refl
+name_next (stopped rest) = refl

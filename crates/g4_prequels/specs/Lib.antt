@@ -1,5 +1,6 @@
 pub mod Options
 pub mod Parts
 pub mod Prequels
-pub mod Steps
+pub mod Progress
+pub mod Taken
 pub mod Texts

@@ -4,19 +4,23 @@ use Rattle.g4_tokens.specs.declared.token.Kind.TheVariants as kinds
 use Rattle.g4_source.specs.declared.prequel.Setting.{Setting}
 use Rattle.g4_source.specs.declared.prequel.OptionValue.{OptionValue}
 use Rattle.g4_source.specs.declared.prequel.OptionValue.TheVariants as values
-use Rattle.g4_syntax.specs.Notation.{◌▸◌, optional, repeated, sign, name}
+use Rattle.g4_syntax.specs.Notation.{◌▸◌, optional, repeated, sign, name, with_commas}
 use Rattle.g4_syntax.specs.Productions.{value, setting, options, element_option, element_options}
 use Rattle.g4_syntax.specs.Trees.{Tree, both, left, right, absent, present, end, more}
 use Rattle.g4_prequels.specs.Texts.{text_of, name_of}
 
 -- the names behind dots
-abbrev pub dotted_names : Tree (repeated (sign kinds.Dot ▸ name)) → List (List ℕ)
-dotted_names end = []
-dotted_names (more (both dot n) ns) = text_of n ∷ dotted_names ns
+abbrev pub names_behind_dots : Tree (repeated (sign kinds.Dot ▸ name)) → List (List ℕ)
+names_behind_dots end = []
+names_behind_dots (more (both dot n) ns) = text_of n ∷ names_behind_dots ns
+
+-- names with dots between
+abbrev pub dotted_names : Tree (name ▸ repeated (sign kinds.Dot ▸ name)) → List (List ℕ)
+dotted_names (both n ns) = text_of n ∷ names_behind_dots ns
 
 -- the value of an option
 abbrev pub value_of : Tree value → OptionValue
-value_of (left (both n ns)) = values.Names (text_of n ∷ dotted_names ns)
+value_of (left ns) = values.Names (dotted_names ns)
 value_of (right (left literal)) = values.Literal (text_of literal)
 value_of (right (right (left number))) = values.Number (text_of number)
 value_of (right (right (right (left action)))) = values.Action (text_of action)
@@ -50,9 +54,13 @@ abbrev pub one_says_right : Tree (repeated (sign kinds.Comma ▸ element_option)
 one_says_right end = false
 one_says_right (more (both comma o) os) = says_right o || one_says_right os
 
+-- the same of options with commas between
+abbrev pub commas_say_right : Tree (with_commas element_option) → Bool
+commas_say_right (both o os) = says_right o || one_says_right os
+
 -- whether one of the options of an element is `assoc=right`
 abbrev pub right_of : Tree element_options → Bool
-right_of (both less (both (both o os) greater)) = says_right o || one_says_right os
+right_of (both less (both os greater)) = commas_say_right os
 
 -- the same where there may be none
 abbrev pub right_of_optional : Tree (optional element_options) → Bool

@@ -1,4 +1,4 @@
--- Tokens as parts of a text.
+-- Tokens as parts of a text. This serves only contracts: what a grammar text is does not rest on it.
 use Rattle.std.specs.Prelude.{◌≡◌, ℕ, ◌≤◌, List, Some, slice_get}
 use Rattle.std.specs.Str.{IsCharBoundary}
 use Rattle.g4_tokens.specs.declared.token.Token.{Token}

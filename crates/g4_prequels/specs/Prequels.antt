@@ -3,8 +3,8 @@ use Rattle.std.specs.Prelude.{ℕ, List, [], ◌∷◌, Option, Some, None}
 use Rattle.g4_tokens.specs.declared.token.Kind.TheVariants as kinds
 use Rattle.g4_source.specs.declared.prequel.Prequel.{Prequel}
 use Rattle.g4_source.specs.declared.prequel.Prequel.TheVariants as prequels
-use Rattle.g4_syntax.specs.Notation.{more_names, ◌▸◌, optional, repeated, part, sign, name}
-use Rattle.g4_syntax.specs.Productions.{imported, names, prequel}
+use Rattle.g4_syntax.specs.Notation.{more_names, ◌▸◌, optional, repeated, part, sign, name, with_commas}
+use Rattle.g4_syntax.specs.Productions.{imported, import, names, prequel}
 use Rattle.g4_syntax.specs.Trees.{Tree, both, left, right, absent, present, end, more, inner}
 use Rattle.g4_prequels.specs.Options.{settings_of}
 use Rattle.g4_prequels.specs.Texts.{token_of, text_of}
@@ -34,10 +34,18 @@ abbrev mutual
 abbrev pub names_of : Tree names → List (List ℕ)
 names_of (both brace (both ns end_brace)) = names_from ns
 
+-- imported grammars with commas between
+abbrev pub imports_of : Tree (with_commas imported) → List (List ℕ)
+imports_of (both i is) = imported_of i ∷ imported_behind is
+
+-- the imported grammars of `import`
+abbrev pub import_of : Tree import → Prequel
+import_of (both keyword (both is semicolon)) = prequels.Import (token_of keyword).place (imports_of is)
+
 -- what stands before the rules, named actions being passed over
 abbrev pub prequel_of : Tree prequel → Option Prequel
 prequel_of (left o) = Some (prequels.Options (settings_of o))
-prequel_of (right (left (both keyword (both (both i is) semicolon)))) = Some (prequels.Import (token_of keyword).place (imported_of i ∷ imported_behind is))
+prequel_of (right (left i)) = Some (import_of i)
 prequel_of (right (right (left (both keyword ns)))) = Some (prequels.Tokens (token_of keyword).place (names_of ns))
 prequel_of (right (right (right (left (both keyword ns))))) = Some (prequels.Channels (token_of keyword).place (names_of ns))
 prequel_of (right (right (right (right action)))) = None

@@ -1,202 +1,248 @@
-// Single tokens of a text.
-ghost use Rattle.std.specs.Prelude.{◌≡◌, ◌<◌, ℕ, length, List, true};
-ghost use Rattle.g4_syntax.specs.Notation.{sign, word, name as a_name};
-ghost use Rattle.g4_syntax.specs.Trees.{begins_there};
+// A cursor over the tokens of a text. Where the next token is not one that may stand there, reading stops: then no token is
+// next, and nothing more is taken, so that what reads a part needs no branch for it.
+ghost use Rattle.std.specs.Prelude.{◌≡◌, IfOk, OnOk, length};
+ghost use Rattle.g4_syntax.specs.Notation.{optional, sign, word, name as a_name};
 ghost use Rattle.g4_tokens.specs.declared.token.Kind.TheVariants as kinds;
+ghost use Rattle.g4_prequels.specs.Progress.{halted, is_done, is_next, reading, rest_of, Moves, Passes, Gives};
 ghost use Rattle.g4_prequels.specs.Parts.{AreParts};
-ghost use Rattle.g4_prequels.specs.Steps.{from, Passes, Gives};
-ghost use Rattle.g4_prequels.specs.Texts.{token_of, text_of, name_of, literal_of};
+ghost use Rattle.g4_prequels.specs.Taken.{Advances, IsTaken};
+ghost use Rattle.g4_prequels.specs.Texts.{spelled, is_present, text_of, name_of};
 
-use crate::spelling::{literal, part, token_at, written};
-use crate::stop::Stop;
+use crate::spelling::part;
 use g4_base::{Place, Text};
 use g4_elements::Name;
-use g4_source::Literal;
 use g4_tokens::{Kind, Token};
-use std::alloc::Global;
+use std::alloc::{AllocError, Global};
+use std::marker::Model;
 
-/// Whether a token of this kind stands at the index.
-pub fn is_at(tokens: &[Token], at: usize, kind: Kind) -> bool
-    ensures begins { (text : List ℕ) → result ≡ begins_there (sign kind) (from text tokens.now at) }
-    ensures there { result ≡ true → at < length tokens.now }
-{
-    match tokens.get(at) {
-        Some(token) => token.kind == kind,
-        None => false,
-    }
-}
+/// How many brackets may be open at once. Brackets nested deeper exhaust the memory of the stack.
+pub const MOST_OPEN: u32 = 1024;
 
-/// The index behind a token of this kind, which stands at the index.
-pub fn pass(tokens: &[Token], at: usize, kind: Kind) -> Result<usize, Stop>
-    ensures { (text : List ℕ) → Passes (sign kind) text tokens.now at result }
-{
-    if is_at(tokens, at, kind) {
-        Ok(at + 1)
-    } else {
-        Err(Stop::At(at))
-    }
-}
-
-/// Whether the lower-case name with this spelling stands at the index.
-pub fn is_word_at(text: &str, tokens: &[Token], at: usize, spelling: &str) -> bool
-    requires parts { AreParts text.now tokens.now }
-    ensures begins { result ≡ begins_there (word spelling.now) (from text.now tokens.now at) }
-    ensures there { result ≡ true → at < length tokens.now }
-{
-    match token_at(tokens, at) {
-        Some(token) => token.kind == Kind::Lower && part(text, &token) == spelling,
-        None => false,
-    }
-}
-
-/// The index behind the lower-case name with this spelling, which stands at the index.
-pub fn pass_word(text: &str, tokens: &[Token], at: usize, spelling: &str) -> Result<usize, Stop>
-    requires parts { AreParts text.now tokens.now }
-    ensures { Passes (word spelling.now) text.now tokens.now at result }
-{
-    if is_word_at(text, tokens, at, spelling) {
-        Ok(at + 1)
-    } else {
-        Err(Stop::At(at))
-    }
-}
-
-/// Whether a name of either case stands at the index.
-pub fn is_name_at(tokens: &[Token], at: usize) -> bool
-    ensures begins { (text : List ℕ) → result ≡ begins_there a_name (from text tokens.now at) }
-    ensures there { result ≡ true → at < length tokens.now }
-{
-    match tokens.get(at) {
-        Some(token) => matches!(token.kind, Kind::Lower | Kind::Upper),
-        None => false,
-    }
-}
-
-/// The index behind a name of either case, which stands at the index.
-pub fn pass_name(tokens: &[Token], at: usize) -> Result<usize, Stop>
-    ensures { (text : List ℕ) → Passes a_name text tokens.now at result }
-{
-    if is_name_at(tokens, at) {
-        Ok(at + 1)
-    } else {
-        Err(Stop::At(at))
-    }
-}
-
-/// The name of either case that stands at the index, and the index behind it.
-pub fn name(alloc: Global, text: &str, tokens: &[Token], at: usize) -> Result<(Name, usize), Stop>
-    requires parts { AreParts text.now tokens.now }
-    ensures { Gives {x = a_name} name_of text.now tokens.now at result }
-{
-    if !is_name_at(tokens, at) {
-        return Err(Stop::At(at));
-    }
-    let token = tokens[at];
-    let name = Name {
-        text: written(alloc, text, &token)?,
-        place: token.place,
-    };
-    Ok((name, at + 1))
-}
-
-/// The text of the name of either case that stands at the index, and the index behind it.
-pub fn name_text(
+/// The tokens of a text that are left to read.
+#[derive(Drop)]
+pub struct Cursor<'a> {
     alloc: Global,
-    text: &str,
-    tokens: &[Token],
-    at: usize,
-) -> Result<(Text, usize), Stop>
-    requires parts { AreParts text.now tokens.now }
-    ensures { Gives {x = a_name} text_of text.now tokens.now at result }
-{
-    if !is_name_at(tokens, at) {
-        return Err(Stop::At(at));
-    }
-    let written = written(alloc, text, &tokens[at])?;
-    Ok((written, at + 1))
+    text: &'a str,
+    rest: &'a [Token],
+    stopped: bool,
+    /// How many brackets are open.
+    open: u32,
 }
 
-/// The name that the token of this kind at the index is, and the index behind it.
-pub fn named(
-    alloc: Global,
-    text: &str,
-    tokens: &[Token],
-    at: usize,
-    kind: Kind,
-) -> Result<(Name, usize), Stop>
-    requires parts { AreParts text.now tokens.now }
-    ensures { Gives {x = sign kind} name_of text.now tokens.now at result }
-{
-    if !is_at(tokens, at, kind) {
-        return Err(Stop::At(at));
-    }
-    let token = tokens[at];
-    let name = Name {
-        text: written(alloc, text, &token)?,
-        place: token.place,
-    };
-    Ok((name, at + 1))
+impl<'a> Model for Cursor<'a> {
+    ghost use Rattle.g4_prequels.specs.Progress.{Progress, progress};
+    ghost use Rattle.g4_prequels.specs.Texts.{spelled};
+    ghost use Rattle.g4_prequels.specs.Parts.{AreParts};
+
+    ghost Value = { Progress };
+
+    ghost view = { λ c. progress c.stopped (spelled c.text.now c.rest.now) };
+
+    ghost invariant = { λ c. AreParts c.text.now c.rest.now };
 }
 
-/// The text of the token of this kind at the index, and the index behind it.
-pub fn written_at(
-    alloc: Global,
-    text: &str,
-    tokens: &[Token],
-    at: usize,
-    kind: Kind,
-) -> Result<(Text, usize), Stop>
-    requires parts { AreParts text.now tokens.now }
-    ensures { Gives {x = sign kind} text_of text.now tokens.now at result }
-{
-    if !is_at(tokens, at, kind) {
-        return Err(Stop::At(at));
-    }
-    let written = written(alloc, text, &tokens[at])?;
-    Ok((written, at + 1))
+/// A token that was taken; where reading stopped, one without text.
+#[derive(Clone, Copy)]
+pub struct Taken<'a> {
+    pub place: Place,
+    pub text: &'a str,
 }
 
-/// The literal at the index, and the index behind it.
-pub fn literal_at(
-    alloc: Global,
-    text: &str,
-    tokens: &[Token],
-    at: usize,
-) -> Result<(Literal, usize), Stop>
-    requires parts { AreParts text.now tokens.now }
-    ensures { Gives {x = sign kinds.Literal} literal_of text.now tokens.now at result }
-{
-    if !is_at(tokens, at, Kind::Literal) {
-        return Err(Stop::At(at));
+impl<'a> Cursor<'a> {
+    /// A cursor before the first of these tokens of the text.
+    pub fn new(alloc: Global, text: &'a str, tokens: &'a [Token]) -> Self
+        requires { AreParts text.now tokens.now }
+        ensures { result ≡ reading (spelled text.now tokens.now) }
+    {
+        Cursor {
+            alloc,
+            text,
+            rest: tokens,
+            stopped: false,
+            open: 0,
+        }
     }
-    let literal = literal(alloc, text, &tokens[at])?;
-    Ok((literal, at + 1))
-}
 
-/// The place of the token of this kind at the index, and the index behind it.
-pub fn place_at(tokens: &[Token], at: usize, kind: Kind) -> Result<(Place, usize), Stop>
-    ensures { (text : List ℕ) → Gives {x = sign kind} (λ x. (token_of x).place) text tokens.now at result }
-{
-    if is_at(tokens, at, kind) {
-        Ok((tokens[at].place, at + 1))
-    } else {
-        Err(Stop::At(at))
+    /// What memory is taken from.
+    pub fn alloc(&self) -> Global {
+        self.alloc
     }
-}
 
-/// The place of the lower-case name with this spelling at the index, and the index behind it.
-pub fn word_place(
-    text: &str,
-    tokens: &[Token],
-    at: usize,
-    spelling: &str,
-) -> Result<(Place, usize), Stop>
-    requires parts { AreParts text.now tokens.now }
-    ensures { Gives {x = word spelling.now} (λ x. (token_of x).place) text.now tokens.now at result }
-{
-    if is_word_at(text, tokens, at, spelling) {
-        Ok((tokens[at].place, at + 1))
-    } else {
-        Err(Stop::At(at))
+    /// Whether the next token is of this kind.
+    pub fn is_at(&self, kind: Kind) -> bool
+        ensures { result ≡ is_next (sign kind) self.now }
+    {
+        match self.rest.split_first() {
+            Some((token, _)) => !self.stopped && token.kind == kind,
+            None => false,
+        }
+    }
+
+    /// Whether the next token is the lower-case name with this spelling.
+    pub fn is_at_word(&self, spelling: &str) -> bool
+        ensures { result ≡ is_next (word spelling.now) self.now }
+    {
+        match self.rest.split_first() {
+            Some((token, _)) => self.is_at(Kind::Lower) && part(self.text, token) == spelling,
+            None => false,
+        }
+    }
+
+    /// Whether the next token is a name of either case.
+    pub fn is_at_name(&self) -> bool
+        ensures { result ≡ is_next a_name self.now }
+    {
+        self.is_at(Kind::Lower) || self.is_at(Kind::Upper)
+    }
+
+    /// Moves past the next token, if there is one.
+    fn advance(&mut self) -> Taken<'a>
+        ensures { Advances self.old result self.new }
+    {
+        match self.rest.split_first() {
+            Some((token, rest)) => {
+                self.rest = rest;
+                Taken {
+                    place: token.place,
+                    text: part(self.text, token),
+                }
+            }
+            None => Taken {
+                place: Place::START,
+                text: "",
+            },
+        }
+    }
+
+    /// Stops reading.
+    fn stop(&mut self) -> Taken<'a>
+        ensures { self.new ≡ halted self.old }
+    {
+        self.stopped = true;
+        Taken {
+            place: Place::START,
+            text: "",
+        }
+    }
+
+    /// Takes a token of this kind.
+    pub fn take(&mut self, kind: Kind) -> Taken<'a>
+        ensures { Moves {x = sign kind} (IsTaken result) self.old self.new }
+    {
+        if self.is_at(kind) {
+            self.advance()
+        } else {
+            self.stop()
+        }
+    }
+
+    /// Takes the lower-case name with this spelling.
+    pub fn take_word(&mut self, spelling: &str) -> Taken<'a>
+        ensures { Moves {x = word spelling.now} (IsTaken result) self.old self.new }
+    {
+        if self.is_at_word(spelling) {
+            self.advance()
+        } else {
+            self.stop()
+        }
+    }
+
+    /// Takes a name of either case.
+    pub fn take_name(&mut self) -> Taken<'a>
+        ensures { Moves {x = a_name} (IsTaken result) self.old self.new }
+    {
+        if self.is_at_name() {
+            self.advance()
+        } else {
+            self.stop()
+        }
+    }
+
+    /// Takes a token of this kind, if it is next, and says whether it was.
+    pub fn take_if(&mut self, kind: Kind) -> bool
+        ensures { Moves {x = optional (sign kind)} (λ tree. result ≡ is_present tree) self.old self.new }
+    {
+        if !self.is_at(kind) {
+            return false;
+        }
+        self.take(kind);
+        true
+    }
+
+    /// The text of a name of either case.
+    pub fn name_text(&mut self) -> Result<Text, AllocError>
+        ensures { Gives {x = a_name} text_of self.old self.new result }
+    {
+        let taken = self.take_name();
+        let text = Text::copy_of(self.alloc, taken.text)?;
+        Ok(text)
+    }
+
+    /// The text of a token of this kind.
+    pub fn text(&mut self, kind: Kind) -> Result<Text, AllocError>
+        ensures { Gives {x = sign kind} text_of self.old self.new result }
+    {
+        let taken = self.take(kind);
+        let text = Text::copy_of(self.alloc, taken.text)?;
+        Ok(text)
+    }
+
+    /// A name of either case.
+    pub fn name(&mut self) -> Result<Name, AllocError>
+        ensures { Gives {x = a_name} name_of self.old self.new result }
+    {
+        let taken = self.take_name();
+        let text = Text::copy_of(self.alloc, taken.text)?;
+        let place = taken.place;
+        Ok(Name { text, place })
+    }
+
+    /// The name that a token of this kind is.
+    pub fn named(&mut self, kind: Kind) -> Result<Name, AllocError>
+        ensures { Gives {x = sign kind} name_of self.old self.new result }
+    {
+        let taken = self.take(kind);
+        let text = Text::copy_of(self.alloc, taken.text)?;
+        let place = taken.place;
+        Ok(Name { text, place })
+    }
+
+    /// Takes `(`, and says whether it was next.
+    ///
+    /// # Errors
+    /// No memory, or `MOST_OPEN` brackets are open.
+    pub fn open(&mut self) -> Result<bool, AllocError>
+        ensures moves { OnOk result (Passes (sign kinds.LeftParenthesis) self.old self.new) }
+        ensures opened { IfOk result (λ opened. opened ≡ is_next (sign kinds.LeftParenthesis) self.old) }
+    {
+        if self.open >= MOST_OPEN {
+            return Err(AllocError);
+        }
+        self.open += 1;
+        let opened = self.is_at(Kind::LeftParenthesis);
+        self.take(Kind::LeftParenthesis);
+        Ok(opened)
+    }
+
+    /// Takes the `)` of the bracket that was opened last.
+    pub fn close(&mut self)
+        ensures { Passes (sign kinds.RightParenthesis) self.old self.new }
+    {
+        self.open = self.open.saturating_sub(1);
+        self.take(Kind::RightParenthesis);
+    }
+
+    /// How many tokens are left, from the one on at which reading stopped.
+    pub fn left(&self) -> usize
+        ensures { result ≡ length (rest_of self.now) }
+    {
+        self.rest.len()
+    }
+
+    /// Whether all tokens were read.
+    pub fn is_at_end(&self) -> bool
+        ensures { result ≡ is_done self.now }
+    {
+        !self.stopped && self.rest.is_empty()
     }
 }

@@ -1,4 +1,4 @@
-// What the rules of a grammar text stand on: its tokens at an index, its options and prequels, and what is passed over.
+// What the rules of a grammar text stand on: a cursor over its tokens, its options and prequels, and what is passed over.
 #![tactic(auto)]
 
 mod cursor;
@@ -6,17 +6,11 @@ mod options;
 mod passing;
 mod prequel;
 mod spelling;
-mod stop;
 
-pub use cursor::{
-    is_at, is_name_at, is_word_at, literal_at, name, name_text, named, pass, pass_word, place_at,
-    word_place, written_at,
-};
+pub use cursor::{Cursor, MOST_OPEN, Taken};
 pub use options::optional_element_options;
 pub use passing::{
-    pass_block_prequel, pass_handlers, pass_modifier, pass_optional, pass_optional_options,
-    pass_rule_prequels,
+    pass_block_prequel, pass_handlers, pass_modifier, pass_optional_options, pass_rule_prequels,
 };
 pub use prequel::prequels;
-pub use spelling::{characters, token_at};
-pub use stop::{MOST_OPEN, Stop};
+pub use spelling::{characters, characters_of, literal, token_at};

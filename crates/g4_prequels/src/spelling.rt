@@ -1,7 +1,8 @@
 // How the tokens of a text are spelled.
 ghost use Rattle.std.specs.Prelude.{◌≡◌, IfOk, slice_get};
+ghost use Rattle.std.specs.Str.{chars};
 ghost use Rattle.g4_tokens.specs.Spelling.{literal_spelling};
-ghost use Rattle.g4_prequels.specs.Texts.{bytes_of, characters_of};
+ghost use Rattle.g4_prequels.specs.Texts.{bytes_of, characters_of as characters_in};
 ghost use Rattle.g4_prequels.specs.Parts.{IsPart};
 
 use g4_base::Text;
@@ -24,32 +25,30 @@ pub fn part<'a>(text: &'a str, token: &Token) -> &'a str
     &text[token.start..token.end]
 }
 
-/// The characters of a token.
-pub fn characters(alloc: Global, text: &str, token: &Token) -> Result<Vec<char>, AllocError>
-    requires part { IsPart text.now token.now }
-    ensures { IfOk result (λ c. c.items ≡ characters_of text.now token.now) }
+/// The characters of a text.
+pub fn characters_of(alloc: Global, text: &str) -> Result<Vec<char>, AllocError>
+    ensures { IfOk result (λ c. c.items ≡ chars text.now) }
 {
-    let characters = part(text, token).chars().collect(alloc)?;
+    let characters = text.chars().collect(alloc)?;
     Ok(characters)
 }
 
-/// The text of a token.
-pub fn written(alloc: Global, text: &str, token: &Token) -> Result<Text, AllocError>
+/// The characters of a token.
+pub fn characters(alloc: Global, text: &str, token: &Token) -> Result<Vec<char>, AllocError>
     requires part { IsPart text.now token.now }
-    ensures { IfOk result (λ t. t ≡ bytes_of text.now token.now) }
+    ensures { IfOk result (λ c. c.items ≡ characters_in text.now token.now) }
 {
-    let written = Text::copy_of(alloc, part(text, token))?;
-    Ok(written)
+    let characters = characters_of(alloc, part(text, token))?;
+    Ok(characters)
 }
 
-/// The literal that the token is.
-pub fn literal(alloc: Global, text: &str, token: &Token) -> Result<Literal, AllocError>
-    requires part { IsPart text.now token.now }
-    ensures { IfOk result (λ l. l ≡ record { characters = literal_spelling (characters_of text.now token.now); written = bytes_of text.now token.now }) }
+/// The literal with this text.
+pub fn literal(alloc: Global, text: &str) -> Result<Literal, AllocError>
+    ensures { IfOk result (λ l. l ≡ record { characters = literal_spelling (chars text.now); written = text.now }) }
 {
-    let spelling = characters(alloc, text, token)?;
+    let spelling = characters_of(alloc, text)?;
     let characters = literal_characters(alloc, &spelling)?;
-    let written = written(alloc, text, token)?;
+    let written = Text::copy_of(alloc, text)?;
     Ok(Literal {
         characters,
         written,

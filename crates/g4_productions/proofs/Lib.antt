@@ -1,14 +1,6 @@
-pub mod Composed
 pub mod Full
-pub mod Given
-pub mod Handing
-pub mod LexerTrees
-pub mod Moving
-pub mod ParserItems
-pub mod ParserRules
+pub mod Listing
 pub mod Ranges
-pub mod RuleBeginnings
 pub mod SetText
 pub mod Suffixes
-pub mod TokenSets
 pub mod Whole

@@ -1,37 +1,62 @@
 -- A grammar text is read to its end, or stops.
-use Rattle.std.proofs.Common.{◌≡◌, ◌∷◌, ◌<◌, ◌≤◌, ◌+◌, ℕ, List, length, get_or, Err, sym, ap, subst, drop_of_length-le}
-use Rattle.std.proofs.lemmas.Option.{slice_get-get_or}
-use Rattle.g4_base.specs.Place.{first_place}
-use Rattle.g4_tokens.specs.declared.token.Kind.TheVariants as kinds
+use Rattle.std.proofs.Common.{◌≡◌, ◌∷◌, [], ◌++◌, ◌-◌, ◌≤◌, ◌+◌, ℕ, List, length, true, false, sym, ◌∙◌, ap, subst, arith, length-append, true≢false}
+use Rattle.std.proofs.lemmas.List.{length-map}
 use Rattle.g4_tokens.specs.declared.token.Token.{Token}
 use Rattle.g4_source.specs.Blocks.{HaveAlternatives}
 use Rattle.g4_source.specs.declared.source.Source.{Source}
+use Rattle.g4_syntax.specs.Notation.{Spelled}
 use Rattle.g4_syntax.specs.Productions.{grammar}
-use Rattle.g4_syntax.specs.Trees.{Reads, TextStops, within, behind}
-use Rattle.g4_prequels.specs.Steps.{from, Read, StopsAt, at_index, without_memory}
-use Rattle.g4_prequels.specs.Texts.{spelled, spelled_token}
-use Rattle.g4_prequels.specs.declared.stop.Stop.{Stop}
-use Rattle.g4_prequels.proofs.Sequences.{from_token}
-use Rattle.g4_productions.specs.Grammars.{IsGrammarText, ReadsText, source_of}
+use Rattle.g4_syntax.specs.Trees.{TextStops, within, behind}
+use Rattle.g4_syntax.proofs.Texts.{text, reads_text, read_before, stops_behind}
+use Rattle.g4_prequels.specs.Progress.{Progress, reading, stopped, rest_of, is_done, Moves, reads, stops}
+use Rattle.g4_prequels.specs.Texts.{from, spelled, spelled_token}
+use Rattle.g4_productions.specs.Grammars.{IsGrammarText, source_of}
 use Rattle.g4_productions.proofs.Full.{source_full}
 
--- reading stops in a part of the text
-pub text_stops : (text : List ℕ) (tokens : List Token) {stop : Stop} → StopsAt grammar text tokens 0 stop → ReadsText text tokens (Err stop)
-text_stops text tokens (at_index index h) = within (from text tokens index) h
-text_stops text tokens without_memory = tt
+-- what is read of a grammar text
+abbrev pub ReadsSource : List Spelled → Source → Progress → Type 0
+ReadsSource tokens source end = Moves {x = grammar} (λ tree. source ≡ source_of tree) (reading tokens) end
 
 -- the whole text is read
-pub text_read : (text : List ℕ) (tokens : List Token) (source : Source) (at : ℕ) → Read {x = grammar} (λ tree v. v ≡ source_of tree) text tokens 0 source at → length tokens ≤ at → IsGrammarText (spelled text tokens) source
-text_read text tokens source at r ended = (r.passed.tree, subst (Reads r.passed.tree (spelled text tokens)) (ap (spelled text) (drop_of_length-le tokens ended)) r.passed.reads, r.says)
-
--- a token is left behind the text
-pub text_left : (text : List ℕ) (tokens : List Token) (source : Source) (at : ℕ) → Read {x = grammar} (λ tree v. v ≡ source_of tree) text tokens 0 source at → at < length tokens → TextStops (spelled text tokens) (from text tokens at)
-text_left text tokens source at r left =
-    let blank : Token = record { kind = kinds.Stray; place = first_place; start = 0; end = 0 } in
-    let token : Token = get_or tokens at blank in
-    let is : from text tokens at ≡ spelled_token text token ∷ from text tokens (at + 1) = from_token text tokens at token (slice_get-get_or tokens at blank left) in
-    subst (TextStops (spelled text tokens)) (sym is) (behind (spelled_token text token) (from text tokens (at + 1)) r.passed.tree (subst (Reads r.passed.tree (spelled text tokens)) is r.passed.reads))
+pub text_read : (tokens : List Spelled) (source : Source) (end : Progress) → ReadsSource tokens source end → is_done end ≡ true → IsGrammarText tokens source
+text_read tokens source (reading []) (reads _ _ tree read is) done = (tree, read, is)
+text_read tokens source (reading (token ∷ rest)) read done = absurd (true≢false (sym done))
+text_read tokens source (stopped rest) read done = absurd (true≢false (sym done))
 
 -- each rule and each block of what is read has an alternative
-pub read_full : (text : List ℕ) (tokens : List Token) (source : Source) (at : ℕ) → Read {x = grammar} (λ tree v. v ≡ source_of tree) text tokens 0 source at → HaveAlternatives source
-read_full text tokens source at r = subst HaveAlternatives (sym r.says) (source_full r.passed.tree)
+pub read_full : (tokens : List Spelled) (source : Source) (end : Progress) → ReadsSource tokens source end → is_done end ≡ true → HaveAlternatives source
+read_full tokens source (reading []) (reads _ _ tree read is) done = subst HaveAlternatives (sym is) (source_full tree)
+read_full tokens source (reading (token ∷ rest)) read done = absurd (true≢false (sym done))
+read_full tokens source (stopped rest) read done = absurd (true≢false (sym done))
+
+-- reading stops, or a token is left
+stops_there : (tokens : List Spelled) (source : Source) (end : Progress) → ReadsSource tokens source end → is_done end ≡ false → TextStops tokens (rest_of end)
+stops_there tokens source (reading []) read left = absurd (true≢false left)
+stops_there tokens source (reading (token ∷ rest)) (reads _ _ tree read is) left = behind token rest tree read
+stops_there tokens source (stopped rest) (stops _ _ stop) left = within rest stop
+
+-- what was read, and what is left
+split : (tokens : List Spelled) (source : Source) (end : Progress) → ReadsSource tokens source end → (before : List Spelled) × (tokens ≡ before ++ rest_of end)
+split tokens source (reading rest) (reads _ _ tree read is) = (text tree, reads_text tree tokens rest read)
+split tokens source (stopped rest) (stops _ _ stop) = (read_before stop, stops_behind stop)
+
+-- how many tokens were read
+counted : (bytes : List ℕ) (tokens : List Token) (before rest : List Spelled) → spelled bytes tokens ≡ before ++ rest → length before + length rest ≡ length tokens
+counted bytes tokens before rest is = sym (length-append before rest) ∙ sym (ap length is) ∙ length-map tokens (spelled_token bytes)
+
+-- the tokens that are left are no more than all
+pub not_longer : (bytes : List ℕ) (tokens : List Token) (source : Source) (end : Progress) → ReadsSource (spelled bytes tokens) source end → length (rest_of end) ≤ length tokens
+not_longer bytes tokens source end read = let s = split (spelled bytes tokens) source end read in omega (arith, counted bytes tokens (s.0) (rest_of end) s.1)
+
+-- what is left behind the first tokens
+behind_part : (bytes : List ℕ) (tokens : List Token) (before rest : List Spelled) → spelled bytes tokens ≡ before ++ rest → rest ≡ from bytes tokens (length before)
+behind_part bytes tokens [] rest is = sym is
+behind_part bytes [] (b ∷ before) rest is = absurd (cc)
+behind_part bytes (token ∷ tokens) (b ∷ before) rest is = let tail : spelled bytes tokens ≡ before ++ rest = cc in behind_part bytes tokens before rest tail
+
+-- reading stops at this index
+pub text_stops : (bytes : List ℕ) (tokens : List Token) (source : Source) (end : Progress) → ReadsSource (spelled bytes tokens) source end → is_done end ≡ false → TextStops (spelled bytes tokens) (from bytes tokens (length tokens - length (rest_of end)))
+text_stops bytes tokens source end read left =
+    let s = split (spelled bytes tokens) source end read in
+    let n : length (s.0) ≡ length tokens - length (rest_of end) = omega (arith, counted bytes tokens (s.0) (rest_of end) s.1) in
+    subst (TextStops (spelled bytes tokens)) (behind_part bytes tokens (s.0) (rest_of end) s.1 ∙ ap (from bytes tokens) n) (stops_there (spelled bytes tokens) source end read left)

@@ -1,16 +1,22 @@
 -- What is common to the elements of parser rules and of lexer rules.
-use Rattle.std.specs.Prelude.{Bool, true, false, Option, None}
-use Rattle.g4_elements.specs.Elements.{Element, atom, block, empty, then, Alternatives, only}
+use Rattle.std.specs.Prelude.{List, Bool, true, false, not, Option, None, map}
+use Rattle.std.proofs.Common.{Vec, Global}
+use Rattle.g4_elements.specs.Elements.{Element, atom, block, Elements, empty, then, Alternatives, only, either}
+use Rattle.g4_elements.specs.Trees.{element_of, alternative_of}
+use Rattle.g4_elements.specs.declared.element.Alternative.{Alternative as Side}
+use Rattle.g4_elements.specs.declared.element.Element.{Element as Item}
 use Rattle.g4_elements.specs.declared.name.Label.{Label}
 use Rattle.g4_elements.specs.declared.element.Repeat.{Repeat}
 use Rattle.g4_elements.specs.declared.element.Repeat.TheVariants as repeats
 use Rattle.g4_source.specs.declared.atom.Atom.{Atom}
 use Rattle.g4_source.specs.declared.atom.AtomKind.TheVariants as atoms
+use Rattle.g4_productions.specs.declared.suffix.Labelled.{Labelled as Node}
+use Rattle.g4_productions.specs.declared.suffix.Labelled.TheVariants as nodes
 use Rattle.g4_syntax.specs.Notation.{Terminal, Expression, one, optional}
 use Rattle.g4_syntax.specs.Productions.{action, assign, suffix}
 use Rattle.g4_syntax.specs.Trees.{Tree, both, left, right, absent, present}
 use Rattle.g4_prequels.specs.Options.{right_of_optional}
-use Rattle.g4_prequels.specs.Texts.{token_of, name_of}
+use Rattle.g4_prequels.specs.Texts.{is_present, token_of, name_of}
 
 -- whether the sign of a label is `+=`
 abbrev pub is_list : Tree assign → Bool
@@ -23,8 +29,7 @@ label_of n a = record { name = name_of n; list = is_list a }
 
 -- whether no other `?` follows the sign
 abbrev pub is_greedy : {x : Expression} → Tree (optional x) → Bool
-is_greedy absent = true
-is_greedy (present x) = false
+is_greedy tree = not (is_present tree)
 
 -- how often an element with this sign may be taken
 abbrev pub suffix_of : Tree suffix → Repeat
@@ -56,3 +61,16 @@ abbrev pub with_suffix : Labelled → Repeat → Element Atom
 with_suffix (single a) repeats.Once = atom a
 with_suffix (single a) repeat = block a.label repeat (only (then (atom (unlabelled a)) empty))
 with_suffix (brackets label alternatives) repeat = block label repeat alternatives
+
+-- an element of the code without its sign
+abbrev pub labelled_of : Node → Labelled
+labelled_of (nodes.Single a) = single a
+labelled_of (nodes.Brackets label alternatives) = brackets label (either (map alternative_of alternatives.items))
+
+-- elements of the code in order
+abbrev pub elements_in : Vec (Item Atom) Global → List (Element Atom)
+elements_in v = map element_of v.items
+
+-- alternatives of the code in order
+abbrev pub alternatives_in : Vec (Side Atom) Global → List (Elements Atom)
+alternatives_in v = map alternative_of v.items

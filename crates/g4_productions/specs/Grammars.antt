@@ -1,4 +1,5 @@
--- The grammar that a tree is.
+-- The grammar that a tree is: `read_grammar` rests on `IsGrammarText`, and on what `Rules`, `ParserElements`, `LexerElements` and
+-- `Elements` beside it say of parts of the tree.
 use Rattle.std.specs.Prelude.{◌≡◌, ℕ, List, [], Result, Ok, Err}
 use Rattle.g4_source.specs.declared.prequel.Prequel.{Prequel}
 use Rattle.g4_source.specs.declared.source.Source.{Source}
@@ -8,10 +9,9 @@ use Rattle.g4_syntax.specs.Notation.{Spelled}
 use Rattle.g4_syntax.specs.Productions.{heading, combined_grammar, lexer_grammar, parser_grammar, grammar}
 use Rattle.g4_syntax.specs.Trees.{Tree, both, left, right, HasTree, TextStops}
 use Rattle.g4_prequels.specs.Prequels.{prequels_of}
-use Rattle.g4_prequels.specs.Steps.{from}
-use Rattle.g4_prequels.specs.Texts.{spelled, token_of, text_of}
-use Rattle.g4_prequels.specs.declared.stop.Stop.{Stop}
-use Rattle.g4_prequels.specs.declared.stop.Stop.TheVariants as stops
+use Rattle.g4_prequels.specs.Texts.{from, spelled, token_of, text_of}
+use Rattle.g4_productions.specs.declared.reader.Stop.{Stop}
+use Rattle.g4_productions.specs.declared.reader.Stop.TheVariants as stops
 use Rattle.g4_productions.specs.Rules.{combined_rules, default_rules, parser_rules, modes_of}
 
 -- the name that a grammar text begins with behind its kind

@@ -9,12 +9,13 @@ use Rattle.g4_elements.specs.Trees.{in_order}
 use Rattle.g4_source.specs.declared.atom.Atom.{Atom}
 use Rattle.g4_source.specs.declared.atom.AtomKind.TheVariants as atoms
 use Rattle.g4_elements.specs.declared.name.Label.{Label}
-use Rattle.g4_syntax.specs.Notation.{Terminal, one, lexer_element, character_set, ◌▸◌, repeated, part, sign}
-use Rattle.g4_syntax.specs.Productions.{unnamed_lexer_item, lexer_item, labelled_lexer_item}
+use Rattle.g4_elements.specs.declared.name.Name.{Name}
+use Rattle.g4_syntax.specs.Notation.{Terminal, one, lexer_element, character_set, ◌▸◌, ◌∣◌, optional, repeated, part, sign, with_bars}
+use Rattle.g4_syntax.specs.Productions.{assign, element_options, lexer_block, unnamed_lexer_item, lexer_item, labelled_lexer_item}
 use Rattle.g4_syntax.specs.Trees.{Tree, both, left, right, absent, present, end, more, inner}
 use Rattle.g4_prequels.specs.Options.{right_of_optional}
 use Rattle.g4_prequels.specs.Texts.{token_of, name_of, literal_of}
-use Rattle.g4_productions.specs.Elements.{Labelled, single, brackets, label_of, optional_suffix_of, action_of, with_suffix}
+use Rattle.g4_productions.specs.Elements.{Labelled, single, brackets, is_list, optional_suffix_of, action_of, with_suffix}
 use Rattle.g4_productions.specs.Members.{set_of_ranges, ranges_of}
 use Rattle.g4_productions.specs.SetText.{content}
 
@@ -31,13 +32,25 @@ first_character (c ∷ cs) = c
 abbrev pub character_of : {t : Terminal} → Tree (one t) → ℕ
 character_of x = first_character (literal_spelling (chars (token_of x).bytes))
 
+-- the range of a literal, or from one to another
+abbrev pub character_ranges : Tree (sign kinds.Literal ▸ optional (sign kinds.DoubleDot ▸ sign kinds.Literal)) → List Span
+character_ranges (both literal absent) = record { first = character_of literal; last = character_of literal } ∷ []
+character_ranges (both literal (present (both dots last))) = record { first = character_of literal; last = character_of last } ∷ []
+
 abbrev mutual
   -- the ranges under `~`
   pub excluded_ranges : Tree (part character_set) → List Span
-  excluded_ranges (inner (left (both literal absent))) = record { first = character_of literal; last = character_of literal } ∷ []
-  excluded_ranges (inner (left (both literal (present (both dots last))))) = record { first = character_of literal; last = character_of last } ∷ []
+  excluded_ranges (inner (left characters)) = character_ranges characters
   excluded_ranges (inner (right (left set))) = set_of_leaf set
-  excluded_ranges (inner (right (right (both opening (both (both s ss) closing))))) = excluded_ranges s ++ excluded_behind ss
+  excluded_ranges (inner (right (right b))) = bracket_ranges b
+
+  -- the ranges in brackets
+  pub bracket_ranges : Tree (sign kinds.LeftParenthesis ▸ with_bars (part character_set) ▸ sign kinds.RightParenthesis) → List Span
+  bracket_ranges (both opening (both ss closing)) = ranges_between ss
+
+  -- the ranges between bars
+  pub ranges_between : Tree (with_bars (part character_set)) → List Span
+  ranges_between (both s ss) = excluded_ranges s ++ excluded_behind ss
 
   -- the ranges behind bars
   pub excluded_behind : Tree (repeated (sign kinds.Bar ▸ part character_set)) → List Span
@@ -47,6 +60,11 @@ abbrev mutual
 -- the set of the characters under `~`
 abbrev pub excluded_set : Tree (part character_set) → List Span
 excluded_set tree = set_of_ranges (excluded_ranges tree)
+
+-- a literal, or the characters from its own to that of another, with this label
+abbrev pub literal_item : Option Label → Tree (sign kinds.Literal ▸ (sign kinds.DoubleDot ▸ sign kinds.Literal ∣ optional element_options)) → Labelled
+literal_item l (both literal (left (both dots last))) = single (record { label = l; right = false; kind = atoms.Range (token_of literal).place (literal_of literal) (literal_of last) })
+literal_item l (both literal (right options)) = single (record { label = l; right = right_of_optional options; kind = atoms.Literal (literal_of literal) })
 
 abbrev mutual
   -- an element
@@ -61,10 +79,18 @@ abbrev mutual
 
   -- an item, perhaps with a label
   pub labelled_lexer : Tree labelled_lexer_item → Labelled
-  labelled_lexer (left (both n (both a i))) = named_lexer_item (Some (label_of n a)) i
-  labelled_lexer (right (left (both n (left (both a i))))) = named_lexer_item (Some (label_of n a)) i
-  labelled_lexer (right (left (both n (right options)))) = single (record { label = None; right = right_of_optional options; kind = atoms.Token (name_of n) })
+  labelled_lexer (left (both n x)) = labelled_by (name_of n) x
+  labelled_lexer (right (left x)) = upper_lexer_item x
   labelled_lexer (right (right u)) = unnamed_lexer None u
+
+  -- an item that begins with an upper-case name
+  pub upper_lexer_item : Tree (sign kinds.Upper ▸ (assign ▸ lexer_item ∣ optional element_options)) → Labelled
+  upper_lexer_item (both n (left x)) = labelled_by (name_of n) x
+  upper_lexer_item (both n (right options)) = single (record { label = None; right = right_of_optional options; kind = atoms.Token (name_of n) })
+
+  -- an item behind a label with this name
+  pub labelled_by : Name → Tree (assign ▸ lexer_item) → Labelled
+  labelled_by name (both a i) = named_lexer_item (Some (record { name = name; list = is_list a })) i
 
   -- an item with this label
   pub named_lexer_item : Option Label → Tree lexer_item → Labelled
@@ -73,12 +99,19 @@ abbrev mutual
 
   -- an item that begins with no name, with this label
   pub unnamed_lexer : Option Label → Tree unnamed_lexer_item → Labelled
-  unnamed_lexer l (left (both literal (left (both dots last)))) = single (record { label = l; right = false; kind = atoms.Range (token_of literal).place (literal_of literal) (literal_of last) })
-  unnamed_lexer l (left (both literal (right options))) = single (record { label = l; right = right_of_optional options; kind = atoms.Literal (literal_of literal) })
+  unnamed_lexer l (left x) = literal_item l x
   unnamed_lexer l (right (left set)) = single (record { label = l; right = false; kind = atoms.Set (set_of_leaf set) })
   unnamed_lexer l (right (right (left dot))) = single (record { label = l; right = false; kind = atoms.Any (token_of dot).place })
   unnamed_lexer l (right (right (right (left (both tilde s))))) = single (record { label = l; right = false; kind = atoms.NotCharacters (token_of tilde).place (excluded_set s) })
-  unnamed_lexer l (right (right (right (right (both opening (both (both x xs) closing)))))) = brackets l (either (in_order (lexer_elements x) ∷ lexer_alternatives_behind xs))
+  unnamed_lexer l (right (right (right (right b)))) = brackets l (either (lexer_block_of b))
+
+  -- the alternatives of a block
+  pub lexer_block_of : Tree lexer_block → List (Elements Atom)
+  lexer_block_of (both opening (both xs closing)) = lexer_alternatives xs
+
+  -- the alternatives of a block between bars
+  pub lexer_alternatives : Tree (with_bars (repeated (part lexer_element))) → List (Elements Atom)
+  lexer_alternatives (both x xs) = in_order (lexer_elements x) ∷ lexer_alternatives_behind xs
 
   -- the alternatives of a block behind bars
   pub lexer_alternatives_behind : Tree (repeated (sign kinds.Bar ▸ repeated (part lexer_element))) → List (Elements Atom)

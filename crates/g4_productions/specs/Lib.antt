@@ -1,12 +1,7 @@
 pub mod Elements
 pub mod Grammars
 pub mod LexerElements
-pub mod LexerSteps
 pub mod Members
 pub mod ParserElements
-pub mod ParserItems
-pub mod ParserRules
 pub mod Rules
 pub mod SetText
-pub mod Suffixes
-pub mod TokenSets

@@ -8,19 +8,32 @@ use Rattle.g4_source.specs.declared.atom.AtomKind.TheVariants as atoms
 use Rattle.g4_source.specs.declared.atom.TokenReference.{TokenReference}
 use Rattle.g4_source.specs.declared.atom.TokenReference.TheVariants as references
 use Rattle.g4_elements.specs.declared.name.Label.{Label}
-use Rattle.g4_syntax.specs.Notation.{element, token_set, ◌▸◌, repeated, part, sign}
-use Rattle.g4_syntax.specs.Productions.{alternative, unnamed_item, item, labelled_item}
+use Rattle.g4_elements.specs.declared.name.Name.{Name}
+use Rattle.g4_syntax.specs.Notation.{element, token_set, ◌▸◌, ◌∣◌, optional, repeated, part, sign, with_bars}
+use Rattle.g4_syntax.specs.Productions.{assign, element_options, reference_end, alternative, block, unnamed_item, item, labelled_item}
 use Rattle.g4_syntax.specs.Trees.{Tree, both, left, right, end, more, inner}
 use Rattle.g4_prequels.specs.Options.{right_of_optional}
 use Rattle.g4_prequels.specs.Texts.{token_of, text_of, name_of, literal_of}
-use Rattle.g4_productions.specs.Elements.{Labelled, single, brackets, label_of, optional_suffix_of, action_of, with_suffix}
+use Rattle.g4_productions.specs.Elements.{Labelled, single, brackets, is_list, optional_suffix_of, action_of, with_suffix}
+
+-- whether the reference to a rule associates to the right
+abbrev pub reference_right : Tree reference_end → Bool
+reference_right (both arguments options) = right_of_optional options
 
 abbrev mutual
   -- the tokens behind `~`
   pub references_of : Tree (part token_set) → List TokenReference
   references_of (inner (left (both n options))) = references.Token (text_of n) ∷ []
   references_of (inner (right (left literal))) = references.Literal (literal_of literal) ∷ []
-  references_of (inner (right (right (both opening (both (both s ss) closing))))) = references_of s ++ references_behind ss
+  references_of (inner (right (right b))) = bracket_references b
+
+  -- the tokens in brackets
+  pub bracket_references : Tree (sign kinds.LeftParenthesis ▸ with_bars (part token_set) ▸ sign kinds.RightParenthesis) → List TokenReference
+  bracket_references (both opening (both ss closing)) = references_between ss
+
+  -- the tokens between bars
+  pub references_between : Tree (with_bars (part token_set)) → List TokenReference
+  references_between (both s ss) = references_of s ++ references_behind ss
 
   -- the tokens behind bars
   pub references_behind : Tree (repeated (sign kinds.Bar ▸ part token_set)) → List TokenReference
@@ -40,15 +53,27 @@ abbrev mutual
 
   -- an item, perhaps with a label
   pub labelled : Tree labelled_item → Labelled
-  labelled (left (both n (left (both a i)))) = named_item (Some (label_of n a)) i
-  labelled (left (both n (right (both arguments options)))) = single (record { label = None; right = right_of_optional options; kind = atoms.Rule (name_of n) })
-  labelled (right (left (both n (left (both a i))))) = named_item (Some (label_of n a)) i
-  labelled (right (left (both n (right options)))) = single (record { label = None; right = right_of_optional options; kind = atoms.Token (name_of n) })
+  labelled (left x) = lower_item x
+  labelled (right (left x)) = upper_item x
   labelled (right (right u)) = unnamed None u
+
+  -- an item that begins with a lower-case name
+  pub lower_item : Tree (sign kinds.Lower ▸ (assign ▸ item ∣ reference_end)) → Labelled
+  lower_item (both n (left x)) = labelled_behind (name_of n) x
+  lower_item (both n (right r)) = single (record { label = None; right = reference_right r; kind = atoms.Rule (name_of n) })
+
+  -- an item that begins with an upper-case name
+  pub upper_item : Tree (sign kinds.Upper ▸ (assign ▸ item ∣ optional element_options)) → Labelled
+  upper_item (both n (left x)) = labelled_behind (name_of n) x
+  upper_item (both n (right options)) = single (record { label = None; right = right_of_optional options; kind = atoms.Token (name_of n) })
+
+  -- an item behind a label with this name
+  pub labelled_behind : Name → Tree (assign ▸ item) → Labelled
+  labelled_behind name (both a i) = named_item (Some (record { name = name; list = is_list a })) i
 
   -- an item with this label
   pub named_item : Option Label → Tree item → Labelled
-  named_item l (left (both n (both arguments options))) = single (record { label = l; right = right_of_optional options; kind = atoms.Rule (name_of n) })
+  named_item l (left (both n r)) = single (record { label = l; right = reference_right r; kind = atoms.Rule (name_of n) })
   named_item l (right (left (both n options))) = single (record { label = l; right = right_of_optional options; kind = atoms.Token (name_of n) })
   named_item l (right (right u)) = unnamed l u
 
@@ -57,7 +82,15 @@ abbrev mutual
   unnamed l (left (both literal options)) = single (record { label = l; right = right_of_optional options; kind = atoms.Literal (literal_of literal) })
   unnamed l (right (left (both dot options))) = single (record { label = l; right = right_of_optional options; kind = atoms.Any (token_of dot).place })
   unnamed l (right (right (left (both tilde s)))) = single (record { label = l; right = false; kind = atoms.NotTokens (token_of tilde).place (references_of s) })
-  unnamed l (right (right (right (both opening (both prequel (both (both x xs) closing)))))) = brackets l (either (alternative_elements x ∷ alternatives_behind xs))
+  unnamed l (right (right (right b))) = brackets l (either (block_of b))
+
+  -- the alternatives of a block
+  pub block_of : Tree block → List (Elements Atom)
+  block_of (both opening (both prequel (both xs closing))) = alternatives_of xs
+
+  -- the alternatives between bars
+  pub alternatives_of : Tree (with_bars alternative) → List (Elements Atom)
+  alternatives_of (both x xs) = alternative_elements x ∷ alternatives_behind xs
 
   -- the elements of an alternative
   pub alternative_elements : Tree alternative → Elements Atom

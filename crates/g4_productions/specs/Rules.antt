@@ -15,7 +15,7 @@ use Rattle.g4_source.specs.declared.rule.RuleAlternative.{RuleAlternative}
 use Rattle.g4_source.specs.declared.source.Mode.{Mode}
 use Rattle.g4_elements.specs.Trees.{in_order}
 use Rattle.g4_source.specs.declared.atom.Atom.{Atom}
-use Rattle.g4_syntax.specs.Notation.{Terminal, one, ◌▸◌, ◌∣◌, optional, repeated, sign, name, with_commas}
+use Rattle.g4_syntax.specs.Notation.{Terminal, one, ◌▸◌, ◌∣◌, optional, repeated, sign, name, with_commas, with_bars}
 use Rattle.g4_syntax.specs.Productions.{rule_alternative, parser_rule, command, lexer_alternative, lexer_rule, mode}
 use Rattle.g4_syntax.specs.Trees.{Tree, both, left, right, absent, present, end, more}
 use Rattle.g4_prequels.specs.Texts.{token_of, text_of, name_of}
@@ -36,15 +36,23 @@ abbrev pub rule_alternatives_behind : Tree (repeated (sign kinds.Bar ▸ rule_al
 rule_alternatives_behind end = []
 rule_alternatives_behind (more (both bar x) xs) = rule_alternative_of x ∷ rule_alternatives_behind xs
 
+-- the alternatives of a parser rule
+abbrev pub rule_alternatives_of : Tree (with_bars rule_alternative) → List (RuleAlternative Atom)
+rule_alternatives_of (both x xs) = rule_alternative_of x ∷ rule_alternatives_behind xs
+
 -- a parser rule
 abbrev pub parser_rule_of : Tree parser_rule → ParserRule Atom
-parser_rule_of (both modifier (both n (both prequels (both colon (both (both x xs) (both semicolon handlers)))))) = record { name = text_of n; alternatives = rule_alternative_of x ∷ rule_alternatives_behind xs }
+parser_rule_of (both modifier (both n (both prequels (both colon (both xs (both semicolon handlers)))))) = record { name = text_of n; alternatives = rule_alternatives_of xs }
+
+-- the name or the number that the argument of a command is
+abbrev pub argument_text_of : Tree (name ∣ sign kinds.Number) → Argument
+argument_text_of (left n) = arguments.Name (text_of n)
+argument_text_of (right n) = arguments.Number (text_of n)
 
 -- the argument of a command
 abbrev pub argument_of : Tree (optional (sign kinds.LeftParenthesis ▸ (name ∣ sign kinds.Number) ▸ sign kinds.RightParenthesis)) → Option Argument
 argument_of absent = None
-argument_of (present (both opening (both (left n) closing))) = Some (arguments.Name (text_of n))
-argument_of (present (both opening (both (right n) closing))) = Some (arguments.Number (text_of n))
+argument_of (present (both opening (both a closing))) = Some (argument_text_of a)
 
 -- a command
 abbrev pub command_of : Tree command → Command
@@ -55,10 +63,14 @@ abbrev pub commands_behind : Tree (repeated (sign kinds.Comma ▸ command)) → 
 commands_behind end = []
 commands_behind (more (both comma c) cs) = command_of c ∷ commands_behind cs
 
+-- the commands behind `->`
+abbrev pub commands_in_order : Tree (with_commas command) → List Command
+commands_in_order (both c cs) = command_of c ∷ commands_behind cs
+
 -- the commands of an alternative
 abbrev pub commands_of : Tree (optional (sign kinds.Arrow ▸ with_commas command)) → List Command
 commands_of absent = []
-commands_of (present (both arrow (both c cs))) = command_of c ∷ commands_behind cs
+commands_of (present (both arrow cs)) = commands_in_order cs
 
 -- an alternative of a lexer rule
 abbrev pub lexer_alternative_of : Tree lexer_alternative → LexerAlternative
@@ -69,6 +81,10 @@ abbrev pub rule_lexer_alternatives_behind : Tree (repeated (sign kinds.Bar ▸ l
 rule_lexer_alternatives_behind end = []
 rule_lexer_alternatives_behind (more (both bar x) xs) = lexer_alternative_of x ∷ rule_lexer_alternatives_behind xs
 
+-- the alternatives of a lexer rule
+abbrev pub rule_lexer_alternatives : Tree (with_bars lexer_alternative) → List LexerAlternative
+rule_lexer_alternatives (both x xs) = lexer_alternative_of x ∷ rule_lexer_alternatives_behind xs
+
 -- the place of `fragment`
 abbrev pub fragment_place : {t : Terminal} → Tree (optional (one t)) → Option Place
 fragment_place absent = None
@@ -76,7 +92,7 @@ fragment_place (present keyword) = Some (token_of keyword).place
 
 -- a lexer rule
 abbrev pub lexer_rule_of : Tree lexer_rule → LexerRule
-lexer_rule_of (both fragment (both n (both options (both colon (both (both x xs) semicolon))))) = record { fragment = fragment_place fragment; name = text_of n; alternatives = lexer_alternative_of x ∷ rule_lexer_alternatives_behind xs }
+lexer_rule_of (both fragment (both n (both options (both colon (both xs semicolon))))) = record { fragment = fragment_place fragment; name = text_of n; alternatives = rule_lexer_alternatives xs }
 
 -- lexer rules in order
 abbrev pub lexer_rules : Tree (repeated lexer_rule) → List LexerRule
@@ -99,7 +115,11 @@ abbrev pub parser_rules : Tree (repeated parser_rule) → List Rule
 parser_rules end = []
 parser_rules (more r rs) = rules.Parser (parser_rule_of r) ∷ parser_rules rs
 
+-- a mode and its rules
+abbrev pub mode_of : Tree mode → Mode
+mode_of (both keyword (both n (both semicolon rs))) = record { name = text_of n; rules = lexer_rules rs }
+
 -- modes in order
 abbrev pub modes_of : Tree (repeated mode) → List Mode
 modes_of end = []
-modes_of (more (both keyword (both n (both semicolon rs))) ms) = record { name = text_of n; rules = lexer_rules rs } ∷ modes_of ms
+modes_of (more m ms) = mode_of m ∷ modes_of ms

@@ -1,130 +1,65 @@
 // What is excluded by `~` in lexer rules.
-ghost use Rattle.std.specs.Prelude.{◌≡◌, ◌≤◌, ◌++◌, ◌↔◌, ℕ, IfOk, length, map};
+ghost use Rattle.std.specs.Prelude.{◌≡◌, ◌++◌, ◌↔◌, ℕ, IfOk, OnOk, map};
 ghost use Rattle.g4_chars.specs.CharSets.{Has};
 ghost use Rattle.g4_chars.specs.SetText.{HoldsIn};
-ghost use Rattle.g4_syntax.specs.Trees.{inner, left, right};
-ghost use Rattle.g4_prequels.specs.Parts.{AreParts};
-ghost use Rattle.g4_prequels.specs.Steps.{Gives};
-ghost use Rattle.g4_productions.specs.LexerElements.{excluded_ranges, excluded_set};
-ghost use Rattle.g4_productions.specs.LexerSteps.{GivesAs, excluded_of_each};
+ghost use Rattle.g4_prequels.specs.Progress.{Moves, Gives};
+ghost use Rattle.g4_productions.specs.LexerElements.{character_ranges, excluded_ranges, excluded_set, bracket_ranges};
 ghost use Rattle.g4_productions.specs.Members.{part_of, set_of_ranges};
 
-use crate::set::{character_at, set_at};
+use crate::set::{character, set};
 use g4_chars::{CharSet, Range};
-use g4_prequels::{MOST_OPEN, Stop, is_at, pass};
-use g4_tokens::{Kind, Token};
+use g4_prequels::Cursor;
+use g4_tokens::Kind;
 use std::alloc::{AllocError, Global};
 
-/// These ranges with that of the literal, or of the two, at the index, and the index behind.
-fn with_characters(
-    alloc: Global,
-    text: &str,
-    tokens: &[Token],
-    at: usize,
-    mut ranges: Vec<Range>,
-) -> Result<(Vec<Range>, usize), Stop>
-    requires parts { AreParts text.now tokens.now }
-    requires within { at ≤ length tokens.now }
-    ensures { GivesAs (λ r. r.items) (λ tree. ranges.items ++ excluded_ranges (inner (left tree))) text.now tokens.now at result }
+/// Adds the range of a literal, or from one to another.
+fn add_characters(cursor: &mut Cursor<'_>, ranges: &mut Vec<Range>) -> Result<(), AllocError>
+    ensures { OnOk result (Moves (λ tree. ranges.new.items ≡ ranges.old.items ++ character_ranges tree) cursor.old cursor.new) }
 {
-    let (first, at) = character_at(alloc, text, tokens, at)?;
-    if !is_at(tokens, at, Kind::DoubleDot) {
+    let first = character(cursor)?;
+    if !cursor.is_at(Kind::DoubleDot) {
         ranges.push(Range { first, last: first })?;
-        return Ok((ranges, at));
+        return Ok(());
     }
-    let at = pass(tokens, at, Kind::DoubleDot)?;
-    let (last, at) = character_at(alloc, text, tokens, at)?;
+    cursor.take(Kind::DoubleDot);
+    let last = character(cursor)?;
     ranges.push(Range { first, last })?;
-    Ok((ranges, at))
+    Ok(())
 }
 
-/// These ranges with those of the set at the index, and the index behind it.
-fn with_set(
-    alloc: Global,
-    text: &str,
-    tokens: &[Token],
-    at: usize,
-    mut ranges: Vec<Range>,
-) -> Result<(Vec<Range>, usize), Stop>
-    requires parts { AreParts text.now tokens.now }
-    requires within { at ≤ length tokens.now }
-    ensures { GivesAs (λ r. r.items) (λ tree. ranges.items ++ excluded_ranges (inner (right (left tree)))) text.now tokens.now at result }
-{
-    let (set, at) = set_at(alloc, text, tokens, at)?;
-    ranges.extend_from_slice(set.ranges())?;
-    Ok((ranges, at))
-}
-
-/// These ranges with those that stand in brackets at the index, and the index behind. So many brackets are open.
+/// Adds the ranges of sets in brackets with bars between.
 #[cycle(brackets)]
-fn with_brackets(
-    alloc: Global,
-    text: &str,
-    tokens: &[Token],
-    at: usize,
-    open: u32,
-    ranges: Vec<Range>,
-) -> Result<(Vec<Range>, usize), Stop>
-    requires parts { AreParts text.now tokens.now }
-    requires within { at ≤ length tokens.now }
-    ensures { GivesAs (λ r. r.items) (λ tree. ranges.items ++ excluded_ranges (inner (right (right tree)))) text.now tokens.now at result }
+fn add_brackets(cursor: &mut Cursor<'_>, ranges: &mut Vec<Range>) -> Result<(), AllocError>
+    ensures { OnOk result (Moves (λ tree. ranges.new.items ≡ ranges.old.items ++ bracket_ranges tree) cursor.old cursor.new) }
 {
-    let at = pass(tokens, at, Kind::LeftParenthesis)?;
-    if open >= MOST_OPEN {
-        return Err(Stop::NoMemory);
+    if !cursor.open()? {
+        return Ok(());
     }
-    let (ranges, at) = with_each(alloc, text, tokens, at, open + 1, ranges)?;
-    let at = pass(tokens, at, Kind::RightParenthesis)?;
-    Ok((ranges, at))
+    add_excluded(cursor, ranges)?;
+    while cursor.is_at(Kind::Bar) {
+        cursor.take(Kind::Bar);
+        add_excluded(cursor, ranges)?;
+    }
+    cursor.close();
+    Ok(())
 }
 
-/// These ranges with those of sets with bars between, and the index behind.
+/// Adds the ranges that stand under `~`.
 #[cycle(brackets)]
-fn with_each(
-    alloc: Global,
-    text: &str,
-    tokens: &[Token],
-    at: usize,
-    open: u32,
-    ranges: Vec<Range>,
-) -> Result<(Vec<Range>, usize), Stop>
-    requires parts { AreParts text.now tokens.now }
-    requires within { at ≤ length tokens.now }
-    ensures { GivesAs (λ r. r.items) (λ tree. ranges.items ++ excluded_of_each tree) text.now tokens.now at result }
+fn add_excluded(cursor: &mut Cursor<'_>, ranges: &mut Vec<Range>) -> Result<(), AllocError>
+    ensures { OnOk result (Moves (λ tree. ranges.new.items ≡ ranges.old.items ++ excluded_ranges tree) cursor.old cursor.new) }
 {
-    let (mut all, mut next) = with_excluded(alloc, text, tokens, at, open, ranges)?;
-    while is_at(tokens, next, Kind::Bar) {
-        let (more, behind) = with_excluded(alloc, text, tokens, next + 1, open, all)?;
-        all = more;
-        next = behind;
+    if cursor.is_at(Kind::Literal) {
+        add_characters(cursor, ranges)?;
+        return Ok(());
     }
-    Ok((all, next))
-}
-
-/// These ranges with those under `~` at the index, and the index behind. So many brackets are open.
-#[cycle(brackets)]
-fn with_excluded(
-    alloc: Global,
-    text: &str,
-    tokens: &[Token],
-    at: usize,
-    open: u32,
-    ranges: Vec<Range>,
-) -> Result<(Vec<Range>, usize), Stop>
-    requires parts { AreParts text.now tokens.now }
-    requires within { at ≤ length tokens.now }
-    ensures { GivesAs (λ r. r.items) (λ tree. ranges.items ++ excluded_ranges tree) text.now tokens.now at result }
-{
-    if is_at(tokens, at, Kind::Literal) {
-        let (ranges, at) = with_characters(alloc, text, tokens, at, ranges)?;
-        return Ok((ranges, at));
+    if cursor.is_at(Kind::Set) {
+        let set = set(cursor)?;
+        ranges.extend_from_slice(set.ranges())?;
+        return Ok(());
     }
-    if is_at(tokens, at, Kind::Set) {
-        let (ranges, at) = with_set(alloc, text, tokens, at, ranges)?;
-        return Ok((ranges, at));
-    }
-    let (ranges, at) = with_brackets(alloc, text, tokens, at, open, ranges)?;
-    Ok((ranges, at))
+    add_brackets(cursor, ranges)?;
+    Ok(())
 }
 
 /// The set of the characters in the ranges. It is joined from sets of halves of them, so that many ranges take little time.
@@ -154,19 +89,12 @@ fn set_of_ranges(alloc: Global, ranges: &[Range]) -> Result<CharSet, AllocError>
     Ok(set)
 }
 
-/// The set of the characters under `~` at the index, and the index behind. So many brackets are open.
-pub(crate) fn excluded_at(
-    alloc: Global,
-    text: &str,
-    tokens: &[Token],
-    at: usize,
-    open: u32,
-) -> Result<(CharSet, usize), Stop>
-    requires parts { AreParts text.now tokens.now }
-    requires within { at ≤ length tokens.now }
-    ensures { Gives excluded_set text.now tokens.now at result }
+/// The set of the characters under `~`.
+pub(crate) fn excluded_set(cursor: &mut Cursor<'_>) -> Result<CharSet, AllocError>
+    ensures { Gives excluded_set cursor.old cursor.new result }
 {
-    let (ranges, at) = with_excluded(alloc, text, tokens, at, open, Vec::new(alloc))?;
-    let set = set_of_ranges(alloc, &ranges)?;
-    Ok((set, at))
+    let mut ranges = Vec::new(cursor.alloc());
+    add_excluded(cursor, &mut ranges)?;
+    let set = set_of_ranges(cursor.alloc(), &ranges)?;
+    Ok(set)
 }

@@ -1,18 +1,16 @@
 // A whole grammar text.
-ghost use Rattle.std.specs.Prelude.{◌≡◌, ◌≤◌, length};
-ghost use Rattle.g4_prequels.specs.Parts.{AreParts};
-ghost use Rattle.g4_prequels.specs.Steps.{Gives, ReadsAs};
+ghost use Rattle.std.specs.Prelude.{◌≡◌, IfOk};
+ghost use Rattle.g4_prequels.specs.Progress.{Gives, Moves};
 ghost use Rattle.g4_productions.specs.Grammars.{combined_of, heading_name, heading_prequels, lexer_grammar_of, parser_grammar_of, source_of};
 ghost use Rattle.g4_productions.specs.Rules.{combined_rules, default_rules, parser_rules};
 
-use crate::lexer_rule::{is_lexer_rule_at, lexer_rule};
-use crate::mode::modes;
+use crate::lexer_rule::{is_at_lexer_rule, lexer_rule, modes};
 use crate::parser_rule::parser_rule;
-use g4_base::{Place, Sequence, Text};
-use g4_prequels::{Stop, is_at, is_word_at, name_text, pass, pass_word, prequels, word_place};
+use g4_base::{Sequence, Text};
+use g4_prequels::{Cursor, prequels};
 use g4_source::{GrammarKind, Prequel, Rule, Source};
-use g4_tokens::{Kind, Token};
-use std::alloc::Global;
+use g4_tokens::Kind;
+use std::alloc::AllocError;
 
 /// The words that a grammar text begins with.
 const GRAMMAR: &str = "grammar";
@@ -29,186 +27,123 @@ struct Heading {
 }
 
 /// The grammar's name and what stands before its rules.
-fn heading_at(
-    alloc: Global,
-    text: &str,
-    tokens: &[Token],
-    at: usize,
-) -> Result<(Heading, usize), Stop>
-    requires parts { AreParts text.now tokens.now }
-    requires within { at ≤ length tokens.now }
-    ensures { ReadsAs (λ tree h. (h.name ≡ heading_name tree) × (h.prequels ≡ heading_prequels tree)) text.now tokens.now at result }
+fn read_heading(cursor: &mut Cursor<'_>) -> Result<Heading, AllocError>
+    ensures { IfOk result (λ h. Moves (λ tree. (h.name ≡ heading_name tree) × (h.prequels ≡ heading_prequels tree)) cursor.old cursor.new) }
 {
-    let (name, at) = name_text(alloc, text, tokens, at)?;
-    let at = pass(tokens, at, Kind::Semicolon)?;
-    let (prequels, at) = prequels(alloc, text, tokens, at)?;
-    Ok((Heading { name, prequels }, at))
+    let name = cursor.name_text()?;
+    cursor.take(Kind::Semicolon);
+    let prequels = prequels(cursor)?;
+    Ok(Heading { name, prequels })
 }
 
-/// The rules of a combined grammar from the index on.
-fn combined_rules(
-    alloc: Global,
-    text: &str,
-    tokens: &[Token],
-    at: usize,
-) -> Result<(Sequence<Rule>, usize), Stop>
-    requires parts { AreParts text.now tokens.now }
-    requires within { at ≤ length tokens.now }
-    ensures { Gives combined_rules text.now tokens.now at result }
+/// The rules of a combined grammar.
+fn combined_rules(cursor: &mut Cursor<'_>) -> Result<Sequence<Rule>, AllocError>
+    ensures { Gives combined_rules cursor.old cursor.new result }
 {
-    let mut rules = Vec::new(alloc);
-    let mut next = at;
+    let mut rules = Vec::new(cursor.alloc());
     loop {
-        if is_lexer_rule_at(text, tokens, next) {
-            let (rule, behind) = lexer_rule(alloc, text, tokens, next)?;
+        if is_at_lexer_rule(cursor) {
+            let rule = lexer_rule(cursor)?;
             rules.push(Rule::Lexer(rule))?;
-            next = behind;
-        } else if is_at(tokens, next, Kind::Lower) {
-            let (rule, behind) = parser_rule(alloc, text, tokens, next)?;
+        } else if cursor.is_at(Kind::Lower) {
+            let rule = parser_rule(cursor)?;
             rules.push(Rule::Parser(rule))?;
-            next = behind;
         } else {
-            return Ok((Sequence::new(rules), next));
+            return Ok(Sequence::new(rules));
         }
     }
 }
 
-/// The rules of a parser grammar from the index on.
-fn parser_rules(
-    alloc: Global,
-    text: &str,
-    tokens: &[Token],
-    at: usize,
-) -> Result<(Sequence<Rule>, usize), Stop>
-    requires parts { AreParts text.now tokens.now }
-    requires within { at ≤ length tokens.now }
-    ensures { Gives parser_rules text.now tokens.now at result }
+/// The rules of a parser grammar.
+fn parser_rules(cursor: &mut Cursor<'_>) -> Result<Sequence<Rule>, AllocError>
+    ensures { Gives parser_rules cursor.old cursor.new result }
 {
-    let mut rules = Vec::new(alloc);
-    let mut next = at;
-    while is_at(tokens, next, Kind::Lower) {
-        let (rule, behind) = parser_rule(alloc, text, tokens, next)?;
+    let mut rules = Vec::new(cursor.alloc());
+    while cursor.is_at(Kind::Lower) {
+        let rule = parser_rule(cursor)?;
         rules.push(Rule::Parser(rule))?;
-        next = behind;
     }
-    Ok((Sequence::new(rules), next))
+    Ok(Sequence::new(rules))
 }
 
-/// The rules of a lexer grammar's default mode from the index on.
-fn default_rules(
-    alloc: Global,
-    text: &str,
-    tokens: &[Token],
-    at: usize,
-) -> Result<(Sequence<Rule>, usize), Stop>
-    requires parts { AreParts text.now tokens.now }
-    requires within { at ≤ length tokens.now }
-    ensures { Gives default_rules text.now tokens.now at result }
+/// The rules of a lexer grammar's default mode.
+fn default_rules(cursor: &mut Cursor<'_>) -> Result<Sequence<Rule>, AllocError>
+    ensures { Gives default_rules cursor.old cursor.new result }
 {
-    let mut rules = Vec::new(alloc);
-    let mut next = at;
-    while is_lexer_rule_at(text, tokens, next) {
-        let (rule, behind) = lexer_rule(alloc, text, tokens, next)?;
+    let mut rules = Vec::new(cursor.alloc());
+    while is_at_lexer_rule(cursor) {
+        let rule = lexer_rule(cursor)?;
         rules.push(Rule::Lexer(rule))?;
-        next = behind;
     }
-    Ok((Sequence::new(rules), next))
+    Ok(Sequence::new(rules))
 }
 
-/// The combined grammar from the index on.
-fn combined_grammar(
-    alloc: Global,
-    text: &str,
-    tokens: &[Token],
-    at: usize,
-) -> Result<(Source, usize), Stop>
-    requires parts { AreParts text.now tokens.now }
-    requires within { at ≤ length tokens.now }
-    ensures { Gives combined_of text.now tokens.now at result }
+/// A combined grammar.
+fn combined_grammar(cursor: &mut Cursor<'_>) -> Result<Source, AllocError>
+    ensures { Gives combined_of cursor.old cursor.new result }
 {
-    let (place, at) = word_place(text, tokens, at, GRAMMAR)?;
-    let (heading, at) = heading_at(alloc, text, tokens, at)?;
-    let (rules, at) = combined_rules(alloc, text, tokens, at)?;
-    let source = Source {
+    let place = cursor.take_word(GRAMMAR).place;
+    let Heading { name, prequels } = read_heading(cursor)?;
+    let rules = combined_rules(cursor)?;
+    Ok(Source {
         place,
         kind: GrammarKind::Combined,
-        name: heading.name,
-        prequels: heading.prequels,
+        name,
+        prequels,
         rules,
-        modes: Sequence::new(Vec::new(alloc)),
-    };
-    Ok((source, at))
+        modes: Sequence::new(Vec::new(cursor.alloc())),
+    })
 }
 
-/// The lexer grammar from the index on.
-fn lexer_grammar(
-    alloc: Global,
-    text: &str,
-    tokens: &[Token],
-    at: usize,
-) -> Result<(Source, usize), Stop>
-    requires parts { AreParts text.now tokens.now }
-    requires within { at ≤ length tokens.now }
-    ensures { Gives lexer_grammar_of text.now tokens.now at result }
+/// A lexer grammar.
+fn lexer_grammar(cursor: &mut Cursor<'_>) -> Result<Source, AllocError>
+    ensures { Gives lexer_grammar_of cursor.old cursor.new result }
 {
-    let (place, at) = word_place(text, tokens, at, LEXER)?;
-    let at = pass_word(text, tokens, at, GRAMMAR)?;
-    let (heading, at) = heading_at(alloc, text, tokens, at)?;
-    let (rules, at) = default_rules(alloc, text, tokens, at)?;
-    let (modes, at) = modes(alloc, text, tokens, at)?;
-    let source = Source {
+    let place = cursor.take_word(LEXER).place;
+    cursor.take_word(GRAMMAR);
+    let Heading { name, prequels } = read_heading(cursor)?;
+    let rules = default_rules(cursor)?;
+    let modes = modes(cursor)?;
+    Ok(Source {
         place,
         kind: GrammarKind::Lexer,
-        name: heading.name,
-        prequels: heading.prequels,
+        name,
+        prequels,
         rules,
         modes,
-    };
-    Ok((source, at))
+    })
 }
 
-/// The parser grammar from the index on.
-fn parser_grammar(
-    alloc: Global,
-    text: &str,
-    tokens: &[Token],
-    at: usize,
-) -> Result<(Source, usize), Stop>
-    requires parts { AreParts text.now tokens.now }
-    requires within { at ≤ length tokens.now }
-    ensures { Gives parser_grammar_of text.now tokens.now at result }
+/// A parser grammar.
+fn parser_grammar(cursor: &mut Cursor<'_>) -> Result<Source, AllocError>
+    ensures { Gives parser_grammar_of cursor.old cursor.new result }
 {
-    let (place, at) = word_place(text, tokens, at, PARSER)?;
-    let at = pass_word(text, tokens, at, GRAMMAR)?;
-    let (heading, at) = heading_at(alloc, text, tokens, at)?;
-    let (rules, at) = parser_rules(alloc, text, tokens, at)?;
-    let source = Source {
+    let place = cursor.take_word(PARSER).place;
+    cursor.take_word(GRAMMAR);
+    let Heading { name, prequels } = read_heading(cursor)?;
+    let rules = parser_rules(cursor)?;
+    Ok(Source {
         place,
         kind: GrammarKind::Parser,
-        name: heading.name,
-        prequels: heading.prequels,
+        name,
+        prequels,
         rules,
-        modes: Sequence::new(Vec::new(alloc)),
-    };
-    Ok((source, at))
+        modes: Sequence::new(Vec::new(cursor.alloc())),
+    })
 }
 
-/// The grammar from the index on.
-pub(crate) fn grammar_at(
-    alloc: Global,
-    text: &str,
-    tokens: &[Token],
-    at: usize,
-) -> Result<(Source, usize), Stop>
-    requires parts { AreParts text.now tokens.now }
-    requires within { at ≤ length tokens.now }
-    ensures { Gives source_of text.now tokens.now at result }
+/// A grammar.
+pub(crate) fn grammar(cursor: &mut Cursor<'_>) -> Result<Source, AllocError>
+    ensures { Gives source_of cursor.old cursor.new result }
 {
-    if is_word_at(text, tokens, at, GRAMMAR) {
-        combined_grammar(alloc, text, tokens, at)
-    } else if is_word_at(text, tokens, at, LEXER) {
-        lexer_grammar(alloc, text, tokens, at)
-    } else {
-        parser_grammar(alloc, text, tokens, at)
+    if cursor.is_at_word(GRAMMAR) {
+        let source = combined_grammar(cursor)?;
+        return Ok(source);
     }
+    if cursor.is_at_word(LEXER) {
+        let source = lexer_grammar(cursor)?;
+        return Ok(source);
+    }
+    let source = parser_grammar(cursor)?;
+    Ok(source)
 }

@@ -1,376 +1,194 @@
 // The elements of lexer rules.
-ghost use Rattle.std.specs.Prelude.{◌≡◌, ◌≤◌, ℕ, List, length, None};
+ghost use Rattle.std.specs.Prelude.{◌≡◌};
 ghost use Rattle.g4_elements.specs.Trees.{element_of};
 ghost use Rattle.g4_syntax.specs.Notation.{part, lexer_element};
-ghost use Rattle.g4_syntax.specs.Trees.{begins_there, left, right};
-ghost use Rattle.g4_prequels.specs.Parts.{AreParts};
-ghost use Rattle.g4_prequels.specs.Steps.{from};
-ghost use Rattle.g4_productions.specs.LexerElements.{lexer_element_of, lexer_elements, labelled_lexer, named_lexer_item, unnamed_lexer};
-ghost use Rattle.g4_productions.specs.ParserItems.{labelled_of};
-ghost use Rattle.g4_productions.specs.LexerSteps.{GivesAs, elements_in, alternatives_in, labelled_by, lexer_alternatives, lexer_block_alternatives};
+ghost use Rattle.g4_prequels.specs.Progress.{is_next, GivesAs};
+ghost use Rattle.g4_productions.specs.Elements.{labelled_of, elements_in, alternatives_in};
+ghost use Rattle.g4_productions.specs.LexerElements.{literal_item, lexer_element_of, lexer_elements, labelled_lexer, upper_lexer_item, labelled_by, named_lexer_item, unnamed_lexer, lexer_block_of, lexer_alternatives};
 
-use crate::excluded::excluded_at;
-use crate::set::set_at;
-use crate::suffix::{Labelled, action, is_label_sign_at, label_sign, optional_suffix, with_suffix};
+use crate::excluded::excluded_set;
+use crate::set::set;
+use crate::suffix::{Labelled, action, is_at_label_sign, label_sign, optional_suffix, with_suffix};
 use g4_elements::{Alternative, Element, Label, Name};
-use g4_prequels::{
-    MOST_OPEN, Stop, is_at, literal_at, named, optional_element_options, pass, place_at,
-};
+use g4_prequels::{Cursor, literal, optional_element_options};
 use g4_source::{Atom, AtomKind};
-use g4_tokens::{Kind, Token};
-use std::alloc::Global;
+use g4_tokens::Kind;
+use std::alloc::AllocError;
 
-/// Whether an element of a lexer rule begins at the index.
-pub(crate) fn is_element_at(tokens: &[Token], at: usize) -> bool
-    ensures { (text : List ℕ) → result ≡ begins_there (part lexer_element) (from text tokens.now at) }
+/// Whether an element of a lexer rule is next.
+fn is_at_element(cursor: &Cursor<'_>) -> bool
+    ensures { result ≡ is_next (part lexer_element) cursor.now }
 {
-    match tokens.get(at) {
-        Some(token) => matches!(
-            token.kind,
-            Kind::Lower
-                | Kind::Upper
-                | Kind::Literal
-                | Kind::Set
-                | Kind::Dot
-                | Kind::Tilde
-                | Kind::LeftParenthesis
-                | Kind::Action
-        ),
-        None => false,
-    }
+    cursor.is_at(Kind::Lower)
+        | cursor.is_at(Kind::Upper)
+        | cursor.is_at(Kind::Literal)
+        | cursor.is_at(Kind::Set)
+        | cursor.is_at(Kind::Dot)
+        | cursor.is_at(Kind::Tilde)
+        | cursor.is_at(Kind::LeftParenthesis)
+        | cursor.is_at(Kind::Action)
 }
 
-/// The token or lexer rule whose name stands at the index, with this label, and the index behind it.
-fn token_item(
-    alloc: Global,
-    text: &str,
-    tokens: &[Token],
-    at: usize,
-    label: Option<Label>,
-) -> Result<(Labelled, usize), Stop>
-    requires parts { AreParts text.now tokens.now }
-    requires within { at ≤ length tokens.now }
-    ensures { GivesAs labelled_of (λ tree. named_lexer_item label (left tree)) text.now tokens.now at result }
+/// A literal, or the characters from its own to that of another, with this label.
+fn literal_item(cursor: &mut Cursor<'_>, label: Option<Label>) -> Result<Labelled, AllocError>
+    ensures { GivesAs labelled_of (literal_item label) cursor.old cursor.new result }
 {
-    let (name, at) = named(alloc, text, tokens, at, Kind::Upper)?;
-    let (right, at) = optional_element_options(alloc, text, tokens, at)?;
-    let kind = AtomKind::Token(name);
-    Ok((Labelled::Single(Atom { label, right, kind }), at))
-}
-
-/// The literal at the index, or the characters from its own to that of another, with this label, and the index behind.
-fn literal_item(
-    alloc: Global,
-    text: &str,
-    tokens: &[Token],
-    at: usize,
-    label: Option<Label>,
-) -> Result<(Labelled, usize), Stop>
-    requires parts { AreParts text.now tokens.now }
-    requires within { at ≤ length tokens.now }
-    ensures { GivesAs labelled_of (λ tree. unnamed_lexer label (left tree)) text.now tokens.now at result }
-{
-    let (place, _) = place_at(tokens, at, Kind::Literal)?;
-    let (literal, at) = literal_at(alloc, text, tokens, at)?;
-    if is_at(tokens, at, Kind::DoubleDot) {
-        let at = pass(tokens, at, Kind::DoubleDot)?;
-        let (last, at) = literal_at(alloc, text, tokens, at)?;
-        let kind = AtomKind::Range(place, literal, last);
+    let taken = cursor.take(Kind::Literal);
+    let first = literal(cursor.alloc(), taken.text)?;
+    if cursor.is_at(Kind::DoubleDot) {
+        cursor.take(Kind::DoubleDot);
+        let other = cursor.take(Kind::Literal);
+        let last = literal(cursor.alloc(), other.text)?;
         let right = false;
-        return Ok((Labelled::Single(Atom { label, right, kind }), at));
+        let kind = AtomKind::Range(taken.place, first, last);
+        return Ok(Labelled::Single(Atom { label, right, kind }));
     }
-    let (right, at) = optional_element_options(alloc, text, tokens, at)?;
-    let kind = AtomKind::Literal(literal);
-    Ok((Labelled::Single(Atom { label, right, kind }), at))
+    let right = optional_element_options(cursor)?;
+    let kind = AtomKind::Literal(first);
+    Ok(Labelled::Single(Atom { label, right, kind }))
 }
 
-/// The set at the index, with this label, and the index behind it.
-fn set_item(
-    alloc: Global,
-    text: &str,
-    tokens: &[Token],
-    at: usize,
-    label: Option<Label>,
-) -> Result<(Labelled, usize), Stop>
-    requires parts { AreParts text.now tokens.now }
-    requires within { at ≤ length tokens.now }
-    ensures { GivesAs labelled_of (λ tree. unnamed_lexer label (right (left tree))) text.now tokens.now at result }
+/// An item that begins with no name, with this label.
+#[cycle(brackets)]
+fn unnamed_item(cursor: &mut Cursor<'_>, label: Option<Label>) -> Result<Labelled, AllocError>
+    ensures { GivesAs labelled_of (unnamed_lexer label) cursor.old cursor.new result }
 {
-    let (set, at) = set_at(alloc, text, tokens, at)?;
-    let kind = AtomKind::Set(set);
+    if cursor.is_at(Kind::Literal) {
+        let item = literal_item(cursor, label)?;
+        return Ok(item);
+    }
     let right = false;
-    Ok((Labelled::Single(Atom { label, right, kind }), at))
-}
-
-/// The `.` at the index, with this label, and the index behind it.
-fn any_item(tokens: &[Token], at: usize, label: Option<Label>) -> Result<(Labelled, usize), Stop>
-    requires within { at ≤ length tokens.now }
-    ensures { (text : List ℕ) → GivesAs labelled_of (λ tree. unnamed_lexer label (right (right (left tree)))) text tokens.now at result }
-{
-    let (place, at) = place_at(tokens, at, Kind::Dot)?;
-    let kind = AtomKind::Any(place);
-    let right = false;
-    Ok((Labelled::Single(Atom { label, right, kind }), at))
-}
-
-/// The `~` at the index and what stands behind it, with this label, and the index behind.
-fn excluding_item(
-    alloc: Global,
-    text: &str,
-    tokens: &[Token],
-    at: usize,
-    open: u32,
-    label: Option<Label>,
-) -> Result<(Labelled, usize), Stop>
-    requires parts { AreParts text.now tokens.now }
-    requires within { at ≤ length tokens.now }
-    ensures { GivesAs labelled_of (λ tree. unnamed_lexer label (right (right (right (left tree))))) text.now tokens.now at result }
-{
-    let (place, at) = place_at(tokens, at, Kind::Tilde)?;
-    let (set, at) = excluded_at(alloc, text, tokens, at, open)?;
-    let kind = AtomKind::NotCharacters(place, set);
-    let right = false;
-    Ok((Labelled::Single(Atom { label, right, kind }), at))
-}
-
-/// The alternatives in brackets at the index, and the index behind them. So many brackets are open before.
-#[cycle(brackets)]
-fn block(
-    alloc: Global,
-    text: &str,
-    tokens: &[Token],
-    at: usize,
-    open: u32,
-) -> Result<(Vec<Alternative<Atom>>, usize), Stop>
-    requires parts { AreParts text.now tokens.now }
-    requires within { at ≤ length tokens.now }
-    ensures { GivesAs alternatives_in lexer_block_alternatives text.now tokens.now at result }
-{
-    let at = pass(tokens, at, Kind::LeftParenthesis)?;
-    if open >= MOST_OPEN {
-        return Err(Stop::NoMemory);
+    if cursor.is_at(Kind::Set) {
+        let set = set(cursor)?;
+        let kind = AtomKind::Set(set);
+        return Ok(Labelled::Single(Atom { label, right, kind }));
     }
-    let (alternatives, at) = alternatives(alloc, text, tokens, at, open + 1)?;
-    let at = pass(tokens, at, Kind::RightParenthesis)?;
-    Ok((alternatives, at))
+    if cursor.is_at(Kind::Dot) {
+        let place = cursor.take(Kind::Dot).place;
+        let kind = AtomKind::Any(place);
+        return Ok(Labelled::Single(Atom { label, right, kind }));
+    }
+    if cursor.is_at(Kind::Tilde) {
+        let place = cursor.take(Kind::Tilde).place;
+        let set = excluded_set(cursor)?;
+        let kind = AtomKind::NotCharacters(place, set);
+        return Ok(Labelled::Single(Atom { label, right, kind }));
+    }
+    let alternatives = block(cursor)?;
+    Ok(Labelled::Brackets(label, alternatives))
 }
 
-/// The alternatives in brackets at the index, with this label, and the index behind them.
+/// An item with this label.
 #[cycle(brackets)]
-fn block_item(
-    alloc: Global,
-    text: &str,
-    tokens: &[Token],
-    at: usize,
-    open: u32,
-    label: Option<Label>,
-) -> Result<(Labelled, usize), Stop>
-    requires parts { AreParts text.now tokens.now }
-    requires within { at ≤ length tokens.now }
-    ensures { GivesAs labelled_of (λ tree. unnamed_lexer label (right (right (right (right tree))))) text.now tokens.now at result }
+fn item(cursor: &mut Cursor<'_>, label: Option<Label>) -> Result<Labelled, AllocError>
+    ensures { GivesAs labelled_of (named_lexer_item label) cursor.old cursor.new result }
 {
-    let (alternatives, at) = block(alloc, text, tokens, at, open)?;
-    Ok((Labelled::Brackets(label, alternatives), at))
+    if cursor.is_at(Kind::Upper) {
+        let name = cursor.named(Kind::Upper)?;
+        let right = optional_element_options(cursor)?;
+        let kind = AtomKind::Token(name);
+        return Ok(Labelled::Single(Atom { label, right, kind }));
+    }
+    let item = unnamed_item(cursor, label)?;
+    Ok(item)
 }
 
-/// The item at the index, which begins with no name, with this label, and the index behind it.
+/// The sign of a label with this name, and the item behind it.
 #[cycle(brackets)]
-fn unnamed_item(
-    alloc: Global,
-    text: &str,
-    tokens: &[Token],
-    at: usize,
-    open: u32,
-    label: Option<Label>,
-) -> Result<(Labelled, usize), Stop>
-    requires parts { AreParts text.now tokens.now }
-    requires within { at ≤ length tokens.now }
-    ensures { GivesAs labelled_of (unnamed_lexer label) text.now tokens.now at result }
+fn labelled_by(cursor: &mut Cursor<'_>, name: Name) -> Result<Labelled, AllocError>
+    ensures { GivesAs labelled_of (labelled_by name) cursor.old cursor.new result }
 {
-    if is_at(tokens, at, Kind::Literal) {
-        return literal_item(alloc, text, tokens, at, label);
-    }
-    if is_at(tokens, at, Kind::Set) {
-        return set_item(alloc, text, tokens, at, label);
-    }
-    if is_at(tokens, at, Kind::Dot) {
-        return any_item(tokens, at, label);
-    }
-    if is_at(tokens, at, Kind::Tilde) {
-        return excluding_item(alloc, text, tokens, at, open, label);
-    }
-    block_item(alloc, text, tokens, at, open, label)
+    let list = label_sign(cursor);
+    let labelled = item(cursor, Some(Label { name, list }))?;
+    Ok(labelled)
 }
 
-/// The item at the index, with this label, and the index behind it.
+/// An item that begins with an upper-case name, its label or a token's.
 #[cycle(brackets)]
-fn item(
-    alloc: Global,
-    text: &str,
-    tokens: &[Token],
-    at: usize,
-    open: u32,
-    label: Option<Label>,
-) -> Result<(Labelled, usize), Stop>
-    requires parts { AreParts text.now tokens.now }
-    requires within { at ≤ length tokens.now }
-    ensures { GivesAs labelled_of (named_lexer_item label) text.now tokens.now at result }
+fn upper_item(cursor: &mut Cursor<'_>) -> Result<Labelled, AllocError>
+    ensures { GivesAs labelled_of upper_lexer_item cursor.old cursor.new result }
 {
-    if is_at(tokens, at, Kind::Upper) {
-        return token_item(alloc, text, tokens, at, label);
+    let name = cursor.named(Kind::Upper)?;
+    if is_at_label_sign(cursor) {
+        let labelled = labelled_by(cursor, name)?;
+        return Ok(labelled);
     }
-    unnamed_item(alloc, text, tokens, at, open, label)
-}
-
-/// The item behind the sign at the index, with a label of this name, and the index behind it.
-#[cycle(brackets)]
-fn labelled_by(
-    alloc: Global,
-    text: &str,
-    tokens: &[Token],
-    at: usize,
-    open: u32,
-    name: Name,
-) -> Result<(Labelled, usize), Stop>
-    requires parts { AreParts text.now tokens.now }
-    requires within { at ≤ length tokens.now }
-    ensures { GivesAs labelled_of (labelled_by name) text.now tokens.now at result }
-{
-    let (list, at) = label_sign(tokens, at)?;
-    let label = Label { name, list };
-    let (item, at) = item(alloc, text, tokens, at, open, Some(label))?;
-    Ok((item, at))
-}
-
-/// The item at the index behind a lower-case name, which is its label, and the index behind it.
-#[cycle(brackets)]
-fn lower_item(
-    alloc: Global,
-    text: &str,
-    tokens: &[Token],
-    at: usize,
-    open: u32,
-) -> Result<(Labelled, usize), Stop>
-    requires parts { AreParts text.now tokens.now }
-    requires within { at ≤ length tokens.now }
-    ensures { GivesAs labelled_of (λ tree. labelled_lexer (left tree)) text.now tokens.now at result }
-{
-    let (name, at) = named(alloc, text, tokens, at, Kind::Lower)?;
-    let (item, at) = labelled_by(alloc, text, tokens, at, open, name)?;
-    Ok((item, at))
-}
-
-/// The item at the index, which begins with an upper-case name, its label or the item itself, and the index behind it.
-#[cycle(brackets)]
-fn upper_item(
-    alloc: Global,
-    text: &str,
-    tokens: &[Token],
-    at: usize,
-    open: u32,
-) -> Result<(Labelled, usize), Stop>
-    requires parts { AreParts text.now tokens.now }
-    requires within { at ≤ length tokens.now }
-    ensures { GivesAs labelled_of (λ tree. labelled_lexer (right (left tree))) text.now tokens.now at result }
-{
-    let (name, at) = named(alloc, text, tokens, at, Kind::Upper)?;
-    if is_label_sign_at(tokens, at) {
-        let (item, at) = labelled_by(alloc, text, tokens, at, open, name)?;
-        return Ok((item, at));
-    }
-    let (right, at) = optional_element_options(alloc, text, tokens, at)?;
     let label = None;
+    let right = optional_element_options(cursor)?;
     let kind = AtomKind::Token(name);
-    Ok((Labelled::Single(Atom { label, right, kind }), at))
+    Ok(Labelled::Single(Atom { label, right, kind }))
 }
 
-/// The item at the index, perhaps with a label, and the index behind it.
+/// An item, perhaps with a label.
 #[cycle(brackets)]
-fn labelled_item(
-    alloc: Global,
-    text: &str,
-    tokens: &[Token],
-    at: usize,
-    open: u32,
-) -> Result<(Labelled, usize), Stop>
-    requires parts { AreParts text.now tokens.now }
-    requires within { at ≤ length tokens.now }
-    ensures { GivesAs labelled_of labelled_lexer text.now tokens.now at result }
+fn labelled_item(cursor: &mut Cursor<'_>) -> Result<Labelled, AllocError>
+    ensures { GivesAs labelled_of labelled_lexer cursor.old cursor.new result }
 {
-    if is_at(tokens, at, Kind::Lower) {
-        return lower_item(alloc, text, tokens, at, open);
+    if cursor.is_at(Kind::Lower) {
+        let name = cursor.named(Kind::Lower)?;
+        let item = labelled_by(cursor, name)?;
+        return Ok(item);
     }
-    if is_at(tokens, at, Kind::Upper) {
-        return upper_item(alloc, text, tokens, at, open);
+    if cursor.is_at(Kind::Upper) {
+        let item = upper_item(cursor)?;
+        return Ok(item);
     }
-    unnamed_item(alloc, text, tokens, at, open, None)
+    let item = unnamed_item(cursor, None)?;
+    Ok(item)
 }
 
-/// The element at the index, and the index behind it. So many brackets are open.
+/// An element.
 #[cycle(brackets)]
-fn element(
-    alloc: Global,
-    text: &str,
-    tokens: &[Token],
-    at: usize,
-    open: u32,
-) -> Result<(Element<Atom>, usize), Stop>
-    requires parts { AreParts text.now tokens.now }
-    requires within { at ≤ length tokens.now }
-    ensures { GivesAs element_of lexer_element_of text.now tokens.now at result }
+fn element(cursor: &mut Cursor<'_>) -> Result<Element<Atom>, AllocError>
+    ensures { GivesAs element_of lexer_element_of cursor.old cursor.new result }
 {
-    if is_at(tokens, at, Kind::Action) {
-        return action(alloc, text, tokens, at);
+    if cursor.is_at(Kind::Action) {
+        let action = action(cursor)?;
+        return Ok(action);
     }
-    let (item, at) = labelled_item(alloc, text, tokens, at, open)?;
-    let (repeat, at) = optional_suffix(tokens, at);
-    let element = with_suffix(alloc, item, repeat)?;
-    Ok((element, at))
+    let item = labelled_item(cursor)?;
+    let repeat = optional_suffix(cursor);
+    let element = with_suffix(cursor.alloc(), item, repeat)?;
+    Ok(element)
 }
 
-/// The elements from the index on, and the index behind them. So many brackets are open.
+/// Elements one after another.
 #[cycle(brackets)]
-pub(crate) fn elements(
-    alloc: Global,
-    text: &str,
-    tokens: &[Token],
-    at: usize,
-    open: u32,
-) -> Result<(Vec<Element<Atom>>, usize), Stop>
-    requires parts { AreParts text.now tokens.now }
-    requires within { at ≤ length tokens.now }
-    ensures { GivesAs elements_in lexer_elements text.now tokens.now at result }
+pub(crate) fn elements(cursor: &mut Cursor<'_>) -> Result<Vec<Element<Atom>>, AllocError>
+    ensures { GivesAs elements_in lexer_elements cursor.old cursor.new result }
 {
-    let mut elements = Vec::new(alloc);
-    let mut next = at;
-    while is_element_at(tokens, next) {
-        let (element, behind) = element(alloc, text, tokens, next, open)?;
+    let mut elements = Vec::new(cursor.alloc());
+    while is_at_element(cursor) {
+        let element = element(cursor)?;
         elements.push(element)?;
-        next = behind;
     }
-    Ok((elements, next))
+    Ok(elements)
 }
 
-/// The alternatives from the index on, with bars between, and the index behind them. So many brackets are open.
+/// The alternatives of a block, with bars between.
 #[cycle(brackets)]
-fn alternatives(
-    alloc: Global,
-    text: &str,
-    tokens: &[Token],
-    at: usize,
-    open: u32,
-) -> Result<(Vec<Alternative<Atom>>, usize), Stop>
-    requires parts { AreParts text.now tokens.now }
-    requires within { at ≤ length tokens.now }
-    ensures { GivesAs alternatives_in lexer_alternatives text.now tokens.now at result }
+fn alternatives(cursor: &mut Cursor<'_>) -> Result<Vec<Alternative<Atom>>, AllocError>
+    ensures { GivesAs alternatives_in lexer_alternatives cursor.old cursor.new result }
 {
-    let (first, behind) = elements(alloc, text, tokens, at, open)?;
-    let mut alternatives = vec![in alloc; Alternative { elements: first }]?;
-    let mut next = behind;
-    while is_at(tokens, next, Kind::Bar) {
-        let (elements, behind) = elements(alloc, text, tokens, next + 1, open)?;
+    let first = elements(cursor)?;
+    let mut alternatives = vec![in cursor.alloc(); Alternative { elements: first }]?;
+    while cursor.is_at(Kind::Bar) {
+        cursor.take(Kind::Bar);
+        let elements = elements(cursor)?;
         alternatives.push(Alternative { elements })?;
-        next = behind;
     }
-    Ok((alternatives, next))
+    Ok(alternatives)
+}
+
+/// The alternatives of a block in brackets.
+#[cycle(brackets)]
+fn block(cursor: &mut Cursor<'_>) -> Result<Vec<Alternative<Atom>>, AllocError>
+    ensures { GivesAs alternatives_in lexer_block_of cursor.old cursor.new result }
+{
+    if !cursor.open()? {
+        return Ok(Vec::new(cursor.alloc()));
+    }
+    let alternatives = alternatives(cursor)?;
+    cursor.close();
+    Ok(alternatives)
 }

@@ -1,220 +1,166 @@
-// Lexer rules.
-ghost use Rattle.std.specs.Prelude.{◌≡◌, ◌≤◌, length, codes};
+// Lexer rules and modes.
+ghost use Rattle.std.specs.Prelude.{◌≡◌, codes};
 ghost use Rattle.g4_syntax.specs.Notation.{optional, word};
 ghost use Rattle.g4_syntax.specs.Productions.{lexer_rule as a_lexer_rule};
-ghost use Rattle.g4_syntax.specs.Trees.{begins_there};
-ghost use Rattle.g4_prequels.specs.Parts.{AreParts};
-ghost use Rattle.g4_prequels.specs.Steps.{from, Gives};
-ghost use Rattle.g4_productions.specs.LexerSteps.{argument_text_of, commands_in_order, rule_lexer_alternatives};
-ghost use Rattle.g4_productions.specs.Rules.{argument_of, command_of, commands_of, lexer_alternative_of, fragment_place, lexer_rule_of, lexer_rules};
+ghost use Rattle.g4_prequels.specs.Progress.{is_next, Gives, Moves};
+ghost use Rattle.g4_productions.specs.Rules.{argument_text_of, argument_of, command_of, commands_in_order, commands_of, lexer_alternative_of, rule_lexer_alternatives, fragment_place, lexer_rule_of, mode_of, modes_of};
 
 use crate::lexer_element::elements;
 use g4_base::{Place, Sequence};
 use g4_elements::Elements;
-use g4_prequels::{
-    Stop, is_at, is_name_at, is_word_at, name, name_text, pass, pass_optional_options, word_place,
-    written_at,
-};
-use g4_source::{Argument, Command, LexerAlternative, LexerRule};
-use g4_tokens::{Kind, Token};
-use std::alloc::Global;
+use g4_prequels::{Cursor, pass_optional_options};
+use g4_source::{Argument, Command, LexerAlternative, LexerRule, Mode};
+use g4_tokens::Kind;
+use std::alloc::AllocError;
 
 /// The name that says that a lexer rule is no token.
 const FRAGMENT: &str = "fragment";
 
-/// The name or the number at the index, and the index behind it.
-fn argument_text(
-    alloc: Global,
-    text: &str,
-    tokens: &[Token],
-    at: usize,
-) -> Result<(Argument, usize), Stop>
-    requires parts { AreParts text.now tokens.now }
-    requires within { at ≤ length tokens.now }
-    ensures { Gives argument_text_of text.now tokens.now at result }
+/// The name that a mode begins with.
+const MODE: &str = "mode";
+
+/// A name or a number.
+fn argument_text(cursor: &mut Cursor<'_>) -> Result<Argument, AllocError>
+    ensures { Gives argument_text_of cursor.old cursor.new result }
 {
-    if is_name_at(tokens, at) {
-        let (name, at) = name_text(alloc, text, tokens, at)?;
-        return Ok((Argument::Name(name), at));
+    if cursor.is_at_name() {
+        let name = cursor.name_text()?;
+        return Ok(Argument::Name(name));
     }
-    let (number, at) = written_at(alloc, text, tokens, at, Kind::Number)?;
-    Ok((Argument::Number(number), at))
+    let number = cursor.text(Kind::Number)?;
+    Ok(Argument::Number(number))
 }
 
-/// The argument of a command in brackets at the index, if there is one, and the index behind it.
-fn argument(
-    alloc: Global,
-    text: &str,
-    tokens: &[Token],
-    at: usize,
-) -> Result<(Option<Argument>, usize), Stop>
-    requires parts { AreParts text.now tokens.now }
-    requires within { at ≤ length tokens.now }
-    ensures { Gives argument_of text.now tokens.now at result }
+/// The argument of a command in brackets, if it has one.
+fn argument(cursor: &mut Cursor<'_>) -> Result<Option<Argument>, AllocError>
+    ensures { Gives argument_of cursor.old cursor.new result }
 {
-    if !is_at(tokens, at, Kind::LeftParenthesis) {
-        return Ok((None, at));
+    if !cursor.is_at(Kind::LeftParenthesis) {
+        return Ok(None);
     }
-    let at = pass(tokens, at, Kind::LeftParenthesis)?;
-    let (argument, at) = argument_text(alloc, text, tokens, at)?;
-    let at = pass(tokens, at, Kind::RightParenthesis)?;
-    Ok((Some(argument), at))
+    cursor.take(Kind::LeftParenthesis);
+    let argument = argument_text(cursor)?;
+    cursor.take(Kind::RightParenthesis);
+    Ok(Some(argument))
 }
 
-/// The command at the index, and the index behind it.
-fn command(alloc: Global, text: &str, tokens: &[Token], at: usize) -> Result<(Command, usize), Stop>
-    requires parts { AreParts text.now tokens.now }
-    requires within { at ≤ length tokens.now }
-    ensures { Gives command_of text.now tokens.now at result }
+/// A command.
+fn command(cursor: &mut Cursor<'_>) -> Result<Command, AllocError>
+    ensures { Gives command_of cursor.old cursor.new result }
 {
-    let (name, at) = name(alloc, text, tokens, at)?;
-    let (argument, at) = argument(alloc, text, tokens, at)?;
-    Ok((Command { name, argument }, at))
+    let name = cursor.name()?;
+    let argument = argument(cursor)?;
+    Ok(Command { name, argument })
 }
 
-/// The commands from the index on, with commas between, and the index behind them.
-fn commands_in_order(
-    alloc: Global,
-    text: &str,
-    tokens: &[Token],
-    at: usize,
-) -> Result<(Sequence<Command>, usize), Stop>
-    requires parts { AreParts text.now tokens.now }
-    requires within { at ≤ length tokens.now }
-    ensures { Gives commands_in_order text.now tokens.now at result }
+/// Commands with commas between.
+fn commands_in_order(cursor: &mut Cursor<'_>) -> Result<Sequence<Command>, AllocError>
+    ensures { Gives commands_in_order cursor.old cursor.new result }
 {
-    let (first, behind) = command(alloc, text, tokens, at)?;
-    let mut commands = vec![in alloc; first]?;
-    let mut next = behind;
-    while is_at(tokens, next, Kind::Comma) {
-        let (command, behind) = command(alloc, text, tokens, next + 1)?;
+    let first = command(cursor)?;
+    let mut commands = vec![in cursor.alloc(); first]?;
+    while cursor.is_at(Kind::Comma) {
+        cursor.take(Kind::Comma);
+        let command = command(cursor)?;
         commands.push(command)?;
-        next = behind;
     }
-    Ok((Sequence::new(commands), next))
+    Ok(Sequence::new(commands))
 }
 
-/// The commands behind `->` at the index, if it stands there, and the index behind them.
-fn commands(
-    alloc: Global,
-    text: &str,
-    tokens: &[Token],
-    at: usize,
-) -> Result<(Sequence<Command>, usize), Stop>
-    requires parts { AreParts text.now tokens.now }
-    requires within { at ≤ length tokens.now }
-    ensures { Gives commands_of text.now tokens.now at result }
+/// The commands behind `->`, if it stands there.
+fn commands(cursor: &mut Cursor<'_>) -> Result<Sequence<Command>, AllocError>
+    ensures { Gives commands_of cursor.old cursor.new result }
 {
-    if !is_at(tokens, at, Kind::Arrow) {
-        return Ok((Sequence::new(Vec::new(alloc)), at));
+    if !cursor.is_at(Kind::Arrow) {
+        return Ok(Sequence::new(Vec::new(cursor.alloc())));
     }
-    let at = pass(tokens, at, Kind::Arrow)?;
-    let (commands, at) = commands_in_order(alloc, text, tokens, at)?;
-    Ok((commands, at))
+    cursor.take(Kind::Arrow);
+    let commands = commands_in_order(cursor)?;
+    Ok(commands)
 }
 
-/// The alternative of a lexer rule at the index, and the index behind it.
-fn lexer_alternative(
-    alloc: Global,
-    text: &str,
-    tokens: &[Token],
-    at: usize,
-) -> Result<(LexerAlternative, usize), Stop>
-    requires parts { AreParts text.now tokens.now }
-    requires within { at ≤ length tokens.now }
-    ensures { Gives lexer_alternative_of text.now tokens.now at result }
+/// An alternative of a lexer rule.
+fn lexer_alternative(cursor: &mut Cursor<'_>) -> Result<LexerAlternative, AllocError>
+    ensures { Gives lexer_alternative_of cursor.old cursor.new result }
 {
-    let (elements, at) = elements(alloc, text, tokens, at, 0)?;
-    let (commands, at) = commands(alloc, text, tokens, at)?;
-    let elements = Elements::new(elements);
-    Ok((LexerAlternative { elements, commands }, at))
+    let elements = Elements::new(elements(cursor)?);
+    let commands = commands(cursor)?;
+    Ok(LexerAlternative { elements, commands })
 }
 
-/// The alternatives of a lexer rule from the index on, with bars between, and the index behind them.
-fn lexer_alternatives(
-    alloc: Global,
-    text: &str,
-    tokens: &[Token],
-    at: usize,
-) -> Result<(Sequence<LexerAlternative>, usize), Stop>
-    requires parts { AreParts text.now tokens.now }
-    requires within { at ≤ length tokens.now }
-    ensures { Gives rule_lexer_alternatives text.now tokens.now at result }
+/// The alternatives of a lexer rule, with bars between.
+fn alternatives(cursor: &mut Cursor<'_>) -> Result<Sequence<LexerAlternative>, AllocError>
+    ensures { Gives rule_lexer_alternatives cursor.old cursor.new result }
 {
-    let (first, behind) = lexer_alternative(alloc, text, tokens, at)?;
-    let mut alternatives = vec![in alloc; first]?;
-    let mut next = behind;
-    while is_at(tokens, next, Kind::Bar) {
-        let (alternative, behind) = lexer_alternative(alloc, text, tokens, next + 1)?;
+    let first = lexer_alternative(cursor)?;
+    let mut alternatives = vec![in cursor.alloc(); first]?;
+    while cursor.is_at(Kind::Bar) {
+        cursor.take(Kind::Bar);
+        let alternative = lexer_alternative(cursor)?;
         alternatives.push(alternative)?;
-        next = behind;
     }
-    Ok((Sequence::new(alternatives), next))
+    Ok(Sequence::new(alternatives))
 }
 
-/// The place of `fragment` at the index, if it stands there, and the index behind it.
-fn fragment(text: &str, tokens: &[Token], at: usize) -> Result<(Option<Place>, usize), Stop>
-    requires parts { AreParts text.now tokens.now }
-    requires within { at ≤ length tokens.now }
-    ensures { Gives {x = optional (word (codes "fragment"))} fragment_place text.now tokens.now at result }
+/// The place of `fragment`, if it stands there.
+fn fragment(cursor: &mut Cursor<'_>) -> Option<Place>
+    ensures { Moves {x = optional (word (codes "fragment"))} (λ tree. result ≡ fragment_place tree) cursor.old cursor.new }
 {
-    if !is_word_at(text, tokens, at, FRAGMENT) {
-        return Ok((None, at));
+    if !cursor.is_at_word(FRAGMENT) {
+        return None;
     }
-    let (place, at) = word_place(text, tokens, at, FRAGMENT)?;
-    Ok((Some(place), at))
+    let place = cursor.take_word(FRAGMENT).place;
+    Some(place)
 }
 
-/// Whether a lexer rule begins at the index.
-pub(crate) fn is_lexer_rule_at(text: &str, tokens: &[Token], at: usize) -> bool
-    requires parts { AreParts text.now tokens.now }
-    ensures { result ≡ begins_there a_lexer_rule (from text.now tokens.now at) }
+/// Whether a lexer rule is next.
+pub(crate) fn is_at_lexer_rule(cursor: &Cursor<'_>) -> bool
+    ensures { result ≡ is_next a_lexer_rule cursor.now }
 {
-    is_word_at(text, tokens, at, FRAGMENT) || is_at(tokens, at, Kind::Upper)
+    cursor.is_at_word(FRAGMENT) | cursor.is_at(Kind::Upper)
 }
 
-/// The lexer rule at the index, and the index behind it.
-pub(crate) fn lexer_rule(
-    alloc: Global,
-    text: &str,
-    tokens: &[Token],
-    at: usize,
-) -> Result<(LexerRule, usize), Stop>
-    requires parts { AreParts text.now tokens.now }
-    requires within { at ≤ length tokens.now }
-    ensures { Gives lexer_rule_of text.now tokens.now at result }
+/// A lexer rule.
+pub(crate) fn lexer_rule(cursor: &mut Cursor<'_>) -> Result<LexerRule, AllocError>
+    ensures { Gives lexer_rule_of cursor.old cursor.new result }
 {
-    let (fragment, at) = fragment(text, tokens, at)?;
-    let (name, at) = written_at(alloc, text, tokens, at, Kind::Upper)?;
-    let at = pass_optional_options(alloc, text, tokens, at)?;
-    let at = pass(tokens, at, Kind::Colon)?;
-    let (alternatives, at) = lexer_alternatives(alloc, text, tokens, at)?;
-    let at = pass(tokens, at, Kind::Semicolon)?;
-    let rule = LexerRule {
+    let fragment = fragment(cursor);
+    let name = cursor.text(Kind::Upper)?;
+    pass_optional_options(cursor)?;
+    cursor.take(Kind::Colon);
+    let alternatives = alternatives(cursor)?;
+    cursor.take(Kind::Semicolon);
+    Ok(LexerRule {
         fragment,
         name,
         alternatives,
-    };
-    Ok((rule, at))
+    })
 }
 
-/// The lexer rules from the index on, and the index behind them.
-pub(crate) fn lexer_rules(
-    alloc: Global,
-    text: &str,
-    tokens: &[Token],
-    at: usize,
-) -> Result<(Sequence<LexerRule>, usize), Stop>
-    requires parts { AreParts text.now tokens.now }
-    requires within { at ≤ length tokens.now }
-    ensures { Gives lexer_rules text.now tokens.now at result }
+/// A mode and its rules.
+fn mode(cursor: &mut Cursor<'_>) -> Result<Mode, AllocError>
+    ensures { Gives mode_of cursor.old cursor.new result }
 {
-    let mut rules = Vec::new(alloc);
-    let mut next = at;
-    while is_lexer_rule_at(text, tokens, next) {
-        let (rule, behind) = lexer_rule(alloc, text, tokens, next)?;
+    cursor.take_word(MODE);
+    let name = cursor.name_text()?;
+    cursor.take(Kind::Semicolon);
+    let mut rules = Vec::new(cursor.alloc());
+    while is_at_lexer_rule(cursor) {
+        let rule = lexer_rule(cursor)?;
         rules.push(rule)?;
-        next = behind;
     }
-    Ok((Sequence::new(rules), next))
+    let rules = Sequence::new(rules);
+    Ok(Mode { name, rules })
+}
+
+/// Modes one after another.
+pub(crate) fn modes(cursor: &mut Cursor<'_>) -> Result<Sequence<Mode>, AllocError>
+    ensures { Gives modes_of cursor.old cursor.new result }
+{
+    let mut modes = Vec::new(cursor.alloc());
+    while cursor.is_at_word(MODE) {
+        let mode = mode(cursor)?;
+        modes.push(mode)?;
+    }
+    Ok(Sequence::new(modes))
 }

@@ -6,7 +6,6 @@ mod grammar;
 mod law;
 mod lexer_element;
 mod lexer_rule;
-mod mode;
 mod parser_element;
 mod parser_rule;
 mod reader;
@@ -15,4 +14,4 @@ mod suffix;
 mod token_set;
 
 pub use law::one_grammar;
-pub use reader::read_tokens;
+pub use reader::{Stop, read_tokens};

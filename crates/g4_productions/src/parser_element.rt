@@ -1,405 +1,213 @@
 // The elements of parser rules.
-ghost use Rattle.std.specs.Prelude.{◌≡◌, ◌≤◌, ◌++◌, ℕ, List, length, map};
+ghost use Rattle.std.specs.Prelude.{◌≡◌};
 ghost use Rattle.g4_elements.specs.Trees.{element_of, alternative_of};
 ghost use Rattle.g4_syntax.specs.Notation.{element as an_element, part};
-ghost use Rattle.g4_syntax.specs.Trees.{left, right, begins_there};
-ghost use Rattle.g4_prequels.specs.Parts.{AreParts};
-ghost use Rattle.g4_prequels.specs.Steps.{from, ReadsAs, Gives};
-ghost use Rattle.g4_productions.specs.ParserElements.{parser_element, parser_elements, labelled, named_item, unnamed, alternative_elements, alternatives_behind};
-ghost use Rattle.g4_productions.specs.ParserItems.{labelled_of, reference_right, labelled_behind, alternatives_of, block_of};
+ghost use Rattle.g4_prequels.specs.Progress.{is_next, Gives, GivesAs};
+ghost use Rattle.g4_productions.specs.Elements.{labelled_of, elements_in, alternatives_in};
+ghost use Rattle.g4_productions.specs.ParserElements.{reference_right, parser_element, parser_elements, labelled, lower_item, upper_item, labelled_behind, named_item, unnamed, block_of, alternatives_of, alternative_elements};
 
-use crate::suffix::{Labelled, action, is_label_sign_at, label_sign, optional_suffix, with_suffix};
+use crate::suffix::{Labelled, action, is_at_label_sign, label_sign, optional_suffix, with_suffix};
 use crate::token_set::excluded_tokens;
 use g4_elements::{Alternative, Element, Label, Name};
-use g4_prequels::{
-    MOST_OPEN, Stop, is_at, literal_at, named, optional_element_options, pass, pass_block_prequel,
-    pass_optional, place_at,
-};
+use g4_prequels::{Cursor, literal, optional_element_options, pass_block_prequel};
 use g4_source::{Atom, AtomKind};
-use g4_tokens::{Kind, Token};
-use std::alloc::Global;
+use g4_tokens::Kind;
+use std::alloc::AllocError;
 
-/// Whether the reference to a rule whose name stands before the index associates to the right, and the index behind it.
-fn reference_end(
-    alloc: Global,
-    text: &str,
-    tokens: &[Token],
-    at: usize,
-) -> Result<(bool, usize), Stop>
-    requires parts { AreParts text.now tokens.now }
-    requires within { at ≤ length tokens.now }
-    ensures { Gives reference_right text.now tokens.now at result }
+/// Whether a reference to a rule associates to the right, by what stands behind the rule's name.
+fn reference_end(cursor: &mut Cursor<'_>) -> Result<bool, AllocError>
+    ensures { Gives reference_right cursor.old cursor.new result }
 {
-    let at = pass_optional(tokens, at, Kind::Arguments);
-    let (right, at) = optional_element_options(alloc, text, tokens, at)?;
-    Ok((right, at))
+    cursor.take_if(Kind::Arguments);
+    let right = optional_element_options(cursor)?;
+    Ok(right)
 }
 
-/// The item that the reference to a rule at the index is, with this label, and the index behind it.
-fn rule_reference(
-    alloc: Global,
-    text: &str,
-    tokens: &[Token],
-    at: usize,
-    label: Option<Label>,
-) -> Result<(Labelled, usize), Stop>
-    requires parts { AreParts text.now tokens.now }
-    ensures { ReadsAs (λ tree x. labelled_of x ≡ named_item label (left tree)) text.now tokens.now at result }
-{
-    let (name, at) = named(alloc, text, tokens, at, Kind::Lower)?;
-    let (right, at) = reference_end(alloc, text, tokens, at)?;
-    let kind = AtomKind::Rule(name);
-    Ok((Labelled::Single(Atom { label, right, kind }), at))
-}
-
-/// The item that the name of a token at the index is, with this label, and the index behind it.
-fn token_reference(
-    alloc: Global,
-    text: &str,
-    tokens: &[Token],
-    at: usize,
-    label: Option<Label>,
-) -> Result<(Labelled, usize), Stop>
-    requires parts { AreParts text.now tokens.now }
-    ensures { ReadsAs (λ tree x. labelled_of x ≡ named_item label (right (left tree))) text.now tokens.now at result }
-{
-    let (name, at) = named(alloc, text, tokens, at, Kind::Upper)?;
-    let (right, at) = optional_element_options(alloc, text, tokens, at)?;
-    let kind = AtomKind::Token(name);
-    Ok((Labelled::Single(Atom { label, right, kind }), at))
-}
-
-/// The item that the literal at the index is, with this label, and the index behind it.
-fn literal_item(
-    alloc: Global,
-    text: &str,
-    tokens: &[Token],
-    at: usize,
-    label: Option<Label>,
-) -> Result<(Labelled, usize), Stop>
-    requires parts { AreParts text.now tokens.now }
-    ensures { ReadsAs (λ tree x. labelled_of x ≡ unnamed label (left tree)) text.now tokens.now at result }
-{
-    let (literal, at) = literal_at(alloc, text, tokens, at)?;
-    let (right, at) = optional_element_options(alloc, text, tokens, at)?;
-    let kind = AtomKind::Literal(literal);
-    Ok((Labelled::Single(Atom { label, right, kind }), at))
-}
-
-/// The item that the `.` at the index is, with this label, and the index behind it.
-fn any_item(
-    alloc: Global,
-    text: &str,
-    tokens: &[Token],
-    at: usize,
-    label: Option<Label>,
-) -> Result<(Labelled, usize), Stop>
-    requires parts { AreParts text.now tokens.now }
-    ensures { ReadsAs (λ tree x. labelled_of x ≡ unnamed label (right (left tree))) text.now tokens.now at result }
-{
-    let (place, at) = place_at(tokens, at, Kind::Dot)?;
-    let (right, at) = optional_element_options(alloc, text, tokens, at)?;
-    let kind = AtomKind::Any(place);
-    Ok((Labelled::Single(Atom { label, right, kind }), at))
-}
-
-/// The item that the `~` at the index begins, with this label, and the index behind it.
-fn not_item(
-    alloc: Global,
-    text: &str,
-    tokens: &[Token],
-    at: usize,
-    open: u32,
-    label: Option<Label>,
-) -> Result<(Labelled, usize), Stop>
-    requires parts { AreParts text.now tokens.now }
-    ensures { ReadsAs (λ tree x. labelled_of x ≡ unnamed label (right (right (left tree)))) text.now tokens.now at result }
-{
-    let (place, at) = place_at(tokens, at, Kind::Tilde)?;
-    let (references, at) = excluded_tokens(alloc, text, tokens, at, open)?;
-    let kind = AtomKind::NotTokens(place, references);
-    let right = false;
-    Ok((Labelled::Single(Atom { label, right, kind }), at))
-}
-
-/// The item at the index that begins with no name, with this label, and the index behind it. So many brackets are open.
+/// An item that begins with no name, with this label.
 #[cycle(brackets)]
-fn unnamed_item(
-    alloc: Global,
-    text: &str,
-    tokens: &[Token],
-    at: usize,
-    open: u32,
-    label: Option<Label>,
-) -> Result<(Labelled, usize), Stop>
-    requires parts { AreParts text.now tokens.now }
-    requires within { at ≤ length tokens.now }
-    ensures { ReadsAs (λ tree x. labelled_of x ≡ unnamed label tree) text.now tokens.now at result }
+fn unnamed_item(cursor: &mut Cursor<'_>, label: Option<Label>) -> Result<Labelled, AllocError>
+    ensures { GivesAs labelled_of (unnamed label) cursor.old cursor.new result }
 {
-    if is_at(tokens, at, Kind::Literal) {
-        return literal_item(alloc, text, tokens, at, label);
+    if cursor.is_at(Kind::Literal) {
+        let taken = cursor.take(Kind::Literal);
+        let literal = literal(cursor.alloc(), taken.text)?;
+        let right = optional_element_options(cursor)?;
+        let kind = AtomKind::Literal(literal);
+        return Ok(Labelled::Single(Atom { label, right, kind }));
     }
-    if is_at(tokens, at, Kind::Dot) {
-        return any_item(alloc, text, tokens, at, label);
+    if cursor.is_at(Kind::Dot) {
+        let place = cursor.take(Kind::Dot).place;
+        let right = optional_element_options(cursor)?;
+        let kind = AtomKind::Any(place);
+        return Ok(Labelled::Single(Atom { label, right, kind }));
     }
-    if is_at(tokens, at, Kind::Tilde) {
-        return not_item(alloc, text, tokens, at, open, label);
+    if cursor.is_at(Kind::Tilde) {
+        let place = cursor.take(Kind::Tilde).place;
+        let references = excluded_tokens(cursor)?;
+        let right = false;
+        let kind = AtomKind::NotTokens(place, references);
+        return Ok(Labelled::Single(Atom { label, right, kind }));
     }
-    let (alternatives, at) = block(alloc, text, tokens, at, open)?;
-    Ok((Labelled::Brackets(label, alternatives), at))
+    let alternatives = block(cursor)?;
+    Ok(Labelled::Brackets(label, alternatives))
 }
 
-/// The item at the index, with this label, and the index behind it.
+/// An item with this label.
 #[cycle(brackets)]
-fn item(
-    alloc: Global,
-    text: &str,
-    tokens: &[Token],
-    at: usize,
-    open: u32,
-    label: Option<Label>,
-) -> Result<(Labelled, usize), Stop>
-    requires parts { AreParts text.now tokens.now }
-    requires within { at ≤ length tokens.now }
-    ensures { ReadsAs (λ tree x. labelled_of x ≡ named_item label tree) text.now tokens.now at result }
+fn item(cursor: &mut Cursor<'_>, label: Option<Label>) -> Result<Labelled, AllocError>
+    ensures { GivesAs labelled_of (named_item label) cursor.old cursor.new result }
 {
-    if is_at(tokens, at, Kind::Lower) {
-        return rule_reference(alloc, text, tokens, at, label);
+    if cursor.is_at(Kind::Lower) {
+        let name = cursor.named(Kind::Lower)?;
+        let right = reference_end(cursor)?;
+        let kind = AtomKind::Rule(name);
+        return Ok(Labelled::Single(Atom { label, right, kind }));
     }
-    if is_at(tokens, at, Kind::Upper) {
-        return token_reference(alloc, text, tokens, at, label);
+    if cursor.is_at(Kind::Upper) {
+        let name = cursor.named(Kind::Upper)?;
+        let right = optional_element_options(cursor)?;
+        let kind = AtomKind::Token(name);
+        return Ok(Labelled::Single(Atom { label, right, kind }));
     }
-    unnamed_item(alloc, text, tokens, at, open, label)
+    let item = unnamed_item(cursor, label)?;
+    Ok(item)
 }
 
-/// The item behind the sign of a label, which stands at the index, behind this name; and the index behind it.
+/// The sign of a label with this name, and the item behind it.
 #[cycle(brackets)]
-fn item_behind_label(
-    alloc: Global,
-    text: &str,
-    tokens: &[Token],
-    at: usize,
-    open: u32,
-    name: Name,
-) -> Result<(Labelled, usize), Stop>
-    requires parts { AreParts text.now tokens.now }
-    requires within { at ≤ length tokens.now }
-    ensures { ReadsAs (λ tree x. labelled_of x ≡ labelled_behind name tree) text.now tokens.now at result }
+fn labelled_behind(cursor: &mut Cursor<'_>, name: Name) -> Result<Labelled, AllocError>
+    ensures { GivesAs labelled_of (labelled_behind name) cursor.old cursor.new result }
 {
-    let (list, at) = label_sign(tokens, at)?;
-    let label = Label { name, list };
-    let (labelled, at) = item(alloc, text, tokens, at, open, Some(label))?;
-    Ok((labelled, at))
+    let list = label_sign(cursor);
+    let labelled = item(cursor, Some(Label { name, list }))?;
+    Ok(labelled)
 }
 
-/// The item that begins with the lower-case name at the index, which can be a label, and the index behind it.
+/// An item that begins with a lower-case name, its label or a rule's.
 #[cycle(brackets)]
-fn lower_item(
-    alloc: Global,
-    text: &str,
-    tokens: &[Token],
-    at: usize,
-    open: u32,
-) -> Result<(Labelled, usize), Stop>
-    requires parts { AreParts text.now tokens.now }
-    requires within { at ≤ length tokens.now }
-    ensures { ReadsAs (λ tree x. labelled_of x ≡ labelled (left tree)) text.now tokens.now at result }
+fn lower_item(cursor: &mut Cursor<'_>) -> Result<Labelled, AllocError>
+    ensures { GivesAs labelled_of lower_item cursor.old cursor.new result }
 {
-    let (name, at) = named(alloc, text, tokens, at, Kind::Lower)?;
-    if is_label_sign_at(tokens, at) {
-        let (labelled, at) = item_behind_label(alloc, text, tokens, at, open, name)?;
-        return Ok((labelled, at));
+    let name = cursor.named(Kind::Lower)?;
+    if is_at_label_sign(cursor) {
+        let labelled = labelled_behind(cursor, name)?;
+        return Ok(labelled);
     }
-    let (right, at) = reference_end(alloc, text, tokens, at)?;
     let label = None;
+    let right = reference_end(cursor)?;
     let kind = AtomKind::Rule(name);
-    Ok((Labelled::Single(Atom { label, right, kind }), at))
+    Ok(Labelled::Single(Atom { label, right, kind }))
 }
 
-/// The item that begins with the upper-case name at the index, which can be a label, and the index behind it.
+/// An item that begins with an upper-case name, its label or a token's.
 #[cycle(brackets)]
-fn upper_item(
-    alloc: Global,
-    text: &str,
-    tokens: &[Token],
-    at: usize,
-    open: u32,
-) -> Result<(Labelled, usize), Stop>
-    requires parts { AreParts text.now tokens.now }
-    requires within { at ≤ length tokens.now }
-    ensures { ReadsAs (λ tree x. labelled_of x ≡ labelled (right (left tree))) text.now tokens.now at result }
+fn upper_item(cursor: &mut Cursor<'_>) -> Result<Labelled, AllocError>
+    ensures { GivesAs labelled_of upper_item cursor.old cursor.new result }
 {
-    let (name, at) = named(alloc, text, tokens, at, Kind::Upper)?;
-    if is_label_sign_at(tokens, at) {
-        let (labelled, at) = item_behind_label(alloc, text, tokens, at, open, name)?;
-        return Ok((labelled, at));
+    let name = cursor.named(Kind::Upper)?;
+    if is_at_label_sign(cursor) {
+        let labelled = labelled_behind(cursor, name)?;
+        return Ok(labelled);
     }
-    let (right, at) = optional_element_options(alloc, text, tokens, at)?;
     let label = None;
+    let right = optional_element_options(cursor)?;
     let kind = AtomKind::Token(name);
-    Ok((Labelled::Single(Atom { label, right, kind }), at))
+    Ok(Labelled::Single(Atom { label, right, kind }))
 }
 
-/// The item at the index, perhaps with a label, and the index behind it.
+/// An item, perhaps with a label.
 #[cycle(brackets)]
-fn labelled_item(
-    alloc: Global,
-    text: &str,
-    tokens: &[Token],
-    at: usize,
-    open: u32,
-) -> Result<(Labelled, usize), Stop>
-    requires parts { AreParts text.now tokens.now }
-    requires within { at ≤ length tokens.now }
-    ensures { ReadsAs (λ tree x. labelled_of x ≡ labelled tree) text.now tokens.now at result }
+fn labelled_item(cursor: &mut Cursor<'_>) -> Result<Labelled, AllocError>
+    ensures { GivesAs labelled_of labelled cursor.old cursor.new result }
 {
-    if is_at(tokens, at, Kind::Lower) {
-        return lower_item(alloc, text, tokens, at, open);
+    if cursor.is_at(Kind::Lower) {
+        let item = lower_item(cursor)?;
+        return Ok(item);
     }
-    if is_at(tokens, at, Kind::Upper) {
-        return upper_item(alloc, text, tokens, at, open);
+    if cursor.is_at(Kind::Upper) {
+        let item = upper_item(cursor)?;
+        return Ok(item);
     }
-    unnamed_item(alloc, text, tokens, at, open, None)
+    let item = unnamed_item(cursor, None)?;
+    Ok(item)
 }
 
-/// The element at the index, and the index behind it.
+/// An element.
 #[cycle(brackets)]
-fn element(
-    alloc: Global,
-    text: &str,
-    tokens: &[Token],
-    at: usize,
-    open: u32,
-) -> Result<(Element<Atom>, usize), Stop>
-    requires parts { AreParts text.now tokens.now }
-    requires within { at ≤ length tokens.now }
-    ensures { ReadsAs (λ tree e. element_of e ≡ parser_element tree) text.now tokens.now at result }
+fn element(cursor: &mut Cursor<'_>) -> Result<Element<Atom>, AllocError>
+    ensures { GivesAs element_of parser_element cursor.old cursor.new result }
 {
-    if is_at(tokens, at, Kind::Action) {
-        return action(alloc, text, tokens, at);
+    if cursor.is_at(Kind::Action) {
+        let action = action(cursor)?;
+        return Ok(action);
     }
-    let (labelled, at) = labelled_item(alloc, text, tokens, at, open)?;
-    let (repeat, at) = optional_suffix(tokens, at);
-    let element = with_suffix(alloc, labelled, repeat)?;
-    Ok((element, at))
+    let labelled = labelled_item(cursor)?;
+    let repeat = optional_suffix(cursor);
+    let element = with_suffix(cursor.alloc(), labelled, repeat)?;
+    Ok(element)
 }
 
-/// Whether an element begins at the index.
-fn is_element_at(tokens: &[Token], at: usize) -> bool
-    ensures { (text : List ℕ) → result ≡ begins_there (part an_element) (from text tokens.now at) }
+/// Whether an element is next.
+fn is_at_element(cursor: &Cursor<'_>) -> bool
+    ensures { result ≡ is_next (part an_element) cursor.now }
 {
-    is_at(tokens, at, Kind::Lower)
-        || is_at(tokens, at, Kind::Upper)
-        || is_at(tokens, at, Kind::Literal)
-        || is_at(tokens, at, Kind::Dot)
-        || is_at(tokens, at, Kind::Tilde)
-        || is_at(tokens, at, Kind::LeftParenthesis)
-        || is_at(tokens, at, Kind::Action)
+    cursor.is_at(Kind::Lower)
+        | cursor.is_at(Kind::Upper)
+        | cursor.is_at(Kind::Literal)
+        | cursor.is_at(Kind::Dot)
+        | cursor.is_at(Kind::Tilde)
+        | cursor.is_at(Kind::LeftParenthesis)
+        | cursor.is_at(Kind::Action)
 }
 
-/// The elements from the index on, and the index behind them.
+/// Elements one after another.
 #[cycle(brackets)]
-pub(crate) fn elements(
-    alloc: Global,
-    text: &str,
-    tokens: &[Token],
-    at: usize,
-    open: u32,
-) -> Result<(Vec<Element<Atom>>, usize), Stop>
-    requires parts { AreParts text.now tokens.now }
-    requires within { at ≤ length tokens.now }
-    ensures { ReadsAs (λ tree es. map element_of es.items ≡ parser_elements tree) text.now tokens.now at result }
+pub(crate) fn elements(cursor: &mut Cursor<'_>) -> Result<Vec<Element<Atom>>, AllocError>
+    ensures { GivesAs elements_in parser_elements cursor.old cursor.new result }
 {
-    let mut elements = Vec::new(alloc);
-    let mut next = at;
-    while is_element_at(tokens, next) {
-        let (element, behind) = element(alloc, text, tokens, next, open)?;
+    let mut elements = Vec::new(cursor.alloc());
+    while is_at_element(cursor) {
+        let element = element(cursor)?;
         elements.push(element)?;
-        next = behind;
     }
-    Ok((elements, next))
+    Ok(elements)
 }
 
-/// The alternative of a block from the index on, and the index behind it. Its options are passed over.
+/// The alternative of a block. Its options are passed over.
 #[cycle(brackets)]
-fn alternative(
-    alloc: Global,
-    text: &str,
-    tokens: &[Token],
-    at: usize,
-    open: u32,
-) -> Result<(Alternative<Atom>, usize), Stop>
-    requires parts { AreParts text.now tokens.now }
-    requires within { at ≤ length tokens.now }
-    ensures { ReadsAs (λ tree x. alternative_of x ≡ alternative_elements tree) text.now tokens.now at result }
+fn alternative(cursor: &mut Cursor<'_>) -> Result<Alternative<Atom>, AllocError>
+    ensures { GivesAs alternative_of alternative_elements cursor.old cursor.new result }
 {
-    let (_right, at) = optional_element_options(alloc, text, tokens, at)?;
-    let (elements, at) = elements(alloc, text, tokens, at, open)?;
-    Ok((Alternative { elements }, at))
+    optional_element_options(cursor)?;
+    let elements = elements(cursor)?;
+    Ok(Alternative { elements })
 }
 
-/// The alternatives with bars between from the index on, and the index behind them.
+/// The alternatives of a block, with bars between.
 #[cycle(brackets)]
-fn alternatives(
-    alloc: Global,
-    text: &str,
-    tokens: &[Token],
-    at: usize,
-    open: u32,
-) -> Result<(Vec<Alternative<Atom>>, usize), Stop>
-    requires parts { AreParts text.now tokens.now }
-    requires within { at ≤ length tokens.now }
-    ensures { ReadsAs (λ tree xs. map alternative_of xs.items ≡ alternatives_of tree) text.now tokens.now at result }
+fn alternatives(cursor: &mut Cursor<'_>) -> Result<Vec<Alternative<Atom>>, AllocError>
+    ensures { GivesAs alternatives_in alternatives_of cursor.old cursor.new result }
 {
-    let (first, at) = alternative(alloc, text, tokens, at, open)?;
-    let first = vec![in alloc; first]?;
-    let (alternatives, at) = alternatives_behind_bars(alloc, text, tokens, at, open, first)?;
-    Ok((alternatives, at))
-}
-
-/// These alternatives and those behind bars from the index on, and the index behind them.
-#[cycle(brackets)]
-fn alternatives_behind_bars(
-    alloc: Global,
-    text: &str,
-    tokens: &[Token],
-    at: usize,
-    open: u32,
-    first: Vec<Alternative<Atom>>,
-) -> Result<(Vec<Alternative<Atom>>, usize), Stop>
-    requires parts { AreParts text.now tokens.now }
-    requires within { at ≤ length tokens.now }
-    ensures { ReadsAs (λ tree xs. map alternative_of xs.items ≡ map alternative_of first.items ++ alternatives_behind tree) text.now tokens.now at result }
-{
-    let mut alternatives = first;
-    let mut next = at;
-    while is_at(tokens, next, Kind::Bar) {
-        let (alternative, behind) = alternative(alloc, text, tokens, next + 1, open)?;
+    let first = alternative(cursor)?;
+    let mut alternatives = vec![in cursor.alloc(); first]?;
+    while cursor.is_at(Kind::Bar) {
+        cursor.take(Kind::Bar);
+        let alternative = alternative(cursor)?;
         alternatives.push(alternative)?;
-        next = behind;
     }
-    Ok((alternatives, next))
+    Ok(alternatives)
 }
 
-/// The alternatives of the block that `(` opens at the index, and the index behind it. So many brackets are open before it.
+/// The alternatives of a block in brackets.
 #[cycle(brackets)]
-fn block(
-    alloc: Global,
-    text: &str,
-    tokens: &[Token],
-    at: usize,
-    open: u32,
-) -> Result<(Vec<Alternative<Atom>>, usize), Stop>
-    requires parts { AreParts text.now tokens.now }
-    requires within { at ≤ length tokens.now }
-    ensures { ReadsAs (λ tree xs. map alternative_of xs.items ≡ block_of tree) text.now tokens.now at result }
+fn block(cursor: &mut Cursor<'_>) -> Result<Vec<Alternative<Atom>>, AllocError>
+    ensures { GivesAs alternatives_in block_of cursor.old cursor.new result }
 {
-    if open >= MOST_OPEN {
-        return Err(Stop::NoMemory);
+    if !cursor.open()? {
+        return Ok(Vec::new(cursor.alloc()));
     }
-    let at = pass(tokens, at, Kind::LeftParenthesis)?;
-    let at = pass_block_prequel(alloc, text, tokens, at)?;
-    let (alternatives, at) = alternatives(alloc, text, tokens, at, open + 1)?;
-    let at = pass(tokens, at, Kind::RightParenthesis)?;
-    Ok((alternatives, at))
+    pass_block_prequel(cursor)?;
+    let alternatives = alternatives(cursor)?;
+    cursor.close();
+    Ok(alternatives)
 }

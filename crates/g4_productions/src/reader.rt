@@ -4,11 +4,30 @@ ghost use Rattle.g4_source.specs.Blocks.{HaveAlternatives};
 ghost use Rattle.g4_prequels.specs.Parts.{AreParts};
 ghost use Rattle.g4_productions.specs.Grammars.{ReadsText};
 
-use crate::grammar::grammar_at;
-use g4_prequels::Stop;
+use crate::grammar::grammar;
+use g4_prequels::Cursor;
 use g4_source::Source;
 use g4_tokens::Token;
-use std::alloc::Global;
+use std::alloc::{AllocError, Global};
+
+/// Why no grammar is read.
+#[derive(Drop)]
+pub enum Stop {
+    /// The index of the first token with which no grammar text begins, or behind them all, at the end of the text.
+    At(usize),
+    NoMemory,
+}
+
+impl From<AllocError> for Stop {
+    ghost use Rattle.std.specs.Prelude.{◌≡◌};
+    ghost use Rattle.g4_productions.specs.declared.reader.Stop.TheVariants.{NoMemory};
+
+    ghost from_gives = { λ _ e. e ≡ NoMemory };
+
+    fn from(_: AllocError) -> Self {
+        Stop::NoMemory
+    }
+}
 
 /// The grammar that the tokens of the text are, or the index of the first token with which no grammar text begins.
 ///
@@ -20,9 +39,11 @@ pub fn read_tokens(alloc: Global, text: &str, tokens: &[Token]) -> Result<Source
     ensures reads { ReadsText text.now tokens.now result }
     ensures full { IfOk result HaveAlternatives }
 {
-    let (source, at) = grammar_at(alloc, text, tokens, 0)?;
-    if at < tokens.len() {
-        return Err(Stop::At(at));
+    let mut cursor = Cursor::new(alloc, text, tokens);
+    let source = grammar(&mut cursor)?;
+    if cursor.is_at_end() {
+        Ok(source)
+    } else {
+        Err(Stop::At(tokens.len() - cursor.left()))
     }
-    Ok(source)
 }

@@ -1,17 +1,16 @@
 // The character sets of lexer rules.
 ghost use Rattle.std.specs.Prelude.{◌≡◌, IfOk};
+ghost use Rattle.std.specs.Str.{chars};
 ghost use Rattle.g4_tokens.specs.declared.token.Kind.TheVariants.{Literal, Set};
 ghost use Rattle.g4_syntax.specs.Notation.{sign};
-ghost use Rattle.g4_prequels.specs.Parts.{IsPart, AreParts};
-ghost use Rattle.g4_prequels.specs.Steps.{Gives};
-ghost use Rattle.g4_prequels.specs.Texts.{characters_of};
+ghost use Rattle.g4_prequels.specs.Progress.{Gives};
 ghost use Rattle.g4_productions.specs.LexerElements.{set_of_leaf, first_character, character_of};
 ghost use Rattle.g4_productions.specs.Members.{set_of, ranges_of};
 ghost use Rattle.g4_productions.specs.SetText.{content};
 
 use g4_chars::{CharSet, SetFault, read_set};
-use g4_prequels::{Stop, characters, is_at, literal_at};
-use g4_tokens::{Kind, Token};
+use g4_prequels::{Cursor, characters_of, literal};
+use g4_tokens::Kind;
 use std::alloc::{AllocError, Global};
 
 /// The characters between the brackets of a set.
@@ -36,48 +35,33 @@ fn set_of(alloc: Global, content: &[char]) -> Result<Option<CharSet>, AllocError
     }
 }
 
-/// The set that the token is: a bad set is empty.
-fn set_of_token(alloc: Global, text: &str, token: &Token) -> Result<CharSet, AllocError>
-    requires part { IsPart text.now token.now }
-    ensures { IfOk result (λ s. s ≡ ranges_of (content (characters_of text.now token.now))) }
+/// The set with this text: a bad set is empty.
+fn set_of_text(alloc: Global, text: &str) -> Result<CharSet, AllocError>
+    ensures { IfOk result (λ s. s ≡ ranges_of (content (chars text.now))) }
 {
-    let characters = characters(alloc, text, token)?;
+    let characters = characters_of(alloc, text)?;
     match set_of(alloc, content(&characters))? {
         Some(set) => Ok(set),
         None => Ok(CharSet::empty(alloc)),
     }
 }
 
-/// The set at the index, and the index behind it.
-pub(crate) fn set_at(
-    alloc: Global,
-    text: &str,
-    tokens: &[Token],
-    at: usize,
-) -> Result<(CharSet, usize), Stop>
-    requires parts { AreParts text.now tokens.now }
-    ensures { Gives {x = sign Set} set_of_leaf text.now tokens.now at result }
+/// A set.
+pub(crate) fn set(cursor: &mut Cursor<'_>) -> Result<CharSet, AllocError>
+    ensures { Gives {x = sign Set} set_of_leaf cursor.old cursor.new result }
 {
-    if !is_at(tokens, at, Kind::Set) {
-        return Err(Stop::At(at));
-    }
-    let set = set_of_token(alloc, text, &tokens[at])?;
-    Ok((set, at + 1))
+    let taken = cursor.take(Kind::Set);
+    let set = set_of_text(cursor.alloc(), taken.text)?;
+    Ok(set)
 }
 
-/// The first character of the literal at the index, and the index behind it.
-pub(crate) fn character_at(
-    alloc: Global,
-    text: &str,
-    tokens: &[Token],
-    at: usize,
-) -> Result<(char, usize), Stop>
-    requires parts { AreParts text.now tokens.now }
-    ensures { Gives {x = sign Literal} character_of text.now tokens.now at result }
+/// The first character of a literal.
+pub(crate) fn character(cursor: &mut Cursor<'_>) -> Result<char, AllocError>
+    ensures { Gives {x = sign Literal} character_of cursor.old cursor.new result }
 {
-    let (literal, at) = literal_at(alloc, text, tokens, at)?;
-    let character = first_character(literal.characters.as_slice());
-    Ok((character, at))
+    let taken = cursor.take(Kind::Literal);
+    let literal = literal(cursor.alloc(), taken.text)?;
+    Ok(first_character(literal.characters.as_slice()))
 }
 
 /// The first of some characters; there is one wherever it counts.

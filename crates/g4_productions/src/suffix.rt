@@ -1,21 +1,19 @@
 // What is common to the elements of parser rules and of lexer rules.
-ghost use Rattle.std.specs.Prelude.{◌≡◌, ◌<◌, ◌≤◌, ℕ, IfOk, List, length, true};
+ghost use Rattle.std.specs.Prelude.{◌≡◌, IfOk};
 ghost use Rattle.g4_elements.specs.Elements.{atom as an_atom, block, empty, then, only};
 ghost use Rattle.g4_elements.specs.Trees.{element_of};
-ghost use Rattle.g4_syntax.specs.Notation.{sign, optional, ◌▸◌};
+ghost use Rattle.g4_syntax.specs.Notation.{sign, optional};
 ghost use Rattle.g4_syntax.specs.Productions.{assign};
-ghost use Rattle.g4_syntax.specs.Trees.{begins_there};
 ghost use Rattle.g4_tokens.specs.declared.token.Kind.TheVariants as kinds;
-ghost use Rattle.g4_prequels.specs.Parts.{AreParts};
-ghost use Rattle.g4_prequels.specs.Steps.{from, Read, ReadsAs, Gives};
+ghost use Rattle.g4_prequels.specs.Progress.{is_next, Moves, GivesAs};
 ghost use Rattle.g4_productions.specs.Elements.{single, unlabelled, is_greedy, is_list, optional_suffix_of, action_of, with_suffix};
-ghost use Rattle.g4_productions.specs.ParserItems.{labelled_of};
-ghost use Rattle.g4_productions.specs.Suffixes.{sign_of};
+ghost use Rattle.g4_productions.specs.Elements.{labelled_of};
 
+use g4_base::Place;
 use g4_elements::{Alternative, Element, Label, Repeat, Suffix};
-use g4_prequels::{Stop, is_at, named, optional_element_options, pass};
+use g4_prequels::{Cursor, optional_element_options};
 use g4_source::{Atom, AtomKind};
-use g4_tokens::{Kind, Token};
+use g4_tokens::Kind;
 use std::alloc::{AllocError, Global};
 
 /// An element without its sign.
@@ -71,93 +69,65 @@ pub(crate) fn with_suffix(
     }
 }
 
-/// Whether the sign before the index is greedy, so that no `?` follows it, and the index behind that.
-fn greedy(tokens: &[Token], at: usize) -> (bool, usize)
-    requires within { at ≤ length tokens.now }
-    ensures { (text : List ℕ) → Read {x = optional (sign kinds.Question)} (λ tree g. g ≡ is_greedy tree) text tokens.now at result.0 result.1 }
+/// The sign at this place, which is greedy unless `?` follows.
+fn suffix(cursor: &mut Cursor<'_>, place: Place) -> Suffix
+    ensures { Moves {x = optional (sign kinds.Question)} (λ tree. result ≡ record { place = place; greedy = is_greedy tree }) cursor.old cursor.new }
 {
-    if is_at(tokens, at, Kind::Question) {
-        (false, at + 1)
-    } else {
-        (true, at)
-    }
+    let greedy = !cursor.take_if(Kind::Question);
+    Suffix { place, greedy }
 }
 
-/// The sign of this kind at the index, and the index behind it and the `?` that may follow.
-fn sign_at(tokens: &[Token], at: usize, kind: Kind) -> (Suffix, usize)
-    requires within { at < length tokens.now }
-    requires is { (text : List ℕ) → begins_there (sign kind) (from text tokens.now at) ≡ true }
-    ensures { (text : List ℕ) → Read {x = sign kind ▸ optional (sign kinds.Question)} (λ tree s. s ≡ sign_of tree) text tokens.now at result.0 result.1 }
+/// How often an element may be taken, by its sign, if it has one.
+pub(crate) fn optional_suffix(cursor: &mut Cursor<'_>) -> Repeat
+    ensures { Moves (λ tree. result ≡ optional_suffix_of tree) cursor.old cursor.new }
 {
-    let place = tokens[at].place;
-    let (greedy, next) = greedy(tokens, at + 1);
-    (Suffix { place, greedy }, next)
+    if cursor.is_at(Kind::Question) {
+        let place = cursor.take(Kind::Question).place;
+        return Repeat::Optional(suffix(cursor, place));
+    }
+    if cursor.is_at(Kind::Star) {
+        let place = cursor.take(Kind::Star).place;
+        return Repeat::Star(suffix(cursor, place));
+    }
+    if cursor.is_at(Kind::Plus) {
+        let place = cursor.take(Kind::Plus).place;
+        return Repeat::Plus(suffix(cursor, place));
+    }
+    Repeat::Once
 }
 
-/// How often an element may be taken whose sign, if it has one, is at the index, and the index behind the sign.
-pub(crate) fn optional_suffix(tokens: &[Token], at: usize) -> (Repeat, usize)
-    requires within { at ≤ length tokens.now }
-    ensures { (text : List ℕ) → Read (λ tree r. r ≡ optional_suffix_of tree) text tokens.now at result.0 result.1 }
+/// Whether the sign of a label is next.
+pub(crate) fn is_at_label_sign(cursor: &Cursor<'_>) -> bool
+    ensures { result ≡ is_next assign cursor.now }
 {
-    if is_at(tokens, at, Kind::Question) {
-        let (suffix, next) = sign_at(tokens, at, Kind::Question);
-        return (Repeat::Optional(suffix), next);
-    }
-    if is_at(tokens, at, Kind::Star) {
-        let (suffix, next) = sign_at(tokens, at, Kind::Star);
-        return (Repeat::Star(suffix), next);
-    }
-    if is_at(tokens, at, Kind::Plus) {
-        let (suffix, next) = sign_at(tokens, at, Kind::Plus);
-        return (Repeat::Plus(suffix), next);
-    }
-    (Repeat::Once, at)
+    cursor.is_at(Kind::Equals) | cursor.is_at(Kind::PlusEquals)
 }
 
-/// Whether the sign of a label stands at the index.
-pub(crate) fn is_label_sign_at(tokens: &[Token], at: usize) -> bool
-    ensures { (text : List ℕ) → result ≡ begins_there assign (from text tokens.now at) }
+/// Takes the sign of a label, and says whether it is `+=`.
+pub(crate) fn label_sign(cursor: &mut Cursor<'_>) -> bool
+    ensures { Moves (λ tree. result ≡ is_list tree) cursor.old cursor.new }
 {
-    is_at(tokens, at, Kind::Equals) || is_at(tokens, at, Kind::PlusEquals)
+    if cursor.is_at(Kind::Equals) {
+        cursor.take(Kind::Equals);
+        return false;
+    }
+    cursor.take(Kind::PlusEquals);
+    true
 }
 
-/// Whether the sign of a label, which stands at the index, is `+=`, and the index behind it.
-pub(crate) fn label_sign(tokens: &[Token], at: usize) -> Result<(bool, usize), Stop>
-    ensures { (text : List ℕ) → Gives is_list text tokens.now at result }
+/// An action or a predicate.
+pub(crate) fn action(cursor: &mut Cursor<'_>) -> Result<Element<Atom>, AllocError>
+    ensures { GivesAs element_of action_of cursor.old cursor.new result }
 {
-    if is_at(tokens, at, Kind::Equals) {
-        let at = pass(tokens, at, Kind::Equals)?;
-        return Ok((false, at));
+    let label = None;
+    let name = cursor.named(Kind::Action)?;
+    if !cursor.is_at(Kind::Question) {
+        let right = false;
+        let kind = AtomKind::Action;
+        return Ok(Element::Atom(Atom { label, right, kind }));
     }
-    let at = pass(tokens, at, Kind::PlusEquals)?;
-    Ok((true, at))
-}
-
-/// The action or the predicate at the index, and the index behind it.
-pub(crate) fn action(
-    alloc: Global,
-    text: &str,
-    tokens: &[Token],
-    at: usize,
-) -> Result<(Element<Atom>, usize), Stop>
-    requires parts { AreParts text.now tokens.now }
-    ensures { ReadsAs (λ tree e. element_of e ≡ action_of tree) text.now tokens.now at result }
-{
-    let (name, at) = named(alloc, text, tokens, at, Kind::Action)?;
-    if !is_at(tokens, at, Kind::Question) {
-        let action = Atom {
-            label: None,
-            right: false,
-            kind: AtomKind::Action,
-        };
-        return Ok((Element::Atom(action), at));
-    }
-    let at = pass(tokens, at, Kind::Question)?;
-    let (right, at) = optional_element_options(alloc, text, tokens, at)?;
-    let predicate = Atom {
-        label: None,
-        right,
-        kind: AtomKind::Predicate(name),
-    };
-    Ok((Element::Atom(predicate), at))
+    cursor.take(Kind::Question);
+    let right = optional_element_options(cursor)?;
+    let kind = AtomKind::Predicate(name);
+    Ok(Element::Atom(Atom { label, right, kind }))
 }

@@ -12,7 +12,7 @@ use Rattle.g4_tokens.specs.declared.token.Kind.{Kind}
 use Rattle.g4_tokens.specs.declared.token.Kind.TheVariants as kinds
 use Rattle.g4_tokens.specs.declared.token.Token.{Token}
 use Rattle.g4_syntax.specs.Notation.{Spelled}
-use Rattle.g4_prequels.specs.Steps.{from}
+use Rattle.g4_prequels.specs.Texts.{from}
 use Rattle.g4_prequels.specs.Texts.{spelled_token}
 use Rattle.g4_productions.specs.SetText.{IsBad}
 use Rattle.g4_reader.specs.Answering.{BeginsBad, EndIsBad, IsLone, RangeIsBad, Tells}

@@ -10,7 +10,7 @@ use Rattle.g4_tokens.specs.declared.token.Kind.TheVariants as kinds
 use Rattle.g4_tokens.specs.declared.token.Token.{Token}
 use Rattle.g4_syntax.specs.Notation.{Spelled}
 use Rattle.g4_syntax.proofs.Truths.{and_true, and_first_true, and_second_true}
-use Rattle.g4_prequels.specs.Steps.{from}
+use Rattle.g4_prequels.specs.Texts.{from}
 use Rattle.g4_prequels.specs.Texts.{characters_of, spelled, spelled_token}
 use Rattle.g4_reader.specs.Answering.{BeginsBad}
 use Rattle.g4_reader.specs.Bad.{begins_behind, begins_here, excluded_past, exclusions_past, HasFirstBad, HasNoBad, is_excluded, IsBadAt, open_exclusions, word_of}

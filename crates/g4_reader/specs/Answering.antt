@@ -1,4 +1,4 @@
--- What the calls on whole texts answer.
+-- What the calls on whole texts answer. This serves only contracts of private calls: `read_grammar` does not rest on it.
 use Rattle.std.specs.Prelude.{◌≡◌, ◌≢◌, ℕ, List, [], ◌∷◌, ◌⊎◌, ◌<◌, Bool, true, false, Option, Some, None, Result, Ok, Err, length}
 use Rattle.g4_base.specs.declared.place.Place.{Place}
 use Rattle.g4_tokens.specs.declared.token.Kind.TheVariants as kinds

@@ -1,4 +1,6 @@
--- What reading a grammar text answers.
+-- What reading a grammar text answers. To trust `read_grammar`, read this file, `Bad` beside it, and those that they use: the
+-- productions and trees of `g4_syntax`, what trees say in `g4_productions` and `g4_prequels`
+-- (`Options`, `Prequels`, `Texts`), and the tokens of `g4_tokens`.
 use Rattle.std.specs.Prelude.{◌≡◌, ◌⊎◌, ℕ, List, [], ◌∷◌, ◌++◌, take, drop, Result, Ok, Err, codes}
 use Rattle.std.specs.Str.{IsValidUpTo, chars}
 use Rattle.g4_base.specs.declared.place.Place.{Place}

@@ -1,7 +1,7 @@
 // The first bad character set of a text.
 ghost use Rattle.std.specs.Prelude.{◌≡◌, ◌+◌, ◌-◌, ◌<◌, ◌^◌, IfOk, length};
 ghost use Rattle.g4_prequels.specs.Parts.{AreParts, IsPart};
-ghost use Rattle.g4_prequels.specs.Steps.{from};
+ghost use Rattle.g4_prequels.specs.Texts.{from};
 ghost use Rattle.g4_prequels.specs.Texts.{characters_of, spelled, spelled_token};
 ghost use Rattle.g4_productions.specs.SetText.{content, IsBad};
 ghost use Rattle.g4_reader.specs.Answering.{BeginsBad, EndIsBad, IsLone, RangeIsBad, Tells, TellsFirstBad};

@@ -5,7 +5,7 @@ ghost use Rattle.g4_tokens.specs.Answers.{unmarked};
 ghost use Rattle.g4_prequels.specs.Texts.{characters_of};
 ghost use Rattle.g4_prequels.specs.Parts.{IsPart, AreParts};
 ghost use Rattle.g4_reader.specs.Reading.{end_of, fault_at, opened_fault};
-ghost use Rattle.g4_prequels.specs.Steps.{from};
+ghost use Rattle.g4_prequels.specs.Texts.{from};
 ghost use Rattle.g4_reader.specs.Answering.{IsFault};
 ghost use Rattle.g4_base.specs.declared.limits.TheConstants.{MOST_BYTES};
 

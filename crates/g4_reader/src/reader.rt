@@ -4,15 +4,14 @@ ghost use Rattle.g4_source.specs.Blocks.{HaveAlternatives};
 ghost use Rattle.g4_reader.specs.Answering.{IsFirstOf, IsGoodOrBad, IsReadingOf};
 ghost use Rattle.g4_prequels.specs.Parts.{AreParts};
 ghost use Rattle.g4_reader.specs.Reading.{IsReading};
-ghost use Rattle.g4_prequels.specs.Steps.{from};
+ghost use Rattle.g4_prequels.specs.Texts.{from};
 ghost use Rattle.g4_prequels.specs.Texts.{spelled};
 ghost use Rattle.g4_base.specs.declared.limits.TheConstants.{MOST_BYTES};
 
 use crate::bad::first_bad;
 use crate::fault::{fault_at, opened_fault};
 use g4_base::{Place, Sequence};
-use g4_prequels::Stop;
-use g4_productions::read_tokens;
+use g4_productions::{Stop, read_tokens};
 use g4_source::Source;
 use g4_tokens::{ScanFault, Token, scan};
 use std::alloc::Global;

@@ -1,43 +1,16 @@
-use Rattle.std.proofs.lemmas.Result.{err_from_is_err_and}
-use Rattle.std.proofs.Common.{◌∷◌, List, ℕ, refl, sym, ◌∙◌, ap}
-use Rattle.g4_syntax.specs.Notation.{sign, name}
-use Rattle.g4_prequels.specs.Steps.{from, without_memory}
-use Rattle.g4_prequels.proofs.Choices.{begins_first}
-use Rattle.g4_prequels.proofs.Repetitions.{stops_in_turn, list_turn, list_end}
-use Rattle.g4_prequels.proofs.Sequences.{one_passed, then_passed, stops_then}
-use Rattle.g4_tokens.specs.declared.token.Kind.TheVariants as kinds
-use Rattle.g4_prequels.specs.Options.{dotted_names}
+use Rattle.std.proofs.Common.{refl, sym, ◌∙◌}
+use Rattle.g4_prequels.proofs.Turning.{start_list, sign_turn, sign_end, fewer_then}
+use Rattle.g4_prequels.specs.Options.{names_behind_dots}
 use Rattle.g4_prequels.proofs.options.dotted_names.Goals as goal
 
-pub returns-in_err-names : goal.returns-in_err-names
-returns-in_err-names c =
-    let p = err_from_is_err_and c.from_residual.result c.from_residual.ensures.1 in
-    rw (p.1, p.2) (without_memory)
+pub loop-cursor-init : goal.loop-cursor-init
+loop-cursor-init c = start_list
 
-pub returns-in_err-name : goal.returns-in_err-name
-returns-in_err-name c =
-    let next = from c.args.text.now c.args.tokens.now c.loop-alloc.next in
-    let dot = sym (c.is_at.ensures.begins c.args.text.now) ∙ c.loop-alloc-test.true in
-    let begins = begins_first (sign kinds.Dot) name next refl ∙ dot in
-    let passed_dot = one_passed (c.is_at.ensures.there c.loop-alloc-test.true) dot in
-    let p = err_from_is_err_and c.from_residual-in_err-name.result c.from_residual-in_err-name.ensures.1 in
-    rw (p.1, p.2) (stops_in_turn c.loop-alloc.invariant begins (stops_then passed_dot c.in_err-name.ensures))
+pub loop-cursor-preserved : goal.loop-cursor-preserved
+loop-cursor-preserved c = sign_turn names_behind_dots c.loop-cursor.invariant (sym c.is_at.ensures ∙ c.loop-cursor-test.true) c.take.ensures c.in_ok-name.ensures (λ a b rest p. rw p refl) c.in_ok-push.ensures.items
 
-pub returns-in_err-push : goal.returns-in_err-push
-returns-in_err-push c =
-    let p = err_from_is_err_and c.from_residual-in_err-push.result c.from_residual-in_err-push.ensures.1 in
-    rw (p.1, p.2) (without_memory)
-
-pub loop-alloc-preserved : goal.loop-alloc-preserved
-loop-alloc-preserved c =
-    let next = from c.args.text.now c.args.tokens.now c.loop-alloc.next in
-    let dot = sym (c.is_at.ensures.begins c.args.text.now) ∙ c.loop-alloc-test.true in
-    let begins = begins_first (sign kinds.Dot) name next refl ∙ dot in
-    let passed_dot = one_passed (c.is_at.ensures.there c.loop-alloc-test.true) dot in
-    list_turn dotted_names c.loop-alloc.names.items c.loop-alloc.invariant begins (then_passed passed_dot c.in_ok-name.ensures.passed) (λ rest. ap (λ (t : List ℕ). t ∷ dotted_names rest) (sym c.in_ok-name.ensures.says)) c.in_ok-push.ensures.items
+pub loop-cursor-smaller : goal.loop-cursor-smaller
+loop-cursor-smaller c = fewer_then (sym c.is_at.ensures ∙ c.loop-cursor-test.true) c.take.ensures c.in_ok-name.ensures
 
 pub returns : goal.returns
-returns c =
-    let next = from c.args.text.now c.args.tokens.now c.loop-alloc.next in
-    let none = begins_first (sign kinds.Dot) name next refl ∙ sym (c.is_at.ensures.begins c.args.text.now) ∙ c.loop-alloc-test.false in
-    rw c.new.ensures (list_end dotted_names c.loop-alloc.names.items c.loop-alloc.invariant none refl)
+returns c = sign_end names_behind_dots c.in_ok-first.ensures c.loop-cursor.invariant (sym c.is_at.ensures ∙ c.loop-cursor-test.false) refl c.in_ok-names.ensures.items c.new.ensures (λ a b p. rw p refl)

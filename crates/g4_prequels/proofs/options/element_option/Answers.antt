@@ -1,46 +1,9 @@
-use Rattle.std.proofs.lemmas.Result.{err_from_is_err_and}
-use Rattle.std.proofs.Common.{List, ℕ, refl, sym, ◌∙◌, ap, ◌&&◌}
-use Rattle.std.specs.Prelude.{codes, bytes_eq}
-use Rattle.g4_syntax.specs.Notation.{sign}
-use Rattle.g4_prequels.specs.Steps.{from}
-use Rattle.g4_prequels.proofs.Choices.{absent_passed, present_passed, stops_present, begins_first}
-use Rattle.g4_prequels.proofs.Sequences.{one_passed, then_passed, stops_first, stops_then}
-use Rattle.g4_tokens.specs.declared.token.Kind.TheVariants as kinds
-use Rattle.g4_syntax.specs.Productions.{value}
-use Rattle.g4_prequels.specs.Options.{is_right}
-use Rattle.g4_source.specs.declared.prequel.OptionValue.{OptionValue}
-use Rattle.g4_prequels.specs.Texts.{text_of}
+use Rattle.std.proofs.Common.{refl, sym, ◌∙◌}
+use Rattle.g4_prequels.proofs.Moving.{upon, so, left_out, there, led}
 use Rattle.g4_prequels.proofs.options.element_option.Goals as goal
 
-pub returns-in_err-name : goal.returns-in_err-name
-returns-in_err-name c =
-    let p = err_from_is_err_and c.from_residual.result c.from_residual.ensures.1 in
-    rw (p.1, p.2) (stops_first c.in_err-name.ensures)
-
 pub returns-then-not-is_at : goal.returns-then-not-is_at
-returns-then-not-is_at c =
-    let named = c.in_ok-name.ensures.passed in
-    let behind = from c.args.text.now c.args.tokens.now c.in_ok-name.at in
-    let none = begins_first (sign kinds.Equals) value behind refl ∙ sym (c.is_at.ensures.begins c.args.text.now) ∙ c.if-not-is_at.true in
-    record { passed = then_passed named (absent_passed none c.in_ok-name.ensures.passed.within); says = refl }
-
-pub returns-in_err-value : goal.returns-in_err-value
-returns-in_err-value c =
-    let named = c.in_ok-name.ensures.passed in
-    let behind = from c.args.text.now c.args.tokens.now c.in_ok-name.at in
-    let equals = sym (c.is_at.ensures.begins c.args.text.now) ∙ c.if-not-is_at.false in
-    let begins = begins_first (sign kinds.Equals) value behind refl ∙ equals in
-    let passed_equals = one_passed (c.is_at.ensures.there c.if-not-is_at.false) equals in
-    let p = err_from_is_err_and c.from_residual-in_err-value.result c.from_residual-in_err-value.ensures.1 in
-    rw (p.1, p.2) (stops_then named (stops_present begins (stops_then passed_equals c.in_err-value.ensures)))
+returns-then-not-is_at c = upon c.in_ok-name.ensures (left_out _ (led _ _ _ refl ∙ sym c.is_at.ensures ∙ c.if-not-is_at.true) (λ n p. refl))
 
 pub returns : goal.returns
-returns c =
-    let named = c.in_ok-name.ensures.passed in
-    let behind = from c.args.text.now c.args.tokens.now c.in_ok-name.at in
-    let equals = sym (c.is_at.ensures.begins c.args.text.now) ∙ c.if-not-is_at.false in
-    let begins = begins_first (sign kinds.Equals) value behind refl ∙ equals in
-    let passed_equals = one_passed (c.is_at.ensures.there c.if-not-is_at.false) equals in
-    let written = ap (λ (t : List ℕ). bytes_eq t (codes "assoc") && is_right c.in_ok-value.value) c.in_ok-name.ensures.says in
-    let valued = ap (λ (v : OptionValue). bytes_eq (text_of c.in_ok-name.ensures.passed.tree) (codes "assoc") && is_right v) c.in_ok-value.ensures.says in
-    record { passed = then_passed named (present_passed begins (then_passed passed_equals c.in_ok-value.ensures.passed)); says = c.is_association-right.ensures ∙ written ∙ valued }
+returns c = upon c.in_ok-name.ensures (there (led _ _ _ refl ∙ sym c.is_at.ensures ∙ c.if-not-is_at.false) (upon c.take.ensures (so c.in_ok-value.ensures (λ v r equals q n p. rw (← p, ← r) c.is_association.ensures))))

@@ -1,45 +1,30 @@
-use Rattle.std.proofs.lemmas.Result.{err_from_is_err_and}
-use Rattle.std.proofs.Common.{◌∙◌, ap, Bool, ◌||◌}
-use Rattle.g4_prequels.proofs.Sequences.{then_passed, stops_first, stops_then}
-use Rattle.g4_prequels.specs.Options.{one_says_right}
+use Rattle.std.proofs.Common.{◌≡◌, ◌||◌, Bool, true, false, refl, sym, ◌∙◌}
+use Rattle.g4_prequels.proofs.Moving.{upon, so, two, led}
+use Rattle.g4_prequels.proofs.Turning.{start, sign_over, end_turns, fewer_then}
+use Rattle.g4_prequels.specs.Options.{says_right, one_says_right, commas_say_right}
 use Rattle.g4_prequels.proofs.options.element_options.Goals as goal
 
-pub returns-in_err-at : goal.returns-in_err-at
-returns-in_err-at c =
-    let p = err_from_is_err_and c.from_residual.result c.from_residual.ensures.1 in
-    rw (p.1, p.2) (stops_first (c.in_err-at.ensures c.args.text.now))
+-- one or another or a third is so
+either : (p q r : Bool) → (p || (q || r)) ≡ ((p || q) || r)
+either true q r = refl
+either false q r = refl
 
-pub element_option-requires-clause-within : goal.element_option-requires-clause-within
-element_option-requires-clause-within c = (c.in_ok-at.ensures c.args.text.now).within
+-- one or false
+or_none : (p : Bool) → p ≡ (p || false)
+or_none true = refl
+or_none false = refl
 
-pub returns-in_err-first : goal.returns-in_err-first
-returns-in_err-first c =
-    let less = c.in_ok-at.ensures c.args.text.now in
-    let p = err_from_is_err_and c.from_residual-in_err-first.result c.from_residual-in_err-first.ensures.1 in
-    rw (p.1, p.2) (stops_then less (stops_first (stops_first c.in_err-first.ensures)))
+pub loop-cursor-init : goal.loop-cursor-init
+loop-cursor-init c = start
 
-pub returns-in_err-right : goal.returns-in_err-right
-returns-in_err-right c =
-    let less = c.in_ok-at.ensures c.args.text.now in
-    let first = c.in_ok-first.ensures.passed in
-    let p = err_from_is_err_and c.from_residual-in_err-right.result c.from_residual-in_err-right.ensures.1 in
-    rw (p.1, p.2) (stops_then less (stops_first (stops_then first c.in_err-right.ensures)))
+pub loop-cursor-preserved : goal.loop-cursor-preserved
+loop-cursor-preserved c = sign_over c.loop-cursor.invariant (sym c.is_at.ensures ∙ c.loop-cursor-test.true) c.take-in-loop-cursor.ensures c.in_ok-says.ensures (λ a b rest p. rw p (either c.loop-cursor.right (says_right b) (one_says_right rest)))
 
-pub returns-in_err-at-2 : goal.returns-in_err-at-2
-returns-in_err-at-2 c =
-    let less = c.in_ok-at.ensures c.args.text.now in
-    let first = c.in_ok-first.ensures.passed in
-    let options = then_passed first c.in_ok-right.ensures.passed in
-    let p = err_from_is_err_and c.from_residual-in_err-at-2.result c.from_residual-in_err-at-2.ensures.1 in
-    rw (p.1, p.2) (stops_then less (stops_then options (c.in_err-at-2.ensures c.args.text.now)))
+pub loop-cursor-smaller : goal.loop-cursor-smaller
+loop-cursor-smaller c = fewer_then (sym c.is_at.ensures ∙ c.loop-cursor-test.true) c.take-in-loop-cursor.ensures c.in_ok-says.ensures
 
 pub returns : goal.returns
 returns c =
-    let less = c.in_ok-at.ensures c.args.text.now in
-    let first = c.in_ok-first.ensures.passed in
-    let options = then_passed first c.in_ok-right.ensures.passed in
-    let greater = c.in_ok-at-2.ensures c.args.text.now in
-    record {
-      passed = then_passed less (then_passed options greater);
-      says = c.in_ok-right.ensures.says ∙ ap (λ (b : Bool). b || one_says_right c.in_ok-right.ensures.passed.tree) c.in_ok-first.ensures.says;
-    }
+    let ended = end_turns {value = c.loop-cursor.right} c.loop-cursor.invariant (led _ _ _ refl ∙ sym c.is_at.ensures ∙ c.loop-cursor-test.false) (or_none _) in
+    let options = two {R = λ tree. c.loop-cursor.right ≡ commas_say_right tree} c.in_ok-right.ensures ended (λ a b p q. q ∙ rw p refl) in
+    upon c.take.ensures (upon options (so c.take-2.ensures (λ greater s os r less q. r)))

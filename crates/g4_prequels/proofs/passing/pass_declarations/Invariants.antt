@@ -1,11 +1,10 @@
-use Rattle.std.proofs.Common.{◌-◌, length}
+use Rattle.g4_prequels.proofs.Turning.{left, Passing}
 use Rattle.g4_syntax.specs.Notation.{◌∣◌}
-use Rattle.g4_prequels.proofs.Repetitions.{Passing}
 use Rattle.g4_syntax.specs.Productions.{options, rule_action}
 use Rattle.g4_prequels.proofs.passing.pass_declarations.Given as goal
 
-abbrev pub invariant-loop-alloc : goal.invariant-loop-alloc
-invariant-loop-alloc l = Passing (options ∣ rule_action) l.text l.tokens l.fn.at l.next
+abbrev pub invariant-loop-cursor : goal.invariant-loop-cursor
+invariant-loop-cursor l = Passing (options ∣ rule_action) l.initial.cursor l.cursor
 
-abbrev pub decreases-loop-alloc : goal.decreases-loop-alloc
-decreases-loop-alloc l = length l.tokens - l.next
+abbrev pub decreases-loop-cursor : goal.decreases-loop-cursor
+decreases-loop-cursor l = left l.cursor

@@ -1,16 +1,16 @@
-use Rattle.std.proofs.lemmas.Result.{err_from_is_err_and}
-use Rattle.g4_prequels.proofs.Sequences.{then_passed, stops_first, stops_then}
+use Rattle.std.proofs.Common.{refl, sym, ◌∙◌}
+use Rattle.g4_prequels.proofs.Moving.{passed, behind, led}
+use Rattle.g4_prequels.proofs.Turning.{fewer_then, pass_start, pass_turn, pass_end}
 use Rattle.g4_prequels.proofs.passing.pass_handlers.Goals as goal
 
-pub returns-in_err-at : goal.returns-in_err-at
-returns-in_err-at c =
-    let p = err_from_is_err_and c.from_residual.result c.from_residual.ensures.1 in
-    rw (p.1, p.2) (stops_first c.in_err-at.ensures)
+pub loop-cursor-init : goal.loop-cursor-init
+loop-cursor-init c = pass_start
 
-pub returns-in_err-at-2 : goal.returns-in_err-at-2
-returns-in_err-at-2 c =
-    let p = err_from_is_err_and c.from_residual-in_err-at-2.result c.from_residual-in_err-at-2.ensures.1 in
-    rw (p.1, p.2) (stops_then c.in_ok-at.ensures c.in_err-at-2.ensures)
+pub loop-cursor-preserved : goal.loop-cursor-preserved
+loop-cursor-preserved c = pass_turn c.loop-cursor.invariant (led _ _ _ refl ∙ sym c.is_at_word.ensures ∙ c.loop-cursor-test.true) (behind c.take_word.ensures (behind c.take.ensures (passed c.take-in-loop-cursor.ensures)))
+
+pub loop-cursor-smaller : goal.loop-cursor-smaller
+loop-cursor-smaller c = fewer_then (sym c.is_at_word.ensures ∙ c.loop-cursor-test.true) c.take_word.ensures (behind c.take.ensures (passed c.take-in-loop-cursor.ensures))
 
 pub returns : goal.returns
-returns c = then_passed c.in_ok-at.ensures c.in_ok-at-2.ensures
+returns c = behind (pass_end c.loop-cursor.invariant (led _ _ _ refl ∙ sym c.is_at_word.ensures ∙ c.loop-cursor-test.false)) c.pass_clause.ensures

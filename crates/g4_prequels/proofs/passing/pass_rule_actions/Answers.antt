@@ -1,35 +1,16 @@
-use Rattle.std.proofs.lemmas.Result.{err_from_is_err_and}
-use Rattle.std.proofs.Common.{[], sym, ◌∙◌, arith}
-use Rattle.g4_prequels.specs.Steps.{from}
-use Rattle.g4_prequels.proofs.Repetitions.{stops_in_turn, pass_turn, pass_end}
-use Rattle.g4_prequels.proofs.Beginnings.{rule_action_begin}
-use Rattle.g4_prequels.proofs.Sequences.{moves}
+use Rattle.std.proofs.Common.{refl, sym, ◌∙◌}
+use Rattle.g4_prequels.proofs.Moving.{led}
+use Rattle.g4_prequels.proofs.Turning.{fewer, pass_start, pass_turn, pass_end}
 use Rattle.g4_prequels.proofs.passing.pass_rule_actions.Goals as goal
 
-pub returns-in_err-next : goal.returns-in_err-next
-returns-in_err-next c =
-    λ text.
-    let next = from text c.args.tokens.now c.loop-next.next in
-    let begins = rule_action_begin next ∙ sym (c.is_at.ensures.begins text) ∙ c.loop-next-test.true in
-    let p = err_from_is_err_and c.from_residual.result c.from_residual.ensures.1 in
-    rw (p.1, p.2) (stops_in_turn (c.loop-next.invariant text) begins (c.in_err-next.ensures text))
+pub loop-cursor-init : goal.loop-cursor-init
+loop-cursor-init c = pass_start
 
-pub loop-next-preserved : goal.loop-next-preserved
-loop-next-preserved c =
-    λ text.
-    let next = from text c.args.tokens.now c.loop-next.next in
-    let begins = rule_action_begin next ∙ sym (c.is_at.ensures.begins text) ∙ c.loop-next-test.true in
-    pass_turn (c.loop-next.invariant text) begins (c.in_ok-next.ensures text)
+pub loop-cursor-preserved : goal.loop-cursor-preserved
+loop-cursor-preserved c = pass_turn c.loop-cursor.invariant (led _ _ _ refl ∙ sym c.is_at.ensures ∙ c.loop-cursor-test.true) c.pass_rule_action.ensures
 
-pub loop-next-smaller : goal.loop-next-smaller
-loop-next-smaller c =
-    let passed = c.in_ok-next.ensures [] in
-    let moved = moves (rule_action_begin (from [] c.args.tokens.now c.loop-next.next) ∙ sym (c.is_at.ensures.begins []) ∙ c.loop-next-test.true) passed in
-    omega (arith, moved, passed.within)
+pub loop-cursor-smaller : goal.loop-cursor-smaller
+loop-cursor-smaller c = fewer (led _ _ _ refl ∙ sym c.is_at.ensures ∙ c.loop-cursor-test.true) c.pass_rule_action.ensures
 
 pub returns : goal.returns
-returns c =
-    λ text.
-    let next = from text c.args.tokens.now c.loop-next.next in
-    let none = rule_action_begin next ∙ sym (c.is_at.ensures.begins text) ∙ c.loop-next-test.false in
-    pass_end (c.loop-next.invariant text) none
+returns c = pass_end c.loop-cursor.invariant (led _ _ _ refl ∙ sym c.is_at.ensures ∙ c.loop-cursor-test.false)

@@ -1,49 +1,19 @@
-use Rattle.std.proofs.lemmas.Result.{err_from_is_err_and}
 use Rattle.std.proofs.Common.{refl, sym, ◌∙◌}
-use Rattle.std.specs.Prelude.{codes}
-use Rattle.g4_syntax.specs.Notation.{name, word, with_commas}
-use Rattle.g4_prequels.specs.Steps.{from}
-use Rattle.g4_prequels.proofs.Choices.{absent_passed, present_passed, stops_present, begins_first}
-use Rattle.g4_prequels.proofs.Sequences.{one_passed, then_passed, stops_first, stops_then}
+use Rattle.g4_prequels.proofs.Moving.{passed, behind, left_out, there, led}
+use Rattle.g4_prequels.proofs.Turning.{fewer_then, pass_start, pass_turn, pass_end}
 use Rattle.g4_prequels.proofs.passing.pass_throws.Goals as goal
 
-pub returns-then-not-is_word_at : goal.returns-then-not-is_word_at
-returns-then-not-is_word_at c =
-    let here = from c.args.text.now c.args.tokens.now c.args.at in
-    let clause_begins = begins_first (word (codes "throws")) (with_commas name) here refl in
-    let none = clause_begins ∙ sym c.is_word_at.ensures.begins ∙ c.if-not-is_word_at.true in
-    absent_passed none c.requires.within
+pub returns-then-not-is_at_word : goal.returns-then-not-is_at_word
+returns-then-not-is_at_word c = left_out _ (led _ _ _ refl ∙ sym c.is_at_word.ensures ∙ c.if-not-is_at_word.true) tt
 
-pub returns-in_err-at : goal.returns-in_err-at
-returns-in_err-at c =
-    let here = from c.args.text.now c.args.tokens.now c.args.at in
-    let keyword = sym c.is_word_at.ensures.begins ∙ c.if-not-is_word_at.false in
-    let clause_begins = begins_first (word (codes "throws")) (with_commas name) here refl in
-    let begins = clause_begins ∙ keyword in
-    let passed_keyword = one_passed (c.is_word_at.ensures.there c.if-not-is_word_at.false) keyword in
-    let p = err_from_is_err_and c.from_residual.result c.from_residual.ensures.1 in
-    rw (p.1, p.2) (stops_present begins (stops_then passed_keyword (stops_first (c.in_err-at.ensures c.args.text.now))))
+pub loop-cursor-init : goal.loop-cursor-init
+loop-cursor-init c = pass_start
 
-pub pass_more_names-requires : goal.pass_more_names-requires
-pass_more_names-requires c = record { within = (c.in_ok-at.ensures c.args.text.now).within }
+pub loop-cursor-preserved : goal.loop-cursor-preserved
+loop-cursor-preserved c = pass_turn c.loop-cursor.invariant (led _ _ _ refl ∙ sym c.is_at.ensures ∙ c.loop-cursor-test.true) (behind c.take.ensures (passed c.take_name-in-loop-cursor.ensures))
 
-pub returns-in_err-at-2 : goal.returns-in_err-at-2
-returns-in_err-at-2 c =
-    let here = from c.args.text.now c.args.tokens.now c.args.at in
-    let keyword = sym c.is_word_at.ensures.begins ∙ c.if-not-is_word_at.false in
-    let clause_begins = begins_first (word (codes "throws")) (with_commas name) here refl in
-    let begins = clause_begins ∙ keyword in
-    let passed_keyword = one_passed (c.is_word_at.ensures.there c.if-not-is_word_at.false) keyword in
-    let first = c.in_ok-at.ensures c.args.text.now in
-    let p = err_from_is_err_and c.from_residual-in_err-at-2.result c.from_residual-in_err-at-2.ensures.1 in
-    rw (p.1, p.2) (stops_present begins (stops_then passed_keyword (stops_then first (c.in_err-at-2.ensures c.args.text.now))))
+pub loop-cursor-smaller : goal.loop-cursor-smaller
+loop-cursor-smaller c = fewer_then (sym c.is_at.ensures ∙ c.loop-cursor-test.true) c.take.ensures c.take_name-in-loop-cursor.ensures
 
 pub returns : goal.returns
-returns c =
-    let here = from c.args.text.now c.args.tokens.now c.args.at in
-    let keyword = sym c.is_word_at.ensures.begins ∙ c.if-not-is_word_at.false in
-    let clause_begins = begins_first (word (codes "throws")) (with_commas name) here refl in
-    let begins = clause_begins ∙ keyword in
-    let passed_keyword = one_passed (c.is_word_at.ensures.there c.if-not-is_word_at.false) keyword in
-    let first = c.in_ok-at.ensures c.args.text.now in
-    present_passed begins (then_passed passed_keyword (then_passed first (c.in_ok-at-2.ensures c.args.text.now)))
+returns c = there (led _ _ _ refl ∙ sym c.is_at_word.ensures ∙ c.if-not-is_at_word.false) (behind c.take_word.ensures (behind c.take_name.ensures (pass_end c.loop-cursor.invariant (led _ _ _ refl ∙ sym c.is_at.ensures ∙ c.loop-cursor-test.false))))

@@ -1,47 +1,22 @@
-use Rattle.std.proofs.lemmas.Result.{err_from_is_err_and}
-use Rattle.std.proofs.Common.{◌++◌, [], List, refl, sym, ◌∙◌, ap, ◌≡◌, arith}
-use Rattle.g4_prequels.specs.Steps.{without_memory}
-use Rattle.g4_prequels.proofs.Repetitions.{turn, stops_in_turn, list_end}
-use Rattle.g4_prequels.proofs.Sequences.{moves}
-use Rattle.g4_prequels.specs.Prequels.{with_kept, prequels_of}
-use Rattle.std.proofs.Common.{Option, None, Some, append_assoc}
-use Rattle.g4_source.specs.declared.prequel.Prequel.{Prequel}
+use Rattle.std.proofs.Common.{refl, sym, ◌∙◌, append-nil}
+use Rattle.g4_prequels.proofs.Turning.{begun, turn, end_turns, fewer, one_item}
+use Rattle.g4_prequels.specs.Prequels.{prequel_of, with_kept, prequels_of}
 use Rattle.g4_prequels.proofs.prequel.prequels.Goals as goal
 
--- what is kept stands in front of the others
-kept_first : (p : Option Prequel) (ps : List Prequel) → with_kept p ps ≡ with_kept p [] ++ ps
-kept_first None ps = refl
-kept_first (Some p) ps = refl
+pub loop-cursor-init : goal.loop-cursor-init
+loop-cursor-init c = begun (λ tree. rw c.new-prequels.ensures.items refl)
 
--- one more, if it is kept
-kept_turn : (listed : List Prequel) (p other : Option Prequel) (longer ps : List Prequel) → p ≡ other → longer ≡ listed ++ with_kept p [] → listed ++ with_kept other ps ≡ longer ++ ps
-kept_turn listed p other longer ps same is =
-    ap (λ (q : Option Prequel). listed ++ with_kept q ps) (sym same)
-    ∙ ap (λ (l : List Prequel). listed ++ l) (kept_first p ps)
-    ∙ sym (append_assoc listed (with_kept p []) ps)
-    ∙ ap (λ (l : List Prequel). l ++ ps) (sym is)
+pub loop-cursor-preserved-in-Continue-branch-3 : goal.loop-cursor-preserved-in-Continue-branch-3
+loop-cursor-preserved-in-Continue-branch-3 c = turn c.loop-cursor.invariant (sym c.is_at_prequel.ensures ∙ c.loop-cursor-test.true) c.in_ok-prequel.ensures (λ a rest p. one_item _ _ (prequels_of rest) (with_kept (prequel_of a) (prequels_of rest)) c.in-Some.prequel (rw (← p, c.in-Some.is) refl) c.in_ok-push.ensures.items)
 
-pub returns-in_err-prequel : goal.returns-in_err-prequel
-returns-in_err-prequel c =
-    let begins = sym c.is_prequel_at.ensures ∙ c.loop-alloc-test.true in
-    let p = err_from_is_err_and c.from_residual.result c.from_residual.ensures.1 in
-    rw (p.1, p.2) (stops_in_turn c.loop-alloc.invariant begins c.in_err-prequel.ensures)
+pub loop-cursor-smaller-in-Continue-branch-3 : goal.loop-cursor-smaller-in-Continue-branch-3
+loop-cursor-smaller-in-Continue-branch-3 c = fewer (sym c.is_at_prequel.ensures ∙ c.loop-cursor-test.true) c.in_ok-prequel.ensures
 
-pub returns-in_err-keep : goal.returns-in_err-keep
-returns-in_err-keep c =
-    let p = err_from_is_err_and c.from_residual-in_err-keep.result c.from_residual-in_err-keep.ensures.1 in
-    rw (p.1, p.2) (without_memory)
+pub loop-cursor-preserved : goal.loop-cursor-preserved
+loop-cursor-preserved c = turn c.loop-cursor.invariant (sym c.is_at_prequel.ensures ∙ c.loop-cursor-test.true) c.in_ok-prequel.ensures (λ a rest p. rw (← p, c.in_default.is) refl)
 
-pub loop-alloc-preserved : goal.loop-alloc-preserved
-loop-alloc-preserved c =
-    let begins = sym c.is_prequel_at.ensures ∙ c.loop-alloc-test.true in
-    turn c.loop-alloc.invariant begins c.in_ok-prequel.ensures.passed (λ rest. kept_turn c.loop-alloc.prequels.items _ _ _ (prequels_of rest) c.in_ok-prequel.ensures.says c.in_ok-keep.ensures)
-
-pub loop-alloc-smaller : goal.loop-alloc-smaller
-loop-alloc-smaller c =
-    let begins = sym c.is_prequel_at.ensures ∙ c.loop-alloc-test.true in
-    let moved = moves begins c.in_ok-prequel.ensures.passed in
-    omega (arith, moved, c.in_ok-prequel.ensures.passed.within)
+pub loop-cursor-smaller : goal.loop-cursor-smaller
+loop-cursor-smaller c = fewer (sym c.is_at_prequel.ensures ∙ c.loop-cursor-test.true) c.in_ok-prequel.ensures
 
 pub returns : goal.returns
-returns c = rw c.new.ensures (list_end prequels_of c.loop-alloc.prequels.items c.loop-alloc.invariant (sym c.is_prequel_at.ensures ∙ c.loop-alloc-test.false) refl)
+returns c = end_turns c.loop-cursor.invariant (sym c.is_at_prequel.ensures ∙ c.loop-cursor-test.false) (c.new.ensures ∙ sym (append-nil _))

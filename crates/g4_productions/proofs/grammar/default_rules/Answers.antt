@@ -1,31 +1,16 @@
-use Rattle.std.proofs.lemmas.Result.{err_from_is_err_and}
-use Rattle.std.proofs.Common.{◌∷◌, refl, sym, ◌∙◌, ap, arith}
-use Rattle.g4_source.specs.declared.rule.LexerRule.{LexerRule}
-use Rattle.g4_source.specs.declared.rule.Rule.TheVariants as rules
-use Rattle.g4_prequels.specs.Steps.{without_memory}
-use Rattle.g4_prequels.proofs.Repetitions.{stops_in_turn, list_turn, list_end}
-use Rattle.g4_prequels.proofs.Sequences.{moves}
+use Rattle.std.proofs.Common.{refl, sym, ◌∙◌}
+use Rattle.g4_prequels.proofs.Turning.{start_list, list_turn, list_end, fewer}
 use Rattle.g4_productions.specs.Rules.{default_rules}
 use Rattle.g4_productions.proofs.grammar.default_rules.Goals as goal
 
-pub returns-in_err-rule : goal.returns-in_err-rule
-returns-in_err-rule c =
-    let p = err_from_is_err_and c.from_residual.result c.from_residual.ensures.1 in
-    rw (p.1, p.2) (stops_in_turn c.loop-alloc.invariant (sym c.is_lexer_rule_at.ensures ∙ c.loop-alloc-test.true) c.in_err-rule.ensures)
+pub loop-cursor-init : goal.loop-cursor-init
+loop-cursor-init c = start_list
 
-pub returns-in_err-push : goal.returns-in_err-push
-returns-in_err-push c =
-    let p = err_from_is_err_and c.from_residual-in_err-push.result c.from_residual-in_err-push.ensures.1 in
-    rw (p.1, p.2) (without_memory)
+pub loop-cursor-preserved : goal.loop-cursor-preserved
+loop-cursor-preserved c = list_turn default_rules c.loop-cursor.invariant (sym c.is_at_lexer_rule.ensures ∙ c.loop-cursor-test.true) c.in_ok-rule.ensures (λ a rest p. rw p refl) c.in_ok-push.ensures.items
 
-pub loop-alloc-preserved : goal.loop-alloc-preserved
-loop-alloc-preserved c =
-    list_turn default_rules c.loop-alloc.rules.items c.loop-alloc.invariant (sym c.is_lexer_rule_at.ensures ∙ c.loop-alloc-test.true) c.in_ok-rule.ensures.passed (λ rest. ap (λ (r : LexerRule). rules.Lexer r ∷ default_rules rest) (sym c.in_ok-rule.ensures.says)) c.in_ok-push.ensures.items
-
-pub loop-alloc-smaller : goal.loop-alloc-smaller
-loop-alloc-smaller c =
-    let moved = moves (sym c.is_lexer_rule_at.ensures ∙ c.loop-alloc-test.true) c.in_ok-rule.ensures.passed in
-    omega (arith, moved, c.in_ok-rule.ensures.passed.within)
+pub loop-cursor-smaller : goal.loop-cursor-smaller
+loop-cursor-smaller c = fewer (sym c.is_at_lexer_rule.ensures ∙ c.loop-cursor-test.true) c.in_ok-rule.ensures
 
 pub returns : goal.returns
-returns c = rw c.new.ensures (list_end default_rules c.loop-alloc.rules.items c.loop-alloc.invariant (sym c.is_lexer_rule_at.ensures ∙ c.loop-alloc-test.false) refl)
+returns c = list_end default_rules c.loop-cursor.invariant (sym c.is_at_lexer_rule.ensures ∙ c.loop-cursor-test.false) refl c.new-rules.ensures.items c.new.ensures

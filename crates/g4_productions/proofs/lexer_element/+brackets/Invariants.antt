@@ -1,54 +1,45 @@
-use Rattle.std.proofs.Common.{◌++◌, length, ◌+◌, ◌-◌, ◌*◌, map}
-use Rattle.g4_tokens.specs.declared.token.Kind.TheVariants as kinds
+use Rattle.std.proofs.Common.{◌++◌, ◌+◌, ◌*◌, map}
 use Rattle.g4_elements.specs.Trees.{element_of, alternative_of}
-use Rattle.g4_syntax.specs.Notation.{◌▸◌, repeated, part, sign, lexer_element}
-use Rattle.g4_prequels.proofs.Repetitions.{Listed}
+use Rattle.g4_prequels.proofs.Turning.{Turned, left}
 use Rattle.g4_productions.specs.LexerElements.{lexer_elements, lexer_alternatives_behind}
 use Rattle.g4_productions.proofs.lexer_element.+brackets.Given as goal
 
--- of calls at one index, the one that is further from the end of the recursion has the greater measure
+-- of calls before one token, one that reads a token first is nearest to the end of the recursion, and alternatives are farthest
 abbrev pub decreases-block : goal.decreases-block
-decreases-block l = (length l.tokens.now - l.at) * 11
-
-abbrev pub decreases-block_item : goal.decreases-block_item
-decreases-block_item l = (length l.tokens.now - l.at) * 11 + 1
+decreases-block l = left l.cursor.now * 10
 
 abbrev pub decreases-unnamed_item : goal.decreases-unnamed_item
-decreases-unnamed_item l = (length l.tokens.now - l.at) * 11 + 2
+decreases-unnamed_item l = left l.cursor.now * 10 + 1
 
 abbrev pub decreases-item : goal.decreases-item
-decreases-item l = (length l.tokens.now - l.at) * 11 + 3
+decreases-item l = left l.cursor.now * 10 + 2
 
 abbrev pub decreases-labelled_by : goal.decreases-labelled_by
-decreases-labelled_by l = (length l.tokens.now - l.at) * 11 + 4
-
-abbrev pub decreases-lower_item : goal.decreases-lower_item
-decreases-lower_item l = (length l.tokens.now - l.at) * 11 + 5
+decreases-labelled_by l = left l.cursor.now * 10 + 3
 
 abbrev pub decreases-upper_item : goal.decreases-upper_item
-decreases-upper_item l = (length l.tokens.now - l.at) * 11 + 6
+decreases-upper_item l = left l.cursor.now * 10 + 4
 
 abbrev pub decreases-labelled_item : goal.decreases-labelled_item
-decreases-labelled_item l = (length l.tokens.now - l.at) * 11 + 7
+decreases-labelled_item l = left l.cursor.now * 10 + 5
 
 abbrev pub decreases-element : goal.decreases-element
-decreases-element l = (length l.tokens.now - l.at) * 11 + 8
+decreases-element l = left l.cursor.now * 10 + 6
 
 abbrev pub decreases-elements : goal.decreases-elements
-decreases-elements l = (length l.tokens.now - l.at) * 11 + 9
+decreases-elements l = left l.cursor.now * 10 + 7
 
 abbrev pub decreases-alternatives : goal.decreases-alternatives
-decreases-alternatives l = (length l.tokens.now - l.at) * 11 + 10
+decreases-alternatives l = left l.cursor.now * 10 + 8
 
-abbrev pub invariant-elements-loop-alloc : goal.invariant-elements-loop-alloc
-invariant-elements-loop-alloc l = Listed {x = part lexer_element} lexer_elements lexer_elements l.text l.tokens l.fn.at (map element_of l.elements.items) l.next
+abbrev pub invariant-elements-loop-cursor : goal.invariant-elements-loop-cursor
+invariant-elements-loop-cursor l = Turned lexer_elements (λ rest. map element_of l.elements.items ++ lexer_elements rest) l.initial.cursor l.cursor
 
-abbrev pub decreases-elements-loop-alloc : goal.decreases-elements-loop-alloc
-decreases-elements-loop-alloc l = length l.tokens - l.next
+abbrev pub decreases-elements-loop-cursor : goal.decreases-elements-loop-cursor
+decreases-elements-loop-cursor l = left l.cursor
 
-abbrev pub invariant-alternatives-loop-alloc : goal.invariant-alternatives-loop-alloc
-invariant-alternatives-loop-alloc l =
-    Listed {x = sign kinds.Bar ▸ repeated (part lexer_element)} (λ tree. map alternative_of l.initial.alternatives.items ++ lexer_alternatives_behind tree) lexer_alternatives_behind l.text l.tokens l.initial.next (map alternative_of l.alternatives.items) l.next
+abbrev pub invariant-alternatives-loop-cursor : goal.invariant-alternatives-loop-cursor
+invariant-alternatives-loop-cursor l = Turned (λ tree. map alternative_of l.initial.alternatives.items ++ lexer_alternatives_behind tree) (λ rest. map alternative_of l.alternatives.items ++ lexer_alternatives_behind rest) l.initial.cursor l.cursor
 
-abbrev pub decreases-alternatives-loop-alloc : goal.decreases-alternatives-loop-alloc
-decreases-alternatives-loop-alloc l = length l.tokens - l.next
+abbrev pub decreases-alternatives-loop-cursor : goal.decreases-alternatives-loop-cursor
+decreases-alternatives-loop-cursor l = left l.cursor

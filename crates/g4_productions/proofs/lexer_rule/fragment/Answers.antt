@@ -1,18 +1,9 @@
-use Rattle.std.proofs.Common.{refl, sym, ◌∙◌, ap, Some}
-use Rattle.std.proofs.lemmas.Result.{err_from_is_err_and}
-use Rattle.g4_prequels.proofs.Choices.{absent_passed, present_passed, stops_present}
+use Rattle.std.proofs.Common.{refl, sym, ◌∙◌}
+use Rattle.g4_prequels.proofs.Moving.{so, left_out, there}
 use Rattle.g4_productions.proofs.lexer_rule.fragment.Goals as goal
 
-pub returns-then-not-is_word_at : goal.returns-then-not-is_word_at
-returns-then-not-is_word_at c = record { passed = absent_passed (sym c.is_word_at.ensures.begins ∙ c.if-not-is_word_at.true) c.requires.within; says = refl }
-
-pub returns-in_err-place : goal.returns-in_err-place
-returns-in_err-place c =
-    let p = err_from_is_err_and c.from_residual.result c.from_residual.ensures.1 in
-    rw (p.1, p.2) (stops_present (sym c.is_word_at.ensures.begins ∙ c.if-not-is_word_at.false) c.in_err-place.ensures)
+pub returns-then-not-is_at_word : goal.returns-then-not-is_at_word
+returns-then-not-is_at_word c = left_out _ (sym c.is_at_word.ensures ∙ c.if-not-is_at_word.true) refl
 
 pub returns : goal.returns
-returns c = record {
-  passed = present_passed (sym c.is_word_at.ensures.begins ∙ c.if-not-is_word_at.false) c.in_ok-place.ensures.passed;
-  says = ap Some c.in_ok-place.ensures.says;
-}
+returns c = there (sym c.is_at_word.ensures ∙ c.if-not-is_at_word.false) (so c.take_word.ensures (λ tree p. rw p.place refl))

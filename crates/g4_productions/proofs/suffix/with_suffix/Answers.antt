@@ -1,8 +1,7 @@
 use Rattle.std.proofs.Common.{sym, ◌∙◌, ap}
 use Rattle.g4_elements.proofs.Trees.{of_block}
 use Rattle.g4_productions.specs.declared.suffix.Labelled.{Labelled}
-use Rattle.g4_productions.specs.Elements.{with_suffix}
-use Rattle.g4_productions.specs.ParserItems.{labelled_of}
+use Rattle.g4_productions.specs.Elements.{labelled_of, with_suffix}
 use Rattle.g4_productions.proofs.suffix.with_suffix.Goals as goal
 
 pub returns-in-Brackets : goal.returns-in-Brackets

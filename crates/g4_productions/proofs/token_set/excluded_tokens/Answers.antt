@@ -1,9 +1,6 @@
-use Rattle.std.proofs.Common.{◌++◌, ◌∙◌, ap}
-use Rattle.g4_productions.specs.ParserElements.{references_of}
+use Rattle.std.proofs.Common.{refl, ◌∙◌}
+use Rattle.g4_prequels.proofs.Moving.{so}
 use Rattle.g4_productions.proofs.token_set.excluded_tokens.Goals as goal
 
 pub returns : goal.returns
-returns c = record {
-  passed = c.in_ok-references.ensures.passed;
-  says = c.new-2.ensures ∙ c.in_ok-references.ensures.says ∙ ap (λ l. l ++ references_of c.in_ok-references.ensures.passed.tree) c.new.ensures.items;
-}
+returns c = so c.in_ok-add_set.ensures (λ tree p. c.new.ensures ∙ p ∙ rw c.new-references.ensures.items refl)

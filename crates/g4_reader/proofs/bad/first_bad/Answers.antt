@@ -1,7 +1,7 @@
 use Rattle.std.proofs.Common.{◌≡◌, ◌∙◌, ◌<◌, Bool, ◌&&◌, length, get_or, ap, sym, subst, arith}
 use Rattle.g4_tokens.specs.Readings.{holds_sets}
 use Rattle.g4_tokens.specs.declared.token.Token.{Token}
-use Rattle.g4_prequels.specs.Steps.{from}
+use Rattle.g4_prequels.specs.Texts.{from}
 use Rattle.g4_reader.specs.Answering.{BeginsBad, Tells}
 use Rattle.g4_reader.proofs.Parts.{part_read}
 use Rattle.g4_reader.proofs.Passing.{first_here, passed_more}

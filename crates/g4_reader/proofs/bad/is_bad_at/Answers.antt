@@ -3,7 +3,7 @@ use Rattle.std.proofs.lemmas.Result.{IfOk-weaker}
 use Rattle.std.specs.Option.{is_none}
 use Rattle.g4_tokens.specs.declared.token.Token.{Token}
 use Rattle.g4_syntax.proofs.Truths.{false_and}
-use Rattle.g4_prequels.specs.Steps.{from}
+use Rattle.g4_prequels.specs.Texts.{from}
 use Rattle.g4_prequels.specs.Texts.{spelled_token}
 use Rattle.g4_reader.specs.Answering.{BeginsBad, RangeIsBad, Tells}
 use Rattle.g4_reader.proofs.Characters.{begins_range, begins_read}

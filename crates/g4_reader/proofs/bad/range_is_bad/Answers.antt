@@ -3,7 +3,7 @@ use Rattle.std.proofs.lemmas.Result.{IfOk-weaker}
 use Rattle.std.specs.Prelude.{ℕ, Option}
 use denote.Enum.Bare.{differs_true, differs_false}
 use Rattle.g4_tokens.specs.contracts.token.Kind.{the_type}
-use Rattle.g4_prequels.specs.Steps.{from}
+use Rattle.g4_prequels.specs.Texts.{from}
 use Rattle.g4_reader.specs.Answering.{EndIsBad, RangeIsBad, Tells}
 use Rattle.g4_reader.proofs.Characters.{range_of_none, range_of_one, range_of_other, range_of_several}
 use Rattle.g4_reader.proofs.bad.range_is_bad.Goals as goal

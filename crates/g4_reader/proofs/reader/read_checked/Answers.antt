@@ -1,5 +1,5 @@
 use Rattle.std.proofs.Common.{take}
-use Rattle.g4_prequels.specs.Steps.{from}
+use Rattle.g4_prequels.specs.Texts.{from}
 use Rattle.g4_prequels.specs.Texts.{spelled}
 use Rattle.g4_reader.proofs.Readings.{checked_full, checked_is, cut_from, stopped_is}
 use Rattle.g4_reader.proofs.Tokens.{cut_at}

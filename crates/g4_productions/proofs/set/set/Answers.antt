@@ -1,0 +1,6 @@
+use Rattle.std.proofs.Common.{refl, ◌∙◌}
+use Rattle.g4_prequels.proofs.Moving.{so}
+use Rattle.g4_productions.proofs.set.set.Goals as goal
+
+pub returns : goal.returns
+returns c = so c.take-taken.ensures (λ tree p. c.in_ok-set.ensures ∙ rw p.text refl)
