@@ -136,6 +136,33 @@ fn beyond_ascii(alloc: Global) -> Result<LexerNetwork, AllocError> {
     network(alloc, 2, states)
 }
 
+/// Rule 0 is `A : '(' A? ')'`, and rule 1 takes one of these characters.
+fn one_of(alloc: Global, characters: &[char]) -> Result<LexerNetwork, AllocError> {
+    let mut edges = Vec::new(alloc);
+    let mut edge: u32 = 7;
+    for _ in characters {
+        edges.push(edge)?;
+        edge = edge.saturating_add(1);
+    }
+    let mut states = vec![in alloc;
+        reads(alloc, '(', '(', 4)?,
+        State::End(0),
+        choice(alloc, edges.as_slice())?,
+        State::End(1),
+        choice(alloc, &[5, 6])?,
+        State::Call {
+            rule: 0,
+            level: 0,
+            back: 6
+        },
+        reads(alloc, ')', ')', 1)?,
+    ]?;
+    for character in characters {
+        states.push(reads(alloc, *character, *character, 3)?)?;
+    }
+    network(alloc, 2, states)
+}
+
 fn start(rule: u32, alternative: u32, state: u32) -> Start {
     Start {
         rule,
@@ -356,15 +383,43 @@ fn a_long_name(rt: HostRuntime) -> Result<(), Fail> {
     )
 }
 
-/// More lists are made than are kept.
 #[test]
 fn many_open_calls(rt: HostRuntime) -> Result<(), Fail> {
     let net = mixed(rt.alloc())?;
-    let text = runs(rt.alloc(), '(', ')', 60_000)?;
-    let rows = [
-        (text.as_str(), "120000:0:3"),
-        ("b", "none"),
-        ("()", "2:0:3"),
-    ];
+    let text = runs(rt.alloc(), '(', ')', 20_000)?;
+    let rows = [(text.as_str(), "40000:0:3"), ("b", "none")];
     check_times(&rt, rt.alloc(), &net, &[start(0, 3, 6)], &rows, 1)
+}
+
+/// So many characters from `一` on, of which no two are neighbours.
+fn spread(alloc: Global, count: u32) -> Result<Vec<char>, AllocError> {
+    let mut characters = Vec::new(alloc);
+    let mut code: u32 = 0x4E00;
+    for _ in 0..count {
+        if let Some(character) = char::from_u32(code) {
+            characters.push(character)?;
+        }
+        code = code.saturating_add(2);
+    }
+    Ok(characters)
+}
+
+/// Three thousand lists with cells for a thousand classes each: more than are kept.
+#[test]
+fn more_lists_than_are_kept(rt: HostRuntime) -> Result<(), Fail> {
+    let characters = spread(rt.alloc(), 500)?;
+    let net = one_of(rt.alloc(), characters.as_slice())?;
+    let text = runs(rt.alloc(), '(', ')', 1_500)?;
+    let rows = [
+        (text.as_str(), "3000:0:1"),
+        ("(())", "4:0:1"),
+        ("一", "1:1:1"),
+    ];
+    check(
+        &rt,
+        rt.alloc(),
+        &net,
+        &[start(0, 1, 0), start(1, 1, 2)],
+        &rows,
+    )
 }
