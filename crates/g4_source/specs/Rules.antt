@@ -1,16 +1,12 @@
--- The names of rules, their alternatives as trees, and what a lexer rule drops.
-use Rattle.std.specs.Prelude.{ℕ, List, map, Option, Some, None, Bool, true, false, ◌&&◌, codes}
-use Rattle.std.specs.List.{filter_map, list_any}
-use Rattle.std.specs.Str.{bytes_eq}
+-- The names of rules, and their alternatives as trees.
+use Rattle.std.specs.Prelude.{ℕ, List, map, Option, Some, None}
+use Rattle.std.specs.List.{filter_map}
 use Rattle.g4_elements.specs.Elements.{Elements, Alternatives, either}
 use Rattle.g4_source.specs.declared.atom.Atom.{Atom}
 use Rattle.g4_source.specs.declared.rule.Rule.{Rule}
 use Rattle.g4_source.specs.declared.rule.Rule.TheVariants.{Parser, Lexer}
 use Rattle.g4_source.specs.declared.rule.ParserRule.{ParserRule}
 use Rattle.g4_source.specs.declared.rule.LexerRule.{LexerRule}
-use Rattle.g4_source.specs.declared.rule.LexerAlternative.{LexerAlternative}
-use Rattle.g4_source.specs.declared.rule.Command.{Command}
-use Rattle.g4_source.specs.declared.rule.Argument.{Argument}
 
 -- the name of a rule
 abbrev pub rule_name : Rule → List ℕ
@@ -49,16 +45,3 @@ alternatives_of rule = either (bodies_of rule)
 
 abbrev pub lexer_alternatives_of : LexerRule → Alternatives Atom
 lexer_alternatives_of rule = either (lexer_bodies_of rule)
-
--- there is no argument
-abbrev pub is_bare : Option Argument → Bool
-is_bare None = true
-is_bare (Some argument) = false
-
--- the command `skip` without an argument
-abbrev pub is_skip : Command → Bool
-is_skip command = bytes_eq command.name.text (codes "skip") && is_bare command.argument
-
--- what the alternative matches is dropped
-abbrev pub skips : LexerAlternative → Bool
-skips alternative = list_any is_skip alternative.commands

@@ -1,6 +1,6 @@
 // The rules of a grammar.
 ghost use Rattle.std.specs.Prelude.{◌≡◌};
-ghost use Rattle.g4_source.specs.Rules.{is_skip, rule_name, skips};
+ghost use Rattle.g4_source.specs.Rules.{rule_name};
 
 use crate::Atom;
 use g4_base::{Place, Sequence, Text};
@@ -64,32 +64,11 @@ pub struct LexerAlternative {
     pub commands: Sequence<Command>,
 }
 
-impl LexerAlternative {
-    /// Whether what it matches is dropped: one of its commands is `skip`.
-    pub fn skips(&self) -> bool
-        ensures { result ≡ skips self.now }
-    {
-        self.commands
-            .as_slice()
-            .iter()
-            .any(|command| command.is_skip())
-    }
-}
-
 /// A command of a lexer rule, such as `skip` or `channel(HIDDEN)`.
 #[derive(Drop)]
 pub struct Command {
     pub name: Name,
     pub argument: Option<Argument>,
-}
-
-impl Command {
-    /// Whether it is `skip`, without an argument.
-    pub fn is_skip(&self) -> bool
-        ensures { result ≡ is_skip self.now }
-    {
-        self.name.text.as_str() == "skip" && self.argument.is_none()
-    }
 }
 
 /// The argument of a command.

@@ -1,2 +1,2 @@
-mod Appended
+mod Items
 mod Parts

@@ -42,7 +42,7 @@ fn push_end(out: &mut Vec<u8>, name: &str, list: &[Token]) -> Result<(), AllocEr
 ///
 /// # Errors
 /// No memory. A front part may be added then.
-#[tactic(auto, using(crate::proofs::Appended::adds_last, crate::proofs::Appended::stops_in_first))]
+#[tactic(auto, using(g4_trees::proofs::Appended::adds_last, g4_trees::proofs::Appended::stops_in_first))]
 pub fn push_token_lines(
     out: &mut Vec<u8>,
     name: &str,

@@ -1,4 +1,4 @@
-mod Appended
+pub mod Appended
 pub mod Decoded
 mod Lines
 mod Printed

@@ -1,4 +1,4 @@
-use Rattle.g4_token_lines.proofs.Appended.{adds_last, adds_same, stops_in_first}
+use Rattle.g4_trees.proofs.Appended.{adds_last, adds_same, stops_in_first}
 use Rattle.g4_token_lines.proofs.Parts.{end_parts}
 use Rattle.g4_token_lines.proofs.line.push_end_line.Goals as goal
 

@@ -1,6 +1,6 @@
 use Rattle.g4_trees.specs.TreeText.{token_text}
 use Rattle.g4_token_lines.specs.TokenLines.{symbol_text}
-use Rattle.g4_token_lines.proofs.Appended.{adds_last, adds_same, stops_in_first}
+use Rattle.g4_trees.proofs.Appended.{adds_last, adds_same, stops_in_first}
 use Rattle.g4_token_lines.proofs.Parts.{line_parts, line_start, line_tail}
 use Rattle.g4_token_lines.proofs.line.push_line.Goals as goal
 

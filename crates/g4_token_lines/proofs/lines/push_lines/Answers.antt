@@ -1,5 +1,5 @@
 use Rattle.std.proofs.Common.{◌<◌, length, arith}
-use Rattle.g4_token_lines.proofs.Appended.{next_added, next_begun}
+use Rattle.g4_token_lines.proofs.Items.{next_added, next_begun}
 use Rattle.g4_token_lines.specs.TokenLines.{token_line}
 use Rattle.g4_token_lines.proofs.lines.push_lines.Goals as goal
 

@@ -1,7 +1,7 @@
 use Rattle.std.proofs.Common.{drop}
 use Rattle.std.specs.List.{flat_map}
 use Rattle.g4_token_lines.specs.TokenLines.{token_line}
-use Rattle.g4_token_lines.proofs.Appended.{Leaves}
+use Rattle.g4_trees.proofs.Appended.{Leaves}
 use Rattle.g4_token_lines.proofs.lines.push_lines.Given as goal
 
 abbrev pub invariant-loop-token : goal.invariant-loop-token

@@ -1,4 +1,4 @@
-use Rattle.g4_token_lines.proofs.Appended.{adds_so_far}
+use Rattle.g4_trees.proofs.Appended.{adds_so_far}
 use Rattle.g4_token_lines.proofs.texts.push_all.Goals as goal
 
 pub returns-in_err-extend_from_slice : goal.returns-in_err-extend_from_slice

@@ -1,6 +1,6 @@
 use Rattle.std.proofs.Common.{drop}
 use Rattle.std.specs.List.{flat_map}
-use Rattle.g4_token_lines.proofs.Appended.{Leaves}
+use Rattle.g4_trees.proofs.Appended.{Leaves}
 use Rattle.g4_token_lines.proofs.texts.push_all.Given as goal
 
 abbrev pub invariant-loop-text : goal.invariant-loop-text
