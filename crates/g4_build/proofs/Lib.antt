@@ -3,4 +3,3 @@ pub mod Drawn
 pub mod Widths
 pub mod Named
 pub mod Built
-pub mod Samples

@@ -1,4 +1,3 @@
 pub mod Answers
 pub mod Numberings
 pub mod Rules
-pub mod Samples

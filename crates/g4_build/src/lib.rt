@@ -4,8 +4,6 @@
 mod builder;
 mod drawing;
 mod numbering;
-#[cfg(test)]
-mod tests;
 mod width;
 
 pub use builder::{BuildFault, build};

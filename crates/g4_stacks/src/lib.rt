@@ -6,16 +6,10 @@ mod copying;
 mod graph;
 mod joining;
 mod keeping;
-#[cfg(test)]
-mod large_tests;
 mod laws;
 mod next;
 mod shape;
-#[cfg(test)]
-mod shape_tests;
 mod table;
-#[cfg(test)]
-mod tests;
 
 pub use graph::Graph;
 pub use keeping::keeps_is_transitive;
