@@ -1,9 +1,9 @@
--- Where reading an expression stops, some text of it goes on with what was read before.
+-- Where reading an expression comes to a terminal, some text of it goes on with what was read before.
 use Rattle.std.proofs.Common.{◌≡◌, List, [], ◌∷◌, ◌++◌, Bool, true, false, refl, sym, ap, subst, ◌∙◌, inl, inr, append_assoc}
-use Rattle.g4_syntax.specs.Notation.{Spelled, Nonterminal, Expression, one, ◌▸◌, ◌∣◌, optional, repeated, part}
+use Rattle.g4_syntax.specs.Notation.{Spelled, Terminal, Nonterminal, Expression, one, ◌▸◌, ◌∣◌, optional, repeated, part}
 use Rattle.g4_syntax.specs.Productions.{production}
-use Rattle.g4_syntax.specs.Trees.{Tree, both, left, right, present, end, more, inner, begins_there, Reads, Stops, at_token, in_first, in_second, in_left, in_right, in_optional, in_turn, in_later_turn, in_part}
-use Rattle.g4_syntax.proofs.Texts.{text, read_before, stops_behind}
+use Rattle.g4_syntax.specs.Trees.{Tree, both, left, right, present, end, more, inner, begins_there, Reads, Comes, here, in_first, in_second, in_left, in_right, in_optional, in_turn, in_later_turn, in_part}
+use Rattle.g4_syntax.proofs.Texts.{text, read_before, comes_behind}
 use Rattle.g4_syntax.proofs.Extends.{covers_second, covers_left, covers_right, covers_optional, covers_repeated, covers_part, bars_repeated}
 use Rattle.g4_syntax.proofs.Local.{Allowed, allowed_of, barred, begun, reads_again}
 use Rattle.g4_syntax.proofs.Samples.{sample}
@@ -87,27 +87,27 @@ complete_first x y w rest well allowed inside =
 complete_part : (n : Nonterminal) (w rest : List Spelled) → Completes (production n) w rest → Completes (part n) w rest
 complete_part n w rest inside = (inside.0, inner inside.1, inside.2)
 
--- where reading an expression stops, some text of it goes on with what was read before
-pub completes : {x : Expression} {from before : List Spelled} (stop : Stops x from before) (rest : List Spelled) → is_well_formed x ≡ true → Allowed x rest → Completes x (read_before stop) rest
-completes (at_token {t} _ _) rest well allowed = from_start (one t) rest well allowed
-completes (in_first {x} {y} _ _ stop) rest well allowed =
-    complete_first x y (read_before stop) rest well allowed (completes stop (sample y ++ rest) (first_well_formed x y well) (behind_sample x y rest well allowed))
-completes (in_second {x} {y} from between before a reads stop) rest well allowed =
-    complete_second x y from between (read_before stop) before rest a well allowed reads (stops_behind stop)
-    (completes stop rest (second_well_formed x y well) (allowed_of (x ▸ y) y rest (covers_second x y) allowed))
-completes (in_left {x} {y} from before so stop) rest well allowed =
-    complete_left x y from (read_before stop) before rest well allowed (stops_behind stop) so
-    (completes stop rest (left_well_formed x y well) (allowed_of (x ∣ y) x rest (covers_left x y) allowed))
-completes (in_right {x} {y} from before so stop) rest well allowed =
-    complete_right x y from (read_before stop) before rest well allowed (stops_behind stop) so
-    (completes stop rest (right_well_formed x y well) (allowed_of (x ∣ y) y rest (covers_right x y) allowed))
-completes (in_optional {x} from before so stop) rest well allowed =
-    complete_optional x from (read_before stop) before rest well allowed (stops_behind stop) so
-    (completes stop rest well (allowed_of (optional x) x rest (covers_optional x) allowed))
-completes (in_turn {x} from before so stop) rest well allowed =
-    complete_turn x from (read_before stop) before rest well allowed (stops_behind stop) so
-    (completes stop rest well (allowed_of (repeated x) x rest (covers_repeated x) allowed))
-completes (in_later_turn {x} from between before a so reads stop) rest well allowed =
-    complete_later_turn x from between (read_before stop) before rest a allowed so reads (stops_behind stop) (completes stop rest well allowed)
-completes (in_part {n} _ _ stop) rest well allowed =
-    complete_part n (read_before stop) rest (completes stop rest (part_well_formed n) (allowed_of (part n) (production n) rest (covers_part n) allowed))
+-- where reading an expression comes to a terminal, some text of it goes on with what was read before
+pub completes : {t : Terminal} {x : Expression} {from before : List Spelled} (comes : Comes t x from before) (rest : List Spelled) → is_well_formed x ≡ true → Allowed x rest → Completes x (read_before comes) rest
+completes {t} (here _) rest well allowed = from_start (one t) rest well allowed
+completes (in_first {x} {y} _ _ comes) rest well allowed =
+    complete_first x y (read_before comes) rest well allowed (completes comes (sample y ++ rest) (first_well_formed x y well) (behind_sample x y rest well allowed))
+completes (in_second {x} {y} from between before a reads comes) rest well allowed =
+    complete_second x y from between (read_before comes) before rest a well allowed reads (comes_behind comes)
+    (completes comes rest (second_well_formed x y well) (allowed_of (x ▸ y) y rest (covers_second x y) allowed))
+completes (in_left {x} {y} from before so comes) rest well allowed =
+    complete_left x y from (read_before comes) before rest well allowed (comes_behind comes) so
+    (completes comes rest (left_well_formed x y well) (allowed_of (x ∣ y) x rest (covers_left x y) allowed))
+completes (in_right {x} {y} from before so comes) rest well allowed =
+    complete_right x y from (read_before comes) before rest well allowed (comes_behind comes) so
+    (completes comes rest (right_well_formed x y well) (allowed_of (x ∣ y) y rest (covers_right x y) allowed))
+completes (in_optional {x} from before so comes) rest well allowed =
+    complete_optional x from (read_before comes) before rest well allowed (comes_behind comes) so
+    (completes comes rest well (allowed_of (optional x) x rest (covers_optional x) allowed))
+completes (in_turn {x} from before so comes) rest well allowed =
+    complete_turn x from (read_before comes) before rest well allowed (comes_behind comes) so
+    (completes comes rest well (allowed_of (repeated x) x rest (covers_repeated x) allowed))
+completes (in_later_turn {x} from between before a so reads comes) rest well allowed =
+    complete_later_turn x from between (read_before comes) before rest a allowed so reads (comes_behind comes) (completes comes rest well allowed)
+completes (in_part {n} _ _ comes) rest well allowed =
+    complete_part n (read_before comes) rest (completes comes rest (part_well_formed n) (allowed_of (part n) (production n) rest (covers_part n) allowed))

@@ -1,10 +1,10 @@
--- What is read, or stops, does so whatever stands behind, if no more can be read: but for the next token it does not tell.
+-- What is read, or comes to a terminal, does so whatever stands behind, if no more can be read: but for the next token it does not tell.
 use Rattle.std.proofs.Common.{◌≡◌, ◌⊎◌, List, [], ◌∷◌, ◌++◌, Bool, true, false, refl, sym, ap, subst, ◌∙◌, inl, inr, append_assoc}
-use Rattle.g4_syntax.specs.Notation.{Spelled, Expression, one, ◌▸◌, ◌∣◌, optional, repeated, part}
+use Rattle.g4_syntax.specs.Notation.{Spelled, Terminal, Expression, one, ◌▸◌, ◌∣◌, optional, repeated, part}
 use Rattle.g4_syntax.specs.Productions.{production}
-use Rattle.g4_syntax.specs.Trees.{Tree, leaf, both, left, right, absent, present, end, more, inner, begins_there, Reads, Stops, at_token, in_first, in_second, in_left, in_right, in_optional, in_turn, in_later_turn, in_part}
+use Rattle.g4_syntax.specs.Trees.{Tree, leaf, both, left, right, absent, present, end, more, inner, begins_there, Reads, Comes, here, in_first, in_second, in_left, in_right, in_optional, in_turn, in_later_turn, in_part}
 use Rattle.g4_syntax.proofs.Truths.{apart}
-use Rattle.g4_syntax.proofs.Texts.{text, reads_text, read_before, stops_behind, nothing_read}
+use Rattle.g4_syntax.proofs.Texts.{text, reads_text, read_before, comes_behind, nothing_read}
 use Rattle.g4_syntax.proofs.Extends.{extends_there, Covers, Bars, covers_second, covers_first, covers_left, covers_right, bars_left, covers_optional, bars_optional, covers_repeated, bars_repeated, covers_part}
 
 -- the next token of both is the same, or there is none
@@ -87,24 +87,24 @@ reads_again (more {x} a tail) from to other reads alike =
     subst (λ (l : List Spelled). Reads (more a tail) l other) (sym (append_assoc (text a) (text tail) other)) whole
 reads_again (inner {n} a) from to other reads alike = reads_again a from to other reads (alike_of (part n) (production n) to other (covers_part n) alike)
 
--- what begins before a stop, or does not, does so with others behind
-still : (b : Bool) (x : Expression) {y : Expression} {from rest : List Spelled} (stop : Stops y from rest) (other : List Spelled) → Agrees rest other → begins_there x from ≡ b → begins_there x (read_before stop ++ other) ≡ b
-still b x {from = from} {rest = rest} stop other agrees so = sym (agrees_behind from (read_before stop) rest other (stops_behind stop) agrees x) ∙ so
+-- what begins before a terminal, or does not, does so with others behind
+still : (b : Bool) (x : Expression) {t : Terminal} {y : Expression} {from rest : List Spelled} (comes : Comes t y from rest) (other : List Spelled) → Agrees rest other → begins_there x from ≡ b → begins_there x (read_before comes ++ other) ≡ b
+still b x {from = from} {rest = rest} comes other agrees so = sym (agrees_behind from (read_before comes) rest other (comes_behind comes) agrees x) ∙ so
 
--- what stops does so with others behind, if the next token is the same
-pub stops_again : {x : Expression} {from rest : List Spelled} (stop : Stops x from rest) (other : List Spelled) → Agrees rest other → Stops x (read_before stop ++ other) other
-stops_again (at_token {t} rest none) other agrees = at_token other (sym (agrees (one t)) ∙ none)
-stops_again (in_first from rest stop) other agrees = in_first (read_before stop ++ other) other (stops_again stop other agrees)
-stops_again (in_second {x} {y} from between rest a reads stop) other agrees =
-    let behind = read_before stop ++ other in
-    let first = reads_again a from between behind reads (inl (agrees_behind between (read_before stop) rest other (stops_behind stop) agrees)) in
-    subst (λ (l : List Spelled). Stops (x ▸ y) l other) (sym (append_assoc (text a) (read_before stop) other)) (in_second (text a ++ behind) behind other a first (stops_again stop other agrees))
-stops_again (in_left {x} from rest so stop) other agrees = in_left (read_before stop ++ other) other (still true x stop other agrees so) (stops_again stop other agrees)
-stops_again (in_right {x} from rest so stop) other agrees = in_right (read_before stop ++ other) other (still false x stop other agrees so) (stops_again stop other agrees)
-stops_again (in_optional {x} from rest so stop) other agrees = in_optional (read_before stop ++ other) other (still true x stop other agrees so) (stops_again stop other agrees)
-stops_again (in_turn {x} from rest so stop) other agrees = in_turn (read_before stop ++ other) other (still true x stop other agrees so) (stops_again stop other agrees)
-stops_again (in_later_turn {x} from between rest a so reads stop) other agrees =
-    let behind = read_before stop ++ other in
-    let first = reads_again a from between behind reads (inl (agrees_behind between (read_before stop) rest other (stops_behind stop) agrees)) in
-    subst (λ (l : List Spelled). Stops (repeated x) l other) (sym (append_assoc (text a) (read_before stop) other)) (in_later_turn (text a ++ behind) behind other a (begun a from between behind so reads) first (stops_again stop other agrees))
-stops_again (in_part from rest stop) other agrees = in_part (read_before stop ++ other) other (stops_again stop other agrees)
+-- reading comes to a terminal with others behind, if the next token is the same
+pub comes_again : {t : Terminal} {x : Expression} {from rest : List Spelled} (comes : Comes t x from rest) (other : List Spelled) → Agrees rest other → Comes t x (read_before comes ++ other) other
+comes_again (here rest) other agrees = here other
+comes_again (in_first from rest comes) other agrees = in_first (read_before comes ++ other) other (comes_again comes other agrees)
+comes_again {t} (in_second {x} {y} from between rest a reads comes) other agrees =
+    let behind = read_before comes ++ other in
+    let first = reads_again a from between behind reads (inl (agrees_behind between (read_before comes) rest other (comes_behind comes) agrees)) in
+    subst (λ (l : List Spelled). Comes t (x ▸ y) l other) (sym (append_assoc (text a) (read_before comes) other)) (in_second (text a ++ behind) behind other a first (comes_again comes other agrees))
+comes_again (in_left {x} from rest so comes) other agrees = in_left (read_before comes ++ other) other (still true x comes other agrees so) (comes_again comes other agrees)
+comes_again (in_right {x} from rest so comes) other agrees = in_right (read_before comes ++ other) other (still false x comes other agrees so) (comes_again comes other agrees)
+comes_again (in_optional {x} from rest so comes) other agrees = in_optional (read_before comes ++ other) other (still true x comes other agrees so) (comes_again comes other agrees)
+comes_again (in_turn {x} from rest so comes) other agrees = in_turn (read_before comes ++ other) other (still true x comes other agrees so) (comes_again comes other agrees)
+comes_again {t} (in_later_turn {x} from between rest a so reads comes) other agrees =
+    let behind = read_before comes ++ other in
+    let first = reads_again a from between behind reads (inl (agrees_behind between (read_before comes) rest other (comes_behind comes) agrees)) in
+    subst (λ (l : List Spelled). Comes t (repeated x) l other) (sym (append_assoc (text a) (read_before comes) other)) (in_later_turn (text a ++ behind) behind other a (begun a from between behind so reads) first (comes_again comes other agrees))
+comes_again (in_part from rest comes) other agrees = in_part (read_before comes ++ other) other (comes_again comes other agrees)

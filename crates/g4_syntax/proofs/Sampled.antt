@@ -1,7 +1,7 @@
 -- A short text is read where it stands.
 use Rattle.std.proofs.Common.{◌≡◌, List, [], ◌∷◌, ◌++◌, Bool, true, false, ◌||◌, if◌then◌else◌, refl, sym, ap, subst, ◌∙◌, true≢false, append_assoc}
 use Rattle.g4_tokens.specs.declared.token.Kind.TheVariants as kinds
-use Rattle.g4_syntax.specs.Notation.{Spelled, Terminal, of_kind, fits, Nonterminal, element, token_set, lexer_element, character_set, more_names, Expression, one, ◌▸◌, ◌∣◌, optional, repeated, part, sign, name, with_bars}
+use Rattle.g4_syntax.specs.Notation.{Spelled, Terminal, of_kind, a_set, excluded, fits, Nonterminal, element, token_set, lexer_element, character_set, more_names, Expression, one, ◌▸◌, ◌∣◌, optional, repeated, part, sign, name, with_bars}
 use Rattle.g4_syntax.specs.Productions.{production, element_options, labelled_item, labelled_lexer_item, suffix}
 use Rattle.g4_syntax.specs.Trees.{Tree, leaf, both, left, right, absent, end, inner, can_be_empty, begins_there, Reads}
 use Rattle.g4_syntax.proofs.Truths.{or_first_true}
@@ -52,7 +52,7 @@ read_production token_set rest allowed =
 read_production lexer_element rest allowed =
     read_first_terminal (of_kind kinds.Action) (sign kinds.Question ▸ optional element_options) (labelled_lexer_item ▸ optional suffix) rest allowed
 read_production character_set rest allowed =
-    read_first_terminal (of_kind kinds.Literal) (sign kinds.DoubleDot ▸ sign kinds.Literal) (sign kinds.Set ∣ sign kinds.LeftParenthesis ▸ with_bars (part character_set) ▸ sign kinds.RightParenthesis) rest allowed
+    read_first_terminal excluded (sign kinds.DoubleDot ▸ sign kinds.Literal) (one a_set ∣ sign kinds.LeftParenthesis ▸ with_bars (part character_set) ▸ sign kinds.RightParenthesis) rest allowed
 read_production more_names rest allowed = read_terminal (of_kind kinds.Comma) (name ▸ optional (part more_names)) rest allowed
 
 -- a short text is read where it stands

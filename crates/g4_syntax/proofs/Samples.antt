@@ -4,7 +4,7 @@ use Rattle.std.proofs.lemmas.Slice.Eq.{bytes_eq-Decides}
 use Rattle.g4_base.specs.Place.{first_place}
 use Rattle.g4_tokens.specs.declared.token.Kind.{Kind}
 use Rattle.g4_tokens.specs.declared.token.Kind.TheVariants as kinds
-use Rattle.g4_syntax.specs.Notation.{Spelled, Terminal, of_kind, keyword, a_name, fits, is_kind, Nonterminal, element, token_set, lexer_element, character_set, more_names, Expression, one, ◌▸◌, ◌∣◌, optional, repeated, part}
+use Rattle.g4_syntax.specs.Notation.{Spelled, Terminal, of_kind, keyword, a_name, a_set, characters, excluded, fits, is_kind, Nonterminal, element, token_set, lexer_element, character_set, more_names, Expression, one, ◌▸◌, ◌∣◌, optional, repeated, part}
 use Rattle.g4_syntax.specs.Trees.{can_be_empty}
 use Rattle.g4_syntax.proofs.Truths.{apart, and_true, and_first_true, and_second_true}
 use Rattle.g4_syntax.proofs.Texts.{first_empty, second_empty}
@@ -14,6 +14,9 @@ abbrev pub sample_token : Terminal → Spelled
 sample_token (of_kind kind) = record { kind = kind; place = first_place; bytes = codes "x" }
 sample_token (keyword spelling) = record { kind = kinds.Lower; place = first_place; bytes = spelling }
 sample_token a_name = record { kind = kinds.Lower; place = first_place; bytes = codes "x" }
+sample_token a_set = record { kind = kinds.Set; place = first_place; bytes = codes "x" }
+sample_token characters = record { kind = kinds.Literal; place = first_place; bytes = codes "x" }
+sample_token excluded = record { kind = kinds.Literal; place = first_place; bytes = codes "x" }
 
 -- the kind of the one token of a short text of the part
 abbrev pub sample_kind : Nonterminal → Kind
@@ -46,6 +49,9 @@ pub sample_fits : (t : Terminal) → fits t (sample_token t) ≡ true
 sample_fits (of_kind kind) = same_kind kind
 sample_fits (keyword spelling) = same_bytes spelling
 sample_fits a_name = refl
+sample_fits a_set = refl
+sample_fits characters = refl
+sample_fits excluded = refl
 
 -- of two texts the chosen one is empty if it is so wherever it is chosen
 chosen_empty : (b : Bool) (v w : List Spelled) → (b ≡ true → w ≡ []) → (b ≡ false → v ≡ []) → (if b then w else v) ≡ []

@@ -1,8 +1,8 @@
--- The tokens of a tree, and those that are read before a stop.
+-- The tokens of a tree, and those that are read before a terminal.
 use Rattle.std.proofs.Common.{◌≡◌, List, [], ◌∷◌, ◌++◌, true, false, ◌&&◌, refl, sym, ap, subst, ◌∙◌, true≢false, append_assoc}
-use Rattle.g4_syntax.specs.Notation.{Spelled, Nonterminal, element, token_set, lexer_element, character_set, more_names, Expression, ◌▸◌, ◌∣◌, optional, repeated}
+use Rattle.g4_syntax.specs.Notation.{Spelled, Terminal, Nonterminal, element, token_set, lexer_element, character_set, more_names, Expression, ◌▸◌, ◌∣◌, optional, repeated}
 use Rattle.g4_syntax.specs.Productions.{production}
-use Rattle.g4_syntax.specs.Trees.{Tree, leaf, both, left, right, absent, present, end, more, inner, begins, can_be_empty, begins_there, Reads, Stops, at_token, in_first, in_second, in_left, in_right, in_optional, in_turn, in_later_turn, in_part}
+use Rattle.g4_syntax.specs.Trees.{Tree, leaf, both, left, right, absent, present, end, more, inner, begins, can_be_empty, begins_there, Reads, Comes, here, in_first, in_second, in_left, in_right, in_optional, in_turn, in_later_turn, in_part}
 use Rattle.g4_syntax.proofs.Truths.{apart, or_false, false_and, and_true, or_second_true}
 
 -- the tokens of a tree
@@ -29,29 +29,29 @@ reads_text end from to reads = reads.1
 reads_text (more a tail) from to reads = reads_text a from reads.1 reads.2 ∙ ap (λ l. text a ++ l) (reads_text tail reads.1 to reads.3) ∙ sym (append_assoc (text a) (text tail) to)
 reads_text (inner a) from to reads = reads_text a from to reads
 
--- the tokens that are read before a stop
-abbrev pub read_before : {x : Expression} {from rest : List Spelled} → Stops x from rest → List Spelled
-read_before (at_token _ _) = []
-read_before (in_first _ _ stop) = read_before stop
-read_before (in_second _ _ _ a _ stop) = text a ++ read_before stop
-read_before (in_left _ _ _ stop) = read_before stop
-read_before (in_right _ _ _ stop) = read_before stop
-read_before (in_optional _ _ _ stop) = read_before stop
-read_before (in_turn _ _ _ stop) = read_before stop
-read_before (in_later_turn _ _ _ a _ _ stop) = text a ++ read_before stop
-read_before (in_part _ _ stop) = read_before stop
+-- the tokens that are read before a terminal to which reading comes
+abbrev pub read_before : {t : Terminal} {x : Expression} {from rest : List Spelled} → Comes t x from rest → List Spelled
+read_before (here _) = []
+read_before (in_first _ _ comes) = read_before comes
+read_before (in_second _ _ _ a _ comes) = text a ++ read_before comes
+read_before (in_left _ _ _ comes) = read_before comes
+read_before (in_right _ _ _ comes) = read_before comes
+read_before (in_optional _ _ _ comes) = read_before comes
+read_before (in_turn _ _ _ comes) = read_before comes
+read_before (in_later_turn _ _ _ a _ _ comes) = text a ++ read_before comes
+read_before (in_part _ _ comes) = read_before comes
 
--- behind the tokens that are read before a stop stand those where it stops
-pub stops_behind : {x : Expression} {from rest : List Spelled} (stop : Stops x from rest) → from ≡ read_before stop ++ rest
-stops_behind (at_token rest _) = refl
-stops_behind (in_first _ _ stop) = stops_behind stop
-stops_behind (in_second from between rest a reads stop) = reads_text a from between reads ∙ ap (λ l. text a ++ l) (stops_behind stop) ∙ sym (append_assoc (text a) (read_before stop) rest)
-stops_behind (in_left _ _ _ stop) = stops_behind stop
-stops_behind (in_right _ _ _ stop) = stops_behind stop
-stops_behind (in_optional _ _ _ stop) = stops_behind stop
-stops_behind (in_turn _ _ _ stop) = stops_behind stop
-stops_behind (in_later_turn from between rest a _ reads stop) = reads_text a from between reads ∙ ap (λ l. text a ++ l) (stops_behind stop) ∙ sym (append_assoc (text a) (read_before stop) rest)
-stops_behind (in_part _ _ stop) = stops_behind stop
+-- behind the tokens that are read before a terminal stand those at which it stands
+pub comes_behind : {t : Terminal} {x : Expression} {from rest : List Spelled} (comes : Comes t x from rest) → from ≡ read_before comes ++ rest
+comes_behind (here rest) = refl
+comes_behind (in_first _ _ comes) = comes_behind comes
+comes_behind (in_second from between rest a reads comes) = reads_text a from between reads ∙ ap (λ l. text a ++ l) (comes_behind comes) ∙ sym (append_assoc (text a) (read_before comes) rest)
+comes_behind (in_left _ _ _ comes) = comes_behind comes
+comes_behind (in_right _ _ _ comes) = comes_behind comes
+comes_behind (in_optional _ _ _ comes) = comes_behind comes
+comes_behind (in_turn _ _ _ comes) = comes_behind comes
+comes_behind (in_later_turn from between rest a _ reads comes) = reads_text a from between reads ∙ ap (λ l. text a ++ l) (comes_behind comes) ∙ sym (append_assoc (text a) (read_before comes) rest)
+comes_behind (in_part _ _ comes) = comes_behind comes
 
 -- if two texts together are empty, the first is
 pub first_empty : (v w : List Spelled) → v ++ w ≡ [] → v ≡ []

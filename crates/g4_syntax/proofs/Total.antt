@@ -2,9 +2,9 @@
 use Rattle.std.proofs.Common.{◌≡◌, ◌⊎◌, ℕ, zero, suc, ◌<◌, List, [], ◌∷◌, ◌++◌, length, Bool, true, false, refl, ap, subst, ◌∙◌, inl, inr, length-append, arith}
 use Rattle.g4_syntax.specs.Notation.{Spelled, Terminal, fits, Nonterminal, Expression, one, ◌▸◌, ◌∣◌, optional, repeated, part}
 use Rattle.g4_syntax.specs.Productions.{production, grammar}
-use Rattle.g4_syntax.specs.Trees.{Tree, leaf, both, left, right, absent, present, end, more, inner, can_be_empty, begins_there, Reads, at_token, in_first, in_second, in_left, in_right, in_optional, in_turn, in_later_turn, in_part, HasTree, TextStops, within, behind}
+use Rattle.g4_syntax.specs.Trees.{Tree, leaf, both, left, right, absent, present, end, more, inner, can_be_empty, begins_there, Reads, Comes, here, in_first, in_second, in_left, in_right, in_optional, in_turn, in_later_turn, in_part, Stops, HasTree, TextStops, within, behind}
 use Rattle.g4_syntax.proofs.Truths.{apart}
-use Rattle.g4_syntax.proofs.Texts.{text, reads_text, read_before, stops_behind, nothing_read}
+use Rattle.g4_syntax.proofs.Texts.{text, reads_text, read_before, comes_behind, nothing_read}
 use Rattle.g4_syntax.proofs.Guarded.{Outcome, part_guarded, Known, ShorterKnown, first_known, second_known, left_known, right_known, part_known}
 
 -- behind a token that was read fewer are left
@@ -17,41 +17,45 @@ fewer_left t w from to is =
 -- a token is the terminal or reading stops at it
 token_read : (t : Terminal) (token : Spelled) (to : List Spelled) (b : Bool) → fits t token ≡ b → Outcome (one t) (token ∷ to)
 token_read t token to true is = inl (leaf token, to, (refl, is))
-token_read t token to false is = inr (token ∷ to, at_token (token ∷ to) is)
+token_read t token to false is = inr (token ∷ to, record { terminal = t; comes = here (token ∷ to); none = is })
 
 -- a terminal is read or stops
 terminal_read : (t : Terminal) (from : List Spelled) → Outcome (one t) from
-terminal_read t [] = inr ([], at_token [] refl)
+terminal_read t [] = inr ([], record { terminal = t; comes = here []; none = refl })
 terminal_read t (token ∷ to) = token_read t token to (fits t token) refl
+
+-- where reading an expression comes to what another comes to, it stops where that stops
+onward : {x y : Expression} {from between rest : List Spelled} → ((t : Terminal) → Comes t x between rest → Comes t y from rest) → Stops x between rest → Stops y from rest
+onward leads stop = record { terminal = stop.terminal; comes = leads stop.terminal stop.comes; none = stop.none }
 
 -- the first being read, both are read as the second is
 second_read : {x y : Expression} (a : Tree x) (from between : List Spelled) → Reads a from between → Outcome y between → Outcome (x ▸ y) from
 second_read a from between reads (inl read) = inl (both a (read.0), read.1, (between, reads, read.2))
-second_read a from between reads (inr stop) = inr (stop.0, in_second from between (stop.0) a reads stop.1)
+second_read a from between reads (inr stop) = inr (stop.0, onward (λ t comes. in_second from between (stop.0) a reads comes) stop.1)
 
 -- what is known of the second where the first was read
 second_there : {x : Expression} (y : Expression) (a : Tree x) (from between w : List Spelled) → ShorterKnown from → (can_be_empty x ≡ true → Outcome y from) → Reads a from between → text a ≡ w → Outcome y between
-second_there y a from between [] shorter here reads none =
+second_there y a from between [] shorter known reads none =
     let same : from ≡ between = reads_text a from between reads ∙ ap (λ (v : List Spelled). v ++ between) none in
-    subst (λ (l : List Spelled). Outcome y l) same (here (nothing_read a from between reads none).0)
-second_there y a from between (t ∷ w) shorter here reads some =
+    subst (λ (l : List Spelled). Outcome y l) same (known (nothing_read a from between reads none).0)
+second_there y a from between (t ∷ w) shorter known reads some =
     shorter y between (fewer_left t w from between (reads_text a from between reads ∙ ap (λ (v : List Spelled). v ++ between) some))
 
 -- two are read, one behind the other, or reading stops in one of them
 both_read : (x y : Expression) (from : List Spelled) → ShorterKnown from → (can_be_empty x ≡ true → Outcome y from) → Outcome x from → Outcome (x ▸ y) from
-both_read x y from shorter here (inl read) =
-    second_read (read.0) from (read.1) read.2 (second_there y (read.0) from (read.1) (text (read.0)) shorter here read.2 refl)
-both_read x y from shorter here (inr stop) = inr (stop.0, in_first from (stop.0) stop.1)
+both_read x y from shorter known (inl read) =
+    second_read (read.0) from (read.1) read.2 (second_there y (read.0) from (read.1) (text (read.0)) shorter known read.2 refl)
+both_read x y from shorter known (inr stop) = inr (stop.0, onward (λ t comes. in_first from (stop.0) comes) stop.1)
 
 -- two alternatives are read as the first, where it begins
 left_read : (x y : Expression) (from : List Spelled) → begins_there x from ≡ true → Outcome x from → Outcome (x ∣ y) from
 left_read x y from so (inl read) = inl (left (read.0), read.1, (so, read.2))
-left_read x y from so (inr stop) = inr (stop.0, in_left from (stop.0) so stop.1)
+left_read x y from so (inr stop) = inr (stop.0, onward (λ t comes. in_left from (stop.0) so comes) stop.1)
 
 -- two alternatives are read as the second, where the first does not begin
 right_read : (x y : Expression) (from : List Spelled) → begins_there x from ≡ false → Outcome y from → Outcome (x ∣ y) from
 right_read x y from so (inl read) = inl (right (read.0), read.1, (so, read.2))
-right_read x y from so (inr stop) = inr (stop.0, in_right from (stop.0) so stop.1)
+right_read x y from so (inr stop) = inr (stop.0, onward (λ t comes. in_right from (stop.0) so comes) stop.1)
 
 -- two alternatives are read, or reading stops
 either_read : (x y : Expression) (from : List Spelled) (b : Bool) → begins_there x from ≡ b → Outcome x from → Outcome y from → Outcome (x ∣ y) from
@@ -61,7 +65,7 @@ either_read x y from false so first second = right_read x y from so second
 -- what is optional is read as what stands in it, where it begins
 present_read : (x : Expression) (from : List Spelled) → begins_there x from ≡ true → Outcome x from → Outcome (optional x) from
 present_read x from so (inl read) = inl (present (read.0), read.1, (so, read.2))
-present_read x from so (inr stop) = inr (stop.0, in_optional from (stop.0) so stop.1)
+present_read x from so (inr stop) = inr (stop.0, onward (λ t comes. in_optional from (stop.0) so comes) stop.1)
 
 -- what is optional is read, or reading stops
 optional_read : (x : Expression) (from : List Spelled) (b : Bool) → begins_there x from ≡ b → Outcome x from → Outcome (optional x) from
@@ -71,7 +75,7 @@ optional_read x from false so inside = inl (absent, from, (so, refl))
 -- the first turn being read, what is repeated is read as the later turns are
 later_read : {x : Expression} (a : Tree x) (from between : List Spelled) → begins_there x from ≡ true → Reads a from between → Outcome (repeated x) between → Outcome (repeated x) from
 later_read a from between so reads (inl read) = inl (more a (read.0), read.1, (so, between, reads, read.2))
-later_read a from between so reads (inr stop) = inr (stop.0, in_later_turn from between (stop.0) a so reads stop.1)
+later_read a from between so reads (inr stop) = inr (stop.0, onward (λ t comes. in_later_turn from between (stop.0) a so reads comes) stop.1)
 
 -- what is known of the later turns where the first was read
 later_there : {x : Expression} (a : Tree x) (from between w : List Spelled) → ShorterKnown from → begins_there x from ≡ true → Reads a from between → text a ≡ w → Outcome (repeated x) between
@@ -82,7 +86,7 @@ later_there {x} a from between (t ∷ w) shorter so reads some =
 -- what is repeated is read turn by turn, where it begins
 turn_read : (x : Expression) (from : List Spelled) → ShorterKnown from → begins_there x from ≡ true → Outcome x from → Outcome (repeated x) from
 turn_read x from shorter so (inl read) = later_read (read.0) from (read.1) so read.2 (later_there (read.0) from (read.1) (text (read.0)) shorter so read.2 refl)
-turn_read x from shorter so (inr stop) = inr (stop.0, in_turn from (stop.0) so stop.1)
+turn_read x from shorter so (inr stop) = inr (stop.0, onward (λ t comes. in_turn from (stop.0) so comes) stop.1)
 
 -- what is repeated is read, or reading stops
 repeated_read : (x : Expression) (from : List Spelled) (b : Bool) → ShorterKnown from → begins_there x from ≡ b → Outcome x from → Outcome (repeated x) from
@@ -92,7 +96,7 @@ repeated_read x from false shorter so inside = inl (end, from, (so, refl))
 -- a part is read as its production
 part_read : (n : Nonterminal) (from : List Spelled) → Outcome (production n) from → Outcome (part n) from
 part_read n from (inl read) = inl (inner (read.0), read.1, read.2)
-part_read n from (inr stop) = inr (stop.0, in_part from (stop.0) stop.1)
+part_read n from (inr stop) = inr (stop.0, onward (λ t comes. in_part from (stop.0) comes) stop.1)
 
 -- where all is known of fewer tokens, and of parts that stand first, an expression is read or stops
 read_here : (x : Expression) (from : List Spelled) → ShorterKnown from → Known x from → Outcome x from
@@ -134,7 +138,7 @@ all_or_stop tokens (token ∷ rest) tree reads = inr (text tree, token ∷ rest,
 -- a grammar that is read or stops is a text or stops
 text_or_stop_of : (tokens : List Spelled) → Outcome grammar tokens → TextOrStop tokens
 text_or_stop_of tokens (inl read) = all_or_stop tokens (read.1) (read.0) read.2
-text_or_stop_of tokens (inr stop) = inr (read_before (stop.1), stop.0, stops_behind (stop.1), within (stop.0) (stop.1))
+text_or_stop_of tokens (inr stop) = inr (read_before (stop.1.comes), stop.0, comes_behind (stop.1.comes), within (stop.0) (stop.1))
 
 -- any tokens are a grammar text, or reading it stops at some of them
 pub text_or_stop : (tokens : List Spelled) → TextOrStop tokens

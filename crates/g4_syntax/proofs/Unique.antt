@@ -1,7 +1,7 @@
 -- Some tokens are read in one way, and are not both read and stopped at.
 use Rattle.std.proofs.Common.{◌≡◌, List, ◌∷◌, true, false, refl, sym, ap, ap₂, subst, ◌∙◌}
 use Rattle.g4_syntax.specs.Notation.{Spelled, Terminal, fits, Expression, one}
-use Rattle.g4_syntax.specs.Trees.{Tree, leaf, both, left, right, absent, present, end, more, inner, begins_there, Reads, Stops, at_token, in_first, in_second, in_left, in_right, in_optional, in_turn, in_later_turn, in_part}
+use Rattle.g4_syntax.specs.Trees.{Tree, leaf, both, left, right, absent, present, end, more, inner, begins_there, Reads, Comes, here, in_first, in_second, in_left, in_right, in_optional, in_turn, in_later_turn, in_part, Stops}
 use Rattle.g4_syntax.proofs.Truths.{apart}
 
 -- the same lists have the same first token
@@ -50,23 +50,27 @@ one_reading (inner a) (inner b) from to other first second =
 unfit : (t : Terminal) (from to : List Spelled) (token : Spelled) → from ≡ token ∷ to → fits t token ≡ true → begins_there (one t) from ≡ false → ⊥
 unfit t from to token is fit stops = apart (fits t token) fit (subst (λ (l : List Spelled). begins_there (one t) l ≡ false) is stops)
 
+-- what is read does not come to a terminal that no token is
+come_apart : {t : Terminal} {x : Expression} (from to rest : List Spelled) (a : Tree x) → Reads a from to → Comes t x from rest → begins_there (one t) rest ≡ false → ⊥
+come_apart from to rest (leaf {t} token) reads (here _) none = unfit t rest to token reads.0 reads.1 none
+come_apart from to rest (both a b) reads (in_first _ _ comes) none = come_apart from reads.0 rest a reads.1 comes none
+come_apart from to rest (both a b) reads (in_second _ between _ other read comes) none =
+    let same = one_reading other a from between reads.0 read reads.1 in
+    come_apart between to rest b (subst (λ (l : List Spelled). Reads b l to) (sym same.1) reads.2) comes none
+come_apart from to rest (left a) reads (in_left _ _ _ comes) none = come_apart from to rest a reads.1 comes none
+come_apart from to rest (right {x} a) reads (in_left _ _ begun _) none = apart (begins_there x from) begun reads.0
+come_apart from to rest (left {x} a) reads (in_right _ _ begun _) none = apart (begins_there x from) reads.0 begun
+come_apart from to rest (right a) reads (in_right _ _ _ comes) none = come_apart from to rest a reads.1 comes none
+come_apart from to rest (absent {x}) reads (in_optional _ _ begun _) none = apart (begins_there x from) begun reads.0
+come_apart from to rest (present a) reads (in_optional _ _ _ comes) none = come_apart from to rest a reads.1 comes none
+come_apart from to rest (end {x}) reads (in_turn _ _ begun _) none = apart (begins_there x from) begun reads.0
+come_apart from to rest (more a tail) reads (in_turn _ _ _ comes) none = come_apart from reads.1 rest a reads.2 comes none
+come_apart from to rest (end {x}) reads (in_later_turn _ _ _ _ begun _ _) none = apart (begins_there x from) begun reads.0
+come_apart from to rest (more a tail) reads (in_later_turn _ between _ other _ read comes) none =
+    let same = one_reading other a from between reads.1 read reads.2 in
+    come_apart between to rest tail (subst (λ (l : List Spelled). Reads tail l to) (sym same.1) reads.3) comes none
+come_apart from to rest (inner a) reads (in_part _ _ comes) none = come_apart from to rest a reads comes none
+
 -- what is read does not stop
 pub never_both : {x : Expression} (from to rest : List Spelled) (a : Tree x) → Reads a from to → Stops x from rest → ⊥
-never_both from to rest (leaf {t} token) reads (at_token _ stops) = unfit t rest to token reads.0 reads.1 stops
-never_both from to rest (both a b) reads (in_first _ _ stop) = never_both from reads.0 rest a reads.1 stop
-never_both from to rest (both a b) reads (in_second _ between _ other read stop) =
-    let same = one_reading other a from between reads.0 read reads.1 in
-    never_both between to rest b (subst (λ (l : List Spelled). Reads b l to) (sym same.1) reads.2) stop
-never_both from to rest (left a) reads (in_left _ _ _ stop) = never_both from to rest a reads.1 stop
-never_both from to rest (right {x} a) reads (in_left _ _ begun _) = apart (begins_there x from) begun reads.0
-never_both from to rest (left {x} a) reads (in_right _ _ begun _) = apart (begins_there x from) reads.0 begun
-never_both from to rest (right a) reads (in_right _ _ _ stop) = never_both from to rest a reads.1 stop
-never_both from to rest (absent {x}) reads (in_optional _ _ begun _) = apart (begins_there x from) begun reads.0
-never_both from to rest (present a) reads (in_optional _ _ _ stop) = never_both from to rest a reads.1 stop
-never_both from to rest (end {x}) reads (in_turn _ _ begun _) = apart (begins_there x from) begun reads.0
-never_both from to rest (more a tail) reads (in_turn _ _ _ stop) = never_both from reads.1 rest a reads.2 stop
-never_both from to rest (end {x}) reads (in_later_turn _ _ _ _ begun _ _) = apart (begins_there x from) begun reads.0
-never_both from to rest (more a tail) reads (in_later_turn _ between _ other _ read stop) =
-    let same = one_reading other a from between reads.1 read reads.2 in
-    never_both between to rest tail (subst (λ (l : List Spelled). Reads tail l to) (sym same.1) reads.3) stop
-never_both from to rest (inner a) reads (in_part _ _ stop) = never_both from to rest a reads stop
+never_both from to rest a reads stop = come_apart from to rest a reads stop.comes stop.none

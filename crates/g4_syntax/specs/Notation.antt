@@ -49,17 +49,27 @@ number_of kinds.Stray = 29
 abbrev pub is_kind : Kind → Kind → Bool
 is_kind kind other = number_of kind == number_of other
 
--- a terminal: any token of a kind, a lower-case name with this spelling, or a name of either case
+-- a terminal: any token of a kind, a lower-case name with this spelling, or a name of either case; and those with which a
+-- character set can begin
 pub data Terminal : Type 0 where
   of_kind : Kind → Terminal
   keyword : List ℕ → Terminal
   a_name : Terminal
+  -- a character set in brackets
+  a_set : Terminal
+  -- a literal of a lexer rule, which can begin a range
+  characters : Terminal
+  -- a literal under `~` in a lexer rule, which is a character or begins a range
+  excluded : Terminal
 
 -- whether the token is what the terminal asks for
 abbrev pub fits : Terminal → Spelled → Bool
 fits (of_kind kind) token = is_kind kind token.kind
 fits (keyword spelling) token = is_kind kinds.Lower token.kind && bytes_eq token.bytes spelling
 fits a_name token = is_kind kinds.Lower token.kind || is_kind kinds.Upper token.kind
+fits a_set token = is_kind kinds.Set token.kind
+fits characters token = is_kind kinds.Literal token.kind
+fits excluded token = is_kind kinds.Literal token.kind
 
 -- the parts of a grammar text that stand in parts of their own kind
 pub data Nonterminal : Type 0 where

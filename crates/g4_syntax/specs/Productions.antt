@@ -1,7 +1,7 @@
 -- The grammar of grammar texts. Where a name can be a label, it is read once, and what stands behind it tells which it is.
 use Rattle.std.specs.Prelude.{codes}
 use Rattle.g4_tokens.specs.declared.token.Kind.TheVariants as kinds
-use Rattle.g4_syntax.specs.Notation.{Nonterminal, element, token_set, lexer_element, character_set, more_names, Expression, ◌▸◌, ◌∣◌, optional, repeated, part, sign, word, name, with_commas, with_bars}
+use Rattle.g4_syntax.specs.Notation.{a_set, characters, excluded, Nonterminal, element, token_set, lexer_element, character_set, more_names, Expression, one, ◌▸◌, ◌∣◌, optional, repeated, part, sign, word, name, with_commas, with_bars}
 
 -- the value of an option: names with dots between, a literal, a number, an action or `*`
 abbrev pub value : Expression
@@ -127,8 +127,8 @@ lexer_block = sign kinds.LeftParenthesis ▸ with_bars (repeated (part lexer_ele
 -- an item of a lexer rule that begins with no name
 abbrev pub unnamed_lexer_item : Expression
 unnamed_lexer_item =
-    sign kinds.Literal ▸ (sign kinds.DoubleDot ▸ sign kinds.Literal ∣ optional element_options)
-    ∣ sign kinds.Set
+    one characters ▸ (sign kinds.DoubleDot ▸ sign kinds.Literal ∣ optional element_options)
+    ∣ one a_set
     ∣ sign kinds.Dot
     ∣ sign kinds.Tilde ▸ part character_set
     ∣ lexer_block
@@ -182,5 +182,5 @@ abbrev pub production : Nonterminal → Expression
 production element = action ∣ labelled_item ▸ optional suffix
 production token_set = sign kinds.Upper ▸ optional element_options ∣ sign kinds.Literal ∣ sign kinds.LeftParenthesis ▸ with_bars (part token_set) ▸ sign kinds.RightParenthesis
 production lexer_element = action ∣ labelled_lexer_item ▸ optional suffix
-production character_set = sign kinds.Literal ▸ optional (sign kinds.DoubleDot ▸ sign kinds.Literal) ∣ sign kinds.Set ∣ sign kinds.LeftParenthesis ▸ with_bars (part character_set) ▸ sign kinds.RightParenthesis
+production character_set = one excluded ▸ optional (sign kinds.DoubleDot ▸ sign kinds.Literal) ∣ one a_set ∣ sign kinds.LeftParenthesis ▸ with_bars (part character_set) ▸ sign kinds.RightParenthesis
 production more_names = sign kinds.Comma ▸ optional (name ▸ optional (part more_names))

@@ -67,17 +67,23 @@ Reads (end {x}) from to = (begins_there x from ≡ false) × (from ≡ to)
 Reads (more {x} a as_before) from to = (begins_there x from ≡ true) × (between : List Spelled) × Reads a from between × Reads as_before between to
 Reads (inner a) from to = Reads a from to
 
--- reading the expression from these tokens on stops at those: the first of them, or the end, cannot stand there
-pub data Stops : Expression → List Spelled → List Spelled → Type 0 where
-  at_token : {t : Terminal} (rest : List Spelled) → begins_there (one t) rest ≡ false → Stops (one t) rest rest
-  in_first : {x y : Expression} (from rest : List Spelled) → Stops x from rest → Stops (x ▸ y) from rest
-  in_second : {x y : Expression} (from between rest : List Spelled) (a : Tree x) → Reads a from between → Stops y between rest → Stops (x ▸ y) from rest
-  in_left : {x y : Expression} (from rest : List Spelled) → begins_there x from ≡ true → Stops x from rest → Stops (x ∣ y) from rest
-  in_right : {x y : Expression} (from rest : List Spelled) → begins_there x from ≡ false → Stops y from rest → Stops (x ∣ y) from rest
-  in_optional : {x : Expression} (from rest : List Spelled) → begins_there x from ≡ true → Stops x from rest → Stops (optional x) from rest
-  in_turn : {x : Expression} (from rest : List Spelled) → begins_there x from ≡ true → Stops x from rest → Stops (repeated x) from rest
-  in_later_turn : {x : Expression} (from between rest : List Spelled) (a : Tree x) → begins_there x from ≡ true → Reads a from between → Stops (repeated x) between rest → Stops (repeated x) from rest
-  in_part : {n : Nonterminal} (from rest : List Spelled) → Stops (production n) from rest → Stops (part n) from rest
+-- reading the expression from these tokens on comes to the terminal before those
+pub data Comes (t : Terminal) : Expression → List Spelled → List Spelled → Type 0 where
+  here : (rest : List Spelled) → Comes t (one t) rest rest
+  in_first : {x y : Expression} (from rest : List Spelled) → Comes t x from rest → Comes t (x ▸ y) from rest
+  in_second : {x y : Expression} (from between rest : List Spelled) (a : Tree x) → Reads a from between → Comes t y between rest → Comes t (x ▸ y) from rest
+  in_left : {x y : Expression} (from rest : List Spelled) → begins_there x from ≡ true → Comes t x from rest → Comes t (x ∣ y) from rest
+  in_right : {x y : Expression} (from rest : List Spelled) → begins_there x from ≡ false → Comes t y from rest → Comes t (x ∣ y) from rest
+  in_optional : {x : Expression} (from rest : List Spelled) → begins_there x from ≡ true → Comes t x from rest → Comes t (optional x) from rest
+  in_turn : {x : Expression} (from rest : List Spelled) → begins_there x from ≡ true → Comes t x from rest → Comes t (repeated x) from rest
+  in_later_turn : {x : Expression} (from between rest : List Spelled) (a : Tree x) → begins_there x from ≡ true → Reads a from between → Comes t (repeated x) between rest → Comes t (repeated x) from rest
+  in_part : {n : Nonterminal} (from rest : List Spelled) → Comes t (production n) from rest → Comes t (part n) from rest
+
+-- reading the expression from these tokens on stops at those: it comes to a terminal that the first of them, or the end, is not
+pub record Stops (x : Expression) (from rest : List Spelled) : Type 0 where
+  pub terminal : Terminal
+  pub comes : Comes terminal x from rest
+  pub none : begins_there (one terminal) rest ≡ false
 
 -- the tokens are a grammar text with this tree
 abbrev pub HasTree : List Spelled → Tree grammar → Type 0

@@ -17,5 +17,4 @@ mod token;
 pub use law::one_scan;
 pub use scanner::{ScanFault, scan};
 pub use spelling::literal_characters;
-pub use statement::{Named, Statement};
 pub use token::{Kind, Token};
