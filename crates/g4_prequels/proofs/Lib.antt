@@ -1,3 +1,4 @@
+pub mod Coming
 pub mod Moving
 pub mod Tokens
 pub mod Turning

@@ -1,6 +1,7 @@
 -- What the first of the code's tokens is.
-use Rattle.std.proofs.Common.{◌≡◌, ℕ, ◌+◌, List, [], ◌∷◌, length, Bool, true, false, ◌&&◌, ◌||◌, arith, ◌⊎◌, refl, sym, ◌∙◌, ap, add-one}
-use Rattle.std.specs.Prelude.{◌==◌, bytes_eq}
+use Rattle.std.proofs.Common.{◌≡◌, ℕ, ◌+◌, List, [], ◌∷◌, length, Bool, true, false, ◌&&◌, ◌||◌, arith, ◌⊎◌, refl, sym, ◌∙◌, ap, add-one, Option, Some, None, true≢false}
+use Rattle.std.specs.Prelude.{◌==◌, bytes_eq, is_some, option_map, slice_get, not, if◌then◌else◌, map}
+use Rattle.std.proofs.lemmas.Option.{slice_get-map}
 use Rattle.std.proofs.lemmas.Bool.{eq-eqb}
 use Rattle.std.proofs.lemmas.Bool.Decides.{eqb_tells}
 use mathlib.Core.Logic.{inl, inr}
@@ -11,9 +12,10 @@ use Rattle.g4_tokens.specs.declared.token.Kind.{Kind}
 use Rattle.g4_tokens.specs.declared.token.Kind.TheVariants as kinds
 use Rattle.g4_tokens.specs.declared.token.Token.{Token}
 use Rattle.g4_syntax.specs.Notation.{Spelled, Expression, number_of, is_kind, sign, word, name}
+use Rattle.g4_prequels.specs.declared.cursor.Halt.{Halt}
 use Rattle.g4_prequels.specs.Parts.{IsPart, AreParts, each_is}
-use Rattle.g4_prequels.specs.Progress.{Progress, reading, stopped, progress, is_next}
-use Rattle.g4_prequels.specs.Texts.{bytes_of, spelled}
+use Rattle.g4_prequels.specs.Progress.{Progress, reading, stopped, progress, is_next, bytes_if, bytes_ahead}
+use Rattle.g4_prequels.specs.Texts.{bytes_of, spelled, spelled_token}
 
 -- the first token is a part of the text
 pub first_part : {text : List ℕ} {tokens : List Token} (token : Token) (others : List Token) → tokens ≡ token ∷ others → AreParts text tokens → IsPart text token
@@ -42,31 +44,52 @@ pub same_kind : (kind other : Kind) → sameb the_type kind other ≡ is_kind ot
 same_kind kind other = ap (λ (n : ℕ). n == tag_of the_type other) (same_number kind) ∙ ap (λ (n : ℕ). number_of kind == n) (same_number other) ∙ either_way (number_of kind) (number_of other)
 
 -- whether the first token is of this kind
-pub kind_next : (text : List ℕ) {tokens : List Token} (token : Token) (others : List Token) (kind : Kind) → tokens ≡ token ∷ others → sameb the_type token.kind kind ≡ is_next (sign kind) (progress false (spelled text tokens))
+pub kind_next : (text : List ℕ) {tokens : List Token} (token : Token) (others : List Token) (halt : Option Halt) (kind : Kind) → tokens ≡ token ∷ others → is_some halt ≡ false → sameb the_type token.kind kind ≡ is_next (sign kind) (progress halt (spelled text tokens))
 unfolding is_next
-kind_next text token others kind is = rw is (same_kind token.kind kind)
+kind_next text token others None kind is has = rw is (same_kind token.kind kind)
+kind_next text token others (Some halt) kind is has = absurd (true≢false has)
 
 -- where reading has stopped nothing is next
-pub none_stopped : (x : Expression) (rest : List Spelled) → false ≡ is_next x (progress true rest)
+pub none_stopped : (x : Expression) (halt : Option Halt) (rest : List Spelled) → is_some halt ≡ true → false ≡ is_next x (progress halt rest)
 unfolding is_next
-none_stopped x rest = refl
+none_stopped x None rest has = absurd (true≢false (sym has))
+none_stopped x (Some halt) rest has = refl
 
 -- at the end nothing is next
-pub none_past : (x : Expression) (text : List ℕ) (tokens : List Token) (has : Bool) → length tokens ≡ 0 → false ≡ is_next x (progress has (spelled text tokens))
+pub none_past : (x : Expression) (text : List ℕ) (tokens : List Token) (halt : Option Halt) → length tokens ≡ 0 → false ≡ is_next x (progress halt (spelled text tokens))
 unfolding is_next
-none_past x text [] true none = refl
-none_past x text [] false none = refl
-none_past x text (token ∷ others) has none = absurd (omega arith)
+none_past x text [] None none = refl
+none_past x text [] (Some halt) none = refl
+none_past x text (token ∷ others) halt none = absurd (omega arith)
 
 -- whether the first token, which is a lower-case name or not, is this word
-pub word_next : (text spelling : List ℕ) {tokens : List Token} (token : Token) (others : List Token) (has lower : Bool) → tokens ≡ token ∷ others → lower ≡ is_next (sign kinds.Lower) (progress has (spelled text tokens)) → (lower && bytes_eq (bytes_of text token) spelling) ≡ is_next (word spelling) (progress has (spelled text tokens))
+pub word_next : (text spelling : List ℕ) {tokens : List Token} (token : Token) (others : List Token) (halt : Option Halt) (lower : Bool) → tokens ≡ token ∷ others → lower ≡ is_next (sign kinds.Lower) (progress halt (spelled text tokens)) → (lower && bytes_eq (bytes_of text token) spelling) ≡ is_next (word spelling) (progress halt (spelled text tokens))
 unfolding is_next
-word_next text spelling token others true lower is next = rw next refl
-word_next text spelling token others false lower is next = rw (next, is) refl
+word_next text spelling token others (Some halt) lower is next = rw next refl
+word_next text spelling token others None lower is next = rw (next, is) refl
 
 -- whether the next token is a name of either case
 pub name_next : (s : Progress) → is_next name s ≡ (is_next (sign kinds.Lower) s || is_next (sign kinds.Upper) s)
 unfolding is_next
 name_next (reading []) = refl
 name_next (reading (token ∷ _)) = refl
-name_next (stopped rest) = refl
+name_next (stopped halt rest) = refl
+
+-- the token that stands there is a part of the text
+pub part_at : {text : List ℕ} {tokens : List Token} (at : ℕ) (token : Token) → slice_get tokens at ≡ Some token → AreParts text tokens → IsPart text token
+part_at at token is (each_is each) = each at token is
+
+-- no bytes stand ahead where reading has stopped
+pub none_ahead : (many : ℕ) (kind : Kind) (halt : Option Halt) (rest : List Spelled) → is_some halt ≡ true → bytes_ahead many kind (progress halt rest) ≡ None
+none_ahead many kind None rest has = absurd (true≢false (sym has))
+none_ahead many kind (Some halt) rest has = refl
+
+-- the bytes ahead are those of the token that stands there, if it is of the kind
+pub bytes_there : (text : List ℕ) (tokens : List Token) (many : ℕ) (kind : Kind) (halt : Option Halt) → is_some halt ≡ false → bytes_ahead many kind (progress halt (spelled text tokens)) ≡ bytes_if kind (option_map (spelled_token text) (slice_get tokens many))
+bytes_there text tokens many kind None has = ap (bytes_if kind) (slice_get-map (spelled_token text) tokens many)
+bytes_there text tokens many kind (Some halt) has = absurd (true≢false has)
+
+-- the bytes of the token that stands there
+pub bytes_of_there : (text : List ℕ) (tokens : List Token) (many : ℕ) (kind : Kind) (halt : Option Halt) (token : Token) (b : Bool) → is_some halt ≡ false → slice_get tokens many ≡ Some token → sameb the_type token.kind kind ≡ b → bytes_ahead many kind (progress halt (spelled text tokens)) ≡ (if b then Some (bytes_of text token) else None)
+bytes_of_there text tokens many kind halt token b has is same =
+    bytes_there text tokens many kind halt has ∙ rw is (ap (λ (c : Bool). if c then Some (bytes_of text token) else None) (sym (same_kind token.kind kind) ∙ same))

@@ -1,33 +1,25 @@
 -- What repeats, a turn at a time.
 use Rattle.std.proofs.Common.{◌≡◌, ℕ, suc, ◌<◌, ◌≤◌, List, [], ◌∷◌, ◌++◌, length, true, false, refl, sym, ◌∙◌, ap, arith, append_assoc, append-nil, length-append, true≢false}
 use Rattle.g4_syntax.specs.Notation.{Spelled, Terminal, Expression, one, ◌▸◌, repeated}
-use Rattle.g4_syntax.specs.Trees.{Tree, both, end, more, in_turn, in_later_turn}
+use Rattle.g4_syntax.specs.Trees.{Tree, both, end, more}
 use Rattle.g4_syntax.proofs.Texts.{text, reads_text, nothing_read}
 use Rattle.g4_syntax.proofs.Truths.{apart}
 use Rattle.g4_prequels.specs.Progress.{Progress, reading, stopped, is_next, Moves, reads, stops, stays, Passes}
-use Rattle.g4_prequels.proofs.Moving.{two, so, led}
+use Rattle.g4_prequels.proofs.Moving.{two, so, led, one_more, no_turn}
 
 -- how much is left to read
 abbrev pub left : Progress → ℕ
 left (reading rest) = suc (length rest)
-left (stopped rest) = 0
+left (stopped halt rest) = 0
 
 -- what is read leaves no more tokens
 pub no_more : {x : Expression} {P : Tree x → Type 0} {s t : Progress} → Moves P s t → left t ≤ left s
-no_more (reads from to tree read says) = within (text tree) from to (reads_text tree from to read)
+no_more (reads from to tree read good says) = within (text tree) from to (reads_text tree from to read)
   where
     within : (w from to : List Spelled) → from ≡ w ++ to → suc (length to) ≤ suc (length from)
     within w from to is = rw is (omega (arith, length-append w to))
-no_more (stops from rest stop) = omega arith
-no_more (stays rest) = omega arith
-
--- one turn, and the later ones
-one_more : {x : Expression} {P : Tree x → Type 0} {Q R : Tree (repeated x) → Type 0} {s t u : Progress} → is_next x s ≡ true → Moves P s t → Moves Q t u → ((a : Tree x) (rest : Tree (repeated x)) → P a → Q rest → R (more a rest)) → Moves R s u
-unfolding is_next
-one_more is (reads from between a first p) (reads _ to rest second q) means = reads from to (more a rest) (is, between, first, second) (means a rest p q)
-one_more is (reads from between a first p) (stops _ rest stop) means = stops from rest (in_later_turn from between rest a is first stop)
-one_more is (stops from rest stop) (stays _) means = stops from rest (in_turn from rest is stop)
-one_more is (stays rest) (stays _) means = stays rest
+no_more (stops from rest halt halts) = omega arith
+no_more (stays halt rest) = omega arith
 
 -- A part of an expression has been read, and an expression like the whole is left. With the tree of the rest, the whole has a
 -- tree, which says what the part and the rest say.
@@ -46,12 +38,6 @@ begun same = record { less = omega arith; whole = λ value u moves. so moves (λ
 -- one turn more
 pub turn : {x : Expression} {V : Type 0} {P : Tree x → Type 0} {Whole With Then : Tree (repeated x) → V} {s t u : Progress} → Turned Whole With s t → is_next x t ≡ true → Moves P t u → ((a : Tree x) (rest : Tree (repeated x)) → P a → With (more a rest) ≡ Then rest) → Turned Whole Then s u
 turn turned is moves same = record { less = omega (arith, turned.less, no_more moves); whole = λ value v rest. turned.whole value v (one_more is moves rest (λ a later p e. e ∙ sym (same a later p))) }
-
--- no turn is left
-pub no_turn : {x : Expression} {R : Tree (repeated x) → Type 0} (s : Progress) → is_next x s ≡ false → R end → Moves R s s
-unfolding is_next
-no_turn (reading from) none says = reads from from end (none, refl) says
-no_turn (stopped rest) none says = stays rest
 
 -- the turns end
 pub end_turns : {x : Expression} {V : Type 0} {Whole With : Tree (repeated x) → V} {s t : Progress} {value : V} → Turned Whole With s t → is_next x t ≡ false → value ≡ With end → Moves (λ tree. value ≡ Whole tree) s t
@@ -98,13 +84,13 @@ list_end items {before} {listed} {all} turned none empty begun is =
 -- what is read where it begins leaves fewer tokens
 pub fewer : {x : Expression} {P : Tree x → Type 0} {s t : Progress} → is_next x s ≡ true → Moves P s t → left t < left s
 unfolding is_next
-fewer is (reads from to tree read says) = some (text tree) from to (reads_text tree from to read) (λ none. apart _ is (nothing_read tree from to read none).1)
+fewer is (reads from to tree read good says) = some (text tree) from to (reads_text tree from to read) (λ none. apart _ is (nothing_read tree from to read none).1)
   where
     some : (w from to : List Spelled) → from ≡ w ++ to → (w ≡ [] → ⊥) → suc (length to) < suc (length from)
     some [] from to is not_empty = absurd (not_empty refl)
     some (t ∷ ts) from to is not_empty = rw is (omega (arith, length-append ts to))
-fewer is (stops from rest stop) = omega arith
-fewer is (stays rest) = absurd (true≢false (sym is))
+fewer is (stops from rest halt halts) = omega arith
+fewer is (stays halt rest) = absurd (true≢false (sym is))
 
 -- what is read behind a sign that is next leaves fewer tokens
 pub fewer_then : {t : Terminal} {y : Expression} {P : Tree (one t) → Type 0} {Q : Tree y → Type 0} {s u v : Progress} → is_next (one t) s ≡ true → Moves P s u → Moves Q u v → left v < left s

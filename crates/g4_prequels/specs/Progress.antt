@@ -1,44 +1,69 @@
 -- How far a cursor has come, and what a call that moves it answers. This serves only contracts of calls that read parts of a
 -- text: what a grammar text is does not rest on it.
-use Rattle.std.specs.Prelude.{◌≡◌, List, [], Bool, true, false, Result, IfOk}
-use Rattle.g4_syntax.specs.Notation.{Spelled, Expression}
+use Rattle.std.specs.Prelude.{◌≡◌, ℕ, List, Bool, false, Option, Some, None, Result, IfOk, slice_get, if◌then◌else◌}
+use Rattle.g4_tokens.specs.declared.token.Kind.{Kind}
+use Rattle.g4_syntax.specs.Notation.{Spelled, is_kind, Terminal, Expression}
 use Rattle.g4_syntax.specs.Trees.{Tree, begins_there, Reads, Stops}
+use Rattle.g4_prequels.specs.Sets.{BeginsBad, HasNoBad, HasFirstBad}
+use Rattle.g4_prequels.specs.declared.cursor.Halt.{Halt}
+use Rattle.g4_prequels.specs.declared.cursor.Halt.TheVariants.{Fault, BadSet}
 
--- these tokens are left to read, or reading has stopped at the first of them, or at the end
+-- these tokens are left to read, or reading has stopped before the first of them, or at the end
 pub data Progress : Type 0 where
   reading : List Spelled → Progress
-  stopped : List Spelled → Progress
+  stopped : Halt → List Spelled → Progress
 
--- the same by whether reading has stopped
-abbrev pub progress : Bool → List Spelled → Progress
-progress false rest = reading rest
-progress true rest = stopped rest
+-- the same by why reading has stopped
+abbrev pub progress : Option Halt → List Spelled → Progress
+progress None rest = reading rest
+progress (Some halt) rest = stopped halt rest
 
--- reading stops here, if it has not stopped before
-abbrev pub halted : Progress → Progress
-halted (reading rest) = stopped rest
-halted (stopped rest) = stopped rest
+-- reading stops here for this, if it has not stopped before
+abbrev pub halted : Halt → Progress → Progress
+halted halt (reading rest) = stopped halt rest
+halted halt (stopped before rest) = stopped before rest
 
--- what is left, from the token on at which reading stopped
+-- what is left, from the token on before which reading stopped
 abbrev pub rest_of : Progress → List Spelled
 rest_of (reading rest) = rest
-rest_of (stopped rest) = rest
+rest_of (stopped halt rest) = rest
 
--- whether all was read
-abbrev pub is_done : Progress → Bool
-is_done (reading []) = true
-is_done _ = false
+-- why reading has stopped, if it has
+abbrev pub halt_of : Progress → Option Halt
+halt_of (reading rest) = None
+halt_of (stopped halt rest) = Some halt
+
+-- the bytes of the token, if there is one and it is of this kind
+abbrev pub bytes_if : Kind → Option Spelled → Option (List ℕ)
+bytes_if kind None = None
+bytes_if kind (Some token) = if is_kind kind token.kind then Some token.bytes else None
+
+-- the bytes of the token that stands so many tokens behind the next one, if it is of this kind
+abbrev pub bytes_ahead : ℕ → Kind → Progress → Option (List ℕ)
+bytes_ahead many kind (reading rest) = bytes_if kind (slice_get rest many)
+bytes_ahead many kind (stopped halt rest) = None
+
+-- where the terminal stands, a bad set begins with the next token
+abbrev pub BadNext : Terminal → Progress → Type 0
+BadNext t (reading rest) = BeginsBad t rest
+BadNext t (stopped halt rest) = ⊥
 
 -- whether the expression can begin with the next token
 unfoldable pub is_next : Expression → Progress → Bool
 is_next x (reading rest) = begins_there x rest
-is_next x (stopped rest) = false
+is_next x (stopped halt rest) = false
 
--- The expression is read, and this holds of its tree; or reading stops in it; or reading had stopped before.
+-- reading the expression from these tokens on stops before those: they cannot stand there, or a bad set begins with them, and
+-- there is none before
+pub data Halts : Halt → Expression → List Spelled → List Spelled → Type 0 where
+  at_fault : {x : Expression} {from rest : List Spelled} → Stops x from rest → HasNoBad x from → Halts Fault x from rest
+  at_bad_set : {x : Expression} {from rest : List Spelled} → HasFirstBad x from rest → Halts BadSet x from rest
+
+-- The expression is read, with no bad set, and this holds of its tree; or reading stops in it; or reading had stopped before.
 pub data Moves {x : Expression} (Says : Tree x → Type 0) : Progress → Progress → Type 0 where
-  reads : (from to : List Spelled) (tree : Tree x) → Reads tree from to → Says tree → Moves Says (reading from) (reading to)
-  stops : (from rest : List Spelled) → Stops x from rest → Moves Says (reading from) (stopped rest)
-  stays : (rest : List Spelled) → Moves Says (stopped rest) (stopped rest)
+  reads : (from to : List Spelled) (tree : Tree x) → Reads tree from to → HasNoBad x from → Says tree → Moves Says (reading from) (reading to)
+  stops : (from rest : List Spelled) (halt : Halt) → Halts halt x from rest → Moves Says (reading from) (stopped halt rest)
+  stays : (halt : Halt) (rest : List Spelled) → Moves Says (stopped halt rest) (stopped halt rest)
 
 -- the cursor moves past the expression, unless reading stops
 abbrev pub Passes : Expression → Progress → Progress → Type 0

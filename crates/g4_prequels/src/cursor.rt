@@ -1,14 +1,15 @@
-// A cursor over the tokens of a text. Where the next token is not one that may stand there, reading stops: then no token is
-// next, and nothing more is taken, so that what reads a part needs no branch for it.
-ghost use Rattle.std.specs.Prelude.{◌≡◌, IfOk, OnOk, length};
+// A cursor over the tokens of a text. Where the next token is not one that may stand there, or begins a bad set, reading stops:
+// then no token is next, and nothing more is taken, so that what reads a part needs no branch for it.
+ghost use Rattle.std.specs.Prelude.{◌≡◌, IfOk, OnOk, length, option_map};
 ghost use Rattle.g4_syntax.specs.Notation.{optional, sign, word, name as a_name};
 ghost use Rattle.g4_tokens.specs.declared.token.Kind.TheVariants as kinds;
-ghost use Rattle.g4_prequels.specs.Progress.{halted, is_done, is_next, reading, rest_of, Moves, Passes, Gives};
+ghost use Rattle.g4_prequels.specs.Progress.{bytes_ahead, halt_of, halted, is_next, reading, rest_of, Moves, Passes, Gives};
 ghost use Rattle.g4_prequels.specs.Parts.{AreParts};
+ghost use Rattle.g4_prequels.specs.declared.cursor.Halt.TheVariants.{BadSet};
 ghost use Rattle.g4_prequels.specs.Taken.{Advances, IsTaken};
 ghost use Rattle.g4_prequels.specs.Texts.{spelled, is_present, text_of, name_of};
 
-use crate::spelling::part;
+use crate::spelling::{part, token_at};
 use g4_base::{Place, Text};
 use g4_elements::Name;
 use g4_tokens::{Kind, Token};
@@ -18,13 +19,23 @@ use std::marker::Model;
 /// How many brackets may be open at once. Brackets nested deeper exhaust the memory of the stack.
 pub const MOST_OPEN: u32 = 1024;
 
+/// Why reading stops before a token.
+#[derive(Clone, Copy, Debug, PartialEq, Eq)]
+pub enum Halt {
+    /// It cannot stand there.
+    Fault,
+    /// A bad character set begins with it.
+    BadSet,
+}
+
 /// The tokens of a text that are left to read.
 #[derive(Drop)]
 pub struct Cursor<'a> {
     alloc: Global,
     text: &'a str,
     rest: &'a [Token],
-    stopped: bool,
+    /// Why reading has stopped, if it has.
+    halt: Option<Halt>,
     /// How many brackets are open.
     open: u32,
 }
@@ -36,7 +47,7 @@ impl<'a> Model for Cursor<'a> {
 
     ghost Value = { Progress };
 
-    ghost view = { λ c. progress c.stopped (spelled c.text.now c.rest.now) };
+    ghost view = { λ c. progress c.halt (spelled c.text.now c.rest.now) };
 
     ghost invariant = { λ c. AreParts c.text.now c.rest.now };
 }
@@ -58,7 +69,7 @@ impl<'a> Cursor<'a> {
             alloc,
             text,
             rest: tokens,
-            stopped: false,
+            halt: None,
             open: 0,
         }
     }
@@ -73,7 +84,7 @@ impl<'a> Cursor<'a> {
         ensures { result ≡ is_next (sign kind) self.now }
     {
         match self.rest.split_first() {
-            Some((token, _)) => !self.stopped && token.kind == kind,
+            Some((token, _)) => self.halt.is_none() && token.kind == kind,
             None => false,
         }
     }
@@ -95,6 +106,23 @@ impl<'a> Cursor<'a> {
         self.is_at(Kind::Lower) || self.is_at(Kind::Upper)
     }
 
+    /// The text of the token that stands so many tokens behind the next one, if it is of this kind.
+    pub fn text_ahead(&self, many: usize, kind: Kind) -> Option<&'a str>
+        ensures { option_map (λ text. text.now) result ≡ bytes_ahead many kind self.now }
+    {
+        if self.halt.is_some() {
+            return None;
+        }
+        let Some(token) = token_at(self.rest, many) else {
+            return None;
+        };
+        if token.kind == kind {
+            Some(part(self.text, &token))
+        } else {
+            None
+        }
+    }
+
     /// Moves past the next token, if there is one.
     fn advance(&mut self) -> Taken<'a>
         ensures { Advances self.old result self.new }
@@ -114,15 +142,24 @@ impl<'a> Cursor<'a> {
         }
     }
 
-    /// Stops reading.
-    fn stop(&mut self) -> Taken<'a>
-        ensures { self.new ≡ halted self.old }
+    /// Stops reading for this, if it has not stopped before.
+    fn stop(&mut self, halt: Halt) -> Taken<'a>
+        ensures { self.new ≡ halted halt self.old }
     {
-        self.stopped = true;
+        if self.halt.is_none() {
+            self.halt = Some(halt);
+        }
         Taken {
             place: Place::START,
             text: "",
         }
+    }
+
+    /// Stops reading before the next token, with which a bad set begins.
+    pub fn refuse(&mut self) -> Taken<'a>
+        ensures { self.new ≡ halted BadSet self.old }
+    {
+        self.stop(Halt::BadSet)
     }
 
     /// Takes a token of this kind.
@@ -132,7 +169,7 @@ impl<'a> Cursor<'a> {
         if self.is_at(kind) {
             self.advance()
         } else {
-            self.stop()
+            self.stop(Halt::Fault)
         }
     }
 
@@ -143,7 +180,7 @@ impl<'a> Cursor<'a> {
         if self.is_at_word(spelling) {
             self.advance()
         } else {
-            self.stop()
+            self.stop(Halt::Fault)
         }
     }
 
@@ -154,7 +191,7 @@ impl<'a> Cursor<'a> {
         if self.is_at_name() {
             self.advance()
         } else {
-            self.stop()
+            self.stop(Halt::Fault)
         }
     }
 
@@ -232,17 +269,17 @@ impl<'a> Cursor<'a> {
         self.take(Kind::RightParenthesis);
     }
 
-    /// How many tokens are left, from the one on at which reading stopped.
+    /// How many tokens are left, from the one on before which reading stopped.
     pub fn left(&self) -> usize
         ensures { result ≡ length (rest_of self.now) }
     {
         self.rest.len()
     }
 
-    /// Whether all tokens were read.
-    pub fn is_at_end(&self) -> bool
-        ensures { result ≡ is_done self.now }
+    /// Why reading has stopped, if it has.
+    pub fn halt(&self) -> Option<Halt>
+        ensures { result ≡ halt_of self.now }
     {
-        !self.stopped && self.rest.is_empty()
+        self.halt
     }
 }
