@@ -134,7 +134,7 @@ one_more is (stops from rest halt halts) (stays _ _) means = stops from rest hal
 one_more is (stays halt rest) (stays _ _) means = stays halt rest
 
 -- there is no bad set in a terminal but one that begins there
-good_terminal : (t : Terminal) (from : List Spelled) → (BeginsBad t from → ⊥) → HasNoBad (one t) from
+pub good_terminal : (t : Terminal) (from : List Spelled) → (BeginsBad t from → ⊥) → HasNoBad (one t) from
 good_terminal t from good u other (here _) bad = good bad
 
 -- no set begins with any token of a kind
@@ -191,6 +191,13 @@ taken_as {k} {t} s u same good (stops from rest _ (at_fault stop none)) =
     stops from rest Fault (at_fault (record { terminal = t; comes = subst (λ (l : List Spelled). Comes t (one t) from l) there.1 (here from); none = not_of_kind k t rest same no_token }) (good_terminal t from good))
 taken_as {k} {t} s u same good (stops from rest _ (at_bad_set found)) = absurd (subst (λ (v : Terminal). BeginsBad v rest) (only_there found.comes).0 found.bad)
 taken_as s u same good (stays halt rest) = stays halt rest
+
+-- a terminal is next where one that asks for the same kind is
+pub asks_same : (k : Kind) (t : Terminal) (s : Progress) → ((token : Spelled) → fits t token ≡ is_kind k token.kind) → is_next (one t) s ≡ is_next (sign k) s
+unfolding is_next
+asks_same k t (reading []) same = refl
+asks_same k t (reading (token ∷ _)) same = same token
+asks_same k t (stopped halt rest) same = refl
 
 -- where its first token is not next, an expression stops
 pub ends : {t : Terminal} {y : Expression} {P : Tree (one t) → Type 0} {R : Tree (one t ▸ y) → Type 0} {s u : Progress} → is_next (one t) s ≡ false → Moves P s u → Moves R s u

@@ -14,7 +14,8 @@ use Rattle.g4_tokens.specs.declared.token.Token.{Token}
 use Rattle.g4_syntax.specs.Notation.{Spelled, Expression, number_of, is_kind, sign, word, name}
 use Rattle.g4_prequels.specs.declared.cursor.Halt.{Halt}
 use Rattle.g4_prequels.specs.Parts.{IsPart, AreParts, each_is}
-use Rattle.g4_prequels.specs.Progress.{Progress, reading, stopped, progress, is_next, bytes_if, bytes_ahead}
+use Rattle.g4_prequels.specs.Progress.{Progress, reading, stopped, progress, is_next, bytes_ahead}
+use Rattle.g4_prequels.specs.Sets.{bytes_if}
 use Rattle.g4_prequels.specs.Texts.{bytes_of, spelled, spelled_token}
 
 -- the first token is a part of the text

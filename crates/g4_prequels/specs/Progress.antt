@@ -1,10 +1,10 @@
 -- How far a cursor has come, and what a call that moves it answers. This serves only contracts of calls that read parts of a
 -- text: what a grammar text is does not rest on it.
-use Rattle.std.specs.Prelude.{◌≡◌, ℕ, List, Bool, false, Option, Some, None, Result, IfOk, slice_get, if◌then◌else◌}
+use Rattle.std.specs.Prelude.{◌≡◌, ℕ, List, Bool, false, Option, Some, None, Result, IfOk}
 use Rattle.g4_tokens.specs.declared.token.Kind.{Kind}
-use Rattle.g4_syntax.specs.Notation.{Spelled, is_kind, Terminal, Expression}
+use Rattle.g4_syntax.specs.Notation.{Spelled, Terminal, Expression}
 use Rattle.g4_syntax.specs.Trees.{Tree, begins_there, Reads, Stops}
-use Rattle.g4_prequels.specs.Sets.{BeginsBad, HasNoBad, HasFirstBad}
+use Rattle.g4_prequels.specs.Sets.{bytes_at, BeginsBad, HasNoBad, HasFirstBad}
 use Rattle.g4_prequels.specs.declared.cursor.Halt.{Halt}
 use Rattle.g4_prequels.specs.declared.cursor.Halt.TheVariants.{Fault, BadSet}
 
@@ -33,14 +33,9 @@ abbrev pub halt_of : Progress → Option Halt
 halt_of (reading rest) = None
 halt_of (stopped halt rest) = Some halt
 
--- the bytes of the token, if there is one and it is of this kind
-abbrev pub bytes_if : Kind → Option Spelled → Option (List ℕ)
-bytes_if kind None = None
-bytes_if kind (Some token) = if is_kind kind token.kind then Some token.bytes else None
-
 -- the bytes of the token that stands so many tokens behind the next one, if it is of this kind
 abbrev pub bytes_ahead : ℕ → Kind → Progress → Option (List ℕ)
-bytes_ahead many kind (reading rest) = bytes_if kind (slice_get rest many)
+bytes_ahead many kind (reading rest) = bytes_at many kind rest
 bytes_ahead many kind (stopped halt rest) = None
 
 -- where the terminal stands, a bad set begins with the next token

@@ -1,5 +1,5 @@
 -- Which character sets of a grammar text are bad: sets, ranges, and literals under `~` in lexer rules.
-use Rattle.std.specs.Prelude.{◌≡◌, ◌≢◌, ◌<◌, ◌≤◌, ◌-◌, ◌⊎◌, ℕ, List, [], ◌∷◌, true, length, take, drop}
+use Rattle.std.specs.Prelude.{◌≡◌, ◌≤◌, ◌-◌, ◌⊎◌, ◌||◌, nat_lt, ℕ, List, [], ◌∷◌, Bool, true, false, if◌then◌else◌, Option, Some, None, is_none, length, take, drop, slice_get}
 use Rattle.std.specs.Str.{chars}
 use Rattle.g4_chars.specs.SetText.{IsFault}
 use Rattle.g4_chars.specs.declared.set_text.SetFault.TheVariants.{BadEscape, BadSet}
@@ -18,48 +18,65 @@ content text = drop 1 (take (length text - 1) text)
 abbrev pub IsBadContent : List ℕ → Type 0
 IsBadContent text = IsFault text BadSet ⊎ IsFault text BadEscape
 
--- the token is of the kind
-abbrev pub IsOf : Kind → Spelled → Type 0
-IsOf kind token = is_kind kind token.kind ≡ true
+-- the bytes of the token, if there is one and it is of this kind
+abbrev pub bytes_if : Kind → Option Spelled → Option (List ℕ)
+bytes_if kind None = None
+bytes_if kind (Some token) = if is_kind kind token.kind then Some token.bytes else None
 
--- the set is bad
-abbrev pub IsBadSet : Spelled → Type 0
-IsBadSet token = IsOf kinds.Set token × IsBadContent (content (chars token.bytes))
+-- the bytes of the token at this index, if it is of this kind
+abbrev pub bytes_at : ℕ → Kind → List Spelled → Option (List ℕ)
+bytes_at at kind tokens = bytes_if kind (slice_get tokens at)
 
--- the characters that a literal stands for
-abbrev pub stands_for : Spelled → List ℕ
-stands_for literal = literal_spelling (chars literal.bytes)
+-- the set with these bytes is bad
+abbrev pub IsBadSet : Option (List ℕ) → Type 0
+IsBadSet None = ⊥
+IsBadSet (Some bytes) = IsBadContent (content (chars bytes))
 
--- the literal has no character or several
-abbrev pub IsNoCharacter : Spelled → Type 0
-IsNoCharacter literal = length (stands_for literal) ≢ 1
+-- the one of some characters, if there is just one
+abbrev pub lone : List ℕ → Option ℕ
+lone [] = None
+lone (c ∷ []) = Some c
+lone (c ∷ _ ∷ _) = None
 
--- the first of some characters; there is one wherever it counts
-abbrev pub first_of : List ℕ → ℕ
-first_of [] = 0
-first_of (c ∷ cs) = c
+-- the character for which a literal with these bytes stands, if it is just one
+abbrev pub character_of : List ℕ → Option ℕ
+character_of bytes = lone (literal_spelling (chars bytes))
 
--- the range from the character to the first of these tokens runs backward, or ends in no character
-abbrev pub IsBadEnd : ℕ → List Spelled → Type 0
-IsBadEnd first [] = ⊥
-IsBadEnd first (last ∷ _) = IsOf kinds.Literal last × (IsNoCharacter last ⊎ (first_of (stands_for last) < first))
+-- whether there is such a literal, and it has no character or several
+abbrev pub is_no_character : Option (List ℕ) → Bool
+is_no_character None = false
+is_no_character (Some bytes) = is_none (character_of bytes)
 
--- `..` stands behind the literal, and the range that it begins is bad
-abbrev pub IsBadRange : Spelled → List Spelled → Type 0
-IsBadRange literal [] = ⊥
-IsBadRange literal (dots ∷ behind) = IsOf kinds.DoubleDot dots × (IsNoCharacter literal ⊎ IsBadEnd (first_of (stands_for literal)) behind)
+-- whether the second of two characters stands before the first, or one of them is none
+abbrev pub is_backward : Option ℕ → Option ℕ → Bool
+is_backward None last = true
+is_backward (Some first) None = true
+is_backward (Some first) (Some last) = nat_lt last first
+
+-- whether `..` and a literal, as far as they stand behind a literal with this character, make a bad range of it: it runs
+-- backward, or an end of it is no character
+abbrev pub goes_on_bad : Option ℕ → Option (List ℕ) → Option (List ℕ) → Bool
+goes_on_bad first None last = false
+goes_on_bad first (Some dots) None = is_none first
+goes_on_bad first (Some dots) (Some last) = is_backward first (character_of last)
+
+-- whether a literal, `..` and a literal, as far as they stand there, are a bad range
+abbrev pub is_bad_range : Option (List ℕ) → Option (List ℕ) → Option (List ℕ) → Bool
+is_bad_range None dots last = false
+is_bad_range (Some first) dots last = goes_on_bad (character_of first) dots last
+
+-- the same of the first tokens of these
+abbrev pub begins_bad_range : List Spelled → Bool
+begins_bad_range tokens = is_bad_range (bytes_at 0 kinds.Literal tokens) (bytes_at 1 kinds.DoubleDot tokens) (bytes_at 2 kinds.Literal tokens)
 
 -- where the terminal stands, a bad character set begins with the first of these tokens
 abbrev pub BeginsBad : Terminal → List Spelled → Type 0
-BeginsBad (of_kind kind) _ = ⊥
-BeginsBad (keyword spelling) _ = ⊥
-BeginsBad a_name _ = ⊥
-BeginsBad a_set [] = ⊥
-BeginsBad a_set (token ∷ _) = IsBadSet token
-BeginsBad characters [] = ⊥
-BeginsBad characters (token ∷ behind) = IsOf kinds.Literal token × IsBadRange token behind
-BeginsBad excluded [] = ⊥
-BeginsBad excluded (token ∷ behind) = IsOf kinds.Literal token × (IsNoCharacter token ⊎ IsBadRange token behind)
+BeginsBad (of_kind kind) tokens = ⊥
+BeginsBad (keyword spelling) tokens = ⊥
+BeginsBad a_name tokens = ⊥
+BeginsBad a_set tokens = IsBadSet (bytes_at 0 kinds.Set tokens)
+BeginsBad characters tokens = begins_bad_range tokens ≡ true
+BeginsBad excluded tokens = (is_no_character (bytes_at 0 kinds.Literal tokens) || begins_bad_range tokens) ≡ true
 
 -- reading the expression from these tokens on comes to no bad set
 abbrev pub HasNoBad : Expression → List Spelled → Type 0

@@ -1,6 +1,8 @@
 -- The tokens of a text with their bytes, and what single tokens say.
-use Rattle.std.specs.Prelude.{ℕ, ◌-◌, List, Bool, true, false, take, drop, map}
+use Rattle.std.specs.Prelude.{ℕ, ◌-◌, List, [], ◌∷◌, Bool, true, false, take, drop, map}
 use Rattle.std.specs.Str.{chars}
+use Rattle.g4_base.specs.declared.place.Place.{Place}
+use Rattle.g4_base.specs.Place.{first_place}
 use Rattle.g4_tokens.specs.Spelling.{literal_spelling}
 use Rattle.g4_tokens.specs.declared.token.Token.{Token}
 use Rattle.g4_source.specs.declared.atom.Literal.{Literal}
@@ -48,3 +50,8 @@ literal_of x = record { characters = literal_spelling (chars (token_of x).bytes)
 -- the tokens from the index on, each with its bytes
 abbrev pub from : List ℕ → List Token → ℕ → List Spelled
 from text tokens at = spelled text (drop at tokens)
+
+-- the place of the first of these tokens
+abbrev pub place_of : List Spelled → Place
+place_of [] = first_place
+place_of (token ∷ _) = token.place

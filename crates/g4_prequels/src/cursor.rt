@@ -7,7 +7,7 @@ ghost use Rattle.g4_prequels.specs.Progress.{bytes_ahead, halt_of, halted, is_ne
 ghost use Rattle.g4_prequels.specs.Parts.{AreParts};
 ghost use Rattle.g4_prequels.specs.declared.cursor.Halt.TheVariants.{BadSet};
 ghost use Rattle.g4_prequels.specs.Taken.{Advances, IsTaken};
-ghost use Rattle.g4_prequels.specs.Texts.{spelled, is_present, text_of, name_of};
+ghost use Rattle.g4_prequels.specs.Texts.{spelled, is_present, place_of, text_of, name_of};
 
 use crate::spelling::{part, token_at};
 use g4_base::{Place, Text};
@@ -274,6 +274,16 @@ impl<'a> Cursor<'a> {
         ensures { result ≡ length (rest_of self.now) }
     {
         self.rest.len()
+    }
+
+    /// The place of the next token, or of the one before which reading stopped; the first place at the end.
+    pub fn place(&self) -> Place
+        ensures { result ≡ place_of (rest_of self.now) }
+    {
+        match self.rest.first() {
+            Some(token) => token.place,
+            None => Place::START,
+        }
     }
 
     /// Why reading has stopped, if it has.

@@ -1,5 +1,6 @@
 pub mod Full
 pub mod Listing
+pub mod NextSets
 pub mod Ranges
 pub mod SetText
 pub mod Suffixes

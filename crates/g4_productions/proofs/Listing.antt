@@ -50,7 +50,7 @@ pub kinds_tell : (n : Nonterminal) (s : Progress) → one_of false (signs_next (
 unfolding is_next
 kinds_tell n (reading []) = no_test (first_kinds n) (reading []) (λ kind. refl)
 kinds_tell n (reading (token ∷ rest)) = same_test false (first_kinds n) token rest
-kinds_tell n (stopped rest) = no_test (first_kinds n) (stopped rest) (λ kind. refl)
+kinds_tell n (stopped halt rest) = no_test (first_kinds n) (stopped halt rest) (λ kind. refl)
 
 -- words that are lower-case names add nothing to lower-case names
 lower_first : (lower a b c : Bool) → (((lower && a) || ((lower && b) || (lower && c))) || (true && (lower || false))) ≡ lower
@@ -66,4 +66,4 @@ pub parser_rule_next : (s : Progress) → is_next parser_rule s ≡ is_next (sig
 unfolding is_next
 parser_rule_next (reading []) = refl
 parser_rule_next (reading (token ∷ _)) = lower_first _ _ _ _
-parser_rule_next (stopped rest) = refl
+parser_rule_next (stopped halt rest) = refl

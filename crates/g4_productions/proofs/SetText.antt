@@ -18,7 +18,7 @@ use Rattle.g4_chars.proofs.Grammar.{items_are, bad_is, parts_are}
 use Rattle.g4_chars.proofs.Laws.{one_form, items_listed, none_listed, parts_listed}
 use Rattle.g4_chars.specs.declared.range.Range.{Range as Span}
 use Rattle.g4_productions.specs.Members.{holds, holds_in, ranges_in, part_of, set_of_ranges, unless_empty, set_of_parts, set_of_items, set_of, ranges_of}
-use Rattle.g4_productions.specs.SetText.{IsSet, IsBad}
+use Rattle.g4_prequels.specs.Sets.{IsBadContent}
 use Rattle.g4_productions.proofs.Ranges.{IsOfScalars, ranges_rise, ranges_have}
 
 -- a code that passes the test is a scalar value
@@ -139,7 +139,7 @@ spelled_set text set (is, ps, are, made, sound, some, canonical, have) =
     ∙ ap Some same
 
 -- a bad set is not listed
-pub bad_set : (text : List ℕ) → IsBad text → set_of text ≡ None
+pub bad_set : (text : List ℕ) → IsBadContent text → set_of text ≡ None
 bad_set text (inl (is, ps, are, made, bad)) = ap set_of_items (items_listed text is are) ∙ ap set_of_parts (parts_listed is ps made) ∙ by_cause bad (are_sound ps) refl
   where
     by_cause : (are_sound ps ≡ false) ⊎ (HoldSome ps → ⊥) → (b : Bool) → are_sound ps ≡ b → (if b then unless_empty (ranges_in ps) else None) ≡ None
@@ -150,7 +150,7 @@ bad_set text (inr bad) = ap set_of_items (none_listed text bad)
 
 -- what the text of a set is
 abbrev IsListed : List ℕ → Option (List Span) → Type 0
-IsListed text None = IsBad text
+IsListed text None = IsBadContent text
 IsListed text (Some set) = Spells text set
 
 -- what is listed, is so
@@ -171,28 +171,11 @@ listed text = by_items (items text) refl
     by_items None e = inr (bad_is 0 text e)
     by_items (Some is) e = by_sound is e (are_sound (parts is)) refl
 
--- the set that is listed is the one of this content
-pub is_set : (text : List ℕ) → IsSet text (ranges_of text)
-is_set text = by_set (set_of text) (listed text)
-  where
-    by_set : (o : Option (List Span)) → IsListed text o → IsSet text (unwrap_or o [])
-    by_set None bad = inr (bad, refl)
-    by_set (Some set) spells = inl spells
-
--- the set of this content is the one listed
-pub set_is : (text : List ℕ) (set : List Span) → IsSet text set → set ≡ ranges_of text
-set_is text set (inl spells) = sym (ap (λ (o : Option (List Span)). unwrap_or o []) (spelled_set text set spells))
-set_is text set (inr (bad, is)) = is ∙ sym (ap (λ (o : Option (List Span)). unwrap_or o []) (bad_set text bad))
-
--- a bad set is not listed
-pub bad_none : (text : List ℕ) → IsBad text → is_none (set_of text) ≡ true
-bad_none text bad = ap is_none (bad_set text bad)
-
 -- a set that is not listed is bad
-pub none_bad : (text : List ℕ) → is_none (set_of text) ≡ true → IsBad text
+pub none_bad : (text : List ℕ) → is_none (set_of text) ≡ true → IsBadContent text
 none_bad text e = by_set (set_of text) (listed text) e
   where
-    by_set : (o : Option (List Span)) → IsListed text o → is_none o ≡ true → IsBad text
+    by_set : (o : Option (List Span)) → IsListed text o → is_none o ≡ true → IsBadContent text
     by_set None bad e = bad
     by_set (Some set) spells e = absurd (cc)
 

@@ -1,6 +1,7 @@
 -- The grammar that a tree is: `read_grammar` rests on `IsGrammarText`, and on what `Rules`, `ParserElements`, `LexerElements` and
 -- `Elements` beside it say of parts of the tree.
 use Rattle.std.specs.Prelude.{◌≡◌, ℕ, List, [], Result, Ok, Err}
+use Rattle.g4_base.specs.declared.place.Place.{Place}
 use Rattle.g4_source.specs.declared.prequel.Prequel.{Prequel}
 use Rattle.g4_source.specs.declared.source.Source.{Source}
 use Rattle.g4_source.specs.declared.source.GrammarKind.TheVariants as grammar_kinds
@@ -9,7 +10,8 @@ use Rattle.g4_syntax.specs.Notation.{Spelled}
 use Rattle.g4_syntax.specs.Productions.{heading, combined_grammar, lexer_grammar, parser_grammar, grammar}
 use Rattle.g4_syntax.specs.Trees.{Tree, both, left, right, HasTree, TextStops}
 use Rattle.g4_prequels.specs.Prequels.{prequels_of}
-use Rattle.g4_prequels.specs.Texts.{from, spelled, token_of, text_of}
+use Rattle.g4_prequels.specs.Sets.{HasNoBad, HasFirstBad}
+use Rattle.g4_prequels.specs.Texts.{from, spelled, place_of, token_of, text_of}
 use Rattle.g4_productions.specs.declared.reader.Stop.{Stop}
 use Rattle.g4_productions.specs.declared.reader.Stop.TheVariants as stops
 use Rattle.g4_productions.specs.Rules.{combined_rules, default_rules, parser_rules, modes_of}
@@ -47,8 +49,14 @@ source_of (right (right x)) = parser_grammar_of x
 abbrev pub IsGrammarText : List Spelled → Source → Type 0
 IsGrammarText tokens source = (tree : Tree grammar) × HasTree tokens tree × (source ≡ source_of tree)
 
--- the call gives the grammar that the tokens are, or the index of those where reading stops, unless memory runs out
+-- the first of the bad sets to which reading a grammar text from these tokens on comes begins at this place
+abbrev pub BadSetStands : List Spelled → Place → Type 0
+BadSetStands tokens place = (rest : List Spelled) × HasFirstBad grammar tokens rest × (place ≡ place_of rest)
+
+-- the call gives the grammar that the tokens are, in which no set is bad; or the index of those where reading stops, with no bad
+-- set before; or the place of the first bad set; unless memory runs out
 abbrev pub ReadsText : List ℕ → List Token → Result Source Stop → Type 0
-ReadsText text tokens (Ok source) = IsGrammarText (spelled text tokens) source
-ReadsText text tokens (Err (stops.At index)) = TextStops (spelled text tokens) (from text tokens index)
+ReadsText text tokens (Ok source) = IsGrammarText (spelled text tokens) source × HasNoBad grammar (spelled text tokens)
+ReadsText text tokens (Err (stops.At index)) = TextStops (spelled text tokens) (from text tokens index) × HasNoBad grammar (spelled text tokens)
+ReadsText text tokens (Err (stops.BadSet place)) = BadSetStands (spelled text tokens) place
 ReadsText text tokens (Err stops.NoMemory) = Unit {0}

@@ -10,14 +10,14 @@ use Rattle.g4_source.specs.declared.atom.Atom.{Atom}
 use Rattle.g4_source.specs.declared.atom.AtomKind.TheVariants as atoms
 use Rattle.g4_elements.specs.declared.name.Label.{Label}
 use Rattle.g4_elements.specs.declared.name.Name.{Name}
-use Rattle.g4_syntax.specs.Notation.{Terminal, one, lexer_element, character_set, ◌▸◌, ◌∣◌, optional, repeated, part, sign, with_bars}
+use Rattle.g4_syntax.specs.Notation.{Terminal, one, characters, excluded, lexer_element, character_set, ◌▸◌, ◌∣◌, optional, repeated, part, sign, with_bars}
 use Rattle.g4_syntax.specs.Productions.{assign, element_options, lexer_block, unnamed_lexer_item, lexer_item, labelled_lexer_item}
 use Rattle.g4_syntax.specs.Trees.{Tree, both, left, right, absent, present, end, more, inner}
 use Rattle.g4_prequels.specs.Options.{right_of_optional}
+use Rattle.g4_prequels.specs.Sets.{content}
 use Rattle.g4_prequels.specs.Texts.{token_of, name_of, literal_of}
 use Rattle.g4_productions.specs.Elements.{Labelled, single, brackets, is_list, optional_suffix_of, action_of, with_suffix}
 use Rattle.g4_productions.specs.Members.{set_of_ranges, ranges_of}
-use Rattle.g4_productions.specs.SetText.{content}
 
 -- a set
 abbrev pub set_of_leaf : {t : Terminal} → Tree (one t) → List Span
@@ -33,14 +33,14 @@ abbrev pub character_of : {t : Terminal} → Tree (one t) → ℕ
 character_of x = first_character (literal_spelling (chars (token_of x).bytes))
 
 -- the range of a literal, or from one to another
-abbrev pub character_ranges : Tree (sign kinds.Literal ▸ optional (sign kinds.DoubleDot ▸ sign kinds.Literal)) → List Span
+abbrev pub character_ranges : Tree (one excluded ▸ optional (sign kinds.DoubleDot ▸ sign kinds.Literal)) → List Span
 character_ranges (both literal absent) = record { first = character_of literal; last = character_of literal } ∷ []
 character_ranges (both literal (present (both dots last))) = record { first = character_of literal; last = character_of last } ∷ []
 
 abbrev mutual
   -- the ranges under `~`
   pub excluded_ranges : Tree (part character_set) → List Span
-  excluded_ranges (inner (left characters)) = character_ranges characters
+  excluded_ranges (inner (left range)) = character_ranges range
   excluded_ranges (inner (right (left set))) = set_of_leaf set
   excluded_ranges (inner (right (right b))) = bracket_ranges b
 
@@ -62,7 +62,7 @@ abbrev pub excluded_set : Tree (part character_set) → List Span
 excluded_set tree = set_of_ranges (excluded_ranges tree)
 
 -- a literal, or the characters from its own to that of another, with this label
-abbrev pub literal_item : Option Label → Tree (sign kinds.Literal ▸ (sign kinds.DoubleDot ▸ sign kinds.Literal ∣ optional element_options)) → Labelled
+abbrev pub literal_item : Option Label → Tree (one characters ▸ (sign kinds.DoubleDot ▸ sign kinds.Literal ∣ optional element_options)) → Labelled
 literal_item l (both literal (left (both dots last))) = single (record { label = l; right = false; kind = atoms.Range (token_of literal).place (literal_of literal) (literal_of last) })
 literal_item l (both literal (right options)) = single (record { label = l; right = right_of_optional options; kind = atoms.Literal (literal_of literal) })
 

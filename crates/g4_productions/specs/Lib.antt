@@ -1,7 +1,7 @@
+pub mod Answering
 pub mod Elements
 pub mod Grammars
 pub mod LexerElements
 pub mod Members
 pub mod ParserElements
 pub mod Rules
-pub mod SetText

@@ -6,7 +6,7 @@ ghost use Rattle.g4_prequels.specs.Progress.{Moves, Gives};
 ghost use Rattle.g4_productions.specs.LexerElements.{character_ranges, excluded_ranges, excluded_set, bracket_ranges};
 ghost use Rattle.g4_productions.specs.Members.{part_of, set_of_ranges};
 
-use crate::set::{character, set};
+use crate::set::{character, excluded_character, set};
 use g4_chars::{CharSet, Range};
 use g4_prequels::Cursor;
 use g4_tokens::Kind;
@@ -16,7 +16,7 @@ use std::alloc::{AllocError, Global};
 fn add_characters(cursor: &mut Cursor<'_>, ranges: &mut Vec<Range>) -> Result<(), AllocError>
     ensures { OnOk result (Moves (λ tree. ranges.new.items ≡ ranges.old.items ++ character_ranges tree) cursor.old cursor.new) }
 {
-    let first = character(cursor)?;
+    let first = excluded_character(cursor)?;
     if !cursor.is_at(Kind::DoubleDot) {
         ranges.push(Range { first, last: first })?;
         return Ok(());

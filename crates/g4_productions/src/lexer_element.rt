@@ -7,6 +7,7 @@ ghost use Rattle.g4_productions.specs.Elements.{labelled_of, elements_in, altern
 ghost use Rattle.g4_productions.specs.LexerElements.{literal_item, lexer_element_of, lexer_elements, labelled_lexer, upper_lexer_item, labelled_by, named_lexer_item, unnamed_lexer, lexer_block_of, lexer_alternatives};
 
 use crate::excluded::excluded_set;
+use crate::literal::take_literal;
 use crate::set::set;
 use crate::suffix::{Labelled, action, is_at_label_sign, label_sign, optional_suffix, with_suffix};
 use g4_elements::{Alternative, Element, Label, Name};
@@ -33,7 +34,7 @@ fn is_at_element(cursor: &Cursor<'_>) -> bool
 fn literal_item(cursor: &mut Cursor<'_>, label: Option<Label>) -> Result<Labelled, AllocError>
     ensures { GivesAs labelled_of (literal_item label) cursor.old cursor.new result }
 {
-    let taken = cursor.take(Kind::Literal);
+    let taken = take_literal(cursor, false)?;
     let first = literal(cursor.alloc(), taken.text)?;
     if cursor.is_at(Kind::DoubleDot) {
         cursor.take(Kind::DoubleDot);

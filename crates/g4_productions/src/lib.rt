@@ -6,6 +6,7 @@ mod grammar;
 mod law;
 mod lexer_element;
 mod lexer_rule;
+mod literal;
 mod parser_element;
 mod parser_rule;
 mod reader;

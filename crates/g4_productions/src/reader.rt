@@ -5,7 +5,8 @@ ghost use Rattle.g4_prequels.specs.Parts.{AreParts};
 ghost use Rattle.g4_productions.specs.Grammars.{ReadsText};
 
 use crate::grammar::grammar;
-use g4_prequels::Cursor;
+use g4_base::Place;
+use g4_prequels::{Cursor, Halt};
 use g4_source::Source;
 use g4_tokens::Token;
 use std::alloc::{AllocError, Global};
@@ -15,6 +16,8 @@ use std::alloc::{AllocError, Global};
 pub enum Stop {
     /// The index of the first token with which no grammar text begins, or behind them all, at the end of the text.
     At(usize),
+    /// The place of the first token that begins a bad character set.
+    BadSet(Place),
     NoMemory,
 }
 
@@ -29,10 +32,12 @@ impl From<AllocError> for Stop {
     }
 }
 
-/// The grammar that the tokens of the text are, or the index of the first token with which no grammar text begins.
+/// The grammar that the tokens of the text are, or the token before which reading stops.
 ///
 /// # Errors
-/// - `At`: the index of that token, or how many tokens there are where more would have to stand behind them.
+/// - `At`: the index of the first token with which no grammar text begins, or how many tokens there are where more would have
+///   to stand behind them; no token before it begins a bad character set.
+/// - `BadSet`: the place of the first token that begins a bad character set; some grammar text begins with the tokens before it.
 /// - `NoMemory`: memory runs out, or more than 1,024 brackets are open at once.
 pub fn read_tokens(alloc: Global, text: &str, tokens: &[Token]) -> Result<Source, Stop>
     requires parts { AreParts text.now tokens.now }
@@ -41,9 +46,16 @@ pub fn read_tokens(alloc: Global, text: &str, tokens: &[Token]) -> Result<Source
 {
     let mut cursor = Cursor::new(alloc, text, tokens);
     let source = grammar(&mut cursor)?;
-    if cursor.is_at_end() {
-        Ok(source)
-    } else {
-        Err(Stop::At(tokens.len() - cursor.left()))
+    let at = tokens.len() - cursor.left();
+    match cursor.halt() {
+        Some(Halt::BadSet) => Err(Stop::BadSet(cursor.place())),
+        Some(Halt::Fault) => Err(Stop::At(at)),
+        None => {
+            if at < tokens.len() {
+                Err(Stop::At(at))
+            } else {
+                Ok(source)
+            }
+        }
     }
 }

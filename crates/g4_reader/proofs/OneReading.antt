@@ -1,5 +1,5 @@
 -- A text has one reading.
-use Rattle.std.proofs.Common.{◌≡◌, ◌≢◌, ◌⊎◌, ℕ, List, [], ◌∷◌, ◌++◌, Result, Ok, Err, inl, inr, refl, sym, ◌∙◌, ap, ap₂, subst, append_assoc, append-nil}
+use Rattle.std.proofs.Common.{◌≡◌, ◌≢◌, ◌⊎◌, ℕ, List, [], ◌∷◌, ◌++◌, Result, Ok, Err, inl, inr, refl, sym, ◌∙◌, ap, ap₂, subst, length, arith, append_assoc, append-nil, length-append}
 use Rattle.std.specs.Str.{IsValidUpTo}
 use Rattle.g4_base.specs.declared.place.Place.{Place}
 use Rattle.g4_tokens.specs.declared.position.Position.{Position}
@@ -9,12 +9,13 @@ use Rattle.g4_syntax.specs.Notation.{Spelled}
 use Rattle.g4_syntax.specs.Productions.{grammar}
 use Rattle.g4_syntax.specs.Trees.{Tree, HasTree, BeginsText, Ends}
 use Rattle.g4_syntax.proofs.Unique as trees
-use Rattle.g4_prequels.specs.Texts.{spelled}
-use Rattle.g4_productions.specs.Grammars.{IsGrammarText, source_of}
+use Rattle.g4_syntax.proofs.Texts.{read_before, comes_behind}
+use Rattle.g4_prequels.specs.Texts.{spelled, place_of}
+use Rattle.g4_productions.specs.Grammars.{IsGrammarText, BadSetStands, source_of}
 use Rattle.g4_reader.proofs.Utf8.{not_both, one_point}
 use Rattle.g4_reader.specs.Answering.{IsReadingOf}
-use Rattle.g4_reader.specs.Bad.{HasFirstBad, HasNoBad, begins_here, begins_behind}
-use Rattle.g4_reader.specs.Reading.{Fault, fault_at, opened_fault, HasSpelled, IsCut, IsFirstBad, IsFirstFault, IsReading}
+use Rattle.g4_prequels.specs.Sets.{HasNoBad}
+use Rattle.g4_reader.specs.Reading.{Fault, fault_at, opened_fault, HasSpelled, IsCut, IsFirstFault, IsReading}
 use Rattle.g4_reader.specs.declared.reader.ReadFault.{ReadFault}
 use Rattle.g4_reader.specs.declared.reader.ReadFault.TheVariants.{NotUtf8, Syntax, BadSet, NoMemory}
 use Rattle.g4_reader.proofs.Scans as scans
@@ -63,40 +64,27 @@ one_cut : (tokens front rest other behind : List Spelled) → IsCut tokens front
 one_cut tokens front rest other behind cut also =
     same_cut BeginsText begins_before front rest other behind (sym cut.parts ∙ also.parts) cut.begins also.begins (ends_by front rest cut.ends) (ends_by other behind also.ends)
 
+-- what stands behind some first tokens and is no longer than what stands behind others is the same, if neither is longer
+same_length : (first rest other behind : List Spelled) → first ++ rest ≡ other ++ behind → length rest ≡ length behind → rest ≡ behind
+same_length [] rest [] behind is long = is
+same_length (t ∷ first) rest (s ∷ other) behind is long = same_length first rest other behind (same_others t s (first ++ rest) (other ++ behind) is) long
+same_length [] rest (s ∷ other) behind is long = absurd (omega (arith, long, ap length is, length-append other behind))
+same_length (t ∷ first) rest [] behind is long = absurd (omega (arith, long, ap length is, length-append first rest))
+
 -- tokens have one first bad set
-one_bad : (p q : Place) (before tokens : List Spelled) → HasFirstBad p before tokens → HasFirstBad q before tokens → p ≡ q
-one_bad p q _ _ (begins_here before token behind bad is) (begins_here _ _ _ also too) = is ∙ sym too
-one_bad p q _ _ (begins_here before token behind bad is) (begins_behind _ _ _ good later) = absurd (good bad)
-one_bad p q _ _ (begins_behind before token behind good later) (begins_here _ _ _ bad is) = absurd (good bad)
-one_bad p q _ _ (begins_behind before token behind good later) (begins_behind _ _ _ also too) = one_bad p q (token ∷ before) behind later too
+one_first_bad : (tokens : List Spelled) (p q : Place) → BadSetStands tokens p → BadSetStands tokens q → p ≡ q
+one_first_bad tokens p q (rest, first, is) (other, later, also) =
+    let long : length rest ≡ length other = omega (arith, first.first later.terminal other later.comes later.bad, later.first first.terminal rest first.comes first.bad) in
+    let parts : read_before first.comes ++ rest ≡ read_before later.comes ++ other = sym (comes_behind first.comes) ∙ comes_behind later.comes in
+    is ∙ ap place_of (same_length (read_before first.comes) rest (read_before later.comes) other parts long) ∙ sym also
 
 -- tokens with no bad set have no first one
-good_bad : (place : Place) (before tokens : List Spelled) → HasFirstBad place before tokens → HasNoBad before tokens → ⊥
-good_bad place _ _ (begins_here before token behind bad is) good = good.0 bad
-good_bad place _ _ (begins_behind before token behind here later) good = good_bad place (token ∷ before) behind later good.1
-
--- a grammar text with no bad set has no first one
-no_bad : (tokens : List Spelled) (source : Source) (place : Place) → IsGrammarText tokens source → HasNoBad [] tokens → IsFirstBad tokens place → ⊥
-no_bad tokens source place is good (inl (tree, has, first)) = good_bad place [] tokens first good
-no_bad tokens source place (tree, has, is) good (inr (front, rest, cut, first)) = not_cut tokens front rest tree has cut
-
--- a first fault stands before or behind the first bad set
-fault_or_bad : (bytes : List ℕ) (tokens : List Spelled) (fault : Fault) (place : Place) → IsFirstFault bytes tokens fault → IsFirstBad tokens place → ⊥
-fault_or_bad bytes tokens fault place is (inl (tree, has, first)) = not_cut tokens is.front is.rest tree has is.cut
-fault_or_bad bytes tokens fault place is (inr (front, rest, cut, first)) =
-    good_bad place [] is.front (subst (HasFirstBad place []) (one_cut tokens front rest is.front is.rest cut is.cut).0 first) is.good
+no_bad : (tokens : List Spelled) (place : Place) → HasNoBad grammar tokens → BadSetStands tokens place → ⊥
+no_bad tokens place good (rest, first, is) = good first.terminal rest first.comes first.bad
 
 -- the first fault of tokens is one
 one_fault : (bytes : List ℕ) (tokens : List Spelled) (a b : Fault) → IsFirstFault bytes tokens a → IsFirstFault bytes tokens b → a ≡ b
 one_fault bytes tokens a b is also = is.is ∙ ap (fault_at bytes) (one_cut tokens is.front is.rest also.front also.rest is.cut also.cut).1 ∙ sym also.is
-
--- the first bad set of tokens is one, up to a syntax fault
-one_first_bad : (tokens : List Spelled) (p q : Place) → IsFirstBad tokens p → IsFirstBad tokens q → p ≡ q
-one_first_bad tokens p q (inl (tree, has, first)) (inl (other, also, later)) = one_bad p q [] tokens first later
-one_first_bad tokens p q (inl (tree, has, first)) (inr (front, rest, cut, later)) = absurd (not_cut tokens front rest tree has cut)
-one_first_bad tokens p q (inr (front, rest, cut, first)) (inl (tree, has, later)) = absurd (not_cut tokens front rest tree has cut)
-one_first_bad tokens p q (inr (front, rest, cut, first)) (inr (other, behind, also, later)) =
-    one_bad p q [] other (subst (HasFirstBad p []) (one_cut tokens front rest other behind cut also).0 first) later
 
 -- the answer that tells a fault
 unfoldable pub told : Fault → Result Source ReadFault
@@ -107,12 +95,12 @@ one_reading_of : (bytes : List ℕ) (tokens : List Spelled) (a b : Result Source
 unfolding told
 one_reading_of bytes tokens (Ok x) (Ok y) is also n m = ap (λ s. Ok s) (one_grammar tokens x y is.0 also.0)
 one_reading_of bytes tokens (Ok x) (Err (Syntax p c)) is also n m = absurd (not_cut tokens also.front also.rest is.0.0 is.0.1 also.cut)
-one_reading_of bytes tokens (Ok x) (Err (BadSet p)) is also n m = absurd (no_bad tokens x p is.0 is.1 also)
+one_reading_of bytes tokens (Ok x) (Err (BadSet p)) is also n m = absurd (no_bad tokens p is.1 also)
 one_reading_of bytes tokens (Err (Syntax p c)) (Ok y) is also n m = absurd (not_cut tokens is.front is.rest also.0.0 also.0.1 is.cut)
 one_reading_of bytes tokens (Err (Syntax p c)) (Err (Syntax q d)) is also n m = ap told (one_fault bytes tokens _ _ is also)
-one_reading_of bytes tokens (Err (Syntax p c)) (Err (BadSet q)) is also n m = absurd (fault_or_bad bytes tokens _ q is also)
-one_reading_of bytes tokens (Err (BadSet p)) (Ok y) is also n m = absurd (no_bad tokens y p also.0 also.1 is)
-one_reading_of bytes tokens (Err (BadSet p)) (Err (Syntax q d)) is also n m = absurd (fault_or_bad bytes tokens _ p also is)
+one_reading_of bytes tokens (Err (Syntax p c)) (Err (BadSet q)) is also n m = absurd (no_bad tokens q is.good also)
+one_reading_of bytes tokens (Err (BadSet p)) (Ok y) is also n m = absurd (no_bad tokens p also.1 is)
+one_reading_of bytes tokens (Err (BadSet p)) (Err (Syntax q d)) is also n m = absurd (no_bad tokens p also.good is)
 one_reading_of bytes tokens (Err (BadSet p)) (Err (BadSet q)) is also n m = ap (λ r. Err (BadSet r)) (one_first_bad tokens p q is also)
 one_reading_of bytes tokens (Err (NotUtf8 at)) b is also n m = absurd is
 one_reading_of bytes tokens a (Err (NotUtf8 at)) is also n m = absurd also

@@ -93,22 +93,3 @@ are_parts bytes tokens has = by_text (chars bytes) (sym (encodes-chars bytes has
 -- the token at an index is a part of the text
 pub part_at : (text : List ℕ) (tokens : List Token) (at : ℕ) (token : Token) → AreParts text tokens → slice_get tokens at ≡ Some token → IsPart text token
 part_at text tokens at token (each_is are) is = are at token is
-
--- a token that is read is a part of the text
-pub part_read : (text : List ℕ) (tokens : List Token) (at : ℕ) (other : Token) → AreParts text tokens → at < length tokens → IsPart text (get_or tokens at other)
-part_read text tokens at other (each_is are) within = are at (get_or tokens at other) (slice_get-get_or tokens at other within)
-
--- the first tokens are parts of the text
-pub parts_take : (text : List ℕ) (tokens : List Token) (n : ℕ) → AreParts text tokens → AreParts text (take n tokens)
-parts_take text tokens n (each_is are) = each_is (λ at token is. are at token (among tokens n at token is))
-  where
-    among : (tokens : List Token) (n at : ℕ) (token : Token) → slice_get (take n tokens) at ≡ Some token → slice_get tokens at ≡ Some token
-    among [] zero at token is = is
-    among [] (suc n) at token is = is
-    among (t ∷ ts) zero at token is = absurd (nothing at token is)
-      where
-        nothing : (at : ℕ) (token : Token) → slice_get [] at ≡ Some token → ⊥
-        nothing zero token e = cc
-        nothing (suc at) token e = cc
-    among (t ∷ ts) (suc n) zero token is = is
-    among (t ∷ ts) (suc n) (suc at) token is = among ts n at token is

@@ -1,7 +1,6 @@
 -- Each text has a reading.
-use Rattle.std.proofs.Common.{◌≡◌, ◌≢◌, ◌⊎◌, ℕ, List, [], ◌++◌, Result, Ok, Err, inl, inr, refl}
+use Rattle.std.proofs.Common.{◌≡◌, ◌≢◌, ◌⊎◌, ℕ, List, ◌++◌, Result, Ok, Err, inl, inr, refl}
 use Rattle.std.specs.Str.{IsUtf8, IsValidUpTo}
-use Rattle.g4_base.specs.declared.place.Place.{Place}
 use Rattle.g4_tokens.specs.declared.position.Position.{Position}
 use Rattle.g4_tokens.specs.declared.token.Token.{Token}
 use Rattle.g4_source.specs.declared.source.Source.{Source}
@@ -13,11 +12,10 @@ use Rattle.g4_prequels.specs.Texts.{spelled}
 use Rattle.g4_productions.specs.Grammars.{source_of}
 use Rattle.g4_reader.proofs.Utf8.{utf8_or_not}
 use Rattle.g4_reader.specs.Answering.{IsReadingOf}
-use Rattle.g4_reader.specs.Bad.{HasFirstBad, HasNoBad}
 use Rattle.g4_reader.specs.Reading.{Fault, fault_at, opened_fault, IsCut, IsReading}
 use Rattle.g4_reader.specs.declared.reader.ReadFault.{ReadFault}
 use Rattle.g4_reader.specs.declared.reader.ReadFault.TheVariants.{NotUtf8, BadSet, NoMemory}
-use Rattle.g4_reader.proofs.Decisions.{first_decided}
+use Rattle.g4_reader.proofs.Deciding.{GoodOrBad, text_decided, stop_decided}
 use Rattle.g4_reader.proofs.OneReading.{told}
 use Rattle.g4_reader.proofs.Readings.{IsReading-from, cut_from}
 use Rattle.g4_reader.proofs.Scans as scans
@@ -32,24 +30,24 @@ abbrev SomeReadingOf : List ℕ → List Spelled → Type 0
 SomeReadingOf bytes tokens = (result : Result Source ReadFault) × IsReadingOf bytes tokens result × (result ≢ Err NoMemory)
 
 -- a grammar text has a reading: its grammar, or its first bad set
-text_reading : (bytes : List ℕ) (tokens : List Spelled) (tree : Tree grammar) → HasTree tokens tree → ((place : Place) × HasFirstBad place [] tokens) ⊎ HasNoBad [] tokens → SomeReadingOf bytes tokens
-text_reading bytes tokens tree has (inl (place, first)) = (Err (BadSet place), inl (tree, has, first), λ e. cc)
-text_reading bytes tokens tree has (inr good) = (Ok (source_of tree), ((tree, has, refl), good), λ e. cc)
+text_reading : (bytes : List ℕ) (tokens : List Spelled) (tree : Tree grammar) → HasTree tokens tree → GoodOrBad tokens → SomeReadingOf bytes tokens
+text_reading bytes tokens tree has (inl good) = (Ok (source_of tree), ((tree, has, refl), good), λ e. cc)
+text_reading bytes tokens tree has (inr (place, first)) = (Err (BadSet place), first, λ e. cc)
 
--- tokens that are cut have a reading: the first bad set of the front, or the fault behind it
-cut_reading : (bytes : List ℕ) (tokens front rest : List Spelled) → IsCut tokens front rest → ((place : Place) × HasFirstBad place [] front) ⊎ HasNoBad [] front → SomeReadingOf bytes tokens
+-- tokens that are cut have a reading: the first bad set before the cut, or the fault behind it
+cut_reading : (bytes : List ℕ) (tokens front rest : List Spelled) → IsCut tokens front rest → GoodOrBad tokens → SomeReadingOf bytes tokens
 unfolding told
-cut_reading bytes tokens front rest cut (inl (place, first)) = (Err (BadSet place), inr (front, rest, cut, first), λ e. cc)
-cut_reading bytes tokens front rest cut (inr good) =
+cut_reading bytes tokens front rest cut (inl good) =
     (told (fault_at bytes rest), record { front = front; rest = rest; cut = cut; good = good; is = refl }, told_not (fault_at bytes rest))
+cut_reading bytes tokens front rest cut (inr (place, first)) = (Err (BadSet place), first, λ e. cc)
 
 -- tokens have some reading
 reading_of : (bytes : List ℕ) (tokens : List Spelled) → SomeReadingOf bytes tokens
 reading_of bytes tokens = by_stop (text_or_stop tokens)
   where
     by_stop : ((tree : Tree grammar) × HasTree tokens tree) ⊎ ((front : List Spelled) × (rest : List Spelled) × (tokens ≡ front ++ rest) × TextStops tokens rest) → SomeReadingOf bytes tokens
-    by_stop (inl (tree, has)) = text_reading bytes tokens tree has (first_decided [] tokens)
-    by_stop (inr (front, rest, parts, stop)) = cut_reading bytes tokens front rest (cut_from tokens front rest parts stop) (first_decided [] front)
+    by_stop (inl (tree, has)) = text_reading bytes tokens tree has (text_decided tokens tree has)
+    by_stop (inr (front, rest, parts, stop)) = cut_reading bytes tokens front rest (cut_from tokens front rest parts stop) (stop_decided tokens rest stop)
 
 -- bytes have a reading
 pub some_reading : (bytes : List ℕ) → (result : Result Source ReadFault) × IsReading bytes result × (result ≢ Err NoMemory)

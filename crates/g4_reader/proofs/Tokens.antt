@@ -3,7 +3,6 @@ use Rattle.std.proofs.Common.{◌≡◌, ℕ, zero, suc, ◌+◌, ◌<◌, List,
 use Rattle.std.proofs.lemmas.List.{drop_more, map-append, take-append-drop}
 use Rattle.std.proofs.lemmas.Option.{slice_get_within, get_or_from_slice_get}
 use Rattle.g4_tokens.specs.declared.token.Token.{Token}
-use Rattle.g4_tokens.specs.declared.token.Kind.TheVariants.{Lower}
 use Rattle.g4_prequels.specs.Texts.{from}
 use Rattle.g4_prequels.specs.Texts.{characters_of, spelled, spelled_token}
 use Rattle.g4_reader.specs.Reading.{fault_at}
@@ -12,10 +11,6 @@ use Rattle.g4_reader.specs.Reading.{fault_at}
 pub from_token : (text : List ℕ) (tokens : List Token) (at : ℕ) (token : Token) → slice_get tokens at ≡ Some token → from text tokens at ≡ spelled_token text token ∷ from text tokens (at + 1)
 from_token text tokens at token is =
     ap (map (spelled_token text)) (drop_more tokens at token (slice_get_within tokens at token is) ∙ ap (λ (t : Token). t ∷ drop (at + 1) tokens) (get_or_from_slice_get tokens at token token is))
-
--- a token that is read stands first of those from there on
-pub from_read : (text : List ℕ) (tokens : List Token) (at : ℕ) (other : Token) → at < length tokens → from text tokens at ≡ spelled_token text (get_or tokens at other) ∷ from text tokens (at + 1)
-from_read text tokens at other within = ap (map (spelled_token text)) (drop_more tokens at other within)
 
 -- behind all tokens there are none
 pub from_behind : (text : List ℕ) (tokens : List Token) (at : ℕ) → slice_get tokens at ≡ None → from text tokens at ≡ []
@@ -35,7 +30,3 @@ fault_here text tokens at token is = ap (fault_at text) (from_token text tokens 
 -- the fault behind all tokens
 pub fault_behind : (text : List ℕ) (tokens : List Token) (at : ℕ) → slice_get tokens at ≡ None → fault_at text (from text tokens at) ≡ fault_at text []
 fault_behind text tokens at is = ap (fault_at text) (from_behind text tokens at is)
-
--- a token that stands for none
-abbrev pub blank : Token
-blank = record { kind = Lower; place = record { line = 0; column = 0 }; start = 0; end = 0 }

@@ -1,6 +1,6 @@
--- What reading a grammar text answers. To trust `read_grammar`, read this file, `Bad` beside it, and those that they use: the
--- productions and trees of `g4_syntax`, what trees say in `g4_productions` and `g4_prequels`
--- (`Options`, `Prequels`, `Texts`), and the tokens of `g4_tokens`.
+-- What reading a grammar text answers. To trust `read_grammar`, read this file and those that it uses: the productions and trees
+-- of `g4_syntax`, what trees say in `g4_productions` and `g4_prequels` (`Options`, `Prequels`, `Texts`), which sets are bad
+-- (`Sets` of `g4_prequels`), and the tokens of `g4_tokens`.
 use Rattle.std.specs.Prelude.{◌≡◌, ◌⊎◌, ℕ, List, [], ◌∷◌, ◌++◌, take, drop, Result, Ok, Err, codes}
 use Rattle.std.specs.Str.{IsValidUpTo, chars}
 use Rattle.g4_base.specs.declared.place.Place.{Place}
@@ -11,10 +11,10 @@ use Rattle.g4_tokens.specs.declared.token.Token.{Token}
 use Rattle.g4_source.specs.declared.source.Source.{Source}
 use Rattle.g4_syntax.specs.Notation.{Spelled}
 use Rattle.g4_syntax.specs.Productions.{grammar}
-use Rattle.g4_syntax.specs.Trees.{Tree, HasTree, BeginsText, Ends}
-use Rattle.g4_reader.specs.Bad.{HasFirstBad, HasNoBad}
+use Rattle.g4_syntax.specs.Trees.{BeginsText, Ends}
+use Rattle.g4_prequels.specs.Sets.{HasNoBad}
 use Rattle.g4_prequels.specs.Texts.{spelled}
-use Rattle.g4_productions.specs.Grammars.{IsGrammarText}
+use Rattle.g4_productions.specs.Grammars.{IsGrammarText, BadSetStands}
 use Rattle.g4_reader.specs.declared.reader.ReadFault.{ReadFault}
 use Rattle.g4_reader.specs.declared.reader.ReadFault.TheVariants.{NotUtf8, Syntax, BadSet, NoMemory}
 
@@ -47,7 +47,7 @@ pub record IsGrammar (bytes : List ℕ) (source : Source) : Type 0 where
   pub tokens : List Spelled
   pub has : HasSpelled bytes tokens
   pub is : IsGrammarText tokens source
-  pub good : HasNoBad [] tokens
+  pub good : HasNoBad grammar tokens
 
 -- the tokens as far as some grammar text begins with them, and the others
 pub record IsCut (tokens front rest : List Spelled) : Type 0 where
@@ -55,20 +55,14 @@ pub record IsCut (tokens front rest : List Spelled) : Type 0 where
   pub begins : BeginsText front
   pub ends : Ends front rest
 
--- the first syntax fault of the tokens: a grammar text begins with those before it, and none goes on with it; no set before
--- it is bad
+-- the first syntax fault of the tokens: a grammar text begins with those before it, and none goes on with it; reading comes to
+-- no bad set before it
 pub record IsFirstFault (bytes : List ℕ) (tokens : List Spelled) (fault : Fault) : Type 0 where
   pub front : List Spelled
   pub rest : List Spelled
   pub cut : IsCut tokens front rest
-  pub good : HasNoBad [] front
+  pub good : HasNoBad grammar tokens
   pub is : fault ≡ fault_at bytes rest
-
--- the first bad set of the tokens, up to a syntax fault, if there is one
-abbrev pub IsFirstBad : List Spelled → Place → Type 0
-IsFirstBad tokens place =
-    ((tree : Tree grammar) × HasTree tokens tree × HasFirstBad place [] tokens)
-    ⊎ ((front : List Spelled) × (rest : List Spelled) × IsCut tokens front rest × HasFirstBad place [] front)
 
 -- the fault of the text that has no tokens, or the first syntax fault of its tokens
 abbrev pub IsFaultOf : List ℕ → Fault → Type 0
@@ -82,5 +76,5 @@ abbrev pub IsReading : List ℕ → Result Source ReadFault → Type 0
 IsReading bytes (Ok source) = IsGrammar bytes source
 IsReading bytes (Err (NotUtf8 at)) = IsValidUpTo bytes at
 IsReading bytes (Err (Syntax place characters)) = IsFaultOf bytes (record { place = place; characters = characters })
-IsReading bytes (Err (BadSet place)) = (tokens : List Spelled) × HasSpelled bytes tokens × IsFirstBad tokens place
+IsReading bytes (Err (BadSet place)) = (tokens : List Spelled) × HasSpelled bytes tokens × BadSetStands tokens place
 IsReading bytes (Err NoMemory) = Unit {0}

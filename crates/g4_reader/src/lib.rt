@@ -1,7 +1,6 @@
 // The grammar that a text is.
 #![tactic(auto)]
 
-mod bad;
 mod fault;
 mod law;
 mod reader;

@@ -1,14 +1,12 @@
 // The grammar that a text is.
-ghost use Rattle.std.specs.Prelude.{◌≡◌, ◌≤◌, IfOk, length, take};
+ghost use Rattle.std.specs.Prelude.{◌≤◌, IfOk, length};
 ghost use Rattle.g4_source.specs.Blocks.{HaveAlternatives};
-ghost use Rattle.g4_reader.specs.Answering.{IsFirstOf, IsGoodOrBad, IsReadingOf};
+ghost use Rattle.g4_reader.specs.Answering.{IsReadingOf};
 ghost use Rattle.g4_prequels.specs.Parts.{AreParts};
 ghost use Rattle.g4_reader.specs.Reading.{IsReading};
-ghost use Rattle.g4_prequels.specs.Texts.{from};
 ghost use Rattle.g4_prequels.specs.Texts.{spelled};
 ghost use Rattle.g4_base.specs.declared.limits.TheConstants.{MOST_BYTES};
 
-use crate::bad::first_bad;
 use crate::fault::{fault_at, opened_fault};
 use g4_base::{Place, Sequence};
 use g4_productions::{Stop, read_tokens};
@@ -31,43 +29,6 @@ pub enum ReadFault {
     NoMemory,
 }
 
-/// The grammar, where none of the tokens begins a bad set.
-fn with_good_sets(
-    alloc: Global,
-    text: &str,
-    source: Source,
-    tokens: &[Token],
-) -> Result<Source, ReadFault>
-    requires parts { AreParts text.now tokens.now }
-    ensures { IsGoodOrBad (spelled text.now tokens.now) source result }
-{
-    match first_bad(alloc, text, tokens) {
-        Ok(Some(place)) => Err(ReadFault::BadSet(place)),
-        Ok(None) => Ok(source),
-        Err(_) => Err(ReadFault::NoMemory),
-    }
-}
-
-/// The tokens before the index.
-fn front(tokens: &[Token], at: usize) -> &[Token]
-    ensures { result.now ≡ take at tokens.now }
-{
-    tokens.get(..at).unwrap_or(tokens)
-}
-
-/// The fault of tokens with which no grammar text goes on at the index: the first bad set before it, or else a syntax fault.
-fn first_fault(alloc: Global, text: &str, tokens: &[Token], at: usize) -> ReadFault
-    requires parts { AreParts text.now tokens.now }
-    requires fits { length text.now ≤ MOST_BYTES }
-    ensures { IsFirstOf text.now (spelled text.now (take at tokens.now)) (from text.now tokens.now at) result }
-{
-    match first_bad(alloc, text, front(tokens, at)) {
-        Ok(Some(place)) => ReadFault::BadSet(place),
-        Ok(None) => fault_at(alloc, text, tokens, at),
-        Err(_) => ReadFault::NoMemory,
-    }
-}
-
 /// The grammar that the tokens are, or what stands first of their bad sets and syntax faults.
 fn read_checked(alloc: Global, text: &str, tokens: &[Token]) -> Result<Source, ReadFault>
     requires parts { AreParts text.now tokens.now }
@@ -76,8 +37,9 @@ fn read_checked(alloc: Global, text: &str, tokens: &[Token]) -> Result<Source, R
     ensures full { IfOk result HaveAlternatives }
 {
     match read_tokens(alloc, text, tokens) {
-        Ok(source) => with_good_sets(alloc, text, source, tokens),
-        Err(Stop::At(at)) => Err(first_fault(alloc, text, tokens, at)),
+        Ok(source) => Ok(source),
+        Err(Stop::At(at)) => Err(fault_at(alloc, text, tokens, at)),
+        Err(Stop::BadSet(place)) => Err(ReadFault::BadSet(place)),
         Err(Stop::NoMemory) => Err(ReadFault::NoMemory),
     }
 }

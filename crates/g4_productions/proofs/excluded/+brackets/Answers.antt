@@ -1,5 +1,6 @@
 use Rattle.std.proofs.Common.{refl, sym, ◌∙◌, ◌≡◌, append_assoc, append-nil, ◌++◌, arith}
-use Rattle.g4_prequels.proofs.Moving.{so, two, upon, first, second, inside, led, ends}
+use Rattle.g4_syntax.specs.Notation.{a_set, excluded}
+use Rattle.g4_prequels.proofs.Moving.{so, two, upon, first, second, inside, led, ends, asks_same}
 use Rattle.g4_prequels.proofs.Turning.{start, end_turns, sign_over, fewer, fewer_then, no_more}
 use Rattle.g4_productions.specs.LexerElements.{excluded_ranges, ranges_between, excluded_behind}
 use Rattle.g4_productions.proofs.Listing.{all_more}
@@ -27,10 +28,10 @@ pub add_brackets-returns : goal.add_brackets-returns
 add_brackets-returns t c = upon c.in_ok-open.ensures.moves (upon (two {R = λ tree. c.loop-cursor.ranges.items ≡ c.args.ranges.now.items ++ ranges_between tree} c.in_ok-add_excluded.ensures (end_turns c.loop-cursor.invariant (led _ _ _ refl ∙ sym c.is_at.ensures ∙ c.loop-cursor-test.false) (sym (append-nil _))) (λ s ss p q. q ∙ rw p (append_assoc _ (excluded_ranges s) (excluded_behind ss)))) (so c.close.ensures (λ closing r sets q opening p. q)))
 
 pub add_excluded-returns-then-is_at : goal.add_excluded-returns-then-is_at
-add_excluded-returns-then-is_at t c = inside (first (led _ _ _ refl ∙ sym c.is_at.ensures ∙ c.if-is_at.true) c.in_ok-add_characters.ensures)
+add_excluded-returns-then-is_at t c = inside (first (led _ _ _ refl ∙ asks_same _ excluded _ (λ token. refl) ∙ sym c.is_at.ensures ∙ c.if-is_at.true) c.in_ok-add_characters.ensures)
 
 pub add_excluded-returns-then-is_at-2 : goal.add_excluded-returns-then-is_at-2
-add_excluded-returns-then-is_at-2 t c = inside (second (led _ _ _ refl ∙ sym c.is_at.ensures ∙ c.if-is_at.false) (first (sym c.is_at-2.ensures ∙ c.if-is_at-2.true) (so c.in_ok-set.ensures (λ tree p. c.in_ok-extend_from_slice.ensures.items ∙ rw (c.ranges-then-is_at-2.ensures.value, p) refl))))
+add_excluded-returns-then-is_at-2 t c = inside (second (led _ _ _ refl ∙ asks_same _ excluded _ (λ token. refl) ∙ sym c.is_at.ensures ∙ c.if-is_at.false) (first (asks_same _ a_set _ (λ token. refl) ∙ sym c.is_at-2.ensures ∙ c.if-is_at-2.true) (so c.in_ok-set.ensures (λ tree p. c.in_ok-extend_from_slice.ensures.items ∙ rw (c.ranges-then-is_at-2.ensures.value, p) refl))))
 
 pub add_excluded-returns : goal.add_excluded-returns
-add_excluded-returns t c = inside (second (led _ _ _ refl ∙ sym c.is_at.ensures ∙ c.if-is_at.false) (second (sym c.is_at-2.ensures ∙ c.if-is_at-2.false) c.in_ok-add_brackets.ensures))
+add_excluded-returns t c = inside (second (led _ _ _ refl ∙ asks_same _ excluded _ (λ token. refl) ∙ sym c.is_at.ensures ∙ c.if-is_at.false) (second (asks_same _ a_set _ (λ token. refl) ∙ sym c.is_at-2.ensures ∙ c.if-is_at-2.false) c.in_ok-add_brackets.ensures))

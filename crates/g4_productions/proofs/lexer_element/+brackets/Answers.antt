@@ -1,5 +1,6 @@
 use Rattle.std.proofs.Common.{refl, sym, ◌∙◌, ap, append-nil, ◌∷◌, arith, Bool, Some}
-use Rattle.g4_prequels.proofs.Moving.{so, two, upon, first, second, inside, led, ends}
+use Rattle.g4_syntax.specs.Notation.{a_set, characters}
+use Rattle.g4_prequels.proofs.Moving.{so, two, upon, first, second, inside, led, ends, asks_same}
 use Rattle.g4_prequels.proofs.Turning.{start, begun, turn, end_turns, sign_over, fewer, fewer_then, no_more}
 use Rattle.g4_elements.specs.declared.name.Name.{Name}
 use Rattle.g4_elements.specs.Elements.{Elements}
@@ -11,19 +12,19 @@ use Rattle.g4_productions.proofs.Listing.{listed_more}
 use Rattle.g4_productions.proofs.lexer_element.+brackets.Goals as goal
 
 pub unnamed_item-returns-then-is_at : goal.unnamed_item-returns-then-is_at
-unnamed_item-returns-then-is_at t c = first (led _ _ _ refl ∙ sym c.is_at.ensures ∙ c.if-is_at.true) (c.in_ok-item.ensures)
+unnamed_item-returns-then-is_at t c = first (led _ _ _ refl ∙ asks_same _ characters _ (λ token. refl) ∙ sym c.is_at.ensures ∙ c.if-is_at.true) (c.in_ok-item.ensures)
 
 pub unnamed_item-returns-then-is_at-2 : goal.unnamed_item-returns-then-is_at-2
-unnamed_item-returns-then-is_at-2 t c = second (led _ _ _ refl ∙ sym c.is_at.ensures ∙ c.if-is_at.false) (first (sym c.is_at-2.ensures ∙ c.if-is_at-2.true) (so c.in_ok-set.ensures (λ set r. rw r refl)))
+unnamed_item-returns-then-is_at-2 t c = second (led _ _ _ refl ∙ asks_same _ characters _ (λ token. refl) ∙ sym c.is_at.ensures ∙ c.if-is_at.false) (first (asks_same _ a_set _ (λ token. refl) ∙ sym c.is_at-2.ensures ∙ c.if-is_at-2.true) (so c.in_ok-set.ensures (λ set r. rw r refl)))
 
 pub unnamed_item-returns-then-is_at-3 : goal.unnamed_item-returns-then-is_at-3
-unnamed_item-returns-then-is_at-3 t c = second (led _ _ _ refl ∙ sym c.is_at.ensures ∙ c.if-is_at.false) (second (sym c.is_at-2.ensures ∙ c.if-is_at-2.false) (first (sym c.is_at-3.ensures ∙ c.if-is_at-3.true) (so c.take.ensures (λ dot p. rw p.place refl))))
+unnamed_item-returns-then-is_at-3 t c = second (led _ _ _ refl ∙ asks_same _ characters _ (λ token. refl) ∙ sym c.is_at.ensures ∙ c.if-is_at.false) (second (asks_same _ a_set _ (λ token. refl) ∙ sym c.is_at-2.ensures ∙ c.if-is_at-2.false) (first (sym c.is_at-3.ensures ∙ c.if-is_at-3.true) (so c.take.ensures (λ dot p. rw p.place refl))))
 
 pub unnamed_item-returns-then-is_at-4 : goal.unnamed_item-returns-then-is_at-4
-unnamed_item-returns-then-is_at-4 t c = second (led _ _ _ refl ∙ sym c.is_at.ensures ∙ c.if-is_at.false) (second (sym c.is_at-2.ensures ∙ c.if-is_at-2.false) (second (sym c.is_at-3.ensures ∙ c.if-is_at-3.false) (first (led _ _ _ refl ∙ sym c.is_at-4.ensures ∙ c.if-is_at-4.true) (upon c.take-then-is_at-4.ensures (so c.in_ok-set-2.ensures (λ set r tilde p. rw (r, p.place) refl))))))
+unnamed_item-returns-then-is_at-4 t c = second (led _ _ _ refl ∙ asks_same _ characters _ (λ token. refl) ∙ sym c.is_at.ensures ∙ c.if-is_at.false) (second (asks_same _ a_set _ (λ token. refl) ∙ sym c.is_at-2.ensures ∙ c.if-is_at-2.false) (second (sym c.is_at-3.ensures ∙ c.if-is_at-3.false) (first (led _ _ _ refl ∙ sym c.is_at-4.ensures ∙ c.if-is_at-4.true) (upon c.take-then-is_at-4.ensures (so c.in_ok-set-2.ensures (λ set r tilde p. rw (r, p.place) refl))))))
 
 pub unnamed_item-returns : goal.unnamed_item-returns
-unnamed_item-returns t c = second (led _ _ _ refl ∙ sym c.is_at.ensures ∙ c.if-is_at.false) (second (sym c.is_at-2.ensures ∙ c.if-is_at-2.false) (second (sym c.is_at-3.ensures ∙ c.if-is_at-3.false) (second (led _ _ _ refl ∙ sym c.is_at-4.ensures ∙ c.if-is_at-4.false) (so c.in_ok-alternatives.ensures (λ b r. rw r refl)))))
+unnamed_item-returns t c = second (led _ _ _ refl ∙ asks_same _ characters _ (λ token. refl) ∙ sym c.is_at.ensures ∙ c.if-is_at.false) (second (asks_same _ a_set _ (λ token. refl) ∙ sym c.is_at-2.ensures ∙ c.if-is_at-2.false) (second (sym c.is_at-3.ensures ∙ c.if-is_at-3.false) (second (led _ _ _ refl ∙ sym c.is_at-4.ensures ∙ c.if-is_at-4.false) (so c.in_ok-alternatives.ensures (λ b r. rw r refl)))))
 
 pub item-returns-then-is_at : goal.item-returns-then-is_at
 item-returns-then-is_at t c = first (led _ _ _ refl ∙ sym c.is_at.ensures ∙ c.if-is_at.true) (upon c.in_ok-name.ensures (so c.in_ok-right.ensures (λ r q n p. rw (q, p) refl)))
