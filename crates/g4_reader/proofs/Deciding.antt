@@ -8,6 +8,7 @@ use Rattle.g4_syntax.specs.Notation.{Spelled, Terminal, of_kind, keyword, a_name
 use Rattle.g4_syntax.specs.Productions.{production, grammar}
 use Rattle.g4_syntax.specs.Trees.{Tree, leaf, both, left, right, absent, present, end, more, inner, begins_there, Reads, Comes, here, in_first, in_second, in_left, in_right, in_optional, in_turn, in_later_turn, in_part, Stops, HasTree, TextStops, within, behind}
 use Rattle.g4_syntax.proofs.Unique.{one_reading, never_both}
+use Rattle.g4_prequels.specs.declared.cursor.Halt.{Halt}
 use Rattle.g4_prequels.specs.declared.cursor.Halt.TheVariants.{Fault, BadSet}
 use Rattle.g4_prequels.specs.Progress.{Progress, reading, stopped, is_next, at_fault, at_bad_set, Moves, reads, stops, stays, Passes}
 use Rattle.g4_prequels.specs.Sets.{content, IsBadContent, IsBadSet, bytes_at, is_no_character, begins_bad_range, BeginsBad, HasNoBad, HasFirstBad}
@@ -56,16 +57,28 @@ CanMove x from = (t : Progress) × Passes x (reading from) t
 over_terminal : (t : Terminal) (from : List Spelled) → ((BeginsBad t from → ⊥) → CanMove (one t) from) → CanMove (one t) from
 over_terminal t from otherwise = elim (bad_decided t from) [ inl bad ↦ (stopped BadSet from, moving.refuses (reading from) (stopped BadSet from) bad refl) | inr good ↦ otherwise good ]
 
+-- over two, where a cursor stops in the first
+stopped_first : (x y : Expression) (from rest : List Spelled) (halt : Halt) → Passes x (reading from) (stopped halt rest) → CanMove (x ▸ y) from
+stopped_first x y from rest halt first = (stopped halt rest, moving.behind first (stays halt rest))
+
+-- over turns, where a cursor stops in the first
+stopped_turn : (x : Expression) (from rest : List Spelled) (halt : Halt) → begins_there x from ≡ true → Passes x (reading from) (stopped halt rest) → CanMove (repeated x) from
+unfolding is_next
+stopped_turn x from rest halt is first =
+    let none : Passes (repeated x) (stopped halt rest) (stopped halt rest) = stays halt rest in
+    (stopped halt rest, moving.one_more is first none (λ c others p q. tt))
+
 -- over two, of which the first is read
 over_both : {x y : Expression} (from between : List Spelled) (a : Tree x) → Reads a from between → CanMove x from → CanMove y between → CanMove (x ▸ y) from
 over_both {x} {y} from between a read (_, reads _ other b again good tt) (v, second) =
-    (v, moving.behind (reads from other b again good tt) (subst (λ (l : List Spelled). Passes y (reading l) v) (one_reading a b from between other read again).1 second))
-over_both from between a read (_, stops _ rest halt halts) second = (stopped halt rest, moving.behind (stops from rest halt halts) (stays halt rest))
+    let first : Passes x (reading from) (reading other) = reads from other b again good tt in
+    (v, moving.behind first (subst (λ (l : List Spelled). Passes y (reading l) v) (one_reading a b from between other read again).1 second))
+over_both {x} {y} from between a read (_, stops _ rest halt halts) second = stopped_first x y from rest halt (stops from rest halt halts)
 
 -- over two, where reading stops in the first
 over_first : {x y : Expression} (from rest : List Spelled) → Stops x from rest → CanMove x from → CanMove (x ▸ y) from
 over_first from rest stop (_, reads _ other b again good tt) = absurd (never_both from other rest b again stop)
-over_first from rest stop (_, stops _ other halt halts) = (stopped halt other, moving.behind (stops from other halt halts) (stays halt other))
+over_first {x} {y} from rest stop (_, stops _ other halt halts) = stopped_first x y from other halt (stops from other halt halts)
 
 -- over a choice, as the first
 over_left : {x y : Expression} (from : List Spelled) → begins_there x from ≡ true → CanMove x from → CanMove (x ∣ y) from
@@ -100,14 +113,15 @@ over_end from none = (reading from, moving.no_turn (reading from) none tt)
 over_more : {x : Expression} (from between : List Spelled) (a : Tree x) → begins_there x from ≡ true → Reads a from between → CanMove x from → CanMove (repeated x) between → CanMove (repeated x) from
 unfolding is_next
 over_more {x} from between a is read (_, reads _ other b again good tt) (v, later) =
-    (v, moving.one_more is (reads from other b again good tt) (subst (λ (l : List Spelled). Passes (repeated x) (reading l) v) (one_reading a b from between other read again).1 later) (λ c rest p q. tt))
-over_more from between a is read (_, stops _ rest halt halts) later = (stopped halt rest, moving.one_more is (stops from rest halt halts) (stays {x = repeated x} {Says = λ tree. Unit {0}} halt rest) (λ c others p q. tt))
+    let first : Passes x (reading from) (reading other) = reads from other b again good tt in
+    let others : Passes (repeated x) (reading other) v = subst (λ (l : List Spelled). Passes (repeated x) (reading l) v) (one_reading a b from between other read again).1 later in
+    (v, moving.one_more is first others (λ c rest p q. tt))
+over_more {x} from between a is read (_, stops _ rest halt halts) later = stopped_turn x from rest halt is (stops from rest halt halts)
 
 -- over turns, where reading stops in the first
 over_turn : {x : Expression} (from rest : List Spelled) → begins_there x from ≡ true → Stops x from rest → CanMove x from → CanMove (repeated x) from
-unfolding is_next
 over_turn from rest is stop (_, reads _ other b again good tt) = absurd (never_both from other rest b again stop)
-over_turn {x} from rest is stop (_, stops _ other halt halts) = (stopped halt other, moving.one_more is (stops from other halt halts) (stays {x = repeated x} {Says = λ tree. Unit {0}} halt other) (λ c others p q. tt))
+over_turn {x} from rest is stop (_, stops _ other halt halts) = stopped_turn x from other halt is (stops from other halt halts)
 
 -- a cursor can move over what is read
 over_tree : {x : Expression} (a : Tree x) (from to : List Spelled) → Reads a from to → CanMove x from
@@ -142,7 +156,7 @@ GoodOrBad tokens = HasNoBad grammar tokens ⊎ ((place : Place) × BadSetStands 
 by_move : (tokens : List Spelled) → CanMove grammar tokens → GoodOrBad tokens
 by_move tokens (_, reads _ to tree read good tt) = inl good
 by_move tokens (_, stops _ rest _ (at_fault stop good)) = inl good
-by_move tokens (_, stops _ rest _ (at_bad_set found)) = inr (place_of rest, rest, found, refl)
+by_move tokens (_, stops _ rest _ (at_bad_set found)) = inr (place_of rest, (rest, found, refl))
 
 -- a grammar text has no bad set, or a first one
 pub text_decided : (tokens : List Spelled) (tree : Tree grammar) → HasTree tokens tree → GoodOrBad tokens
