@@ -64,7 +64,7 @@ second_empty [] w none = none
 second_empty (t ∷ v) w none = cc
 
 -- no part is empty
-never_empty : (n : Nonterminal) → can_be_empty (production n) ≡ true → ⊥
+pub never_empty : (n : Nonterminal) → can_be_empty (production n) ≡ true → ⊥
 never_empty element can = true≢false (sym can)
 never_empty token_set can = true≢false (sym can)
 never_empty lexer_element can = true≢false (sym can)

@@ -1,0 +1,4 @@
+pub mod Apart
+pub mod Decided
+pub mod Ends
+pub mod Reading
