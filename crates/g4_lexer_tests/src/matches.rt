@@ -187,6 +187,27 @@ fn shown(alloc: Global, found: Option<Match>) -> Result<String, AllocError> {
 /// In which mode, the text, and the match at its front.
 type Row<'a> = (u32, &'a str, &'a str);
 
+/// The match at the front of each text by this matcher.
+fn check_rows(
+    rt: &impl Abort,
+    alloc: Global,
+    matcher: &mut Matcher<'_>,
+    rows: &[Row<'_>],
+    time: u32,
+) -> Result<(), Fail> {
+    for (mode, text, wanted) in rows {
+        let characters = text.chars().collect::<Vec<char>>(alloc)?;
+        let found = matcher.longest_match(*mode, characters.as_slice())?;
+        let found = shown(alloc, found)?;
+        assert_eq!(rt;
+            found.as_str(),
+            *wanted,
+            "{text} in mode {mode}, time {time}"
+        );
+    }
+    Ok(())
+}
+
 /// The match at the front of each text by one matcher, so many times: first as lists are learned, and then along them.
 fn check_modes(
     rt: &impl Abort,
@@ -200,16 +221,7 @@ fn check_modes(
     assert!(rt; lexable, "the network can be lexed with");
     let mut matcher = Matcher::new(alloc, net, modes)?;
     for time in 0..times {
-        for (mode, text, wanted) in rows {
-            let characters = text.chars().collect::<Vec<char>>(alloc)?;
-            let found = matcher.longest_match(*mode, characters.as_slice())?;
-            let found = shown(alloc, found)?;
-            assert_eq!(rt;
-                found.as_str(),
-                *wanted,
-                "{text} in mode {mode}, time {time}"
-            );
-        }
+        check_rows(rt, alloc, &mut matcher, rows, time)?;
     }
     Ok(())
 }

@@ -4,7 +4,7 @@ use g4_base::Sequence;
 use g4_lexable::is_lexable;
 use g4_lexing::LexerCommand::{Channel, Mode, More, PopMode, PushMode, Skip, Type};
 use g4_lexing::tokens;
-use std::alloc::Global;
+use std::alloc::{AllocError, Global};
 use std::process::Abort;
 use std::test::Fail;
 
@@ -341,18 +341,22 @@ const NESTED: &[(&str, &str, u32, &str)] = &[
     ),
 ];
 
+/// Adds a piece so many times.
+fn push_times(text: &mut String, piece: &str, times: u32) -> Result<(), AllocError> {
+    for _ in 0..times {
+        text.push_str(piece)?;
+    }
+    Ok(())
+}
+
 #[test]
 fn comments_nested_deep(rt: HostRuntime) -> Result<(), Fail> {
     let alloc = rt.alloc();
     let lexer = lexer(alloc, COMMENTS, &[])?;
     for (open, close, depth, wanted) in NESTED {
         let mut text = String::new(alloc);
-        for _ in 0..*depth {
-            text.push_str(open)?;
-        }
-        for _ in 0..*depth {
-            text.push_str(close)?;
-        }
+        push_times(&mut text, open, *depth)?;
+        push_times(&mut text, close, *depth)?;
         let found = lexed(alloc, &lexer, text.as_bytes(), 9)?;
         assert_eq!(rt; found.as_str(), *wanted, "{open} {depth}");
     }
