@@ -1,10 +1,8 @@
-// What is checked, numbered and resolved of grammars.
+// What is checked, numbered and resolved of grammars: tables of their texts and what is answered of each, worked out by hand.
 #![tactic(auto)]
 
 #[cfg(test)]
 mod checks;
-#[cfg(test)]
-mod empty_rules;
 #[cfg(test)]
 mod forms;
 #[cfg(test)]
@@ -13,5 +11,9 @@ mod recursion;
 mod references;
 #[cfg(test)]
 mod resolving;
+#[cfg(test)]
+mod texts;
+#[cfg(test)]
+mod unwritten;
 #[cfg(test)]
 mod vocabularies;

@@ -1,162 +1,94 @@
-// Rules whose references are names, and their steps, worked out by hand.
+// Rules whose references are names, and their steps.
+use crate::texts::{check_table, repeated};
+use crate::vocabularies::push_set;
 use g4_base::{Place, Sequence, Text};
-use g4_elements::{Alternative, Element, Elements, Name, Repeat};
-use g4_grammar::{NumberedAtom, NumberedKind, Step, StepRule};
+use g4_elements::Element;
+use g4_grammar::{Step, StepRule};
 use g4_resolve::{Resolving, resolve};
-use g4_source::{ParserRule, RuleAlternative};
+use g4_source::Source;
 use g4_symbols::Symbols;
+use g4_vocab::number;
 use std::alloc::{AllocError, Global};
+use std::fmt::Write;
 use std::test::Fail;
 
-fn name(alloc: Global, text: &str) -> Result<Name, AllocError> {
-    Ok(Name {
-        text: Text::copy_of(alloc, text)?,
-        place: Place::START,
-    })
-}
-
-/// An atom for a character of a text: a digit is a symbol, `!` an action, `?` a predicate, a letter a reference.
-fn kind(alloc: Global, sign: char) -> Result<NumberedKind, AllocError> {
-    Ok(match sign {
-        '!' => NumberedKind::Action,
-        '?' => NumberedKind::Predicate(name(alloc, "{}")?),
-        '1' => NumberedKind::Set(Symbols::one(alloc, 1)?),
-        _ => {
-            let mut text = String::new(alloc);
-            text.push(sign)?;
-            NumberedKind::Rule(name(alloc, text.as_str())?)
-        }
-    })
-}
-
-/// An element for each character of the text: an atom is right associative where `^` follows it, which has no atom of its own.
-fn atoms(alloc: Global, text: &str) -> Result<Vec<Element<NumberedAtom>>, AllocError> {
-    let mut atoms = Vec::new(alloc);
-    let mut signs = text.chars().peekable();
-    while let Some(sign) = signs.next() {
-        let right = signs.next_if_eq(&'^').is_some();
-        let kind = kind(alloc, sign)?;
-        atoms.push(Element::Atom(NumberedAtom { right, kind }))?;
-    }
-    Ok(atoms)
-}
-
-/// A rule of one alternative, with an atom for each character of the text.
-fn rule(alloc: Global, named: &str, text: &str) -> Result<ParserRule<NumberedAtom>, AllocError> {
-    let elements = atoms(alloc, text)?;
-    rule_of(alloc, named, false, elements)
-}
-
-/// A rule of one alternative of these elements, which begins with `<assoc=right>` or not.
-fn rule_of(
-    alloc: Global,
-    named: &str,
-    right: bool,
-    elements: Vec<Element<NumberedAtom>>,
-) -> Result<ParserRule<NumberedAtom>, AllocError> {
-    let alternative = RuleAlternative {
-        right,
-        elements: Elements::new(elements),
-        label: None,
-    };
-    Ok(ParserRule {
-        name: Text::copy_of(alloc, named)?,
-        alternatives: Sequence::new(vec![in alloc; alternative]?),
-    })
-}
-
-fn push_step(shown: &mut String, step: &Step<Symbols>) -> Result<(), AllocError> {
+/// Adds a step.
+fn push_step(alloc: Global, text: &mut String, step: &Step<Symbols>) -> Result<(), AllocError> {
     match step {
-        Step::Edge(set) => shown.push_str(if set.contains(1) { "1" } else { "-" }),
-        Step::Call { rule: 1, .. } => shown.push_str("call 1"),
-        Step::Call { rule: 2, .. } => shown.push_str("call 2"),
-        Step::Call { .. } => shown.push_str("call none"),
-        Step::Predicate(0) => shown.push_str("predicate 0"),
-        Step::Predicate(_) => shown.push_str("predicate none"),
-        Step::Level(_) => shown.push_str("level"),
-        Step::Action => shown.push_str("action"),
-        Step::Empty => shown.push_str("empty"),
+        Step::Edge(set) => push_set(alloc, text, set),
+        Step::Call { rule, level } => write!(text, "call {rule} {level}"),
+        Step::Predicate(number) => write!(text, "predicate {number}"),
+        Step::Level(_) => write!(text, "level"),
+        Step::Action => write!(text, "action"),
+        Step::Empty => write!(text, "empty"),
     }
 }
 
-fn shown(alloc: Global, rule: &StepRule) -> Result<String, AllocError> {
-    let mut shown = String::from_str(alloc, rule.name.as_str())?;
+/// Adds elements, with a blank before each.
+fn push_elements(
+    alloc: Global,
+    text: &mut String,
+    elements: &[Element<Step<Symbols>>],
+) -> Result<(), AllocError> {
+    for element in elements {
+        text.push(' ')?;
+        match element {
+            Element::Atom(step) => push_step(alloc, text, step)?,
+            Element::Block(..) => text.push_str("block")?,
+        }
+    }
+    Ok(())
+}
+
+/// Adds a rule: its name, and of each alternative whether it is right associative, and its steps.
+fn push_rule(alloc: Global, text: &mut String, rule: &StepRule) -> Result<(), AllocError> {
+    text.push_str(rule.name.as_str())?;
     for alternative in rule.alternatives.as_slice() {
-        if alternative.right {
-            shown.push_str(" right")?;
-        }
-        for element in alternative.elements.as_slice() {
-            shown.push_str("; ")?;
-            match element {
-                Element::Atom(step) => push_step(&mut shown, step)?,
-                Element::Block(..) => shown.push_str("block")?,
-            }
-        }
+        text.push_str(if alternative.right { " right" } else { " left" })?;
+        push_elements(alloc, text, alternative.elements.as_slice())?;
     }
-    Ok(shown)
+    text.push('.')
 }
 
-fn stage(alloc: Global) -> Result<Resolving, AllocError> {
+/// The rules of a grammar over steps. Of its rules `a` and `b` have numbers, and of its predicates those at column 4 of line 2 and at
+/// column 9 of line 2.
+fn resolved(alloc: Global, source: &Source) -> Result<String, AllocError> {
+    let mut text = String::new(alloc);
+    let Ok(grammar) = number(alloc, source) else {
+        return Ok(text);
+    };
     let names = vec![in alloc; Text::copy_of(alloc, "a")?, Text::copy_of(alloc, "b")?]?;
-    let predicates = vec![in alloc; Place::START]?;
-    Ok(Resolving {
+    let predicates = vec![in alloc; Place { line: 2, column: 4 }, Place { line: 2, column: 9 }]?;
+    let stage = Resolving {
         names: Sequence::new(names),
         predicates: Sequence::new(predicates),
-    })
+    };
+    for rule in resolve(alloc, &stage, grammar.rules.into_vec())? {
+        push_rule(alloc, &mut text, &rule)?;
+    }
+    Ok(text)
 }
+
+const TABLE: &str = "
+a : 'x' b {} a ; b : c ; => a left [1] call 2 0 action call 1 0.b left call 3 0.
+a : {p}? {q}? {r}? ; => a left predicate 0 predicate 1 predicate 2.
+Right associative by an element of the alternative, or by its begin.
+a : a 'x' a | ; => a left call 1 0 [1] call 1 0 left.
+a : <assoc=right> a 'x' a ; => a right call 1 0 [1] call 1 0.
+a : a 'x'<assoc=right> a ; => a right call 1 0 [1] call 1 0.
+a : a 'x' a<assoc=right> ; => a right call 1 0 [1] call 1 0.
+a : a ('x'<assoc=right>) ; => a left call 1 0 block.
+";
 
 #[test]
 fn resolves(rt: HostRuntime) -> Result<(), Fail> {
     let alloc = rt.alloc();
-    let stage = stage(alloc)?;
-    let rules = vec![in alloc; rule(alloc, "a", "1b!a")?, rule(alloc, "b", "c?")?]?;
-    let made = resolve(alloc, &stage, rules)?;
-    assert_eq!(rt; made.len(), 2);
-    let first = shown(alloc, &made[0])?;
-    assert_eq!(rt; first.as_str(), "a; 1; call 2; action; call 1");
-    let second = shown(alloc, &made[1])?;
-    assert_eq!(rt; second.as_str(), "b; call none; predicate 0");
-    Ok(())
-}
-
-/// A rule of one alternative of these elements, which begins with `<assoc=right>` or not, over steps.
-fn resolved(
-    alloc: Global,
-    right: bool,
-    elements: Vec<Element<NumberedAtom>>,
-) -> Result<String, AllocError> {
-    let stage = stage(alloc)?;
-    let rules = vec![in alloc; rule_of(alloc, "a", right, elements)?]?;
-    let made = resolve(alloc, &stage, rules)?;
-    match made.first() {
-        Some(rule) => shown(alloc, rule),
-        None => Ok(String::new(alloc)),
-    }
-}
-
-#[test]
-fn is_right_by_an_element(rt: HostRuntime) -> Result<(), Fail> {
-    let alloc = rt.alloc();
-    let none = resolved(alloc, false, atoms(alloc, "a1a")?)?;
-    assert_eq!(rt; none.as_str(), "a; call 1; 1; call 1");
-    let at_the_start = resolved(alloc, true, atoms(alloc, "a1a")?)?;
-    assert_eq!(rt; at_the_start.as_str(), "a right; call 1; 1; call 1");
-    let on_the_operator = resolved(alloc, false, atoms(alloc, "a1^a")?)?;
-    assert_eq!(rt; on_the_operator.as_str(), "a right; call 1; 1; call 1");
-    let on_the_last = resolved(alloc, false, atoms(alloc, "a1a^")?)?;
-    assert_eq!(rt; on_the_last.as_str(), "a right; call 1; 1; call 1");
-    Ok(())
-}
-
-#[test]
-fn is_not_right_by_an_atom_in_a_block(rt: HostRuntime) -> Result<(), Fail> {
-    let alloc = rt.alloc();
-    let side = Alternative {
-        elements: atoms(alloc, "1^")?,
-    };
-    let mut elements = atoms(alloc, "a")?;
-    elements.push(Element::Block(None, Repeat::Once, vec![in alloc; side]?))?;
-    let made = resolved(alloc, false, elements)?;
-    assert_eq!(rt; made.as_str(), "a; call 1; block");
+    check_table(&rt, alloc, "grammar X;\n", TABLE, resolved)?;
+    let rules = repeated(alloc, "r% : b {} ; ", 2_000)?;
+    let elements = "a 'x' ".repeat(alloc, 10_000)?;
+    let steps = repeated(alloc, "r% left call 2 0 action.", 2_000)?;
+    let others = " call 1 0 [1]".repeat(alloc, 10_000)?;
+    let table = format!(in alloc; "{rules}z : {elements}; => {steps}z left{others}.")?;
+    check_table(&rt, alloc, "grammar X;\n", table.as_str(), resolved)?;
     Ok(())
 }
