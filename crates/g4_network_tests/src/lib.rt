@@ -1,6 +1,8 @@
-// Networks: their listing, the classes of their symbols, their checks, and the rewriting of left recursion.
+// Networks: how they are built, their listing, the classes of their symbols, their checks, and the rewriting of left recursion.
 #![tactic(auto)]
 
+#[cfg(test)]
+mod builds;
 #[cfg(test)]
 mod classes;
 #[cfg(test)]

@@ -1,4 +1,4 @@
-// Configurations, closures, verdicts and decisions on networks written by hand.
+// Sets of stacks and of configurations, closures, verdicts and decisions on networks written by hand.
 #![tactic(auto)]
 
 #[cfg(test)]
@@ -8,6 +8,10 @@ mod configurations;
 #[cfg(test)]
 mod decisions;
 #[cfg(test)]
-mod verdicts;
+mod paths;
+#[cfg(test)]
+mod samples;
+#[cfg(test)]
+mod stacks;
 #[cfg(test)]
 mod walk;
