@@ -16,11 +16,11 @@ use Rattle.g4_prequels.specs.Taken.{IsTaken, Advances}
 use Rattle.g4_prequels.specs.declared.cursor.Taken.{Taken}
 use Rattle.g4_prequels.proofs.Coming.{comes_two, comes_left, comes_right, comes_optional, comes_absent, comes_inside, comes_turn, comes_nowhere}
 
--- the expression has been read from these tokens on, and no more than those are left behind it
+-- the expression has been read from these tokens on, and no more than those are left after it
 abbrev pub After : Expression → List Spelled → List Spelled → Type 0
 After x from other = (between : List Spelled) × (a : Tree x) × Reads a from between × (length other ≤ length between)
 
--- Reading one expression leads into another, and to bad sets in no other way, but behind it: where reading the other stops,
+-- Reading one expression leads into another, and to bad sets in no other way, but after it: where reading the other stops,
 -- reading the one does.
 pub halts_in : {x y : Expression} {from between rest : List Spelled} (halt : Halt) → ((t : Terminal) (other : List Spelled) → Comes t x between other → Comes t y from other) → ((t : Terminal) (other : List Spelled) → Comes t y from other → BeginsBad t other → Comes t x between other ⊎ After x between other) → Halts halt x between rest → Halts halt y from rest
 halts_in {x} {y} {from} {between} {rest} _ leads back (at_fault stop none) =
@@ -55,7 +55,7 @@ halts_second : {x y : Expression} (from between rest : List Spelled) (halt : Hal
 halts_second {x} {y} from between rest halt a read good halts =
     halts_in halt (λ t other comes. in_second from between other a read comes) (λ t other comes bad. elim (comes_two from between other a read comes) [ inl first ↦ absurd (good t other first bad) | inr second ↦ inl second ]) halts
 
--- the first of two is not behind itself, and the second is
+-- the first of two is not after itself, and the second is
 first_or_after : {t : Terminal} {x y : Expression} (from other : List Spelled) → Comes t (x ▸ y) from other → Comes t x from other ⊎ After x from other
 first_or_after from other (in_first _ _ comes) = inl comes
 first_or_after from other (in_second _ between _ a read comes) = inr (between, a, read, comes_no_longer comes)
@@ -64,18 +64,18 @@ first_or_after from other (in_second _ between _ a read comes) = inr (between, a
 halts_first : {x y : Expression} (from rest : List Spelled) (halt : Halt) → Halts halt x from rest → Halts halt (x ▸ y) from rest
 halts_first from rest halt halts = halts_in halt (λ t other comes. in_first from other comes) (λ t other comes bad. first_or_after from other comes) halts
 
--- two, one behind the other
+-- two, one after the other
 pub two : {x y : Expression} {P : Tree x → Type 0} {Q : Tree y → Type 0} {R : Tree (x ▸ y) → Type 0} {s t u : Progress} → Moves P s t → Moves Q t u → ((a : Tree x) (b : Tree y) → P a → Q b → R (both a b)) → Moves R s u
 two (reads from between a first good p) (reads _ to b second other_good q) means = reads from to (both a b) (between, first, second) (good_two from between a first good other_good) (means a b p q)
 two (reads from between a first good p) (stops _ rest halt halts) means = stops from rest halt (halts_second from between rest halt a first good halts)
 two (stops from rest halt halts) (stays _ _) means = stops from rest halt (halts_first from rest halt halts)
 two (stays halt rest) (stays _ _) means = stays halt rest
 
--- one behind another, of whose tree this holds with any tree of the first
+-- one after another, of whose tree this holds with any tree of the first
 pub upon : {x y : Expression} {P : Tree x → Type 0} {R : Tree (x ▸ y) → Type 0} {s t u : Progress} → Moves P s t → Moves (λ b. (a : Tree x) → P a → R (both a b)) t u → Moves R s u
 upon first then = two first then (λ a b p q. q a p)
 
--- one behind another, of which nothing is kept
+-- one after another, of which nothing is kept
 pub behind : {x y : Expression} {P : Tree x → Type 0} {s t u : Progress} → Moves P s t → Passes y t u → Passes (x ▸ y) s u
 behind first then = two first then (λ a b p q. tt)
 
@@ -118,7 +118,7 @@ unfolding is_next
 no_turn (reading from) none says = reads from from end (none, refl) (λ t other comes bad. comes_nowhere from other none comes) says
 no_turn (stopped halt rest) none says = stays halt rest
 
--- a turn is not behind itself, and the later ones are
+-- a turn is not after itself, and the later ones are
 turn_or_after : {t : Terminal} {x : Expression} (from other : List Spelled) → Comes t (repeated x) from other → Comes t x from other ⊎ After x from other
 turn_or_after from other (in_turn _ _ _ comes) = inl comes
 turn_or_after from other (in_later_turn _ between _ a _ read comes) = inr (between, a, read, comes_no_longer comes)

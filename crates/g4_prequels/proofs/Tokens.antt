@@ -76,21 +76,21 @@ name_next (reading []) = refl
 name_next (reading (token ∷ _)) = refl
 name_next (stopped halt rest) = refl
 
--- the token that stands there is a part of the text
+-- the token that is there is a part of the text
 pub part_at : {text : List ℕ} {tokens : List Token} (at : ℕ) (token : Token) → slice_get tokens at ≡ Some token → AreParts text tokens → IsPart text token
 part_at at token is (each_is each) = each at token is
 
--- no bytes stand ahead where reading has stopped
+-- no bytes are ahead where reading has stopped
 pub none_ahead : (many : ℕ) (kind : Kind) (halt : Option Halt) (rest : List Spelled) → is_some halt ≡ true → bytes_ahead many kind (progress halt rest) ≡ None
 none_ahead many kind None rest has = absurd (true≢false (sym has))
 none_ahead many kind (Some halt) rest has = refl
 
--- the bytes ahead are those of the token that stands there, if it is of the kind
+-- the bytes ahead are those of the token that is there, if it is of the kind
 pub bytes_there : (text : List ℕ) (tokens : List Token) (many : ℕ) (kind : Kind) (halt : Option Halt) → is_some halt ≡ false → bytes_ahead many kind (progress halt (spelled text tokens)) ≡ bytes_if kind (option_map (spelled_token text) (slice_get tokens many))
 bytes_there text tokens many kind None has = ap (bytes_if kind) (slice_get-map (spelled_token text) tokens many)
 bytes_there text tokens many kind (Some halt) has = absurd (true≢false has)
 
--- the bytes of the token that stands there
+-- the bytes of the token that is there
 pub bytes_of_there : (text : List ℕ) (tokens : List Token) (many : ℕ) (kind : Kind) (halt : Option Halt) (token : Token) (b : Bool) → is_some halt ≡ false → slice_get tokens many ≡ Some token → sameb the_type token.kind kind ≡ b → bytes_ahead many kind (progress halt (spelled text tokens)) ≡ (if b then Some (bytes_of text token) else None)
 bytes_of_there text tokens many kind halt token b has is same =
     bytes_there text tokens many kind halt has ∙ rw is (ap (λ (c : Bool). if c then Some (bytes_of text token) else None) (sym (same_kind token.kind kind) ∙ same))

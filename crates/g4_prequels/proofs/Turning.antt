@@ -43,7 +43,7 @@ turn turned is moves same = record { less = omega (arith, turned.less, no_more m
 pub end_turns : {x : Expression} {V : Type 0} {Whole With : Tree (repeated x) → V} {s t : Progress} {value : V} → Turned Whole With s t → is_next x t ≡ false → value ≡ With end → Moves (λ tree. value ≡ Whole tree) s t
 end_turns {t = t} {value = value} turned none same = turned.whole value t (no_turn t none same)
 
--- turns of which these items have been listed, behind those before
+-- turns of which these items have been listed, after those before
 pub record Listed {x : Expression} {T : Type 0} (items : Tree (repeated x) → List T) (before : List T) (s : Progress) (listed : List T) (t : Progress) : Type 0 where
   pub turned : Turned (λ tree. before ++ items tree) (λ rest. listed ++ items rest) s t
 
@@ -60,7 +60,7 @@ pub list_turn : {x : Expression} {T : Type 0} {P : Tree x → Type 0} (items : T
 list_turn items {before} {listed} {longer} {item} turned is moves same more_is =
     record { turned = turn turned.turned is moves (λ a rest p. one_item listed longer (items rest) (items (more a rest)) item (same a rest p) more_is) }
 
--- one turn more behind a sign
+-- one turn more after a sign
 pub sign_over : {t : Terminal} {y : Expression} {V : Type 0} {P : Tree (one t) → Type 0} {Q : Tree y → Type 0} {Whole With Then : Tree (repeated (one t ▸ y)) → V} {s u v w : Progress} → Turned Whole With s u → is_next (one t) u ≡ true → Moves P u v → Moves Q v w → ((a : Tree (one t)) (b : Tree y) (rest : Tree (repeated (one t ▸ y))) → Q b → With (more (both a b) rest) ≡ Then rest) → Turned Whole Then s w
 sign_over {t} {y} {V} {P} {Q} {Whole} {With} {Then} {s} {u} turned is first second same =
     turn turned (led (one t) y u refl ∙ is) (two {R = Each} first second (λ a b p q. q)) whole
@@ -71,7 +71,7 @@ sign_over {t} {y} {V} {P} {Q} {Whole} {With} {Then} {s} {u} turned is first seco
     whole : (a : Tree (one t ▸ y)) (rest : Tree (repeated (one t ▸ y))) → Each a → With (more a rest) ≡ Then rest
     whole (both a b) rest q = same a b rest q
 
--- one turn more behind a sign, which adds an item
+-- one turn more after a sign, which adds an item
 pub sign_turn : {t : Terminal} {y : Expression} {T : Type 0} {P : Tree (one t) → Type 0} {Q : Tree y → Type 0} (items : Tree (repeated (one t ▸ y)) → List T) {before listed longer : List T} {item : T} {s u v w : Progress} → Listed items before s listed u → is_next (one t) u ≡ true → Moves P u v → Moves Q v w → ((a : Tree (one t)) (b : Tree y) (rest : Tree (repeated (one t ▸ y))) → Q b → items (more (both a b) rest) ≡ item ∷ items rest) → longer ≡ listed ++ item ∷ [] → Listed items before s longer w
 sign_turn items {before} {listed} {longer} {item} turned is first second same more_is =
     record { turned = sign_over turned.turned is first second (λ a b rest q. one_item listed longer (items rest) (items (more (both a b) rest)) item (same a b rest q) more_is) }
@@ -92,7 +92,7 @@ fewer is (reads from to tree read good says) = some (text tree) from to (reads_t
 fewer is (stops from rest halt halts) = omega arith
 fewer is (stays halt rest) = absurd (true≢false (sym is))
 
--- what is read behind a sign that is next leaves fewer tokens
+-- what is read after a sign that is next leaves fewer tokens
 pub fewer_then : {t : Terminal} {y : Expression} {P : Tree (one t) → Type 0} {Q : Tree y → Type 0} {s u v : Progress} → is_next (one t) s ≡ true → Moves P s u → Moves Q u v → left v < left s
 fewer_then {t} {y} {s = s} is first second = fewer (led (one t) y s refl ∙ is) (two {R = λ tree. Unit {0}} first second (λ a b p q. tt))
 

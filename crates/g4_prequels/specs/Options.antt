@@ -9,7 +9,7 @@ use Rattle.g4_syntax.specs.Productions.{value, setting, options, element_option,
 use Rattle.g4_syntax.specs.Trees.{Tree, both, left, right, absent, present, end, more}
 use Rattle.g4_prequels.specs.Texts.{text_of, name_of}
 
--- the names behind dots
+-- the names after dots
 abbrev pub names_behind_dots : Tree (repeated (sign kinds.Dot ▸ name)) → List (List ℕ)
 names_behind_dots end = []
 names_behind_dots (more (both dot n) ns) = text_of n ∷ names_behind_dots ns
@@ -49,7 +49,7 @@ abbrev pub says_right : Tree element_option → Bool
 says_right (both n absent) = false
 says_right (both n (present (both equals v))) = bytes_eq (text_of n) (codes "assoc") && is_right (value_of v)
 
--- whether one of the options behind commas is `assoc=right`
+-- whether one of the options after commas is `assoc=right`
 abbrev pub one_says_right : Tree (repeated (sign kinds.Comma ▸ element_option)) → Bool
 one_says_right end = false
 one_says_right (more (both comma o) os) = says_right o || one_says_right os

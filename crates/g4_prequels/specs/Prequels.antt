@@ -1,4 +1,4 @@
--- What stands before the rules.
+-- What comes before the rules: prequels.
 use Rattle.std.specs.Prelude.{ℕ, List, [], ◌∷◌, Option, Some, None}
 use Rattle.g4_tokens.specs.declared.token.Kind.TheVariants as kinds
 use Rattle.g4_source.specs.declared.prequel.Prequel.{Prequel}
@@ -9,18 +9,18 @@ use Rattle.g4_syntax.specs.Trees.{Tree, both, left, right, absent, present, end,
 use Rattle.g4_prequels.specs.Options.{settings_of}
 use Rattle.g4_prequels.specs.Texts.{token_of, text_of}
 
--- an imported grammar: the name behind `=` counts, where there is one
+-- an imported grammar: the name after `=` counts, where there is one
 abbrev pub imported_of : Tree imported → List ℕ
 imported_of (both n absent) = text_of n
 imported_of (both n (present (both equals other))) = text_of other
 
--- the imported grammars behind commas
+-- the imported grammars after commas
 abbrev pub imported_behind : Tree (repeated (sign kinds.Comma ▸ imported)) → List (List ℕ)
 imported_behind end = []
 imported_behind (more (both comma i) is) = imported_of i ∷ imported_behind is
 
 abbrev mutual
-  -- the names behind a name
+  -- the names after a name
   pub names_behind : Tree (optional (part more_names)) → List (List ℕ)
   names_behind absent = []
   names_behind (present (inner (both comma ns))) = names_from ns
@@ -42,7 +42,7 @@ imports_of (both i is) = imported_of i ∷ imported_behind is
 abbrev pub import_of : Tree import → Prequel
 import_of (both keyword (both is semicolon)) = prequels.Import (token_of keyword).place (imports_of is)
 
--- what stands before the rules, named actions being passed over
+-- what a prequel says; named actions are passed over
 abbrev pub prequel_of : Tree prequel → Option Prequel
 prequel_of (left o) = Some (prequels.Options (settings_of o))
 prequel_of (right (left i)) = Some (import_of i)

@@ -33,12 +33,12 @@ abbrev pub halt_of : Progress → Option Halt
 halt_of (reading rest) = None
 halt_of (stopped halt rest) = Some halt
 
--- the bytes of the token that stands so many tokens behind the next one, if it is of this kind
+-- the bytes of the token that comes so many tokens after the next one, if it is of this kind
 abbrev pub bytes_ahead : ℕ → Kind → Progress → Option (List ℕ)
 bytes_ahead many kind (reading rest) = bytes_at many kind rest
 bytes_ahead many kind (stopped halt rest) = None
 
--- where the terminal stands, a bad set begins with the next token
+-- if reading asks for the terminal here, a bad set begins with the next token
 abbrev pub BadNext : Terminal → Progress → Type 0
 BadNext t (reading rest) = BeginsBad t rest
 BadNext t (stopped halt rest) = ⊥
@@ -48,13 +48,13 @@ unfoldable pub is_next : Expression → Progress → Bool
 is_next x (reading rest) = begins_there x rest
 is_next x (stopped halt rest) = false
 
--- reading the expression from these tokens on stops before those: they cannot stand there, or a bad set begins with them, and
--- there is none before
+-- reading the expression from the tokens `from` on stops before the tokens `rest`: the first of them cannot come there, or a bad
+-- set begins with it; there is no bad set before
 pub data Halts : Halt → Expression → List Spelled → List Spelled → Type 0 where
   at_fault : {x : Expression} {from rest : List Spelled} → Stops x from rest → HasNoBad x from → Halts Fault x from rest
   at_bad_set : {x : Expression} {from rest : List Spelled} → HasFirstBad x from rest → Halts BadSet x from rest
 
--- The expression is read, with no bad set, and this holds of its tree; or reading stops in it; or reading had stopped before.
+-- The expression is read, with no bad set in it, and this holds of its tree; or reading stops in it; or it had stopped before.
 pub data Moves {x : Expression} (Says : Tree x → Type 0) : Progress → Progress → Type 0 where
   reads : (from to : List Spelled) (tree : Tree x) → Reads tree from to → HasNoBad x from → Says tree → Moves Says (reading from) (reading to)
   stops : (from rest : List Spelled) (halt : Halt) → Halts halt x from rest → Moves Says (reading from) (stopped halt rest)

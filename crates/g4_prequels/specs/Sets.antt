@@ -47,20 +47,20 @@ abbrev pub is_no_character : Option (List ℕ) → Bool
 is_no_character None = false
 is_no_character (Some bytes) = is_none (character_of bytes)
 
--- whether the second of two characters stands before the first, or one of them is none
+-- whether the second of two characters is less than the first, or one of them is none
 abbrev pub is_backward : Option ℕ → Option ℕ → Bool
 is_backward None last = true
 is_backward (Some first) None = true
 is_backward (Some first) (Some last) = nat_lt last first
 
--- whether `..` and a literal, as far as they stand behind a literal with this character, make a bad range of it: it runs
--- backward, or an end of it is no character
+-- whether `..` and a literal, as far as they follow a literal with this character, make a bad range of it: it runs backward, or an
+-- end of it is not one character
 abbrev pub goes_on_bad : Option ℕ → Option (List ℕ) → Option (List ℕ) → Bool
 goes_on_bad first None last = false
 goes_on_bad first (Some dots) None = is_none first
 goes_on_bad first (Some dots) (Some last) = is_backward first (character_of last)
 
--- whether a literal, `..` and a literal, as far as they stand there, are a bad range
+-- whether a literal, `..` and a literal, as far as they are there, are a bad range: `'z'..'a'`, `'ab'..'c'`
 abbrev pub is_bad_range : Option (List ℕ) → Option (List ℕ) → Option (List ℕ) → Bool
 is_bad_range None dots last = false
 is_bad_range (Some first) dots last = goes_on_bad (character_of first) dots last
@@ -69,7 +69,7 @@ is_bad_range (Some first) dots last = goes_on_bad (character_of first) dots last
 abbrev pub begins_bad_range : List Spelled → Bool
 begins_bad_range tokens = is_bad_range (bytes_at 0 kinds.Literal tokens) (bytes_at 1 kinds.DoubleDot tokens) (bytes_at 2 kinds.Literal tokens)
 
--- where the terminal stands, a bad character set begins with the first of these tokens
+-- if reading asks for the terminal here, a bad character set begins with the first of these tokens
 abbrev pub BeginsBad : Terminal → List Spelled → Type 0
 BeginsBad (of_kind kind) tokens = ⊥
 BeginsBad (keyword spelling) tokens = ⊥
@@ -78,11 +78,11 @@ BeginsBad a_set tokens = IsBadSet (bytes_at 0 kinds.Set tokens)
 BeginsBad characters tokens = begins_bad_range tokens ≡ true
 BeginsBad excluded tokens = (is_no_character (bytes_at 0 kinds.Literal tokens) || begins_bad_range tokens) ≡ true
 
--- reading the expression from these tokens on comes to no bad set
+-- reading the expression from the tokens `from` on comes to no bad set
 abbrev pub HasNoBad : Expression → List Spelled → Type 0
 HasNoBad x from = (t : Terminal) (rest : List Spelled) → Comes t x from rest → ¬ (BeginsBad t rest)
 
--- the first of the bad sets to which reading the expression comes begins with the first of those tokens
+-- the first bad set to which reading the expression comes begins with the first of the tokens `rest`
 pub record HasFirstBad (x : Expression) (from rest : List Spelled) : Type 0 where
   pub terminal : Terminal
   pub comes : Comes terminal x from rest

@@ -1,5 +1,5 @@
-// A cursor over the tokens of a text. Where the next token is not one that may stand there, or begins a bad set, reading stops:
-// then no token is next, and nothing more is taken, so that what reads a part needs no branch for it.
+// A cursor over the tokens of a text. Where the next token is not one that may come there, or begins a bad set, reading stops:
+// from then on no token is next and nothing more is taken, so that what reads a part needs no branch for it.
 ghost use Rattle.std.specs.Prelude.{◌≡◌, IfOk, OnOk, length, option_map};
 ghost use Rattle.g4_syntax.specs.Notation.{optional, sign, word, name as a_name};
 ghost use Rattle.g4_tokens.specs.declared.token.Kind.TheVariants as kinds;
@@ -22,7 +22,7 @@ pub const MOST_OPEN: u32 = 1024;
 /// Why reading stops before a token.
 #[derive(Clone, Copy, Debug, PartialEq, Eq)]
 pub enum Halt {
-    /// It cannot stand there.
+    /// The token cannot come there.
     Fault,
     /// A bad character set begins with it.
     BadSet,
@@ -106,7 +106,7 @@ impl<'a> Cursor<'a> {
         self.is_at(Kind::Lower) || self.is_at(Kind::Upper)
     }
 
-    /// The text of the token that stands so many tokens behind the next one, if it is of this kind.
+    /// The text of the token that comes so many tokens after the next one, if it is of this kind.
     pub fn text_ahead(&self, many: usize, kind: Kind) -> Option<&'a str>
         ensures { option_map (λ text. text.now) result ≡ bytes_ahead many kind self.now }
     {

@@ -1,4 +1,4 @@
-// What the rules of a grammar text stand on: a cursor over its tokens, its options and prequels, and what is passed over.
+// What reading the rules of a grammar text needs: a cursor over its tokens, its options and prequels, and what is passed over.
 #![tactic(auto)]
 
 mod cursor;

@@ -10,7 +10,7 @@ use crate::options::options;
 use g4_tokens::Kind;
 use std::alloc::AllocError;
 
-/// Passes what may stand before a parser rule's name.
+/// Passes what may come before a parser rule's name.
 pub fn pass_modifier(cursor: &mut Cursor<'_>)
     ensures { Passes (optional modifier) cursor.old cursor.new }
 {
@@ -101,7 +101,7 @@ fn pass_declarations(cursor: &mut Cursor<'_>) -> Result<(), AllocError>
     Ok(())
 }
 
-/// Passes what may stand between a parser rule's name and its `:`.
+/// Passes what may come between a parser rule's name and its `:`.
 pub fn pass_rule_prequels(cursor: &mut Cursor<'_>) -> Result<(), AllocError>
     ensures { OnOk result (Passes rule_prequels cursor.old cursor.new) }
 {
@@ -122,14 +122,14 @@ fn pass_rule_actions(cursor: &mut Cursor<'_>)
     }
 }
 
-/// Whether what may stand before the alternatives of a block is next.
+/// Whether what may come before the alternatives of a block is next.
 fn is_at_block_prequel(cursor: &Cursor<'_>) -> bool
     ensures { result ≡ is_next block_prequel cursor.now }
 {
     is_at_declaration(cursor) | cursor.is_at(Kind::Colon)
 }
 
-/// Passes what may stand before the alternatives of a block.
+/// Passes what may come before the alternatives of a block.
 pub fn pass_block_prequel(cursor: &mut Cursor<'_>) -> Result<(), AllocError>
     ensures { OnOk result (Passes (optional block_prequel) cursor.old cursor.new) }
 {
@@ -142,7 +142,7 @@ pub fn pass_block_prequel(cursor: &mut Cursor<'_>) -> Result<(), AllocError>
     Ok(())
 }
 
-/// Passes what may stand behind a parser rule.
+/// Passes what may follow a parser rule.
 pub fn pass_handlers(cursor: &mut Cursor<'_>)
     ensures { Passes handlers cursor.old cursor.new }
 {

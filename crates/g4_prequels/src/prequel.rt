@@ -1,4 +1,4 @@
-// What stands before the rules of a grammar.
+// What comes before the rules of a grammar: prequels.
 ghost use Rattle.std.specs.Prelude.{◌≡◌, Some};
 ghost use Rattle.g4_tokens.specs.declared.token.Kind.TheVariants as kinds;
 ghost use Rattle.g4_syntax.specs.Notation.{optional, sign, ◌▸◌, name as a_name};
@@ -42,7 +42,7 @@ fn import(cursor: &mut Cursor<'_>) -> Result<Prequel, AllocError>
     Ok(Prequel::Import(place, Sequence::new(names)))
 }
 
-/// Names with commas between and perhaps behind.
+/// Names with commas between them and perhaps one at the end.
 fn names_from(cursor: &mut Cursor<'_>) -> Result<Sequence<Text>, AllocError>
     ensures { Gives names_from_tree cursor.old cursor.new result }
 {
@@ -88,7 +88,7 @@ fn pass_named_action(cursor: &mut Cursor<'_>)
     cursor.take(Kind::Action);
 }
 
-/// What stands before the rules, if it is kept.
+/// A prequel, if it is kept.
 fn prequel(cursor: &mut Cursor<'_>) -> Result<Option<Prequel>, AllocError>
     ensures { Gives prequel_of cursor.old cursor.new result }
 {
@@ -114,7 +114,7 @@ fn prequel(cursor: &mut Cursor<'_>) -> Result<Option<Prequel>, AllocError>
     Ok(None)
 }
 
-/// Whether what stands before the rules is next.
+/// Whether a prequel is next.
 fn is_at_prequel(cursor: &Cursor<'_>) -> bool
     ensures { result ≡ is_next a_prequel cursor.now }
 {
@@ -125,7 +125,7 @@ fn is_at_prequel(cursor: &Cursor<'_>) -> bool
         | cursor.is_at(Kind::At)
 }
 
-/// All that stands before the rules and is kept.
+/// All prequels that are kept.
 pub fn prequels(cursor: &mut Cursor<'_>) -> Result<Sequence<Prequel>, AllocError>
     ensures { Gives prequels_of cursor.old cursor.new result }
 {

@@ -10,7 +10,7 @@ use g4_source::Literal;
 use g4_tokens::{Token, literal_characters};
 use std::alloc::{AllocError, Global};
 
-/// The token at the index, if one stands there.
+/// The token at the index, if there is one.
 pub fn token_at(tokens: &[Token], at: usize) -> Option<Token>
     ensures { result ≡ slice_get tokens.now at }
 {

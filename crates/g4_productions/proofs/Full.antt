@@ -67,7 +67,7 @@ mutual
   alternative_full : (x : Tree alternative) → AreFull (alternative_elements x)
   alternative_full (both options xs) = parser_elements_full xs
 
-  -- the alternatives behind bars
+  -- the alternatives after bars
   behind_full : (xs : Tree (repeated (sign kinds.Bar ▸ alternative))) → EachIsFull (either (alternatives_behind xs))
   behind_full end = tt
   behind_full (more (both bar x) xs) = (alternative_full x, behind_full xs)
@@ -101,12 +101,12 @@ mutual
   lexer_elements_full end = tt
   lexer_elements_full (more x xs) = (lexer_full x, lexer_elements_full xs)
 
-  -- the alternatives behind bars
+  -- the alternatives after bars
   lexer_behind_full : (xs : Tree (repeated (sign kinds.Bar ▸ repeated (part lexer_element)))) → EachIsFull (either (lexer_alternatives_behind xs))
   lexer_behind_full end = tt
   lexer_behind_full (more (both bar x) xs) = (lexer_elements_full x, lexer_behind_full xs)
 
--- the alternatives of a parser rule behind bars
+-- the alternatives of a parser rule after bars
 rule_behind_full : (xs : Tree (repeated (sign kinds.Bar ▸ rule_alternative))) → EachIsFull (either (map (λ a. a.elements) (rule_alternatives_behind xs)))
 rule_behind_full end = tt
 rule_behind_full (more (both bar (both x l)) xs) = (alternative_full x, rule_behind_full xs)
@@ -115,7 +115,7 @@ rule_behind_full (more (both bar (both x l)) xs) = (alternative_full x, rule_beh
 parser_rule_full : (r : Tree parser_rule) → AreFullAlternatives (map (λ a. a.elements) (parser_rule_of r).alternatives)
 parser_rule_full (both modifier (both n (both prequels (both colon (both (both (both x l) xs) (both semicolon handlers)))))) = (tt, (alternative_full x, rule_behind_full xs))
 
--- the alternatives of a lexer rule behind bars
+-- the alternatives of a lexer rule after bars
 rule_lexer_behind_full : (xs : Tree (repeated (sign kinds.Bar ▸ lexer_alternative))) → EachIsFull (either (map (λ a. a.elements) (rule_lexer_alternatives_behind xs)))
 rule_lexer_behind_full end = tt
 rule_lexer_behind_full (more (both bar (both x cs)) xs) = (lexer_elements_full x, rule_lexer_behind_full xs)

@@ -8,7 +8,7 @@ use Rattle.g4_syntax.specs.Trees.{first_kinds, is_one_of}
 use Rattle.g4_prequels.specs.Progress.{Progress, reading, stopped, is_next}
 use Rattle.g4_prequels.proofs.Moving.{or_assoc}
 
--- an item that is read behind those that are listed is listed at their end
+-- an item that is read after those that are listed is listed at their end
 pub listed_more : {N T : Type 0} (value : N → T) (items : List N) (more : List N) (x : N) (y : T) (others : List T) → more ≡ items ++ x ∷ [] → value x ≡ y → map value items ++ y ∷ others ≡ map value more ++ others
 listed_more value items more x y others longer same = in_place items ∙ ap (λ l. map value l ++ others) (sym longer)
   where
@@ -16,7 +16,7 @@ listed_more value items more x y others longer same = in_place items ∙ ap (λ 
     in_place [] = ap (λ z. z ∷ others) (sym same)
     in_place (i ∷ is) = ap (λ l. value i ∷ l) (in_place is)
 
--- items that are read behind those that are listed are listed at their end
+-- items that are read after those that are listed are listed at their end
 pub all_more : {T : Type 0} (items more longer others : List T) → longer ≡ items ++ more → items ++ (more ++ others) ≡ longer ++ others
 all_more items more longer others is = rw is (sym (append_assoc items more others))
 

@@ -66,13 +66,13 @@ counted bytes tokens before rest is = sym (length-append before rest) ∙ sym (a
 pub not_longer : (bytes : List ℕ) (tokens : List Token) (source : Source) (end : Progress) → ReadsSource (spelled bytes tokens) source end → length (rest_of end) ≤ length tokens
 not_longer bytes tokens source end read = let s = split (spelled bytes tokens) source end read in omega (arith, counted bytes tokens (s.0) (rest_of end) s.1)
 
--- what is left behind the first tokens
+-- what is left after the first tokens
 behind_part : (bytes : List ℕ) (tokens : List Token) (before rest : List Spelled) → spelled bytes tokens ≡ before ++ rest → rest ≡ from bytes tokens (length before)
 behind_part bytes tokens [] rest is = sym is
 behind_part bytes [] (b ∷ before) rest is = absurd (cc)
 behind_part bytes (token ∷ tokens) (b ∷ before) rest is = let tail : spelled bytes tokens ≡ before ++ rest = cc in behind_part bytes tokens before rest tail
 
--- what is left stands from this index on
+-- what is left is there from this index on
 module _ (bytes : List ℕ) (tokens : List Token) (source : Source) (end : Progress) (read : ReadsSource (spelled bytes tokens) source end) where
   left_from : rest_of end ≡ from bytes tokens (length tokens - length (rest_of end))
   left_from =

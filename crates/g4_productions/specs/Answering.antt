@@ -8,7 +8,7 @@ use Rattle.g4_prequels.specs.Progress.{Progress, bytes_ahead}
 use Rattle.g4_prequels.specs.Sets.{content, is_no_character, is_bad_range}
 use Rattle.g4_productions.specs.Members.{set_of}
 
--- the terminal of a literal that stands under `~` or not
+-- the terminal of a literal that is under `~` or not
 abbrev pub literal_terminal : Bool → Terminal
 literal_terminal true = excluded
 literal_terminal false = characters

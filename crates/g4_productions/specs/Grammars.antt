@@ -16,11 +16,11 @@ use Rattle.g4_productions.specs.declared.reader.Stop.{Stop}
 use Rattle.g4_productions.specs.declared.reader.Stop.TheVariants as stops
 use Rattle.g4_productions.specs.Rules.{combined_rules, default_rules, parser_rules, modes_of}
 
--- the name that a grammar text begins with behind its kind
+-- the name of a grammar text
 abbrev pub heading_name : Tree heading → List ℕ
 heading_name (both n (both semicolon ps)) = text_of n
 
--- what stands before the rules
+-- the prequels of a grammar text
 abbrev pub heading_prequels : Tree heading → List Prequel
 heading_prequels (both n (both semicolon ps)) = prequels_of ps
 
@@ -49,7 +49,7 @@ source_of (right (right x)) = parser_grammar_of x
 abbrev pub IsGrammarText : List Spelled → Source → Type 0
 IsGrammarText tokens source = (tree : Tree grammar) × HasTree tokens tree × (source ≡ source_of tree)
 
--- the first of the bad sets to which reading a grammar text from these tokens on comes begins at this place
+-- the first bad set to which reading a grammar text comes begins at this place
 abbrev pub BadSetStands : List Spelled → Place → Type 0
 BadSetStands tokens place = (rest : List Spelled) × HasFirstBad grammar tokens rest × (place ≡ place_of rest)
 

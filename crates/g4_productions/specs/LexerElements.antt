@@ -52,7 +52,7 @@ abbrev mutual
   pub ranges_between : Tree (with_bars (part character_set)) → List Span
   ranges_between (both s ss) = excluded_ranges s ++ excluded_behind ss
 
-  -- the ranges behind bars
+  -- the ranges after bars
   pub excluded_behind : Tree (repeated (sign kinds.Bar ▸ part character_set)) → List Span
   excluded_behind end = []
   excluded_behind (more (both bar s) ss) = excluded_ranges s ++ excluded_behind ss
@@ -88,7 +88,7 @@ abbrev mutual
   upper_lexer_item (both n (left x)) = labelled_by (name_of n) x
   upper_lexer_item (both n (right options)) = single (record { label = None; right = right_of_optional options; kind = atoms.Token (name_of n) })
 
-  -- an item behind a label with this name
+  -- an item after a label with this name
   pub labelled_by : Name → Tree (assign ▸ lexer_item) → Labelled
   labelled_by name (both a i) = named_lexer_item (Some (record { name = name; list = is_list a })) i
 
@@ -113,7 +113,7 @@ abbrev mutual
   pub lexer_alternatives : Tree (with_bars (repeated (part lexer_element))) → List (Elements Atom)
   lexer_alternatives (both x xs) = in_order (lexer_elements x) ∷ lexer_alternatives_behind xs
 
-  -- the alternatives of a block behind bars
+  -- the alternatives of a block after bars
   pub lexer_alternatives_behind : Tree (repeated (sign kinds.Bar ▸ repeated (part lexer_element))) → List (Elements Atom)
   lexer_alternatives_behind end = []
   lexer_alternatives_behind (more (both bar x) xs) = in_order (lexer_elements x) ∷ lexer_alternatives_behind xs

@@ -21,7 +21,7 @@ abbrev pub reference_right : Tree reference_end → Bool
 reference_right (both arguments options) = right_of_optional options
 
 abbrev mutual
-  -- the tokens behind `~`
+  -- the tokens after `~`
   pub references_of : Tree (part token_set) → List TokenReference
   references_of (inner (left (both n options))) = references.Token (text_of n) ∷ []
   references_of (inner (right (left literal))) = references.Literal (literal_of literal) ∷ []
@@ -35,7 +35,7 @@ abbrev mutual
   pub references_between : Tree (with_bars (part token_set)) → List TokenReference
   references_between (both s ss) = references_of s ++ references_behind ss
 
-  -- the tokens behind bars
+  -- the tokens after bars
   pub references_behind : Tree (repeated (sign kinds.Bar ▸ part token_set)) → List TokenReference
   references_behind end = []
   references_behind (more (both bar s) ss) = references_of s ++ references_behind ss
@@ -67,7 +67,7 @@ abbrev mutual
   upper_item (both n (left x)) = labelled_behind (name_of n) x
   upper_item (both n (right options)) = single (record { label = None; right = right_of_optional options; kind = atoms.Token (name_of n) })
 
-  -- an item behind a label with this name
+  -- an item after a label with this name
   pub labelled_behind : Name → Tree (assign ▸ item) → Labelled
   labelled_behind name (both a i) = named_item (Some (record { name = name; list = is_list a })) i
 
@@ -96,7 +96,7 @@ abbrev mutual
   pub alternative_elements : Tree alternative → Elements Atom
   alternative_elements (both options xs) = in_order (parser_elements xs)
 
-  -- the alternatives behind bars
+  -- the alternatives after bars
   pub alternatives_behind : Tree (repeated (sign kinds.Bar ▸ alternative)) → List (Elements Atom)
   alternatives_behind end = []
   alternatives_behind (more (both bar x) xs) = alternative_elements x ∷ alternatives_behind xs

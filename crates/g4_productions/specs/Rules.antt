@@ -31,7 +31,7 @@ alternative_label (present (both hash n)) = Some (record { place = (token_of has
 abbrev pub rule_alternative_of : Tree rule_alternative → RuleAlternative Atom
 rule_alternative_of (both x l) = record { right = alternative_right x; elements = alternative_elements x; label = alternative_label l }
 
--- the alternatives of a parser rule behind bars
+-- the alternatives of a parser rule after bars
 abbrev pub rule_alternatives_behind : Tree (repeated (sign kinds.Bar ▸ rule_alternative)) → List (RuleAlternative Atom)
 rule_alternatives_behind end = []
 rule_alternatives_behind (more (both bar x) xs) = rule_alternative_of x ∷ rule_alternatives_behind xs
@@ -58,12 +58,12 @@ argument_of (present (both opening (both a closing))) = Some (argument_text_of a
 abbrev pub command_of : Tree command → Command
 command_of (both n a) = record { name = name_of n; argument = argument_of a }
 
--- the commands behind commas
+-- the commands after commas
 abbrev pub commands_behind : Tree (repeated (sign kinds.Comma ▸ command)) → List Command
 commands_behind end = []
 commands_behind (more (both comma c) cs) = command_of c ∷ commands_behind cs
 
--- the commands behind `->`
+-- the commands after `->`
 abbrev pub commands_in_order : Tree (with_commas command) → List Command
 commands_in_order (both c cs) = command_of c ∷ commands_behind cs
 
@@ -76,7 +76,7 @@ commands_of (present (both arrow cs)) = commands_in_order cs
 abbrev pub lexer_alternative_of : Tree lexer_alternative → LexerAlternative
 lexer_alternative_of (both x cs) = record { elements = in_order (lexer_elements x); commands = commands_of cs }
 
--- the alternatives of a lexer rule behind bars
+-- the alternatives of a lexer rule after bars
 abbrev pub rule_lexer_alternatives_behind : Tree (repeated (sign kinds.Bar ▸ lexer_alternative)) → List LexerAlternative
 rule_lexer_alternatives_behind end = []
 rule_lexer_alternatives_behind (more (both bar x) xs) = lexer_alternative_of x ∷ rule_lexer_alternatives_behind xs

@@ -44,7 +44,7 @@ fn add_brackets(cursor: &mut Cursor<'_>, ranges: &mut Vec<Range>) -> Result<(), 
     Ok(())
 }
 
-/// Adds the ranges that stand under `~`.
+/// Adds the ranges under `~`.
 #[cycle(brackets)]
 fn add_excluded(cursor: &mut Cursor<'_>, ranges: &mut Vec<Range>) -> Result<(), AllocError>
     ensures { OnOk result (Moves (λ tree. ranges.new.items ≡ ranges.old.items ++ excluded_ranges tree) cursor.old cursor.new) }

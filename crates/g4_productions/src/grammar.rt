@@ -19,14 +19,14 @@ const LEXER: &str = "lexer";
 
 const PARSER: &str = "parser";
 
-/// What a grammar text begins with behind its kind.
+/// What follows the words that say of which kind a grammar text is.
 #[derive(Drop)]
 struct Heading {
     name: Text,
     prequels: Sequence<Prequel>,
 }
 
-/// The grammar's name and what stands before its rules.
+/// The grammar's name and its prequels.
 fn read_heading(cursor: &mut Cursor<'_>) -> Result<Heading, AllocError>
     ensures { IfOk result (λ h. Moves (λ tree. (h.name ≡ heading_name tree) × (h.prequels ≡ heading_prequels tree)) cursor.old cursor.new) }
 {

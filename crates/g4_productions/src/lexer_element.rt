@@ -94,7 +94,7 @@ fn item(cursor: &mut Cursor<'_>, label: Option<Label>) -> Result<Labelled, Alloc
     Ok(item)
 }
 
-/// The sign of a label with this name, and the item behind it.
+/// The sign of a label with this name, and the item after it.
 #[cycle(brackets)]
 fn labelled_by(cursor: &mut Cursor<'_>, name: Name) -> Result<Labelled, AllocError>
     ensures { GivesAs labelled_of (labelled_by name) cursor.old cursor.new result }

@@ -67,7 +67,7 @@ fn commands_in_order(cursor: &mut Cursor<'_>) -> Result<Sequence<Command>, Alloc
     Ok(Sequence::new(commands))
 }
 
-/// The commands behind `->`, if it stands there.
+/// The commands after `->`, if it is there.
 fn commands(cursor: &mut Cursor<'_>) -> Result<Sequence<Command>, AllocError>
     ensures { Gives commands_of cursor.old cursor.new result }
 {
@@ -102,7 +102,7 @@ fn alternatives(cursor: &mut Cursor<'_>) -> Result<Sequence<LexerAlternative>, A
     Ok(Sequence::new(alternatives))
 }
 
-/// The place of `fragment`, if it stands there.
+/// The place of `fragment`, if it is there.
 fn fragment(cursor: &mut Cursor<'_>) -> Option<Place>
     ensures { Moves {x = optional (word (codes "fragment"))} (λ tree. result ≡ fragment_place tree) cursor.old cursor.new }
 {

@@ -32,7 +32,7 @@ fn character_of(alloc: Global, text: &str) -> Result<Option<char>, AllocError>
     Ok(lone(stands_for.as_slice()))
 }
 
-/// Whether the second of two characters stands before the first, or one of them is none.
+/// Whether the second of two characters is less than the first, or one of them is none.
 fn is_backward(first: Option<char>, last: Option<char>) -> bool
     ensures { result ≡ is_backward first last }
 {
@@ -74,7 +74,7 @@ fn literal_is_bad(cursor: &Cursor<'_>, excluded: bool) -> Result<bool, AllocErro
     Ok(bad)
 }
 
-/// Takes a literal of a lexer rule, which stands under `~` or not, unless it is bad.
+/// Takes a literal of a lexer rule, which is under `~` or not, unless it is bad.
 pub(crate) fn take_literal<'a>(
     cursor: &mut Cursor<'a>,
     excluded: bool,

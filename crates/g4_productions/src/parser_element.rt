@@ -14,7 +14,7 @@ use g4_source::{Atom, AtomKind};
 use g4_tokens::Kind;
 use std::alloc::AllocError;
 
-/// Whether a reference to a rule associates to the right, by what stands behind the rule's name.
+/// Whether a reference to a rule associates to the right, by what follows the rule's name.
 fn reference_end(cursor: &mut Cursor<'_>) -> Result<bool, AllocError>
     ensures { Gives reference_right cursor.old cursor.new result }
 {
@@ -73,7 +73,7 @@ fn item(cursor: &mut Cursor<'_>, label: Option<Label>) -> Result<Labelled, Alloc
     Ok(item)
 }
 
-/// The sign of a label with this name, and the item behind it.
+/// The sign of a label with this name, and the item after it.
 #[cycle(brackets)]
 fn labelled_behind(cursor: &mut Cursor<'_>, name: Name) -> Result<Labelled, AllocError>
     ensures { GivesAs labelled_of (labelled_behind name) cursor.old cursor.new result }

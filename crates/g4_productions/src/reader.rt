@@ -14,7 +14,7 @@ use std::alloc::{AllocError, Global};
 /// Why no grammar is read.
 #[derive(Drop)]
 pub enum Stop {
-    /// The index of the first token with which no grammar text begins, or behind them all, at the end of the text.
+    /// The index of the first token with which no grammar text begins; the number of tokens where the text ends too early.
     At(usize),
     /// The place of the first token that begins a bad character set.
     BadSet(Place),
@@ -36,7 +36,7 @@ impl From<AllocError> for Stop {
 ///
 /// # Errors
 /// - `At`: the index of the first token with which no grammar text begins, or how many tokens there are where more would have
-///   to stand behind them; no token before it begins a bad character set.
+///   to follow; no token before it begins a bad character set.
 /// - `BadSet`: the place of the first token that begins a bad character set; some grammar text begins with the tokens before it.
 /// - `NoMemory`: memory runs out, or more than 1,024 brackets are open at once.
 pub fn read_tokens(alloc: Global, text: &str, tokens: &[Token]) -> Result<Source, Stop>

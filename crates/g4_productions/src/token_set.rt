@@ -1,4 +1,4 @@
-// The tokens behind `~` in a parser rule.
+// The tokens after `~` in a parser rule.
 ghost use Rattle.std.specs.Prelude.{◌≡◌, ◌++◌, OnOk};
 ghost use Rattle.g4_prequels.specs.Progress.{Moves, Gives};
 ghost use Rattle.g4_productions.specs.ParserElements.{references_of, bracket_references};

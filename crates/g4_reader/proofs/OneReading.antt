@@ -37,7 +37,7 @@ not_cut tokens front (t ∷ ts) tree has cut = cut.ends (ts, tree, subst (λ (l 
 same_first : (t s : Spelled) (ts ss : List Spelled) → t ∷ ts ≡ s ∷ ss → t ≡ s
 same_first t s ts ss is = cc
 
--- the same lists have the same tokens behind the first
+-- the same lists have the same tokens after the first
 same_others : (t s : Spelled) (ts ss : List Spelled) → t ∷ ts ≡ s ∷ ss → ts ≡ ss
 same_others t s ts ss is = cc
 
@@ -64,7 +64,7 @@ one_cut : (tokens front rest other behind : List Spelled) → IsCut tokens front
 one_cut tokens front rest other behind cut also =
     same_cut BeginsText begins_before front rest other behind (sym cut.parts ∙ also.parts) cut.begins also.begins (ends_by front rest cut.ends) (ends_by other behind also.ends)
 
--- what stands behind some first tokens and is no longer than what stands behind others is the same, if neither is longer
+-- what follows some first tokens and what follows others is the same, if neither is longer
 same_length : (first rest other behind : List Spelled) → first ++ rest ≡ other ++ behind → length rest ≡ length behind → rest ≡ behind
 same_length [] rest [] behind is long = is
 same_length (t ∷ first) rest (s ∷ other) behind is long = same_length first rest other behind (same_others t s (first ++ rest) (other ++ behind) is) long
@@ -86,7 +86,7 @@ no_bad tokens place good (rest, first, is) = good first.terminal rest first.come
 one_fault : (bytes : List ℕ) (tokens : List Spelled) (a b : Fault) → IsFirstFault bytes tokens a → IsFirstFault bytes tokens b → a ≡ b
 one_fault bytes tokens a b is also = is.is ∙ ap (fault_at bytes) (one_cut tokens is.front is.rest also.front also.rest is.cut also.cut).1 ∙ sym also.is
 
--- the answer that tells a fault
+-- the answer that reports a fault
 unfoldable pub told : Fault → Result Source ReadFault
 told fault = Err (Syntax fault.place fault.characters)
 

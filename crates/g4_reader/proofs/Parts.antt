@@ -25,7 +25,7 @@ scalars_behind : (u v : List ℕ) → all_scalars (u ++ v) ≡ true → all_scal
 scalars_behind [] v all = all
 scalars_behind (c ∷ cs) v all = scalars_behind cs v (and_parts _ _ all).1
 
--- a character begins or the text ends behind so many bytes of it
+-- a character begins or the text ends after so many bytes of it
 seam : (bytes before text : List ℕ) (n : ℕ) → bytes ≡ encode_utf8_all (before ++ text) → all_scalars text ≡ true → n ≡ length (encode_utf8_all before) → IsCharBoundary bytes n
 seam bytes before text n parts all is =
     subst (IsCharBoundary bytes) (sym is) (IsCharBoundary-at_seam bytes (encode_utf8_all before) (encode_utf8_all text) (parts ∙ encodes-append before text) (text, (all, refl)))

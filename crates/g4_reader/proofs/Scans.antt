@@ -60,7 +60,7 @@ some_piece : (opening : Opening) (behind : List ℕ) → (piece : Piece) × IsPi
 some_piece (told piece) behind = (piece, at_once piece behind)
 some_piece (up_to closing) behind = elim (some_end closing behind) [ inl end ↦ (closed_piece closing end.0, with_end closing behind end.0 end.1) | inr never ↦ (Faulty, endless closing behind never) ]
 
--- what the rest of a text is: these tokens, or one whose first fault stands here
+-- what the rest of a text is: these tokens, or one whose first fault is here
 abbrev IsRest : List Word → Position → List ℕ → List Token ⊎ Position → Type 0
 IsRest words p text (inl tokens) = AreTokens words p text tokens
 IsRest words p text (inr at) = IsFaultyAt words p text at
@@ -91,7 +91,7 @@ some_rest (suc fuel) words p (c ∷ cs) h =
     let found = some_piece _ cs in
     rest_more words p c cs found.0 found.1 (λ later q more. some_rest fuel later q (drop more cs) (omega (arith, h, length-drop {A = ℕ} more cs)))
 
--- the bytes are a text that has these tokens, or whose first fault stands here
+-- the bytes are a text that has these tokens, or whose first fault is here
 abbrev pub IsCut : List ℕ → List Token ⊎ Position → Type 0
 IsCut bytes (inl tokens) = HasTokens bytes tokens
 IsCut bytes (inr at) = HasFault bytes at

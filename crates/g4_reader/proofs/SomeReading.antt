@@ -20,7 +20,7 @@ use Rattle.g4_reader.proofs.OneReading.{told}
 use Rattle.g4_reader.proofs.Readings.{IsReading-from, cut_from}
 use Rattle.g4_reader.proofs.Scans as scans
 
--- a fault that is told is not that of memory
+-- a fault that is reported is not that of memory
 told_not : (fault : Fault) → told fault ≢ Err NoMemory
 unfolding told
 told_not fault e = cc
@@ -34,7 +34,7 @@ text_reading : (bytes : List ℕ) (tokens : List Spelled) (tree : Tree grammar) 
 text_reading bytes tokens tree has (inl good) = (Ok (source_of tree), ((tree, has, refl), good), λ e. cc)
 text_reading bytes tokens tree has (inr (place, first)) = (Err (BadSet place), first, λ e. cc)
 
--- tokens that are cut have a reading: the first bad set before the cut, or the fault behind it
+-- tokens that are cut have a reading: the first bad set before the cut, or the fault after it
 cut_reading : (bytes : List ℕ) (tokens front rest : List Spelled) → IsCut tokens front rest → GoodOrBad tokens → SomeReadingOf bytes tokens
 unfolding told
 cut_reading bytes tokens front rest cut (inl good) =

@@ -7,12 +7,12 @@ use Rattle.g4_prequels.specs.Texts.{from}
 use Rattle.g4_prequels.specs.Texts.{characters_of, spelled, spelled_token}
 use Rattle.g4_reader.specs.Reading.{fault_at}
 
--- the token at an index stands first of those from there on
+-- the token at an index is the first of those from there on
 pub from_token : (text : List ℕ) (tokens : List Token) (at : ℕ) (token : Token) → slice_get tokens at ≡ Some token → from text tokens at ≡ spelled_token text token ∷ from text tokens (at + 1)
 from_token text tokens at token is =
     ap (map (spelled_token text)) (drop_more tokens at token (slice_get_within tokens at token is) ∙ ap (λ (t : Token). t ∷ drop (at + 1) tokens) (get_or_from_slice_get tokens at token token is))
 
--- behind all tokens there are none
+-- after all tokens there are none
 pub from_behind : (text : List ℕ) (tokens : List Token) (at : ℕ) → slice_get tokens at ≡ None → from text tokens at ≡ []
 from_behind text [] zero is = refl
 from_behind text [] (suc at) is = refl
@@ -27,6 +27,6 @@ cut_at text tokens at = ap (spelled text) (sym (take-append-drop at tokens)) ∙
 pub fault_here : (text : List ℕ) (tokens : List Token) (at : ℕ) (token : Token) → slice_get tokens at ≡ Some token → fault_at text (from text tokens at) ≡ record { place = token.place; characters = characters_of text token }
 fault_here text tokens at token is = ap (fault_at text) (from_token text tokens at token is)
 
--- the fault behind all tokens
+-- the fault after all tokens
 pub fault_behind : (text : List ℕ) (tokens : List Token) (at : ℕ) → slice_get tokens at ≡ None → fault_at text (from text tokens at) ≡ fault_at text []
 fault_behind text tokens at is = ap (fault_at text) (from_behind text tokens at is)

@@ -16,7 +16,7 @@ IsFault fault (faults.BadSet place) = ⊥
 IsFault fault (faults.NotUtf8 at) = ⊥
 IsFault fault faults.NoMemory = Unit {0}
 
--- the call answers with the grammar that the tokens of the text are, or with their first fault or bad set, whichever stands
+-- the call answers with the grammar that the tokens of the text are, or with their first fault or bad set, whichever comes
 -- first, unless memory runs out
 abbrev pub IsReadingOf : List ℕ → List Spelled → Result Source ReadFault → Type 0
 IsReadingOf bytes tokens (Ok source) = IsGrammarText tokens source × HasNoBad grammar tokens

@@ -18,11 +18,11 @@ use Rattle.g4_productions.specs.Grammars.{IsGrammarText, BadSetStands}
 use Rattle.g4_reader.specs.declared.reader.ReadFault.{ReadFault}
 use Rattle.g4_reader.specs.declared.reader.ReadFault.TheVariants.{NotUtf8, Syntax, BadSet, NoMemory}
 
--- the place behind the text
+-- the place after the text
 abbrev pub end_of : List ℕ → Place
 end_of text = place_after first_place (unmarked (chars text))
 
--- a syntax fault: where it stands, and its characters
+-- a syntax fault: its place and its characters
 pub record Fault : Type 0 where
   pub place : Place
   pub characters : List ℕ
@@ -70,8 +70,8 @@ IsFaultOf bytes fault =
     ((opened : Position) × HasFault bytes opened × (fault ≡ opened_fault bytes opened))
     ⊎ ((tokens : List Spelled) × HasSpelled bytes tokens × IsFirstFault bytes tokens fault)
 
--- the call answers with the grammar that the bytes are, or tells how far they are a text where they are none, or tells the
--- text's first fault or bad set, whichever stands first, unless memory runs out
+-- the call answers with the grammar that the bytes are, or reports how far they are UTF-8, or reports the text's first fault or
+-- bad set, whichever comes first, unless memory runs out
 abbrev pub IsReading : List ℕ → Result Source ReadFault → Type 0
 IsReading bytes (Ok source) = IsGrammar bytes source
 IsReading bytes (Err (NotUtf8 at)) = IsValidUpTo bytes at

@@ -28,7 +28,7 @@ fn unmarked(text: &[char]) -> &[char]
     }
 }
 
-/// The place behind the characters.
+/// The place after the characters.
 fn place_behind(characters: &[char]) -> Place
     requires fits { length characters.now ≤ MOST_BYTES }
     ensures { result ≡ place_after first_place characters.now }
@@ -40,7 +40,7 @@ fn place_behind(characters: &[char]) -> Place
     place
 }
 
-/// The place behind the text.
+/// The place after the text.
 fn end_of(alloc: Global, text: &str) -> Result<Place, AllocError>
     requires fits { length text.now ≤ MOST_BYTES }
     ensures { IfOk result (λ place. place ≡ end_of text.now) }

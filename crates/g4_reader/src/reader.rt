@@ -29,7 +29,7 @@ pub enum ReadFault {
     NoMemory,
 }
 
-/// The grammar that the tokens are, or what stands first of their bad sets and syntax faults.
+/// The grammar that the tokens are, or the first of their bad sets and syntax faults.
 fn read_checked(alloc: Global, text: &str, tokens: &[Token]) -> Result<Source, ReadFault>
     requires parts { AreParts text.now tokens.now }
     requires fits { length text.now ≤ MOST_BYTES }
@@ -60,14 +60,14 @@ fn read_text(alloc: Global, text: &str) -> Result<Source, ReadFault>
     }
 }
 
-/// The grammar that the bytes are, or the first fault of the text's tokens, or else what stands first: a syntax fault, or a
+/// The grammar that the bytes are, or the first fault of the text's tokens, or else what comes first: a syntax fault, or a
 /// bad set.
 ///
 /// # Errors
 /// - `NotUtf8`: the bytes are no text.
 /// - `Syntax`: a literal, set, arguments, action or comment doesn't close, or a literal or set holds a bad escape; or the
-///   first token with which no grammar text begins stands before all bad sets.
-/// - `BadSet`: the first set that is empty, has a range that runs backward or names an unknown property stands before; or a
+///   first token with which no grammar text begins comes before all bad sets.
+/// - `BadSet`: the first set that is empty, has a range that runs backward or names an unknown property comes before; or a
 ///   range between literals that runs backward, or a literal in one or under `~` in a lexer rule that is not one character.
 /// - `NoMemory`: memory runs out.
 pub fn read_grammar(alloc: Global, bytes: &[u8]) -> Result<Source, ReadFault>

@@ -10,11 +10,11 @@ use Rattle.g4_syntax.proofs.Samples.{sample}
 use Rattle.g4_syntax.proofs.WellFormed.{is_well_formed, part_well_formed, first_well_formed, second_well_formed, left_well_formed, right_well_formed, behind_sample}
 use Rattle.g4_syntax.proofs.Sampled.{read_sample}
 
--- some text of the expression goes on behind the tokens up to these
+-- some text of the expression goes on after the tokens up to these
 abbrev pub Completes : Expression → List Spelled → List Spelled → Type 0
 Completes x w rest = (others : List Spelled) × (a : Tree x) × Reads a (w ++ (others ++ rest)) rest
 
--- behind no token at all a short text completes the expression
+-- after no token at all a short text completes the expression
 from_start : (x : Expression) (rest : List Spelled) → is_well_formed x ≡ true → Allowed x rest → Completes x [] rest
 from_start x rest well allowed =
     let read = read_sample x rest well allowed in
@@ -45,7 +45,7 @@ complete_turn x from [] before rest well allowed is so inside = from_start (repe
 complete_turn x from (t ∷ w) before rest well allowed is so inside =
     (inside.0, more inside.1 end, (at_first true x from w before t (inside.0 ++ rest) is so, rest, inside.2, (barred (repeated x) x rest (bars_repeated x) allowed, refl)))
 
--- two trees, one behind the other, make one
+-- two trees, one after the other, make one
 both_behind : {x y : Expression} (a : Tree x) (b : Tree y) (w others rest : List Spelled) → Reads a (text a ++ (w ++ others)) (w ++ others) → Reads b (w ++ others) rest → Reads (both a b) ((text a ++ w) ++ others) rest
 both_behind a b w others rest first second =
     subst (λ (l : List Spelled). Reads (both a b) l rest) (sym (append_assoc (text a) w others)) (w ++ others, first, second)
@@ -83,7 +83,7 @@ complete_first x y w rest well allowed inside =
     let regrouped : w ++ (inside.0 ++ (sample y ++ rest)) ≡ w ++ ((inside.0 ++ sample y) ++ rest) = ap (λ (l : List Spelled). w ++ l) (sym (append_assoc (inside.0) (sample y) rest)) in
     (inside.0 ++ sample y, both inside.1 second.0, subst (λ (l : List Spelled). Reads (both inside.1 second.0) l rest) regrouped (sample y ++ rest, inside.2, second.1))
 
--- a text of what stands in a part is one of the part
+-- a text of what is in a part is one of the part
 complete_part : (n : Nonterminal) (w rest : List Spelled) → Completes (production n) w rest → Completes (part n) w rest
 complete_part n w rest inside = (inside.0, inner inside.1, inside.2)
 

@@ -89,6 +89,6 @@ same_end character_set kinds.Lower place bytes = refl
 same_end more_names kinds.Lower place bytes = refl
 same_end _ _ place bytes = refl
 
--- a part can go on at its end as what stands in it can
+-- a part can go on at its end as what is in it can
 pub covers_part : (n : Nonterminal) → Covers (part n) (production n)
 covers_part n token none = sym (same_end n token.kind token.place token.bytes) ∙ none

@@ -25,7 +25,7 @@ begins_text tokens first _ is (behind token rest tree reads) =
 not_both_ends : (t : Spelled) (ts : List Spelled) → [] ≡ t ∷ ts → ⊥
 not_both_ends t ts is = cc
 
--- no grammar text goes on behind the tokens before a stop with the next one
+-- no grammar text continues the tokens before a stop with the next one
 pub ends_text : (tokens first rest : List Spelled) → tokens ≡ first ++ rest → TextStops tokens rest → Ends first rest
 ends_text tokens first [] is (within _ stop) = λ tree has.
     never_both first [] [] tree has (subst (λ (l : List Spelled). Stops grammar l []) (is ∙ append-nil first) stop)

@@ -1,4 +1,4 @@
--- What has to be known for an expression to be read: how its parts are, unless none stands first.
+-- What has to be known for an expression to be read: how its parts are, unless none comes first.
 use Rattle.std.proofs.Common.{◌≡◌, ◌⊎◌, ◌<◌, List, length, Bool, true, false, not, ◌&&◌, ◌||◌, refl, sym, inl, inr, true≢false}
 use Rattle.g4_syntax.specs.Notation.{Spelled, Nonterminal, element, token_set, lexer_element, character_set, more_names, Expression, one, ◌▸◌, ◌∣◌, optional, repeated, part}
 use Rattle.g4_syntax.specs.Productions.{production}
@@ -9,7 +9,7 @@ use Rattle.g4_syntax.proofs.Truths.{and_first_true, and_second_true, or_not_true
 abbrev pub Outcome : Expression → List Spelled → Type 0
 Outcome x from = ((a : Tree x) × (to : List Spelled) × Reads a from to) ⊎ ((rest : List Spelled) × Stops x from rest)
 
--- whether no part stands in the expression before a token is read
+-- whether no part comes in the expression before a token is read
 abbrev pub is_guarded : Expression → Bool
 is_guarded (one t) = true
 is_guarded (x ▸ y) = is_guarded x && (not (can_be_empty x) || is_guarded y)
@@ -18,7 +18,7 @@ is_guarded (optional x) = is_guarded x
 is_guarded (repeated x) = is_guarded x
 is_guarded (part n) = false
 
--- in no production a part stands before a token is read
+-- in no production a part comes before a token is read
 pub part_guarded : (n : Nonterminal) → is_guarded (production n) ≡ true
 part_guarded element = refl
 part_guarded token_set = refl
@@ -26,7 +26,7 @@ part_guarded lexer_element = refl
 part_guarded character_set = refl
 part_guarded more_names = refl
 
--- no part stands there first, or how each part is read there is known
+-- no part comes first there, or how each part is read there is known
 abbrev pub Known : Expression → List Spelled → Type 0
 Known x from = (is_guarded x ≡ true) ⊎ ((n : Nonterminal) → Outcome (part n) from)
 

@@ -1,4 +1,4 @@
--- What is read, or comes to a terminal, does so whatever stands behind, if no more can be read: but for the next token it does not tell.
+-- What is read, or comes to a terminal, does so whatever follows, if no more can be read: only the next token counts.
 use Rattle.std.proofs.Common.{◌≡◌, ◌⊎◌, List, [], ◌∷◌, ◌++◌, Bool, true, false, refl, sym, ap, subst, ◌∙◌, inl, inr, append_assoc}
 use Rattle.g4_syntax.specs.Notation.{Spelled, Terminal, Expression, one, ◌▸◌, ◌∣◌, optional, repeated, part}
 use Rattle.g4_syntax.specs.Productions.{production}
@@ -15,21 +15,21 @@ Agrees rest other = (x : Expression) → begins_there x rest ≡ begins_there x 
 abbrev pub Allowed : Expression → List Spelled → Type 0
 Allowed x rest = extends_there x rest ≡ false
 
--- behind a text of the expression the others may stand as well
+-- the others may follow a text of the expression as well
 abbrev pub Alike : Expression → List Spelled → List Spelled → Type 0
 Alike x rest other = Agrees rest other ⊎ Allowed x other
 
--- what may stand behind an expression may stand behind one that goes on with no more tokens
+-- what may follow an expression may follow one that goes on with no more tokens
 pub allowed_of : (x y : Expression) (rest : List Spelled) → Covers x y → Allowed x rest → Allowed y rest
 allowed_of x y [] covers allowed = refl
 allowed_of x y (token ∷ _) covers allowed = covers token allowed
 
--- what may stand behind an expression does not begin what it could go on with
+-- what may follow an expression does not begin what it could go on with
 pub barred : (x y : Expression) (rest : List Spelled) → Bars x y → Allowed x rest → begins_there y rest ≡ false
 barred x y [] bars allowed = refl
 barred x y (token ∷ _) bars allowed = bars token allowed
 
--- the others may stand as well behind an expression that goes on with no more tokens
+-- the others may follow as well an expression that goes on with no more tokens
 alike_of : (x y : Expression) (rest other : List Spelled) → Covers x y → Alike x rest other → Alike y rest other
 alike_of x y rest other covers (inl agrees) = inl agrees
 alike_of x y rest other covers (inr allowed) = inr (allowed_of x y other covers allowed)
@@ -50,17 +50,17 @@ alike_behind x z from w rest other is covers (inl agrees) = inl (agrees_behind f
 alike_behind x z from [] rest other is covers (inr allowed) = inr (allowed_of z x other (covers refl) allowed)
 alike_behind x z from (token ∷ w) rest other is covers (inr allowed) = inl (λ y. ap (begins_there y) is)
 
--- what begins there, or does not, does so with others behind
+-- what begins there, or does not, does so with others after it
 pub kept : (b : Bool) (x : Expression) (from w rest other : List Spelled) → from ≡ w ++ rest → begins_there x from ≡ b → (w ≡ [] → begins_there x rest ≡ b → begins_there x other ≡ b) → begins_there x (w ++ other) ≡ b
 kept b x from [] rest other is so at_end = at_end refl (sym (ap (begins_there x) is) ∙ so)
 kept b x from (token ∷ w) rest other is so at_end = sym (ap (begins_there x) is) ∙ so
 
--- what begins there and is read begins there with others behind
+-- what begins there and is read begins there with others after it
 pub begun : {x : Expression} (a : Tree x) (from to other : List Spelled) → begins_there x from ≡ true → Reads a from to → begins_there x (text a ++ other) ≡ true
 begun {x} a from to other so reads =
     kept true x from (text a) to other (reads_text a from to reads) so (λ none at. absurd (apart (begins_there x from) so (nothing_read a from to reads none).1))
 
--- a tree is read with others behind
+-- a tree is read with others after it
 pub reads_again : {x : Expression} (a : Tree x) (from to other : List Spelled) → Reads a from to → Alike x to other → Reads a (text a ++ other) other
 reads_again (leaf token) from to other reads alike = (refl, reads.1)
 reads_again (both {x} {y} a b) from to other reads alike =
@@ -87,11 +87,11 @@ reads_again (more {x} a tail) from to other reads alike =
     subst (λ (l : List Spelled). Reads (more a tail) l other) (sym (append_assoc (text a) (text tail) other)) whole
 reads_again (inner {n} a) from to other reads alike = reads_again a from to other reads (alike_of (part n) (production n) to other (covers_part n) alike)
 
--- what begins before a terminal, or does not, does so with others behind
+-- what begins before a terminal, or does not, does so with others after it
 still : (b : Bool) (x : Expression) {t : Terminal} {y : Expression} {from rest : List Spelled} (comes : Comes t y from rest) (other : List Spelled) → Agrees rest other → begins_there x from ≡ b → begins_there x (read_before comes ++ other) ≡ b
 still b x {from = from} {rest = rest} comes other agrees so = sym (agrees_behind from (read_before comes) rest other (comes_behind comes) agrees x) ∙ so
 
--- reading comes to a terminal with others behind, if the next token is the same
+-- reading comes to a terminal with others after it, if the next token is the same
 pub comes_again : {t : Terminal} {x : Expression} {from rest : List Spelled} (comes : Comes t x from rest) (other : List Spelled) → Agrees rest other → Comes t x (read_before comes ++ other) other
 comes_again (here rest) other agrees = here other
 comes_again (in_first from rest comes) other agrees = in_first (read_before comes ++ other) other (comes_again comes other agrees)

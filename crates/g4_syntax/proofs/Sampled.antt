@@ -1,4 +1,4 @@
--- A short text is read where it stands.
+-- A short text is read where it is.
 use Rattle.std.proofs.Common.{◌≡◌, List, [], ◌∷◌, ◌++◌, Bool, true, false, ◌||◌, if◌then◌else◌, refl, sym, ap, subst, ◌∙◌, true≢false, append_assoc}
 use Rattle.g4_tokens.specs.declared.token.Kind.TheVariants as kinds
 use Rattle.g4_syntax.specs.Notation.{Spelled, Terminal, of_kind, a_set, excluded, fits, Nonterminal, element, token_set, lexer_element, character_set, more_names, Expression, one, ◌▸◌, ◌∣◌, optional, repeated, part, sign, name, with_bars}
@@ -10,7 +10,7 @@ use Rattle.g4_syntax.proofs.Local.{Allowed, allowed_of, barred}
 use Rattle.g4_syntax.proofs.Samples.{sample_token, sample, sample_fits, empty_sample}
 use Rattle.g4_syntax.proofs.WellFormed.{is_well_formed, first_well_formed, second_well_formed, left_well_formed, right_well_formed, one_begins, behind_sample}
 
--- what begins with some tokens does so with others behind
+-- what begins with some tokens does so with others after them
 begins_before : (x : Expression) (w rest : List Spelled) → begins_there x w ≡ true → begins_there x (w ++ rest) ≡ true
 begins_before x [] rest so = absurd (true≢false (sym so))
 begins_before x (t ∷ w) rest so = so
@@ -55,7 +55,7 @@ read_production character_set rest allowed =
     read_first_terminal excluded (sign kinds.DoubleDot ▸ sign kinds.Literal) (one a_set ∣ sign kinds.LeftParenthesis ▸ with_bars (part character_set) ▸ sign kinds.RightParenthesis) rest allowed
 read_production more_names rest allowed = read_terminal (of_kind kinds.Comma) (name ▸ optional (part more_names)) rest allowed
 
--- a short text is read where it stands
+-- a short text is read where it is
 pub read_sample : (x : Expression) (rest : List Spelled) → is_well_formed x ≡ true → Allowed x rest → Read x (sample x) rest
 read_sample (one t) rest well allowed = (leaf (sample_token t), (refl, sample_fits t))
 read_sample (x ▸ y) rest well allowed =

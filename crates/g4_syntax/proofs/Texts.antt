@@ -41,7 +41,7 @@ read_before (in_turn _ _ _ comes) = read_before comes
 read_before (in_later_turn _ _ _ a _ _ comes) = text a ++ read_before comes
 read_before (in_part _ _ comes) = read_before comes
 
--- behind the tokens that are read before a terminal stand those at which it stands
+-- the tokens that are read before a terminal are followed by those that are left at it
 pub comes_behind : {t : Terminal} {x : Expression} {from rest : List Spelled} (comes : Comes t x from rest) → from ≡ read_before comes ++ rest
 comes_behind (here rest) = refl
 comes_behind (in_first _ _ comes) = comes_behind comes
@@ -71,7 +71,7 @@ never_empty lexer_element can = true≢false (sym can)
 never_empty character_set can = true≢false (sym can)
 never_empty more_names can = true≢false (sym can)
 
--- what begins neither of two does not begin both, one behind the other
+-- what begins neither of two does not begin both, one after the other
 begins_neither : (x y : Expression) (from : List Spelled) → begins_there x from ≡ false → begins_there y from ≡ false → begins_there (x ▸ y) from ≡ false
 begins_neither x y [] first second = refl
 begins_neither x y (t ∷ _) first second = or_false (begins x t) (can_be_empty x && begins y t) first (false_and (can_be_empty x) (begins y t) second)

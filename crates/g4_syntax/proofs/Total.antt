@@ -7,7 +7,7 @@ use Rattle.g4_syntax.proofs.Truths.{apart}
 use Rattle.g4_syntax.proofs.Texts.{text, reads_text, read_before, comes_behind, nothing_read}
 use Rattle.g4_syntax.proofs.Guarded.{Outcome, part_guarded, Known, ShorterKnown, first_known, second_known, left_known, right_known, part_known}
 
--- behind a token that was read fewer are left
+-- after a token that was read fewer are left
 fewer_left : (t : Spelled) (w from to : List Spelled) → from ≡ (t ∷ w) ++ to → length to < length from
 fewer_left t w from to is =
     let count : length from ≡ suc (length (w ++ to)) = ap length is in
@@ -41,7 +41,7 @@ second_there y a from between [] shorter known reads none =
 second_there y a from between (t ∷ w) shorter known reads some =
     shorter y between (fewer_left t w from between (reads_text a from between reads ∙ ap (λ (v : List Spelled). v ++ between) some))
 
--- two are read, one behind the other, or reading stops in one of them
+-- two are read, one after the other, or reading stops in one of them
 both_read : (x y : Expression) (from : List Spelled) → ShorterKnown from → (can_be_empty x ≡ true → Outcome y from) → Outcome x from → Outcome (x ▸ y) from
 both_read x y from shorter known (inl read) =
     second_read (read.0) from (read.1) read.2 (second_there y (read.0) from (read.1) (text (read.0)) shorter known read.2 refl)
@@ -62,7 +62,7 @@ either_read : (x y : Expression) (from : List Spelled) (b : Bool) → begins_the
 either_read x y from true so first second = left_read x y from so first
 either_read x y from false so first second = right_read x y from so second
 
--- what is optional is read as what stands in it, where it begins
+-- what is optional is read as what is in it, where it begins
 present_read : (x : Expression) (from : List Spelled) → begins_there x from ≡ true → Outcome x from → Outcome (optional x) from
 present_read x from so (inl read) = inl (present (read.0), read.1, (so, read.2))
 present_read x from so (inr stop) = inr (stop.0, onward (λ t comes. in_optional from (stop.0) so comes) stop.1)
@@ -98,7 +98,7 @@ part_read : (n : Nonterminal) (from : List Spelled) → Outcome (production n) f
 part_read n from (inl read) = inl (inner (read.0), read.1, read.2)
 part_read n from (inr stop) = inr (stop.0, onward (λ t comes. in_part from (stop.0) comes) stop.1)
 
--- where all is known of fewer tokens, and of parts that stand first, an expression is read or stops
+-- where all is known of fewer tokens, and of parts that come first, an expression is read or stops
 read_here : (x : Expression) (from : List Spelled) → ShorterKnown from → Known x from → Outcome x from
 read_here (one t) from shorter known = terminal_read t from
 read_here (x ▸ y) from shorter known =
@@ -109,7 +109,7 @@ read_here (optional x) from shorter known = optional_read x from (begins_there x
 read_here (repeated x) from shorter known = repeated_read x from (begins_there x from) shorter refl (read_here x from shorter known)
 read_here (part n) from shorter known = part_known n from known
 
--- where all is known of fewer tokens, any expression is read or stops: its parts do not stand first in their productions
+-- where all is known of fewer tokens, any expression is read or stops: no part comes first in its production
 read_any : (x : Expression) (from : List Spelled) → ShorterKnown from → Outcome x from
 read_any x from shorter = read_here x from shorter (inr (λ n. part_read n from (read_here (production n) from shorter (inl (part_guarded n)))))
 

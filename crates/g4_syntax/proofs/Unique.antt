@@ -9,7 +9,7 @@ use Rattle.g4_syntax.proofs.Truths.{apart}
 same_first : (t s : Spelled) (ts ss : List Spelled) → t ∷ ts ≡ s ∷ ss → t ≡ s
 same_first t s ts ss is = cc
 
--- the same lists have the same tokens behind the first
+-- the same lists have the same tokens after the first
 same_rest : (t s : Spelled) (ts ss : List Spelled) → t ∷ ts ≡ s ∷ ss → ts ≡ ss
 same_rest t s ts ss is = cc
 
@@ -51,7 +51,7 @@ one_reading (inner a) (inner b) from to other first second =
 unfit : (t : Terminal) (from to : List Spelled) (token : Spelled) → from ≡ token ∷ to → fits t token ≡ true → begins_there (one t) from ≡ false → ⊥
 unfit t from to token is fit stops = apart (fits t token) fit (subst (λ (l : List Spelled). begins_there (one t) l ≡ false) is stops)
 
--- a token that the terminal is stands first of these, and at most the others behind it are left
+-- a token that the terminal is comes first of these, and at most the others after it are left
 pub record Stands (t : Terminal) (rest to : List Spelled) : Type 0 where
   pub token : Spelled
   pub others : List Spelled
@@ -67,7 +67,7 @@ with_fewer rest between to stands fewer = record { token = stands.token; others 
 pub no_longer : {x : Expression} (a : Tree x) (from to : List Spelled) → Reads a from to → length to ≤ length from
 no_longer a from to reads = omega (arith, ap length (reads_text a from to reads), length-append (text a) to)
 
--- a terminal to which reading comes stands at a token of what is read
+-- a terminal to which reading comes is at a token of what is read
 pub comes_read : {t : Terminal} {x : Expression} (from to rest : List Spelled) (a : Tree x) → Reads a from to → Comes t x from rest → Stands t rest to
 comes_read from to rest (leaf {t} token) reads (here _) = record { token = token; others = to; is = reads.0; fit = reads.1; behind = omega arith }
 comes_read from to rest (both a b) reads (in_first _ _ comes) = with_fewer rest reads.0 to (comes_read from reads.0 rest a reads.1 comes) (no_longer b reads.0 to reads.2)

@@ -1,4 +1,4 @@
--- The short texts of an expression's parts can stand beside one another.
+-- The short texts of an expression's parts can follow one another.
 use Rattle.std.proofs.Common.{◌≡◌, List, [], ◌∷◌, ◌++◌, Bool, true, false, not, ◌&&◌, ◌||◌, refl}
 use Rattle.g4_syntax.specs.Notation.{Spelled, Nonterminal, element, token_set, lexer_element, character_set, more_names, Expression, one, ◌▸◌, ◌∣◌, optional, repeated, part}
 use Rattle.g4_syntax.specs.Productions.{production, grammar}
@@ -8,7 +8,7 @@ use Rattle.g4_syntax.proofs.Extends.{extends_there, covers_first}
 use Rattle.g4_syntax.proofs.Local.{Allowed, allowed_of}
 use Rattle.g4_syntax.proofs.Samples.{sample, sample_empty}
 
--- whether short texts of the parts of the expression can stand beside one another as the expression has them
+-- whether short texts of the parts of the expression can follow one another as the expression has them
 abbrev pub is_well_formed : Expression → Bool
 is_well_formed (one t) = true
 is_well_formed (x ▸ y) = is_well_formed x && (is_well_formed y && not (extends_there x (sample y)))
@@ -57,11 +57,11 @@ pub one_begins : (x y : Expression) → is_well_formed (x ∣ y) ≡ true → (c
 one_begins x y well =
     and_second_true (is_well_formed y) (can_be_empty y || begins_there x (sample x)) (and_second_true (is_well_formed x) (is_well_formed y && (can_be_empty y || begins_there x (sample x))) well)
 
--- a text that does not extend the first of two can stand behind it, and if it is empty, what may stand behind both
+-- a text that does not extend the first of two can follow it, and if it is empty, what may follow both
 behind_either : (x y : Expression) (w rest : List Spelled) → (w ≡ [] → can_be_empty y ≡ true) → extends_there x w ≡ false → Allowed (x ▸ y) rest → Allowed x (w ++ rest)
 behind_either x y [] rest can none allowed = allowed_of (x ▸ y) x rest (covers_first x y (can refl)) allowed
 behind_either x y (t ∷ w) rest can none allowed = none
 
--- a short text of the second can stand behind a text of the first
+-- a short text of the second can follow a text of the first
 pub behind_sample : (x y : Expression) (rest : List Spelled) → is_well_formed (x ▸ y) ≡ true → Allowed (x ▸ y) rest → Allowed x (sample y ++ rest)
 behind_sample x y rest well allowed = behind_either x y (sample y) rest (sample_empty y) (no_way_on x y well) allowed

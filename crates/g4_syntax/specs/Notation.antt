@@ -71,17 +71,17 @@ fits a_set token = is_kind kinds.Set token.kind
 fits characters token = is_kind kinds.Literal token.kind
 fits excluded token = is_kind kinds.Literal token.kind
 
--- the parts of a grammar text that stand in parts of their own kind
+-- the parts of a grammar text that can be nested in themselves
 pub data Nonterminal : Type 0 where
   -- an element of a parser rule
   element : Nonterminal
-  -- what stands behind `~` in a parser rule
+  -- what follows `~` in a parser rule
   token_set : Nonterminal
   -- an element of a lexer rule
   lexer_element : Nonterminal
-  -- what stands behind `~` in a lexer rule
+  -- what follows `~` in a lexer rule
   character_set : Nonterminal
-  -- what stands behind a name in the braces of `tokens` or `channels`
+  -- what follows a name in the braces of `tokens` or `channels`
   more_names : Nonterminal
 
 -- an expression of the extended Backus-Naur form

@@ -53,9 +53,10 @@ abbrev pub begins_there : Expression → List Spelled → Bool
 begins_there x [] = false
 begins_there x (token ∷ _) = begins x token
 
--- The tree is that of the first tokens of the one list up to the other. What may stand, stands: of two alternatives it is
--- the first that the next token can begin, and what is optional is left out, and what is repeated ends, only where the next
--- token cannot begin it. So a keyword is a keyword wherever one may stand.
+-- The tree is that of the tokens `from` up to the tokens `to`, by looking one token ahead: of two alternatives the first is taken
+-- if the next token can begin it, and what is optional is left out, and what is repeated ends, only where the next token cannot
+-- begin it. So a name that is spelled like a keyword is the keyword wherever one may come: `catch` after a rule begins a handler,
+-- and never a rule with that name.
 abbrev pub Reads : {x : Expression} → Tree x → List Spelled → List Spelled → Type 0
 Reads (leaf {t} token) from to = (from ≡ token ∷ to) × (fits t token ≡ true)
 Reads (both a b) from to = (between : List Spelled) × Reads a from between × Reads b between to
@@ -67,7 +68,7 @@ Reads (end {x}) from to = (begins_there x from ≡ false) × (from ≡ to)
 Reads (more {x} a as_before) from to = (begins_there x from ≡ true) × (between : List Spelled) × Reads a from between × Reads as_before between to
 Reads (inner a) from to = Reads a from to
 
--- reading the expression from these tokens on comes to the terminal before those
+-- reading the expression from the tokens `from` on asks for the terminal `t` when the tokens `rest` are left
 pub data Comes (t : Terminal) : Expression → List Spelled → List Spelled → Type 0 where
   here : (rest : List Spelled) → Comes t (one t) rest rest
   in_first : {x y : Expression} (from rest : List Spelled) → Comes t x from rest → Comes t (x ▸ y) from rest
@@ -79,7 +80,8 @@ pub data Comes (t : Terminal) : Expression → List Spelled → List Spelled →
   in_later_turn : {x : Expression} (from between rest : List Spelled) (a : Tree x) → begins_there x from ≡ true → Reads a from between → Comes t (repeated x) between rest → Comes t (repeated x) from rest
   in_part : {n : Nonterminal} (from rest : List Spelled) → Comes t (production n) from rest → Comes t (part n) from rest
 
--- reading the expression from these tokens on stops at those: it comes to a terminal that the first of them, or the end, is not
+-- reading the expression from the tokens `from` on stops when `rest` is left: it asks for a terminal that the next token is not,
+-- or no token is left
 pub record Stops (x : Expression) (from rest : List Spelled) : Type 0 where
   pub terminal : Terminal
   pub comes : Comes terminal x from rest
@@ -93,12 +95,13 @@ HasTree tokens tree = Reads tree tokens []
 abbrev pub BeginsText : List Spelled → Type 0
 BeginsText tokens = (others : List Spelled) × (tree : Tree grammar) × HasTree (tokens ++ others) tree
 
--- reading a grammar text stops at these tokens: a part of it stops there, or it is read and they are left
+-- reading a grammar text stops when these tokens are left: within the text, or after it because it is complete
 pub data TextStops (tokens : List Spelled) : List Spelled → Type 0 where
   within : (rest : List Spelled) → Stops grammar tokens rest → TextStops tokens rest
   behind : (token : Spelled) (rest : List Spelled) (tree : Tree grammar) → Reads tree tokens (token ∷ rest) → TextStops tokens (token ∷ rest)
 
--- no grammar text goes on behind the first tokens with the first of the others, or, there being no others, the tokens are none
+-- no grammar text continues the first tokens with the next of the others; or, if there are no others, the tokens are not a whole
+-- grammar text
 abbrev pub Ends : List Spelled → List Spelled → Type 0
 Ends tokens [] = (tree : Tree grammar) → ¬ (HasTree tokens tree)
 Ends tokens (token ∷ _) = ¬ (BeginsText (tokens ++ token ∷ []))

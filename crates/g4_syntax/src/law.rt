@@ -9,7 +9,7 @@ pub fn one_tree()
     ensures { (tokens : List Spelled) (a b : Tree grammar) → HasTree tokens a → HasTree tokens b → a ≡ b }
 {}
 
-/// Where reading stops, some grammar text begins with the tokens before, and none goes on with the next.
+/// Where reading stops, some grammar text begins with the tokens before, and none continues with the next.
 pub fn first_stop()
     ensures { (before rest : List Spelled) → TextStops (before ++ rest) rest → BeginsText before × Ends before rest }
 {}

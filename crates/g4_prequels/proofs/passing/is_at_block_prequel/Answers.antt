@@ -6,7 +6,7 @@ use Rattle.g4_tokens.specs.declared.token.Kind.TheVariants as kinds
 use Rattle.g4_prequels.specs.Progress.{Progress, is_next}
 use Rattle.g4_prequels.proofs.passing.is_at_block_prequel.Goals as goal
 
--- what stands before the alternatives of a block begins with options, an action or `:`
+-- what comes before the alternatives of a block begins with options, an action or `:`
 block_next : (s : Progress) → is_next block_prequel s ≡ ((is_next options s || is_next rule_action s) || is_next (sign kinds.Colon) s)
 block_next s = rw (skip_next (optional options) (repeated rule_action ▸ sign kinds.Colon) s refl, optional_next options s, skip_next (repeated rule_action) (sign kinds.Colon) s refl, repeated_next rule_action s) (sym (or_assoc (is_next options s) (is_next rule_action s) (is_next (sign kinds.Colon) s)))
 
