@@ -28,13 +28,13 @@ halts_in {x} {y} {from} {between} {rest} _ leads back (at_fault stop none) =
   where
     good : (t : Terminal) (other : List Spelled) → BeginsBad t other → Comes t x between other ⊎ After x between other → ⊥
     good t other bad (inl comes) = none t other comes bad
-    good t other bad (inr after) = never_both between after.0 rest after.1 after.2 stop
+    good t other bad (inr later) = never_both between later.0 rest later.1 later.2 stop
 halts_in {x} {y} {from} {between} {rest} _ leads back (at_bad_set found) =
-    at_bad_set (record { terminal = found.terminal; comes = leads found.terminal rest found.comes; bad = found.bad; first = λ t other comes bad. behind t other bad (back t other comes bad) })
+    at_bad_set (record { terminal = found.terminal; comes = leads found.terminal rest found.comes; bad = found.bad; first = λ t other comes bad. after t other bad (back t other comes bad) })
   where
-    behind : (t : Terminal) (other : List Spelled) → BeginsBad t other → Comes t x between other ⊎ After x between other → length other ≤ length rest
-    behind t other bad (inl comes) = found.first t other comes bad
-    behind t other bad (inr after) = let stands = comes_read between after.0 rest after.1 after.2 found.comes in rw stands.is (omega (arith, stands.behind, after.3))
+    after : (t : Terminal) (other : List Spelled) → BeginsBad t other → Comes t x between other ⊎ After x between other → length other ≤ length rest
+    after t other bad (inl comes) = found.first t other comes bad
+    after t other bad (inr later) = let ends = comes_read between later.0 rest later.1 later.2 found.comes in rw ends.is (omega (arith, ends.after, later.3))
 
 -- what holds of the tree makes something else hold of it
 pub so : {x : Expression} {P Q : Tree x → Type 0} {s t : Progress} → Moves P s t → ((tree : Tree x) → P tree → Q tree) → Moves Q s t
@@ -76,8 +76,8 @@ pub upon : {x y : Expression} {P : Tree x → Type 0} {R : Tree (x ▸ y) → Ty
 upon first then = two first then (λ a b p q. q a p)
 
 -- one after another, of which nothing is kept
-pub behind : {x y : Expression} {P : Tree x → Type 0} {s t u : Progress} → Moves P s t → Passes y t u → Passes (x ▸ y) s u
-behind first then = two first then (λ a b p q. tt)
+pub after : {x y : Expression} {P : Tree x → Type 0} {s t u : Progress} → Moves P s t → Passes y t u → Passes (x ▸ y) s u
+after first then = two first then (λ a b p q. tt)
 
 -- the first alternative
 pub first : {x y : Expression} {R : Tree (x ∣ y) → Type 0} {s t : Progress} → is_next x s ≡ true → Moves (λ a. R (left a)) s t → Moves R s t

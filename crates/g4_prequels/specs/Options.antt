@@ -10,13 +10,13 @@ use Rattle.g4_syntax.specs.Trees.{Tree, both, left, right, absent, present, end,
 use Rattle.g4_prequels.specs.Texts.{text_of, name_of}
 
 -- the names after dots
-abbrev pub names_behind_dots : Tree (repeated (sign kinds.Dot ▸ name)) → List (List ℕ)
-names_behind_dots end = []
-names_behind_dots (more (both dot n) ns) = text_of n ∷ names_behind_dots ns
+abbrev pub names_after_dots : Tree (repeated (sign kinds.Dot ▸ name)) → List (List ℕ)
+names_after_dots end = []
+names_after_dots (more (both dot n) ns) = text_of n ∷ names_after_dots ns
 
 -- names with dots between
 abbrev pub dotted_names : Tree (name ▸ repeated (sign kinds.Dot ▸ name)) → List (List ℕ)
-dotted_names (both n ns) = text_of n ∷ names_behind_dots ns
+dotted_names (both n ns) = text_of n ∷ names_after_dots ns
 
 -- the value of an option
 abbrev pub value_of : Tree value → OptionValue

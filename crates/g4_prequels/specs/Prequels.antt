@@ -15,20 +15,20 @@ imported_of (both n absent) = text_of n
 imported_of (both n (present (both equals other))) = text_of other
 
 -- the imported grammars after commas
-abbrev pub imported_behind : Tree (repeated (sign kinds.Comma ▸ imported)) → List (List ℕ)
-imported_behind end = []
-imported_behind (more (both comma i) is) = imported_of i ∷ imported_behind is
+abbrev pub imported_after : Tree (repeated (sign kinds.Comma ▸ imported)) → List (List ℕ)
+imported_after end = []
+imported_after (more (both comma i) is) = imported_of i ∷ imported_after is
 
 abbrev mutual
   -- the names after a name
-  pub names_behind : Tree (optional (part more_names)) → List (List ℕ)
-  names_behind absent = []
-  names_behind (present (inner (both comma ns))) = names_from ns
+  pub names_after : Tree (optional (part more_names)) → List (List ℕ)
+  names_after absent = []
+  names_after (present (inner (both comma ns))) = names_from ns
 
   -- the names from a name on, if there is one
   pub names_from : Tree (optional (name ▸ optional (part more_names))) → List (List ℕ)
   names_from absent = []
-  names_from (present (both n ns)) = text_of n ∷ names_behind ns
+  names_from (present (both n ns)) = text_of n ∷ names_after ns
 
 -- names in braces
 abbrev pub names_of : Tree names → List (List ℕ)
@@ -36,7 +36,7 @@ names_of (both brace (both ns end_brace)) = names_from ns
 
 -- imported grammars with commas between
 abbrev pub imports_of : Tree (with_commas imported) → List (List ℕ)
-imports_of (both i is) = imported_of i ∷ imported_behind is
+imports_of (both i is) = imported_of i ∷ imported_after is
 
 -- the imported grammars of `import`
 abbrev pub import_of : Tree import → Prequel

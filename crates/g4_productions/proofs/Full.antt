@@ -12,9 +12,9 @@ use Rattle.g4_syntax.specs.Notation.{element, lexer_element, ◌▸◌, ◌∣�
 use Rattle.g4_syntax.specs.Productions.{action, alternative, unnamed_item, item, labelled_item, unnamed_lexer_item, lexer_item, labelled_lexer_item, rule_alternative, parser_rule, lexer_alternative, lexer_rule, mode, grammar}
 use Rattle.g4_syntax.specs.Trees.{Tree, both, left, right, absent, present, end, more, inner}
 use Rattle.g4_productions.specs.Elements.{Labelled, single, brackets, with_suffix, optional_suffix_of, action_of}
-use Rattle.g4_productions.specs.ParserElements.{parser_element, parser_elements, labelled, named_item, unnamed, alternative_elements, alternatives_behind}
-use Rattle.g4_productions.specs.LexerElements.{lexer_element_of, lexer_elements, labelled_lexer, named_lexer_item, unnamed_lexer, lexer_alternatives_behind}
-use Rattle.g4_productions.specs.Rules.{rule_alternatives_behind, parser_rule_of, rule_lexer_alternatives_behind, lexer_rule_of, lexer_rules, combined_rules, default_rules, parser_rules, modes_of}
+use Rattle.g4_productions.specs.ParserElements.{parser_element, parser_elements, labelled, named_item, unnamed, alternative_elements, alternatives_after}
+use Rattle.g4_productions.specs.LexerElements.{lexer_element_of, lexer_elements, labelled_lexer, named_lexer_item, unnamed_lexer, lexer_alternatives_after}
+use Rattle.g4_productions.specs.Rules.{rule_alternatives_after, parser_rule_of, rule_lexer_alternatives_after, lexer_rule_of, lexer_rules, combined_rules, default_rules, parser_rules, modes_of}
 use Rattle.g4_productions.specs.Grammars.{source_of}
 
 -- an action is no block
@@ -57,7 +57,7 @@ mutual
   unnamed_full l (left (both literal options)) = tt
   unnamed_full l (right (left (both dot options))) = tt
   unnamed_full l (right (right (left (both tilde s)))) = tt
-  unnamed_full l (right (right (right (both opening (both prequel (both (both x xs) closing)))))) = (tt, (alternative_full x, behind_full xs))
+  unnamed_full l (right (right (right (both opening (both prequel (both (both x xs) closing)))))) = (tt, (alternative_full x, after_full xs))
 
   -- the elements of an alternative
   parser_elements_full : (xs : Tree (repeated (part element))) → AreFull (in_order (parser_elements xs))
@@ -68,9 +68,9 @@ mutual
   alternative_full (both options xs) = parser_elements_full xs
 
   -- the alternatives after bars
-  behind_full : (xs : Tree (repeated (sign kinds.Bar ▸ alternative))) → EachIsFull (either (alternatives_behind xs))
-  behind_full end = tt
-  behind_full (more (both bar x) xs) = (alternative_full x, behind_full xs)
+  after_full : (xs : Tree (repeated (sign kinds.Bar ▸ alternative))) → EachIsFull (either (alternatives_after xs))
+  after_full end = tt
+  after_full (more (both bar x) xs) = (alternative_full x, after_full xs)
 
 mutual
   -- an element of a lexer rule
@@ -94,7 +94,7 @@ mutual
   unnamed_lexer_full l (right (left set)) = tt
   unnamed_lexer_full l (right (right (left dot))) = tt
   unnamed_lexer_full l (right (right (right (left (both tilde s))))) = tt
-  unnamed_lexer_full l (right (right (right (right (both opening (both (both x xs) closing)))))) = (tt, (lexer_elements_full x, lexer_behind_full xs))
+  unnamed_lexer_full l (right (right (right (right (both opening (both (both x xs) closing)))))) = (tt, (lexer_elements_full x, lexer_after_full xs))
 
   -- the elements of an alternative
   lexer_elements_full : (xs : Tree (repeated (part lexer_element))) → AreFull (in_order (lexer_elements xs))
@@ -102,27 +102,27 @@ mutual
   lexer_elements_full (more x xs) = (lexer_full x, lexer_elements_full xs)
 
   -- the alternatives after bars
-  lexer_behind_full : (xs : Tree (repeated (sign kinds.Bar ▸ repeated (part lexer_element)))) → EachIsFull (either (lexer_alternatives_behind xs))
-  lexer_behind_full end = tt
-  lexer_behind_full (more (both bar x) xs) = (lexer_elements_full x, lexer_behind_full xs)
+  lexer_after_full : (xs : Tree (repeated (sign kinds.Bar ▸ repeated (part lexer_element)))) → EachIsFull (either (lexer_alternatives_after xs))
+  lexer_after_full end = tt
+  lexer_after_full (more (both bar x) xs) = (lexer_elements_full x, lexer_after_full xs)
 
 -- the alternatives of a parser rule after bars
-rule_behind_full : (xs : Tree (repeated (sign kinds.Bar ▸ rule_alternative))) → EachIsFull (either (map (λ a. a.elements) (rule_alternatives_behind xs)))
-rule_behind_full end = tt
-rule_behind_full (more (both bar (both x l)) xs) = (alternative_full x, rule_behind_full xs)
+rule_after_full : (xs : Tree (repeated (sign kinds.Bar ▸ rule_alternative))) → EachIsFull (either (map (λ a. a.elements) (rule_alternatives_after xs)))
+rule_after_full end = tt
+rule_after_full (more (both bar (both x l)) xs) = (alternative_full x, rule_after_full xs)
 
 -- a parser rule
 parser_rule_full : (r : Tree parser_rule) → AreFullAlternatives (map (λ a. a.elements) (parser_rule_of r).alternatives)
-parser_rule_full (both modifier (both n (both prequels (both colon (both (both (both x l) xs) (both semicolon handlers)))))) = (tt, (alternative_full x, rule_behind_full xs))
+parser_rule_full (both modifier (both n (both prequels (both colon (both (both (both x l) xs) (both semicolon handlers)))))) = (tt, (alternative_full x, rule_after_full xs))
 
 -- the alternatives of a lexer rule after bars
-rule_lexer_behind_full : (xs : Tree (repeated (sign kinds.Bar ▸ lexer_alternative))) → EachIsFull (either (map (λ a. a.elements) (rule_lexer_alternatives_behind xs)))
-rule_lexer_behind_full end = tt
-rule_lexer_behind_full (more (both bar (both x cs)) xs) = (lexer_elements_full x, rule_lexer_behind_full xs)
+rule_lexer_after_full : (xs : Tree (repeated (sign kinds.Bar ▸ lexer_alternative))) → EachIsFull (either (map (λ a. a.elements) (rule_lexer_alternatives_after xs)))
+rule_lexer_after_full end = tt
+rule_lexer_after_full (more (both bar (both x cs)) xs) = (lexer_elements_full x, rule_lexer_after_full xs)
 
 -- a lexer rule
 lexer_rule_full : (r : Tree lexer_rule) → LexerRuleIsFull (lexer_rule_of r)
-lexer_rule_full (both fragment (both n (both options (both colon (both (both (both x cs) xs) semicolon))))) = (tt, (lexer_elements_full x, rule_lexer_behind_full xs))
+lexer_rule_full (both fragment (both n (both options (both colon (both (both (both x cs) xs) semicolon))))) = (tt, (lexer_elements_full x, rule_lexer_after_full xs))
 
 -- rules of each kind
 combined_full : (rs : Tree (repeated (lexer_rule ∣ parser_rule))) → RulesAreFull (combined_rules rs)

@@ -39,10 +39,10 @@ with_first_has c (r ∷ rs) x rise = by_test (r.first == c + 1) refl
     by_test : (b : Bool) → (r.first == c + 1) ≡ b → Has (if b then record { first = c; last = r.last } ∷ rs else record { first = c; last = c } ∷ r ∷ rs) x ↔ ((x ≡ c) ⊎ Has (r ∷ rs) x)
     by_test true is =
         let next : r.first ≡ c + 1 = eqb-true r.first (c + 1) is in (
-          λ h. elim h [ inl within ↦ elim (narrow next within (cases_lt c x)) [ inl same ↦ inl same | inr there ↦ inr (inl there) ] | inr behind ↦ inr (inr behind) ],
+          λ h. elim h [ inl within ↦ elim (narrow next within (cases_lt c x)) [ inl same ↦ inl same | inr there ↦ inr (inl there) ] | inr after ↦ inr (inr after) ],
           λ h. elim h [
             | inl same ↦ inl (omega (arith, same), omega (arith, same, next, rise.1.0))
-            | inr there ↦ elim there [ inl within ↦ inl (omega (arith, next, within.0), within.1) | inr behind ↦ inr behind ]
+            | inr there ↦ elim there [ inl within ↦ inl (omega (arith, next, within.0), within.1) | inr after ↦ inr after ]
           ],
         )
     by_test false is = (

@@ -195,12 +195,12 @@ ranges_listed spans set canonical have =
     one_form set (ranges_in ps) canonical (ranges_canonical ps) (λ c. (λ h. (ranges_hold ps c).1 ((have c).0 h), λ h. (have c).1 ((ranges_hold ps c).0 h)))
 
 -- the characters of both sets are those in the ranges of both
-pub halves_joined : (front behind all first second whole : List Span) → front ++ behind ≡ all → ((c : ℕ) → Has first c ↔ HoldsIn (map part_of front) c) → ((c : ℕ) → Has second c ↔ HoldsIn (map part_of behind) c) → ((c : ℕ) → Has whole c ↔ (Has first c ⊎ Has second c)) →
+pub halves_joined : (front after all first second whole : List Span) → front ++ after ≡ all → ((c : ℕ) → Has first c ↔ HoldsIn (map part_of front) c) → ((c : ℕ) → Has second c ↔ HoldsIn (map part_of after) c) → ((c : ℕ) → Has whole c ↔ (Has first c ⊎ Has second c)) →
     (c : ℕ) → Has whole c ↔ HoldsIn (map part_of all) c
-halves_joined front behind all first second whole is one other both c =
+halves_joined front after all first second whole is one other both c =
     let P : List Part → Type 0 = λ ps. Has whole c ↔ HoldsIn ps c in
-    let parts : map part_of front ++ map part_of behind ≡ map part_of all = sym (map-append part_of front behind) ∙ ap (map part_of) is in
-    let joined = holds_append (map part_of front) (map part_of behind) c in
+    let parts : map part_of front ++ map part_of after ≡ map part_of all = sym (map-append part_of front after) ∙ ap (map part_of) is in
+    let joined = holds_append (map part_of front) (map part_of after) c in
     subst P parts (
       λ h. elim ((both c).0 h) [ inl h ↦ joined.1 (inl ((one c).0 h)) | inr h ↦ joined.1 (inr ((other c).0 h)) ],
       λ h. elim (joined.0 h) [ inl h ↦ (both c).1 (inl ((one c).1 h)) | inr h ↦ (both c).1 (inr ((other c).1 h)) ],

@@ -6,8 +6,8 @@ use Rattle.g4_source.specs.Blocks.{HaveAlternatives}
 use Rattle.g4_source.specs.declared.source.Source.{Source}
 use Rattle.g4_syntax.specs.Notation.{Spelled}
 use Rattle.g4_syntax.specs.Productions.{grammar}
-use Rattle.g4_syntax.specs.Trees.{TextStops, within, behind}
-use Rattle.g4_syntax.proofs.Texts.{text, reads_text, read_before, comes_behind}
+use Rattle.g4_syntax.specs.Trees.{TextStops, within, after}
+use Rattle.g4_syntax.proofs.Texts.{text, reads_text, read_before, comes_after}
 use Rattle.g4_prequels.specs.declared.cursor.Halt.TheVariants.{Fault, BadSet}
 use Rattle.g4_prequels.specs.Progress.{Progress, reading, stopped, rest_of, halt_of, at_fault, at_bad_set, Moves, reads, stops}
 use Rattle.g4_prequels.specs.Sets.{HasNoBad, HasFirstBad}
@@ -37,7 +37,7 @@ StopsGood tokens rest = TextStops tokens rest × HasNoBad grammar tokens
 -- the grammar is read, and a token is left
 left_over : (tokens : List Spelled) (source : Source) (end : Progress) → ReadsSource tokens source end → halt_of end ≡ None → 0 < length (rest_of end) → StopsGood tokens (rest_of end)
 left_over tokens source (reading []) read none left = absurd (omega (arith, left))
-left_over tokens source (reading (token ∷ rest)) (reads _ _ tree read good is) none left = (behind token rest tree read, good)
+left_over tokens source (reading (token ∷ rest)) (reads _ _ tree read good is) none left = (after token rest tree read, good)
 left_over tokens source (stopped halt rest) read none left = absurd (cc)
 
 -- reading stops at a fault
@@ -55,8 +55,8 @@ at_bad tokens source (stopped _ rest) (stops _ _ _ (at_bad_set found)) is = foun
 -- what was read, and what is left
 split : (tokens : List Spelled) (source : Source) (end : Progress) → ReadsSource tokens source end → (before : List Spelled) × (tokens ≡ before ++ rest_of end)
 split tokens source (reading rest) (reads _ _ tree read good is) = (text tree, reads_text tree tokens rest read)
-split tokens source (stopped _ rest) (stops _ _ _ (at_fault stop none)) = (read_before stop.comes, comes_behind stop.comes)
-split tokens source (stopped _ rest) (stops _ _ _ (at_bad_set found)) = (read_before found.comes, comes_behind found.comes)
+split tokens source (stopped _ rest) (stops _ _ _ (at_fault stop none)) = (read_before stop.comes, comes_after stop.comes)
+split tokens source (stopped _ rest) (stops _ _ _ (at_bad_set found)) = (read_before found.comes, comes_after found.comes)
 
 -- how many tokens were read
 counted : (bytes : List ℕ) (tokens : List Token) (before rest : List Spelled) → spelled bytes tokens ≡ before ++ rest → length before + length rest ≡ length tokens
@@ -67,10 +67,10 @@ pub not_longer : (bytes : List ℕ) (tokens : List Token) (source : Source) (end
 not_longer bytes tokens source end read = let s = split (spelled bytes tokens) source end read in omega (arith, counted bytes tokens (s.0) (rest_of end) s.1)
 
 -- what is left after the first tokens
-behind_part : (bytes : List ℕ) (tokens : List Token) (before rest : List Spelled) → spelled bytes tokens ≡ before ++ rest → rest ≡ from bytes tokens (length before)
-behind_part bytes tokens [] rest is = sym is
-behind_part bytes [] (b ∷ before) rest is = absurd (cc)
-behind_part bytes (token ∷ tokens) (b ∷ before) rest is = let tail : spelled bytes tokens ≡ before ++ rest = cc in behind_part bytes tokens before rest tail
+after_part : (bytes : List ℕ) (tokens : List Token) (before rest : List Spelled) → spelled bytes tokens ≡ before ++ rest → rest ≡ from bytes tokens (length before)
+after_part bytes tokens [] rest is = sym is
+after_part bytes [] (b ∷ before) rest is = absurd (cc)
+after_part bytes (token ∷ tokens) (b ∷ before) rest is = let tail : spelled bytes tokens ≡ before ++ rest = cc in after_part bytes tokens before rest tail
 
 -- what is left is there from this index on
 module _ (bytes : List ℕ) (tokens : List Token) (source : Source) (end : Progress) (read : ReadsSource (spelled bytes tokens) source end) where
@@ -78,7 +78,7 @@ module _ (bytes : List ℕ) (tokens : List Token) (source : Source) (end : Progr
   left_from =
       let s = split (spelled bytes tokens) source end read in
       let n : length (s.0) ≡ length tokens - length (rest_of end) = omega (arith, counted bytes tokens (s.0) (rest_of end) s.1) in
-      behind_part bytes tokens (s.0) (rest_of end) s.1 ∙ ap (from bytes tokens) n
+      after_part bytes tokens (s.0) (rest_of end) s.1 ∙ ap (from bytes tokens) n
 
   -- a token is left at this index
   pub text_left : halt_of end ≡ None → length tokens - length (rest_of end) < length tokens → StopsGood (spelled bytes tokens) (from bytes tokens (length tokens - length (rest_of end)))

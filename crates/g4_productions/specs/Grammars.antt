@@ -50,13 +50,13 @@ abbrev pub IsGrammarText : List Spelled → Source → Type 0
 IsGrammarText tokens source = (tree : Tree grammar) × HasTree tokens tree × (source ≡ source_of tree)
 
 -- the first bad set to which reading a grammar text comes begins at this place
-abbrev pub BadSetStands : List Spelled → Place → Type 0
-BadSetStands tokens place = (rest : List Spelled) × HasFirstBad grammar tokens rest × (place ≡ place_of rest)
+abbrev pub HasBadSetAt : List Spelled → Place → Type 0
+HasBadSetAt tokens place = (rest : List Spelled) × HasFirstBad grammar tokens rest × (place ≡ place_of rest)
 
 -- the call gives the grammar that the tokens are, in which no set is bad; or the index of those where reading stops, with no bad
 -- set before; or the place of the first bad set; unless memory runs out
 abbrev pub ReadsText : List ℕ → List Token → Result Source Stop → Type 0
 ReadsText text tokens (Ok source) = IsGrammarText (spelled text tokens) source × HasNoBad grammar (spelled text tokens)
 ReadsText text tokens (Err (stops.At index)) = TextStops (spelled text tokens) (from text tokens index) × HasNoBad grammar (spelled text tokens)
-ReadsText text tokens (Err (stops.BadSet place)) = BadSetStands (spelled text tokens) place
+ReadsText text tokens (Err (stops.BadSet place)) = HasBadSetAt (spelled text tokens) place
 ReadsText text tokens (Err stops.NoMemory) = Unit {0}

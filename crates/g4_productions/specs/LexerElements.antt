@@ -50,12 +50,12 @@ abbrev mutual
 
   -- the ranges between bars
   pub ranges_between : Tree (with_bars (part character_set)) → List Span
-  ranges_between (both s ss) = excluded_ranges s ++ excluded_behind ss
+  ranges_between (both s ss) = excluded_ranges s ++ excluded_after ss
 
   -- the ranges after bars
-  pub excluded_behind : Tree (repeated (sign kinds.Bar ▸ part character_set)) → List Span
-  excluded_behind end = []
-  excluded_behind (more (both bar s) ss) = excluded_ranges s ++ excluded_behind ss
+  pub excluded_after : Tree (repeated (sign kinds.Bar ▸ part character_set)) → List Span
+  excluded_after end = []
+  excluded_after (more (both bar s) ss) = excluded_ranges s ++ excluded_after ss
 
 -- the set of the characters under `~`
 abbrev pub excluded_set : Tree (part character_set) → List Span
@@ -111,9 +111,9 @@ abbrev mutual
 
   -- the alternatives of a block between bars
   pub lexer_alternatives : Tree (with_bars (repeated (part lexer_element))) → List (Elements Atom)
-  lexer_alternatives (both x xs) = in_order (lexer_elements x) ∷ lexer_alternatives_behind xs
+  lexer_alternatives (both x xs) = in_order (lexer_elements x) ∷ lexer_alternatives_after xs
 
   -- the alternatives of a block after bars
-  pub lexer_alternatives_behind : Tree (repeated (sign kinds.Bar ▸ repeated (part lexer_element))) → List (Elements Atom)
-  lexer_alternatives_behind end = []
-  lexer_alternatives_behind (more (both bar x) xs) = in_order (lexer_elements x) ∷ lexer_alternatives_behind xs
+  pub lexer_alternatives_after : Tree (repeated (sign kinds.Bar ▸ repeated (part lexer_element))) → List (Elements Atom)
+  lexer_alternatives_after end = []
+  lexer_alternatives_after (more (both bar x) xs) = in_order (lexer_elements x) ∷ lexer_alternatives_after xs

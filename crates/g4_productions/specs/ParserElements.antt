@@ -33,12 +33,12 @@ abbrev mutual
 
   -- the tokens between bars
   pub references_between : Tree (with_bars (part token_set)) → List TokenReference
-  references_between (both s ss) = references_of s ++ references_behind ss
+  references_between (both s ss) = references_of s ++ references_after ss
 
   -- the tokens after bars
-  pub references_behind : Tree (repeated (sign kinds.Bar ▸ part token_set)) → List TokenReference
-  references_behind end = []
-  references_behind (more (both bar s) ss) = references_of s ++ references_behind ss
+  pub references_after : Tree (repeated (sign kinds.Bar ▸ part token_set)) → List TokenReference
+  references_after end = []
+  references_after (more (both bar s) ss) = references_of s ++ references_after ss
 
 abbrev mutual
   -- an element
@@ -59,17 +59,17 @@ abbrev mutual
 
   -- an item that begins with a lower-case name
   pub lower_item : Tree (sign kinds.Lower ▸ (assign ▸ item ∣ reference_end)) → Labelled
-  lower_item (both n (left x)) = labelled_behind (name_of n) x
+  lower_item (both n (left x)) = labelled_after (name_of n) x
   lower_item (both n (right r)) = single (record { label = None; right = reference_right r; kind = atoms.Rule (name_of n) })
 
   -- an item that begins with an upper-case name
   pub upper_item : Tree (sign kinds.Upper ▸ (assign ▸ item ∣ optional element_options)) → Labelled
-  upper_item (both n (left x)) = labelled_behind (name_of n) x
+  upper_item (both n (left x)) = labelled_after (name_of n) x
   upper_item (both n (right options)) = single (record { label = None; right = right_of_optional options; kind = atoms.Token (name_of n) })
 
   -- an item after a label with this name
-  pub labelled_behind : Name → Tree (assign ▸ item) → Labelled
-  labelled_behind name (both a i) = named_item (Some (record { name = name; list = is_list a })) i
+  pub labelled_after : Name → Tree (assign ▸ item) → Labelled
+  labelled_after name (both a i) = named_item (Some (record { name = name; list = is_list a })) i
 
   -- an item with this label
   pub named_item : Option Label → Tree item → Labelled
@@ -90,16 +90,16 @@ abbrev mutual
 
   -- the alternatives between bars
   pub alternatives_of : Tree (with_bars alternative) → List (Elements Atom)
-  alternatives_of (both x xs) = alternative_elements x ∷ alternatives_behind xs
+  alternatives_of (both x xs) = alternative_elements x ∷ alternatives_after xs
 
   -- the elements of an alternative
   pub alternative_elements : Tree alternative → Elements Atom
   alternative_elements (both options xs) = in_order (parser_elements xs)
 
   -- the alternatives after bars
-  pub alternatives_behind : Tree (repeated (sign kinds.Bar ▸ alternative)) → List (Elements Atom)
-  alternatives_behind end = []
-  alternatives_behind (more (both bar x) xs) = alternative_elements x ∷ alternatives_behind xs
+  pub alternatives_after : Tree (repeated (sign kinds.Bar ▸ alternative)) → List (Elements Atom)
+  alternatives_after end = []
+  alternatives_after (more (both bar x) xs) = alternative_elements x ∷ alternatives_after xs
 
 -- whether an alternative associates to the right
 abbrev pub alternative_right : Tree alternative → Bool

@@ -32,13 +32,13 @@ abbrev pub rule_alternative_of : Tree rule_alternative → RuleAlternative Atom
 rule_alternative_of (both x l) = record { right = alternative_right x; elements = alternative_elements x; label = alternative_label l }
 
 -- the alternatives of a parser rule after bars
-abbrev pub rule_alternatives_behind : Tree (repeated (sign kinds.Bar ▸ rule_alternative)) → List (RuleAlternative Atom)
-rule_alternatives_behind end = []
-rule_alternatives_behind (more (both bar x) xs) = rule_alternative_of x ∷ rule_alternatives_behind xs
+abbrev pub rule_alternatives_after : Tree (repeated (sign kinds.Bar ▸ rule_alternative)) → List (RuleAlternative Atom)
+rule_alternatives_after end = []
+rule_alternatives_after (more (both bar x) xs) = rule_alternative_of x ∷ rule_alternatives_after xs
 
 -- the alternatives of a parser rule
 abbrev pub rule_alternatives_of : Tree (with_bars rule_alternative) → List (RuleAlternative Atom)
-rule_alternatives_of (both x xs) = rule_alternative_of x ∷ rule_alternatives_behind xs
+rule_alternatives_of (both x xs) = rule_alternative_of x ∷ rule_alternatives_after xs
 
 -- a parser rule
 abbrev pub parser_rule_of : Tree parser_rule → ParserRule Atom
@@ -59,13 +59,13 @@ abbrev pub command_of : Tree command → Command
 command_of (both n a) = record { name = name_of n; argument = argument_of a }
 
 -- the commands after commas
-abbrev pub commands_behind : Tree (repeated (sign kinds.Comma ▸ command)) → List Command
-commands_behind end = []
-commands_behind (more (both comma c) cs) = command_of c ∷ commands_behind cs
+abbrev pub commands_after : Tree (repeated (sign kinds.Comma ▸ command)) → List Command
+commands_after end = []
+commands_after (more (both comma c) cs) = command_of c ∷ commands_after cs
 
 -- the commands after `->`
 abbrev pub commands_in_order : Tree (with_commas command) → List Command
-commands_in_order (both c cs) = command_of c ∷ commands_behind cs
+commands_in_order (both c cs) = command_of c ∷ commands_after cs
 
 -- the commands of an alternative
 abbrev pub commands_of : Tree (optional (sign kinds.Arrow ▸ with_commas command)) → List Command
@@ -77,13 +77,13 @@ abbrev pub lexer_alternative_of : Tree lexer_alternative → LexerAlternative
 lexer_alternative_of (both x cs) = record { elements = in_order (lexer_elements x); commands = commands_of cs }
 
 -- the alternatives of a lexer rule after bars
-abbrev pub rule_lexer_alternatives_behind : Tree (repeated (sign kinds.Bar ▸ lexer_alternative)) → List LexerAlternative
-rule_lexer_alternatives_behind end = []
-rule_lexer_alternatives_behind (more (both bar x) xs) = lexer_alternative_of x ∷ rule_lexer_alternatives_behind xs
+abbrev pub rule_lexer_alternatives_after : Tree (repeated (sign kinds.Bar ▸ lexer_alternative)) → List LexerAlternative
+rule_lexer_alternatives_after end = []
+rule_lexer_alternatives_after (more (both bar x) xs) = lexer_alternative_of x ∷ rule_lexer_alternatives_after xs
 
 -- the alternatives of a lexer rule
 abbrev pub rule_lexer_alternatives : Tree (with_bars lexer_alternative) → List LexerAlternative
-rule_lexer_alternatives (both x xs) = lexer_alternative_of x ∷ rule_lexer_alternatives_behind xs
+rule_lexer_alternatives (both x xs) = lexer_alternative_of x ∷ rule_lexer_alternatives_after xs
 
 -- the place of `fragment`
 abbrev pub fragment_place : {t : Terminal} → Tree (optional (one t)) → Option Place

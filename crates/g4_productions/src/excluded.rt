@@ -70,10 +70,10 @@ fn joined(alloc: Global, ranges: &[Range]) -> Result<CharSet, AllocError>
         [] => Ok(CharSet::empty(alloc)),
         [range] => CharSet::of_range(alloc, range.first, range.last),
         _ => {
-            let (front, behind) = ranges.split_at(ranges.len() / 2);
+            let (front, after) = ranges.split_at(ranges.len() / 2);
             let front = joined(alloc, front)?;
-            let behind = joined(alloc, behind)?;
-            let set = front.union(alloc, &behind)?;
+            let after = joined(alloc, after)?;
+            let set = front.union(alloc, &after)?;
             Ok(set)
         }
     }

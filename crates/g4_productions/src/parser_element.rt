@@ -4,7 +4,7 @@ ghost use Rattle.g4_elements.specs.Trees.{element_of, alternative_of};
 ghost use Rattle.g4_syntax.specs.Notation.{element as an_element, part};
 ghost use Rattle.g4_prequels.specs.Progress.{is_next, Gives, GivesAs};
 ghost use Rattle.g4_productions.specs.Elements.{labelled_of, elements_in, alternatives_in};
-ghost use Rattle.g4_productions.specs.ParserElements.{reference_right, parser_element, parser_elements, labelled, lower_item, upper_item, labelled_behind, named_item, unnamed, block_of, alternatives_of, alternative_elements};
+ghost use Rattle.g4_productions.specs.ParserElements.{reference_right, parser_element, parser_elements, labelled, lower_item, upper_item, labelled_after, named_item, unnamed, block_of, alternatives_of, alternative_elements};
 
 use crate::suffix::{Labelled, action, is_at_label_sign, label_sign, optional_suffix, with_suffix};
 use crate::token_set::excluded_tokens;
@@ -75,8 +75,8 @@ fn item(cursor: &mut Cursor<'_>, label: Option<Label>) -> Result<Labelled, Alloc
 
 /// The sign of a label with this name, and the item after it.
 #[cycle(brackets)]
-fn labelled_behind(cursor: &mut Cursor<'_>, name: Name) -> Result<Labelled, AllocError>
-    ensures { GivesAs labelled_of (labelled_behind name) cursor.old cursor.new result }
+fn labelled_after(cursor: &mut Cursor<'_>, name: Name) -> Result<Labelled, AllocError>
+    ensures { GivesAs labelled_of (labelled_after name) cursor.old cursor.new result }
 {
     let list = label_sign(cursor);
     let labelled = item(cursor, Some(Label { name, list }))?;
@@ -90,7 +90,7 @@ fn lower_item(cursor: &mut Cursor<'_>) -> Result<Labelled, AllocError>
 {
     let name = cursor.named(Kind::Lower)?;
     if is_at_label_sign(cursor) {
-        let labelled = labelled_behind(cursor, name)?;
+        let labelled = labelled_after(cursor, name)?;
         return Ok(labelled);
     }
     let label = None;
@@ -106,7 +106,7 @@ fn upper_item(cursor: &mut Cursor<'_>) -> Result<Labelled, AllocError>
 {
     let name = cursor.named(Kind::Upper)?;
     if is_at_label_sign(cursor) {
-        let labelled = labelled_behind(cursor, name)?;
+        let labelled = labelled_after(cursor, name)?;
         return Ok(labelled);
     }
     let label = None;

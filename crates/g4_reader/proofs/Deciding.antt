@@ -6,7 +6,7 @@ use Rattle.g4_base.specs.declared.place.Place.{Place}
 use Rattle.g4_tokens.specs.declared.token.Kind.TheVariants as kinds
 use Rattle.g4_syntax.specs.Notation.{Spelled, Terminal, of_kind, keyword, a_name, a_set, characters, excluded, Nonterminal, Expression, one, ◌▸◌, ◌∣◌, optional, repeated, part}
 use Rattle.g4_syntax.specs.Productions.{production, grammar}
-use Rattle.g4_syntax.specs.Trees.{Tree, leaf, both, left, right, absent, present, end, more, inner, begins_there, Reads, Comes, here, in_first, in_second, in_left, in_right, in_optional, in_turn, in_later_turn, in_part, Stops, HasTree, TextStops, within, behind}
+use Rattle.g4_syntax.specs.Trees.{Tree, leaf, both, left, right, absent, present, end, more, inner, begins_there, Reads, Comes, here, in_first, in_second, in_left, in_right, in_optional, in_turn, in_later_turn, in_part, Stops, HasTree, TextStops, within, after}
 use Rattle.g4_syntax.proofs.Unique.{one_reading, never_both}
 use Rattle.g4_prequels.specs.declared.cursor.Halt.{Halt}
 use Rattle.g4_prequels.specs.declared.cursor.Halt.TheVariants.{Fault, BadSet}
@@ -14,7 +14,7 @@ use Rattle.g4_prequels.specs.Progress.{Progress, reading, stopped, is_next, at_f
 use Rattle.g4_prequels.specs.Sets.{content, IsBadContent, IsBadSet, bytes_at, is_no_character, begins_bad_range, BeginsBad, HasNoBad, HasFirstBad}
 use Rattle.g4_prequels.specs.Texts.{place_of}
 use Rattle.g4_prequels.proofs.Moving as moving
-use Rattle.g4_productions.specs.Grammars.{BadSetStands}
+use Rattle.g4_productions.specs.Grammars.{HasBadSetAt}
 use Rattle.g4_productions.specs.Members.{set_of}
 use Rattle.g4_productions.proofs.SetText.{bad_set, none_bad}
 
@@ -59,7 +59,7 @@ over_terminal t from otherwise = elim (bad_decided t from) [ inl bad ↦ (stoppe
 
 -- over two, where a cursor stops in the first
 stopped_first : (x y : Expression) (from rest : List Spelled) (halt : Halt) → Passes x (reading from) (stopped halt rest) → CanMove (x ▸ y) from
-stopped_first x y from rest halt first = (stopped halt rest, moving.behind first (stays halt rest))
+stopped_first x y from rest halt first = (stopped halt rest, moving.after first (stays halt rest))
 
 -- over turns, where a cursor stops in the first
 stopped_turn : (x : Expression) (from rest : List Spelled) (halt : Halt) → begins_there x from ≡ true → Passes x (reading from) (stopped halt rest) → CanMove (repeated x) from
@@ -72,7 +72,7 @@ stopped_turn x from rest halt is first =
 over_both : {x y : Expression} (from between : List Spelled) (a : Tree x) → Reads a from between → CanMove x from → CanMove y between → CanMove (x ▸ y) from
 over_both {x} {y} from between a read (_, reads _ other b again good tt) (v, second) =
     let first : Passes x (reading from) (reading other) = reads from other b again good tt in
-    (v, moving.behind first (subst (λ (l : List Spelled). Passes y (reading l) v) (one_reading a b from between other read again).1 second))
+    (v, moving.after first (subst (λ (l : List Spelled). Passes y (reading l) v) (one_reading a b from between other read again).1 second))
 over_both {x} {y} from between a read (_, stops _ rest halt halts) second = stopped_first x y from rest halt (stops from rest halt halts)
 
 -- over two, where reading stops in the first
@@ -150,7 +150,7 @@ over_stop (in_part from rest comes) none = over_part from (over_stop comes none)
 
 -- reading comes to no bad set, or to a first one
 abbrev pub GoodOrBad : List Spelled → Type 0
-GoodOrBad tokens = HasNoBad grammar tokens ⊎ ((place : Place) × BadSetStands tokens place)
+GoodOrBad tokens = HasNoBad grammar tokens ⊎ ((place : Place) × HasBadSetAt tokens place)
 
 -- so where a cursor can move
 by_move : (tokens : List Spelled) → CanMove grammar tokens → GoodOrBad tokens
@@ -165,4 +165,4 @@ text_decided tokens tree has = by_move tokens (over_tree tree tokens _ has)
 -- tokens before which reading stops have no bad set before them, or a first one
 pub stop_decided : (tokens rest : List Spelled) → TextStops tokens rest → GoodOrBad tokens
 stop_decided tokens _ (within rest stop) = by_move tokens (over_stop stop.comes stop.none)
-stop_decided tokens _ (behind token rest tree read) = by_move tokens (over_tree tree tokens (token ∷ rest) read)
+stop_decided tokens _ (after token rest tree read) = by_move tokens (over_tree tree tokens (token ∷ rest) read)

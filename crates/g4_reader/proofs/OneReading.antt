@@ -9,9 +9,9 @@ use Rattle.g4_syntax.specs.Notation.{Spelled}
 use Rattle.g4_syntax.specs.Productions.{grammar}
 use Rattle.g4_syntax.specs.Trees.{Tree, HasTree, BeginsText, Ends}
 use Rattle.g4_syntax.proofs.Unique as trees
-use Rattle.g4_syntax.proofs.Texts.{read_before, comes_behind}
+use Rattle.g4_syntax.proofs.Texts.{read_before, comes_after}
 use Rattle.g4_prequels.specs.Texts.{spelled, place_of}
-use Rattle.g4_productions.specs.Grammars.{IsGrammarText, BadSetStands, source_of}
+use Rattle.g4_productions.specs.Grammars.{IsGrammarText, HasBadSetAt, source_of}
 use Rattle.g4_reader.proofs.Utf8.{not_both, one_point}
 use Rattle.g4_reader.specs.Answering.{IsReadingOf}
 use Rattle.g4_prequels.specs.Sets.{HasNoBad}
@@ -25,8 +25,8 @@ one_grammar : (tokens : List Spelled) (a b : Source) → IsGrammarText tokens a 
 one_grammar tokens a b (x, has, is) (y, also, too) = is ∙ ap source_of (trees.one_reading x y tokens [] [] has also).0 ∙ sym too
 
 -- a grammar text begins with the first of the tokens with which one begins
-begins_before : (first behind : List Spelled) → BeginsText (first ++ behind) → BeginsText first
-begins_before first behind (others, tree, has) = (behind ++ others, tree, subst (λ (l : List Spelled). HasTree l tree) (append_assoc first behind others) has)
+begins_before : (first after : List Spelled) → BeginsText (first ++ after) → BeginsText first
+begins_before first after (others, tree, has) = (after ++ others, tree, subst (λ (l : List Spelled). HasTree l tree) (append_assoc first after others) has)
 
 -- a grammar text is not cut
 not_cut : (tokens front rest : List Spelled) (tree : Tree grammar) → HasTree tokens tree → IsCut tokens front rest → ⊥
@@ -46,13 +46,13 @@ abbrev EndsBy : (List Spelled → Type 0) → List Spelled → List Spelled → 
 EndsBy Begins front rest = (t : Spelled) (ts : List Spelled) → rest ≡ t ∷ ts → ¬ (Begins (front ++ t ∷ []))
 
 -- a list is cut in one way where what is so of it is so of all that it begins with
-same_cut : (Begins : List Spelled → Type 0) → ((first behind : List Spelled) → Begins (first ++ behind) → Begins first) → (front rest other behind : List Spelled) → front ++ rest ≡ other ++ behind → Begins front → Begins other → EndsBy Begins front rest → EndsBy Begins other behind → (front ≡ other) × (rest ≡ behind)
-same_cut Begins before [] rest [] behind is begins also ends too = (refl, is)
-same_cut Begins before [] rest (s ∷ other) behind is begins also ends too = absurd (ends s (other ++ behind) is (before (s ∷ []) other also))
-same_cut Begins before (t ∷ front) rest [] behind is begins also ends too = absurd (too t (front ++ rest) (sym is) (before (t ∷ []) front begins))
-same_cut Begins before (t ∷ front) rest (s ∷ other) behind is begins also ends too =
-    let first : t ≡ s = same_first t s (front ++ rest) (other ++ behind) is in
-    let later = same_cut (λ l. Begins (t ∷ l)) (λ u v. before (t ∷ u) v) front rest other behind (same_others t s (front ++ rest) (other ++ behind) is) begins (subst (λ (u : Spelled). Begins (u ∷ other)) (sym first) also) ends (λ u us stands bad. too u us stands (subst (λ (x : Spelled). Begins (x ∷ other ++ u ∷ [])) first bad)) in
+same_cut : (Begins : List Spelled → Type 0) → ((first after : List Spelled) → Begins (first ++ after) → Begins first) → (front rest other after : List Spelled) → front ++ rest ≡ other ++ after → Begins front → Begins other → EndsBy Begins front rest → EndsBy Begins other after → (front ≡ other) × (rest ≡ after)
+same_cut Begins before [] rest [] after is begins also ends too = (refl, is)
+same_cut Begins before [] rest (s ∷ other) after is begins also ends too = absurd (ends s (other ++ after) is (before (s ∷ []) other also))
+same_cut Begins before (t ∷ front) rest [] after is begins also ends too = absurd (too t (front ++ rest) (sym is) (before (t ∷ []) front begins))
+same_cut Begins before (t ∷ front) rest (s ∷ other) after is begins also ends too =
+    let first : t ≡ s = same_first t s (front ++ rest) (other ++ after) is in
+    let later = same_cut (λ l. Begins (t ∷ l)) (λ u v. before (t ∷ u) v) front rest other after (same_others t s (front ++ rest) (other ++ after) is) begins (subst (λ (u : Spelled). Begins (u ∷ other)) (sym first) also) ends (λ u us stands bad. too u us stands (subst (λ (x : Spelled). Begins (x ∷ other ++ u ∷ [])) first bad)) in
     (ap₂ (λ (x : Spelled) (l : List Spelled). x ∷ l) first later.0, later.1)
 
 -- where no grammar text goes on
@@ -60,26 +60,26 @@ ends_by : (front rest : List Spelled) → Ends front rest → EndsBy BeginsText 
 ends_by front rest ends t ts is = subst (Ends front) is ends
 
 -- tokens are cut in one way
-one_cut : (tokens front rest other behind : List Spelled) → IsCut tokens front rest → IsCut tokens other behind → (front ≡ other) × (rest ≡ behind)
-one_cut tokens front rest other behind cut also =
-    same_cut BeginsText begins_before front rest other behind (sym cut.parts ∙ also.parts) cut.begins also.begins (ends_by front rest cut.ends) (ends_by other behind also.ends)
+one_cut : (tokens front rest other after : List Spelled) → IsCut tokens front rest → IsCut tokens other after → (front ≡ other) × (rest ≡ after)
+one_cut tokens front rest other after cut also =
+    same_cut BeginsText begins_before front rest other after (sym cut.parts ∙ also.parts) cut.begins also.begins (ends_by front rest cut.ends) (ends_by other after also.ends)
 
 -- what follows some first tokens and what follows others is the same, if neither is longer
-same_length : (first rest other behind : List Spelled) → first ++ rest ≡ other ++ behind → length rest ≡ length behind → rest ≡ behind
-same_length [] rest [] behind is long = is
-same_length (t ∷ first) rest (s ∷ other) behind is long = same_length first rest other behind (same_others t s (first ++ rest) (other ++ behind) is) long
-same_length [] rest (s ∷ other) behind is long = absurd (omega (arith, long, ap length is, length-append other behind))
-same_length (t ∷ first) rest [] behind is long = absurd (omega (arith, long, ap length is, length-append first rest))
+same_length : (first rest other after : List Spelled) → first ++ rest ≡ other ++ after → length rest ≡ length after → rest ≡ after
+same_length [] rest [] after is long = is
+same_length (t ∷ first) rest (s ∷ other) after is long = same_length first rest other after (same_others t s (first ++ rest) (other ++ after) is) long
+same_length [] rest (s ∷ other) after is long = absurd (omega (arith, long, ap length is, length-append other after))
+same_length (t ∷ first) rest [] after is long = absurd (omega (arith, long, ap length is, length-append first rest))
 
 -- tokens have one first bad set
-one_first_bad : (tokens : List Spelled) (p q : Place) → BadSetStands tokens p → BadSetStands tokens q → p ≡ q
+one_first_bad : (tokens : List Spelled) (p q : Place) → HasBadSetAt tokens p → HasBadSetAt tokens q → p ≡ q
 one_first_bad tokens p q (rest, first, is) (other, later, also) =
     let long : length rest ≡ length other = omega (arith, first.first later.terminal other later.comes later.bad, later.first first.terminal rest first.comes first.bad) in
-    let parts : read_before first.comes ++ rest ≡ read_before later.comes ++ other = sym (comes_behind first.comes) ∙ comes_behind later.comes in
+    let parts : read_before first.comes ++ rest ≡ read_before later.comes ++ other = sym (comes_after first.comes) ∙ comes_after later.comes in
     is ∙ ap place_of (same_length (read_before first.comes) rest (read_before later.comes) other parts long) ∙ sym also
 
 -- tokens with no bad set have no first one
-no_bad : (tokens : List Spelled) (place : Place) → HasNoBad grammar tokens → BadSetStands tokens place → ⊥
+no_bad : (tokens : List Spelled) (place : Place) → HasNoBad grammar tokens → HasBadSetAt tokens place → ⊥
 no_bad tokens place good (rest, first, is) = good first.terminal rest first.comes first.bad
 
 -- the first fault of tokens is one

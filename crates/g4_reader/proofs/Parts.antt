@@ -21,9 +21,9 @@ bytes_counted [] = refl
 bytes_counted (c ∷ cs) = sum_by-cons (λ (n : ℕ). n) (len_utf8 c) (map len_utf8 cs) ∙ ap (λ (n : ℕ). len_utf8 c + n) (bytes_counted cs) ∙ ap (λ (n : ℕ). n + length (encode_utf8_all cs)) (sym (length-encode c)) ∙ sym (length-append (encode_utf8 c) (encode_utf8_all cs))
 
 -- the last of some scalar values are scalar values
-scalars_behind : (u v : List ℕ) → all_scalars (u ++ v) ≡ true → all_scalars v ≡ true
-scalars_behind [] v all = all
-scalars_behind (c ∷ cs) v all = scalars_behind cs v (and_parts _ _ all).1
+scalars_after : (u v : List ℕ) → all_scalars (u ++ v) ≡ true → all_scalars v ≡ true
+scalars_after [] v all = all
+scalars_after (c ∷ cs) v all = scalars_after cs v (and_parts _ _ all).1
 
 -- a character begins or the text ends after so many bytes of it
 seam : (bytes before text : List ℕ) (n : ℕ) → bytes ≡ encode_utf8_all (before ++ text) → all_scalars text ≡ true → n ≡ length (encode_utf8_all before) → IsCharBoundary bytes n
@@ -40,7 +40,7 @@ next_at bytes before c more cs n (parts, all, is) =
     let piece = c ∷ take more cs in
     let whole : piece ++ drop more cs ≡ c ∷ cs = ap (λ (l : List ℕ). c ∷ l) (take-append-drop more cs) in (
       parts ∙ ap encode_utf8_all (sym (append_assoc before piece (drop more cs) ∙ ap (λ (l : List ℕ). before ++ l) whole)),
-      scalars_behind piece (drop more cs) (ap all_scalars whole ∙ all),
+      scalars_after piece (drop more cs) (ap all_scalars whole ∙ all),
       rw (is, bytes_counted piece, encodes-append before piece) (sym (length-append (encode_utf8_all before) (encode_utf8_all piece))),
     )
 
@@ -83,7 +83,7 @@ are_parts bytes tokens has = by_text (chars bytes) (sym (encodes-chars bytes has
     by_mark : (c : ℕ) (cs : List ℕ) (b : Bool) → (c == 65279) ≡ b → bytes ≡ encode_utf8_all (c ∷ cs) → all_scalars (c ∷ cs) ≡ true → AreTokens [] (start_at (if b then 3 else 0)) (if b then cs else c ∷ cs) tokens → AreParts bytes tokens
     by_mark c cs true is parts all are =
         let mark : c ≡ 65279 = eqb-true c 65279 is in
-        rest_parts bytes (c ∷ []) [] (start_at 3) cs tokens (parts, scalars_behind (c ∷ []) cs all, ap (λ (m : ℕ). length (encode_utf8_all (m ∷ []))) (sym mark)) are
+        rest_parts bytes (c ∷ []) [] (start_at 3) cs tokens (parts, scalars_after (c ∷ []) cs all, ap (λ (m : ℕ). length (encode_utf8_all (m ∷ []))) (sym mark)) are
     by_mark c cs false is parts all are = rest_parts bytes [] [] (start_at 0) (c ∷ cs) tokens (parts, all, refl) are
 
     by_text : (text : List ℕ) → bytes ≡ encode_utf8_all text → all_scalars text ≡ true → AreTokens [] (start_of text) (unmarked text) tokens → AreParts bytes tokens

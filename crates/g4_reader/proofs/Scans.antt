@@ -24,22 +24,22 @@ use Rattle.g4_tokens.proofs.OneScan.{one_scan}
 
 -- where a piece ends, or that it doesn't
 abbrev SomeEnd : Closing → List ℕ → Type 0
-SomeEnd closing behind = ((more : ℕ) × IsEnd closing behind more) ⊎ ((more : ℕ) → IsEnd closing behind more → ⊥)
+SomeEnd closing after = ((more : ℕ) × IsEnd closing after more) ⊎ ((more : ℕ) → IsEnd closing after more → ⊥)
 
 -- a comment ends or doesn't
-comment_ends : (behind : List ℕ) → SomeEnd comment behind
-comment_ends behind = by_end (comment_end (drop 1 behind)) refl
+comment_ends : (after : List ℕ) → SomeEnd comment after
+comment_ends after = by_end (comment_end (drop 1 after)) refl
   where
-    by_end : (o : Option ℕ) → comment_end (drop 1 behind) ≡ o → SomeEnd comment behind
+    by_end : (o : Option ℕ) → comment_end (drop 1 after) ≡ o → SomeEnd comment after
     by_end (Some taken) e = inl (taken + 1, ends taken e)
-    by_end None e = inr (λ more is. no_comment behind more e is)
+    by_end None e = inr (λ more is. no_comment after more e is)
 
 -- a literal ends or doesn't
-literal_ends : (behind : List ℕ) → SomeEnd literal behind
-literal_ends behind = by_end (enclosed Context.Literal 39 behind) (find_enclosed Context.Literal 39 behind _ refl)
+literal_ends : (after : List ℕ) → SomeEnd literal after
+literal_ends after = by_end (enclosed Context.Literal 39 after) (find_enclosed Context.Literal 39 after _ refl)
   where
-    by_end : (o : Option ℕ) → Finds (Encloses Context.Literal 39 behind) o → SomeEnd literal behind
-    by_end (Some taken) is = elim (cases_lt taken 2) [ inl less ↦ inr (λ more end. no_literal behind taken more is less end) | inr enough ↦ inl (taken, (is, enough)) ]
+    by_end : (o : Option ℕ) → Finds (Encloses Context.Literal 39 after) o → SomeEnd literal after
+    by_end (Some taken) is = elim (cases_lt taken 2) [ inl less ↦ inr (λ more end. no_literal after taken more is less end) | inr enough ↦ inl (taken, (is, enough)) ]
     by_end None never = inr (λ more end. never more end.0)
 
 -- a piece ends or doesn't, as what is found says
@@ -48,17 +48,17 @@ ends_as Ends (Some taken) is = inl (taken, is)
 ends_as Ends None never = inr never
 
 -- a piece ends or doesn't
-some_end : (closing : Closing) (behind : List ℕ) → SomeEnd closing behind
-some_end comment behind = comment_ends behind
-some_end literal behind = literal_ends behind
-some_end set behind = ends_as (Encloses Context.Set 93 behind) _ (find_enclosed Context.Set 93 behind _ refl)
-some_end arguments behind = ends_as (Nests 91 93 behind) _ (find_nesting 91 93 behind _ refl)
-some_end action behind = ends_as (Nests 123 125 behind) _ (find_nesting 123 125 behind _ refl)
+some_end : (closing : Closing) (after : List ℕ) → SomeEnd closing after
+some_end comment after = comment_ends after
+some_end literal after = literal_ends after
+some_end set after = ends_as (Encloses Context.Set 93 after) _ (find_enclosed Context.Set 93 after _ refl)
+some_end arguments after = ends_as (Nests 91 93 after) _ (find_nesting 91 93 after _ refl)
+some_end action after = ends_as (Nests 123 125 after) _ (find_nesting 123 125 after _ refl)
 
 -- a piece begins at a character
-some_piece : (opening : Opening) (behind : List ℕ) → (piece : Piece) × IsPiece opening behind piece
-some_piece (told piece) behind = (piece, at_once piece behind)
-some_piece (up_to closing) behind = elim (some_end closing behind) [ inl end ↦ (closed_piece closing end.0, with_end closing behind end.0 end.1) | inr never ↦ (Faulty, endless closing behind never) ]
+some_piece : (opening : Opening) (after : List ℕ) → (piece : Piece) × IsPiece opening after piece
+some_piece (told piece) after = (piece, at_once piece after)
+some_piece (up_to closing) after = elim (some_end closing after) [ inl end ↦ (closed_piece closing end.0, with_end closing after end.0 end.1) | inr never ↦ (Faulty, endless closing after never) ]
 
 -- what the rest of a text is: these tokens, or one whose first fault is here
 abbrev IsRest : List Word → Position → List ℕ → List Token ⊎ Position → Type 0

@@ -13,11 +13,11 @@ from_token text tokens at token is =
     ap (map (spelled_token text)) (drop_more tokens at token (slice_get_within tokens at token is) ∙ ap (λ (t : Token). t ∷ drop (at + 1) tokens) (get_or_from_slice_get tokens at token token is))
 
 -- after all tokens there are none
-pub from_behind : (text : List ℕ) (tokens : List Token) (at : ℕ) → slice_get tokens at ≡ None → from text tokens at ≡ []
-from_behind text [] zero is = refl
-from_behind text [] (suc at) is = refl
-from_behind text (t ∷ ts) zero is = absurd (cc)
-from_behind text (t ∷ ts) (suc at) is = from_behind text ts at is
+pub from_after : (text : List ℕ) (tokens : List Token) (at : ℕ) → slice_get tokens at ≡ None → from text tokens at ≡ []
+from_after text [] zero is = refl
+from_after text [] (suc at) is = refl
+from_after text (t ∷ ts) zero is = absurd (cc)
+from_after text (t ∷ ts) (suc at) is = from_after text ts at is
 
 -- the tokens are those before the index and those from there on
 pub cut_at : (text : List ℕ) (tokens : List Token) (at : ℕ) → spelled text tokens ≡ spelled text (take at tokens) ++ from text tokens at
@@ -28,5 +28,5 @@ pub fault_here : (text : List ℕ) (tokens : List Token) (at : ℕ) (token : Tok
 fault_here text tokens at token is = ap (fault_at text) (from_token text tokens at token is)
 
 -- the fault after all tokens
-pub fault_behind : (text : List ℕ) (tokens : List Token) (at : ℕ) → slice_get tokens at ≡ None → fault_at text (from text tokens at) ≡ fault_at text []
-fault_behind text tokens at is = ap (fault_at text) (from_behind text tokens at is)
+pub fault_after : (text : List ℕ) (tokens : List Token) (at : ℕ) → slice_get tokens at ≡ None → fault_at text (from text tokens at) ≡ fault_at text []
+fault_after text tokens at is = ap (fault_at text) (from_after text tokens at is)

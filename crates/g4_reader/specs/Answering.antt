@@ -4,7 +4,7 @@ use Rattle.g4_source.specs.declared.source.Source.{Source}
 use Rattle.g4_syntax.specs.Notation.{Spelled}
 use Rattle.g4_syntax.specs.Productions.{grammar}
 use Rattle.g4_prequels.specs.Sets.{HasNoBad}
-use Rattle.g4_productions.specs.Grammars.{IsGrammarText, BadSetStands}
+use Rattle.g4_productions.specs.Grammars.{IsGrammarText, HasBadSetAt}
 use Rattle.g4_reader.specs.Reading.{Fault, IsFirstFault}
 use Rattle.g4_reader.specs.declared.reader.ReadFault.{ReadFault}
 use Rattle.g4_reader.specs.declared.reader.ReadFault.TheVariants as faults
@@ -21,6 +21,6 @@ IsFault fault faults.NoMemory = Unit {0}
 abbrev pub IsReadingOf : List ℕ → List Spelled → Result Source ReadFault → Type 0
 IsReadingOf bytes tokens (Ok source) = IsGrammarText tokens source × HasNoBad grammar tokens
 IsReadingOf bytes tokens (Err (faults.Syntax place characters)) = IsFirstFault bytes tokens (record { place = place; characters = characters })
-IsReadingOf bytes tokens (Err (faults.BadSet place)) = BadSetStands tokens place
+IsReadingOf bytes tokens (Err (faults.BadSet place)) = HasBadSetAt tokens place
 IsReadingOf bytes tokens (Err (faults.NotUtf8 at)) = ⊥
 IsReadingOf bytes tokens (Err faults.NoMemory) = Unit {0}

@@ -14,7 +14,7 @@ use Rattle.g4_syntax.specs.Productions.{grammar}
 use Rattle.g4_syntax.specs.Trees.{BeginsText, Ends}
 use Rattle.g4_prequels.specs.Sets.{HasNoBad}
 use Rattle.g4_prequels.specs.Texts.{spelled}
-use Rattle.g4_productions.specs.Grammars.{IsGrammarText, BadSetStands}
+use Rattle.g4_productions.specs.Grammars.{IsGrammarText, HasBadSetAt}
 use Rattle.g4_reader.specs.declared.reader.ReadFault.{ReadFault}
 use Rattle.g4_reader.specs.declared.reader.ReadFault.TheVariants.{NotUtf8, Syntax, BadSet, NoMemory}
 
@@ -76,5 +76,5 @@ abbrev pub IsReading : List ℕ → Result Source ReadFault → Type 0
 IsReading bytes (Ok source) = IsGrammar bytes source
 IsReading bytes (Err (NotUtf8 at)) = IsValidUpTo bytes at
 IsReading bytes (Err (Syntax place characters)) = IsFaultOf bytes (record { place = place; characters = characters })
-IsReading bytes (Err (BadSet place)) = (tokens : List Spelled) × HasSpelled bytes tokens × BadSetStands tokens place
+IsReading bytes (Err (BadSet place)) = (tokens : List Spelled) × HasSpelled bytes tokens × HasBadSetAt tokens place
 IsReading bytes (Err NoMemory) = Unit {0}

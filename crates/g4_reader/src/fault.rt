@@ -29,7 +29,7 @@ fn unmarked(text: &[char]) -> &[char]
 }
 
 /// The place after the characters.
-fn place_behind(characters: &[char]) -> Place
+fn place_after(characters: &[char]) -> Place
     requires fits { length characters.now ≤ MOST_BYTES }
     ensures { result ≡ place_after first_place characters.now }
 {
@@ -46,7 +46,7 @@ fn end_of(alloc: Global, text: &str) -> Result<Place, AllocError>
     ensures { IfOk result (λ place. place ≡ end_of text.now) }
 {
     let characters: Vec<char> = text.chars().collect(alloc)?;
-    Ok(place_behind(unmarked(&characters)))
+    Ok(place_after(unmarked(&characters)))
 }
 
 /// The fault at the place, with these characters.

@@ -3,11 +3,11 @@ use Rattle.std.proofs.Common.{◌≡◌, List, [], ◌∷◌, ◌++◌, Bool, tr
 use Rattle.g4_syntax.specs.Notation.{Spelled, Terminal, Nonterminal, Expression, one, ◌▸◌, ◌∣◌, optional, repeated, part}
 use Rattle.g4_syntax.specs.Productions.{production}
 use Rattle.g4_syntax.specs.Trees.{Tree, both, left, right, present, end, more, inner, begins_there, Reads, Comes, here, in_first, in_second, in_left, in_right, in_optional, in_turn, in_later_turn, in_part}
-use Rattle.g4_syntax.proofs.Texts.{text, read_before, comes_behind}
+use Rattle.g4_syntax.proofs.Texts.{text, read_before, comes_after}
 use Rattle.g4_syntax.proofs.Extends.{covers_second, covers_left, covers_right, covers_optional, covers_repeated, covers_part, bars_repeated}
 use Rattle.g4_syntax.proofs.Local.{Allowed, allowed_of, barred, begun, reads_again}
 use Rattle.g4_syntax.proofs.Samples.{sample}
-use Rattle.g4_syntax.proofs.WellFormed.{is_well_formed, part_well_formed, first_well_formed, second_well_formed, left_well_formed, right_well_formed, behind_sample}
+use Rattle.g4_syntax.proofs.WellFormed.{is_well_formed, part_well_formed, first_well_formed, second_well_formed, left_well_formed, right_well_formed, after_sample}
 use Rattle.g4_syntax.proofs.Sampled.{read_sample}
 
 -- some text of the expression goes on after the tokens up to these
@@ -46,35 +46,35 @@ complete_turn x from (t ∷ w) before rest well allowed is so inside =
     (inside.0, more inside.1 end, (at_first true x from w before t (inside.0 ++ rest) is so, rest, inside.2, (barred (repeated x) x rest (bars_repeated x) allowed, refl)))
 
 -- two trees, one after the other, make one
-both_behind : {x y : Expression} (a : Tree x) (b : Tree y) (w others rest : List Spelled) → Reads a (text a ++ (w ++ others)) (w ++ others) → Reads b (w ++ others) rest → Reads (both a b) ((text a ++ w) ++ others) rest
-both_behind a b w others rest first second =
+both_after : {x y : Expression} (a : Tree x) (b : Tree y) (w others rest : List Spelled) → Reads a (text a ++ (w ++ others)) (w ++ others) → Reads b (w ++ others) rest → Reads (both a b) ((text a ++ w) ++ others) rest
+both_after a b w others rest first second =
     subst (λ (l : List Spelled). Reads (both a b) l rest) (sym (append_assoc (text a) w others)) (w ++ others, first, second)
 
 -- a text of two, stopped in the second: where nothing of it was read it is a short one
 complete_second : (x y : Expression) (from between w before rest : List Spelled) (a : Tree x) → is_well_formed (x ▸ y) ≡ true → Allowed (x ▸ y) rest → Reads a from between → between ≡ w ++ before → Completes y w rest → Completes (x ▸ y) (text a ++ w) rest
 complete_second x y from between [] before rest a well allowed reads is inside =
     let second = read_sample y rest (second_well_formed x y well) (allowed_of (x ▸ y) y rest (covers_second x y) allowed) in
-    let first = reads_again a from between (sample y ++ rest) reads (inr (behind_sample x y rest well allowed)) in
-    (sample y, both a second.0, both_behind a second.0 [] (sample y ++ rest) rest first second.1)
+    let first = reads_again a from between (sample y ++ rest) reads (inr (after_sample x y rest well allowed)) in
+    (sample y, both a second.0, both_after a second.0 [] (sample y ++ rest) rest first second.1)
 complete_second x y from between (t ∷ w) before rest a well allowed reads is inside =
     let others = inside.0 ++ rest in
     let first = reads_again a from between ((t ∷ w) ++ others) reads (inl (λ z. ap (begins_there z) is)) in
-    (inside.0, both a inside.1, both_behind a inside.1 (t ∷ w) others rest first inside.2)
+    (inside.0, both a inside.1, both_after a inside.1 (t ∷ w) others rest first inside.2)
 
 -- a turn and the later ones make one tree
-more_behind : {x : Expression} (a : Tree x) (b : Tree (repeated x)) (w others rest : List Spelled) → begins_there x (text a ++ (w ++ others)) ≡ true → Reads a (text a ++ (w ++ others)) (w ++ others) → Reads b (w ++ others) rest → Reads (more a b) ((text a ++ w) ++ others) rest
-more_behind a b w others rest so first second =
+more_after : {x : Expression} (a : Tree x) (b : Tree (repeated x)) (w others rest : List Spelled) → begins_there x (text a ++ (w ++ others)) ≡ true → Reads a (text a ++ (w ++ others)) (w ++ others) → Reads b (w ++ others) rest → Reads (more a b) ((text a ++ w) ++ others) rest
+more_after a b w others rest so first second =
     subst (λ (l : List Spelled). Reads (more a b) l rest) (sym (append_assoc (text a) w others)) (so, w ++ others, first, second)
 
 -- a text of what is repeated, stopped in a later turn: where nothing of it was read it ends there
 complete_later_turn : (x : Expression) (from between w before rest : List Spelled) (a : Tree x) → Allowed (repeated x) rest → begins_there x from ≡ true → Reads a from between → between ≡ w ++ before → Completes (repeated x) w rest → Completes (repeated x) (text a ++ w) rest
 complete_later_turn x from between [] before rest a allowed so reads is inside =
     let first = reads_again a from between rest reads (inr (allowed_of (repeated x) x rest (covers_repeated x) allowed)) in
-    ([], more a end, more_behind a end [] rest rest (begun a from between rest so reads) first (barred (repeated x) x rest (bars_repeated x) allowed, refl))
+    ([], more a end, more_after a end [] rest rest (begun a from between rest so reads) first (barred (repeated x) x rest (bars_repeated x) allowed, refl))
 complete_later_turn x from between (t ∷ w) before rest a allowed so reads is inside =
     let others = inside.0 ++ rest in
     let first = reads_again a from between ((t ∷ w) ++ others) reads (inl (λ z. ap (begins_there z) is)) in
-    (inside.0, more a inside.1, more_behind a inside.1 (t ∷ w) others rest (begun a from between ((t ∷ w) ++ others) so reads) first inside.2)
+    (inside.0, more a inside.1, more_after a inside.1 (t ∷ w) others rest (begun a from between ((t ∷ w) ++ others) so reads) first inside.2)
 
 -- a text of two, stopped in the first: the second is a short one
 complete_first : (x y : Expression) (w rest : List Spelled) → is_well_formed (x ▸ y) ≡ true → Allowed (x ▸ y) rest → Completes x w (sample y ++ rest) → Completes (x ▸ y) w rest
@@ -91,23 +91,23 @@ complete_part n w rest inside = (inside.0, inner inside.1, inside.2)
 pub completes : {t : Terminal} {x : Expression} {from before : List Spelled} (comes : Comes t x from before) (rest : List Spelled) → is_well_formed x ≡ true → Allowed x rest → Completes x (read_before comes) rest
 completes {t} (here _) rest well allowed = from_start (one t) rest well allowed
 completes (in_first {x} {y} _ _ comes) rest well allowed =
-    complete_first x y (read_before comes) rest well allowed (completes comes (sample y ++ rest) (first_well_formed x y well) (behind_sample x y rest well allowed))
+    complete_first x y (read_before comes) rest well allowed (completes comes (sample y ++ rest) (first_well_formed x y well) (after_sample x y rest well allowed))
 completes (in_second {x} {y} from between before a reads comes) rest well allowed =
-    complete_second x y from between (read_before comes) before rest a well allowed reads (comes_behind comes)
+    complete_second x y from between (read_before comes) before rest a well allowed reads (comes_after comes)
     (completes comes rest (second_well_formed x y well) (allowed_of (x ▸ y) y rest (covers_second x y) allowed))
 completes (in_left {x} {y} from before so comes) rest well allowed =
-    complete_left x y from (read_before comes) before rest well allowed (comes_behind comes) so
+    complete_left x y from (read_before comes) before rest well allowed (comes_after comes) so
     (completes comes rest (left_well_formed x y well) (allowed_of (x ∣ y) x rest (covers_left x y) allowed))
 completes (in_right {x} {y} from before so comes) rest well allowed =
-    complete_right x y from (read_before comes) before rest well allowed (comes_behind comes) so
+    complete_right x y from (read_before comes) before rest well allowed (comes_after comes) so
     (completes comes rest (right_well_formed x y well) (allowed_of (x ∣ y) y rest (covers_right x y) allowed))
 completes (in_optional {x} from before so comes) rest well allowed =
-    complete_optional x from (read_before comes) before rest well allowed (comes_behind comes) so
+    complete_optional x from (read_before comes) before rest well allowed (comes_after comes) so
     (completes comes rest well (allowed_of (optional x) x rest (covers_optional x) allowed))
 completes (in_turn {x} from before so comes) rest well allowed =
-    complete_turn x from (read_before comes) before rest well allowed (comes_behind comes) so
+    complete_turn x from (read_before comes) before rest well allowed (comes_after comes) so
     (completes comes rest well (allowed_of (repeated x) x rest (covers_repeated x) allowed))
 completes (in_later_turn {x} from between before a so reads comes) rest well allowed =
-    complete_later_turn x from between (read_before comes) before rest a allowed so reads (comes_behind comes) (completes comes rest well allowed)
+    complete_later_turn x from between (read_before comes) before rest a allowed so reads (comes_after comes) (completes comes rest well allowed)
 completes (in_part {n} _ _ comes) rest well allowed =
     complete_part n (read_before comes) rest (completes comes rest (part_well_formed n) (allowed_of (part n) (production n) rest (covers_part n) allowed))

@@ -8,7 +8,7 @@ use Rattle.g4_syntax.proofs.Truths.{or_first_true}
 use Rattle.g4_syntax.proofs.Extends.{covers_second, covers_left, covers_right, covers_part, bars_left, bars_optional, bars_repeated}
 use Rattle.g4_syntax.proofs.Local.{Allowed, allowed_of, barred}
 use Rattle.g4_syntax.proofs.Samples.{sample_token, sample, sample_fits, empty_sample}
-use Rattle.g4_syntax.proofs.WellFormed.{is_well_formed, first_well_formed, second_well_formed, left_well_formed, right_well_formed, one_begins, behind_sample}
+use Rattle.g4_syntax.proofs.WellFormed.{is_well_formed, first_well_formed, second_well_formed, left_well_formed, right_well_formed, one_begins, after_sample}
 
 -- what begins with some tokens does so with others after them
 begins_before : (x : Expression) (w rest : List Spelled) → begins_there x w ≡ true → begins_there x (w ++ rest) ≡ true
@@ -59,7 +59,7 @@ read_production more_names rest allowed = read_terminal (of_kind kinds.Comma) (n
 pub read_sample : (x : Expression) (rest : List Spelled) → is_well_formed x ≡ true → Allowed x rest → Read x (sample x) rest
 read_sample (one t) rest well allowed = (leaf (sample_token t), (refl, sample_fits t))
 read_sample (x ▸ y) rest well allowed =
-    let first = read_sample x (sample y ++ rest) (first_well_formed x y well) (behind_sample x y rest well allowed) in
+    let first = read_sample x (sample y ++ rest) (first_well_formed x y well) (after_sample x y rest well allowed) in
     let second = read_sample y rest (second_well_formed x y well) (allowed_of (x ▸ y) y rest (covers_second x y) allowed) in
     (both first.0 second.0, subst (λ (l : List Spelled). Reads (both first.0 second.0) l rest) (sym (append_assoc (sample x) (sample y) rest)) (sample y ++ rest, first.1, second.1))
 read_sample (x ∣ y) rest well allowed =

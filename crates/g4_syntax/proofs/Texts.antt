@@ -42,16 +42,16 @@ read_before (in_later_turn _ _ _ a _ _ comes) = text a ++ read_before comes
 read_before (in_part _ _ comes) = read_before comes
 
 -- the tokens that are read before a terminal are followed by those that are left at it
-pub comes_behind : {t : Terminal} {x : Expression} {from rest : List Spelled} (comes : Comes t x from rest) → from ≡ read_before comes ++ rest
-comes_behind (here rest) = refl
-comes_behind (in_first _ _ comes) = comes_behind comes
-comes_behind (in_second from between rest a reads comes) = reads_text a from between reads ∙ ap (λ l. text a ++ l) (comes_behind comes) ∙ sym (append_assoc (text a) (read_before comes) rest)
-comes_behind (in_left _ _ _ comes) = comes_behind comes
-comes_behind (in_right _ _ _ comes) = comes_behind comes
-comes_behind (in_optional _ _ _ comes) = comes_behind comes
-comes_behind (in_turn _ _ _ comes) = comes_behind comes
-comes_behind (in_later_turn from between rest a _ reads comes) = reads_text a from between reads ∙ ap (λ l. text a ++ l) (comes_behind comes) ∙ sym (append_assoc (text a) (read_before comes) rest)
-comes_behind (in_part _ _ comes) = comes_behind comes
+pub comes_after : {t : Terminal} {x : Expression} {from rest : List Spelled} (comes : Comes t x from rest) → from ≡ read_before comes ++ rest
+comes_after (here rest) = refl
+comes_after (in_first _ _ comes) = comes_after comes
+comes_after (in_second from between rest a reads comes) = reads_text a from between reads ∙ ap (λ l. text a ++ l) (comes_after comes) ∙ sym (append_assoc (text a) (read_before comes) rest)
+comes_after (in_left _ _ _ comes) = comes_after comes
+comes_after (in_right _ _ _ comes) = comes_after comes
+comes_after (in_optional _ _ _ comes) = comes_after comes
+comes_after (in_turn _ _ _ comes) = comes_after comes
+comes_after (in_later_turn from between rest a _ reads comes) = reads_text a from between reads ∙ ap (λ l. text a ++ l) (comes_after comes) ∙ sym (append_assoc (text a) (read_before comes) rest)
+comes_after (in_part _ _ comes) = comes_after comes
 
 -- if two texts together are empty, the first is
 pub first_empty : (v w : List Spelled) → v ++ w ≡ [] → v ≡ []

@@ -2,9 +2,9 @@
 use Rattle.std.proofs.Common.{◌≡◌, ◌⊎◌, ℕ, zero, suc, ◌<◌, List, [], ◌∷◌, ◌++◌, length, Bool, true, false, refl, ap, subst, ◌∙◌, inl, inr, length-append, arith}
 use Rattle.g4_syntax.specs.Notation.{Spelled, Terminal, fits, Nonterminal, Expression, one, ◌▸◌, ◌∣◌, optional, repeated, part}
 use Rattle.g4_syntax.specs.Productions.{production, grammar}
-use Rattle.g4_syntax.specs.Trees.{Tree, leaf, both, left, right, absent, present, end, more, inner, can_be_empty, begins_there, Reads, Comes, here, in_first, in_second, in_left, in_right, in_optional, in_turn, in_later_turn, in_part, Stops, HasTree, TextStops, within, behind}
+use Rattle.g4_syntax.specs.Trees.{Tree, leaf, both, left, right, absent, present, end, more, inner, can_be_empty, begins_there, Reads, Comes, here, in_first, in_second, in_left, in_right, in_optional, in_turn, in_later_turn, in_part, Stops, HasTree, TextStops, within, after}
 use Rattle.g4_syntax.proofs.Truths.{apart}
-use Rattle.g4_syntax.proofs.Texts.{text, reads_text, read_before, comes_behind, nothing_read}
+use Rattle.g4_syntax.proofs.Texts.{text, reads_text, read_before, comes_after, nothing_read}
 use Rattle.g4_syntax.proofs.Guarded.{Outcome, part_guarded, Known, ShorterKnown, first_known, second_known, left_known, right_known, part_known}
 
 -- after a token that was read fewer are left
@@ -133,12 +133,12 @@ TextOrStop tokens = ((tree : Tree grammar) × HasTree tokens tree) ⊎ ((first :
 -- a grammar that was read has all tokens, or reading stops at the first that is left
 all_or_stop : (tokens to : List Spelled) (tree : Tree grammar) → Reads tree tokens to → TextOrStop tokens
 all_or_stop tokens [] tree reads = inl (tree, reads)
-all_or_stop tokens (token ∷ rest) tree reads = inr (text tree, token ∷ rest, reads_text tree tokens (token ∷ rest) reads, behind token rest tree reads)
+all_or_stop tokens (token ∷ rest) tree reads = inr (text tree, token ∷ rest, reads_text tree tokens (token ∷ rest) reads, after token rest tree reads)
 
 -- a grammar that is read or stops is a text or stops
 text_or_stop_of : (tokens : List Spelled) → Outcome grammar tokens → TextOrStop tokens
 text_or_stop_of tokens (inl read) = all_or_stop tokens (read.1) (read.0) read.2
-text_or_stop_of tokens (inr stop) = inr (read_before (stop.1.comes), stop.0, comes_behind (stop.1.comes), within (stop.0) (stop.1))
+text_or_stop_of tokens (inr stop) = inr (read_before (stop.1.comes), stop.0, comes_after (stop.1.comes), within (stop.0) (stop.1))
 
 -- any tokens are a grammar text, or reading it stops at some of them
 pub text_or_stop : (tokens : List Spelled) → TextOrStop tokens

@@ -58,10 +58,10 @@ one_begins x y well =
     and_second_true (is_well_formed y) (can_be_empty y || begins_there x (sample x)) (and_second_true (is_well_formed x) (is_well_formed y && (can_be_empty y || begins_there x (sample x))) well)
 
 -- a text that does not extend the first of two can follow it, and if it is empty, what may follow both
-behind_either : (x y : Expression) (w rest : List Spelled) → (w ≡ [] → can_be_empty y ≡ true) → extends_there x w ≡ false → Allowed (x ▸ y) rest → Allowed x (w ++ rest)
-behind_either x y [] rest can none allowed = allowed_of (x ▸ y) x rest (covers_first x y (can refl)) allowed
-behind_either x y (t ∷ w) rest can none allowed = none
+after_either : (x y : Expression) (w rest : List Spelled) → (w ≡ [] → can_be_empty y ≡ true) → extends_there x w ≡ false → Allowed (x ▸ y) rest → Allowed x (w ++ rest)
+after_either x y [] rest can none allowed = allowed_of (x ▸ y) x rest (covers_first x y (can refl)) allowed
+after_either x y (t ∷ w) rest can none allowed = none
 
 -- a short text of the second can follow a text of the first
-pub behind_sample : (x y : Expression) (rest : List Spelled) → is_well_formed (x ▸ y) ≡ true → Allowed (x ▸ y) rest → Allowed x (sample y ++ rest)
-behind_sample x y rest well allowed = behind_either x y (sample y) rest (sample_empty y) (no_way_on x y well) allowed
+pub after_sample : (x y : Expression) (rest : List Spelled) → is_well_formed (x ▸ y) ≡ true → Allowed (x ▸ y) rest → Allowed x (sample y ++ rest)
+after_sample x y rest well allowed = after_either x y (sample y) rest (sample_empty y) (no_way_on x y well) allowed

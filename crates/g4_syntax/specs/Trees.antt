@@ -98,7 +98,7 @@ BeginsText tokens = (others : List Spelled) × (tree : Tree grammar) × HasTree 
 -- reading a grammar text stops when these tokens are left: within the text, or after it because it is complete
 pub data TextStops (tokens : List Spelled) : List Spelled → Type 0 where
   within : (rest : List Spelled) → Stops grammar tokens rest → TextStops tokens rest
-  behind : (token : Spelled) (rest : List Spelled) (tree : Tree grammar) → Reads tree tokens (token ∷ rest) → TextStops tokens (token ∷ rest)
+  after : (token : Spelled) (rest : List Spelled) (tree : Tree grammar) → Reads tree tokens (token ∷ rest) → TextStops tokens (token ∷ rest)
 
 -- no grammar text continues the first tokens with the next of the others; or, if there are no others, the tokens are not a whole
 -- grammar text

@@ -1,5 +1,5 @@
 use Rattle.std.proofs.Common.{arith, refl, sym, ◌∙◌, append-nil, ◌∷◌}
-use Rattle.g4_prequels.proofs.Moving.{so, passed, upon, behind, left_out, there, inside, led, part_next}
+use Rattle.g4_prequels.proofs.Moving.{so, passed, upon, after, left_out, there, inside, led, part_next}
 use Rattle.g4_prequels.proofs.Turning.{begun, fewer, one_item, no_more}
 use Rattle.g4_syntax.specs.Notation.{sign, name, ◌▸◌}
 use Rattle.g4_tokens.specs.declared.token.Kind.TheVariants as kinds
@@ -17,7 +17,7 @@ loop-cursor-preserved c = record {
 }
 
 pub loop-cursor-smaller : goal.loop-cursor-smaller
-loop-cursor-smaller c = fewer {x = name ▸ sign kinds.Comma} (led _ _ _ refl ∙ sym c.is_at_name.ensures ∙ c.loop-cursor-test.true) (behind c.in_ok-name.ensures (passed c.take.ensures))
+loop-cursor-smaller c = fewer {x = name ▸ sign kinds.Comma} (led _ _ _ refl ∙ sym c.is_at_name.ensures ∙ c.loop-cursor-test.true) (after c.in_ok-name.ensures (passed c.take.ensures))
 
 pub returns-then-not-is_at : goal.returns-then-not-is_at
 returns-then-not-is_at c = c.loop-cursor.invariant.whole _ _ (there (led _ _ _ refl ∙ sym c.is_at_name.ensures ∙ c.loop-cursor-test.true) (upon c.in_ok-name.ensures (left_out _ (part_next _ _ ∙ led _ _ _ refl ∙ sym c.is_at.ensures ∙ c.if-not-is_at.true) (λ n p. c.new.ensures ∙ c.in_ok-push.ensures.items ∙ rw p refl))))

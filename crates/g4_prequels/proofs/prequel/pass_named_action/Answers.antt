@@ -1,5 +1,5 @@
-use Rattle.g4_prequels.proofs.Moving.{passed, behind}
+use Rattle.g4_prequels.proofs.Moving.{passed, after}
 use Rattle.g4_prequels.proofs.prequel.pass_named_action.Goals as goal
 
 pub returns : goal.returns
-returns c = behind c.take.ensures (behind c.take_name.ensures (behind c.pass_other_name.ensures (passed c.take-2.ensures)))
+returns c = after c.take.ensures (after c.take_name.ensures (after c.pass_other_name.ensures (passed c.take-2.ensures)))

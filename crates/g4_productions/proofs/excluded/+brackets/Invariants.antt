@@ -1,6 +1,6 @@
 use Rattle.std.proofs.Common.{◌++◌, ◌+◌, ◌*◌}
 use Rattle.g4_prequels.proofs.Turning.{Turned, left}
-use Rattle.g4_productions.specs.LexerElements.{excluded_behind}
+use Rattle.g4_productions.specs.LexerElements.{excluded_after}
 use Rattle.g4_productions.proofs.excluded.+brackets.Given as goal
 
 -- of calls before one token, brackets are nearest to the end of the recursion
@@ -11,7 +11,7 @@ abbrev pub decreases-add_excluded : goal.decreases-add_excluded
 decreases-add_excluded l = left l.cursor.now * 2 + 1
 
 abbrev pub invariant-add_brackets-loop-cursor : goal.invariant-add_brackets-loop-cursor
-invariant-add_brackets-loop-cursor l = Turned (λ tree. l.initial.ranges.items ++ excluded_behind tree) (λ rest. l.ranges.items ++ excluded_behind rest) l.initial.cursor l.cursor
+invariant-add_brackets-loop-cursor l = Turned (λ tree. l.initial.ranges.items ++ excluded_after tree) (λ rest. l.ranges.items ++ excluded_after rest) l.initial.cursor l.cursor
 
 abbrev pub decreases-add_brackets-loop-cursor : goal.decreases-add_brackets-loop-cursor
 decreases-add_brackets-loop-cursor l = left l.cursor

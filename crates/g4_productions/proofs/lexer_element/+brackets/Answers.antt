@@ -7,7 +7,7 @@ use Rattle.g4_elements.specs.Elements.{Elements}
 use Rattle.g4_elements.specs.Trees.{element_of, alternative_of, in_order}
 use Rattle.g4_elements.proofs.Trees.{of_elements}
 use Rattle.g4_source.specs.declared.atom.Atom.{Atom}
-use Rattle.g4_productions.specs.LexerElements.{lexer_element_of, lexer_elements, named_lexer_item, labelled_by, lexer_alternatives_behind}
+use Rattle.g4_productions.specs.LexerElements.{lexer_element_of, lexer_elements, named_lexer_item, labelled_by, lexer_alternatives_after}
 use Rattle.g4_productions.proofs.Listing.{listed_more}
 use Rattle.g4_productions.proofs.lexer_element.+brackets.Goals as goal
 
@@ -84,13 +84,13 @@ pub alternatives-loop-cursor-init : goal.alternatives-loop-cursor-init
 alternatives-loop-cursor-init t c = start
 
 pub alternatives-loop-cursor-preserved : goal.alternatives-loop-cursor-preserved
-alternatives-loop-cursor-preserved t c = sign_over c.loop-cursor.invariant (sym c.is_at.ensures ∙ c.loop-cursor-test.true) c.take.ensures c.in_ok-elements.ensures (λ bar x rest p. listed_more alternative_of _ _ _ (in_order (lexer_elements x)) (lexer_alternatives_behind rest) c.in_ok-push.ensures.items (of_elements c.in_ok-elements.elements ∙ ap in_order p))
+alternatives-loop-cursor-preserved t c = sign_over c.loop-cursor.invariant (sym c.is_at.ensures ∙ c.loop-cursor-test.true) c.take.ensures c.in_ok-elements.ensures (λ bar x rest p. listed_more alternative_of _ _ _ (in_order (lexer_elements x)) (lexer_alternatives_after rest) c.in_ok-push.ensures.items (of_elements c.in_ok-elements.elements ∙ ap in_order p))
 
 pub alternatives-loop-cursor-smaller : goal.alternatives-loop-cursor-smaller
 alternatives-loop-cursor-smaller t c = fewer_then (sym c.is_at.ensures ∙ c.loop-cursor-test.true) c.take.ensures c.in_ok-elements.ensures
 
 pub alternatives-returns : goal.alternatives-returns
-alternatives-returns t c = two c.in_ok-first.ensures (end_turns c.loop-cursor.invariant (led _ _ _ refl ∙ sym c.is_at.ensures ∙ c.loop-cursor-test.false) (sym (append-nil _))) (λ x xs p q. q ∙ rw c.in_ok-alternatives.ensures.items (ap (λ (es : Elements Atom). es ∷ lexer_alternatives_behind xs) (of_elements c.in_ok-first.first ∙ ap in_order p)))
+alternatives-returns t c = two c.in_ok-first.ensures (end_turns c.loop-cursor.invariant (led _ _ _ refl ∙ sym c.is_at.ensures ∙ c.loop-cursor-test.false) (sym (append-nil _))) (λ x xs p q. q ∙ rw c.in_ok-alternatives.ensures.items (ap (λ (es : Elements Atom). es ∷ lexer_alternatives_after xs) (of_elements c.in_ok-first.first ∙ ap in_order p)))
 
 pub block-returns-then-not-branch : goal.block-returns-then-not-branch
 block-returns-then-not-branch t c = ends (sym c.in_ok-open.ensures.opened ∙ c.if-not-branch.true) c.in_ok-open.ensures.moves

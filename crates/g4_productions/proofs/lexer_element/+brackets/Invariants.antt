@@ -1,7 +1,7 @@
 use Rattle.std.proofs.Common.{◌++◌, ◌+◌, ◌*◌, map}
 use Rattle.g4_elements.specs.Trees.{element_of, alternative_of}
 use Rattle.g4_prequels.proofs.Turning.{Turned, left}
-use Rattle.g4_productions.specs.LexerElements.{lexer_elements, lexer_alternatives_behind}
+use Rattle.g4_productions.specs.LexerElements.{lexer_elements, lexer_alternatives_after}
 use Rattle.g4_productions.proofs.lexer_element.+brackets.Given as goal
 
 -- of calls before one token, one that reads a token first is nearest to the end of the recursion, and alternatives are farthest
@@ -39,7 +39,7 @@ abbrev pub decreases-elements-loop-cursor : goal.decreases-elements-loop-cursor
 decreases-elements-loop-cursor l = left l.cursor
 
 abbrev pub invariant-alternatives-loop-cursor : goal.invariant-alternatives-loop-cursor
-invariant-alternatives-loop-cursor l = Turned (λ tree. map alternative_of l.initial.alternatives.items ++ lexer_alternatives_behind tree) (λ rest. map alternative_of l.alternatives.items ++ lexer_alternatives_behind rest) l.initial.cursor l.cursor
+invariant-alternatives-loop-cursor l = Turned (λ tree. map alternative_of l.initial.alternatives.items ++ lexer_alternatives_after tree) (λ rest. map alternative_of l.alternatives.items ++ lexer_alternatives_after rest) l.initial.cursor l.cursor
 
 abbrev pub decreases-alternatives-loop-cursor : goal.decreases-alternatives-loop-cursor
 decreases-alternatives-loop-cursor l = left l.cursor

@@ -4,7 +4,7 @@ use Rattle.g4_prequels.proofs.Turning.{start, begun, turn, end_turns, sign_over,
 use Rattle.g4_elements.specs.declared.name.Name.{Name}
 use Rattle.g4_elements.specs.Trees.{element_of, alternative_of, in_order}
 use Rattle.g4_elements.proofs.Trees.{of_elements}
-use Rattle.g4_productions.specs.ParserElements.{parser_element, parser_elements, named_item, labelled_behind, alternative_elements, alternatives_behind}
+use Rattle.g4_productions.specs.ParserElements.{parser_element, parser_elements, named_item, labelled_after, alternative_elements, alternatives_after}
 use Rattle.g4_productions.proofs.Listing.{listed_more}
 use Rattle.g4_productions.proofs.parser_element.+brackets.Goals as goal
 
@@ -29,26 +29,26 @@ item-returns-then-is_at-2 t c = second (led _ _ _ refl ∙ sym c.is_at.ensures �
 pub item-returns : goal.item-returns
 item-returns t c = second (led _ _ _ refl ∙ sym c.is_at.ensures ∙ c.if-is_at.false) (second (led _ _ _ refl ∙ sym c.is_at-2.ensures ∙ c.if-is_at-2.false) (c.in_ok-item.ensures))
 
-pub labelled_behind-item-requires : goal.labelled_behind-item-requires
-labelled_behind-item-requires t c = omega (arith, no_more c.label_sign-list.ensures)
+pub labelled_after-item-requires : goal.labelled_after-item-requires
+labelled_after-item-requires t c = omega (arith, no_more c.label_sign-list.ensures)
 
-pub labelled_behind-returns : goal.labelled_behind-returns
-labelled_behind-returns t c = upon c.label_sign-list.ensures (so c.in_ok-labelled.ensures (λ i q a p. q ∙ ap (λ (list : Bool). named_item (Some (record { name = c.args.name; list = list })) i) p))
+pub labelled_after-returns : goal.labelled_after-returns
+labelled_after-returns t c = upon c.label_sign-list.ensures (so c.in_ok-labelled.ensures (λ i q a p. q ∙ ap (λ (list : Bool). named_item (Some (record { name = c.args.name; list = list })) i) p))
 
-pub lower_item-labelled_behind-requires : goal.lower_item-labelled_behind-requires
-lower_item-labelled_behind-requires t c = omega (arith, no_more c.in_ok-name.ensures)
+pub lower_item-labelled_after-requires : goal.lower_item-labelled_after-requires
+lower_item-labelled_after-requires t c = omega (arith, no_more c.in_ok-name.ensures)
 
 pub lower_item-returns-then-is_at_label_sign : goal.lower_item-returns-then-is_at_label_sign
-lower_item-returns-then-is_at_label_sign t c = upon c.in_ok-name.ensures (first (led _ _ _ refl ∙ sym c.is_at_label_sign.ensures ∙ c.if-is_at_label_sign.true) (so c.in_ok-labelled.ensures (λ x q n p. q ∙ ap (λ (m : Name). labelled_behind m x) p)))
+lower_item-returns-then-is_at_label_sign t c = upon c.in_ok-name.ensures (first (led _ _ _ refl ∙ sym c.is_at_label_sign.ensures ∙ c.if-is_at_label_sign.true) (so c.in_ok-labelled.ensures (λ x q n p. q ∙ ap (λ (m : Name). labelled_after m x) p)))
 
 pub lower_item-returns : goal.lower_item-returns
 lower_item-returns t c = upon c.in_ok-name.ensures (second (led _ _ _ refl ∙ sym c.is_at_label_sign.ensures ∙ c.if-is_at_label_sign.false) (so c.in_ok-right.ensures (λ r q n p. rw (q, p) refl)))
 
-pub upper_item-labelled_behind-requires : goal.upper_item-labelled_behind-requires
-upper_item-labelled_behind-requires t c = omega (arith, no_more c.in_ok-name.ensures)
+pub upper_item-labelled_after-requires : goal.upper_item-labelled_after-requires
+upper_item-labelled_after-requires t c = omega (arith, no_more c.in_ok-name.ensures)
 
 pub upper_item-returns-then-is_at_label_sign : goal.upper_item-returns-then-is_at_label_sign
-upper_item-returns-then-is_at_label_sign t c = upon c.in_ok-name.ensures (first (led _ _ _ refl ∙ sym c.is_at_label_sign.ensures ∙ c.if-is_at_label_sign.true) (so c.in_ok-labelled.ensures (λ x q n p. q ∙ ap (λ (m : Name). labelled_behind m x) p)))
+upper_item-returns-then-is_at_label_sign t c = upon c.in_ok-name.ensures (first (led _ _ _ refl ∙ sym c.is_at_label_sign.ensures ∙ c.if-is_at_label_sign.true) (so c.in_ok-labelled.ensures (λ x q n p. q ∙ ap (λ (m : Name). labelled_after m x) p)))
 
 pub upper_item-returns : goal.upper_item-returns
 upper_item-returns t c = upon c.in_ok-name.ensures (second (led _ _ _ refl ∙ sym c.is_at_label_sign.ensures ∙ c.if-is_at_label_sign.false) (so c.in_ok-right.ensures (λ r q n p. rw (q, p) refl)))
@@ -93,7 +93,7 @@ pub alternatives-loop-cursor-init : goal.alternatives-loop-cursor-init
 alternatives-loop-cursor-init t c = start
 
 pub alternatives-loop-cursor-preserved : goal.alternatives-loop-cursor-preserved
-alternatives-loop-cursor-preserved t c = sign_over c.loop-cursor.invariant (sym c.is_at.ensures ∙ c.loop-cursor-test.true) c.take.ensures c.in_ok-alternative.ensures (λ bar x rest p. listed_more alternative_of _ _ c.in_ok-alternative.alternative (alternative_elements x) (alternatives_behind rest) c.in_ok-push.ensures.items p)
+alternatives-loop-cursor-preserved t c = sign_over c.loop-cursor.invariant (sym c.is_at.ensures ∙ c.loop-cursor-test.true) c.take.ensures c.in_ok-alternative.ensures (λ bar x rest p. listed_more alternative_of _ _ c.in_ok-alternative.alternative (alternative_elements x) (alternatives_after rest) c.in_ok-push.ensures.items p)
 
 pub alternatives-loop-cursor-smaller : goal.alternatives-loop-cursor-smaller
 alternatives-loop-cursor-smaller t c = fewer_then (sym c.is_at.ensures ∙ c.loop-cursor-test.true) c.take.ensures c.in_ok-alternative.ensures

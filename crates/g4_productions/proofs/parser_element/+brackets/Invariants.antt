@@ -1,7 +1,7 @@
 use Rattle.std.proofs.Common.{◌++◌, ◌+◌, ◌*◌, map}
 use Rattle.g4_elements.specs.Trees.{element_of, alternative_of}
 use Rattle.g4_prequels.proofs.Turning.{Turned, left}
-use Rattle.g4_productions.specs.ParserElements.{parser_elements, alternatives_behind}
+use Rattle.g4_productions.specs.ParserElements.{parser_elements, alternatives_after}
 use Rattle.g4_productions.proofs.parser_element.+brackets.Given as goal
 
 -- of calls before one token, one that reads a token first is nearest to the end of the recursion, and alternatives are farthest
@@ -14,8 +14,8 @@ decreases-unnamed_item l = left l.cursor.now * 11 + 1
 abbrev pub decreases-item : goal.decreases-item
 decreases-item l = left l.cursor.now * 11 + 2
 
-abbrev pub decreases-labelled_behind : goal.decreases-labelled_behind
-decreases-labelled_behind l = left l.cursor.now * 11 + 3
+abbrev pub decreases-labelled_after : goal.decreases-labelled_after
+decreases-labelled_after l = left l.cursor.now * 11 + 3
 
 abbrev pub decreases-lower_item : goal.decreases-lower_item
 decreases-lower_item l = left l.cursor.now * 11 + 4
@@ -45,7 +45,7 @@ abbrev pub decreases-elements-loop-cursor : goal.decreases-elements-loop-cursor
 decreases-elements-loop-cursor l = left l.cursor
 
 abbrev pub invariant-alternatives-loop-cursor : goal.invariant-alternatives-loop-cursor
-invariant-alternatives-loop-cursor l = Turned (λ tree. map alternative_of l.initial.alternatives.items ++ alternatives_behind tree) (λ rest. map alternative_of l.alternatives.items ++ alternatives_behind rest) l.initial.cursor l.cursor
+invariant-alternatives-loop-cursor l = Turned (λ tree. map alternative_of l.initial.alternatives.items ++ alternatives_after tree) (λ rest. map alternative_of l.alternatives.items ++ alternatives_after rest) l.initial.cursor l.cursor
 
 abbrev pub decreases-alternatives-loop-cursor : goal.decreases-alternatives-loop-cursor
 decreases-alternatives-loop-cursor l = left l.cursor

@@ -1,7 +1,7 @@
 use Rattle.std.proofs.Common.{refl, sym, ◌∙◌, ◌≡◌, append_assoc, append-nil, ◌++◌, arith}
 use Rattle.g4_prequels.proofs.Moving.{so, two, upon, first, second, inside, led, ends}
 use Rattle.g4_prequels.proofs.Turning.{start, end_turns, sign_over, fewer, fewer_then, no_more}
-use Rattle.g4_productions.specs.ParserElements.{references_of, references_between, references_behind}
+use Rattle.g4_productions.specs.ParserElements.{references_of, references_between, references_after}
 use Rattle.g4_productions.proofs.Listing.{all_more}
 use Rattle.g4_productions.proofs.token_set.+sets.Goals as goal
 
@@ -18,13 +18,13 @@ pub add_brackets-loop-cursor-init : goal.add_brackets-loop-cursor-init
 add_brackets-loop-cursor-init t c = start
 
 pub add_brackets-loop-cursor-preserved : goal.add_brackets-loop-cursor-preserved
-add_brackets-loop-cursor-preserved t c = sign_over c.loop-cursor.invariant (sym c.is_at.ensures ∙ c.loop-cursor-test.true) c.take.ensures c.in_ok-add_set-2.ensures (λ bar s rest p. all_more _ (references_of s) _ (references_behind rest) p)
+add_brackets-loop-cursor-preserved t c = sign_over c.loop-cursor.invariant (sym c.is_at.ensures ∙ c.loop-cursor-test.true) c.take.ensures c.in_ok-add_set-2.ensures (λ bar s rest p. all_more _ (references_of s) _ (references_after rest) p)
 
 pub add_brackets-loop-cursor-smaller : goal.add_brackets-loop-cursor-smaller
 add_brackets-loop-cursor-smaller t c = fewer_then (sym c.is_at.ensures ∙ c.loop-cursor-test.true) c.take.ensures c.in_ok-add_set-2.ensures
 
 pub add_brackets-returns : goal.add_brackets-returns
-add_brackets-returns t c = upon c.in_ok-open.ensures.moves (upon (two {R = λ tree. c.loop-cursor.references.items ≡ c.args.references.now.items ++ references_between tree} c.in_ok-add_set.ensures (end_turns c.loop-cursor.invariant (led _ _ _ refl ∙ sym c.is_at.ensures ∙ c.loop-cursor-test.false) (sym (append-nil _))) (λ s ss p q. q ∙ rw p (append_assoc _ (references_of s) (references_behind ss)))) (so c.close.ensures (λ closing r sets q opening p. q)))
+add_brackets-returns t c = upon c.in_ok-open.ensures.moves (upon (two {R = λ tree. c.loop-cursor.references.items ≡ c.args.references.now.items ++ references_between tree} c.in_ok-add_set.ensures (end_turns c.loop-cursor.invariant (led _ _ _ refl ∙ sym c.is_at.ensures ∙ c.loop-cursor-test.false) (sym (append-nil _))) (λ s ss p q. q ∙ rw p (append_assoc _ (references_of s) (references_after ss)))) (so c.close.ensures (λ closing r sets q opening p. q)))
 
 pub add_set-returns-then-is_at : goal.add_set-returns-then-is_at
 add_set-returns-then-is_at t c = inside (first (led _ _ _ refl ∙ sym c.is_at.ensures ∙ c.if-is_at.true) (upon c.in_ok-name.ensures (so c.in_ok-optional_element_options.ensures (λ options r n p. rw (← p) c.in_ok-push.ensures.items))))

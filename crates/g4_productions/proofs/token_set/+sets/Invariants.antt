@@ -1,6 +1,6 @@
 use Rattle.std.proofs.Common.{◌++◌, ◌+◌, ◌*◌}
 use Rattle.g4_prequels.proofs.Turning.{Turned, left}
-use Rattle.g4_productions.specs.ParserElements.{references_behind}
+use Rattle.g4_productions.specs.ParserElements.{references_after}
 use Rattle.g4_productions.proofs.token_set.+sets.Given as goal
 
 -- of calls before one token, brackets are nearest to the end of the recursion
@@ -11,7 +11,7 @@ abbrev pub decreases-add_set : goal.decreases-add_set
 decreases-add_set l = left l.cursor.now * 2 + 1
 
 abbrev pub invariant-add_brackets-loop-cursor : goal.invariant-add_brackets-loop-cursor
-invariant-add_brackets-loop-cursor l = Turned (λ tree. l.initial.references.items ++ references_behind tree) (λ rest. l.references.items ++ references_behind rest) l.initial.cursor l.cursor
+invariant-add_brackets-loop-cursor l = Turned (λ tree. l.initial.references.items ++ references_after tree) (λ rest. l.references.items ++ references_after rest) l.initial.cursor l.cursor
 
 abbrev pub decreases-add_brackets-loop-cursor : goal.decreases-add_brackets-loop-cursor
 decreases-add_brackets-loop-cursor l = left l.cursor

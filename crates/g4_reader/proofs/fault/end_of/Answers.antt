@@ -9,4 +9,4 @@ pub returns : goal.returns
 returns c =
     let utf8 : IsUtf8 c.args.text.now = search rules in
     let same : c.in_ok-characters.characters.items ≡ chars c.args.text.now = search (rules, chars_from_encodes) in
-    c.place_behind.ensures ∙ ap (place_after first_place) (c.unmarked.ensures ∙ ap unmarked (c.deref.ensures.value ∙ same))
+    c.place_after.ensures ∙ ap (place_after first_place) (c.unmarked.ensures ∙ ap unmarked (c.deref.ensures.value ∙ same))

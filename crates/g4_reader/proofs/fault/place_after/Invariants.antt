@@ -1,6 +1,6 @@
 use Rattle.std.proofs.Common.{◌≡◌, ◌+◌, ◌≤◌, drop}
 use Rattle.g4_base.specs.Place.{first_place, place_after}
-use Rattle.g4_reader.proofs.fault.place_behind.Given as goal
+use Rattle.g4_reader.proofs.fault.place_after.Given as goal
 
 abbrev pub invariant-loop-character : goal.invariant-loop-character
 invariant-loop-character l =
