@@ -1,5 +1,5 @@
 -- To which terminals reading a composed expression comes, by those to which reading its parts does.
-use Rattle.std.proofs.Common.{◌≡◌, ◌⊎◌, ◌≤◌, List, length, true, false, subst, inl, inr}
+use Rattle.std.proofs.Common.{◌≡◌, ◌⊎◌, List, true, false, subst, inl, inr}
 use Rattle.g4_syntax.specs.Notation.{Spelled, Terminal, Nonterminal, Expression, ◌▸◌, ◌∣◌, optional, repeated, part}
 use Rattle.g4_syntax.specs.Productions.{production}
 use Rattle.g4_syntax.specs.Trees.{Tree, begins_there, Reads, Comes, in_first, in_second, in_left, in_right, in_optional, in_turn, in_later_turn, in_part}

@@ -3,15 +3,14 @@ use Rattle.std.proofs.Common.{◌≡◌, ◌⊎◌, ◌≤◌, ℕ, List, [], �
 use Rattle.g4_tokens.specs.declared.token.Kind.{Kind}
 use Rattle.g4_syntax.specs.Notation.{Spelled, is_kind, fits, Nonterminal, Terminal, of_kind, keyword, a_name, Expression, one, sign, ◌▸◌, ◌∣◌, optional, repeated, part}
 use Rattle.g4_syntax.specs.Productions.{production}
-use Rattle.g4_syntax.specs.Trees.{Tree, leaf, both, left, right, absent, present, end, more, inner, begins, begins_there, can_be_empty, Reads, Comes, here, in_first, in_second, in_left, in_right, in_optional, in_turn, in_later_turn, in_part, Stops}
+use Rattle.g4_syntax.specs.Trees.{Tree, leaf, both, left, right, absent, present, end, more, inner, begins, begins_there, can_be_empty, Reads, Comes, here, in_first, in_second, in_left, in_right, in_optional, in_turn, in_later_turn, in_part}
 use Rattle.g4_syntax.proofs.Firsts.{begins_part}
-use Rattle.g4_syntax.proofs.Texts.{reads_text}
 use Rattle.g4_syntax.proofs.Truths.{apart, or_first_true, or_second_true, or_false}
-use Rattle.g4_syntax.proofs.Unique.{never_both, comes_read, no_longer, comes_no_longer}
+use Rattle.g4_syntax.proofs.Unique.{never_both, comes_read, comes_no_longer}
 use Rattle.g4_prequels.specs.declared.cursor.Halt.{Halt}
 use Rattle.g4_prequels.specs.declared.cursor.Halt.TheVariants.{Fault, BadSet}
 use Rattle.g4_prequels.specs.Progress.{Progress, reading, stopped, halted, is_next, BadNext, Halts, at_fault, at_bad_set, Moves, reads, stops, stays, Passes}
-use Rattle.g4_prequels.specs.Sets.{BeginsBad, HasNoBad, HasFirstBad}
+use Rattle.g4_prequels.specs.Sets.{BeginsBad, HasNoBad}
 use Rattle.g4_prequels.specs.Taken.{IsTaken, Advances}
 use Rattle.g4_prequels.specs.declared.cursor.Taken.{Taken}
 use Rattle.g4_prequels.proofs.Coming.{comes_two, comes_left, comes_right, comes_optional, comes_absent, comes_inside, comes_turn, comes_nowhere}

@@ -1,6 +1,6 @@
 -- What the first of the code's tokens is.
 use Rattle.std.proofs.Common.{◌≡◌, ℕ, ◌+◌, List, [], ◌∷◌, length, Bool, true, false, ◌&&◌, ◌||◌, arith, ◌⊎◌, refl, sym, ◌∙◌, ap, add-one, Option, Some, None, true≢false}
-use Rattle.std.specs.Prelude.{◌==◌, bytes_eq, is_some, option_map, slice_get, not, if◌then◌else◌, map}
+use Rattle.std.specs.Prelude.{◌==◌, bytes_eq, is_some, option_map, slice_get, if◌then◌else◌}
 use Rattle.std.proofs.lemmas.Option.{slice_get-map}
 use Rattle.std.proofs.lemmas.Bool.{eq-eqb}
 use Rattle.std.proofs.lemmas.Bool.Decides.{eqb_tells}

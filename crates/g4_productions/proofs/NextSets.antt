@@ -9,7 +9,7 @@ use Rattle.g4_tokens.specs.declared.token.Kind.TheVariants as kinds
 use Rattle.g4_syntax.specs.Notation.{Spelled, is_kind, fits, Terminal, one, a_set}
 use Rattle.g4_syntax.specs.Trees.{Tree, leaf}
 use Rattle.g4_prequels.specs.Progress.{Progress, reading, stopped, bytes_ahead, BadNext, Moves, reads, stops, stays}
-use Rattle.g4_prequels.specs.Sets.{content, IsBadContent, IsBadSet, bytes_at}
+use Rattle.g4_prequels.specs.Sets.{content, IsBadSet, bytes_at}
 use Rattle.g4_prequels.specs.Texts.{text_of}
 use Rattle.g4_productions.specs.Answering.{HasNext, literal_terminal, bad_literal_next}
 use Rattle.g4_productions.specs.LexerElements.{set_of_leaf}

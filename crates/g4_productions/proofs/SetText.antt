@@ -1,5 +1,5 @@
 -- Which sets are listed, and which are bad.
-use Rattle.std.proofs.Common.{◌≡◌, ℕ, ◌<◌, List, [], ◌∷◌, ◌++◌, map, Bool, true, false, not, ◌&&◌, ◌||◌, inl, inr, ◌⊎◌, ◌↔◌, Option, Some, None, unwrap_or, refl, sym, ap, subst, true≢false, ◌∙◌, arith}
+use Rattle.std.proofs.Common.{◌≡◌, ℕ, ◌<◌, List, [], ◌∷◌, ◌++◌, map, Bool, true, false, not, ◌&&◌, ◌||◌, inl, inr, ◌⊎◌, ◌↔◌, Option, Some, None, refl, sym, ap, subst, true≢false, ◌∙◌, arith}
 use Rattle.std.specs.Option.{is_none}
 use Rattle.std.specs.Prelude.{if◌then◌else◌}
 use Rattle.std.proofs.lemmas.Bool.{and_parts, leb-true, le-leb}
@@ -17,7 +17,7 @@ use Rattle.g4_chars.specs.declared.part.Part.TheVariants as sets
 use Rattle.g4_chars.proofs.Grammar.{items_are, bad_is, parts_are}
 use Rattle.g4_chars.proofs.Laws.{one_form, items_listed, none_listed, parts_listed}
 use Rattle.g4_chars.specs.declared.range.Range.{Range as Span}
-use Rattle.g4_productions.specs.Members.{holds, holds_in, ranges_in, part_of, set_of_ranges, unless_empty, set_of_parts, set_of_items, set_of, ranges_of}
+use Rattle.g4_productions.specs.Members.{holds, holds_in, ranges_in, part_of, set_of_ranges, unless_empty, set_of_parts, set_of_items, set_of}
 use Rattle.g4_prequels.specs.Sets.{IsBadContent}
 use Rattle.g4_productions.proofs.Ranges.{IsOfScalars, ranges_rise, ranges_have}
 

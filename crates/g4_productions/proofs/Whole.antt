@@ -1,5 +1,5 @@
 -- A grammar text is read to its end, or stops.
-use Rattle.std.proofs.Common.{◌≡◌, ◌∷◌, [], ◌++◌, ◌-◌, ◌<◌, ◌≤◌, ◌+◌, ℕ, List, length, Option, Some, None, sym, ◌∙◌, ap, subst, arith, length-append}
+use Rattle.std.proofs.Common.{◌≡◌, ◌∷◌, [], ◌++◌, ◌-◌, ◌<◌, ◌≤◌, ◌+◌, ℕ, List, length, Some, None, sym, ◌∙◌, ap, subst, arith, length-append}
 use Rattle.std.proofs.lemmas.List.{length-map}
 use Rattle.g4_tokens.specs.declared.token.Token.{Token}
 use Rattle.g4_source.specs.Blocks.{HaveAlternatives}

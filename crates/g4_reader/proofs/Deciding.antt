@@ -10,8 +10,8 @@ use Rattle.g4_syntax.specs.Trees.{Tree, leaf, both, left, right, absent, present
 use Rattle.g4_syntax.proofs.Unique.{one_reading, never_both}
 use Rattle.g4_prequels.specs.declared.cursor.Halt.{Halt}
 use Rattle.g4_prequels.specs.declared.cursor.Halt.TheVariants.{Fault, BadSet}
-use Rattle.g4_prequels.specs.Progress.{Progress, reading, stopped, is_next, at_fault, at_bad_set, Moves, reads, stops, stays, Passes}
-use Rattle.g4_prequels.specs.Sets.{content, IsBadContent, IsBadSet, bytes_at, is_no_character, begins_bad_range, BeginsBad, HasNoBad, HasFirstBad}
+use Rattle.g4_prequels.specs.Progress.{Progress, reading, stopped, is_next, at_fault, at_bad_set, reads, stops, stays, Passes}
+use Rattle.g4_prequels.specs.Sets.{content, IsBadContent, IsBadSet, bytes_at, is_no_character, begins_bad_range, BeginsBad, HasNoBad}
 use Rattle.g4_prequels.specs.Texts.{place_of}
 use Rattle.g4_prequels.proofs.Moving as moving
 use Rattle.g4_productions.specs.Grammars.{HasBadSetAt}

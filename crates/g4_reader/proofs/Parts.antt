@@ -1,12 +1,11 @@
 -- The tokens of a text are parts of it.
-use Rattle.std.proofs.Common.{◌≡◌, ℕ, zero, suc, ◌+◌, ◌<◌, List, [], ◌∷◌, ◌++◌, Bool, true, false, Some, slice_get, get_or, map, refl, sym, ◌∙◌, ap, subst, take, drop, length, arith, append_assoc, length-append, take-append-drop, encode_utf8, encode_utf8_all}
+use Rattle.std.proofs.Common.{◌≡◌, ℕ, zero, suc, ◌+◌, List, [], ◌∷◌, ◌++◌, Bool, true, false, Some, slice_get, map, refl, sym, ◌∙◌, ap, subst, take, drop, length, arith, append_assoc, length-append, take-append-drop, encode_utf8, encode_utf8_all}
 use Rattle.std.specs.Prelude.{◌==◌, if◌then◌else◌}
 use Rattle.std.proofs.lemmas.Bool.{and_parts, eqb-true}
 use Rattle.std.specs.Char.{len_utf8}
 use Rattle.std.specs.Str.{IsCharBoundary, chars, all_scalars}
 use Rattle.std.proofs.lemmas.Str.{IsCharBoundary-at_seam, encodes-append, encodes-chars, scalars-chars, length-encode}
 use Rattle.std.proofs.lemmas.List.Sums.{sum_by-cons}
-use Rattle.std.proofs.lemmas.Option.{slice_get-get_or}
 use Rattle.g4_tokens.specs.Answers.{HasTokens, start_of, unmarked}
 use Rattle.g4_tokens.specs.Positions.{byte_count, position_past}
 use Rattle.g4_tokens.specs.Scanning.{AreTokens, at_end, behind_gap, with_token, token_at, start_at}

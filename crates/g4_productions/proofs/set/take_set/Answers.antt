@@ -1,4 +1,4 @@
-use Rattle.std.proofs.Common.{refl, subst, ◌∙◌, Some}
+use Rattle.std.proofs.Common.{refl, subst}
 use Rattle.g4_prequels.proofs.Moving.{so, refuses, taken_as}
 use Rattle.g4_tokens.specs.declared.token.Kind.TheVariants as kinds
 use Rattle.g4_productions.specs.Answering.{HasNext}

@@ -1,5 +1,5 @@
 use Rattle.std.proofs.Common.{sym, ◌∙◌, ap, Some, true, false}
-use Rattle.g4_prequels.proofs.Tokens.{part_at, none_ahead, bytes_there, bytes_of_there}
+use Rattle.g4_prequels.proofs.Tokens.{part_at, none_ahead, bytes_of_there}
 use Rattle.g4_prequels.proofs.cursor.Cursor.text_ahead.Goals as goal
 
 pub returns-then-is_some : goal.returns-then-is_some
