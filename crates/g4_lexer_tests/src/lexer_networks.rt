@@ -1,15 +1,14 @@
 // Networks of lexers by grammar texts, worked out by hand, and the limit of their states.
 ghost use Rattle.std.specs.Prelude.{IfOk};
-ghost use Rattle.g4_source.specs.Blocks.{LexerRuleIsFull, LexerRulesAreFull, ModesAreFull};
+ghost use Rattle.g4_source.specs.Blocks.{ModesAreFull};
 
-use g4_base::{Sequence, Text};
+use crate::lexer_rules::{network, source_of};
+use g4_base::Sequence;
 use g4_chars::CharSet;
-use g4_elements::{Element, Elements};
 use g4_lexnet::{LexFault, LexNet, build_lexer};
 use g4_net::State;
 use g4_ordered::{Reads, Start};
-use g4_reader::{ReadFault, read_grammar};
-use g4_source::{Atom, AtomKind, Command, LexerAlternative, LexerRule, Literal, Mode};
+use g4_source::{Command, Mode};
 use std::alloc::{AllocError, Global};
 use std::fmt::Write;
 use std::test::Fail;
@@ -18,15 +17,10 @@ use std::test::Fail;
 fn modes(alloc: Global, rules: &str) -> Result<Vec<Mode>, AllocError>
     ensures { IfOk result (λ modes. ModesAreFull modes.items) }
 {
-    let mut text = String::new(alloc);
-    write!(text, "lexer grammar L;\n{rules}")?;
-    if text.len() > 16_777_216 {
-        return Err(AllocError);
-    }
-    match read_grammar(alloc, text.as_bytes()) {
-        Ok(source) => Ok(source.modes.into_vec()),
-        Err(ReadFault::NoMemory) => Err(AllocError),
-        Err(_) => Ok(Vec::new(alloc)),
+    let text = format!(in alloc; "lexer grammar L;\n{rules}")?;
+    match source_of(alloc, text.as_str())? {
+        Some(source) => Ok(source.modes.into_vec()),
+        None => Err(AllocError),
     }
 }
 
@@ -125,141 +119,136 @@ fn commands(alloc: Global, made: &LexNet) -> Result<String, AllocError> {
     Ok(out)
 }
 
-/// The network of these rules of literals and of the modes of a grammar.
-fn built(alloc: Global, literals: Vec<LexerRule>, rules: &str) -> Result<Option<LexNet>, AllocError>
-    requires { LexerRulesAreFull literals.items }
-{
+/// What is shown of a network.
+#[derive(Clone, Copy)]
+enum Part {
+    States,
+    Starts,
+    Commands,
+    Count,
+}
+
+/// This part of a network.
+fn shown(alloc: Global, made: &LexNet, part: Part) -> Result<String, AllocError> {
+    match part {
+        Part::States => states(alloc, made),
+        Part::Starts => starts(alloc, made),
+        Part::Commands => commands(alloc, made),
+        Part::Count => {
+            let count = made.net.states.len();
+            format!(in alloc; "{count} states")
+        }
+    }
+}
+
+/// A part of the network of the modes of a lexer grammar with this text after its name.
+fn built(alloc: Global, rules: &str, part: Part) -> Result<String, AllocError> {
     let modes = modes(alloc, rules)?;
-    match build_lexer(alloc, literals, modes) {
-        Ok(made) => Ok(Some(made)),
-        Err(LexFault::States) => Ok(None),
+    match build_lexer(alloc, Vec::new(alloc), modes) {
+        Ok(made) => shown(alloc, &made, part),
+        Err(LexFault::States) => String::from_str(alloc, "too many states"),
         Err(LexFault::NoMemory) => Err(AllocError),
     }
 }
 
+/// Names, rules, and the states that they are laid to.
+const LAID: &[(&str, &str, &str)] = &[
+    (
+        "a state for each character of a literal",
+        "mode M; A : 'ab' ;",
+        "97 to 2; end 0; 98 to 3; to 1; ",
+    ),
+    (
+        "one edge for what takes one character",
+        "mode M; A : [a-c] 'x'..'z' . ~[b] ;",
+        "97-99 to 2; end 0; 120-122 to 3; 0-55295 57344-1114111 to 4; 0-97 99-55295 57344-1114111 to 5; to 1; ",
+    ),
+    (
+        "EOF reads nothing, and an action does nothing",
+        "mode M; A : EOF {x} ;",
+        "at end to 2; end 0; to 3; to 1; ",
+    ),
+    (
+        "calls of a fragment and of the rule itself",
+        "mode M; A : B | '(' A ')' ; fragment B : 'b' ;",
+        "decide 4 6; end 0; 98 to 10; end 1; call 1 0 5; to 1; 40 to 7; call 0 0 8; 41 to 9; to 1; to 3; ",
+    ),
+    (
+        "the exit comes first where it is not greedy",
+        "mode M; C : '/*' (C | .)*? '*/' ;",
+        "47 to 2; end 0; 42 to 3; decide 8 4 6; call 0 0 5; to 3; 0-55295 57344-1114111 to 7; to 3; 42 to 9; 47 to 10; to 1; ",
+    ),
+    (
+        "rules of one mode may call those of another",
+        "mode M; A : B ; mode N; B : 'b' ;",
+        "call 1 0 4; end 0; 98 to 5; end 1; to 1; to 3; ",
+    ),
+    ("no rules", "mode M;", ""),
+];
+
 #[test]
 fn lays_rules(rt: HostRuntime) -> Result<(), Fail> {
-    let alloc = rt.alloc();
-    let cases = [
-        (
-            "a state for each character of a literal",
-            "mode M; A : 'ab' ;",
-            "97 to 2; end 0; 98 to 3; to 1; ",
-        ),
-        (
-            "one edge for what takes one character",
-            "mode M; A : [a-c] 'x'..'z' . ~[b] ;",
-            "97-99 to 2; end 0; 120-122 to 3; 0-55295 57344-1114111 to 4; 0-97 99-55295 57344-1114111 to 5; to 1; ",
-        ),
-        (
-            "EOF reads nothing, and an action does nothing",
-            "mode M; A : EOF {x} ;",
-            "at end to 2; end 0; to 3; to 1; ",
-        ),
-        (
-            "calls of a fragment and of the rule itself",
-            "mode M; A : B | '(' A ')' ; fragment B : 'b' ;",
-            "decide 4 6; end 0; 98 to 10; end 1; call 1 0 5; to 1; 40 to 7; call 0 0 8; 41 to 9; to 1; to 3; ",
-        ),
-        (
-            "the exit comes first where it is not greedy",
-            "mode M; C : '/*' (C | .)*? '*/' ;",
-            "47 to 2; end 0; 42 to 3; decide 8 4 6; call 0 0 5; to 3; 0-55295 57344-1114111 to 7; to 3; 42 to 9; 47 to 10; to 1; ",
-        ),
-        (
-            "rules of one mode may call those of another",
-            "mode M; A : B ; mode N; B : 'b' ;",
-            "call 1 0 4; end 0; 98 to 5; end 1; to 1; to 3; ",
-        ),
-        ("no rules", "mode M;", ""),
-    ];
-    for (name, rules, wanted) in cases {
-        match built(alloc, Vec::new(alloc), rules)? {
-            Some(made) => assert_eq!(rt; states(alloc, &made)?.as_str(), wanted, "{name}"),
-            None => assert!(rt; false, "{name}"),
-        }
+    for (name, rules, wanted) in LAID {
+        let found = built(rt.alloc(), rules, Part::States)?;
+        assert_eq!(rt; found.as_str(), *wanted, "{name}");
     }
     Ok(())
 }
+
+/// Names, rules, and their starts and commands.
+const BEGUN: &[(&str, &str, &str, &str)] = &[
+    (
+        "each mode has its own rules, but no fragments",
+        "mode M; A : 'a' | 'b' ; fragment B : 'c' ; mode N; C : 'c' ;",
+        "0.1@6 0.2@8 | 2.1@4 | ",
+        "/ / | / | / | ",
+    ),
+    (
+        "one alternative begins at the start, though that decides",
+        "mode M; A : 'a'* ;",
+        "0.1@0 | ",
+        "/ | ",
+    ),
+    (
+        "commands of each alternative",
+        "mode M; A : 'a' -> skip | 'b' -> channel(HIDDEN), pushMode(M) ;",
+        "0.1@2 0.2@4 | ",
+        "skip / channel pushMode / | ",
+    ),
+    (
+        "a mode without rules",
+        "mode M; mode N; A : 'a' ;",
+        "| 0.1@0 | ",
+        "/ | ",
+    ),
+];
 
 #[test]
 fn starts_and_commands(rt: HostRuntime) -> Result<(), Fail> {
-    let alloc = rt.alloc();
-    let cases = [
-        (
-            "each mode has its own rules, but no fragments",
-            "mode M; A : 'a' | 'b' ; fragment B : 'c' ; mode N; C : 'c' ;",
-            "0.1@6 0.2@8 | 2.1@4 | ",
-            "/ / | / | / | ",
-        ),
-        (
-            "one alternative begins at the start, though that decides",
-            "mode M; A : 'a'* ;",
-            "0.1@0 | ",
-            "/ | ",
-        ),
-        (
-            "commands of each alternative",
-            "mode M; A : 'a' -> skip | 'b' -> channel(HIDDEN), pushMode(M) ;",
-            "0.1@2 0.2@4 | ",
-            "skip / channel pushMode / | ",
-        ),
-        (
-            "a mode without rules",
-            "mode M; mode N; A : 'a' ;",
-            "| 0.1@0 | ",
-            "/ | ",
-        ),
-    ];
-    for (name, rules, wanted, other) in cases {
-        match built(alloc, Vec::new(alloc), rules)? {
-            Some(made) => {
-                assert_eq!(rt; starts(alloc, &made)?.as_str(), wanted, "{name}");
-                assert_eq!(rt; commands(alloc, &made)?.as_str(), other, "{name}");
-            }
-            None => assert!(rt; false, "{name}"),
-        }
+    for (name, rules, wanted, other) in BEGUN {
+        let found = built(rt.alloc(), rules, Part::Starts)?;
+        assert_eq!(rt; found.as_str(), *wanted, "{name}");
+        let found = built(rt.alloc(), rules, Part::Commands)?;
+        assert_eq!(rt; found.as_str(), *other, "{name}");
     }
     Ok(())
 }
 
-/// The rule of the literal `'+'`.
-#[tactic(auto, using(g4_elements::proofs::Trees::of_atom))]
-fn plus(alloc: Global) -> Result<LexerRule, AllocError>
-    ensures { IfOk result LexerRuleIsFull }
-{
-    let literal = Literal {
-        characters: Sequence::new(vec![in alloc; '+']?),
-        written: Text::copy_of(alloc, "'+'")?,
-    };
-    let atom = Atom {
-        label: None,
-        right: false,
-        kind: AtomKind::Literal(literal),
-    };
-    let alternative = LexerAlternative {
-        elements: Elements::new(vec![in alloc; Element::Atom(atom)]?),
-        commands: Sequence::new(Vec::new(alloc)),
-    };
-    Ok(LexerRule {
-        fragment: None,
-        name: Text::copy_of(alloc, "'+'")?,
-        alternatives: Sequence::new(vec![in alloc; alternative]?),
-    })
+/// A part of the network of the lexer of a grammar with a literal that no rule is.
+fn built_with_literal(alloc: Global, part: Part) -> Result<String, AllocError> {
+    match network(alloc, "grammar G; s : '+' A ; A : 'a' ;")? {
+        Some(made) => shown(alloc, &made, part),
+        None => String::from_str(alloc, "no network"),
+    }
 }
 
 #[test]
 fn literals_come_first(rt: HostRuntime) -> Result<(), Fail> {
-    let alloc = rt.alloc();
-    let literals = vec![in alloc; plus(alloc)?]?;
-    match built(alloc, literals, "mode M; A : 'a' ;")? {
-        Some(made) => {
-            let wanted = "43 to 4; end 0; 97 to 5; end 1; to 1; to 3; ";
-            assert_eq!(rt; states(alloc, &made)?.as_str(), wanted);
-            assert_eq!(rt; starts(alloc, &made)?.as_str(), "0.1@0 1.1@2 | ");
-        }
-        None => assert!(rt; false),
-    }
+    let found = built_with_literal(rt.alloc(), Part::States)?;
+    let wanted = "43 to 4; end 0; 97 to 5; end 1; to 1; to 3; ";
+    assert_eq!(rt; found.as_str(), wanted);
+    let found = built_with_literal(rt.alloc(), Part::Starts)?;
+    assert_eq!(rt; found.as_str(), "0.1@0 1.1@2 | ");
     Ok(())
 }
 
@@ -276,14 +265,10 @@ fn long_literal(alloc: Global, count: u32) -> Result<String, AllocError> {
 
 #[test]
 fn limits_states(rt: HostRuntime) -> Result<(), Fail> {
-    let alloc = rt.alloc();
-    let most = long_literal(alloc, 65_534)?;
-    match built(alloc, Vec::new(alloc), most.as_str())? {
-        Some(made) => assert_eq!(rt; made.net.states.len(), 65_536),
-        None => assert!(rt; false),
+    for (count, wanted) in &[(65_534, "65536 states"), (65_535, "too many states")] {
+        let rules = long_literal(rt.alloc(), *count)?;
+        let found = built(rt.alloc(), rules.as_str(), Part::Count)?;
+        assert_eq!(rt; found.as_str(), *wanted, "{count}");
     }
-    let more = long_literal(alloc, 65_535)?;
-    let made = built(alloc, Vec::new(alloc), more.as_str())?;
-    assert!(rt; made.is_none());
     Ok(())
 }

@@ -6,48 +6,250 @@ use g4_matching::{Match, Matcher};
 use g4_net::{Network, State};
 use g4_ordered::{LexerNetwork, Reads, Start};
 use std::alloc::{AllocError, Global};
-use std::process::Abort;
+use std::fmt::Write;
 use std::test::Fail;
 
-/// An edge that takes a character of a range.
-fn reads(alloc: Global, first: char, last: char, target: u32) -> Result<State<Reads>, AllocError> {
-    let set = CharSet::of_range(alloc, first, last)?;
-    Ok(State::Edge(Reads::Characters(set), target))
+/// A state of a network.
+#[derive(Clone, Copy)]
+enum Node<'a> {
+    /// An edge that takes a character of a range, and the target.
+    Takes(char, char, u32),
+    /// An edge that is taken at the end of the text, and the target.
+    AtEnd(u32),
+    /// The first states of the alternatives.
+    Choice(&'a [u32]),
+    /// The end of a rule.
+    End(u32),
+    /// A call of a rule, and the state to which it returns.
+    Call(u32, u32),
+    /// An empty edge's target.
+    Empty(u32),
 }
 
-/// A decision between states.
-fn choice(alloc: Global, targets: &[u32]) -> Result<State<Reads>, AllocError> {
-    let targets = targets.to_vec(alloc)?;
-    Ok(State::Decision(Sequence::new(targets)))
+/// A rule, one of its alternatives and the state where this begins.
+type Begin = (u32, u32, u32);
+
+/// In which mode, the text, and the match at its front: how many characters, the rule and the alternative.
+type Row<'a> = (u32, &'a str, &'a str);
+
+/// How many rules a network has, its states, where the matches of each mode begin, and rows that one matcher is asked so many times:
+/// first as lists are learned, and then along them.
+#[derive(Clone, Copy)]
+struct Case<'a> {
+    name: &'a str,
+    rules: u32,
+    states: &'a [Node<'a>],
+    modes: &'a [&'a [Begin]],
+    rows: &'a [Row<'a>],
+    times: u32,
 }
 
-/// A network of so many rules.
-fn network(
-    alloc: Global,
-    rules: usize,
-    states: Vec<State<Reads>>,
-) -> Result<LexerNetwork, AllocError> {
-    let mut callers = Vec::new(alloc);
-    for rule in 0..rules {
-        let mut returns = Vec::new(alloc);
-        for state in states.as_slice() {
-            if let State::Call {
-                rule: called,
-                back,
-                ..
-            } = state
-            {
-                if *called as usize == rule {
-                    returns.push(*back)?;
-                }
+/// Rule 0 is `IF : 'if'`, rule 1 `NAME : [a-z]+`.
+const WORDS: &[Node<'static>] = &[
+    Node::Takes('i', 'i', 4),
+    Node::End(0),
+    Node::Takes('a', 'z', 5),
+    Node::End(1),
+    Node::Takes('f', 'f', 1),
+    Node::Choice(&[2, 3]),
+];
+
+/// Rule 0 is `A : 'a' EOF | 'b'? | '(' A ')'`, each alternative a start of its own.
+const MIXED: &[Node<'static>] = &[
+    Node::Choice(&[2, 4, 6]),
+    Node::End(0),
+    Node::Takes('a', 'a', 3),
+    Node::AtEnd(1),
+    Node::Choice(&[5, 1]),
+    Node::Takes('b', 'b', 1),
+    Node::Takes('(', '(', 7),
+    Node::Call(0, 8),
+    Node::Takes(')', ')', 1),
+];
+
+/// The first alternatives of both rules, in one mode.
+const BOTH: &[&[Begin]] = &[&[(0, 1, 0), (1, 1, 2)]];
+
+static CASES: [Case<'static>; 6] = [
+    Case {
+        name: "nested comments: C : '/*' (C | .)*? '*/'",
+        rules: 1,
+        states: &[
+            Node::Takes('/', '/', 2),
+            Node::End(0),
+            Node::Takes('*', '*', 3),
+            Node::Choice(&[8, 4, 6]),
+            Node::Call(0, 5),
+            Node::Empty(3),
+            Node::Takes('\0', '\u{10FFFF}', 7),
+            Node::Empty(3),
+            Node::Takes('*', '*', 9),
+            Node::Takes('/', '/', 10),
+            Node::Empty(1),
+        ],
+        modes: &[&[(0, 1, 0)]],
+        rows: &[
+            (0, "/*b/*c*/d*/x", "11:0:1"),
+            (0, "/**/", "4:0:1"),
+            (0, "/**//**/", "4:0:1"),
+            (0, "/*/**/", "6:0:1"),
+            (0, "/*", "none"),
+            (0, "", "none"),
+        ],
+        times: 2,
+    },
+    Case {
+        name: "keywords and names",
+        rules: 2,
+        states: WORDS,
+        modes: BOTH,
+        rows: &[
+            (0, "if", "2:0:1"),
+            (0, "ifs", "3:1:1"),
+            (0, "i", "1:1:1"),
+            (0, "if(", "2:0:1"),
+            (0, "(", "none"),
+        ],
+        times: 2,
+    },
+    Case {
+        name: "ends, empty alternatives and recursion",
+        rules: 1,
+        states: MIXED,
+        modes: &[&[(0, 1, 2), (0, 2, 4), (0, 3, 6)]],
+        rows: &[
+            (0, "a", "1:0:1"),
+            (0, "ab", "none"),
+            (0, "b", "1:0:2"),
+            (0, "c", "none"),
+            (0, "()", "2:0:3"),
+            (0, "((b))(", "5:0:3"),
+            (0, "(((", "none"),
+            (0, "(a)", "none"),
+        ],
+        times: 2,
+    },
+    Case {
+        name: "modes in turn",
+        rules: 2,
+        states: WORDS,
+        modes: &[&[(0, 1, 0)], &[(1, 1, 2)]],
+        rows: &[
+            (0, "ifs", "2:0:1"),
+            (1, "ifs", "3:1:1"),
+            (0, "is", "none"),
+            (1, "is", "2:1:1"),
+            (2, "is", "none"),
+        ],
+        times: 2,
+    },
+    Case {
+        name: "the last character: A : 'a' EOF | 'a', each alternative a start of its own",
+        rules: 1,
+        states: &[
+            Node::Choice(&[2, 4]),
+            Node::End(0),
+            Node::Takes('a', 'a', 3),
+            Node::AtEnd(1),
+            Node::Takes('a', 'a', 1),
+        ],
+        modes: &[&[(0, 1, 2), (0, 2, 4)]],
+        rows: &[
+            (0, "ab", "1:0:2"),
+            (0, "a", "1:0:1"),
+            (0, "aa", "1:0:2"),
+            (0, "b", "none"),
+        ],
+        times: 2,
+    },
+    Case {
+        name: "bounds of sets past ASCII: LOW : [é-ü]+, HIGH : [一-\u{D7FF}] | [\u{E000}-😀]",
+        rules: 2,
+        states: &[
+            Node::Takes('é', 'ü', 4),
+            Node::End(0),
+            Node::Choice(&[5, 6]),
+            Node::End(1),
+            Node::Choice(&[0, 1]),
+            Node::Takes('一', '\u{D7FF}', 3),
+            Node::Takes('\u{E000}', '😀', 3),
+        ],
+        modes: BOTH,
+        rows: &[
+            (0, "éüê?", "3:0:1"),
+            (0, "éèé", "1:0:1"),
+            (0, "éý", "1:0:1"),
+            (0, "è", "none"),
+            (0, "ý", "none"),
+            (0, "一", "1:1:1"),
+            (0, "丁", "1:1:1"),
+            (0, "\u{4DFF}", "none"),
+            (0, "\u{D7FF}", "1:1:1"),
+            (0, "\u{E000}", "1:1:1"),
+            (0, "😀", "1:1:1"),
+            (0, "😁", "none"),
+        ],
+        times: 2,
+    },
+];
+
+/// A state as the network has it.
+fn state_of(alloc: Global, node: Node) -> Result<State<Reads>, AllocError> {
+    match node {
+        Node::Takes(first, last, target) => {
+            let set = CharSet::of_range(alloc, first, last)?;
+            Ok(State::Edge(Reads::Characters(set), target))
+        }
+        Node::AtEnd(target) => Ok(State::Edge(Reads::EndOfText, target)),
+        Node::Choice(targets) => {
+            let targets = targets.to_vec(alloc)?;
+            Ok(State::Decision(Sequence::new(targets)))
+        }
+        Node::End(rule) => Ok(State::End(rule)),
+        Node::Call(rule, back) => Ok(State::Call {
+            rule,
+            level: 0,
+            back,
+        }),
+        Node::Empty(target) => Ok(State::Empty(target)),
+    }
+}
+
+fn states_of(alloc: Global, nodes: &[Node]) -> Result<Vec<State<Reads>>, AllocError> {
+    let mut states = Vec::new(alloc);
+    for node in nodes {
+        states.push(state_of(alloc, *node)?)?;
+    }
+    Ok(states)
+}
+
+/// The return states of the calls of a rule.
+fn returns_of(alloc: Global, nodes: &[Node], rule: u32) -> Result<Sequence<u32>, AllocError> {
+    let mut returns = Vec::new(alloc);
+    for node in nodes {
+        if let Node::Call(called, back) = node {
+            if *called == rule {
+                returns.push(*back)?;
             }
         }
-        callers.push(Sequence::new(returns))?;
     }
-    let mut written = Vec::new(alloc);
-    for _ in states.as_slice() {
-        written.push(0)?;
+    Ok(Sequence::new(returns))
+}
+
+/// For each rule the return states of its calls.
+fn callers_of(alloc: Global, nodes: &[Node], rules: u32) -> Result<Vec<Sequence<u32>>, AllocError> {
+    let mut callers = Vec::new(alloc);
+    for rule in 0..rules {
+        callers.push(returns_of(alloc, nodes, rule)?)?;
     }
+    Ok(callers)
+}
+
+/// The network of so many rules and these states.
+fn network(alloc: Global, rules: u32, nodes: &[Node]) -> Result<LexerNetwork, AllocError> {
+    let written = vec![in alloc; 0u32; nodes.len()]?;
+    let callers = callers_of(alloc, nodes, rules)?;
+    let states = states_of(alloc, nodes)?;
     Ok(Network {
         states: Sequence::new(states),
         callers: Sequence::new(callers),
@@ -55,318 +257,105 @@ fn network(
     })
 }
 
-/// Rule 0 is `C : '/*' (C | .)*? '*/'`.
-fn comments(alloc: Global) -> Result<LexerNetwork, AllocError> {
-    let states = vec![in alloc;
-        reads(alloc, '/', '/', 2)?,
-        State::End(0),
-        reads(alloc, '*', '*', 3)?,
-        choice(alloc, &[8, 4, 6])?,
-        State::Call {
-            rule: 0,
-            level: 0,
-            back: 5
-        },
-        State::Empty(3),
-        reads(alloc, '\0', char::MAX, 7)?,
-        State::Empty(3),
-        reads(alloc, '*', '*', 9)?,
-        reads(alloc, '/', '/', 10)?,
-        State::Empty(1),
-    ]?;
-    network(alloc, 1, states)
-}
-
-/// Rule 0 is `IF : 'if'`, rule 1 `NAME : [a-z]+`.
-fn words(alloc: Global) -> Result<LexerNetwork, AllocError> {
-    let states = vec![in alloc;
-        reads(alloc, 'i', 'i', 4)?,
-        State::End(0),
-        reads(alloc, 'a', 'z', 5)?,
-        State::End(1),
-        reads(alloc, 'f', 'f', 1)?,
-        choice(alloc, &[2, 3])?,
-    ]?;
-    network(alloc, 2, states)
-}
-
-/// Rule 0 is `A : 'a' EOF | 'b'? | '(' A ')'`, each alternative a start of its own.
-fn mixed(alloc: Global) -> Result<LexerNetwork, AllocError> {
-    let states = vec![in alloc;
-        choice(alloc, &[2, 4, 6])?,
-        State::End(0),
-        reads(alloc, 'a', 'a', 3)?,
-        State::Edge(Reads::EndOfText, 1),
-        choice(alloc, &[5, 1])?,
-        reads(alloc, 'b', 'b', 1)?,
-        reads(alloc, '(', '(', 7)?,
-        State::Call {
-            rule: 0,
-            level: 0,
-            back: 8
-        },
-        reads(alloc, ')', ')', 1)?,
-    ]?;
-    network(alloc, 1, states)
-}
-
-/// Rule 0 is `A : 'a' EOF | 'a'`, each alternative a start of its own.
-fn ended(alloc: Global) -> Result<LexerNetwork, AllocError> {
-    let states = vec![in alloc;
-        choice(alloc, &[2, 4])?,
-        State::End(0),
-        reads(alloc, 'a', 'a', 3)?,
-        State::Edge(Reads::EndOfText, 1),
-        reads(alloc, 'a', 'a', 1)?,
-    ]?;
-    network(alloc, 1, states)
-}
-
-/// Rule 0 is `LOW : [é-ü]+`, rule 1 `HIGH : [一-\u{D7FF}] | [\u{E000}-😀]`.
-fn beyond_ascii(alloc: Global) -> Result<LexerNetwork, AllocError> {
-    let states = vec![in alloc;
-        reads(alloc, 'é', 'ü', 4)?,
-        State::End(0),
-        choice(alloc, &[5, 6])?,
-        State::End(1),
-        choice(alloc, &[0, 1])?,
-        reads(alloc, '一', '\u{D7FF}', 3)?,
-        reads(alloc, '\u{E000}', '😀', 3)?,
-    ]?;
-    network(alloc, 2, states)
-}
-
-/// Rule 0 is `A : '(' A? ')'`, and rule 1 takes one of these characters.
-fn one_of(alloc: Global, characters: &[char]) -> Result<LexerNetwork, AllocError> {
-    let mut edges = Vec::new(alloc);
-    let mut edge: u32 = 7;
-    for _ in characters {
-        edges.push(edge)?;
-        edge = edge.saturating_add(1);
+/// Where the matches of a mode begin.
+fn starts_of(alloc: Global, begins: &[Begin]) -> Result<Sequence<Start>, AllocError> {
+    let mut starts = Vec::new(alloc);
+    for (rule, alternative, state) in begins {
+        starts.push(Start {
+            rule: *rule,
+            alternative: *alternative,
+            state: *state,
+        })?;
     }
-    let mut states = vec![in alloc;
-        reads(alloc, '(', '(', 4)?,
-        State::End(0),
-        choice(alloc, edges.as_slice())?,
-        State::End(1),
-        choice(alloc, &[5, 6])?,
-        State::Call {
-            rule: 0,
-            level: 0,
-            back: 6
-        },
-        reads(alloc, ')', ')', 1)?,
-    ]?;
-    for character in characters {
-        states.push(reads(alloc, *character, *character, 3)?)?;
-    }
-    network(alloc, 2, states)
+    Ok(Sequence::new(starts))
 }
 
-fn start(rule: u32, alternative: u32, state: u32) -> Start {
-    Start {
-        rule,
-        alternative,
-        state,
+/// Where the matches of all modes begin.
+fn modes_of(alloc: Global, begins: &[&[Begin]]) -> Result<Vec<Sequence<Start>>, AllocError> {
+    let mut modes = Vec::new(alloc);
+    for begins in begins {
+        modes.push(starts_of(alloc, begins)?)?;
     }
+    Ok(modes)
 }
 
 /// The match as text: how many characters, the rule and the alternative.
 fn shown(alloc: Global, found: Option<Match>) -> Result<String, AllocError> {
-    match found {
-        Some(found) => {
-            let length = found.length;
-            let rule = found.rule;
-            let alternative = found.alternative;
-            format!(in alloc; "{length}:{rule}:{alternative}")
-        }
-        None => format!(in alloc; "none"),
-    }
+    let Some(found) = found else {
+        return String::from_str(alloc, "none");
+    };
+    let length = found.length;
+    let rule = found.rule;
+    let alternative = found.alternative;
+    format!(in alloc; "{length}:{rule}:{alternative}")
 }
 
-/// In which mode, the text, and the match at its front.
-type Row<'a> = (u32, &'a str, &'a str);
-
-/// The match at the front of each text by this matcher.
-fn check_rows(
-    rt: &impl Abort,
+/// The match at the front of a text.
+fn found(
     alloc: Global,
     matcher: &mut Matcher<'_>,
-    rows: &[Row<'_>],
+    mode: u32,
+    text: &str,
+) -> Result<String, AllocError> {
+    let characters = text.chars().collect::<Vec<char>>(alloc)?;
+    let found = matcher.longest_match(mode, characters.as_slice())?;
+    shown(alloc, found)
+}
+
+/// Adds the rows that have another match, each with this match.
+fn push_wrong_rows(
+    alloc: Global,
+    matcher: &mut Matcher<'_>,
+    case: &Case<'_>,
     time: u32,
-) -> Result<(), Fail> {
-    for (mode, text, wanted) in rows {
-        let characters = text.chars().collect::<Vec<char>>(alloc)?;
-        let found = matcher.longest_match(*mode, characters.as_slice())?;
-        let found = shown(alloc, found)?;
-        assert_eq!(rt;
-            found.as_str(),
-            *wanted,
-            "{text} in mode {mode}, time {time}"
-        );
+    wrong: &mut String,
+) -> Result<(), AllocError> {
+    let name = case.name;
+    for (mode, text, wanted) in case.rows {
+        let found = found(alloc, matcher, *mode, text)?;
+        if found.as_str() != *wanted {
+            write!(
+                wrong,
+                "\n{name}: {text} in mode {mode}, time {time}: {found}"
+            )?;
+        }
     }
     Ok(())
 }
 
-/// The match at the front of each text by one matcher, so many times: first as lists are learned, and then along them.
-fn check_modes(
-    rt: &impl Abort,
+/// Adds what is wrong with a case whose network this is.
+fn push_wrong(
     alloc: Global,
     net: &LexerNetwork,
-    modes: &[Sequence<Start>],
-    rows: &[Row<'_>],
-    times: u32,
-) -> Result<(), Fail> {
-    let lexable = is_lexable(alloc, net)?;
-    assert!(rt; lexable, "the network can be lexed with");
-    let mut matcher = Matcher::new(alloc, net, modes)?;
-    for time in 0..times {
-        check_rows(rt, alloc, &mut matcher, rows, time)?;
+    case: &Case<'_>,
+    wrong: &mut String,
+) -> Result<(), AllocError> {
+    if !is_lexable(alloc, net)? {
+        let name = case.name;
+        return write!(wrong, "\n{name}: cannot be lexed with");
+    }
+    let modes = modes_of(alloc, case.modes)?;
+    let mut matcher = Matcher::new(alloc, net, modes.as_slice())?;
+    for time in 0..case.times {
+        push_wrong_rows(alloc, &mut matcher, case, time, wrong)?;
     }
     Ok(())
 }
 
-/// The same where there is one mode.
-fn check_times(
-    rt: &impl Abort,
-    alloc: Global,
-    net: &LexerNetwork,
-    starts: &[Start],
-    rows: &[(&str, &str)],
-    times: u32,
-) -> Result<(), Fail> {
-    let modes = [Sequence::new(starts.to_vec(alloc)?)];
-    let mut all = Vec::new(alloc);
-    for (text, wanted) in rows {
-        all.push((0, *text, *wanted))?;
+/// Tries a case: adds what is wrong with it.
+fn try_case(alloc: Global, case: &Case<'_>, wrong: &mut String) -> Result<(), AllocError> {
+    let net = network(alloc, case.rules, case.states)?;
+    push_wrong(alloc, &net, case, wrong)
+}
+
+#[test]
+fn matches_of_texts(rt: HostRuntime) -> Result<(), Fail> {
+    let mut wrong = String::new(rt.alloc());
+    for case in &CASES {
+        try_case(rt.alloc(), case, &mut wrong)?;
     }
-    check_modes(rt, alloc, net, &modes, all.as_slice(), times)
-}
-
-/// Each match twice.
-fn check(
-    rt: &impl Abort,
-    alloc: Global,
-    net: &LexerNetwork,
-    starts: &[Start],
-    rows: &[(&str, &str)],
-) -> Result<(), Fail> {
-    check_times(rt, alloc, net, starts, rows, 2)
-}
-
-#[test]
-fn nested_comments(rt: HostRuntime) -> Result<(), Fail> {
-    let net = comments(rt.alloc())?;
-    let rows = [
-        ("/*b/*c*/d*/x", "11:0:1"),
-        ("/**/", "4:0:1"),
-        ("/**//**/", "4:0:1"),
-        ("/*/**/", "6:0:1"),
-        ("/*", "none"),
-        ("", "none"),
-    ];
-    check(&rt, rt.alloc(), &net, &[start(0, 1, 0)], &rows)
-}
-
-#[test]
-fn keywords_and_names(rt: HostRuntime) -> Result<(), Fail> {
-    let net = words(rt.alloc())?;
-    let rows = [
-        ("if", "2:0:1"),
-        ("ifs", "3:1:1"),
-        ("i", "1:1:1"),
-        ("if(", "2:0:1"),
-        ("(", "none"),
-    ];
-    check(
-        &rt,
-        rt.alloc(),
-        &net,
-        &[start(0, 1, 0), start(1, 1, 2)],
-        &rows,
-    )
-}
-
-#[test]
-fn ends_empty_alternatives_and_recursion(rt: HostRuntime) -> Result<(), Fail> {
-    let net = mixed(rt.alloc())?;
-    let rows = [
-        ("a", "1:0:1"),
-        ("ab", "none"),
-        ("b", "1:0:2"),
-        ("c", "none"),
-        ("()", "2:0:3"),
-        ("((b))(", "5:0:3"),
-        ("(((", "none"),
-        ("(a)", "none"),
-    ];
-    check(
-        &rt,
-        rt.alloc(),
-        &net,
-        &[start(0, 1, 2), start(0, 2, 4), start(0, 3, 6)],
-        &rows,
-    )
-}
-
-#[test]
-fn modes_in_turn(rt: HostRuntime) -> Result<(), Fail> {
-    let net = words(rt.alloc())?;
-    let keywords = vec![in rt.alloc(); start(0, 1, 0)]?;
-    let names = vec![in rt.alloc(); start(1, 1, 2)]?;
-    let modes = [Sequence::new(keywords), Sequence::new(names)];
-    let rows = [
-        (0, "ifs", "2:0:1"),
-        (1, "ifs", "3:1:1"),
-        (0, "is", "none"),
-        (1, "is", "2:1:1"),
-        (2, "is", "none"),
-    ];
-    check_modes(&rt, rt.alloc(), &net, &modes, &rows, 2)
-}
-
-#[test]
-fn the_last_character(rt: HostRuntime) -> Result<(), Fail> {
-    let net = ended(rt.alloc())?;
-    let rows = [
-        ("ab", "1:0:2"),
-        ("a", "1:0:1"),
-        ("aa", "1:0:2"),
-        ("b", "none"),
-    ];
-    check(
-        &rt,
-        rt.alloc(),
-        &net,
-        &[start(0, 1, 2), start(0, 2, 4)],
-        &rows,
-    )
-}
-
-#[test]
-fn bounds_of_sets_past_ascii(rt: HostRuntime) -> Result<(), Fail> {
-    let net = beyond_ascii(rt.alloc())?;
-    let rows = [
-        ("éüê?", "3:0:1"),
-        ("éèé", "1:0:1"),
-        ("éý", "1:0:1"),
-        ("è", "none"),
-        ("ý", "none"),
-        ("一", "1:1:1"),
-        ("丁", "1:1:1"),
-        ("\u{4DFF}", "none"),
-        ("\u{D7FF}", "1:1:1"),
-        ("\u{E000}", "1:1:1"),
-        ("😀", "1:1:1"),
-        ("😁", "none"),
-    ];
-    check(
-        &rt,
-        rt.alloc(),
-        &net,
-        &[start(0, 1, 0), start(1, 1, 2)],
-        &rows,
-    )
+    assert_eq!(rt; wrong.as_str(), "");
+    Ok(())
 }
 
 /// A character so many times, and then another as often.
@@ -381,57 +370,86 @@ fn runs(alloc: Global, first: char, other: char, count: u32) -> Result<String, A
     Ok(text)
 }
 
-#[test]
-fn a_long_name(rt: HostRuntime) -> Result<(), Fail> {
-    let net = words(rt.alloc())?;
-    let text = runs(rt.alloc(), 'i', 'f', 50_000)?;
-    let rows = [(text.as_str(), "100000:1:1")];
-    check(
-        &rt,
-        rt.alloc(),
-        &net,
-        &[start(0, 1, 0), start(1, 1, 2)],
-        &rows,
-    )
+/// Tries a name of 100,000 characters.
+fn try_name(alloc: Global, wrong: &mut String) -> Result<(), AllocError> {
+    let text = runs(alloc, 'i', 'f', 50_000)?;
+    let rows = [(0, text.as_str(), "100000:1:1")];
+    let case = Case {
+        name: "a long name",
+        rules: 2,
+        states: WORDS,
+        modes: BOTH,
+        rows: &rows,
+        times: 2,
+    };
+    try_case(alloc, &case, wrong)
 }
 
-#[test]
-fn many_open_calls(rt: HostRuntime) -> Result<(), Fail> {
-    let net = mixed(rt.alloc())?;
-    let text = runs(rt.alloc(), '(', ')', 20_000)?;
-    let rows = [(text.as_str(), "40000:0:3"), ("b", "none")];
-    check_times(&rt, rt.alloc(), &net, &[start(0, 3, 6)], &rows, 1)
+/// Where the matches of the third alternative begin.
+const THIRD: &[&[Begin]] = &[&[(0, 3, 6)]];
+
+/// Tries 20,000 calls that are open at once.
+fn try_calls(alloc: Global, wrong: &mut String) -> Result<(), AllocError> {
+    let text = runs(alloc, '(', ')', 20_000)?;
+    let rows = [(0, text.as_str(), "40000:0:3"), (0, "b", "none")];
+    let case = Case {
+        name: "many open calls",
+        rules: 1,
+        states: MIXED,
+        modes: THIRD,
+        rows: &rows,
+        times: 1,
+    };
+    try_case(alloc, &case, wrong)
 }
 
-/// So many characters from `一` on, of which no two are neighbours.
-fn spread(alloc: Global, count: u32) -> Result<Vec<char>, AllocError> {
-    let mut characters = Vec::new(alloc);
-    let mut code: u32 = 0x4E00;
-    for _ in 0..count {
-        if let Some(character) = char::from_u32(code) {
-            characters.push(character)?;
+/// Rule 0 is `A : '(' A? ')'`. Rule 1 takes one of 500 characters from `一` on, of which no two are neighbours.
+fn push_spread<'a>(nodes: &mut Vec<Node<'a>>, edges: &'a [u32]) -> Result<(), AllocError> {
+    nodes.extend_from_slice(&[
+        Node::Takes('(', '(', 4),
+        Node::End(0),
+        Node::Choice(edges),
+        Node::End(1),
+        Node::Choice(&[5, 6]),
+        Node::Call(0, 6),
+        Node::Takes(')', ')', 1),
+    ])?;
+    for index in 0..500 {
+        if let Some(character) = char::from_u32(0x4E00 + 2 * index) {
+            nodes.push(Node::Takes(character, character, 3))?;
         }
-        code = code.saturating_add(2);
     }
-    Ok(characters)
+    Ok(())
 }
 
-/// Three thousand lists with cells for a thousand classes each: more than are kept.
-#[test]
-fn more_lists_than_are_kept(rt: HostRuntime) -> Result<(), Fail> {
-    let characters = spread(rt.alloc(), 500)?;
-    let net = one_of(rt.alloc(), characters.as_slice())?;
-    let text = runs(rt.alloc(), '(', ')', 1_500)?;
+/// Tries three thousand lists with cells for a thousand classes each: more than are kept.
+fn try_lists(alloc: Global, wrong: &mut String) -> Result<(), AllocError> {
+    let edges: Vec<u32> = (7..507).collect(alloc)?;
+    let mut nodes = Vec::new(alloc);
+    push_spread(&mut nodes, edges.as_slice())?;
+    let text = runs(alloc, '(', ')', 1_500)?;
     let rows = [
-        (text.as_str(), "3000:0:1"),
-        ("(())", "4:0:1"),
-        ("一", "1:1:1"),
+        (0, text.as_str(), "3000:0:1"),
+        (0, "(())", "4:0:1"),
+        (0, "一", "1:1:1"),
     ];
-    check(
-        &rt,
-        rt.alloc(),
-        &net,
-        &[start(0, 1, 0), start(1, 1, 2)],
-        &rows,
-    )
+    let case = Case {
+        name: "more lists than are kept",
+        rules: 2,
+        states: nodes.as_slice(),
+        modes: BOTH,
+        rows: &rows,
+        times: 2,
+    };
+    try_case(alloc, &case, wrong)
+}
+
+#[test]
+fn large_matches(rt: HostRuntime) -> Result<(), Fail> {
+    let mut wrong = String::new(rt.alloc());
+    try_name(rt.alloc(), &mut wrong)?;
+    try_calls(rt.alloc(), &mut wrong)?;
+    try_lists(rt.alloc(), &mut wrong)?;
+    assert_eq!(rt; wrong.as_str(), "");
+    Ok(())
 }
