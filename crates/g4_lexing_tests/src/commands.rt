@@ -1,59 +1,61 @@
 // What the commands of grammars do, worked out by hand.
+use crate::lexers::grammar;
 use g4_base::{Sequence, Text};
 use g4_commands::{lexer_commands, tables_of};
 use g4_grammar::TokenName;
 use g4_lexing::LexerCommand;
-use g4_reader::read_grammar;
-use g4_source::{Command, LexerRule, Rule, Source};
+use g4_source::{Command, LexerRule, Mode, Rule, Source};
 use std::alloc::{AllocError, Global};
 use std::fmt::Write;
 use std::test::Fail;
 
-/// The commands of alternatives of rules.
+/// The commands of alternatives of rules, as they are written, and what they do.
+type Written = Vec<Sequence<Sequence<Command>>>;
+
 type Made = Sequence<Sequence<Sequence<LexerCommand>>>;
 
-/// The lexer grammar with this text after its name.
-fn grammar(alloc: Global, rules: &str) -> Result<Source, AllocError> {
-    let mut text = String::new(alloc);
-    write!(text, "lexer grammar L;\n{rules}")?;
-    if text.len() > 16_777_216 {
-        return Err(AllocError);
-    }
-    match read_grammar(alloc, text.as_bytes()) {
-        Ok(source) => Ok(source),
-        Err(_) => Err(AllocError),
-    }
-}
-
-/// The commands of the alternatives of a rule.
-fn rule_commands(
-    alloc: Global,
-    rule: LexerRule,
-) -> Result<Sequence<Sequence<Command>>, AllocError> {
-    let mut all = Vec::new(alloc);
+/// Adds the commands of the alternatives of a rule.
+fn push_rule(alloc: Global, all: &mut Written, rule: LexerRule) -> Result<(), AllocError> {
+    let mut commands = Vec::new(alloc);
     for alternative in rule.alternatives.into_vec() {
-        all.push(alternative.commands)?;
+        commands.push(alternative.commands)?;
     }
-    Ok(Sequence::new(all))
+    all.push(Sequence::new(commands))?;
+    Ok(())
 }
 
-/// The commands of the rules of all modes, in order of the text.
-fn commands_of(
-    alloc: Global,
-    source: Source,
-) -> Result<Vec<Sequence<Sequence<Command>>>, AllocError> {
+/// Adds the commands of the rules of the default mode.
+fn push_first(alloc: Global, all: &mut Written, rules: Vec<Rule>) -> Result<(), AllocError> {
+    for rule in rules {
+        if let Rule::Lexer(rule) = rule {
+            push_rule(alloc, all, rule)?;
+        }
+    }
+    Ok(())
+}
+
+/// Adds the commands of the rules of another mode.
+fn push_mode(alloc: Global, all: &mut Written, rules: Vec<LexerRule>) -> Result<(), AllocError> {
+    for rule in rules {
+        push_rule(alloc, all, rule)?;
+    }
+    Ok(())
+}
+
+/// Adds the commands of the rules of all other modes, in order of the text.
+fn push_others(alloc: Global, all: &mut Written, modes: Vec<Mode>) -> Result<(), AllocError> {
+    for mode in modes {
+        push_mode(alloc, all, mode.rules.into_vec())?;
+    }
+    Ok(())
+}
+
+/// The commands of the rules of all modes.
+fn commands_of(alloc: Global, source: Source) -> Result<Written, AllocError> {
     let mut all = Vec::new(alloc);
     let Source { rules, modes, .. } = source;
-    for rule in rules.into_vec() {
-        if let Rule::Lexer(rule) = rule {
-            all.push(rule_commands(alloc, rule)?)?;
-        }
-    }
-    for mode in modes.into_vec() {
-        for rule in mode.rules.into_vec() {
-            all.push(rule_commands(alloc, rule)?)?;
-        }
-    }
+    push_first(alloc, &mut all, rules.into_vec())?;
+    push_others(alloc, &mut all, modes.into_vec())?;
     Ok(all)
 }
 
@@ -76,14 +78,26 @@ fn write_rule(out: &mut String, alternatives: &[Sequence<LexerCommand>]) -> Resu
     Ok(())
 }
 
+/// What the commands of the grammar do, as text.
+fn told(alloc: Global, rules: &str, types: Vec<TokenName>) -> Result<String, AllocError> {
+    let made = made(alloc, rules, types)?;
+    let mut out = String::new(alloc);
+    for alternatives in made.as_slice() {
+        write_rule(&mut out, alternatives.as_slice())?;
+    }
+    Ok(out)
+}
+
+fn type_of(alloc: Global, name: &str, symbol: u32) -> Result<TokenName, AllocError> {
+    let name = Text::copy_of(alloc, name)?;
+    Ok(TokenName { name, symbol })
+}
+
 /// Two token types with one name, and one that no token should have.
 fn types(alloc: Global) -> Result<Vec<TokenName>, AllocError> {
     let mut types = Vec::new(alloc);
-    for (name, symbol) in [("A", 1), ("B", 2), ("A", 3), ("EOF", 4)] {
-        types.push(TokenName {
-            name: Text::copy_of(alloc, name)?,
-            symbol,
-        })?;
+    for (name, symbol) in &[("A", 1), ("B", 2), ("A", 3), ("EOF", 4)] {
+        types.push(type_of(alloc, name, *symbol)?)?;
     }
     Ok(types)
 }
@@ -136,14 +150,9 @@ const ROWS: &[(&str, &str, &str)] = &[
 
 #[test]
 fn commands(rt: HostRuntime) -> Result<(), Fail> {
-    let alloc = rt.alloc();
     for (name, rules, wanted) in ROWS {
-        let made = made(alloc, rules, types(alloc)?)?;
-        let mut out = String::new(alloc);
-        for alternatives in made.as_slice() {
-            write_rule(&mut out, alternatives.as_slice())?;
-        }
-        assert_eq!(rt; out.as_str(), *wanted, "{name}");
+        let found = told(rt.alloc(), rules, types(rt.alloc())?)?;
+        assert_eq!(rt; found.as_str(), *wanted, "{name}");
     }
     Ok(())
 }
@@ -166,31 +175,32 @@ fn large(alloc: Global, channels: u32, rules: u32) -> Result<String, AllocError>
     Ok(text)
 }
 
+/// The token types of so many rules.
+fn many_types(alloc: Global, rules: u32) -> Result<Vec<TokenName>, AllocError> {
+    let mut types = Vec::new(alloc);
+    for rule in 0..rules {
+        let name = format!(in alloc; "R{rule}")?;
+        types.push(type_of(alloc, name.as_str(), rule + 1)?)?;
+    }
+    Ok(types)
+}
+
+/// What the commands of so many rules do, of the large grammar.
+fn many_commands(alloc: Global, rules: u32) -> Result<String, AllocError> {
+    let mut text = String::new(alloc);
+    for rule in 0..rules {
+        let symbol = rule + 1;
+        let channel = rule % 1_000 + 2;
+        write!(text, "Type({symbol}) Channel({channel}) | ")?;
+    }
+    Ok(text)
+}
+
 #[test]
 fn a_large_grammar(rt: HostRuntime) -> Result<(), Fail> {
-    let alloc = rt.alloc();
-    let text = large(alloc, 1_000, 2_000)?;
-    let mut types = Vec::new(alloc);
-    for rule in 0u32..2_000 {
-        let name = Text::new(format!(in alloc; "R{rule}")?);
-        types.push(TokenName {
-            name,
-            symbol: rule + 1,
-        })?;
-    }
-    let made = made(alloc, text.as_str(), types)?;
-    assert_eq!(rt; made.len(), 2_000);
-    let mut rule = 0u32;
-    for alternatives in made.as_slice() {
-        let wanted = [
-            LexerCommand::Type(rule % 2_000 + 1),
-            LexerCommand::Channel(rule % 1_000 + 2),
-        ];
-        assert_eq!(rt; alternatives.len(), 1);
-        for commands in alternatives.as_slice() {
-            assert_eq!(rt; commands.as_slice(), wanted.as_slice());
-        }
-        rule = rule.wrapping_add(1);
-    }
+    let text = large(rt.alloc(), 1_000, 2_000)?;
+    let found = told(rt.alloc(), text.as_str(), many_types(rt.alloc(), 2_000)?)?;
+    let wanted = many_commands(rt.alloc(), 2_000)?;
+    assert_eq!(rt; found.as_str(), wanted.as_str());
     Ok(())
 }

@@ -1,9 +1,6 @@
 // Files and their tokens, worked out by hand.
-use crate::lexers::{Commands, lexed, lexer};
-use g4_base::Sequence;
-use g4_lexable::is_lexable;
+use crate::lexers::{Commands, counts, lexed};
 use g4_lexing::LexerCommand::{Channel, Mode, More, PopMode, PushMode, Skip, Type};
-use g4_lexing::tokens;
 use std::alloc::{AllocError, Global};
 use std::process::Abort;
 use std::test::Fail;
@@ -18,8 +15,7 @@ type Row = (&'static str, Commands, &'static str, usize, &'static str);
 
 fn check(rt: &impl Abort, alloc: Global, rows: &[Row]) -> Result<(), Fail> {
     for (name, commands, text, room, wanted) in rows {
-        let lexer = lexer(alloc, RULES, commands)?;
-        let found = lexed(alloc, &lexer, text.as_bytes(), *room)?;
+        let found = lexed(alloc, RULES, commands, text.as_bytes(), *room)?;
         assert_eq!(rt; found.as_str(), *wanted, "{name}");
     }
     Ok(())
@@ -292,8 +288,7 @@ fn faults_in_their_order(rt: HostRuntime) -> Result<(), Fail> {
 
 #[test]
 fn bytes_that_are_no_text(rt: HostRuntime) -> Result<(), Fail> {
-    let lexer = lexer(rt.alloc(), RULES, &[])?;
-    let found = lexed(rt.alloc(), &lexer, b"?a\xff", 0)?;
+    let found = lexed(rt.alloc(), RULES, &[], b"?a\xff", 0)?;
     assert_eq!(rt; found.as_str(), "not UTF-8 after 2");
     Ok(())
 }
@@ -303,22 +298,9 @@ const HIDDEN: Commands = &[(3, &[&[Channel(1)]])];
 
 #[test]
 fn a_large_file(rt: HostRuntime) -> Result<(), Fail> {
-    let alloc = rt.alloc();
-    let lexer = lexer(alloc, RULES, HIDDEN)?;
-    let mut bytes = Vec::new(alloc);
-    for _ in 0..30_000 {
-        bytes.extend_from_slice(b"a ")?;
-    }
-    let lexable = is_lexable(alloc, &lexer.net)?;
-    assert!(rt; lexable);
-    assert!(rt; bytes.len() <= 16_777_216);
-    match tokens(alloc, &lexer, Sequence::new(bytes)) {
-        Ok(found) => {
-            assert_eq!(rt; found.all.len(), 60_000);
-            assert_eq!(rt; found.list.len(), 30_005);
-        }
-        Err(_) => assert!(rt; false),
-    }
+    let text = "a ".repeat(rt.alloc(), 30_000)?;
+    let found = counts(rt.alloc(), RULES, HIDDEN, text.as_bytes())?;
+    assert_eq!(rt; found.as_str(), "60000 30005");
     Ok(())
 }
 
@@ -341,23 +323,18 @@ const NESTED: &[(&str, &str, u32, &str)] = &[
     ),
 ];
 
-/// Adds a piece so many times.
-fn push_times(text: &mut String, piece: &str, times: u32) -> Result<(), AllocError> {
-    for _ in 0..times {
-        text.push_str(piece)?;
-    }
-    Ok(())
+/// What so many openings and as many closings are lexed to.
+fn nested(alloc: Global, open: &str, close: &str, depth: u32) -> Result<String, AllocError> {
+    let opened = open.repeat(alloc, depth as usize)?;
+    let closed = close.repeat(alloc, depth as usize)?;
+    let text = format!(in alloc; "{opened}{closed}")?;
+    lexed(alloc, COMMENTS, &[], text.as_bytes(), 9)
 }
 
 #[test]
 fn comments_nested_deep(rt: HostRuntime) -> Result<(), Fail> {
-    let alloc = rt.alloc();
-    let lexer = lexer(alloc, COMMENTS, &[])?;
     for (open, close, depth, wanted) in NESTED {
-        let mut text = String::new(alloc);
-        push_times(&mut text, open, *depth)?;
-        push_times(&mut text, close, *depth)?;
-        let found = lexed(alloc, &lexer, text.as_bytes(), 9)?;
+        let found = nested(rt.alloc(), open, close, *depth)?;
         assert_eq!(rt; found.as_str(), *wanted, "{open} {depth}");
     }
     Ok(())
@@ -383,10 +360,14 @@ const STRINGS: &[(&str, &str)] = &[
 
 #[test]
 fn strings_by_a_mode(rt: HostRuntime) -> Result<(), Fail> {
-    let alloc = rt.alloc();
-    let lexer = lexer(alloc, STRING_RULES, STRING_COMMANDS)?;
     for (text, wanted) in STRINGS {
-        let found = lexed(alloc, &lexer, text.as_bytes(), 9)?;
+        let found = lexed(
+            rt.alloc(),
+            STRING_RULES,
+            STRING_COMMANDS,
+            text.as_bytes(),
+            9,
+        )?;
         assert_eq!(rt; found.as_str(), *wanted, "{text}");
     }
     Ok(())

@@ -1,13 +1,13 @@
 // Lexers by grammar texts, and what files are lexed to.
 ghost use Rattle.std.specs.Prelude.{IfOk};
-ghost use Rattle.g4_source.specs.Blocks.{ModesAreFull};
+ghost use Rattle.g4_source.specs.Blocks.{HaveAlternatives, ModesAreFull};
 
 use g4_base::Sequence;
 use g4_lexable::is_lexable;
-use g4_lexing::{LexFault, Lexer, LexerCommand, tokens_within};
+use g4_lexing::{LexFault, Lexer, LexerCommand, tokens, tokens_within};
 use g4_lexnet::{LexNet, build_lexer};
 use g4_reader::read_grammar;
-use g4_source::Mode;
+use g4_source::{Mode, Source};
 use g4_token_list::Tokens;
 use std::alloc::{AllocError, Global};
 use std::fmt::Write;
@@ -15,58 +15,89 @@ use std::fmt::Write;
 /// For some rules the commands of their alternatives.
 pub(crate) type Commands = &'static [(usize, &'static [&'static [LexerCommand]])];
 
-/// The modes of a lexer grammar with this text after its name.
-fn modes(alloc: Global, rules: &str) -> Result<Vec<Mode>, AllocError>
-    ensures { IfOk result (λ modes. ModesAreFull modes.items) }
+/// The lexer grammar with this text after its name.
+pub(crate) fn grammar(alloc: Global, rules: &str) -> Result<Source, AllocError>
+    ensures { IfOk result HaveAlternatives }
 {
-    let mut text = String::new(alloc);
-    write!(text, "lexer grammar L;\n{rules}")?;
+    let text = format!(in alloc; "lexer grammar L;\n{rules}")?;
     if text.len() > 16_777_216 {
         return Err(AllocError);
     }
     match read_grammar(alloc, text.as_bytes()) {
-        Ok(source) => Ok(source.modes.into_vec()),
+        Ok(source) => Ok(source),
         Err(_) => Err(AllocError),
     }
 }
 
-/// The commands of a rule's alternatives.
-fn commands_of(
+/// The modes of the lexer grammar with this text after its name.
+fn modes(alloc: Global, rules: &str) -> Result<Vec<Mode>, AllocError>
+    ensures { IfOk result (λ modes. ModesAreFull modes.items) }
+{
+    let source = grammar(alloc, rules)?;
+    Ok(source.modes.into_vec())
+}
+
+/// The commands of alternatives.
+fn alternatives_of(
     alloc: Global,
-    commands: Commands,
-    rule: usize,
+    alternatives: &[&[LexerCommand]],
 ) -> Result<Sequence<Sequence<LexerCommand>>, AllocError> {
     let mut made = Vec::new(alloc);
-    for (other, alternatives) in commands {
-        if *other == rule {
-            for commands in *alternatives {
-                made.push(Sequence::new(commands.to_vec(alloc)?))?;
-            }
-        }
+    for commands in alternatives {
+        made.push(Sequence::new(commands.to_vec(alloc)?))?;
     }
     Ok(Sequence::new(made))
 }
 
-/// A lexer by its network, whose rules have the types 1, 2 and so on.
-fn lexer_of(alloc: Global, built: LexNet, commands: Commands) -> Result<Lexer, AllocError> {
-    let mut types = Vec::new(alloc);
+/// The alternatives of a rule that have commands.
+fn listed(commands: Commands, rule: usize) -> &'static [&'static [LexerCommand]] {
+    for (other, alternatives) in commands {
+        if *other == rule {
+            return *alternatives;
+        }
+    }
+    &[]
+}
+
+/// The commands of so many rules.
+fn commands_of(
+    alloc: Global,
+    commands: Commands,
+    count: usize,
+) -> Result<Vec<Sequence<Sequence<LexerCommand>>>, AllocError> {
     let mut all = Vec::new(alloc);
+    for rule in 0..count {
+        all.push(alternatives_of(alloc, listed(commands, rule))?)?;
+    }
+    Ok(all)
+}
+
+/// The types of so many rules: 1, 2 and so on.
+fn types_of(alloc: Global, count: usize) -> Result<Vec<u32>, AllocError> {
+    let mut types = Vec::new(alloc);
     let mut symbol: u32 = 0;
-    for rule in 0..built.commands.len() {
+    for _ in 0..count {
         symbol = symbol.saturating_add(1);
         types.push(symbol)?;
-        all.push(commands_of(alloc, commands, rule)?)?;
     }
+    Ok(types)
+}
+
+/// A lexer by its network.
+fn lexer_of(alloc: Global, built: LexNet, commands: Commands) -> Result<Lexer, AllocError> {
+    let count = built.commands.len();
+    let types = types_of(alloc, count)?;
+    let commands = commands_of(alloc, commands, count)?;
     Ok(Lexer {
         net: built.net,
         modes: built.modes,
         types: Sequence::new(types),
-        commands: Sequence::new(all),
+        commands: Sequence::new(commands),
     })
 }
 
 /// The lexer of these rules with these commands.
-pub(crate) fn lexer(alloc: Global, rules: &str, commands: Commands) -> Result<Lexer, AllocError> {
+fn lexer(alloc: Global, rules: &str, commands: Commands) -> Result<Lexer, AllocError> {
     let modes = modes(alloc, rules)?;
     match build_lexer(alloc, Vec::new(alloc), modes) {
         Ok(built) => lexer_of(alloc, built, commands),
@@ -124,13 +155,8 @@ fn write_fault(out: &mut String, fault: &LexFault) -> Result<(), AllocError> {
     }
 }
 
-/// What the bytes are lexed to, with so much room.
-pub(crate) fn lexed(
-    alloc: Global,
-    lexer: &Lexer,
-    bytes: &[u8],
-    room: usize,
-) -> Result<String, AllocError> {
+/// What the bytes are lexed to by this lexer, with so much room.
+fn lexed_by(alloc: Global, lexer: &Lexer, bytes: &[u8], room: usize) -> Result<String, AllocError> {
     let mut out = String::new(alloc);
     if bytes.len() > 16_777_216 || !is_lexable(alloc, &lexer.net)? {
         return Ok(out);
@@ -141,4 +167,41 @@ pub(crate) fn lexed(
         Err(fault) => write_fault(&mut out, &fault)?,
     }
     Ok(out)
+}
+
+/// What the bytes are lexed to by the lexer of these rules with these commands, with so much room.
+pub(crate) fn lexed(
+    alloc: Global,
+    rules: &str,
+    commands: Commands,
+    bytes: &[u8],
+    room: usize,
+) -> Result<String, AllocError> {
+    let lexer = lexer(alloc, rules, commands)?;
+    lexed_by(alloc, &lexer, bytes, room)
+}
+
+/// How many tokens the bytes have, and how many symbols the parser sees.
+fn counts_by(alloc: Global, lexer: &Lexer, bytes: &[u8]) -> Result<String, AllocError> {
+    if bytes.len() > 16_777_216 || !is_lexable(alloc, &lexer.net)? {
+        return String::from_str(alloc, "not lexed");
+    }
+    let bytes = Sequence::new(bytes.to_vec(alloc)?);
+    let Ok(found) = tokens(alloc, lexer, bytes) else {
+        return String::from_str(alloc, "no tokens");
+    };
+    let all = found.all.len();
+    let list = found.list.len();
+    format!(in alloc; "{all} {list}")
+}
+
+/// How many tokens the bytes have by the lexer of these rules with these commands, and how many symbols the parser sees.
+pub(crate) fn counts(
+    alloc: Global,
+    rules: &str,
+    commands: Commands,
+    bytes: &[u8],
+) -> Result<String, AllocError> {
+    let lexer = lexer(alloc, rules, commands)?;
+    counts_by(alloc, &lexer, bytes)
 }
