@@ -1,19 +1,15 @@
 // The first fault of a grammar's rules: what they name comes before how they call each other.
-use crate::texts::check_table;
+use crate::texts::{Question, differing};
 use g4_base::{Place, Text};
 use g4_checks::{CheckFault, check};
 use g4_source::Source;
 use std::alloc::{AllocError, Global};
 use std::test::Fail;
 
-/// A kind of fault and the names in it.
-fn named(alloc: Global, kind: &str, names: &[Text]) -> Result<String, AllocError> {
-    let mut all = String::from_str(alloc, kind)?;
-    for name in names {
-        all.push(' ')?;
-        all.push_str(name.as_str())?;
-    }
-    Ok(all)
+/// A kind of fault and the name in it.
+fn named(alloc: Global, kind: &str, name: &Text) -> Result<String, AllocError> {
+    let name = name.as_str();
+    format!(in alloc; "{kind} {name}")
 }
 
 /// A kind of fault and its place.
@@ -22,35 +18,50 @@ fn placed(alloc: Global, kind: &str, place: Place) -> Result<String, AllocError>
     format!(in alloc; "{kind} {line}:{column}")
 }
 
+/// The rules of a cycle.
+fn cycle(alloc: Global, names: &[Text]) -> Result<String, AllocError> {
+    let mut all = String::from_str(alloc, "cycle")?;
+    for name in names {
+        all.push(' ')?;
+        all.push_str(name.as_str())?;
+    }
+    Ok(all)
+}
+
+/// A fault and what it names.
+fn shown(alloc: Global, fault: &CheckFault) -> Result<String, AllocError> {
+    match fault {
+        CheckFault::UndefinedRule(name) => named(alloc, "rule", name),
+        CheckFault::UnknownMode(name) => named(alloc, "mode", name),
+        CheckFault::UnknownCommand(name) => named(alloc, "command", name),
+        CheckFault::UnknownChannel(name) => named(alloc, "channel", name),
+        CheckFault::LexerPredicate(place) => placed(alloc, "lexer", *place),
+        CheckFault::UnknownPredicate(place) => placed(alloc, "predicate", *place),
+        CheckFault::LabelClash(name) => named(alloc, "label", name),
+        CheckFault::NoPrimary(name) => named(alloc, "primary", name),
+        CheckFault::EmptyOperator(name, number) => {
+            let name = name.as_str();
+            format!(in alloc; "operator {name} {number}")
+        }
+        CheckFault::EmptyLoop(name) => named(alloc, "loop", name),
+        CheckFault::LeftCycle(names) => cycle(alloc, names.as_slice()),
+        CheckFault::NoMemory => Err(AllocError),
+    }
+}
+
 /// What is reported of a grammar.
 pub(crate) fn reported(
     alloc: Global,
     answer: Result<(), CheckFault>,
 ) -> Result<String, AllocError> {
-    let Err(fault) = answer else {
-        return String::from_str(alloc, "none");
-    };
-    match fault {
-        CheckFault::UndefinedRule(name) => named(alloc, "rule", &[name]),
-        CheckFault::UnknownMode(name) => named(alloc, "mode", &[name]),
-        CheckFault::UnknownCommand(name) => named(alloc, "command", &[name]),
-        CheckFault::UnknownChannel(name) => named(alloc, "channel", &[name]),
-        CheckFault::LexerPredicate(place) => placed(alloc, "lexer", place),
-        CheckFault::UnknownPredicate(place) => placed(alloc, "predicate", place),
-        CheckFault::LabelClash(name) => named(alloc, "label", &[name]),
-        CheckFault::NoPrimary(name) => named(alloc, "primary", &[name]),
-        CheckFault::EmptyOperator(name, number) => {
-            let name = name.as_str();
-            format!(in alloc; "operator {name} {number}")
-        }
-        CheckFault::EmptyLoop(name) => named(alloc, "loop", &[name]),
-        CheckFault::LeftCycle(names) => named(alloc, "cycle", names.as_slice()),
-        CheckFault::NoMemory => Err(AllocError),
+    match answer {
+        Ok(()) => String::from_str(alloc, "none"),
+        Err(fault) => shown(alloc, &fault),
     }
 }
 
 /// What is reported of the rules of a grammar.
-fn checked(alloc: Global, source: &Source) -> Result<String, AllocError> {
+pub(crate) fn checked(alloc: Global, source: &Source) -> Result<String, AllocError> {
     reported(alloc, check(alloc, source))
 }
 
@@ -68,6 +79,7 @@ a : {} a . | . ; => cycle a
 
 #[test]
 fn reports_the_first_kind(rt: HostRuntime) -> Result<(), Fail> {
-    check_table(&rt, rt.alloc(), "grammar X;\n", TABLE, checked)?;
+    let wrong = differing(rt.alloc(), Question::Checks, "grammar X;\n", TABLE)?;
+    assert_eq!(rt; wrong.as_str(), "");
     Ok(())
 }

@@ -1,25 +1,26 @@
 // Forms of the grammar language that are read but not run.
-use crate::texts::{check_table, repeated};
+use crate::texts::{Question, differing, repeated};
+use g4_base::Place;
 use g4_forms::{FormFault, check_forms};
 use g4_source::Source;
 use std::alloc::{AllocError, Global};
-use std::fmt::Write;
 use std::test::Fail;
+
+/// A place and characters.
+fn shown(alloc: Global, place: Place, characters: &[char]) -> Result<String, AllocError> {
+    let Place { line, column } = place;
+    let mut text = format!(in alloc; "{line}:{column} ")?;
+    for character in characters {
+        text.push(*character)?;
+    }
+    Ok(text)
+}
 
 /// The place and the characters of the first form of a grammar that is not run, or `run`.
 pub(crate) fn forms(alloc: Global, source: &Source) -> Result<String, AllocError> {
     match check_forms(alloc, source) {
         Ok(()) => String::from_str(alloc, "run"),
-        Err(FormFault::NotRun(place, characters)) => {
-            let mut text = String::new(alloc);
-            let line = place.line;
-            let column = place.column;
-            write!(text, "{line}:{column} ")?;
-            for character in characters.as_slice() {
-                text.push(*character)?;
-            }
-            Ok(text)
-        }
+        Err(FormFault::NotRun(place, characters)) => shown(alloc, place, characters.as_slice()),
         Err(FormFault::NoMemory) => Err(AllocError),
     }
 }
@@ -52,12 +53,23 @@ parser grammar X; s : {p}? ; => 1:0 parser
 
 #[test]
 fn finds_the_first_form(rt: HostRuntime) -> Result<(), Fail> {
-    let alloc = rt.alloc();
-    check_table(&rt, alloc, "", TABLE, forms)?;
+    let wrong = differing(rt.alloc(), Question::Forms, "", TABLE)?;
+    assert_eq!(rt; wrong.as_str(), "");
+    Ok(())
+}
+
+/// The rows of which something else is answered, after 2,000 rules that are run: none more, and one with a long predicate.
+fn differing_behind(alloc: Global) -> Result<String, AllocError> {
     let rules = repeated(alloc, "s% : A (r | )* {} ;\n", 2_000)?;
     let front = format!(in alloc; "grammar X;\n{rules}")?;
     let word = "p".repeat(alloc, 20_000)?;
     let table = format!(in alloc; " => run\ns : {{{word}}}? ; => 2002:4 {{{word}}}")?;
-    check_table(&rt, alloc, front.as_str(), table.as_str(), forms)?;
+    differing(alloc, Question::Forms, front.as_str(), table.as_str())
+}
+
+#[test]
+fn finds_a_form_behind_many_rules(rt: HostRuntime) -> Result<(), Fail> {
+    let wrong = differing_behind(rt.alloc())?;
+    assert_eq!(rt; wrong.as_str(), "");
     Ok(())
 }

@@ -1,6 +1,6 @@
 // What grammars name, and which of it is not there.
 use crate::checks::reported;
-use crate::texts::{check_table, repeated};
+use crate::texts::{Question, differing, repeated};
 use g4_checks::CheckFault;
 use g4_references::check_references;
 use g4_source::Source;
@@ -110,8 +110,15 @@ B : 'x' -> mode(L) ; mode M; A : 'x' -> mode(K) ; => mode L
 
 #[test]
 fn finds_what_is_not_there(rt: HostRuntime) -> Result<(), Fail> {
-    check_table(&rt, rt.alloc(), "grammar X;\n", TABLE, references)?;
-    check_table(&rt, rt.alloc(), "lexer grammar X;\n", MODES, references)?;
+    let wrong = differing(rt.alloc(), Question::References, "grammar X;\n", TABLE)?;
+    assert_eq!(rt; wrong.as_str(), "");
+    let wrong = differing(
+        rt.alloc(),
+        Question::References,
+        "lexer grammar X;\n",
+        MODES,
+    )?;
+    assert_eq!(rt; wrong.as_str(), "");
     Ok(())
 }
 
@@ -140,9 +147,12 @@ fn modes(alloc: Global) -> Result<String, AllocError> {
 
 #[test]
 fn checks_large_grammars(rt: HostRuntime) -> Result<(), Fail> {
-    let alloc = rt.alloc();
+    let large = large(rt.alloc())?;
     let row = "z : 'x' # R999 ; => label R999";
-    check_table(&rt, alloc, large(alloc)?.as_str(), row, references)?;
-    check_table(&rt, alloc, modes(alloc)?.as_str(), " => none", references)?;
+    let wrong = differing(rt.alloc(), Question::References, large.as_str(), row)?;
+    assert_eq!(rt; wrong.as_str(), "");
+    let modes = modes(rt.alloc())?;
+    let wrong = differing(rt.alloc(), Question::References, modes.as_str(), " => none")?;
+    assert_eq!(rt; wrong.as_str(), "");
     Ok(())
 }

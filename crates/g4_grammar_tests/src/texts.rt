@@ -1,10 +1,14 @@
 // Tables of grammars' texts, and what is answered of each.
+use crate::checks::checked;
+use crate::forms::forms;
+use crate::recursion::recursion;
+use crate::references::references;
+use crate::resolving::resolved;
+use crate::vocabularies::{numbered, repetition};
 use g4_reader::read_grammar;
 use g4_source::Source;
 use std::alloc::{AllocError, Global};
 use std::fmt::Write;
-use std::process::Abort;
-use std::test::Fail;
 
 /// The grammar of a text, or none where the text is no grammar.
 fn source_of(alloc: Global, text: &str) -> Result<Option<Source>, AllocError> {
@@ -14,46 +18,70 @@ fn source_of(alloc: Global, text: &str) -> Result<Option<Source>, AllocError> {
     Ok(read_grammar(alloc, text.as_bytes()).ok())
 }
 
-/// The rows of a table of which something else is answered. A row is a line, with ` => ` between the text of a grammar, before
-/// which this front is written, and the answer; a line without it is a heading.
-fn differing<F: Fn(Global, &Source) -> Result<String, AllocError>>(
-    alloc: Global,
-    front: &str,
-    table: &str,
-    answer: F,
-) -> Result<String, AllocError>
-    requires { F.IsAlwaysCallable answer }
-{
-    let mut all = String::new(alloc);
-    for row in table.lines() {
-        let Some((end, wanted)) = row.split_once(" => ") else {
-            continue;
-        };
-        let text = format!(in alloc; "{front}{end}")?;
-        let found = match source_of(alloc, text.as_str())? {
-            Some(source) => answer(alloc, &source)?,
-            None => String::from_str(alloc, "no grammar")?,
-        };
-        if found.as_str() != wanted {
-            write!(all, "\n{row}\n  is {found}")?;
-        }
-    }
-    Ok(all)
+/// What is asked of a grammar.
+#[derive(Clone, Copy)]
+pub(crate) enum Question {
+    Checks,
+    Forms,
+    Names,
+    Numbers,
+    Recursion,
+    References,
+    Steps,
 }
 
-/// Each row of the table is answered as it says, where this front is before its text.
-pub(crate) fn check_table<F: Fn(Global, &Source) -> Result<String, AllocError>>(
-    rt: &impl Abort,
+fn answer(alloc: Global, question: Question, source: &Source) -> Result<String, AllocError> {
+    match question {
+        Question::Checks => checked(alloc, source),
+        Question::Forms => forms(alloc, source),
+        Question::Names => repetition(alloc, source),
+        Question::Numbers => numbered(alloc, source),
+        Question::Recursion => recursion(alloc, source),
+        Question::References => references(alloc, source),
+        Question::Steps => resolved(alloc, source),
+    }
+}
+
+/// What is answered of the grammar of a text.
+fn found(alloc: Global, question: Question, text: &str) -> Result<String, AllocError> {
+    match source_of(alloc, text)? {
+        Some(source) => answer(alloc, question, &source),
+        None => String::from_str(alloc, "no grammar"),
+    }
+}
+
+/// Adds a row of which something else is answered.
+fn push_differing(
     alloc: Global,
+    all: &mut String,
+    question: Question,
+    front: &str,
+    row: &str,
+) -> Result<(), AllocError> {
+    let Some((end, wanted)) = row.split_once(" => ") else {
+        return Ok(());
+    };
+    let text = format!(in alloc; "{front}{end}")?;
+    let found = found(alloc, question, text.as_str())?;
+    if found.as_str() != wanted {
+        write!(all, "\n{row}\n  is {found}")?;
+    }
+    Ok(())
+}
+
+/// The rows of a table of which something else is answered. A row is a line, with ` => ` between the text of a grammar, before
+/// which this front is written, and the answer; a line without it is a heading.
+pub(crate) fn differing(
+    alloc: Global,
+    question: Question,
     front: &str,
     table: &str,
-    answer: F,
-) -> Result<(), Fail>
-    requires { F.IsAlwaysCallable answer }
-{
-    let wrong = differing(alloc, front, table, answer)?;
-    assert_eq!(rt; wrong.as_str(), "");
-    Ok(())
+) -> Result<String, AllocError> {
+    let mut all = String::new(alloc);
+    for row in table.lines() {
+        push_differing(alloc, &mut all, question, front, row)?;
+    }
+    Ok(all)
 }
 
 /// A text of so many parts, in each of which its number is in place of `%`, and the next one in place of `^`.

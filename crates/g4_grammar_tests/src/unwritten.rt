@@ -26,49 +26,80 @@ fn element(kind: AtomKind) -> Element<Atom> {
 }
 
 /// A lexer rule `L` of this element, and then a call of the rule itself.
-fn rule(alloc: Global, first: AtomKind) -> Result<Rule, AllocError> {
+fn rule(alloc: Global, first: AtomKind) -> Result<LexerRule, AllocError> {
+    let text = Text::copy_of(alloc, "L")?;
     let call = AtomKind::Token(name(alloc)?);
     let elements = vec![in alloc; element(first), element(call)]?;
     let alternative = LexerAlternative {
         elements: Elements::new(elements),
         commands: Sequence::new(Vec::new(alloc)),
     };
-    Ok(Rule::Lexer(LexerRule {
+    let alternatives = vec![in alloc; alternative]?;
+    Ok(LexerRule {
         fragment: None,
-        name: Text::copy_of(alloc, "L")?,
-        alternatives: Sequence::new(vec![in alloc; alternative]?),
-    }))
+        name: text,
+        alternatives: Sequence::new(alternatives),
+    })
 }
 
-/// What is reported of a grammar of that rule by three checks.
-fn reported(alloc: Global, first: AtomKind) -> Result<String, AllocError> {
-    let source = Source {
+/// A grammar of that rule.
+fn source(alloc: Global, first: AtomKind) -> Result<Source, AllocError> {
+    let name = Text::copy_of(alloc, "X")?;
+    let rule = rule(alloc, first)?;
+    let rules = vec![in alloc; Rule::Lexer(rule)]?;
+    Ok(Source {
         place: Place::START,
         kind: GrammarKind::Combined,
-        name: Text::copy_of(alloc, "X")?,
+        name,
         prequels: Sequence::new(Vec::new(alloc)),
-        rules: Sequence::new(vec![in alloc; rule(alloc, first)?]?),
+        rules: Sequence::new(rules),
         modes: Sequence::new(Vec::new(alloc)),
-    };
-    let references = references(alloc, &source)?;
-    let recursion = recursion(alloc, &source)?;
-    let forms = forms(alloc, &source)?;
+    })
+}
+
+/// What is reported of a grammar by three checks.
+fn told(alloc: Global, source: &Source) -> Result<String, AllocError> {
+    let references = references(alloc, source)?;
+    let recursion = recursion(alloc, source)?;
+    let forms = forms(alloc, source)?;
     format!(in alloc; "{references}, {recursion}, {forms}")
+}
+
+/// What is reported of a grammar of that rule.
+fn reported(alloc: Global, first: AtomKind) -> Result<String, AllocError> {
+    let source = source(alloc, first)?;
+    told(alloc, &source)
+}
+
+/// What is reported of a call of a parser rule.
+fn reported_call(alloc: Global) -> Result<String, AllocError> {
+    let name = name(alloc)?;
+    reported(alloc, AtomKind::Rule(name))
+}
+
+/// What is reported of all tokens but none.
+fn reported_others(alloc: Global) -> Result<String, AllocError> {
+    let none = Sequence::new(Vec::new(alloc));
+    reported(alloc, AtomKind::NotTokens(Place::START, none))
+}
+
+/// What is reported of a literal with no character.
+fn reported_empty(alloc: Global) -> Result<String, AllocError> {
+    let written = Text::copy_of(alloc, "''")?;
+    let literal = Literal {
+        characters: Sequence::new(Vec::new(alloc)),
+        written,
+    };
+    reported(alloc, AtomKind::Literal(literal))
 }
 
 #[test]
 fn checks_what_no_text_gives(rt: HostRuntime) -> Result<(), Fail> {
-    let alloc = rt.alloc();
-    let call = reported(alloc, AtomKind::Rule(name(alloc)?))?;
+    let call = reported_call(rt.alloc())?;
     assert_eq!(rt; call.as_str(), "none, none, 1:0 L");
-    let none = Sequence::new(Vec::new(alloc));
-    let other = reported(alloc, AtomKind::NotTokens(Place::START, none))?;
-    assert_eq!(rt; other.as_str(), "none, none, 1:0 ~");
-    let literal = Literal {
-        characters: Sequence::new(Vec::new(alloc)),
-        written: Text::copy_of(alloc, "''")?,
-    };
-    let empty = reported(alloc, AtomKind::Literal(literal))?;
+    let others = reported_others(rt.alloc())?;
+    assert_eq!(rt; others.as_str(), "none, none, 1:0 ~");
+    let empty = reported_empty(rt.alloc())?;
     assert_eq!(rt; empty.as_str(), "none, cycle L, run");
     Ok(())
 }

@@ -1,5 +1,5 @@
 // What is numbered of grammars, and the first repetition of a rule's name.
-use crate::texts::{check_table, repeated};
+use crate::texts::{Question, differing, repeated};
 use g4_elements::Element;
 use g4_grammar::{Numbered, NumberedAtom, NumberedKind};
 use g4_source::{ParserRule, Source};
@@ -53,11 +53,44 @@ fn push_rule(
     Ok(())
 }
 
-/// Adds names and their types.
-fn push_types(text: &mut String, types: &[(&str, u32)]) -> Result<(), AllocError> {
+/// Adds what is shown of the types.
+fn push_shown(text: &mut String, grammar: &Numbered) -> Result<(), AllocError> {
     write!(text, " |")?;
-    for (name, symbol) in types {
+    let mut symbol: u32 = 0;
+    for shown in grammar.shown.as_slice() {
+        symbol = symbol.saturating_add(1);
+        let name = shown.as_str();
         write!(text, " {name}={symbol}")?;
+    }
+    Ok(())
+}
+
+/// Adds the token rules and their types.
+fn push_token_rules(text: &mut String, grammar: &Numbered) -> Result<(), AllocError> {
+    write!(text, " |")?;
+    for rule in grammar.token_rules.as_slice() {
+        let name = rule.name.as_str();
+        let symbol = rule.symbol;
+        write!(text, " {name}={symbol}")?;
+    }
+    Ok(())
+}
+
+/// Adds the names and their types.
+fn push_names(text: &mut String, grammar: &Numbered) -> Result<(), AllocError> {
+    write!(text, " |")?;
+    for named in grammar.names.as_slice() {
+        let name = named.name.as_str();
+        let symbol = named.symbol;
+        write!(text, " {name}={symbol}")?;
+    }
+    Ok(())
+}
+
+/// Adds the elements of the parser rules.
+fn push_rules(alloc: Global, text: &mut String, grammar: &Numbered) -> Result<(), AllocError> {
+    for rule in grammar.rules.as_slice() {
+        push_rule(alloc, text, rule)?;
     }
     Ok(())
 }
@@ -65,38 +98,27 @@ fn push_types(text: &mut String, types: &[(&str, u32)]) -> Result<(), AllocError
 /// The elements of the parser rules, what is shown of the types, the token rules, and the names, each with their types.
 fn shown(alloc: Global, grammar: &Numbered) -> Result<String, AllocError> {
     let mut text = String::new(alloc);
-    for rule in grammar.rules.as_slice() {
-        push_rule(alloc, &mut text, rule)?;
-    }
-    let shown = grammar.shown.as_slice().iter().zip(1u32..);
-    let types: Vec<(&str, u32)> = shown
-        .map(|(it, symbol)| (it.as_str(), symbol))
-        .collect(alloc)?;
-    push_types(&mut text, types.as_slice())?;
-    let rules = grammar.token_rules.as_slice().iter();
-    let types: Vec<(&str, u32)> = rules
-        .map(|it| (it.name.as_str(), it.symbol))
-        .collect(alloc)?;
-    push_types(&mut text, types.as_slice())?;
-    let names = grammar.names.as_slice().iter();
-    let types: Vec<(&str, u32)> = names
-        .map(|it| (it.name.as_str(), it.symbol))
-        .collect(alloc)?;
-    push_types(&mut text, types.as_slice())?;
+    push_rules(alloc, &mut text, grammar)?;
+    push_shown(&mut text, grammar)?;
+    push_token_rules(&mut text, grammar)?;
+    push_names(&mut text, grammar)?;
     String::from_str(alloc, text.as_str().trim_start())
 }
 
-/// What is numbered of a grammar; of one with more than 1,000 types how many there are, and how many have names.
-fn numbered(alloc: Global, source: &Source) -> Result<String, AllocError> {
+/// What is numbered; with more than 1,000 types how many there are, and how many have names.
+fn told(alloc: Global, grammar: &Numbered) -> Result<String, AllocError> {
+    let types = grammar.shown.len();
+    if types < 1_000 {
+        return shown(alloc, grammar);
+    }
+    let named = grammar.names.len();
+    format!(in alloc; "{types} {named}")
+}
+
+/// What is numbered of a grammar.
+pub(crate) fn numbered(alloc: Global, source: &Source) -> Result<String, AllocError> {
     match number(alloc, source) {
-        Ok(grammar) => {
-            let types = grammar.shown.len();
-            if types < 1_000 {
-                return shown(alloc, &grammar);
-            }
-            let named = grammar.names.len();
-            format!(in alloc; "{types} {named}")
-        }
+        Ok(grammar) => told(alloc, &grammar),
         Err(NumberFault::Rules) => String::from_str(alloc, "rules"),
         Err(NumberFault::Types) => String::from_str(alloc, "types"),
         Err(NumberFault::NoMemory) => Err(AllocError),
@@ -140,28 +162,44 @@ const SIZES: &[(u32, u32, u32, &str)] = &[
     (0, 0, 10_000, "types"),
 ];
 
-/// A grammar of so many lexer rules, a fragment with so many names in commands, and a parser rule of so many literals.
-fn large(alloc: Global, rules: u32, literals: u32, types: u32) -> Result<String, AllocError> {
-    let rules = repeated(alloc, "L%:;\n", rules)?;
+/// A row of a grammar of so many lexer rules, a fragment with so many names in commands, and a parser rule of so many literals.
+fn large(
+    alloc: Global,
+    rules: u32,
+    literals: u32,
+    types: u32,
+    wanted: &str,
+) -> Result<String, AllocError> {
+    let rules = repeated(alloc, "L%:; ", rules)?;
     let literals = repeated(alloc, "'%' ", literals)?;
     let types = repeated(alloc, ", type(T%)", types)?;
-    format!(in alloc; "grammar X;\n{rules}fragment F : 'f' -> skip{types} ;\nr : {literals};\n")
+    format!(in alloc; "{rules}fragment F : 'f' -> skip{types} ; r : {literals}; => {wanted}")
 }
 
 #[test]
 fn numbers_tokens(rt: HostRuntime) -> Result<(), Fail> {
-    let alloc = rt.alloc();
-    check_table(&rt, alloc, "grammar X;\n", TABLE, numbered)?;
+    let wrong = differing(rt.alloc(), Question::Numbers, "grammar X;\n", TABLE)?;
+    assert_eq!(rt; wrong.as_str(), "");
+    Ok(())
+}
+
+#[test]
+fn numbers_many_tokens(rt: HostRuntime) -> Result<(), Fail> {
     for (rules, literals, types, wanted) in SIZES {
-        let front = large(alloc, *rules, *literals, *types)?;
-        let table = format!(in alloc; " => {wanted}")?;
-        check_table(&rt, alloc, front.as_str(), table.as_str(), numbered)?;
+        let large = large(rt.alloc(), *rules, *literals, *types, wanted)?;
+        let wrong = differing(
+            rt.alloc(),
+            Question::Numbers,
+            "grammar X;\n",
+            large.as_str(),
+        )?;
+        assert_eq!(rt; wrong.as_str(), "", "{rules} {literals} {types}");
     }
     Ok(())
 }
 
 /// The first name that an earlier rule has, or `none`.
-fn repetition(alloc: Global, source: &Source) -> Result<String, AllocError> {
+pub(crate) fn repetition(alloc: Global, source: &Source) -> Result<String, AllocError> {
     match check_names(alloc, source) {
         Ok(()) => String::from_str(alloc, "none"),
         Err(NameFault::RuleTwice(name)) => String::from_str(alloc, name.as_str()),
@@ -181,11 +219,22 @@ A : ; b : ; A : ; A : ; b : ; => A
 
 #[test]
 fn reports_the_first_repetition(rt: HostRuntime) -> Result<(), Fail> {
-    let alloc = rt.alloc();
-    check_table(&rt, alloc, "grammar X;\n", NAMES, repetition)?;
+    let wrong = differing(rt.alloc(), Question::Names, "grammar X;\n", NAMES)?;
+    assert_eq!(rt; wrong.as_str(), "");
+    Ok(())
+}
+
+/// The rows of which something else is answered behind 10,000 rules.
+fn differing_behind(alloc: Global) -> Result<String, AllocError> {
     let rules = repeated(alloc, "a% : ; A% : ;\n", 5_000)?;
     let front = format!(in alloc; "grammar X;\n{rules}")?;
     let table = " => none\nA4999 : ; => A4999";
-    check_table(&rt, alloc, front.as_str(), table, repetition)?;
+    differing(alloc, Question::Names, front.as_str(), table)
+}
+
+#[test]
+fn reports_a_repetition_behind_many_rules(rt: HostRuntime) -> Result<(), Fail> {
+    let wrong = differing_behind(rt.alloc())?;
+    assert_eq!(rt; wrong.as_str(), "");
     Ok(())
 }
