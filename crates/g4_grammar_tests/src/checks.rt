@@ -1,10 +1,8 @@
 // The first fault of a grammar's rules: what they name comes before how they call each other.
-use crate::texts::{Question, differing};
 use g4_base::{Place, Text};
 use g4_checks::{CheckFault, check};
 use g4_source::Source;
 use std::alloc::{AllocError, Global};
-use std::test::Fail;
 
 /// A kind of fault and the name in it.
 fn named(alloc: Global, kind: &str, name: &Text) -> Result<String, AllocError> {
@@ -65,7 +63,7 @@ pub(crate) fn checked(alloc: Global, source: &Source) -> Result<String, AllocErr
     reported(alloc, check(alloc, source))
 }
 
-const TABLE: &str = "
+pub(crate) const TABLE: &str = "
 T : -> skip ; a : ; => none
 T : -> no ; a : | b ; => rule b
 T : -> no ; a : a ; => command no
@@ -76,10 +74,3 @@ a : a . a | a . | . a | . ; => none
 a : {} a . | . ; b : (.?)* ; => loop b
 a : {} a . | . ; => cycle a
 ";
-
-#[test]
-fn reports_the_first_kind(rt: HostRuntime) -> Result<(), Fail> {
-    let wrong = differing(rt.alloc(), Question::Checks, "grammar X;\n", TABLE)?;
-    assert_eq!(rt; wrong.as_str(), "");
-    Ok(())
-}

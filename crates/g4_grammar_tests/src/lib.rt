@@ -12,6 +12,8 @@ mod references;
 #[cfg(test)]
 mod resolving;
 #[cfg(test)]
+mod tables;
+#[cfg(test)]
 mod texts;
 #[cfg(test)]
 mod unwritten;

@@ -15,7 +15,7 @@ pub(crate) fn references(alloc: Global, source: &Source) -> Result<String, Alloc
     )
 }
 
-const TABLE: &str = "
+pub(crate) const TABLE: &str = "
 Rules.
  => none
 a : b ; b : a 'x' {} ; A : A ; => none
@@ -100,27 +100,13 @@ a : 'x' # A ; b : 'x' {no}? ; => predicate 2:22
 b : 'x' {no}? ; a : 'x' # A ; => predicate 2:8
 ";
 
-const MODES: &str = "
+pub(crate) const MODES: &str = "
 A : B ; mode M; B : 'x' ; => none
 mode M; A : (( | C)) ; mode N; B : D ; => rule C
 A : 'x' -> mode(DEFAULT_MODE), pushMode(M) ; mode M; => none
 A : 'x' -> pushMode(M) ; mode m; => mode M
 B : 'x' -> mode(L) ; mode M; A : 'x' -> mode(K) ; => mode L
 ";
-
-#[test]
-fn finds_what_is_not_there(rt: HostRuntime) -> Result<(), Fail> {
-    let wrong = differing(rt.alloc(), Question::References, "grammar X;\n", TABLE)?;
-    assert_eq!(rt; wrong.as_str(), "");
-    let wrong = differing(
-        rt.alloc(),
-        Question::References,
-        "lexer grammar X;\n",
-        MODES,
-    )?;
-    assert_eq!(rt; wrong.as_str(), "");
-    Ok(())
-}
 
 const RULES: &str = "
 r% : ((r^ | {inside(r^)}? T%)) # L% | 'x' # L% ;

@@ -79,7 +79,7 @@ pub(crate) fn resolved(alloc: Global, source: &Source) -> Result<String, AllocEr
     shown(alloc, rules.as_slice())
 }
 
-const TABLE: &str = "
+pub(crate) const TABLE: &str = "
 a : 'x' b {} a ; b : c ; => a left [1] call 2 0 action call 1 0.b left call 3 0.
 a : {p}? {q}? {r}? ; => a left predicate 0 predicate 1 predicate 2.
 Right associative by an element of the alternative, or by its begin.
@@ -89,13 +89,6 @@ a : a 'x'<assoc=right> a ; => a right call 1 0 [1] call 1 0.
 a : a 'x' a<assoc=right> ; => a right call 1 0 [1] call 1 0.
 a : a ('x'<assoc=right>) ; => a left call 1 0 block.
 ";
-
-#[test]
-fn resolves(rt: HostRuntime) -> Result<(), Fail> {
-    let wrong = differing(rt.alloc(), Question::Steps, "grammar X;\n", TABLE)?;
-    assert_eq!(rt; wrong.as_str(), "");
-    Ok(())
-}
 
 /// A row with 2,000 rules, and a rule of 20,000 elements.
 fn large(alloc: Global) -> Result<String, AllocError> {

@@ -84,14 +84,21 @@ pub(crate) fn differing(
     Ok(all)
 }
 
+/// A part with a number in place of `%`, and the next one in place of `^`.
+fn part_of(alloc: Global, part: &str, number: u32) -> Result<String, AllocError> {
+    let next = number.saturating_add(1);
+    let next = format!(in alloc; "{next}")?;
+    let number = format!(in alloc; "{number}")?;
+    let part = part.replace(alloc, "%", number.as_str())?;
+    part.replace(alloc, "^", next.as_str())
+}
+
 /// A text of so many parts, in each of which its number is in place of `%`, and the next one in place of `^`.
 pub(crate) fn repeated(alloc: Global, part: &str, count: u32) -> Result<String, AllocError> {
     let mut all = String::new(alloc);
     for number in 0..count {
-        let next = format!(in alloc; "{}", number + 1)?;
-        let number = format!(in alloc; "{number}")?;
-        let part = part.replace(alloc, "%", number.as_str())?;
-        all.push_str(part.replace(alloc, "^", next.as_str())?.as_str())?;
+        let part = part_of(alloc, part, number)?;
+        all.push_str(part.as_str())?;
     }
     Ok(all)
 }

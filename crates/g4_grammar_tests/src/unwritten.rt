@@ -25,20 +25,30 @@ fn element(kind: AtomKind) -> Element<Atom> {
     })
 }
 
-/// A lexer rule `L` of this element, and then a call of the rule itself.
-fn rule(alloc: Global, first: AtomKind) -> Result<LexerRule, AllocError> {
-    let text = Text::copy_of(alloc, "L")?;
+/// This element, and then a call of the rule `L`.
+fn elements(alloc: Global, first: AtomKind) -> Result<Elements<Atom>, AllocError> {
     let call = AtomKind::Token(name(alloc)?);
     let elements = vec![in alloc; element(first), element(call)]?;
+    Ok(Elements::new(elements))
+}
+
+/// An alternative of these elements.
+fn alternatives(alloc: Global, first: AtomKind) -> Result<Sequence<LexerAlternative>, AllocError> {
     let alternative = LexerAlternative {
-        elements: Elements::new(elements),
+        elements: elements(alloc, first)?,
         commands: Sequence::new(Vec::new(alloc)),
     };
     let alternatives = vec![in alloc; alternative]?;
+    Ok(Sequence::new(alternatives))
+}
+
+/// A lexer rule `L` of this element, and then a call of the rule itself.
+fn rule(alloc: Global, first: AtomKind) -> Result<LexerRule, AllocError> {
+    let alternatives = alternatives(alloc, first)?;
     Ok(LexerRule {
         fragment: None,
-        name: text,
-        alternatives: Sequence::new(alternatives),
+        name: Text::copy_of(alloc, "L")?,
+        alternatives,
     })
 }
 

@@ -125,7 +125,7 @@ pub(crate) fn numbered(alloc: Global, source: &Source) -> Result<String, AllocEr
     }
 }
 
-const TABLE: &str = "
+pub(crate) const TABLE: &str = "
 Literals have the first types, then come lexer rules, and then other names.
 r : 'b' FOO 'a' EOF A 'b' FOO ; A : 'a' ; ID : ~'a' ; => [1] [4] [2] [65536] [2] [1] [4] | 'b'=1 'a'=2 ID=3 FOO=4 | 'b'=1 A=2 ID=3 | A=2 ID=3 FOO=4
 A literal has the type of the one rule that is that literal alone: no action, no brackets, no second such rule.
@@ -177,13 +177,6 @@ fn large(
 }
 
 #[test]
-fn numbers_tokens(rt: HostRuntime) -> Result<(), Fail> {
-    let wrong = differing(rt.alloc(), Question::Numbers, "grammar X;\n", TABLE)?;
-    assert_eq!(rt; wrong.as_str(), "");
-    Ok(())
-}
-
-#[test]
 fn numbers_many_tokens(rt: HostRuntime) -> Result<(), Fail> {
     for (rules, literals, types, wanted) in SIZES {
         let large = large(rt.alloc(), *rules, *literals, *types, wanted)?;
@@ -207,7 +200,7 @@ pub(crate) fn repetition(alloc: Global, source: &Source) -> Result<String, Alloc
     }
 }
 
-const NAMES: &str = "
+pub(crate) const NAMES: &str = "
  => none
 A : ; => none
 A : ; B : ; AB : ; BA : ; a : ; b : ; => none
@@ -216,13 +209,6 @@ a : ; b : ; b : ; a : ; => b
 A : ; B : ; C : ; B : ; C : ; => B
 A : ; b : ; A : ; A : ; b : ; => A
 ";
-
-#[test]
-fn reports_the_first_repetition(rt: HostRuntime) -> Result<(), Fail> {
-    let wrong = differing(rt.alloc(), Question::Names, "grammar X;\n", NAMES)?;
-    assert_eq!(rt; wrong.as_str(), "");
-    Ok(())
-}
 
 /// The rows of which something else is answered behind 10,000 rules.
 fn differing_behind(alloc: Global) -> Result<String, AllocError> {

@@ -1,0 +1,30 @@
+// Tables of grammars and what is answered of each, small ones and ones with large grammars.
+use crate::texts::{Question, differing};
+use crate::{checks, forms, recursion, references, resolving, vocabularies};
+use std::test::Fail;
+
+/// What is asked of each row, what stands before its text, and the rows.
+const TABLES: &[(Question, &str, &str)] = &[
+    (Question::Checks, "grammar X;\n", checks::TABLE),
+    (Question::Forms, "", forms::TABLE),
+    (Question::Recursion, "grammar X;\n", recursion::TABLE),
+    (Question::Recursion, "lexer grammar X;\n", recursion::MODES),
+    (Question::References, "grammar X;\n", references::TABLE),
+    (
+        Question::References,
+        "lexer grammar X;\n",
+        references::MODES,
+    ),
+    (Question::Steps, "grammar X;\n", resolving::TABLE),
+    (Question::Numbers, "grammar X;\n", vocabularies::TABLE),
+    (Question::Names, "grammar X;\n", vocabularies::NAMES),
+];
+
+#[test]
+fn answers_each_row(rt: HostRuntime) -> Result<(), Fail> {
+    for (question, front, table) in TABLES {
+        let wrong = differing(rt.alloc(), *question, front, table)?;
+        assert_eq!(rt; wrong.as_str(), "");
+    }
+    Ok(())
+}
