@@ -24,16 +24,18 @@ fn modes(alloc: Global, rules: &str) -> Result<Vec<Mode>, AllocError>
     }
 }
 
-/// The ranges of a set, by code points.
+/// A range, by code points.
+fn push_range(out: &mut String, first: u32, last: u32) -> Result<(), AllocError> {
+    if first == last {
+        return write!(out, "{first} ");
+    }
+    write!(out, "{first}-{last} ")
+}
+
+/// The ranges of a set.
 fn push_ranges(out: &mut String, set: &CharSet) -> Result<(), AllocError> {
     for range in set.ranges() {
-        let first = range.first as u32;
-        let last = range.last as u32;
-        if first == last {
-            write!(out, "{first} ")?;
-        } else {
-            write!(out, "{first}-{last} ")?;
-        }
+        push_range(out, range.first as u32, range.last as u32)?;
     }
     Ok(())
 }
@@ -253,14 +255,9 @@ fn literals_come_first(rt: HostRuntime) -> Result<(), Fail> {
 }
 
 /// A mode of one rule, a literal of so many characters.
-fn long_literal(alloc: Global, count: u32) -> Result<String, AllocError> {
-    let mut out = String::new(alloc);
-    write!(out, "mode M; A : '")?;
-    for _ in 0..count {
-        out.push('a')?;
-    }
-    write!(out, "' ;")?;
-    Ok(out)
+fn long_literal(alloc: Global, count: usize) -> Result<String, AllocError> {
+    let literal = "a".repeat(alloc, count)?;
+    format!(in alloc; "mode M; A : '{literal}' ;")
 }
 
 #[test]

@@ -9,7 +9,7 @@ use g4_grammar::TokenRule;
 use g4_lexnet::{LexFault, LexNet, build_lexer};
 use g4_lexrules::{LexerRules, lexer_rules_of};
 use g4_reader::{ReadFault, read_grammar};
-use g4_source::{LexerRule, Source};
+use g4_source::{LexerRule, Mode, Source};
 use g4_vocab::{NumberFault, number};
 use std::alloc::{AllocError, Global};
 use std::fmt::Write;
@@ -63,6 +63,13 @@ fn push_rules(out: &mut String, rules: &[LexerRule], types: &[u32]) -> Result<()
     Ok(())
 }
 
+/// A mode: its name, and its rules.
+fn push_mode(out: &mut String, mode: &Mode, types: &[u32]) -> Result<(), AllocError> {
+    let name = mode.name.as_str();
+    write!(out, "| {name} ")?;
+    push_rules(out, mode.rules.as_slice(), types)
+}
+
 /// All rules of a lexer: those of literals, and then the modes with theirs.
 fn shown(alloc: Global, made: &LexerRules) -> Result<String, AllocError> {
     let mut out = String::new(alloc);
@@ -70,10 +77,7 @@ fn shown(alloc: Global, made: &LexerRules) -> Result<String, AllocError> {
     push_rules(&mut out, made.literals.as_slice(), types)?;
     types = types.get(made.literals.len()..).unwrap_or(&[]);
     for mode in made.modes.as_slice() {
-        out.push_str("| ")?;
-        out.push_str(mode.name.as_str())?;
-        out.push_str(" ")?;
-        push_rules(&mut out, mode.rules.as_slice(), types)?;
+        push_mode(&mut out, mode, types)?;
         types = types.get(mode.rules.len()..).unwrap_or(&[]);
     }
     Ok(out)
@@ -184,13 +188,19 @@ fn networks_can_be_lexed_with(rt: HostRuntime) -> Result<(), Fail> {
     Ok(())
 }
 
+/// Adds so many literals.
+fn push_literals(text: &mut String, count: u32) -> Result<(), AllocError> {
+    for number in 0..count {
+        write!(text, " 'x{number}'")?;
+    }
+    Ok(())
+}
+
 /// A grammar with so many literals, and as many lexer rules.
 fn large(alloc: Global, count: u32) -> Result<String, AllocError> {
     let mut out = String::new(alloc);
     write!(out, "grammar G; s :")?;
-    for number in 0..count {
-        write!(out, " 'x{number}'")?;
-    }
+    push_literals(&mut out, count)?;
     write!(out, " ;")?;
     for number in 0..count {
         write!(out, " R{number} : 'y{number}' ;")?;

@@ -1,4 +1,6 @@
 // Matches at the front of texts, by networks written by hand.
+ghost use Rattle.g4_ordered.specs.Network.{IsLexable};
+
 use crate::lexable::is_lexable;
 use g4_base::Sequence;
 use g4_chars::CharSet;
@@ -323,6 +325,23 @@ fn push_wrong_rows(
     Ok(())
 }
 
+/// Adds the rows of a case that have another match in these modes.
+fn push_wrong_times(
+    alloc: Global,
+    net: &LexerNetwork,
+    modes: &[Sequence<Start>],
+    case: &Case<'_>,
+    wrong: &mut String,
+) -> Result<(), AllocError>
+    requires { IsLexable net.now }
+{
+    let mut matcher = Matcher::new(alloc, net, modes)?;
+    for time in 0..case.times {
+        push_wrong_rows(alloc, &mut matcher, case, time, wrong)?;
+    }
+    Ok(())
+}
+
 /// Adds what is wrong with a case whose network this is.
 fn push_wrong(
     alloc: Global,
@@ -335,11 +354,7 @@ fn push_wrong(
         return write!(wrong, "\n{name}: cannot be lexed with");
     }
     let modes = modes_of(alloc, case.modes)?;
-    let mut matcher = Matcher::new(alloc, net, modes.as_slice())?;
-    for time in 0..case.times {
-        push_wrong_rows(alloc, &mut matcher, case, time, wrong)?;
-    }
-    Ok(())
+    push_wrong_times(alloc, net, modes.as_slice(), case, wrong)
 }
 
 /// Tries a case: adds what is wrong with it.
