@@ -35,7 +35,7 @@ use Rattle.g4_build.specs.Rules.{IsDrawn, added_states}
 abbrev greedy : Suffix
 greedy = record { place = first_place; greedy = true }
 
--- the added rule lies from its loop on
+-- the added rule is laid out from its loop on
 added_lies : (net : ParserNetwork) (set : List ℕ) (start n : ℕ) → state_at net 0 ≡ Some (Call start 0 n) → state_at net n ≡ Some (Decision ((n + 1) ∷ (n + 3) ∷ [])) → state_at net (n + 1) ≡ Some (Edge set (n + 2)) →
     state_at net (n + 2) ≡ Some (Empty n) → state_at net (n + 3) ≡ Some (Edge (end_of_list ∷ []) (n + 4)) → state_at net (n + 4) ≡ Some (Empty 1) → LiesAsRule net 0 (added_rule set start) n (n + 5)
 added_lies net set start n calls turns takes again leaves last =
@@ -137,7 +137,7 @@ module _ (set : List ℕ) (rules : List StepRule) (numberings : List Numbering) 
   abbrev all_trees : List (Alternatives (Step (List ℕ)))
   all_trees = added_rule set start ∷ map alternatives_of rules
 
-  -- the rules lie in each network of these states
+  -- the rules are laid out in each network of these states
   pub rules_lie : (net : ParserNetwork) → net.states ≡ s2 → RulesLie net 0 all_trees (2 * length rules + 2) (length s2)
   rules_lie net same =
       let n : ℕ = length s0 in

@@ -29,14 +29,14 @@ pub record NotYet (All Rest : ℕ → Type 0) : Type 0 where
 pub first_left : (P : ℕ → Type 0) → NotYet P P
 first_left P = record { to = λ h. h; from = λ h. h }
 
--- one more is passed, of which a test tells that it has no such decision
+-- one more is passed: a test shows that it has no such decision
 pub one_passed : (All This Next : ℕ → Type 0) (test : Bool) → IsTrue test ↔ IsWide This → test ≡ false → NotYet All (λ n. This n ⊎ Next n) → NotYet All Next
 one_passed All This Next test told fails w = record {
   to = λ h. w.to (h.0, inr h.1, h.2);
   from = λ h. let r = w.from h in elim r.1 [ inl this ↦ absurd (let e : test ≡ true = told.1 (r.0, this, r.2) in cc) | inr next ↦ (r.0, next, r.2) ];
 }
 
--- one is found, of which a test tells that it has such a decision
+-- one is found: a test shows that it has such a decision
 pub one_found : (All This Next : ℕ → Type 0) (test : Bool) → IsTrue test ↔ IsWide This → test ≡ true → NotYet All (λ n. This n ⊎ Next n) → IsTrue true ↔ IsWide All
 one_found All This Next test told holds w = (λ h. let this = told.0 holds in w.to (this.0, inl this.1, this.2), λ h. refl)
 
@@ -44,7 +44,7 @@ one_found All This Next test told holds w = (λ h. let this = told.0 holds in w.
 pub atom_not_wide : {A : Type 0} (x : Node A) (a : A) → x ≡ nodes.Atom a → IsWide (HasDecision (element_of x)) → ⊥
 atom_not_wide {A} x a is h = (subst (λ (y : Element A). IsWide (HasDecision y)) (plain_atom x a is) h).1
 
--- of a block whose alternatives may be taken so often, its own decision or one inside
+-- of a block with this repeat, its own decision or one inside
 wide_repeated : {A : Type 0} (label : Option Label) (repeat : Repeat) (xs : Alternatives A) → IsWide (HasDecision (block label repeat xs)) ↔ ((1024 < number_of xs + ways_to_exit repeat) ⊎ IsWide (SomeHasDecision xs))
 wide_repeated label Once xs = (
   λ h. elim h.1 [ inl own ↦ inl (omega (arith, h.2, own.1)) | inr inside ↦ inr (h.0, inside, h.2) ],
@@ -80,11 +80,11 @@ wide_rule {A} rule xs is =
     let h = subst (λ (n : ℕ). IsWide (HasDecision (block None Once sides)) ↔ ((1024 < n + ways_to_exit Once) ⊎ IsWide (SomeHasDecision sides))) (number_of_sides tree xs) (wide_repeated None Once sides) in
     subst (λ (ys : List (RuleAlternative A)). IsWide (RuleHasDecision (either (map tree ys))) ↔ ((1024 < length xs + ways_to_exit Once) ⊎ IsWide (SomeHasDecision sides))) is h
 
--- a test that holds tells of either
+-- where the first test holds, it decides
 pub told_first : (P Q R : Type 0) (b : Bool) → R ↔ (P ⊎ Q) → IsTrue b ↔ P → b ≡ true → IsTrue b ↔ R
 told_first P Q R b either first holds = (λ h. either.1 (inl (first.0 h)), λ h. holds)
 
--- where the first test fails the second tells
+-- where the first test fails, the second decides
 pub told_second : (P Q R : Type 0) (a b : Bool) → R ↔ (P ⊎ Q) → IsTrue a ↔ P → a ≡ false → IsTrue b ↔ Q → IsTrue b ↔ R
 told_second P Q R a b either first fails second = (
   λ h. either.1 (inr (second.0 h)),

@@ -11,7 +11,7 @@ use g4_source::{ParserRule, RuleAlternative};
 /// The most alternatives that a decision has, the exit branch counted.
 const MOST_ALTERNATIVES: usize = 1_024;
 
-/// Whether a decision over so many bodies, which may be taken so often, has too many alternatives.
+/// Whether a decision over this many bodies, with this repeat, has too many alternatives.
 fn is_too_many(repeat: Repeat, bodies: usize) -> bool
     ensures { IsTrue result ↔ most_alternatives < bodies + ways_to_exit repeat }
 {

@@ -19,7 +19,7 @@ skips : (b : Bool) (m n : ℕ) → b ≡ false → m ≡ cond b 1 0 + n → m �
 skips true m n is e = absurd (cc)
 skips false m n is e = omega arith
 
--- where the tests pass up to a place and no further, so many pass
+-- where the tests pass up to a place and no further, that many pass
 pub counted : (p : ℕ → Bool) (xs : List ℕ) (i : ℕ) → i ≤ length xs → ((k : ℕ) → k < i → p (get_or xs k 0) ≡ true) → ((k : ℕ) → i ≤ k → k < length xs → p (get_or xs k 0) ≡ false) → i ≡ count_by p xs
 counted p [] i le first rest = omega arith
 counted p (x ∷ xs) zero le first rest =
@@ -66,6 +66,6 @@ same_has bounds (r ∷ rs) a b all same (inl w) = inl (
 )
 same_has bounds (r ∷ rs) a b all same (inr more) = inr (same_has bounds rs a b (λ x c. let n = c.1 in all x (suc (suc c.0), omega arith, c.2)) same more)
 
--- so characters of one class are not told apart
+-- so characters of one class are not distinguished
 pub alike : (net : LexerNetwork) (bounds : List ℕ) → AreBounds net bounds → AreAlikeBy net bounds
 alike net bounds h a b same p t set is = (same_has bounds set a b (λ x c. h p t x set is c) same, same_has bounds set b a (λ x c. h p t x set is c) (sym same))

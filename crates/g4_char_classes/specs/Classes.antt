@@ -8,7 +8,7 @@ use Rattle.g4_net.specs.Network.{state_at}
 use Rattle.g4_ordered.specs.declared.network.Reads.TheVariants.{Characters}
 use Rattle.g4_ordered.specs.Network.{LexerNetwork}
 
--- no edge of the network tells the characters apart
+-- no edge of the network distinguishes the characters
 abbrev pub AreAlike : LexerNetwork → ℕ → ℕ → Type 0
 AreAlike net a b = (p t : ℕ) (set : List Range) → state_at net p ≡ Some (Edge (Characters set) t) → Has set a ↔ Has set b
 
@@ -16,7 +16,7 @@ AreAlike net a b = (p t : ℕ) (set : List Range) → state_at net p ≡ Some (E
 abbrev pub class_in : List ℕ → ℕ → ℕ
 class_in bounds a = count_by (λ b. nat_le b a) bounds
 
--- characters of one class are not told apart
+-- characters of one class are not distinguished
 abbrev pub AreAlikeBy : LexerNetwork → List ℕ → Type 0
 AreAlikeBy net bounds = (a b : ℕ) → class_in bounds a ≡ class_in bounds b → AreAlike net a b
 

@@ -1,4 +1,4 @@
-// Classes of characters that no edge of a lexer's network tells apart.
+// Classes of characters that no edge of a lexer's network distinguishes.
 #![tactic(auto)]
 
 mod bounds;

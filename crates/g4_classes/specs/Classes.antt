@@ -1,4 +1,4 @@
--- Symbols that no edge of a parser's network tells apart.
+-- Symbols that no edge of a parser's network distinguishes.
 use Rattle.std.specs.Prelude.{◌≡◌, ◌≤◌, ◌⊎◌, ◌↔◌, ℕ, List, Some, Contains}
 use Rattle.g4_symbols.specs.declared.symbol.TheConstants.{MOST_TYPES}
 use Rattle.g4_symbols.specs.Symbols.{eof, end_of_list}

@@ -28,8 +28,8 @@ impl Model for Classes {
 }
 
 impl Classes {
-    /// The least symbol that no edge tells apart from this one, and the number itself where it is no symbol. One look-up, and no
-    /// memory.
+    /// The least symbol that no edge distinguishes from this one, and the number itself where it is no symbol. One look-up, and
+    /// no memory.
     pub fn class_of(&self, symbol: u32) -> u32
         ensures { result ≡ class_in self.now symbol }
     {

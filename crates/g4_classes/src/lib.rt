@@ -1,4 +1,4 @@
-// Classes of symbols that no edge of a parser's network tells apart. A class is named by its least symbol.
+// Classes of symbols that no edge of a parser's network distinguishes. A class is named by its least symbol.
 #![tactic(auto)]
 
 mod classes;

@@ -33,7 +33,7 @@ fn are_of(groups: &[Group], alternative: u32) -> bool
     groups.iter().all(|group| group.alternative == alternative)
 }
 
-/// The one alternative of what the groups lead to, where that can be told without making the set.
+/// The one alternative of what the groups lead to, where that can be decided without making the set.
 fn sole_alternative(net: &ParserNetwork, set: &Configs, groups: &[Group]) -> Option<u32>
     requires well_formed { WellFormed net.now }
     requires few { length net.now.states ≤ MOST_STATES }
@@ -61,7 +61,7 @@ fn left_in(set: Configs) -> Left
     }
 }
 
-/// What is left after a symbol. Where all edges that take it are of one alternative, it is mostly told without making the next set.
+/// What is left after a symbol. Where all edges that take it are of one alternative, it is mostly found without the next set.
 pub fn left_after(
     alloc: Global,
     net: &ParserNetwork,

@@ -1,5 +1,5 @@
--- An alternative that can be told near covers what takes the symbol, with the return states below, so full stacks choose it or none
--- is viable.
+-- An alternative that can be decided nearby covers what takes the symbol, with the return states below, so full stacks choose it
+-- or none is viable.
 use Rattle.std.proofs.Common.{◌≡◌, ◌≤◌, ◌⊎◌, inl, inr, ℕ, List, [], ◌∷◌, ◌++◌, append_assoc, refl, sym, ◌∙◌, ap, subst, All}
 use Rattle.std.proofs.lemmas.List.Elements.{All-nil, All-head, All-tail, All-push}
 use Rattle.g4_net.specs.Configurations.{Stack, Config, config, above_bottom}

@@ -1,5 +1,5 @@
--- When an alternative of a decision can be told near: from what the decision leads to before its rule ends, and from the newest
--- return states of the parser's stack.
+-- When an alternative of a decision can be decided nearby: from what the decision leads to before its rule ends, and from the
+-- newest return states of the parser's stack.
 use Rattle.std.specs.Prelude.{◌≡◌, ◌≤◌, ◌⊎◌, ℕ, List, [], ◌∷◌, ◌++◌, All, Some}
 use Rattle.g4_net.specs.Configurations.{Config, config, above_bottom}
 use Rattle.g4_net.specs.declared.network.State.TheVariants.{End}
@@ -45,9 +45,9 @@ pub record AreNear (net : ParserNetwork) (N : Config → Type 0) (a i j : ℕ) (
   pub each : All (IsPassed net N a i j) passed
   pub stops : StopsAt net a j others
 
--- Alternative i can be told near on the symbol: it has all that takes the symbol before the decision's rule ends, and no alternative
--- that takes it there or that leads to the end of the rule is less. From each other alternative that leads to the end, the return
--- states are near.
+-- Alternative i can be decided nearby on the symbol: it has all that takes the symbol before the decision's rule ends, and no
+-- alternative that takes it there or that leads to the end of the rule is less. From each other alternative that leads to the
+-- end, the return states are near.
 pub record IsNear (net : ParserNetwork) (d : ℕ) (A : ℕ → Type 0) (returns : List ℕ) (a i : ℕ) : Type 0 where
   pub own : (c : Config) → Takers net (Own net d A) a c → (i ≤ c.alt) × Own net d A (config c.state i c.stack)
   pub leaving : (c : Config) → Firsts net d A (above_bottom []) c → Leaves net c → (i ≤ c.alt) × ((c.alt ≡ i) ⊎ AreNear net (Own net d A) a i c.alt returns)

@@ -17,7 +17,7 @@ pub fn covering_chooses()
     ensures { (net : ParserNetwork) (d : ℕ) (allowed : Allowed) (returns : List ℕ) (a i : ℕ) (w : List ℕ) (c : Choice) → Covers net (Takers net (Start net d (Allows allowed) (above_bottom returns)) a) i → IsLeast (Takers net (Start net d (Allows allowed) (above_bottom returns)) a) i → Full net d (Allows allowed) (above_bottom returns) (a ∷ w) c → (c ≡ chosen i) ⊎ ((k : ℕ) × (c ≡ no_viable k)) }
 {}
 
-/// Where an alternative can be told near on the first symbol, full stacks choose it, or none is viable.
+/// Where an alternative can be decided nearby on the first symbol, full stacks choose it, or none is viable.
 pub fn near_chooses()
     ensures { (net : ParserNetwork) (d : ℕ) (allowed : Allowed) (returns : List ℕ) (a i : ℕ) (w : List ℕ) (c : Choice) → IsNear net d (Allows allowed) returns a i → Full net d (Allows allowed) (above_bottom returns) (a ∷ w) c → (c ≡ chosen i) ⊎ ((k : ℕ) × (c ≡ no_viable k)) }
 {}

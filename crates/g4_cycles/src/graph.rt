@@ -14,7 +14,7 @@ pub fn row(graph: &[Vec<u32>], node: u32) -> &[u32]
     }
 }
 
-/// A graph of so many nodes without an edge.
+/// A graph with this many nodes and no edge.
 fn without_edges(alloc: Global, nodes: usize) -> Result<Vec<Vec<u32>>, AllocError>
     ensures size { IfOk result (λ graph. length graph.items ≡ nodes) }
     ensures none { IfOk result (λ graph. (k : ℕ) → successors_of graph.items k ≡ []) }

@@ -73,7 +73,7 @@ none_left r spare part count is less more = rw is (omega arith)
 pub left_of : (r : Option ℕ) (spare n m : ℕ) → n ≡ m → MatchOption r (spare < n) (λ left. left + n ≡ spare) → MatchOption r (spare < m) (λ left. left + m ≡ spare)
 left_of r spare n m e h = rw (sym e) h
 
--- so many more are taken
+-- k more are taken
 pub less_some : (r : Option ℕ) (spare left n k m : ℕ) → SomeIff r (k ≤ left) (left - k) → left + n ≡ spare → n + k ≡ m → MatchOption r (spare < m) (λ left. left + m ≡ spare)
 less_some None spare left n k m is e more = omega (arith, is)
 less_some (Some rest) spare left n k m is e more = omega (arith, is.0, is.1)

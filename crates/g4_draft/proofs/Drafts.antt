@@ -1,4 +1,4 @@
--- States that are filled and made lie by the table, whatever the labels are.
+-- States that are filled and made are laid out by the table, whatever the labels are.
 use Rattle.std.proofs.Common.{◌≡◌, ◌≢◌, ℕ, zero, suc, ◌+◌, ◌<◌, ◌≤◌, ◌⊎◌, inl, inr, List, [], ◌∷◌, ◌++◌, length, refl, ◌∙◌, ap, subst, arith, get_or, slice_get, Some}
 use Rattle.std.proofs.Math.ListN.{set}
 use Rattle.std.proofs.lemmas.List.{length-set, length-append}
@@ -124,11 +124,11 @@ module _ {L : Type 0} where
       let longer : length old ≡ length base + states_of_bodies xs = beside.size in
       closing.inner p (omega arith) ne (λ h. omega (arith, (beside.inside p h).0)) ∙ beside.grown p less (λ e. omega arith)
 
-  -- where the last states stand
+  -- where the last states are
   above : (base old : List (State L)) (s : ℕ) (firsts lasts : List ℕ) (xs : Alternatives (Step L)) → s < length base → AreBeside base old firsts lasts xs → (p : ℕ) → Among lasts p → (s < p) × (p < length old)
   above base old s firsts lasts xs below beside p h = (omega (arith, (beside.inside p h).0), (beside.inside p h).1)
 
-  -- `*` lies
+  -- `*` is laid out
   star_laid : (base old new : List (State L)) (s t : ℕ) (firsts lasts : List ℕ) (xs : Alternatives (Step L)) (sign : Suffix) → s < length base → AreBeside base old firsts lasts xs → t ≡ length old →
       new ≡ starred sign.greedy s firsts lasts old → BlockIsLaid base new s t (Star sign) xs
   star_laid base old new s t firsts lasts xs sign below beside end_at is label =
@@ -147,7 +147,7 @@ module _ {L : Type 0} where
             rw (size, end_at) (lay.a_star label sign xs firsts lasts s (length base) (length old) has.start has.sides has.leads);
       }
 
-  -- `?` lies
+  -- `?` is laid out
   optional_laid : (base old new : List (State L)) (s t : ℕ) (firsts lasts : List ℕ) (xs : Alternatives (Step L)) (sign : Suffix) → s < length base → AreBeside base old firsts lasts xs → t ≡ length old + 1 →
       new ≡ passed_by sign.greedy s firsts lasts old → BlockIsLaid base new s t (Optional sign) xs
   optional_laid base old new s t firsts lasts xs sign below beside end_at is label =
@@ -167,7 +167,7 @@ module _ {L : Type 0} where
             rw (size, end_at) (lay.an_optional label sign xs firsts lasts s (length base) (length old) has.start has.sides has.leads exit);
       }
 
-  -- a block of several lies
+  -- a block of several is laid out
   joined_laid : (base old new : List (State L)) (s t : ℕ) (firsts lasts : List ℕ) (xs : Alternatives (Step L)) → s < length base → AreBeside base old firsts lasts xs → 2 ≤ length firsts →
       states_of_block Once xs ≡ states_of_bodies xs + 1 → t ≡ length old → new ≡ joined s firsts lasts old → BlockIsLaid base new s t Once xs
   joined_laid base old new s t firsts lasts xs below beside many count end_at is label =
@@ -186,7 +186,7 @@ module _ {L : Type 0} where
             rw (size, end_at) (lay.a_block label xs firsts lasts s (length base) (length old) many has.start has.sides has.leads);
       }
 
-  -- `+` lies
+  -- `+` is laid out
   plus_laid : (base old new : List (State L)) (s t : ℕ) (firsts lasts : List ℕ) (xs : Alternatives (Step L)) (sign : Suffix) → s < length base → AreBeside base old firsts lasts xs → 1 ≤ length firsts →
       t ≡ length old + 1 → new ≡ repeated_once sign.greedy s firsts lasts old → BlockIsLaid base new s t (Plus sign) xs
   plus_laid base old new s t firsts lasts xs sign below beside many end_at is label =
@@ -213,7 +213,7 @@ module _ {L : Type 0} where
       lies net (a ∷ []) low start sides leads decision = lay.a_plus_of_one label sign xs a lasts s (length base) (length old) start sides leads decision
       lies net (a ∷ b ∷ more) low start sides leads decision = lay.a_plus label sign xs (a ∷ b ∷ more) lasts s (length base) (length old) (omega arith) start sides leads decision
 
-  -- a block whose alternatives are side by side lies
+  -- a block whose alternatives are side by side is laid out
   pub block_laid : (base old new : List (State L)) (s t : ℕ) (repeat : Repeat) (firsts lasts : List ℕ) (xs : Alternatives (Step L)) → s < length base → AreBeside base old firsts lasts xs → AreApart repeat (length firsts) →
       states_of_block repeat xs ≡ states_of_bodies xs + states_after repeat → t + 1 ≡ length old + states_after repeat → new ≡ closed repeat s firsts lasts old → BlockIsLaid base new s t repeat xs
   block_laid base old new s t Once firsts lasts xs below beside apart count end_at is = joined_laid base old new s t firsts lasts xs below beside apart count (omega arith) is
@@ -221,7 +221,7 @@ module _ {L : Type 0} where
   block_laid base old new s t (Star sign) firsts lasts xs below beside apart count end_at is = star_laid base old new s t firsts lasts xs sign below beside (omega arith) is
   block_laid base old new s t (Plus sign) firsts lasts xs below beside apart count end_at is = plus_laid base old new s t firsts lasts xs sign below beside apart (omega arith) is
 
-  -- the network lies where its step does
+  -- a step is laid out where its state is
   step_lies : (net : Network L) (step : Step L) (s n : ℕ) → state_at net s ≡ Some (state_of step n) → Lies net (atom step) s n n (n + 1)
   step_lies net (Edge label) s n at = lay.an_edge label s n at
   step_lies net (Call rule level) s n at = lay.a_call rule level s n at
@@ -230,7 +230,7 @@ module _ {L : Type 0} where
   step_lies net Action s n at = lay.an_action s n at
   step_lies net steps.Empty s n at = lay.an_empty s n at
 
-  -- one step lies
+  -- one step is laid out
   pub step_laid : (old new : List (State L)) (s t : ℕ) (step : Step L) → s < length old → t ≡ length old → new ≡ stepped s step old → IsLaid old new s t (atom step)
   step_laid old new s t step below end_at is =
       let d : State L = state_of step (length old) in

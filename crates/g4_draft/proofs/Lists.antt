@@ -4,7 +4,7 @@ use Rattle.std.proofs.Math.ListN.{set}
 use Rattle.std.proofs.lemmas.List.{length-append}
 
 module _ {X : Type 0} where
-  -- what is written stands there
+  -- what is written is there
   pub get_set_same : (xs : List X) (i : ℕ) (x : X) → i < length xs → slice_get (set xs i x) i ≡ Some x
   get_set_same [] i x less = absurd (omega arith)
   get_set_same (y ∷ xs) zero x less = refl
@@ -18,7 +18,7 @@ module _ {X : Type 0} where
   get_set_other (y ∷ xs) (suc i) zero x ne = refl
   get_set_other (y ∷ xs) (suc i) (suc q) x ne = get_set_other xs i q x (λ e. ne (ap suc e))
 
-  -- what stands in a list after a write was written or stood there before
+  -- what is in a list after a write was written or was there before
   pub set_cases : (xs : List X) (i q : ℕ) (x y : X) → slice_get (set xs i x) q ≡ Some y → (x ≡ y) ⊎ (slice_get xs q ≡ Some y)
   set_cases [] i q x y e = inr e
   set_cases (z ∷ xs) zero zero x y e = inl cc
@@ -38,7 +38,7 @@ module _ {X : Type 0} where
   get_right (x ∷ xs) ys zero j is = absurd (omega arith)
   get_right (x ∷ xs) ys (suc q) j is = get_right xs ys q j (omega arith)
 
-  -- what stands in two lists stands in one of them
+  -- what is in two joined lists is in one of them
   pub append_cases : (xs ys : List X) (q : ℕ) (x : X) → slice_get (xs ++ ys) q ≡ Some x → (slice_get xs q ≡ Some x) ⊎ ((j : ℕ) × (slice_get ys j ≡ Some x))
   append_cases [] ys q x e = inr (q, e)
   append_cases (y ∷ xs) ys zero x e = inl e

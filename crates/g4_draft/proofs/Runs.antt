@@ -20,7 +20,7 @@ rising_more [] n k m low high = (low, omega arith)
 rising_more (p ∷ ps) n k m (low, rest) high = (low, rising_more ps (p + 1) k m rest high)
 
 module _ {L : Type 0} where
-  -- the elements before the rest lie from s to t
+  -- the elements before the rest are laid out from s to t
   pub record HasLaid (old now : List (State L)) (s t : ℕ) (all rest : Elements (Step L)) : Type 0 where
     pub size : length now + states_in_order rest ≡ length old + states_in_order all
     pub after : (t ≡ s) ⊎ (length old ≤ t)
@@ -81,7 +81,7 @@ module _ {L : Type 0} where
         lie = λ net shares. so_far.lie net shares t (length new) (lay.no_more t (length new));
       }
 
-  -- a block of one alternative lies as that alternative
+  -- a block of one alternative is laid out as that alternative
   pub lone_laid : (old new : List (State L)) (s t : ℕ) (x : Elements (Step L)) → AreLaid old new s t x → BlockIsLaid old new s t Once (only x)
   lone_laid old new s t x laid label =
       let size : length new ≡ length old + states_in_order x = laid.size in
@@ -93,7 +93,7 @@ module _ {L : Type 0} where
         lies = λ net shares. lay.one_alternative label x s t (length old) (length new) (laid.lie net shares);
       }
 
-  -- the alternatives before the rest lie side by side
+  -- the alternatives before the rest are laid out side by side
   pub record HasSides (old now : List (State L)) (firsts lasts : List ℕ) (all rest : Alternatives (Step L)) : Type 0 where
     pub size : length now + states_of_bodies rest ≡ length old + states_of_bodies all
     pub longer : length old ≤ length now

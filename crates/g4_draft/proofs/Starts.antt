@@ -1,4 +1,4 @@
--- The numbers of rules that lie can be written, where their numberings fit.
+-- The numbers of rules that are laid out can be written, where their numberings fit.
 use Rattle.std.proofs.Common.{◌≡◌, ℕ, ◌+◌, ◌≤◌, inl, inr, List, [], ◌∷◌, length, sym, ◌∙◌, subst, arith}
 use Rattle.g4_elements.specs.Elements.{atom, block, Elements, Alternatives, none, or}
 use Rattle.g4_elements.specs.declared.element.Repeat.TheVariants.{Once, Optional, Star, Plus}
@@ -40,7 +40,7 @@ module _ {L : Type 0} where
       let spans = in_order_spans ls in let up = spans.up in
       (firsts, is, sym (as_many sides) ∙ begins, rising_wider n n firsts u m (firsts_rise sides) (omega arith) (omega arith))
 
-  -- a rule that lies can start with alternatives of these numbers
+  -- a rule that is laid out can start with alternatives of these numbers
   starts_laid : (net : Network L) {rule n m : ℕ} {xs : Alternatives (Step L)} (starts : List ℕ) → LiesAsRule net rule xs n m → CanStartWith xs starts → StartsAreLaid net.states rule starts n m
   starts_laid net [] l can = absurd can
   starts_laid net (i ∷ []) l can = tt
@@ -51,7 +51,7 @@ module _ {L : Type 0} where
   starts_laid net (i ∷ j ∷ more) (lay.of_several rule n m (or x none) firsts lasts two is l leads) (inr begins) = absurd (let one = one_first l in omega arith)
   starts_laid net (i ∷ j ∷ more) (lay.of_several rule n m (or x (or y ys)) firsts lasts two is l leads) (inr begins) = absurd begins
 
-  -- the numbers of rules that lie can be written
+  -- the numbers of rules that are laid out can be written
   pub can_all : (net : Network L) (rule n m : ℕ) (rules : List (Alternatives (Step L))) (numberings : List Numbering) → RulesLie net rule rules n m → NumberingsFit rules numberings → m ≡ length net.states →
       CanAllBeNumbered net.states rule n (ends_from n rules) numberings
   can_all net rule n m _ [] (lay.no_rule _ _) fit last = last

@@ -31,7 +31,7 @@ Grows old new s = (p : ℕ) → p < length old → p ≢ s → slice_get new p �
 abbrev pub Shares : {L : Type 0} → Network L → List (State L) → ℕ → ℕ → ℕ → Type 0
 Shares net states s n t = (p : ℕ) → (p ≡ s) ⊎ (n ≤ p) → p < length states → p ≢ t → state_at net p ≡ slice_get states p
 
--- the element lies from s to t, its other states being new
+-- the element is laid out from s to t, its other states being new
 pub record IsLaid {L : Type 0} (old new : List (State L)) (s t : ℕ) (x : Element (Step L)) : Type 0 where
   pub size : length new ≡ length old + states_of x
   pub after : (t ≡ s) ⊎ (length old ≤ t)
@@ -39,7 +39,7 @@ pub record IsLaid {L : Type 0} (old new : List (State L)) (s t : ℕ) (x : Eleme
   pub grown : Grows old new s
   pub lies : (net : Network L) → Shares net new s (length old) t → Lies net x s t (length old) (length new)
 
--- elements one after another lie so
+-- elements one after another are laid out so
 pub record AreLaid {L : Type 0} (old new : List (State L)) (s t : ℕ) (xs : Elements (Step L)) : Type 0 where
   pub size : length new ≡ length old + states_in_order xs
   pub after : (t ≡ s) ⊎ (length old ≤ t)
@@ -47,7 +47,7 @@ pub record AreLaid {L : Type 0} (old new : List (State L)) (s t : ℕ) (xs : Ele
   pub grown : Grows old new s
   pub lie : (net : Network L) → Shares net new s (length old) t → LieInOrder net xs s t (length old) (length new)
 
--- a block of these alternatives, which may be taken so often, lies so, whatever its label is
+-- a block of these alternatives, with this repeat, is laid out so, whatever its label is
 abbrev pub BlockIsLaid : {L : Type 0} → List (State L) → List (State L) → ℕ → ℕ → Repeat → Alternatives (Step L) → Type 0
 BlockIsLaid old new s t repeat xs = (label : Option Label) → IsLaid old new s t (block label repeat xs)
 
@@ -60,7 +60,7 @@ abbrev pub IsRising : ℕ → List ℕ → ℕ → Type 0
 IsRising n [] m = n ≤ m
 IsRising n (p ∷ more) m = (n ≤ p) × IsRising (p + 1) more m
 
--- alternatives lie side by side from these first states to these last ones, all of them new
+-- alternatives are laid out side by side from these first states to these last ones, all of them new
 pub record AreBeside {L : Type 0} (old new : List (State L)) (firsts lasts : List ℕ) (xs : Alternatives (Step L)) : Type 0 where
   pub size : length new ≡ length old + states_of_bodies xs
   pub rising : IsRising (length old) firsts (length new)
@@ -105,7 +105,7 @@ abbrev pub repeated_once : {L : Type 0} → Bool → ℕ → List ℕ → List �
 repeated_once greedy s firsts lasts states =
     linked (length states) lasts (slice_set states s (choice_of firsts)) ++ Decision (with_exit greedy firsts (length states + 1)) ∷ Empty 0 ∷ []
 
--- the states after the bodies of a block that may be taken so often
+-- the states after the bodies of a block with this repeat
 abbrev pub closed : {L : Type 0} → Repeat → ℕ → List ℕ → List ℕ → List (State L) → List (State L)
 closed Once s firsts lasts states = joined s firsts lasts states
 closed (Optional sign) s firsts lasts states = passed_by sign.greedy s firsts lasts states
@@ -119,7 +119,7 @@ states_after (Optional sign) = 2
 states_after (Star sign) = 1
 states_after (Plus sign) = 2
 
--- so many alternatives of such a block are laid side by side: one that is taken once is not
+-- n alternatives of such a block are laid out side by side: a single one of a block that is taken once is not
 abbrev pub AreApart : Repeat → ℕ → Type 0
 AreApart Once n = 2 ≤ n
 AreApart (Optional sign) n = 1 ≤ n

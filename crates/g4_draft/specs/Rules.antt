@@ -24,7 +24,7 @@ AreFullTrees (xs ∷ more) = TreeIsFull xs × AreFullTrees more
 abbrev pub SharesRule : {L : Type 0} → Network L → List (State L) → ℕ → ℕ → Type 0
 SharesRule net states rule n = (p : ℕ) → (p ≡ start_of rule) ⊎ (n ≤ p) → p < length states → state_at net p ≡ slice_get states p
 
--- the rule lies, its other states being new
+-- the rule is laid out, its other states being new
 pub record RuleIsLaid {L : Type 0} (old new : List (State L)) (rule : ℕ) (xs : Alternatives (Step L)) : Type 0 where
   pub size : length new ≡ length old + states_of_rule xs
   pub grown : Grows old new (start_of rule)
@@ -42,11 +42,11 @@ SharesRules net states rule n = (p : ℕ) → IsBefore rule n p → p < length s
 abbrev pub StartsNone : ℕ → ℕ → ℕ → Type 0
 StartsNone first rule p = (j : ℕ) → first ≤ j → j < rule → p ≢ start_of j
 
--- each of so many rules from the first on ends in its end state
+-- each of `count` rules from the first on ends in its end state
 abbrev pub HaveEnds : {L : Type 0} → Network L → ℕ → ℕ → Type 0
 HaveEnds net first count = (j : ℕ) → first ≤ j → j < first + count → state_at net (end_of j) ≡ Some (End j)
 
--- The rules from the first up to this one lie, the rest being the last of all; their other states are new.
+-- The rules from the first up to this one are laid out, the rest being the last of all; their other states are new.
 pub record HaveLaid {L : Type 0} (first : ℕ) (old now : List (State L)) (rule : ℕ) (all rest : List (Alternatives (Step L))) : Type 0 where
   pub size : length now + sum_by states_of_rule rest ≡ length old + sum_by states_of_rule all
   pub longer : length old ≤ length now
@@ -58,7 +58,7 @@ abbrev pub ends_from : {A : Type 0} → ℕ → List (Alternatives A) → List �
 ends_from n [] = []
 ends_from n (xs ∷ more) = (n + states_of_rule xs) ∷ ends_from (n + states_of_rule xs) more
 
--- the starts and ends of so many rules, the starts being open
+-- the starts and ends of `count` rules, the starts being open
 pub record HasHeads {L : Type 0} (count : ℕ) (states : List (State L)) : Type 0 where
   pub size : length states ≡ 2 * count
   pub ends : (j : ℕ) → j < count → slice_get states (end_of j) ≡ Some (End j)

@@ -8,7 +8,7 @@ use g4_net::State;
 use std::alloc::{AllocError, Global};
 use std::mem;
 
-/// So many empty lists.
+/// `count` empty lists.
 fn empty_lists(alloc: Global, count: u32) -> Result<Vec<Sequence<u32>>, AllocError>
     ensures { IfOk result (λ lists. lists.items ≡ replicate count []) }
 {
@@ -39,7 +39,7 @@ fn add_return(
     Ok(())
 }
 
-/// For each of so many rules the return states of its calls, in order of the states that call.
+/// For each of `count` rules the return states of its calls, in order of the states that call.
 pub fn callers<L>(
     alloc: Global,
     states: &[State<L>],

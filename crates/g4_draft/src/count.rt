@@ -1,4 +1,4 @@
-// How many states rules make in a network, as far as so many are to spare.
+// How many states rules make in a network, as far as that many are to spare.
 ghost use Rattle.std.specs.Prelude.{◌≡◌, ◌<◌, ◌+◌, MatchOption, map, sum_by};
 ghost use Rattle.g4_elements.specs.Elements.{either};
 ghost use Rattle.g4_elements.specs.Trees.{element_of, alternative_of, in_order};
@@ -23,7 +23,7 @@ fn past_element<A: Atomic>(spare: usize, element: &Element<A>) -> Option<usize>
     }
 }
 
-/// The same beyond a block of these alternatives, which may be taken so often.
+/// The same beyond a block of these alternatives, with this repeat.
 #[cycle(count)]
 fn past_block<A: Atomic>(
     spare: usize,

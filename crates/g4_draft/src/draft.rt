@@ -224,7 +224,7 @@ fn lay_element<A: Atom>(
     }
 }
 
-/// Lays a block of these alternatives, which may be taken so often.
+/// Lays a block of these alternatives, with this repeat.
 #[cycle(lay)]
 fn lay_block<A: Atom>(
     alloc: Global,

@@ -9,7 +9,7 @@ use g4_grammar::Numbering;
 use g4_net::State;
 use std::alloc::{AllocError, Global};
 
-/// So many zeros.
+/// `count` zeros.
 ///
 /// # Errors
 /// No memory.
@@ -23,7 +23,7 @@ pub fn zeros(alloc: Global, count: usize) -> Result<Vec<u32>, AllocError>
     Ok(numbers)
 }
 
-/// The number at a state of a rule of so many alternatives, where the rule does not start with one of them.
+/// The number at a state of a rule of `count` alternatives, where the rule does not start with one of them.
 fn number_at<L>(count: u32, state: &State<L>) -> u32
     requires { count + 1 < 2 ^ 32 }
     ensures { result ≡ number_by count (Some state.now) }

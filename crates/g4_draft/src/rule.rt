@@ -14,7 +14,7 @@ use g4_base::Sequence;
 use g4_net::State;
 use std::alloc::{AllocError, Global};
 
-/// The starts and ends of so many rules.
+/// The starts and ends of `count` rules.
 ///
 /// # Errors
 /// No memory.

@@ -6,7 +6,7 @@ use Rattle.g4_forms.specs.Answers.{AreRun, TellsFirst}
 use Rattle.g4_forms.specs.declared.fault.FormFault.{FormFault}
 use Rattle.g4_forms.specs.declared.fault.FormFault.TheVariants.{NotRun, NoMemory}
 
--- of these forms at most one fault is told
+-- of these forms at most one fault is reported
 one_first : (forms : List Form) (e f : FormFault) → TellsFirst forms e → TellsFirst forms f → e ≢ NoMemory → f ≢ NoMemory → e ≡ f
 one_first [] (NotRun place characters) f p q n m = absurd p
 one_first (form ∷ more) (NotRun place characters) (NotRun other others) p q n m = rw (p.0, p.1, q.0, q.1) refl
@@ -14,7 +14,7 @@ one_first (form ∷ more) (NotRun place characters) NoMemory p q n m = absurd (m
 one_first [] NoMemory f p q n m = absurd (n refl)
 one_first (form ∷ more) NoMemory f p q n m = absurd (n refl)
 
--- where there is no form, none is told
+-- where there is no form, none is reported
 none_told : (forms : List Form) (e : FormFault) → forms ≡ [] → TellsFirst forms e → e ≢ NoMemory → ⊥
 none_told forms (NotRun place characters) none told n = subst (λ (fs : List Form). TellsFirst fs (NotRun place characters)) none told
 none_told forms NoMemory none told n = n refl

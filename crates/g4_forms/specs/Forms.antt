@@ -85,7 +85,7 @@ rule_forms (rules.Lexer rule) = flat_map lexer_alternative_forms rule.alternativ
 abbrev pub setting_forms : Setting → List Form
 setting_forms setting = cond (bytes_eq setting.name.text (codes "tokenVocab")) (named setting.name) []
 
--- what stands before the rules
+-- what comes before the rules
 abbrev pub prequel_forms : Prequel → List Form
 prequel_forms (Options settings) = flat_map setting_forms settings
 prequel_forms (Import place names) = one_form place (codes "import")

@@ -8,7 +8,7 @@ use g4_base::Place;
 use g4_source::{GrammarKind, Prequel, Setting};
 use std::alloc::Global;
 
-/// Looks at the kind of the grammar whose first word stands at the place.
+/// Looks at the kind of the grammar whose first word is at the place.
 pub fn check_kind(alloc: Global, place: Place, kind: GrammarKind) -> Result<(), FormFault>
     ensures { AreRun (kind_forms place kind) result }
 {
@@ -52,7 +52,7 @@ fn check_prequel(alloc: Global, prequel: &Prequel) -> Result<(), FormFault>
     }
 }
 
-/// Looks at what stands before the rules.
+/// Looks at what comes before the rules.
 pub fn check_prequels(alloc: Global, prequels: &[Prequel]) -> Result<(), FormFault>
     ensures { AreRun (flat_map prequel_forms prequels.now) result }
 {

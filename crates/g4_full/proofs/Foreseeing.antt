@@ -90,7 +90,7 @@ presumes net d A returns tokens k i t C less covers least h =
           (presumed net returns tokens k i t C h.row.0 less h.settling.looking h.row.1 covers least (λ m f. none m (h.settling.says (no_viable m) f)));
     }
 
--- an alternative that can be told near on the first symbol is presumed
+-- an alternative that can be decided nearby on the first symbol is presumed
 pub told_presumed : (net : ParserNetwork) (d : ℕ) (allowed : Allowed) (returns w more : List ℕ) (a i : ℕ) → IsReady net → IsProper net d returns → Contains w end_of_list → w ≡ a ∷ more → IsTold net d (Allows allowed) returns a i → IsPresumed net d (Allows allowed) (above_bottom returns) w i
 told_presumed net d allowed returns w more a i ready proper ends is told = record {
   allowed = told.allowed;

@@ -179,11 +179,11 @@ module _ (net : ParserNetwork) (v : View) (a bare : ℕ) (groups shown : List Gr
       leaving = λ c s at_end. elim (in_others c s) [ inl own ↦ inl own | inr k ↦ inr (told c (subst (λ (xs : List Group). InSome v.graph xs c) (sym left_is) (of_left v.graph others c at_end k))) ];
     }
 
--- no groups that left: none is told of
+-- no groups that left: there is nothing to show
 pub none_left : (net : ParserNetwork) (d a : ℕ) (states returns : List ℕ) (g : List Content) (left : List Group) → left ≡ [] → (c : Config) → InSome g left c → AreTold net d a states c.alt returns
 none_left net d a states returns g left none c i = absurd (subst (λ (xs : List Group). InSome g xs c) none i)
 
--- one group that left, of whose alternative the return states are told
+-- one group that left, for whose alternative the return states are near
 pub one_left : (net : ParserNetwork) (d a : ℕ) (states returns : List ℕ) (g : List Content) (left : List Group) (x : Group) → left ≡ x ∷ [] → AreTold net d a states x.alternative returns → (c : Config) → InSome g left c → AreTold net d a states c.alt returns
 one_left net d a states returns g left x one told c i = elim (subst (λ (xs : List Group). InSome g xs c) one i) [
   | inl k ↦ subst (λ (j : ℕ). AreTold net d a states j returns) (sym k.alt) told

@@ -1,4 +1,4 @@
--- What is seen in start sets with short stacks tells that an alternative is near.
+-- What is seen in start sets with short stacks shows that an alternative is near.
 use Rattle.std.proofs.Common.{◌≡◌, ◌≤◌, ◌↔◌, ◌⊎◌, inl, inr, ℕ, List, [], ◌∷◌, ◌++◌, length, All, Bool, false, Some, Contains, refl, sym, ◌∙◌, ap, subst, arith}
 use Rattle.g4_net.specs.Configurations.{Stack, Config, config, above_bottom}
 use Rattle.g4_net.specs.declared.network.State.TheVariants.{End}
@@ -35,7 +35,7 @@ start_one net d j xs z are c = (
   (λ (b, (allowed, first, stack), r, kept). (b, ((one_listed xs j b.alt are).1 allowed, first, stack), r, kept)),
 )
 
--- what an equal set tells is the same
+-- what an equal set says is the same
 pub after_same : (net : ParserNetwork) (C D : Config → Type 0) (a : ℕ) (states : List ℕ) (t : ℕ) (after : After) → Same C D → IsAfter net C a states t after → IsAfter net D a states t after
 after_same net C D a states t Passed same (ends, shown) = (ends, λ c (i, shows). shown c ((same c).1 i, shows))
 after_same net C D a states t Stopped same shown = λ c (i, shows). shown c ((same c).1 i, shows)

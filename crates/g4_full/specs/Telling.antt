@@ -1,4 +1,4 @@
--- What start sets with short stacks tell of a decision: which alternatives leave its rule, and which return states can be passed.
+-- What start sets with short stacks say of a decision: which alternatives leave its rule, and which return states can be passed.
 use Rattle.std.specs.Prelude.{◌≡◌, ◌⊎◌, ◌==◌, ◌||◌, ℕ, List, [], ◌∷◌, ◌++◌, Contains, not}
 use Rattle.std.specs.List.{filter}
 use Rattle.g4_configs.specs.declared.group.Group.{Group}
@@ -44,7 +44,7 @@ IsAmong stacks states x = (x.state ≡ end_of 0) ⊎ ((x.stacks ≡ stacks) × C
 abbrev pub IsBareAt : List ℕ → Config → Type 0
 IsBareAt states c = (c.stack ≡ above_bottom []) × Contains states c.state
 
--- What a start set above a return state t tells of it: all that shows leaves t or is at one of the states with no return state above
+-- What a start set above a return state t says of it: all that shows leaves t or is at one of the states with no return state above
 -- the end, and the rule can end at once at t; or nothing shows.
 abbrev pub IsAfter : ParserNetwork → (Config → Type 0) → ℕ → List ℕ → ℕ → After → Type 0
 IsAfter net C a states t Passed = EndsAtOnce net t × ((c : Config) → Shown net C a c → (c.state ≡ end_of 0) ⊎ ((c.stack ≡ above_bottom (end_of 0 ∷ [])) × Contains states c.state))
@@ -59,7 +59,7 @@ CanLeave net d j = (c : Config) × Firsts net d (λ k. k ≡ j) (above_bottom []
 abbrev pub AreTold : ParserNetwork → ℕ → ℕ → List ℕ → ℕ → List ℕ → Type 0
 AreTold net d a states j returns = CanLeave net d j → (i : ℕ) → AreNear net (IsBareAt states) a i j returns
 
--- An alternative that may be taken can be told near.
+-- An alternative that may be taken can be decided nearby.
 pub record IsTold (net : ParserNetwork) (d : ℕ) (A : ℕ → Type 0) (returns : List ℕ) (a i : ℕ) : Type 0 where
   pub near : IsNear net d A returns a i
   pub allowed : A i

@@ -25,8 +25,8 @@ pub enum Foreseen {
     Presumed(u32),
 }
 
-/// What is foreseen of the choice that `decide_full` makes: an alternative is presumed where it can be told near, or as soon as it
-/// covers the others that take the next token.
+/// What is foreseen of the choice that `decide_full` makes: an alternative is presumed where it can be decided nearby, or as soon
+/// as it covers the others that take the next token.
 ///
 /// # Errors
 /// No memory.

@@ -1,4 +1,5 @@
-// Whether an alternative can be told near: from what the decision leads to before its rule ends, and from the newest return states.
+// Whether an alternative can be decided nearby: from what the decision leads to before its rule ends, and from the newest return
+// states.
 ghost use Rattle.std.specs.Prelude.{◌≡◌, ◌<◌, [], ◌∷◌, All, IfOk, IfSome, IsTrue, length, reverse};
 ghost use Rattle.g4_configs.specs.Configs.{Holds};
 ghost use Rattle.g4_configs.specs.Groups.{Same};
@@ -17,7 +18,7 @@ use std::alloc::{AllocError, Global};
 /// The end of the added rule. As a return state it shows what leaves all that is above it.
 const LEFT: u32 = 1;
 
-/// What a start set above a return state tells of it.
+/// What a start set above a return state says of it.
 #[derive(Drop)]
 enum After {
     /// The rule can end at once there, and what takes the symbol there the alternative has too.
@@ -117,7 +118,7 @@ fn start_over(
     Ok(found)
 }
 
-/// What a start set tells of the return state above which it is.
+/// What a start set says of the return state above which it is.
 fn look_past(
     alloc: Global,
     net: &ParserNetwork,
@@ -172,7 +173,7 @@ fn are_near(
     Ok(true)
 }
 
-/// An alternative that can be told near on the symbol, if one is found.
+/// An alternative that can be decided nearby on the symbol, if one is found.
 pub(crate) fn look_near(
     alloc: Global,
     net: &ParserNetwork,

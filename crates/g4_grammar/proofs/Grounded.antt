@@ -27,7 +27,7 @@ passed_or_last (i ∷ passed) j k h = elim (cases_Bool (eqb k i)) [
 ]
 
 module _ {A : Type 0} (Reads : A → List ℕ → Type 0) (Calls : A → ℕ → Type 0) (rules : List (Alternatives A)) (no_cycle : NoLeftCycle Reads Calls rules) where
-  -- Rules that reach this one by left calls are as many as were passed, and no more than there are.
+  -- Rules that reach this one by left calls are as many as were passed, and at most as many as there are.
   ground : (left j : ℕ) (passed : List ℕ) → ((i : ℕ) → IsPassed passed i → ReachesLeft Reads Calls rules i j) → IsDistinct eqb passed → ((i : ℕ) → IsPassed passed i → i < length rules) →
       length rules < left + length passed → Grounded Reads Calls rules j
   ground zero j passed reach apart within enough = let few = length-le_from_distinct_below passed (length rules) apart within in absurd (omega arith)

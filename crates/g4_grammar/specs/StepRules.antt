@@ -45,7 +45,7 @@ RuleIsPlain rule = All IsPlain (atoms_of_either (alternatives_of rule))
 abbrev pub RuleIsPlainLaid : StepRule → Type 0
 RuleIsPlainLaid rule = All IsPlainLaid (atoms_of_either (alternatives_of rule))
 
--- each call of a rule is of one of so many rules, which count from 1
+-- each call of a rule is of one of `count` rules, numbered from 1
 abbrev pub CallsWithin : ℕ → StepRule → Type 0
 CallsWithin count rule = (j : ℕ) → SomeHasCall CallsRule (alternatives_of rule) j → (1 ≤ j) × (j ≤ count)
 

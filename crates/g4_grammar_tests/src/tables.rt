@@ -3,7 +3,7 @@ use crate::texts::{Question, differing};
 use crate::{checks, forms, recursion, references, resolving, vocabularies};
 use std::test::Fail;
 
-/// What is asked of each row, what stands before its text, and the rows.
+/// What is asked of each row, what comes before its text, and the rows.
 const TABLES: &[(Question, &str, &str)] = &[
     (Question::Checks, "grammar X;\n", checks::TABLE),
     (Question::Forms, "", forms::TABLE),

@@ -93,7 +93,7 @@ fn part_of(alloc: Global, part: &str, number: u32) -> Result<String, AllocError>
     part.replace(alloc, "^", next.as_str())
 }
 
-/// A text of so many parts, in each of which its number is in place of `%`, and the next one in place of `^`.
+/// A text of `count` parts, in each of which its number is in place of `%`, and the next one in place of `^`.
 pub(crate) fn repeated(alloc: Global, part: &str, count: u32) -> Result<String, AllocError> {
     let mut all = String::new(alloc);
     for number in 0..count {

@@ -162,7 +162,7 @@ const SIZES: &[(u32, u32, u32, &str)] = &[
     (0, 0, 10_000, "types"),
 ];
 
-/// A row of a grammar of so many lexer rules, a fragment with so many names in commands, and a parser rule of so many literals.
+/// A row of a grammar of `rules` lexer rules, a fragment with `types` names in commands, and a parser rule of `literals` literals.
 fn large(
     alloc: Global,
     rules: u32,
@@ -210,7 +210,7 @@ A : ; B : ; C : ; B : ; C : ; => B
 A : ; b : ; A : ; A : ; b : ; => A
 ";
 
-/// The rows of which something else is answered behind 10,000 rules.
+/// The rows of which something else is answered after 10,000 rules.
 fn differing_behind(alloc: Global) -> Result<String, AllocError> {
     let rules = repeated(alloc, "a% : ; A% : ;\n", 5_000)?;
     let front = format!(in alloc; "grammar X;\n{rules}")?;

@@ -20,12 +20,12 @@ fn push_chain(rows: &mut Vec<Row>, count: u32, first: u32, last: u32) -> Result<
     Ok(())
 }
 
-/// Where a chain of so many edges begins, or the state after it.
+/// Where a chain of `count` edges begins, or the state after it.
 fn begin(count: u32, first: u32, last: u32) -> u32 {
     if count == 0 { last } else { first }
 }
 
-/// The network of `s : X r A B.. Z | Y r Z | L s M ; r : A B.. | ;` with so many of `B`, at most 10,000. The symbols X, Y, A, Z,
+/// The network of `s : X r A B.. Z | Y r Z | L s M ; r : A B.. | ;` with `count` of `B`, at most 10,000. The symbols X, Y, A, Z,
 /// L, M, B are those from 1 to 7. The decision of `r` is at state 4, the calls of `r` at 9 and 10, that of `s` at 15.
 ///
 /// # Errors

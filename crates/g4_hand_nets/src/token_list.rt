@@ -25,7 +25,7 @@ fn token(symbol: u32, before: usize) -> Token
     }
 }
 
-/// Adds the token of a symbol, but none of `END`.
+/// Adds the token of a symbol, unless it is `END`.
 fn push_symbol(all: &mut Vec<Token>, symbol: u32) -> Result<(), AllocError>
     ensures { OnOk result (HasNoEnd all.old.items → HasNoEnd all.new.items) }
 {

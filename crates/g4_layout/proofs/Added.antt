@@ -1,4 +1,4 @@
--- How the added rule lies at the front of a network.
+-- How the added rule is laid out at the front of a network.
 use Rattle.std.proofs.Common.{◌≡◌, ℕ, ◌+◌, List, [], ◌∷◌, None, Some, subst, arith}
 use Rattle.g4_symbols.specs.Symbols.{end_of_list}
 use Rattle.g4_elements.specs.Elements.{atom, block, Elements, empty, then, none, or}

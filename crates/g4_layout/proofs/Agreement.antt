@@ -1,4 +1,4 @@
--- What lies in two networks from the same state on has the same states in both.
+-- What is laid out in two networks from the same state on has the same states in both.
 use Rattle.std.proofs.Common.{◌≡◌, ◌≢◌, ℕ, zero, suc, ◌+◌, ◌<◌, ◌≤◌, ◌⊎◌, inl, inr, List, [], ◌∷◌, length, Bool, Some, refl, sym, ◌∙◌, ap, subst, arith}
 use native.Mathlib.Decide.{dec_lt}
 use Rattle.g4_elements.specs.Elements.{Element, Elements, Alternatives}
@@ -51,7 +51,7 @@ same_head : (x y : ℕ) (xs ys : List ℕ) → x ∷ xs ≡ y ∷ ys → x ≡ y
 same_head x y xs ys e = cc
 
 module _ {L : Type 0} (a b : Network L) where
-  -- an element of one state lies at its end
+  -- an element of one state: its new state is its end
   lone : (s n : ℕ) → state_at a s ≡ state_at b s → Agree a b s n n (n + 1) n (n + 1)
   lone s n e = record {
     last = refl;
@@ -122,7 +122,7 @@ module _ {L : Type 0} (a b : Network L) where
   }
 
   mutual
-    -- an element that lies in both from the same state on
+    -- an element that is laid out in both from the same state on
     element_agrees : {x : Element (Step L)} {s n t m t' m' : ℕ} → Lies a x s t n m → Lies b x s t' n m' → Agree a b s n t m t' m'
     element_agrees (lay.an_edge label s n is) (lay.an_edge _ _ _ is') = lone s n (is ∙ sym is')
     element_agrees (lay.a_call rule level s n is) (lay.a_call _ _ _ _ is') = lone s n (is ∙ sym is')
@@ -158,7 +158,7 @@ module _ {L : Type 0} (a b : Network L) where
         (decide_both m _ _ more (subst (λ (q : ℕ). state_at b q ≡ Some (Decision (with_exit sign.greedy firsts' (m' + 1)))) (sym up) more')
         (exit_same sign.greedy firsts firsts' (m + 1) (m' + 1) sides.firsts (omega (arith, up))))
 
-    -- elements one after another that lie so
+    -- elements one after another that are laid out so
     pub in_order_agree : {xs : Elements (Step L)} {s n t m t' m' : ℕ} → LieInOrder a xs s t n m → LieInOrder b xs s t' n m' → Agree a b s n t m t' m'
     in_order_agree (lay.no_more s n) (lay.no_more _ _) = record {
       last = refl;
@@ -169,7 +169,7 @@ module _ {L : Type 0} (a b : Network L) where
         let first = element_agrees l l' in
         join first (in_order_agree ls (subst (λ (q : ℕ). LieInOrder b xs q t' k m') (sym first.last) (subst (λ (q : ℕ). LieInOrder b xs mid' t' q m') (sym first.upto) ls')))
 
-    -- alternatives side by side that lie so
+    -- alternatives side by side that are laid out so
     pub sides_agree : {xs : Alternatives (Step L)} {firsts lasts firsts' lasts' : List ℕ} {n m m' : ℕ} → LieSideBySide a xs firsts lasts n m → LieSideBySide b xs firsts' lasts' n m' → SidesAgree a b n firsts lasts m firsts' lasts' m'
     sides_agree (lay.no_other n) (lay.no_other _) = record { firsts = refl; lasts = refl; upto = refl; same = λ p low high non. absurd (omega arith) }
     sides_agree (lay.another x xs last n k m firsts lasts l ls) (lay.another _ _ last' _ k' m' firsts' lasts' l' ls') =

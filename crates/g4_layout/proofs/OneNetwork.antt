@@ -35,7 +35,7 @@ record RulesAgree {L : Type 0} (a b : Network L) (rule : ℕ) (rules : List (Alt
   within : (p : ℕ) → n ≤ p → p < m → state_at a p ≡ state_at b p
 
 module _ {L : Type 0} (a b : Network L) where
-  -- a rule that lies in both
+  -- a rule that is laid out in both
   rule_agrees : {rule n m m' : ℕ} {xs : Alternatives (Step L)} → LiesAsRule a rule xs n m → LiesAsRule b rule xs n m' → RuleAgrees a b rule xs n m m'
   rule_agrees (lay.of_one rule last n m x l leads) (lay.of_one _ last' _ m' _ l' leads') =
       let agree = in_order_agree a b l l' in
@@ -58,7 +58,7 @@ module _ {L : Type 0} (a b : Network L) where
         ];
       }
 
-  -- rules that lie in both
+  -- rules that are laid out in both
   rules_agree : {rule n m m' : ℕ} {rules : List (Alternatives (Step L))} → RulesLie a rule rules n m → RulesLie b rule rules n m' → RulesAgree a b rule rules n m m'
   rules_agree (lay.no_rule rule n) (lay.no_rule _ _) = record {
     upto = refl;

@@ -1,4 +1,4 @@
--- How the rules of a network lie, each state being one of a rule.
+-- How the rules of a network are laid out, each state being one of a rule.
 use Rattle.std.proofs.Common.{◌≡◌, ℕ, zero, suc, ◌+◌, ◌*◌, ◌<◌, ◌≤◌, ◌⊎◌, inl, inr, List, length, Some, refl, sym, subst, arith, slice_get}
 use native.Mathlib.Decide.{dec_lt}
 use Rattle.g4_elements.specs.Elements.{Alternatives}
@@ -14,7 +14,7 @@ pub half : (p : ℕ) → (k : ℕ) × ((p ≡ 2 * k) ⊎ (p ≡ 2 * k + 1))
 half zero = (0, inl refl)
 half (suc p) = let h = half p in elim h.1 [ inl even ↦ (h.0, inr (omega (arith, even))) | inr odd ↦ (suc h.0, inl (omega (arith, odd))) ]
 
--- rule k of the list, as it lies from the lowest state on
+-- rule k of the list, as it is laid out from the lowest state on
 pub record Laid {L : Type 0} (net : Network L) (rules : List (Alternatives (Step L))) (lowest k : ℕ) : Type 0 where
   pub alternatives : Alternatives (Step L)
   pub is : slice_get rules k ≡ Some alternatives
@@ -45,7 +45,7 @@ module _ {L : Type 0} where
   rules_up (a_rule rule n k m xs more l last rest) = let a = rule_up l in let b = rules_up rest in omega arith
 
 module _ {L : Type 0} (net : Network L) (rules : List (Alternatives (Step L))) (lowest : ℕ) where
-  -- each rule lies, and each state after the starts and ends is of one
+  -- each rule is laid out, and each state after the starts and ends is of one
   pub every_rule : {rule n m : ℕ} {rest : List (Alternatives (Step L))} → RulesLie net rule rest n m → ((k : ℕ) (xs : Alternatives (Step L)) → slice_get rest k ≡ Some xs → slice_get rules (rule + k) ≡ Some xs) →
       lowest ≤ n → m ≤ length net.states → ((k : ℕ) → rule ≤ k → k < rule + length rest → Laid net rules lowest k) × ((p : ℕ) → n ≤ p → p < m → IsWithinRule net rules lowest rule p)
   every_rule (no_rule rule n) found low room = (λ k from below. absurd (omega arith), λ p from below. absurd (omega arith))
@@ -74,15 +74,15 @@ module _ {L : Type 0} (net : Network L) (rules : List (Alternatives (Step L))) (
       )
 
 module _ {L : Type 0} (rules : List (Alternatives (Step L))) (net : Network L) (network : IsNetworkOf rules net) where
-  -- rule k of the list, as it lies after the starts and ends
+  -- rule k of the list, as it is laid out after the starts and ends
   abbrev pub LaidRule : ℕ → Type 0
   LaidRule k = Laid net rules (2 * length rules) k
 
-  -- how the rules lie
+  -- how the rules are laid out
   laid : ((k : ℕ) → 0 ≤ k → k < 0 + length rules → LaidRule k) × ((p : ℕ) → 2 * length rules ≤ p → p < length net.states → IsWithinRule net rules (2 * length rules) 0 p)
   laid = every_rule net rules (2 * length rules) network.lie (λ k xs e. let same : k ≡ 0 + k = omega arith in subst (λ (q : ℕ). slice_get rules q ≡ Some xs) same e) (omega arith) (omega arith)
 
-  -- rule k as it lies
+  -- rule k as it is laid out
   pub rule_laid : (k : ℕ) → k < length rules → LaidRule k
   rule_laid k below = laid.0 k (omega arith) (omega arith)
 

@@ -35,7 +35,7 @@ module _ {L : Type 0} (net : Network L) (Good : Step L → Type 0) (Ended Allowe
 
   module _ (rules : List (Alternatives (Step L))) (lowest k : ℕ) (r : Laid net rules lowest k) (sound : EachIsSound Good r.alternatives) (end : Allowed (end_of k))
       (allowed : AreAllowed net Good Ended Allowed r.from r.upto) where
-    -- the start and end of a rule as it lies
+    -- the start and end of a rule as it is laid out
     pub heads_sound : Ended k → SoundAt net Good Ended Allowed (start_of k) × SoundAt net Good Ended Allowed (end_of k)
     heads_sound ended = (start_sound r.lies sound end allowed, sound_by net Good Ended Allowed (end_of k) (Some (End k)) r.last ended)
 

@@ -35,12 +35,12 @@ unpredicated_state Ended Allowed (Level q t) h = tt
 unpredicated_state Ended Allowed (Action t) h = tt
 unpredicated_state Ended Allowed (Empty t) h = tt
 
--- how the rules after the added one lie
+-- how the rules after the added one are laid out
 record AfterAdded (net : ParserNetwork) (all : List (Alternatives (Step (List ℕ)))) (count loop : ℕ) : Type 0 where
   rules : (k : ℕ) → 1 ≤ k → k ≤ count → Laid net all (loop + 5) k
   states : (p : ℕ) → loop + 5 ≤ p → p < length net.states → IsWithinRule net all (loop + 5) 1 p
 
--- the added rule lies, and then the others
+-- the added rule is laid out, and then the others
 added_and_others : (net : ParserNetwork) (set : List ℕ) (start loop m : ℕ) (list : List (Alternatives (Step (List ℕ)))) → m ≡ length net.states → RulesLie net 0 (added_rule set start ∷ list) loop m →
     HasAddedRule net start loop set × AfterAdded net (added_rule set start ∷ list) (length list) loop
 added_and_others net set start loop m list all (a_rule _ _ k _ _ _ l last rest) =

@@ -1,4 +1,4 @@
--- How many states what lies has: as many as the table makes of it.
+-- How many states what is laid out has: as many as the table makes of it.
 use Rattle.std.proofs.Common.{◌≡◌, ℕ, ◌+◌, ◌≤◌, List, length, refl, arith}
 use Rattle.g4_elements.specs.Elements.{Element, Elements, Alternatives, none, or}
 use Rattle.g4_grammar.specs.declared.step.Step.{Step}

@@ -1,4 +1,4 @@
--- Where elements lie: their states are in order, and they end at one of these or where they begin.
+-- Where elements are laid out: their states are in order, and they end at one of these or where they begin.
 use Rattle.std.proofs.Common.{◌≡◌, ℕ, zero, suc, ◌+◌, ◌<◌, ◌≤◌, ◌⊎◌, inl, inr, List, ◌∷◌, length, refl, sym, ◌∙◌, arith, Contains}
 use Rattle.g4_elements.specs.Elements.{Element, Elements, Alternatives, none, or}
 use Rattle.g4_elements.specs.Blocks.{IsSome}

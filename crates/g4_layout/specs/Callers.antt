@@ -19,6 +19,6 @@ return_of rule (Empty t) = None
 abbrev pub returns_of : {L : Type 0} → List (State L) → ℕ → List ℕ
 returns_of states rule = filter_map (return_of rule) states
 
--- for each of so many rules the return states of its calls
+-- for each of `count` rules the return states of its calls
 abbrev pub callers_of : {L : Type 0} → List (State L) → ℕ → List (List ℕ)
 callers_of states count = map (returns_of states) (range_with_len 0 count)

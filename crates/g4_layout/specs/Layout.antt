@@ -1,5 +1,5 @@
--- How elements lie in a network over any labels: the table of states and edges, by cases. States are numbered as they are
--- made.
+-- How elements are laid out in a network over any labels: the table of states and edges, by cases. States are numbered as they
+-- are made.
 use Rattle.std.specs.Prelude.{◌≡◌, ◌≤◌, ℕ, ◌+◌, ◌*◌, List, [], ◌∷◌, ◌++◌, length, Option, Bool, true, false, Some}
 use Rattle.g4_elements.specs.declared.name.Label.{Label}
 use Rattle.g4_elements.specs.declared.element.Suffix.{Suffix}
@@ -22,7 +22,7 @@ AllLeadTo net [] t = Unit {0}
 AllLeadTo net (b ∷ bs) t = (state_at net b ≡ Some (Empty t)) × AllLeadTo net bs t
 
 mutual
-  -- The element lies from state s to state t. Its states other than s are those from n up to m, m left out.
+  -- The element is laid out from state s to state t. Its states other than s are those from n up to m, m left out.
   pub data Lies {L : Type 0} (net : Network L) : Element (Step L) → ℕ → ℕ → ℕ → ℕ → Type 0 where
     an_edge : (label : L) (s n : ℕ) → state_at net s ≡ Some (Edge label n) → Lies net (atom (steps.Edge label)) s n n (n + 1)
     a_call : (rule level s n : ℕ) → state_at net s ≡ Some (Call rule level n) → Lies net (atom (steps.Call rule level)) s n n (n + 1)
@@ -49,25 +49,25 @@ mutual
         LieSideBySide net xs firsts lasts n m → AllLeadTo net lasts m → state_at net m ≡ Some (Decision (with_exit sign.greedy firsts (m + 1))) →
         Lies net (block name (Plus sign) xs) s (m + 1) n (m + 2)
 
-  -- the elements lie one after another; where there are none, t is s
+  -- the elements are laid out one after another; where there are none, t is s
   pub data LieInOrder {L : Type 0} (net : Network L) : Elements (Step L) → ℕ → ℕ → ℕ → ℕ → Type 0 where
     no_more : (s n : ℕ) → LieInOrder net empty s s n n
     one_more : (x : Element (Step L)) (xs : Elements (Step L)) (s mid t n k m : ℕ) → Lies net x s mid n k → LieInOrder net xs mid t k m → LieInOrder net (then x xs) s t n m
 
-  -- the alternatives lie beside each other: of each its first state is made, and then its elements, up to its last
+  -- the alternatives are laid out beside each other: of each its first state is made, and then its elements, up to its last
   pub data LieSideBySide {L : Type 0} (net : Network L) : Alternatives (Step L) → List ℕ → List ℕ → ℕ → ℕ → Type 0 where
     no_other : (n : ℕ) → LieSideBySide net none [] [] n n
     another : (x : Elements (Step L)) (xs : Alternatives (Step L)) (last n k m : ℕ) (firsts lasts : List ℕ) → LieInOrder net x n last (n + 1) k → LieSideBySide net xs firsts lasts k m →
         LieSideBySide net (or x xs) (n ∷ firsts) (last ∷ lasts) n m
 
--- A rule lies from its start to its end, its other states being those from n up to m. One alternative begins at the
+-- A rule is laid out from its start to its end, its other states being those from n up to m. One alternative begins at the
 -- start; of several the start is the decision.
 pub data LiesAsRule {L : Type 0} (net : Network L) : ℕ → Alternatives (Step L) → ℕ → ℕ → Type 0 where
   of_one : (rule last n m : ℕ) (x : Elements (Step L)) → LieInOrder net x (start_of rule) last n m → state_at net last ≡ Some (Empty (end_of rule)) → LiesAsRule net rule (only x) n m
   of_several : (rule n m : ℕ) (xs : Alternatives (Step L)) (firsts lasts : List ℕ) → 2 ≤ length firsts → state_at net (start_of rule) ≡ Some (Decision firsts) →
       LieSideBySide net xs firsts lasts n m → AllLeadTo net lasts (end_of rule) → LiesAsRule net rule xs n m
 
--- the rules from this number on lie one after another, each ending in its end state
+-- the rules from this number on are laid out one after another, each ending in its end state
 pub data RulesLie {L : Type 0} (net : Network L) : ℕ → List (Alternatives (Step L)) → ℕ → ℕ → Type 0 where
   no_rule : (rule n : ℕ) → RulesLie net rule [] n n
   a_rule : (rule n k m : ℕ) (xs : Alternatives (Step L)) (more : List (Alternatives (Step L))) → LiesAsRule net rule xs n k → state_at net (end_of rule) ≡ Some (End rule) →

@@ -24,7 +24,7 @@ StartsAt net k [] p = ⊥
 StartsAt net k (i ∷ []) p = p ≡ start_of k
 StartsAt net k (i ∷ j ∷ more) p = (n : ℕ) × IsFirst net (start_of k) n p
 
--- the number at any other state of a rule of so many alternatives: at level q alternative `count + 1 - q` begins
+-- the number at any other state of a rule of `count` alternatives: at level q alternative `count + 1 - q` begins
 abbrev pub number_by : {L : Type 0} → ℕ → Option (State L) → ℕ
 number_by count (Some (Level q t)) = count + 1 - q
 number_by count (Some (Decision targets)) = 0

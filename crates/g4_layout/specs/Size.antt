@@ -10,7 +10,7 @@ more_if_several (or x none) = 0
 more_if_several (or x (or y more)) = 1
 
 abbrev mutual
-  -- the states of an element, where an atom makes so many: the one where it ends, and those in between
+  -- the states of an element, where an atom makes as many as its weight: the one where it ends, and those in between
   pub states_by : {A : Type 0} → (A → ℕ) → Element A → ℕ
   states_by weight (atom a) = weight a
   states_by weight (block label Once xs) = states_of_rule_by weight xs + more_if_several xs

@@ -1,4 +1,4 @@
-// How rules lie in a network: the table of states and edges, and what it implies.
+// How rules are laid out in a network: the table of states and edges, and what it implies.
 #![tactic(auto)]
 
 mod law;

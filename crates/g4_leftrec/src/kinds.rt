@@ -75,7 +75,7 @@ fn operator_elements(
     with_last_at(rule, level, elements)
 }
 
-/// Adds the alternative of this number to the primaries or to the operators of a rule that has so many alternatives.
+/// Adds the alternative of this number to the primaries or to the operators of a rule that has `count` alternatives.
 fn add_alternative(
     kinds: &mut Kinds,
     rule: u32,
@@ -107,7 +107,7 @@ fn add_alternative(
     Ok(())
 }
 
-/// The primaries and the operators of the rule, which has so many alternatives.
+/// The primaries and the operators of the rule, which has `count` alternatives.
 pub(crate) fn kinds_of(
     alloc: Global,
     rule: u32,

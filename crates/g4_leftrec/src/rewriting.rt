@@ -80,7 +80,7 @@ fn loop_of(
     })
 }
 
-/// The numbers of so many alternatives, in order.
+/// The numbers of `count` alternatives, in order.
 #[tactic(auto, using(crate::proofs::Lists::range_more))]
 fn first_numbers(alloc: Global, count: u32) -> Result<Vec<u32>, AllocError>
     requires { count < 2 ^ 32 - 1 }
@@ -104,7 +104,7 @@ fn count_of(alternatives: &[RuleAlternative<Step<Symbols>>]) -> Result<u32, Allo
     Ok(alternatives.len() as u32)
 }
 
-/// The left-recursive rule of this number and these alternatives, so many of them, as a loop over its operators, and its numbering.
+/// The left-recursive rule of this number and these alternatives, `count` of them, as a loop over its operators, and its numbering.
 fn looped(
     alloc: Global,
     number: u32,

@@ -254,7 +254,7 @@ fn literals_come_first(rt: HostRuntime) -> Result<(), Fail> {
     Ok(())
 }
 
-/// A mode of one rule, a literal of so many characters.
+/// A mode of one rule, a literal of `count` characters.
 fn long_literal(alloc: Global, count: usize) -> Result<String, AllocError> {
     let literal = "a".repeat(alloc, count)?;
     format!(in alloc; "mode M; A : '{literal}' ;")

@@ -188,7 +188,7 @@ fn networks_can_be_lexed_with(rt: HostRuntime) -> Result<(), Fail> {
     Ok(())
 }
 
-/// Adds so many literals.
+/// Adds `count` literals.
 fn push_literals(text: &mut String, count: u32) -> Result<(), AllocError> {
     for number in 0..count {
         write!(text, " 'x{number}'")?;
@@ -196,7 +196,7 @@ fn push_literals(text: &mut String, count: u32) -> Result<(), AllocError> {
     Ok(())
 }
 
-/// A grammar with so many literals, and as many lexer rules.
+/// A grammar with `count` literals, and as many lexer rules.
 fn large(alloc: Global, count: u32) -> Result<String, AllocError> {
     let mut out = String::new(alloc);
     write!(out, "grammar G; s :")?;

@@ -34,7 +34,7 @@ type Begin = (u32, u32, u32);
 /// In which mode, the text, and the match at its front: how many characters, the rule and the alternative.
 type Row<'a> = (u32, &'a str, &'a str);
 
-/// How many rules a network has, its states, where the matches of each mode begin, and rows that one matcher is asked so many times:
+/// How many rules a network has, its states, where the matches of each mode begin, rows, and how often one matcher is asked them:
 /// first as lists are learned, and then along them.
 #[derive(Clone, Copy)]
 struct Case<'a> {
@@ -247,7 +247,7 @@ fn callers_of(alloc: Global, nodes: &[Node], rules: u32) -> Result<Vec<Sequence<
     Ok(callers)
 }
 
-/// The network of so many rules and these states.
+/// The network of these states, with this many rules.
 fn network(alloc: Global, rules: u32, nodes: &[Node]) -> Result<LexerNetwork, AllocError> {
     let written = vec![in alloc; 0u32; nodes.len()]?;
     let callers = callers_of(alloc, nodes, rules)?;
@@ -373,7 +373,7 @@ fn matches_of_texts(rt: HostRuntime) -> Result<(), Fail> {
     Ok(())
 }
 
-/// A character so many times, and then another as often.
+/// A character `count` times, and then another as often.
 fn runs(alloc: Global, first: char, other: char, count: u32) -> Result<String, AllocError> {
     let mut text = String::new(alloc);
     for _ in 0..count {

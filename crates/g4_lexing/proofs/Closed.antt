@@ -27,7 +27,7 @@ low_type : (symbol : ℕ) → IsTokenType symbol → symbol ≤ eof
 low_type symbol (inl low) = omega arith
 low_type symbol (inr is) = omega arith
 
--- the symbols of the tokens, and of four EOF behind them, are low
+-- the symbols of the tokens, and of four EOF after them, are low
 word_low : (found : List Token) → All (λ (token : Token). IsTokenType token.symbol) found → AreLow (word_of found ++ eof ∷ eof ∷ eof ∷ eof ∷ [])
 word_low [] types = (omega arith, (omega arith, (omega arith, (omega arith, tt))))
 word_low (t ∷ ts) types = (low_type t.symbol (types 0 t (omega arith)), word_low ts (λ k d less. types (suc k) d (omega arith)))

@@ -37,7 +37,7 @@ pub column_after : (p : Place) (w : List ℕ) → (place_after p w).column ≤ p
 column_after p [] = omega arith
 column_after p (c ∷ w) = omega (arith, column_past p c, column_after (place_past p c) w)
 
--- a front part of so many items has no more
+-- a front part of n items has at most n
 pub take_short : (n : ℕ) (xs : List ℕ) → length (take n xs) ≤ n
 take_short zero xs = omega arith
 take_short (suc n) [] = omega arith
@@ -54,7 +54,7 @@ module _ (text : List ℕ) (start : ℕ) (at : Position) (within : start ≤ len
   pub offset_at : at.offset ≤ 4 * start
   offset_at = omega (arith, ap (λ (p : Position). p.offset) is, length-encoded-le (take start text), length-take-le start text within)
 
-  -- the position after so many more characters
+  -- the position after n more characters
   pub position_behind : (n : ℕ) → position_after at (take n (drop start text)) ≡ position_after first_position (take (start + n) text)
   position_behind n =
       ap (λ (p : Position). position_after p (take n (drop start text))) is ∙ sym (position_after-append first_position (take start text) (take n (drop start text))) ∙ ap (λ w. position_after first_position w) (sym (take-add start n text))

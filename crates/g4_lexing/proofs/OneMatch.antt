@@ -24,11 +24,11 @@ one_first P xs c d (later _ _ cs other h) (here _ _ q) = absurd (other q)
 one_first P xs c d (later _ _ cs other h) (later _ _ _ another g) = one_first P cs c d h g
 
 module _ (net : LexerNetwork) where
-  -- the end that a list tells is in it
+  -- the end that a list gives is in it
   has_end : (list : List LexerConfig) (rule alternative : ℕ) → IsLeastEnd net list rule alternative → HasEnd net list rule
   has_end list rule alternative t = let f = first_in (EndsRule net rule) list t.first.0 t.first.1 in (t.first.0, f.0, f.1.0, f.1.1)
 
-  -- a list tells one end
+  -- a list gives one end
   one_told : (list : List LexerConfig) (rule alternative other choice : ℕ) → IsLeastEnd net list rule alternative → IsLeastEnd net list other choice → (rule ≡ other) × (alternative ≡ choice)
   one_told list rule alternative other choice x y =
       let up = x.least other (has_end list other choice y) in

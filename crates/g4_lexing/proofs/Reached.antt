@@ -79,7 +79,7 @@ module _ (lexer : Lexer) (text : List ℕ) (room : ℕ) where
   reached_unfinished found start s begun r past some =
       r.onward (Err (no_token s.at.place None)) (subst (λ w. LexesWithin lexer r.left s w (Err (no_token s.at.place None))) (sym (drop_all start text past)) (unfinished r.left s begun some))
 
--- the token that has begun, if one has, begins before so many bytes
+-- the token that has begun, if one has, begins after at most this many bytes
 abbrev pub BeginsBy : ℕ → Option Begun → Type 0
 BeginsBy bytes None = Unit {0}
 BeginsBy bytes (Some begun) = begun.from.offset ≤ bytes

@@ -76,7 +76,7 @@ pub data LexesWithin (lexer : Lexer) : ℕ → Course → List ℕ → Result (L
   a_match : (room left : ℕ) (s : Course) (text : List ℕ) (n : ℕ) (e : Effects) (more : Result (List Token) Stuck) → NextMatch lexer s text n (Some e) → room ≡ length (made_at s e (take n text)) + left →
       LexesWithin lexer left (course_after s e (take n text)) (drop n text) more → LexesWithin lexer room s text (with_tokens (made_at s e (take n text)) more)
 
--- the tokens of a text, of which so many may be made
+-- the tokens of a text, of which this many may be made
 abbrev pub LexesText : Lexer → ℕ → List ℕ → Result (List Token) Stuck → Type 0
 LexesText lexer room text answer = LexesWithin lexer room first_course text answer
 
@@ -88,7 +88,7 @@ token_list bytes tokens = record { bytes = bytes; all = tokens; list = visible t
 abbrev pub StopsWithin : ℕ → Lexer → List ℕ → Stuck → Type 0
 StopsWithin room lexer bytes stuck = IsUtf8 bytes × LexesText lexer room (chars bytes) (Err stuck)
 
--- what a fault says of the bytes of a file, of which so many tokens may be made
+-- what a fault says of the bytes of a file, of which this many tokens may be made
 abbrev pub IsLexFaultWithin : ℕ → Lexer → List ℕ → LexFault → Type 0
 IsLexFaultWithin room lexer bytes (faults.NotUtf8 at) = IsValidUpTo bytes at
 IsLexFaultWithin room lexer bytes (faults.NoToken place character) = StopsWithin room lexer bytes (no_token place character)
@@ -96,7 +96,7 @@ IsLexFaultWithin room lexer bytes (faults.EmptyModeStack place) = StopsWithin ro
 IsLexFaultWithin room lexer bytes (faults.Tokens place) = StopsWithin room lexer bytes (too_many place)
 IsLexFaultWithin room lexer bytes faults.NoMemory = Unit {0}
 
--- the call answers with the tokens of the file or its fault, where so many tokens may be made, unless memory runs out
+-- the call answers with the tokens of the file or its fault, where this many tokens may be made, unless memory runs out
 abbrev pub IsLexingWithin : ℕ → Lexer → List ℕ → Result Tokens LexFault → Type 0
 IsLexingWithin room lexer bytes (Ok found) = IsUtf8 bytes × LexesText lexer room (chars bytes) (Ok found.all) × (found ≡ token_list bytes found.all)
 IsLexingWithin room lexer bytes (Err fault) = IsLexFaultWithin room lexer bytes fault

@@ -6,7 +6,7 @@ use Rattle.g4_lexing.specs.declared.lexer.Lexer.{Lexer}
 use Rattle.g4_lexing.specs.declared.scanning.Scanned.{Scanned}
 use Rattle.g4_lexing.specs.Lexing.{LexesText, no_token, empty_mode_stack, too_many}
 
--- what a fault says of the characters, of which so many tokens may be made
+-- what a fault says of the characters, of which this many tokens may be made
 abbrev pub IsScanFault : ℕ → Lexer → List ℕ → LexFault → Type 0
 IsScanFault room lexer text (faults.NotUtf8 at) = ⊥
 IsScanFault room lexer text (faults.NoToken place character) = LexesText lexer room text (Err (no_token place character))

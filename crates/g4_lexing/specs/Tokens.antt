@@ -56,6 +56,6 @@ closing_at end = token_between eof 0 end end ∷ token_between eof 0 end end ∷
 abbrev pub closing_tokens : List ℕ → List Token
 closing_tokens text = closing_at (position_after first_position text)
 
--- the token begins and ends in a file of so many bytes
+-- the token begins and ends in a file of this many bytes
 abbrev pub EndsBy : ℕ → Token → Type 0
 EndsBy bytes token = (token.start ≤ token.end) × (token.end ≤ bytes)

@@ -20,10 +20,10 @@ use std::alloc::Global;
 /// counted.
 pub const MOST_TOKENS: usize = 1_000_000;
 
-/// The tokens of a file, of which at most so many may be made.
+/// The tokens of a file, of which at most `room` may be made.
 ///
 /// # Errors
-/// As `tokens`, with so many in place of 1,000,000.
+/// As `tokens`, with `room` in place of 1,000,000.
 pub fn tokens_within(
     alloc: Global,
     lexer: &Lexer,

@@ -23,7 +23,7 @@ pub(crate) struct Scanned {
     pub end: Position,
 }
 
-/// The tokens of a file's characters, at most so many.
+/// The tokens of a file's characters, at most `room`.
 ///
 /// # Errors
 /// The first fault in the text, or no memory.

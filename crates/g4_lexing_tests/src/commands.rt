@@ -157,7 +157,7 @@ fn commands(rt: HostRuntime) -> Result<(), Fail> {
     Ok(())
 }
 
-/// A grammar with so many channels and rules, whose commands take the first thousand channels in turn.
+/// A grammar with this many channels and rules, whose commands take the first thousand channels in turn.
 fn large(alloc: Global, channels: u32, rules: u32) -> Result<String, AllocError> {
     let mut text = String::new(alloc);
     text.push_str("channels { C0")?;
@@ -175,7 +175,7 @@ fn large(alloc: Global, channels: u32, rules: u32) -> Result<String, AllocError>
     Ok(text)
 }
 
-/// The token types of so many rules.
+/// The token types of this many rules.
 fn many_types(alloc: Global, rules: u32) -> Result<Vec<TokenName>, AllocError> {
     let mut types = Vec::new(alloc);
     for rule in 0..rules {
@@ -185,7 +185,7 @@ fn many_types(alloc: Global, rules: u32) -> Result<Vec<TokenName>, AllocError> {
     Ok(types)
 }
 
-/// What the commands of so many rules do, of the large grammar.
+/// What the commands of this many rules do, of the large grammar.
 fn many_commands(alloc: Global, rules: u32) -> Result<String, AllocError> {
     let mut text = String::new(alloc);
     for rule in 0..rules {

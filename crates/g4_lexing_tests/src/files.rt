@@ -307,7 +307,7 @@ fn a_large_file(rt: HostRuntime) -> Result<(), Fail> {
 /// Comments with comments in them, in two forms. In the second the list keeps each way in which those so far may be open.
 const COMMENTS: &str = "mode M; C : '/*' (C | ~[/*])* '*/' ; D : '{*' (D | .)*? '*}' ;";
 
-/// What opens and what closes a comment, so many times each, and what that is lexed to.
+/// What opens and what closes a comment, how many times each, and what that is lexed to.
 const NESTED: &[(&str, &str, u32, &str)] = &[
     (
         "/*",
@@ -323,7 +323,7 @@ const NESTED: &[(&str, &str, u32, &str)] = &[
     ),
 ];
 
-/// What so many openings and as many closings are lexed to.
+/// What `depth` openings and as many closings are lexed to.
 fn nested(alloc: Global, open: &str, close: &str, depth: u32) -> Result<String, AllocError> {
     let opened = open.repeat(alloc, depth as usize)?;
     let closed = close.repeat(alloc, depth as usize)?;

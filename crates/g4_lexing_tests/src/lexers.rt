@@ -59,7 +59,7 @@ fn listed(commands: Commands, rule: usize) -> &'static [&'static [LexerCommand]]
     &[]
 }
 
-/// The commands of so many rules.
+/// The commands of `count` rules.
 fn commands_of(
     alloc: Global,
     commands: Commands,
@@ -72,7 +72,7 @@ fn commands_of(
     Ok(all)
 }
 
-/// The types of so many rules: 1, 2 and so on.
+/// The types of `count` rules: 1, 2 and so on.
 fn types_of(alloc: Global, count: usize) -> Result<Vec<u32>, AllocError> {
     let mut types = Vec::new(alloc);
     let mut symbol: u32 = 0;

@@ -33,7 +33,7 @@ all_start all net (rule ∷ rules) (lay.a_rule k n i m xs more l end rest) full 
   all_start all net rules rest full.1 (All-tail (λ (r : LexerRule). length r.alternatives ≤ MOST_STATES) rule rules few),
 )
 
--- how many states rules have that lie
+-- how many states rules that are laid out have
 pub rules_size : {L : Type 0} (net : Network L) (rules : List (Alternatives (Step L))) {k n m : ℕ} → RulesLie net k rules n m → m ≡ n + sum_by states_of_rule rules
 rules_size net [] (lay.no_rule k n) = omega arith
 rules_size net (xs ∷ more) (lay.a_rule k n i m _ _ l end rest) = omega (arith, rule_size l, rules_size net more rest, sum_by-cons states_of_rule xs more)

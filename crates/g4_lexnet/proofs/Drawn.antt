@@ -24,7 +24,7 @@ fit_length (xs ∷ more) [] fit = absurd fit
 fit_length (xs ∷ more) (numbering ∷ others) fit = omega (arith, fit_length more others fit.1)
 
 module _ {L : Type 0} (trees : List (Alternatives (Step L))) (numberings : List Numbering) (count : ℕ) (same : count ≡ length trees) (s0 s1 : List (State L)) (heads : HasHeads count s0) (laid : HaveLaid 0 s0 s1 (0 + count) trees []) where
-  -- the rules lie in each network of these states
+  -- the rules are laid out in each network of these states
   lie : (net : Network L) → net.states ≡ s1 → RulesLie net 0 trees (2 * length trees) (length s1)
   lie net states =
       let from : length s0 ≡ 2 * length trees = omega (arith, heads.size, same) in

@@ -94,7 +94,7 @@ drop_front : {X : Type 0} (xs ys : List X) → drop (length xs) (xs ++ ys) ≡ y
 drop_front [] ys = refl
 drop_front (x ∷ xs) ys = drop_front xs ys
 
--- the rules of all modes in one list, so many of them being each mode's
+-- the rules of all modes in one list, with how many of them each mode has
 by_modes : (states : List (State Reads)) (front : List Start) (k : ℕ) (modes : List Mode) → starts_by_sizes states front k (rules_of_modes modes) (map (λ mode. length mode.rules) modes) ≡ starts_of_modes states front k modes
 by_modes states front k [] = refl
 by_modes states front k (mode ∷ modes) =

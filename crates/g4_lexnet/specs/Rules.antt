@@ -36,7 +36,7 @@ lowered rules rule = map (λ x. in_order_bind (λ a. element_of_kind (names_of r
 abbrev pub trees_of : List LexerRule → List (Alternatives (Step Reads))
 trees_of rules = map (λ rule. either (map (in_order_over step_of) (lowered rules rule))) rules
 
--- a rule begins with each of so many alternatives
+-- a rule begins with each of `count` alternatives
 abbrev pub numbering_of : ℕ → Numbering
 numbering_of count = record { starts = range_with_len 1 count; count = count }
 

@@ -57,7 +57,7 @@ starts_of_modes states front number (mode ∷ modes) = (front ++ starts_from sta
 abbrev pub mode_starts : List (State Reads) → List LexerRule → List Mode → List (List Start)
 mode_starts states literals modes = starts_of_modes states (starts_from states 0 literals) (length literals) modes
 
--- the same where the rules of all modes are in one list, and so many of them are each mode's
+-- the same where the rules of all modes are in one list, with how many of them each mode has
 abbrev pub starts_by_sizes : List (State Reads) → List Start → ℕ → List LexerRule → List ℕ → List (List Start)
 starts_by_sizes states front number rules [] = []
 starts_by_sizes states front number rules (n ∷ sizes) = (front ++ starts_from states number (take n rules)) ∷ starts_by_sizes states front (number + n) (drop n rules) sizes

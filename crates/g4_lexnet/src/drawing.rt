@@ -19,7 +19,7 @@ use g4_ordered::LexerNetwork;
 use g4_source::LexerRule;
 use std::alloc::{AllocError, Global};
 
-/// The numbering of a rule that begins with each of so many alternatives.
+/// The numbering of a rule that begins with each of `count` alternatives.
 fn numbering_of(alloc: Global, count: u32) -> Result<Numbering, AllocError>
     requires few { count ≤ MOST_STATES }
     ensures { IfOk result (λ numbering. numbering ≡ numbering_of count) }

@@ -75,7 +75,7 @@ fn add_rules(
     Ok(())
 }
 
-/// The starts of each mode, whose rules are so many each: first those of the literals.
+/// The starts of each mode, where `sizes` says how many rules each has: first those of the literals.
 pub fn starts_of_modes(
     alloc: Global,
     states: &[State<Reads>],

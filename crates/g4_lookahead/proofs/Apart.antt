@@ -1,4 +1,4 @@
--- No configuration of a decision comes from the added rule with return states, so after END each stands at the added
+-- No configuration of a decision comes from the added rule with return states, so after END each is at the added
 -- rule's end.
 use Rattle.std.proofs.Common.{◌≡◌, ℕ, ◌+◌, ◌≤◌, ◌⊎◌, inl, inr, List, [], ◌∷◌, ◌++◌, slice_get, Bool, true, false, Option, Some, None, refl, sym, ◌∙◌, ap, subst, arith, Contains}
 use Rattle.std.proofs.lemmas.Option.{slice_get_within, get_or_from_slice_get}
@@ -57,7 +57,7 @@ each_inside loop P a b c d e f g p (inr (inr (low, high))) = elim (five loop p l
   | inr (inr (inr (inr is))) ↦ subst P (sym is) g
 ]
 
--- with no return state any state stands apart
+-- with no return state any state is apart
 bare : (loop p : ℕ) (rs : List ℕ) → rs ≡ [] → StandsApart loop p rs
 bare loop p rs is = record { alone = λ i. is; apart = subst (AreApart loop) (sym is) tt }
 

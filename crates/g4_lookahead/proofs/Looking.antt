@@ -20,11 +20,11 @@ left tokens k t less = ap (λ (xs : List Token). word_of xs) (let e : drop k tok
 head_or_tail : (a : ℕ) (w : List ℕ) → Contains (a ∷ w) end_of_list → (a ≡ end_of_list) ⊎ Contains w end_of_list
 head_or_tail a w (k, less, is) = elim (In-from (a ∷ w) end_of_list k less is) [ inl e ↦ inl (sym e) | inr i ↦ inr (In-to w end_of_list i) ]
 
--- a set stands where an equal one does
+-- a set is apart where an equal one is
 stands_same : (loop : ℕ) (z : Stack) (C D : Config → Type 0) → AreSame D C → Stands loop z.wild C → Stands loop z.wild D
 stands_same loop z C D same s c i = s c ((same c).0 i)
 
--- What both loops keep: the configurations stand apart from the added rule, and END is still to come.
+-- What both loops keep: the configurations are apart from the added rule, and END is still to come.
 pub record IsLooking (net : ParserNetwork) (z : Stack) (tokens : List Token) (k : ℕ) (C : Config → Type 0) : Type 0 where
   pub rule : ℕ
   pub loop : ℕ

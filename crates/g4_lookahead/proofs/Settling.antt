@@ -1,4 +1,4 @@
--- What holds of a set whose configurations all stand at the added rule's end, and of the alternatives that are left.
+-- What holds of a set whose configurations are all at the added rule's end, and of the alternatives that are left.
 use Rattle.std.proofs.Common.{◌≡◌, ◌≢◌, ◌⊎◌, inl, inr, ℕ, ◌+◌, ◌<◌, ◌≤◌, suc, List, [], ◌∷◌, length, refl, sym, ◌∙◌, ap, subst, arith, Contains}
 use Rattle.g4_net.specs.Configurations.{Stack, Config, config}
 use Rattle.g4_net.specs.Lookahead.{Start, Next, IsEmpty, IsOnly}
@@ -87,7 +87,7 @@ only_first net d i D h o =
     let first = h o.some.0 o.some.1 in
     (first.0, subst (λ (j : ℕ). IsFirst net d j first.0) (o.all o.some.0 o.some.1) first.1)
 
--- a verdict on such a set tells it, if what is said later does
+-- a verdict on such a set says it, if what is said later does
 judge_tells : (net : ParserNetwork) (d k a bound : ℕ) (D : Config → Type 0) (Later : Verdict → List Looked → Type 0) → k < bound → Begins net d D → ((v : Verdict) (more : List Looked) → Later v more → Tells net d bound v) → (v : Verdict) (looked : List Looked) → Judges D k a Later v looked → Tells net d bound v
 judge_tells net d k a bound D Later less h later _ _ (prediction.nothing_left e) = less
 judge_tells net d k a bound D Later less h later _ _ (prediction.one_left i o) = only_first net d i D h o

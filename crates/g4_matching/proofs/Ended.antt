@@ -32,7 +32,7 @@ module _ (net : LexerNetwork) where
     | inr new ↦ absurd (never (subst (EndsAt net) (sym new.1) x_end))
   ]
 
-  -- a noted place with an end of the rule tells that there is one
+  -- a noted place with an end of the rule shows that there is one
   pub end_told : (list : List Entry) (rule place : ℕ) (e : Entry) → slice_get list place ≡ Some e → e.rule ≡ rule → EndsAt net e → HasRuleEnd net list rule
   end_told list rule place e at is end = (e, in_at list place e at, is, end)
 

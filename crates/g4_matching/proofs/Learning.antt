@@ -34,7 +34,7 @@ alike_reads_all net a b list read ab ba (refused c cs _ never h) = refused c cs 
 pub alike_next : (net : LexerNetwork) (bounds : List ℕ) (last : Bool) (a b : ℕ) (list next : List LexerConfig) → AreAlikeBy net bounds → class_in bounds a ≡ class_in bounds b → IsNext net last a list next → IsNext net last b list next
 alike_next net bounds last a b list next alike same h = record { read = h.read; reads = alike_reads_all net a b list h.read (alike a b same) (alike b a (sym same)) h.reads; makes = h.makes }
 
--- a class is one of so many
+-- a class is below the number of classes
 pub class_within : (bounds : List ℕ) (a : ℕ) → class_in bounds a < class_count bounds
 class_within bounds a = let n = count_by-le-length (λ b. nat_le b a) bounds in omega arith
 

@@ -149,7 +149,7 @@ module _ (net : LexerNetwork) (starts : List LexerConfig) (text : List ℕ) wher
       let h = so.best_is in
       record { after = at; best_is = (h.0, h.1, (let le = h.2 in omega arith), h.3, h.4, up_to b.length n new at none h.5) }
 
-  -- with what the list tells
+  -- with what the list gives
   pub best_on : (n : ℕ) (list new : List LexerConfig) (best : Option Match) (end : Option RuleEnd) → ListAfter net starts text (n + 1) new → TellsEnd net new end → SoFar net starts text n list best → SoFar net starts text (n + 1) new (best_after best (n + 1) end)
   best_on n list new best None at none so = without_end n list new best at none so
   best_on n list new best (Some end) at least so = with_end n new end at least
@@ -210,12 +210,12 @@ not_last n text lt = is_last_by false (drop n text) (λ e. absurd (cc)) (λ z. l
 pub whole_read : (n : ℕ) (text : List ℕ) → length text ≤ n → true ≡ is_last (drop n text)
 whole_read n text le = is_last_by true (drop n text) (λ e. let d = length-drop n text in omega arith) (λ z. refl)
 
--- a list that is told to be empty
+-- a list that is found to be empty
 pub empty_by : {X : Type 0} (b : Bool) (n : ℕ) (xs : List X) → b ≡ true → b ≡ eqb n 0 → n ≡ length xs → xs ≡ []
 empty_by b n [] on is len = refl
 empty_by b n (x ∷ xs) on is len = let e = eqb-true n 0 (sym is ∙ on) in absurd (omega arith)
 
--- and one that is told not to be
+-- and one that is found not to be
 pub not_empty_by : (b : Bool) (n : ℕ) → b ≡ false → b ≡ eqb n 0 → 0 < n
 not_empty_by b zero off is = absurd (cc)
 not_empty_by b (suc n) off is = omega arith

@@ -26,7 +26,7 @@ kept_list old new n list same keeps h = (h.0, keeps n h.0 h.1, ap (λ (x : Listi
 pub one_under : (returns : List (List ℕ)) (lists : List Learned) (n : ℕ) (list other : List LexerConfig) → HasList returns lists n list → HasList returns lists n other → list ≡ other
 one_under returns lists n list other h k = sym h.2 ∙ ap (λ (l : Learned). configs_of returns l.entries.items) (same_some h.0 k.0 (sym h.1 ∙ k.1)) ∙ k.2
 
--- what is kept with a list is the end that it tells
+-- what is kept with a list is the end that it gives
 pub tells_at : (net : LexerNetwork) (modes : List (List Start)) (bounds : List ℕ) (returns : List (List ℕ)) (lists : List Learned) (next firsts : List (Option ℕ)) (n : ℕ) (list : List LexerConfig) (end : Option RuleEnd) → AreLearned net modes bounds returns lists next firsts
     → (h : HasList returns lists n list) → end ≡ h.0.end → TellsEnd net list end
 tells_at net modes bounds returns lists next firsts n list end sound h is = subst (TellsEnd net list) (sym is) (subst (λ (l : List LexerConfig). TellsEnd net l h.0.end) h.2 (sound.ends n h.0 h.1))

@@ -36,11 +36,11 @@ module _ (net : LexerNetwork) (lists : List (List ℕ)) (distinct : IsDistinct l
       same : (xs : List Entry) (k : ℕ) → k < length xs → get_or xs k blank ≡ get_or xs k (get_or xs k blank)
       same xs k less = get_or_default xs k blank (get_or xs k blank) less
 
-  -- it tells nothing new
+  -- it gives nothing new
   pub tell_same : (best : Option RuleEnd) → (EndsAt net (entry_at list i) → IsAsGood best (entry_at list i).rule) → TellsEnd net (configs_of lists (take i list)) best → TellsEnd net (configs_of lists (take (i + 1) list)) best
   tell_same best good h = subst (λ (l : List LexerConfig). TellsEnd net l best) (sym more) (tells_same net (configs_of lists (take i list)) (config_of lists (entry_at list i)) best (λ end. good (config_end net lists distinct first (entry_at list i) is_known end)) h)
 
-  -- it tells an end
+  -- it gives an end
   pub tell_new : (best : Option RuleEnd) → EndsAt net (entry_at list i) → (IsAsGood best (entry_at list i).rule → ⊥) → TellsEnd net (configs_of lists (take i list)) best
       → IsLeastEnd net (configs_of lists (take (i + 1) list)) (entry_at list i).rule (entry_at list i).alternative
   tell_new best end better h = subst (λ (l : List LexerConfig). IsLeastEnd net l (entry_at list i).rule (entry_at list i).alternative) (sym more) (tells_new net (configs_of lists (take i list)) (config_of lists (entry_at list i)) best (end_config net lists distinct first (entry_at list i) end) better h)

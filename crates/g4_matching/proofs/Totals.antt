@@ -26,7 +26,7 @@ same_total : (f g : LexerConfig → ℕ) (xs : List LexerConfig) → ((x : Lexer
 same_total f g [] h = refl
 same_total f g (x ∷ xs) h = let e = h x (inl refl) in let t = same_total f g xs (λ y i. h y (inr i)) in omega arith
 
--- how many configurations there are below one, with every repetition, within so many steps
+-- how many configurations there are below one, with every repetition, within n steps
 unfoldable pub size : LexerNetwork → Bool → ℕ → LexerConfig → ℕ
 size net last zero c = 0
 size net last (suc n) c = suc (total (size net last n) (leads net last c))

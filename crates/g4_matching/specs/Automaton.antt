@@ -45,7 +45,7 @@ class_count bounds = length bounds + 1
 abbrev pub cell_of : List ℕ → ℕ → ℕ → ℕ
 cell_of bounds list a = list * class_count bounds + class_in bounds a
 
--- What is learned is right: each list tells its end; what is noted for a list and a class is the list after it, by each character of
+-- What is learned is right: each list gives its end; what is noted for a list and a class is the list after it, by each character of
 -- that class; what is noted for a mode is its first list.
 pub record AreLearned (net : LexerNetwork) (modes : List (List Start)) (bounds : List ℕ) (returns : List (List ℕ)) (lists : List Learned) (next firsts : List (Option ℕ)) : Type 0 where
   pub alike : AreAlikeBy net bounds
@@ -92,7 +92,7 @@ pub record LeadsTo (net : LexerNetwork) (a from : ℕ) (old new : Automaton) (to
   pub after : Has new to next
   pub is_next : IsNext net false a list next
 
--- the end is what the list tells after the last character
+-- the end is what the list gives after the last character
 pub record TellsLast (net : LexerNetwork) (a from : ℕ) (old : Automaton) (end : Option RuleEnd) : Type 0 where
   pub list : List LexerConfig
   pub next : List LexerConfig

@@ -32,7 +32,7 @@ AreEnds net list ends = (k : ℕ) (e : Entry) → slice_get list k ≡ Some e �
 abbrev pub HasNoEnd : LexerNetwork → List LexerConfig → Type 0
 HasNoEnd net list = (e : LexerConfig) → In e list → IsAtEnd net e → ⊥
 
--- what the list tells: an end, or that no rule ends in it
+-- what the list gives: an end, or that no rule ends in it
 abbrev pub TellsEnd : LexerNetwork → List LexerConfig → Option RuleEnd → Type 0
 TellsEnd net list None = HasNoEnd net list
 TellsEnd net list (Some end) = IsLeastEnd net list end.rule end.alternative

@@ -10,7 +10,7 @@ use Rattle.g4_matching.specs.declared.rule_end.RuleEnd.{RuleEnd}
 abbrev pub IsFound : LexerNetwork → List LexerConfig → List ℕ → Option Match → Type 0
 IsFound net starts text found = MatchOption found (NoMatch net starts text) (λ m. IsMatch net starts text m.length m.rule m.alternative)
 
--- the best match so far is that of the list after so many characters, if that tells an end
+-- the best match so far is that of the list after `length` characters, if that gives an end
 abbrev pub best_after : Option Match → ℕ → Option RuleEnd → Option Match
 best_after best length None = best
 best_after best length (Some end) = Some (record { length = length; rule = end.rule; alternative = end.alternative })

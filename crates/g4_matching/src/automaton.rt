@@ -253,7 +253,7 @@ impl Automaton {
         self.lists[list as usize].entries.is_empty()
     }
 
-    /// The end that the list tells.
+    /// The end that the list gives.
     pub fn end_of(&self, list: u32) -> Option<RuleEnd>
         requires { list < length self.now.lists.items }
         ensures { (l : List) → slice_get self.now.lists.items list ≡ Some l → result ≡ l.end }

@@ -12,7 +12,7 @@ pub struct Match {
     pub alternative: u32,
 }
 
-/// The best match, once the list after so many characters is known: a longer one is better.
+/// The best match, once the list after `length` characters is known: a longer one is better.
 pub(crate) fn best_after(best: Option<Match>, length: usize, end: Option<RuleEnd>) -> Option<Match>
     ensures { result ≡ best_after best length end }
 {

@@ -7,7 +7,7 @@ use crate::rule_end::RuleEnd;
 /// What the hash of entries is multiplied by, so that each of its bits counts: an odd number near 2 ^ 64 divided by the golden ratio.
 const SPREAD: u64 = 0x9E37_79B9_7F4A_7C15;
 
-/// A list that is kept, the end that it tells, and the number of an earlier one whose entries have the same hash.
+/// A list that is kept, the end that it gives, and the number of an earlier one whose entries have the same hash.
 #[derive(Drop)]
 pub(crate) struct Learned {
     pub entries: Vec<Entry>,

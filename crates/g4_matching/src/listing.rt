@@ -127,7 +127,7 @@ impl Listing {
         Ok(())
     }
 
-    /// The end that the list tells: of the least rule that ends there, the first.
+    /// The end that the list gives: of the least rule that ends there, the first.
     pub fn least_end(&self, net: &LexerNetwork) -> Option<RuleEnd>
         requires { IsReady self.now }
         ensures { TellsEnd net.now (listed self.now) result }

@@ -72,7 +72,7 @@ impl Automaton {
         Ok(number)
     }
 
-    /// The end that the list after a list tells, by the last character. Edges that ask that no character is left may be taken there, so
+    /// The end that the list after a list gives, by the last character. Edges that ask that no character is left may be taken there, so
     /// such a list is not learned.
     fn last_end(
         &mut self,

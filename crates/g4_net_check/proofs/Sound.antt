@@ -86,7 +86,7 @@ module _ {L : Type 0} (net : Network L) where
   cycle_answer None none = (λ t. never_again net none, λ never. refl)
   cycle_answer (Some cycle) f = (λ t. absurd (cc), λ never. absurd (no_cycle net never f.first (reaches_first (StepsTo net) f.first cycle f.shortest.begins f.shortest.is_cycle)))
 
--- what is told of a mapped option
+-- whether a mapped option is none
 pub none_told : {X Y : Type 0} (f : X → Y) (o : Option X) (b : Bool) → is_some o ≡ not b → is_none (option_map f o) ≡ b
 none_told f None true e = refl
 none_told f None false e = cc

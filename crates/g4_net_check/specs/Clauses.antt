@@ -1,4 +1,4 @@
--- The definite clauses that tell which states are nullable.
+-- The definite clauses that decide which states are nullable.
 use Rattle.std.specs.Prelude.{◌≡◌, ◌↔◌, ◌⊎◌, ℕ, List, [], ◌∷◌, Some, slice_get, Contains}
 use Rattle.g4_horn.specs.declared.clause.Clause.{Clause}
 use Rattle.g4_net.specs.declared.network.State.{State}

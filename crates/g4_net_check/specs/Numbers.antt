@@ -4,7 +4,7 @@ use Rattle.g4_net.specs.declared.network.Network.{Network}
 use Rattle.g4_net.specs.declared.network.State.{State}
 use Rattle.g4_net.specs.declared.network.State.TheVariants.{Decision, End, Edge, Call, Predicate, Level, Action, Empty}
 
--- a state of a network of so many states and rules: its targets are states, the rule that it calls or ends is a rule, and a
+-- a state of a network of this many states and rules: its targets are states, the rule that it calls or ends is a rule, and a
 -- decision has two alternatives or more
 abbrev pub StateFits : {L : Type 0} → ℕ → ℕ → State L → Type 0
 StateFits states rules (Decision targets) = (2 ≤ length targets) × All (λ t. t < states) targets

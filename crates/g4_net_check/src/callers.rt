@@ -7,7 +7,7 @@ use crate::members::same_members;
 use g4_net::{Network, State};
 use std::alloc::{AllocError, Global};
 
-/// So many empty lists.
+/// `count` empty lists.
 fn empty_lists(alloc: Global, count: usize) -> Result<Vec<Vec<u32>>, AllocError>
     ensures size { IfOk result (λ lists. length lists.items ≡ count) }
     ensures none { IfOk result (λ lists. (k : ℕ) → successors_of lists.items k ≡ []) }
@@ -19,7 +19,7 @@ fn empty_lists(alloc: Global, count: usize) -> Result<Vec<Vec<u32>>, AllocError>
     Ok(lists)
 }
 
-/// For each of so many rules the return states of its calls.
+/// For each of this many rules the return states of its calls.
 fn return_states<L>(
     alloc: Global,
     rules: usize,

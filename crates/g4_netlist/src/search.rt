@@ -44,7 +44,7 @@ struct Search {
 }
 
 impl Search {
-    /// No state is found of so many.
+    /// None of `count` states is found.
     fn new(alloc: Global, count: usize) -> Result<Search, AllocError>
         ensures found { IfOk result (λ s. s.found.items ≡ replicate count false) }
         ensures waiting { IfOk result (λ s. s.waiting.items ≡ []) }

@@ -140,7 +140,7 @@ push_fit [] (n ∷ ns) rule numbering fit one = absurd fit
 push_fit (r ∷ rules) [] rule numbering fit one = absurd fit
 push_fit (r ∷ rules) (n ∷ ns) rule numbering fit one = (fit.0, push_fit rules ns rule numbering fit.1 one)
 
--- the same of lists that are told to be so
+-- the same of lists that are known to be so
 pub pushed_fit : (rules : List StepRule) (numberings : List Numbering) (rule : StepRule) (numbering : Numbering) (more : List StepRule) (others : List Numbering) → more ≡ rules ++ rule ∷ [] → others ≡ numberings ++ numbering ∷ [] →
     NumberingsFit (map alternatives_of rules) numberings → HasOneStart numbering → NumberingsFit (map alternatives_of more) others
 pushed_fit rules numberings rule numbering more others pushed numbered fit one =

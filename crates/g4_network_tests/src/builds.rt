@@ -35,7 +35,7 @@ fn symbol(alloc: Global, number: u16) -> Result<RuleAlternative<Step<Symbols>>, 
     })
 }
 
-/// So many alternatives, each another symbol.
+/// `count` alternatives, each another symbol.
 fn alternatives(
     alloc: Global,
     count: u16,
@@ -50,7 +50,7 @@ fn alternatives(
     Ok(bodies)
 }
 
-/// A rule of so many alternatives.
+/// A rule of `count` alternatives.
 fn rule(alloc: Global, count: u16) -> Result<StepRule, AllocError>
     requires { 1 ≤ count }
     ensures { IfOk result (λ rule. IsFlat rule) }
@@ -71,7 +71,7 @@ fn numbering(alloc: Global) -> Result<Numbering, AllocError>
     Ok(Numbering { starts, count: 1 })
 }
 
-/// So many such rules.
+/// This many such rules.
 fn flat_rules(alloc: Global, rules: u16, count: u16) -> Result<Grammar, AllocError>
     requires { 1 ≤ count }
     ensures laid { IfOk result (λ grammar. CanBeLaid grammar.rules.items) }
@@ -89,7 +89,7 @@ fn flat_rules(alloc: Global, rules: u16, count: u16) -> Result<Grammar, AllocErr
     })
 }
 
-/// How many states the network of so many rules of so many alternatives has, or why there is none.
+/// How many states the network of `rules` rules of `count` alternatives has, or why there is none.
 fn built(
     alloc: Global,
     rules: u16,

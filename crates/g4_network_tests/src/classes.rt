@@ -127,7 +127,7 @@ fn classes_of_small_networks(rt: HostRuntime) -> Result<(), Fail> {
     Ok(())
 }
 
-/// A network of so many edges that take one of the first 4,000 types each, and then so many that take all types to 3,801, to
+/// A network of `single` edges that take one of the first 4,000 types each, and then `wide` that take all types to 3,801, to
 /// 3,802 and so on.
 fn many_edges(alloc: Global, single: u32, wide: u32) -> Result<ParserNetwork, AllocError>
     requires { wide < 1000 }

@@ -226,7 +226,7 @@ fn small_rules(rt: HostRuntime) -> Result<(), Fail> {
     Ok(())
 }
 
-/// The text so many times.
+/// The text `count` times.
 fn repeated(alloc: Global, text: &str, count: u32) -> Result<String, AllocError> {
     let mut all = String::new(alloc);
     for _ in 0..count {

@@ -69,7 +69,7 @@ fn lists_of(alloc: Global, lists: &[&[u32]]) -> Result<Vec<Sequence<u32>>, Alloc
     Ok(all)
 }
 
-/// Whether a network of these states and callers, with so many numbers of alternatives, is well formed.
+/// Whether a network of these states and callers, with this many numbers of alternatives, is well formed.
 fn is_well_formed(
     alloc: Global,
     states: Vec<State<u32>>,

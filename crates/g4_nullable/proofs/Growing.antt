@@ -108,7 +108,7 @@ module _ (rules bodies : List (Alternatives Lead)) (before : List ℕ) where
   pub plus_block : (label : Option Label) (sign : Suffix) (xs : Alternatives Lead) (n : ℕ) (after : List ℕ) → after ≡ before ++ n ∷ [] → slice_get bodies n ≡ Some xs → AddsNeeds rules bodies (block label (Plus sign) xs) before after true
   plus_block label sign xs n after pushed at = record { added = λ e. (n ∷ [], pushed, (n, refl, at)); never = λ e h. absurd (cc) }
 
--- the needs of a block that is taken so often
+-- the needs of a block with this repeat
 pub so_often : (rules bodies : List (Alternatives Lead)) (before after : List ℕ) (can : Bool) (label : Option Label) (repeat r : Repeat) (xs : Alternatives Lead) → repeat ≡ r → AddsNeeds rules bodies (block label r xs) before after can → AddsNeeds rules bodies (block label repeat xs) before after can
 so_often rules bodies before after can label repeat r xs is adds = subst (λ (q : Repeat). AddsNeeds rules bodies (block label q xs) before after can) (sym is) adds
 
@@ -126,7 +126,7 @@ needs_more rules mid later xs i x ns new us kept at so_far added need =
 pub covered_none : (rules bodies : List (Alternatives Lead)) (clauses : List Clause) (n : ℕ) (xs : List (Elements Lead)) → IsCovered rules bodies clauses n (either (take 0 xs))
 covered_none rules bodies clauses n xs x among all = absurd among
 
--- a body behind others
+-- a body after others
 last_at : (bodies : List (Alternatives Lead)) (xs : Alternatives Lead) → slice_get (bodies ++ xs ∷ []) (length bodies) ≡ Some xs
 last_at [] xs = refl
 last_at (y ∷ bodies) xs = last_at bodies xs

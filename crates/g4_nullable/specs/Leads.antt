@@ -6,7 +6,7 @@ use Rattle.g4_nullable.specs.declared.lead.Lead.{Lead}
 use Rattle.g4_nullable.specs.declared.lead.Lead.TheVariants.{Empty, Symbol, Call}
 use Rattle.g4_nullable.specs.declared.lead.LeadRule.{LeadRule}
 
--- the words of an atom: a symbol stands for whatever reads something, and a call reads nothing of its own
+-- the words of an atom: a symbol represents whatever reads something, and a call reads nothing of its own
 abbrev pub ReadsLead : Lead → List ℕ → Type 0
 ReadsLead Empty w = w ≡ []
 ReadsLead Symbol w = (symbol : ℕ) × (w ≡ symbol ∷ [])

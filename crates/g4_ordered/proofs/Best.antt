@@ -12,7 +12,7 @@ use Rattle.g4_ordered.proofs.Deciding.{same_number, is_at_end}
 use Rattle.g4_ordered.proofs.Order.{always_in_order}
 use Rattle.g4_ordered.proofs.Matched.{ends_spelled, spelled_ends}
 
--- what stands behind the first n characters ends the text
+-- what comes after the first n characters ends the text
 halves : (n : ℕ) (text : List ℕ) → (u : List ℕ) × (text ≡ u ++ drop n text)
 halves n text = (take n text, sym (take-append-drop n text))
 

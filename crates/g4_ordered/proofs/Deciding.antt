@@ -1,4 +1,4 @@
--- What is asked of configurations and lists can be told.
+-- What is asked of configurations and lists can be decided.
 use Rattle.std.proofs.Common.{◌≡◌, ℕ, ◌<◌, ◌≤◌, ◌⊎◌, inl, inr, List, [], ◌∷◌, Bool, true, false, Option, Some, length, refl, sym, ◌∙◌, ap, subst, arith}
 use Rattle.std.proofs.lemmas.Bool.{false≢true}
 use Rattle.g4_chars.specs.declared.range.Range.{Range}
@@ -155,7 +155,7 @@ character_is (Some (Edge (Characters set) t)) h = (set, t, refl)
 character_is (Some (Edge EndOfText t)) h = absurd h
 character_is _ h = absurd h
 
--- which of them is told by the set of its edge
+-- which of them is decided by the set of its edge
 read_by_set : (net : LexerNetwork) (a : ℕ) (c : LexerConfig) (set : List Range) (t : ℕ) → state_at net c.state ≡ Some (Edge (Characters set) t) → Either (Has set a) → ReadsOrNot net a c
 read_by_set net a c set t is (inl h) = inl (at c t, (set, t, is, h, refl))
 read_by_set net a c set t is (inr lacks) = inr (λ d h. lacks (subst (λ (s : List Range). Has s a) (same h.0 h.1 h.2) h.3))
@@ -163,7 +163,7 @@ read_by_set net a c set t is (inr lacks) = inr (λ d h. lacks (subst (λ (s : Li
     same : (s : List Range) (u : ℕ) → state_at net c.state ≡ Some (Edge (Characters s) u) → s ≡ set
     same s u e = cc
 
--- and so it is told
+-- and so it is decided
 pub read_somewhere : (net : LexerNetwork) (a : ℕ) (c : LexerConfig) → ReadsOrNot net a c
 read_somewhere net a c = go (is_character_by (state_at net c.state))
   where

@@ -43,7 +43,7 @@ module _ (net : LexerNetwork) (last : Bool) where
   ]
 
 module _ (Late : List LexerConfig → LexerConfig → Type 0) (new : List LexerConfig) where
-  -- what stands in the list stays
+  -- what is in the list stays
   stays : (more old : List LexerConfig) → Appends Late new more old → (d : LexerConfig) → In d old → In d new
   stays more old done d i = i
   stays more old (dropped c cs _ h a) d i = stays cs old a d i

@@ -46,11 +46,11 @@ one_list_of net last Late starts list other h g =
     let a = one_appending Late h.all g.all h.expansion [] h.appends (subst (λ l. Appends Late g.all l []) (sym e) g.appends) in
     one_keeping net h.all list other h.keeps (subst (λ l. Keeps net l other) (sym a) g.keeps)
 
--- the text before which a list stands is no longer than the whole
+-- the text after a list is no longer than the whole
 not_longer : (net : LexerNetwork) (starts : List LexerConfig) (w v : List ℕ) (list : List LexerConfig) → ListAt net starts w v list → length v ≤ length w
 not_longer net starts w v list h = let r = at_rest net starts w v list h in let n = ap length r.1 ∙ length-append r.0 v in omega arith
 
--- before the whole text stands the list of the starts
+-- the list before the whole text is that of the starts
 pub at_start : (net : LexerNetwork) (starts : List LexerConfig) (w v : List ℕ) (list : List LexerConfig) → ListAt net starts w v list → length w ≤ length v → ListOf net (is_last w) Never starts list
 at_start net starts w v list (first _ h) le = h
 at_start net starts w v list (step a _ l _ _ k q g) le = let n = not_longer net starts w (a ∷ v) l k in absurd (omega arith)
@@ -64,7 +64,7 @@ record After (net : LexerNetwork) (starts : List LexerConfig) (w v : List ℕ) (
   reads : ReadAll net a before read
   makes : ListOf net (is_last v) (BehindEnd net) read list
 
--- before a part of the text stands such a list
+-- the list before a part of the text is made so
 after : (net : LexerNetwork) (starts : List LexerConfig) (w v : List ℕ) (list : List LexerConfig) → ListAt net starts w v list → length v < length w → After net starts w v list
 after net starts w v list (first _ h) lt = absurd (omega arith)
 after net starts w v list (step a _ l read _ k q g) lt = record { a = a; before = l; read = read; at = k; reads = q; makes = g }

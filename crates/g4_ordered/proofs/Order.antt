@@ -1,4 +1,4 @@
--- The alternatives of a rule stand in their order in every list.
+-- The alternatives of a rule come in their order in every list.
 use Rattle.std.proofs.Common.{◌≡◌, ◌≤◌, ℕ, inl, inr, List, [], ◌∷◌, ◌++◌, Bool, refl, sym, ◌∙◌, subst, arith, append_assoc}
 use Rattle.std.proofs.lemmas.List.{append-nil}
 use Rattle.g4_ordered.specs.Network.{LexerNetwork}

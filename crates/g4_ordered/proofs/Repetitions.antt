@@ -1,4 +1,4 @@
--- No configuration stands in a list twice.
+-- No configuration occurs in a list twice.
 use Rattle.std.proofs.Common.{ℕ, inl, inr, List, [], ◌∷◌, ◌++◌, sym}
 use Rattle.g4_ordered.specs.Network.{LexerNetwork}
 use Rattle.g4_ordered.specs.Configurations.{LexerConfig, In}
@@ -6,7 +6,7 @@ use Rattle.g4_ordered.specs.Lists.{Appends, done, dropped, appended, Keeps, no_m
 use Rattle.g4_ordered.proofs.Lists.{In-cases}
 use Rattle.g4_ordered.proofs.Members.{kept_in}
 
--- a list has no repetition with one more behind it that it did not have
+-- a list has no repetition with one more after it that it did not have
 one_more : (old : List LexerConfig) (c : LexerConfig) → HasNoRepetition old → (In c old → ⊥) → HasNoRepetition (old ++ c ∷ [])
 one_more [] c h fresh = (λ i. i, tt)
 one_more (b ∷ old) c h fresh = (apart, one_more old c h.1 (λ i. fresh (inr i)))

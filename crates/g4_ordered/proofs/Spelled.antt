@@ -47,7 +47,7 @@ untrue true h = absurd (h refl)
 untrue false h = refl
 
 module _ (net : LexerNetwork) where
-  -- each of these states in turn spells a part of what stands in w before z
+  -- each of these states in turn spells a part of what is in w before z
   abbrev SpellsThrough : List ℕ → List ℕ → List ℕ → Type 0
   SpellsThrough [] w z = w ≡ z
   SpellsThrough (p ∷ ps) w z = (v : List ℕ) × SpellsText net p w v × SpellsThrough ps v z
@@ -103,11 +103,11 @@ module _ (net : LexerNetwork) where
   back_by (Some (Action t)) c e w z is i h = back_at (Some (Action t)) c e t w z is refl (only _ e i) h
   back_by (Some (Empty t)) c e w z is i h = back_at (Some (Empty t)) c e t w z is refl (only _ e i) h
 
-  -- what is spelled after a character is spelled before it, behind the character
+  -- what is spelled after a character is spelled before it, with the character in front
   back_read : (a : ℕ) (c e : LexerConfig) (w z : List ℕ) → ReadsTo net a c e → Onward e w z → Onward c (a ∷ w) z
   back_read a c e w z (set, t, is, has, there) h = took c.state t (Characters set) c.returns (a ∷ w) w z is (a, refl, has) (subst (λ x. Onward x w z) there h)
 
-  -- what is spelled where a walk arrives is spelled where it sets out, behind what it reads
+  -- what is spelled where a walk arrives is spelled where it sets out, with what it reads in front
   walk_back : (c : LexerConfig) (w : List ℕ) (d : LexerConfig) (v z : List ℕ) → Walks net c w d v → Onward d v z → Onward c w z
   walk_back c w d v z here h = h
   walk_back c w d v z (leading e _ _ k i) h = walk_back c w e v z k (back_by (state_at net e.state) e d v z refl i h)

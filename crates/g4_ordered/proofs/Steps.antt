@@ -22,12 +22,12 @@ pub record Follows (c d : LexerConfig) : Type 0 where
 follows_at : (c d : LexerConfig) (t : ℕ) → d ≡ at c t → Follows c d
 follows_at c d t is = subst (Follows c) (sym is) (record { rule = refl; alternative = refl; passed = λ p. p })
 
--- what has passed has passed behind a decision
+-- what has passed still has after a decision
 still_passed : (reluctant passed : Bool) → passed ≡ true → (reluctant || passed) ≡ true
 still_passed true passed p = refl
 still_passed false passed p = p
 
--- and so it does behind a decision
+-- and so it does after a decision
 follows_through : (reluctant : Bool) (c d : LexerConfig) (t : ℕ) → d ≡ through reluctant c t → Follows c d
 follows_through reluctant c d t is = subst (Follows c) (sym is) (record { rule = refl; alternative = refl; passed = still_passed reluctant c.passed })
 

@@ -31,7 +31,7 @@ module _ (net : LexerNetwork) where
   walk_rest c w d v (leading e _ _ k i) = walk_rest c w e v k
   walk_rest c w d v (reading a e _ _ k i) = let r = walk_rest c w e (a ∷ v) k in (r.0 ++ a ∷ [], r.1 ∙ sym (append_assoc r.0 (a ∷ []) v))
 
-  -- the text before which a list stands ends the whole text
+  -- the text after a list ends the whole text
   pub at_rest : (starts : List LexerConfig) (w v : List ℕ) (list : List LexerConfig) → ListAt net starts w v list → (u : List ℕ) × (w ≡ u ++ v)
   at_rest starts w v list (first _ h) = ([], refl)
   at_rest starts w v list (step a _ l _ _ k read h) = let r = at_rest starts w (a ∷ v) l k in (r.0 ++ a ∷ [], r.1 ∙ sym (append_assoc r.0 (a ∷ []) v))

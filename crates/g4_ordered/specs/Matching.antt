@@ -20,13 +20,13 @@ EndsRule net rule c = (c.rule ≡ rule) × IsAtEnd net c
 abbrev pub ListAfter : LexerNetwork → List LexerConfig → List ℕ → ℕ → List LexerConfig → Type 0
 ListAfter net starts text n list = (n ≤ length text) × ListAt net starts text (drop n text) list
 
--- The end that a list tells: of the least rule that ends there, the first.
+-- The end that a list gives: of the least rule that ends there, the first.
 pub record IsLeastEnd (net : LexerNetwork) (list : List LexerConfig) (rule alternative : ℕ) : Type 0 where
   pub first : (c : LexerConfig) × IsFirst (EndsRule net rule) list c × (c.alternative ≡ alternative)
   pub least : (r : ℕ) → HasEnd net list r → rule ≤ r
 
 -- The match has n characters, one or more, of this rule and this outer alternative of it: after them the list has a rule's
--- end, and tells this one; after no longer prefix has it a rule's end.
+-- end, and gives this one; after no longer prefix has it a rule's end.
 pub record IsMatch (net : LexerNetwork) (starts : List LexerConfig) (text : List ℕ) (n rule alternative : ℕ) : Type 0 where
   pub some : 1 ≤ n
   pub list : List LexerConfig

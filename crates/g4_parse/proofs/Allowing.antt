@@ -83,7 +83,7 @@ along_ends net level start p ready other h word r at_level = (h.same word r at_l
 split : (k n : ℕ) → k < n + 1 → (k < n) ⊎ (k ≡ n)
 split k n less = grind arith
 
--- among the first none of the first states no tests are true
+-- among the first 0 of the first states no tests are true
 pub passing_none : (net : ParserNetwork) (ts : List ℕ) (word : List ℕ) (r : Run) → ArePassing net ts 0 [] word r
 passing_none net ts word r i = ((λ has. absurd (let less = has.1 in omega (arith, less))), λ (k, t, less, at_k, number, passes). absurd (omega (arith, less)))
 

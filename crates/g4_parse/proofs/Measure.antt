@@ -15,7 +15,7 @@ use Rattle.g4_parse.specs.Standing.{backs, farthest}
 use Rattle.g4_parse.proofs.Stages.{Stage, advances}
 use Rattle.g4_parse.proofs.Steps.{TakesToken, TakesNone, token_or_none, Proceeds}
 
--- where a run stands, as a configuration
+-- where a run is, as a configuration
 abbrev pub config_at : ℕ → List ℕ → Config
 config_at p returns = config p 0 (above_bottom returns)
 

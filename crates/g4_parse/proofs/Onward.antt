@@ -1,4 +1,4 @@
--- From the run's beginning to where the parser stands.
+-- From the run's beginning to where the parser is.
 use Rattle.std.proofs.Common.{◌≡◌, ◌<◌, [], ℕ, List, length, reverse, refl, sym, ◌∙◌, ap, subst, arith, append-nil}
 use Rattle.std.specs.Prelude.{Option, Some, None, Ok, Err, Bool, false}
 use Rattle.g4_net.specs.declared.network.State.{State}
@@ -153,7 +153,7 @@ fault_onward net word r fault onward h = of_fault fault h
     of_fault (TooDeep at) h = ends_so (too_deep at) h
     of_fault NoMemory h = tt
 
--- a turn that fails tells the run's fault, where no choice was presumed
+-- a turn that fails gives the run's fault, where no choice was presumed
 pub turn_fails : (net : ParserNetwork) (word : List ℕ) (choosing : Choosing) (presumed : Bool) (reached : Option ℕ) (p q : Parser) (fault : ParseFault) → Onward net word choosing presumed reached p → ((r : Run) → StandsFor p r → IsForeseenTurnBy net word (state_at net r.state) r q (Err fault)) → IsRun net word choosing (Err (record { fault = fault; presumed = presumed }))
 turn_fails net word choosing presumed reached p q fault o turn = ((λ is. fault_onward net word o.run fault (o.tells.sure is) (turn o.run o.stands)), o.exact)
 

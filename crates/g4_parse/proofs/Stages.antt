@@ -19,7 +19,7 @@ use Rattle.g4_parse.specs.Standing.{backs, IsFitBy, farthest}
 use Rattle.g4_parse.proofs.Grown.{state_child, place_child}
 use Rattle.g4_parse.proofs.Steps.{ProceedsBy, Proceeds, first_in, backs_alt, backs_child, backs_token, backs_wrapped}
 
--- a symbol other than the last does not stand at the last place
+-- a symbol other than the last is not at the last place
 last_place : (front : List ℕ) (x i a : ℕ) → slice_get (front ++ x ∷ []) i ≡ Some a → (a ≡ x → ⊥) → i < length front
 last_place [] x zero a e n = absurd (n cc)
 last_place [] x (suc i) a e n = cc

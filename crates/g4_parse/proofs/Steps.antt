@@ -57,7 +57,7 @@ pub backs_wrapped : (i : ℕ) (fs : List Frame) → backs (wrapped i fs) ≡ bac
 backs_wrapped i [] = refl
 backs_wrapped i (f ∷ fs) = refl
 
--- where a run stands, as a configuration of an alternative
+-- where a run is, as a configuration of an alternative
 abbrev pub config_of : ℕ → Run → Config
 config_of i r = config r.state i (stack_of r)
 
@@ -78,7 +78,7 @@ pub record TakesNone (net : ParserNetwork) (r s : Run) : Type 0 where
   pub place : s.place ≡ r.place
   pub leads : (i : ℕ) → Leads net (config_of i r) (config_of i s)
 
--- where a run stands is told by its state and the return states
+-- where a run is follows from its state and the return states
 config_is : (i : ℕ) (s : Run) (t : ℕ) (returns : List ℕ) → s.state ≡ t → backs s.frames ≡ returns → config_of i s ≡ config t i (above_bottom returns)
 config_is i s t returns a b = ap (λ (p : ℕ). config p i (stack_of s)) a ∙ ap (λ (bs : List ℕ). config t i (above_bottom bs)) b
 

@@ -126,14 +126,14 @@ predicted net word r p allowed choice allows h says =
     let said : Decides net r.state (Allows allowed) (above_bottom (backs r.frames)) (drop r.place word) choice = rw (← h.state, ← h.place, ← stack) says in
     as_allowed net r.state (Allows allowed) (AllowsAt net no_predicates word r) (stack_of r) (drop r.place word) choice (allows word r h) said
 
--- what full stacks say in the run they say where the parser stands
+-- what full stacks say where the parser is, they say in the run
 full_at : (net : ParserNetwork) (word : List ℕ) (r : Run) (p : Parser) (B : ℕ → Type 0) (choice : Choice) → StandsFor p r → Full net p.state B (above_bottom (reverse p.returns.items)) (drop p.place word) choice → Full net r.state B (stack_of r) (drop r.place word) choice
 full_at net word r p B choice h full =
     let stack : reverse p.returns.items ≡ backs r.frames = ap reverse h.returns ∙ reverse_returns r.frames in
     subst (λ (d : ℕ). Full net d B (stack_of r) (drop r.place word) choice) h.state
     (subst (λ (at : ℕ). Full net p.state B (stack_of r) (drop at word) choice) h.place (subst (λ (bs : List ℕ). Full net p.state B (above_bottom bs) (drop p.place word) choice) stack full))
 
--- so what full stacks bear out where the parser stands, they do in the run
+-- so what full stacks confirm where the parser is, they confirm in the run
 right_at : (net : ParserNetwork) (word : List ℕ) (r : Run) (p : Parser) (allowed : Allowed) (B : ℕ → Type 0) (i : ℕ) → IsAllowed net p allowed → StandsFor p r → IsRightOver B net p.state (Allows allowed) (above_bottom (reverse p.returns.items)) (drop p.place word) i →
     IsRightOver B net r.state (AllowsAt net no_predicates word r) (stack_of r) (drop r.place word) i
 right_at net word r p allowed B i allows h (has, right) = (has, λ some. predicted net word r p allowed (chosen i) allows h (right (λ k none. some k (full_at net word r p B (no_viable k) h none))))
@@ -162,7 +162,7 @@ proper_stack net n p returns are (r, stands, fit) =
     let stack : reverse returns ≡ backs r.frames = ap reverse (are ∙ stands.returns) ∙ reverse_returns r.frames in
     subst (λ (bs : List ℕ). IsProper net p.state bs) (sym stack) (subst (λ (at : ℕ). IsProper net at (backs r.frames)) (sym stands.state) fit.proper)
 
--- a turn by the state where the parser stands is one by the state of the moment
+-- a turn by the parser's state is one by the state of the moment
 pub turned : (net : ParserNetwork) (word : List ℕ) (r : Run) (p q : Parser) (s : State (List ℕ)) (x : Result ⊤ ParseFault) → StandsFor p r → state_at net p.state ≡ Some s → IsTurnBy net word (Some s) r q x → IsTurnBy net word (state_at net r.state) r q x
 turned net word r p q s x h at_s = subst (λ (o : Option (State (List ℕ))). IsTurnBy net word o r q x) (sym at_s ∙ ap (λ (n : ℕ). state_at net n) h.state)
 

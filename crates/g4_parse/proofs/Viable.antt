@@ -25,7 +25,7 @@ use Rattle.g4_parse.proofs.Grown.{state_child}
 use Rattle.g4_parse.proofs.Stages.{Stage, advances}
 use Rattle.g4_parse.proofs.Steps.{ProceedsBy, Proceeds, proceeds_by, first_in, backs_alt, config_of, TakesToken, token_or_none}
 
--- what a word ends in does not stand before its end
+-- what a word ends in does not occur before its end
 at_the_end : (front : List ℕ) (x i : ℕ) → (Contains front x → ⊥) → slice_get (front ++ x ∷ []) i ≡ Some x → length front ≤ i
 at_the_end [] x i none e = omega arith
 at_the_end (b ∷ front) x zero none e = absurd (none (0, omega arith, cc))
@@ -122,7 +122,7 @@ module _ {looped : List ℕ} (net : ParserNetwork) (rule loop : ℕ) (ready : Is
     | inr other ↦ let left = spent (inl other.0) in omega (arith, ap (λ (x : Run). x.place) e)
   ]
 
-  -- some configuration of the set leads to where the run stands
+  -- some configuration of the set leads to where the run is
   abbrev LeadsTo : (Config → Type 0) → ℕ → Run → Type 0
   LeadsTo F i r = (c : Config) × F c × Reaches net c (config_of i r)
 

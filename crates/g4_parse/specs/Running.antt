@@ -126,7 +126,7 @@ module _ (net : ParserNetwork) (values : Values) (word : List ℕ) where
   ClosesBy r [] s = ⊥
   ClosesBy r (f ∷ fs) s = s ≡ with_child (record r { state = f.back; frames = fs }) fs (node_of f)
 
-  -- with at most so many rules open
+  -- with at most `limit` rules open
   module _ (limit : ℕ) where
     -- one step of the run, by the state
     abbrev pub GoesBy : Option (State (List ℕ)) → Run → Run → Type 0

@@ -1,4 +1,4 @@
-// Runs of the parser over a token list: one with presumed choices, and where that may tell the wrong fault, one without.
+// Runs of the parser over a token list: one with presumed choices, and where that may report the wrong fault, one without.
 ghost use Rattle.std.specs.Prelude.{◌≡◌, ◌<◌, false, ◌^◌, List, ℕ, IfOk, length};
 ghost use Rattle.g4_grammar.specs.StepRules.{CanBeRewritten, StepRule};
 ghost use Rattle.g4_layout.specs.Built.{IsBuilt};

@@ -13,7 +13,7 @@ find_file files name = option_map (λ f. f.bytes) (find (λ f. bytes_eq f.name n
 abbrev pub taken_or_none : Sunk → ℕ → Option ℕ
 taken_or_none s count = cond ((count == 0) || list_any (λ call. call == s.calls) s.failing) None (Some count)
 
--- how many bytes of a piece of this size an output takes: no more than the most of a put, and than there is room for
+-- how many bytes of a piece of this size an output takes: at most the most of a put, and at most what there is room for
 abbrev pub put_count : Sunk → ℕ → Option ℕ
 put_count s size = taken_or_none s (min (min size s.most) (s.room - length s.bytes))
 

@@ -8,7 +8,7 @@ use Rattle.g4_ports.specs.declared.ports.Got.TheVariants.{Bytes, Absent, Failed,
 abbrev pub Rose : ℕ → ℕ → Type 0
 Rose before now = (before ≤ now) × (min (before + 1) (2 ^ 64 - 1) ≤ now)
 
--- the answer for a file that is told
+-- the answer for a file that is known
 abbrev pub IsFileOf : Option (List ℕ) → Got → Type 0
 IsFileOf file (Bytes bytes) = file ≡ Some bytes
 IsFileOf file Absent = file ≡ None
@@ -16,7 +16,7 @@ IsFileOf file Failed = Unit {0}
 IsFileOf file (TooLarge n) = (bytes : List ℕ) × (file ≡ Some bytes) × (length bytes ≡ n)
 IsFileOf file NoMemory = Unit {0}
 
--- the sizes, whether the files are told or not
+-- the sizes, whether the files are known or not
 abbrev pub IsSized : Got → Type 0
 IsSized (Bytes bytes) = length bytes ≤ MOST_BYTES
 IsSized Absent = Unit {0}
@@ -40,12 +40,12 @@ CountsMisses before now Failed = now ≡ before
 CountsMisses before now (TooLarge n) = Rose before now
 CountsMisses before now NoMemory = now ≡ before
 
--- a put takes one byte at least, and no more than there are
+-- a put takes at least one byte, and at most as many as there are
 abbrev pub IsCount : {E : Type 0} → ℕ → Result ℕ E → Type 0
 IsCount length (Ok n) = (0 < n) × (n ≤ length)
 IsCount length (Err e) = Unit {0}
 
--- what has been taken, where that is told, once these bytes are taken too
+-- what has been taken, where that is known, once these bytes are taken too
 abbrev pub with_more : Option (List ℕ) → List ℕ → Option (List ℕ)
 with_more None bytes = None
 with_more (Some had) bytes = Some (had ++ bytes)

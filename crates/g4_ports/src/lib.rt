@@ -1,5 +1,5 @@
 // The outside: sources of named files, outputs of bytes, and the gate that each file passes. What each call answers
-// is stated here; the real files and streams tell no content, those in memory tell all of it.
+// is stated here; of the real files and streams no content is known, of those in memory all of it.
 #![tactic(auto)]
 
 mod memory_shelf;

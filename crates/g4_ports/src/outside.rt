@@ -1,4 +1,4 @@
-// The real files and the real streams. They tell no content.
+// The real files and the real streams. Of their content nothing is known.
 ghost use Rattle.std.specs.Prelude.{◌≡◌, None, ◌≤◌, length};
 ghost use Rattle.std.specs.Option.{option_copied};
 ghost use Rattle.g4_ports.specs.Ports.{CountsFaults, CountsMisses, IsSized, Rose};

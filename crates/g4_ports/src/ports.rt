@@ -24,7 +24,7 @@ pub enum Got {
 
 /// A source of files by their names.
 pub trait Shelf {
-    /// The files by their names, where it tells them.
+    /// The files by their names, where they are known.
     ghost told: { Self → Option (List ℕ → Option (List ℕ)) };
 
     /// How many fetches failed.
@@ -44,7 +44,7 @@ pub trait Shelf {
 
 /// An output of bytes.
 pub trait Sink {
-    /// The bytes taken so far, where it tells them.
+    /// The bytes taken so far, where they are known.
     ghost taken: { Self → Option (List ℕ) };
 
     /// How many puts failed.

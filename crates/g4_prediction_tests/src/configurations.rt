@@ -4,7 +4,7 @@ use g4_configs::{Configs, Group};
 use std::alloc::{AllocError, Global};
 use std::test::Fail;
 
-/// What a set shows, its configurations, and what is told of it.
+/// What a set shows, its configurations, and what is reported of it.
 static VERDICTS: [&str; 12] = [
     "no configuration: =",
     "one alternative at two states: 7.3.1 4.3.1 = least 3 single 3 lone",
@@ -32,7 +32,7 @@ fn alternatives(alloc: Global, set: &Configs) -> Result<String, AllocError> {
     Ok(text)
 }
 
-/// All that is told of a set.
+/// All that is reported of a set.
 fn told(alloc: Global, set: &Configs) -> Result<String, AllocError> {
     let mut text = alternatives(alloc, set)?;
     if set.conflict(alloc)? {

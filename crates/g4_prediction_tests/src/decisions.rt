@@ -21,7 +21,7 @@ use std::test::Fail;
 enum Net {
     /// A number of rules, and states from 2 on.
     Rows(u32, &'static [Row<'static>]),
-    /// That of two contexts, with so many of B.
+    /// That of two contexts, with this many of B.
     TwoContexts(u32),
 }
 

@@ -223,7 +223,7 @@ fn the_stack_matters(rt: HostRuntime) -> Result<(), Fail> {
     Ok(())
 }
 
-/// Whether each symbol of a long list leads round both loops, until the last tells.
+/// Whether each symbol of a long list leads round both loops, until the last decides.
 fn turns(rt: &impl Abort, alloc: Global, net: &ParserNetwork) -> Result<bool, AllocError>
     requires { IsReady net.now }
 {

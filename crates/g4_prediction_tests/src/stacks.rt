@@ -52,7 +52,7 @@ fn high_stacks_are_merged_copied_and_loaded(rt: HostRuntime) -> Result<(), Fail>
 /// How often the state is pushed on all stacks so far.
 const TURNS: u32 = 200;
 
-/// The stacks of up to so many states, all the same, above `$`.
+/// The stacks of up to this many states, all the same, above `$`.
 fn ladder(alloc: Global) -> Result<(Graph, u32), AllocError>
     ensures { IfOk result (λ made. IsNode made.0 made.1) }
 {

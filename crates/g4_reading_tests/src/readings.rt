@@ -309,7 +309,7 @@ fn push_differing(
     Ok(())
 }
 
-/// The texts that are something else than what stands beside them.
+/// The texts that are something else than what is beside them.
 fn differing(alloc: Global, rows: &[(&str, &str)]) -> Result<String, AllocError> {
     let mut all = String::new(alloc);
     for (text, wanted) in rows {
@@ -656,7 +656,7 @@ fn tells_how_far_bytes_are_a_text(rt: HostRuntime) -> Result<(), Fail> {
     Ok(())
 }
 
-/// A grammar text with so many brackets, one in another.
+/// A grammar text with `count` brackets, one in another.
 fn nested(alloc: Global, before: &str, count: usize, behind: &str) -> Result<String, AllocError> {
     let opened = "(".repeat(alloc, count)?;
     let closed = ")".repeat(alloc, count)?;
@@ -679,7 +679,7 @@ fn length_shown(
     format!(in alloc; "{length}")
 }
 
-/// What stands before so many brackets, and what is in the innermost, and what is shown.
+/// What comes before the brackets, how many there are, what is in the innermost, and what `length_shown` answers.
 const DEEP: &[(&str, usize, &str, &str)] = &[
     ("grammar g; r :", 1024, "", "4103"),
     ("grammar g; r : ~", 1024, "A", "11"),
@@ -714,7 +714,7 @@ fn push_large_parser_rule(text: &mut String, rule: usize) -> Result<(), AllocErr
     )
 }
 
-/// Adds so many characters, each one apart from the others, with these texts around each.
+/// Adds `count` characters, each one apart from the others, with these texts around each.
 fn push_characters(
     text: &mut String,
     count: u32,

@@ -57,7 +57,7 @@ module _ (g : Grammar) (leads : AreLeads g) where
       same_Some lead.alternatives (leads_by (rule_number (rules_in g)) rule)
       (sym made ∙ (ap (λ (all : List (List (Elements Lead))). slice_get all k) leads.leads ∙ mapped_at (leads_by (rule_number (rules_in g))) (rules_in g) k rule at))
 
-  -- it is told which of the rules over leads derive the empty word
+  -- it is known which of the rules over leads derive the empty word
   told : (nullable : List Bool) → nullable ≡ g.nullable.items → Tells nullable (IsNullableRule (trees (rules_in g)))
   told nullable is =
       subst (λ (ts : List (Alternatives Lead)). Tells nullable (IsNullableRule ts)) (trees_over (rules_in g) g.leads.items leads.leads)

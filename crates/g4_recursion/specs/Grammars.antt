@@ -11,7 +11,7 @@ use Rattle.g4_recursion.specs.Leads.{leads_in, operators_in}
 abbrev pub rules_in : Grammar → List Rule
 rules_in grammar = map rule_view grammar.rules.items
 
--- the leads are those of the rules, and it is told which rules may have operators and which derive the empty word
+-- the leads are those of the rules, and it is known which rules may have operators and which derive the empty word
 pub record AreLeads (grammar : Grammar) : Type 0 where
   pub few : length (rules_in grammar) < 2 ^ 32
   pub leads : map (λ lead. lead.alternatives) grammar.leads.items ≡ leads_in (rules_in grammar)

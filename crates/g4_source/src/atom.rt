@@ -37,7 +37,7 @@ pub enum AtomKind {
     Predicate(Name),
 }
 
-/// A literal: the characters that it stands for, and its text as written, quotes included.
+/// A literal: the characters that it represents, and its text as written, quotes included.
 #[derive(Drop)]
 pub struct Literal {
     pub characters: Sequence<char>,

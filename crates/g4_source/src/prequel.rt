@@ -1,8 +1,8 @@
-// What stands before the rules of a grammar.
+// What comes before the rules of a grammar.
 use g4_base::{Place, Sequence, Text};
 use g4_elements::Name;
 
-/// What stands before the rules, but named actions, which are passed over. The places are those of the first words.
+/// What comes before the rules, but named actions, which are passed over. The places are those of the first words.
 #[derive(Drop)]
 pub enum Prequel {
     Options(Sequence<Setting>),

@@ -2,7 +2,7 @@
 use crate::{LexerRule, Prequel, Rule};
 use g4_base::{Place, Sequence, Text};
 
-/// A grammar as it is written: its first word's place, its kind and name, what stands before its rules, its rules and its
+/// A grammar as it is written: its first word's place, its kind and name, what comes before its rules, its rules and its
 /// modes, each in order of the text.
 #[derive(Drop)]
 pub struct Source {

@@ -115,7 +115,7 @@ module _ (names : List (List ℕ)) (list : List ℕ) where
     alternatives_other none = inl (λ j h. absurd h)
     alternatives_other (or x xs) = either_other (OneHasCall (CallsNamed names) x) (SomeHasCall (CallsNamed names) xs) list (elements_other x) (alternatives_other xs)
 
--- so many numbers are below a number
+-- n numbers are below n
 count_below : (n : ℕ) → length (below n) ≡ n
 unfolding below
 count_below zero = refl
@@ -209,7 +209,7 @@ module _ (rules : List LexerRule) where
       | inl every ↦ inl (λ k rule part is. elim part [ inl same ↦ every k (subst (λ (q : ℕ). In q list) (sym same) h.first) rule is | inr reach ↦ every k (closed list on h.first k reach) rule is ])
     ]
 
-    -- with some parts, and at most so many more
+    -- with some parts, and at most this many more
     by_parts : (more : ℕ) (list : List ℕ) → AreParts list → length rules < length list + more → Either (IsWrittenGreedy rules r)
     by_parts zero list h room = let short = few list h in absurd (omega (arith, short, room))
     by_parts (suc more) list h room = elim (list_other list list) [

@@ -84,7 +84,7 @@ module _ (literals : List LexerRule) (modes : List Mode) (made : LexNet) (lex : 
   network : IsNetworkOf trees net
   network = lex.network.network
 
-  -- rule k as it lies
+  -- rule k as it is laid out
   abbrev LaidHere : ℕ → Type 0
   LaidHere k = LaidRule trees net network k
 

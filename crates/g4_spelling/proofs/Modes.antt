@@ -173,7 +173,7 @@ mode_is literals modes made lex starts c =
     (λ s i. let h = places states all 0 literals are s i in (h.0, omega (arith, h.1), h.2)) (order states all 0 literals are) (length literals) modes (omega arith) others starts
     (In-from (mode_starts states literals modes) starts (subst (λ (m : List (List Start)). Contains m starts) lex.starts c))
 
--- a match begins with no open call, and with no reluctant decision behind it
+-- a match begins with no open call, and with no reluctant decision passed
 pub fresh : (starts : List Start) → AreFresh (starts_of starts)
 fresh starts c i = let h = In-map begun starts c i in (ap (λ (d : LexerConfig). d.returns) h.2, ap (λ (d : LexerConfig). d.passed) h.2)
 

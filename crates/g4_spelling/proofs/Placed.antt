@@ -153,7 +153,7 @@ first_of (lay.another x xs last n k m firsts lasts l ls) (suc j) y is = first_of
 pub at_is_member : {X : Type 0} (xs : List X) (j : ℕ) (x : X) → slice_get xs j ≡ Some x → Contains xs x
 at_is_member xs j x is = (j, slice_get_within xs j x is, get_or_from_slice_get xs j x x is)
 
--- where an alternative of a rule begins that lies, and how its start leads there
+-- where an alternative of a rule that is laid out begins, and how its start leads there
 pub record Leads (net : Network Reads) (k : ℕ) (ys : Alternatives (Step Reads)) (y : Elements (Step Reads)) : Type 0 where
   pub number : ℕ
   pub state : ℕ
@@ -166,7 +166,7 @@ place_of : {L C : Type 0} {Letters : L → List C → Type 0} {ys : Alternatives
 place_of (this y ys us d) = (0, y, refl, d)
 place_of (another y ys us d) = let h = place_of d in (suc h.0, h.1, h.2, h.3)
 
--- each alternative of a rule that lies begins somewhere
+-- each alternative of a rule that is laid out begins somewhere
 pub begins_at : {net : Network Reads} {k n m : ℕ} {ys : Alternatives (Step Reads)} → LiesAsRule net k ys n m → (j : ℕ) (y : Elements (Step Reads)) → slice_get (each_of ys) j ≡ Some y → (a : ℕ) × walks.BeginsAt net k ys (j + 1) a
 begins_at (of_one k last n m x l leads) zero y at = (start_of k, (refl, refl))
 begins_at (of_one k last n m x l leads) (suc j) y at = absurd (let e : ⊥ = cc in e)

@@ -19,7 +19,7 @@ use Rattle.g4_spelling.proofs.Covers.{Covers, TakesMarks, covers_apart, covers_b
 use Rattle.g4_spelling.proofs.Joined.{joined, joined-append}
 
 module _ (net : LexerNetwork) (Names : ℕ → List Mark → Type 0) where
-  -- a walk of any number of steps, and of so many
+  -- a walk of any number of steps, and one of this many
   abbrev Comes : ℕ → ℕ → List (List Mark) → Type 0
   Comes = WalksTo TakesMarks Names AnyLevel net
 

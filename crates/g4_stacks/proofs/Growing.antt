@@ -67,7 +67,7 @@ adds g c canon plain absent = record {
     old : (n : ℕ) (d : Content) → slice_get g n ≡ Some d → slice_get (g ++ c ∷ []) n ≡ Some d
     old n d is = slice_get_left g (c ∷ []) n (slice_get_within g n d is) ∙ is
 
--- a content that may stand at the end, and that may be there already, may be added
+-- a content that may be at the end, and that may be there already, may be added
 pub interned : (g now new : List Content) (c : Content) → g ≡ now → IsCanonical g → IsPlain (length now) c → IsAdded g c new → IsCanonical new
 interned g now new c is canon plain (inl same) = subst IsCanonical (sym same) canon
 interned g now new c is canon plain (inr more) = subst IsCanonical (sym more.1) (adds g c canon (subst (λ (x : List Content). IsPlain (length x) c) (sym is) plain) more.0)

@@ -19,7 +19,7 @@ abbrev pub LeadBelow : ℕ → List (ℕ × ℕ) → Type 0
 LeadBelow n [] = Unit {0}
 LeadBelow n (e ∷ es) = (0 < e.1) × (e.1 < n) × LeadBelow n es
 
--- a content that may stand at number n
+-- a content that may be at number n
 pub record IsPlain (n : ℕ) (c : Content) : Type 0 where
   pub sorted : Ascends 0 c.tops
   pub lower : LeadBelow n c.tops

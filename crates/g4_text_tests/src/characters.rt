@@ -112,7 +112,7 @@ fn faults(rt: HostRuntime) -> Result<(), Fail> {
     Ok(())
 }
 
-/// What follows the backslash in a literal, and the character that it stands for.
+/// What follows the backslash in a literal, and the character that it represents.
 static LITERALS: [(&str, Option<char>); 8] = [
     ("n", Some('\n')),
     ("'x", Some('\'')),

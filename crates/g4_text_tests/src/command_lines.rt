@@ -221,7 +221,7 @@ fn refuses_other_words(rt: HostRuntime) -> Result<(), Fail> {
     Ok(())
 }
 
-/// A command line with so many files, `f0`, `f1` and so on.
+/// A command line with this many files, `f0`, `f1` and so on.
 fn line_of(alloc: Global, files: usize) -> Result<String, AllocError> {
     let mut line = String::from_str(alloc, "parse -g G -s R")?;
     for file in 0..files {

@@ -56,7 +56,7 @@ static CASES: &[Case] = &[
     ),
 ];
 
-/// So many nodes, each of which leads to the next, and then nodes with these successors.
+/// `nodes` nodes, each of which leads to the next, and then nodes with these successors.
 fn path_then(alloc: Global, nodes: u32, rows: &[&[u32]]) -> Result<Vec<Vec<u32>>, AllocError> {
     let mut graph = Vec::new(alloc);
     for node in 0..nodes {
@@ -73,7 +73,7 @@ fn add_rows(alloc: Global, graph: &mut Vec<Vec<u32>>, rows: &[&[u32]]) -> Result
     Ok(())
 }
 
-/// So many nodes, each of which leads to all.
+/// `nodes` nodes, each of which leads to all.
 fn complete(alloc: Global, nodes: u32) -> Result<Vec<Vec<u32>>, AllocError> {
     let mut graph = Vec::new(alloc);
     for _ in 0..nodes {

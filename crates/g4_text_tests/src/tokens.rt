@@ -220,7 +220,7 @@ fn literals_stand_for_characters(rt: HostRuntime) -> Result<(), Fail> {
 const EVERY_KIND: &str =
     "\u{FEFF}lexer grammar Größe; // é\noptions { caseInsensitive = true; }\nchannels{A,B}\n@lexer::members { int i = \"}\"; }\nfragment ZAHL : [0-9\\]\\p{Nd}\\u{1F600}]+ | '\\u00e9' .. 'z' ;\nr[int x] returns [T y] : ( a += b* | ~c? ) # L -> skip, mode(d) ; /* ein\n Ende */\ns : <assoc=right> e . f {g()} ( options {k=1;} : 'h\\n' ) $ ;\nNAME : [\\p{L}_] -> channel(HIDDEN) ;\n";
 
-/// What is amiss with the answer for the first so many bytes.
+/// What is wrong with the answer for these first bytes.
 fn amiss(alloc: Global, bytes: &[u8]) -> Option<&'static str> {
     if bytes.len() > 16_777_216 {
         return Some("too long");

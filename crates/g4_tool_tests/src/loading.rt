@@ -20,7 +20,7 @@ const PARSERS: usize = 240;
 
 const LEXERS: usize = 160;
 
-/// Adds so many characters, each one apart from the others.
+/// Adds `count` characters, each one apart from the others.
 fn push_characters(text: &mut String, count: u32) -> Result<(), AllocError> {
     for index in 0..count.min(1000) {
         if let Some(character) = char::from_u32(0x4E00 + 2 * index) {

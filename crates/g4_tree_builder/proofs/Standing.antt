@@ -1,4 +1,4 @@
--- What entries stand for after one more step.
+-- What entries represent after one more step.
 use Rattle.std.proofs.Common.{◌≡◌, ◌++◌, ◌∷◌, [], ℕ, List, length, refl, sym, ◌∙◌, ap, subst, append_assoc, append-nil}
 use Rattle.g4_trees.specs.declared.tree.Item.TheVariants as items
 use Rattle.g4_trees.specs.Trees.{Tree, leaf, node, Forest, no_tree, and_then, only}

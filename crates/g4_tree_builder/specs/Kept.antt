@@ -13,7 +13,7 @@ pub data Entry : Type 0 where
   kept : Item → Entry
   wrap : ℕ → Entry
 
--- the entries that items and wraps stand for, the first item being at place k
+-- the entries that items and wraps represent, the first item being at place k
 abbrev pub entries_from : ℕ → List Item → List Wrap → List Entry
 entries_from k [] ws = []
 entries_from k (x ∷ xs) [] = kept x ∷ entries_from (suc k) xs []

@@ -60,7 +60,7 @@ module _ {A W : Type 0} (Reads : A → List W → Type 0) where
     no_lead_one (or x xs) w (inl h) = no_lead_all x w h
     no_lead_one (or x xs) w (inr h) = no_lead_one xs w (subst (λ (m : List Bool). LeadsOne xs m w) (no_past_all x) h)
 
-  -- a test that tells which atoms read nothing
+  -- a test that decides which atoms read nothing
   module _ (quiet : A → Bool) (is_quiet : (a : A) → IsTrue (quiet a) ↔ Reads a []) where
     mutual
       -- what was read may end where an element ends exactly where the empty word leads there

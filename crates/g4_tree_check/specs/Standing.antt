@@ -1,4 +1,4 @@
--- Where reading stands in a tree: what the items that are still to be read must be.
+-- How far reading has come in a tree: what the items that are still to be read must be.
 use Rattle.std.specs.Prelude.{◌≡◌, ℕ, ◌+◌, List, [], ◌∷◌, ◌++◌, length, reverse}
 use Rattle.g4_elements.specs.Elements.{Elements}
 use Rattle.g4_grammar.specs.declared.step.Step.{Step}
@@ -20,7 +20,7 @@ abbrev pub IsOneNode : List Item → Type 0
 IsOneNode heads = (rule alt at : ℕ) × (heads ≡ items.Enter rule alt at ∷ [])
 
 module _ (rules : List StepRule) (word : List ℕ) where
-  -- the children, each told by its first item, are a word of this alternative
+  -- the children, each given by its first item, are a word of this alternative
   abbrev pub FitsBody : ℕ → ℕ → List Item → Type 0
   FitsBody rule alt heads = (x : Elements (Step (List ℕ))) × IsBody rules rule alt x × DerivesChildren word x heads
 
@@ -41,6 +41,6 @@ module _ (rules : List StepRule) (word : List ℕ) where
   abbrev pub Completes : List OpenNode → List Item → ℕ → List Item → Type 0
   Completes nodes heads next rest = Grows (Closes nodes) heads next rest
 
-  -- the same of where reading stands
+  -- the same of how far reading has come
   abbrev pub CanEnd : Standing → List Item → Type 0
   CanEnd standing rest = Completes (reverse standing.nodes.items) standing.heads.items standing.next rest

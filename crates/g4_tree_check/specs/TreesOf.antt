@@ -26,7 +26,7 @@ heads_of (a_tree t ts) = head_of t ∷ heads_of ts
 abbrev pub IsTakenAt : List ℕ → List ℕ → ℕ → Type 0
 IsTakenAt word set at = (a : ℕ) × (slice_get word at ≡ Some a) × Contains set a
 
--- the words of a step over the children of a node, each told by its first item: one token of its set, or one node of the rule
+-- the words of a step over the children of a node, each given by its first item: one token of its set, or one node of the rule
 -- that it calls; any other step reads nothing
 abbrev pub ReadsChildren : List ℕ → Step (List ℕ) → List Item → Type 0
 ReadsChildren word (Edge set) w = (at : ℕ) × (w ≡ items.Token at ∷ []) × IsTakenAt word set at
@@ -40,7 +40,7 @@ ReadsChildren word Empty w = w ≡ []
 abbrev pub IsBody : List StepRule → ℕ → ℕ → Elements (Step (List ℕ)) → Type 0
 IsBody rules rule alt x = (k i : ℕ) × (r : StepRule) × (rule ≡ k + 1) × (alt ≡ i + 1) × (slice_get rules k ≡ Some r) × (slice_get (bodies_of r) i ≡ Some x)
 
--- the elements derive these children, each told by its first item
+-- the elements derive these children, each given by its first item
 abbrev pub DerivesChildren : List ℕ → Elements (Step (List ℕ)) → List Item → Type 0
 DerivesChildren word x children = DerivesAll (ReadsChildren word) NoCalls [] x children
 

@@ -14,7 +14,7 @@ use g4_trees::Item;
 use std::alloc::{AllocError, Global};
 use std::mem;
 
-/// Whether the children, each told by its first item, are a word of the elements. It reads each child once: a mark on an atom
+/// Whether the children, each given by its first item, are a word of the elements. It reads each child once: a mark on an atom
 /// says that the atom may have read the last child.
 ///
 /// # Errors

@@ -1,4 +1,4 @@
-// Where reading stands in a tree.
+// How far reading has come in a tree.
 ghost use Rattle.std.specs.Prelude.{◌≡◌, ◌↔◌, [], ◌∷◌, ℕ, List, IfOk, OnOk, IfSome, IfNone, IsTrue};
 ghost use Rattle.g4_elements.specs.Elements.{Elements as Body};
 ghost use Rattle.g4_grammar.specs.declared.step.Step.{Step as AStep};
@@ -27,8 +27,8 @@ pub(crate) struct OpenNode {
     before: Vec<Item>,
 }
 
-/// Where reading stands: the open nodes, the newest last, the first items of the children of the newest so far, and the place
-/// of the next token.
+/// How far reading has come: the open nodes, the newest last, the first items of the children of the newest so far, and the
+/// place of the next token.
 #[derive(Drop)]
 pub(crate) struct Standing {
     nodes: Vec<OpenNode>,

@@ -41,7 +41,7 @@ fn power_and_brackets(alloc: Global) -> Result<ParserNetwork, AllocError> {
     Ok(with_levels(net, &[(15, 2)]))
 }
 
-/// Two powers, so many brackets that open, an operand, and so many that close.
+/// Two powers, `opening` brackets that open, an operand, and `closing` that close.
 fn brackets(alloc: Global, opening: u32, closing: u32) -> Result<Vec<u32>, AllocError> {
     let mut symbols = vec![in alloc; 1u32]?;
     symbols.extend_from_slice(&[2, 1, 2, 1, 3])?;
@@ -61,7 +61,7 @@ fn as_deep_as_may_be(rt: HostRuntime) -> Result<(), Fail> {
     Ok(())
 }
 
-/// The fault of so many brackets.
+/// The fault of this many brackets.
 fn fault_of(
     rt: &impl Abort,
     alloc: Global,

@@ -141,7 +141,7 @@ fn a_thousand_operators(rt: HostRuntime) -> Result<(), Fail> {
     Ok(())
 }
 
-/// An operand, then `+2*3` so many times, and what follows.
+/// An operand, then `+2*3` this many times, and what follows.
 fn alternating(alloc: Global, times: u32, ending: &[u32]) -> Result<Vec<u32>, AllocError> {
     let mut symbols = vec![in alloc; 1u32]?;
     for _ in 0..times {
@@ -161,7 +161,7 @@ fn a_thousand_operators_of_two_levels(rt: HostRuntime) -> Result<(), Fail> {
     Ok(())
 }
 
-/// A row of a table: how often `+2*3` stands there, what follows, and the text of the fault.
+/// A row of a table: how often `+2*3` occurs, what follows, and the text of the fault.
 #[derive(Drop)]
 struct Chain<'a>(u32, &'a [u32], &'a str);
 

@@ -205,7 +205,7 @@ fn alternatives_as_written(rt: HostRuntime) -> Result<(), Fail> {
     Ok(())
 }
 
-/// Adds a symbol so many times.
+/// Adds a symbol `count` times.
 pub(crate) fn push_many(all: &mut Vec<u32>, symbol: u32, count: u32) -> Result<(), AllocError> {
     for _ in 0..count {
         all.push(symbol)?;

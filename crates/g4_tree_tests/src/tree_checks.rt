@@ -15,7 +15,7 @@ const GREEDY: Suffix = Suffix {
     greedy: true,
 };
 
-/// The symbol that a letter stands for.
+/// The symbol that a letter represents.
 fn symbol(letter: char) -> u32 {
     letter.to_digit(36).unwrap_or(0)
 }
@@ -116,7 +116,7 @@ fn tokens(alloc: Global, text: &str) -> Result<Vec<Token>, AllocError> {
     Ok(all)
 }
 
-/// The number that a digit stands for.
+/// The number that a digit represents.
 fn number(digit: Option<char>) -> u32 {
     match digit {
         Some(digit) => digit.to_digit(10).unwrap_or(0),
@@ -278,7 +278,7 @@ fn ill_nested_items(rt: HostRuntime) -> Result<(), Fail> {
     Ok(())
 }
 
-/// A node of so many tokens.
+/// A node of `count` tokens.
 fn wide(alloc: Global, count: u32) -> Result<Tree, AllocError> {
     let mut all = Vec::new(alloc);
     all.push(Item::Enter {
@@ -305,7 +305,7 @@ fn words_of_one_node(rt: HostRuntime) -> Result<(), Fail> {
     Ok(())
 }
 
-/// So many tokens `a`, and then a `b`.
+/// `count` tokens `a`, and then a `b`.
 fn many_tokens(alloc: Global, count: u32) -> Result<Vec<Token>, AllocError> {
     let mut all = Vec::new(alloc);
     for _ in 0..count {
@@ -315,7 +315,7 @@ fn many_tokens(alloc: Global, count: u32) -> Result<Vec<Token>, AllocError> {
     Ok(all)
 }
 
-/// So many nodes, each in the one before it and after its token.
+/// `count` nodes, each in the one before it and after its token.
 fn deep(alloc: Global, count: u32) -> Result<Tree, AllocError> {
     let mut all = Vec::new(alloc);
     for at in 0..count {

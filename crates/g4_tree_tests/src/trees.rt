@@ -316,7 +316,7 @@ fn shown_bytes(rt: HostRuntime) -> Result<(), Fail> {
     Ok(())
 }
 
-/// Adds an item so many times.
+/// Adds an item `count` times.
 fn push_many(items: &mut Vec<Item>, item: Item, count: u32) -> Result<(), AllocError> {
     for _ in 0..count {
         items.push(item)?;

@@ -25,14 +25,14 @@ before_all_first no_tree us more = refl
 before_all_first (a_tree t ts) us more = ap (before_first t) (before_all_first ts us more)
 
 mutual
-  -- what the items of a tree before others stand for
+  -- what the items of a tree before others represent
   pub forests_of_tree : (t : Tree) (rest : List Item) → forests_of (items_of t ++ rest) ≡ before_first t (forests_of rest)
   forests_of_tree (leaf at) rest = refl
   forests_of_tree (node rule alt at children) rest =
       ap (λ (xs : List Item). as_children rule alt at (forests_of xs)) (append_assoc (items_of_all children) (items.Exit ∷ []) rest)
       ∙ ap (as_children rule alt at) (forests_of_trees children (items.Exit ∷ rest) ∙ before_all_first children no_tree (forests_of rest) ∙ ap (λ (ts : Forest). ts ∷ forests_of rest) (and_then_none children))
 
-  -- what the items of trees before others stand for
+  -- what the items of trees before others represent
   pub forests_of_trees : (ts : Forest) (rest : List Item) → forests_of (items_of_all ts ++ rest) ≡ before_all ts (forests_of rest)
   forests_of_trees no_tree rest = refl
   forests_of_trees (a_tree t ts) rest =

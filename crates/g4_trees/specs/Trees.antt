@@ -1,4 +1,4 @@
--- Trees, and the flat lists of items that stand for them.
+-- Trees, and the flat lists of items that represent them.
 use Rattle.std.specs.Prelude.{◌≡◌, ℕ, List, [], ◌∷◌, ◌++◌, Option, Some, None}
 use Rattle.g4_trees.specs.declared.tree.Item.{Item}
 use Rattle.g4_trees.specs.declared.tree.Item.TheVariants as items
@@ -56,12 +56,12 @@ abbrev pub before_first : Tree → List Forest → List Forest
 before_first t [] = []
 before_first t (ts ∷ more) = a_tree t ts ∷ more
 
--- the first of these forests as the children of a node, which stands before the next forest
+-- the first of these forests as the children of a node, which comes before the next forest
 abbrev pub as_children : ℕ → ℕ → ℕ → List Forest → List Forest
 as_children rule alt at [] = []
 as_children rule alt at (children ∷ more) = before_first (node rule alt at children) more
 
--- What items stand for, looked at from the last: what is complete of each node that ends among them and begins before them,
+-- What items represent, looked at from the last: what is complete of each node that ends among them and begins before them,
 -- the innermost first, and then the trees after all of these.
 abbrev pub forests_of : List Item → List Forest
 forests_of [] = no_tree ∷ []

@@ -1,4 +1,4 @@
--- Where the alternatives of rules begin, and how they lie from there.
+-- Where the alternatives of rules begin, and how they are laid out from there.
 use Rattle.std.proofs.Common.{◌≡◌, ℕ, zero, suc, ◌+◌, List, [], ◌∷◌, Some, refl, sym, ap, subst, arith, slice_get}
 use Rattle.std.proofs.lemmas.Option.{slice_get_within}
 use Rattle.g4_elements.specs.Elements.{Elements, Alternatives, none, or, either}
@@ -29,7 +29,7 @@ pub same_alternative : {A : Type 0} (xs : Alternatives A) {i : ℕ} {x y : Eleme
 same_alternative {A} xs {i} {x} {y} (j, is, at) (k, found, also) =
     let same : j ≡ k = omega arith in let moved = subst (λ (q : ℕ). slice_get (each_of xs) q ≡ Some x) same is in cc
 
--- the elements lie from the state to a last one, which leads to t
+-- the elements are laid out from the state to a last one, which leads to t
 pub record LiesTo {L : Type 0} (net : Network L) (x : Elements (Step L)) (a t : ℕ) : Type 0 where
   pub last : ℕ
   pub from : ℕ
@@ -46,7 +46,7 @@ module _ {L : Type 0} where
       let same : n ≡ a = cc in (x, refl, subst (λ (q : ℕ). LiesTo net x q t) same (record { last = last; from = n + 1; upto = k; lies = l; leads = leads.0 }))
   body_at (another x xs last n k m firsts lasts l ls) t leads (suc j) a is = body_at ls t leads.1 j a is
 
-  -- Alternative i of the rule begins at a: there is such an alternative, and it lies from there to the rule's end.
+  -- Alternative i of the rule begins at a: there is such an alternative, and it is laid out from there to the rule's end.
   pub record Begun (net : Network L) (xs : Alternatives (Step L)) (rule i a : ℕ) : Type 0 where
     pub alternative : Elements (Step L)
     pub is : IsAlternative xs i alternative
@@ -73,7 +73,7 @@ module _ {L : Type 0} where
   begun (of_several rule n m (or x (or y more)) firsts lasts two is l leads) b = several firsts lasts is l leads b
 
 module _ {L : Type 0} (rules : List (Alternatives (Step L))) (net : Network L) (network : IsNetworkOf rules net) (k : ℕ) (xs : Alternatives (Step L)) (is : slice_get rules k ≡ Some xs) where
-  -- rule k as it lies
+  -- rule k as it is laid out
   pub laid_as : (n m : ℕ) × LiesAsRule net k xs n m × (state_at net (end_of k) ≡ Some (End k))
   laid_as = let r = rule_laid rules net network k (slice_get_within rules k xs is) in
       let found = r.is in let same : r.alternatives ≡ xs = cc in

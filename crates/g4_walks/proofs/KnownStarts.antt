@@ -48,7 +48,7 @@ pub record IsStart (alternatives : List Written) (numbers : List ℕ) (i : ℕ) 
   pub is : IsAlternative (either (written_bodies alternatives)) number written
   pub alike : AreAlike written y
 
--- the alternatives with which rule k starts as it lies, and their numbers
+-- the alternatives with which rule k starts as it is laid out, and their numbers
 pub record StartsAreKnown (net : ParserNetwork) (k n m : ℕ) (alternatives : List Written) (numbers : List ℕ) : Type 0 where
   pub forms : List (Elements StepIn)
   pub shape : Shape net k (length alternatives) n m forms (operators (calls k) alternatives)

@@ -1,4 +1,4 @@
--- How the rules of a network that is built of rewritten rules lie, and which rules these are as they are written.
+-- How the rules of a network that is built of rewritten rules are laid out, and which rules these are as they are written.
 use Rattle.std.proofs.Common.{◌≡◌, ℕ, zero, suc, ◌+◌, ◌*◌, ◌<◌, List, [], ◌∷◌, Some, All, length, map, refl, sym, ◌∙◌, ap, subst, arith, slice_get}
 use Rattle.std.specs.List.{enumerate_from}
 use Rattle.std.proofs.lemmas.List.{length-map}
@@ -39,7 +39,7 @@ full_at [] full j rule is = absurd (let n : ⊥ = cc in n)
 full_at (r ∷ rules) full zero rule is = let same : r ≡ rule = cc in subst (λ (x : StepRule). ParserRuleIsFull x) same full.0
 full_at (r ∷ rules) full (suc j) rule is = full_at rules full.1 j rule is
 
--- rule k of so many alternatives as it lies, and the alternatives with which it starts, which have these numbers
+-- rule k of `count` alternatives as it is laid out, and the alternatives with which it starts, which have these numbers
 pub record RuleFacts (net : ParserNetwork) (k count n m : ℕ) (numbers : List ℕ) : Type 0 where
   pub forms : List (Elements StepIn)
   pub parts : List (Part StepIn)
@@ -72,11 +72,11 @@ module _ (set : List ℕ) (rules : List StepRule) (start : List ℕ) (net : Pars
       let same : 2 * length (rewritten rules) + 2 ≡ 2 * length all_rules = omega (arith, laid) in
       subst (λ (q : ℕ). AreNumbered net 0 q all_rules (all_numberings rules)) same built.numbered
 
-  -- rule k as it lies
+  -- rule k as it is laid out
   abbrev pub RuleHere : ℕ → Type 0
   RuleHere k = Placed net all_rules (all_numberings rules) (2 * length all_rules) k
 
-  -- each rule lies
+  -- each rule is laid out
   pub rule_here : (k : ℕ) → k < length all_rules → RuleHere k
   rule_here k below = rule_placed net all_rules (all_numberings rules) built.network numbered k below
 
@@ -84,7 +84,7 @@ module _ (set : List ℕ) (rules : List StepRule) (start : List ℕ) (net : Pars
   pub state_here : (p : ℕ) (s : State (List ℕ)) → state_at net p ≡ Some s → Somewhere net all_rules (all_numberings rules) (2 * length all_rules) p
   state_here p s is = state_placed net all_rules (all_numberings rules) built.network numbered p s is
 
-  -- the rule as it is written, and the alternatives with which it starts as it lies
+  -- the rule as it is written, and the alternatives with which it starts as it is laid out
   pub record IsWrittenRule (k : ℕ) (r : RuleHere k) (rule : StepRule) : Type 0 where
     pub numbering : r.numbering ≡ numbering_of (k, rule)
     pub known : StartsAreKnown net k r.from r.upto rule.alternatives (starts_of k rule.alternatives)
@@ -124,7 +124,7 @@ module _ (set : List ℕ) (rules : List StepRule) (start : List ℕ) (net : Pars
       let item = numbered_item 1 rules j form.0 form.1 in
       (form.0.1, item.0)
 
-  -- the added rule as it lies
+  -- the added rule as it is laid out
   added_facts : (k : ℕ) → k ≡ 0 → (r : RuleHere k) → RuleFacts net k r.numbering.count r.from r.upto r.numbering.starts
   added_facts k first r =
       let found = subst (λ (q : ℕ). slice_get all_rules q ≡ Some r.alternatives) first r.is in
@@ -139,7 +139,7 @@ module _ (set : List ℕ) (rules : List StepRule) (start : List ℕ) (net : Pars
         long = ap (λ (x : Numbering). length x.starts) (sym numbering);
       }
 
-  -- any rule as it lies
+  -- any rule as it is laid out
   pub facts : (k : ℕ) (r : RuleHere k) → RuleFacts net k r.numbering.count r.from r.upto r.numbering.starts
   facts zero r = added_facts zero refl r
   facts (suc j) r =

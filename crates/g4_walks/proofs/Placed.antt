@@ -1,4 +1,4 @@
--- How the rules of a network lie, with what is written of their states.
+-- How the rules of a network are laid out, with what is written of their states.
 use Rattle.std.proofs.Common.{◌≡◌, ℕ, suc, ◌+◌, ◌*◌, ◌<◌, ◌≤◌, inl, inr, List, [], ◌∷◌, length, Some, refl, sym, subst, arith, slice_get}
 use Rattle.std.proofs.lemmas.Option.{slice_get_within}
 use native.Mathlib.Decide.{dec_lt}
@@ -15,7 +15,7 @@ use Rattle.g4_layout.specs.Size.{states_of_rule}
 use Rattle.g4_layout.proofs.Rules.{half, rules_up}
 use Rattle.g4_layout.proofs.Sizes.{rule_size}
 
--- rule k of the list, with its numbering, as it lies from the lowest state on
+-- rule k of the list, with its numbering, as it is laid out from the lowest state on
 pub record Placed {L : Type 0} (net : Network L) (rules : List (Alternatives (Step L))) (numberings : List Numbering) (lowest k : ℕ) : Type 0 where
   pub alternatives : Alternatives (Step L)
   pub is : slice_get rules k ≡ Some alternatives
@@ -28,7 +28,7 @@ pub record Placed {L : Type 0} (net : Network L) (rules : List (Alternatives (St
   pub numbered : IsNumbered net k numbering from upto
   pub last : state_at net (end_of k) ≡ Some (End k)
 
--- the state is the start of the rule as it lies, its end, or one of its other states
+-- the state is the start of the rule as it is laid out, its end, or one of its other states
 pub data IsHere {L : Type 0} {net : Network L} {rules : List (Alternatives (Step L))} {numberings : List Numbering} {lowest k : ℕ} (r : Placed net rules numberings lowest k) : ℕ → Type 0 where
   at_start : IsHere r (start_of k)
   at_end : IsHere r (end_of k)
@@ -41,7 +41,7 @@ pub record Somewhere {L : Type 0} (net : Network L) (rules : List (Alternatives 
   pub here : IsHere rule p
 
 module _ {L : Type 0} (net : Network L) (rules : List (Alternatives (Step L))) (numberings : List Numbering) (lowest : ℕ) where
-  -- each rule lies
+  -- each rule is laid out
   each_placed : {rule n m : ℕ} {rest : List (Alternatives (Step L))} (others : List Numbering) → RulesLie net rule rest n m → AreNumbered net rule n rest others →
       ((k : ℕ) (xs : Alternatives (Step L)) → slice_get rest k ≡ Some xs → slice_get rules (rule + k) ≡ Some xs) →
       ((k : ℕ) (x : Numbering) → slice_get others k ≡ Some x → slice_get numberings (rule + k) ≡ Some x) →
@@ -77,7 +77,7 @@ module _ {L : Type 0} (net : Network L) (rules : List (Alternatives (Step L))) (
       )
 
 module _ {L : Type 0} (net : Network L) (rules : List (Alternatives (Step L))) (numberings : List Numbering) (network : IsNetworkOf rules net) (numbered : AreNumbered net 0 (2 * length rules) rules numberings) where
-  -- rule k as it lies after the starts and ends
+  -- rule k as it is laid out after the starts and ends
   abbrev pub PlacedRule : ℕ → Type 0
   PlacedRule k = Placed net rules numberings (2 * length rules) k
 

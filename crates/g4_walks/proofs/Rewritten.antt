@@ -36,7 +36,7 @@ module _ {C : Type 0} (Takes : List ℕ → C → Type 0) (Names : ℕ → C →
   abbrev pub BeginsAlternative : ℕ → ℕ → Type 0
   BeginsAlternative k p = (i : ℕ) × (x : Elements (Step (List ℕ))) × IsWrittenAs rules k i x × (written_at net p ≡ i) × Spells k x p × IsNoLevel net p
 
-  -- rule k as it lies
+  -- rule k as it is laid out
   here_at : (k j : ℕ) (r : StepRule) → k ≡ j + 1 → slice_get rules j ≡ Some r → RuleHere set rules start net can built k
   here_at k j r next at = let many = count_rules set rules start net can built in let below = slice_get_within rules j r at in rule_here set rules start net can built k (omega arith)
 

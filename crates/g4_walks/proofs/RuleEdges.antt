@@ -44,7 +44,7 @@ not_at_start net k p (i ∷ []) other apart at = other at
 not_at_start net k p (i ∷ j ∷ more) other apart (n, first) = apart (omega arith) (first_decided net (start_of k) n p first)
 
 module _ (set : List ℕ) (rules : List StepRule) (start_name : List ℕ) (net : ParserNetwork) (can : CanBeRewritten rules) (built : IsBuilt set (rewritten rules) (numberings rules) start_name net) where
-  -- rule k as it lies
+  -- rule k as it is laid out
   abbrev pub Here : ℕ → Type 0
   Here = RuleHere set rules start_name net can built
 

@@ -72,7 +72,7 @@ module _ (net : ParserNetwork) where
   abbrev pub IsFreeAt : ℕ → Type 0
   IsFreeAt p = IsNoLevel net p × AvoidsLevels p
 
-  -- elements without levels that lie up to a state that is no level
+  -- elements without levels that are laid out up to a state that is no level
   run_free : {y : Elements StepIn} {a last n m t : ℕ} → LieInOrder net y a last n m → AreLevelFree y → state_at net last ≡ Some (Empty t) → IsNoLevel net t → IsFreeAt a × IsFree n m
   run_free {a = a} {n = n} {m = m} l free leads t_free =
       let here = free_no_level a (run_begins Any l free leads tt (λ q from below. tt)) in
@@ -81,7 +81,7 @@ module _ (net : ParserNetwork) where
         record { none = none; avoid = λ p from below. free_avoids p (run_goes (IsNoLevel net) l free leads t_free none here p from below) },
       )
 
-  -- bodies without levels that lie up to such a state, and the decision between them
+  -- bodies without levels that are laid out up to such a state, and the decision between them
   bodies_free : (s t : ℕ) {xs : Alternatives StepIn} {firsts lasts : List ℕ} {n m : ℕ} → 2 ≤ length firsts → state_at net s ≡ Some (Decision firsts) → LieSideBySide net xs firsts lasts n m → AllLeadTo net lasts t → EachIsLevelFree xs → IsNoLevel net t →
       IsFreeAt s × IsFree n m
   bodies_free s t {firsts = firsts} {n = n} {m = m} two is l leads free t_free =

@@ -64,7 +64,7 @@ several_lie (one_start x last l leads) two = absurd (omega arith)
 several_lie (several_starts xs firsts lasts more is l leads) two = record { firsts = firsts; lasts = lasts; is = is; lies = l; leads = leads }
 
 module _ {C : Type 0} (Takes : List ℕ → C → Type 0) (Names : ℕ → C → Type 0) (net : ParserNetwork) (k : ℕ) (end_is : state_at net (end_of k) ≡ Some (End k)) where
-  -- up to which state the alternatives lie with which the rule starts
+  -- up to which state the alternatives with which the rule starts are laid out
   record GoesUpTo (forms : List (Elements StepIn)) : Type 0 where
     last : ℕ
     from : ℕ

@@ -26,7 +26,7 @@ starts_up : {net : ParserNetwork} {k g n m : ℕ} {xs : List (Elements StepIn)} 
 starts_up (one_start x last l leads) = (in_order_spans l).up
 starts_up (several_starts xs firsts lasts two is l leads) = side_by_side_up l
 
--- a first state of alternatives that lie before q is not q
+-- a first state of alternatives that are laid out before q is not q
 before_others : {net : ParserNetwork} {k g n u : ℕ} {xs : List (Elements StepIn)} → StartsLie net k g n u xs → (q : ℕ) → u ≤ q → 2 ≤ length xs → IsDecided net (start_of k) q → ⊥
 before_others (one_start x last l leads) q from two d = omega arith
 before_others {net} {k} (several_starts _ firsts lasts more is l leads) q from two d = let b = firsts_between l q (decided_first net (start_of k) q firsts is d) in omega arith

@@ -1,4 +1,4 @@
--- The two shapes of rules as they lie: with all their alternatives at the start, or as a loop.
+-- The two shapes of rules as they are laid out: with all their alternatives at the start, or as a loop.
 use Rattle.std.proofs.Common.{◌≡◌, ℕ, suc, ◌+◌, ◌<◌, inl, inr, List, [], ◌∷◌, map, Some, refl, subst, arith, slice_get, Contains}
 use Rattle.g4_elements.specs.Elements.{Elements, either}
 use Rattle.g4_net.specs.declared.network.State.TheVariants.{Level}
@@ -11,7 +11,7 @@ use Rattle.g4_walks.proofs.Beginnings.{LiesTo}
 use Rattle.g4_walks.proofs.LevelFree.{AreLevelFree}
 use Rattle.g4_walks.proofs.Starting.{StartsLie, TurnsLie}
 
--- the operators of rule k, which has so many alternatives, as they are laid
+-- the operators of rule k, which has `count` alternatives, as they are laid out
 abbrev pub laid_operators : ℕ → ℕ → List (Part StepIn) → List (Elements StepIn)
 laid_operators k count parts = map (operator_form k count) parts
 
@@ -23,13 +23,13 @@ laid_rest k count x = with_last_at k (operand_level (precedence count x.number) 
 abbrev pub PartsAreLevelFree : List (Part StepIn) → Type 0
 PartsAreLevelFree parts = (i : ℕ) (x : Part StepIn) → slice_get parts i ≡ Some x → AreLevelFree x.elements
 
--- Rule k of so many alternatives lies from its start to its end, its other states being those from n up to m, and starts with these
--- alternatives: with all, or as a loop of which these are the operators.
+-- Rule k of `count` alternatives is laid out from its start to its end, its other states being those from n up to m, and starts
+-- with these alternatives: with all, or as a loop of which these are the operators.
 pub data Shape (net : ParserNetwork) (k count n m : ℕ) (starts : List (Elements StepIn)) (parts : List (Part StepIn)) : Type 0 where
   plain_shape : StartsLie net k (end_of k) n m starts → Shape net k count n m starts parts
   loop_shape : (u : ℕ) → StartsLie net k u n u starts → PartsAreLevelFree parts → TurnsLie net k u (u + 1) m (laid_operators k count parts) → Shape net k count n m starts parts
 
--- one of the operators begins at the state p, and lies from there to u
+-- one of the operators begins at the state p, and is laid out from there to u
 pub record OperatorLies (net : ParserNetwork) (k count u : ℕ) (parts : List (Part StepIn)) (p : ℕ) : Type 0 where
   pub index : ℕ
   pub part : Part StepIn

@@ -19,7 +19,7 @@ use Rattle.g4_walks.proofs.Steps.{onward, stopped}
 use Rattle.g4_walks.proofs.Through.{in_order_through, finish}
 
 module _ {C : Type 0} (Takes : List ℕ → C → Type 0) (Names : ℕ → C → Type 0) (net : ParserNetwork) (k : ℕ) where
-  -- a walk of so many steps, and of any number
+  -- a walk of this many steps, and one of any number
   abbrev Goes : ℕ → ℕ → ℕ → List C → Type 0
   Goes = Walk Takes Names NoLevel net
 
@@ -73,7 +73,7 @@ module _ {C : Type 0} (Takes : List ℕ → C → Type 0) (Names : ℕ → C →
         silent = no_turn;
       }
 
-  -- elements that lie up to such a state are spelled, perhaps with another level at a call
+  -- elements that are laid out up to such a state are spelled, perhaps with another level at a call
   pub spelled : {x y : Elements StepIn} {p g : ℕ} → AreAlike x y → LiesTo net y p g → IsNearEnd g → IsSpelled Takes Names net k x p
   spelled {x} {y} {p} {g} alike lies near = record {
     derives = λ e ended n w end walk.

@@ -1,4 +1,4 @@
--- How a rule lies that is run as a loop, and how the alternatives lie with which any rule starts.
+-- The layout of a rule that is run as a loop, and of the alternatives with which any rule starts.
 use Rattle.std.proofs.Common.{◌≡◌, ℕ, ◌+◌, ◌≤◌, List, [], ◌∷◌, length, true, None, Some, refl, subst, arith}
 use Rattle.g4_elements.specs.declared.element.Repeat.TheVariants.{Once}
 use Rattle.g4_elements.specs.Elements.{atom, block, Elements, empty, then, none, or, either}
@@ -10,15 +10,15 @@ use Rattle.g4_layout.specs.Layout.{with_exit, AllLeadTo, an_empty, a_block, a_st
 use Rattle.g4_layout.proofs.Spans.{one_first}
 use Rattle.g4_leftrec.specs.Rewriting.{StepIn, after_primary, turns_of}
 
--- The alternatives with which rule k starts lie from its start to the state g, the states other than the start being those from n up
--- to m: one begins at the start, and several at the first states of the decision there.
+-- The alternatives with which rule k starts are laid out from its start to the state g, the states other than the start being
+-- those from n up to m: one begins at the start, and several at the first states of the decision there.
 pub data StartsLie (net : ParserNetwork) (k g n m : ℕ) : List (Elements StepIn) → Type 0 where
   one_start : (x : Elements StepIn) (last : ℕ) → LieInOrder net x (start_of k) last n m → state_at net last ≡ Some (Empty g) → StartsLie net k g n m (x ∷ [])
   several_starts : (xs : List (Elements StepIn)) (firsts lasts : List ℕ) → 2 ≤ length firsts → state_at net (start_of k) ≡ Some (Decision firsts) → LieSideBySide net (either xs) firsts lasts n m → AllLeadTo net lasts g →
       StartsLie net k g n m xs
 
--- The operators of rule k lie as turns: from the decision u, by the exit branch state, to the rule's end, the states other than u
--- being those from n up to m.
+-- The operators of rule k are laid out as turns: from the decision u, by the exit branch state, to the rule's end, the states
+-- other than u being those from n up to m.
 pub record TurnsLie (net : ParserNetwork) (k u n m : ℕ) (operators : List (Elements StepIn)) : Type 0 where
   pub exit : ℕ
   pub firsts : List ℕ
@@ -29,7 +29,7 @@ pub record TurnsLie (net : ParserNetwork) (k u n m : ℕ) (operators : List (Ele
   pub leaves : state_at net exit ≡ Some (Empty (end_of k))
   pub after : m ≡ exit + 1
 
--- a left-recursive rule lies: its primaries up to the state u, and then the turns
+-- a left-recursive rule is laid out: its primaries up to the state u, and then the turns
 pub record LoopLies (net : ParserNetwork) (k n m : ℕ) (primaries operators : List (Elements StepIn)) : Type 0 where
   pub turning : ℕ
   pub front : StartsLie net k turning n turning primaries
@@ -43,7 +43,7 @@ record Halves (net : ParserNetwork) (x y : Elements StepIn) (s t n m : ℕ) : Ty
   rest : LieInOrder net y mid t upto m
 
 module _ {net : ParserNetwork} where
-  -- what lies as both lies as one and then the other
+  -- what is laid out as both is laid out as one and then the other
   halves : (x y : Elements StepIn) {s t n m : ℕ} → LieInOrder net (onto x y) s t n m → Halves net x y s t n m
   halves empty y {s} {n = n} l = record { mid = s; upto = n; front = no_more s n; rest = l }
   halves (then e x) y (one_more _ _ s mid t n k m l ls) =
@@ -92,7 +92,7 @@ module _ {net : ParserNetwork} where
   of_only (of_one rule last n m x l leads) = (last, l, leads)
   of_only (of_several rule n m xs firsts lasts two is l leads) = let one = one_first l in absurd (omega arith)
 
-  -- a left-recursive rule as it lies
+  -- a left-recursive rule as it is laid out
   pub loop_lies : (k : ℕ) (primaries : List (Elements StepIn)) {operators : List (Elements StepIn)} {n m : ℕ} → LiesAsRule net k (or (after_primary primaries (turns_of operators)) none) n m → LoopLies net k n m primaries operators
   loop_lies k primaries l = let o = of_only l in loop_in_order k primaries o.1 o.2
 

@@ -33,7 +33,7 @@ module _ (net : ParserNetwork) (k : ℕ) (end_is : state_at net (end_of k) ≡ S
   shape_start_free (loop_shape u l parts_free turns) free = (starts_free net l free (turning_free turns)).0
 
   module _ (count n m : ℕ) (parts : List (Part StepIn)) where
-    -- An operator of the rule begins at the state, which lies up to a state near the rule's end.
+    -- An operator of the rule begins at the state, and is laid out from there up to a state near the rule's end.
     pub record IsOperatorState (p : ℕ) : Type 0 where
       pub turning : ℕ
       pub lies : TurnsLie net k turning (turning + 1) m (laid_operators k count parts)

@@ -21,7 +21,7 @@ module _ {L C : Type 0} (Takes : L → C → Type 0) (Names : ℕ → C → Type
   abbrev Derived : List C → Type 0
   Derived = DerivesAll (ReadsLetter Takes Names Passes) NoCalls [] x
 
-  -- how it lies
+  -- how it is laid out
   lies : LiesTo net x a (end_of k)
   lies = let b = begins rules net network k xs is i a start in
       subst (λ (y : Elements (Step L)). LiesTo net y a (end_of k)) (same_alternative xs b.is alternative) b.lies

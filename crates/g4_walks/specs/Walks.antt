@@ -39,7 +39,7 @@ module _ {L C : Type 0} (Takes : L → C → Type 0) (Names : ℕ → C → Type
   MovesBy (Some (Action u)) t w = (t ≡ u) × ReadsLetter steps.Action w
   MovesBy (Some (Empty u)) t w = (t ≡ u) × ReadsLetter steps.Empty w
 
-  -- a walk of so many steps from one state to another, which reads the word
+  -- a walk of this many steps from one state to another, which reads the word
   pub data Walk (net : Network L) : ℕ → ℕ → ℕ → List C → Type 0 where
     stays : (p : ℕ) → Walk net 0 p p []
     goes : (k p t q : ℕ) (u v w : List C) → MovesBy (state_at net p) t u → Walk net k t q v → w ≡ u ++ v → Walk net (k + 1) p q w

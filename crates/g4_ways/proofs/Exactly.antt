@@ -1,4 +1,4 @@
--- Where the way from a state comes to the end of a rule within so many states, and where it does not.
+-- Where the way from a state comes to the end of a rule within this many states, and where it does not.
 use Rattle.std.proofs.Common.{◌≡◌, ◌↔◌, ℕ, suc, ◌+◌, ◌-◌, ◌<◌, ◌≤◌, List, length, Contains, Option, Some, None, slice_get, refl, sym, ◌∙◌, subst, ap, arith}
 use Rattle.std.proofs.lemmas.Option.{slice_get_within, get_or_from_slice_get}
 use Rattle.g4_net.specs.declared.network.State.{State}

@@ -11,7 +11,7 @@ use Rattle.g4_nullable.proofs.Nodes.{atom_tree, block_tree, side_at, node_at}
 use Rattle.g4_nullable.proofs.Trees.{mapped_past}
 use Rattle.g4_nullable.proofs.loops.+loops.Goals as goal
 
--- what is found of a block that is taken so often
+-- what is found of a block with this repeat
 so_often : (rules : List (Alternatives Lead)) (found : Found) (label : _) (repeat r : Repeat) (xs : Alternatives Lead) → repeat ≡ r → TellsElement rules found (block label r xs) → TellsElement rules found (block label repeat xs)
 so_often rules found label repeat r xs is t = subst (λ (q : Repeat). TellsElement rules found (block label q xs)) (sym is) t
 
