@@ -107,7 +107,7 @@ module _ {L : Type 0} where
   -- the bodies are closed and the network shares the states
   pub has_closed : (net : Network L) (base old new : List (State L)) (s : ℕ) (d : State L) (firsts lasts : List ℕ) (xs : Alternatives (Step L)) (to : ℕ) (tail : List (State L)) (t : ℕ) →
       s < length base → AreBeside base old firsts lasts xs → IsClosed old new s d lasts to tail → length old ≤ t → Shares net new s (length base) t → HasClosed net base old new s d firsts lasts xs to tail t
-  has_closed net base old new s d firsts lasts xs to tail t below beside closing behind shares =
+  has_closed net base old new s d firsts lasts xs to tail t below beside closing after shares =
       let size : length new ≡ length old + length tail = closing.size in
       let longer : length old ≡ length base + states_of_bodies xs = beside.size in
       record {

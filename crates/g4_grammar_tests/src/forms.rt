@@ -52,7 +52,7 @@ parser grammar X; s : {p}? ; => 1:0 parser
 ";
 
 /// The rows of which something else is answered, after 2,000 rules that are run: none more, and one with a long predicate.
-fn differing_behind(alloc: Global) -> Result<String, AllocError> {
+fn differing_after_rules(alloc: Global) -> Result<String, AllocError> {
     let rules = repeated(alloc, "s% : A (r | )* {} ;\n", 2_000)?;
     let front = format!(in alloc; "grammar X;\n{rules}")?;
     let word = "p".repeat(alloc, 20_000)?;
@@ -61,8 +61,8 @@ fn differing_behind(alloc: Global) -> Result<String, AllocError> {
 }
 
 #[test]
-fn finds_a_form_behind_many_rules(rt: HostRuntime) -> Result<(), Fail> {
-    let wrong = differing_behind(rt.alloc())?;
+fn finds_a_form_after_many_rules(rt: HostRuntime) -> Result<(), Fail> {
+    let wrong = differing_after_rules(rt.alloc())?;
     assert_eq!(rt; wrong.as_str(), "");
     Ok(())
 }

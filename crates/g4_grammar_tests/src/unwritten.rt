@@ -68,7 +68,7 @@ fn source(alloc: Global, first: AtomKind) -> Result<Source, AllocError> {
 }
 
 /// What is reported of a grammar by three checks.
-fn told(alloc: Global, source: &Source) -> Result<String, AllocError> {
+fn reported_by_checks(alloc: Global, source: &Source) -> Result<String, AllocError> {
     let references = references(alloc, source)?;
     let recursion = recursion(alloc, source)?;
     let forms = forms(alloc, source)?;
@@ -78,7 +78,7 @@ fn told(alloc: Global, source: &Source) -> Result<String, AllocError> {
 /// What is reported of a grammar of that rule.
 fn reported(alloc: Global, first: AtomKind) -> Result<String, AllocError> {
     let source = source(alloc, first)?;
-    told(alloc, &source)
+    reported_by_checks(alloc, &source)
 }
 
 /// What is reported of a call of a parser rule.

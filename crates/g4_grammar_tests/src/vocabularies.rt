@@ -106,7 +106,7 @@ fn shown(alloc: Global, grammar: &Numbered) -> Result<String, AllocError> {
 }
 
 /// What is numbered; with more than 1,000 types how many there are, and how many have names.
-fn told(alloc: Global, grammar: &Numbered) -> Result<String, AllocError> {
+fn summary(alloc: Global, grammar: &Numbered) -> Result<String, AllocError> {
     let types = grammar.shown.len();
     if types < 1_000 {
         return shown(alloc, grammar);
@@ -118,7 +118,7 @@ fn told(alloc: Global, grammar: &Numbered) -> Result<String, AllocError> {
 /// What is numbered of a grammar.
 pub(crate) fn numbered(alloc: Global, source: &Source) -> Result<String, AllocError> {
     match number(alloc, source) {
-        Ok(grammar) => told(alloc, &grammar),
+        Ok(grammar) => summary(alloc, &grammar),
         Err(NumberFault::Rules) => String::from_str(alloc, "rules"),
         Err(NumberFault::Types) => String::from_str(alloc, "types"),
         Err(NumberFault::NoMemory) => Err(AllocError),
@@ -211,7 +211,7 @@ A : ; b : ; A : ; A : ; b : ; => A
 ";
 
 /// The rows of which something else is answered after 10,000 rules.
-fn differing_behind(alloc: Global) -> Result<String, AllocError> {
+fn differing_after_rules(alloc: Global) -> Result<String, AllocError> {
     let rules = repeated(alloc, "a% : ; A% : ;\n", 5_000)?;
     let front = format!(in alloc; "grammar X;\n{rules}")?;
     let table = " => none\nA4999 : ; => A4999";
@@ -219,8 +219,8 @@ fn differing_behind(alloc: Global) -> Result<String, AllocError> {
 }
 
 #[test]
-fn reports_a_repetition_behind_many_rules(rt: HostRuntime) -> Result<(), Fail> {
-    let wrong = differing_behind(rt.alloc())?;
+fn reports_a_repetition_after_many_rules(rt: HostRuntime) -> Result<(), Fail> {
+    let wrong = differing_after_rules(rt.alloc())?;
     assert_eq!(rt; wrong.as_str(), "");
     Ok(())
 }

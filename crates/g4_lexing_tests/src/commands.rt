@@ -79,7 +79,7 @@ fn write_rule(out: &mut String, alternatives: &[Sequence<LexerCommand>]) -> Resu
 }
 
 /// What the commands of the grammar do, as text.
-fn told(alloc: Global, rules: &str, types: Vec<TokenName>) -> Result<String, AllocError> {
+fn shown(alloc: Global, rules: &str, types: Vec<TokenName>) -> Result<String, AllocError> {
     let made = made(alloc, rules, types)?;
     let mut out = String::new(alloc);
     for alternatives in made.as_slice() {
@@ -151,7 +151,7 @@ const ROWS: &[(&str, &str, &str)] = &[
 #[test]
 fn commands(rt: HostRuntime) -> Result<(), Fail> {
     for (name, rules, wanted) in ROWS {
-        let found = told(rt.alloc(), rules, types(rt.alloc())?)?;
+        let found = shown(rt.alloc(), rules, types(rt.alloc())?)?;
         assert_eq!(rt; found.as_str(), *wanted, "{name}");
     }
     Ok(())
@@ -199,7 +199,7 @@ fn many_commands(alloc: Global, rules: u32) -> Result<String, AllocError> {
 #[test]
 fn a_large_grammar(rt: HostRuntime) -> Result<(), Fail> {
     let text = large(rt.alloc(), 1_000, 2_000)?;
-    let found = told(rt.alloc(), text.as_str(), many_types(rt.alloc(), 2_000)?)?;
+    let found = shown(rt.alloc(), text.as_str(), many_types(rt.alloc(), 2_000)?)?;
     let wanted = many_commands(rt.alloc(), 2_000)?;
     assert_eq!(rt; found.as_str(), wanted.as_str());
     Ok(())

@@ -37,7 +37,7 @@ module _ (rules : List (Alternatives Lead)) (operators : List Bool) where
   of_operator k j empty rest h = absurd h
   of_operator k j (then (atom a) xs) rest (own, same) =
       let null = null_call a k own.0 in (
-        λ h. elim h [ inl called ↦ absurd (called.1 own) | inr behind ↦ (null.1 behind.0, subst (λ (ys : Elements Lead). IsLeftOfAll ReadsLead CallsLead rules ys j) (sym same) behind.1) ],
+        λ h. elim h [ inl called ↦ absurd (called.1 own) | inr after ↦ (null.1 after.0, subst (λ (ys : Elements Lead). IsLeftOfAll ReadsLead CallsLead rules ys j) (sym same) after.1) ],
         λ h. inr (null.0 h.0, subst (λ (ys : Elements Lead). IsLeftOfAll ReadsLead CallsLead rules ys j) same h.1),
       )
   of_operator k j (then (block label repeat ys) xs) rest h = absurd h
@@ -46,8 +46,8 @@ module _ (rules : List (Alternatives Lead)) (operators : List Bool) where
   of_primary : (k j : ℕ) (xs : Elements Lead) → ((rest : Elements Lead) → IsOperator (OwnLead operators) k xs rest → ⊥) → Runs k xs j ↔ IsLeftOfAll ReadsLead CallsLead rules xs j
   of_primary k j empty never = (λ h. h, λ h. h)
   of_primary k j (then (atom a) xs) never = (
-    λ h. elim h [ inl called ↦ inl called.0 | inr behind ↦ inr behind ],
-    λ h. elim h [ inl called ↦ inl (called, λ own. never xs (own, refl)) | inr behind ↦ inr behind ],
+    λ h. elim h [ inl called ↦ inl called.0 | inr after ↦ inr after ],
+    λ h. elim h [ inl called ↦ inl (called, λ own. never xs (own, refl)) | inr after ↦ inr after ],
   )
   of_primary k j (then (block label repeat ys) xs) never = (λ h. h, λ h. h)
 

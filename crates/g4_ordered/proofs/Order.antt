@@ -92,10 +92,10 @@ list_in_order net last Late starts list h o =
 -- what a list in order reads to is in order
 read_in_order : (net : LexerNetwork) (a : ℕ) (list read : List LexerConfig) → ReadAll net a list read → InOrder list → InOrder read
 read_in_order net a list read all_read o = empty
-read_in_order net a list read (taken c d cs ds h k) o = more d ds behind (read_in_order net a cs ds k (tail_in_order c cs o))
+read_in_order net a list read (taken c d cs ds h k) o = more d ds after (read_in_order net a cs ds k (tail_in_order c cs o))
   where
-    behind : (e : LexerConfig) → In e ds → Before d e
-    behind e i =
+    after : (e : LexerConfig) → In e ds → Before d e
+    after e i =
         let r = read_by net a cs ds k e i in
         alike_before c r.0 d e (alike_on c c d (alike c) (read_follows net a c d h)) (alike_on r.0 r.0 e (alike r.0) (read_follows net a r.0 e r.2)) (head_before c cs o r.0 r.1)
 read_in_order net a list read (refused c cs _ h k) o = read_in_order net a cs read k (tail_in_order c cs o)

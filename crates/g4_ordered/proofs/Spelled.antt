@@ -203,12 +203,12 @@ module _ (net : LexerNetwork) where
   spells_walk p w v (calls _ rule level back _ u _ k h j) g c is =
       let begin = at_with c (start_of rule) (back ∷ c.returns) in
       let inner = spells_walk (start_of rule) w u h (greedy_on p (start_of rule) g (called p rule level back start k)) begin refl in
-      let behind = at_with inner.d back c.returns in
-      let outer = spells_walk back u v j (greedy_on p back g (onward p back (Call rule level back) start k refl)) behind refl in
+      let after = at_with inner.d back c.returns in
+      let outer = spells_walk back u v j (greedy_on p back g (onward p back (Call rule level back) start k refl)) after refl in
       let entered = one c begin w (Some (Call rule level back)) (ap (state_at net) is ∙ k) (inl refl) in
       let left = return_walks inner.d inner.ended back c.returns u inner.end inner.returns in
-      let through_it = walks_on c w inner.d u behind u (walks_on c w begin w inner.d u entered inner.walk) left in
-      then_arrives c behind w u v through_it refl inner.rule inner.alternative inner.passed outer
+      let through_it = walks_on c w inner.d u after u (walks_on c w begin w inner.d u entered inner.walk) left in
+      then_arrives c after w u v through_it refl inner.rule inner.alternative inner.passed outer
   spells_walk p w v (passes _ t _ _ m h) g c is =
       let s = pass_is (state_at net p) t m in
       let same : state_at net c.state ≡ state_at net p = ap (state_at net) is in

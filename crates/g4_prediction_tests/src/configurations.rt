@@ -33,7 +33,7 @@ fn alternatives(alloc: Global, set: &Configs) -> Result<String, AllocError> {
 }
 
 /// All that is reported of a set.
-fn told(alloc: Global, set: &Configs) -> Result<String, AllocError> {
+fn reported(alloc: Global, set: &Configs) -> Result<String, AllocError> {
     let mut text = alternatives(alloc, set)?;
     if set.conflict(alloc)? {
         text.push_str(" conflict")?;
@@ -47,8 +47,8 @@ fn told(alloc: Global, set: &Configs) -> Result<String, AllocError> {
     Ok(text)
 }
 
-fn is_told(alloc: Global, set: &Configs, wanted: &str) -> Result<bool, AllocError> {
-    Ok(told(alloc, set)?.as_str() == wanted)
+fn is_reported(alloc: Global, set: &Configs, wanted: &str) -> Result<bool, AllocError> {
+    Ok(reported(alloc, set)?.as_str() == wanted)
 }
 
 fn is_right(alloc: Global, row: &str) -> Result<bool, AllocError> {
@@ -56,7 +56,7 @@ fn is_right(alloc: Global, row: &str) -> Result<bool, AllocError> {
         return Ok(false);
     };
     let set = set_of(alloc, set, false)?;
-    is_told(alloc, &set, wanted)
+    is_reported(alloc, &set, wanted)
 }
 
 #[test]
@@ -125,7 +125,7 @@ fn many_alternatives_alike(rt: HostRuntime) -> Result<(), Fail> {
         ([100, 1, 1], " least 1 conflict lone"),
     ] {
         put(&mut set, &numbers, false)?;
-        assert!(rt; is_told(rt.alloc(), &set, wanted)?, "{wanted}");
+        assert!(rt; is_reported(rt.alloc(), &set, wanted)?, "{wanted}");
     }
     Ok(())
 }
@@ -143,7 +143,7 @@ fn has_snapshot(alloc: Global, set: &Configs) -> Result<bool, AllocError> {
 #[test]
 fn many_alternatives_apart(rt: HostRuntime) -> Result<(), Fail> {
     let set = many(rt.alloc(), true)?;
-    assert!(rt; is_told(rt.alloc(), &set, " least 1")?);
+    assert!(rt; is_reported(rt.alloc(), &set, " least 1")?);
     assert!(rt; has_groups(rt.alloc(), &set, 100_000)?);
     assert!(rt; has_snapshot(rt.alloc(), &set)?);
     Ok(())

@@ -657,10 +657,10 @@ fn tells_how_far_bytes_are_a_text(rt: HostRuntime) -> Result<(), Fail> {
 }
 
 /// A grammar text with `count` brackets, one in another.
-fn nested(alloc: Global, before: &str, count: usize, behind: &str) -> Result<String, AllocError> {
+fn nested(alloc: Global, before: &str, count: usize, inside: &str) -> Result<String, AllocError> {
     let opened = "(".repeat(alloc, count)?;
     let closed = ")".repeat(alloc, count)?;
-    format!(in alloc; "{before}{opened}{behind}{closed};")
+    format!(in alloc; "{before}{opened}{inside}{closed};")
 }
 
 /// How long what is shown of such a text is, or that there is no memory.
@@ -668,9 +668,9 @@ fn length_shown(
     alloc: Global,
     before: &str,
     count: usize,
-    behind: &str,
+    inside: &str,
 ) -> Result<String, AllocError> {
-    let text = nested(alloc, before, count, behind)?;
+    let text = nested(alloc, before, count, inside)?;
     let found = shown(alloc, text.as_bytes())?;
     if found.as_str() == "no memory" {
         return Ok(found);
@@ -692,8 +692,8 @@ const DEEP: &[(&str, usize, &str, &str)] = &[
 
 #[test]
 fn reads_brackets_as_deep_as_they_may_be(rt: HostRuntime) -> Result<(), Fail> {
-    for (before, count, behind, wanted) in DEEP {
-        let found = length_shown(rt.alloc(), before, *count, behind)?;
+    for (before, count, inside, wanted) in DEEP {
+        let found = length_shown(rt.alloc(), before, *count, inside)?;
         assert_eq!(rt; found.as_str(), *wanted, "{before} {count}");
     }
     Ok(())
@@ -719,13 +719,13 @@ fn push_characters(
     text: &mut String,
     count: u32,
     before: &str,
-    behind: &str,
+    after: &str,
 ) -> Result<(), AllocError> {
     for character in 0..count.min(1000) {
         if let Some(character) = char::from_u32(0x4E00 + 2 * character) {
             text.push_str(before)?;
             text.push(character)?;
-            text.push_str(behind)?;
+            text.push_str(after)?;
         }
     }
     Ok(())

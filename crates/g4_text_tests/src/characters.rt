@@ -126,8 +126,8 @@ static LITERALS: [(&str, Option<char>); 8] = [
 
 #[test]
 fn literals(rt: HostRuntime) -> Result<(), Fail> {
-    for (behind, wanted) in &LITERALS {
-        let characters: Vec<char> = behind.chars().collect(rt.alloc())?;
+    for (after, wanted) in &LITERALS {
+        let characters: Vec<char> = after.chars().collect(rt.alloc())?;
         let found = match read_escape(Context::Literal, &characters) {
             Some(escape) => match escape.meaning {
                 Meaning::Character(c) => Some(c),
@@ -135,7 +135,7 @@ fn literals(rt: HostRuntime) -> Result<(), Fail> {
             },
             None => None,
         };
-        assert_eq!(&rt; found, *wanted, "{behind}");
+        assert_eq!(&rt; found, *wanted, "{after}");
     }
     Ok(())
 }

@@ -182,7 +182,7 @@ const NO_TEXTS: &[(&[u8], &str)] = &[
 ];
 
 #[test]
-fn bytes_that_are_no_text_are_told_before_faults(rt: HostRuntime) -> Result<(), Fail> {
+fn bytes_that_are_no_text_are_reported_before_faults(rt: HostRuntime) -> Result<(), Fail> {
     for (bytes, wanted) in NO_TEXTS {
         let found = table(rt.alloc(), bytes)?;
         assert_eq!(rt; found.as_str(), *wanted);
