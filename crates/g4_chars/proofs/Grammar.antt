@@ -62,7 +62,7 @@ bad_shape c cs true is None e same =
 bad_shape c cs true is (Some found) e same = absurd (none_some _ (sym same))
 bad_shape c cs false is o e same = absurd (none_some _ (sym same))
 
--- a bad escape behind the first item
+-- a bad escape after the first item
 later_escape : (cs : List ℕ) (f : Found) → (o : Option Escape) → o ≡ escape Set cs → option_map {U = Found} (λ (e : Escape). record { item = escaped_item e.meaning cs; taken = e.taken }) o ≡ Some f → HasBadEscape (drop f.taken cs) → HasBadEscape (92 ∷ cs)
 later_escape cs f None is e bad = absurd (none_some f e)
 later_escape cs f (Some e) is same bad =
@@ -96,7 +96,7 @@ bad_is (suc k) [] same = absurd (none_some _ (sym same))
 bad_is zero (c ∷ cs) same = bad_one c cs (item_at c cs) refl same (λ k e. bad_is k cs e)
 bad_is (suc k) (c ∷ cs) same = bad_is k cs same
 
--- a range ends where a hyphen and a character stand behind its first
+-- a range ends where a hyphen and a character follow its first
 end_at : (d : ℕ) (q : Bool) (l : Item) (rest : List Item) (last : ℕ) → (b : Bool) → b ≡ ((d == 45) && q) → cond b (character_of l) None ≡ Some last → (p : Bool) × (more : List Item) × (Member d q ∷ l ∷ rest ≡ Member 45 true ∷ Member last p ∷ more)
 end_at d q l rest last false is same = absurd (none_some last same)
 end_at d false l rest last true is same = absurd (grind (arith, nat_tests))

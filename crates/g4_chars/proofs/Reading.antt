@@ -6,14 +6,14 @@ use Rattle.g4_chars.specs.declared.item.Item.{Item}
 use Rattle.g4_chars.specs.declared.part.Part.{Part}
 use Rattle.g4_chars.specs.Reading.{item_at, items_from, part_of, more_of, parts_from}
 
--- the list behind an index
+-- the list from an index on
 pub from_index : {X : Type 0} (xs : List X) (at : ℕ) (x : X) → at < length xs → x ≡ get_or xs at x → drop at xs ≡ x ∷ take (length xs - (at + 1)) (drop (at + 1) xs)
 from_index xs at x h read =
     let more = drop_more xs at x h in
     let rest = take_rest xs (at + 1) in
     cc
 
--- what is left behind one and some more
+-- what is left after one and some more
 pub further : {X : Type 0} (xs : List X) (at more : ℕ) → drop more (take (length xs - (at + 1)) (drop (at + 1) xs)) ≡ drop (at + (1 + more)) xs
 further xs at more =
     let rest = take_rest xs (at + 1) in
@@ -21,7 +21,7 @@ further xs at more =
     let same : at + (1 + more) ≡ at + 1 + more = omega arith in
     cc
 
--- items behind characters that are passed over
+-- items after characters that are passed over
 pub items_skip : (k : ℕ) (text : List ℕ) → items_from k text ≡ items_from 0 (drop k text)
 items_skip zero text = refl
 items_skip (suc k) [] = refl
@@ -45,7 +45,7 @@ items_more text at c out after f h read is after_is =
     ∙ behind_one out f.item (items_from f.taken behind)
     ∙ ap (option_map (λ more. out ++ more)) (sym (begun ∙ items_step c behind f is))
 
--- parts behind items that are passed over
+-- parts after items that are passed over
 pub parts_skip : (k : ℕ) (is : List Item) → parts_from k is ≡ parts_from 0 (drop k is)
 parts_skip zero is = refl
 parts_skip (suc k) [] = refl

@@ -31,7 +31,7 @@ gaps start (r ∷ rs) = scalars start r.first ++ gaps (r.last + 1) rs
 abbrev pub over : Range → Range → Range
 over r s = record { first = r.first; last = max r.last s.last }
 
--- the range and those that start in it or behind it, joined where they touch
+-- the range and those that start in it or after it, joined where they touch
 abbrev pub joined_behind : Range → List Range → List Range
 joined_behind r [] = r ∷ []
 joined_behind r (s ∷ ss) = if nat_le s.first (r.last + 1) then joined_behind (over r s) ss else r ∷ joined_behind s ss

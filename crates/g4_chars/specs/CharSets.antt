@@ -7,7 +7,7 @@ use Rattle.g4_chars.specs.declared.range.Range.{Range}
 abbrev pub IsScalar : ℕ → Type 0
 IsScalar c = (c < 0xD800) ⊎ ((0xE000 ≤ c) × (c < 0x110000))
 
--- the character lies in the range, both ends of which belong to it
+-- the character is in the range, both ends of which belong to it
 abbrev pub IsWithin : Range → ℕ → Type 0
 IsWithin r c = (r.first ≤ c) × (c ≤ r.last)
 

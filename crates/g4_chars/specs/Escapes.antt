@@ -1,4 +1,4 @@
--- What escapes in literals and sets stand for.
+-- What escapes in literals and sets mean.
 use Rattle.std.specs.Prelude.{ℕ, ◌+◌, ◌≤◌, Bool, false, List, [], ◌∷◌, Option, Some, None, take, drop, ◌&&◌, ◌||◌, ◌==◌, not, nat_lt, nat_le, if◌then◌else◌}
 use Rattle.std.specs.Bool.{⊤}
 use Rattle.std.specs.Char.{is_digit, is_ascii_alphanumeric}
@@ -23,21 +23,21 @@ abbrev pub begins : ℕ → List ℕ → Bool
 begins c [] = false
 begins c (first ∷ _) = first == c
 
--- an escape of so many characters that stands for the code point, if that is a scalar value
+-- an escape of this many characters that means the code point, if that is a scalar value
 abbrev pub coded : ℕ → ℕ → Option Escape
 coded code taken = if is_scalar code then Some (record { meaning = Character code; taken = taken }) else None
 
--- `\uXXXX`, told by what follows the `u`
+-- `\uXXXX`, read from what follows the `u`
 abbrev pub four_digits : List ℕ → Option Escape
 four_digits text = if nat_le 4 (prefix_len is_hexadecimal text) then coded (digits_value 16 (take 4 text)) 5 else None
 
--- `\u{X..}` of one to six digits, told by what follows the brace
+-- `\u{X..}` of one to six digits, read from what follows the brace
 abbrev pub braced_digits : List ℕ → Option Escape
 braced_digits text =
     let count = prefix_len is_hexadecimal text in
     if (nat_lt 0 count && nat_le count 6) && begins 125 (drop count text) then coded (digits_value 16 (take count text)) (count + 3) else None
 
--- `\u..`, told by what follows the `u`
+-- `\u..`, read from what follows the `u`
 abbrev pub unicode_escape : List ℕ → Option Escape
 unicode_escape text = if begins 123 text then braced_digits (drop 1 text) else four_digits text
 
@@ -45,17 +45,17 @@ unicode_escape text = if begins 123 text then braced_digits (drop 1 text) else f
 abbrev pub is_name_part : ℕ → Bool
 is_name_part c = ((not (c == 125) && not (c == 93)) && not (c == 92)) && not (c == 10)
 
--- `\p{Name}`, or `\P{Name}` for the complement, told by what follows the brace
+-- `\p{Name}`, or `\P{Name}` for the complement, read from what follows the brace
 abbrev pub property : Bool → List ℕ → Option Escape
 property complement text =
     let count = prefix_len is_name_part text in
     if begins 125 (drop count text) then Some (record { meaning = Property complement count; taken = count + 3 }) else None
 
--- `\p..` or `\P..`, told by what follows the letter
+-- `\p..` or `\P..`, read from what follows the letter
 abbrev pub named_escape : Bool → List ℕ → Option Escape
 named_escape complement text = if begins 123 text then property complement (drop 1 text) else None
 
--- the character that `\n`, `\r`, `\t`, `\b` or `\f` stands for
+-- the character that `\n`, `\r`, `\t`, `\b` or `\f` means
 abbrev pub control : ℕ → Option ℕ
 control c = if c == 110 then Some 10 else (if c == 114 then Some 13 else (if c == 116 then Some 9 else (if c == 98 then Some 8 else (if c == 102 then Some 12 else None))))
 
@@ -64,7 +64,7 @@ abbrev pub breaks : Context → ℕ → Bool
 breaks Literal c = c == 10
 breaks Set c = false
 
--- a backslash before a character that is no ASCII letter or digit stands for that character
+-- a backslash before a character that is no ASCII letter or digit means that character
 abbrev pub itself : Context → ℕ → Option Escape
 itself context c = if is_ascii_alphanumeric c || breaks context c then None else Some (record { meaning = Character c; taken = 1 })
 
@@ -72,21 +72,21 @@ itself context c = if is_ascii_alphanumeric c || breaks context c then None else
 abbrev pub short_escape : Context → ℕ → Option Escape
 short_escape context c = elim (control c) [ Some meant ↦ Some (record { meaning = Character meant; taken = 1 }) | None ↦ itself context c ]
 
--- the escape of this character and those behind it, in a set, if it is not by a number
+-- the escape of this character and those after it, in a set, if it is not by a number
 abbrev pub set_escape : ℕ → List ℕ → Option Escape
 set_escape c cs = if c == 112 || c == 80 then named_escape (c == 80) cs else short_escape Set c
 
--- the escape of this character and those behind it, if it is not by a number: only sets have properties
+-- the escape of this character and those after it, if it is not by a number: only sets have properties
 abbrev pub other_escape : Context → ℕ → List ℕ → Option Escape
 other_escape Literal c cs = short_escape Literal c
 other_escape Set c cs = set_escape c cs
 
--- the escape that what follows its backslash tells
+-- the escape, read from what follows its backslash
 abbrev pub escape : Context → List ℕ → Option Escape
 escape context [] = None
 escape context (c ∷ cs) = if c == 117 then unicode_escape cs else other_escape context c cs
 
--- the name of a property, with two characters before it and one behind it, is within what belongs to the escape
+-- the name of a property, with two characters before it and one after it, is within what belongs to the escape
 abbrev pub NameIsWithin : ℕ → Meaning → Type 0
 NameIsWithin taken (Character c) = ⊤
 NameIsWithin taken (Property complement count) = count + 3 ≤ taken

@@ -30,7 +30,7 @@ letters_of (GraphemeClusterBreak value) = 0
 letters_of (WordBreak value) = 0
 letters_of (SentenceBreak value) = 0
 
--- the set, if a name of so many letters is its short name
+-- the set, if a name of this many letters is its short name
 abbrev pub if_short : ℕ → Set → Option Set
 if_short count set = if count == letters_of set then Some set else None
 

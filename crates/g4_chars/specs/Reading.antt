@@ -10,7 +10,7 @@ use Rattle.g4_chars.specs.declared.part.Part.TheVariants.{Span, Class}
 use Rattle.g4_chars.specs.Escapes.{escape}
 use Rattle.g4_chars.specs.SetText.{escaped_item}
 
--- the item that begins with the character, and how many characters behind that belong to it
+-- the item that begins with the character, and how many characters after that belong to it
 abbrev pub item_at : ℕ → List ℕ → Option Found
 item_at c behind =
     if c == 92 then option_map (λ (e : Escape). record { item = escaped_item e.meaning behind; taken = e.taken }) (escape Set behind)
@@ -36,17 +36,17 @@ abbrev pub character_of : Item → Option ℕ
 character_of (Member c plain) = Some c
 character_of (Named complement property) = None
 
--- the last character of the range that what stands behind a character makes of it, `-` and a character
+-- the last character of the range, if a `-` and a character follow its first
 abbrev pub range_end : List Item → Option ℕ
 range_end [] = None
 range_end (hyphen ∷ []) = None
 range_end (hyphen ∷ last ∷ _) = if is_hyphen hyphen then character_of last else None
 
--- the range that begins with the character: of that character alone, where what stands behind makes it none
+-- the range that begins with the character: of that character alone, if no `-` and character follow
 abbrev pub span_of : ℕ → List Item → Part
 span_of c behind = Span c (unwrap_or (range_end behind) c)
 
--- how many of the items behind its first character the range takes
+-- how many of the items after its first character the range takes
 abbrev pub more_of_span : List Item → ℕ
 more_of_span behind = if is_some (range_end behind) then 2 else 0
 
@@ -55,7 +55,7 @@ abbrev pub part_of : Item → List Item → Part
 part_of (Member c plain) behind = span_of c behind
 part_of (Named complement property) behind = Class complement property
 
--- how many of the items behind its first the part takes
+-- how many of the items after its first the part takes
 abbrev pub more_of : Item → List Item → ℕ
 more_of (Member c plain) behind = more_of_span behind
 more_of (Named complement property) behind = 0

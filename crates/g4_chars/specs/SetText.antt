@@ -19,18 +19,18 @@ use Rattle.g4_chars.specs.CharSets.{Has, IsScalar, IsCanonical}
 use Rattle.g4_chars.specs.Escapes.{escape}
 use Rattle.g4_chars.specs.Properties.{property_named}
 
--- the item that an escape stands for: of a property, what stands behind the backslash has the name, behind two characters
+-- the item that an escape means: the name of a property comes after the backslash and two more characters
 abbrev pub escaped_item : Meaning → List ℕ → Item
 escaped_item (Character c) behind = Member c false
 escaped_item (Property complement count) behind = Named complement (property_named (take count (drop 2 behind)))
 
--- the text has these items in order: characters that stand for themselves, and escapes
+-- the text has these items in order: characters that mean themselves, and escapes
 pub data AreItems : List ℕ → List Item → Type 0 where
   no_item : AreItems [] []
   a_character : (c : ℕ) (cs : List ℕ) (is : List Item) → c ≢ 92 → AreItems cs is → AreItems (c ∷ cs) (Member c true ∷ is)
   an_escape : (cs : List ℕ) (e : Escape) (is : List Item) → escape Set cs ≡ Some e → AreItems (drop e.taken cs) is → AreItems (92 ∷ cs) (escaped_item e.meaning cs ∷ is)
 
--- behind some of its items the text has a backslash with no escape
+-- after some of its items the text has a backslash with no escape
 pub data HasBadEscape : List ℕ → Type 0 where
   at_once : (cs : List ℕ) → escape Set cs ≡ None → HasBadEscape (92 ∷ cs)
   behind_a_character : (c : ℕ) (cs : List ℕ) → c ≢ 92 → HasBadEscape cs → HasBadEscape (c ∷ cs)

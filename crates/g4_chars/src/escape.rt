@@ -1,25 +1,25 @@
-// What escapes in literals and sets stand for.
+// What escapes in literals and sets mean.
 ghost use Rattle.std.specs.Prelude.{◌≡◌, ◌≤◌, ◌+◌, ◌<◌, ◌^◌, length, IfSome};
 ghost use Rattle.std.specs.List.{prefix_len};
 ghost use Rattle.std.specs.Str.Parse.{digits_value, AllDigits};
 ghost use Rattle.g4_chars.specs.Escapes.{breaks, coded, four_digits, braced_digits, unicode_escape, control, itself, short_escape, begins, is_name_part, property, named_escape, set_escape, other_escape, escape, is_hexadecimal, NameIsWithin};
 
-/// Where an escape stands.
+/// Where an escape occurs.
 #[derive(Clone, Copy)]
 pub enum Context {
     Literal,
     Set,
 }
 
-/// What an escape stands for.
+/// What an escape means.
 #[derive(Clone, Copy)]
 pub enum Meaning {
     Character(char),
-    /// The property with this name, or its complement; the name is as many characters behind the `{` as `length` says.
+    /// The property with this name, or its complement; the name is the first `length` characters after the `{`.
     Property { complement: bool, length: usize },
 }
 
-/// What an escape stands for, and how many characters behind the backslash belong to it.
+/// What an escape means, and how many characters after the backslash belong to it.
 #[derive(Clone, Copy)]
 pub struct Escape {
     pub meaning: Meaning,
@@ -212,7 +212,7 @@ fn other_escape(context: Context, c: char, behind: &[char]) -> Option<Escape>
     }
 }
 
-/// The escape that what follows its backslash tells: none where it is a bad one.
+/// The escape, given what follows its backslash: none where it is a bad one.
 pub fn read_escape(context: Context, behind: &[char]) -> Option<Escape>
     ensures value { result ≡ escape context behind.now }
     ensures within { IfSome result (λ e. e.taken ≤ length behind.now) }

@@ -12,7 +12,7 @@ use unicode::sets::Set;
 /// What is written in a set.
 #[derive(Clone, Copy)]
 pub enum Item {
-    /// A character, and whether it stands for itself with no backslash.
+    /// A character, and whether it is written without a backslash.
     Member {
         character: char,
         plain: bool,
@@ -24,7 +24,7 @@ pub enum Item {
     },
 }
 
-/// An item, and how many characters behind its first belong to it.
+/// An item, and how many characters after its first belong to it.
 #[derive(Clone, Copy)]
 pub struct Found {
     pub item: Item,

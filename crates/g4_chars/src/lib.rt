@@ -1,4 +1,4 @@
-// Sets of Unicode characters, and the reading of what stands between the brackets of a set.
+// Sets of Unicode characters, and the reading of what is between the brackets of a set.
 #![tactic(auto)]
 
 mod building;

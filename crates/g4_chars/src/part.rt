@@ -69,7 +69,7 @@ fn span_at(first: char, behind: &[Item]) -> (Part, usize)
     }
 }
 
-/// The part that begins with the item, and how many items behind it belong to it.
+/// The part that begins with the item, and how many items after it belong to it.
 fn part_at(item: Item, behind: &[Item]) -> (Part, usize)
     ensures part { result.0 ≡ part_of item behind.now }
     ensures more { result.1 ≡ more_of item behind.now }

@@ -85,7 +85,7 @@ bar_reads : (last nodes : List Node) (waits pending : List Operator) (v : List T
 bar_reads last nodes waits pending v nodes_are pending_are =
     ap (λ ns. nodes_from 0 (want ns (Disjunction ∷ joined_pending waits)) v) nodes_are ∙ ap (λ ps. nodes_from 0 (want nodes (Disjunction ∷ ps)) v) pending_are
 
--- the state behind a whole predicate: one more operand of `||`, and perhaps the `||` that waits for it
+-- the state after a whole predicate: one more operand of `||`, and perhaps the `||` that waits for it
 pub record OrRead (nodes : List Node) (pending : List Operator) (u v : List Token) (a : Tree) : Type 0 where
   pub last : List Node
   pub waits : List Operator

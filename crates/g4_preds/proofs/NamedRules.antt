@@ -15,7 +15,7 @@ pub rules_in-append : (ms ns : List Node) → rules_in (ms ++ ns) ≡ rules_in m
 rules_in-append [] ns = refl
 rules_in-append (m ∷ ms) ns = ap (λ rs. rule_in m ++ rs) (rules_in-append ms ns) ∙ sym (append_assoc (rule_in m) (rules_in ms) (rules_in ns))
 
--- behind an operator that names none
+-- after an operator that names none
 by_operator : (ns : List Node) (n : Node) → rule_in n ≡ [] → rules_in (ns ++ n ∷ []) ≡ rules_in ns
 by_operator ns n none = rules_in-append ns (n ∷ []) ∙ ap (λ rs. rules_in ns ++ (rs ++ [])) none ∙ append-nil (rules_in ns)
 

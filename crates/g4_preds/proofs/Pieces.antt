@@ -13,11 +13,11 @@ use Rattle.g4_preds.specs.declared.token.Token.TheVariants.{Literal}
 use Rattle.g4_preds.specs.Answers.{Answers}
 use Rattle.g4_preds.specs.Tokens.{Opening, told, a_literal, opening, IsOpened, at_once, with_end, IsPiece, IsLiteralPiece}
 
--- the literal piece of so many characters
+-- the literal piece with this many characters after its first
 abbrev literal_piece : ℕ → List ℕ → ℕ → Piece
 literal_piece c behind more = Formed (Literal (literal_spelling (c ∷ take more behind))) more
 
--- a piece that is told at once
+-- a piece that is known at once
 told_piece : (c : ℕ) (behind : List ℕ) (o : Opening) (p q : Piece) → IsOpened c behind o q → o ≡ told (Some p) → p ≡ q
 told_piece c behind _ p _ (at_once q) is = cc
 told_piece c behind _ p _ (with_end more ends few) is = absurd cc
@@ -67,11 +67,11 @@ nothing_opened : (c : ℕ) (behind : List ℕ) (o : Opening) (p : Piece) → IsO
 nothing_opened c behind _ _ (at_once p) is = absurd cc
 nothing_opened c behind _ _ (with_end more ends few) is = absurd cc
 
--- the piece that is told at once
+-- the piece that is known at once
 pub piece_at : (text behind : List ℕ) (c : ℕ) (p : Piece) → text ≡ c ∷ behind → opening c behind ≡ told (Some p) → IsPiece text p
 piece_at text behind c p whole is = subst (λ (t : List ℕ). IsPiece t p) (sym whole) (subst (λ (o : Opening). IsOpened c behind o p) (sym is) (at_once p))
 
--- no piece is told
+-- where it is known that no piece begins, none does
 pub nothing_at : (text behind : List ℕ) (c : ℕ) (p : Piece) → text ≡ c ∷ behind → opening c behind ≡ told None → IsPiece text p → ⊥
 nothing_at text behind c p whole is piece = nothing_opened c behind (opening c behind) p (subst (λ (t : List ℕ). IsPiece t p) whole piece) is
 

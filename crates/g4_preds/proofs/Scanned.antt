@@ -37,14 +37,14 @@ same_token s t m n is = cc
 same_more : (s t : Token) (m n : ℕ) → Formed s m ≡ Formed t n → m ≡ n
 same_more s t m n is = cc
 
--- behind a blank
+-- after a blank
 pub after_blank : (text : List ℕ) (c : ℕ) (cs : List ℕ) (all : List Token) → text ≡ c ∷ cs → IsPiece (c ∷ cs) Blank → AreTokens text all → AreTokens cs all
 after_blank _ c cs _ is blank at_end = absurd cc
 after_blank _ c cs _ is blank (past_blank d ds tokens _ cut) = let same : ds ≡ cs = cc in subst (λ (r : List ℕ). AreTokens r tokens) same cut
 after_blank _ c cs _ is blank (with_token d more ds token tokens formed cut) =
     absurd (blank_or_token token more (one_piece (c ∷ cs) Blank (Formed token more) blank (subst (λ (r : List ℕ). IsPiece r (Formed token more)) is formed)))
 
--- behind a token
+-- after a token
 pub after_token : (text : List ℕ) (c more : ℕ) (cs : List ℕ) (token : Token) (all : List Token) → text ≡ c ∷ cs → IsPiece (c ∷ cs) (Formed token more) → AreTokens text all → Rest (drop more cs) (token ∷ []) all
 after_token _ c more cs token _ is formed at_end = absurd cc
 after_token _ c more cs token _ is formed (past_blank d ds tokens blank cut) =

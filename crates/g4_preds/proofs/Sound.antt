@@ -24,7 +24,7 @@ some_is x y is = cc
 none_some : {A : Type 0} (x : A) → None ≡ Some x → ⊥
 none_some x is = absurd cc
 
--- behind these tokens an operand comes next, and these nodes and operators are what they say
+-- after these tokens an operand comes next, and these nodes and operators are what they say
 data Wanted : List Token → List Node → List Operator → Type 0 where
   nothing : Wanted [] [] []
   past_not : (u : List Token) (nodes : List Node) (pending : List Operator) → Wanted u nodes pending → Wanted (u ++ Exclamation ∷ []) nodes (Negation ∷ pending)
@@ -34,7 +34,7 @@ data Wanted : List Token → List Node → List Operator → Type 0 where
   past_or : (u w : List Token) (nodes : List Node) (pending : List Operator) (a : Tree) → Wanted u nodes pending → IsOuter pending → IsOr w a →
       Wanted (u ++ (w ++ DoubleBar ∷ [])) (nodes ++ postfix a) (Disjunction ∷ pending)
 
--- behind these tokens an operand has been read
+-- after these tokens an operand has been read
 record Had (u : List Token) (nodes : List Node) (pending : List Operator) : Type 0 where
   before : List Token
   word : List Token
@@ -50,7 +50,7 @@ abbrev ReachedBy : Bool → List Token → List Node → List Operator → Type 
 ReachedBy true = Wanted
 ReachedBy false = Had
 
--- behind these tokens the parser is in this state
+-- after these tokens the parser is in this state
 abbrev Reached : List Token → State → Type 0
 Reached u s = ReachedBy s.wants_operand u s.nodes s.pending
 
@@ -68,7 +68,7 @@ based u w nodes pending a wanted base reads = record {
   reads = reads;
 }
 
--- behind an operand
+-- after an operand
 operand_done : (u w : List Token) (nodes : List Node) (pending : List Operator) (a : Tree) → Wanted u nodes pending → IsNot w a → Reached (u ++ w) (completed (nodes ++ postfix a) pending)
 operand_done _ w _ _ a nothing reads = based [] w [] [] a nothing tt (one_not w a reads)
 operand_done _ w _ _ a (past_not u nodes pending wanted) reads =
@@ -87,7 +87,7 @@ operand_done _ w _ _ a (past_and u x nodes pending b wanted base first) reads =
 operand_done _ w _ _ a (past_or u x nodes pending b wanted outer first) reads =
     based (u ++ (x ++ DoubleBar ∷ [])) w (nodes ++ postfix b) (Disjunction ∷ pending) a (past_or u x nodes pending b wanted outer first) tt (one_not w a reads)
 
--- behind a whole predicate: what the operators that wait make of it
+-- after a whole predicate: what the operators that wait make of it
 record Whole (u : List Token) (nodes : List Node) (pending : List Operator) : Type 0 where
   before : List Token
   word : List Token
@@ -120,7 +120,7 @@ whole_of u nodes (Conjunction ∷ pending) had = absurd had.base
 whole_of u nodes (Disjunction ∷ pending) had = whole_or u u had.before had.word nodes had.nodes_before pending had.tree had.parts had.nodes_are had.reads had.wanted
 whole_of u nodes (Parenthesis ∷ pending) had = record { before = had.before; word = had.word; nodes_before = had.nodes_before; tree = had.tree; parts = had.parts; nodes_are = had.nodes_are; wanted = had.wanted; outer = tt; reads = one_and had.word had.tree had.reads }
 
--- behind a `)`
+-- after a `)`
 behind_right : (u before word : List Token) (nodes nodes_before : List Node) (pending : List Operator) (a : Tree) → u ≡ before ++ word → nodes ≡ nodes_before ++ postfix a → IsOr word a → Wanted before nodes_before (Parenthesis ∷ pending) → Reached (u ++ RightParenthesis ∷ []) (completed nodes pending)
 behind_right u _ word nodes _ _ a parts nodes_are reads (past_left before nodes_before pending wanted) =
     let done : Reached (before ++ (LeftParenthesis ∷ (word ++ RightParenthesis ∷ []))) (completed (nodes_before ++ postfix a) pending) = operand_done before (LeftParenthesis ∷ (word ++ RightParenthesis ∷ [])) nodes_before pending a wanted (as_is (LeftParenthesis ∷ (word ++ RightParenthesis ∷ [])) a (enclosed word a reads)) in

@@ -32,7 +32,7 @@ mutual
     one_not : (u : List Token) (a : Tree) → IsNot u a → IsAnd u a
     and_more : (u v : List Token) (a b : Tree) → IsAnd u a → IsNot v b → IsAnd (u ++ DoubleAmpersand ∷ v) (conjunction a b)
 
-  -- `!` denies what stands directly after it
+  -- `!` denies what comes directly after it
   pub data IsNot : List Token → Tree → Type 0 where
     denied : (u : List Token) (a : Tree) → IsNot u a → IsNot (Exclamation ∷ u) (negation a)
     as_is : (u : List Token) (a : Tree) → IsPrimary u a → IsNot u a

@@ -1,4 +1,4 @@
--- What a parser keeps of the tokens before: operators wait until their operands are read. For the contracts of its own
+-- What a parser keeps of the earlier tokens: operators wait until their operands are read. For the contracts of its own
 -- functions; what a predicate is, the grammar says.
 use Rattle.std.specs.Prelude.{◌≡◌, ℕ, zero, suc, Bool, true, false, List, [], ◌∷◌, ◌++◌, Option, Some, None, Result, Ok, Err, if◌then◌else◌}
 use Rattle.g4_preds.specs.declared.fault.Fault.{Fault}
@@ -27,11 +27,11 @@ state_of p = record { nodes = p.nodes.items; pending = p.pending; wants_operand 
 abbrev pub start : State
 start = record { nodes = []; pending = []; wants_operand = true }
 
--- behind an operator or a parenthesis
+-- after an operator or a parenthesis
 abbrev pub waiting : Operator → State → State
 waiting operator s = record { nodes = s.nodes; pending = operator ∷ s.pending; wants_operand = true }
 
--- behind an operand: each `!` and `&&` directly before it takes it
+-- after an operand: each `!` and `&&` directly before it takes it
 abbrev pub completed : List Node → List Operator → State
 completed nodes [] = record { nodes = nodes; pending = []; wants_operand = false }
 completed nodes (Negation ∷ pending) = completed (nodes ++ Not ∷ []) pending
@@ -52,11 +52,11 @@ joined_pending pending = pending
 abbrev pub joined : State → State
 joined s = record { nodes = joined_nodes s.nodes s.pending; pending = joined_pending s.pending; wants_operand = s.wants_operand }
 
--- behind a test
+-- after a test
 abbrev pub past_test : State → Test → State
 past_test s t = completed (s.nodes ++ Operand t ∷ []) s.pending
 
--- behind a `)`, if a `(` waits
+-- after a `)`, if a `(` waits
 abbrev pub closed : List Node → List Operator → Option State
 closed nodes [] = None
 closed nodes (Negation ∷ pending) = None
@@ -72,18 +72,18 @@ pub record Step : Type 0 where
   pub state : State
   pub more : ℕ
 
--- behind the test that the tokens begin with
+-- after the test that the tokens begin with
 abbrev pub test_step : State → Option Found → Option Step
 test_step s (Some found) = Some (record { state = past_test s found.test; more = found.more })
 test_step s None = None
 
--- behind what begins an operand
+-- after what begins an operand
 abbrev pub operand_step : State → List Token → Option Step
 operand_step s (Exclamation ∷ rest) = Some (record { state = waiting Negation s; more = 0 })
 operand_step s (LeftParenthesis ∷ rest) = Some (record { state = waiting Parenthesis s; more = 0 })
 operand_step s tokens = test_step s (first_test tokens)
 
--- behind what may follow an operand
+-- after what may follow an operand
 abbrev pub operator_step : State → Token → Option State
 operator_step s DoubleAmpersand = Some (waiting Conjunction s)
 operator_step s DoubleBar = Some (waiting Disjunction (joined s))
@@ -94,7 +94,7 @@ abbrev pub one_token : Option State → Option Step
 one_token (Some s) = Some (record { state = s; more = 0 })
 one_token None = None
 
--- behind the next tokens, if some predicate goes on so
+-- after the next tokens, if some predicate goes on so
 abbrev pub next_step : State → List Token → Option Step
 next_step s [] = None
 next_step s (token ∷ rest) = if s.wants_operand then operand_step s (token ∷ rest) else one_token (operator_step s token)

@@ -25,14 +25,14 @@ name_piece letter behind =
     let more = prefix_len is_name_part behind in
     Formed (Name (encode_utf8_all (letter ∷ take more behind))) more
 
--- `||`, `&&` or `==`, told by the character that is there twice
+-- `||`, `&&` or `==`, decided by the character that is there twice
 abbrev pub double_sign : ℕ → Option Piece
 double_sign c =
     if c == 124 then Some (Formed DoubleBar 1)
     else (if c == 38 then Some (Formed DoubleAmpersand 1)
     else (if c == 61 then Some (Formed DoubleEquals 1) else None))
 
--- the sign that begins with the character, with what stands after it
+-- the sign that begins with the character, given what follows it
 abbrev pub sign : ℕ → List ℕ → Option Piece
 sign c behind =
     if c == 40 then Some (Formed LeftParenthesis 0)
@@ -40,12 +40,12 @@ sign c behind =
     else (if c == 33 then Some (Formed Exclamation 0)
     else (if begins c behind then double_sign c else None)))
 
--- what begins with a character: a piece that is told at once, if any, or a literal, if it ends
+-- what begins with a character: a piece that is known at once, if any, or a literal, if it ends
 pub data Opening : Type 0 where
   told : Option Piece → Opening
   a_literal : Opening
 
--- what begins with the character, before what stands after it
+-- what begins with the character, given what follows it
 abbrev pub opening : ℕ → List ℕ → Opening
 opening c behind =
     if is_blank c then told (Some Blank)
@@ -75,7 +75,7 @@ pub data AreTokens : List ℕ → List Token → Type 0 where
   with_token : (c more : ℕ) (cs : List ℕ) (token : Token) (tokens : List Token) → IsPiece (c ∷ cs) (Formed token more) → AreTokens (drop more cs) tokens →
       AreTokens (c ∷ cs) (token ∷ tokens)
 
--- the piece has at most so many characters
+-- the piece has at most this many characters
 abbrev pub IsWithin : ℕ → Piece → Type 0
 IsWithin most Blank = 1 ≤ most
 IsWithin most (Formed token more) = 1 + more ≤ most

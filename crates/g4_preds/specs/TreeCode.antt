@@ -1,4 +1,4 @@
--- A tree is read off its postfix form. So a proof tells trees apart by their nodes.
+-- A tree is read off its postfix form. So a proof distinguishes trees by their nodes.
 use Rattle.std.specs.Prelude.{◌≡◌, List, [], ◌∷◌, ◌++◌}
 use Rattle.std.specs.Coded.{Coded, code_by, coded_list}
 use Rattle.std.proofs.Common.{refl, ap, sym, ◌∙◌, append_assoc}

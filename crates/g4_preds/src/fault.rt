@@ -1,7 +1,7 @@
 // Why a text is no predicate.
 use std::alloc::{AllocError, AllocFailed};
 
-/// Why a text is no predicate, wherever it stands.
+/// Why a text is no predicate, wherever it occurs.
 #[derive(Drop)]
 pub enum Fault {
     /// The grammar of predicates does not give it.

@@ -8,7 +8,7 @@ pub enum Token {
     Name(Text),
     /// One digit from 1 to 8.
     Digit(u32),
-    /// The characters that a literal stands for.
+    /// The characters that a literal represents.
     Literal(Sequence<char>),
     /// `(`.
     LeftParenthesis,

@@ -4,7 +4,7 @@ use Rattle.g4_tokens.specs.Characters.{begins}
 use Rattle.g4_tokens.specs.Comments.{comment_end}
 use Rattle.g4_tokens.proofs.Counts.{more_by, one_more, none_more}
 
--- how many characters there are up to the next `*/`, that included, behind so many
+-- how many characters there are up to the next `*/`, that included, added to those taken before
 abbrev pub comment_end_from : ℕ → List ℕ → Option ℕ
 comment_end_from taken [] = None
 comment_end_from taken (c ∷ cs) = if (c == 42) && begins 47 cs then Some (taken + 2) else comment_end_from (taken + 1) cs

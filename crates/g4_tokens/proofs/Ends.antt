@@ -7,7 +7,7 @@ use Rattle.g4_tokens.specs.Enclosed.{Encloses, at_close, one_more, unit_more}
 use Rattle.g4_tokens.specs.Ends.{Finds}
 use Rattle.g4_tokens.specs.Nesting.{Nests, closed, nested, passed, whole, closes, depth_behind, passed_over}
 
--- how many characters there are up to the one that closes, that included, behind so many; the first are passed over
+-- how many characters there are up to the one that closes, that included, added to those taken before; the first are passed over
 abbrev pub enclosed_from : Context → ℕ → ℕ → ℕ → List ℕ → Option ℕ
 enclosed_from context close skip taken [] = None
 enclosed_from context close (suc skip) taken (c ∷ cs) = enclosed_from context close skip (taken + 1) cs
@@ -19,8 +19,8 @@ enclosed_from context close zero taken (c ∷ cs) =
 abbrev pub enclosed : Context → ℕ → List ℕ → Option ℕ
 enclosed context close text = enclosed_from context close 0 0 text
 
--- how many characters there are up to the one that closes, that included, behind so many, where so many are open inside;
--- the first characters are passed over
+-- how many characters there are up to the one that closes, that included, added to those taken before, where as many are open
+-- inside as the depth says; the first characters are passed over
 abbrev pub nesting_end_from : ℕ → ℕ → ℕ → ℕ → ℕ → List ℕ → Option ℕ
 nesting_end_from opening closing depth skip taken [] = None
 nesting_end_from opening closing depth (suc skip) taken (c ∷ cs) = nesting_end_from opening closing depth skip (taken + 1) cs
@@ -41,19 +41,19 @@ none_some n is = cc
 add_suc : (n k : ℕ) → (n + 1) + k ≡ n + suc k
 add_suc n k = omega arith
 
--- an end behind characters that are passed over
+-- an end after characters that are passed over
 pub enclosed_skip : (context : Context) (close k n : ℕ) (text : List ℕ) → enclosed_from context close k n text ≡ enclosed_from context close 0 (n + k) (drop k text)
 enclosed_skip context close zero n text = rw add-zero refl
 enclosed_skip context close (suc k) n [] = refl
 enclosed_skip context close (suc k) n (c ∷ cs) = enclosed_skip context close k (n + 1) cs ∙ ap (λ m. enclosed_from context close 0 m (drop k cs)) (add_suc n k)
 
--- an end behind characters that are passed over
+-- an end after characters that are passed over
 pub nesting_skip : (opening closing depth k n : ℕ) (text : List ℕ) → nesting_end_from opening closing depth k n text ≡ nesting_end_from opening closing depth 0 (n + k) (drop k text)
 nesting_skip opening closing depth zero n text = rw add-zero refl
 nesting_skip opening closing depth (suc k) n [] = refl
 nesting_skip opening closing depth (suc k) n (c ∷ cs) = nesting_skip opening closing depth k (n + 1) cs ∙ ap (λ m. nesting_end_from opening closing depth 0 m (drop k cs)) (add_suc n k)
 
--- the steps that end at a number tell so many characters behind those before
+-- the last number is the one before and a further count, of which this holds
 record Ended (Holds : ℕ → Type 0) (before last : ℕ) : Type 0 where
   count : ℕ
   is : last ≡ before + count
@@ -97,7 +97,7 @@ find_enclosed context close text (Some m) is =
     let same : ended.count ≡ m = omega (arith, ended.is) in
     subst (Encloses context close text) same ended.holds
 
--- so many brackets that are open inside close one behind another, and then the outer one
+-- this many brackets that are open inside close one after another, and then the outer one
 data Closings (opening closing : ℕ) : ℕ → List ℕ → ℕ → Type 0 where
   last_one : (n : ℕ) (text : List ℕ) → Nests opening closing text n → Closings opening closing zero text n
   and_more : (depth n m : ℕ) (text : List ℕ) → Nests opening closing text n → Closings opening closing depth (drop n text) m → Closings opening closing (suc depth) text (n + m)

@@ -7,7 +7,7 @@ use Rattle.g4_tokens.specs.Pieces.{Opening, told, EndsComment, ends, IsEnd, lite
 use Rattle.g4_tokens.specs.declared.piece.Piece.{Piece}
 use Rattle.g4_tokens.proofs.Ends.{one_enclosed}
 
--- a piece that what begins it tells
+-- a piece that its opening gives
 pub told_piece : (opening : Opening) (behind : List ℕ) (piece : Piece) → opening ≡ told piece → IsPiece opening behind piece
 told_piece opening behind piece is = subst (λ (o : Opening). IsPiece o behind piece) (sym is) (at_once piece behind)
 

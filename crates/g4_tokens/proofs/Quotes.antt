@@ -8,8 +8,8 @@ use Rattle.g4_tokens.specs.Characters.{is_in_line}
 use Rattle.g4_tokens.specs.Nesting.{quote_end, escaped_quote_end, IsUnclosed, AreUnclosed}
 use Rattle.g4_tokens.proofs.Counts.{more_by, one_more, none_more}
 
--- how many characters there are up to the quote that closes on this line, that included, behind so many; the first is
--- escaped where a backslash stands before it
+-- how many characters there are up to the quote that closes on this line, that included, added to those taken before; the first
+-- is escaped where a backslash comes before it
 abbrev pub quote_end_from : ℕ → Bool → ℕ → List ℕ → Option ℕ
 quote_end_from quote escaped taken [] = None
 quote_end_from quote escaped taken (c ∷ cs) =
@@ -51,7 +51,7 @@ shift_step false true closing n m a b a' b' f g h = f h
 shift_step false false true n m a b a' b' f g h = cc
 shift_step false false false n m a b a' b' f g h = g h
 
--- a quote that doesn't close doesn't whatever stands before it
+-- a quote that doesn't close doesn't, however many characters are counted before it
 pub none_shift : (q : ℕ) (e : Bool) (n m : ℕ) (xs : List ℕ) → quote_end_from q e n xs ≡ None → quote_end_from q e m xs ≡ None
 none_shift q e n m [] h = refl
 none_shift q e n m (c ∷ cs) h =
@@ -70,7 +70,7 @@ further_in_line : (b : Bool) (n j : ℕ) → suc j < cond (not b) (1 + n) 0 → 
 further_in_line true n j h = omega arith
 further_in_line false n j h = omega arith
 
--- behind a quote that doesn't close on its line, no such quote does on that line
+-- after a quote that doesn't close on its line, no such quote does on that line
 pub none_stays : (q : ℕ) (e : Bool) (n : ℕ) (xs : List ℕ) (j : ℕ) → quote_end_from q e n xs ≡ None → j < prefix_len is_in_line xs → get_or xs j 0 ≡ q → quote_end_from q false 0 (drop (suc j) xs) ≡ None
 none_stays q e n [] j h within read = refl
 none_stays q e n (c ∷ cs) zero h within read =
@@ -81,7 +81,7 @@ none_stays q e n (c ∷ cs) (suc j) h within read =
 same_or_later : (at j : ℕ) → at ≤ j → (j ≡ at) ⊎ (at < j)
 same_or_later at j h = grind arith
 
--- a quote at the index that is not closed, and those behind it on its line
+-- a quote at the index that is not closed, and those after it on its line
 pub unclosed_line : (q : ℕ) (text : List ℕ) (at count : ℕ) → quote_end q (take (length text - (at + 1)) (drop (at + 1) text)) ≡ None → count ≡ prefix_len is_in_line (take (length text - (at + 1)) (drop (at + 1) text)) → IsUnclosed q text at (at + 1 + count)
 unclosed_line q text at count none count_is j from below read =
     let rest : take (length text - (at + 1)) (drop (at + 1) text) ≡ drop (at + 1) text = take_rest text (at + 1) in

@@ -30,7 +30,7 @@ reached_start start p text statement known same = record {
   fault_goes_on = λ fault opens. subst (λ (q : Position). IsFaultyAt [] q text fault) same opens;
 }
 
--- the statement tells the piece
+-- the statement decides the piece
 pub piece_is : (statement : Statement) (words : List Word) (c : ℕ) (behind : List ℕ) (found piece : Piece) → statement ≡ statement_of words → IsPiece (opening (holds_sets statement) statement.names_braces statement.in_braces c behind) behind found → found ≡ piece → PieceAt words c behind piece
 piece_is statement words c behind found piece known is same =
     subst (PieceAt words c behind) same (subst (λ (s : Statement). IsPiece (opening (holds_sets s) s.names_braces s.in_braces c behind) behind found) known is)
@@ -45,7 +45,7 @@ pub same_fault : (words : List Word) (p q : Position) (rest other : List ℕ) (f
 same_fault words p q rest other fault same_p same_rest opens =
     subst (λ (r : List ℕ). IsFaultyAt words q r fault) same_rest (subst (λ (r : Position). IsFaultyAt words r rest fault) same_p opens)
 
--- what is reached behind a gap
+-- what is reached after a gap
 pub reached_gap : (start : Position) (text : List ℕ) (statement : Statement) (p next : Position) (at c more : ℕ) (tokens : List Token) (found : Piece) → Reached start text statement p at tokens → at < length text → c ≡ get_or text at c →
     IsPiece (opening (holds_sets statement) statement.names_braces statement.in_braces c (take (length text - (at + 1)) (drop (at + 1) text))) (take (length text - (at + 1)) (drop (at + 1) text)) found → found ≡ Gap more → next ≡ position_past p (take (at + 1 + more - at) (drop at text)) → Reached start text statement next (at + 1 + more) tokens
 reached_gap start text statement p next at c more tokens found r h read found_is gap next_is =
@@ -61,12 +61,12 @@ reached_gap start text statement p next at c more tokens found r h read found_is
       fault_goes_on = λ fault opens. r.fault_goes_on fault (same_fault r.words p p (c ∷ behind) (drop at text) fault refl (sym cut) (past_gap r.words p fault c more behind is (same_fault r.words next (position_past p (c ∷ take more behind)) (drop (at + 1 + more) text) (drop more behind) fault moved left opens)));
     }
 
--- the statement behind one more token is that of the tokens with it
+-- the statement after one more token is that of the tokens with it
 pub statement_more : (statement after : Statement) (words : List Word) (kind : Kind) (word characters : List ℕ) → statement ≡ statement_of words → after ≡ statement_past statement kind word → word ≡ characters → after ≡ statement_of (record { kind = kind; characters = characters } ∷ words)
 statement_more statement after words kind word characters known after_is same =
     after_is ∙ ap (λ (s : Statement). statement_past s kind word) known ∙ ap (statement_past (statement_of words) kind) same
 
--- what is reached behind a token
+-- what is reached after a token
 pub reached_token : (start : Position) (text : List ℕ) (statement after : Statement) (p next : Position) (at c more : ℕ) (kind : Kind) (tokens longer : List Token) (found : Piece) → Reached start text statement p at tokens → at < length text → c ≡ get_or text at c →
     IsPiece (opening (holds_sets statement) statement.names_braces statement.in_braces c (take (length text - (at + 1)) (drop (at + 1) text))) (take (length text - (at + 1)) (drop (at + 1) text)) found → found ≡ Formed kind more → next ≡ position_past p (take (at + 1 + more - at) (drop at text)) →
     after ≡ statement_past statement kind (take (at + 1 + more - at) (drop at text)) → longer ≡ tokens ++ (record { kind = kind; place = p.place; start = p.index; end = next.index } ∷ []) → Reached start text after next (at + 1 + more) longer
@@ -102,10 +102,10 @@ reached_fault start text statement p at c tokens found r h read found_is faulty 
     let is : PieceAt r.words c behind Faulty = piece_is statement r.words c behind found Faulty r.known found_is faulty in
     r.fault_goes_on p (same_fault r.words p p (c ∷ behind) (drop at text) p refl (sym cut) (right_here r.words p c behind is))
 
--- a gap within what stands behind its first character
+-- a gap within what follows its first character
 pub gap_within : (most more : ℕ) (found : Piece) → found ≡ Gap more → IsWithin most found → more ≤ most
 gap_within most more found is within = let P : Piece → Type 0 = IsWithin most in subst P is within
 
--- a token within what stands behind its first character
+-- a token within what follows its first character
 pub token_within : (most more : ℕ) (kind : Kind) (found : Piece) → found ≡ Formed kind more → IsWithin most found → more ≤ most
 token_within most more kind found is within = let P : Piece → Type 0 = IsWithin most in subst P is within

@@ -12,14 +12,14 @@ use Rattle.g4_tokens.specs.declared.spelling.SpelledCharacter.{SpelledCharacter}
 add_suc : (n k : ℕ) → (n + 1) + k ≡ n + suc k
 add_suc n k = omega arith
 
--- the characters behind one at an index
+-- the character at an index, and those after it
 pub from_index : (text : List ℕ) (at c : ℕ) → at < length text → c ≡ get_or text at c → drop at text ≡ c ∷ take (length text - (at + 1)) (drop (at + 1) text)
 from_index text at c h read =
     let more = drop_more text at c h in
     let rest = take_rest text (at + 1) in
     cc
 
--- what is left behind a character and some more
+-- what is left after a character and some more
 pub further : (text : List ℕ) (at more : ℕ) → drop more (take (length text - (at + 1)) (drop (at + 1) text)) ≡ drop (at + (1 + more)) text
 further text at more =
     let rest = take_rest text (at + 1) in
@@ -82,7 +82,7 @@ enclosed_more context close at c more text h read other unit_is =
     let left = further text at more in
     cc
 
--- a spelling behind characters that are passed over
+-- a spelling after characters that are passed over
 pub spelling_skip : (k : ℕ) (text : List ℕ) → spelling_from k text ≡ spelling_from 0 (drop k text)
 spelling_skip zero text = refl
 spelling_skip (suc k) [] = refl
@@ -117,6 +117,6 @@ word_is text at c more h read =
     let count : at + 1 + more - at ≡ suc more = omega arith in
     ap (λ n. take n (drop at text)) count ∙ ap (take (suc more)) (from_index text at c h read)
 
--- what is left behind a piece
+-- what is left after a piece
 pub beyond : (text : List ℕ) (at more : ℕ) → drop more (take (length text - (at + 1)) (drop (at + 1) text)) ≡ drop (at + 1 + more) text
 beyond text at more = ap (drop more) (take_rest text (at + 1)) ∙ drop-drop more (at + 1) text

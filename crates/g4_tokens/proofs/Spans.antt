@@ -1,4 +1,4 @@
--- Tokens lie behind each other in the bytes.
+-- Tokens come one after another in the bytes.
 use Rattle.std.proofs.Common.{◌≡◌, ℕ, ◌+◌, ◌≤◌, List, [], ◌∷◌, Bool, true, false, cond, ◌==◌, Result, Ok, Err, IfOk, length, take, drop, ap, sym, subst, ◌∙◌, arith, length-append, refl}
 use Rattle.std.specs.Char.{len_utf8}
 use Rattle.std.specs.Str.{chars}
@@ -30,7 +30,7 @@ earlier : (from later until : ℕ) (tokens : List Token) → from ≤ later → 
 earlier from later until [] before order = omega (arith, before, order)
 earlier from later until (t ∷ ts) before order = (omega (arith, before, order.0), order.1, order.2)
 
--- the tokens of a text lie within it
+-- the tokens of a text are within it
 pub tokens_in_order : (words : List Word) (p : Position) (text : List ℕ) (tokens : List Token) → AreTokens words p text tokens → AreInOrder p.index (p.index + byte_count text) tokens
 tokens_in_order _ _ _ _ (at_end words p) = omega arith
 tokens_in_order _ _ _ tokens (behind_gap words p c more cs _ is rest) =
@@ -72,7 +72,7 @@ unmarked_bytes : (text : List ℕ) → (start_of text).index + byte_count (unmar
 unmarked_bytes [] = refl
 unmarked_bytes (c ∷ cs) = by_mark c cs (c == 65279) refl
 
--- the tokens of bytes lie within them
+-- the tokens of bytes are within them
 pub scan_in_order : (bytes : List ℕ) (r : Result (List Token) ScanFault) → IsScan bytes r → IfOk r (AreInOrder 0 (length bytes))
 scan_in_order bytes (Ok tokens) is =
     let text : List ℕ = chars bytes in

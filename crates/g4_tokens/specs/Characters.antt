@@ -23,7 +23,7 @@ is_name_part c = (is_alphabetic c || is_ascii_digit c) || (c == 95)
 abbrev pub is_blank : ℕ → Bool
 is_blank c = (((c == 32 || c == 9) || c == 10) || c == 13) || c == 12
 
--- the character stands on a line, and ends none
+-- the character is on a line, and does not end it
 abbrev pub is_in_line : ℕ → Bool
 is_in_line c = not (c == 10)
 

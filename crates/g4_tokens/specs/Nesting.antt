@@ -6,8 +6,8 @@ use Rattle.g4_tokens.specs.Comments.{comment_end}
 use Rattle.g4_tokens.specs.declared.quote.Unclosed.{Unclosed}
 
 abbrev mutual
-  -- how many characters there are up to the quote that closes on this line, that included: a backslash takes the character
-  -- behind it along
+  -- how many characters there are up to the quote that closes on this line, that included: a backslash escapes the character
+  -- after it
   pub quote_end : ℕ → List ℕ → Option ℕ
   quote_end quote [] = None
   quote_end quote (c ∷ cs) =
@@ -15,12 +15,12 @@ abbrev mutual
       else (if c == quote then Some 1
       else option_map suc (if c == 92 then escaped_quote_end quote cs else quote_end quote cs))
 
-  -- how many there are behind a backslash
+  -- how many there are after a backslash
   pub escaped_quote_end : ℕ → List ℕ → Option ℕ
   escaped_quote_end quote [] = None
   escaped_quote_end quote (c ∷ cs) = if c == 10 then None else option_map suc (quote_end quote cs)
 
--- how many characters a quoted text takes behind its first quote: none where no quote closes it on its line
+-- how many characters a quoted text has after its first quote: 0 where no quote closes it on its line
 abbrev pub quoted : ℕ → List ℕ → ℕ
 quoted quote behind = unwrap_or (quote_end quote behind) 0
 
@@ -33,31 +33,31 @@ pub record AreUnclosed (text : List ℕ) (at : ℕ) (unclosed : Unclosed) : Type
   pub single_ones : IsUnclosed 39 text at unclosed.single
   pub double_ones : IsUnclosed 34 text at unclosed.double
 
--- how many characters a comment takes behind its first `/`: none where no comment begins there, and all where it doesn't end
+-- how many characters a comment has after its first `/`: 0 where no comment begins there, and all where it doesn't end
 abbrev pub commented : List ℕ → ℕ
 commented behind =
     if begins 47 behind then prefix_len is_in_line behind
     else (if begins 42 behind then elim (comment_end (drop 1 behind)) [ Some taken ↦ taken + 1 | None ↦ length behind ] else 0)
 
--- how many characters the quoted text or the comment that begins with this one takes behind it
+-- how many characters after this one belong to the quoted text or the comment that begins with it
 abbrev pub whole : ℕ → List ℕ → ℕ
 whole c behind = if c == 34 || c == 39 then quoted c behind else (if c == 47 then commented behind else 0)
 
--- the text has so many characters up to the bracket that closes, that included: nested brackets are balanced, and quoted
+-- the text has this many characters up to the bracket that closes, that included: nested brackets are balanced, and quoted
 -- texts and comments are passed over whole
 pub data Nests (opening closing : ℕ) : List ℕ → ℕ → Type 0 where
   closed : (c : ℕ) (cs : List ℕ) → (c == closing) ≡ true → Nests opening closing (c ∷ cs) 1
   nested : (c n m : ℕ) (cs : List ℕ) → (c == closing) ≡ false → (c == opening) ≡ true → Nests opening closing cs n → Nests opening closing (drop n cs) m → Nests opening closing (c ∷ cs) (1 + n + m)
   passed : (c n : ℕ) (cs : List ℕ) → (c == closing) ≡ false → (c == opening) ≡ false → Nests opening closing (drop (whole c cs) cs) n → Nests opening closing (c ∷ cs) (1 + whole c cs + n)
 
--- the character closes what nothing that is open inside keeps open
+-- the character closes, and nothing is open inside
 abbrev pub closes : ℕ → ℕ → ℕ → Bool
 closes closing depth c = (c == closing) && (depth == 0)
 
--- how many are open inside, behind the character
+-- how many are open inside, after the character
 abbrev pub depth_behind : ℕ → ℕ → ℕ → ℕ → ℕ
 depth_behind opening closing depth c = if c == closing then depth - 1 else (if c == opening then depth + 1 else depth)
 
--- how many characters behind this one are no part of the nesting
+-- how many characters after this one are no part of the nesting
 abbrev pub passed_over : ℕ → ℕ → ℕ → List ℕ → ℕ
 passed_over opening closing c behind = if c == closing || c == opening then 0 else whole c behind

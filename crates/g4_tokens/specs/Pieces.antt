@@ -1,4 +1,4 @@
--- The pieces of a grammar text: tokens, and what stands between them.
+-- The pieces of a grammar text: tokens, and what is between them.
 use Rattle.std.specs.Prelude.{◌≡◌, ℕ, ◌+◌, ◌≤◌, Bool, List, Some, drop, ◌==◌, if◌then◌else◌}
 use Rattle.std.specs.Char.{is_ascii_digit}
 use Rattle.std.specs.List.{prefix_len}
@@ -21,16 +21,16 @@ pub data Closing : Type 0 where
   arguments : Closing
   action : Closing
 
--- what begins at a character: a piece that this one and those behind it tell, or one that something must close
+-- what begins at a character: a piece that this one and those after it decide, or one that something must close
 pub data Opening : Type 0 where
   told : Piece → Opening
   up_to : Closing → Opening
 
--- a comment's `*/` ends so many characters behind its `/`
+-- a comment's `*/` ends this many characters after its first `/`
 pub data EndsComment (behind : List ℕ) : ℕ → Type 0 where
   ends : (taken : ℕ) → comment_end (drop 1 behind) ≡ Some taken → EndsComment behind (taken + 1)
 
--- the piece ends so many characters behind its first: between the quotes of a literal something stands
+-- the piece ends this many characters after its first: between the quotes of a literal there is at least one
 abbrev pub IsEnd : Closing → List ℕ → ℕ → Type 0
 IsEnd comment behind more = EndsComment behind more
 IsEnd literal behind more = Encloses Context.Literal 39 behind more × (2 ≤ more)
@@ -38,7 +38,7 @@ IsEnd set behind more = Encloses Context.Set 93 behind more
 IsEnd arguments behind more = Nests 91 93 behind more
 IsEnd action behind more = Nests 123 125 behind more
 
--- the piece with so many characters behind its first
+-- the piece with this many characters after its first
 abbrev pub closed_piece : Closing → ℕ → Piece
 closed_piece comment more = Gap more
 closed_piece literal more = Formed Literal more
@@ -46,13 +46,13 @@ closed_piece set more = Formed Set more
 closed_piece arguments more = Formed Arguments more
 closed_piece action more = Formed Action more
 
--- the piece that begins so, with what stands behind its first character: it is faulty if nothing closes it
+-- the piece that begins so, given what follows its first character: it is faulty if nothing closes it
 pub data IsPiece : Opening → List ℕ → Piece → Type 0 where
   at_once : (piece : Piece) (behind : List ℕ) → IsPiece (told piece) behind piece
   with_end : (closing : Closing) (behind : List ℕ) (more : ℕ) → IsEnd closing behind more → IsPiece (up_to closing) behind (closed_piece closing more)
   endless : (closing : Closing) (behind : List ℕ) → ((more : ℕ) → IsEnd closing behind more → ⊥) → IsPiece (up_to closing) behind Faulty
 
--- a comment, or a stray `/`, told by what stands behind the `/`
+-- a comment, or a stray `/`, decided by what follows the `/`
 abbrev pub slash_opening : List ℕ → Opening
 slash_opening behind =
     if begins 47 behind then told (Gap (prefix_len is_in_line behind))
@@ -83,7 +83,7 @@ lone_sign c =
     else (if c == 42 then Star
     else (if c == 126 then Tilde else comparison c))))))
 
--- a sign, or a stray character, with what stands behind it: of two signs the longer
+-- a sign, or a stray character, given what follows it: of two signs the longer
 abbrev pub sign_piece : ℕ → List ℕ → Piece
 sign_piece c behind =
     if c == 58 then (if begins 58 behind then Formed DoubleColon 1 else Formed Colon 0)
@@ -114,8 +114,8 @@ marked_opening sets names_braces in_braces c behind =
     else (if c == 125 then told (right_brace_piece in_braces)
     else told (sign_piece c behind)))))
 
--- what begins with the character, before what stands behind it: whether a `[` begins a set, whether a `{` is a brace, and
--- whether a `}` is one
+-- what begins with the character, given whether a `[` begins a set, whether a `{` is a brace, whether a `}` is one, and what
+-- follows the character
 abbrev pub opening : Bool → Bool → Bool → ℕ → List ℕ → Opening
 opening sets names_braces in_braces c behind =
     if is_blank c then told (Gap 0)
@@ -123,7 +123,7 @@ opening sets names_braces in_braces c behind =
     else (if is_ascii_digit c then told (Formed Number (prefix_len is_ascii_digit behind))
     else marked_opening sets names_braces in_braces c behind))
 
--- the piece has at most so many characters behind its first
+-- the piece has at most this many characters after its first
 abbrev pub IsWithin : ℕ → Piece → Type 0
 IsWithin most (Gap more) = more ≤ most
 IsWithin most (Formed kind more) = more ≤ most

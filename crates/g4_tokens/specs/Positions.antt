@@ -8,6 +8,6 @@ use Rattle.g4_tokens.specs.declared.position.Position.{Position}
 abbrev pub byte_count : List ℕ → ℕ
 byte_count characters = sum (map len_utf8 characters)
 
--- the position behind these characters
+-- the position after these characters
 abbrev pub position_past : Position → List ℕ → Position
 position_past p characters = record { place = place_after p.place characters; index = p.index + byte_count characters }

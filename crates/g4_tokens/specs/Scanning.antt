@@ -10,7 +10,7 @@ use Rattle.g4_tokens.specs.declared.position.Position.{Position}
 use Rattle.g4_tokens.specs.declared.token.Kind.{Kind}
 use Rattle.g4_tokens.specs.declared.token.Token.{Token}
 
--- the piece that begins with the character, behind these tokens and before these characters
+-- the piece that begins with the character, after these words and before these characters
 abbrev pub PieceAt : List Word → ℕ → List ℕ → Piece → Type 0
 PieceAt words c behind piece = IsPiece (opening (in_lexer_rule words) (names_braces words) (in_braces words) c behind) behind piece
 
@@ -18,7 +18,7 @@ PieceAt words c behind piece = IsPiece (opening (in_lexer_rule words) (names_bra
 abbrev pub token_at : Kind → Position → List ℕ → Token
 token_at kind p characters = record { kind = kind; place = p.place; start = p.index; end = p.index + byte_count characters }
 
--- behind these tokens and at this position, the text is cut into blanks, comments and these tokens
+-- after these words and at this position, the text is cut into blanks, comments and these tokens
 pub data AreTokens : List Word → Position → List ℕ → List Token → Type 0 where
   at_end : (words : List Word) (p : Position) → AreTokens words p [] []
   behind_gap : (words : List Word) (p : Position) (c more : ℕ) (cs : List ℕ) (tokens : List Token) → PieceAt words c cs (Gap more) →
@@ -27,7 +27,7 @@ pub data AreTokens : List Word → Position → List ℕ → List Token → Type
       AreTokens (record { kind = kind; characters = c ∷ take more cs } ∷ words) (position_past p (c ∷ take more cs)) (drop more cs) tokens →
       AreTokens words p (c ∷ cs) (token_at kind p (c ∷ take more cs) ∷ tokens)
 
--- behind these tokens and at this position, the first piece that is faulty opens at that one
+-- after these words and at this position, the first piece that is faulty opens at that position
 pub data IsFaultyAt : List Word → Position → List ℕ → Position → Type 0 where
   right_here : (words : List Word) (p : Position) (c : ℕ) (cs : List ℕ) → PieceAt words c cs Faulty → IsFaultyAt words p (c ∷ cs) p
   past_gap : (words : List Word) (p at : Position) (c more : ℕ) (cs : List ℕ) → PieceAt words c cs (Gap more) →
@@ -35,6 +35,6 @@ pub data IsFaultyAt : List Word → Position → List ℕ → Position → Type 
   past_token : (words : List Word) (p at : Position) (c more : ℕ) (kind : Kind) (cs : List ℕ) → PieceAt words c cs (Formed kind more) →
       IsFaultyAt (record { kind = kind; characters = c ∷ take more cs } ∷ words) (position_past p (c ∷ take more cs)) (drop more cs) at → IsFaultyAt words p (c ∷ cs) at
 
--- the start of a text with so many bytes before it
+-- the start of a text with this many bytes before it
 abbrev pub start_at : ℕ → Position
 start_at index = record { place = first_place; index = index }

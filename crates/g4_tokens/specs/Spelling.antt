@@ -1,4 +1,4 @@
--- What literals stand for.
+-- The characters that literals represent.
 use Rattle.std.specs.Prelude.{ℕ, zero, suc, List, [], ◌∷◌, Option, Some, None, drop, ◌==◌, if◌then◌else◌}
 use Rattle.g4_chars.specs.Escapes.{escape}
 use Rattle.g4_chars.specs.declared.escape.Context.TheVariants.{Literal}
@@ -6,12 +6,12 @@ use Rattle.g4_chars.specs.declared.escape.Meaning.{Meaning}
 use Rattle.g4_chars.specs.declared.escape.Meaning.TheVariants.{Character, Property}
 use Rattle.g4_tokens.specs.declared.spelling.SpelledCharacter.{SpelledCharacter}
 
--- the character that is meant: none by a property
+-- the character that is meant: a property means none
 abbrev pub meant : Meaning → Option ℕ
 meant (Character c) = Some c
 meant (Property complement count) = None
 
--- the character that an escape stands for, by what follows its backslash
+-- the character that an escape means, given what follows its backslash
 abbrev pub escaped : List ℕ → Option SpelledCharacter
 escaped behind =
     elim (escape Literal behind) [
@@ -19,8 +19,8 @@ escaped behind =
       | None ↦ None
     ]
 
--- the character that this one stands for in a literal, with those behind it that belong to it: none at the quote that
--- closes, and at a bad escape
+-- the character that this one means in a literal, and how many after it belong to it: None at the quote that closes, and at
+-- a bad escape
 abbrev pub spelled : ℕ → List ℕ → Option SpelledCharacter
 spelled c behind = if c == 39 then None else (if c == 92 then escaped behind else Some (record { character = c; more = 0 }))
 
@@ -30,6 +30,6 @@ spelling_from skip [] = []
 spelling_from (suc skip) (c ∷ cs) = spelling_from skip cs
 spelling_from zero (c ∷ cs) = elim (spelled c cs) [ Some s ↦ s.character ∷ spelling_from s.more cs | None ↦ [] ]
 
--- the characters that a literal stands for: those between its quotes, with its escapes read
+-- the characters that a literal represents: those between its quotes, with its escapes read
 abbrev pub literal_spelling : List ℕ → List ℕ
 literal_spelling literal = spelling_from 0 (drop 1 literal)

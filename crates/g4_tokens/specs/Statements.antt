@@ -1,5 +1,5 @@
--- Which rule the tokens before stand in, and what brackets and braces behind them are. Tokens before are listed from the
--- last one on.
+-- Which rule the earlier tokens are in, and what brackets and braces after them are. Earlier tokens are listed from the last
+-- one on.
 use Rattle.std.specs.Prelude.{ℕ, Bool, true, false, List, [], ◌∷◌, ◌&&◌, ◌||◌, not, codes, bytes_eq, if◌then◌else◌}
 use Rattle.g4_tokens.specs.declared.token.Kind.{Kind}
 use Rattle.g4_tokens.specs.declared.token.Kind.TheVariants.{Lower, Upper, LeftBrace, RightBrace, Colon, DoubleColon, Semicolon, LeftParenthesis, At}
@@ -11,7 +11,7 @@ pub record Word : Type 0 where
   pub kind : Kind
   pub characters : List ℕ
 
--- `@` or `::`, behind which a name is no rule's
+-- `@` or `::`, after which a name is no rule's
 abbrev pub is_mark : Kind → Bool
 is_mark At = true
 is_mark DoubleColon = true
@@ -41,7 +41,7 @@ is_list_word word = bytes_eq word (codes "tokens") || bytes_eq word (codes "chan
 abbrev pub is_modifier : List ℕ → Bool
 is_modifier word = ((bytes_eq word (codes "public") || bytes_eq word (codes "private")) || bytes_eq word (codes "protected")) || bytes_eq word (codes "fragment")
 
--- a word with which what follows a rule begins
+-- a word that begins what follows a rule
 abbrev pub is_handler : List ℕ → Bool
 is_handler word = bytes_eq word (codes "catch") || bytes_eq word (codes "finally")
 
@@ -49,12 +49,12 @@ is_handler word = bytes_eq word (codes "catch") || bytes_eq word (codes "finally
 abbrev pub is_reserved : List ℕ → Bool
 is_reserved word = (is_modifier word || is_handler word) || (is_options word || is_list_word word)
 
--- the kind of the token directly before; what stands before the first is as an end
+-- the kind of the token directly before; the start of the text counts as an end
 abbrev pub last_kind : List Word → Kind
 last_kind [] = Semicolon
 last_kind (w ∷ _) = w.kind
 
--- whether a token of this kind stands in braces, if the one before does or not
+-- whether braces are open after a token of this kind, given whether they are before it
 abbrev pub braces_past : Kind → Bool → Bool
 braces_past LeftBrace inside = true
 braces_past RightBrace inside = false
@@ -71,7 +71,7 @@ body_past Colon body = true
 body_past Semicolon body = false
 body_past _ body = body
 
--- outside of braces, a `:` stands behind the last `;`
+-- outside of braces, a `:` comes after the last `;`
 abbrev pub in_body : List Word → Bool
 in_body [] = false
 in_body (w ∷ ws) = if in_braces ws then in_body ws else body_past w.kind (in_body ws)
@@ -87,11 +87,11 @@ name_of Lower = LowerName
 name_of Upper = UpperName
 name_of _ = NoName
 
--- the name of a rule that the word is, behind a token of this kind
+-- the name of a rule that the word is, after a token of this kind
 abbrev pub own_name : Kind → Kind → List ℕ → Named
 own_name before kind word = if is_mark before || is_reserved word then NoName else name_of kind
 
--- the name of the rule: outside of braces, the first between the last `;` and the `:` behind it
+-- the name of the rule: outside of braces, the first between the last `;` and the `:` after it
 abbrev pub rule_name : List Word → Named
 rule_name [] = NoName
 rule_name (w ∷ ws) =
@@ -108,7 +108,7 @@ abbrev pub is_no_name : Named → Bool
 is_no_name NoName = true
 is_no_name _ = false
 
--- `options`, before the rule's `:` or directly behind `(`
+-- `options`, before the rule's `:` or directly after `(`
 abbrev pub begins_options : Kind → Bool → List ℕ → Bool
 begins_options before body word = is_options word && (not body || is_left_parenthesis before)
 
@@ -116,12 +116,12 @@ begins_options before body word = is_options word && (not body || is_left_parent
 abbrev pub begins_list : Bool → Bool → Named → List ℕ → Bool
 begins_list inside body name word = is_list_word word && ((not inside && not body) && is_no_name name)
 
--- the last token is a name behind which a `{` is a brace and begins no action
+-- the last token is a name after which a `{` is a brace and begins no action
 abbrev pub names_braces : List Word → Bool
 names_braces [] = false
 names_braces (w ∷ ws) =
     (is_lower w.kind && not (is_mark (last_kind ws))) && (begins_options (last_kind ws) (in_body ws) w.characters || begins_list (in_braces ws) (in_body ws) (rule_name ws) w.characters)
 
--- a `[` behind these tokens begins a set: they end in the body of a rule with an upper-case name
+-- a `[` after these tokens begins a set: they end in the body of a rule with an upper-case name
 abbrev pub in_lexer_rule : List Word → Bool
 in_lexer_rule ws = in_body ws && is_upper_name (rule_name ws)

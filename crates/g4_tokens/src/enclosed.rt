@@ -12,7 +12,7 @@ fn breaks(context: Context, c: char) -> bool
     matches!(context, Context::Literal) && c == '\n'
 }
 
-/// How many characters behind this one belong to it: none where it breaks off, or its escape is bad.
+/// How many characters after this one belong to it; `None` at the end of a literal's line, and at a bad escape.
 fn unit_more(context: Context, c: char, behind: &[char]) -> Option<usize>
     ensures value { result ≡ unit_more context c behind.now }
     ensures within { IfSome result (λ more. more ≤ length behind.now) }

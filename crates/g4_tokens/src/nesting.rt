@@ -44,7 +44,7 @@ fn depth_behind(opening: char, closing: char, depth: usize, c: char) -> usize
     }
 }
 
-/// How many characters behind this one, which stands at the index, are no part of the nesting.
+/// How many characters after this one, which is at the index, are no part of the nesting.
 fn passed(
     opening: char,
     closing: char,

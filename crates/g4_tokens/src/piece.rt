@@ -1,4 +1,4 @@
-// The pieces of a grammar text: tokens, and what stands between them.
+// The pieces of a grammar text: tokens, and what is between them.
 ghost use Rattle.std.specs.Prelude.{◌≡◌, ◌≤◌, length};
 ghost use Rattle.std.specs.List.{prefix_len};
 ghost use Rattle.std.specs.Char.{is_ascii_digit};
@@ -15,7 +15,7 @@ use crate::statement::Statement;
 use g4_chars::Context;
 use unicode::properties::is_alphabetic;
 
-/// A piece of a text, with how many characters it has behind its first.
+/// A piece of a text, with how many characters it has after its first.
 #[derive(Clone, Copy)]
 pub enum Piece {
     /// A blank or a comment.
@@ -214,7 +214,7 @@ fn number_length(text: &[char]) -> usize
     text.iter().take_while(|c| c.is_ascii_digit()).count()
 }
 
-/// The piece that begins with the character, with what stands behind it.
+/// The piece that begins with the character, given what follows it.
 pub fn read_piece(statement: Statement, c: char, behind: &[char]) -> Piece
     requires fits { length behind.now ≤ MOST_BYTES }
     ensures value { IsPiece (opening (holds_sets statement) statement.names_braces statement.in_braces c behind.now) behind.now result }

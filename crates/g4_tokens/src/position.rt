@@ -27,7 +27,7 @@ fn byte_count(characters: &[char]) -> usize
 }
 
 impl Position {
-    /// The position behind these characters.
+    /// The position after these characters.
     pub fn past(self, characters: &[char]) -> Position
         requires fits { length characters.now ≤ MOST_BYTES }
         requires lines { self.place.line + length characters.now < 2 ^ 32 }

@@ -4,8 +4,8 @@ ghost use Rattle.g4_tokens.specs.Nesting.{quote_end, quoted, IsUnclosed};
 
 use crate::character::line_length;
 
-/// The indices up to which no quote that stands ahead is closed on its line, for each kind. So no line is read again for
-/// each of its quotes.
+/// For each kind of quote an index: no quote from here up to it is closed on its line. So no line is read again for each of
+/// its quotes.
 #[derive(Clone, Copy)]
 pub struct Unclosed {
     pub single: usize,
@@ -32,8 +32,8 @@ fn quote_end(quote: char, text: &[char]) -> Option<usize>
     None
 }
 
-/// How many characters the quoted text takes behind the quote at the index, none where it isn't closed, and up to where no
-/// such quote is.
+/// How many characters the quoted text has after the quote at the index, 0 where it isn't closed, and up to where no such
+/// quote is closed.
 pub fn quoted_at(quote: char, text: &[char], at: usize, until: usize) -> (usize, usize)
     requires within { at < length text.now }
     requires known { IsUnclosed quote text.now at until }

@@ -87,7 +87,7 @@ fn scan_from(alloc: Global, text: &[char], index: usize) -> Result<Sequence<Toke
     Ok(Sequence::new(tokens))
 }
 
-/// The tokens of a text, which a byte order mark may stand before.
+/// The tokens of a text, which may begin with a byte order mark.
 fn scan_characters(alloc: Global, text: &[char]) -> Result<Sequence<Token>, ScanFault>
     requires fits { length text.now ≤ MOST_BYTES }
     ensures { AnswersRest (start_of text.now) (unmarked text.now) result }

@@ -1,4 +1,4 @@
-// What literals stand for.
+// The characters that literals represent.
 ghost use Rattle.std.specs.Prelude.{◌≡◌, ◌≤◌, length, IfOk, IfSome};
 ghost use Rattle.g4_tokens.specs.Spelling.{meant, escaped, spelled, literal_spelling, spelling_from};
 
@@ -6,7 +6,7 @@ use g4_base::Sequence;
 use g4_chars::{Context, Meaning, read_escape};
 use std::alloc::{AllocError, Global};
 
-/// A character that is spelled, and how many characters behind the first belong to it.
+/// A character that is spelled, and how many characters after the first belong to it.
 #[derive(Clone, Copy)]
 pub struct SpelledCharacter {
     pub character: char,
@@ -66,7 +66,7 @@ fn spelling(alloc: Global, text: &[char]) -> Result<Sequence<char>, AllocError>
     Ok(Sequence::new(characters))
 }
 
-/// The characters that a literal stands for, told by its text with its quotes; of a text that is no literal, those up to
+/// The characters that a literal represents, given its text with its quotes; for a text that is no literal, those up to
 /// what makes it none.
 ///
 /// # Errors

@@ -1,4 +1,4 @@
-// Statements, as far as they tell sets from arguments and braces from actions.
+// Statements, as far as they distinguish sets from arguments and braces from actions.
 ghost use Rattle.std.specs.Prelude.{◌≡◌, [], true, false};
 ghost use Rattle.g4_tokens.specs.Statements.{is_mark, is_options, is_list_word, is_modifier, is_handler, is_reserved, braces_past, body_past, name_of, own_name, begins_options, begins_list};
 ghost use Rattle.g4_tokens.specs.Readings.{statement_of, named_past, braces_named, body_open, statement_past, holds_sets};
@@ -13,12 +13,12 @@ pub enum Named {
     UpperName,
 }
 
-/// What of the tokens before tells what brackets and braces are.
+/// What is kept of the earlier tokens, to decide what brackets and braces are.
 #[derive(Clone, Copy)]
 pub struct Statement {
     /// The name of the rule.
     pub named: Named,
-    /// Whether the `:` of the rule stands before.
+    /// Whether the `:` of the rule comes before.
     pub in_body: bool,
     /// Whether the braces of `options`, `tokens` or `channels` are open.
     pub in_braces: bool,
@@ -174,7 +174,7 @@ impl Statement {
         }
     }
 
-    /// The statement behind a token of this kind and these characters.
+    /// The statement after a token of this kind and these characters.
     pub fn past(self, kind: Kind, word: &[char]) -> Self
         ensures { result ≡ statement_past self kind word.now }
     {

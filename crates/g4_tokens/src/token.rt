@@ -18,7 +18,7 @@ pub enum Kind {
     Action,
     /// Decimal digits.
     Number,
-    /// `{` behind `options`, `tokens` or `channels`.
+    /// `{` after `options`, `tokens` or `channels`.
     LeftBrace,
     /// The `}` of such a brace.
     RightBrace,

@@ -3,7 +3,7 @@ use Rattle.g4_chars.specs.declared.item.Found.{Found}
 use Rattle.g4_chars.proofs.Reading.{items_more}
 use Rattle.g4_chars.proofs.item.read_items.Goals as goal
 
--- what is found lies within the text
+-- what is found is within the text
 is_within : {o : Option Found} {n : ℕ} (f : Found) → o ≡ Some f → IfSome o (λ g. g.taken ≤ n) → f.taken ≤ n
 is_within {n = n} f is within = subst (λ (o : Option Found). IfSome o (λ g. g.taken ≤ n)) is within
 
