@@ -9,7 +9,7 @@ use Rattle.g4_chars.specs.declared.item.Item.TheVariants.{Member, Named}
 use Rattle.g4_chars.specs.declared.part.Part.TheVariants.{Span}
 use Rattle.g4_chars.specs.Escapes.{escape}
 use Rattle.g4_chars.specs.Reading.{item_at, items_from, character_of, range_end, parts_from}
-use Rattle.g4_chars.specs.SetText.{escaped_item, AreItems, no_item, a_character, an_escape, HasBadEscape, at_once, behind_a_character, behind_an_escape, EndRange, AreParts, no_part, a_range, one_character, a_property}
+use Rattle.g4_chars.specs.SetText.{escaped_item, AreItems, no_item, a_character, an_escape, HasBadEscape, at_once, after_a_character, after_an_escape, EndRange, AreParts, no_part, a_range, one_character, a_property}
 
 -- what an option that is there holds
 some_is : {X : Type 0} (x y : X) → Some x ≡ Some y → x ≡ y
@@ -38,13 +38,13 @@ item_shape c cs f rest false is same more =
     let P : Found → Type 0 = λ g. AreItems (drop g.taken cs) rest → AreItems (c ∷ cs) (g.item ∷ rest) in
     subst P (some_is found f same) (λ left. a_character c cs rest other left) more
 
-items_behind : (c : ℕ) (cs : List ℕ) (f : Found) (is : List Item) → item_at c cs ≡ Some f → (o : Option (List Item)) → o ≡ items_from f.taken cs → option_map (λ more. f.item ∷ more) o ≡ Some is → ((rest : List Item) → items_from f.taken cs ≡ Some rest → AreItems (drop f.taken cs) rest) → AreItems (c ∷ cs) is
-items_behind c cs f is at None e same rec = absurd (none_some is same)
-items_behind c cs f is at (Some rest) e same rec = subst (AreItems (c ∷ cs)) (some_is (f.item ∷ rest) is same) (item_shape c cs f rest (c == 92) refl at (rec rest (sym e)))
+items_after : (c : ℕ) (cs : List ℕ) (f : Found) (is : List Item) → item_at c cs ≡ Some f → (o : Option (List Item)) → o ≡ items_from f.taken cs → option_map (λ more. f.item ∷ more) o ≡ Some is → ((rest : List Item) → items_from f.taken cs ≡ Some rest → AreItems (drop f.taken cs) rest) → AreItems (c ∷ cs) is
+items_after c cs f is at None e same rec = absurd (none_some is same)
+items_after c cs f is at (Some rest) e same rec = subst (AreItems (c ∷ cs)) (some_is (f.item ∷ rest) is same) (item_shape c cs f rest (c == 92) refl at (rec rest (sym e)))
 
 items_one : (c : ℕ) (cs : List ℕ) (is : List Item) → (o : Option Found) → o ≡ item_at c cs → elim o [ None ↦ None | Some found ↦ option_map (λ more. found.item ∷ more) (items_from found.taken cs) ] ≡ Some is → ((k : ℕ) (rest : List Item) → items_from k cs ≡ Some rest → AreItems (drop k cs) rest) → AreItems (c ∷ cs) is
 items_one c cs is None e same rec = absurd (none_some is same)
-items_one c cs is (Some f) e same rec = items_behind c cs f is (sym e) (items_from f.taken cs) refl same (rec f.taken)
+items_one c cs is (Some f) e same rec = items_after c cs f is (sym e) (items_from f.taken cs) refl same (rec f.taken)
 
 -- the items that are listed are those of the text
 pub items_are : (k : ℕ) (text : List ℕ) (is : List Item) → items_from k text ≡ Some is → AreItems (drop k text) is
@@ -68,7 +68,7 @@ later_escape cs f None is e bad = absurd (none_some f e)
 later_escape cs f (Some e) is same bad =
     let found : Found = record { item = escaped_item e.meaning cs; taken = e.taken } in
     let P : Found → Type 0 = λ g. HasBadEscape (drop g.taken cs) → HasBadEscape (92 ∷ cs) in
-    subst P (some_is found f same) (λ left. behind_an_escape cs e (sym is) left) bad
+    subst P (some_is found f same) (λ left. after_an_escape cs e (sym is) left) bad
 
 later_shape : (c : ℕ) (cs : List ℕ) (f : Found) → (b : Bool) → b ≡ (c == 92) → cond b (option_map {U = Found} (λ (e : Escape). record { item = escaped_item e.meaning cs; taken = e.taken }) (escape Set cs)) (Some (record { item = Member c true; taken = 0 })) ≡ Some f → HasBadEscape (drop f.taken cs) → HasBadEscape (c ∷ cs)
 later_shape c cs f true is same bad =
@@ -79,15 +79,15 @@ later_shape c cs f false is same bad =
     let other : c ≢ 92 = grind (arith, nat_tests) in
     let found : Found = record { item = Member c true; taken = 0 } in
     let P : Found → Type 0 = λ g. HasBadEscape (drop g.taken cs) → HasBadEscape (c ∷ cs) in
-    subst P (some_is found f same) (λ left. behind_a_character c cs other left) bad
+    subst P (some_is found f same) (λ left. after_a_character c cs other left) bad
 
-bad_behind : (c : ℕ) (cs : List ℕ) (f : Found) → item_at c cs ≡ Some f → (o : Option (List Item)) → o ≡ items_from f.taken cs → option_map (λ more. f.item ∷ more) o ≡ None → (items_from f.taken cs ≡ None → HasBadEscape (drop f.taken cs)) → HasBadEscape (c ∷ cs)
-bad_behind c cs f at None e same rec = later_shape c cs f (c == 92) refl at (rec (sym e))
-bad_behind c cs f at (Some rest) e same rec = absurd (none_some _ (sym same))
+bad_after : (c : ℕ) (cs : List ℕ) (f : Found) → item_at c cs ≡ Some f → (o : Option (List Item)) → o ≡ items_from f.taken cs → option_map (λ more. f.item ∷ more) o ≡ None → (items_from f.taken cs ≡ None → HasBadEscape (drop f.taken cs)) → HasBadEscape (c ∷ cs)
+bad_after c cs f at None e same rec = later_shape c cs f (c == 92) refl at (rec (sym e))
+bad_after c cs f at (Some rest) e same rec = absurd (none_some _ (sym same))
 
 bad_one : (c : ℕ) (cs : List ℕ) → (o : Option Found) → o ≡ item_at c cs → ◌≡◌ {A = Option (List Item)} (elim o [ None ↦ None | Some found ↦ option_map (λ more. found.item ∷ more) (items_from found.taken cs) ]) None → ((k : ℕ) → items_from k cs ≡ None → HasBadEscape (drop k cs)) → HasBadEscape (c ∷ cs)
 bad_one c cs None e same rec = bad_shape c cs (c == 92) refl (escape Set cs) refl (sym e)
-bad_one c cs (Some f) e same rec = bad_behind c cs f (sym e) (items_from f.taken cs) refl same (rec f.taken)
+bad_one c cs (Some f) e same rec = bad_after c cs f (sym e) (items_from f.taken cs) refl same (rec f.taken)
 
 -- where no items are listed the text has a bad escape
 pub bad_is : (k : ℕ) (text : List ℕ) → items_from k text ≡ None → HasBadEscape (drop k text)

@@ -15,7 +15,7 @@ use Rattle.g4_chars.specs.declared.set_text.SetFault.TheVariants.{BadEscape, Bad
 use Rattle.g4_chars.specs.CharSets.{Has, HaveSame, RiseFrom, IsCanonical}
 use Rattle.g4_chars.specs.Escapes.{escape}
 use Rattle.g4_chars.specs.Reading.{item_at, items_from, items, range_end, parts_from, parts}
-use Rattle.g4_chars.specs.SetText.{escaped_item, AreItems, no_item, a_character, an_escape, HasBadEscape, at_once, behind_a_character, behind_an_escape, EndRange, AreParts, no_part, a_range, one_character, a_property, are_sound, HoldsIn, HoldSome, Spells, IsFault, IsReading}
+use Rattle.g4_chars.specs.SetText.{escaped_item, AreItems, no_item, a_character, an_escape, HasBadEscape, at_once, after_a_character, after_an_escape, EndRange, AreParts, no_part, a_range, one_character, a_property, are_sound, HoldsIn, HoldSome, Spells, IsFault, IsReading}
 use Rattle.g4_chars.proofs.Ranges.{rise_past}
 use Rattle.g4_chars.proofs.Reading.{items_skip, items_step}
 use Rattle.g4_chars.proofs.Grammar.{end_shape}
@@ -87,10 +87,10 @@ bad_step c cs is = rw (is, items_from) refl
 -- a text with a bad escape has none
 pub none_listed : (text : List ℕ) → HasBadEscape text → items text ≡ None
 none_listed _ (at_once cs is) = bad_step 92 cs (bad_item cs is)
-none_listed _ (behind_a_character c cs other more) =
+none_listed _ (after_a_character c cs other more) =
     let found : Found = record { item = Member c true; taken = 0 } in
     items_step c cs found (character_item c cs other (c == 92) refl) ∙ ap (option_map (λ more. Member c true ∷ more)) (none_listed cs more)
-none_listed _ (behind_an_escape cs e found_is more) =
+none_listed _ (after_an_escape cs e found_is more) =
     let found : Found = record { item = escaped_item e.meaning cs; taken = e.taken } in
     items_step 92 cs found (escape_item cs e found_is) ∙ ap (option_map (λ more. escaped_item e.meaning cs ∷ more)) (items_skip e.taken cs ∙ none_listed (drop e.taken cs) more)
 

@@ -8,7 +8,7 @@ use Rattle.std.proofs.lemmas.List.Elements.{All-head, All-tail, All-nil, All-con
 use Rattle.std.proofs.lemmas.List.Sorted.{Contains-permutation}
 use Rattle.g4_chars.specs.declared.range.Range.{Range}
 use Rattle.g4_chars.specs.CharSets.{Has, IsWithin, IsScalar, IsRange, RiseFrom, IsCanonical}
-use Rattle.g4_chars.specs.Building.{AreRanges, StartFrom, between, scalars, gaps, over, joined_behind, joined}
+use Rattle.g4_chars.specs.Building.{AreRanges, StartFrom, between, scalars, gaps, over, joined_from, joined}
 
 -- what two lists hold together
 pub has_append_left : (rs ss : List Range) (c : ℕ) → Has rs c → Has (rs ++ ss) c
@@ -81,7 +81,7 @@ over_has r s c order touch = (λ w. elim (cases_lt r.last c) [ inl past ↦ inr 
 over_range : (r s : Range) → IsRange r → IsRange s → r.first ≤ s.first → s.first ≤ r.last + 1 → IsRange (over r s)
 over_range r s a b order touch = grind arith
 
-joined_step_has : (r s : Range) (ss : List Range) (c : ℕ) → StartFrom r.first (s ∷ ss) → (b : Bool) → b ≡ nat_le s.first (r.last + 1) → (StartFrom (over r s).first ss → Has (joined_behind (over r s) ss) c ↔ (IsWithin (over r s) c ⊎ Has ss c)) → (StartFrom s.first ss → Has (joined_behind s ss) c ↔ (IsWithin s c ⊎ Has ss c)) → Has (cond b (joined_behind (over r s) ss) (r ∷ joined_behind s ss)) c ↔ (IsWithin r c ⊎ Has (s ∷ ss) c)
+joined_step_has : (r s : Range) (ss : List Range) (c : ℕ) → StartFrom r.first (s ∷ ss) → (b : Bool) → b ≡ nat_le s.first (r.last + 1) → (StartFrom (over r s).first ss → Has (joined_from (over r s) ss) c ↔ (IsWithin (over r s) c ⊎ Has ss c)) → (StartFrom s.first ss → Has (joined_from s ss) c ↔ (IsWithin s c ⊎ Has ss c)) → Has (cond b (joined_from (over r s) ss) (r ∷ joined_from s ss)) c ↔ (IsWithin r c ⊎ Has (s ∷ ss) c)
 joined_step_has r s ss c start true e both rest =
     let same = both (start_lower r.first s.first ss start.0 start.1) in
     let held = over_has r s c start.0 (grind (arith, nat_tests)) in (
@@ -93,11 +93,11 @@ joined_step_has r s ss c start false e both rest =
     (λ h. elim h [ inl a ↦ inl a | inr more ↦ inr (same.0 more) ], λ h. elim h [ inl a ↦ inl a | inr more ↦ inr (same.1 more) ])
 
 -- ranges that are joined have what they had
-pub joined_behind_has : (r : Range) (rs : List Range) (c : ℕ) → StartFrom r.first rs → Has (joined_behind r rs) c ↔ (IsWithin r c ⊎ Has rs c)
-joined_behind_has r [] c start = (λ h. elim h [ inl w ↦ inl w | inr n ↦ absurd n ], λ h. elim h [ inl w ↦ inl w | inr n ↦ absurd n ])
-joined_behind_has r (s ∷ ss) c start = joined_step_has r s ss c start (nat_le s.first (r.last + 1)) refl (joined_behind_has (over r s) ss c) (joined_behind_has s ss c)
+pub joined_from_has : (r : Range) (rs : List Range) (c : ℕ) → StartFrom r.first rs → Has (joined_from r rs) c ↔ (IsWithin r c ⊎ Has rs c)
+joined_from_has r [] c start = (λ h. elim h [ inl w ↦ inl w | inr n ↦ absurd n ], λ h. elim h [ inl w ↦ inl w | inr n ↦ absurd n ])
+joined_from_has r (s ∷ ss) c start = joined_step_has r s ss c start (nat_le s.first (r.last + 1)) refl (joined_from_has (over r s) ss c) (joined_from_has s ss c)
 
-joined_step_rises : (n : ℕ) (r s : Range) (ss : List Range) → n ≤ r.first → IsRange r → AreRanges (s ∷ ss) → StartFrom r.first (s ∷ ss) → (b : Bool) → b ≡ nat_le s.first (r.last + 1) → ((m : ℕ) → m ≤ (over r s).first → IsRange (over r s) → StartFrom (over r s).first ss → RiseFrom m (joined_behind (over r s) ss)) → ((m : ℕ) → m ≤ s.first → IsRange s → StartFrom s.first ss → RiseFrom m (joined_behind s ss)) → RiseFrom n (cond b (joined_behind (over r s) ss) (r ∷ joined_behind s ss))
+joined_step_rises : (n : ℕ) (r s : Range) (ss : List Range) → n ≤ r.first → IsRange r → AreRanges (s ∷ ss) → StartFrom r.first (s ∷ ss) → (b : Bool) → b ≡ nat_le s.first (r.last + 1) → ((m : ℕ) → m ≤ (over r s).first → IsRange (over r s) → StartFrom (over r s).first ss → RiseFrom m (joined_from (over r s) ss)) → ((m : ℕ) → m ≤ s.first → IsRange s → StartFrom s.first ss → RiseFrom m (joined_from s ss)) → RiseFrom n (cond b (joined_from (over r s) ss) (r ∷ joined_from s ss))
 joined_step_rises n r s ss least one all start true e both rest =
     let touch : s.first ≤ r.last + 1 = grind (arith, nat_tests) in
     both n least (over_range r s one all.0 start.0 touch) (start_lower r.first s.first ss start.0 start.1)
@@ -106,17 +106,17 @@ joined_step_rises n r s ss least one all start false e both rest =
     (least, one, rest (r.last + 2) apart all.0 start.1)
 
 -- ranges that are joined neither touch nor overlap
-pub joined_behind_rises : (n : ℕ) (r : Range) (rs : List Range) → n ≤ r.first → IsRange r → AreRanges rs → StartFrom r.first rs → RiseFrom n (joined_behind r rs)
-joined_behind_rises n r [] least one all start = (least, one, tt)
-joined_behind_rises n r (s ∷ ss) least one all start = joined_step_rises n r s ss least one all start (nat_le s.first (r.last + 1)) refl (λ m le is st. joined_behind_rises m (over r s) ss le is all.1 st) (λ m le is st. joined_behind_rises m s ss le is all.1 st)
+pub joined_from_rises : (n : ℕ) (r : Range) (rs : List Range) → n ≤ r.first → IsRange r → AreRanges rs → StartFrom r.first rs → RiseFrom n (joined_from r rs)
+joined_from_rises n r [] least one all start = (least, one, tt)
+joined_from_rises n r (s ∷ ss) least one all start = joined_step_rises n r s ss least one all start (nat_le s.first (r.last + 1)) refl (λ m le is st. joined_from_rises m (over r s) ss le is all.1 st) (λ m le is st. joined_from_rises m s ss le is all.1 st)
 
 pub joined_has : (rs : List Range) (c : ℕ) → StartFrom 0 rs → Has (joined rs) c ↔ Has rs c
 joined_has [] c start = (λ h. h, λ h. h)
-joined_has (r ∷ rs) c start = joined_behind_has r rs c start.1
+joined_has (r ∷ rs) c start = joined_from_has r rs c start.1
 
 pub joined_rises : (rs : List Range) → AreRanges rs → StartFrom 0 rs → IsCanonical (joined rs)
 joined_rises [] all start = tt
-joined_rises (r ∷ rs) all start = joined_behind_rises 0 r rs (omega arith) all.0 all.1 start.1
+joined_rises (r ∷ rs) all start = joined_from_rises 0 r rs (omega arith) all.0 all.1 start.1
 
 between_has_by : (start end c : ℕ) → (b : Bool) → b ≡ nat_lt start end → Has (cond b (record { first = start; last = end - 1 } ∷ []) []) c ↔ ((start ≤ c) × (c < end))
 between_has_by start end c true e = (λ h. elim h [ inl w ↦ (w.0, grind (arith, nat_tests)) | inr n ↦ absurd n ], λ h. inl (h.0, omega arith))
@@ -193,15 +193,15 @@ gaps_has start [] c rise =
 gaps_has start (r ∷ rs) c rise =
     let before = scalars_has start r.first c in
     let later = rise_lower (r.last + 1) (r.last + 2) rs (omega arith) rise.2 in
-    let behind = gaps_has (r.last + 1) rs c later in (
+    let rest = gaps_has (r.last + 1) rs c later in (
       λ h. elim (has_append_cases (scalars start r.first) (gaps (r.last + 1) rs) c h) [
         | inl a ↦ let w = before.0 a in (w.0, w.2, λ n. elim n [ inl i ↦ absurd (omega (arith, i.0, w.1)) | inr j ↦ absurd (omega (arith, w.1, rise.1.0, rise_past (r.last + 2) rs c rise.2 j)) ])
-        | inr b ↦ let w = behind.0 b in (omega (arith, w.0, rise.0, rise.1.0), w.1, λ n. elim n [ inl i ↦ absurd (omega (arith, i.1, w.0)) | inr j ↦ w.2 j ])
+        | inr b ↦ let w = rest.0 b in (omega (arith, w.0, rise.0, rise.1.0), w.1, λ n. elim n [ inl i ↦ absurd (omega (arith, i.1, w.0)) | inr j ↦ w.2 j ])
       ],
       λ h. elim (cases_lt c r.first) [
         | inl first ↦ has_append_left (scalars start r.first) (gaps (r.last + 1) rs) c (before.1 (h.0, first, h.1))
         | inr not_first ↦ elim (cases_lt r.last c) [
-          | inl past ↦ has_append_right (scalars start r.first) (gaps (r.last + 1) rs) c (behind.1 (omega arith, h.1, λ j. h.2 (inr j)))
+          | inl past ↦ has_append_right (scalars start r.first) (gaps (r.last + 1) rs) c (rest.1 (omega arith, h.1, λ j. h.2 (inr j)))
           | inr inside ↦ absurd (h.2 (inl (not_first, inside)))
         ]
       ],

@@ -26,11 +26,11 @@ parted rs c rise i j d le h before = let ends = ends_rise 0 rs i j d rise le h i
 
 -- what the range at the first index whose range ends at the character or past it decides
 pub has_at_point : (n : ℕ) (rs : List Range) (at c : ℕ) (d : Range) → RiseFrom n rs → at < length rs → ((k : ℕ) → k < at → (get_or rs k d).last < c) → c ≤ (get_or rs at d).last → Has rs c → (get_or rs at d).first ≤ c
-has_at_point n [] at c d rise h before behind has = absurd has
-has_at_point n (r ∷ rs) zero c d rise h before behind (inl w) = w.0
-has_at_point n (r ∷ rs) zero c d rise h before behind (inr later) = absurd (omega (arith, behind, rise_past (r.last + 2) rs c rise.2 later))
-has_at_point n (r ∷ rs) (suc at) c d rise h before behind (inl w) = absurd (omega (arith, w.1, before 0 (omega arith)))
-has_at_point n (r ∷ rs) (suc at) c d rise h before behind (inr later) = has_at_point (r.last + 2) rs at c d rise.2 (omega arith) (λ k less. before (suc k) (omega (arith, less))) behind later
+has_at_point n [] at c d rise h before not_past has = absurd has
+has_at_point n (r ∷ rs) zero c d rise h before not_past (inl w) = w.0
+has_at_point n (r ∷ rs) zero c d rise h before not_past (inr later) = absurd (omega (arith, not_past, rise_past (r.last + 2) rs c rise.2 later))
+has_at_point n (r ∷ rs) (suc at) c d rise h before not_past (inl w) = absurd (omega (arith, w.1, before 0 (omega arith)))
+has_at_point n (r ∷ rs) (suc at) c d rise h before not_past (inr later) = has_at_point (r.last + 2) rs at c d rise.2 (omega arith) (λ k less. before (suc k) (omega (arith, less))) not_past later
 
 -- a character past the end of each range is in none
 pub has_none : (rs : List Range) (c : ℕ) (d : Range) → ((k : ℕ) → k < length rs → (get_or rs k d).last < c) → Has rs c → ⊥

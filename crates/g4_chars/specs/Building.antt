@@ -32,14 +32,14 @@ abbrev pub over : Range → Range → Range
 over r s = record { first = r.first; last = max r.last s.last }
 
 -- the range and those that start in it or after it, joined where they touch
-abbrev pub joined_behind : Range → List Range → List Range
-joined_behind r [] = r ∷ []
-joined_behind r (s ∷ ss) = if nat_le s.first (r.last + 1) then joined_behind (over r s) ss else r ∷ joined_behind s ss
+abbrev pub joined_from : Range → List Range → List Range
+joined_from r [] = r ∷ []
+joined_from r (s ∷ ss) = if nat_le s.first (r.last + 1) then joined_from (over r s) ss else r ∷ joined_from s ss
 
 -- ranges in order of their starts, joined where they touch
 abbrev pub joined : List Range → List Range
 joined [] = []
-joined (r ∷ rs) = joined_behind r rs
+joined (r ∷ rs) = joined_from r rs
 
 -- the scalar values of ranges of code points, each of them with both its ends
 abbrev pub all_scalars : List (ℕ × ℕ) → List Range

@@ -12,8 +12,8 @@ use Rattle.g4_chars.specs.SetText.{escaped_item}
 
 -- the item that begins with the character, and how many characters after that belong to it
 abbrev pub item_at : ℕ → List ℕ → Option Found
-item_at c behind =
-    if c == 92 then option_map (λ (e : Escape). record { item = escaped_item e.meaning behind; taken = e.taken }) (escape Set behind)
+item_at c rest =
+    if c == 92 then option_map (λ (e : Escape). record { item = escaped_item e.meaning rest; taken = e.taken }) (escape Set rest)
     else Some (record { item = Member c true; taken = 0 })
 
 -- the items of the text, unless it has a bad escape; the first characters are passed over
@@ -44,21 +44,21 @@ range_end (hyphen ∷ last ∷ _) = if is_hyphen hyphen then character_of last e
 
 -- the range that begins with the character: of that character alone, if no `-` and character follow
 abbrev pub span_of : ℕ → List Item → Part
-span_of c behind = Span c (unwrap_or (range_end behind) c)
+span_of c rest = Span c (unwrap_or (range_end rest) c)
 
 -- how many of the items after its first character the range takes
 abbrev pub more_of_span : List Item → ℕ
-more_of_span behind = if is_some (range_end behind) then 2 else 0
+more_of_span rest = if is_some (range_end rest) then 2 else 0
 
 -- the part that begins with the item
 abbrev pub part_of : Item → List Item → Part
-part_of (Member c plain) behind = span_of c behind
-part_of (Named complement property) behind = Class complement property
+part_of (Member c plain) rest = span_of c rest
+part_of (Named complement property) rest = Class complement property
 
 -- how many of the items after its first the part takes
 abbrev pub more_of : Item → List Item → ℕ
-more_of (Member c plain) behind = more_of_span behind
-more_of (Named complement property) behind = 0
+more_of (Member c plain) rest = more_of_span rest
+more_of (Named complement property) rest = 0
 
 -- the parts that the items make, read from left to right; the first items are passed over
 abbrev pub parts_from : ℕ → List Item → List Part

@@ -21,8 +21,8 @@ use Rattle.g4_chars.specs.Properties.{property_named}
 
 -- the item that an escape means: the name of a property comes after the backslash and two more characters
 abbrev pub escaped_item : Meaning → List ℕ → Item
-escaped_item (Character c) behind = Member c false
-escaped_item (Property complement count) behind = Named complement (property_named (take count (drop 2 behind)))
+escaped_item (Character c) rest = Member c false
+escaped_item (Property complement count) rest = Named complement (property_named (take count (drop 2 rest)))
 
 -- the text has these items in order: characters that mean themselves, and escapes
 pub data AreItems : List ℕ → List Item → Type 0 where
@@ -33,8 +33,8 @@ pub data AreItems : List ℕ → List Item → Type 0 where
 -- after some of its items the text has a backslash with no escape
 pub data HasBadEscape : List ℕ → Type 0 where
   at_once : (cs : List ℕ) → escape Set cs ≡ None → HasBadEscape (92 ∷ cs)
-  behind_a_character : (c : ℕ) (cs : List ℕ) → c ≢ 92 → HasBadEscape cs → HasBadEscape (c ∷ cs)
-  behind_an_escape : (cs : List ℕ) (e : Escape) → escape Set cs ≡ Some e → HasBadEscape (drop e.taken cs) → HasBadEscape (92 ∷ cs)
+  after_a_character : (c : ℕ) (cs : List ℕ) → c ≢ 92 → HasBadEscape cs → HasBadEscape (c ∷ cs)
+  after_an_escape : (cs : List ℕ) (e : Escape) → escape Set cs ≡ Some e → HasBadEscape (drop e.taken cs) → HasBadEscape (92 ∷ cs)
 
 -- a `-` with no backslash and a character come first
 abbrev pub EndRange : List Item → Type 0

@@ -3,7 +3,7 @@ ghost use Rattle.std.specs.Prelude.{◌≡◌, ℕ, ◌≤◌, ◌<◌, ◌⊎�
 ghost use Rattle.std.specs.List.{All};
 ghost use Rattle.g4_chars.specs.declared.range.Range.{Range as Span};
 ghost use Rattle.g4_chars.specs.CharSets.{Has, IsScalar, IsRange, IsCanonical};
-ghost use Rattle.g4_chars.specs.Building.{between, scalars, gaps, over, joined_behind, joined};
+ghost use Rattle.g4_chars.specs.Building.{between, scalars, gaps, over, joined_from, joined};
 
 use crate::range::Range;
 use std::alloc::{AllocError, Global};
@@ -54,7 +54,7 @@ pub fn gaps(alloc: Global, ranges: &[Range]) -> Result<Vec<Range>, AllocError>
 
 /// The range that is joined to the next one so far, once that is read; a range that it does not touch is done.
 fn joined_to(done: &mut Vec<Range>, current: Range, next: Range) -> Result<Range, AllocError>
-    ensures { IfOk result (λ r. (rest : List Span) → done.new.items ++ joined_behind r rest ≡ done.old.items ++ joined_behind current (next ∷ rest)) }
+    ensures { IfOk result (λ r. (rest : List Span) → done.new.items ++ joined_from r rest ≡ done.old.items ++ joined_from current (next ∷ rest)) }
 {
     if next.first as u32 <= current.last as u32 + 1 {
         return Ok(Range {
@@ -84,14 +84,14 @@ fn joined(alloc: Global, ranges: &[Range]) -> Result<Vec<Range>, AllocError>
     match ranges {
         [] => Ok(Vec::new(alloc)),
         [first, rest @ ..] => {
-            let out = joined_behind(alloc, *first, rest)?;
+            let out = joined_from(alloc, *first, rest)?;
             Ok(out)
         }
     }
 }
 
-fn joined_behind(alloc: Global, first: Range, rest: &[Range]) -> Result<Vec<Range>, AllocError>
-    ensures { IfOk result (λ out. out.items ≡ joined_behind first rest.now) }
+fn joined_from(alloc: Global, first: Range, rest: &[Range]) -> Result<Vec<Range>, AllocError>
+    ensures { IfOk result (λ out. out.items ≡ joined_from first rest.now) }
 {
     let mut done = Vec::new(alloc);
     let mut current = first;

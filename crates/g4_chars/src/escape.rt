@@ -201,26 +201,26 @@ fn set_escape(c: char, behind: &[char]) -> Option<Escape>
     }
 }
 
-fn other_escape(context: Context, c: char, behind: &[char]) -> Option<Escape>
-    ensures value { result ≡ other_escape context c behind.now }
-    ensures within { IfSome result (λ e. e.taken ≤ length behind.now + 1) }
+fn other_escape(context: Context, c: char, rest: &[char]) -> Option<Escape>
+    ensures value { result ≡ other_escape context c rest.now }
+    ensures within { IfSome result (λ e. e.taken ≤ length rest.now + 1) }
     ensures name { IfSome result (λ e. NameIsWithin e.taken e.meaning) }
 {
     match context {
         Context::Literal => short_escape(context, c),
-        Context::Set => set_escape(c, behind),
+        Context::Set => set_escape(c, rest),
     }
 }
 
 /// The escape, given what follows its backslash: none where it is a bad one.
-pub fn read_escape(context: Context, behind: &[char]) -> Option<Escape>
-    ensures value { result ≡ escape context behind.now }
-    ensures within { IfSome result (λ e. e.taken ≤ length behind.now) }
+pub fn read_escape(context: Context, rest: &[char]) -> Option<Escape>
+    ensures value { result ≡ escape context rest.now }
+    ensures within { IfSome result (λ e. e.taken ≤ length rest.now) }
     ensures name { IfSome result (λ e. NameIsWithin e.taken e.meaning) }
 {
-    match behind {
+    match rest {
         [] => None,
-        ['u', behind @ ..] => unicode_escape(behind),
-        [c, behind @ ..] => other_escape(context, *c, behind),
+        ['u', rest @ ..] => unicode_escape(rest),
+        [c, rest @ ..] => other_escape(context, *c, rest),
     }
 }

@@ -34,12 +34,12 @@ pub struct Found {
 fn escaped_item(
     alloc: Global,
     meaning: Meaning,
-    behind: &[char],
+    rest: &[char],
     taken: usize,
 ) -> Result<Item, AllocError>
-    requires taken { taken ≤ length behind.now }
+    requires taken { taken ≤ length rest.now }
     requires name { NameIsWithin taken meaning }
-    ensures { IfOk result (λ item. item ≡ escaped_item meaning behind.now) }
+    ensures { IfOk result (λ item. item ≡ escaped_item meaning rest.now) }
 {
     match meaning {
         Meaning::Character(character) => Ok(Item::Member {
@@ -47,7 +47,7 @@ fn escaped_item(
             plain: false,
         }),
         Meaning::Property { complement, length } => {
-            let property = property_named(alloc, &behind[2..2 + length])?;
+            let property = property_named(alloc, &rest[2..2 + length])?;
             Ok(Item::Named {
                 complement,
                 property,
@@ -57,9 +57,9 @@ fn escaped_item(
 }
 
 /// The item that begins with the character: none at a bad escape.
-fn item_at(alloc: Global, c: char, behind: &[char]) -> Result<Option<Found>, AllocError>
-    ensures value { IfOk result (λ found. found ≡ item_at c behind.now) }
-    ensures within { IfOk result (λ found. IfSome found (λ f. f.taken ≤ length behind.now)) }
+fn item_at(alloc: Global, c: char, rest: &[char]) -> Result<Option<Found>, AllocError>
+    ensures value { IfOk result (λ found. found ≡ item_at c rest.now) }
+    ensures within { IfOk result (λ found. IfSome found (λ f. f.taken ≤ length rest.now)) }
 {
     if c != '\\' {
         return Ok(Some(Found {
@@ -70,10 +70,10 @@ fn item_at(alloc: Global, c: char, behind: &[char]) -> Result<Option<Found>, All
             taken: 0,
         }));
     }
-    let Some(escape) = read_escape(Context::Set, behind) else {
+    let Some(escape) = read_escape(Context::Set, rest) else {
         return Ok(None);
     };
-    let item = escaped_item(alloc, escape.meaning, behind, escape.taken)?;
+    let item = escaped_item(alloc, escape.meaning, rest, escape.taken)?;
     Ok(Some(Found {
         item,
         taken: escape.taken,

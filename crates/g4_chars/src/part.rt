@@ -48,35 +48,35 @@ fn character_of(item: Item) -> Option<char>
     }
 }
 
-fn range_end(behind: &[Item]) -> Option<char>
-    ensures value { result ≡ range_end behind.now }
-    ensures within { IfSome result (λ _. 2 ≤ length behind.now) }
+fn range_end(rest: &[Item]) -> Option<char>
+    ensures value { result ≡ range_end rest.now }
+    ensures within { IfSome result (λ _. 2 ≤ length rest.now) }
 {
-    match behind {
+    match rest {
         [hyphen, last, ..] if is_hyphen(*hyphen) => character_of(*last),
         _ => None,
     }
 }
 
-fn span_at(first: char, behind: &[Item]) -> (Part, usize)
-    ensures part { result.0 ≡ span_of first behind.now }
-    ensures more { result.1 ≡ more_of_span behind.now }
-    ensures within { result.1 ≤ length behind.now }
+fn span_at(first: char, rest: &[Item]) -> (Part, usize)
+    ensures part { result.0 ≡ span_of first rest.now }
+    ensures more { result.1 ≡ more_of_span rest.now }
+    ensures within { result.1 ≤ length rest.now }
 {
-    match range_end(behind) {
+    match range_end(rest) {
         Some(last) => (Part::Span { first, last }, 2),
         None => (Part::Span { first, last: first }, 0),
     }
 }
 
 /// The part that begins with the item, and how many items after it belong to it.
-fn part_at(item: Item, behind: &[Item]) -> (Part, usize)
-    ensures part { result.0 ≡ part_of item behind.now }
-    ensures more { result.1 ≡ more_of item behind.now }
-    ensures within { result.1 ≤ length behind.now }
+fn part_at(item: Item, rest: &[Item]) -> (Part, usize)
+    ensures part { result.0 ≡ part_of item rest.now }
+    ensures more { result.1 ≡ more_of item rest.now }
+    ensures within { result.1 ≤ length rest.now }
 {
     match item {
-        Item::Member { character, .. } => span_at(character, behind),
+        Item::Member { character, .. } => span_at(character, rest),
         Item::Named {
             complement,
             property,

@@ -104,11 +104,11 @@ mutual
   }
   or_reads _ _ (or_more u w a b first second) v nodes pending outer =
       let before = or_reads u a first (DoubleBar ∷ (w ++ v)) nodes pending outer in
-      let behind = and_reads w b second v (nodes ++ postfix a) (Disjunction ∷ pending) tt in
+      let after = and_reads w b second v (nodes ++ postfix a) (Disjunction ∷ pending) tt in
       record {
         last = (nodes ++ postfix a) ++ postfix b;
         waits = Disjunction ∷ pending;
-        same = ap (nodes_from 0 (want nodes pending)) (append_assoc u (DoubleBar ∷ w) v) ∙ before.same ∙ bar_reads before.last (nodes ++ postfix a) before.waits pending (w ++ v) before.nodes_are before.pending_are ∙ behind;
+        same = ap (nodes_from 0 (want nodes pending)) (append_assoc u (DoubleBar ∷ w) v) ∙ before.same ∙ bar_reads before.last (nodes ++ postfix a) before.waits pending (w ++ v) before.nodes_are before.pending_are ∙ after;
         nodes_are = ap (λ ns. ns ++ Or ∷ []) (append_assoc nodes (postfix a) (postfix b)) ∙ append_assoc nodes (postfix a ++ postfix b) (Or ∷ []);
         pending_are = refl;
       }

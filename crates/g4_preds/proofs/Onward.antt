@@ -26,21 +26,21 @@ by_step o p rest is = ap (λ (q : Option Step). elim q as (λ _. Option (List No
 pub goes_on : (tokens rest : List Token) (at more : ℕ) (s next : State) → at < length tokens → rest ≡ drop at tokens → next_step s rest ≡ Some (record { state = next; more = more }) → nodes_from 0 next (drop (at + (1 + more)) tokens) ≡ nodes_from 0 s (drop at tokens)
 goes_on tokens rest at more s next within rest_is step_is =
     let first : Token = get_or tokens at Exclamation in
-    let behind : List Token = drop (at + 1) tokens in
-    let cut : drop at tokens ≡ first ∷ behind = drop_more tokens at Exclamation within in
-    let step : next_step s (first ∷ behind) ≡ Some (record { state = next; more = more }) = ap (next_step s) (sym (rest_is ∙ cut)) ∙ step_is in
+    let after : List Token = drop (at + 1) tokens in
+    let cut : drop at tokens ≡ first ∷ after = drop_more tokens at Exclamation within in
+    let step : next_step s (first ∷ after) ≡ Some (record { state = next; more = more }) = ap (next_step s) (sym (rest_is ∙ cut)) ∙ step_is in
     let sum : at + 1 + more ≡ at + (1 + more) = omega arith in
-    let left : drop more behind ≡ drop (at + (1 + more)) tokens = drop-drop more (at + 1) tokens ∙ ap (λ n. drop n tokens) sum in
-    ap (nodes_from 0 next) (sym left) ∙ sym (skipped more next behind) ∙ sym (by_step (next_step s (first ∷ behind)) (Some (record { state = next; more = more })) behind step) ∙ ap (nodes_from 0 s) (sym cut)
+    let left : drop more after ≡ drop (at + (1 + more)) tokens = drop-drop more (at + 1) tokens ∙ ap (λ n. drop n tokens) sum in
+    ap (nodes_from 0 next) (sym left) ∙ sym (skipped more next after) ∙ sym (by_step (next_step s (first ∷ after)) (Some (record { state = next; more = more })) after step) ∙ ap (nodes_from 0 s) (sym cut)
 
 -- no step from an index
 stops : (tokens rest : List Token) (at : ℕ) (s : State) → at < length tokens → rest ≡ drop at tokens → next_step s rest ≡ None → nodes_from 0 s (drop at tokens) ≡ None
 stops tokens rest at s within rest_is step_is =
     let first : Token = get_or tokens at Exclamation in
-    let behind : List Token = drop (at + 1) tokens in
-    let cut : drop at tokens ≡ first ∷ behind = drop_more tokens at Exclamation within in
-    let step : next_step s (first ∷ behind) ≡ None = ap (next_step s) (sym (rest_is ∙ cut)) ∙ step_is in
-    ap (nodes_from 0 s) cut ∙ by_step (next_step s (first ∷ behind)) None behind step
+    let after : List Token = drop (at + 1) tokens in
+    let cut : drop at tokens ≡ first ∷ after = drop_more tokens at Exclamation within in
+    let step : next_step s (first ∷ after) ≡ None = ap (next_step s) (sym (rest_is ∙ cut)) ∙ step_is in
+    ap (nodes_from 0 s) cut ∙ by_step (next_step s (first ∷ after)) None after step
 
 -- where no step goes on there is no predicate
 pub refused_at : (tokens rest : List Token) (at : ℕ) (s new : State) (e : Fault) → at < length tokens → rest ≡ drop at tokens → nodes_from 0 s (drop at tokens) ≡ nodes_from 0 start tokens → Takes (next_step s rest) new (Err e) → Answers (AreNodesOf tokens) (Err e)

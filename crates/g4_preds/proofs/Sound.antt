@@ -121,8 +121,8 @@ whole_of u nodes (Disjunction ∷ pending) had = whole_or u u had.before had.wor
 whole_of u nodes (Parenthesis ∷ pending) had = record { before = had.before; word = had.word; nodes_before = had.nodes_before; tree = had.tree; parts = had.parts; nodes_are = had.nodes_are; wanted = had.wanted; outer = tt; reads = one_and had.word had.tree had.reads }
 
 -- after a `)`
-behind_right : (u before word : List Token) (nodes nodes_before : List Node) (pending : List Operator) (a : Tree) → u ≡ before ++ word → nodes ≡ nodes_before ++ postfix a → IsOr word a → Wanted before nodes_before (Parenthesis ∷ pending) → Reached (u ++ RightParenthesis ∷ []) (completed nodes pending)
-behind_right u _ word nodes _ _ a parts nodes_are reads (past_left before nodes_before pending wanted) =
+after_right : (u before word : List Token) (nodes nodes_before : List Node) (pending : List Operator) (a : Tree) → u ≡ before ++ word → nodes ≡ nodes_before ++ postfix a → IsOr word a → Wanted before nodes_before (Parenthesis ∷ pending) → Reached (u ++ RightParenthesis ∷ []) (completed nodes pending)
+after_right u _ word nodes _ _ a parts nodes_are reads (past_left before nodes_before pending wanted) =
     let done : Reached (before ++ (LeftParenthesis ∷ (word ++ RightParenthesis ∷ []))) (completed (nodes_before ++ postfix a) pending) = operand_done before (LeftParenthesis ∷ (word ++ RightParenthesis ∷ [])) nodes_before pending a wanted (as_is (LeftParenthesis ∷ (word ++ RightParenthesis ∷ [])) a (enclosed word a reads)) in
     let tokens_are : before ++ (LeftParenthesis ∷ (word ++ RightParenthesis ∷ [])) ≡ u ++ RightParenthesis ∷ [] = sym (append_assoc before (LeftParenthesis ∷ []) (word ++ RightParenthesis ∷ [])) ∙ sym (append_assoc (before ++ LeftParenthesis ∷ []) word (RightParenthesis ∷ [])) ∙ ap (λ ts. ts ++ RightParenthesis ∷ []) (sym parts) in
     let moved : Reached (u ++ RightParenthesis ∷ []) (completed (nodes_before ++ postfix a) pending) = subst (λ (ts : List Token). Reached ts (completed (nodes_before ++ postfix a) pending)) tokens_are done in
@@ -140,9 +140,9 @@ one_past u token rest s step reached is =
     let here : Step = record { state = s; more = 0 } in
     subst (Advanced u token rest) (some_is here step is) (record { front = token ∷ []; are = refl; reached = reached })
 
-behind_test : (u : List Token) (token : Token) (rest : List Token) (nodes : List Node) (pending : List Operator) (step : Step) (o : Option Found) → Wanted u nodes pending → test_at token rest ≡ o → test_step (want nodes pending) o ≡ Some step → Advanced u token rest step
-behind_test u token rest nodes pending step None wanted found is = absurd (none_some step is)
-behind_test u token rest nodes pending step (Some f) wanted found is =
+after_test : (u : List Token) (token : Token) (rest : List Token) (nodes : List Node) (pending : List Operator) (step : Step) (o : Option Found) → Wanted u nodes pending → test_at token rest ≡ o → test_step (want nodes pending) o ≡ Some step → Advanced u token rest step
+after_test u token rest nodes pending step None wanted found is = absurd (none_some step is)
+after_test u token rest nodes pending step (Some f) wanted found is =
     let tested = test_found token rest f found in
     let here : Step = record { state = past_test (want nodes pending) f.test; more = f.more } in
     subst (Advanced u token rest) (some_is here step is) (record {
@@ -154,13 +154,13 @@ behind_test u token rest nodes pending step (Some f) wanted found is =
 operand_past : (u : List Token) (token : Token) (rest : List Token) (nodes : List Node) (pending : List Operator) (step : Step) → Wanted u nodes pending → operand_step (want nodes pending) (token ∷ rest) ≡ Some step → Advanced u token rest step
 operand_past u Exclamation rest nodes pending step wanted is = one_past u Exclamation rest (want nodes (Negation ∷ pending)) step (past_not u nodes pending wanted) is
 operand_past u LeftParenthesis rest nodes pending step wanted is = one_past u LeftParenthesis rest (want nodes (Parenthesis ∷ pending)) step (past_left u nodes pending wanted) is
-operand_past u (Name name) rest nodes pending step wanted is = behind_test u (Name name) rest nodes pending step (test_at (Name name) rest) wanted refl is
+operand_past u (Name name) rest nodes pending step wanted is = after_test u (Name name) rest nodes pending step (test_at (Name name) rest) wanted refl is
 operand_past u token rest nodes pending step wanted is = absurd (none_some step is)
 
-behind_close : (u : List Token) (rest : List Token) (nodes : List Node) (pending : List Operator) (step : Step) (joined_to : List Node) (left : List Operator) → Whole u nodes pending → joined_nodes nodes pending ≡ joined_to → joined_pending pending ≡ left → one_token (closed joined_to left) ≡ Some step → Advanced u RightParenthesis rest step
-behind_close u rest nodes pending step joined_to (Parenthesis ∷ left) whole nodes_are left_is is =
-    one_past u RightParenthesis rest (completed joined_to left) step (behind_right u whole.before whole.word joined_to whole.nodes_before left whole.tree whole.parts (sym nodes_are ∙ whole.nodes_are) whole.reads (subst (Wanted whole.before whole.nodes_before) left_is whole.wanted)) is
-behind_close u rest nodes pending step joined_to left whole nodes_are left_is is = absurd (none_some step is)
+after_close : (u : List Token) (rest : List Token) (nodes : List Node) (pending : List Operator) (step : Step) (joined_to : List Node) (left : List Operator) → Whole u nodes pending → joined_nodes nodes pending ≡ joined_to → joined_pending pending ≡ left → one_token (closed joined_to left) ≡ Some step → Advanced u RightParenthesis rest step
+after_close u rest nodes pending step joined_to (Parenthesis ∷ left) whole nodes_are left_is is =
+    one_past u RightParenthesis rest (completed joined_to left) step (after_right u whole.before whole.word joined_to whole.nodes_before left whole.tree whole.parts (sym nodes_are ∙ whole.nodes_are) whole.reads (subst (Wanted whole.before whole.nodes_before) left_is whole.wanted)) is
+after_close u rest nodes pending step joined_to left whole nodes_are left_is is = absurd (none_some step is)
 
 operator_past : (u : List Token) (token : Token) (rest : List Token) (nodes : List Node) (pending : List Operator) (step : Step) → Had u nodes pending → one_token (operator_step (have nodes pending) token) ≡ Some step → Advanced u token rest step
 operator_past u DoubleAmpersand rest nodes pending step had is =
@@ -174,7 +174,7 @@ operator_past u DoubleBar rest nodes pending step had is =
     let tokens_are : whole.before ++ (whole.word ++ DoubleBar ∷ []) ≡ u ++ DoubleBar ∷ [] = sym (append_assoc whole.before whole.word (DoubleBar ∷ [])) ∙ ap (λ ts. ts ++ DoubleBar ∷ []) (sym whole.parts) in
     let moved : Wanted (u ++ DoubleBar ∷ []) (whole.nodes_before ++ postfix whole.tree) (Disjunction ∷ joined_pending pending) = subst (λ (ts : List Token). Wanted ts (whole.nodes_before ++ postfix whole.tree) (Disjunction ∷ joined_pending pending)) tokens_are after in
     one_past u DoubleBar rest (want (joined_nodes nodes pending) (Disjunction ∷ joined_pending pending)) step (subst (λ (ns : List Node). Wanted (u ++ DoubleBar ∷ []) ns (Disjunction ∷ joined_pending pending)) (sym whole.nodes_are) moved) is
-operator_past u RightParenthesis rest nodes pending step had is = behind_close u rest nodes pending step (joined_nodes nodes pending) (joined_pending pending) (whole_of u nodes pending had) refl refl is
+operator_past u RightParenthesis rest nodes pending step had is = after_close u rest nodes pending step (joined_nodes nodes pending) (joined_pending pending) (whole_of u nodes pending had) refl refl is
 operator_past u token rest nodes pending step had is = absurd (none_some step is)
 
 step_past : (wants : Bool) (u : List Token) (token : Token) (rest : List Token) (nodes : List Node) (pending : List Operator) (step : Step) → ReachedBy wants u nodes pending → next_step (record { nodes = nodes; pending = pending; wants_operand = wants }) (token ∷ rest) ≡ Some step → Advanced u token rest step

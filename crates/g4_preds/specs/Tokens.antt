@@ -21,9 +21,9 @@ is_one_to_eight c = nat_le 49 c && nat_le c 56
 
 -- the name that begins with the letter, as long as it goes
 abbrev pub name_piece : ℕ → List ℕ → Piece
-name_piece letter behind =
-    let more = prefix_len is_name_part behind in
-    Formed (Name (encode_utf8_all (letter ∷ take more behind))) more
+name_piece letter after =
+    let more = prefix_len is_name_part after in
+    Formed (Name (encode_utf8_all (letter ∷ take more after))) more
 
 -- `||`, `&&` or `==`, decided by the character that is there twice
 abbrev pub double_sign : ℕ → Option Piece
@@ -34,39 +34,39 @@ double_sign c =
 
 -- the sign that begins with the character, given what follows it
 abbrev pub sign : ℕ → List ℕ → Option Piece
-sign c behind =
+sign c after =
     if c == 40 then Some (Formed LeftParenthesis 0)
     else (if c == 41 then Some (Formed RightParenthesis 0)
     else (if c == 33 then Some (Formed Exclamation 0)
-    else (if begins c behind then double_sign c else None)))
+    else (if begins c after then double_sign c else None)))
 
 -- what begins with a character: a piece that is known at once, if any, or a literal, if it ends
 pub data Opening : Type 0 where
-  told : Option Piece → Opening
+  known : Option Piece → Opening
   a_literal : Opening
 
 -- what begins with the character, given what follows it
 abbrev pub opening : ℕ → List ℕ → Opening
-opening c behind =
-    if is_blank c then told (Some Blank)
-    else (if is_alphabetic c then told (Some (name_piece c behind))
-    else (if is_one_to_eight c then told (Some (Formed (Digit (c - 48)) 0))
-    else (if c == 39 then a_literal else told (sign c behind))))
+opening c after =
+    if is_blank c then known (Some Blank)
+    else (if is_alphabetic c then known (Some (name_piece c after))
+    else (if is_one_to_eight c then known (Some (Formed (Digit (c - 48)) 0))
+    else (if c == 39 then a_literal else known (sign c after))))
 
 -- what begins so is this piece: a literal has a character or more between its quotes, on one line
-pub data IsOpened (c : ℕ) (behind : List ℕ) : Opening → Piece → Type 0 where
-  at_once : (piece : Piece) → IsOpened c behind (told (Some piece)) piece
-  with_end : (more : ℕ) → Encloses contexts.Literal 39 behind more → 1 < more → IsOpened c behind a_literal (Formed (Literal (literal_spelling (c ∷ take more behind))) more)
+pub data IsOpened (c : ℕ) (after : List ℕ) : Opening → Piece → Type 0 where
+  at_once : (piece : Piece) → IsOpened c after (known (Some piece)) piece
+  with_end : (more : ℕ) → Encloses contexts.Literal 39 after more → 1 < more → IsOpened c after a_literal (Formed (Literal (literal_spelling (c ∷ take more after))) more)
 
 -- the text begins with this piece
 abbrev pub IsPiece : List ℕ → Piece → Type 0
 IsPiece [] piece = ⊥
-IsPiece (c ∷ behind) piece = IsOpened c behind (opening c behind) piece
+IsPiece (c ∷ after) piece = IsOpened c after (opening c after) piece
 
 -- the text begins with this literal
 abbrev pub IsLiteralPiece : List ℕ → Piece → Type 0
 IsLiteralPiece [] piece = ⊥
-IsLiteralPiece (c ∷ behind) piece = IsOpened c behind a_literal piece
+IsLiteralPiece (c ∷ after) piece = IsOpened c after a_literal piece
 
 -- the text is cut into blanks and these tokens
 pub data AreTokens : List ℕ → List Token → Type 0 where

@@ -7,14 +7,14 @@ ghost use Rattle.g4_tokens.specs.Ends.{Finds};
 use g4_chars::{Context, read_escape};
 
 /// How many characters after this one belong to it: none where the line ends, or its escape is bad.
-fn unit_more(c: char, behind: &[char]) -> Option<usize>
-    ensures value { result ≡ unit_more Literal c behind.now }
-    ensures within { IfSome result (λ more. more ≤ length behind.now) }
+fn unit_more(c: char, after: &[char]) -> Option<usize>
+    ensures value { result ≡ unit_more Literal c after.now }
+    ensures within { IfSome result (λ more. more ≤ length after.now) }
 {
     if c == '\n' {
         None
     } else if c == '\\' {
-        let escape = read_escape(Context::Literal, behind)?;
+        let escape = read_escape(Context::Literal, after)?;
         Some(escape.taken)
     } else {
         Some(0)

@@ -33,12 +33,12 @@ fn name_text(alloc: Global, letter: char, parts: &[char]) -> Result<Text, AllocE
     Ok(Text::new(name))
 }
 
-fn name_piece(alloc: Global, letter: char, behind: &[char]) -> Result<Piece, AllocError>
-    ensures value { IfOk result (λ p. p ≡ name_piece letter behind.now) }
-    ensures within { IfOk result (IsWithin (1 + length behind.now)) }
+fn name_piece(alloc: Global, letter: char, after: &[char]) -> Result<Piece, AllocError>
+    ensures value { IfOk result (λ p. p ≡ name_piece letter after.now) }
+    ensures within { IfOk result (IsWithin (1 + length after.now)) }
 {
-    let more = name_length(behind);
-    let name = name_text(alloc, letter, &behind[..more])?;
+    let more = name_length(after);
+    let name = name_text(alloc, letter, &after[..more])?;
     Ok(Piece::Formed(Token::Name(name), more))
 }
 
@@ -47,10 +47,10 @@ fn literal_piece(alloc: Global, text: &[char]) -> Result<Piece, Fault>
     ensures value { Answers (IsLiteralPiece text.now) result }
     ensures within { IfOk result (IsWithin (length text.now)) }
 {
-    let [_, behind @ ..] = text else {
+    let [_, after @ ..] = text else {
         return Err(Fault::Unknown);
     };
-    let Some(more) = literal_length(behind) else {
+    let Some(more) = literal_length(after) else {
         return Err(Fault::Unknown);
     };
     if more < 2 {
@@ -73,15 +73,15 @@ fn double_sign(c: char) -> Option<Piece>
 }
 
 /// The sign that begins with the character.
-fn sign(c: char, behind: &[char]) -> Option<Piece>
-    ensures value { result ≡ sign c behind.now }
-    ensures within { IfSome result (IsWithin (1 + length behind.now)) }
+fn sign(c: char, after: &[char]) -> Option<Piece>
+    ensures value { result ≡ sign c after.now }
+    ensures within { IfSome result (IsWithin (1 + length after.now)) }
 {
     match c {
         '(' => Some(Piece::Formed(Token::LeftParenthesis, 0)),
         ')' => Some(Piece::Formed(Token::RightParenthesis, 0)),
         '!' => Some(Piece::Formed(Token::Exclamation, 0)),
-        _ if begins(c, behind) => double_sign(c),
+        _ if begins(c, after) => double_sign(c),
         _ => None,
     }
 }
@@ -91,21 +91,21 @@ pub fn read_piece(alloc: Global, text: &[char]) -> Result<Piece, Fault>
     ensures value { Answers (IsPiece text.now) result }
     ensures within { IfOk result (IsWithin (length text.now)) }
 {
-    let [c, behind @ ..] = text else {
+    let [c, after @ ..] = text else {
         return Err(Fault::Unknown);
     };
     let c = *c;
     if is_blank(c) {
         Ok(Piece::Blank)
     } else if is_alphabetic(c) {
-        let name = name_piece(alloc, c, behind)?;
+        let name = name_piece(alloc, c, after)?;
         Ok(name)
     } else if is_one_to_eight(c) {
         Ok(Piece::Formed(Token::Digit(c as u32 - 48), 0))
     } else if c == '\'' {
         literal_piece(alloc, text)
     } else {
-        match sign(c, behind) {
+        match sign(c, after) {
             Some(piece) => Ok(piece),
             None => Err(Fault::Unknown),
         }

@@ -5,7 +5,7 @@ use Rattle.std.proofs.lemmas.List.{drop-drop}
 use Rattle.g4_chars.specs.declared.escape.Context.{Context}
 use Rattle.g4_tokens.specs.Enclosed.{Encloses, at_close, one_more, unit_more}
 use Rattle.g4_tokens.specs.Ends.{Finds}
-use Rattle.g4_tokens.specs.Nesting.{Nests, closed, nested, passed, whole, closes, depth_behind, passed_over}
+use Rattle.g4_tokens.specs.Nesting.{Nests, closed, nested, passed, whole, closes, depth_after, passed_over}
 
 -- how many characters there are up to the one that closes, that included, added to those taken before; the first are passed over
 abbrev pub enclosed_from : Context → ℕ → ℕ → ℕ → List ℕ → Option ℕ
@@ -26,7 +26,7 @@ nesting_end_from opening closing depth skip taken [] = None
 nesting_end_from opening closing depth (suc skip) taken (c ∷ cs) = nesting_end_from opening closing depth skip (taken + 1) cs
 nesting_end_from opening closing depth zero taken (c ∷ cs) =
     if closes closing depth c then Some (taken + 1)
-    else nesting_end_from opening closing (depth_behind opening closing depth c) (passed_over opening closing c cs) (taken + 1) cs
+    else nesting_end_from opening closing (depth_after opening closing depth c) (passed_over opening closing c cs) (taken + 1) cs
 
 -- how many characters there are up to the one that closes, that included
 abbrev pub nesting_end : ℕ → ℕ → List ℕ → Option ℕ

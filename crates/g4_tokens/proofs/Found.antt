@@ -8,18 +8,18 @@ use Rattle.g4_tokens.specs.declared.piece.Piece.{Piece}
 use Rattle.g4_tokens.proofs.Ends.{one_enclosed}
 
 -- a piece that its opening gives
-pub told_piece : (opening : Opening) (behind : List ℕ) (piece : Piece) → opening ≡ told piece → IsPiece opening behind piece
-told_piece opening behind piece is = subst (λ (o : Opening). IsPiece o behind piece) (sym is) (at_once piece behind)
+pub known_piece : (opening : Opening) (rest : List ℕ) (piece : Piece) → opening ≡ told piece → IsPiece opening rest piece
+known_piece opening rest piece is = subst (λ (o : Opening). IsPiece o rest piece) (sym is) (at_once piece rest)
 
 none_is : (n : ℕ) → None ≡ Some n → ⊥
 none_is n is = cc
 
 -- a comment that nothing ends
-pub no_comment : (behind : List ℕ) (more : ℕ) → comment_end (drop 1 behind) ≡ None → EndsComment behind more → ⊥
-no_comment behind _ none (ends taken is) = none_is taken (sym none ∙ is)
+pub no_comment : (rest : List ℕ) (more : ℕ) → comment_end (drop 1 rest) ≡ None → EndsComment rest more → ⊥
+no_comment rest _ none (ends taken is) = none_is taken (sym none ∙ is)
 
 -- a literal with nothing between its quotes
-pub no_literal : (behind : List ℕ) (taken more : ℕ) → Encloses Literal 39 behind taken → taken < 2 → IsEnd literal behind more → ⊥
-no_literal behind taken more first few is =
-    let same = one_enclosed Literal 39 taken more behind first is.0 in
+pub no_literal : (rest : List ℕ) (taken more : ℕ) → Encloses Literal 39 rest taken → taken < 2 → IsEnd literal rest more → ⊥
+no_literal rest taken more first few is =
+    let same = one_enclosed Literal 39 taken more rest first is.0 in
     omega (arith, same, is.1)

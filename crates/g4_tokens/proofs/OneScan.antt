@@ -18,27 +18,27 @@ use Rattle.g4_tokens.specs.declared.token.Kind.{Kind}
 use Rattle.g4_tokens.specs.declared.token.Token.{Token}
 use Rattle.g4_tokens.proofs.Ends.{one_enclosed, one_nesting}
 
-one_comment : (behind : List ℕ) (n m : ℕ) → EndsComment behind n → EndsComment behind m → n ≡ m
-one_comment behind _ _ (ends n first) (ends m second) =
+one_comment : (rest : List ℕ) (n m : ℕ) → EndsComment rest n → EndsComment rest m → n ≡ m
+one_comment rest _ _ (ends n first) (ends m second) =
     let both : Some n ≡ Some m = sym first ∙ second in
     let same : n ≡ m = cc in
     ap (λ k. k + 1) same
 
 -- a piece ends once
-one_end : (closing : Closing) (behind : List ℕ) (n m : ℕ) → IsEnd closing behind n → IsEnd closing behind m → n ≡ m
-one_end comment behind n m first second = one_comment behind n m first second
-one_end literal behind n m first second = one_enclosed Context.Literal 39 n m behind first.0 second.0
-one_end set behind n m first second = one_enclosed Context.Set 93 n m behind first second
-one_end arguments behind n m first second = one_nesting 91 93 n m behind first second
-one_end action behind n m first second = one_nesting 123 125 n m behind first second
+one_end : (closing : Closing) (rest : List ℕ) (n m : ℕ) → IsEnd closing rest n → IsEnd closing rest m → n ≡ m
+one_end comment rest n m first second = one_comment rest n m first second
+one_end literal rest n m first second = one_enclosed Context.Literal 39 n m rest first.0 second.0
+one_end set rest n m first second = one_enclosed Context.Set 93 n m rest first second
+one_end arguments rest n m first second = one_nesting 91 93 n m rest first second
+one_end action rest n m first second = one_nesting 123 125 n m rest first second
 
 -- one piece begins at a character
-one_piece : (opening : Opening) (behind : List ℕ) (a b : Piece) → IsPiece opening behind a → IsPiece opening behind b → a ≡ b
-one_piece _ _ _ _ (at_once piece behind) (at_once _ _) = refl
-one_piece _ _ _ _ (with_end closing behind n first) (with_end _ _ m second) = ap (closed_piece closing) (one_end closing behind n m first second)
-one_piece _ _ _ _ (with_end closing behind n first) (endless _ _ never) = absurd (never n first)
-one_piece _ _ _ _ (endless closing behind never) (with_end _ _ m second) = absurd (never m second)
-one_piece _ _ _ _ (endless closing behind never) (endless _ _ _) = refl
+one_piece : (opening : Opening) (rest : List ℕ) (a b : Piece) → IsPiece opening rest a → IsPiece opening rest b → a ≡ b
+one_piece _ _ _ _ (at_once piece rest) (at_once _ _) = refl
+one_piece _ _ _ _ (with_end closing rest n first) (with_end _ _ m second) = ap (closed_piece closing) (one_end closing rest n m first second)
+one_piece _ _ _ _ (with_end closing rest n first) (endless _ _ never) = absurd (never n first)
+one_piece _ _ _ _ (endless closing rest never) (with_end _ _ m second) = absurd (never m second)
+one_piece _ _ _ _ (endless closing rest never) (endless _ _ _) = refl
 
 piece_pair : (words : List Word) (c : ℕ) (cs : List ℕ) (a b : Piece) → PieceAt words c cs a → PieceAt words c cs b → a ≡ b
 piece_pair words c cs a b first second = one_piece _ cs a b first second

@@ -31,9 +31,9 @@ reached_start start p text statement known same = record {
 }
 
 -- the statement decides the piece
-pub piece_is : (statement : Statement) (words : List Word) (c : ℕ) (behind : List ℕ) (found piece : Piece) → statement ≡ statement_of words → IsPiece (opening (holds_sets statement) statement.names_braces statement.in_braces c behind) behind found → found ≡ piece → PieceAt words c behind piece
-piece_is statement words c behind found piece known is same =
-    subst (PieceAt words c behind) same (subst (λ (s : Statement). IsPiece (opening (holds_sets s) s.names_braces s.in_braces c behind) behind found) known is)
+pub piece_is : (statement : Statement) (words : List Word) (c : ℕ) (rest : List ℕ) (found piece : Piece) → statement ≡ statement_of words → IsPiece (opening (holds_sets statement) statement.names_braces statement.in_braces c rest) rest found → found ≡ piece → PieceAt words c rest piece
+piece_is statement words c rest found piece known is same =
+    subst (PieceAt words c rest) same (subst (λ (s : Statement). IsPiece (opening (holds_sets s) s.names_braces s.in_braces c rest) rest found) known is)
 
 -- tokens at the same position of the same text
 pub same_tokens : (words : List Word) (p q : Position) (rest other : List ℕ) (tokens : List Token) → p ≡ q → rest ≡ other → AreTokens words p rest tokens → AreTokens words q other tokens
@@ -49,16 +49,16 @@ same_fault words p q rest other fault same_p same_rest opens =
 pub reached_gap : (start : Position) (text : List ℕ) (statement : Statement) (p next : Position) (at c more : ℕ) (tokens : List Token) (found : Piece) → Reached start text statement p at tokens → at < length text → c ≡ get_or text at c →
     IsPiece (opening (holds_sets statement) statement.names_braces statement.in_braces c (take (length text - (at + 1)) (drop (at + 1) text))) (take (length text - (at + 1)) (drop (at + 1) text)) found → found ≡ Gap more → next ≡ position_past p (take (at + 1 + more - at) (drop at text)) → Reached start text statement next (at + 1 + more) tokens
 reached_gap start text statement p next at c more tokens found r h read found_is gap next_is =
-    let behind : List ℕ = take (length text - (at + 1)) (drop (at + 1) text) in
-    let cut : drop at text ≡ c ∷ behind = from_index text at c h read in
-    let is : PieceAt r.words c behind (Gap more) = piece_is statement r.words c behind found (Gap more) r.known found_is gap in
-    let moved : next ≡ position_past p (c ∷ take more behind) = next_is ∙ ap (position_past p) (word_is text at c more h read) in
-    let left : drop (at + 1 + more) text ≡ drop more behind = sym (beyond text at more) in
+    let rest : List ℕ = take (length text - (at + 1)) (drop (at + 1) text) in
+    let cut : drop at text ≡ c ∷ rest = from_index text at c h read in
+    let is : PieceAt r.words c rest (Gap more) = piece_is statement r.words c rest found (Gap more) r.known found_is gap in
+    let moved : next ≡ position_past p (c ∷ take more rest) = next_is ∙ ap (position_past p) (word_is text at c more h read) in
+    let left : drop (at + 1 + more) text ≡ drop more rest = sym (beyond text at more) in
     record {
       words = r.words;
       known = r.known;
-      tokens_go_on = λ after are. r.tokens_go_on after (same_tokens r.words p p (c ∷ behind) (drop at text) after refl (sym cut) (behind_gap r.words p c more behind after is (same_tokens r.words next (position_past p (c ∷ take more behind)) (drop (at + 1 + more) text) (drop more behind) after moved left are)));
-      fault_goes_on = λ fault opens. r.fault_goes_on fault (same_fault r.words p p (c ∷ behind) (drop at text) fault refl (sym cut) (past_gap r.words p fault c more behind is (same_fault r.words next (position_past p (c ∷ take more behind)) (drop (at + 1 + more) text) (drop more behind) fault moved left opens)));
+      tokens_go_on = λ after are. r.tokens_go_on after (same_tokens r.words p p (c ∷ rest) (drop at text) after refl (sym cut) (behind_gap r.words p c more rest after is (same_tokens r.words next (position_past p (c ∷ take more rest)) (drop (at + 1 + more) text) (drop more rest) after moved left are)));
+      fault_goes_on = λ fault opens. r.fault_goes_on fault (same_fault r.words p p (c ∷ rest) (drop at text) fault refl (sym cut) (past_gap r.words p fault c more rest is (same_fault r.words next (position_past p (c ∷ take more rest)) (drop (at + 1 + more) text) (drop more rest) fault moved left opens)));
     }
 
 -- the statement after one more token is that of the tokens with it
@@ -71,21 +71,21 @@ pub reached_token : (start : Position) (text : List ℕ) (statement after : Stat
     IsPiece (opening (holds_sets statement) statement.names_braces statement.in_braces c (take (length text - (at + 1)) (drop (at + 1) text))) (take (length text - (at + 1)) (drop (at + 1) text)) found → found ≡ Formed kind more → next ≡ position_past p (take (at + 1 + more - at) (drop at text)) →
     after ≡ statement_past statement kind (take (at + 1 + more - at) (drop at text)) → longer ≡ tokens ++ (record { kind = kind; place = p.place; start = p.index; end = next.index } ∷ []) → Reached start text after next (at + 1 + more) longer
 reached_token start text statement after p next at c more kind tokens longer found r h read found_is formed next_is after_is longer_is =
-    let behind : List ℕ = take (length text - (at + 1)) (drop (at + 1) text) in
-    let piece_characters : List ℕ = c ∷ take more behind in
-    let cut : drop at text ≡ c ∷ behind = from_index text at c h read in
+    let rest : List ℕ = take (length text - (at + 1)) (drop (at + 1) text) in
+    let piece_characters : List ℕ = c ∷ take more rest in
+    let cut : drop at text ≡ c ∷ rest = from_index text at c h read in
     let word : take (at + 1 + more - at) (drop at text) ≡ piece_characters = word_is text at c more h read in
-    let is : PieceAt r.words c behind (Formed kind more) = piece_is statement r.words c behind found (Formed kind more) r.known found_is formed in
+    let is : PieceAt r.words c rest (Formed kind more) = piece_is statement r.words c rest found (Formed kind more) r.known found_is formed in
     let moved : next ≡ position_past p piece_characters = next_is ∙ ap (position_past p) word in
-    let left : drop (at + 1 + more) text ≡ drop more behind = sym (beyond text at more) in
+    let left : drop (at + 1 + more) text ≡ drop more rest = sym (beyond text at more) in
     let token : Token = token_at kind p piece_characters in
     let same_token : longer ≡ tokens ++ (token ∷ []) = longer_is ∙ ap (λ (q : Position). tokens ++ (record { kind = kind; place = p.place; start = p.index; end = q.index } ∷ [])) moved in
     let words : List Word = record { kind = kind; characters = piece_characters } ∷ r.words in
     record {
       words = words;
       known = statement_more statement after r.words kind (take (at + 1 + more - at) (drop at text)) piece_characters r.known after_is word;
-      tokens_go_on = λ others are. subst (λ (ts : List Token). AreTokens [] start text ts) (sym (ap (λ (ts : List Token). ts ++ others) same_token ∙ append_assoc tokens (token ∷ []) others)) (r.tokens_go_on (token ∷ others) (same_tokens r.words p p (c ∷ behind) (drop at text) (token ∷ others) refl (sym cut) (with_token r.words p c more kind behind others is (same_tokens words next (position_past p piece_characters) (drop (at + 1 + more) text) (drop more behind) others moved left are))));
-      fault_goes_on = λ fault opens. r.fault_goes_on fault (same_fault r.words p p (c ∷ behind) (drop at text) fault refl (sym cut) (past_token r.words p fault c more kind behind is (same_fault words next (position_past p piece_characters) (drop (at + 1 + more) text) (drop more behind) fault moved left opens)));
+      tokens_go_on = λ others are. subst (λ (ts : List Token). AreTokens [] start text ts) (sym (ap (λ (ts : List Token). ts ++ others) same_token ∙ append_assoc tokens (token ∷ []) others)) (r.tokens_go_on (token ∷ others) (same_tokens r.words p p (c ∷ rest) (drop at text) (token ∷ others) refl (sym cut) (with_token r.words p c more kind rest others is (same_tokens words next (position_past p piece_characters) (drop (at + 1 + more) text) (drop more rest) others moved left are))));
+      fault_goes_on = λ fault opens. r.fault_goes_on fault (same_fault r.words p p (c ∷ rest) (drop at text) fault refl (sym cut) (past_token r.words p fault c more kind rest is (same_fault words next (position_past p piece_characters) (drop (at + 1 + more) text) (drop more rest) fault moved left opens)));
     }
 
 -- what is reached at the end
@@ -97,10 +97,10 @@ reached_end start text statement p at tokens r h =
 pub reached_fault : (start : Position) (text : List ℕ) (statement : Statement) (p : Position) (at c : ℕ) (tokens : List Token) (found : Piece) → Reached start text statement p at tokens → at < length text → c ≡ get_or text at c →
     IsPiece (opening (holds_sets statement) statement.names_braces statement.in_braces c (take (length text - (at + 1)) (drop (at + 1) text))) (take (length text - (at + 1)) (drop (at + 1) text)) found → found ≡ Faulty → IsFaultyAt [] start text p
 reached_fault start text statement p at c tokens found r h read found_is faulty =
-    let behind : List ℕ = take (length text - (at + 1)) (drop (at + 1) text) in
-    let cut : drop at text ≡ c ∷ behind = from_index text at c h read in
-    let is : PieceAt r.words c behind Faulty = piece_is statement r.words c behind found Faulty r.known found_is faulty in
-    r.fault_goes_on p (same_fault r.words p p (c ∷ behind) (drop at text) p refl (sym cut) (right_here r.words p c behind is))
+    let rest : List ℕ = take (length text - (at + 1)) (drop (at + 1) text) in
+    let cut : drop at text ≡ c ∷ rest = from_index text at c h read in
+    let is : PieceAt r.words c rest Faulty = piece_is statement r.words c rest found Faulty r.known found_is faulty in
+    r.fault_goes_on p (same_fault r.words p p (c ∷ rest) (drop at text) p refl (sym cut) (right_here r.words p c rest is))
 
 -- a gap within what follows its first character
 pub gap_within : (most more : ℕ) (found : Piece) → found ≡ Gap more → IsWithin most found → more ≤ most

@@ -3,7 +3,7 @@ use Rattle.std.proofs.Common.{◌≡◌, ℕ, zero, suc, ◌+◌, List, [], ◌�
 use Rattle.std.proofs.lemmas.Bool.Decides.{nat_tests}
 use Rattle.std.proofs.lemmas.List.{drop_more, drop-drop, take_rest}
 use Rattle.g4_chars.specs.declared.escape.Context.{Context}
-use Rattle.g4_tokens.specs.Nesting.{closes, depth_behind, passed_over}
+use Rattle.g4_tokens.specs.Nesting.{closes, depth_after, passed_over}
 use Rattle.g4_tokens.specs.Enclosed.{unit_more}
 use Rattle.g4_tokens.proofs.Ends.{enclosed_from, nesting_end_from, enclosed_skip, nesting_skip}
 use Rattle.g4_tokens.specs.Spelling.{spelling_from, spelled}
@@ -27,16 +27,16 @@ further text at more =
     let same : at + (1 + more) ≡ at + 1 + more = omega arith in
     cc
 
-nesting_step : (opening closing depth n c : ℕ) (cs : List ℕ) → closes closing depth c ≡ false → nesting_end_from opening closing depth 0 n (c ∷ cs) ≡ nesting_end_from opening closing (depth_behind opening closing depth c) (passed_over opening closing c cs) (n + 1) cs
+nesting_step : (opening closing depth n c : ℕ) (cs : List ℕ) → closes closing depth c ≡ false → nesting_end_from opening closing depth 0 n (c ∷ cs) ≡ nesting_end_from opening closing (depth_after opening closing depth c) (passed_over opening closing c cs) (n + 1) cs
 nesting_step opening closing depth n c cs open_still = rw open_still refl
 
 -- one more character of what is nested
-pub nesting_more : (opening closing depth at c next more : ℕ) (text : List ℕ) → at < length text → c ≡ get_or text at c → closes closing depth c ≡ false → next ≡ depth_behind opening closing depth c → more ≡ passed_over opening closing c (take (length text - (at + 1)) (drop (at + 1) text)) → nesting_end_from opening closing next 0 (at + (1 + more)) (drop (at + (1 + more)) text) ≡ nesting_end_from opening closing depth 0 at (drop at text)
+pub nesting_more : (opening closing depth at c next more : ℕ) (text : List ℕ) → at < length text → c ≡ get_or text at c → closes closing depth c ≡ false → next ≡ depth_after opening closing depth c → more ≡ passed_over opening closing c (take (length text - (at + 1)) (drop (at + 1) text)) → nesting_end_from opening closing next 0 (at + (1 + more)) (drop (at + (1 + more)) text) ≡ nesting_end_from opening closing depth 0 at (drop at text)
 nesting_more opening closing depth at c next more text h read open_still next_is more_is =
-    let behind : List ℕ = take (length text - (at + 1)) (drop (at + 1) text) in
-    let begun : nesting_end_from opening closing depth 0 at (drop at text) ≡ nesting_end_from opening closing depth 0 at (c ∷ behind) = ap (nesting_end_from opening closing depth 0 at) (from_index text at c h read) in
-    let step : nesting_end_from opening closing depth 0 at (c ∷ behind) ≡ nesting_end_from opening closing (depth_behind opening closing depth c) (passed_over opening closing c behind) (at + 1) behind = nesting_step opening closing depth at c behind open_still in
-    let skipped = nesting_skip opening closing next more (at + 1) behind in
+    let rest : List ℕ = take (length text - (at + 1)) (drop (at + 1) text) in
+    let begun : nesting_end_from opening closing depth 0 at (drop at text) ≡ nesting_end_from opening closing depth 0 at (c ∷ rest) = ap (nesting_end_from opening closing depth 0 at) (from_index text at c h read) in
+    let step : nesting_end_from opening closing depth 0 at (c ∷ rest) ≡ nesting_end_from opening closing (depth_after opening closing depth c) (passed_over opening closing c rest) (at + 1) rest = nesting_step opening closing depth at c rest open_still in
+    let skipped = nesting_skip opening closing next more (at + 1) rest in
     let same : at + 1 + more ≡ at + (1 + more) = omega arith in
     let left = further text at more in
     cc
@@ -73,11 +73,11 @@ enclosed_step context close n c more cs open_still unit_is = rw open_still (rw u
 -- one more character of what is enclosed
 pub enclosed_more : (context : Context) (close at c more : ℕ) (text : List ℕ) → at < length text → c ≡ get_or text at c → c ≢ close → unit_more context c (take (length text - (at + 1)) (drop (at + 1) text)) ≡ Some more → enclosed_from context close 0 (at + (1 + more)) (drop (at + (1 + more)) text) ≡ enclosed_from context close 0 at (drop at text)
 enclosed_more context close at c more text h read other unit_is =
-    let behind : List ℕ = take (length text - (at + 1)) (drop (at + 1) text) in
+    let rest : List ℕ = take (length text - (at + 1)) (drop (at + 1) text) in
     let open_still : (c == close) ≡ false = grind (arith, nat_tests) in
-    let begun : enclosed_from context close 0 at (drop at text) ≡ enclosed_from context close 0 at (c ∷ behind) = ap (enclosed_from context close 0 at) (from_index text at c h read) in
-    let step = enclosed_step context close at c more behind open_still unit_is in
-    let skipped = enclosed_skip context close more (at + 1) behind in
+    let begun : enclosed_from context close 0 at (drop at text) ≡ enclosed_from context close 0 at (c ∷ rest) = ap (enclosed_from context close 0 at) (from_index text at c h read) in
+    let step = enclosed_step context close at c more rest open_still unit_is in
+    let skipped = enclosed_skip context close more (at + 1) rest in
     let same : at + 1 + more ≡ at + (1 + more) = omega arith in
     let left = further text at more in
     cc
@@ -94,10 +94,10 @@ spelling_step c cs s is = rw (is, spelling_from) refl
 -- one more character that is spelled
 pub spelling_more : (before after : List ℕ) (at c : ℕ) (text : List ℕ) (s : SpelledCharacter) → at < length text → c ≡ get_or text at c → spelled c (take (length text - (at + 1)) (drop (at + 1) text)) ≡ Some s → after ≡ before ++ (s.character ∷ []) → after ++ spelling_from 0 (drop (at + (1 + s.more)) text) ≡ before ++ spelling_from 0 (drop at text)
 spelling_more before after at c text s h read is after_is =
-    let behind : List ℕ = take (length text - (at + 1)) (drop (at + 1) text) in
-    let begun : spelling_from 0 (drop at text) ≡ spelling_from 0 (c ∷ behind) = ap (spelling_from 0) (from_index text at c h read) in
-    let step = spelling_step c behind s is in
-    let skipped = spelling_skip s.more behind in
+    let rest : List ℕ = take (length text - (at + 1)) (drop (at + 1) text) in
+    let begun : spelling_from 0 (drop at text) ≡ spelling_from 0 (c ∷ rest) = ap (spelling_from 0) (from_index text at c h read) in
+    let step = spelling_step c rest s is in
+    let skipped = spelling_skip s.more rest in
     let left = further text at s.more in
     let joined : (before ++ (s.character ∷ [])) ++ spelling_from 0 (drop (at + (1 + s.more)) text) ≡ before ++ ((s.character ∷ []) ++ spelling_from 0 (drop (at + (1 + s.more)) text)) = append_assoc before (s.character ∷ []) (spelling_from 0 (drop (at + (1 + s.more)) text)) in
     cc
@@ -113,7 +113,7 @@ spelling_ends at c text h read is =
 -- the characters of a piece
 pub word_is : (text : List ℕ) (at c more : ℕ) → at < length text → c ≡ get_or text at c → take (at + 1 + more - at) (drop at text) ≡ c ∷ take more (take (length text - (at + 1)) (drop (at + 1) text))
 word_is text at c more h read =
-    let behind : List ℕ = take (length text - (at + 1)) (drop (at + 1) text) in
+    let rest : List ℕ = take (length text - (at + 1)) (drop (at + 1) text) in
     let count : at + 1 + more - at ≡ suc more = omega arith in
     ap (λ n. take n (drop at text)) count ∙ ap (take (suc more)) (from_index text at c h read)
 

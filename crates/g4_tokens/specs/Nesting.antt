@@ -22,7 +22,7 @@ abbrev mutual
 
 -- how many characters a quoted text has after its first quote: 0 where no quote closes it on its line
 abbrev pub quoted : ℕ → List ℕ → ℕ
-quoted quote behind = unwrap_or (quote_end quote behind) 0
+quoted quote rest = unwrap_or (quote_end quote rest) 0
 
 -- from the one index up to the other, no quote of this kind is closed on its line
 abbrev pub IsUnclosed : ℕ → List ℕ → ℕ → ℕ → Type 0
@@ -35,13 +35,13 @@ pub record AreUnclosed (text : List ℕ) (at : ℕ) (unclosed : Unclosed) : Type
 
 -- how many characters a comment has after its first `/`: 0 where no comment begins there, and all where it doesn't end
 abbrev pub commented : List ℕ → ℕ
-commented behind =
-    if begins 47 behind then prefix_len is_in_line behind
-    else (if begins 42 behind then elim (comment_end (drop 1 behind)) [ Some taken ↦ taken + 1 | None ↦ length behind ] else 0)
+commented rest =
+    if begins 47 rest then prefix_len is_in_line rest
+    else (if begins 42 rest then elim (comment_end (drop 1 rest)) [ Some taken ↦ taken + 1 | None ↦ length rest ] else 0)
 
 -- how many characters after this one belong to the quoted text or the comment that begins with it
 abbrev pub whole : ℕ → List ℕ → ℕ
-whole c behind = if c == 34 || c == 39 then quoted c behind else (if c == 47 then commented behind else 0)
+whole c rest = if c == 34 || c == 39 then quoted c rest else (if c == 47 then commented rest else 0)
 
 -- the text has this many characters up to the bracket that closes, that included: nested brackets are balanced, and quoted
 -- texts and comments are passed over whole
@@ -55,9 +55,9 @@ abbrev pub closes : ℕ → ℕ → ℕ → Bool
 closes closing depth c = (c == closing) && (depth == 0)
 
 -- how many are open inside, after the character
-abbrev pub depth_behind : ℕ → ℕ → ℕ → ℕ → ℕ
-depth_behind opening closing depth c = if c == closing then depth - 1 else (if c == opening then depth + 1 else depth)
+abbrev pub depth_after : ℕ → ℕ → ℕ → ℕ → ℕ
+depth_after opening closing depth c = if c == closing then depth - 1 else (if c == opening then depth + 1 else depth)
 
 -- how many characters after this one are no part of the nesting
 abbrev pub passed_over : ℕ → ℕ → ℕ → List ℕ → ℕ
-passed_over opening closing c behind = if c == closing || c == opening then 0 else whole c behind
+passed_over opening closing c rest = if c == closing || c == opening then 0 else whole c rest

@@ -27,16 +27,16 @@ pub data Opening : Type 0 where
   up_to : Closing → Opening
 
 -- a comment's `*/` ends this many characters after its first `/`
-pub data EndsComment (behind : List ℕ) : ℕ → Type 0 where
-  ends : (taken : ℕ) → comment_end (drop 1 behind) ≡ Some taken → EndsComment behind (taken + 1)
+pub data EndsComment (rest : List ℕ) : ℕ → Type 0 where
+  ends : (taken : ℕ) → comment_end (drop 1 rest) ≡ Some taken → EndsComment rest (taken + 1)
 
 -- the piece ends this many characters after its first: between the quotes of a literal there is at least one
 abbrev pub IsEnd : Closing → List ℕ → ℕ → Type 0
-IsEnd comment behind more = EndsComment behind more
-IsEnd literal behind more = Encloses Context.Literal 39 behind more × (2 ≤ more)
-IsEnd set behind more = Encloses Context.Set 93 behind more
-IsEnd arguments behind more = Nests 91 93 behind more
-IsEnd action behind more = Nests 123 125 behind more
+IsEnd comment rest more = EndsComment rest more
+IsEnd literal rest more = Encloses Context.Literal 39 rest more × (2 ≤ more)
+IsEnd set rest more = Encloses Context.Set 93 rest more
+IsEnd arguments rest more = Nests 91 93 rest more
+IsEnd action rest more = Nests 123 125 rest more
 
 -- the piece with this many characters after its first
 abbrev pub closed_piece : Closing → ℕ → Piece
@@ -48,19 +48,19 @@ closed_piece action more = Formed Action more
 
 -- the piece that begins so, given what follows its first character: it is faulty if nothing closes it
 pub data IsPiece : Opening → List ℕ → Piece → Type 0 where
-  at_once : (piece : Piece) (behind : List ℕ) → IsPiece (told piece) behind piece
-  with_end : (closing : Closing) (behind : List ℕ) (more : ℕ) → IsEnd closing behind more → IsPiece (up_to closing) behind (closed_piece closing more)
-  endless : (closing : Closing) (behind : List ℕ) → ((more : ℕ) → IsEnd closing behind more → ⊥) → IsPiece (up_to closing) behind Faulty
+  at_once : (piece : Piece) (rest : List ℕ) → IsPiece (told piece) rest piece
+  with_end : (closing : Closing) (rest : List ℕ) (more : ℕ) → IsEnd closing rest more → IsPiece (up_to closing) rest (closed_piece closing more)
+  endless : (closing : Closing) (rest : List ℕ) → ((more : ℕ) → IsEnd closing rest more → ⊥) → IsPiece (up_to closing) rest Faulty
 
 -- a comment, or a stray `/`, decided by what follows the `/`
 abbrev pub slash_opening : List ℕ → Opening
-slash_opening behind =
-    if begins 47 behind then told (Gap (prefix_len is_in_line behind))
-    else (if begins 42 behind then up_to comment else told (Formed Stray 0))
+slash_opening rest =
+    if begins 47 rest then told (Gap (prefix_len is_in_line rest))
+    else (if begins 42 rest then up_to comment else told (Formed Stray 0))
 
 -- a name that begins with the letter
 abbrev pub name_piece : ℕ → List ℕ → Piece
-name_piece letter behind = Formed (if is_upper letter then Upper else Lower) (prefix_len is_name_part behind)
+name_piece letter rest = Formed (if is_upper letter then Upper else Lower) (prefix_len is_name_part rest)
 
 -- one of `=`, `#`, `,`, `@`, `<` and `>`, or a stray character
 abbrev pub comparison : ℕ → Kind
@@ -85,11 +85,11 @@ lone_sign c =
 
 -- a sign, or a stray character, given what follows it: of two signs the longer
 abbrev pub sign_piece : ℕ → List ℕ → Piece
-sign_piece c behind =
-    if c == 58 then (if begins 58 behind then Formed DoubleColon 1 else Formed Colon 0)
-    else (if c == 43 then (if begins 61 behind then Formed PlusEquals 1 else Formed Plus 0)
-    else (if c == 45 then (if begins 62 behind then Formed Arrow 1 else Formed Stray 0)
-    else (if c == 46 then (if begins 46 behind then Formed DoubleDot 1 else Formed Dot 0)
+sign_piece c rest =
+    if c == 58 then (if begins 58 rest then Formed DoubleColon 1 else Formed Colon 0)
+    else (if c == 43 then (if begins 61 rest then Formed PlusEquals 1 else Formed Plus 0)
+    else (if c == 45 then (if begins 62 rest then Formed Arrow 1 else Formed Stray 0)
+    else (if c == 46 then (if begins 46 rest then Formed DoubleDot 1 else Formed Dot 0)
     else Formed (lone_sign c) 0)))
 
 -- a set or arguments
@@ -106,22 +106,22 @@ right_brace_piece in_braces = if in_braces then Formed RightBrace 0 else Formed 
 
 -- what begins with a character that is no letter, digit or blank
 abbrev pub marked_opening : Bool → Bool → Bool → ℕ → List ℕ → Opening
-marked_opening sets names_braces in_braces c behind =
-    if c == 47 then slash_opening behind
+marked_opening sets names_braces in_braces c rest =
+    if c == 47 then slash_opening rest
     else (if c == 39 then up_to literal
     else (if c == 91 then bracket_opening sets
     else (if c == 123 then left_brace_opening names_braces
     else (if c == 125 then told (right_brace_piece in_braces)
-    else told (sign_piece c behind)))))
+    else told (sign_piece c rest)))))
 
 -- what begins with the character, given whether a `[` begins a set, whether a `{` is a brace, whether a `}` is one, and what
 -- follows the character
 abbrev pub opening : Bool → Bool → Bool → ℕ → List ℕ → Opening
-opening sets names_braces in_braces c behind =
+opening sets names_braces in_braces c rest =
     if is_blank c then told (Gap 0)
-    else (if is_alphabetic c then told (name_piece c behind)
-    else (if is_ascii_digit c then told (Formed Number (prefix_len is_ascii_digit behind))
-    else marked_opening sets names_braces in_braces c behind))
+    else (if is_alphabetic c then told (name_piece c rest)
+    else (if is_ascii_digit c then told (Formed Number (prefix_len is_ascii_digit rest))
+    else marked_opening sets names_braces in_braces c rest))
 
 -- the piece has at most this many characters after its first
 abbrev pub IsWithin : ℕ → Piece → Type 0

@@ -12,7 +12,7 @@ use Rattle.g4_tokens.specs.declared.token.Token.{Token}
 
 -- the piece that begins with the character, after these words and before these characters
 abbrev pub PieceAt : List Word → ℕ → List ℕ → Piece → Type 0
-PieceAt words c behind piece = IsPiece (opening (in_lexer_rule words) (names_braces words) (in_braces words) c behind) behind piece
+PieceAt words c rest piece = IsPiece (opening (in_lexer_rule words) (names_braces words) (in_braces words) c rest) rest piece
 
 -- the token of this kind that is these characters
 abbrev pub token_at : Kind → Position → List ℕ → Token

@@ -13,8 +13,8 @@ meant (Property complement count) = None
 
 -- the character that an escape means, given what follows its backslash
 abbrev pub escaped : List ℕ → Option SpelledCharacter
-escaped behind =
-    elim (escape Literal behind) [
+escaped rest =
+    elim (escape Literal rest) [
       | Some e ↦ elim (meant e.meaning) [ Some c ↦ Some (record { character = c; more = e.taken }) | None ↦ None ]
       | None ↦ None
     ]
@@ -22,7 +22,7 @@ escaped behind =
 -- the character that this one means in a literal, and how many after it belong to it: None at the quote that closes, and at
 -- a bad escape
 abbrev pub spelled : ℕ → List ℕ → Option SpelledCharacter
-spelled c behind = if c == 39 then None else (if c == 92 then escaped behind else Some (record { character = c; more = 0 }))
+spelled c rest = if c == 39 then None else (if c == 92 then escaped rest else Some (record { character = c; more = 0 }))
 
 -- the characters that the text spells up to the quote that closes, or a bad escape; the first are passed over
 abbrev pub spelling_from : ℕ → List ℕ → List ℕ

@@ -1,6 +1,6 @@
 // Where actions and arguments end.
 ghost use Rattle.std.specs.Prelude.{◌≡◌, ◌≤◌, ◌<◌, ◌+◌, ◌^◌, length, drop, slice_index, IfSome};
-ghost use Rattle.g4_tokens.specs.Nesting.{commented, closes, depth_behind, passed_over, Nests, AreUnclosed};
+ghost use Rattle.g4_tokens.specs.Nesting.{commented, closes, depth_after, passed_over, Nests, AreUnclosed};
 ghost use Rattle.g4_tokens.specs.Ends.{Finds};
 ghost use Rattle.g4_base.specs.declared.limits.TheConstants.{MOST_BYTES};
 
@@ -8,19 +8,19 @@ use crate::character::{begins, line_length};
 use crate::comment::comment_end;
 use crate::quote::{Unclosed, quoted_at};
 
-fn commented(behind: &[char]) -> usize
-    ensures value { result ≡ commented behind.now }
-    ensures within { result ≤ length behind.now }
+fn commented(rest: &[char]) -> usize
+    ensures value { result ≡ commented rest.now }
+    ensures within { result ≤ length rest.now }
 {
-    if begins('/', behind) {
-        return line_length(behind);
+    if begins('/', rest) {
+        return line_length(rest);
     }
-    if !begins('*', behind) {
+    if !begins('*', rest) {
         return 0;
     }
-    match comment_end(&behind[1..]) {
+    match comment_end(&rest[1..]) {
         Some(taken) => taken + 1,
-        None => behind.len(),
+        None => rest.len(),
     }
 }
 
@@ -30,9 +30,9 @@ fn closes(closing: char, depth: usize, c: char) -> bool
     c == closing && depth == 0
 }
 
-fn depth_behind(opening: char, closing: char, depth: usize, c: char) -> usize
+fn depth_after(opening: char, closing: char, depth: usize, c: char) -> usize
     requires { depth < 2 ^ 32 }
-    ensures value { result ≡ depth_behind opening closing depth c }
+    ensures value { result ≡ depth_after opening closing depth c }
     ensures within { result ≤ depth + 1 }
 {
     if c == closing {
@@ -106,7 +106,7 @@ pub fn nesting_end(opening: char, closing: char, text: &[char]) -> Option<usize>
         }
         let (more, known) = passed(opening, closing, c, text, at, unclosed);
         unclosed = known;
-        depth = depth_behind(opening, closing, depth, c);
+        depth = depth_after(opening, closing, depth, c);
         at += 1 + more;
     }
     None

@@ -26,47 +26,47 @@ pub enum Piece {
     Faulty,
 }
 
-fn comment_piece(behind: &[char]) -> Piece
-    requires star { 1 ≤ length behind.now }
-    ensures value { IsPiece (up_to comment) behind.now result }
-    ensures within { IsWithin (length behind.now) result }
+fn comment_piece(rest: &[char]) -> Piece
+    requires star { 1 ≤ length rest.now }
+    ensures value { IsPiece (up_to comment) rest.now result }
+    ensures within { IsWithin (length rest.now) result }
 {
-    match comment_end(&behind[1..]) {
+    match comment_end(&rest[1..]) {
         Some(taken) => Piece::Gap(taken + 1),
         None => Piece::Faulty,
     }
 }
 
-fn slash_piece(behind: &[char]) -> Piece
-    ensures value { IsPiece (slash_opening behind.now) behind.now result }
-    ensures within { IsWithin (length behind.now) result }
+fn slash_piece(rest: &[char]) -> Piece
+    ensures value { IsPiece (slash_opening rest.now) rest.now result }
+    ensures within { IsWithin (length rest.now) result }
 {
-    if begins('/', behind) {
-        return Piece::Gap(line_length(behind));
+    if begins('/', rest) {
+        return Piece::Gap(line_length(rest));
     }
-    if begins('*', behind) {
-        return comment_piece(behind);
+    if begins('*', rest) {
+        return comment_piece(rest);
     }
     Piece::Formed(Kind::Stray, 0)
 }
 
-fn name_piece(letter: char, behind: &[char]) -> Piece
-    ensures value { result ≡ name_piece letter behind.now }
-    ensures within { IsWithin (length behind.now) result }
+fn name_piece(letter: char, rest: &[char]) -> Piece
+    ensures value { result ≡ name_piece letter rest.now }
+    ensures within { IsWithin (length rest.now) result }
 {
     let kind = if is_upper(letter) {
         Kind::Upper
     } else {
         Kind::Lower
     };
-    Piece::Formed(kind, name_length(behind))
+    Piece::Formed(kind, name_length(rest))
 }
 
-fn literal_piece(behind: &[char]) -> Piece
-    ensures value { IsPiece (up_to literal) behind.now result }
-    ensures within { IsWithin (length behind.now) result }
+fn literal_piece(rest: &[char]) -> Piece
+    ensures value { IsPiece (up_to literal) rest.now result }
+    ensures within { IsWithin (length rest.now) result }
 {
-    match enclosed(Context::Literal, '\'', behind) {
+    match enclosed(Context::Literal, '\'', rest) {
         Some(taken) => {
             if taken > 1 {
                 Piece::Formed(Kind::Literal, taken)
@@ -78,33 +78,33 @@ fn literal_piece(behind: &[char]) -> Piece
     }
 }
 
-fn set_piece(behind: &[char]) -> Piece
-    ensures value { IsPiece (up_to set) behind.now result }
-    ensures within { IsWithin (length behind.now) result }
+fn set_piece(rest: &[char]) -> Piece
+    ensures value { IsPiece (up_to set) rest.now result }
+    ensures within { IsWithin (length rest.now) result }
 {
-    match enclosed(Context::Set, ']', behind) {
+    match enclosed(Context::Set, ']', rest) {
         Some(taken) => Piece::Formed(Kind::Set, taken),
         None => Piece::Faulty,
     }
 }
 
-fn arguments_piece(behind: &[char]) -> Piece
-    requires fits { length behind.now ≤ MOST_BYTES }
-    ensures value { IsPiece (up_to arguments) behind.now result }
-    ensures within { IsWithin (length behind.now) result }
+fn arguments_piece(rest: &[char]) -> Piece
+    requires fits { length rest.now ≤ MOST_BYTES }
+    ensures value { IsPiece (up_to arguments) rest.now result }
+    ensures within { IsWithin (length rest.now) result }
 {
-    match nesting_end('[', ']', behind) {
+    match nesting_end('[', ']', rest) {
         Some(taken) => Piece::Formed(Kind::Arguments, taken),
         None => Piece::Faulty,
     }
 }
 
-fn action_piece(behind: &[char]) -> Piece
-    requires fits { length behind.now ≤ MOST_BYTES }
-    ensures value { IsPiece (up_to action) behind.now result }
-    ensures within { IsWithin (length behind.now) result }
+fn action_piece(rest: &[char]) -> Piece
+    requires fits { length rest.now ≤ MOST_BYTES }
+    ensures value { IsPiece (up_to action) rest.now result }
+    ensures within { IsWithin (length rest.now) result }
 {
-    match nesting_end('{', '}', behind) {
+    match nesting_end('{', '}', rest) {
         Some(taken) => Piece::Formed(Kind::Action, taken),
         None => Piece::Faulty,
     }
@@ -139,44 +139,44 @@ fn lone_sign(c: char) -> Kind
     }
 }
 
-fn sign_piece(c: char, behind: &[char]) -> Piece
-    ensures value { result ≡ sign_piece c behind.now }
-    ensures within { IsWithin (length behind.now) result }
+fn sign_piece(c: char, rest: &[char]) -> Piece
+    ensures value { result ≡ sign_piece c rest.now }
+    ensures within { IsWithin (length rest.now) result }
 {
     match c {
-        ':' if begins(':', behind) => Piece::Formed(Kind::DoubleColon, 1),
+        ':' if begins(':', rest) => Piece::Formed(Kind::DoubleColon, 1),
         ':' => Piece::Formed(Kind::Colon, 0),
-        '+' if begins('=', behind) => Piece::Formed(Kind::PlusEquals, 1),
+        '+' if begins('=', rest) => Piece::Formed(Kind::PlusEquals, 1),
         '+' => Piece::Formed(Kind::Plus, 0),
-        '-' if begins('>', behind) => Piece::Formed(Kind::Arrow, 1),
+        '-' if begins('>', rest) => Piece::Formed(Kind::Arrow, 1),
         '-' => Piece::Formed(Kind::Stray, 0),
-        '.' if begins('.', behind) => Piece::Formed(Kind::DoubleDot, 1),
+        '.' if begins('.', rest) => Piece::Formed(Kind::DoubleDot, 1),
         '.' => Piece::Formed(Kind::Dot, 0),
         _ => Piece::Formed(lone_sign(c), 0),
     }
 }
 
-fn bracket_piece(sets: bool, behind: &[char]) -> Piece
-    requires fits { length behind.now ≤ MOST_BYTES }
-    ensures value { IsPiece (bracket_opening sets) behind.now result }
-    ensures within { IsWithin (length behind.now) result }
+fn bracket_piece(sets: bool, rest: &[char]) -> Piece
+    requires fits { length rest.now ≤ MOST_BYTES }
+    ensures value { IsPiece (bracket_opening sets) rest.now result }
+    ensures within { IsWithin (length rest.now) result }
 {
     if sets {
-        set_piece(behind)
+        set_piece(rest)
     } else {
-        arguments_piece(behind)
+        arguments_piece(rest)
     }
 }
 
-fn left_brace_piece(names_braces: bool, behind: &[char]) -> Piece
-    requires fits { length behind.now ≤ MOST_BYTES }
-    ensures value { IsPiece (left_brace_opening names_braces) behind.now result }
-    ensures within { IsWithin (length behind.now) result }
+fn left_brace_piece(names_braces: bool, rest: &[char]) -> Piece
+    requires fits { length rest.now ≤ MOST_BYTES }
+    ensures value { IsPiece (left_brace_opening names_braces) rest.now result }
+    ensures within { IsWithin (length rest.now) result }
 {
     if names_braces {
         Piece::Formed(Kind::LeftBrace, 0)
     } else {
-        action_piece(behind)
+        action_piece(rest)
     }
 }
 
@@ -191,18 +191,18 @@ fn right_brace_piece(in_braces: bool) -> Piece
     }
 }
 
-fn marked_piece(statement: Statement, c: char, behind: &[char]) -> Piece
-    requires fits { length behind.now ≤ MOST_BYTES }
-    ensures value { IsPiece (marked_opening (holds_sets statement) statement.names_braces statement.in_braces c behind.now) behind.now result }
-    ensures within { IsWithin (length behind.now) result }
+fn marked_piece(statement: Statement, c: char, rest: &[char]) -> Piece
+    requires fits { length rest.now ≤ MOST_BYTES }
+    ensures value { IsPiece (marked_opening (holds_sets statement) statement.names_braces statement.in_braces c rest.now) rest.now result }
+    ensures within { IsWithin (length rest.now) result }
 {
     match c {
-        '/' => slash_piece(behind),
-        '\'' => literal_piece(behind),
-        '[' => bracket_piece(statement.holds_sets(), behind),
-        '{' => left_brace_piece(statement.names_braces, behind),
+        '/' => slash_piece(rest),
+        '\'' => literal_piece(rest),
+        '[' => bracket_piece(statement.holds_sets(), rest),
+        '{' => left_brace_piece(statement.names_braces, rest),
         '}' => right_brace_piece(statement.in_braces),
-        _ => sign_piece(c, behind),
+        _ => sign_piece(c, rest),
     }
 }
 
@@ -215,18 +215,18 @@ fn number_length(text: &[char]) -> usize
 }
 
 /// The piece that begins with the character, given what follows it.
-pub fn read_piece(statement: Statement, c: char, behind: &[char]) -> Piece
-    requires fits { length behind.now ≤ MOST_BYTES }
-    ensures value { IsPiece (opening (holds_sets statement) statement.names_braces statement.in_braces c behind.now) behind.now result }
-    ensures within { IsWithin (length behind.now) result }
+pub fn read_piece(statement: Statement, c: char, rest: &[char]) -> Piece
+    requires fits { length rest.now ≤ MOST_BYTES }
+    ensures value { IsPiece (opening (holds_sets statement) statement.names_braces statement.in_braces c rest.now) rest.now result }
+    ensures within { IsWithin (length rest.now) result }
 {
     if is_blank(c) {
         Piece::Gap(0)
     } else if is_alphabetic(c) {
-        name_piece(c, behind)
+        name_piece(c, rest)
     } else if c.is_ascii_digit() {
-        Piece::Formed(Kind::Number, number_length(behind))
+        Piece::Formed(Kind::Number, number_length(rest))
     } else {
-        marked_piece(statement, c, behind)
+        marked_piece(statement, c, rest)
     }
 }

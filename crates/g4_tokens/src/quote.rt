@@ -45,9 +45,9 @@ pub fn quoted_at(quote: char, text: &[char], at: usize, until: usize) -> (usize,
     if at < until {
         return (0, until);
     }
-    let behind = &text[at + 1..];
-    match quote_end(quote, behind) {
+    let rest = &text[at + 1..];
+    match quote_end(quote, rest) {
         Some(taken) => (taken, until),
-        None => (0, at + 1 + line_length(behind)),
+        None => (0, at + 1 + line_length(rest)),
     }
 }

@@ -93,7 +93,7 @@ fn scan_characters(alloc: Global, text: &[char]) -> Result<Sequence<Token>, Scan
     ensures { AnswersRest (start_of text.now) (unmarked text.now) result }
 {
     match text {
-        ['\u{FEFF}', behind @ ..] => scan_from(alloc, behind, 3),
+        ['\u{FEFF}', rest @ ..] => scan_from(alloc, rest, 3),
         _ => scan_from(alloc, text, 0),
     }
 }

@@ -22,11 +22,11 @@ fn meant(meaning: Meaning) -> Option<char>
     }
 }
 
-fn escaped(behind: &[char]) -> Option<SpelledCharacter>
-    ensures value { result ≡ escaped behind.now }
-    ensures within { IfSome result (λ s. s.more ≤ length behind.now) }
+fn escaped(rest: &[char]) -> Option<SpelledCharacter>
+    ensures value { result ≡ escaped rest.now }
+    ensures within { IfSome result (λ s. s.more ≤ length rest.now) }
 {
-    let escape = read_escape(Context::Literal, behind)?;
+    let escape = read_escape(Context::Literal, rest)?;
     let character = meant(escape.meaning)?;
     Some(SpelledCharacter {
         character,
@@ -34,14 +34,14 @@ fn escaped(behind: &[char]) -> Option<SpelledCharacter>
     })
 }
 
-fn spelled(c: char, behind: &[char]) -> Option<SpelledCharacter>
-    ensures value { result ≡ spelled c behind.now }
-    ensures within { IfSome result (λ s. s.more ≤ length behind.now) }
+fn spelled(c: char, rest: &[char]) -> Option<SpelledCharacter>
+    ensures value { result ≡ spelled c rest.now }
+    ensures within { IfSome result (λ s. s.more ≤ length rest.now) }
 {
     if c == '\'' {
         None
     } else if c == '\\' {
-        escaped(behind)
+        escaped(rest)
     } else {
         Some(SpelledCharacter {
             character: c,
@@ -74,9 +74,9 @@ fn spelling(alloc: Global, text: &[char]) -> Result<Sequence<char>, AllocError>
 pub fn literal_characters(alloc: Global, text: &[char]) -> Result<Sequence<char>, AllocError>
     ensures { IfOk result (λ s. s ≡ literal_spelling text.now) }
 {
-    let behind = match text {
-        [_, behind @ ..] => behind,
+    let rest = match text {
+        [_, rest @ ..] => rest,
         [] => text,
     };
-    spelling(alloc, behind)
+    spelling(alloc, rest)
 }

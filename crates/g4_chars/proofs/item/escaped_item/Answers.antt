@@ -7,7 +7,7 @@ use Rattle.g4_chars.proofs.item.escaped_item.Goals as goal
 pub returns-in_ok-property-in-Property : goal.returns-in_ok-property-in-Property
 returns-in_ok-property-in-Property c =
     let n = c.in-Property.length in
-    let behind = c.args.behind.now in
+    let rest = c.args.rest.now in
     let count : 2 + n - 2 ≡ n = omega arith in
-    ap (Named c.in-Property.complement) (c.in_ok-property-in-Property.ensures ∙ ap (λ k. property_named (take k (drop 2 behind))) count)
-    ∙ ap (λ m. escaped_item m behind) (sym c.in-Property.is)
+    ap (Named c.in-Property.complement) (c.in_ok-property-in-Property.ensures ∙ ap (λ k. property_named (take k (drop 2 rest))) count)
+    ∙ ap (λ m. escaped_item m rest) (sym c.in-Property.is)

@@ -12,7 +12,7 @@ loop-at-preserved c =
     let text = c.args.text.now in
     let character = c.index-text-at.result in
     let more = c.passed-more.ensures.value ∙ ap (passed_over c.args.opening c.args.closing character) (sym (take_rest text (at + 1))) in (
-      nesting_more c.args.opening c.args.closing c.loop-at.depth at character c.depth_behind-depth.result c.passed-more.result.0 text c.loop-at-test.true c.index-text-at.is (cc) c.depth_behind-depth.ensures.value more ∙ c.loop-at.invariant.0,
+      nesting_more c.args.opening c.args.closing c.loop-at.depth at character c.depth_after-depth.result c.passed-more.result.0 text c.loop-at-test.true c.index-text-at.is (cc) c.depth_after-depth.ensures.value more ∙ c.loop-at.invariant.0,
       omega arith,
       omega arith,
       unclosed_later text at (at + (1 + c.passed-more.result.0)) c.passed-more.result.1 (omega arith) c.passed-more.ensures.known,

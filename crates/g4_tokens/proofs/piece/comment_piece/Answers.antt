@@ -7,12 +7,12 @@ use Rattle.g4_tokens.proofs.piece.comment_piece.Goals as goal
 
 pub returns-in-Some-clause-value : goal.returns-in-Some-clause-value
 returns-in-Some-clause-value c =
-    let behind = c.args.behind.now in
-    let is : comment_end (drop 1 behind) ≡ Some c.in-Some.taken = ap comment_end (sym (take_rest behind 1)) ∙ sym c.in-Some.ensures.value in
-    with_end comment behind _ (ends c.in-Some.taken is)
+    let rest = c.args.rest.now in
+    let is : comment_end (drop 1 rest) ≡ Some c.in-Some.taken = ap comment_end (sym (take_rest rest 1)) ∙ sym c.in-Some.ensures.value in
+    with_end comment rest _ (ends c.in-Some.taken is)
 
 pub returns-in-None-clause-value : goal.returns-in-None-clause-value
 returns-in-None-clause-value c =
-    let behind = c.args.behind.now in
-    let is : comment_end (drop 1 behind) ≡ None = ap comment_end (sym (take_rest behind 1)) ∙ sym c.in-None.ensures.value in
-    endless comment behind (λ more ending. no_comment behind more is ending)
+    let rest = c.args.rest.now in
+    let is : comment_end (drop 1 rest) ≡ None = ap comment_end (sym (take_rest rest 1)) ∙ sym c.in-None.ensures.value in
+    endless comment rest (λ more ending. no_comment rest more is ending)

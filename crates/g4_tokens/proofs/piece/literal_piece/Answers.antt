@@ -4,10 +4,10 @@ use Rattle.g4_tokens.proofs.Found.{no_literal}
 use Rattle.g4_tokens.proofs.piece.literal_piece.Goals as goal
 
 pub returns-then-taken-gt1-clause-value : goal.returns-then-taken-gt1-clause-value
-returns-then-taken-gt1-clause-value c = with_end literal c.args.behind.now c.in-Some.taken (c.in-Some.ensures.end, omega arith)
+returns-then-taken-gt1-clause-value c = with_end literal c.args.rest.now c.in-Some.taken (c.in-Some.ensures.end, omega arith)
 
 pub returns-else-taken-gt1-clause-value : goal.returns-else-taken-gt1-clause-value
-returns-else-taken-gt1-clause-value c = endless literal c.args.behind.now (λ more is. no_literal c.args.behind.now c.in-Some.taken more c.in-Some.ensures.end (omega arith) is)
+returns-else-taken-gt1-clause-value c = endless literal c.args.rest.now (λ more is. no_literal c.args.rest.now c.in-Some.taken more c.in-Some.ensures.end (omega arith) is)
 
 pub returns-in-None-clause-value : goal.returns-in-None-clause-value
-returns-in-None-clause-value c = endless literal c.args.behind.now (λ more is. c.in-None.ensures.end more is.0)
+returns-in-None-clause-value c = endless literal c.args.rest.now (λ more is. c.in-None.ensures.end more is.0)

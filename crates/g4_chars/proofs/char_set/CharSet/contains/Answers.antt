@@ -22,9 +22,9 @@ returns-in-Some c =
     let r = c.in-Some.range.now in
     let inside : at < length rs = grind (arith, nat_tests, c.in-Some.ensures.lookup.0) in
     let found : r ≡ get_or rs at r = search rules in
-    let behind : x ≤ (get_or rs at r).last = let b = point.1 at r (omega arith) inside in grind (arith, nat_tests) in (
+    let not_past : x ≤ (get_or rs at r).last = let b = point.1 at r (omega arith) inside in grind (arith, nat_tests) in (
       λ yes. subst H self_is (has_at rs at r x inside (let P : Range → Type 0 = λ s. IsWithin s x in grind (arith, nat_tests))),
-      λ has. let first : (get_or rs at r).first ≤ x = has_at_point 0 rs at x r rise inside (λ k less. let b = point.0 k r (omega arith) less in grind (arith, nat_tests)) behind (subst H (sym self_is) has) in grind (arith, nat_tests),
+      λ has. let first : (get_or rs at r).first ≤ x = has_at_point 0 rs at x r rise inside (λ k less. let b = point.0 k r (omega arith) less in grind (arith, nat_tests)) not_past (subst H (sym self_is) has) in grind (arith, nat_tests),
     )
 
 pub returns-in-None : goal.returns-in-None
