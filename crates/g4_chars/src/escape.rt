@@ -189,13 +189,13 @@ fn short_escape(context: Context, c: char) -> Option<Escape>
     }
 }
 
-fn set_escape(c: char, behind: &[char]) -> Option<Escape>
-    ensures value { result ≡ set_escape c behind.now }
-    ensures within { IfSome result (λ e. e.taken ≤ length behind.now + 1) }
+fn set_escape(c: char, rest: &[char]) -> Option<Escape>
+    ensures value { result ≡ set_escape c rest.now }
+    ensures within { IfSome result (λ e. e.taken ≤ length rest.now + 1) }
     ensures name { IfSome result (λ e. NameIsWithin e.taken e.meaning) }
 {
     if c == 'p' || c == 'P' {
-        named_escape(c == 'P', behind)
+        named_escape(c == 'P', rest)
     } else {
         short_escape(Context::Set, c)
     }

@@ -11,7 +11,7 @@ use Rattle.g4_elements.specs.Trees.{in_order, element_of, alternative_of}
 use Rattle.g4_elements.proofs.Trees.{of_atom, of_block, of_alternative, of_elements}
 use Rattle.g4_elements.specs.Bind.{bind, in_order_bind, either_bind}
 
--- one more item behind those made
+-- one more item after those made
 pub made_more : {X Z : Type 0} (F : List X → List Z) (xs : List X) (i : ℕ) (x : X) (first : Z) (old new all : List Z) → i < length xs → x ≡ get_or xs i x → F (x ∷ drop (i + 1) xs) ≡ first ∷ F (drop (i + 1) xs) → new ≡ old ++ first ∷ [] →
     old ++ F (drop i xs) ≡ all → new ++ F (drop (i + 1) xs) ≡ all
 made_more F xs i x first old new all within item step pushed before =

@@ -1,4 +1,4 @@
--- Trees written as lists of marks, by which contracts tell trees apart.
+-- Trees written as lists of marks, by which contracts compare trees.
 use Rattle.std.specs.Prelude.{◌≡◌, List, [], ◌∷◌, ◌⊎◌, Bool, true, false, Option, refl}
 use mathlib.Core.Logic.{inl, inr}
 use Rattle.std.specs.Coded.{Coded, code_by, coded×, coded⊎, coded_bool, coded_list, coded_option}

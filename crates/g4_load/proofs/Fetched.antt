@@ -8,7 +8,7 @@ use Rattle.g4_load.specs.declared.stop.Stop.TheVariants as stopping
 use Rattle.g4_load.specs.Files.{Files}
 use Rattle.g4_load.specs.Loading.{Fetches, absent, too_large}
 
--- what is answered for a file, where the files are told
+-- what is answered for a file, where the files are known
 pub told_file : (told : Option Files) (files : Files) (name : List ℕ) (got : Got) → told ≡ Some files → IfSome told (λ f. IsFileOf (f name) got) → IsFileOf (files name) got
 told_file told files name got is content = let P : Option Files → Type 0 = λ t. IfSome t (λ f. IsFileOf (f name) got) in subst P is content
 

@@ -87,17 +87,17 @@ one_fault : (bytes : List ℕ) (tokens : List Spelled) (a b : Fault) → IsFirst
 one_fault bytes tokens a b is also = is.is ∙ ap (fault_at bytes) (one_cut tokens is.front is.rest also.front also.rest is.cut also.cut).1 ∙ sym also.is
 
 -- the answer that reports a fault
-unfoldable pub told : Fault → Result Source ReadFault
-told fault = Err (Syntax fault.place fault.characters)
+unfoldable pub reported : Fault → Result Source ReadFault
+reported fault = Err (Syntax fault.place fault.characters)
 
 -- tokens have one reading
 one_reading_of : (bytes : List ℕ) (tokens : List Spelled) (a b : Result Source ReadFault) → IsReadingOf bytes tokens a → IsReadingOf bytes tokens b → a ≢ Err NoMemory → b ≢ Err NoMemory → a ≡ b
-unfolding told
+unfolding reported
 one_reading_of bytes tokens (Ok x) (Ok y) is also n m = ap (λ s. Ok s) (one_grammar tokens x y is.0 also.0)
 one_reading_of bytes tokens (Ok x) (Err (Syntax p c)) is also n m = absurd (not_cut tokens also.front also.rest is.0.0 is.0.1 also.cut)
 one_reading_of bytes tokens (Ok x) (Err (BadSet p)) is also n m = absurd (no_bad tokens p is.1 also)
 one_reading_of bytes tokens (Err (Syntax p c)) (Ok y) is also n m = absurd (not_cut tokens is.front is.rest also.0.0 also.0.1 is.cut)
-one_reading_of bytes tokens (Err (Syntax p c)) (Err (Syntax q d)) is also n m = ap told (one_fault bytes tokens _ _ is also)
+one_reading_of bytes tokens (Err (Syntax p c)) (Err (Syntax q d)) is also n m = ap reported (one_fault bytes tokens _ _ is also)
 one_reading_of bytes tokens (Err (Syntax p c)) (Err (BadSet q)) is also n m = absurd (no_bad tokens q is.good also)
 one_reading_of bytes tokens (Err (BadSet p)) (Ok y) is also n m = absurd (no_bad tokens p also.1 is)
 one_reading_of bytes tokens (Err (BadSet p)) (Err (Syntax q d)) is also n m = absurd (no_bad tokens p also.good is)
@@ -110,7 +110,7 @@ one_reading_of bytes tokens a (Err NoMemory) is also n m = absurd (m refl)
 -- what a reading is, by how the bytes are cut
 abbrev ReadingAt : List ℕ → List Token ⊎ Position → Result Source ReadFault → Type 0
 ReadingAt bytes (inl tokens) result = IsReadingOf bytes (spelled bytes tokens) result
-ReadingAt bytes (inr at) result = result ≡ told (opened_fault bytes at)
+ReadingAt bytes (inr at) result = result ≡ reported (opened_fault bytes at)
 
 -- what a reading is, of bytes that are a text or not
 abbrev ReadingBy : List ℕ → Result Source ReadFault → Type 0
@@ -122,10 +122,10 @@ reading_spelled bytes tokens result has is = inr (inl has.scanned, has.has, subs
 
 -- a reading that memory sufficed for
 reading_by : (bytes : List ℕ) (result : Result Source ReadFault) → IsReading bytes result → result ≢ Err NoMemory → ReadingBy bytes result
-unfolding told
+unfolding reported
 reading_by bytes (Ok source) is n = reading_spelled bytes is.tokens (Ok source) is.has (is.is, is.good)
 reading_by bytes (Err (NotUtf8 at)) valid n = inl (at, valid, refl)
-reading_by bytes (Err (Syntax place characters)) (inl (opened, s, is)) n = inr (inr opened, s, ap told is)
+reading_by bytes (Err (Syntax place characters)) (inl (opened, s, is)) n = inr (inr opened, s, ap reported is)
 reading_by bytes (Err (Syntax place characters)) (inr (tokens, has, first)) n = reading_spelled bytes tokens (Err (Syntax place characters)) has first
 reading_by bytes (Err (BadSet place)) (tokens, has, first) n = reading_spelled bytes tokens (Err (BadSet place)) has first
 reading_by bytes (Err NoMemory) h n = absurd (n refl)

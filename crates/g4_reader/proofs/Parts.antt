@@ -8,7 +8,7 @@ use Rattle.std.proofs.lemmas.Str.{IsCharBoundary-at_seam, encodes-append, encode
 use Rattle.std.proofs.lemmas.List.Sums.{sum_by-cons}
 use Rattle.g4_tokens.specs.Answers.{HasTokens, start_of, unmarked}
 use Rattle.g4_tokens.specs.Positions.{byte_count, position_past}
-use Rattle.g4_tokens.specs.Scanning.{AreTokens, at_end, behind_gap, with_token, token_at, start_at}
+use Rattle.g4_tokens.specs.Scanning.{AreTokens, at_end, after_gap, with_token, token_at, start_at}
 use Rattle.g4_tokens.specs.Statements.{Word}
 use Rattle.g4_tokens.specs.declared.position.Position.{Position}
 use Rattle.g4_tokens.specs.declared.token.Token.{Token}
@@ -61,7 +61,7 @@ rest_parts bytes before words p _ _ here (at_end _ _) = each_is (λ at token is.
     nothing : (at : ℕ) (token : Token) → slice_get [] at ≡ Some token → ⊥
     nothing zero token e = cc
     nothing (suc at) token e = cc
-rest_parts bytes before words p _ tokens here (behind_gap _ _ c more cs _ e are) =
+rest_parts bytes before words p _ tokens here (after_gap _ _ c more cs _ e are) =
     rest_parts bytes (before ++ c ∷ take more cs) words (position_past p (c ∷ take more cs)) (drop more cs) tokens (next_at bytes before c more cs p.index here) are
 rest_parts bytes before words p _ _ here (with_token _ _ c more kind cs others e are) =
     let piece = c ∷ take more cs in

@@ -23,7 +23,7 @@ pub stopped_is : (bytes : List ℕ) (tokens front rest : List Spelled) (fault : 
 stopped_is bytes tokens front rest (Syntax place characters) cut good is = record { front = front; rest = rest; cut = cut; good = good; is = sym is }
 stopped_is bytes tokens front rest (BadSet place) cut good none = absurd none
 stopped_is bytes tokens front rest (NotUtf8 at) cut good none = absurd none
-stopped_is bytes tokens front rest NoMemory cut good told = tt
+stopped_is bytes tokens front rest NoMemory cut good reported = tt
 
 -- the bytes have their tokens with their bytes
 pub spelled_is : (bytes : List ℕ) (tokens : List Token) → HasTokens bytes tokens → HasSpelled bytes (spelled bytes tokens)

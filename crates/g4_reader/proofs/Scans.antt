@@ -7,9 +7,9 @@ use Rattle.g4_tokens.specs.Answers.{HasTokens, HasFault, IsScan, start_of, unmar
 use Rattle.g4_tokens.specs.Comments.{comment_end}
 use Rattle.g4_tokens.specs.Enclosed.{Encloses}
 use Rattle.g4_tokens.specs.Nesting.{Nests}
-use Rattle.g4_tokens.specs.Pieces.{Closing, comment, literal, set, arguments, action, Opening, told, up_to, ends, IsEnd, IsPiece, at_once, with_end, endless, closed_piece}
+use Rattle.g4_tokens.specs.Pieces.{Closing, comment, literal, set, arguments, action, Opening, decided, up_to, ends, IsEnd, IsPiece, at_once, with_end, endless, closed_piece}
 use Rattle.g4_tokens.specs.Positions.{position_past}
-use Rattle.g4_tokens.specs.Scanning.{AreTokens, IsFaultyAt, at_end, behind_gap, with_token, right_here, past_gap, past_token, PieceAt, token_at}
+use Rattle.g4_tokens.specs.Scanning.{AreTokens, IsFaultyAt, at_end, after_gap, with_token, right_here, past_gap, past_token, PieceAt, token_at}
 use Rattle.g4_tokens.specs.Statements.{Word}
 use Rattle.g4_tokens.specs.declared.piece.Piece.{Piece}
 use Rattle.g4_tokens.specs.declared.piece.Piece.TheVariants.{Gap, Formed, Faulty}
@@ -57,7 +57,7 @@ some_end action after = ends_as (Nests 123 125 after) _ (find_nesting 123 125 af
 
 -- a piece begins at a character
 some_piece : (opening : Opening) (after : List ℕ) → (piece : Piece) × IsPiece opening after piece
-some_piece (told piece) after = (piece, at_once piece after)
+some_piece (decided piece) after = (piece, at_once piece after)
 some_piece (up_to closing) after = elim (some_end closing after) [ inl end ↦ (closed_piece closing end.0, with_end closing after end.0 end.1) | inr never ↦ (Faulty, endless closing after never) ]
 
 -- what the rest of a text is: these tokens, or one whose first fault is here
@@ -75,7 +75,7 @@ rest_more words p c cs Faulty is further = (inr p, right_here words p c cs is)
 rest_more words p c cs (Gap more) is further = by_rest (further words (position_past p (c ∷ take more cs)) more)
   where
     by_rest : SomeRest words (position_past p (c ∷ take more cs)) (drop more cs) → SomeRest words p (c ∷ cs)
-    by_rest (inl tokens, are) = (inl tokens, behind_gap words p c more cs tokens is are)
+    by_rest (inl tokens, are) = (inl tokens, after_gap words p c more cs tokens is are)
     by_rest (inr at, opens) = (inr at, past_gap words p at c more cs is opens)
 rest_more words p c cs (Formed kind more) is further = by_rest (further (record { kind = kind; characters = c ∷ take more cs } ∷ words) (position_past p (c ∷ take more cs)) more)
   where

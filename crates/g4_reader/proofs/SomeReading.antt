@@ -16,14 +16,14 @@ use Rattle.g4_reader.specs.Reading.{Fault, fault_at, opened_fault, IsCut, IsRead
 use Rattle.g4_reader.specs.declared.reader.ReadFault.{ReadFault}
 use Rattle.g4_reader.specs.declared.reader.ReadFault.TheVariants.{NotUtf8, BadSet, NoMemory}
 use Rattle.g4_reader.proofs.Deciding.{GoodOrBad, text_decided, stop_decided}
-use Rattle.g4_reader.proofs.OneReading.{told}
+use Rattle.g4_reader.proofs.OneReading.{reported}
 use Rattle.g4_reader.proofs.Readings.{IsReading-from, cut_from}
 use Rattle.g4_reader.proofs.Scans as scans
 
 -- a fault that is reported is not that of memory
-told_not : (fault : Fault) → told fault ≢ Err NoMemory
-unfolding told
-told_not fault e = cc
+reported_not : (fault : Fault) → reported fault ≢ Err NoMemory
+unfolding reported
+reported_not fault e = cc
 
 -- tokens have some reading
 abbrev SomeReadingOf : List ℕ → List Spelled → Type 0
@@ -36,9 +36,9 @@ text_reading bytes tokens tree has (inr (place, first)) = (Err (BadSet place), f
 
 -- tokens that are cut have a reading: the first bad set before the cut, or the fault after it
 cut_reading : (bytes : List ℕ) (tokens front rest : List Spelled) → IsCut tokens front rest → GoodOrBad tokens → SomeReadingOf bytes tokens
-unfolding told
+unfolding reported
 cut_reading bytes tokens front rest cut (inl good) =
-    (told (fault_at bytes rest), record { front = front; rest = rest; cut = cut; good = good; is = refl }, told_not (fault_at bytes rest))
+    (reported (fault_at bytes rest), record { front = front; rest = rest; cut = cut; good = good; is = refl }, reported_not (fault_at bytes rest))
 cut_reading bytes tokens front rest cut (inr (place, first)) = (Err (BadSet place), first, λ e. cc)
 
 -- tokens have some reading
@@ -51,12 +51,12 @@ reading_of bytes tokens = by_stop (text_or_stop tokens)
 
 -- bytes have a reading
 pub some_reading : (bytes : List ℕ) → (result : Result Source ReadFault) × IsReading bytes result × (result ≢ Err NoMemory)
-unfolding told
+unfolding reported
 some_reading bytes = by_utf8 (utf8_or_not bytes)
   where
     by_cut : (x : List Token ⊎ Position) → scans.IsCut bytes x → (result : Result Source ReadFault) × IsReading bytes result × (result ≢ Err NoMemory)
     by_cut (inl tokens) has = let read = reading_of bytes (spelled bytes tokens) in (read.0, IsReading-from bytes tokens read.0 has read.1, read.2)
-    by_cut (inr opened) has = (told (opened_fault bytes opened), inl (opened, has, refl), told_not (opened_fault bytes opened))
+    by_cut (inr opened) has = (reported (opened_fault bytes opened), inl (opened, has, refl), reported_not (opened_fault bytes opened))
 
     by_utf8 : IsUtf8 bytes ⊎ ((at : ℕ) × IsValidUpTo bytes at) → (result : Result Source ReadFault) × IsReading bytes result × (result ≢ Err NoMemory)
     by_utf8 (inl utf8) = let cut = scans.some_cut bytes utf8 in by_cut cut.0 cut.1

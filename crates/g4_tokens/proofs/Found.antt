@@ -3,12 +3,12 @@ use Rattle.std.proofs.Common.{◌≡◌, ℕ, ◌<◌, List, Some, None, drop, s
 use Rattle.g4_chars.specs.declared.escape.Context.TheVariants.{Literal}
 use Rattle.g4_tokens.specs.Comments.{comment_end}
 use Rattle.g4_tokens.specs.Enclosed.{Encloses}
-use Rattle.g4_tokens.specs.Pieces.{Opening, told, EndsComment, ends, IsEnd, literal, IsPiece, at_once}
+use Rattle.g4_tokens.specs.Pieces.{Opening, decided, EndsComment, ends, IsEnd, literal, IsPiece, at_once}
 use Rattle.g4_tokens.specs.declared.piece.Piece.{Piece}
 use Rattle.g4_tokens.proofs.Ends.{one_enclosed}
 
 -- a piece that its opening gives
-pub known_piece : (opening : Opening) (rest : List ℕ) (piece : Piece) → opening ≡ told piece → IsPiece opening rest piece
+pub known_piece : (opening : Opening) (rest : List ℕ) (piece : Piece) → opening ≡ decided piece → IsPiece opening rest piece
 known_piece opening rest piece is = subst (λ (o : Opening). IsPiece o rest piece) (sym is) (at_once piece rest)
 
 none_is : (n : ℕ) → None ≡ Some n → ⊥

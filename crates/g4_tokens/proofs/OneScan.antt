@@ -6,7 +6,7 @@ use Rattle.std.proofs.lemmas.List.{take_all}
 use Rattle.g4_chars.specs.declared.escape.Context.TheVariants as Context
 use Rattle.g4_tokens.specs.Answers.{IsScan, start_of, unmarked}
 use Rattle.g4_tokens.specs.Pieces.{Closing, comment, literal, set, arguments, action, Opening, EndsComment, ends, IsEnd, IsPiece, at_once, with_end, endless, closed_piece}
-use Rattle.g4_tokens.specs.Scanning.{AreTokens, at_end, behind_gap, with_token, IsFaultyAt, right_here, past_gap, past_token, PieceAt, token_at}
+use Rattle.g4_tokens.specs.Scanning.{AreTokens, at_end, after_gap, with_token, IsFaultyAt, right_here, past_gap, past_token, PieceAt, token_at}
 use Rattle.g4_tokens.specs.Positions.{position_past}
 use Rattle.g4_tokens.specs.Statements.{Word}
 use Rattle.g4_tokens.specs.declared.piece.Piece.{Piece}
@@ -64,11 +64,11 @@ counts n m j k is = cc
 -- a text has one list of tokens
 one_tokens : (words : List Word) (p : Position) (text : List ℕ) (a b : List Token) → AreTokens words p text a → AreTokens words p text b → a ≡ b
 one_tokens _ _ _ _ _ (at_end words p) (at_end _ _) = refl
-one_tokens _ _ _ _ b (behind_gap words p c n cs a is first) (behind_gap _ _ _ m _ _ also second) =
+one_tokens _ _ _ _ b (after_gap words p c n cs a is first) (after_gap _ _ _ m _ _ also second) =
     let same : m ≡ n = gaps m n (piece_pair words c cs (Gap m) (Gap n) also is) in
     one_tokens words (position_past p (c ∷ take n cs)) (drop n cs) a b first (subst (λ (k : ℕ). AreTokens words (position_past p (c ∷ take k cs)) (drop k cs) b) same second)
-one_tokens _ _ _ _ _ (behind_gap words p c n cs a is first) (with_token _ _ _ m kind _ b also second) = absurd (gap_or_token n m kind (piece_pair words c cs (Gap n) (Formed kind m) is also))
-one_tokens _ _ _ _ _ (with_token words p c n kind cs a is first) (behind_gap _ _ _ m _ b also second) = absurd (gap_or_token m n kind (piece_pair words c cs (Gap m) (Formed kind n) also is))
+one_tokens _ _ _ _ _ (after_gap words p c n cs a is first) (with_token _ _ _ m kind _ b also second) = absurd (gap_or_token n m kind (piece_pair words c cs (Gap n) (Formed kind m) is also))
+one_tokens _ _ _ _ _ (with_token words p c n kind cs a is first) (after_gap _ _ _ m _ b also second) = absurd (gap_or_token m n kind (piece_pair words c cs (Gap m) (Formed kind n) also is))
 one_tokens _ _ _ _ _ (with_token words p c n j cs a is first) (with_token _ _ _ m k _ b also second) =
     let pair = piece_pair words c cs (Formed k m) (Formed j n) also is in
     let count : m ≡ n = counts m n k j pair in
@@ -99,11 +99,11 @@ one_fault _ _ _ _ _ (past_token words p a c n j cs is first) (past_token _ _ b _
 -- a text with tokens has no fault
 tokens_or_fault : (words : List Word) (p : Position) (text : List ℕ) (tokens : List Token) (at : Position) → AreTokens words p text tokens → IsFaultyAt words p text at → ⊥
 tokens_or_fault _ _ _ _ at (at_end words p) fault = elim fault [ ]
-tokens_or_fault _ _ _ _ at (behind_gap words p c n cs a is first) (right_here _ _ _ _ also) = faulty_gap n (piece_pair words c cs Faulty (Gap n) also is)
-tokens_or_fault _ _ _ _ at (behind_gap words p c n cs a is first) (past_gap _ _ _ _ m _ also second) =
+tokens_or_fault _ _ _ _ at (after_gap words p c n cs a is first) (right_here _ _ _ _ also) = faulty_gap n (piece_pair words c cs Faulty (Gap n) also is)
+tokens_or_fault _ _ _ _ at (after_gap words p c n cs a is first) (past_gap _ _ _ _ m _ also second) =
     let same : m ≡ n = gaps m n (piece_pair words c cs (Gap m) (Gap n) also is) in
     tokens_or_fault words (position_past p (c ∷ take n cs)) (drop n cs) a at first (subst (λ (k : ℕ). IsFaultyAt words (position_past p (c ∷ take k cs)) (drop k cs) at) same second)
-tokens_or_fault _ _ _ _ at (behind_gap words p c n cs a is first) (past_token _ _ _ _ m kind _ also second) = gap_or_token n m kind (piece_pair words c cs (Gap n) (Formed kind m) is also)
+tokens_or_fault _ _ _ _ at (after_gap words p c n cs a is first) (past_token _ _ _ _ m kind _ also second) = gap_or_token n m kind (piece_pair words c cs (Gap n) (Formed kind m) is also)
 tokens_or_fault _ _ _ _ at (with_token words p c n kind cs a is first) (right_here _ _ _ _ also) = faulty_token n kind (piece_pair words c cs Faulty (Formed kind n) also is)
 tokens_or_fault _ _ _ _ at (with_token words p c n kind cs a is first) (past_gap _ _ _ _ m _ also second) = gap_or_token m n kind (piece_pair words c cs (Gap m) (Formed kind n) also is)
 tokens_or_fault _ _ _ _ at (with_token words p c n j cs a is first) (past_token _ _ _ _ m k _ also second) =

@@ -4,7 +4,7 @@ use Rattle.std.proofs.lemmas.List.{append-nil, drop_all}
 use Rattle.g4_tokens.specs.Pieces.{IsPiece, opening, IsWithin}
 use Rattle.g4_tokens.specs.Positions.{position_past}
 use Rattle.g4_tokens.specs.Readings.{statement_of, statement_past, holds_sets}
-use Rattle.g4_tokens.specs.Scanning.{AreTokens, IsFaultyAt, at_end, behind_gap, with_token, right_here, past_gap, past_token, PieceAt, token_at}
+use Rattle.g4_tokens.specs.Scanning.{AreTokens, IsFaultyAt, at_end, after_gap, with_token, right_here, past_gap, past_token, PieceAt, token_at}
 use Rattle.g4_tokens.specs.Statements.{Word}
 use Rattle.g4_tokens.specs.declared.piece.Piece.{Piece}
 use Rattle.g4_tokens.specs.declared.piece.Piece.TheVariants.{Gap, Formed, Faulty}
@@ -57,7 +57,7 @@ reached_gap start text statement p next at c more tokens found r h read found_is
     record {
       words = r.words;
       known = r.known;
-      tokens_go_on = λ after are. r.tokens_go_on after (same_tokens r.words p p (c ∷ rest) (drop at text) after refl (sym cut) (behind_gap r.words p c more rest after is (same_tokens r.words next (position_past p (c ∷ take more rest)) (drop (at + 1 + more) text) (drop more rest) after moved left are)));
+      tokens_go_on = λ after are. r.tokens_go_on after (same_tokens r.words p p (c ∷ rest) (drop at text) after refl (sym cut) (after_gap r.words p c more rest after is (same_tokens r.words next (position_past p (c ∷ take more rest)) (drop (at + 1 + more) text) (drop more rest) after moved left are)));
       fault_goes_on = λ fault opens. r.fault_goes_on fault (same_fault r.words p p (c ∷ rest) (drop at text) fault refl (sym cut) (past_gap r.words p fault c more rest is (same_fault r.words next (position_past p (c ∷ take more rest)) (drop (at + 1 + more) text) (drop more rest) fault moved left opens)));
     }
 

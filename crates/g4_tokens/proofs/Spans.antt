@@ -8,7 +8,7 @@ use Rattle.std.proofs.lemmas.Bool.Decides.{nat_tests}
 use lib.Utf8.{encodes, encode}
 use Rattle.g4_tokens.specs.Answers.{IsScan, start_of, unmarked}
 use Rattle.g4_tokens.specs.Positions.{byte_count}
-use Rattle.g4_tokens.specs.Scanning.{AreTokens, at_end, behind_gap, with_token}
+use Rattle.g4_tokens.specs.Scanning.{AreTokens, at_end, after_gap, with_token}
 use Rattle.g4_tokens.specs.Spans.{AreInOrder}
 use Rattle.g4_tokens.specs.Statements.{Word}
 use Rattle.g4_tokens.specs.declared.position.Position.{Position}
@@ -33,7 +33,7 @@ earlier from later until (t ∷ ts) before order = (omega (arith, before, order.
 -- the tokens of a text are within it
 pub tokens_in_order : (words : List Word) (p : Position) (text : List ℕ) (tokens : List Token) → AreTokens words p text tokens → AreInOrder p.index (p.index + byte_count text) tokens
 tokens_in_order _ _ _ _ (at_end words p) = omega arith
-tokens_in_order _ _ _ tokens (behind_gap words p c more cs _ is rest) =
+tokens_in_order _ _ _ tokens (after_gap words p c more cs _ is rest) =
     let taken : ℕ = byte_count (c ∷ take more cs) in
     let next : ℕ = p.index + taken in
     let order : AreInOrder next (next + byte_count (drop more cs)) tokens = tokens_in_order words _ (drop more cs) tokens rest in

@@ -10,7 +10,7 @@ use Rattle.std.proofs.lemmas.Str.{encodes-append, encodes-chars, chars_from_enco
 use lib.Utf8.{encodes, scalars, scalar}
 use Rattle.g4_tokens.specs.Answers.{IsScan, start_of, unmarked}
 use Rattle.g4_tokens.specs.Positions.{byte_count, position_past}
-use Rattle.g4_tokens.specs.Scanning.{AreTokens, at_end, behind_gap, with_token}
+use Rattle.g4_tokens.specs.Scanning.{AreTokens, at_end, after_gap, with_token}
 use Rattle.g4_tokens.specs.Spans.{AreTexts}
 use Rattle.g4_tokens.specs.Statements.{Word}
 use Rattle.g4_tokens.specs.declared.position.Position.{Position}
@@ -54,7 +54,7 @@ text_here before w rest i index_is are =
 -- the tokens of characters with others before them are texts
 texts : (before : List ℕ) (words : List Word) (p : Position) (text : List ℕ) (tokens : List Token) → p.index ≡ byte_count before → scalars text ≡ true → AreTokens words p text tokens → AreTexts (encodes (before ++ text)) tokens
 texts before _ _ _ _ index_is are (at_end words p) = tt
-texts before _ _ _ tokens index_is are (behind_gap words p c more cs _ is rest) =
+texts before _ _ _ tokens index_is are (after_gap words p c more cs _ is rest) =
     let w : List ℕ = c ∷ take more cs in
     let whole : (before ++ w) ++ drop more cs ≡ before ++ (c ∷ cs) = append_assoc before w (drop more cs) ∙ ap (λ x. before ++ (c ∷ x)) (take-append-drop more cs) in
     let next : p.index + byte_count w ≡ byte_count (before ++ w) = omega (arith, index_is, count_both before w) in

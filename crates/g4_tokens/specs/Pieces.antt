@@ -23,7 +23,7 @@ pub data Closing : Type 0 where
 
 -- what begins at a character: a piece that this one and those after it decide, or one that something must close
 pub data Opening : Type 0 where
-  told : Piece → Opening
+  decided : Piece → Opening
   up_to : Closing → Opening
 
 -- a comment's `*/` ends this many characters after its first `/`
@@ -48,15 +48,15 @@ closed_piece action more = Formed Action more
 
 -- the piece that begins so, given what follows its first character: it is faulty if nothing closes it
 pub data IsPiece : Opening → List ℕ → Piece → Type 0 where
-  at_once : (piece : Piece) (rest : List ℕ) → IsPiece (told piece) rest piece
+  at_once : (piece : Piece) (rest : List ℕ) → IsPiece (decided piece) rest piece
   with_end : (closing : Closing) (rest : List ℕ) (more : ℕ) → IsEnd closing rest more → IsPiece (up_to closing) rest (closed_piece closing more)
   endless : (closing : Closing) (rest : List ℕ) → ((more : ℕ) → IsEnd closing rest more → ⊥) → IsPiece (up_to closing) rest Faulty
 
 -- a comment, or a stray `/`, decided by what follows the `/`
 abbrev pub slash_opening : List ℕ → Opening
 slash_opening rest =
-    if begins 47 rest then told (Gap (prefix_len is_in_line rest))
-    else (if begins 42 rest then up_to comment else told (Formed Stray 0))
+    if begins 47 rest then decided (Gap (prefix_len is_in_line rest))
+    else (if begins 42 rest then up_to comment else decided (Formed Stray 0))
 
 -- a name that begins with the letter
 abbrev pub name_piece : ℕ → List ℕ → Piece
@@ -98,7 +98,7 @@ bracket_opening sets = if sets then up_to set else up_to arguments
 
 -- a left brace or an action
 abbrev pub left_brace_opening : Bool → Opening
-left_brace_opening names_braces = if names_braces then told (Formed LeftBrace 0) else up_to action
+left_brace_opening names_braces = if names_braces then decided (Formed LeftBrace 0) else up_to action
 
 -- a right brace, if a left one is open
 abbrev pub right_brace_piece : Bool → Piece
@@ -111,16 +111,16 @@ marked_opening sets names_braces in_braces c rest =
     else (if c == 39 then up_to literal
     else (if c == 91 then bracket_opening sets
     else (if c == 123 then left_brace_opening names_braces
-    else (if c == 125 then told (right_brace_piece in_braces)
-    else told (sign_piece c rest)))))
+    else (if c == 125 then decided (right_brace_piece in_braces)
+    else decided (sign_piece c rest)))))
 
 -- what begins with the character, given whether a `[` begins a set, whether a `{` is a brace, whether a `}` is one, and what
 -- follows the character
 abbrev pub opening : Bool → Bool → Bool → ℕ → List ℕ → Opening
 opening sets names_braces in_braces c rest =
-    if is_blank c then told (Gap 0)
-    else (if is_alphabetic c then told (name_piece c rest)
-    else (if is_ascii_digit c then told (Formed Number (prefix_len is_ascii_digit rest))
+    if is_blank c then decided (Gap 0)
+    else (if is_alphabetic c then decided (name_piece c rest)
+    else (if is_ascii_digit c then decided (Formed Number (prefix_len is_ascii_digit rest))
     else marked_opening sets names_braces in_braces c rest))
 
 -- the piece has at most this many characters after its first

@@ -21,7 +21,7 @@ token_at kind p characters = record { kind = kind; place = p.place; start = p.in
 -- after these words and at this position, the text is cut into blanks, comments and these tokens
 pub data AreTokens : List Word → Position → List ℕ → List Token → Type 0 where
   at_end : (words : List Word) (p : Position) → AreTokens words p [] []
-  behind_gap : (words : List Word) (p : Position) (c more : ℕ) (cs : List ℕ) (tokens : List Token) → PieceAt words c cs (Gap more) →
+  after_gap : (words : List Word) (p : Position) (c more : ℕ) (cs : List ℕ) (tokens : List Token) → PieceAt words c cs (Gap more) →
       AreTokens words (position_past p (c ∷ take more cs)) (drop more cs) tokens → AreTokens words p (c ∷ cs) tokens
   with_token : (words : List Word) (p : Position) (c more : ℕ) (kind : Kind) (cs : List ℕ) (tokens : List Token) → PieceAt words c cs (Formed kind more) →
       AreTokens (record { kind = kind; characters = c ∷ take more cs } ∷ words) (position_past p (c ∷ take more cs)) (drop more cs) tokens →

@@ -13,14 +13,14 @@ fn breaks(context: Context, c: char) -> bool
 }
 
 /// How many characters after this one belong to it; `None` at the end of a literal's line, and at a bad escape.
-fn unit_more(context: Context, c: char, behind: &[char]) -> Option<usize>
-    ensures value { result ≡ unit_more context c behind.now }
-    ensures within { IfSome result (λ more. more ≤ length behind.now) }
+fn unit_more(context: Context, c: char, rest: &[char]) -> Option<usize>
+    ensures value { result ≡ unit_more context c rest.now }
+    ensures within { IfSome result (λ more. more ≤ length rest.now) }
 {
     if breaks(context, c) {
         None
     } else if c == '\\' {
-        let escape = read_escape(context, behind)?;
+        let escape = read_escape(context, rest)?;
         Some(escape.taken)
     } else {
         Some(0)

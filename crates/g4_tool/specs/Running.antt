@@ -26,7 +26,7 @@ abbrev pub HasReportedFront : Files → List (List ℕ) → Option (List ℕ) �
 HasReportedFront files words out_before out_now err_before err_now =
     ((out_now ≡ out_before) × (err_now ≡ err_before)) ⊎ HasFront files words out_before out_now err_before err_now
 
--- In this call the source tells these files, no fetch and no put failed, and memory was not refused.
+-- In this call the source has these files, no fetch and no put failed, and memory was not refused.
 pub record NothingFails (files : Files) (told : Option Files) (fetches_before fetches_now out_before out_now err_before err_now : ℕ) (answer : Status) : Type 0 where
   pub tells : told ≡ Some files
   pub fetches : ¬ Rose fetches_before fetches_now

@@ -34,10 +34,10 @@ pub fn run<R: Threads + Sync, S: Shelf, O: Sink, E: Sink, G: Gate>(
     // Where a fetch failed or memory ran out, nothing has been written.
     ensures silent { (result ≡ Status.NoMemory) ⊎ (S.faults shelf.new ≢ S.faults shelf.old)
         → (O.taken out.new ≡ O.taken out.old) × (E.taken err.new ≡ E.taken err.old) }
-    // Usage comes exactly where the words are no command, whether the files are told or not.
+    // Usage comes exactly where the words are no command, whether the files are known or not.
     ensures usage { ¬ (Rose (O.faults out.old) (O.faults out.new)) → ¬ (Rose (E.faults err.old) (E.faults err.new)) → result ≢ Status.NoMemory
         → ((result ≡ Status.Usage) ↔ (IsNoCommand (map string_bytes words.now))) }
-    // Each status has its cause, whether the files are told or not.
+    // Each status has its cause, whether the files are known or not.
     ensures causes { HasCauses (IsNoCommand (map string_bytes words.now))
         (O.faults out.old) (O.faults out.new) (E.faults err.old) (E.faults err.new)
         (S.faults shelf.old) (S.faults shelf.new) (S.misses shelf.old) (S.misses shelf.new) result }

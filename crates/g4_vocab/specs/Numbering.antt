@@ -67,7 +67,7 @@ whole_literal [] = None
 whole_literal (x ∷ []) = whole_elements x.elements
 whole_literal (x ∷ y ∷ more) = None
 
--- the literal stands for these characters
+-- the literal matches these characters
 abbrev pub stands_for : List ℕ → Option Literal → Bool
 stands_for characters None = false
 stands_for characters (Some literal) = bytes_eq characters literal.characters

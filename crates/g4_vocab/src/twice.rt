@@ -7,7 +7,7 @@ use g4_source::{Rule, Source};
 use std::alloc::{AllocError, Global};
 use std::collections::BTreeSet;
 
-/// Why the rules of a grammar are not told apart by their names.
+/// Why the names of the rules of a grammar are refused.
 #[derive(Drop)]
 pub enum NameFault {
     /// The name of the first rule whose name an earlier rule has.

@@ -1,4 +1,4 @@
-// The command line, as `clap` is told of it: one function for each kind of argument, and one for each command.
+// The command line, as it is described to `clap`: one function for each kind of argument, and one for each command.
 ghost use Rattle.std.specs.Prelude.{◌≡◌, IfOk, false};
 ghost use Rattle.clap.specs.Words.{app_of, rule_of, with_rule, with_subcommand};
 ghost use Rattle.clap.specs.declared.Command.TheViews.{out-Command as fields_of};
