@@ -3,9 +3,9 @@ ghost use Rattle.std.specs.Prelude.{◌≡◌, [], IfOk, IfSome};
 ghost use Rattle.g4_source.specs.Blocks.{HaveAlternatives, LexerRulesAreFull, ModesAreFull};
 ghost use Rattle.g4_vocab.specs.Numbering.{token_lexers, token_rules, types_of};
 
-use crate::lexable::is_lexable;
 use g4_base::Sequence;
 use g4_grammar::TokenRule;
+use g4_lexable::is_lexable;
 use g4_lexnet::{LexFault, LexNet, build_lexer};
 use g4_lexrules::{LexerRules, lexer_rules_of};
 use g4_reader::{ReadFault, read_grammar};

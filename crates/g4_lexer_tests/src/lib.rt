@@ -1,11 +1,7 @@
-// The rules of lexers, their networks as they are built, and matches at the front of texts by such networks.
+// The rules of lexers, and their networks as they are built.
 #![tactic(auto)]
 
-#[cfg(test)]
-mod lexable;
 #[cfg(test)]
 mod lexer_networks;
 #[cfg(test)]
 mod lexer_rules;
-#[cfg(test)]
-mod matches;

@@ -1,4 +1,4 @@
-// Sets of stacks and of configurations, closures, verdicts and decisions on networks written by hand.
+// Sets of stacks and of configurations, and closures and verdicts on networks written by hand.
 #![tactic(auto)]
 
 #[cfg(test)]
@@ -6,12 +6,8 @@ mod closures;
 #[cfg(test)]
 mod configurations;
 #[cfg(test)]
-mod decisions;
-#[cfg(test)]
 mod paths;
 #[cfg(test)]
 mod samples;
 #[cfg(test)]
 mod stacks;
-#[cfg(test)]
-mod walk;

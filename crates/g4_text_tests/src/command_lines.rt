@@ -4,116 +4,103 @@ use std::alloc::{AllocError, Global};
 use std::fmt::Write;
 use std::test::Fail;
 
-/// The word lists of which each is a command, and this command: `events` is a `parse` that writes events, `tokens` one that
-/// writes tokens. `_` is an empty word.
-const COMMANDS: [(&str, &str); 33] = [
-    ("parse -g G -s R a b c", "parse G R a b c"),
-    ("parse -s R -g G a", "parse G R a"),
-    ("parse a -g G b -s R c", "parse G R a b c"),
-    ("parse -gG.g4 -sR a", "parse G.g4 R a"),
-    ("parse -g=G.g4 -s=R a", "parse G.g4 R a"),
-    ("parse -gs -sg a", "parse s g a"),
-    ("parse -g G -s R -- -a -- -g", "parse G R -a -- -g"),
-    ("parse a -g G -s R -- --help", "parse G R a --help"),
-    ("parse -g G -s R a a", "parse G R a a"),
-    ("parse -g G -s R help check", "parse G R help check"),
-    ("parse -g check -s parse -", "parse check parse -"),
-    ("parse -g _ -s _ _ a", "parse _ _ _ a"),
-    ("parse -g=-g -s-s a", "parse -g -s a"),
-    ("parse -g G -s R --events a b", "events G R a b"),
-    ("parse a --events b -s R -g G", "events G R a b"),
-    (
-        "parse -g=--events -s--events a",
-        "parse --events --events a",
-    ),
-    (
-        "parse -g G -s R -- --events --events",
-        "parse G R --events --events",
-    ),
-    ("parse -g G -s R events", "parse G R events"),
-    ("parse --tokens -g G -s R a b", "tokens G R a b"),
-    ("parse a b -g G -s R --tokens", "tokens G R a b"),
-    ("parse -g=--tokens -s R a", "parse --tokens R a"),
-    (
-        "parse --events -g G -s R -- --tokens",
-        "events G R --tokens",
-    ),
-    ("parse -g G -s R tokens", "parse G R tokens"),
-    ("check G", "check G"),
-    ("check _", "check _"),
-    ("check -- -G", "check -G"),
-    ("check help", "check help"),
-    ("atn G R", "atn G R"),
-    ("atn R G", "atn R G"),
-    ("atn -- -G -R", "atn -G -R"),
-    ("atn G -- -R", "atn G -R"),
-    ("atn _ _", "atn _ _"),
-    ("atn check help", "atn check help"),
-];
+/// Word lists, each with the command that it is: `events` is a `parse` that writes events, `tokens` one that writes tokens. `_` is an
+/// empty word.
+const COMMANDS: &str = "parse -g G -s R a b c => parse G R a b c
+parse -s R -g G a => parse G R a
+parse a -g G b -s R c => parse G R a b c
+parse -gG.g4 -sR a => parse G.g4 R a
+parse -g=G.g4 -s=R a => parse G.g4 R a
+parse -gs -sg a => parse s g a
+parse -g G -s R -- -a -- -g => parse G R -a -- -g
+parse a -g G -s R -- --help => parse G R a --help
+parse -g G -s R a a => parse G R a a
+parse -g G -s R help check => parse G R help check
+parse -g check -s parse - => parse check parse -
+parse -g _ -s _ _ a => parse _ _ _ a
+parse -g=-g -s-s a => parse -g -s a
+parse -g G -s R --events a b => events G R a b
+parse a --events b -s R -g G => events G R a b
+parse -g=--events -s--events a => parse --events --events a
+parse -g G -s R -- --events --events => parse G R --events --events
+parse -g G -s R events => parse G R events
+parse --tokens -g G -s R a b => tokens G R a b
+parse a b -g G -s R --tokens => tokens G R a b
+parse -g=--tokens -s R a => parse --tokens R a
+parse --events -g G -s R -- --tokens => events G R --tokens
+parse -g G -s R tokens => parse G R tokens
+check G => check G
+check _ => check _
+check -- -G => check -G
+check help => check help
+atn G R => atn G R
+atn R G => atn R G
+atn -- -G -R => atn -G -R
+atn G -- -R => atn G -R
+atn _ _ => atn _ _
+atn check help => atn check help";
 
-/// The word lists that are no command.
-const OTHERS: [&str; 60] = [
-    "",
-    "_",
-    "G",
-    "parse",
-    "parse -g G -s R",
-    "parse -g G -s R --",
-    "parse -g G a",
-    "parse -s R a",
-    "parse G R a",
-    "parse a -g G -s",
-    "parse -g -s R a",
-    "parse -g -- -s R a",
-    "parse -g -G -s R a",
-    "parse -g G -g G -s R a",
-    "parse -g G -s R a -s R",
-    "parse -g G -s R -x a",
-    "parse -G G -s R a",
-    "parse --grammar G -s R a",
-    "parse -g G -s R a -h",
-    "parse -g G -s R a --help",
-    "parse -g G -s R --events a --events",
-    "parse -g G -s R --events",
-    "parse -g G -s R --events=true a",
-    "parse -g G -s R --event a",
-    "parse -g G -s R -e a",
-    "parse -g --events -s R a",
-    "parse -g G -s R --tokens a --tokens",
-    "parse -g G -s R --tokens",
-    "parse -g G -s R --tokens=true a",
-    "parse -g G -s R --token a",
-    "parse -g G -s R --events --tokens a",
-    "parse --tokens a -g G -s R b --events",
-    "-g G -s R parse a",
-    "--events parse -g G -s R a",
-    "g4 parse -g G -s R a",
-    "-- parse -g G -s R a",
-    "check",
-    "check G H",
-    "check -g G",
-    "check G -s R",
-    "check G --events",
-    "check G --tokens",
-    "check G --help",
-    "check -G",
-    "atn",
-    "atn G",
-    "atn G --",
-    "atn G R S",
-    "atn -g G -s R",
-    "atn G -R",
-    "atn G R --events",
-    "atn G R --help",
-    "-- atn G R",
-    "chec G",
-    "Check G",
-    "Atn G R",
-    "help",
-    "help check",
-    "--help",
-    "--version",
-];
+/// Word lists that are no command.
+const OTHERS: &str = "
+_
+G
+parse
+parse -g G -s R
+parse -g G -s R --
+parse -g G a
+parse -s R a
+parse G R a
+parse a -g G -s
+parse -g -s R a
+parse -g -- -s R a
+parse -g -G -s R a
+parse -g G -g G -s R a
+parse -g G -s R a -s R
+parse -g G -s R -x a
+parse -G G -s R a
+parse --grammar G -s R a
+parse -g G -s R a -h
+parse -g G -s R a --help
+parse -g G -s R --events a --events
+parse -g G -s R --events
+parse -g G -s R --events=true a
+parse -g G -s R --event a
+parse -g G -s R -e a
+parse -g --events -s R a
+parse -g G -s R --tokens a --tokens
+parse -g G -s R --tokens
+parse -g G -s R --tokens=true a
+parse -g G -s R --token a
+parse -g G -s R --events --tokens a
+parse --tokens a -g G -s R b --events
+-g G -s R parse a
+--events parse -g G -s R a
+g4 parse -g G -s R a
+-- parse -g G -s R a
+check
+check G H
+check -g G
+check G -s R
+check G --events
+check G --tokens
+check G --help
+check -G
+atn
+atn G
+atn G --
+atn G R S
+atn -g G -s R
+atn G -R
+atn G R --events
+atn G R --help
+-- atn G R
+chec G
+Check G
+Atn G R
+help
+help check
+--help
+--version";
 
 fn word_of(alloc: Global, word: &str) -> Result<String, AllocError> {
     String::from_str(alloc, if word == "_" { "" } else { word })
@@ -183,10 +170,11 @@ fn push_row(wrong: &mut String, line: &str, found: &str) -> Result<(), AllocErro
     wrong.push('\n')
 }
 
-/// The rows of commands that are read as something else.
-fn wrong_commands(alloc: Global) -> Result<String, AllocError> {
+/// The rows that are read as something else, where a row without a command is none.
+fn wrong_rows(alloc: Global, rows: &str) -> Result<String, AllocError> {
     let mut wrong = String::new(alloc);
-    for (line, wanted) in COMMANDS {
+    for row in rows.lines() {
+        let (line, wanted) = row.split_once(" => ").unwrap_or((row, "usage"));
         let found = read(alloc, line)?;
         if found.as_str() != wanted {
             push_row(&mut wrong, line, found.as_str())?;
@@ -195,28 +183,16 @@ fn wrong_commands(alloc: Global) -> Result<String, AllocError> {
     Ok(wrong)
 }
 
-/// The other rows that are read as something.
-fn wrong_others(alloc: Global) -> Result<String, AllocError> {
-    let mut wrong = String::new(alloc);
-    for line in OTHERS {
-        let found = read(alloc, line)?;
-        if found.as_str() != "usage" {
-            push_row(&mut wrong, line, found.as_str())?;
-        }
-    }
-    Ok(wrong)
-}
-
 #[test]
 fn reads_commands(rt: HostRuntime) -> Result<(), Fail> {
-    let wrong = wrong_commands(rt.alloc())?;
+    let wrong = wrong_rows(rt.alloc(), COMMANDS)?;
     assert_eq!(rt; wrong.as_str(), "");
     Ok(())
 }
 
 #[test]
 fn refuses_other_words(rt: HostRuntime) -> Result<(), Fail> {
-    let wrong = wrong_others(rt.alloc())?;
+    let wrong = wrong_rows(rt.alloc(), OTHERS)?;
     assert_eq!(rt; wrong.as_str(), "");
     Ok(())
 }
