@@ -295,80 +295,60 @@ fn shown(alloc: Global, bytes: &[u8]) -> Result<String, AllocError> {
     Ok(out)
 }
 
-/// Adds a text that is something else than what is wanted.
-fn push_differing(
-    alloc: Global,
-    all: &mut String,
-    text: &str,
-    wanted: &str,
-) -> Result<(), AllocError> {
-    let found = shown(alloc, text.as_bytes())?;
-    if found.as_str() != wanted {
-        write!(all, "\n{text}\n  is {found}")?;
-    }
-    Ok(())
-}
-
-/// The texts that are something else than what is beside them.
-fn differing(alloc: Global, rows: &[(&str, &str)]) -> Result<String, AllocError> {
+/// The rows of a table of which something else is shown. A row is a line, with ` => ` between a text and what is shown of it.
+fn differing(alloc: Global, table: &str) -> Result<String, AllocError> {
     let mut all = String::new(alloc);
-    for (text, wanted) in rows {
-        push_differing(alloc, &mut all, text, wanted)?;
+    for row in table.lines() {
+        let (text, wanted) = row.split_once(" => ").unwrap_or((row, ""));
+        let found = shown(alloc, text.as_bytes())?;
+        if found.as_str() != wanted {
+            write!(all, "\n{row}\n  is {found}")?;
+        }
     }
     Ok(all)
 }
 
-const BEFORE_RULES: &[(&str, &str)] = &[
-    ("grammar g;", "g"),
-    ("lexer grammar G;", "lexer G"),
-    ("parser grammar p;", "parser p"),
-    ("grammar grammar;", "grammar"),
-    ("grammar g; options {}", "g; options"),
-    (
-        "grammar g; options { a = b; c = d.E.f; g = 'h'; i = 12; j = {k{}}; l = *; }",
-        "g; options a= b c= d E f g='h' i=12 j={k{}} l=*",
-    ),
-    ("grammar g; import A;", "g; import A"),
-    ("grammar g; import A, b = C, D;", "g; import A C D"),
-    ("grammar g; tokens {}", "g; tokens"),
-    ("grammar g; tokens { A }", "g; tokens A"),
-    ("grammar g; tokens { A, b, }", "g; tokens A b"),
-    (
-        "grammar g; channels { C, D } tokens { E }",
-        "g; channels C D; tokens E",
-    ),
-    ("grammar g; @header { a } @parser::members { b }", "g"),
-    (
-        "grammar g; @h {} import A; options {}",
-        "g; import A; options",
-    ),
-    ("grammar", "7 <EOF>"),
-    ("grammar ;", "8 ;"),
-    ("grammar g", "9 <EOF>"),
-    ("grammars g;", "0 grammars"),
-    ("lexer g;", "6 g"),
-    ("parser lexer;", "7 lexer"),
-    ("grammar g; options;", "18 ;"),
-    ("grammar g; options { a }", "23 }"),
-    ("grammar g; options { a = ; }", "25 ;"),
-    ("grammar g; options { a = b. ; }", "28 ;"),
-    ("grammar g; options { a = b }", "27 }"),
-    ("grammar g; options { = b; }", "21 ="),
-    ("grammar g; options { a = b;", "27 <EOF>"),
-    ("grammar g; import ;", "18 ;"),
-    ("grammar g; import A = ;", "22 ;"),
-    ("grammar g; import A, ;", "21 ;"),
-    ("grammar g; import A B;", "20 B"),
-    ("grammar g; tokens : 'a' ;", "18 :"),
-    ("grammar g; tokens { , }", "20 ,"),
-    ("grammar g; tokens { A,, }", "22 ,"),
-    ("grammar g; tokens { A B }", "22 B"),
-    ("grammar g; channels : 'a' ;", "20 :"),
-    ("grammar g; @ {}", "13 {}"),
-    ("grammar g; @a:: {}", "16 {}"),
-    ("grammar g; @a::b ;", "17 ;"),
-    ("grammar g; @a b {}", "14 b"),
-];
+/// Texts, and what they are up to the rules. Here and in the next four tables a fault is a column and what is found there.
+const BEFORE_RULES: &str = "grammar g; => g
+lexer grammar G; => lexer G
+parser grammar p; => parser p
+grammar grammar; => grammar
+grammar g; options {} => g; options
+grammar g; options { a = b; c = d.E.f; g = 'h'; i = 12; j = {k{}}; l = *; } => g; options a= b c= d E f g='h' i=12 j={k{}} l=*
+grammar g; import A; => g; import A
+grammar g; import A, b = C, D; => g; import A C D
+grammar g; tokens {} => g; tokens
+grammar g; tokens { A } => g; tokens A
+grammar g; tokens { A, b, } => g; tokens A b
+grammar g; channels { C, D } tokens { E } => g; channels C D; tokens E
+grammar g; @header { a } @parser::members { b } => g
+grammar g; @h {} import A; options {} => g; import A; options
+grammar => 7 <EOF>
+grammar ; => 8 ;
+grammar g => 9 <EOF>
+grammars g; => 0 grammars
+lexer g; => 6 g
+parser lexer; => 7 lexer
+grammar g; options; => 18 ;
+grammar g; options { a } => 23 }
+grammar g; options { a = ; } => 25 ;
+grammar g; options { a = b. ; } => 28 ;
+grammar g; options { a = b } => 27 }
+grammar g; options { = b; } => 21 =
+grammar g; options { a = b; => 27 <EOF>
+grammar g; import ; => 18 ;
+grammar g; import A = ; => 22 ;
+grammar g; import A, ; => 21 ;
+grammar g; import A B; => 20 B
+grammar g; tokens : 'a' ; => 18 :
+grammar g; tokens { , } => 20 ,
+grammar g; tokens { A,, } => 22 ,
+grammar g; tokens { A B } => 22 B
+grammar g; channels : 'a' ; => 20 :
+grammar g; @ {} => 13 {}
+grammar g; @a:: {} => 16 {}
+grammar g; @a::b ; => 17 ;
+grammar g; @a b {} => 14 b";
 
 #[test]
 fn reads_what_stands_before_the_rules(rt: HostRuntime) -> Result<(), Fail> {
@@ -377,79 +357,27 @@ fn reads_what_stands_before_the_rules(rt: HostRuntime) -> Result<(), Fail> {
     Ok(())
 }
 
-const PARSER_RULES: &[(&str, &str)] = &[
-    ("grammar g; r : A 'x' s ;", "g; r: | A 'x' s"),
-    ("grammar g; r : ;", "g; r: |"),
-    ("grammar g; r : | A | ;", "g; r: | | A |"),
-    (
-        "grammar g; r : A? A* A+ A?? A*? A+? ;",
-        "g; r: | (| A)? (| A)* (| A)+ (| A)?? (| A)*? (| A)+?",
-    ),
-    (
-        "grammar g; r : x=A y+='b' z=s[1]* ;",
-        "g; r: | x=A y+='b' z=(| s)*",
-    ),
-    (
-        "grammar g; r : X=. Y=(A) x=~A ;",
-        "g; r: | X=. Y=(| A) x=~ A",
-    ),
-    (
-        "grammar g; r : . ~A ~'b' ~(A | 'b' | (C)) ;",
-        "g; r: | . ~ A ~ 'b' ~ A 'b' C",
-    ),
-    (
-        "grammar g; r : {a} {b}? {c}?<d=e> A ;",
-        "g; r: | {} {b}? {c}? A",
-    ),
-    (
-        "grammar g; r : {a}?<assoc=right> {b}?<assoc=left> ;",
-        "g; r: | {a}?<right> {b}?",
-    ),
-    (
-        "grammar g; r : x=A<assoc=right>* (y+=B)? z=(C)+ ;",
-        "g; r: | x=(| A<right>)* (| y+=B)? z=(| C)+",
-    ),
-    (
-        "grammar g; r : (A | B C)* ( ) (|A)+? ;",
-        "g; r: | (| A| B C)* (|) (|| A)+?",
-    ),
-    (
-        "grammar g; r : (options {k=1;} @a {b} : A) (@a {b} : B) ( : C) ;",
-        "g; r: | (| A) (| B) (| C)",
-    ),
-    (
-        "grammar g; r : <assoc=right> A #a | B<assoc=right, fail> #B | C<assoc=left> ;",
-        "g; r: |<right> A #a | B<right> #B | C",
-    ),
-    (
-        "grammar g; r : .<a> s[b]<c> 'd'<e={f}> ;",
-        "g; r: | . s 'd'",
-    ),
-    (
-        "grammar g; private r[int x] returns [int y] throws A, b locals [z] options {} @init {a} @after {b} : A ; catch [E e] {} catch [F] {} finally {} s : ;",
-        "g; r: | A; s: |",
-    ),
-    (
-        "grammar g; public public : returns locals ;",
-        "g; public: | returns locals",
-    ),
-    (
-        "grammar g; r : A ; finally {} catch : B ;",
-        "g; r: | A; catch: | B",
-    ),
-    (
-        "grammar g; r : ; tokens : options import ;",
-        "g; r: |; tokens: | options import",
-    ),
-    (
-        "parser grammar p; fragment : A ;",
-        "parser p; fragment: | A",
-    ),
-    (
-        "grammar g; r : mode ; mode : A ;",
-        "g; r: | mode; mode: | A",
-    ),
-];
+/// Texts with parser rules, and what they are.
+const PARSER_RULES: &str = "grammar g; r : A 'x' s ; => g; r: | A 'x' s
+grammar g; r : ; => g; r: |
+grammar g; r : | A | ; => g; r: | | A |
+grammar g; r : A? A* A+ A?? A*? A+? ; => g; r: | (| A)? (| A)* (| A)+ (| A)?? (| A)*? (| A)+?
+grammar g; r : x=A y+='b' z=s[1]* ; => g; r: | x=A y+='b' z=(| s)*
+grammar g; r : X=. Y=(A) x=~A ; => g; r: | X=. Y=(| A) x=~ A
+grammar g; r : . ~A ~'b' ~(A | 'b' | (C)) ; => g; r: | . ~ A ~ 'b' ~ A 'b' C
+grammar g; r : {a} {b}? {c}?<d=e> A ; => g; r: | {} {b}? {c}? A
+grammar g; r : {a}?<assoc=right> {b}?<assoc=left> ; => g; r: | {a}?<right> {b}?
+grammar g; r : x=A<assoc=right>* (y+=B)? z=(C)+ ; => g; r: | x=(| A<right>)* (| y+=B)? z=(| C)+
+grammar g; r : (A | B C)* ( ) (|A)+? ; => g; r: | (| A| B C)* (|) (|| A)+?
+grammar g; r : (options {k=1;} @a {b} : A) (@a {b} : B) ( : C) ; => g; r: | (| A) (| B) (| C)
+grammar g; r : <assoc=right> A #a | B<assoc=right, fail> #B | C<assoc=left> ; => g; r: |<right> A #a | B<right> #B | C
+grammar g; r : .<a> s[b]<c> 'd'<e={f}> ; => g; r: | . s 'd'
+grammar g; private r[int x] returns [int y] throws A, b locals [z] options {} @init {a} @after {b} : A ; catch [E e] {} catch [F] {} finally {} s : ; => g; r: | A; s: |
+grammar g; public public : returns locals ; => g; public: | returns locals
+grammar g; r : A ; finally {} catch : B ; => g; r: | A; catch: | B
+grammar g; r : ; tokens : options import ; => g; r: |; tokens: | options import
+parser grammar p; fragment : A ; => parser p; fragment: | A
+grammar g; r : mode ; mode : A ; => g; r: | mode; mode: | A";
 
 #[test]
 fn reads_parser_rules(rt: HostRuntime) -> Result<(), Fail> {
@@ -458,61 +386,60 @@ fn reads_parser_rules(rt: HostRuntime) -> Result<(), Fail> {
     Ok(())
 }
 
-const REFUSED_PARSER_RULES: &[(&str, &str)] = &[
-    ("grammar g; r", "12 <EOF>"),
-    ("grammar g; r A", "13 A"),
-    ("grammar g; r : A", "16 <EOF>"),
-    ("grammar g; R [a] : A ;", "13 [a]"),
-    ("grammar g; public : A ;", "18 :"),
-    ("grammar g; public A : 'a' ;", "18 A"),
-    ("grammar g; r returns : A ;", "21 :"),
-    ("grammar g; r throws : A ;", "20 :"),
-    ("grammar g; r throws A, : A ;", "23 :"),
-    ("grammar g; r locals : A ;", "20 :"),
-    ("grammar g; r locals [a] returns [b] : A ;", "24 returns"),
-    ("grammar g; r @ : A ;", "15 :"),
-    ("grammar g; r @a::b {} : A ;", "15 ::"),
-    ("grammar g; r options : A ;", "21 :"),
-    ("grammar g; r : A** ;", "17 *"),
-    ("grammar g; r : A?*? ;", "17 *"),
-    ("grammar g; r : A??? ;", "18 ?"),
-    ("grammar g; r : * ;", "15 *"),
-    ("grammar g; r : (A ;", "18 ;"),
-    ("grammar g; r : A) ;", "16 )"),
-    ("grammar g; r : (options) ;", "23 )"),
-    ("grammar g; r : (@a : A) ;", "19 :"),
-    ("grammar g; r : (A #b) ;", "18 #"),
-    ("grammar g; r : A # ;", "19 ;"),
-    ("grammar g; r : #a A ;", "18 A"),
-    ("grammar g; r : x= ;", "18 ;"),
-    ("grammar g; r : x={a} ;", "17 {a}"),
-    ("grammar g; r : x=y=z ;", "18 ="),
-    ("grammar g; r : 'a'=b ;", "18 ="),
-    ("grammar g; r : ~ ;", "17 ;"),
-    ("grammar g; r : ~a ;", "16 a"),
-    ("grammar g; r : ~(A | ) ;", "21 )"),
-    ("grammar g; r : ~(A B) ;", "19 B"),
-    ("grammar g; r : ~. ;", "16 ."),
-    ("grammar g; r : A< ;", "18 ;"),
-    ("grammar g; r : A<> ;", "17 >"),
-    ("grammar g; r : A<a=> ;", "19 >"),
-    ("grammar g; r : A<a ;", "19 ;"),
-    ("grammar g; r : A<a,> ;", "19 >"),
-    ("grammar g; r : {a}* ;", "18 *"),
-    ("grammar g; r : {a}?? ;", "19 ?"),
-    ("grammar g; r : A -> skip ;", "17 ->"),
-    ("grammar g; r : 'a'..'b' ;", "18 .."),
-    ("grammar g; r : [] ;", "15 []"),
-    ("grammar g; r : A ; catch {} ;", "25 {}"),
-    ("grammar g; r : A ; catch [a] ;", "29 ;"),
-    ("grammar g; r : A ; catch : B ;", "25 :"),
-    ("grammar g; r : A ; finally : B ;", "27 :"),
-    ("grammar g; r : A ; finally {} finally {}", "38 {}"),
-    ("parser grammar p; A : 'a' ;", "18 A"),
-    ("parser grammar p; mode M;", "23 M"),
-    ("grammar g; r : A ; import B ;", "26 B"),
-    ("grammar g; r : A ;; ", "18 ;"),
-];
+/// Texts with parser rules, and their faults.
+const REFUSED_PARSER_RULES: &str = "grammar g; r => 12 <EOF>
+grammar g; r A => 13 A
+grammar g; r : A => 16 <EOF>
+grammar g; R [a] : A ; => 13 [a]
+grammar g; public : A ; => 18 :
+grammar g; public A : 'a' ; => 18 A
+grammar g; r returns : A ; => 21 :
+grammar g; r throws : A ; => 20 :
+grammar g; r throws A, : A ; => 23 :
+grammar g; r locals : A ; => 20 :
+grammar g; r locals [a] returns [b] : A ; => 24 returns
+grammar g; r @ : A ; => 15 :
+grammar g; r @a::b {} : A ; => 15 ::
+grammar g; r options : A ; => 21 :
+grammar g; r : A** ; => 17 *
+grammar g; r : A?*? ; => 17 *
+grammar g; r : A??? ; => 18 ?
+grammar g; r : * ; => 15 *
+grammar g; r : (A ; => 18 ;
+grammar g; r : A) ; => 16 )
+grammar g; r : (options) ; => 23 )
+grammar g; r : (@a : A) ; => 19 :
+grammar g; r : (A #b) ; => 18 #
+grammar g; r : A # ; => 19 ;
+grammar g; r : #a A ; => 18 A
+grammar g; r : x= ; => 18 ;
+grammar g; r : x={a} ; => 17 {a}
+grammar g; r : x=y=z ; => 18 =
+grammar g; r : 'a'=b ; => 18 =
+grammar g; r : ~ ; => 17 ;
+grammar g; r : ~a ; => 16 a
+grammar g; r : ~(A | ) ; => 21 )
+grammar g; r : ~(A B) ; => 19 B
+grammar g; r : ~. ; => 16 .
+grammar g; r : A< ; => 18 ;
+grammar g; r : A<> ; => 17 >
+grammar g; r : A<a=> ; => 19 >
+grammar g; r : A<a ; => 19 ;
+grammar g; r : A<a,> ; => 19 >
+grammar g; r : {a}* ; => 18 *
+grammar g; r : {a}?? ; => 19 ?
+grammar g; r : A -> skip ; => 17 ->
+grammar g; r : 'a'..'b' ; => 18 ..
+grammar g; r : [] ; => 15 []
+grammar g; r : A ; catch {} ; => 25 {}
+grammar g; r : A ; catch [a] ; => 29 ;
+grammar g; r : A ; catch : B ; => 25 :
+grammar g; r : A ; finally : B ; => 27 :
+grammar g; r : A ; finally {} finally {} => 38 {}
+parser grammar p; A : 'a' ; => 18 A
+parser grammar p; mode M; => 23 M
+grammar g; r : A ; import B ; => 26 B
+grammar g; r : A ;;  => 18 ;";
 
 #[test]
 fn refuses_parser_rules(rt: HostRuntime) -> Result<(), Fail> {
@@ -521,78 +448,50 @@ fn refuses_parser_rules(rt: HostRuntime) -> Result<(), Fail> {
     Ok(())
 }
 
-const LEXER_RULES: &[(&str, &str)] = &[
-    ("grammar G; A : 'a' [b-c] B . ;", "G; A: | 'a' [bc] B ."),
-    (
-        "grammar G; fragment A options {a=b;} : EOF ;",
-        "G; fragment A: | EOF",
-    ),
-    (
-        "grammar G; A : 'a'..'c' x=[b] y+='d'..'e' Z='f'* ;",
-        "G; A: | 'a'..'c' x=[bb] y+='d'..'e' Z=(| 'f')*",
-    ),
-    (
-        "grammar G; A : ~'a' ~[b-c] ~'d'..'e' ~('f' | [g] | ('h'..'i')) ;",
-        "G; A: | ~[aa] ~[bc] ~[de] ~[fi]",
-    ),
-    (
-        "grammar G; A : ~('m'..'p' | 'b' | ('a' | 'k') | [c-d n-z] | 'b') ;",
-        "G; A: | ~[  adkkmz]",
-    ),
-    (
-        "grammar G; A : ~'\\uD7FF'..'\\uE000' ;",
-        "G; A: | ~[\u{d7ff}\u{d7ff}\u{e000}\u{e000}]",
-    ),
-    (
-        "grammar G; A : ('a' | 'b' ('c')?)*? ( ) ;",
-        "G; A: | (| 'a'| 'b' (| 'c')?)*? (|)",
-    ),
-    (
-        "grammar G; A : {a} {b}? {c}?<d> 'e'<f> B<g=h>+ ;",
-        "G; A: | {} {b}? {c}? 'e' (| B)+",
-    ),
-    (
-        "grammar G; A : 'a' -> skip | -> more, type(B), channel(2) | ;",
-        "G; A: | 'a' -> skip | -> more -> type(B) -> channel(2) |",
-    ),
-    (
-        "lexer grammar G; A : 'a' ; mode M; B : 'b' ; fragment C : 'c' ; mode N; mode O; D : ;",
-        "lexer G; A: | 'a'; mode M; B: | 'b'; fragment C: | 'c'; mode N; mode O; D: |",
-    ),
-    ("lexer grammar G; mode mode;", "lexer G; mode mode"),
-    ("grammar G; fragment : 'a' ;", "20 :"),
-    ("grammar G; fragment a : 'a' ;", "20 a"),
-    ("grammar G; fragment fragment A : ;", "20 fragment"),
-    ("grammar G; A options : 'a' ;", "21 :"),
-    ("grammar G; A : a ;", "17 ;"),
-    ("grammar G; A : a= ;", "18 ;"),
-    ("grammar G; A : a=b ;", "17 b"),
-    ("grammar G; A : 'a'.. ;", "21 ;"),
-    ("grammar G; A : 'a'..B ;", "20 B"),
-    ("grammar G; A : .. ;", "15 .."),
-    ("grammar G; A : ~ ;", "17 ;"),
-    ("grammar G; A : ~B ;", "16 B"),
-    ("grammar G; A : ~('a' 'b') ;", "21 'b'"),
-    ("grammar G; A : ~() ;", "17 )"),
-    ("grammar G; A : .<a> ;", "16 <"),
-    ("grammar G; A : [a]<b> ;", "18 <"),
-    ("grammar G; A : ('a' -> skip) ;", "20 ->"),
-    ("grammar G; A : (options {} : 'a') ;", "24 {"),
-    ("grammar G; A : 'a' -> ;", "22 ;"),
-    ("grammar G; A : 'a' -> type() ;", "27 )"),
-    ("grammar G; A : 'a' -> type(B ;", "29 ;"),
-    ("grammar G; A : 'a' -> type('b') ;", "27 'b'"),
-    ("grammar G; A : 'a' -> skip, ;", "28 ;"),
-    ("grammar G; A : 'a' -> skip 'b' ;", "27 'b'"),
-    ("grammar G; A : 'a' #b ;", "19 #"),
-    ("grammar G; A : s[1] ;", "16 [1]"),
-    ("lexer grammar G; a : A ;", "17 a"),
-    ("lexer grammar G; mode ;", "22 ;"),
-    ("lexer grammar G; mode M : ;", "24 :"),
-    ("lexer grammar G; mode M; r : A ;", "25 r"),
-    ("grammar G; mode M;", "16 M"),
-    ("grammar G; A : 'a' ; catch [e] {}", "31 {}"),
-];
+/// Texts with lexer rules, and what they are.
+const LEXER_RULES: &str = "grammar G; A : 'a' [b-c] B . ; => G; A: | 'a' [bc] B .
+grammar G; fragment A options {a=b;} : EOF ; => G; fragment A: | EOF
+grammar G; A : 'a'..'c' x=[b] y+='d'..'e' Z='f'* ; => G; A: | 'a'..'c' x=[bb] y+='d'..'e' Z=(| 'f')*
+grammar G; A : ~'a' ~[b-c] ~'d'..'e' ~('f' | [g] | ('h'..'i')) ; => G; A: | ~[aa] ~[bc] ~[de] ~[fi]
+grammar G; A : ~('m'..'p' | 'b' | ('a' | 'k') | [c-d n-z] | 'b') ; => G; A: | ~[  adkkmz]
+grammar G; A : ~'\\uD7FF'..'\\uE000' ; => G; A: | ~[\u{d7ff}\u{d7ff}\u{e000}\u{e000}]
+grammar G; A : ('a' | 'b' ('c')?)*? ( ) ; => G; A: | (| 'a'| 'b' (| 'c')?)*? (|)
+grammar G; A : {a} {b}? {c}?<d> 'e'<f> B<g=h>+ ; => G; A: | {} {b}? {c}? 'e' (| B)+
+grammar G; A : 'a' -> skip | -> more, type(B), channel(2) | ; => G; A: | 'a' -> skip | -> more -> type(B) -> channel(2) |
+lexer grammar G; A : 'a' ; mode M; B : 'b' ; fragment C : 'c' ; mode N; mode O; D : ; => lexer G; A: | 'a'; mode M; B: | 'b'; fragment C: | 'c'; mode N; mode O; D: |
+lexer grammar G; mode mode; => lexer G; mode mode
+grammar G; fragment : 'a' ; => 20 :
+grammar G; fragment a : 'a' ; => 20 a
+grammar G; fragment fragment A : ; => 20 fragment
+grammar G; A options : 'a' ; => 21 :
+grammar G; A : a ; => 17 ;
+grammar G; A : a= ; => 18 ;
+grammar G; A : a=b ; => 17 b
+grammar G; A : 'a'.. ; => 21 ;
+grammar G; A : 'a'..B ; => 20 B
+grammar G; A : .. ; => 15 ..
+grammar G; A : ~ ; => 17 ;
+grammar G; A : ~B ; => 16 B
+grammar G; A : ~('a' 'b') ; => 21 'b'
+grammar G; A : ~() ; => 17 )
+grammar G; A : .<a> ; => 16 <
+grammar G; A : [a]<b> ; => 18 <
+grammar G; A : ('a' -> skip) ; => 20 ->
+grammar G; A : (options {} : 'a') ; => 24 {
+grammar G; A : 'a' -> ; => 22 ;
+grammar G; A : 'a' -> type() ; => 27 )
+grammar G; A : 'a' -> type(B ; => 29 ;
+grammar G; A : 'a' -> type('b') ; => 27 'b'
+grammar G; A : 'a' -> skip, ; => 28 ;
+grammar G; A : 'a' -> skip 'b' ; => 27 'b'
+grammar G; A : 'a' #b ; => 19 #
+grammar G; A : s[1] ; => 16 [1]
+lexer grammar G; a : A ; => 17 a
+lexer grammar G; mode ; => 22 ;
+lexer grammar G; mode M : ; => 24 :
+lexer grammar G; mode M; r : A ; => 25 r
+grammar G; mode M; => 16 M
+grammar G; A : 'a' ; catch [e] {} => 31 {}";
 
 #[test]
 fn reads_lexer_rules(rt: HostRuntime) -> Result<(), Fail> {
@@ -601,43 +500,45 @@ fn reads_lexer_rules(rt: HostRuntime) -> Result<(), Fail> {
     Ok(())
 }
 
-const BAD_SETS: &[(&str, &str)] = &[
-    ("grammar G; A : [a-a] ;", "G; A: | [aa]"),
-    ("grammar G; A : [] ;", "15 bad set"),
-    ("grammar G; A : [z-a] ;", "15 bad set"),
-    ("grammar G; A : [\\p{Cs}] ;", "15 bad set"),
-    ("grammar G; A : [a\\p{Letters}] ;", "15 bad set"),
-    ("grammar G; A : [] ; B : ) ;", "15 bad set"),
-    ("grammar G; A : ([] ;", "16 bad set"),
-    ("grammar G; A : ) [] ;", "15 )"),
-    ("grammar G; A : 'a' [] [", "22 ["),
-    ("grammar g; r : A ; A [] : 'a' ;", "21 []"),
-    ("grammar G; A : 'b'..'a' ;", "15 bad set"),
-    ("grammar G; A : 'ab'.. ;", "15 bad set"),
-    ("grammar G; A : 'a'..'bc' ;", "15 bad set"),
-    ("grammar G; A : 'b'.. ;", "21 ;"),
-    ("grammar G; A : 'b'..'a' ) ;", "15 bad set"),
-    ("grammar G; A : ~'ab' ;", "16 bad set"),
-    ("grammar G; A : ~('a' | ('bc')) ;", "24 bad set"),
-    ("grammar G; A : ~'b'..'a' ;", "16 bad set"),
-    ("grammar G; A : ~('a') 'bc' ;", "G; A: | ~[aa] 'bc'"),
-    (
-        "grammar g; r : ~'ab' ~('cd' | E) ; E : 'ef' ;",
-        "g; r: | ~ 'ab' ~ 'cd' E; E: | 'ef'",
-    ),
-    ("grammar G; A : ~('ab' ;", "17 bad set"),
-    ("grammar G; A : [c-eb\\u0062\\n-] ;", "G; A: | [\n\n--be]"),
-    ("grammar G; A : [\\p{Zl}] ;", "G; A: | [\u{2028}\u{2028}]"),
-    ("grammar é; ß : Ä 'ü' ;", "é; ß: | Ä 'ü'"),
-    ("grammar é; ß : 'ü' ) ;", "19 )"),
-    ("grammar é; ß : 'ü", "15 '"),
-    ("\u{feff}grammar é", "9 <EOF>"),
-];
+/// Texts with sets, ranges and literals that may be bad, and what they are or their first fault.
+const BAD_SETS: &str = "grammar G; A : [a-a] ; => G; A: | [aa]
+grammar G; A : [] ; => 15 bad set
+grammar G; A : [z-a] ; => 15 bad set
+grammar G; A : [\\p{Cs}] ; => 15 bad set
+grammar G; A : [a\\p{Letters}] ; => 15 bad set
+grammar G; A : [] ; B : ) ; => 15 bad set
+grammar G; A : ([] ; => 16 bad set
+grammar G; A : ) [] ; => 15 )
+grammar G; A : 'a' [] [ => 22 [
+grammar g; r : A ; A [] : 'a' ; => 21 []
+grammar G; A : 'b'..'a' ; => 15 bad set
+grammar G; A : 'ab'.. ; => 15 bad set
+grammar G; A : 'a'..'bc' ; => 15 bad set
+grammar G; A : 'b'.. ; => 21 ;
+grammar G; A : 'b'..'a' ) ; => 15 bad set
+grammar G; A : ~'ab' ; => 16 bad set
+grammar G; A : ~('a' | ('bc')) ; => 24 bad set
+grammar G; A : ~'b'..'a' ; => 16 bad set
+grammar G; A : ~('a') 'bc' ; => G; A: | ~[aa] 'bc'
+grammar g; r : ~'ab' ~('cd' | E) ; E : 'ef' ; => g; r: | ~ 'ab' ~ 'cd' E; E: | 'ef'
+grammar G; A : ~('ab' ; => 17 bad set
+grammar G; A : [\\p{Zl}] ; => G; A: | [\u{2028}\u{2028}]
+grammar é; ß : Ä 'ü' ; => é; ß: | Ä 'ü'
+grammar é; ß : 'ü' ) ; => 19 )
+grammar é; ß : 'ü => 15 '
+\u{feff}grammar é => 9 <EOF>";
 
 #[test]
 fn tells_bad_sets_and_faults_in_order(rt: HostRuntime) -> Result<(), Fail> {
     let wrong = differing(rt.alloc(), BAD_SETS)?;
     assert_eq!(rt; wrong.as_str(), "");
+    Ok(())
+}
+
+#[test]
+fn reads_escapes_in_sets(rt: HostRuntime) -> Result<(), Fail> {
+    let found = shown(rt.alloc(), b"grammar G; A : [c-eb\\u0062\\n-] ;")?;
+    assert_eq!(rt; found.as_str(), "G; A: | [\n\n--be]");
     Ok(())
 }
 
@@ -656,21 +557,19 @@ fn tells_how_far_bytes_are_a_text(rt: HostRuntime) -> Result<(), Fail> {
     Ok(())
 }
 
-/// A grammar text with `count` brackets, one in another.
-fn nested(alloc: Global, before: &str, count: usize, inside: &str) -> Result<String, AllocError> {
+/// A grammar text with brackets, one in another, by how many there are and a text with one that stands for all that are opened.
+fn nested(alloc: Global, asked: &str) -> Result<String, AllocError> {
+    let (count, text) = asked.split_once(' ').unwrap_or(("", asked));
+    let (before, inside) = text.split_once('(').unwrap_or((text, ""));
+    let count = count.parse::<u32>().unwrap_or(0) as usize;
     let opened = "(".repeat(alloc, count)?;
     let closed = ")".repeat(alloc, count)?;
     format!(in alloc; "{before}{opened}{inside}{closed};")
 }
 
 /// How long what is shown of such a text is, or that there is no memory.
-fn length_shown(
-    alloc: Global,
-    before: &str,
-    count: usize,
-    inside: &str,
-) -> Result<String, AllocError> {
-    let text = nested(alloc, before, count, inside)?;
+fn length_shown(alloc: Global, asked: &str) -> Result<String, AllocError> {
+    let text = nested(alloc, asked)?;
     let found = shown(alloc, text.as_bytes())?;
     if found.as_str() == "no memory" {
         return Ok(found);
@@ -679,23 +578,32 @@ fn length_shown(
     format!(in alloc; "{length}")
 }
 
-/// What comes before the brackets, how many there are, what is in the innermost, and what `length_shown` answers.
-const DEEP: &[(&str, usize, &str, &str)] = &[
-    ("grammar g; r :", 1024, "", "4103"),
-    ("grammar g; r : ~", 1024, "A", "11"),
-    ("grammar g; A : ~", 1024, "'a'", "13"),
-    ("grammar g; r :", 1025, "", "no memory"),
-    ("grammar g; A :", 1025, "", "no memory"),
-    ("grammar g; r : ~", 1025, "A", "no memory"),
-    ("grammar g; A : ~", 1025, "'a'", "no memory"),
-];
+/// How many brackets there are, the text of one, and what `length_shown` answers.
+const DEEP: &str = "1024 grammar g; r :( => 4103
+1024 grammar g; r : ~(A => 11
+1024 grammar g; A : ~('a' => 13
+1025 grammar g; r :( => no memory
+1025 grammar g; A :( => no memory
+1025 grammar g; r : ~(A => no memory
+1025 grammar g; A : ~('a' => no memory";
+
+/// The rows of these of which `length_shown` answers something else.
+fn differing_deep(alloc: Global) -> Result<String, AllocError> {
+    let mut all = String::new(alloc);
+    for row in DEEP.lines() {
+        let (asked, wanted) = row.split_once(" => ").unwrap_or((row, ""));
+        let found = length_shown(alloc, asked)?;
+        if found.as_str() != wanted {
+            write!(all, "\n{row}\n  is {found}")?;
+        }
+    }
+    Ok(all)
+}
 
 #[test]
 fn reads_brackets_as_deep_as_they_may_be(rt: HostRuntime) -> Result<(), Fail> {
-    for (before, count, inside, wanted) in DEEP {
-        let found = length_shown(rt.alloc(), before, *count, inside)?;
-        assert_eq!(rt; found.as_str(), *wanted, "{before} {count}");
-    }
+    let wrong = differing_deep(rt.alloc())?;
+    assert_eq!(rt; wrong.as_str(), "");
     Ok(())
 }
 
