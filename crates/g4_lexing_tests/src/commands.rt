@@ -102,58 +102,35 @@ fn types(alloc: Global) -> Result<Vec<TokenName>, AllocError> {
     Ok(types)
 }
 
-/// Names, texts after the grammar's name, and what the commands do.
-const ROWS: &[(&str, &str, &str)] = &[
-    (
-        "without an argument",
-        "A : 'a' -> skip ; B : 'b' -> more ; C : 'c' -> popMode ;",
-        "Skip | More | PopMode | ",
-    ),
-    (
-        "token types, the first of a name, and EOF",
-        "A : 'a' -> type(B) | 'b' -> type(A) | 'c' -> type(EOF) ;",
-        "Type(2) | Type(1) | Type(65536) | ",
-    ),
-    (
-        "the channels that every grammar has",
-        "A : 'a' -> channel(HIDDEN) | 'b' -> channel(DEFAULT_TOKEN_CHANNEL) ;",
-        "Channel(1) | Channel(0) | ",
-    ),
-    (
-        "declared channels, each of which takes one number",
-        "channels { X, HIDDEN, Y, X } channels { Y, Z } \
-            A : 'a' -> channel(X) | 'b' -> channel(Y) | 'c' -> channel(Z) | 'd' -> channel(HIDDEN) ;",
-        "Channel(2) | Channel(3) | Channel(4) | Channel(1) | ",
-    ),
-    (
-        "channels by number, up to the last",
-        "A : 'a' -> channel(0) | 'b' -> channel(007) | 'c' -> channel(4294967295) | 'd' -> channel(4294967296) ;",
-        "Channel(0) | Channel(7) | Channel(4294967295) | | ",
-    ),
-    (
-        "modes, the first of a name",
-        "A : 'a' -> mode(M) | 'b' -> pushMode(N) | 'c' -> pushMode(DEFAULT_MODE) ; \
-            mode M; B : 'b' -> mode(N) ; mode M; C : 'c' -> mode(M) ; mode N; D : 'd' -> mode(N), popMode ;",
-        "Mode(1) | PushMode(3) | PushMode(0) | Mode(3) | Mode(1) | Mode(3) PopMode | ",
-    ),
-    (
-        "several in their order, and none",
-        "A : 'a' -> type(B), channel(HIDDEN), more | 'b' | 'c' -> skip ;",
-        "Type(2) Channel(1) More | | Skip | ",
-    ),
-    (
-        "what is no command",
-        "A : 'a' -> keep, skip(A), more(1), type, type(1), type(C), channel, channel(C), mode, mode(C), mode(0), popMode(A), skip ;",
-        "Skip | ",
-    ),
-];
+/// Names, texts after the grammar's name, and what the commands do, without the last blank.
+const ROWS: &str =
+    "without an argument: A : 'a' -> skip ; B : 'b' -> more ; C : 'c' -> popMode ; => Skip | More | PopMode |
+token types, the first of a name, and EOF: A : 'a' -> type(B) | 'b' -> type(A) | 'c' -> type(EOF) ; => Type(2) | Type(1) | Type(65536) |
+the channels that every grammar has: A : 'a' -> channel(HIDDEN) | 'b' -> channel(DEFAULT_TOKEN_CHANNEL) ; => Channel(1) | Channel(0) |
+declared channels, each of which takes one number: channels { X, HIDDEN, Y, X } channels { Y, Z } A : 'a' -> channel(X) | 'b' -> channel(Y) | 'c' -> channel(Z) | 'd' -> channel(HIDDEN) ; => Channel(2) | Channel(3) | Channel(4) | Channel(1) |
+channels by number, up to the last: A : 'a' -> channel(0) | 'b' -> channel(007) | 'c' -> channel(4294967295) | 'd' -> channel(4294967296) ; => Channel(0) | Channel(7) | Channel(4294967295) | |
+modes, the first of a name: A : 'a' -> mode(M) | 'b' -> pushMode(N) | 'c' -> pushMode(DEFAULT_MODE) ; mode M; B : 'b' -> mode(N) ; mode M; C : 'c' -> mode(M) ; mode N; D : 'd' -> mode(N), popMode ; => Mode(1) | PushMode(3) | PushMode(0) | Mode(3) | Mode(1) | Mode(3) PopMode |
+several in their order, and none: A : 'a' -> type(B), channel(HIDDEN), more | 'b' | 'c' -> skip ; => Type(2) Channel(1) More | | Skip |
+what is no command: A : 'a' -> keep, skip(A), more(1), type, type(1), type(C), channel, channel(C), mode, mode(C), mode(0), popMode(A), skip ; => Skip |";
+
+/// The rows whose commands do something else.
+fn differing(alloc: Global) -> Result<String, AllocError> {
+    let mut all = String::new(alloc);
+    for row in ROWS.lines() {
+        let (_, row_end) = row.split_once(": ").unwrap_or((row, ""));
+        let (rules, wanted) = row_end.split_once(" => ").unwrap_or((row_end, ""));
+        let found = shown(alloc, rules, types(alloc)?)?;
+        if found.as_str().trim_end() != wanted {
+            write!(all, "\n{row}\n  is {found}")?;
+        }
+    }
+    Ok(all)
+}
 
 #[test]
 fn commands(rt: HostRuntime) -> Result<(), Fail> {
-    for (name, rules, wanted) in ROWS {
-        let found = shown(rt.alloc(), rules, types(rt.alloc())?)?;
-        assert_eq!(rt; found.as_str(), *wanted, "{name}");
-    }
+    let wrong = differing(rt.alloc())?;
+    assert_eq!(rt; wrong.as_str(), "");
     Ok(())
 }
 

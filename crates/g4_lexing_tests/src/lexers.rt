@@ -12,9 +12,6 @@ use g4_token_list::Tokens;
 use std::alloc::{AllocError, Global};
 use std::fmt::Write;
 
-/// For some rules the commands of their alternatives.
-pub(crate) type Commands = &'static [(usize, &'static [&'static [LexerCommand]])];
-
 /// The lexer grammar with this text after its name.
 pub(crate) fn grammar(alloc: Global, rules: &str) -> Result<Source, AllocError>
     ensures { IfOk result HaveAlternatives }
@@ -37,37 +34,68 @@ fn modes(alloc: Global, rules: &str) -> Result<Vec<Mode>, AllocError>
     Ok(source.modes.into_vec())
 }
 
-/// The commands of alternatives.
-fn alternatives_of(
-    alloc: Global,
-    alternatives: &[&[LexerCommand]],
-) -> Result<Sequence<Sequence<LexerCommand>>, AllocError> {
+/// The command that is written so.
+fn command_of(word: &str) -> Option<LexerCommand> {
+    let (name, number) = word.split_once('(').unwrap_or((word, "0)"));
+    let number = number.strip_suffix(')')?.parse::<u32>().ok()?;
+    match name {
+        "Skip" => Some(LexerCommand::Skip),
+        "More" => Some(LexerCommand::More),
+        "PopMode" => Some(LexerCommand::PopMode),
+        "Type" => Some(LexerCommand::Type(number)),
+        "Channel" => Some(LexerCommand::Channel(number)),
+        "Mode" => Some(LexerCommand::Mode(number)),
+        "PushMode" => Some(LexerCommand::PushMode(number)),
+        _ => None,
+    }
+}
+
+/// The commands of an alternative.
+fn alternative_of(alloc: Global, words: &str) -> Result<Sequence<LexerCommand>, AllocError> {
     let mut made = Vec::new(alloc);
-    for commands in alternatives {
-        made.push(Sequence::new(commands.to_vec(alloc)?))?;
+    for word in words.split_whitespace() {
+        made.push(command_of(word).ok_or(AllocError)?)?;
     }
     Ok(Sequence::new(made))
 }
 
-/// The alternatives of a rule that have commands.
-fn listed(commands: Commands, rule: usize) -> &'static [&'static [LexerCommand]] {
-    for (other, alternatives) in commands {
-        if *other == rule {
-            return *alternatives;
-        }
+/// The commands of alternatives.
+fn alternatives_of(
+    alloc: Global,
+    alternatives: &str,
+) -> Result<Sequence<Sequence<LexerCommand>>, AllocError> {
+    let mut made = Vec::new(alloc);
+    for words in alternatives.split('/') {
+        made.push(alternative_of(alloc, words)?)?;
     }
-    &[]
+    Ok(Sequence::new(made))
 }
 
-/// The commands of `count` rules.
+/// The commands of the alternatives of a rule, where it has some.
+fn rule_of(
+    alloc: Global,
+    commands: &str,
+    rule: usize,
+) -> Result<Sequence<Sequence<LexerCommand>>, AllocError> {
+    for part in commands.split(',') {
+        let part = part.trim_start();
+        let (number, alternatives) = part.split_once(' ').unwrap_or((part, ""));
+        if number.parse::<usize>().ok() == Some(rule) {
+            return alternatives_of(alloc, alternatives);
+        }
+    }
+    Ok(Sequence::new(Vec::new(alloc)))
+}
+
+/// The commands of `count` rules by a text: `1 More Type(9) / Skip, 6 PopMode` is two alternatives of rule 1 and one of rule 6.
 fn commands_of(
     alloc: Global,
-    commands: Commands,
+    commands: &str,
     count: usize,
 ) -> Result<Vec<Sequence<Sequence<LexerCommand>>>, AllocError> {
     let mut all = Vec::new(alloc);
     for rule in 0..count {
-        all.push(alternatives_of(alloc, listed(commands, rule))?)?;
+        all.push(rule_of(alloc, commands, rule)?)?;
     }
     Ok(all)
 }
@@ -84,7 +112,7 @@ fn types_of(alloc: Global, count: usize) -> Result<Vec<u32>, AllocError> {
 }
 
 /// A lexer by its network.
-fn lexer_of(alloc: Global, built: LexNet, commands: Commands) -> Result<Lexer, AllocError> {
+fn lexer_of(alloc: Global, built: LexNet, commands: &str) -> Result<Lexer, AllocError> {
     let count = built.commands.len();
     let types = types_of(alloc, count)?;
     let commands = commands_of(alloc, commands, count)?;
@@ -97,7 +125,7 @@ fn lexer_of(alloc: Global, built: LexNet, commands: Commands) -> Result<Lexer, A
 }
 
 /// The lexer of these rules with these commands.
-fn lexer(alloc: Global, rules: &str, commands: Commands) -> Result<Lexer, AllocError> {
+fn lexer(alloc: Global, rules: &str, commands: &str) -> Result<Lexer, AllocError> {
     let modes = modes(alloc, rules)?;
     match build_lexer(alloc, Vec::new(alloc), modes) {
         Ok(built) => lexer_of(alloc, built, commands),
@@ -173,7 +201,7 @@ fn lexed_by(alloc: Global, lexer: &Lexer, bytes: &[u8], room: usize) -> Result<S
 pub(crate) fn lexed(
     alloc: Global,
     rules: &str,
-    commands: Commands,
+    commands: &str,
     bytes: &[u8],
     room: usize,
 ) -> Result<String, AllocError> {
@@ -199,7 +227,7 @@ fn counts_by(alloc: Global, lexer: &Lexer, bytes: &[u8]) -> Result<String, Alloc
 pub(crate) fn counts(
     alloc: Global,
     rules: &str,
-    commands: Commands,
+    commands: &str,
     bytes: &[u8],
 ) -> Result<String, AllocError> {
     let lexer = lexer(alloc, rules, commands)?;
