@@ -153,47 +153,34 @@ fn built(alloc: Global, rules: &str, part: Part) -> Result<String, AllocError> {
     }
 }
 
-/// Names, rules, and the states that they are laid to.
-const LAID: &[(&str, &str, &str)] = &[
-    (
-        "a state for each character of a literal",
-        "mode M; A : 'ab' ;",
-        "97 to 2; end 0; 98 to 3; to 1; ",
-    ),
-    (
-        "one edge for what takes one character",
-        "mode M; A : [a-c] 'x'..'z' . ~[b] ;",
-        "97-99 to 2; end 0; 120-122 to 3; 0-55295 57344-1114111 to 4; 0-97 99-55295 57344-1114111 to 5; to 1; ",
-    ),
-    (
-        "EOF reads nothing, and an action does nothing",
-        "mode M; A : EOF {x} ;",
-        "at end to 2; end 0; to 3; to 1; ",
-    ),
-    (
-        "calls of a fragment and of the rule itself",
-        "mode M; A : B | '(' A ')' ; fragment B : 'b' ;",
-        "decide 4 6; end 0; 98 to 10; end 1; call 1 0 5; to 1; 40 to 7; call 0 0 8; 41 to 9; to 1; to 3; ",
-    ),
-    (
-        "the exit comes first where it is not greedy",
-        "mode M; C : '/*' (C | .)*? '*/' ;",
-        "47 to 2; end 0; 42 to 3; decide 8 4 6; call 0 0 5; to 3; 0-55295 57344-1114111 to 7; to 3; 42 to 9; 47 to 10; to 1; ",
-    ),
-    (
-        "rules of one mode may call those of another",
-        "mode M; A : B ; mode N; B : 'b' ;",
-        "call 1 0 4; end 0; 98 to 5; end 1; to 1; to 3; ",
-    ),
-    ("no rules", "mode M;", ""),
-];
+/// Names, rules, and the states that they are laid to, without the last blank.
+const LAID: &str =
+    "a state for each character of a literal: mode M; A : 'ab' ; => 97 to 2; end 0; 98 to 3; to 1;
+one edge for what takes one character: mode M; A : [a-c] 'x'..'z' . ~[b] ; => 97-99 to 2; end 0; 120-122 to 3; 0-55295 57344-1114111 to 4; 0-97 99-55295 57344-1114111 to 5; to 1;
+EOF reads nothing, and an action does nothing: mode M; A : EOF {x} ; => at end to 2; end 0; to 3; to 1;
+calls of a fragment and of the rule itself: mode M; A : B | '(' A ')' ; fragment B : 'b' ; => decide 4 6; end 0; 98 to 10; end 1; call 1 0 5; to 1; 40 to 7; call 0 0 8; 41 to 9; to 1; to 3;
+the exit comes first where it is not greedy: mode M; C : '/*' (C | .)*? '*/' ; => 47 to 2; end 0; 42 to 3; decide 8 4 6; call 0 0 5; to 3; 0-55295 57344-1114111 to 7; to 3; 42 to 9; 47 to 10; to 1;
+rules of one mode may call those of another: mode M; A : B ; mode N; B : 'b' ; => call 1 0 4; end 0; 98 to 5; end 1; to 1; to 3;
+no rules: mode M; => ";
+
+/// The rows whose rules are laid to other states.
+fn laid_otherwise(alloc: Global) -> Result<String, AllocError> {
+    let mut all = String::new(alloc);
+    for row in LAID.lines() {
+        let (_, row_end) = row.split_once(": ").unwrap_or((row, ""));
+        let (rules, wanted) = row_end.split_once(" => ").unwrap_or((row_end, ""));
+        let found = built(alloc, rules, Part::States)?;
+        if found.as_str().trim_end() != wanted {
+            write!(all, "\n{row}\n  is {found}")?;
+        }
+    }
+    Ok(all)
+}
 
 #[test]
 fn lays_rules(rt: HostRuntime) -> Result<(), Fail> {
-    for (name, rules, wanted) in LAID {
-        let found = built(rt.alloc(), rules, Part::States)?;
-        assert_eq!(rt; found.as_str(), *wanted, "{name}");
-    }
+    let wrong = laid_otherwise(rt.alloc())?;
+    assert_eq!(rt; wrong.as_str(), "");
     Ok(())
 }
 

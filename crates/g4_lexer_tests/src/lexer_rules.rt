@@ -91,52 +91,35 @@ fn rules_of(alloc: Global, text: &str) -> Result<String, AllocError> {
     }
 }
 
-/// Names, grammars, and the rules of their lexers.
-const RULES: &[(&str, &str, &str)] = &[
-    (
-        "a literal with a token of its own comes first",
-        "grammar G; s : A '+' ; A : 'a' ;",
-        "EOF:1 | DEFAULT_MODE A:2 ",
-    ),
-    (
-        "a literal that names a rule's token has no rule of its own",
-        "grammar G; s : 'a' '+' ; A : 'a' ;",
-        "EOF:1 | DEFAULT_MODE A:2 ",
-    ),
-    (
-        "a literal that two rules are has one",
-        "grammar G; s : 'a' ; A : 'a' ; B : 'a' ;",
-        "EOF:1 | DEFAULT_MODE A:2 B:3 ",
-    ),
-    (
-        "fragments have no types",
-        "grammar G; s : B '-' '+' '-' ; fragment D : [0-9] ; B : D+ ; fragment E : 'e' ; C : 'c' ;",
-        "EOF:1 EOF:2 | DEFAULT_MODE D:0 B:3 E:0 C:4 ",
-    ),
-    (
-        "parser rules between",
-        "grammar G; A : 'a' ; s : t ; B : 'b' ; t : B ;",
-        "| DEFAULT_MODE A:1 B:2 ",
-    ),
-    (
-        "no lexer rules",
-        "grammar G; s : 'x' ;",
-        "EOF:1 | DEFAULT_MODE ",
-    ),
-    ("no tokens", "grammar G; s : ;", "| DEFAULT_MODE "),
-    (
-        "other modes come after the default mode",
-        "lexer grammar L; A : 'a' ; mode M; B : 'b' ; mode N; fragment F : 'f' ;",
-        "| DEFAULT_MODE A:1 | M B:0 | N F:0 ",
-    ),
-];
+/// Names, grammars, and the rules of their lexers, without the last blank.
+const RULES: &str =
+    "a literal with a token of its own comes first: grammar G; s : A '+' ; A : 'a' ; => EOF:1 | DEFAULT_MODE A:2
+a literal that names a rule's token has no rule of its own: grammar G; s : 'a' '+' ; A : 'a' ; => EOF:1 | DEFAULT_MODE A:2
+a literal that two rules are has one: grammar G; s : 'a' ; A : 'a' ; B : 'a' ; => EOF:1 | DEFAULT_MODE A:2 B:3
+fragments have no types: grammar G; s : B '-' '+' '-' ; fragment D : [0-9] ; B : D+ ; fragment E : 'e' ; C : 'c' ; => EOF:1 EOF:2 | DEFAULT_MODE D:0 B:3 E:0 C:4
+parser rules between: grammar G; A : 'a' ; s : t ; B : 'b' ; t : B ; => | DEFAULT_MODE A:1 B:2
+no lexer rules: grammar G; s : 'x' ; => EOF:1 | DEFAULT_MODE
+no tokens: grammar G; s : ; => | DEFAULT_MODE
+other modes come after the default mode: lexer grammar L; A : 'a' ; mode M; B : 'b' ; mode N; fragment F : 'f' ; => | DEFAULT_MODE A:1 | M B:0 | N F:0";
+
+/// The rows whose lexers have other rules.
+fn differing(alloc: Global) -> Result<String, AllocError> {
+    let mut all = String::new(alloc);
+    for row in RULES.lines() {
+        let (_, row_end) = row.split_once(": ").unwrap_or((row, ""));
+        let (text, wanted) = row_end.split_once(" => ").unwrap_or((row_end, ""));
+        let found = rules_of(alloc, text)?;
+        if found.as_str().trim_end() != wanted {
+            write!(all, "\n{row}\n  is {found}")?;
+        }
+    }
+    Ok(all)
+}
 
 #[test]
 fn rules_and_types(rt: HostRuntime) -> Result<(), Fail> {
-    for (name, text, wanted) in RULES {
-        let found = rules_of(rt.alloc(), text)?;
-        assert_eq!(rt; found.as_str(), *wanted, "{name}");
-    }
+    let wrong = differing(rt.alloc())?;
+    assert_eq!(rt; wrong.as_str(), "");
     Ok(())
 }
 
