@@ -43,7 +43,7 @@ fn answer(alloc: Global, question: Question, source: &Source) -> Result<String, 
 }
 
 /// What is answered of the grammar of a text.
-fn found(alloc: Global, question: Question, text: &str) -> Result<String, AllocError> {
+pub(crate) fn found(alloc: Global, question: Question, text: &str) -> Result<String, AllocError> {
     match source_of(alloc, text)? {
         Some(source) => answer(alloc, question, &source),
         None => String::from_str(alloc, "no grammar"),

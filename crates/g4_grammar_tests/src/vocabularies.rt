@@ -1,5 +1,5 @@
 // What is numbered of grammars, and the first repetition of a rule's name.
-use crate::texts::{Question, differing, repeated};
+use crate::texts::{Question, differing, found, repeated};
 use g4_elements::Element;
 use g4_grammar::{Numbered, NumberedAtom, NumberedKind};
 use g4_source::{ParserRule, Source};
@@ -151,43 +151,43 @@ r : . ; A : 'a' -> type(EOF), type(7), type ; B : 'b' -> channel(C), mode(M) ; =
 ";
 
 /// How many lexer rules, literals and names in commands, and what is answered.
-const SIZES: &[(u32, u32, u32, &str)] = &[
-    (1_000, 3_000, 0, "4000 1000"),
-    (96, 4_000, 0, "4096 96"),
-    (97, 4_000, 0, "types"),
-    (0, 10_000, 0, "types"),
-    (4_095, 0, 0, "rules"),
-    (1_000, 1_000, 2_096, "4096 3096"),
-    (1_000, 1_000, 2_097, "types"),
-    (0, 0, 10_000, "types"),
-];
+const SIZES: &str = "1000 3000 0 => 4000 1000
+96 4000 0 => 4096 96
+97 4000 0 => types
+0 10000 0 => types
+4095 0 0 => rules
+1000 1000 2096 => 4096 3096
+1000 1000 2097 => types
+0 0 10000 => types";
 
-/// A row of a grammar of `rules` lexer rules, a fragment with `types` names in commands, and a parser rule of `literals` literals.
-fn large(
-    alloc: Global,
-    rules: u32,
-    literals: u32,
-    types: u32,
-    wanted: &str,
-) -> Result<String, AllocError> {
-    let rules = repeated(alloc, "L%:; ", rules)?;
-    let literals = repeated(alloc, "'%' ", literals)?;
-    let types = repeated(alloc, ", type(T%)", types)?;
-    format!(in alloc; "{rules}fragment F : 'f' -> skip{types} ; r : {literals}; => {wanted}")
+/// A grammar of as many lexer rules, literals in a parser rule and names in commands of a fragment as these three numbers say.
+fn large(alloc: Global, sizes: &str) -> Result<String, AllocError> {
+    let (rules, sizes) = sizes.split_once(' ').unwrap_or((sizes, ""));
+    let (literals, types) = sizes.split_once(' ').unwrap_or((sizes, ""));
+    let rules = repeated(alloc, "L%:; ", rules.parse::<u32>().unwrap_or(0))?;
+    let literals = repeated(alloc, "'%' ", literals.parse::<u32>().unwrap_or(0))?;
+    let types = repeated(alloc, ", type(T%)", types.parse::<u32>().unwrap_or(0))?;
+    format!(in alloc; "grammar X;\n{rules}fragment F : 'f' -> skip{types} ; r : {literals};")
+}
+
+/// The rows of sizes of which something else is answered.
+fn differing_sizes(alloc: Global) -> Result<String, AllocError> {
+    let mut all = String::new(alloc);
+    for row in SIZES.lines() {
+        let (sizes, wanted) = row.split_once(" => ").unwrap_or((row, ""));
+        let text = large(alloc, sizes)?;
+        let found = found(alloc, Question::Numbers, text.as_str())?;
+        if found.as_str() != wanted {
+            write!(all, "\n{row}\n  is {found}")?;
+        }
+    }
+    Ok(all)
 }
 
 #[test]
 fn numbers_many_tokens(rt: HostRuntime) -> Result<(), Fail> {
-    for (rules, literals, types, wanted) in SIZES {
-        let large = large(rt.alloc(), *rules, *literals, *types, wanted)?;
-        let wrong = differing(
-            rt.alloc(),
-            Question::Numbers,
-            "grammar X;\n",
-            large.as_str(),
-        )?;
-        assert_eq!(rt; wrong.as_str(), "", "{rules} {literals} {types}");
-    }
+    let wrong = differing_sizes(rt.alloc())?;
+    assert_eq!(rt; wrong.as_str(), "");
     Ok(())
 }
 
