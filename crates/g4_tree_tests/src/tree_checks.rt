@@ -147,134 +147,127 @@ fn tree(alloc: Global, text: &str) -> Result<Tree, AllocError> {
     Ok(Tree::new(all))
 }
 
-static RIGHT: [(&str, &str, &str, &str); 9] = [
-    ("tokens alone", "a2*c|2b b|!", "ac", "<11 0 1 >"),
-    ("a node", "a2*c|2b b|!", "abc", "<11 0 <21 1 > 2 >"),
-    (
-        "two nodes",
-        "a2*c|2b b|!",
-        "abbc",
-        "<11 0 <21 1 > <21 2 > 3 >",
-    ),
-    ("empty nodes", "a2*c|2b b|!", "ac", "<11 0 <22 > <22 > 1 >"),
-    (
-        "the second alternative",
-        "a2*c|2b b|!",
-        "bb",
-        "<12 <21 0 > 1 >",
-    ),
-    ("tokens are left", "a2*c|2b b|!", "acac", "<11 0 1 >"),
-    ("no token", "!", "", "<11 >"),
-    ("a chain", "2 3 b", "b", "<11 <21 <31 0 > > >"),
-    (
-        "a call of its own rule",
-        "a1|b",
-        "aab",
-        "<11 0 <11 1 <12 2 > > >",
-    ),
-];
+/// What a row shows, rules, tokens and the items of a tree that is one of the rules over the tokens.
+const RIGHT: &str = "tokens alone | a2*c|2b b|! | ac | <11 0 1 >
+a node | a2*c|2b b|! | abc | <11 0 <21 1 > 2 >
+two nodes | a2*c|2b b|! | abbc | <11 0 <21 1 > <21 2 > 3 >
+empty nodes | a2*c|2b b|! | ac | <11 0 <22 > <22 > 1 >
+the second alternative | a2*c|2b b|! | bb | <12 <21 0 > 1 >
+tokens are left | a2*c|2b b|! | acac | <11 0 1 >
+no token | ! |  | <11 >
+a chain | 2 3 b | b | <11 <21 <31 0 > > >
+a call of its own rule | a1|b | aab | <11 0 <11 1 <12 2 > > >";
 
-static WRONG: [(&str, &str, &str, &str); 14] = [
-    ("tokens out of order", "ac", "ca", "<11 1 0 >"),
-    ("a token is left out", "aa", "aba", "<11 0 2 >"),
-    ("a token twice", "aa", "aa", "<11 0 0 >"),
-    ("another symbol", "ac", "aa", "<11 0 1 >"),
-    ("past the tokens", "ac", "a", "<11 0 1 >"),
-    ("alternative 0", "ac|b", "ac", "<10 0 1 >"),
-    ("alternative 3", "ac|b", "ac", "<13 0 1 >"),
-    ("the other alternative", "ac|b", "ac", "<12 0 1 >"),
-    ("rule 0", "ac", "ac", "<01 0 1 >"),
-    ("rule 2", "ac", "ac", "<21 0 1 >"),
-    ("a node of another rule", "2 b b", "b", "<11 <31 0 > >"),
-    ("a fault at depth 2", "a2c b", "aac", "<11 0 <21 1 > 2 >"),
-    ("a fault at depth 3", "2 3 b", "a", "<11 <21 <31 0 > > >"),
-    ("a token for a node", "2 b", "b", "<11 0 >"),
-];
+/// The same of trees that are none. Of the last nine the items are ill nested.
+const WRONG: &str = "tokens out of order | ac | ca | <11 1 0 >
+a token is left out | aa | aba | <11 0 2 >
+a token twice | aa | aa | <11 0 0 >
+another symbol | ac | aa | <11 0 1 >
+past the tokens | ac | a | <11 0 1 >
+alternative 0 | ac|b | ac | <10 0 1 >
+alternative 3 | ac|b | ac | <13 0 1 >
+the other alternative | ac|b | ac | <12 0 1 >
+rule 0 | ac | ac | <01 0 1 >
+rule 2 | ac | ac | <21 0 1 >
+a node of another rule | 2 b b | b | <11 <31 0 > >
+a fault at depth 2 | a2c b | aac | <11 0 <21 1 > 2 >
+a fault at depth 3 | 2 3 b | a | <11 <21 <31 0 > > >
+a token for a node | 2 b | b | <11 0 >
+an end too many | a|1 | aa | <11 0 > >
+an end is missing | a|1 | aa | <11 0
+an inner end is missing | a|1 | aa | <12 <11 0 >
+two roots | a|1 | aa | <11 0 > <11 1 >
+a token as root | a|1 | aa | 0
+a token after the root | a|1 | aa | <11 0 > 1
+a token before the root | a|1 | aa | 0 <11 1 >
+an end alone | a|1 | aa | >
+ends first | a|1 | aa | > <11 0";
 
-static ILL_NESTED: [(&str, &str); 9] = [
-    ("an end too many", "<11 0 > >"),
-    ("an end is missing", "<11 0"),
-    ("an inner end is missing", "<12 <11 0 >"),
-    ("two roots", "<11 0 > <11 1 >"),
-    ("a token as root", "0"),
-    ("a token after the root", "<11 0 > 1"),
-    ("a token before the root", "0 <11 1 >"),
-    ("an end alone", ">"),
-    ("ends first", "> <11 0"),
-];
+/// A rule, tokens of one node, and whether they are a word of its alternative.
+const WORDS: &str = " |  => yes
+ | a => no
+a? |  => yes
+a? | a => yes
+a? | aa => no
+a* |  => yes
+a* | aaa => yes
+a* | ab => no
+a+ |  => no
+a+ | aaa => yes
+ab@*c | c => yes
+ab@*c | ababc => yes
+ab@*c | abac => no
+ab@*c | abab => no
+ab/c@+ | cabc => yes
+ab/c@+ | ca => no
+a/ab@b | abb => yes
+a/ab@b | ab => yes
+a/ab@b | aab => no
+a*b@*c | abbaabc => yes
+a*b@*c | abbaac => no
+a*@*b | aab => yes
+a*@*b | b => yes
+a?@+b | b => yes
+a?@+b | aaab => yes
+a+b?@+ | abaab => yes
+a+b?@+ | abbaab => no
+!a#b | ab => yes
+!a#b | a => no
+!/#@+ |  => yes
+a?a?a?aaa | aaa => yes
+a?a?a?aaa | aaaaaaa => no";
 
-/// Tokens of one node, whether they are a word of its alternative.
-static WORDS: [(&str, &str, bool); 32] = [
-    ("", "", true),
-    ("", "a", false),
-    ("a?", "", true),
-    ("a?", "a", true),
-    ("a?", "aa", false),
-    ("a*", "", true),
-    ("a*", "aaa", true),
-    ("a*", "ab", false),
-    ("a+", "", false),
-    ("a+", "aaa", true),
-    ("ab@*c", "c", true),
-    ("ab@*c", "ababc", true),
-    ("ab@*c", "abac", false),
-    ("ab@*c", "abab", false),
-    ("ab/c@+", "cabc", true),
-    ("ab/c@+", "ca", false),
-    ("a/ab@b", "abb", true),
-    ("a/ab@b", "ab", true),
-    ("a/ab@b", "aab", false),
-    ("a*b@*c", "abbaabc", true),
-    ("a*b@*c", "abbaac", false),
-    ("a*@*b", "aab", true),
-    ("a*@*b", "b", true),
-    ("a?@+b", "b", true),
-    ("a?@+b", "aaab", true),
-    ("a+b?@+", "abaab", true),
-    ("a+b?@+", "abbaab", false),
-    ("!a#b", "ab", true),
-    ("!a#b", "a", false),
-    ("!/#@+", "", true),
-    ("a?a?a?aaa", "aaa", true),
-    ("a?a?a?aaa", "aaaaaaa", false),
-];
+/// The first field of a row, and the fields after it.
+fn cut(fields: &str) -> (&str, &str) {
+    fields.split_once(" | ").unwrap_or((fields, ""))
+}
 
-/// Whether the tree of a text is one of the rules of a text over the tokens of a text.
-fn answer(alloc: Global, grammar: &str, word: &str, items: &str) -> Result<bool, AllocError> {
+fn push_row(wrong: &mut String, row: &str) -> Result<(), AllocError> {
+    wrong.push_str(row)?;
+    wrong.push('\n')
+}
+
+/// Whether the tree is one of the rules over the tokens, where a case is all three.
+fn answer(alloc: Global, case: &str) -> Result<bool, AllocError> {
+    let (grammar, rest) = cut(case);
+    let (word, items) = cut(rest);
     let rules = rules(alloc, grammar)?;
     let tokens = tokens(alloc, word)?;
     let tree = tree(alloc, items)?;
     check_tree(alloc, rules.as_slice(), &tree, tokens.as_slice())
 }
 
+/// The rows that have another answer than this one.
+fn wrong_rows(alloc: Global, rows: &str, wanted: bool) -> Result<String, AllocError> {
+    let mut wrong = String::new(alloc);
+    for row in rows.lines() {
+        if answer(alloc, cut(row).1)? != wanted {
+            push_row(&mut wrong, row)?;
+        }
+    }
+    Ok(wrong)
+}
+
 #[test]
 fn right_trees(rt: HostRuntime) -> Result<(), Fail> {
-    for (name, grammar, word, items) in RIGHT {
-        let yes = answer(rt.alloc(), grammar, word, items)?;
-        assert!(rt; yes, "{name}");
-    }
+    let wrong = wrong_rows(rt.alloc(), RIGHT, true)?;
+    assert_eq!(rt; wrong.as_str(), "");
     Ok(())
 }
 
 #[test]
 fn wrong_trees(rt: HostRuntime) -> Result<(), Fail> {
-    for (name, grammar, word, items) in WRONG {
-        let yes = answer(rt.alloc(), grammar, word, items)?;
-        assert!(rt; !yes, "{name}");
-    }
+    let wrong = wrong_rows(rt.alloc(), WRONG, false)?;
+    assert_eq!(rt; wrong.as_str(), "");
     Ok(())
 }
 
 #[test]
-fn ill_nested_items(rt: HostRuntime) -> Result<(), Fail> {
-    for (name, items) in ILL_NESTED {
-        let yes = answer(rt.alloc(), "a|1", "aa", items)?;
-        assert!(rt; !yes, "{name}");
-    }
+fn no_item(rt: HostRuntime) -> Result<(), Fail> {
     let rules = rules(rt.alloc(), "a|1")?;
     let nothing = Tree::new(Vec::new(rt.alloc()));
     let yes = check_tree(rt.alloc(), rules.as_slice(), &nothing, &[])?;
-    assert!(rt; !yes, "no item");
+    assert!(rt; !yes);
     Ok(())
 }
 
@@ -293,15 +286,26 @@ fn wide(alloc: Global, count: u32) -> Result<Tree, AllocError> {
     Ok(Tree::new(all))
 }
 
+/// Whether the tokens are a word of the rule.
+fn is_word(alloc: Global, grammar: &str, word: &str) -> Result<bool, AllocError> {
+    let rules = rules(alloc, grammar)?;
+    let tokens = tokens(alloc, word)?;
+    let tree = wide(alloc, tokens.len().min(1_000) as u32)?;
+    check_tree(alloc, rules.as_slice(), &tree, tokens.as_slice())
+}
+
 #[test]
 fn words_of_one_node(rt: HostRuntime) -> Result<(), Fail> {
-    for (grammar, word, wanted) in WORDS {
-        let rules = rules(rt.alloc(), grammar)?;
-        let tokens = tokens(rt.alloc(), word)?;
-        let tree = wide(rt.alloc(), tokens.len().min(1_000) as u32)?;
-        let yes = check_tree(rt.alloc(), rules.as_slice(), &tree, tokens.as_slice())?;
-        assert_eq!(rt; yes, wanted, "{word} of {grammar}");
+    let alloc = rt.alloc();
+    let mut wrong = String::new(alloc);
+    for row in WORDS.lines() {
+        let (asked, wanted) = row.split_once(" => ").unwrap_or((row, ""));
+        let (grammar, word) = cut(asked);
+        if is_word(alloc, grammar, word)? != (wanted == "yes") {
+            push_row(&mut wrong, row)?;
+        }
     }
+    assert_eq!(rt; wrong.as_str(), "");
     Ok(())
 }
 
