@@ -1,72 +1,24 @@
 // Classes in networks of a few sets written by hand, and in networks of many sets.
 ghost use Rattle.std.specs.Prelude.{◌<◌};
 
+use crate::rows::{answered, cut, number, numbers, push_row};
 use g4_base::Sequence;
-use g4_classes::classes_of;
+use g4_classes::{Classes, classes_of};
 use g4_net::{ParserNetwork, State};
-use g4_symbols::{END, EOF, MOST_TYPES, Symbols};
+use g4_symbols::{END, EOF, Symbols};
 use std::alloc::{AllocError, Global};
 use std::collections::BTreeSet;
 use std::test::Fail;
 
-/// The sets that the edges of a network take, and the classes of some numbers.
-struct Case {
-    name: &'static str,
-    sets: &'static [&'static [u32]],
-    classes: &'static [(u32, u32)],
-}
-
-static CASES: [Case; 8] = [
-    Case {
-        name: "no edge",
-        sets: &[],
-        classes: &[(1, 1), (2, 1), (MOST_TYPES, 1), (EOF, 1), (END, 1)],
-    },
-    Case {
-        name: "two sets with one type in common",
-        sets: &[&[1, 2], &[2, 3]],
-        classes: &[(1, 1), (2, 2), (3, 3), (4, 4), (EOF, 4), (END, 4)],
-    },
-    Case {
-        name: "all of four types but one",
-        sets: &[&[1, 3, 4]],
-        classes: &[(1, 1), (2, 2), (3, 1), (4, 1), (5, 2), (EOF, 2)],
-    },
-    Case {
-        name: "sets within others, and one twice",
-        sets: &[&[2, 3, 4], &[3, 4], &[4], &[3, 4]],
-        classes: &[(1, 1), (2, 2), (3, 3), (4, 4), (5, 1)],
-    },
-    Case {
-        name: "EOF and a type",
-        sets: &[&[3, EOF]],
-        classes: &[(1, 1), (2, 1), (3, 3), (4, 1), (EOF, 3), (END, 1)],
-    },
-    Case {
-        name: "END alone",
-        sets: &[&[END]],
-        classes: &[(1, 1), (MOST_TYPES, 1), (EOF, 1), (END, END)],
-    },
-    Case {
-        name: "EOF alone",
-        sets: &[&[EOF]],
-        classes: &[(1, 1), (EOF, EOF), (END, 1)],
-    },
-    Case {
-        name: "numbers that are no symbols",
-        sets: &[&[0], &[4_097], &[2, 4_097]],
-        classes: &[
-            (0, 0),
-            (1, 1),
-            (2, 2),
-            (3, 1),
-            (4_097, 4_097),
-            (65_535, 65_535),
-            (65_538, 65_538),
-            (u32::MAX, u32::MAX),
-        ],
-    },
-];
+/// What a row shows, the sets that the edges of a network take, and some numbers with their classes.
+const TABLE: &str = "no edge |  => 1:1 2:1 MOST:1 EOF:1 END:1
+two sets with one type in common | 1,2 2,3 => 1:1 2:2 3:3 4:4 EOF:4 END:4
+all of four types but one | 1,3,4 => 1:1 2:2 3:1 4:1 5:2 EOF:2
+sets within others, and one twice | 2,3,4 3,4 4 3,4 => 1:1 2:2 3:3 4:4 5:1
+EOF and a type | 3,EOF => 1:1 2:1 3:3 4:1 EOF:3 END:1
+END alone | END => 1:1 MOST:1 EOF:1 END:END
+EOF alone | EOF => 1:1 EOF:EOF END:1
+numbers that are no symbols | 0 4097 2,4097 => 0:0 1:1 2:2 3:1 4097:4097 65535:65535 65538:65538 4294967295:4294967295";
 
 /// The numbers from 1 to before the greatest that are not among the members.
 fn others(alloc: Global, members: &[u32], greatest: u32) -> Result<BTreeSet<u32>, AllocError> {
@@ -101,29 +53,38 @@ fn network_of(alloc: Global, states: Vec<State<Symbols>>) -> ParserNetwork {
 }
 
 /// The network that has an edge for each of the sets, and an action before each.
-fn network(alloc: Global, sets: &[&[u32]]) -> Result<ParserNetwork, AllocError> {
+fn network(alloc: Global, sets: &str) -> Result<ParserNetwork, AllocError> {
     let mut states = Vec::new(alloc);
-    for set in sets {
+    for set in sets.split_whitespace() {
+        let members = numbers(alloc, set)?;
         states.push(State::Action(0))?;
-        states.push(State::Edge(set_of(alloc, set)?, 0))?;
+        states.push(State::Edge(set_of(alloc, members.as_slice())?, 0))?;
     }
     Ok(network_of(alloc, states))
 }
 
-#[test]
-fn classes_of_small_networks(rt: HostRuntime) -> Result<(), Fail> {
-    for case in &CASES {
-        let net = network(rt.alloc(), case.sets)?;
-        let classes = classes_of(rt.alloc(), &net)?;
-        for (number, class) in case.classes {
-            assert_eq!(rt;
-                classes.class_of(*number),
-                *class,
-                "{}: {number}",
-                case.name
-            );
+/// Adds the numbers that have other classes than the row has.
+fn push_others(wrong: &mut String, row: &str, classes: &Classes) -> Result<(), AllocError> {
+    let (asked, pairs) = answered(row);
+    for pair in pairs.split_whitespace() {
+        let (symbol, class) = pair.split_once(':').unwrap_or((pair, ""));
+        if classes.class_of(number(symbol)) != number(class) {
+            push_row(wrong, asked, pair)?;
         }
     }
+    Ok(())
+}
+
+#[test]
+fn classes_of_small_networks(rt: HostRuntime) -> Result<(), Fail> {
+    let alloc = rt.alloc();
+    let mut wrong = String::new(alloc);
+    for row in TABLE.lines() {
+        let net = network(alloc, cut(answered(row).0).1)?;
+        let classes = classes_of(alloc, &net)?;
+        push_others(&mut wrong, row, &classes)?;
+    }
+    assert_eq!(rt; wrong.as_str(), "");
     Ok(())
 }
 

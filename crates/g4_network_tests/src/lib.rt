@@ -11,3 +11,5 @@ mod left_recursion;
 mod listings;
 #[cfg(test)]
 mod net_checks;
+#[cfg(test)]
+mod rows;

@@ -1,6 +1,7 @@
 // Listings of rules of networks written by hand, shown sets, and the listing of a rule of many states.
 ghost use Rattle.std.specs.Prelude.{◌<◌, ◌^◌, ◌-◌};
 
+use crate::rows::numbers;
 use g4_base::{Sequence, Text};
 use g4_net::{ParserNetwork, State};
 use g4_netlist::{list_rule, push_set};
@@ -9,93 +10,64 @@ use std::alloc::{AllocError, Global};
 use std::process::Abort;
 use std::test::Fail;
 
-/// A state.
-#[derive(Clone, Copy)]
-enum Row {
-    /// The first states of the alternatives.
-    Split(&'static [u32]),
-    /// The end of a rule.
-    End(u32),
-    /// A symbol that the edge reads, and the target.
-    Read(u32, u32),
-    /// The greatest of the symbols, from 1 on, that the edge reads, and the target.
-    ReadUpTo(u32, u32),
-    /// A rule that is called, the level, and the state to which it returns.
-    Call(u32, u32, u32),
-    /// A predicate and its target.
-    Predicate(u32, u32),
-    /// A level and its target.
-    Level(u32, u32),
-    /// An action's target.
-    Action(u32),
-    /// An empty edge's target.
-    Go(u32),
-}
-
-/// A rule of a network, and the lines of its listing.
+/// A rule of a network, and its listing.
 struct Case {
     name: &'static str,
     rule: u32,
-    lines: &'static [&'static str],
+    lines: &'static str,
 }
 
 /// `r : 'a'* ;`
-static STAR: [Row; 12] = [
-    Row::Call(1, 0, 4),
-    Row::End(0),
-    Row::Split(&[9, 11]),
-    Row::End(1),
-    Row::Split(&[5, 7]),
-    Row::Read(EOF, 6),
-    Row::Go(4),
-    Row::Read(END, 8),
-    Row::Go(1),
-    Row::Read(1, 10),
-    Row::Go(2),
-    Row::Go(3),
-];
+const STAR: &str = "call 1,0,4
+end 0
+decision 9,11
+end 1
+decision 5,7
+token EOF,6
+empty 4
+token END,8
+empty 1
+token 1,10
+empty 2
+empty 3";
 
 /// Two rules of which the first calls the second, and a third that has no states.
-static CALLS: [Row; 11] = [
-    Row::Call(1, 0, 1),
-    Row::End(0),
-    Row::Predicate(5, 6),
-    Row::End(1),
-    Row::ReadUpTo(2, 5),
-    Row::End(2),
-    Row::Level(3, 7),
-    Row::Call(2, 1, 8),
-    Row::Action(9),
-    Row::ReadUpTo(0, 10),
-    Row::Call(6, 0, 3),
-];
+const CALLS: &str = "call 1,0,1
+end 0
+pred 5,6
+end 1
+up_to 2,5
+end 2
+level 3,7
+call 2,1,8
+action 9
+up_to 0,10
+call 6,0,3";
 
 static STAR_CASES: [Case; 2] = [
     Case {
         name: "a loop",
         rule: 1,
-        lines: &[
-            "r",
-            "2 decision 9 11",
-            "3 end",
-            "9 token 'a' 10",
-            "10 empty 2",
-            "11 empty 3",
-        ],
+        lines: "r
+2 decision 9 11
+3 end
+9 token 'a' 10
+10 empty 2
+11 empty 3
+",
     },
     Case {
         name: "the added rule, without the states of the rule that it calls",
         rule: 0,
-        lines: &[
-            "S'",
-            "0 call r 0 4",
-            "1 end",
-            "4 decision 5 7",
-            "5 token EOF 6",
-            "6 empty 4",
-            "7 token EOF 8",
-            "8 empty 1",
-        ],
+        lines: "S'
+0 call r 0 4
+1 end
+4 decision 5 7
+5 token EOF 6
+6 empty 4
+7 token EOF 8
+8 empty 1
+",
     },
 ];
 
@@ -103,60 +75,74 @@ static CALLS_CASES: [Case; 5] = [
     Case {
         name: "calls, one of a rule without a name, and an empty set",
         rule: 1,
-        lines: &[
-            "r",
-            "2 pred 5 6",
-            "3 end",
-            "6 level 3 7",
-            "7 call s 1 8",
-            "8 action 9",
-            "9 token {} 10",
-            "10 call  0 3",
-        ],
+        lines: "r
+2 pred 5 6
+3 end
+6 level 3 7
+7 call s 1 8
+8 action 9
+9 token {} 10
+10 call  0 3
+",
     },
     Case {
         name: "several symbols",
         rule: 2,
-        lines: &["s", "4 token {'a', B} 5", "5 end"],
+        lines: "s
+4 token {'a', B} 5
+5 end
+",
     },
     Case {
         name: "a rule whose start is a state between those of others",
         rule: 3,
-        lines: &[
-            "t",
-            "3 end",
-            "6 level 3 7",
-            "7 call s 1 8",
-            "8 action 9",
-            "9 token {} 10",
-            "10 call  0 3",
-        ],
+        lines: "t
+3 end
+6 level 3 7
+7 call s 1 8
+8 action 9
+9 token {} 10
+10 call  0 3
+",
     },
     Case {
         name: "a rule past the last state",
         rule: 6,
-        lines: &[""],
+        lines: "\n",
     },
     Case {
         name: "the greatest number of a rule",
         rule: u32::MAX,
-        lines: &[""],
+        lines: "\n",
     },
 ];
 
-fn state(alloc: Global, row: Row) -> Result<State<Symbols>, AllocError> {
-    let state = match row {
-        Row::Split(targets) => State::Decision(Sequence::new(targets.to_vec(alloc)?)),
-        Row::End(rule) => State::End(rule),
-        Row::Read(symbol, to) => State::Edge(Symbols::one(alloc, symbol)?, to),
-        Row::ReadUpTo(greatest, to) => State::Edge(Symbols::up_to(alloc, greatest)?, to),
-        Row::Call(rule, level, back) => State::Call { rule, level, back },
-        Row::Predicate(number, to) => State::Predicate(number, to),
-        Row::Level(level, to) => State::Level(level, to),
-        Row::Action(to) => State::Action(to),
-        Row::Go(to) => State::Empty(to),
+/// A state by its kind and numbers: the targets of a decision; the rule of an end; the symbol of an edge, or for `up_to` the greatest of
+/// its symbols from 1 on, and the target; the rule of a call, its level and the state to which it returns; and so on.
+fn state(alloc: Global, line: &str) -> Result<State<Symbols>, AllocError> {
+    let (kind, rest) = line.split_once(' ').unwrap_or((line, ""));
+    let numbers = numbers(alloc, rest)?;
+    let (first, second, third) = match numbers.as_slice() {
+        [] => (0, 0, 0),
+        [first] => (*first, 0, 0),
+        [first, second] => (*first, *second, 0),
+        [first, second, third, ..] => (*first, *second, *third),
     };
-    Ok(state)
+    Ok(match kind {
+        "end" => State::End(first),
+        "token" => State::Edge(Symbols::one(alloc, first)?, second),
+        "up_to" => State::Edge(Symbols::up_to(alloc, first)?, second),
+        "call" => State::Call {
+            rule: first,
+            level: second,
+            back: third,
+        },
+        "pred" => State::Predicate(first, second),
+        "level" => State::Level(first, second),
+        "action" => State::Action(first),
+        "empty" => State::Empty(first),
+        _ => State::Decision(Sequence::new(numbers)),
+    })
 }
 
 /// The network of these states.
@@ -168,10 +154,10 @@ fn network_of(alloc: Global, states: Vec<State<Symbols>>) -> ParserNetwork {
     }
 }
 
-fn network(alloc: Global, rows: &[Row]) -> Result<ParserNetwork, AllocError> {
+fn network(alloc: Global, lines: &str) -> Result<ParserNetwork, AllocError> {
     let mut states = Vec::new(alloc);
-    for row in rows {
-        states.push(state(alloc, *row)?)?;
+    for line in lines.lines() {
+        states.push(state(alloc, line)?)?;
     }
     Ok(network_of(alloc, states))
 }
@@ -184,33 +170,22 @@ fn texts(alloc: Global, listed: &[&str]) -> Result<Vec<Text>, AllocError> {
     Ok(texts)
 }
 
-/// The lines, each with a newline.
-fn joined(alloc: Global, lines: &[&str]) -> Result<Vec<u8>, AllocError> {
-    let mut joined = Vec::new(alloc);
-    for line in lines {
-        joined.extend_from_slice(line.as_bytes())?;
-        joined.push(b'\n')?;
-    }
-    Ok(joined)
-}
-
 /// Lists each of the rules of a network of these states, where the third rule is the last that has a name.
-fn check_all(rt: &impl Abort, alloc: Global, rows: &[Row], cases: &[Case]) -> Result<(), Fail> {
+fn check_all(rt: &impl Abort, alloc: Global, states: &str, cases: &[Case]) -> Result<(), Fail> {
     let names = texts(alloc, &["r", "s", "t"])?;
     let shown = texts(alloc, &["'a'", "B"])?;
-    let net = network(alloc, rows)?;
+    let net = network(alloc, states)?;
     for case in cases {
         let listed = list_rule(alloc, names.as_slice(), shown.as_slice(), &net, case.rule)?;
-        let wanted = joined(alloc, case.lines)?;
-        assert_eq!(rt; listed.as_slice(), wanted.as_slice(), "{}", case.name);
+        assert_eq!(rt; listed.as_slice(), case.lines.as_bytes(), "{}", case.name);
     }
     Ok(())
 }
 
 #[test]
 fn rules_of_small_networks(rt: HostRuntime) -> Result<(), Fail> {
-    check_all(&rt, rt.alloc(), &STAR, &STAR_CASES)?;
-    check_all(&rt, rt.alloc(), &CALLS, &CALLS_CASES)?;
+    check_all(&rt, rt.alloc(), STAR, &STAR_CASES)?;
+    check_all(&rt, rt.alloc(), CALLS, &CALLS_CASES)?;
     Ok(())
 }
 

@@ -1,70 +1,72 @@
 // Small networks, worked out by hand, and large ones.
+use crate::rows::{answered, cut, numbers, push_row};
 use g4_base::Sequence;
 use g4_net::{Network, State};
 use g4_net_check::check_net;
 use std::alloc::{AllocError, Global};
 use std::test::Fail;
 
-/// A state by what it leads to: the targets, a rule and perhaps a return state, or the target.
-#[derive(Clone, Copy)]
-enum Row {
-    Decision(&'static [u32]),
-    End(u32),
-    Edge(u32),
-    Call(u32, u32),
-    Predicate(u32),
-    Level(u32),
-    Action(u32),
-    Empty(u32),
-}
-
-fn state_of(alloc: Global, row: Row) -> Result<State<u32>, AllocError> {
-    match row {
-        Row::Decision(targets) => Ok(State::Decision(Sequence::new(targets.to_vec(alloc)?))),
-        Row::End(rule) => Ok(State::End(rule)),
-        Row::Edge(target) => Ok(State::Edge(0, target)),
-        Row::Call(rule, back) => Ok(State::Call {
-            rule,
+/// A state by its kind and what it leads to: the target, a rule and perhaps a return state, or the targets of a decision.
+fn state_of(alloc: Global, text: &str) -> Result<State<u32>, AllocError> {
+    let (kind, to) = text.split_once(' ').unwrap_or((text, ""));
+    let numbers = numbers(alloc, to)?;
+    let (first, second) = match numbers.as_slice() {
+        [] => (0, 0),
+        [first] => (*first, 0),
+        [first, second, ..] => (*first, *second),
+    };
+    Ok(match kind {
+        "end" => State::End(first),
+        "edge" => State::Edge(0, first),
+        "call" => State::Call {
+            rule: first,
             level: 0,
-            back,
-        }),
-        Row::Predicate(target) => Ok(State::Predicate(0, target)),
-        Row::Level(target) => Ok(State::Level(0, target)),
-        Row::Action(target) => Ok(State::Action(target)),
-        Row::Empty(target) => Ok(State::Empty(target)),
-    }
+            back: second,
+        },
+        "predicate" => State::Predicate(0, first),
+        "level" => State::Level(0, first),
+        "action" => State::Action(first),
+        "empty" => State::Empty(first),
+        _ => State::Decision(Sequence::new(numbers)),
+    })
 }
 
-/// A network of two rules, the first of which calls the other. Both may read nothing.
-static ROWS: [Row; 7] = [
-    Row::Call(1, 4),
-    Row::End(0),
-    Row::Decision(&[5, 6]),
-    Row::End(1),
-    Row::Empty(1),
-    Row::Edge(3),
-    Row::Empty(3),
-];
+/// The states of a network of two rules, the first of which calls the other. Both may read nothing.
+const STATES: &str = "call 1,4
+end 0
+decision 5,6
+end 1
+empty 1
+edge 3
+empty 3";
 
-/// The states of this network, some of them changed.
-fn states_of(alloc: Global, changes: &[(usize, Row)]) -> Result<Vec<State<u32>>, AllocError> {
-    let mut rows = ROWS.to_vec(alloc)?;
-    for (index, row) in changes {
-        if let Some(place) = rows.get_mut(*index) {
-            *place = *row;
+/// Changes states: each change, with `/` between two, is the number of a state and the new state.
+fn change(alloc: Global, states: &mut Vec<State<u32>>, changes: &str) -> Result<(), AllocError> {
+    for change in changes.split('/') {
+        let (number, state) = change.split_once(' ').unwrap_or((change, ""));
+        let state = state_of(alloc, state)?;
+        if let Some(place) = states.get_mut(number.parse::<usize>().unwrap_or(usize::MAX)) {
+            *place = state;
         }
     }
+    Ok(())
+}
+
+/// The states of this network, some of them changed.
+fn states_of(alloc: Global, changes: &str) -> Result<Vec<State<u32>>, AllocError> {
     let mut states = Vec::new(alloc);
-    for row in &rows {
-        states.push(state_of(alloc, *row)?)?;
+    for line in STATES.lines() {
+        states.push(state_of(alloc, line)?)?;
     }
+    change(alloc, &mut states, changes)?;
     Ok(states)
 }
 
-fn lists_of(alloc: Global, lists: &[&[u32]]) -> Result<Vec<Sequence<u32>>, AllocError> {
+/// A list of numbers for each word.
+fn lists_of(alloc: Global, text: &str) -> Result<Vec<Sequence<u32>>, AllocError> {
     let mut all = Vec::new(alloc);
-    for list in lists {
-        all.push(Sequence::new(list.to_vec(alloc)?))?;
+    for word in text.split_whitespace() {
+        all.push(Sequence::new(numbers(alloc, word)?))?;
     }
     Ok(all)
 }
@@ -85,73 +87,44 @@ fn is_well_formed(
 }
 
 /// What a network shows, its states that are changed, the callers of its rules, and whether it is well formed.
-type Case = (
-    &'static str,
-    &'static [(usize, Row)],
-    &'static [&'static [u32]],
-    bool,
-);
+const NUMBERS: &str = "all is right |  | _ 4 => yes
+a rule that is not called |  | _ 4 _ => yes
+too few states |  | _ 4 _ _ => no
+no such target | 5 edge 7 | _ 4 => no
+no such rule | 4 call 2,1 | _ 4 => no
+an end of no rule | 3 end 2 | _ 4 => no
+one alternative | 2 decision 5 | _ 4 => no
+a caller is missing |  | _ _ => no
+a caller too many |  | 4 4 => no
+in any order | 4 call 1,1 | _ 1,4,1 => yes";
 
-/// The callers where only the first state calls.
-const USUAL: &[&[u32]] = &[&[], &[4]];
+/// The same of networks with and without a cycle in which nothing is read.
+const CYCLES: &str = "two states | 4 empty 6/6 empty 4 | _ 4 => no
+it reads | 4 edge 6/6 empty 4 | _ 4 => yes
+a predicate | 4 predicate 4 | _ 4 => no
+a level | 4 level 4 | _ 4 => no
+an action | 4 action 4 | _ 4 => no
+left recursion | 5 call 1,3 | _ 4,3 => no
+an empty call | 4 call 1,4 | _ 4 => no
+no empty call | 4 call 1,4/6 edge 3 | _ 4 => yes";
 
-static NUMBERS: &[Case] = &[
-    ("all is right", &[], USUAL, true),
-    ("a rule that is not called", &[], &[&[], &[4], &[]], true),
-    ("too few states", &[], &[&[], &[4], &[], &[]], false),
-    ("no such target", &[(5, Row::Edge(7))], USUAL, false),
-    ("no such rule", &[(4, Row::Call(2, 1))], USUAL, false),
-    ("an end of no rule", &[(3, Row::End(2))], USUAL, false),
-    ("one alternative", &[(2, Row::Decision(&[5]))], USUAL, false),
-    ("a caller is missing", &[], &[&[], &[]], false),
-    ("a caller too many", &[], &[&[4], &[4]], false),
-    (
-        "in any order",
-        &[(4, Row::Call(1, 1))],
-        &[&[], &[1, 4, 1]],
-        true,
-    ),
-];
+/// Whether the changed network with these callers is well formed.
+fn answer(alloc: Global, changes: &str, callers: &str) -> Result<&'static str, AllocError> {
+    let states = states_of(alloc, changes)?;
+    let callers = lists_of(alloc, callers)?;
+    let yes = is_well_formed(alloc, states, callers, 7)?;
+    Ok(if yes { "yes" } else { "no" })
+}
 
-static CYCLES: &[Case] = &[
-    (
-        "two states",
-        &[(4, Row::Empty(6)), (6, Row::Empty(4))],
-        USUAL,
-        false,
-    ),
-    (
-        "it reads",
-        &[(4, Row::Edge(6)), (6, Row::Empty(4))],
-        USUAL,
-        true,
-    ),
-    ("a predicate", &[(4, Row::Predicate(4))], USUAL, false),
-    ("a level", &[(4, Row::Level(4))], USUAL, false),
-    ("an action", &[(4, Row::Action(4))], USUAL, false),
-    (
-        "left recursion",
-        &[(5, Row::Call(1, 3))],
-        &[&[], &[4, 3]],
-        false,
-    ),
-    ("an empty call", &[(4, Row::Call(1, 4))], USUAL, false),
-    (
-        "no empty call",
-        &[(4, Row::Call(1, 4)), (6, Row::Edge(3))],
-        USUAL,
-        true,
-    ),
-];
-
-/// The names of the cases whose answer is another.
-fn wrong(alloc: Global, cases: &'static [Case]) -> Result<Vec<&'static str>, AllocError> {
-    let mut wrong: Vec<&'static str> = Vec::new(alloc);
-    for (name, changes, callers, wanted) in cases {
-        let states = states_of(alloc, changes)?;
-        let callers = lists_of(alloc, callers)?;
-        if is_well_formed(alloc, states, callers, ROWS.len())? != *wanted {
-            wrong.push(*name)?;
+/// The rows that have another answer.
+fn wrong_rows(alloc: Global, rows: &str) -> Result<String, AllocError> {
+    let mut wrong = String::new(alloc);
+    for row in rows.lines() {
+        let (asked, wanted) = answered(row);
+        let (changes, callers) = cut(cut(asked).1);
+        let found = answer(alloc, changes, callers)?;
+        if found != wanted {
+            push_row(&mut wrong, asked, found)?;
         }
     }
     Ok(wrong)
@@ -159,18 +132,18 @@ fn wrong(alloc: Global, cases: &'static [Case]) -> Result<Vec<&'static str>, All
 
 #[test]
 fn small_networks(rt: HostRuntime) -> Result<(), Fail> {
-    let numbers = wrong(rt.alloc(), NUMBERS)?;
-    let cycles = wrong(rt.alloc(), CYCLES)?;
-    assert!(rt; numbers.is_empty(), "{numbers:?}");
-    assert!(rt; cycles.is_empty(), "{cycles:?}");
+    let numbers = wrong_rows(rt.alloc(), NUMBERS)?;
+    assert_eq!(rt; numbers.as_str(), "");
+    let cycles = wrong_rows(rt.alloc(), CYCLES)?;
+    assert_eq!(rt; cycles.as_str(), "");
     Ok(())
 }
 
 #[test]
 fn a_number_is_missing(rt: HostRuntime) -> Result<(), Fail> {
     let alloc = rt.alloc();
-    let states = states_of(alloc, &[])?;
-    let callers = lists_of(alloc, USUAL)?;
+    let states = states_of(alloc, "")?;
+    let callers = lists_of(alloc, "_ 4")?;
     assert!(rt; !is_well_formed(alloc, states, callers, 6)?);
     Ok(())
 }
@@ -203,7 +176,7 @@ fn rules_are_well_formed(
     callers_of_first: &[u32],
 ) -> Result<bool, AllocError> {
     let mut states = Vec::new(alloc);
-    let mut callers = lists_of(alloc, &[callers_of_first])?;
+    let mut callers = vec![in alloc; Sequence::new(callers_of_first.to_vec(alloc)?)]?;
     for rule in 0..29_999u32 {
         let back = 2 * rule + 1;
         let rule = rule + 1;
