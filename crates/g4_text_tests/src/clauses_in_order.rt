@@ -1,6 +1,7 @@
 // What follows from clauses, worked out by hand.
 ghost use Rattle.std.specs.Prelude.{◌<◌, All, IfOk};
 
+use crate::rows::{answered, cut, push_other};
 use g4_horn::{Clause, consequences};
 use std::alloc::{AllocError, Global};
 use std::test::Fail;
@@ -46,25 +47,28 @@ fn digits(alloc: Global, text: &str) -> Result<String, AllocError> {
     Ok(found)
 }
 
-static TABLE: [(&str, &str, &str); 10] = [
-    ("no clause", "", ""),
-    ("a fact", "3", "3"),
-    ("a need that does not follow", "12", ""),
-    ("a chain in the good order", "0 10 21 32", "0123"),
-    ("a chain in the bad order", "32 21 10 0", "0123"),
-    ("one of two needs", "0 201", "0"),
-    ("both needs", "201 1 0", "012"),
-    ("a need three times", "3000 40003 0", "034"),
-    ("a circle", "12 21 3", "3"),
-    ("a circle that is entered", "12 21 19 9", "129"),
-];
+/// What a row shows, the words of clauses, and the digits that follow.
+const TABLE: &str = "no clause
+a fact | 3 => 3
+a need that does not follow | 12
+a chain in the good order | 0 10 21 32 => 0123
+a chain in the bad order | 32 21 10 0 => 0123
+one of two needs | 0 201 => 0
+both needs | 201 1 0 => 012
+a need three times | 3000 40003 0 => 034
+a circle | 12 21 3 => 3
+a circle that is entered | 12 21 19 9 => 129";
 
 #[test]
 fn small_sets(rt: HostRuntime) -> Result<(), Fail> {
-    for (name, text, wanted) in &TABLE {
-        let found = digits(rt.alloc(), text)?;
-        assert_eq!(rt; found.as_str(), *wanted, "{name}");
+    let alloc = rt.alloc();
+    let mut wrong = String::new(alloc);
+    for row in TABLE.lines() {
+        let (asked, wanted) = answered(row);
+        let found = digits(alloc, cut(asked).1)?;
+        push_other(&mut wrong, asked, found.as_str(), wanted)?;
     }
+    assert_eq!(rt; wrong.as_str(), "");
     Ok(())
 }
 

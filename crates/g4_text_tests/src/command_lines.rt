@@ -1,4 +1,5 @@
 // Word lists, and the commands that they are.
+use crate::rows::push_other;
 use g4_words::{Command, MOST_FILES, Output, WordsFault, read_words};
 use std::alloc::{AllocError, Global};
 use std::fmt::Write;
@@ -163,22 +164,13 @@ fn read(alloc: Global, line: &str) -> Result<String, AllocError> {
     }
 }
 
-fn push_row(wrong: &mut String, line: &str, found: &str) -> Result<(), AllocError> {
-    wrong.push_str(line)?;
-    wrong.push_str(" => ")?;
-    wrong.push_str(found)?;
-    wrong.push('\n')
-}
-
 /// The rows that are read as something else, where a row without a command is none.
 fn wrong_rows(alloc: Global, rows: &str) -> Result<String, AllocError> {
     let mut wrong = String::new(alloc);
     for row in rows.lines() {
         let (line, wanted) = row.split_once(" => ").unwrap_or((row, "usage"));
         let found = read(alloc, line)?;
-        if found.as_str() != wanted {
-            push_row(&mut wrong, line, found.as_str())?;
-        }
+        push_other(&mut wrong, line, found.as_str(), wanted)?;
     }
     Ok(wrong)
 }

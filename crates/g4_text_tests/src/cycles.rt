@@ -1,60 +1,45 @@
 // Small graphs with their first cycles, worked out by hand, and large graphs.
+use crate::rows::{answered, cut, push_row};
 use g4_cycles::first_cycle;
 use std::alloc::{AllocError, Global};
 use std::test::Fail;
 
-/// A graph: its name, the successors of its nodes, and its first cycle, empty where it has none.
-type Case = (&'static str, &'static [&'static [u32]], &'static [u32]);
+/// Graphs: what a row shows, for each node its successors, with `,` between them or `_` for none, and the first cycle, if any.
+const TABLE: &str = "no nodes
+no edges | _ _
+a node that leads to itself | 1 1 => 1
+a tail into a cycle | 1 2 3 1 => 1,2,3
+two cycles, of which the first has the least node | _ 2 1 4 3 => 1,2
+a later cycle is shorter | 1 2 0,3 3 => 0,1,2
+a cycle within another | 1 2 1,0 => 0,1,2
+a diamond with three of the shortest | 3,1,2 4 4 4 0 => 0,1,4
+the shortest has greater numbers | 1,3 2 0 0 => 0,3
+an edge to itself is the shortest | 1,0 0 => 0
+repeated edges | 1,1,1 2,2 0,0 => 0,1,2
+an edge past the last node | 7,1 9
+the least node is between cycles | 1 2,2 1 4,0 3 => 1,2
+a diamond without a cycle | 1,2 3 3 _
+the least next node, and then the least after it | 2,1 5,3 3 0 _ 0 => 0,1,3";
 
-static CASES: &[Case] = &[
-    ("no nodes", &[], &[]),
-    ("no edges", &[&[], &[]], &[]),
-    ("a node that leads to itself", &[&[1], &[1]], &[1]),
-    ("a tail into a cycle", &[&[1], &[2], &[3], &[1]], &[1, 2, 3]),
-    (
-        "two cycles, of which the first has the least node",
-        &[&[], &[2], &[1], &[4], &[3]],
-        &[1, 2],
-    ),
-    (
-        "a later cycle is shorter",
-        &[&[1], &[2], &[0, 3], &[3]],
-        &[0, 1, 2],
-    ),
-    ("a cycle within another", &[&[1], &[2], &[1, 0]], &[0, 1, 2]),
-    (
-        "a diamond with three of the shortest",
-        &[&[3, 1, 2], &[4], &[4], &[4], &[0]],
-        &[0, 1, 4],
-    ),
-    (
-        "the shortest has greater numbers",
-        &[&[1, 3], &[2], &[0], &[0]],
-        &[0, 3],
-    ),
-    ("an edge to itself is the shortest", &[&[1, 0], &[0]], &[0]),
-    (
-        "repeated edges",
-        &[&[1, 1, 1], &[2, 2], &[0, 0]],
-        &[0, 1, 2],
-    ),
-    ("an edge past the last node", &[&[7, 1], &[9]], &[]),
-    (
-        "the least node is between cycles",
-        &[&[1], &[2, 2], &[1], &[4, 0], &[3]],
-        &[1, 2],
-    ),
-    (
-        "a diamond without a cycle",
-        &[&[1, 2], &[3], &[3], &[]],
-        &[],
-    ),
-    (
-        "the least next node, and then the least after it",
-        &[&[2, 1], &[5, 3], &[3], &[0], &[], &[0]],
-        &[0, 1, 3],
-    ),
-];
+/// The numbers of a text with `,` between them.
+fn numbers(alloc: Global, text: &str) -> Result<Vec<u32>, AllocError> {
+    let mut all = Vec::new(alloc);
+    for part in text.split(',') {
+        if let Ok(number) = part.parse::<u32>() {
+            all.push(number)?;
+        }
+    }
+    Ok(all)
+}
+
+/// The graph that has a node for each word.
+fn graph(alloc: Global, text: &str) -> Result<Vec<Vec<u32>>, AllocError> {
+    let mut graph = Vec::new(alloc);
+    for word in text.split_whitespace() {
+        graph.push(numbers(alloc, word)?)?;
+    }
+    Ok(graph)
+}
 
 /// `nodes` nodes, each of which leads to the next, and then nodes with these successors.
 fn path_then(alloc: Global, nodes: u32, rows: &[&[u32]]) -> Result<Vec<Vec<u32>>, AllocError> {
@@ -94,22 +79,19 @@ fn is_first(alloc: Global, graph: &[Vec<u32>], wanted: &[u32]) -> Result<bool, A
     })
 }
 
-/// The names of the small graphs whose first cycle is not the wanted one.
-fn wrong(alloc: Global) -> Result<Vec<&'static str>, AllocError> {
-    let mut wrong: Vec<&'static str> = Vec::new(alloc);
-    for (name, rows, wanted) in CASES {
-        let graph = path_then(alloc, 0, rows)?;
-        if !is_first(alloc, graph.as_slice(), wanted)? {
-            wrong.push(*name)?;
-        }
-    }
-    Ok(wrong)
-}
-
 #[test]
 fn finds_the_first_cycle(rt: HostRuntime) -> Result<(), Fail> {
-    let wrong = wrong(rt.alloc())?;
-    assert!(rt; wrong.is_empty(), "{wrong:?}");
+    let alloc = rt.alloc();
+    let mut wrong = String::new(alloc);
+    for row in TABLE.lines() {
+        let (asked, wanted) = answered(row);
+        let graph = graph(alloc, cut(asked).1)?;
+        let wanted = numbers(alloc, wanted)?;
+        if !is_first(alloc, graph.as_slice(), wanted.as_slice())? {
+            push_row(&mut wrong, row, "another")?;
+        }
+    }
+    assert_eq!(rt; wrong.as_str(), "");
     Ok(())
 }
 

@@ -14,6 +14,8 @@ mod places;
 #[cfg(test)]
 mod predicates;
 #[cfg(test)]
+mod rows;
+#[cfg(test)]
 mod symbols;
 #[cfg(test)]
 mod tokens;

@@ -1,4 +1,5 @@
 // Places of names, worked out by hand.
+use crate::rows::{answered, cut, push_other};
 use g4_base::Text;
 use g4_places::{Places, places_of};
 use std::alloc::{AllocError, Global};
@@ -14,29 +15,36 @@ fn words(alloc: Global, text: &str) -> Result<Vec<Text>, AllocError> {
 }
 
 /// The place of the name among the words of a text.
-fn place(alloc: Global, text: &str, name: &str) -> Result<Option<u32>, AllocError> {
+fn place(alloc: Global, text: &str, name: &str) -> Result<String, AllocError> {
     let names = words(alloc, text)?;
     let places = places_of(alloc, names.as_slice())?;
-    Ok(places.place_of(name))
+    match places.place_of(name) {
+        Some(place) => format!(in alloc; "{place}"),
+        None => String::from_str(alloc, "none"),
+    }
 }
 
-static TABLE: [(&str, &str, &str, Option<u32>); 8] = [
-    ("no names", "", "a", None),
-    ("the first", "a b c", "a", Some(0)),
-    ("the last", "a b c", "c", Some(2)),
-    ("another", "a b c", "d", None),
-    ("the first of two", "b a c a", "a", Some(1)),
-    ("not one that begins with it", "aa a", "a", Some(1)),
-    ("not one that it begins with", "a ab", "ab", Some(1)),
-    ("the empty name", "a b", "", None),
-];
+/// What a row shows, a text, a name, and the place of the name among the words of the text.
+const TABLE: &str = "no names |  | a => none
+the first | a b c | a => 0
+the last | a b c | c => 2
+another | a b c | d => none
+the first of two | b a c a | a => 1
+not one that begins with it | aa a | a => 1
+not one that it begins with | a ab | ab => 1
+the empty name | a b |  => none";
 
 #[test]
 fn places_of_words(rt: HostRuntime) -> Result<(), Fail> {
-    for (shown, text, name, wanted) in &TABLE {
-        let found = place(rt.alloc(), text, name)?;
-        assert_eq!(rt; found, *wanted, "{shown}");
+    let alloc = rt.alloc();
+    let mut wrong = String::new(alloc);
+    for row in TABLE.lines() {
+        let (asked, wanted) = answered(row);
+        let (text, name) = cut(cut(asked).1);
+        let found = place(alloc, text, name)?;
+        push_other(&mut wrong, asked, found.as_str(), wanted)?;
     }
+    assert_eq!(rt; wrong.as_str(), "");
     Ok(())
 }
 

@@ -1,4 +1,5 @@
 // Texts and their predicates, worked out by hand.
+use crate::rows::{answered, cut, push_other, unescaped};
 use g4_base::Place;
 use g4_preds::{Node, Predicate, PredicateFault, Test};
 use std::alloc::{AllocError, Global};
@@ -35,6 +36,7 @@ fn written(alloc: Global, nodes: &[Node]) -> Result<String, AllocError> {
         }
         out.push(' ')?;
     }
+    out.pop();
     Ok(out)
 }
 
@@ -50,96 +52,105 @@ fn answer(alloc: Global, text: &str) -> Result<String, AllocError> {
     }
 }
 
-const PREDICATES: &[(&str, &str)] = &[
-    ("true", "true "),
-    (" \t\nfalse ", "false "),
-    ("flag(a)", "flag:a "),
-    ("flag(true)", "flag:true "),
-    ("flag(flag)", "flag:flag "),
-    ("flag(é1_)", "flag:é1_ "),
-    ("inside ( r ) ", "inside:r "),
-    ("text(1)=='a\\n\\u0062\\''", "text1:a\nb' "),
-    ("text ( 8 ) == ' ' ", "text8:  "),
-    ("!flag(a)&&flag(b)", "flag:a ! flag:b & "),
-    ("!!true", "true ! ! "),
-    ("!(true && false)", "true false & ! "),
-    ("true||false&&flag(c)", "true false flag:c & | "),
-    ("true&&false||flag(c)", "true false & flag:c | "),
-    ("(true||false)&&flag(c)", "true false | flag:c & "),
-    ("true&&false&&flag(c)", "true false & flag:c & "),
-    ("true||false||!flag(c)", "true false | flag:c ! | "),
-    ("((true))", "true "),
-];
+/// Texts with the nodes of their predicates in postfix order. `¶` is a newline.
+const PREDICATES: &str = "true => true
+\u{20}\t¶false  => false
+flag(a) => flag:a
+flag(true) => flag:true
+flag(flag) => flag:flag
+flag(é1_) => flag:é1_
+inside ( r )  => inside:r
+text(1)=='a\\n\\u0062\\'' => text1:a¶b'
+text ( 8 ) == ' '  => text8:\u{20}
+!flag(a)&&flag(b) => flag:a ! flag:b &
+!!true => true ! !
+!(true && false) => true false & !
+true||false&&flag(c) => true false flag:c & |
+true&&false||flag(c) => true false & flag:c |
+(true||false)&&flag(c) => true false | flag:c &
+true&&false&&flag(c) => true false & flag:c &
+true||false||!flag(c) => true false | flag:c ! |
+((true)) => true";
 
-const NO_PREDICATES: &[&str] = &[
-    "",
-    " ",
-    "flag",
-    "flag()",
-    "flag(1)",
-    "flag(_a)",
-    "flag(a b)",
-    "flag(a",
-    "flagx(a)",
-    "inside",
-    "true1",
-    "true_",
-    "True",
-    "name",
-    "text(0)=='a'",
-    "text(9)=='a'",
-    "text(12)=='a'",
-    "text()=='a'",
-    "text(1)",
-    "text(1)=='",
-    "text(1)==''",
-    "text(1)=='a",
-    "text(1)=='a\nb'",
-    "text(1)=='\\q'",
-    "text(1)='a'",
-    "text(1)= ='a'",
-    "'a'==text(1)",
-    "true|false",
-    "true&false",
-    "true& &false",
-    "true false",
-    "true&&",
-    "&&true",
-    "true||",
-    "true&&||false",
-    "()",
-    "(true",
-    "true)",
-    "!",
-    "true!",
-    "true\r",
-    "true /* */",
-    "true;",
-];
+/// Texts that are no predicate. `¶` is a newline.
+const NO_PREDICATES: &str = "
+\u{20}
+flag
+flag()
+flag(1)
+flag(_a)
+flag(a b)
+flag(a
+flagx(a)
+inside
+true1
+true_
+True
+name
+text(0)=='a'
+text(9)=='a'
+text(12)=='a'
+text()=='a'
+text(1)
+text(1)=='
+text(1)==''
+text(1)=='a
+text(1)=='a¶b'
+text(1)=='\\q'
+text(1)='a'
+text(1)= ='a'
+'a'==text(1)
+true|false
+true&false
+true& &false
+true false
+true&&
+&&true
+true||
+true&&||false
+()
+(true
+true)
+!
+true!
+true\r => unknown 3:7
+true /* */
+true;";
+
+/// The rows that are read as something else, where a row without an answer is no predicate.
+fn wrong_rows(alloc: Global, rows: &str) -> Result<String, AllocError> {
+    let mut wrong = String::new(alloc);
+    for row in rows.lines() {
+        let meant = unescaped(alloc, row)?;
+        let meant = meant.as_str();
+        let (text, wanted) = meant.split_once(" => ").unwrap_or((meant, "unknown 3:7"));
+        let found = answer(alloc, text)?;
+        push_other(&mut wrong, text, found.as_str(), wanted)?;
+    }
+    Ok(wrong)
+}
 
 #[test]
 fn predicates_are_read(rt: HostRuntime) -> Result<(), Fail> {
-    for (text, wanted) in PREDICATES {
-        let found = answer(rt.alloc(), text)?;
-        assert_eq!(rt; found.as_str(), *wanted, "at {text}");
-    }
+    let wrong = wrong_rows(rt.alloc(), PREDICATES)?;
+    assert_eq!(rt; wrong.as_str(), "");
     Ok(())
 }
 
 #[test]
 fn other_texts_are_none(rt: HostRuntime) -> Result<(), Fail> {
-    for text in NO_PREDICATES {
-        let found = answer(rt.alloc(), text)?;
-        assert_eq!(rt; found.as_str(), "unknown 3:7", "at {text}");
-    }
+    let wrong = wrong_rows(rt.alloc(), NO_PREDICATES)?;
+    assert_eq!(rt; wrong.as_str(), "");
     Ok(())
 }
 
 /// How often the large texts repeat a part.
 const MANY: usize = 300_000;
 
-/// The first part many times, then the second, then the last many times.
-fn repeated(alloc: Global, first: &str, second: &str, last: &str) -> Result<String, AllocError> {
+/// The first of these parts many times, then the second, then the last many times.
+fn repeated(alloc: Global, parts: &str) -> Result<String, AllocError> {
+    let (first, rest) = cut(parts);
+    let (second, last) = cut(rest);
     let mut text = String::new(alloc);
     for _ in 0..MANY {
         text.push_str(first)?;
@@ -164,25 +175,28 @@ fn counts(alloc: Global, text: &str) -> Result<String, AllocError> {
     }
 }
 
-const LARGE: &[(&str, &str, &str, &str)] = &[
-    ("(", "true", ")", "1 0"),
-    ("(", "true", "", "unknown"),
-    ("!", "true", "", "300001 0"),
-    ("!(", "true", ")", "300001 0"),
-    ("inside(r)&&", "true", "", "600001 300000"),
-    ("inside(r)||", "true", "||inside(s)", "1200001 600000"),
-    ("!true&&(true||", "inside(r)", ")", "1500001 1"),
-    (" ", "flag(name", "", "unknown"),
-    ("", "text(1)=='a", "", "unknown"),
-];
+/// The parts of large texts, as `repeated` takes them, each with the count of its nodes and of the rules that it names.
+const LARGE: &str = "( | true | ) => 1 0
+( | true => unknown
+! | true => 300001 0
+!( | true | ) => 300001 0
+inside(r)&& | true => 600001 300000
+inside(r)|| | true | ||inside(s) => 1200001 600000
+!true&&(true|| | inside(r) | ) => 1500001 1
+\u{20} | flag(name => unknown
+ | text(1)=='a => unknown";
 
 #[test]
 fn large_texts_are_read(rt: HostRuntime) -> Result<(), Fail> {
-    for (first, second, last, wanted) in LARGE {
-        let text = repeated(rt.alloc(), first, second, last)?;
-        let found = counts(rt.alloc(), text.as_str())?;
-        assert_eq!(rt; found.as_str(), *wanted, "at {first}{second}{last}");
+    let alloc = rt.alloc();
+    let mut wrong = String::new(alloc);
+    for row in LARGE.lines() {
+        let (parts, wanted) = answered(row);
+        let text = repeated(alloc, parts)?;
+        let found = counts(alloc, text.as_str())?;
+        push_other(&mut wrong, parts, found.as_str(), wanted)?;
     }
+    assert_eq!(rt; wrong.as_str(), "");
     Ok(())
 }
 

@@ -1,4 +1,5 @@
 // Texts and their tokens, worked out by hand.
+use crate::rows::{answered, push_other, unescaped};
 use g4_tokens::{Kind, ScanFault, Token, literal_characters, scan};
 use std::alloc::{AllocError, Global};
 use std::fmt::Write;
@@ -67,6 +68,7 @@ fn table(alloc: Global, bytes: &[u8]) -> Result<String, AllocError> {
             for token in tokens.as_slice() {
                 push_token(&mut out, token)?;
             }
+            out.pop();
         }
         Err(ScanFault::Syntax(place, index)) => {
             let line = place.line;
@@ -79,98 +81,60 @@ fn table(alloc: Global, bytes: &[u8]) -> Result<String, AllocError> {
     Ok(out)
 }
 
-const TABLE: &[(&str, &str)] = &[
-    ("", ""),
-    ("\u{FEFF}", ""),
-    (" \t\r\n\u{C}// c", ""),
-    (
-        "a : [x-z] ; B\n: [a-z]+ -> c ;",
-        "lower 1:0 0..1; : 1:2 2..3; arguments 1:4 4..9; ; 1:10 10..11; upper 1:12 12..13; : 2:0 14..15; set 2:2 16..21; + 2:7 21..22; -> 2:9 23..25; lower 2:12 26..27; ; 2:14 28..29; ",
-    ),
-    (
-        "fragment A:[ \\n\\]\\-a-z-];",
-        "lower 1:0 0..8; upper 1:9 9..10; : 1:10 10..11; set 1:11 11..24; ; 1:24 24..25; ",
-    ),
-    (
-        "A:[\\n\\r\\t\\b\\f\\\\\\]\\-\\u0041\\u{1F600}\\p{Lu}\\P{Script=Greek}'\n]",
-        "upper 1:0 0..1; : 1:1 1..2; set 1:2 2..59; ",
-    ),
-    (
-        "\u{FEFF}é /* x\n*/ 'a' // b\n42",
-        "lower 1:0 3..5; literal 2:3 14..17; number 3:0 23..25; ",
-    ),
-    (
-        "'é€😀' b '\\u0041\\u{1F600}\\''",
-        "literal 1:0 0..11; lower 1:6 12..13; literal 1:8 14..33; ",
-    ),
-    ("'\\n\\r\\t\\b\\f\\\\\\'\\\"\\€'", "literal 1:0 0..22; "),
-    (
-        "r[int x[3]]:É_1;",
-        "lower 1:0 0..1; arguments 1:1 1..11; : 1:11 11..12; upper 1:12 12..16; ; 1:15 16..17; ",
-    ),
-    ("{ \"}\" {} '}' /* } */ // }\n ' }", "action 1:0 0..30; "),
-    ("{ \"\\\"\\\" '\\' }", "action 1:0 0..13; "),
-    (
-        ": :: ; | ( ) ? * + += . .. ~ = # -> , @ < >",
-        ": 1:0 0..1; :: 1:2 2..4; ; 1:5 5..6; | 1:7 7..8; ( 1:9 9..10; ) 1:11 11..12; ? 1:13 13..14; * 1:15 15..16; + 1:17 17..18; += 1:19 19..21; . 1:22 22..23; .. 1:24 24..26; ~ 1:27 27..28; = 1:29 29..30; # 1:31 31..32; -> 1:33 33..35; , 1:36 36..37; @ 1:38 38..39; < 1:40 40..41; > 1:42 42..43; ",
-    ),
-    (
-        ":::|...+=-..+=#}-$(*)",
-        ":: 1:0 0..2; : 1:2 2..3; | 1:3 3..4; .. 1:4 4..6; . 1:6 6..7; += 1:7 7..9; stray 1:9 9..10; .. 1:10 10..12; += 1:12 12..14; # 1:14 14..15; stray 1:15 15..16; stray 1:16 16..17; stray 1:17 17..18; ( 1:18 18..19; * 1:19 19..20; ) 1:20 20..21; ",
-    ),
-    (
-        "options { a = b; } tokens{A}}",
-        "lower 1:0 0..7; { 1:8 8..9; lower 1:10 10..11; = 1:12 12..13; lower 1:14 14..15; ; 1:15 15..16; } 1:17 17..18; lower 1:19 19..25; { 1:25 25..26; upper 1:26 26..27; } 1:27 27..28; stray 1:28 28..29; ",
-    ),
-    (
-        "channels // {\n{ A } options { } B : [a] ;",
-        "lower 1:0 0..8; { 2:0 14..15; upper 2:2 16..17; } 2:4 18..19; lower 2:6 20..27; { 2:14 28..29; } 2:16 30..31; upper 2:18 32..33; : 2:20 34..35; set 2:22 36..39; ; 2:26 40..41; ",
-    ),
-    (
-        "A options { a = {x}; } : ( options{} : [}] ) options {} ;",
-        "upper 1:0 0..1; lower 1:2 2..9; { 1:10 10..11; lower 1:12 12..13; = 1:14 14..15; action 1:16 16..19; ; 1:19 19..20; } 1:21 21..22; : 1:23 23..24; ( 1:25 25..26; lower 1:27 27..34; { 1:34 34..35; } 1:35 35..36; : 1:37 37..38; set 1:39 39..42; ) 1:43 43..44; lower 1:45 45..52; action 1:53 53..55; ; 1:56 56..57; ",
-    ),
-    (
-        "r : tokens {} ; @tokens {} @a::options {}",
-        "lower 1:0 0..1; : 1:2 2..3; lower 1:4 4..10; action 1:11 11..13; ; 1:14 14..15; @ 1:16 16..17; lower 1:17 17..23; action 1:24 24..26; @ 1:27 27..28; lower 1:28 28..29; :: 1:29 29..31; lower 1:31 31..38; action 1:39 39..41; ",
-    ),
-    (
-        "r : x ; catch [e] {;} A : [a] ; r tokens {}",
-        "lower 1:0 0..1; : 1:2 2..3; lower 1:4 4..5; ; 1:6 6..7; lower 1:8 8..13; arguments 1:14 14..17; action 1:18 18..21; upper 1:22 22..23; : 1:24 24..25; set 1:26 26..29; ; 1:30 30..31; lower 1:32 32..33; lower 1:34 34..40; action 1:41 41..43; ",
-    ),
-    (
-        "private A[i] : x [a] ; public b : A [a]",
-        "lower 1:0 0..7; upper 1:8 8..9; arguments 1:9 9..12; : 1:13 13..14; lower 1:15 15..16; set 1:17 17..20; ; 1:21 21..22; lower 1:23 23..29; lower 1:30 30..31; : 1:32 32..33; upper 1:34 34..35; arguments 1:36 36..39; ",
-    ),
-    ("a\n 'b", "fault 2:1 3"),
-    ("é 'b", "fault 1:2 3"),
-    ("\u{FEFF}'b", "fault 1:0 3"),
-    ("''", "fault 1:0 0"),
-    ("'\n'", "fault 1:0 0"),
-    ("'\\\n'", "fault 1:0 0"),
-    ("a '\\q'", "fault 1:2 2"),
-    ("'\\p{Lu}'", "fault 1:0 0"),
-    ("'\\uD800'", "fault 1:0 0"),
-    ("'\\u{110000}'", "fault 1:0 0"),
-    ("'\\u{0000041}'", "fault 1:0 0"),
-    ("'\\u004'", "fault 1:0 0"),
-    ("'a\\", "fault 1:0 0"),
-    ("A:[a", "fault 1:2 2"),
-    ("A:[\\p]", "fault 1:2 2"),
-    ("A:[\\p{L", "fault 1:2 2"),
-    ("A:[\\a]", "fault 1:2 2"),
-    ("a[[]", "fault 1:1 1"),
-    ("a{{}", "fault 1:1 1"),
-    ("a/*/", "fault 1:1 1"),
-    ("options {{", "fault 1:9 9"),
-];
+/// Texts with their tokens, or their fault. `¶` is a newline.
+const TABLE: &str = "
+\u{FEFF}
+\u{20}\t\r¶\u{C}// c
+a : [x-z] ; B¶: [a-z]+ -> c ; => lower 1:0 0..1; : 1:2 2..3; arguments 1:4 4..9; ; 1:10 10..11; upper 1:12 12..13; : 2:0 14..15; set 2:2 16..21; + 2:7 21..22; -> 2:9 23..25; lower 2:12 26..27; ; 2:14 28..29;
+fragment A:[ \\n\\]\\-a-z-]; => lower 1:0 0..8; upper 1:9 9..10; : 1:10 10..11; set 1:11 11..24; ; 1:24 24..25;
+A:[\\n\\r\\t\\b\\f\\\\\\]\\-\\u0041\\u{1F600}\\p{Lu}\\P{Script=Greek}'¶] => upper 1:0 0..1; : 1:1 1..2; set 1:2 2..59;
+\u{FEFF}é /* x¶*/ 'a' // b¶42 => lower 1:0 3..5; literal 2:3 14..17; number 3:0 23..25;
+'é€😀' b '\\u0041\\u{1F600}\\'' => literal 1:0 0..11; lower 1:6 12..13; literal 1:8 14..33;
+'\\n\\r\\t\\b\\f\\\\\\'\\\"\\€' => literal 1:0 0..22;
+r[int x[3]]:É_1; => lower 1:0 0..1; arguments 1:1 1..11; : 1:11 11..12; upper 1:12 12..16; ; 1:15 16..17;
+{ \"}\" {} '}' /* } */ // }¶ ' } => action 1:0 0..30;
+{ \"\\\"\\\" '\\' } => action 1:0 0..13;
+: :: ; | ( ) ? * + += . .. ~ = # -> , @ < > => : 1:0 0..1; :: 1:2 2..4; ; 1:5 5..6; | 1:7 7..8; ( 1:9 9..10; ) 1:11 11..12; ? 1:13 13..14; * 1:15 15..16; + 1:17 17..18; += 1:19 19..21; . 1:22 22..23; .. 1:24 24..26; ~ 1:27 27..28; = 1:29 29..30; # 1:31 31..32; -> 1:33 33..35; , 1:36 36..37; @ 1:38 38..39; < 1:40 40..41; > 1:42 42..43;
+:::|...+=-..+=#}-$(*) => :: 1:0 0..2; : 1:2 2..3; | 1:3 3..4; .. 1:4 4..6; . 1:6 6..7; += 1:7 7..9; stray 1:9 9..10; .. 1:10 10..12; += 1:12 12..14; # 1:14 14..15; stray 1:15 15..16; stray 1:16 16..17; stray 1:17 17..18; ( 1:18 18..19; * 1:19 19..20; ) 1:20 20..21;
+options { a = b; } tokens{A}} => lower 1:0 0..7; { 1:8 8..9; lower 1:10 10..11; = 1:12 12..13; lower 1:14 14..15; ; 1:15 15..16; } 1:17 17..18; lower 1:19 19..25; { 1:25 25..26; upper 1:26 26..27; } 1:27 27..28; stray 1:28 28..29;
+channels // {¶{ A } options { } B : [a] ; => lower 1:0 0..8; { 2:0 14..15; upper 2:2 16..17; } 2:4 18..19; lower 2:6 20..27; { 2:14 28..29; } 2:16 30..31; upper 2:18 32..33; : 2:20 34..35; set 2:22 36..39; ; 2:26 40..41;
+A options { a = {x}; } : ( options{} : [}] ) options {} ; => upper 1:0 0..1; lower 1:2 2..9; { 1:10 10..11; lower 1:12 12..13; = 1:14 14..15; action 1:16 16..19; ; 1:19 19..20; } 1:21 21..22; : 1:23 23..24; ( 1:25 25..26; lower 1:27 27..34; { 1:34 34..35; } 1:35 35..36; : 1:37 37..38; set 1:39 39..42; ) 1:43 43..44; lower 1:45 45..52; action 1:53 53..55; ; 1:56 56..57;
+r : tokens {} ; @tokens {} @a::options {} => lower 1:0 0..1; : 1:2 2..3; lower 1:4 4..10; action 1:11 11..13; ; 1:14 14..15; @ 1:16 16..17; lower 1:17 17..23; action 1:24 24..26; @ 1:27 27..28; lower 1:28 28..29; :: 1:29 29..31; lower 1:31 31..38; action 1:39 39..41;
+r : x ; catch [e] {;} A : [a] ; r tokens {} => lower 1:0 0..1; : 1:2 2..3; lower 1:4 4..5; ; 1:6 6..7; lower 1:8 8..13; arguments 1:14 14..17; action 1:18 18..21; upper 1:22 22..23; : 1:24 24..25; set 1:26 26..29; ; 1:30 30..31; lower 1:32 32..33; lower 1:34 34..40; action 1:41 41..43;
+private A[i] : x [a] ; public b : A [a] => lower 1:0 0..7; upper 1:8 8..9; arguments 1:9 9..12; : 1:13 13..14; lower 1:15 15..16; set 1:17 17..20; ; 1:21 21..22; lower 1:23 23..29; lower 1:30 30..31; : 1:32 32..33; upper 1:34 34..35; arguments 1:36 36..39;
+a¶ 'b => fault 2:1 3
+é 'b => fault 1:2 3
+\u{FEFF}'b => fault 1:0 3
+'' => fault 1:0 0
+'¶' => fault 1:0 0
+'\\¶' => fault 1:0 0
+a '\\q' => fault 1:2 2
+'\\p{Lu}' => fault 1:0 0
+'\\uD800' => fault 1:0 0
+'\\u{110000}' => fault 1:0 0
+'\\u{0000041}' => fault 1:0 0
+'\\u004' => fault 1:0 0
+'a\\ => fault 1:0 0
+A:[a => fault 1:2 2
+A:[\\p] => fault 1:2 2
+A:[\\p{L => fault 1:2 2
+A:[\\a] => fault 1:2 2
+a[[] => fault 1:1 1
+a{{} => fault 1:1 1
+a/*/ => fault 1:1 1
+options {{ => fault 1:9 9";
 
 #[test]
 fn scans_texts(rt: HostRuntime) -> Result<(), Fail> {
-    for (text, wanted) in TABLE {
-        let found = table(rt.alloc(), text.as_bytes())?;
-        assert_eq!(rt; found.as_str(), *wanted, "at {text}");
+    let alloc = rt.alloc();
+    let mut wrong = String::new(alloc);
+    for row in TABLE.lines() {
+        let meant = unescaped(alloc, row)?;
+        let (text, wanted) = answered(meant.as_str());
+        let found = table(alloc, text.as_bytes())?;
+        push_other(&mut wrong, text, found.as_str(), wanted)?;
     }
+    assert_eq!(rt; wrong.as_str(), "");
     Ok(())
 }
 
@@ -190,29 +154,39 @@ fn bytes_that_are_no_text_are_reported_before_faults(rt: HostRuntime) -> Result<
     Ok(())
 }
 
-const LITERALS: &[(&str, &str)] = &[
-    ("'a'", "a"),
-    ("'é€😀'", "é€😀"),
-    ("'\\n\\r\\t\\b\\f'", "\n\r\t\u{8}\u{C}"),
-    ("'\\\\\\'\\-'", "\\'-"),
-    ("'\\u0041b\\u{1F600}'", "Ab😀"),
-    ("", ""),
-    ("'", ""),
-    ("'a\\q", "a"),
-    ("'a'b", "a"),
-];
+/// Literals with the characters that they represent. `¶` is a newline.
+const LITERALS: &str = "'a' => a
+'é€😀' => é€😀
+'\\n\\r\\t\\b\\f' => ¶\r\t\u{8}\u{C}
+'\\\\\\'\\-' => \\'-
+'\\u0041b\\u{1F600}' => Ab😀
+
+'
+'a\\q => a
+'a'b => a";
+
+/// The characters that the literal represents.
+fn represented(alloc: Global, literal: &str) -> Result<String, AllocError> {
+    let text: Vec<char> = literal.chars().collect(alloc)?;
+    let found = literal_characters(alloc, &text)?;
+    let mut all = String::new(alloc);
+    for c in found.as_slice() {
+        all.push(*c)?;
+    }
+    Ok(all)
+}
 
 #[test]
 fn literals_stand_for_characters(rt: HostRuntime) -> Result<(), Fail> {
-    for (literal, wanted) in LITERALS {
-        let text: Vec<char> = literal.chars().collect(rt.alloc())?;
-        let found = literal_characters(rt.alloc(), &text)?;
-        let mut spelled = String::new(rt.alloc());
-        for c in found.as_slice() {
-            spelled.push(*c)?;
-        }
-        assert_eq!(rt; spelled.as_str(), *wanted, "at {literal}");
+    let alloc = rt.alloc();
+    let mut wrong = String::new(alloc);
+    for row in LITERALS.lines() {
+        let meant = unescaped(alloc, row)?;
+        let (literal, wanted) = answered(meant.as_str());
+        let found = represented(alloc, literal)?;
+        push_other(&mut wrong, literal, found.as_str(), wanted)?;
     }
+    assert_eq!(rt; wrong.as_str(), "");
     Ok(())
 }
 
