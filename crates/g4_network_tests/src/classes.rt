@@ -103,26 +103,27 @@ fn many_edges(alloc: Global, single: u32, wide: u32) -> Result<ParserNetwork, Al
     Ok(network_of(alloc, states))
 }
 
+/// The classes of such a network.
+fn many_classes(alloc: Global, single: u32, wide: u32) -> Result<Classes, AllocError>
+    requires { wide < 1000 }
+{
+    let net = many_edges(alloc, single, wide)?;
+    classes_of(alloc, &net)
+}
+
+/// Whether the types before this one have the first class, each later type its own, and EOF and END that of what no set has.
+fn are_alone_from(classes: &Classes, first: u32) -> bool {
+    (1..first).all(|symbol| classes.class_of(symbol) == 1)
+        && (first..4_001).all(|symbol| classes.class_of(symbol) == symbol)
+        && classes.class_of(EOF) == 4_001
+        && classes.class_of(END) == 4_001
+}
+
 #[test]
 fn classes_of_large_networks(rt: HostRuntime) -> Result<(), Fail> {
-    let alloc = rt.alloc();
-    let net = many_edges(alloc, 60_000, 200)?;
-    let classes = classes_of(alloc, &net)?;
-    assert!(rt;
-        (1..4_001u32).all(|symbol| classes.class_of(symbol) == symbol),
-        "each alone"
-    );
-    assert_eq!(rt; classes.class_of(EOF), 4_001, "the others");
-    let net = many_edges(alloc, 0, 200)?;
-    let classes = classes_of(alloc, &net)?;
-    assert!(rt;
-        (1..3_802u32).all(|symbol| classes.class_of(symbol) == 1),
-        "in each set"
-    );
-    assert!(rt;
-        (3_802..4_001u32).all(|symbol| classes.class_of(symbol) == symbol),
-        "in some"
-    );
-    assert_eq!(rt; classes.class_of(END), 4_001, "in no set");
+    for (single, first) in [(60_000, 1), (0, 3_802)] {
+        let classes = many_classes(rt.alloc(), single, 200)?;
+        assert!(rt; are_alone_from(&classes, first), "{single} edges of one type");
+    }
     Ok(())
 }

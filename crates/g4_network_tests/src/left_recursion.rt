@@ -163,18 +163,33 @@ fn numbers(alloc: Global, numbering: &Numbering) -> Result<String, AllocError> {
     Ok(shown)
 }
 
-/// The rules of the words of a text, rewritten and shown, each with its numbering and `/` after it.
-fn rewritten(alloc: Global, text: &str) -> Result<String, AllocError> {
+/// Adds a rule with its numbering and `/` after it.
+fn push_rule(
+    alloc: Global,
+    all: &mut String,
+    rule: &StepRule,
+    numbering: &Numbering,
+) -> Result<(), AllocError> {
+    all.push_str(shown(alloc, rule)?.as_str())?;
+    all.push_str(numbers(alloc, numbering)?.as_str())?;
+    all.push('/')
+}
+
+/// The rules of the words of a text.
+fn rules(alloc: Global, text: &str) -> Result<Vec<StepRule>, AllocError> {
     let mut rules = Vec::new(alloc);
     for word in text.split(' ') {
         rules.push(rule(alloc, word)?)?;
     }
-    let made = rewrite(alloc, rules)?;
+    Ok(rules)
+}
+
+/// The rules of the words of a text, rewritten and shown.
+fn rewritten(alloc: Global, text: &str) -> Result<String, AllocError> {
+    let made = rewrite(alloc, rules(alloc, text)?)?;
     let mut all = String::new(alloc);
     for (rule, numbering) in made.rules.iter().zip(&made.numberings) {
-        all.push_str(shown(alloc, rule)?.as_str())?;
-        all.push_str(numbers(alloc, numbering)?.as_str())?;
-        all.push('/')?;
+        push_rule(alloc, &mut all, rule, numbering)?;
     }
     Ok(all)
 }

@@ -189,52 +189,49 @@ fn refuses_other_words(rt: HostRuntime) -> Result<(), Fail> {
     Ok(())
 }
 
-/// A command line with this many files, `f0`, `f1` and so on.
-fn line_of(alloc: Global, files: usize) -> Result<String, AllocError> {
-    let mut line = String::from_str(alloc, "parse -g G -s R")?;
-    for file in 0..files {
-        write!(line, " f{file}")?;
+/// This many files, `f0`, `f1` and so on, with a blank before each.
+fn files(alloc: Global, count: usize) -> Result<String, AllocError> {
+    let mut files = String::new(alloc);
+    for file in 0..count {
+        write!(files, " f{file}")?;
     }
-    Ok(line)
+    Ok(files)
+}
+
+/// A row with as many files as a command may have, and one with one more.
+fn rows_of_files(alloc: Global) -> Result<String, AllocError> {
+    let most = files(alloc, MOST_FILES)?;
+    let row = format!(in alloc; "parse -g G -s R{most} => parse G R{most}\nparse -g G -s R{most} f")?;
+    Ok(row)
 }
 
 #[test]
 fn reads_as_many_files_as_allowed(rt: HostRuntime) -> Result<(), Fail> {
-    let alloc = rt.alloc();
-    let most = read(alloc, line_of(alloc, MOST_FILES)?.as_str())?;
-    assert!(rt; most.as_str().starts_with("parse G R f0 f1 f2 "));
-    assert!(rt; most.as_str().ends_with(" f4094 f4095"));
-    assert_eq!(rt; most.as_str().split_whitespace().count(), 4_099);
-    let more = read(alloc, line_of(alloc, MOST_FILES + 1)?.as_str())?;
-    assert_eq!(rt; more.as_str(), "usage");
+    let rows = rows_of_files(rt.alloc())?;
+    let wrong = wrong_rows(rt.alloc(), rows.as_str())?;
+    assert!(rt; wrong.is_empty());
     Ok(())
 }
 
 /// How long a long word is, in bytes.
 const LONG: usize = 1_000_000;
 
-fn long_word(alloc: Global) -> Result<String, AllocError> {
-    let mut word = String::new(alloc);
-    for _ in 0..LONG {
-        word.push('w')?;
-    }
-    Ok(word)
+/// Word lists with long words, each of which is `w` here.
+const LONG_WORDS: &str = "parse -gw -s w w => parse w w w
+check w => check w
+atn w w => atn w w";
+
+/// The rows with long words in full.
+fn long_rows(alloc: Global) -> Result<String, AllocError> {
+    let word = "w".repeat(alloc, LONG)?;
+    let rows = LONG_WORDS.replace(alloc, "w", word.as_str())?;
+    Ok(rows)
 }
 
 #[test]
 fn reads_long_words(rt: HostRuntime) -> Result<(), Fail> {
-    let alloc = rt.alloc();
-    let word = long_word(alloc)?;
-    let word = word.as_str();
-    let parse = format!(in alloc; "parse -g{word} -s {word} {word}")?;
-    let parse = read(alloc, parse.as_str())?;
-    let wanted = format!(in alloc; "parse {word} {word} {word}")?;
-    assert!(rt; parse == wanted);
-    let check = format!(in alloc; "check {word}")?;
-    let found = read(alloc, check.as_str())?;
-    assert!(rt; found == check);
-    let atn = format!(in alloc; "atn {word} {word}")?;
-    let found = read(alloc, atn.as_str())?;
-    assert!(rt; found == atn);
+    let rows = long_rows(rt.alloc())?;
+    let wrong = wrong_rows(rt.alloc(), rows.as_str())?;
+    assert!(rt; wrong.is_empty());
     Ok(())
 }

@@ -1,8 +1,6 @@
-// Trees as they are built, checked and shown.
+// Trees as they are checked and shown.
 #![tactic(auto)]
 
-#[cfg(test)]
-mod building;
 #[cfg(test)]
 mod tree_checks;
 #[cfg(test)]

@@ -336,22 +336,29 @@ fn deep(alloc: Global, count: u32) -> Result<Tree, AllocError> {
     Ok(Tree::new(all))
 }
 
+/// Whether the tree is one of the rules over 20,000 tokens `a` and a `b`.
+fn is_large_tree(alloc: Global, grammar: &str, tree: &Tree) -> Result<bool, AllocError> {
+    let rules = rules(alloc, grammar)?;
+    let tokens = many_tokens(alloc, 20_000)?;
+    check_tree(alloc, rules.as_slice(), tree, tokens.as_slice())
+}
+
 #[test]
 fn large_trees(rt: HostRuntime) -> Result<(), Fail> {
-    let tokens = many_tokens(rt.alloc(), 20_000)?;
-    let loops = rules(rt.alloc(), "a*a?@+")?;
-    let broad = wide(rt.alloc(), 20_000)?;
-    let yes = check_tree(rt.alloc(), loops.as_slice(), &broad, tokens.as_slice())?;
-    assert!(rt; yes, "a node of 20000 tokens");
-    let broader = wide(rt.alloc(), 20_001)?;
-    let yes = check_tree(rt.alloc(), loops.as_slice(), &broader, tokens.as_slice())?;
-    assert!(rt; !yes, "its last token is another");
-    let nested = rules(rt.alloc(), "a1?")?;
-    let high = deep(rt.alloc(), 20_000)?;
-    let yes = check_tree(rt.alloc(), nested.as_slice(), &high, tokens.as_slice())?;
-    assert!(rt; yes, "20000 nodes, one in the other");
-    let higher = deep(rt.alloc(), 20_001)?;
-    let yes = check_tree(rt.alloc(), nested.as_slice(), &higher, tokens.as_slice())?;
-    assert!(rt; !yes, "the last of them is wrong");
+    for (count, wanted) in [(20_000, true), (20_001, false)] {
+        let broad = wide(rt.alloc(), count)?;
+        let found = is_large_tree(rt.alloc(), "a*a?@+", &broad)?;
+        assert!(rt; found == wanted, "a node of {count} tokens");
+    }
+    Ok(())
+}
+
+#[test]
+fn high_trees(rt: HostRuntime) -> Result<(), Fail> {
+    for (count, wanted) in [(20_000, true), (20_001, false)] {
+        let high = deep(rt.alloc(), count)?;
+        let found = is_large_tree(rt.alloc(), "a1?", &high)?;
+        assert!(rt; found == wanted, "{count} nodes, one in the other");
+    }
     Ok(())
 }
