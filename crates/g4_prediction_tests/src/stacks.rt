@@ -1,5 +1,5 @@
 // Sets of stacks and their shapes: that calls with ample memory succeed, also on large sets and high stacks.
-ghost use Rattle.std.specs.Prelude.{IfOk};
+ghost use Rattle.std.specs.Prelude.{All, IfOk};
 ghost use Rattle.g4_stacks.specs.Graph.{IsNode};
 
 use g4_stacks::{Graph, Shape};
@@ -87,14 +87,27 @@ fn more_merges_of_few_sets_than_are_kept(rt: HostRuntime) -> Result<(), Fail> {
     Ok(())
 }
 
+/// Whether the shape of one set is that of these sets.
+fn has_shape(alloc: Global, graph: &Graph, node: u32, nodes: &[u32]) -> Result<bool, AllocError>
+    requires one { IsNode graph.now node }
+    requires several { All (IsNode graph.now) nodes.now }
+{
+    let shape = graph.canon(alloc, &[node])?;
+    Ok(shape.same(&graph.canon(alloc, nodes)?))
+}
+
 #[test]
 fn shapes(rt: HostRuntime) -> Result<(), Fail> {
-    let alloc = rt.alloc();
-    let (mut graph, all) = ladder(alloc)?;
-    let shape = graph.canon(alloc, &[all])?;
-    assert!(rt; shape.same(&loaded(alloc, &shape)?));
-    assert!(rt; !shape.same(&graph.canon(alloc, &[all, all])?));
-    assert!(rt; !shape.same(&graph.canon(alloc, &[graph.wild()])?));
+    let (graph, all) = ladder(rt.alloc())?;
+    assert!(rt; is_kept(rt.alloc(), &graph, all)?);
+    assert!(rt; !has_shape(rt.alloc(), &graph, all, &[all, all])?);
+    assert!(rt; !has_shape(rt.alloc(), &graph, all, &[graph.wild()])?);
+    Ok(())
+}
+
+#[test]
+fn a_push_on_no_stacks(rt: HostRuntime) -> Result<(), Fail> {
+    let mut graph = Graph::new(rt.alloc())?;
     let none = graph.push(graph.empty(), 7)?;
     assert!(rt; graph.same(none, graph.empty()));
     Ok(())
