@@ -123,7 +123,10 @@ fn are_alone_from(classes: &Classes, first: u32) -> bool {
 fn classes_of_large_networks(rt: HostRuntime) -> Result<(), Fail> {
     for (single, first) in [(60_000, 1), (0, 3_802)] {
         let classes = many_classes(rt.alloc(), single, 200)?;
-        assert!(rt; are_alone_from(&classes, first), "{single} edges of one type");
+        assert!(rt;
+            are_alone_from(&classes, first),
+            "{single} edges of one type"
+        );
     }
     Ok(())
 }

@@ -201,7 +201,9 @@ fn files(alloc: Global, count: usize) -> Result<String, AllocError> {
 /// A row with as many files as a command may have, and one with one more.
 fn rows_of_files(alloc: Global) -> Result<String, AllocError> {
     let most = files(alloc, MOST_FILES)?;
-    let row = format!(in alloc; "parse -g G -s R{most} => parse G R{most}\nparse -g G -s R{most} f")?;
+    let row = format!(in alloc;
+        "parse -g G -s R{most} => parse G R{most}\nparse -g G -s R{most} f"
+    )?;
     Ok(row)
 }
 
