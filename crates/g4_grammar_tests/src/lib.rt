@@ -1,21 +1,15 @@
-// What is checked, numbered and resolved of grammars: tables of their texts and what is answered of each, worked out by hand.
+// What grammars name, how their rules call each other, and which trees they have: tables of what is answered, worked out by hand.
 #![tactic(auto)]
 
 #[cfg(test)]
-mod checks;
-#[cfg(test)]
-mod forms;
+mod faults;
 #[cfg(test)]
 mod recursion;
 #[cfg(test)]
 mod references;
 #[cfg(test)]
-mod resolving;
-#[cfg(test)]
 mod tables;
 #[cfg(test)]
 mod texts;
 #[cfg(test)]
-mod unwritten;
-#[cfg(test)]
-mod vocabularies;
+mod tree_checks;

@@ -1,5 +1,5 @@
 // How rules call each other before anything is read, and which derive the empty word.
-use crate::checks::reported;
+use crate::faults::reported;
 use crate::texts::{Question, differing, repeated};
 use g4_checks::CheckFault;
 use g4_recursion::check_recursion;

@@ -1,5 +1,5 @@
 // What grammars name, and which of it is not there.
-use crate::checks::reported;
+use crate::faults::reported;
 use crate::texts::{Question, differing, repeated};
 use g4_checks::CheckFault;
 use g4_references::check_references;

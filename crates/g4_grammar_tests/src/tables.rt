@@ -1,12 +1,10 @@
 // Tables of grammars and what is answered of each, small ones and ones with large grammars.
 use crate::texts::{Question, differing};
-use crate::{checks, forms, recursion, references, resolving, vocabularies};
+use crate::{recursion, references};
 use std::test::Fail;
 
 /// What is asked of each row, what comes before its text, and the rows.
 const TABLES: &[(Question, &str, &str)] = &[
-    (Question::Checks, "grammar X;\n", checks::TABLE),
-    (Question::Forms, "", forms::TABLE),
     (Question::Recursion, "grammar X;\n", recursion::TABLE),
     (Question::Recursion, "lexer grammar X;\n", recursion::MODES),
     (Question::References, "grammar X;\n", references::TABLE),
@@ -15,9 +13,6 @@ const TABLES: &[(Question, &str, &str)] = &[
         "lexer grammar X;\n",
         references::MODES,
     ),
-    (Question::Steps, "grammar X;\n", resolving::TABLE),
-    (Question::Numbers, "grammar X;\n", vocabularies::TABLE),
-    (Question::Names, "grammar X;\n", vocabularies::NAMES),
 ];
 
 #[test]

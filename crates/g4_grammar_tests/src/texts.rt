@@ -1,10 +1,6 @@
 // Tables of grammars' texts, and what is answered of each.
-use crate::checks::checked;
-use crate::forms::forms;
 use crate::recursion::recursion;
 use crate::references::references;
-use crate::resolving::resolved;
-use crate::vocabularies::{numbered, repetition};
 use g4_reader::read_grammar;
 use g4_source::Source;
 use std::alloc::{AllocError, Global};
@@ -21,29 +17,19 @@ fn source_of(alloc: Global, text: &str) -> Result<Option<Source>, AllocError> {
 /// What is asked of a grammar.
 #[derive(Clone, Copy)]
 pub(crate) enum Question {
-    Checks,
-    Forms,
-    Names,
-    Numbers,
     Recursion,
     References,
-    Steps,
 }
 
 fn answer(alloc: Global, question: Question, source: &Source) -> Result<String, AllocError> {
     match question {
-        Question::Checks => checked(alloc, source),
-        Question::Forms => forms(alloc, source),
-        Question::Names => repetition(alloc, source),
-        Question::Numbers => numbered(alloc, source),
         Question::Recursion => recursion(alloc, source),
         Question::References => references(alloc, source),
-        Question::Steps => resolved(alloc, source),
     }
 }
 
 /// What is answered of the grammar of a text.
-pub(crate) fn found(alloc: Global, question: Question, text: &str) -> Result<String, AllocError> {
+fn found(alloc: Global, question: Question, text: &str) -> Result<String, AllocError> {
     match source_of(alloc, text)? {
         Some(source) => answer(alloc, question, &source),
         None => String::from_str(alloc, "no grammar"),

@@ -1,15 +1,13 @@
-// Networks: how they are built, their listing, the classes of their symbols, their checks, and the rewriting of left recursion.
+// Networks: the classes of their symbols and their checks; and sets of stacks and of configurations, also large ones.
 #![tactic(auto)]
 
 #[cfg(test)]
-mod builds;
-#[cfg(test)]
 mod classes;
-#[cfg(test)]
-mod left_recursion;
-#[cfg(test)]
-mod listings;
 #[cfg(test)]
 mod net_checks;
 #[cfg(test)]
 mod rows;
+#[cfg(test)]
+mod snapshots;
+#[cfg(test)]
+mod stacks;

@@ -1,101 +1,50 @@
-// Whole runs over files in memory.
+// Runs over files in memory: what is fetched, what is written, and what comes after a fetch or a put that fails.
 use g4_base::{Sequence, Text};
-use g4_ports::{Gate, MemFile, MemShelf, MemSink, Open};
+use g4_ports::{Gate, MemFile, MemShelf, MemSink};
 use g4_tool::{Status, run};
-use std::alloc::Global;
+use std::alloc::{AllocError, Global};
 use std::fmt::Write;
 use std::sync::atomic::{AtomicU32, Ordering};
 use std::test::Fail;
 use std::thread::Threads;
 
-const HELLO: &str = "grammar H; r : 'hello' ID ; ID : [a-z]+ ; WS : [ \\n]+ -> skip ;";
+/// The files that there are: two grammars, of which the second has a fault, and a text.
+const FILES: &str = "X.g4 = grammar X; r : 'hello' ID ; ID : [a-z]+ ; WS : [ ] -> skip ;
+Z.g4 = grammar Z; r : ;;
+f = hello x";
 
-pub fn shelf_of(
-    alloc: Global,
-    grammar: &str,
-    text: &str,
-    failing: Vec<u64>,
-) -> Result<MemShelf, Fail> {
-    let mut files = Vec::new(alloc);
-    for (name, content) in [("X.g4", grammar), ("f", text)] {
-        files.push(MemFile {
-            name: Text::copy_of(alloc, name)?,
-            bytes: Sequence::new(content.as_bytes().to_vec(alloc)?),
-        })?;
-    }
-    Ok(MemShelf::new(files, failing))
+/// Adds the file of a line.
+fn push_file(alloc: Global, files: &mut Vec<MemFile>, line: &str) -> Result<(), AllocError> {
+    let (name, content) = line.split_once(" = ").unwrap_or((line, ""));
+    let name = Text::copy_of(alloc, name)?;
+    let bytes = Sequence::new(content.as_bytes().to_vec(alloc)?);
+    files.push(MemFile { name, bytes })?;
+    Ok(())
 }
 
-pub fn words_of(alloc: Global, line: &str) -> Result<Vec<String>, Fail> {
+/// The call that fails, by its number from 0 on; `-` where none does.
+fn failing(alloc: Global, number: &str) -> Result<Vec<u64>, AllocError> {
+    match number.parse::<u64>() {
+        Ok(number) => Ok(vec![in alloc; number]?),
+        Err(_) => Ok(Vec::new(alloc)),
+    }
+}
+
+/// The files, of which one fetch fails.
+fn shelf_of(alloc: Global, fetch: &str) -> Result<MemShelf, AllocError> {
+    let mut files = Vec::new(alloc);
+    for line in FILES.lines() {
+        push_file(alloc, &mut files, line)?;
+    }
+    Ok(MemShelf::new(files, failing(alloc, fetch)?))
+}
+
+fn words_of(alloc: Global, line: &str) -> Result<Vec<String>, AllocError> {
     let mut words = Vec::new(alloc);
     for word in line.split_whitespace() {
         words.push(String::from_str(alloc, word)?)?;
     }
     Ok(words)
-}
-
-const CALLS: &str = "grammar X; r : (e ';')* ; e : t ('+' t)* ; t : '(' e ')' | 'x' ;";
-
-/// The grammar of this name, or else this text.
-fn grammar_of(grammar: &str) -> &str {
-    match grammar {
-        "HELLO" => HELLO,
-        "CALLS" => CALLS,
-        text => text,
-    }
-}
-
-/// Words, grammar and text, and what they give: out and err, where a `%` ends a line, and the status.
-const REPORTS: &str =
-    "parse -g X.g4 -s r f => HELLO => hello parrt => f: (r hello parrt)%files 1 accepted 1% =>  => Done
-parse -g X.g4 -s r f => HELLO => hello => files 1 accepted 0% => f: line 1:5 mismatched input '<EOF>' expecting ID% => Refused
-parse -g X.g4 -s r f => CALLS => x+(x); => f: (r (e (t x) + (t ( (e (t x)) ))) ;)%files 1 accepted 1% =>  => Done
-parse -g X.g4 -s e --events f => grammar X; e : e '!' # F | 'x' # X ; => x! => f: enter F 1%f: enter X 2%f: token x%f: exit X 2%f: token !%f: exit F 1%files 1 accepted 1% =>  => Done
-parse -g X.g4 -s q f => HELLO =>  =>  => X.g4: no parser rule q% => GrammarRefused
-parse -g X.g4 -s r f g => HELLO =>  =>  => g: not found% => Unread
-parse -g X.g4 -s r => HELLO =>  =>  => usage: g4 parse, check, atn, match or drill% => Usage
-check X.g4 => HELLO =>  => rules 1 tokens 3% =>  => Done
-atn X.g4 e => CALLS =>  => e%4 call t 0 17%5 end%17 decision 18 21%18 token '+' 19%19 call t 0 20%20 empty 17%21 empty 5% =>  => Done";
-
-/// What a run gives on outputs that take three bytes a put.
-fn reported<R: Threads + Sync>(
-    rt: &R,
-    alloc: Global,
-    line: &str,
-    grammar: &str,
-    text: &str,
-) -> Result<String, Fail> {
-    let words = words_of(alloc, line)?;
-    let mut shelf = shelf_of(alloc, grammar, text, Vec::new(alloc))?;
-    let mut out = MemSink::new(alloc, 200, Vec::new(alloc), 3)?;
-    let mut err = MemSink::new(alloc, 200, Vec::new(alloc), 3)?;
-    let status = run(rt, alloc, &words, &mut shelf, &mut out, &mut err, &Open);
-    let out = str::from_utf8(out.bytes()).unwrap_or("no text");
-    let err = str::from_utf8(err.bytes()).unwrap_or("no text");
-    Ok(format!(in alloc; "{out} => {err} => {status:?}")?)
-}
-
-/// The rows that give something else.
-fn differing_reports<R: Threads + Sync>(rt: &R, alloc: Global) -> Result<String, Fail> {
-    let mut all = String::new(alloc);
-    for row in REPORTS.lines() {
-        let (line, end) = row.split_once(" => ").unwrap_or((row, ""));
-        let (grammar, end) = end.split_once(" => ").unwrap_or((end, ""));
-        let (text, wanted) = end.split_once(" => ").unwrap_or((end, ""));
-        let wanted = wanted.replace(alloc, "%", "\n")?;
-        let found = reported(rt, alloc, line, grammar_of(grammar), text)?;
-        if found != wanted {
-            write!(all, "\n{row}\n  is {found}")?;
-        }
-    }
-    Ok(all)
-}
-
-#[test]
-fn reports(rt: HostRuntime) -> Result<(), Fail> {
-    let wrong = differing_reports(&rt, rt.alloc())?;
-    assert_eq!(rt; wrong.as_str(), "");
-    Ok(())
 }
 
 /// How often a file was begun, and how often one was ended.
@@ -115,106 +64,92 @@ impl Gate for Counting {
     }
 }
 
-#[test]
-fn the_gate_is_told_of_each_file(rt: HostRuntime) -> Result<(), Fail> {
-    let alloc = rt.alloc();
-    let words = words_of(alloc, "parse -g X.g4 -s r f f f")?;
-    let mut shelf = shelf_of(alloc, HELLO, "hello", Vec::new(alloc))?;
-    let mut out = MemSink::new(alloc, 200, Vec::new(alloc), 100)?;
+/// How often a file was begun and ended.
+fn parsed(alloc: Global, gate: &Counting) -> Result<String, AllocError> {
+    let entered = gate.entered.load(Ordering::SeqCst);
+    let left = gate.left.load(Ordering::SeqCst);
+    format!(in alloc; "{entered} begun {left} ended")
+}
+
+/// The status of a run, how many files were fetched, the puts on out and on err, and what out has, where a `%` ends a line.
+fn shown(
+    alloc: Global,
+    status: Status,
+    shelf: &MemShelf,
+    out: &MemSink,
+    err: &MemSink,
+) -> Result<String, AllocError> {
+    let fetches = shelf.calls;
+    let puts = out.calls();
+    let others = err.calls();
+    let written = str::from_utf8(out.bytes()).unwrap_or("no text");
+    let written = written.replace(alloc, "\n", "%")?;
+    format!(in alloc; "{status:?} {fetches} {puts} {others} {written}")
+}
+
+/// What a run gives, where a fetch and a put on out fail. Each put takes 100 bytes.
+fn found<R: Threads + Sync>(
+    rt: &R,
+    alloc: Global,
+    line: &str,
+    fetch: &str,
+    put: &str,
+) -> Result<String, AllocError> {
+    let words = words_of(alloc, line)?;
+    let mut shelf = shelf_of(alloc, fetch)?;
+    let mut out = MemSink::new(alloc, 200, failing(alloc, put)?, 100)?;
     let mut err = MemSink::new(alloc, 200, Vec::new(alloc), 100)?;
     let gate = Counting {
         entered: AtomicU32::new(0),
         left: AtomicU32::new(0),
     };
-    let status = run(&rt, alloc, &words, &mut shelf, &mut out, &mut err, &gate);
-    assert_eq!(rt; status, Status::Refused);
-    assert_eq!(rt; gate.entered.load(Ordering::SeqCst), 3);
-    assert_eq!(rt; gate.left.load(Ordering::SeqCst), 3);
-    Ok(())
+    let status = run(rt, alloc, &words, &mut shelf, &mut out, &mut err, &gate);
+    let shown = shown(alloc, status, &shelf, &out, &err)?;
+    let parsed = parsed(alloc, &gate)?;
+    format!(in alloc; "{parsed}: {shown}")
 }
 
-/// After the fetch that fails nothing is fetched or written.
-#[test]
-fn failed_fetches(rt: HostRuntime) -> Result<(), Fail> {
-    let alloc = rt.alloc();
-    let words = words_of(alloc, "parse -g X.g4 -s r f f")?;
-    for call in 0..3u64 {
-        let mut shelf = shelf_of(alloc, HELLO, "hello x", vec![in alloc; call]?)?;
-        let mut out = MemSink::new(alloc, 200, Vec::new(alloc), 100)?;
-        let mut err = MemSink::new(alloc, 200, Vec::new(alloc), 100)?;
-        let status = run(&rt, alloc, &words, &mut shelf, &mut out, &mut err, &Open);
-        assert_eq!(rt; status, Status::Unread);
-        assert_eq!(rt; shelf.calls, call + 1);
-        assert_eq!(rt; (out.calls(), err.calls()), (0, 0));
-    }
-    Ok(())
-}
+/// Words, the number of the fetch that fails, and that of the put on out; and what comes: how many files were begun and ended, the
+/// status, the fetches, the puts on out and on err, and what out has. The grammar is fetched first, and nothing is written before all
+/// files are fetched; after a failure nothing more is fetched or written.
+const RUNS: &str = "parse -g X.g4 -s r f f f | - | - => 3 begun 3 ended: Done 4 4 0 f: (r hello x)%f: (r hello x)%f: (r hello x)%files 3 accepted 3%
+parse -g X.g4 -s r f f | 0 | - => 0 begun 0 ended: Unread 1 0 0
+parse -g X.g4 -s r f f | 1 | - => 0 begun 0 ended: Unread 2 0 0
+parse -g X.g4 -s r f f | 2 | - => 0 begun 0 ended: Unread 3 0 0
+parse -g X.g4 -s r f f | - | 0 => 2 begun 2 ended: Unwritten 3 1 0
+parse -g X.g4 -s r f f | - | 1 => 2 begun 2 ended: Unwritten 3 2 0 f: (r hello x)%
+parse -g X.g4 -s r f f | - | 2 => 2 begun 2 ended: Unwritten 3 3 0 f: (r hello x)%f: (r hello x)%
+parse -g X.g4 -s r | - | - => 0 begun 0 ended: Usage 0 0 1
+parse -g Y.g4 -s r f f | - | - => 0 begun 0 ended: Unread 1 0 1
+parse -g Z.g4 -s r f f | - | - => 0 begun 0 ended: GrammarRefused 1 0 1
+parse -g X.g4 -s r f g f | - | - => 0 begun 0 ended: Unread 3 0 1
+check X.g4 | - | - => 0 begun 0 ended: Done 1 1 0 rules 1 tokens 3%
+check X.g4 f | - | - => 0 begun 0 ended: Usage 0 0 1
+atn X.g4 r | - | 0 => 0 begun 0 ended: Unwritten 1 1 0";
 
-/// After the put that fails nothing is written.
-#[test]
-fn failed_puts(rt: HostRuntime) -> Result<(), Fail> {
-    let alloc = rt.alloc();
-    let words = words_of(alloc, "parse -g X.g4 -s r f f")?;
-    let written = ["", "f: (r hello x)\n", "f: (r hello x)\nf: (r hello x)\n"];
-    for (call, taken) in written.iter().enumerate() {
-        let mut shelf = shelf_of(alloc, HELLO, "hello x", Vec::new(alloc))?;
-        let mut out = MemSink::new(alloc, 200, vec![in alloc; call as u64]?, 100)?;
-        let mut err = MemSink::new(alloc, 200, Vec::new(alloc), 100)?;
-        let status = run(&rt, alloc, &words, &mut shelf, &mut out, &mut err, &Open);
-        assert_eq!(rt; status, Status::Unwritten);
-        assert_eq!(rt;
-            (shelf.calls, out.calls(), err.calls()),
-            (3, call as u64 + 1, 0)
-        );
-        assert_eq!(rt; out.bytes(), taken.as_bytes());
-    }
-    Ok(())
-}
-
-/// Words, a grammar, and how many files a run fetches that stops: none where the words are no command, else those up to the one
-/// that is absent.
-const FETCHES: &str = "parse -g X.g4 -s r => HELLO => 0
-parse -g Y.g4 -s r f f => HELLO => 1
-parse -g X.g4 -s r f f => grammar X; r : ;; => 1
-parse -g X.g4 -s r f g f => HELLO => 3
-parse -g X.g4 -s r f f f => HELLO => 4
-check X.g4 => HELLO => 1
-check X.g4 f => HELLO => 0
-atn X.g4 r => HELLO => 1";
-
-/// How many files a run fetches.
-fn fetched<R: Threads + Sync>(
+/// Adds a row of which something else comes.
+fn push_other<R: Threads + Sync>(
     rt: &R,
     alloc: Global,
-    line: &str,
-    grammar: &str,
-) -> Result<String, Fail> {
-    let words = words_of(alloc, line)?;
-    let mut shelf = shelf_of(alloc, grammar, "hello x", Vec::new(alloc))?;
-    let mut out = MemSink::new(alloc, 200, Vec::new(alloc), 100)?;
-    let mut err = MemSink::new(alloc, 200, Vec::new(alloc), 100)?;
-    run(rt, alloc, &words, &mut shelf, &mut out, &mut err, &Open);
-    let calls = shelf.calls;
-    Ok(format!(in alloc; "{calls}")?)
-}
-
-/// The rows of which more or fewer files are fetched.
-fn differing_fetches<R: Threads + Sync>(rt: &R, alloc: Global) -> Result<String, Fail> {
-    let mut all = String::new(alloc);
-    for row in FETCHES.lines() {
-        let (line, end) = row.split_once(" => ").unwrap_or((row, ""));
-        let (grammar, wanted) = end.split_once(" => ").unwrap_or((end, ""));
-        let found = fetched(rt, alloc, line, grammar_of(grammar))?;
-        if found.as_str() != wanted {
-            write!(all, "\n{row}\n  is {found}")?;
-        }
+    all: &mut String,
+    row: &str,
+) -> Result<(), AllocError> {
+    let (asked, wanted) = row.split_once(" => ").unwrap_or((row, ""));
+    let (line, calls) = asked.split_once(" | ").unwrap_or((asked, ""));
+    let (fetch, put) = calls.split_once(" | ").unwrap_or((calls, ""));
+    let found = found(rt, alloc, line, fetch, put)?;
+    if found.trim_end() != wanted {
+        write!(all, "\n{row}\n  is {found}")?;
     }
-    Ok(all)
+    Ok(())
 }
 
 #[test]
-fn fetches(rt: HostRuntime) -> Result<(), Fail> {
-    let wrong = differing_fetches(&rt, rt.alloc())?;
+fn runs(rt: HostRuntime) -> Result<(), Fail> {
+    let mut wrong = String::new(rt.alloc());
+    for row in RUNS.lines() {
+        push_other(&rt, rt.alloc(), &mut wrong, row)?;
+    }
     assert_eq!(rt; wrong.as_str(), "");
     Ok(())
 }

@@ -1,9 +1,7 @@
-// Whole runs: grammars from their bytes, command lines, and large files.
+// Runs over files in memory, and the paths of prediction on the networks of grammars.
 #![tactic(auto)]
 
 #[cfg(test)]
 mod commands;
 #[cfg(test)]
-mod large_files;
-#[cfg(test)]
-mod loading;
+mod paths;

@@ -1,7 +1,6 @@
-// The first fault of a grammar's rules: what they name comes before how they call each other.
+// How faults of a grammar's rules are shown.
 use g4_base::{Place, Text};
-use g4_checks::{CheckFault, check};
-use g4_source::Source;
+use g4_checks::CheckFault;
 use std::alloc::{AllocError, Global};
 
 /// A kind of fault and the name in it.
@@ -57,20 +56,3 @@ pub(crate) fn reported(
         Err(fault) => shown(alloc, &fault),
     }
 }
-
-/// What is reported of the rules of a grammar.
-pub(crate) fn checked(alloc: Global, source: &Source) -> Result<String, AllocError> {
-    reported(alloc, check(alloc, source))
-}
-
-pub(crate) const TABLE: &str = "
-T : -> skip ; a : ; => none
-T : -> no ; a : | b ; => rule b
-T : -> no ; a : a ; => command no
-T : -> skip ; a : a ; => primary a
-a : 'x' # A | a ; => label a
-a : | a ; => operator a 2
-a : a . a | a . | . a | . ; => none
-a : {} a . | . ; b : (.?)* ; => loop b
-a : {} a . | . ; => cycle a
-";

@@ -1,5 +1,0 @@
-use Rattle.g4_stacks.specs.Graph.{IsNode}
-use Rattle.g4_prediction_tests.proofs.stacks.high.Given as goal
-
-abbrev pub invariant-loop-state : goal.invariant-loop-state
-invariant-loop-state l = IsNode l.graph l.left × IsNode l.graph l.right
