@@ -1,12 +1,10 @@
-// Characters, tokens, predicates, places in a text, the words of a command line, and the small searches below them.
+// Characters, tokens, predicates, places of names, and the small searches below them.
 #![tactic(auto)]
 
 #[cfg(test)]
 mod characters;
 #[cfg(test)]
 mod clauses_in_order;
-#[cfg(test)]
-mod command_lines;
 #[cfg(test)]
 mod cycles;
 #[cfg(test)]
