@@ -13,3 +13,5 @@ mod tables;
 mod texts;
 #[cfg(test)]
 mod tree_checks;
+#[cfg(test)]
+mod trees;

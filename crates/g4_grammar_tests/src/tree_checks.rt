@@ -102,7 +102,7 @@ fn rules(alloc: Global, text: &str) -> Result<Vec<StepRule>, AllocError> {
 }
 
 /// The tokens of the letters of a text.
-fn tokens(alloc: Global, text: &str) -> Result<Vec<Token>, AllocError> {
+pub(crate) fn tokens(alloc: Global, text: &str) -> Result<Vec<Token>, AllocError> {
     let mut all = Vec::new(alloc);
     for letter in text.chars() {
         all.push(Token {
@@ -139,7 +139,7 @@ fn item(word: &str) -> Item {
 }
 
 /// The items of the words of a text.
-fn tree(alloc: Global, text: &str) -> Result<Tree, AllocError> {
+pub(crate) fn tree(alloc: Global, text: &str) -> Result<Tree, AllocError> {
     let mut all = Vec::new(alloc);
     for word in text.split(' ') {
         all.push(item(word))?;
@@ -320,7 +320,7 @@ fn many_tokens(alloc: Global, count: u32) -> Result<Vec<Token>, AllocError> {
 }
 
 /// `count` nodes, each in the one before it and after its token.
-fn deep(alloc: Global, count: u32) -> Result<Tree, AllocError> {
+pub(crate) fn deep(alloc: Global, count: u32) -> Result<Tree, AllocError> {
     let mut all = Vec::new(alloc);
     for at in 0..count {
         all.push(Item::Enter {
