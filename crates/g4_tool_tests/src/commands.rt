@@ -112,7 +112,8 @@ fn found<R: Threads + Sync>(
 /// Words, the number of the fetch that fails, and that of the put on out; and what comes: how many files were begun and ended, the
 /// status, the fetches, the puts on out and on err, and what out has. The grammar is fetched first, and nothing is written before all
 /// files are fetched; after a failure nothing more is fetched or written.
-const RUNS: &str = "parse -g X.g4 -s r f f f | - | - => 3 begun 3 ended: Done 4 4 0 f: (r hello x)%f: (r hello x)%f: (r hello x)%files 3 accepted 3%
+const RUNS: &str =
+    "parse -g X.g4 -s r f f f | - | - => 3 begun 3 ended: Done 4 4 0 f: (r hello x)%f: (r hello x)%f: (r hello x)%files 3 accepted 3%
 parse -g X.g4 -s r f f | 0 | - => 0 begun 0 ended: Unread 1 0 0
 parse -g X.g4 -s r f f | 1 | - => 0 begun 0 ended: Unread 2 0 0
 parse -g X.g4 -s r f f | 2 | - => 0 begun 0 ended: Unread 3 0 0

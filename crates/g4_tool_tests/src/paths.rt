@@ -95,7 +95,11 @@ fn paths(rt: HostRuntime) -> Result<(), Fail> {
 fn a_long_path(rt: HostRuntime) -> Result<(), Fail> {
     let mut text = "a".repeat(rt.alloc(), 2_000)?;
     text.push('c')?;
-    let found = shown(rt.alloc(), "grammar X; s : 'a'* 'b' | 'a'* 'c' ;", text.as_str())?;
+    let found = shown(
+        rt.alloc(),
+        "grammar X; s : 'a'* 'b' | 'a'* 'c' ;",
+        text.as_str(),
+    )?;
     assert_eq!(rt; found.as_str(), "Answer(2) 2001 2000 1999");
     Ok(())
 }
