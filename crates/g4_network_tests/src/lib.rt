@@ -1,4 +1,4 @@
-// Networks: the classes of their symbols and their checks; and sets of stacks and of configurations, also large ones.
+// Networks: the classes of their symbols and their checks; large sets of stacks and of configurations; and which trees rules have.
 #![tactic(auto)]
 
 #[cfg(test)]
@@ -11,3 +11,7 @@ mod rows;
 mod snapshots;
 #[cfg(test)]
 mod stacks;
+#[cfg(test)]
+mod tree_checks;
+#[cfg(test)]
+mod trees;

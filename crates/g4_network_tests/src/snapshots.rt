@@ -1,6 +1,5 @@
-// Snapshots of sets of configurations, also of large ones.
-use crate::rows::{answered, cut, number, push_row};
-use g4_configs::{Configs, Group, Snapshot};
+// Snapshots of large sets of configurations.
+use g4_configs::{Configs, Group};
 use std::alloc::{AllocError, Global};
 use std::test::Fail;
 
@@ -12,48 +11,6 @@ fn put(set: &mut Configs, state: u32, alternative: u32, back: u32) -> Result<(),
         alternative,
         stacks,
     })?;
-    Ok(())
-}
-
-/// The snapshot of the configurations of a text, with `.` between the numbers of each.
-fn snapshot_of(alloc: Global, text: &str) -> Result<Snapshot, AllocError> {
-    let mut set = Configs::new(alloc)?;
-    for word in text.split_whitespace() {
-        let (state, rest) = word.split_once('.').unwrap_or((word, ""));
-        let (alternative, back) = rest.split_once('.').unwrap_or((rest, ""));
-        put(&mut set, number(state), number(alternative), number(back))?;
-    }
-    let snapshot = set.snapshot(alloc)?;
-    Ok(snapshot)
-}
-
-const KEPT: &str = "5.1.1 4.2.1 4.1.2 4.2.2";
-
-/// What a set shows beside the kept one, its configurations, and whether it is the same.
-const OTHERS: &str = "another order, one twice | 4.2.2 4.1.2 4.2.1 5.1.1 5.1.1 => same
-another state | 6.1.1 4.2.1 4.1.2 4.2.2
-another alternative | 5.2.1 4.2.1 4.1.2 4.2.2
-another stack | 5.1.3 4.2.1 4.1.2 4.2.2
-one stack less | 5.1.1 4.2.1 4.1.2
-no configuration | ";
-
-/// Whether the set of a text is the kept one.
-fn is_kept(alloc: Global, text: &str) -> Result<bool, AllocError> {
-    let kept = snapshot_of(alloc, KEPT)?;
-    let other = snapshot_of(alloc, text)?;
-    Ok(other.same(&kept))
-}
-
-#[test]
-fn small_sets(rt: HostRuntime) -> Result<(), Fail> {
-    let mut wrong = String::new(rt.alloc());
-    for row in OTHERS.lines() {
-        let (asked, wanted) = answered(row);
-        if is_kept(rt.alloc(), cut(asked).1)? != (wanted == "same") {
-            push_row(&mut wrong, asked, "another")?;
-        }
-    }
-    assert_eq!(rt; wrong.as_str(), "");
     Ok(())
 }
 

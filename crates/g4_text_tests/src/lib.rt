@@ -1,19 +1,11 @@
-// Characters, tokens, predicates, places of names, and the small searches below them.
+// Sets of characters, the tokens of grammar texts, and predicates: tables of texts and what is read, worked out by hand.
 #![tactic(auto)]
 
 #[cfg(test)]
 mod characters;
 #[cfg(test)]
-mod clauses_in_order;
-#[cfg(test)]
-mod cycles;
-#[cfg(test)]
-mod places;
-#[cfg(test)]
 mod predicates;
 #[cfg(test)]
 mod rows;
-#[cfg(test)]
-mod symbols;
 #[cfg(test)]
 mod tokens;

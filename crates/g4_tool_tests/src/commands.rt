@@ -64,30 +64,75 @@ impl Gate for Counting {
     }
 }
 
-/// How often a file was begun and ended.
-fn parsed(alloc: Global, gate: &Counting) -> Result<String, AllocError> {
-    let entered = gate.entered.load(Ordering::SeqCst);
-    let left = gate.left.load(Ordering::SeqCst);
-    format!(in alloc; "{entered} begun {left} ended")
+/// What a run is given, and what has come of it.
+#[derive(Drop)]
+struct Ends {
+    shelf: MemShelf,
+    out: MemSink,
+    err: MemSink,
+    gate: Counting,
 }
 
-/// The status of a run, how many files were fetched, the puts on out and on err, and what out has, where a `%` ends a line.
-fn shown(
+/// An output of which one put fails. Each put takes 100 bytes.
+fn sink_of(alloc: Global, put: &str) -> Result<MemSink, AllocError> {
+    let failing = failing(alloc, put)?;
+    MemSink::new(alloc, 200, failing, 100)
+}
+
+/// A source of which a fetch fails, and outputs of which a put on out fails.
+fn ends_of(alloc: Global, fetch: &str, put: &str) -> Result<Ends, AllocError> {
+    let shelf = shelf_of(alloc, fetch)?;
+    let out = sink_of(alloc, put)?;
+    let err = sink_of(alloc, "-")?;
+    let gate = Counting {
+        entered: AtomicU32::new(0),
+        left: AtomicU32::new(0),
+    };
+    Ok(Ends {
+        shelf,
+        out,
+        err,
+        gate,
+    })
+}
+
+/// How many files were begun and ended, the status, how many files were fetched, and the puts on out and on err.
+fn counts(alloc: Global, status: Status, ends: &Ends) -> Result<String, AllocError> {
+    let entered = ends.gate.entered.load(Ordering::SeqCst);
+    let left = ends.gate.left.load(Ordering::SeqCst);
+    let fetches = ends.shelf.calls;
+    let puts = ends.out.calls();
+    let others = ends.err.calls();
+    format!(in alloc; "{entered} begun {left} ended: {status:?} {fetches} {puts} {others} ")
+}
+
+/// These counts, and what out has, where a `%` ends a line.
+fn shown(alloc: Global, status: Status, ends: &Ends) -> Result<String, AllocError> {
+    let mut shown = counts(alloc, status, ends)?;
+    let written = str::from_utf8(ends.out.bytes()).unwrap_or("no text");
+    for character in written.chars() {
+        shown.push(if character == '\n' { '%' } else { character })?;
+    }
+    Ok(shown)
+}
+
+/// The status of a run.
+fn status_of<R: Threads + Sync>(
+    rt: &R,
     alloc: Global,
-    status: Status,
-    shelf: &MemShelf,
-    out: &MemSink,
-    err: &MemSink,
-) -> Result<String, AllocError> {
-    let fetches = shelf.calls;
-    let puts = out.calls();
-    let others = err.calls();
-    let written = str::from_utf8(out.bytes()).unwrap_or("no text");
-    let written = written.replace(alloc, "\n", "%")?;
-    format!(in alloc; "{status:?} {fetches} {puts} {others} {written}")
+    words: &[String],
+    ends: &mut Ends,
+) -> Status {
+    let Ends {
+        shelf,
+        out,
+        err,
+        gate,
+    } = ends;
+    run(rt, alloc, words, shelf, out, err, gate)
 }
 
-/// What a run gives, where a fetch and a put on out fail. Each put takes 100 bytes.
+/// What a run gives, where a fetch and a put on out fail.
 fn found<R: Threads + Sync>(
     rt: &R,
     alloc: Global,
@@ -96,17 +141,9 @@ fn found<R: Threads + Sync>(
     put: &str,
 ) -> Result<String, AllocError> {
     let words = words_of(alloc, line)?;
-    let mut shelf = shelf_of(alloc, fetch)?;
-    let mut out = MemSink::new(alloc, 200, failing(alloc, put)?, 100)?;
-    let mut err = MemSink::new(alloc, 200, Vec::new(alloc), 100)?;
-    let gate = Counting {
-        entered: AtomicU32::new(0),
-        left: AtomicU32::new(0),
-    };
-    let status = run(rt, alloc, &words, &mut shelf, &mut out, &mut err, &gate);
-    let shown = shown(alloc, status, &shelf, &out, &err)?;
-    let parsed = parsed(alloc, &gate)?;
-    format!(in alloc; "{parsed}: {shown}")
+    let mut ends = ends_of(alloc, fetch, put)?;
+    let status = status_of(rt, alloc, words.as_slice(), &mut ends);
+    shown(alloc, status, &ends)
 }
 
 /// Words, the number of the fetch that fails, and that of the put on out; and what comes: how many files were begun and ended, the

@@ -1,10 +1,17 @@
 // The paths of SLL: which sets of configurations it goes through on the tokens of a text.
+ghost use Rattle.std.specs.Prelude.{◌<◌, ◌^◌, IfOk, length};
+ghost use Rattle.g4_lexing.specs.Lexers.{HasTokenTypes};
+ghost use Rattle.g4_load.specs.Usable.{IsUsable};
+ghost use Rattle.g4_ordered.specs.Network.{IsLexable};
+ghost use Rattle.g4_token_list.specs.TokenList.{EndsInEnd, word_of};
+
 use g4_base::{Sequence, Text};
-use g4_lexing::tokens;
-use g4_load::build_interpreter;
+use g4_lexing::{Lexer, tokens};
+use g4_load::{Interpreter, build_interpreter};
 use g4_path::{Led, Looked, Path, Verdict};
 use g4_ports::{MemFile, MemShelf};
 use g4_sll::simulate;
+use g4_token_list::Tokens;
 use std::alloc::{AllocError, Global};
 use std::fmt::Write;
 use std::test::Fail;
@@ -18,19 +25,38 @@ fn shelf_of(alloc: Global, grammar: &str) -> Result<MemShelf, AllocError> {
     Ok(MemShelf::new(vec![in alloc; file]?, Vec::new(alloc)))
 }
 
-/// What SLL says of the first decision of rule 1 on the tokens of a text, and its path.
-fn simulated(alloc: Global, grammar: &str, text: &str) -> Result<(Verdict, Path), Fail> {
+/// What parses with this grammar from the rule `s`.
+fn interpreter(alloc: Global, grammar: &str) -> Result<Interpreter, Fail>
+    ensures { IfOk result IsUsable }
+{
     let mut shelf = shelf_of(alloc, grammar)?;
-    let Ok(interpreter) = build_interpreter(alloc, &mut shelf, "X.g4", "s") else {
-        return Err("no interpreter")?;
-    };
+    match build_interpreter(alloc, &mut shelf, "X.g4", "s") {
+        Ok(interpreter) => Ok(interpreter),
+        Err(_) => Err(Fail::from("no interpreter")),
+    }
+}
+
+/// The tokens of a text.
+fn tokens_of(alloc: Global, lexer: &Lexer, text: &str) -> Result<Tokens, Fail>
+    requires lexable { IsLexable lexer.now.net }
+    requires types { HasTokenTypes lexer.now }
+    ensures ends { IfOk result (λ found. EndsInEnd (word_of found.list)) }
+    ensures few { IfOk result (λ found. length found.list < 2 ^ 32) }
+{
     if text.len() > 1_000_000 {
-        return Err("a long text")?;
+        return Err(Fail::from("a long text"));
     }
     let bytes = Sequence::new(text.as_bytes().to_vec(alloc)?);
-    let Ok(tokens) = tokens(alloc, &interpreter.lexer, bytes) else {
-        return Err("no tokens")?;
-    };
+    match tokens(alloc, lexer, bytes) {
+        Ok(tokens) => Ok(tokens),
+        Err(_) => Err(Fail::from("no tokens")),
+    }
+}
+
+/// What SLL says of the first decision of rule 1 on the tokens of a text, and its path.
+fn simulated(alloc: Global, grammar: &str, text: &str) -> Result<(Verdict, Path), Fail> {
+    let interpreter = interpreter(alloc, grammar)?;
+    let tokens = tokens_of(alloc, &interpreter.lexer, text)?;
     let simulated = simulate(alloc, &interpreter.net, 2, tokens.list.as_slice())?;
     Ok(simulated)
 }
