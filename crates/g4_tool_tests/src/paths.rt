@@ -54,11 +54,22 @@ fn tokens_of(alloc: Global, lexer: &Lexer, text: &str) -> Result<Tokens, Fail>
 }
 
 /// What SLL says of the first decision of rule 1 on the tokens of a text, and its path.
-fn simulated(alloc: Global, grammar: &str, text: &str) -> Result<(Verdict, Path), Fail> {
-    let interpreter = interpreter(alloc, grammar)?;
+fn simulated_by(
+    alloc: Global,
+    interpreter: &Interpreter,
+    text: &str,
+) -> Result<(Verdict, Path), Fail>
+    requires { IsUsable interpreter.now }
+{
     let tokens = tokens_of(alloc, &interpreter.lexer, text)?;
     let simulated = simulate(alloc, &interpreter.net, 2, tokens.list.as_slice())?;
     Ok(simulated)
+}
+
+/// The same by the network of a grammar.
+fn simulated(alloc: Global, grammar: &str, text: &str) -> Result<(Verdict, Path), Fail> {
+    let interpreter = interpreter(alloc, grammar)?;
+    simulated_by(alloc, &interpreter, text)
 }
 
 /// Whether the symbol led to a set.
