@@ -1,4 +1,4 @@
-// What predicates name, which no run shows yet, and what is named in modes: texts of grammars and the first fault.
+// What predicates name, and what is named in modes, which no run shows yet: texts of grammars and the first fault.
 use g4_reader::read_grammar;
 use g4_references::{ReferenceFault, check_references};
 use std::alloc::{AllocError, Global};
@@ -113,5 +113,43 @@ fn predicates(rt: HostRuntime) -> Result<(), Fail> {
 fn modes(rt: HostRuntime) -> Result<(), Fail> {
     let wrong = differing(rt.alloc(), "lexer grammar X;\n", MODES)?;
     assert_eq!(rt; wrong.as_str(), "");
+    Ok(())
+}
+
+/// How many rules and modes the large grammars have.
+const MANY: u32 = 1_000;
+
+/// A grammar whose rules each have predicates that name the next rule, and one more that names no rule.
+fn many_predicates(alloc: Global) -> Result<String, AllocError> {
+    let mut text = String::from_str(alloc, "grammar X;\nr0 : 'x' ;\n")?;
+    for rule in 0..MANY {
+        let next = rule + 1;
+        write!(text, "r{next} : {{inside(r{rule})||!flag(f)}}? 'x' ;\n")?;
+    }
+    text.push_str("z : {inside(z)&&inside(y)}? ;")?;
+    Ok(text)
+}
+
+/// A lexer grammar of as many modes, each of which is pushed, and one that is not there.
+fn many_modes(alloc: Global) -> Result<String, AllocError> {
+    let mut text = String::from_str(alloc, "lexer grammar X;\n")?;
+    for mode in 0..MANY {
+        write!(
+            text,
+            "mode M{mode}; T{mode} : 'x' -> pushMode(M{mode}), mode(M0) ;\n"
+        )?;
+    }
+    text.push_str("U : 'x' -> mode(N) ;")?;
+    Ok(text)
+}
+
+#[test]
+fn large_grammars(rt: HostRuntime) -> Result<(), Fail> {
+    let text = many_predicates(rt.alloc())?;
+    let fault = found(rt.alloc(), text.as_str())?;
+    assert_eq!(rt; fault.as_str(), "rule y");
+    let text = many_modes(rt.alloc())?;
+    let fault = found(rt.alloc(), text.as_str())?;
+    assert_eq!(rt; fault.as_str(), "mode N");
     Ok(())
 }
