@@ -1,11 +1,13 @@
 // The network of parser rules whose atoms are steps.
-ghost use Rattle.std.specs.Prelude.{◌≡◌, ◌≤◌, ◌↔◌, IsTrue, map};
+ghost use Rattle.std.specs.Prelude.{◌≡◌, ◌≤◌, ◌↔◌, ◌∷◌, [], IfOk, IsTrue, map};
 ghost use Rattle.std.specs.List.{position};
 ghost use Rattle.std.specs.Str.{bytes_eq};
 ghost use Rattle.g4_source.specs.Rules.{alternatives_of};
 ghost use Rattle.g4_grammar.specs.StepRules.{CanBeLaid};
 ghost use Rattle.g4_layout.specs.Numbers.{NumberingsFit};
-ghost use Rattle.g4_layout.specs.Rules.{state_count};
+ghost use Rattle.g4_derivation.specs.Spelling.{SpellsRules};
+ghost use Rattle.g4_layout.specs.Rules.{rules_of, state_count};
+ghost use Rattle.g4_symbols.specs.Symbols.{eof};
 ghost use Rattle.g4_build.specs.Answers.{GivesNetwork};
 
 use crate::drawing::draw;
@@ -56,8 +58,8 @@ pub fn fits(rules: &[StepRule]) -> bool
     past_rules(MOST_STATES - 7 - 2 * rules.len(), rules).is_some()
 }
 
-/// The network of the rules with their numberings, whose added rule calls the rule of this name. Of the faults that they have, the answer is the
-/// first in their order.
+/// The network of the rules with their numberings, whose added rule calls the rule of this name: from where a rule starts it spells
+/// exactly the words that the rule derives. Of the faults that the rules have, the answer is the first in their order.
 ///
 /// # Errors
 /// No rule has the name, a decision has too many alternatives, there are too many states, or there is no memory.
@@ -69,7 +71,8 @@ pub fn build(
 ) -> Result<ParserNetwork, BuildFault>
     requires laid { CanBeLaid rules.now }
     requires fit { NumberingsFit (map alternatives_of rules.now) numberings.now }
-    ensures { GivesNetwork rules.now numberings.now start.now result }
+    ensures built { GivesNetwork rules.now numberings.now start.now result }
+    ensures spells { IfOk result (SpellsRules (rules_of (eof ∷ []) rules.now start.now)) }
 {
     let Some(place) = place_of(rules, start) else {
         return Err(BuildFault::UnknownStart);

@@ -1,5 +1,5 @@
 -- Parser rules whose atoms are steps, when they can be rewritten, and when a network that can be parsed with is made of them.
-use Rattle.std.specs.Prelude.{◌≤◌, ℕ, List, ◌∷◌, length, map, All, Contains}
+use Rattle.std.specs.Prelude.{◌≡◌, ◌≤◌, ℕ, List, ◌∷◌, length, map, All, Contains}
 use Rattle.g4_symbols.specs.Symbols.{end_of_list}
 use Rattle.g4_elements.specs.Elements.{Alternatives, none, atoms_of_either}
 use Rattle.g4_source.specs.declared.rule.ParserRule.{ParserRule}
@@ -20,10 +20,10 @@ StepRule = ParserRule (Step (List ℕ))
 abbrev pub by_number : List StepRule → List (Alternatives (Step (List ℕ)))
 by_number rules = none ∷ map alternatives_of rules
 
--- a step that a rule has as it is written: it does not take END, and so far is no predicate
+-- a step that a rule has as it is written: it does not take END, calls at level 0, and so far is no predicate
 abbrev pub IsPlain : Step (List ℕ) → Type 0
 IsPlain (Edge set) = Contains set end_of_list → ⊥
-IsPlain (Call rule level) = Unit {0}
+IsPlain (Call rule level) = level ≡ 0
 IsPlain (Predicate k) = ⊥
 IsPlain (Level q) = ⊥
 IsPlain Action = Unit {0}

@@ -12,6 +12,7 @@ pub mod Formed
 pub mod FirstRule
 pub mod Added
 pub mod Laying
+pub mod OwnEnds
 pub mod Runnable
 pub mod Agreement
 pub mod Sizes

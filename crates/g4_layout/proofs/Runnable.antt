@@ -16,8 +16,10 @@ use Rattle.g4_layout.specs.Callers.{callers_of}
 use Rattle.g4_layout.specs.Layout.{RulesLie, a_rule, IsNetworkOf}
 use Rattle.g4_layout.specs.Rules.{rule_number, rules_of}
 use Rattle.g4_layout.proofs.Added.{added_at}
+use Rattle.g4_layout.proofs.Callers.{callers_length}
 use Rattle.g4_layout.proofs.Formed.{well_formed}
 use Rattle.g4_layout.proofs.Laying.{IsUnpredicated, all_length, all_in_range, all_loops, all_cycles, all_full, plain_trees, unpredicated_trees}
+use Rattle.g4_layout.proofs.OwnEnds.{ends_are_own}
 use Rattle.g4_layout.proofs.Rules.{half, Laid, IsWithinRule, every_rule, rules_up}
 use Rattle.g4_layout.proofs.RulesSound.{state_sound, heads_sound, others_sound}
 use Rattle.g4_layout.proofs.Sound.{IsSoundState, SoundAt, AreAllowed, target_allowed}
@@ -145,6 +147,8 @@ runnable set rules start net can within no_end network few callers =
       apart = apart net set number (map alternatives_of rules) (2 * length rules + 2) (omega arith) parts.0 parts.1 from (omega arith)
           (subst (λ (n : ℕ). (k : ℕ) (xs : Alternatives (Step (List ℕ))) → slice_get (map alternatives_of rules) k ≡ Some xs → EachIsSound (CallsKnown IsPlainLaid CallsRule (λ j. (1 ≤ j) × (j ≤ n))) xs)
           (sym long) (plain_trees set number rules can from within)) no_end;
+      own_ends = ends_are_own all net network (all_full set number rules can from within)
+          (ap length callers ∙ (callers_length net.states (length rules + 1) ∙ sym size));
       unpredicated = λ p s is. unpredicated_state (λ k. k < length all) (λ q. q < length net.states) s
           (state_sound all net network (CallsKnown IsUnpredicated CallsRule (λ j. Unit {0})) (unpredicated_trees set number rules can from within) p s is);
       few = few;

@@ -3,6 +3,7 @@ mod CarriedOut
 mod LexerMade
 mod Kept
 mod KnownCommands
+pub mod Networks
 mod Fetched
 mod NoModes
 pub mod OneBuilt

@@ -33,6 +33,10 @@ pub record IsParsing (rules : List StepRule) (net : ParserNetwork) : Type 0 wher
   pub rewritable : CanBeRewritten rules
   pub built : (start : List ℕ) × IsBuilt (eof ∷ []) (rewritten rules) (numberings rules) start net
 
+-- The network is that of the rules as they are run, from this start rule.
+abbrev pub IsNetworkFrom : Interpreter → List ℕ → Type 0
+IsNetworkFrom interpreter start = IsBuilt (eof ∷ []) (rewritten interpreter.rules) (numberings interpreter.rules) start interpreter.net
+
 -- A grammar with its network can be parsed with, and its lexer's rules can be lexed with.
 pub record IsSound (laid : Laid) : Type 0 where
   pub parsing : IsParsing laid.rules laid.net

@@ -124,14 +124,19 @@ fn number(digit: Option<char>) -> u32 {
     }
 }
 
-/// An item by its word: `<` with the digits of a rule and an alternative, `>`, or the place of a token.
-fn item(word: &str) -> Item {
+/// An item by its word, after `next` tokens: `<` with the digits of a rule and an alternative and, if the node is misplaced, of
+/// its place, `>`, or the place of a token.
+fn item(word: &str, next: u32) -> Item {
     let mut signs = word.chars();
     match signs.next() {
         Some('<') => {
             let rule = number(signs.next());
             let alt = number(signs.next());
-            Item::Enter { rule, alt, at: 0 }
+            let at = match signs.next() {
+                None => next,
+                place => number(place),
+            };
+            Item::Enter { rule, alt, at }
         }
         Some('>') => Item::Exit,
         other => Item::Token(number(other)),
@@ -141,8 +146,13 @@ fn item(word: &str) -> Item {
 /// The items of the words of a text.
 pub(crate) fn tree(alloc: Global, text: &str) -> Result<Tree, AllocError> {
     let mut all = Vec::new(alloc);
+    let mut next = 0_u32;
     for word in text.split(' ') {
-        all.push(item(word))?;
+        let item = item(word, next);
+        if let Item::Token(_) = item {
+            next = next.wrapping_add(1);
+        }
+        all.push(item)?;
     }
     Ok(Tree::new(all))
 }
@@ -159,7 +169,12 @@ a chain | 2 3 b | b | <11 <21 <31 0 > > >
 a call of its own rule | a1|b | aab | <11 0 <11 1 <12 2 > > >";
 
 /// The same of trees that are none. Of the last nine the items are ill nested.
-const WRONG: &str = "tokens out of order | ac | ca | <11 1 0 >
+const WRONG: &str = "a root after its first token | ac | ac | <111 0 1 >
+a node before its first token | a2*c|2b b|! | abc | <11 0 <210 1 > 2 >
+a node after its first token | a2*c|2b b|! | abc | <11 0 <212 1 > 2 >
+an empty node before the next token | a2*c|2b b|! | ac | <11 0 <220 > 1 >
+an empty node after the next token | a2*c|2b b|! | ac | <11 0 <222 > 1 >
+tokens out of order | ac | ca | <11 1 0 >
 a token is left out | aa | aba | <11 0 2 >
 a token twice | aa | aa | <11 0 0 >
 another symbol | ac | aa | <11 0 1 >

@@ -12,7 +12,8 @@ use Rattle.g4_ordered.specs.Configurations.{LexerConfig, In, at, through, at_wit
 use Rattle.g4_ordered.specs.Leads.{leads_by, leads_past, returned, only_if, ReadsTo}
 use Rattle.g4_ordered.specs.Lists.{is_last, IsEndBy, IsAtEnd}
 use Rattle.g4_ordered.specs.Walks.{Walks, here, leading, reading}
-use Rattle.g4_ordered.specs.Spelling.{ends, takes, calls, passes, PassesBy, TakesText, SpellsText}
+use Rattle.g4_net.specs.Spelling.{ends, takes, calls, passes, PassesBy}
+use Rattle.g4_ordered.specs.Spelling.{TakesText, SpellsText}
 use Rattle.g4_ordered.specs.Greedy.{Within, start, onward, called, IsGreedy}
 use Rattle.g4_ordered.proofs.Lists.{In-map, map-In, In-from, In-to, only}
 use Rattle.g4_ordered.proofs.Steps.{only_where}

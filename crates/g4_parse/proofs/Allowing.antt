@@ -15,7 +15,7 @@ use Rattle.g4_parse.specs.declared.parser.Opened.{Opened}
 use Rattle.g4_parse.specs.declared.parser.Parser.{Parser}
 use Rattle.g4_parse.specs.Allowing.{AtLevel, PassesAmong, ArePassing, IsAllowed}
 use Rattle.g4_parse.specs.Standing.{StandsFor, IsNewestOf}
-use Rattle.g4_parse.specs.Running.{Run, no_predicates, level_of, Passes, no_test, predicate_holds, level_holds, AllowsAt}
+use Rattle.g4_run.specs.Running.{Run, no_predicates, level_of, Passes, no_test, predicate_holds, level_holds, AllowsAt}
 
 -- a state that is neither a level nor a predicate has no test
 no_level_no_test : (o : Option (State (List ℕ))) → ((q t : ℕ) → o ≡ Some (Level q t) → ⊥) → ((k t : ℕ) → o ≡ Some (Predicate k t) → ⊥) → IsTestBy o → ⊥

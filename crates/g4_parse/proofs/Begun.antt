@@ -18,7 +18,7 @@ use Rattle.g4_trees.specs.declared.tree.Item.{Item}
 use Rattle.g4_trees.specs.declared.tree.Item.TheVariants as items
 use Rattle.g4_trees.specs.Trees.{Forest, no_tree, only}
 use Rattle.g4_tree_check.specs.TreesOf.{heads_of}
-use Rattle.g4_parse.specs.Running.{Frame, begun, node_of}
+use Rattle.g4_run.specs.Running.{Frame, begun, node_of}
 use Rattle.g4_parse.proofs.Parts.{TakesToken, EntersRule, IsPart, IsWord, part_on, part_whole, part_begins, part_continues}
 use Rattle.g4_parse.proofs.Turns.{alt_is}
 

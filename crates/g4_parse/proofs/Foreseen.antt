@@ -9,7 +9,7 @@ use Rattle.g4_token_list.specs.TokenList.{EndsInEnd}
 use Rattle.g4_trees.specs.Trees.{Tree}
 use Rattle.g4_parse.specs.Standing.{farthest}
 use Rattle.g4_parse.specs.Foreseen.{ForeseesBy}
-use Rattle.g4_parse.specs.Running.{Run, parsed, no_predicates, GoesBy, Goes, Runs}
+use Rattle.g4_run.specs.Running.{Run, parsed, no_predicates, GoesBy, Goes, Runs}
 use Rattle.g4_parse.proofs.Stages.{Stage}
 use Rattle.g4_parse.proofs.Steps.{ProceedsBy}
 use Rattle.g4_parse.proofs.Viable.{viable}

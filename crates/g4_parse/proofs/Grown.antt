@@ -3,9 +3,9 @@ use Rattle.std.proofs.Common.{◌≡◌, ◌∷◌, [], ◌++◌, ◌-◌, ℕ, 
 use Rattle.std.proofs.lemmas.List.{reverse-append, take_at}
 use Rattle.g4_trees.specs.Trees.{Tree}
 use Rattle.g4_tree_builder.specs.Growing.{with_tree, with_alternative, with_close, with_wrap}
-use Rattle.g4_parse.specs.Running.{Frame, Run, with_child, with_alt, wrapped, node_of}
+use Rattle.g4_run.specs.Running.{Frame, Run, with_child, with_alt, wrapped, node_of, backs}
 use Rattle.g4_parse.specs.declared.parser.Opened.{Opened}
-use Rattle.g4_parse.specs.Standing.{backs, returns_of, opened_of, grown, open_node}
+use Rattle.g4_parse.specs.Standing.{returns_of, opened_of, grown, open_node}
 
 -- as many rules are open
 pub length_returns : (fs : List Frame) → length (returns_of fs) ≡ length fs
@@ -29,15 +29,6 @@ returns_child r (f ∷ fs) t = refl
 pub opened_child : (r : Run) (fs : List Frame) (t : Tree) → opened_of (with_child r fs t).frames ≡ opened_of fs
 opened_child r [] t = refl
 opened_child r (f ∷ fs) t = refl
-
--- and changes neither the place nor the state
-pub place_child : (r : Run) (fs : List Frame) (t : Tree) → (with_child r fs t).place ≡ r.place
-place_child r [] t = refl
-place_child r (f ∷ fs) t = refl
-
-pub state_child : (r : Run) (fs : List Frame) (t : Tree) → (with_child r fs t).state ≡ r.state
-state_child r [] t = refl
-state_child r (f ∷ fs) t = refl
 
 -- the child is one of the newest open node's
 pub grown_child : (r : Run) (fs : List Frame) (t : Tree) → grown (with_child r fs t).frames (with_child r fs t).tree ≡ with_tree t (grown fs r.tree)

@@ -1,13 +1,13 @@
 pub mod Fitting
 mod Allowing
 mod Begun
+mod Closing
 mod Foreseen
 mod Forests
 mod Grown
 mod Limits
 mod Measure
 mod MoreWords
-pub mod OneEnding
 mod OneTree
 mod Onward
 mod OpenRules
@@ -17,3 +17,4 @@ mod Steps
 mod Turns
 mod Viable
 mod Words
+pub mod Accepting

@@ -4,7 +4,7 @@ use Rattle.g4_net.specs.declared.network.State.{State}
 use Rattle.g4_net.specs.declared.network.State.TheVariants.{Decision, End, Edge, Call, Predicate, Level, Action, Empty}
 use Rattle.g4_net.specs.Network.{ParserNetwork, state_at}
 use Rattle.g4_parse.specs.Depth.{IsAtLimit}
-use Rattle.g4_parse.specs.Running.{Run, Ending, deepest, too_deep, no_predicates, GoesBy, Goes, StopsBy, Runs, stops}
+use Rattle.g4_run.specs.Running.{Run, Ending, deepest, too_deep, no_predicates, GoesBy, Goes, StopsBy, Runs, stops}
 use Rattle.g4_parse.specs.Standing.{farthest}
 
 module _ (net : ParserNetwork) (word : List ℕ) where

@@ -10,8 +10,8 @@ use Rattle.g4_net.specs.AddedRule.{IsRunnable}
 use Rattle.g4_token_list.specs.TokenList.{EndsInEnd}
 use Rattle.g4_net.proofs.Ranks.{IsShort, size, rank, rank_small, rank_falls}
 use Rattle.g4_lookahead.proofs.Proper.{proper_within}
-use Rattle.g4_parse.specs.Running.{Frame, Run}
-use Rattle.g4_parse.specs.Standing.{backs, farthest}
+use Rattle.g4_run.specs.Running.{Frame, Run, backs}
+use Rattle.g4_parse.specs.Standing.{farthest}
 use Rattle.g4_parse.proofs.Stages.{Stage, advances}
 use Rattle.g4_parse.proofs.Steps.{TakesToken, TakesNone, token_or_none, Proceeds}
 

@@ -10,10 +10,10 @@ use Rattle.g4_net.specs.Leads.{IsTarget}
 use Rattle.g4_net.specs.AddedRule.{IsRunnable}
 use Rattle.g4_lookahead.proofs.Proper.{IsStackFor, Inside, at_call, at_last, at_loop, at_turn, after_turn, at_end, after_end, inside_cases, stack_for}
 use Rattle.g4_trees.specs.Trees.{Tree, Forest, no_tree, and_then, only}
-use Rattle.g4_parse.specs.Running.{Frame, Run, no_predicates, ClosesBy, with_token, begun, node_of}
-use Rattle.g4_parse.specs.Standing.{backs}
+use Rattle.g4_run.proofs.Moments.{first_in, backs_alt, backs_token, backs_wrapped, tree_token}
+use Rattle.g4_run.specs.Running.{Frame, Run, no_predicates, ClosesBy, begun, node_of, backs}
 use Rattle.g4_parse.proofs.Stages.{Stage}
-use Rattle.g4_parse.proofs.Steps.{ProceedsBy, Proceeds, first_in, backs_alt, backs_token, backs_wrapped}
+use Rattle.g4_parse.proofs.Steps.{ProceedsBy, Proceeds}
 
 -- what is outside the open rules, which have these return states, newest first: nothing before the start rule is called and
 -- while it is open, and then one tree
@@ -89,10 +89,6 @@ module _ {looped : List ℕ} (net : ParserNetwork) (rule loop : ℕ) (ready : Is
       of_start (after_end z at) = absurd (let k : ⊥ = cc in k)
   called_one r s callee level back (f ∷ fs) e h is b c one = rw (b, c) (anywhere f.back (backs fs) r.state s.state r.tree one)
 
-  token_tree : (r : Run) (fs : List Frame) → (with_token r fs).tree ≡ r.tree
-  token_tree r [] = refl
-  token_tree r (f ∷ fs) = refl
-
   -- a step
   one_tree_by : (word : List ℕ) (r s : Run) (o : Option (State (List ℕ))) → state_at net r.state ≡ o → Stage net loop n r → ProceedsBy net word o r s → HasOneTree (backs r.frames) r.state r.tree → HasOneTree (backs s.frames) s.state s.tree
   one_tree_by word r s None is h g one = absurd g
@@ -104,7 +100,7 @@ module _ {looped : List ℕ} (net : ParserNetwork) (rule loop : ℕ) (ready : Is
       closes_any [] x = x
       closes_any (f ∷ fs) x = x
   one_tree_by word r s (Some (Edge set t)) is h (a, next, has, e) one =
-      along r s (Edge set t) t h is refl (λ callee level back f. cc) (ap (λ (x : Run). x.state) e) (ap (λ (x : Run). backs x.frames) e ∙ backs_token r r.frames refl) (ap (λ (x : Run). x.tree) e ∙ token_tree r r.frames) one
+      along r s (Edge set t) t h is refl (λ callee level back f. cc) (ap (λ (x : Run). x.state) e) (ap (λ (x : Run). backs x.frames) e ∙ backs_token r r.frames refl) (ap (λ (x : Run). x.tree) e ∙ tree_token r r.frames) one
   one_tree_by word r s (Some (Call callee level back)) is h (room, e) one = called_one r s callee level back r.frames refl h is (ap (λ (x : Run). backs x.frames) e) (ap (λ (x : Run). x.tree) e) one
   one_tree_by word r s (Some (Predicate k t)) is h g one = absurd (ready.unpredicated r.state (Predicate k t) is)
   one_tree_by word r s (Some (Level q t)) is h (below, e) one =

@@ -18,9 +18,9 @@ use Rattle.g4_parse.specs.declared.parser.Parser.{Parser}
 use Rattle.g4_parse.specs.declared.runs.Stopped.{Stopped}
 use Rattle.g4_parse.specs.Depth.{IsAtLimit, IsLimitAt, IsLimitOf, IsFirstReached}
 use Rattle.g4_parse.specs.Foreseen.{ForeseesBy, IsForeseenTurnBy, IsRun}
-use Rattle.g4_parse.specs.Running.{Frame, Run, Ending, parsed, not_viable, mismatch, failed_predicate, too_deep, beginning, deepest, no_predicates, Goes, StopsBy, Runs, stops, goes}
-use Rattle.g4_parse.specs.Parsing.{Ends, IsParseFault}
-use Rattle.g4_parse.specs.Standing.{StandsFor, farthest, IsFitBy, IsFaultBy, IsUnderway, HasEnded, backs, grown}
+use Rattle.g4_run.specs.Running.{Frame, Run, Ending, parsed, not_viable, mismatch, failed_predicate, too_deep, beginning, deepest, no_predicates, Goes, StopsBy, Runs, stops, goes, backs, Ends}
+use Rattle.g4_parse.specs.Parsing.{IsParseFault}
+use Rattle.g4_parse.specs.Standing.{StandsFor, farthest, IsFitBy, IsFaultBy, IsUnderway, HasEnded, grown}
 use Rattle.g4_parse.proofs.Foreseen.{foreseen_proceeds, foreseen_goes, foreseen_right}
 use Rattle.g4_parse.proofs.Grown.{reverse_returns}
 use Rattle.g4_parse.proofs.Limits.{goes_near, stops_near, stops_at_limit}

@@ -21,12 +21,12 @@ use Rattle.g4_walks.proofs.Rewritten.{before_level, never_to_outer_start}
 use Rattle.g4_trees.specs.declared.tree.Item.{Item}
 use Rattle.g4_trees.specs.declared.tree.Item.TheVariants as items
 use Rattle.g4_trees.specs.Trees.{leaf, no_tree, and_then, only}
-use Rattle.g4_tree_check.specs.TreesOf.{heads_of, AllFit, Fits}
-use Rattle.g4_parse.specs.Running.{Frame, Run, begun, with_alt, with_token, with_child, wrapped, node_of}
+use Rattle.g4_tree_check.specs.TreesOf.{heads_of, AllConform, Conforms}
+use Rattle.g4_run.proofs.Moments.{first_in}
+use Rattle.g4_run.specs.Running.{Frame, Run, begun, with_alt, with_token, with_child, wrapped, node_of}
 use Rattle.g4_parse.proofs.Begun.{IsNoOuterStart, IsNewest, has_begun, begun_on, begun_silently, chosen_begins, decides_inside, called_begins, wrapped_begins}
 use Rattle.g4_parse.proofs.Forests.{heads_and_then, fit_and_then}
 use Rattle.g4_parse.proofs.Parts.{TakesToken, EntersRule, IsPart, part_on, part_ends}
-use Rattle.g4_parse.proofs.Steps.{first_in}
 
 module _ (rules : List StepRule) (net : ParserNetwork) (word : List ℕ) where
   -- an open rule that has called a rule and goes on at this return state
@@ -39,12 +39,12 @@ module _ (rules : List StepRule) (net : ParserNetwork) (word : List ℕ) where
   -- the open rules that wait for this rule, newest first
   abbrev AreWaiting : ℕ → ℕ → List Frame → Type 0
   AreWaiting callee back [] = Unit {0}
-  AreWaiting callee back (f ∷ fs) = Awaits callee back f × AllFit rules word f.children × AreWaiting f.rule f.back fs
+  AreWaiting callee back (f ∷ fs) = Awaits callee back f × AllConform rules word f.children × AreWaiting f.rule f.back fs
 
   -- all open rules, newest first
   abbrev pub AreOpen : ℕ → List Frame → Type 0
   AreOpen p [] = Unit {0}
-  AreOpen p (f ∷ fs) = IsNewest rules net word p f × AllFit rules word f.children × AreWaiting f.rule f.back fs
+  AreOpen p (f ∷ fs) = IsNewest rules net word p f × AllConform rules word f.children × AreWaiting f.rule f.back fs
 
   module _ (set start : List ℕ) (can : CanBeRewritten rules) (built : IsBuilt set (rewritten rules) (numberings rules) start net) where
     -- as many rules are laid
@@ -113,7 +113,7 @@ module _ (rules : List StepRule) (net : ParserNetwork) (word : List ℕ) where
             )
 
     -- the node of a rule at its end fits
-    pub node_fits : (p ended : ℕ) (f : Frame) (fs : List Frame) → state_at net p ≡ Some (End ended) → AreOpen p (f ∷ fs) → Fits rules word (node_of f)
+    pub node_fits : (p ended : ℕ) (f : Frame) (fs : List Frame) → state_at net p ≡ Some (End ended) → AreOpen p (f ∷ fs) → Conforms rules word (node_of f)
     node_fits p ended f fs is (newest, fit, waiting) = (part_ends rules net word f.rule f.alt p ended (heads_of f.children) is (has_begun rules net word set start can built p f (End ended) is (λ targets e. cc) newest).part, fit)
 
     -- closing a rule

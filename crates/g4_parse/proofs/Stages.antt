@@ -14,10 +14,10 @@ use Rattle.g4_net.specs.Proper.{start, IsProper, at_bottom}
 use Rattle.g4_lookahead.proofs.Proper.{IsStackFor, Inside, at_call, at_last, at_loop, at_turn, after_turn, at_end, after_end, inside_cases, stack_for, proper_within, proper_target, proper_call, proper_return}
 use Rattle.g4_token_list.specs.TokenList.{EndsInEnd}
 use Rattle.g4_trees.specs.Trees.{Tree}
-use Rattle.g4_parse.specs.Running.{Frame, Run, beginning, no_predicates, ClosesBy, with_child, with_token, with_alt, wrapped, begun, node_of}
-use Rattle.g4_parse.specs.Standing.{backs, IsFitBy, farthest}
-use Rattle.g4_parse.proofs.Grown.{state_child, place_child}
-use Rattle.g4_parse.proofs.Steps.{ProceedsBy, Proceeds, first_in, backs_alt, backs_child, backs_token, backs_wrapped}
+use Rattle.g4_run.proofs.Moments.{state_child, place_child, first_in, backs_alt, backs_child, backs_token, backs_wrapped}
+use Rattle.g4_run.specs.Running.{Frame, Run, beginning, no_predicates, ClosesBy, with_child, with_token, with_alt, wrapped, begun, node_of, backs}
+use Rattle.g4_parse.specs.Standing.{IsFitBy, farthest}
+use Rattle.g4_parse.proofs.Steps.{ProceedsBy, Proceeds}
 
 -- a symbol other than the last is not at the last place
 last_place : (front : List ℕ) (x i a : ℕ) → slice_get (front ++ x ∷ []) i ≡ Some a → (a ≡ x → ⊥) → i < length front

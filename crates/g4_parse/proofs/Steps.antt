@@ -1,16 +1,14 @@
 -- One step of a run, at a decision along any alternative: it takes a token, or it leads its configuration on.
 use Rattle.std.proofs.Common.{◌≡◌, ◌⊎◌, inl, inr, ◌+◌, ◌∷◌, [], ℕ, List, Contains, slice_get, refl, sym, ◌∙◌, ap, subst}
 use Rattle.std.specs.Prelude.{Option, Some, None}
-use Rattle.std.proofs.lemmas.Option.{slice_get_within, get_or_from_slice_get}
 use Rattle.g4_net.specs.declared.network.State.{State}
 use Rattle.g4_net.specs.declared.network.State.TheVariants.{Decision, End, Edge, Call, Predicate, Level, Action, Empty}
 use Rattle.g4_net.specs.Configurations.{Config, config, above_bottom}
 use Rattle.g4_net.specs.Network.{ParserNetwork, state_at, start_of, IsFirst, written_at}
 use Rattle.g4_net.specs.Leads.{LeadsBy, Leads}
-use Rattle.g4_trees.specs.Trees.{Tree}
-use Rattle.g4_parse.specs.Running.{Frame, Run, no_predicates, GoesBy, ClosesBy, with_child, with_token, with_alt, wrapped, begun, node_of, stack_of}
-use Rattle.g4_parse.specs.Standing.{backs, farthest}
-use Rattle.g4_parse.proofs.Grown.{state_child, place_child}
+use Rattle.g4_run.specs.Running.{Frame, Run, no_predicates, GoesBy, ClosesBy, with_alt, begun, node_of, stack_of, backs}
+use Rattle.g4_parse.specs.Standing.{farthest}
+use Rattle.g4_run.proofs.Moments.{first_in, backs_alt, backs_child, backs_token, backs_wrapped, state_child, place_child}
 
 -- one step of the run by the state, at a decision along any of its alternatives
 abbrev pub ProceedsBy : ParserNetwork → List ℕ → Option (State (List ℕ)) → Run → Run → Type 0
@@ -32,30 +30,6 @@ proceeds_by net word (Some (Predicate k t)) r s g = g
 proceeds_by net word (Some (Level q t)) r s g = g
 proceeds_by net word (Some (Action t)) r s g = g
 proceeds_by net word (Some (Empty t)) r s g = g
-
--- an alternative of a decision is one of its targets
-pub first_in : (net : ParserNetwork) (p i t : ℕ) (targets : List ℕ) → state_at net p ≡ Some (Decision targets) → IsFirst net p i t → Contains targets t
-first_in net p i t targets is (us, k, at, has, number) =
-    let same : us ≡ targets = cc in
-    let got : slice_get targets k ≡ Some t = subst (λ (xs : List ℕ). slice_get xs k ≡ Some t) same has in
-    (k, slice_get_within targets k t got, get_or_from_slice_get targets k t t got)
-
--- other alternatives and more children open no rule
-pub backs_alt : (i : ℕ) (fs : List Frame) → backs (with_alt i fs) ≡ backs fs
-backs_alt i [] = refl
-backs_alt i (f ∷ fs) = refl
-
-pub backs_child : (r : Run) (fs : List Frame) (t : Tree) → backs (with_child r fs t).frames ≡ backs fs
-backs_child r [] t = refl
-backs_child r (f ∷ fs) t = refl
-
-pub backs_token : (r : Run) (fs : List Frame) → r.frames ≡ fs → backs (with_token r fs).frames ≡ backs fs
-backs_token r [] e = ap backs e
-backs_token r (f ∷ fs) e = refl
-
-pub backs_wrapped : (i : ℕ) (fs : List Frame) → backs (wrapped i fs) ≡ backs fs
-backs_wrapped i [] = refl
-backs_wrapped i (f ∷ fs) = refl
 
 -- where a run is, as a configuration of an alternative
 abbrev pub config_of : ℕ → Run → Config

@@ -29,11 +29,12 @@ use Rattle.g4_tree_builder.specs.Kept.{HasGrown}
 use Rattle.g4_parse.specs.declared.parser.Opened.{Opened}
 use Rattle.g4_parse.specs.declared.parser.Parser.{Parser}
 use Rattle.g4_parse.specs.declared.parser.ParseFault.{ParseFault}
-use Rattle.g4_parse.specs.Running.{Frame, Run, not_viable, no_predicates, Predicts, ClosesBy, with_child, with_token, with_begun, begun, wrapped, node_of, stack_of, AllowsAt}
+use Rattle.g4_run.proofs.Moments.{place_child, state_child}
+use Rattle.g4_run.specs.Running.{Frame, Run, not_viable, no_predicates, Predicts, ClosesBy, with_child, with_token, with_begun, begun, wrapped, node_of, stack_of, AllowsAt, backs}
 use Rattle.g4_parse.specs.Allowing.{IsAllowed}
 use Rattle.g4_parse.specs.Foreseen.{IsForeseenAt, IsForeseenTurnBy}
-use Rattle.g4_parse.specs.Standing.{StandsFor, IsFaultBy, IsTurnBy, IsDeciding, backs, returns_of, opened_of, grown}
-use Rattle.g4_parse.proofs.Grown.{all_but_last, returns_child, opened_child, place_child, state_child, grown_close, returns_alt, opened_alt, grown_alt, returns_wrapped, opened_wrapped, grown_wrapped, reverse_returns}
+use Rattle.g4_parse.specs.Standing.{StandsFor, IsFaultBy, IsTurnBy, IsDeciding, returns_of, opened_of, grown}
+use Rattle.g4_parse.proofs.Grown.{all_but_last, returns_child, opened_child, grown_close, returns_alt, opened_alt, grown_alt, returns_wrapped, opened_wrapped, grown_wrapped, reverse_returns}
 
 -- lists that end alike are alike
 same_last : (xs ys : List ℕ) (x y : ℕ) → xs ++ x ∷ [] ≡ ys ++ y ∷ [] → (xs ≡ ys) × (x ≡ y)

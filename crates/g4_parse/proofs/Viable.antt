@@ -19,11 +19,11 @@ use Rattle.g4_lookahead.proofs.Apart.{split, calls_outside}
 use Rattle.g4_lookahead.proofs.Proper.{IsStackFor, Inside, at_call, at_last, at_loop, at_turn, after_turn, at_end, after_end, inside_cases, stack_for}
 use Rattle.g4_token_list.specs.TokenList.{EndsInEnd}
 use Rattle.g4_trees.specs.Trees.{Tree}
-use Rattle.g4_parse.specs.Running.{Frame, Run, Ending, parsed, no_predicates, ClosesBy, StopsBy, Runs, stops, goes, begun, with_alt, node_of, stack_of}
-use Rattle.g4_parse.specs.Standing.{backs, farthest}
-use Rattle.g4_parse.proofs.Grown.{state_child}
+use Rattle.g4_run.proofs.Moments.{state_child, first_in, backs_alt}
+use Rattle.g4_run.specs.Running.{Frame, Run, Ending, parsed, no_predicates, ClosesBy, StopsBy, Runs, stops, goes, begun, with_alt, node_of, stack_of, backs}
+use Rattle.g4_parse.specs.Standing.{farthest}
 use Rattle.g4_parse.proofs.Stages.{Stage, advances}
-use Rattle.g4_parse.proofs.Steps.{ProceedsBy, Proceeds, proceeds_by, first_in, backs_alt, config_of, TakesToken, token_or_none}
+use Rattle.g4_parse.proofs.Steps.{ProceedsBy, Proceeds, proceeds_by, config_of, TakesToken, token_or_none}
 
 -- what a word ends in does not occur before its end
 at_the_end : (front : List ℕ) (x i : ℕ) → (Contains front x → ⊥) → slice_get (front ++ x ∷ []) i ≡ Some x → length front ≤ i

@@ -5,7 +5,7 @@ use Rattle.g4_net.specs.Prediction.{HasTests}
 use Rattle.g4_net.specs.declared.allowed.Allowed.{Allowed}
 use Rattle.g4_net.specs.Allowed.{Allows}
 use Rattle.g4_parse.specs.declared.parser.Parser.{Parser}
-use Rattle.g4_parse.specs.Running.{Run, no_predicates, level_of, Passes, AllowsAt}
+use Rattle.g4_run.specs.Running.{Run, no_predicates, level_of, Passes, AllowsAt}
 use Rattle.g4_parse.specs.Standing.{StandsFor}
 
 -- at every moment at which the newest open rule has this level

@@ -3,7 +3,7 @@ use Rattle.std.specs.Prelude.{◌≡◌, ◌≤◌, ℕ, Option, Some, None, len
 use Rattle.g4_net.specs.declared.network.State.TheVariants.{Call}
 use Rattle.g4_net.specs.Network.{ParserNetwork, state_at}
 use Rattle.g4_parse.specs.declared.parser.Parser.{Parser}
-use Rattle.g4_parse.specs.Running.{Run, deepest}
+use Rattle.g4_run.specs.Running.{Run, deepest}
 use Rattle.g4_parse.specs.Standing.{StandsFor}
 
 -- the run is at a call with as many rules open as may be

@@ -14,7 +14,7 @@ use Rattle.g4_parse.specs.declared.parser.ParseFault.{ParseFault}
 use Rattle.g4_parse.specs.declared.parser.Parser.{Parser}
 use Rattle.g4_parse.specs.declared.runs.Stopped.{Stopped}
 use Rattle.g4_parse.specs.Parsing.{IsParseFault, IsParse}
-use Rattle.g4_parse.specs.Running.{Run, no_predicates, stack_of, with_alt, begun, AllowsAt, Predicts, GoesBy}
+use Rattle.g4_run.specs.Running.{Run, no_predicates, stack_of, with_alt, begun, AllowsAt, Predicts, GoesBy}
 use Rattle.g4_parse.specs.Standing.{StandsFor, farthest, IsFaultBy}
 
 -- Prediction chooses the alternative at this moment. Where it is presumed, it does unless full stacks over some alternatives, of

@@ -12,11 +12,7 @@ use Rattle.g4_parse.specs.declared.parser.ParseFault.{ParseFault}
 use Rattle.g4_parse.specs.declared.parser.ParseFault.TheVariants.{NoViable, Mismatch, FailedPredicate, TooDeep, NoMemory}
 use Rattle.g4_parse.specs.declared.parser.Opened.{Opened}
 use Rattle.g4_parse.specs.declared.parser.Parser.{Parser}
-use Rattle.g4_parse.specs.Running.{Frame, Run, not_viable, mismatch, failed_predicate, too_deep, level_of, no_predicates, rule_of, GoesBy, StopsBy}
-
--- the return states of the open rules, newest first
-abbrev pub backs : List Frame → List ℕ
-backs frames = map (λ f. f.back) frames
+use Rattle.g4_run.specs.Running.{backs, Frame, Run, not_viable, mismatch, failed_predicate, too_deep, level_of, no_predicates, rule_of, GoesBy, StopsBy}
 
 -- the return states of the open rules, newest last
 abbrev pub returns_of : List Frame → List ℕ

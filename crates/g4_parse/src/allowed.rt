@@ -2,7 +2,7 @@
 ghost use Rattle.std.specs.Prelude.{◌<◌, ◌↔◌, IfOk, IsTrue, All, List, ℕ, length};
 ghost use Rattle.g4_net.specs.AddedRule.{IsReady};
 ghost use Rattle.g4_parse.specs.Allowing.{ArePassing, AtLevel};
-ghost use Rattle.g4_parse.specs.Running.{Run, Passes, no_predicates};
+ghost use Rattle.g4_run.specs.Running.{Run, Passes, no_predicates};
 
 use crate::state::state_of;
 use g4_net::{ParserNetwork, State};

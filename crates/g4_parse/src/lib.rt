@@ -3,11 +3,9 @@
 
 mod allowed;
 mod faults;
-mod law;
 mod parser;
 mod runs;
 mod state;
 
-pub use law::one_ending;
 pub use parser::ParseFault;
 pub use runs::parse;

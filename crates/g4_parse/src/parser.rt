@@ -9,7 +9,7 @@ ghost use Rattle.g4_parse.specs.declared.parser.Choosing.TheVariants.{Exact};
 ghost use Rattle.g4_parse.specs.Allowing.{IsAllowed};
 ghost use Rattle.g4_parse.specs.Depth.{IsLimitOf};
 ghost use Rattle.g4_parse.specs.Foreseen.{IsForeseenTurnBy};
-ghost use Rattle.g4_parse.specs.Running.{Run, beginning, with_begun, with_token};
+ghost use Rattle.g4_run.specs.Running.{Run, beginning, with_begun, with_token};
 ghost use Rattle.g4_parse.specs.Standing.{StandsFor, IsNewestOf, IsTurnBy, IsDeciding, IsUnderway, HasEnded};
 ghost use Rattle.g4_token_list.specs.TokenList.{word_of, EndsInEnd};
 ghost use Rattle.g4_tree_builder.specs.Kept.{HasGrown};

@@ -7,7 +7,8 @@ ghost use Rattle.g4_net.specs.AddedRule.{IsReady};
 ghost use Rattle.g4_parse.specs.Depth.{IsFirstReached};
 ghost use Rattle.g4_parse.specs.Foreseen.{IsRun};
 ghost use Rattle.g4_parse.specs.declared.parser.ParseFault.TheVariants.{TooDeep};
-ghost use Rattle.g4_parse.specs.Parsing.{IsParse};
+ghost use Rattle.g4_derivation.specs.Spelling.{DerivesFrom};
+ghost use Rattle.g4_parse.specs.Parsing.{IsAcceptance, IsParse, LeavesClosing};
 ghost use Rattle.g4_token_list.specs.TokenList.{word_of, EndsInEnd};
 ghost use Rattle.g4_tree_check.specs.TreesOf.{IsTreeOf};
 
@@ -85,7 +86,8 @@ fn run(
     }
 }
 
-/// The tree of a token list.
+/// The tree of a token list. One that rules derive, as they are run, has a tree, unless too many rules are open, and no other has.
+/// All tokens are in it but those that end the list.
 ///
 /// # Errors
 /// The fault at which the run stops, or no memory.
@@ -94,7 +96,15 @@ pub fn parse(alloc: Global, net: &ParserNetwork, tokens: &[Token]) -> Result<Tre
     requires ends { EndsInEnd (word_of tokens.now) }
     requires few { length tokens.now < 2 ^ 32 }
     ensures parse { IsParse net.now (word_of tokens.now) result }
-    ensures tree { (set : List ℕ) (rules : List StepRule) (start : List ℕ) → CanBeRewritten rules → IsBuilt set (rewritten rules) (numberings rules) start net.now → IfOk result (IsTreeOf rules (word_of tokens.now)) }
+    ensures tree { (set : List ℕ) (rules : List StepRule) (start : List ℕ) → CanBeRewritten rules →
+        IsBuilt set (rewritten rules) (numberings rules) start net.now
+        → IfOk result (IsTreeOf rules (word_of tokens.now)) }
+    ensures whole { (set : List ℕ) (rules : List StepRule) (start : List ℕ) → CanBeRewritten rules →
+        IsBuilt set (rewritten rules) (numberings rules) start net.now
+        → IfOk result (LeavesClosing set (word_of tokens.now)) }
+    ensures accepts { (set : List ℕ) (rules : List StepRule) (start : List ℕ) → CanBeRewritten rules →
+        IsBuilt set (rewritten rules) (numberings rules) start net.now
+        → IsAcceptance (DerivesFrom set (rewritten rules) start (word_of tokens.now)) result }
 {
     let stopped = match run(alloc, net, tokens, Choosing::Presuming) {
         Ok(tree) => return Ok(tree),

@@ -1,7 +1,7 @@
 // The states of a network.
 ghost use Rattle.std.specs.Prelude.{◌≡◌, ◌<◌, Some, length};
 ghost use Rattle.g4_net.specs.Network.{state_at};
-ghost use Rattle.g4_parse.specs.Running.{begun};
+ghost use Rattle.g4_run.specs.Running.{begun};
 
 use g4_net::{ParserNetwork, State};
 use g4_symbols::Symbols;

@@ -1,3 +1,4 @@
 pub mod Choosing
 mod Foretelling
 mod Testing
+mod Fitting

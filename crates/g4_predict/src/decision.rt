@@ -1,5 +1,6 @@
 // The alternative that prediction chooses at a decision.
 ghost use Rattle.std.specs.Prelude.{◌≡◌, ◌+◌, ◌<◌, ◌≤◌, ◌^◌, ℕ, List, Some, Contains, length, drop, reverse};
+ghost use Rattle.g4_fits.specs.Fitting.{HasUntested, SomeFits};
 ghost use Rattle.g4_net.specs.AddedRule.{IsReady};
 ghost use Rattle.g4_net.specs.Allowed.{Allows};
 ghost use Rattle.g4_net.specs.declared.network.State.TheVariants.{Decision};
@@ -7,7 +8,7 @@ ghost use Rattle.g4_net.specs.Network.{state_at};
 ghost use Rattle.g4_net.specs.Proper.{IsProper};
 ghost use Rattle.g4_symbols.specs.Symbols.{end_of_list};
 ghost use Rattle.g4_token_list.specs.TokenList.{EndsInEnd, word_of};
-ghost use Rattle.g4_predict.specs.Deciding.{IsDecided, IsFullyDecided};
+ghost use Rattle.g4_predict.specs.Deciding.{IsDecided, IsFullyDecided, IsLeastChosen};
 
 use crate::first_tests::has_test;
 use g4_full::{Settled, decide_full};
@@ -60,8 +61,8 @@ fn decide_by_stack(
 }
 
 /// The alternative, counted from 1, that prediction chooses at a decision, over the allowed ones and with the return states of
-/// the parser's stack, newest last, on the tokens from a place on. Where no alternative begins with a predicate or a level, the
-/// choice is the same whatever is allowed.
+/// the parser's stack, newest last, on the tokens from a place on: the least allowed one with which all of the tokens can be read, if
+/// there is one. Where no alternative begins with a predicate or a level, the choice is the same whatever is allowed.
 ///
 /// # Errors
 /// No alternative is viable, or no memory.
@@ -80,7 +81,10 @@ pub fn decide(
     requires ends { EndsInEnd (word_of tokens.now) }
     requires more { from < length tokens.now }
     requires few { length tokens.now < 2 ^ 32 }
-    ensures { IsDecided net.now decision (Allows allowed.now) (reverse returns.now) (drop from (word_of tokens.now)) from result }
+    ensures decided { IsDecided net.now decision (Allows allowed.now) (reverse returns.now) (drop from (word_of tokens.now)) from result }
+    ensures fits { SomeFits net.now decision (Allows allowed.now) (reverse returns.now) (drop from (word_of tokens.now)) →
+        HasUntested net.now decision (Allows allowed.now)
+        → IsLeastChosen net.now decision (Allows allowed.now) (reverse returns.now) (drop from (word_of tokens.now)) result }
 {
     let rest = &tokens[from as usize..];
     if has_test(net, decision) {

@@ -107,7 +107,7 @@ module _ (names : List (List ℕ)) (predicates : List Place) where
   -- an atom that tests nothing and does not take END is a plain step
   plain_step : (kind : NumberedKind) → NumberedKindIsUntested kind → KindLeavesEnd kind → IsPlain (step_of names predicates kind)
   plain_step (Set set) q e = e
-  plain_step (Rule name) q e = tt
+  plain_step (Rule name) q e = refl
   plain_step (Predicate name) q e = absurd q
   plain_step Action q e = tt
 

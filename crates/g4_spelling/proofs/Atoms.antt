@@ -26,7 +26,7 @@ use Rattle.g4_lexnet.specs.Steps.{characters_in_order, element_of_kind, spanned,
 use Rattle.g4_lexnet.proofs.Matches.{sets_match}
 use Rattle.g4_spelling.specs.Marks.{Mark, character, end_of_file, ReadsMarks}
 use Rattle.g4_spelling.proofs.Covers.{TakesMarks}
-use Rattle.g4_spelling.proofs.Joined.{joined}
+use Rattle.g4_walks.proofs.Joined.{joined}
 
 -- a letter of a step: the marks that its label takes, or a word that is named by the rule that it calls
 abbrev pub Letters : (ℕ → List Mark → Type 0) → Step Reads → List (List Mark) → Type 0

@@ -25,7 +25,8 @@ use Rattle.g4_spelling.specs.Begins.{IsRuleOfMode, MayBegin, first_of_mode}
 use Rattle.g4_spelling.specs.Matches.{IsStarted}
 use Rattle.g4_spelling.proofs.Matched.{alternative_there}
 use Rattle.g4_spelling.proofs.Modes.{AreFrom, item_after, item_front, mode_is, own_rule, unfragmented}
-use Rattle.g4_spelling.proofs.Placed.{all_laid, alternative_laid, at_is_member, begins_at, item_below, laid, tree_of}
+use Rattle.g4_walks.proofs.Firsts.{at_is_member, begins_at}
+use Rattle.g4_spelling.proofs.Placed.{all_laid, alternative_laid, item_below, laid, tree_of}
 
 -- what is left of the starts of a rule is of one that is no fragment
 no_fragment : (place : Option Place) (starts : List Start) (s : Start) → In s (unless_fragment place starts) → place ≡ None

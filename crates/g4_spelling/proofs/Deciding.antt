@@ -20,7 +20,7 @@ use Rattle.g4_ordered.proofs.Deciding.{Either}
 use Rattle.g4_lexnet.specs.Lexable.{CallsNamed, KindCallsNamed}
 use Rattle.g4_lexnet.specs.Rules.{names_of}
 use Rattle.g4_spelling.specs.Greedy.{SignIsGreedy, IsGreedyElement, AreGreedy, EachIsGreedy, RuleCalls, IsPartOf, IsWrittenGreedy}
-use Rattle.g4_spelling.proofs.Placed.{item_map}
+use Rattle.g4_walks.proofs.Items.{item_map}
 
 -- of two
 decide_both : {P Q : Type 0} → Either P → Either Q → Either (P × Q)

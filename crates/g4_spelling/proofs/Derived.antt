@@ -16,12 +16,16 @@ use Rattle.g4_net.specs.Network.{state_at, start_of, end_of}
 use Rattle.g4_layout.specs.Layout.{IsNetworkOf}
 use Rattle.g4_ordered.specs.declared.network.Reads.{Reads}
 use Rattle.g4_ordered.specs.Network.{LexerNetwork}
-use Rattle.g4_ordered.specs.Spelling.{SpellsText}
+use Rattle.g4_ordered.specs.Spelling.{SpellsText, TakesText}
 use Rattle.g4_walks.specs.Alternatives as walks
 use Rattle.g4_walks.specs.Walks.{AnyLevel, WalksTo}
 use Rattle.g4_walks.proofs.Beginnings.{laid_as, ends_at}
 use Rattle.g4_walks.proofs.Joining.{decide}
 use Rattle.g4_walks.proofs.Words as words
+use Rattle.g4_walks.proofs.Firsts.{Leads, rule_leads}
+use Rattle.g4_walks.proofs.Items.{item_map, map_item}
+use Rattle.g4_walks.proofs.Joined.{joined}
+use Rattle.g4_walks.proofs.Spelt as spelling
 use Rattle.g4_lexnet.specs.declared.lex_net.LexNet.{LexNet}
 use Rattle.g4_lexnet.specs.Lexable.{CallsNamed, CanBeLexed}
 use Rattle.g4_lexnet.specs.LexNets.{IsLexNet}
@@ -32,10 +36,8 @@ use Rattle.g4_spelling.specs.Canonical.{SetsAreCanonical}
 use Rattle.g4_spelling.specs.Fronts.{IsLexStart, DerivesMarks, IsAlternativeOf, DerivesFront}
 use Rattle.g4_spelling.specs.Marks.{Mark, character, end_of_file, ReadsMarks}
 use Rattle.g4_spelling.proofs.Atoms.{HasCanonical, IsDerived, Letters, atom_back, atom_calls, atom_on, kind_of}
-use Rattle.g4_spelling.proofs.Covers.{Covers, TakesMarks, covers_front, covers_is_front}
-use Rattle.g4_spelling.proofs.Joined.{joined}
-use Rattle.g4_spelling.proofs.Placed.{Leads, all_laid, alternative_laid, begins_laid, call_known, given, good_at, item_map, laid, map_item, rule_leads, tree_of}
-use Rattle.g4_spelling.proofs.Spelt.{spelt, start_derives, walk_spells}
+use Rattle.g4_spelling.proofs.Covers.{Covers, TakesMarks, covers_apart, covers_both, covers_front, covers_is_front, taken_marks, taken_text}
+use Rattle.g4_spelling.proofs.Placed.{all_laid, alternative_laid, begins_laid, call_known, given, good_at, laid, tree_of}
 use Rattle.g4_spelling.proofs.Substituted.{all_back, all_on, one_back}
 
 -- what holds of the atoms of a rule does of those of each alternative
@@ -75,7 +77,7 @@ module _ (literals : List LexerRule) (modes : List Mode) (made : LexNet) (lex : 
       let tree = tree_of rules rule known.0 known.1 in
       let xs = lexer_alternatives_of known.0 in
       let here = item_map lexer_alternatives_of rules rule known.0 known.1 in
-      let d = start_derives net Derived (trees_of rules) network rule (all_laid rules xs) tree e ended us end walk in
+      let d = spelling.start_derives net TakesText TakesMarks Derived Covers (λ w. refl) (λ w z e. e) covers_both covers_apart taken_marks taken_text (trees_of rules) network rule (all_laid rules xs) tree e ended us end walk in
       (xs, here, one_back step_of (kind_of names) (HasCanonical names) ReadsMarks (CallsNamed names) (given rules) (Letters Derived) (atom_back names (given rules)) (all_laid rules xs) us d xs (good rule xs here) refl)
 
   -- a text is spelled from the start of a rule, where it has these marks
@@ -94,7 +96,7 @@ module _ (literals : List LexerRule) (modes : List Mode) (made : LexNet) (lex : 
 
   -- a walk to the end of its rule spells
   to_end : (k : ℕ) (ys : Alternatives (Step Reads)) (p : ℕ) (us : List (List Mark)) → slice_get (trees_of rules) k ≡ Some ys → WalksTo TakesMarks Named AnyLevel net p (end_of k) us → (w z : List ℕ) → Covers (joined us) w z → SpellsText net p w z
-  to_end k ys p us tree walk w z covers = walk_spells net Named (λ j c n. n) walk.0 p (end_of k) k us (ends_at (trees_of rules) net network k ys tree) walk.1 w z covers
+  to_end k ys p us tree walk w z covers = spelling.walk_spells net TakesText TakesMarks Named Covers (λ v. refl) (λ v x e. e) covers_both covers_apart taken_marks taken_text (λ j c n. n) walk.0 p (end_of k) k us (ends_at (trees_of rules) net network k ys tree) walk.1 w z covers
 
   -- what a rule spells of letters its start spells
   named : (k : ℕ) (xs : Alternatives Atom) (us : List (List Mark)) → slice_get (given rules) k ≡ Some xs → DerivesOne (Letters Named) NoCalls [] (all_laid rules xs) us → Named k (joined us)
@@ -132,7 +134,7 @@ module _ (literals : List LexerRule) (modes : List Mode) (made : LexNet) (lex : 
     -- what is spelled is derived
     pub spelled_derives : (w z : List ℕ) → SpellsText net a w z → DerivesFront rules x.elements w z
     spelled_derives w z spells =
-        let s = spelt net Derived called a w z spells in
+        let s = spelling.spelt net TakesText TakesMarks Derived Covers (λ v. refl) (λ v x e. e) covers_both covers_apart taken_marks taken_text called a w z spells in
         let d = words.walk_ends TakesMarks Derived AnyLevel (trees_of rules) net network r (all_laid rules own) tree i a (laid rules x.elements) is_alternative begins_here s.end s.ended s.walk.0 s.letters s.is s.walk.1 in
         let marks = all_back step_of (kind_of names) (HasCanonical names) ReadsMarks (CallsNamed names) (given rules) (Letters Derived) (atom_back names (given rules)) (laid rules x.elements) s.letters d.2 x.elements own_good refl in
         let f = covers_is_front (joined s.letters) w z s.covers in

@@ -37,7 +37,8 @@ use Rattle.g4_spelling.specs.Fronts.{IsLexStart}
 use Rattle.g4_spelling.specs.Greedy.{EachIsGreedy, IsPartOf, IsWrittenGreedy, RuleCalls}
 use Rattle.g4_spelling.proofs.Carried.{either_calls, either_greedy}
 use Rattle.g4_spelling.proofs.Modes.{mode_is, start_at}
-use Rattle.g4_spelling.proofs.Placed.{all_laid, at_is_member, call_known, decided_at, member_at, tree_of}
+use Rattle.g4_walks.proofs.Firsts.{at_is_member}
+use Rattle.g4_spelling.proofs.Placed.{all_laid, call_known, decided_at, member_at, tree_of}
 use Rattle.g4_spelling.proofs.Rising.{IsEager, end_eager, rule_eager}
 
 -- nothing is asked of a step

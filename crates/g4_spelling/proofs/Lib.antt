@@ -1,8 +1,6 @@
-mod Joined
 mod Substituted
 mod Covers
 mod Atoms
-mod Spelt
 mod Placed
 mod Derived
 mod Rising

@@ -35,7 +35,8 @@ use Rattle.g4_spelling.proofs.Deciding.{decide_greedy}
 use Rattle.g4_spelling.proofs.Derived.{derived_spells, spelled_derives}
 use Rattle.g4_spelling.proofs.Eager.{greedy_rule}
 use Rattle.g4_spelling.proofs.Modes.{at_start, fresh, mode_is, start_at}
-use Rattle.g4_spelling.proofs.Placed.{all_laid, begins_laid, item_below, map_item, tree_is, tree_of}
+use Rattle.g4_walks.proofs.Items.{map_item}
+use Rattle.g4_spelling.proofs.Placed.{all_laid, begins_laid, item_below, tree_is, tree_of}
 
 -- one of several rules has an alternative
 full_rule : (rules : List LexerRule) → LexerRulesAreFull rules → (k : ℕ) (rule : LexerRule) → slice_get rules k ≡ Some rule → LexerRuleIsFull rule

@@ -1,31 +1,26 @@
 -- The rules of a lexer's network by their numbers, and where their alternatives begin.
 use Rattle.std.proofs.Common.{◌≡◌, ℕ, zero, suc, ◌+◌, ◌<◌, ◌⊎◌, inl, inr, List, [], ◌∷◌, length, map, All, Option, Some, None, refl, sym, ◌∙◌, ap, subst, arith, Contains, slice_get}
 use Rattle.std.proofs.lemmas.List.{length-map}
-use Rattle.std.specs.Option.{option_map}
-use Rattle.std.proofs.lemmas.Option.{get_or_from_slice_get, slice_get-map, slice_get_within}
-use Rattle.g4_layout.proofs.Spans.{one_first}
 use Rattle.std.proofs.lemmas.List.FromFn.{length-map-range_with_len}
 use Rattle.g4_elements.specs.Bind.{in_order_bind, either_bind, in_order_over, either_over}
-use Rattle.g4_elements.specs.Elements.{Elements, Alternatives, none, or, either, atoms_of_either}
+use Rattle.g4_elements.specs.Elements.{Elements, Alternatives, either, atoms_of_either}
 use Rattle.g4_source.specs.declared.atom.Atom.{Atom}
 use Rattle.g4_source.specs.declared.rule.LexerAlternative.{LexerAlternative}
 use Rattle.g4_source.specs.declared.rule.LexerRule.{LexerRule}
 use Rattle.g4_source.specs.declared.source.Mode.{Mode}
 use Rattle.g4_source.specs.Rules.{lexer_alternatives_of}
 use Rattle.g4_grammar.specs.declared.step.Step.{Step}
-use Rattle.g4_grammar.specs.Derives.{NoCalls, DerivesAll, DerivesOne, this, another}
 use Rattle.g4_net.specs.declared.network.Network.{Network}
 use Rattle.g4_net.specs.declared.network.State.{State}
 use Rattle.g4_net.specs.declared.network.State.TheVariants.{Decision, End, Edge, Call, Predicate, Level, Action, Empty}
 use Rattle.g4_net.specs.Network.{state_at, start_of}
 use Rattle.g4_layout.specs.Callers.{callers_of, returns_of}
-use Rattle.g4_layout.specs.Layout.{LiesAsRule, of_one, of_several, LieSideBySide, no_other}
-use Rattle.g4_layout.specs.Layout as lay
 use Rattle.g4_ordered.specs.declared.network.Reads.{Reads}
 use Rattle.g4_ordered.specs.Network.{emptied}
-use Rattle.g4_walks.specs.Alternatives.{each_of, IsAlternative}
+use Rattle.g4_walks.specs.Alternatives.{IsAlternative}
 use Rattle.g4_walks.specs.Alternatives as walks
 use Rattle.g4_walks.proofs.Beginnings.{alternative_of_list}
+use Rattle.g4_walks.proofs.Items.{map_item, item_map}
 use Rattle.g4_lexnet.specs.declared.lex_net.LexNet.{LexNet}
 use Rattle.g4_ordered.specs.declared.start.Start.{Start}
 use Rattle.g4_lexnet.specs.Lexable.{CanBeLexed}
@@ -37,16 +32,6 @@ use Rattle.g4_lexnet.proofs.Lexed.{is_lexable}
 use Rattle.g4_lexnet.proofs.Trees.{one_by_one, tree}
 use Rattle.g4_spelling.specs.Canonical.{SetsAreCanonical}
 use Rattle.g4_spelling.proofs.Atoms.{HasCanonical, kind_of}
-
--- an item of a list of which each item is made into another
-pub map_item : {X Y : Type 0} (f : X → Y) (xs : List X) (j : ℕ) (y : Y) → slice_get (map f xs) j ≡ Some y → (x : X) × (slice_get xs j ≡ Some x) × (y ≡ f x)
-map_item f [] j y is = absurd (let n : ⊥ = cc in n)
-map_item f (x ∷ xs) zero y is = (x, refl, cc)
-map_item f (x ∷ xs) (suc j) y is = map_item f xs j y is
-
--- what is made of an item
-pub item_map : {X Y : Type 0} (f : X → Y) (xs : List X) (j : ℕ) (x : X) → slice_get xs j ≡ Some x → slice_get (map f xs) j ≡ Some (f x)
-item_map f xs j x is = slice_get-map f xs j ∙ ap (option_map f) is
 
 -- there is an item at each place
 pub item_below : {X : Type 0} (xs : List X) (k : ℕ) → k < length xs → (x : X) × (slice_get xs k ≡ Some x)
@@ -142,48 +127,3 @@ call_known literals modes made x can p rule level back is =
     let below : rule < length made.net.callers = well.calls p rule level back (item_map emptied made.net.states p (Call rule level back) is) in
     let many : length made.net.callers ≡ length (trees_of rules) = ap length x.network.callers ∙ callers_counted made.net.states (length (trees_of rules)) in
     item_below rules rule (omega (arith, below, many, length-map rules (tree rules)))
-
--- each alternative of those side by side has a first state
-first_of : {net : Network Reads} {ys : Alternatives (Step Reads)} {firsts lasts : List ℕ} {n m : ℕ} → LieSideBySide net ys firsts lasts n m → (j : ℕ) (y : Elements (Step Reads)) → slice_get (each_of ys) j ≡ Some y → (a : ℕ) × (slice_get firsts j ≡ Some a)
-first_of (no_other n) j y is = absurd (let k : ⊥ = cc in k)
-first_of (lay.another x xs last n k m firsts lasts l ls) zero y is = (n, refl)
-first_of (lay.another x xs last n k m firsts lasts l ls) (suc j) y is = first_of ls j y is
-
--- what is at a place is a member
-pub at_is_member : {X : Type 0} (xs : List X) (j : ℕ) (x : X) → slice_get xs j ≡ Some x → Contains xs x
-at_is_member xs j x is = (j, slice_get_within xs j x is, get_or_from_slice_get xs j x x is)
-
--- where an alternative of a rule that is laid out begins, and how its start leads there
-pub record Leads (net : Network Reads) (k : ℕ) (ys : Alternatives (Step Reads)) (y : Elements (Step Reads)) : Type 0 where
-  pub number : ℕ
-  pub state : ℕ
-  pub alternative : IsAlternative ys number y
-  pub begins : walks.BeginsAt net k ys number state
-  pub to : (state ≡ start_of k) ⊎ ((targets : List ℕ) × (state_at net (start_of k) ≡ Some (Decision targets)) × Contains targets state)
-
--- one that is derived by is at a place
-place_of : {L C : Type 0} {Letters : L → List C → Type 0} {ys : Alternatives L} {us : List C} → DerivesOne Letters NoCalls [] ys us → (j : ℕ) × (y : Elements L) × (slice_get (each_of ys) j ≡ Some y) × DerivesAll Letters NoCalls [] y us
-place_of (this y ys us d) = (0, y, refl, d)
-place_of (another y ys us d) = let h = place_of d in (suc h.0, h.1, h.2, h.3)
-
--- each alternative of a rule that is laid out begins somewhere
-pub begins_at : {net : Network Reads} {k n m : ℕ} {ys : Alternatives (Step Reads)} → LiesAsRule net k ys n m → (j : ℕ) (y : Elements (Step Reads)) → slice_get (each_of ys) j ≡ Some y → (a : ℕ) × walks.BeginsAt net k ys (j + 1) a
-begins_at (of_one k last n m x l leads) zero y at = (start_of k, (refl, refl))
-begins_at (of_one k last n m x l leads) (suc j) y at = absurd (let e : ⊥ = cc in e)
-begins_at (of_several k n m none firsts lasts two is l leads) j y at = absurd (let e : ⊥ = cc in e)
-begins_at (of_several k n m (or x none) firsts lasts two is l leads) j y at = let one = one_first l in absurd (omega (arith, one, two))
-begins_at (of_several k n m (or x (or z more)) firsts lasts two is l leads) j y at = let h = first_of l j y at in (h.0, (firsts, j, is, h.1, refl))
-
--- the rule's start leads there
-leads_there : (net : Network Reads) (k : ℕ) (ys : Alternatives (Step Reads)) (i a : ℕ) → walks.BeginsAt net k ys i a → (a ≡ start_of k) ⊎ ((targets : List ℕ) × (state_at net (start_of k) ≡ Some (Decision targets)) × Contains targets a)
-leads_there net k none i a b = absurd b
-leads_there net k (or x none) i a b = inl b.1
-leads_there net k (or x (or y more)) i a (targets, j, is, at, number) = inr (targets, is, at_is_member targets j a at)
-
--- an alternative that derives a word leads from where it begins
-pub rule_leads : {net : Network Reads} {k n m : ℕ} {ys : Alternatives (Step Reads)} {C : Type 0} {Letters : Step Reads → List C → Type 0} {us : List C} → LiesAsRule net k ys n m → DerivesOne Letters NoCalls [] ys us →
-    (y : Elements (Step Reads)) × DerivesAll Letters NoCalls [] y us × Leads net k ys y
-rule_leads {net} {k} {ys = ys} lies d =
-    let h = place_of d in
-    let b = begins_at lies h.0 h.1 h.2 in
-    (h.1, h.3, record { number = h.0 + 1; state = b.0; alternative = (h.0, h.2, refl); begins = b.1; to = leads_there net k ys (h.0 + 1) b.0 b.1 })

@@ -1,4 +1,5 @@
 mod Fetched
+mod Meant
 mod OneByOne
 mod OneEnd
 mod OneOutcome

@@ -13,6 +13,8 @@ use Rattle.g4_load.specs.declared.interpreter.Interpreter.{Interpreter}
 use Rattle.g4_tool.specs.declared.outcome.Outcome.{Outcome}
 use Rattle.g4_words.specs.declared.command.Output.{Output}
 use Rattle.g4_tool.specs.declared.write.Line.{Line}
+use Rattle.g4_tool.proofs.Meant.{one_more_meant}
+use Rattle.g4_tool.specs.Meaning.{IsMeantAnywhere}
 use Rattle.g4_tool.specs.Outcomes.{IsOutcome, AreOutcomes, AreParsed, IsOneMore, is_accepted, lexing_refused, parsing_refused, outcome_lines, lines_of_files}
 
 -- there are as many outcomes as inputs
@@ -44,6 +46,12 @@ more_lines output interpreter (n ∷ names) (o ∷ os) name outcome same =
     ap (λ ls. outcome_lines output interpreter n o ++ ls) (more_lines output interpreter names os name outcome (omega (arith, same)))
     ∙ sym (append_assoc (outcome_lines output interpreter n o) (lines_of_files output interpreter names os) (outcome_lines output interpreter name outcome))
 
+-- one more file, by its outcome
+pub one_more : (output : Output) (interpreter : Interpreter) (name : List ℕ) (input : Input) (before now : Parsed) (outcome : Outcome) → IsOutcome interpreter input outcome →
+    IsMeantAnywhere interpreter outcome → now.lines.items ≡ before.lines.items ++ outcome_lines output interpreter name outcome →
+    now.accepted ≡ before.accepted + count_by is_accepted (outcome ∷ []) → IsOneMore output interpreter name input before now
+one_more output interpreter name input before now outcome is meant lines accepted = record { outcome = outcome; is = is; lines = lines; accepted = accepted; meant = meant }
+
 -- the files so far, and one more
 pub one_more_file : (output : Output) (interpreter : Interpreter) (names : List (List ℕ)) (is : List Input) (name : List ℕ) (input : Input) (before now : Parsed) → length names ≡ length is →
     AreParsed output interpreter names is before → IsOneMore output interpreter name input before now → AreParsed output interpreter (names ++ name ∷ []) (is ++ input ∷ []) now
@@ -52,6 +60,7 @@ one_more_file output interpreter names is name input before now same h k = recor
   are = more_outcomes interpreter is h.outcomes input k.outcome h.are k.is;
   lines = k.lines ∙ ap (λ ls. ls ++ outcome_lines output interpreter name k.outcome) h.lines ∙ sym (more_lines output interpreter names h.outcomes name k.outcome (same ∙ sym (as_many interpreter is h.outcomes h.are)));
   accepted = k.accepted ∙ ap (λ n. n + count_by is_accepted (k.outcome ∷ [])) h.accepted ∙ sym (sum_by-append (λ o. cond (is_accepted o) 1 0) h.outcomes (k.outcome ∷ []));
+  meant = one_more_meant interpreter h.outcomes k.outcome h.meant k.meant;
 }
 
 -- all are accepted where as many are as there are

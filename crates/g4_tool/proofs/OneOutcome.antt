@@ -12,9 +12,9 @@ use Rattle.g4_trees.specs.declared.tree.Item.{Item}
 use Rattle.g4_trees.specs.Trees.{items_of}
 use Rattle.g4_parse.specs.declared.parser.ParseFault.{ParseFault}
 use Rattle.g4_parse.specs.declared.parser.ParseFault.TheVariants as parsing
-use Rattle.g4_parse.specs.Parsing.{IsParse, Ends}
-use Rattle.g4_parse.specs.Running.{Ending, parsed, not_viable, mismatch, failed_predicate, too_deep, beginning, no_predicates}
-use Rattle.g4_parse.proofs.OneEnding.{one_end}
+use Rattle.g4_parse.specs.Parsing.{IsParse}
+use Rattle.g4_run.specs.Running.{Ending, parsed, not_viable, mismatch, failed_predicate, too_deep, beginning, no_predicates, Ends}
+use Rattle.g4_run.proofs.OneEnding.{one_end}
 use Rattle.g4_tool.specs.declared.inputs.Input.{Input}
 use Rattle.g4_load.specs.declared.interpreter.Interpreter.{Interpreter}
 use Rattle.g4_tool.specs.declared.outcome.Outcome.{Outcome}

@@ -8,6 +8,7 @@ use Rattle.g4_load.specs.declared.interpreter.Interpreter.{Interpreter}
 use Rattle.g4_tool.specs.declared.report.Report.{Report}
 use Rattle.g4_tool.specs.declared.status.Status.{Status}
 use Rattle.g4_tool.specs.declared.status.Status.TheVariants.{Done, Refused}
+use Rattle.g4_load.specs.declared.stop.Stop.{Stop}
 use Rattle.g4_load.specs.declared.stop.Stop.TheVariants as stops
 use Rattle.g4_load.specs.declared.stop.Halt.{Halt}
 use Rattle.g4_load.specs.declared.stop.Halt.TheVariants as halts
@@ -30,6 +31,9 @@ use Rattle.g4_load.specs.Stages.{IsHaltOf}
 use Rattle.g4_tool.specs.Outcomes.{AreParsed, is_accepted, lines_of_files}
 use Rattle.g4_tool.specs.Ends.{End, stopped, checked, listed, all_parsed, not_checked, grammar_checked, not_listed, rule_listed, EndsParse, not_built, file_absent, files_parsed, Ends, HasEnd, no_command, of_command, status_of}
 use Rattle.g4_tool.specs.Report.{IsReportOf, IsReportOfFiles, IsReport, ReportsOrHalts, ComesExactly, CanBeRun, IsComplete}
+use Rattle.g4_load.specs.Usable.{IsNetworkFrom}
+use Rattle.g4_load.proofs.Networks.{network_from}
+use Rattle.g4_tool.proofs.Meant.{meant_from}
 use Rattle.g4_tool.proofs.OneByOne.{as_many, all_counted}
 use Rattle.g4_tool.proofs.OneEnd.{one_end, same_built, same_inputs}
 use Rattle.g4_words.proofs.OneCommand.{one_command}
@@ -43,6 +47,10 @@ pub reported_front : {ob on eb en : Option (List ℕ)} (files : Files) (words : 
     HasReportedFront files words ob on eb en
 reported_front {ob} {on} {eb} {en} files words slice report same is h = inr (record { report = report; is = is; lines = subst (λ (ls : List Line). WroteFront ls ob on eb en) same h })
 
+-- a command line that stops before any file is parsed
+pub reports_stop : (files : Files) (words : List (List ℕ)) (stop : Stop) (report : Report) → HasEnd files words (stopped stop) → IsReportOf (stopped stop) report → IsReport files words report
+reports_stop files words stop report has is = record { end = stopped stop; has = has; is = is; meant = λ parse is_parse. tt }
+
 module _ (files : Files) (words : List (List ℕ)) (check : Check) (fetched : List (List ℕ)) (command : IsCommand words (commands.Check check)) where
   -- a grammar that is not checked
   pub stops_unchecked : (halt : Halt) → IsHaltOf (Loads files check.grammar fetched) halt → ReportsOrHalts files words (Err halt)
@@ -52,7 +60,7 @@ module _ (files : Files) (words : List (List ℕ)) (check : Check) (fetched : Li
 
   -- a grammar that is checked
   pub reports_checked : (grammar : Loaded) (report : Report) → Loads files check.grammar fetched (Ok grammar) → IsReportOf (checked grammar) report → IsReport files words report
-  reports_checked grammar report loads is = record { end = checked grammar; has = of_command (commands.Check check) (checked grammar) command (grammar_checked fetched grammar loads); is = is }
+  reports_checked grammar report loads is = record { end = checked grammar; has = of_command (commands.Check check) (checked grammar) command (grammar_checked fetched grammar loads); is = is; meant = λ parse is_parse. tt }
 
 module _ (files : Files) (words : List (List ℕ)) (atn : Atn) (fetched : List (List ℕ)) (command : IsCommand words (commands.Atn atn)) where
   -- a rule that is not listed
@@ -63,7 +71,7 @@ module _ (files : Files) (words : List (List ℕ)) (atn : Atn) (fetched : List (
 
   -- a rule that is listed
   pub reports_listed : (listing : List ℕ) (report : Report) → Lists files atn.grammar atn.rule fetched (Ok listing) → IsReportOf (listed listing) report → IsReport files words report
-  reports_listed listing report lists is = record { end = listed listing; has = of_command (commands.Atn atn) (listed listing) command (rule_listed fetched listing lists); is = is }
+  reports_listed listing report lists is = record { end = listed listing; has = of_command (commands.Atn atn) (listed listing) command (rule_listed fetched listing lists); is = is; meant = λ parse is_parse. tt }
 
 module _ (files : Files) (words : List (List ℕ)) (parse : Parse) (fetched : List (List ℕ)) (command : IsCommand words (commands.Parse parse)) where
   -- a command without an interpreter
@@ -96,6 +104,10 @@ module _ (files : Files) (words : List (List ℕ)) (parse : Parse) (fetched : Li
             status = is.status ∙ ap (λ (n : ℕ). if made.accepted == n then Done else Refused) all ∙ ap (λ (n : ℕ). if n == length are.outcomes then Done else Refused) are.accepted
                 ∙ ap (λ (b : Bool). if b then Done else Refused) (all_counted are.outcomes);
           };
+          meant = λ other is_other. (
+              let one : commands.Parse parse ≡ commands.Parse other = one_command words (commands.Parse parse) (commands.Parse other) command is_other in
+              let same : parse ≡ other = cc in
+              meant_from interpreter other.start are.outcomes (subst (λ (q : Parse). IsNetworkFrom interpreter q.start) same (network_from files parse.grammar parse.start fetched interpreter built)) are.meant);
         }
 
 module _ (files : Files) (words : List (List ℕ)) (answer : Status) (report : Report) (is : IsReport files words report) (same : answer ≡ report.status) where

@@ -1,5 +1,6 @@
 pub mod Texts
 pub mod Inputs
+pub mod Meaning
 pub mod Outcomes
 pub mod Ends
 pub mod Report

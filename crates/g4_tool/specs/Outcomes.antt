@@ -1,5 +1,5 @@
 -- What becomes of a file: a function of the interpreter and the file's bytes alone.
-use Rattle.std.specs.Prelude.{◌≡◌, ◌≢◌, ℕ, ◌+◌, List, [], ◌∷◌, ◌++◌, count_by, Bool, true, false, Ok, Err}
+use Rattle.std.specs.Prelude.{All, ◌≡◌, ◌≢◌, ℕ, ◌+◌, List, [], ◌∷◌, ◌++◌, count_by, Bool, true, false, Ok, Err}
 use Rattle.g4_token_list.specs.declared.token.Tokens.{Tokens}
 use Rattle.g4_token_list.specs.TokenList.{word_of}
 use Rattle.g4_lexing.specs.Lexing.{IsLexing}
@@ -13,6 +13,7 @@ use Rattle.g4_parse.specs.declared.parser.ParseFault.{ParseFault}
 use Rattle.g4_parse.specs.declared.parser.ParseFault.TheVariants as parsing
 use Rattle.g4_parse.specs.Parsing.{IsParse}
 use Rattle.g4_tool.specs.Texts.{line_of_events, line_of_tokens, line_of_tree, mismatch_line, no_viable_line, failed_predicate_line, too_deep_line, no_token_line, empty_mode_stack_line, many_tokens_line, not_utf8_line, large_line}
+use Rattle.g4_tool.specs.Meaning.{IsMeantAnywhere}
 use Rattle.g4_tool.specs.declared.inputs.Input.{Input}
 use Rattle.g4_tool.specs.declared.inputs.Input.TheVariants as inputs
 use Rattle.g4_load.specs.declared.interpreter.Interpreter.{Interpreter}
@@ -106,12 +107,13 @@ lines_of_files output interpreter [] os = []
 lines_of_files output interpreter (name ∷ names) [] = []
 lines_of_files output interpreter (name ∷ names) (outcome ∷ os) = outcome_lines output interpreter name outcome ++ lines_of_files output interpreter names os
 
--- the lines of files and how many are accepted, from an outcome for each
+-- the lines of files and how many are accepted, from an outcome for each, which says what it is to mean
 pub record AreParsed (output : Output) (interpreter : Interpreter) (names : List (List ℕ)) (inputs : List Input) (parsed : Parsed) : Type 0 where
   pub outcomes : List Outcome
   pub are : AreOutcomes interpreter inputs outcomes
   pub lines : parsed.lines.items ≡ lines_of_files output interpreter names outcomes
   pub accepted : parsed.accepted ≡ count_by is_accepted outcomes
+  pub meant : All (IsMeantAnywhere interpreter) outcomes
 
 -- the lines of one more file, which is counted where it is accepted
 pub record IsOneMore (output : Output) (interpreter : Interpreter) (name : List ℕ) (input : Input) (before now : Parsed) : Type 0 where
@@ -119,3 +121,4 @@ pub record IsOneMore (output : Output) (interpreter : Interpreter) (name : List 
   pub is : IsOutcome interpreter input outcome
   pub lines : now.lines.items ≡ before.lines.items ++ outcome_lines output interpreter name outcome
   pub accepted : now.accepted ≡ before.accepted + count_by is_accepted (outcome ∷ [])
+  pub meant : IsMeantAnywhere interpreter outcome

@@ -1,5 +1,5 @@
 -- The report of a command line over files by their names: the lines for out and err, and the status.
-use Rattle.std.specs.Prelude.{◌≡◌, ◌↔◌, ◌⊎◌, ◌==◌, ℕ, List, [], ◌∷◌, ◌++◌, Result, Ok, Err, if◌then◌else◌}
+use Rattle.std.specs.Prelude.{◌≡◌, ◌↔◌, ◌⊎◌, ◌==◌, ℕ, List, [], ◌∷◌, ◌++◌, All, Result, Ok, Err, if◌then◌else◌}
 use Rattle.g4_words.specs.Commands.{IsCommand}
 use Rattle.g4_words.specs.declared.command.Command.TheVariants as commands
 use Rattle.g4_words.specs.declared.command.Parse.{Parse}
@@ -7,7 +7,8 @@ use Rattle.g4_load.specs.Building.{Builds}
 use Rattle.g4_load.specs.Files.{Files}
 use Rattle.g4_tool.specs.Inputs.{inputs_of}
 use Rattle.g4_tool.specs.Texts.{closing_line}
-use Rattle.g4_tool.specs.Ends.{End, stopped, HasEnd, lines_of, status_of}
+use Rattle.g4_tool.specs.Ends.{End, stopped, checked, listed, all_parsed, HasEnd, lines_of, status_of}
+use Rattle.g4_tool.specs.Meaning.{IsMeant}
 use Rattle.g4_tool.specs.declared.files.Parsed.{Parsed}
 use Rattle.g4_load.specs.declared.stop.Halt.{Halt}
 use Rattle.g4_load.specs.declared.stop.Halt.TheVariants as halts
@@ -31,11 +32,21 @@ pub record IsReportOfFiles (parsed : Parsed) (files : ℕ) (report : Report) : T
 abbrev pub IsDoneOrRefused : Status → Type 0
 IsDoneOrRefused status = (status ≡ Done) ⊎ (status ≡ Refused)
 
--- the report is that of the end that the words have
+-- of an end where files are parsed from this start rule, each outcome
+abbrev pub IsMeantEnd : List ℕ → End → Type 0
+IsMeantEnd start (stopped stop) = Unit {0}
+IsMeantEnd start (checked grammar) = Unit {0}
+IsMeantEnd start (listed listing) = Unit {0}
+IsMeantEnd start (all_parsed output interpreter names os) = All (IsMeant interpreter start) os
+
+-- The report is that of the end that the words have. Where they parse files, each file with a tree is one whose tokens the rules derive
+-- from the start rule, and are in the tree but for EOFs at their end; of the others that have tokens none is, unless too many rules
+-- are open.
 pub record IsReport (files : Files) (words : List (List ℕ)) (report : Report) : Type 0 where
   pub end : End
   pub has : HasEnd files words end
   pub is : IsReportOf end report
+  pub meant : (parse : Parse) → IsCommand words (commands.Parse parse) → IsMeantEnd parse.start end
 
 -- the call answers with the report of the files, or as the command line stops, unless a fetch fails or memory runs out
 abbrev pub ReportsOrHalts : Files → List (List ℕ) → Result Report Halt → Type 0

@@ -1,12 +1,12 @@
 // The files of a run, parsed in order.
-ghost use Rattle.std.specs.Prelude.{◌≡◌, ◌<◌, ◌≤◌, All, IfOk, OnOk, length};
+ghost use Rattle.std.specs.Prelude.{◌≡◌, ◌<◌, ◌≤◌, ◌+◌, ◌∷◌, [], All, IfOk, OnOk, count_by, length};
 ghost use Rattle.g4_tool.specs.Inputs.{IsSmall};
-ghost use Rattle.g4_tool.specs.Outcomes.{AreParsed, IsOneMore};
+ghost use Rattle.g4_tool.specs.Outcomes.{AreParsed, IsOneMore, is_accepted};
 ghost use Rattle.g4_load.specs.Usable.{IsUsable};
 ghost use Rattle.g4_words.specs.declared.command.TheConstants.{MOST_FILES};
 
 use crate::inputs::Input;
-use crate::outcome::{is_accepted, outcome_of, push_outcome};
+use crate::outcome::{Outcome, is_accepted, outcome_of, push_outcome};
 use crate::write::Line;
 use g4_base::Text;
 use g4_load::Interpreter;
@@ -21,7 +21,20 @@ pub struct Parsed {
     pub accepted: usize,
 }
 
+/// How many files are accepted with this one, where so many are without it.
+fn accepted_with(accepted: usize, outcome: &Outcome) -> usize
+    requires { accepted < MOST_FILES }
+    ensures { result ≡ accepted + count_by is_accepted (outcome.now ∷ []) }
+{
+    if is_accepted(outcome) {
+        accepted + 1
+    } else {
+        accepted
+    }
+}
+
 /// Adds the lines of the outcome of a file.
+#[tactic(auto, using(crate::proofs::OneByOne::one_more))]
 fn push_file(
     parsed: &mut Parsed,
     alloc: Global,
@@ -44,14 +57,13 @@ fn push_file(
         name,
         &outcome,
     )?;
-    if is_accepted(&outcome) {
-        parsed.accepted += 1;
-    }
+    parsed.accepted = accepted_with(parsed.accepted, &outcome);
     Ok(())
 }
 
 /// The lines of the files in order. Worker 0 enters and leaves the gate once for each file. The memory of a file's input and
 /// tokens is given back as soon as the lines of the file are made.
+#[tactic(auto, using(crate::proofs::Meant::none_meant))]
 pub fn parse_files<G: Gate>(
     alloc: Global,
     output: Output,

@@ -5,6 +5,7 @@ ghost use Rattle.g4_trees.specs.Events.{tree_events};
 ghost use Rattle.g4_trees.specs.TreeText.{tree_text};
 ghost use Rattle.g4_tool.specs.Texts.{line_of_events, line_of_tokens, line_of_tree};
 ghost use Rattle.g4_tool.specs.Inputs.{IsSmall};
+ghost use Rattle.g4_tool.specs.Meaning.{IsMeantAnywhere};
 ghost use Rattle.g4_tool.specs.Outcomes.{HasTree, IsNested, IsOutcome, accepted_line, is_accepted, lex_lines, lexing_refused, outcome_lines, parse_lines, parsing_refused};
 ghost use Rattle.g4_load.specs.Usable.{IsUsable};
 
@@ -66,6 +67,7 @@ fn outcome_of_bytes(
     requires small { length bytes ≤ MOST_BYTES }
     ensures outcome { IfOk result (IsOutcome interpreter.now (Input.Bytes bytes)) }
     ensures nested { IfOk result IsNested }
+    ensures meant { IfOk result (IsMeantAnywhere interpreter.now) }
 {
     let tokens = match tokens(alloc, &interpreter.lexer, bytes) {
         Ok(tokens) => tokens,
@@ -97,6 +99,7 @@ pub fn outcome_of(
     requires small { IsSmall input }
     ensures outcome { IfOk result (IsOutcome interpreter.now input) }
     ensures nested { IfOk result IsNested }
+    ensures meant { IfOk result (IsMeantAnywhere interpreter.now) }
 {
     match input {
         Input::Bytes(bytes) => outcome_of_bytes(alloc, interpreter, bytes),

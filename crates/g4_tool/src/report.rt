@@ -181,6 +181,7 @@ fn run_words<S: Shelf, G: Gate>(
 }
 
 /// The report of the words, unless a fetch or memory fails.
+#[tactic(auto, using(crate::proofs::Reports::reports_stop))]
 pub fn make_report<S: Shelf, G: Gate>(
     alloc: Global,
     shelf: &mut S,

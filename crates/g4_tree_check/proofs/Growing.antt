@@ -4,11 +4,10 @@ use Rattle.std.proofs.lemmas.List.{append-nil, length-append}
 use Rattle.g4_grammar.specs.StepRules.{StepRule}
 use Rattle.g4_trees.specs.declared.tree.Item.{Item}
 use Rattle.g4_trees.specs.declared.tree.Item.TheVariants as items
-use Rattle.g4_trees.specs.Trees.{leaf, node, no_tree, a_tree, items_of, items_of_all, tokens_of, tokens_of_all}
+use Rattle.g4_trees.specs.Trees.{leaf, node, no_tree, a_tree, items_of, items_of_all, tokens_of_all}
 use Rattle.g4_tree_check.specs.declared.standing.OpenNode.{OpenNode}
-use Rattle.g4_tree_check.specs.Standing.{CountsFrom, IsOneNode, FitsBody, Grows, Closes, Completes}
-use Rattle.g4_tree_check.specs.TreesOf.{heads_of, IsTreeOf}
-use Rattle.g4_tree_check.proofs.Counting.{as_range, from_range, counts_both, counts_apart}
+use Rattle.g4_tree_check.specs.Standing.{IsOneNode, FitsBody, Grows, Closes, Completes}
+use Rattle.g4_tree_check.specs.TreesOf.{heads_of, ArePlaced, IsTreeOf}
 
 module _ (rules : List StepRule) (word : List ℕ) where
   module _ (May : List Item → ℕ → List Item → Type 0) where
@@ -34,17 +33,19 @@ module _ (rules : List StepRule) (word : List ℕ) where
         let others : rest ≡ items_of_all ts ++ after = cc in
         let first : at ≡ next = sym here ∙ counts.0 in
         let more : next + length (k ∷ tokens_of_all ts) ≡ (next + 1) + length (tokens_of_all ts) = omega arith in
+        let one : next + length (k ∷ []) ≡ next + 1 = omega arith in
         let joined : heads ++ items.Token k ∷ heads_of ts ≡ (heads ++ items.Token at ∷ []) ++ heads_of ts = ap (λ (n : ℕ). heads ++ items.Token n ∷ heads_of ts) here ∙ sym (append_assoc heads (items.Token at ∷ []) (heads_of ts)) in
-        (first, (ts, after, others, counts.1, fit.1, subst (λ (n : ℕ). May ((heads ++ items.Token at ∷ []) ++ heads_of ts) n after) more (subst (λ (h : List Item). May h (next + length (k ∷ tokens_of_all ts)) after) joined may)))
+        (first, (ts, after, others, subst (λ (n : ℕ). ArePlaced n ts) one counts.1, fit.1, subst (λ (n : ℕ). May ((heads ++ items.Token at ∷ []) ++ heads_of ts) n after) more (subst (λ (h : List Item). May h (next + length (k ∷ tokens_of_all ts)) after) joined may)))
 
     pub token_from : (heads : List Item) (next at : ℕ) (rest : List Item) → at ≡ next → Grows rules word May (heads ++ items.Token at ∷ []) (next + 1) rest → Grows rules word May heads next (items.Token at ∷ rest)
     token_from heads next at rest first (ts, after, is, counts, fit, may) =
         let more : (next + 1) + length (tokens_of_all ts) ≡ next + length (at ∷ tokens_of_all ts) = omega arith in
+        let one : next + 1 ≡ next + length (at ∷ []) = omega arith in
         let joined : (heads ++ items.Token at ∷ []) ++ heads_of ts ≡ heads ++ items.Token at ∷ heads_of ts = append_assoc heads (items.Token at ∷ []) (heads_of ts) in (
           a_tree (leaf at) ts,
           after,
           ap (λ (r : List Item). items.Token at ∷ r) is,
-          (first, counts),
+          (first, subst (λ (n : ℕ). ArePlaced n ts) one counts),
           (tt, fit),
           subst (λ (n : ℕ). May (heads ++ items.Token at ∷ heads_of ts) n after) more (subst (λ (h : List Item). May h ((next + 1) + length (tokens_of_all ts)) after) joined may),
         )
@@ -54,7 +55,8 @@ module _ (rules : List StepRule) (word : List ℕ) where
     Inside rule alt at heads inner next rest = (after : List Item) × (rest ≡ items.Exit ∷ after) × FitsBody rules word rule alt inner × Grows rules word May (heads ++ items.Enter rule alt at ∷ []) next after
 
     -- the beginning of a node
-    pub enter_to : (heads : List Item) (next rule alt at : ℕ) (rest : List Item) → (May heads next (items.Enter rule alt at ∷ rest) → ⊥) → Grows rules word May heads next (items.Enter rule alt at ∷ rest) → Grows rules word (Inside rule alt at heads) [] next rest
+    pub enter_to : (heads : List Item) (next rule alt at : ℕ) (rest : List Item) → (May heads next (items.Enter rule alt at ∷ rest) → ⊥) → Grows rules word May heads next (items.Enter rule alt at ∷ rest) →
+        (at ≡ next) × Grows rules word (Inside rule alt at heads) [] next rest
     enter_to heads next rule alt at rest never (no_tree, after, is, counts, fit, may) = absurd (never (stays heads next (items.Enter rule alt at ∷ rest) after is may))
     enter_to heads next rule alt at rest never (a_tree (leaf k) ts, after, is, counts, fit, may) = absurd (let n : ⊥ = cc in n)
     enter_to heads next rule alt at rest never (a_tree (node r a p children) ts, after, is, counts, fit, may) =
@@ -64,26 +66,28 @@ module _ (rules : List StepRule) (word : List ℕ) where
         let inner = items_of_all children in
         let others : rest ≡ ((inner ++ items.Exit ∷ []) ++ items_of_all ts) ++ after = cc in
         let parts : ((inner ++ items.Exit ∷ []) ++ items_of_all ts) ++ after ≡ inner ++ items.Exit ∷ (items_of_all ts ++ after) = append_assoc (inner ++ items.Exit ∷ []) (items_of_all ts) after ∙ append_assoc inner (items.Exit ∷ []) (items_of_all ts ++ after) in
-        let apart = counts_apart next (tokens_of_all children) (tokens_of_all ts) counts in
         let more : next + length (tokens_of_all children ++ tokens_of_all ts) ≡ (next + length (tokens_of_all children)) + length (tokens_of_all ts) = omega (arith, length-append (tokens_of_all children) (tokens_of_all ts)) in
         let joined : heads ++ items.Enter r a p ∷ heads_of ts ≡ (heads ++ items.Enter rule alt at ∷ []) ++ heads_of ts =
         ap (λ (i : Item). heads ++ i ∷ heads_of ts) (ap (λ (n : ℕ). items.Enter n a p) same_rule ∙ ap (λ (n : ℕ). items.Enter rule n p) same_alt ∙ ap (λ (n : ℕ). items.Enter rule alt n) same_at) ∙ sym (append_assoc heads (items.Enter rule alt at ∷ []) (heads_of ts)) in
         let body : FitsBody rules word rule alt (heads_of children) = subst (λ (n : ℕ). FitsBody rules word n alt (heads_of children)) same_rule (subst (λ (n : ℕ). FitsBody rules word r n (heads_of children)) same_alt fit.0.0) in (
-          children,
-          items.Exit ∷ (items_of_all ts ++ after),
-          others ∙ parts,
-          apart.0,
-          fit.0.1,
+          sym same_at ∙ counts.0.0,
           (
-            items_of_all ts ++ after,
-            refl,
-            body,
-            (ts, after, refl, apart.1, fit.1, subst (λ (n : ℕ). May ((heads ++ items.Enter rule alt at ∷ []) ++ heads_of ts) n after) more (subst (λ (h : List Item). May h (next + length (tokens_of_all children ++ tokens_of_all ts)) after) joined may)),
+            children,
+            items.Exit ∷ (items_of_all ts ++ after),
+            others ∙ parts,
+            counts.0.1,
+            fit.0.1,
+            (
+              items_of_all ts ++ after,
+              refl,
+              body,
+              (ts, after, refl, counts.1, fit.1, subst (λ (n : ℕ). May ((heads ++ items.Enter rule alt at ∷ []) ++ heads_of ts) n after) more (subst (λ (h : List Item). May h (next + length (tokens_of_all children ++ tokens_of_all ts)) after) joined may)),
+            ),
           ),
         )
 
-    pub enter_from : (heads : List Item) (next rule alt at : ℕ) (rest : List Item) → Grows rules word (Inside rule alt at heads) [] next rest → Grows rules word May heads next (items.Enter rule alt at ∷ rest)
-    enter_from heads next rule alt at rest (children, middle, is, counts, fit, (outer, ends, body, (ts, after, rest_is, more_counts, more_fit, may))) =
+    pub enter_from : (heads : List Item) (next rule alt at : ℕ) (rest : List Item) → at ≡ next → Grows rules word (Inside rule alt at heads) [] next rest → Grows rules word May heads next (items.Enter rule alt at ∷ rest)
+    enter_from heads next rule alt at rest first (children, middle, is, counts, fit, (outer, ends, body, (ts, after, rest_is, more_counts, more_fit, may))) =
         let inner = items_of_all children in
         let parts : inner ++ items.Exit ∷ (items_of_all ts ++ after) ≡ ((inner ++ items.Exit ∷ []) ++ items_of_all ts) ++ after = sym (append_assoc (inner ++ items.Exit ∷ []) (items_of_all ts) after ∙ append_assoc inner (items.Exit ∷ []) (items_of_all ts ++ after)) in
         let whole : rest ≡ ((inner ++ items.Exit ∷ []) ++ items_of_all ts) ++ after = is ∙ ap (λ (z : List Item). inner ++ z) (ends ∙ ap (λ (z : List Item). items.Exit ∷ z) rest_is) ∙ parts in
@@ -92,7 +96,7 @@ module _ (rules : List StepRule) (word : List ℕ) where
           a_tree (node rule alt at children) ts,
           after,
           ap (λ (z : List Item). items.Enter rule alt at ∷ z) whole,
-          counts_both next (tokens_of_all children) (tokens_of_all ts) counts more_counts,
+          ((first, counts), more_counts),
           ((body, fit), more_fit),
           subst (λ (n : ℕ). May (heads ++ items.Enter rule alt at ∷ heads_of ts) n after) more (subst (λ (h : List Item). May h ((next + length (tokens_of_all children)) + length (tokens_of_all ts)) after) joined may),
         )
@@ -126,11 +130,16 @@ module _ (rules : List StepRule) (word : List ℕ) where
 
   -- the beginning of a node is read
   pub read_enter : (nodes : List OpenNode) (heads : List Item) (next : ℕ) (opened : OpenNode) (rest : List Item) → opened.before.items ≡ heads →
-      Completes rules word nodes heads next (items.Enter opened.rule opened.alt opened.at ∷ rest) ↔ Completes rules word (opened ∷ nodes) [] next rest
-  read_enter nodes heads next opened rest is = subst (λ (h : List Item). Completes rules word nodes h next (items.Enter opened.rule opened.alt opened.at ∷ rest) ↔ Completes rules word (opened ∷ nodes) [] next rest) is (
-    enter_to (Closes rules word nodes) opened.before.items next opened.rule opened.alt opened.at rest (not_enter nodes opened.before.items next opened.rule opened.alt opened.at rest),
-    enter_from (Closes rules word nodes) opened.before.items next opened.rule opened.alt opened.at rest,
-  )
+      Completes rules word nodes heads next (items.Enter opened.rule opened.alt opened.at ∷ rest) ↔ ((opened.at ≡ next) × Completes rules word (opened ∷ nodes) [] next rest)
+  read_enter nodes heads next opened rest is =
+      subst (λ (h : List Item). Completes rules word nodes h next (items.Enter opened.rule opened.alt opened.at ∷ rest) ↔ ((opened.at ≡ next) × Completes rules word (opened ∷ nodes) [] next rest)) is (
+        enter_to (Closes rules word nodes) opened.before.items next opened.rule opened.alt opened.at rest (not_enter nodes opened.before.items next opened.rule opened.alt opened.at rest),
+        λ h. enter_from (Closes rules word nodes) opened.before.items next opened.rule opened.alt opened.at rest h.0 h.1,
+      )
+
+  -- a node that begins elsewhere
+  pub no_enter : (nodes : List OpenNode) (heads : List Item) (next rule alt at : ℕ) (rest : List Item) → Completes rules word nodes heads next (items.Enter rule alt at ∷ rest) → at ≡ next
+  no_enter nodes heads next rule alt at rest h = (enter_to (Closes rules word nodes) heads next rule alt at rest (not_enter nodes heads next rule alt at rest) h).0
 
   -- the end of a node is read
   pub read_exit : (opened : OpenNode) (nodes : List OpenNode) (heads : List Item) (next : ℕ) (rest : List Item) →
@@ -166,7 +175,7 @@ module _ (rules : List StepRule) (word : List ℕ) where
       to (rule, alt, at, children, is, counts, fits) =
           let t = node rule alt at children in
           let whole : items_of t ≡ (items_of t ++ []) ++ [] = sym (append-nil (items_of t ++ []) ∙ append-nil (items_of t)) in
-          (a_tree t no_tree, [], is ∙ whole, subst (CountsFrom 0) (sym (append-nil (tokens_of t))) (from_range 0 (tokens_of t) counts), (fits, tt), (refl, (rule, alt, at, refl)))
+          (a_tree t no_tree, [], is ∙ whole, (counts, tt), (fits, tt), (refl, (rule, alt, at, refl)))
 
       from : Completes rules word [] [] 0 xs → IsTreeOf rules word xs
       from (no_tree, after, is, counts, fit, may) = absurd (let e = may.1.3 in let n : ⊥ = cc in n)
@@ -175,4 +184,4 @@ module _ (rules : List StepRule) (word : List ℕ) where
       from (a_tree (node rule alt at children) no_tree, after, is, counts, fit, may) =
           let t = node rule alt at children in
           let whole : xs ≡ items_of t = is ∙ ap (λ (z : List Item). (items_of t ++ []) ++ z) may.0 ∙ append-nil (items_of t ++ []) ∙ append-nil (items_of t) in
-          (rule, alt, at, children, whole, as_range 0 (tokens_of t) (subst (CountsFrom 0) (append-nil (tokens_of t)) counts), fit.0)
+          (rule, alt, at, children, whole, counts.0, fit.0)

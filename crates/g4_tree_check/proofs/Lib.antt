@@ -1,5 +1,4 @@
 mod Bodies
-mod Counting
 mod Derivations
 mod Growing
 mod Members

@@ -1,7 +1,6 @@
--- The trees of a grammar over a word: well nested, with the tokens in order, the children of each node being a word of its
--- alternative as the grammar writes it.
+-- The trees of a grammar over a word: well nested, with the tokens in order, each node at the place of its first token, and the children
+-- of each node a word of its alternative as the grammar writes it.
 use Rattle.std.specs.Prelude.{◌≡◌, ℕ, ◌+◌, List, [], ◌∷◌, length, Some, slice_get, Contains}
-use Rattle.std.specs.List.{range_with_len}
 use Rattle.g4_elements.specs.Elements.{Elements}
 use Rattle.g4_source.specs.Rules.{bodies_of}
 use Rattle.g4_grammar.specs.declared.step.Step.{Step}
@@ -38,24 +37,39 @@ ReadsChildren word Empty w = w ≡ []
 
 -- the alternative of this number in the rule of this number; both count from 1
 abbrev pub IsBody : List StepRule → ℕ → ℕ → Elements (Step (List ℕ)) → Type 0
-IsBody rules rule alt x = (k i : ℕ) × (r : StepRule) × (rule ≡ k + 1) × (alt ≡ i + 1) × (slice_get rules k ≡ Some r) × (slice_get (bodies_of r) i ≡ Some x)
+IsBody rules rule alt x = (k i : ℕ) × (r : StepRule) × (rule ≡ k + 1) × (alt ≡ i + 1) × (slice_get rules k ≡ Some r) ×
+    (slice_get (bodies_of r) i ≡ Some x)
 
 -- the elements derive these children, each given by its first item
 abbrev pub DerivesChildren : List ℕ → Elements (Step (List ℕ)) → List Item → Type 0
 DerivesChildren word x children = DerivesAll (ReadsChildren word) NoCalls [] x children
 
+abbrev mutual
+  -- The tokens of the tree are those from this place on, in order, and each node is at the place of its first token, or of the next
+  -- token where it has none.
+  pub IsPlaced : ℕ → Tree → Type 0
+  IsPlaced next (leaf at) = at ≡ next
+  IsPlaced next (node rule alt at children) = (at ≡ next) × ArePlaced next children
+
+  -- the same of trees one after another
+  pub ArePlaced : ℕ → Forest → Type 0
+  ArePlaced next no_tree = Unit {0}
+  ArePlaced next (a_tree t ts) = IsPlaced next t × ArePlaced (next + length (tokens_of t)) ts
+
 module _ (rules : List StepRule) (word : List ℕ) where
   abbrev mutual
     -- the children of each node are a word of its alternative
-    pub Fits : Tree → Type 0
-    Fits (leaf at) = Unit {0}
-    Fits (node rule alt at children) = ((x : Elements (Step (List ℕ))) × IsBody rules rule alt x × DerivesChildren word x (heads_of children)) × AllFit children
+    pub Conforms : Tree → Type 0
+    Conforms (leaf at) = Unit {0}
+    Conforms (node rule alt at children) = ((x : Elements (Step (List ℕ))) × IsBody rules rule alt x ×
+        DerivesChildren word x (heads_of children)) × AllConform children
 
     -- the same of trees one after another
-    pub AllFit : Forest → Type 0
-    AllFit no_tree = Unit {0}
-    AllFit (a_tree t ts) = Fits t × AllFit ts
+    pub AllConform : Forest → Type 0
+    AllConform no_tree = Unit {0}
+    AllConform (a_tree t ts) = Conforms t × AllConform ts
 
-  -- the items are those of a node whose tokens are the first of the word, in order, and which fits
+  -- the items are those of a node that conforms, whose tokens are the first of the word, in order, each node at the place of its first
   abbrev pub IsTreeOf : List Item → Type 0
-  IsTreeOf xs = (rule alt at : ℕ) × (children : Forest) × (xs ≡ items_of (node rule alt at children)) × (tokens_of (node rule alt at children) ≡ range_with_len 0 (length (tokens_of (node rule alt at children)))) × Fits (node rule alt at children)
+  IsTreeOf xs = (rule alt at : ℕ) × (children : Forest) × (xs ≡ items_of (node rule alt at children)) ×
+      IsPlaced 0 (node rule alt at children) × Conforms (node rule alt at children)

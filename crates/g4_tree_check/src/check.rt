@@ -10,7 +10,8 @@ use g4_trees::Tree;
 use std::alloc::{AllocError, Global};
 
 /// Whether the tree is one of the rules over the tokens: its items are those of a node, its tokens are the first of the list in
-/// order, counted from 0, and the children of each node are a word of the alternative that the node names, as it is written.
+/// order, counted from 0, each node is at the place of its first token, or of the next one where it has none, and the children of each
+/// node are a word of the alternative that the node names, as it is written.
 /// Rules count from 1, and the alternatives of a rule too. The time is in proportion to the number of items, each times the
 /// size of the alternative of its node, and no call is as deep as the tree.
 ///

@@ -1,5 +1,5 @@
 // How far reading has come in a tree.
-ghost use Rattle.std.specs.Prelude.{◌≡◌, ◌↔◌, [], ◌∷◌, ℕ, List, IfOk, OnOk, IfSome, IfNone, IsTrue};
+ghost use Rattle.std.specs.Prelude.{◌≡◌, ◌↔◌, [], ◌∷◌, ℕ, List, IfOk, IfSome, IfNone, IsTrue};
 ghost use Rattle.g4_elements.specs.Elements.{Elements as Body};
 ghost use Rattle.g4_grammar.specs.declared.step.Step.{Step as AStep};
 ghost use Rattle.g4_grammar.specs.StepRules.{StepRule as Rule};
@@ -93,10 +93,13 @@ impl Standing {
         }
     }
 
-    /// Reads the beginning of a node.
-    fn enter(&mut self, alloc: Global, rule: u32, alt: u32, at: u32) -> Result<(), AllocError>
-        ensures { OnOk result ((rules : List Rule) (word : List ℕ) (rest : List TreeItem) → CanEnd rules word self.old (enter rule alt at ∷ rest) ↔ CanEnd rules word self.new rest) }
+    /// Reads the beginning of a node, and says whether it is at the place of the next token.
+    fn enter(&mut self, alloc: Global, rule: u32, alt: u32, at: u32) -> Result<bool, AllocError>
+        ensures { IfOk result (λ yes. (rules : List Rule) (word : List ℕ) (rest : List TreeItem) → CanEnd rules word self.old (enter rule alt at ∷ rest) ↔ (IsTrue yes × CanEnd rules word self.new rest)) }
     {
+        if at as usize != self.next {
+            return Ok(false);
+        }
         let before = mem::replace(&mut self.heads, Vec::new(alloc));
         self.nodes.push(OpenNode {
             rule,
@@ -104,7 +107,7 @@ impl Standing {
             at,
             before,
         })?;
-        Ok(())
+        Ok(true)
     }
 
     /// Reads a token, and says whether it is the next one.
@@ -157,8 +160,8 @@ impl Standing {
     {
         match item {
             Item::Enter { rule, alt, at } => {
-                self.enter(alloc, *rule, *alt, *at)?;
-                Ok(true)
+                let in_place = self.enter(alloc, *rule, *alt, *at)?;
+                Ok(in_place)
             }
             Item::Token(at) => {
                 let in_order = self.token(*at)?;

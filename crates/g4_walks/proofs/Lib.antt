@@ -1,25 +1,28 @@
 mod Steps
 pub mod Through
 pub mod Joining
-mod Along
+pub mod Along
 pub mod Beginnings
 pub mod Words
-mod Targets
+pub mod Joined
+pub mod Firsts
+pub mod Spelt
+pub mod Targets
 mod Example
 mod ExampleLoop
 mod LevelFree
 mod LastCall
-mod Starting
-mod Placed
+pub mod Starting
+pub mod Placed
 mod Shapes
 mod Spelling
 mod RuleLevels
 mod RuleTargets
-mod Turning
-mod Items
-mod KnownStarts
-mod OfRules
+pub mod Turning
+pub mod Items
+pub mod KnownStarts
+pub mod OfRules
 mod RuleStarts
-mod RuleEdges
+pub mod RuleEdges
 mod Operators
 pub mod Rewritten

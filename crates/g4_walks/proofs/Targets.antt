@@ -17,7 +17,7 @@ use Rattle.g4_layout.proofs.Spans.{Spans, lies_spans, in_order_spans, side_by_si
 abbrev pub LeadsOnlyTo : {L : Type 0} → (ℕ → Type 0) → (ℕ → Type 0) → Option (State L) → Type 0
 LeadsOnlyTo Chosen Allowed None = Unit {0}
 LeadsOnlyTo Chosen Allowed (Some (Decision targets)) = (t : ℕ) → Contains targets t → Chosen t
-LeadsOnlyTo Chosen Allowed (Some (End rule)) = Unit {0}
+LeadsOnlyTo Chosen Allowed (Some (End rule)) = ⊥
 LeadsOnlyTo Chosen Allowed (Some (Edge label t)) = Allowed t
 LeadsOnlyTo Chosen Allowed (Some (Call rule level back)) = Allowed back
 LeadsOnlyTo Chosen Allowed (Some (Predicate k t)) = Allowed t
@@ -33,7 +33,7 @@ module _ {L : Type 0} (Chosen Allowed : ℕ → Type 0) (chosen_allowed : (q : �
   -- where chosen states are allowed, all targets are
   pub target_allowed : (s : State L) (t : ℕ) → LeadsOnlyTo Chosen Allowed (Some s) → IsTarget s t → Allowed t
   target_allowed (Decision targets) t h is = chosen_allowed t (h t is)
-  target_allowed (End rule) t h is = absurd is
+  target_allowed (End rule) t h is = absurd h
   target_allowed (Edge label u) t h is = subst Allowed (sym is) h
   target_allowed (Call rule level back) t h is = subst Allowed (sym is) h
   target_allowed (Predicate k u) t h is = subst Allowed (sym is) h

@@ -3,6 +3,7 @@ use Rattle.g4_token_list.specs.declared.token.Token.{Token}
 use Rattle.g4_token_list.specs.TokenList.{word_of}
 use Rattle.g4_parse.specs.Parsing.{IsParse}
 use Rattle.g4_tool.specs.Outcomes.{not_lexed, not_parsed, parsed}
+use Rattle.g4_tool.proofs.Meant.{fault_meant, tree_meant}
 use Rattle.g4_tool.proofs.OneByOne.{lexed_apart, parsed_apart}
 use Rattle.g4_tool.proofs.outcome.outcome_of_bytes.Goals as goal
 
@@ -27,3 +28,11 @@ returns-else-parsing_refused-clause-outcome c =
 
 pub returns-in-Ok-parse-clause-nested : goal.returns-in-Ok-parse-clause-nested
 returns-in-Ok-parse-clause-nested c = (c.in-Ok-parse.ensures.parse.0, c.in-Ok-parse.ensures.parse.2)
+
+pub returns-in-Ok-parse-clause-meant : goal.returns-in-Ok-parse-clause-meant
+returns-in-Ok-parse-clause-meant c =
+    tree_meant c.args.interpreter.now c.requires.usable c.in-Ok.tokens c.as_slice.result.now c.as_slice.ensures c.in-Ok-parse.tree c.in-Ok-parse.ensures.accepts c.in-Ok-parse.ensures.tree c.in-Ok-parse.ensures.whole
+
+pub returns-else-parsing_refused-clause-meant : goal.returns-else-parsing_refused-clause-meant
+returns-else-parsing_refused-clause-meant c =
+    fault_meant c.args.interpreter.now c.requires.usable c.in-Ok.tokens c.as_slice.result.now c.as_slice.ensures c.in-Err-parse.fault c.in-Err-parse.ensures.accepts

@@ -1,6 +1,6 @@
 use Rattle.std.proofs.Common.{ℕ, refl, arith, ap, ◌∙◌}
 use Rattle.g4_net.specs.Network.{written_at}
-use Rattle.g4_parse.specs.Running.{wrapped, failed_predicate}
+use Rattle.g4_run.specs.Running.{wrapped, failed_predicate}
 use Rattle.g4_parse.proofs.Turns.{passes_level}
 use Rattle.g4_parse.proofs.parser.Parser.pass_level.Goals as goal
 

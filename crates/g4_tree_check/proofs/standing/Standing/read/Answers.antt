@@ -1,15 +1,14 @@
-use Rattle.std.proofs.Common.{◌↔◌, ◌∷◌, true, refl, sym, subst, IsTrue}
+use Rattle.std.proofs.Common.{◌↔◌, ◌∷◌, sym, subst, IsTrue}
 use Rattle.g4_token_list.specs.TokenList.{word_of}
 use Rattle.g4_trees.specs.declared.tree.Item.{Item}
 use Rattle.g4_tree_check.specs.Standing.{CanEnd}
 use Rattle.g4_tree_check.proofs.standing.Standing.read.Goals as goal
 
-pub returns-in_ok-enter-in-Enter : goal.returns-in_ok-enter-in-Enter
-returns-in_ok-enter-in-Enter c = λ rest.
+pub returns-in_ok-in_place-in-Enter : goal.returns-in_ok-in_place-in-Enter
+returns-in_ok-in_place-in-Enter c = λ rest.
     let rules = c.args.rules.now in
     let word = word_of c.args.tokens.now in
-    let read = c.in_ok-enter-in-Enter.ensures rules word rest in
-    subst (λ (i : Item). CanEnd rules word c.args.self.now (i ∷ rest) ↔ (IsTrue true × CanEnd rules word c.enter.new.self rest)) (sym c.in-Enter.is) (λ h. (refl, read.0 h), λ h. read.1 h.1)
+    subst (λ (i : Item). CanEnd rules word c.args.self.now (i ∷ rest) ↔ (IsTrue c.in_ok-in_place-in-Enter.in_place × CanEnd rules word c.enter.new.self rest)) (sym c.in-Enter.is) (c.in_ok-in_place-in-Enter.ensures rules word rest)
 
 pub returns-in_ok-in_order-in-Token : goal.returns-in_ok-in_order-in-Token
 returns-in_ok-in_order-in-Token c = λ rest.

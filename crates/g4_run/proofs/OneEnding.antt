@@ -4,7 +4,7 @@ use Rattle.g4_net.specs.declared.network.State.{State}
 use Rattle.g4_net.specs.declared.network.State.TheVariants.{Decision, End, Edge, Call, Predicate, Level, Action, Empty}
 use Rattle.g4_net.specs.Network.{ParserNetwork, state_at, IsFirst}
 use Rattle.g4_net.specs.Prediction.{Choice, chosen, no_viable}
-use Rattle.g4_parse.specs.Running.{Frame, Run, Ending, Values, parsed, ClosesBy, GoesBy, StopsBy, Predicts, Runs, stops, goes, deepest}
+use Rattle.g4_run.specs.Running.{Frame, Run, Ending, Values, parsed, ClosesBy, GoesBy, StopsBy, Predicts, Runs, stops, goes, deepest}
 use Rattle.g4_trees.specs.Trees.{only}
 use Rattle.g4_lookahead.proofs.OneChoice.{one_first, one_choice}
 
@@ -24,7 +24,8 @@ module _ (net : ParserNetwork) (values : Values) (word : List ℕ) where
   closes_none r (f ∷ fs) s e p = cc
 
   -- a state leads to one moment
-  goes_once : (o : Option (State (List ℕ))) (r s t : Run) → GoesBy net values word deepest o r s → GoesBy net values word deepest o r t → s ≡ t
+  goes_once : (o : Option (State (List ℕ))) (r s t : Run) → GoesBy net values word deepest o r s → GoesBy net values word deepest o r t →
+      s ≡ t
   goes_once None r s t p q = absurd p
   goes_once (Some (Decision targets)) r s t (i, u, chose, first, s_is) (j, v, chose', first', t_is) =
       let same : chosen i ≡ chosen j = one_prediction r _ _ chose chose' in
@@ -40,7 +41,8 @@ module _ (net : ParserNetwork) (values : Values) (word : List ℕ) where
   goes_once (Some (Empty u)) r s t p q = p ∙ sym q
 
   -- a state stops in one way
-  stops_once : (o : Option (State (List ℕ))) (r : Run) (a b : Ending) → StopsBy net values word deepest o r a → StopsBy net values word deepest o r b → a ≡ b
+  stops_once : (o : Option (State (List ℕ))) (r : Run) (a b : Ending) → StopsBy net values word deepest o r a →
+      StopsBy net values word deepest o r b → a ≡ b
   stops_once None r a b p q = absurd p
   stops_once (Some (Decision targets)) r a b (k, said, a_is) (l, said', b_is) =
       let same : no_viable k ≡ no_viable l = one_prediction r _ _ said said' in
@@ -57,7 +59,8 @@ module _ (net : ParserNetwork) (values : Values) (word : List ℕ) where
   stops_once (Some (Empty u)) r a b p q = absurd p
 
   -- no state goes on and stops
-  never_both : (o : Option (State (List ℕ))) (r s : Run) (e : Ending) → GoesBy net values word deepest o r s → StopsBy net values word deepest o r e → ⊥
+  never_both : (o : Option (State (List ℕ))) (r s : Run) (e : Ending) → GoesBy net values word deepest o r s →
+      StopsBy net values word deepest o r e → ⊥
   never_both None r s e p q = p
   never_both (Some (Decision targets)) r s e (i, _, chose, _, _) (k, said, _) =
       let same : chosen i ≡ no_viable k = one_prediction r _ _ chose said in

@@ -48,9 +48,13 @@ no_predicates k rules place = true
 abbrev pub beginning : Run
 beginning = record { state = 0; place = 0; frames = []; tree = no_tree }
 
+-- the return states of the open rules, newest first
+abbrev pub backs : List Frame → List ℕ
+backs frames = map (λ f. f.back) frames
+
 -- the parser's stack
 abbrev pub stack_of : Run → Stack
-stack_of r = above_bottom (map (λ f. f.back) r.frames)
+stack_of r = above_bottom (backs r.frames)
 
 -- the open rules by their numbers, newest first
 abbrev pub open_rules : Run → List ℕ
@@ -131,13 +135,20 @@ module _ (net : ParserNetwork) (values : Values) (word : List ℕ) where
     -- one step of the run, by the state
     abbrev pub GoesBy : Option (State (List ℕ)) → Run → Run → Type 0
     GoesBy None r s = ⊥
-    GoesBy (Some (Decision targets)) r s = (i t : ℕ) × Predicts r (chosen i) × IsFirst net r.state i t × (s ≡ record r { state = t; frames = with_alt (begun net t (state_at net t)) r.frames })
+    GoesBy (Some (Decision targets)) r s = (i t : ℕ) × Predicts r (chosen i) × IsFirst net r.state i t ×
+        (s ≡ record r { state = t; frames = with_alt (begun net t (state_at net t)) r.frames })
     GoesBy (Some (End rule)) r s = ClosesBy r r.frames s
-    GoesBy (Some (Edge set t)) r s = (a : ℕ) × (slice_get word r.place ≡ Some a) × Contains set a × (s ≡ record (with_token r r.frames) { state = t; place = r.place + 1 })
+    GoesBy (Some (Edge set t)) r s = (a : ℕ) × (slice_get word r.place ≡ Some a) × Contains set a ×
+        (s ≡ record (with_token r r.frames) { state = t; place = r.place + 1 })
     GoesBy (Some (Call rule level back)) r s = (length r.frames < limit)
-        × (s ≡ record r { state = start_of rule; frames = record { back = back; level = level; rule = rule; alt = written_at net (start_of rule); at = r.place; children = no_tree } ∷ r.frames })
+        × (s ≡ record r {
+          state = start_of rule;
+          frames = record
+              { back = back; level = level; rule = rule; alt = written_at net (start_of rule); at = r.place; children = no_tree } ∷ r.frames;
+        })
     GoesBy (Some (Predicate k t)) r s = (values k (open_rules r) r.place ≡ true) × (s ≡ record r { state = t })
-    GoesBy (Some (Level q t)) r s = (level_of r.frames ≤ q) × (s ≡ record r { state = t; frames = wrapped (written_at net r.state) r.frames })
+    GoesBy (Some (Level q t)) r s = (level_of r.frames ≤ q) ×
+        (s ≡ record r { state = t; frames = wrapped (written_at net r.state) r.frames })
     GoesBy (Some (Action t)) r s = s ≡ record r { state = t }
     GoesBy (Some (Empty t)) r s = s ≡ record r { state = t }
 
@@ -165,3 +176,7 @@ module _ (net : ParserNetwork) (values : Values) (word : List ℕ) where
     pub data Runs : Run → Ending → Type 0 where
       stops : (r : Run) (e : Ending) → Stops r e → Runs r e
       goes : (r s : Run) (e : Ending) → Goes r s → Runs s e → Runs r e
+
+-- the run over the whole word has this ending
+abbrev pub Ends : ParserNetwork → List ℕ → Ending → Type 0
+Ends net word e = Runs net no_predicates word deepest beginning e

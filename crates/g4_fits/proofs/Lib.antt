@@ -1,0 +1,4 @@
+pub mod Arriving
+pub mod Backward
+pub mod Choosing
+pub mod Leaving

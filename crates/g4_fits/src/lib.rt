@@ -1,0 +1,6 @@
+// Laws: what looking ahead says of the alternatives of a decision that fit the rest of the word.
+#![tactic(auto)]
+
+mod law;
+
+pub use law::{fitting_by_full_stacks, fitting_by_sll, fitting_is_decided, leave_fits};

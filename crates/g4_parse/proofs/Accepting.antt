@@ -1,0 +1,47 @@
+-- A token list is accepted exactly where the rules derive it, as they are run.
+use Rattle.std.proofs.Common.{◌≡◌, inl, inr, ℕ, List, Result, Ok, Err, sym, subst}
+use Rattle.g4_derivation.specs.Spelling.{DerivesFrom}
+use Rattle.g4_grammar.specs.StepRules.{CanBeRewritten, StepRule}
+use Rattle.g4_layout.specs.Built.{IsBuilt}
+use Rattle.g4_leftrec.specs.Rewriting.{numberings, rewritten}
+use Rattle.g4_net.specs.Network.{ParserNetwork}
+use Rattle.g4_parse.specs.Parsing.{IsAcceptance, IsParse}
+use Rattle.g4_parse.specs.declared.parser.ParseFault.{ParseFault}
+use Rattle.g4_parse.specs.declared.parser.ParseFault.TheVariants.{NoViable, Mismatch, FailedPredicate, TooDeep, NoMemory}
+use Rattle.g4_run.specs.Running.{Ending, Ends, parsed, not_viable, mismatch, failed_predicate, too_deep}
+use Rattle.g4_run.proofs.Derived.{derived_ends, tree_derives}
+use Rattle.g4_token_list.specs.TokenList.{EndsInEnd}
+use Rattle.g4_trees.specs.Trees.{Tree}
+use Rattle.g4_trees.specs.declared.tree.Item.{Item}
+
+module _ (set : List ℕ) (rules : List StepRule) (start : List ℕ) (net : ParserNetwork) (word : List ℕ) (can : CanBeRewritten rules)
+    (built : IsBuilt set (rewritten rules) (numberings rules) start net) where
+  -- the rules derive the list
+  abbrev Derived : Type 0
+  Derived = DerivesFrom set (rewritten rules) start word
+
+  -- an ending that is neither a tree nor too many open rules
+  abbrev IsRefusal : Ending → Type 0
+  IsRefusal e = ((tree : Tree) → e ≡ parsed tree → ⊥) × ((at : ℕ) → e ≡ too_deep at → ⊥)
+
+  -- it comes only where the list is not derived
+  refused : (e : Ending) → IsRefusal e → Ends net word e → Derived → ⊥
+  refused e other run derived = elim (derived_ends set rules start net word e can built derived run) [
+    | inl tree ↦ other.0 tree.0 tree.1
+    | inr deep ↦ other.1 deep.0 deep.1
+  ]
+
+  -- so the answer of the parse call says whether the list is derived
+  pub accepts : EndsInEnd word → (x : Result (List Item) ParseFault) → IsParse net word x → IsAcceptance Derived x
+  accepts ends (Ok xs) (tree, run, is) = tree_derives set (rewritten rules) (numberings rules) start net word tree built ends run
+  accepts ends (Err (NoViable at)) run = refused (not_viable at) (λ t e. (let no : ⊥ = cc in no), λ k e. (let no : ⊥ = cc in no)) run
+  accepts ends (Err (Mismatch at state)) run = refused (mismatch at state)
+      (λ t e. (let no : ⊥ = cc in no), λ k e. (let no : ⊥ = cc in no)) run
+  accepts ends (Err (FailedPredicate at rule)) run = refused (failed_predicate at rule)
+      (λ t e. (let no : ⊥ = cc in no), λ k e. (let no : ⊥ = cc in no)) run
+  accepts ends (Err (TooDeep at)) run = tt
+  accepts ends (Err NoMemory) run = tt
+
+  -- where memory runs out, nothing is said
+  pub out_of_memory : (fault : ParseFault) → fault ≡ NoMemory → IsAcceptance Derived (Err fault)
+  out_of_memory fault is = subst (λ (f : ParseFault). IsAcceptance Derived (Err f)) (sym is) tt

@@ -1,6 +1,0 @@
-use Rattle.g4_parse.proofs.OneEnding.{one_end}
-use Rattle.g4_parse.specs.Running.{no_predicates, beginning}
-use Rattle.g4_parse.proofs.law.one_ending.Goals as goal
-
-pub returns : goal.returns
-returns c = λ net word a b. one_end net no_predicates word beginning a b

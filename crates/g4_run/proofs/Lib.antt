@@ -1,0 +1,8 @@
+pub mod Moments
+pub mod OneEnding
+mod Unfolding
+mod LastSymbol
+mod Spelled
+pub mod Closing
+mod Levelled
+pub mod Derived
