@@ -11,5 +11,6 @@ mod Following
 mod Remaining
 mod Firsts
 mod Keeping
-mod Reversed
-mod RowOf
+pub mod Reversed
+pub mod RowOf
+mod Held

@@ -17,7 +17,11 @@ use g4_symbols::Symbols;
 use std::alloc::{AllocError, Global};
 
 /// Adds groups to the set, each also to the work list where the set grew.
-fn add_all(set: &mut Configs, work: &mut Vec<Group>, groups: &[Group]) -> Result<(), AllocError>
+pub(crate) fn add_all(
+    set: &mut Configs,
+    work: &mut Vec<Group>,
+    groups: &[Group],
+) -> Result<(), AllocError>
     requires waiting { AreKnown set.old.graph work.old.items }
     requires known { AreKnown set.old.graph groups.now }
     ensures { OnOk result (Joined set.old work.old.items groups.now set.new work.new.items) }

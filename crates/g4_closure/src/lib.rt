@@ -3,9 +3,11 @@
 
 mod ahead;
 mod closure;
+mod framed;
 mod left;
 mod lookahead;
 mod returns;
 
+pub use framed::{framed_advance, framed_start, lower};
 pub use left::{Left, left_after};
 pub use lookahead::{advance, start};

@@ -39,7 +39,7 @@ pub(crate) fn rest(
 }
 
 /// The first states of a decision's alternatives.
-fn alternatives<'a>(net: &'a ParserNetwork, decision: u32) -> &'a [u32]
+pub(crate) fn alternatives<'a>(net: &'a ParserNetwork, decision: u32) -> &'a [u32]
     ensures { result.now ≡ alternatives_by (state_at net.now decision) }
 {
     match net.states.as_slice().get(decision as usize) {
@@ -50,7 +50,7 @@ fn alternatives<'a>(net: &'a ParserNetwork, decision: u32) -> &'a [u32]
 
 /// The allowed ones of these first states of alternatives, numbered from 1, with the one stack of a set. There is no memory
 /// for more of them than a `u32` counts.
-fn first_groups(
+pub(crate) fn first_groups(
     alloc: Global,
     targets: &[u32],
     allowed: &Allowed,

@@ -9,3 +9,4 @@ pub mod Twice
 pub mod Lone
 pub mod Snapshots
 mod Keeping
+mod Imaged

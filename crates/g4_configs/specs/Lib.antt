@@ -3,3 +3,4 @@ pub mod Configs
 pub mod Verdicts
 pub mod Rows
 pub mod Kept
+pub mod Lowering

@@ -5,10 +5,12 @@ mod bottom;
 mod configs;
 mod group;
 mod kept;
+mod lowering;
 mod set;
 mod snapshot;
 mod verdicts;
 
 pub use configs::Configs;
 pub use group::Group;
+pub use lowering::Lowered;
 pub use snapshot::Snapshot;

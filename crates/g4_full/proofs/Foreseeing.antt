@@ -1,5 +1,5 @@
 -- What the loop over the tokens keeps, where it looks for an alternative that can be presumed.
-use Rattle.std.proofs.Common.{◌≡◌, inl, inr, ℕ, ◌+◌, ◌<◌, List, ◌∷◌, drop, length, get_or, ap, subst, Contains}
+use Rattle.std.proofs.Common.{◌≡◌, inl, inr, ℕ, ◌+◌, ◌<◌, List, ◌∷◌, false, length, get_or, reverse, ap, subst, Contains}
 use Rattle.g4_symbols.specs.Symbols.{end_of_list}
 use Rattle.g4_covering.specs.Covering.{Covers, Takers}
 use Rattle.g4_net.specs.Network.{ParserNetwork, IsFirst}
@@ -10,14 +10,19 @@ use Rattle.g4_net.specs.declared.allowed.Allowed.{Allowed}
 use Rattle.g4_net.specs.Proper.{IsProper}
 use Rattle.g4_net.specs.Configurations.{Stack, Config, above_bottom, IsRow, IsWithin}
 use Rattle.g4_net.specs.Lookahead.{IsLeast, Start, Next}
-use Rattle.g4_net.specs.Prediction.{Full, FullFrom, chosen, no_viable}
+use Rattle.g4_net.specs.Prediction.{Full, chosen, no_viable}
 use Rattle.g4_net.proofs.Finite.{reached_keeps}
 use Rattle.g4_token_list.specs.TokenList.{word_of}
 use Rattle.g4_lookahead.specs.EndOfList.{GoesOnFull}
 use Rattle.g4_lookahead.proofs.Judging.{AreSame}
+use Rattle.g4_frames.specs.Framed.{Over, FramedStart, FramedNext}
+use Rattle.g4_full.specs.declared.full.Settled.{Settled}
 use Rattle.g4_full.specs.Foreseeing.{IsPresumed}
+use Rattle.g4_full.specs.Frames.{IsPlace, IsTakenDown}
 use Rattle.g4_full.specs.Telling.{IsTold}
-use Rattle.g4_full.proofs.Looking.{IsSettling, settling_start, settling_next}
+use Rattle.g4_full.specs.Verdicts.{SettlesWith, choice_of}
+use Rattle.g4_full.proofs.Placing.{covers_over, goes_over, least_over, next_taken, over_row, over_within, same_takers, settles_over, start_taken}
+use Rattle.g4_full.proofs.Looking.{IsSettling, settled, settling_start, settling_next}
 use Rattle.g4_covering.proofs.Choices.{full_choice}
 use Rattle.g4_covering.proofs.Nearby.{near_chooses}
 use Rattle.g4_covering.proofs.Presumed.{presumed}
@@ -102,3 +107,45 @@ told_presumed net d allowed returns w more a i ready proper ends is told = recor
         | inr (k, same) ↦ absurd (none k (subst (Full net d (Allows allowed) (above_bottom returns) w) same full))
       ];
 }
+
+-- What the loop keeps with sets that are taken down: over the return states that are left the set is that of the loop with full stacks.
+pub record IsForeseeingAt (net : ParserNetwork) (d : ℕ) (A : ℕ → Type 0) (returns : List ℕ) (tokens : List Token) (k : ℕ) (H : Config → Type 0) (below : List ℕ) : Type 0 where
+  pub place : IsPlace net H below
+  pub foreseeing : IsForeseeing net d A (above_bottom returns) tokens k (Over (reverse below) H)
+
+pub foreseeing_at_start : (net : ParserNetwork) (d : ℕ) (A : ℕ → Type 0) (returns below : List ℕ) (tokens : List Token) (F H : Config → Type 0) → IsReady net → IsProper net d returns → Contains (word_of tokens) end_of_list → AreSame F (FramedStart net d A) → IsTakenDown net F returns H below → IsForeseeingAt net d A returns tokens 0 H below
+foreseeing_at_start net d A returns below tokens F H ready proper ends starts taken = record {
+  place = taken.place;
+  foreseeing = foreseeing_start net d A returns tokens (Over (reverse below) H) ready proper (start_taken net d A F H returns below starts taken) (over_within net H below taken.place) (over_row (reverse below) H taken.place.row) ends;
+}
+
+module _ (net : ParserNetwork) (d : ℕ) (A : ℕ → Type 0) (returns : List ℕ) (tokens : List Token) (k : ℕ) (t : Token) (less : k < length tokens) (H : Config → Type 0) (below : List ℕ) (h : IsForeseeingAt net d A returns tokens k H below) where
+  -- the least alternative that takes the next symbol is presumed where it covers the others
+  pub presumes_at : (i : ℕ) → Covers net (Takers net H (get_or tokens k t).symbol) i → IsLeast (Takers net H (get_or tokens k t).symbol) i → IsPresumed net d A (above_bottom returns) (word_of tokens) i
+  presumes_at i covers least =
+      presumes net d A returns tokens k i t (Over (reverse below) H) less (covers_over net (reverse below) H (get_or tokens k t).symbol i covers) (least_over net (reverse below) H (get_or tokens k t).symbol i least) h.foreseeing
+
+  module _ (T : Config → Type 0) (takers : AreSame T (Takers net H (get_or tokens k t).symbol)) where
+    -- what takes the symbol is above the hole and within the network
+    pub takers_bottomed : (c : Config) → T c → c.stack.wild ≡ false
+    takers_bottomed c i = h.place.bottomed c ((takers c).0 i).0
+
+    pub takers_within : (c : Config) → T c → IsWithin net c
+    takers_within c i = h.place.within c ((takers c).0 i).0
+
+    module _ (F G : Config → Type 0) (rest : List ℕ) (next : AreSame F (FramedNext net T (get_or tokens k t).symbol)) (taken : IsTakenDown net F (reverse below) G rest) where
+      onward : AreSame (Over (reverse rest) G) (Next net (Over (reverse below) H) (get_or tokens k t).symbol)
+      onward =
+          same_next net (Over (reverse below) H) (Over (reverse below) T) (Over (reverse rest) G) (get_or tokens k t).symbol (same_takers net (reverse below) H (get_or tokens k t).symbol T takers)
+          (next_taken net T F G (get_or tokens k t).symbol below rest takers_bottomed (λ c i. h.place.kept c ((takers c).0 i).0) next taken)
+
+      -- it holds of the next set, where full stacks go on after it
+      pub foreseeing_at_next : GoesOnFull G → IsForeseeingAt net d A returns tokens (k + 1) G rest
+      foreseeing_at_next goes = record {
+        place = taken.place;
+        foreseeing = foreseeing_next net d A (above_bottom returns) tokens k t (Over (reverse below) H) (Over (reverse rest) G) less onward (over_within net G rest taken.place) (over_row (reverse rest) G taken.place.row) (goes_over (reverse rest) G goes) h.foreseeing;
+      }
+
+      -- and where they end, that is their choice
+      pub settled_at : (s : Settled) → SettlesWith G k s → Full net d A (above_bottom returns) (word_of tokens) (choice_of s)
+      settled_at s settles = settled net d A (above_bottom returns) tokens k t (Over (reverse below) H) (Over (reverse rest) G) s less onward (settles_over (reverse rest) G k s settles) h.foreseeing.settling

@@ -1,5 +1,5 @@
 -- What the loop over the tokens keeps, with full stacks.
-use Rattle.std.proofs.Common.{ℕ, ◌+◌, ◌<◌, List, drop, length, get_or, sym, subst, add-one, Contains}
+use Rattle.std.proofs.Common.{ℕ, ◌+◌, ◌<◌, List, drop, length, get_or, reverse, sym, subst, add-one, Contains}
 use Rattle.g4_symbols.specs.Symbols.{end_of_list}
 use Rattle.g4_net.specs.Network.{ParserNetwork}
 use Rattle.g4_token_list.specs.declared.token.Token.{Token}
@@ -15,8 +15,11 @@ use Rattle.g4_lookahead.proofs.Looking.{IsLooking, left, looking_start, looking_
 use Rattle.g4_lookahead.proofs.Proper.{stands_apart}
 use Rattle.g4_lookahead.proofs.Settling.{settled_full}
 use Rattle.g4_full.specs.declared.full.Settled.{Settled}
+use Rattle.g4_frames.specs.Framed.{Over, FramedStart, FramedNext}
+use Rattle.g4_full.specs.Frames.{IsPlace, IsTakenDown}
 use Rattle.g4_full.specs.Verdicts.{choice_of, SettlesWith}
 use Rattle.g4_full.proofs.Ending.{full_settles, full_goes_on}
+use Rattle.g4_full.proofs.Placing.{goes_over, next_taken, over_within, settles_over, start_taken}
 
 -- What the loop with full stacks keeps.
 pub record IsSettling (net : ParserNetwork) (d : ℕ) (A : ℕ → Type 0) (z : Stack) (tokens : List Token) (k : ℕ) (C : Config → Type 0) : Type 0 where
@@ -46,3 +49,27 @@ pub settled : (net : ParserNetwork) (d : ℕ) (A : ℕ → Type 0) (z : Stack) (
 settled net d A z tokens k t C D s less has e h =
     h.says (choice_of s) (subst (λ (w : List ℕ). FullFrom net C w k (choice_of s)) (sym (left tokens k t less))
     (full_settles net C D (get_or tokens k t).symbol (word_of (drop (k + 1) tokens)) k s has e))
+
+-- What the loop keeps with sets that are taken down: over the return states that are left the set is that of the loop with full stacks.
+pub record IsPlaced (net : ParserNetwork) (d : ℕ) (A : ℕ → Type 0) (z : Stack) (tokens : List Token) (k : ℕ) (H : Config → Type 0) (below : List ℕ) : Type 0 where
+  pub place : IsPlace net H below
+  pub settling : IsSettling net d A z tokens k (Over (reverse below) H)
+
+pub placed_start : (net : ParserNetwork) (d : ℕ) (A : ℕ → Type 0) (returns below : List ℕ) (tokens : List Token) (F H : Config → Type 0) → IsReady net → IsProper net d returns → Contains (word_of tokens) end_of_list → AreSame F (FramedStart net d A) → IsTakenDown net F returns H below → IsPlaced net d A (above_bottom returns) tokens 0 H below
+placed_start net d A returns below tokens F H ready proper ends starts taken = record {
+  place = taken.place;
+  settling = settling_start net d A returns tokens (Over (reverse below) H) ready proper (start_taken net d A F H returns below starts taken) (over_within net H below taken.place) ends;
+}
+
+module _ (net : ParserNetwork) (d : ℕ) (A : ℕ → Type 0) (z : Stack) (tokens : List Token) (k : ℕ) (t : Token) (less : k < length tokens) (H F G : Config → Type 0) (below rest : List ℕ) (h : IsPlaced net d A z tokens k H below) (next : AreSame F (FramedNext net H (get_or tokens k t).symbol)) (taken : IsTakenDown net F (reverse below) G rest) where
+  onward : AreSame (Over (reverse rest) G) (Next net (Over (reverse below) H) (get_or tokens k t).symbol)
+  onward = next_taken net H F G (get_or tokens k t).symbol below rest h.place.bottomed h.place.kept next taken
+
+  pub placed_next : GoesOnFull G → IsPlaced net d A z tokens (k + 1) G rest
+  placed_next goes = record {
+    place = taken.place;
+    settling = settling_next net d A z tokens k t (Over (reverse below) H) (Over (reverse rest) G) less onward (over_within net G rest taken.place) (goes_over (reverse rest) G goes) h.settling;
+  }
+
+  pub placed_settled : (s : Settled) → SettlesWith G k s → Full net d A z (word_of tokens) (choice_of s)
+  placed_settled s settles = settled net d A z tokens k t (Over (reverse below) H) (Over (reverse rest) G) s less onward (settles_over (reverse rest) G k s settles) h.settling

@@ -2,7 +2,7 @@
 use Rattle.std.proofs.Common.{◌≡◌, ℕ, List, [], refl, sym, subst, arith}
 use Rattle.std.proofs.lemmas.List.Elements.{All-nil}
 use Rattle.g4_stacks.specs.Graph.{Content, Keeps}
-use Rattle.g4_covering.specs.Covering.{Covers, HasExtended, Takers}
+use Rattle.g4_covering.specs.Covering.{Covers, Takers}
 use Rattle.g4_ways.specs.Ways.{EndsAtOnce}
 use Rattle.g4_net.specs.Configurations.{Config, config}
 use Rattle.g4_net.specs.Lookahead.{IsLeast, IsOnly}

@@ -1,18 +1,18 @@
 -- What a cover keeps while it is filled.
-use Rattle.std.proofs.Common.{◌≡◌, ◌⊎◌, inl, inr, ℕ, zero, suc, ◌+◌, ◌<◌, ◌==◌, ◌↔◌, List, [], ◌∷◌, ◌++◌, length, get_or, take, refl, sym, ap, subst, append_assoc, arith, All}
-use Rattle.std.proofs.lemmas.List.Elements.{All-nil, All-push}
+use Rattle.std.proofs.Common.{◌≡◌, ◌⊎◌, inl, inr, ℕ, zero, suc, ◌+◌, ◌<◌, ◌==◌, ◌↔◌, List, [], ◌∷◌, ◌++◌, length, get_or, take, refl, sym, subst, append_assoc, arith}
+use Rattle.std.proofs.lemmas.List.Elements.{All-push}
 use Rattle.g4_stacks.specs.Graph.{Content, HasTops, In, IsNode, Keeps}
 use Rattle.g4_stacks.specs.Stack.{pushed}
-use Rattle.g4_covering.specs.Covering.{Covers, HasExtended}
+use Rattle.g4_covering.specs.Covering.{Covers}
 use Rattle.g4_ways.specs.Ways.{EndsAtOnce}
-use Rattle.g4_net.specs.Configurations.{Config, Stack, config}
+use Rattle.g4_net.specs.Configurations.{Config, config}
 use Rattle.g4_net.specs.Network.{ParserNetwork}
 use Rattle.g4_configs.specs.declared.group.Group.{Group}
 use Rattle.g4_configs.specs.Configs.{Holds, IsOfGroup, View}
 use Rattle.g4_configs.specs.Groups.{InGroup, InSome, AreKnown, Same, Subset}
 use Rattle.g4_configs.proofs.Adding.{group_kept, keeps_then, kept_of}
 use Rattle.g4_full.specs.Looks.{AreLeft, ArePopped, IsBelow, IsLeft, own_of}
-use Rattle.g4_full.proofs.Lists.{known_append, known_at, known_filter, known_kept, known_left, known_right, some_at, some_filter, some_kept, some_push, take_next}
+use Rattle.g4_full.proofs.Lists.{known_append, known_at, known_left, known_right, some_at, some_filter, some_kept, some_push, take_next}
 
 -- a graph keeps its own nodes
 pub keeps_itself : (g : List Content) → Keeps g g

@@ -1,19 +1,17 @@
 -- The groups whose edges take a symbol.
-use Rattle.std.proofs.Common.{◌≡◌, ◌↔◌, ◌⊎◌, inl, inr, ℕ, List, [], ◌∷◌, ◌==◌, Contains, Bool, true, false, true≢false, cond, IsTrue, Option, Some, None, refl, sym, ◌∙◌, ap, subst, arith}
+use Rattle.std.proofs.Common.{◌≡◌, ◌↔◌, ◌⊎◌, inl, inr, ℕ, List, [], ◌∷◌, ◌==◌, Contains, Bool, true, false, true≢false, cond, IsTrue, Option, Some, None, refl, sym, ◌∙◌, subst, arith}
 use Rattle.std.proofs.lemmas.Bool.Decides.{nat_tests}
 use Rattle.std.proofs.lemmas.Bool.{cases_Bool}
-use Rattle.std.specs.List.{filter}
 use Rattle.g4_stacks.specs.Graph.{Content}
 use Rattle.g4_closure.specs.Steps.{has_symbol}
 use Rattle.g4_covering.specs.Covering.{Takers}
-use Rattle.g4_net.specs.Configurations.{Config}
 use Rattle.g4_net.specs.declared.network.State.{State}
 use Rattle.g4_net.specs.declared.network.State.TheVariants.{Decision, End, Edge, Call, Predicate, Level, Action, Empty}
 use Rattle.g4_net.specs.Lookahead.{TakesBy}
 use Rattle.g4_net.specs.Network.{ParserNetwork, state_at}
 use Rattle.g4_net.proofs.Pigeons.{In, In-from, In-to}
 use Rattle.g4_configs.specs.declared.group.Group.{Group}
-use Rattle.g4_configs.specs.Groups.{InGroup, InSome, Same}
+use Rattle.g4_configs.specs.Groups.{InSome, Same}
 use Rattle.g4_full.specs.Looks.{takers_of, takes_by}
 
 -- a symbol that is found is in the list

@@ -1,15 +1,14 @@
 -- What is seen in start sets with short stacks shows that an alternative is near.
-use Rattle.std.proofs.Common.{◌≡◌, ◌≤◌, ◌↔◌, ◌⊎◌, inl, inr, ℕ, List, [], ◌∷◌, ◌++◌, length, All, Bool, false, Some, Contains, refl, sym, ◌∙◌, ap, subst, arith}
+use Rattle.std.proofs.Common.{◌≡◌, ◌≤◌, ◌↔◌, ◌⊎◌, inl, inr, ℕ, List, [], ◌∷◌, ◌++◌, Bool, false, Some, Contains, refl, sym, ◌∙◌, ap, subst}
 use Rattle.g4_net.specs.Configurations.{Stack, Config, config, above_bottom}
 use Rattle.g4_net.specs.declared.network.State.TheVariants.{End}
-use Rattle.g4_net.specs.Leads.{Reaches}
-use Rattle.g4_net.specs.Lookahead.{Firsts, Start, TakesBy}
+use Rattle.g4_net.specs.Lookahead.{Firsts, Start}
 use Rattle.g4_net.specs.Network.{ParserNetwork, IsFirst, state_at, end_of}
 use Rattle.g4_net.proofs.Finite.{reached_keeps}
 use Rattle.g4_net.proofs.Pigeons.{In, In-from, In-to}
 use Rattle.g4_configs.specs.Groups.{Same}
 use Rattle.g4_covering.specs.Covering.{Takers}
-use Rattle.g4_covering.specs.Near.{AfterReturn, AreNear, IsNear, IsPassed, IsStop, Leaves, Own, StopsAt}
+use Rattle.g4_covering.specs.Near.{AfterReturn, AreNear, IsPassed, IsStop, Leaves, Own}
 use Rattle.g4_covering.proofs.Covered.{start_above_bottom}
 use Rattle.g4_covering.proofs.Nearby.{own_whole}
 use Rattle.g4_covering.proofs.Parted.{over}

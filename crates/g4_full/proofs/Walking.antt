@@ -2,7 +2,7 @@
 use Rattle.std.proofs.Common.{◌≡◌, ◌⊎◌, inl, inr, ℕ, List, [], ◌∷◌, ◌++◌, reverse, length, ◌<◌, Some, All, Contains, append_assoc, refl, sym, ◌∙◌, ap, subst, arith}
 use Rattle.std.proofs.lemmas.List.{reverse-append}
 use Rattle.std.proofs.lemmas.List.Elements.{All-nil, All-pop, All-push, Contains-push_cases}
-use Rattle.g4_covering.specs.Near.{AreNear, IsPassed, IsStop}
+use Rattle.g4_covering.specs.Near.{IsPassed, IsStop}
 use Rattle.g4_net.specs.Network.{ParserNetwork}
 use Rattle.g4_full.specs.Telling.{AreTold, CanLeave, IsBareAt}
 

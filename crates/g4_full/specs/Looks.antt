@@ -1,5 +1,5 @@
 -- What a set of configurations shows before a symbol: which groups take it, and whether one alternative covers these.
-use Rattle.std.specs.Prelude.{◌≡◌, ◌⊎◌, ◌==◌, ℕ, List, ◌++◌, All, Bool, false, Option, Some, None}
+use Rattle.std.specs.Prelude.{◌⊎◌, ◌==◌, ℕ, List, ◌++◌, All, Bool, false, Option, Some, None}
 use Rattle.std.specs.List.{filter}
 use Rattle.g4_closure.specs.Steps.{has_symbol}
 use Rattle.g4_configs.specs.declared.group.Group.{Group}

@@ -9,9 +9,10 @@ ghost use Rattle.g4_token_list.specs.TokenList.{word_of};
 ghost use Rattle.g4_full.specs.Foreseeing.{IsForeseen};
 
 use crate::covering::{Look, look_ahead};
+use crate::frames::take_down;
 use crate::full::{Settled, settle};
 use crate::near::look_near;
-use g4_closure::{advance, start};
+use g4_closure::{framed_advance, framed_start};
 use g4_net::{Allowed, ParserNetwork};
 use g4_token_list::Token;
 use std::alloc::{AllocError, Global};
@@ -49,14 +50,16 @@ pub fn foresee_full(
             return Ok(Foreseen::Presumed(near));
         }
     }
-    let mut set = start(alloc, net, decision, allowed, returns, false)?;
+    let first = framed_start(alloc, net, decision, allowed)?;
+    let mut place = take_down(alloc, net, first, returns)?;
     for (k, token) in tokens.iter().enumerate() {
-        let open = match look_ahead(alloc, net, set, token.symbol)? {
+        let open = match look_ahead(alloc, net, place.set, token.symbol)? {
             Look::Covered(alternative) => return Ok(Foreseen::Presumed(alternative)),
             Look::Open(open) => open,
         };
-        set = advance(alloc, net, open, token.symbol)?;
-        if let Some(settled) = settle(alloc, &set, k as u32)? {
+        let next = framed_advance(alloc, net, open, token.symbol)?;
+        place = take_down(alloc, net, next, place.below)?;
+        if let Some(settled) = settle(alloc, &place.set, k as u32)? {
             return Ok(Foreseen::Known(settled));
         }
     }

@@ -11,7 +11,8 @@ ghost use Rattle.g4_token_list.specs.TokenList.{word_of};
 ghost use Rattle.g4_lookahead.specs.EndOfList.{GoesOnFull};
 ghost use Rattle.g4_full.specs.Verdicts.{SettlesWith, choice_of};
 
-use g4_closure::{advance, start};
+use crate::frames::take_down;
+use g4_closure::{framed_advance, framed_start};
 use g4_configs::Configs;
 use g4_net::{Allowed, ParserNetwork};
 use g4_token_list::Token;
@@ -61,10 +62,12 @@ pub fn decide_full(
     requires few { length tokens.now < 2 ^ 32 }
     ensures { IfOk result (λ settled. Full net.now decision (Allows allowed.now) (above_bottom (reverse returns.now)) (word_of tokens.now) (choice_of settled)) }
 {
-    let mut set = start(alloc, net, decision, allowed, returns, false)?;
+    let first = framed_start(alloc, net, decision, allowed)?;
+    let mut place = take_down(alloc, net, first, returns)?;
     for (k, token) in tokens.iter().enumerate() {
-        set = advance(alloc, net, set, token.symbol)?;
-        if let Some(settled) = settle(alloc, &set, k as u32)? {
+        let next = framed_advance(alloc, net, place.set, token.symbol)?;
+        place = take_down(alloc, net, next, place.below)?;
+        if let Some(settled) = settle(alloc, &place.set, k as u32)? {
             return Ok(settled);
         }
     }

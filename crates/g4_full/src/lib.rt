@@ -3,6 +3,7 @@
 
 mod covering;
 mod foreseen;
+mod frames;
 mod full;
 mod near;
 

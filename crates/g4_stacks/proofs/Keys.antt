@@ -1,7 +1,7 @@
 -- A merge and its key, the two nodes with the lesser first.
 use Rattle.std.proofs.Common.{◌≡◌, ℕ, ◌⊎◌, inl, inr, List, min, max, sym, subst, arith}
 use Rattle.g4_stacks.specs.Graph.{Content, IsNode}
-use Rattle.g4_stacks.specs.Merge.{IsUnion}
+use Rattle.g4_stacks.specs.Merge.{IsPart, IsUnion}
 
 -- x and y are a and b with the lesser first
 abbrev pub IsKey : ℕ → ℕ → ℕ → ℕ → Type 0
@@ -42,3 +42,7 @@ key_right g a b x y key a_in b_in = along (λ m n. IsNode g n) a b x y key b_in 
 
 pub union_key : (g : List Content) (a b x y r : ℕ) → IsKey a b x y → IsUnion g x y g r → IsUnion g a b g r
 union_key g a b x y r key union = back (λ m n. IsUnion g m n g r) a b x y key union (turned g x y r union)
+
+-- what two nodes were merged to has the lesser one as a part
+pub key_part : (g : List Content) (a b x y r : ℕ) → IsKey a b x y → IsUnion g a b g r → IsPart g r x
+key_part g a b x y r key union = along (λ m n. IsPart g r m) a b x y key (λ s h. (union s).1 (inl h)) (λ s h. (union s).1 (inr h))

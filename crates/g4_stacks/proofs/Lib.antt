@@ -13,7 +13,9 @@ pub mod Taking
 pub mod Alike
 pub mod Fresh
 pub mod Memo
+pub mod Parts
 pub mod Listing
 pub mod Walking
 pub mod Sizes
 pub mod Shapes
+mod Below

@@ -38,7 +38,7 @@ AreNodes g [] = Unit {0}
 AreNodes g (n ∷ ns) = IsNode g n × AreNodes g ns
 
 -- and the other way round
-sets_alike : (g h : List Content) → IsCanonical g → IsCanonical h → (ns ms : List ℕ) → AreNodes h ms → map (stacks_of g) ns ≡ map (stacks_of h) ms → EachAlike g ns h ms
+pub sets_alike : (g h : List Content) → IsCanonical g → IsCanonical h → (ns ms : List ℕ) → AreNodes h ms → map (stacks_of g) ns ≡ map (stacks_of h) ms → EachAlike g ns h ms
 sets_alike g h canon canon' [] [] nodes same = tt
 sets_alike g h canon canon' [] (m ∷ ms) nodes same = absurd (cc)
 sets_alike g h canon canon' (n ∷ ns) [] nodes same = absurd (cc)

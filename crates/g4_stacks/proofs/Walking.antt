@@ -100,7 +100,7 @@ take_whole [] (suc i) is = refl
 take_whole (x ∷ xs) zero is = absurd (cc)
 take_whole (x ∷ xs) (suc i) is = ap (λ ys. x ∷ ys) (take_whole xs i is)
 
-In-at : (xs : List (ℕ × ℕ)) (i : ℕ) (x : ℕ × ℕ) → slice_get xs i ≡ Some x → In x xs
+pub In-at : (xs : List (ℕ × ℕ)) (i : ℕ) (x : ℕ × ℕ) → slice_get xs i ≡ Some x → In x xs
 In-at [] i x is = absurd (cc)
 In-at (y ∷ xs) zero x is = let e : y ≡ x = cc in inl (sym e)
 In-at (y ∷ xs) (suc i) x is = inr (In-at xs i x is)

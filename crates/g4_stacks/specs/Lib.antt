@@ -6,3 +6,4 @@ pub mod Merge
 pub mod Joining
 pub mod Taking
 pub mod Listing
+pub mod Lowering

@@ -40,7 +40,16 @@ IsNext xs i ys j (Both t m n) = (drop i xs ≡ (t, m) ∷ drop (i + 1) xs) × (d
 abbrev pub IsMemo : List Content → BTreeMap (ℕ × ℕ) ℕ → Type 0
 IsMemo graph m = (a b r : ℕ) → get pair_cmp m (a, b) ≡ Some r → IsNode graph a × IsNode graph b × IsNode graph r × IsUnion graph a b graph r
 
+-- the node has all stacks of the part
+abbrev pub IsPart : List Content → ℕ → ℕ → Type 0
+IsPart graph n part = (s : Stack) → Has graph part s → Has graph n s
+
+-- the list has at the numbers of nodes, from 0 up to some node, a part of each
+abbrev pub AreParts : List Content → List ℕ → Type 0
+AreParts graph parts = (n part : ℕ) → slice_get parts n ≡ Some part → IsNode graph n × IsNode graph part × IsPart graph n part
+
 -- what a graph's fields keep
-pub record IsSound (graph : List Content) (m : BTreeMap (ℕ × ℕ) ℕ) : Type 0 where
+pub record IsSound (graph : List Content) (m : BTreeMap (ℕ × ℕ) ℕ) (below : List ℕ) : Type 0 where
   pub canonical : IsCanonical graph
   pub memo : IsMemo graph m
+  pub parts : AreParts graph below

@@ -5,7 +5,7 @@ ghost use Rattle.g4_stacks.specs.Stack.{bottom, pushed};
 ghost use Rattle.g4_stacks.specs.Graph.{Has, IsNode, Keeps, IsPushed, HasTops};
 ghost use Rattle.g4_stacks.specs.Canonical.{IsPlain, IsCanonical, Grows};
 ghost use Rattle.g4_stacks.specs.Table.{IsAdded, one_of};
-ghost use Rattle.g4_stacks.specs.Merge.{IsUnion, tops_of};
+ghost use Rattle.g4_stacks.specs.Merge.{IsPart, IsUnion, tops_of};
 ghost use Rattle.g4_stacks.specs.Joining.{IsJoining, IsJoined, Awaits};
 ghost use Rattle.g4_stacks.specs.Taking.{fresh};
 
@@ -17,17 +17,22 @@ use std::alloc::{AllocError, Global};
 use std::collections::BTreeMap;
 use std::marker::Model;
 
+/// How many parts of parts are looked at where a node may have all stacks of another.
+const MOST_PARTS: u32 = 64;
+
 /// How many merges are kept in each graph.
 const KEPT_MERGES: usize = 1024;
 
 /// How many merges more are kept for each node.
 const MERGES_FOR_A_NODE: usize = 4;
 
-/// Sets of stacks, each a node, the same set always the same node.
+/// Sets of stacks, each a node, the same set always the same node. Merges are kept, and for each node a part of it: a lower node
+/// with some of its stacks, or the empty set.
 #[derive(Drop)]
 pub struct Graph {
     table: Table,
     merged: BTreeMap<(u32, u32), u32>,
+    parts: Vec<u32>,
     pub(crate) alloc: Global,
 }
 
@@ -40,7 +45,7 @@ impl Model for Graph {
 
     ghost view = { λ g. g.table };
 
-    ghost invariant = { λ g. IsSound g.table g.merged };
+    ghost invariant = { λ g. IsSound g.table g.merged g.parts.items };
 }
 
 impl Graph {
@@ -55,6 +60,7 @@ impl Graph {
         Ok(Graph {
             table,
             merged: BTreeMap::new(alloc),
+            parts: Vec::new(alloc),
             alloc,
         })
     }
@@ -159,6 +165,7 @@ impl Graph {
         ensures means { IfOk result (λ n. IsUnion self.old a b self.new n) }
     {
         let _ = &self.table;
+        self.make_room();
         let result = self.join(a, b)?;
         Ok(result)
     }
@@ -255,10 +262,12 @@ impl Graph {
             tops: done.tops,
         })?;
         self.keep_merged(left, right, result)?;
+        let (low, _) = ordered(left, right);
+        self.note_part(result, low)?;
         Ok(result)
     }
 
-    /// The node of both, where they are equal, one is empty or they were merged before.
+    /// The node of both, where they are equal, one is empty, one is known to have the stacks of the other, or they were merged before.
     fn known_merge(&self, a: u32, b: u32) -> Option<u32>
         requires left { IsNode self.now a }
         requires right { IsNode self.now b }
@@ -275,7 +284,53 @@ impl Graph {
         if b == 0 {
             return Some(a);
         }
+        if let Some(larger) = self.larger(a, b) {
+            return Some(larger);
+        }
         self.merged_before(a, b)
+    }
+
+    /// The one of the two that is known to have all stacks of the other, if one is.
+    fn larger(&self, a: u32, b: u32) -> Option<u32>
+        requires left { IsNode self.now a }
+        requires right { IsNode self.now b }
+        ensures known { IfSome result (λ n. IsNode self.now n) }
+        ensures means { IfSome result (λ n. IsUnion self.now a b self.now n) }
+    {
+        if self.has_part(a, b) {
+            return Some(a);
+        }
+        if self.has_part(b, a) {
+            return Some(b);
+        }
+        None
+    }
+
+    /// Whether the node is known to have all stacks of a lower one: a part of it, or a part of a part.
+    fn has_part(&self, node: u32, part: u32) -> bool
+        ensures { IsTrue result → IsPart self.now node part }
+    {
+        let mut at = node;
+        for _ in 0..MOST_PARTS {
+            if at == part {
+                return true;
+            }
+            if at < part {
+                return false;
+            }
+            at = self.part_of(at);
+        }
+        false
+    }
+
+    /// The part of the node: the empty set where none is noted.
+    fn part_of(&self, node: u32) -> u32
+        ensures { IsPart self.now node result }
+    {
+        match self.parts.get(node as usize) {
+            Some(part) => *part,
+            None => 0,
+        }
     }
 
     /// The node that the two were merged to before, if they were.
@@ -294,13 +349,27 @@ impl Graph {
         requires means { IsUnion self.old a b self.old node }
         ensures { self.new ≡ self.old }
     {
-        self.make_room();
         self.merged.insert(ordered(a, b), node)?;
         Ok(())
     }
 
-    /// Forgets the merges where they are many more than the nodes. This is rare, since most merges make a node, and it
-    /// keeps the memory in proportion to the nodes.
+    /// Notes a part of a node that is newer than those of which a part is noted, if it is a lower node.
+    fn note_part(&mut self, node: u32, part: u32) -> Result<(), AllocError>
+        requires node { IsNode self.old node }
+        requires part { IsNode self.old part }
+        requires has { IsPart self.old node part }
+        ensures { self.new ≡ self.old }
+    {
+        if (node as usize) < self.parts.len() || node <= part {
+            return Ok(());
+        }
+        self.parts.resize(node as usize, 0)?;
+        self.parts.push(part)?;
+        Ok(())
+    }
+
+    /// Forgets the merges where they are many more than the nodes, which keeps the memory in proportion to them. Only between two
+    /// merges: one that is under way takes each pair of nodes once.
     fn make_room(&mut self)
         ensures { self.new ≡ self.old }
     {

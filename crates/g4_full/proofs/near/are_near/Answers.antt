@@ -1,6 +1,5 @@
-use Rattle.std.proofs.Common.{rules, ◌≡◌, ◌++◌, ◌<◌, ◌∷◌, [], List, ℕ, length, Contains, sym, subst}
+use Rattle.std.proofs.Common.{rules, ◌≡◌, ◌++◌, ◌∷◌, [], length, Contains, sym, subst}
 use Rattle.g4_configs.specs.Configs.{Holds}
-use Rattle.g4_full.specs.declared.near.After.{After}
 use Rattle.g4_full.specs.declared.near.After.TheVariants.{Passed, Stopped}
 use Rattle.g4_full.specs.Telling.{IsAfter, StartOver}
 use Rattle.g4_full.proofs.Sighted.{nil_from_length}

@@ -1,7 +1,5 @@
-use Rattle.std.proofs.Common.{rules, ◌≡◌, ◌≤◌, ◌<◌, ℕ, length, get_or, List, [], ◌∷◌, All, IsTrue, Contains, reverse, subst, sym}
+use Rattle.std.proofs.Common.{rules, ◌≡◌, ◌≤◌, ◌<◌, ℕ, length, get_or, List, All, IsTrue, reverse, subst}
 use Rattle.g4_net.specs.Allowed.{Allows}
-use Rattle.g4_net.specs.Configurations.{Config}
-use Rattle.g4_net.specs.Lookahead.{IsLeast}
 use Rattle.g4_configs.specs.declared.group.Group.{Group}
 use Rattle.g4_configs.specs.Configs.{Holds}
 use Rattle.g4_configs.specs.Groups.{InSome, Same}

@@ -1,5 +1,4 @@
-use Rattle.std.proofs.Common.{rules, ◌≡◌, length, List, [], ◌∷◌, All, IsTrue, subst}
-use Rattle.g4_configs.specs.declared.group.Group.{Group}
+use Rattle.std.proofs.Common.{rules, ◌≡◌, length, [], All, IsTrue, subst}
 use Rattle.g4_full.specs.Telling.{IsAmong, shown_of}
 use Rattle.g4_full.proofs.Sighted.{all_passed, nil_from_length, nothing_shown}
 use Rattle.g4_full.proofs.near.look_past.Goals as goal

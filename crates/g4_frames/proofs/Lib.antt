@@ -1,0 +1,4 @@
+pub mod Parting
+pub mod Meaning
+pub mod Verdicts
+pub mod Running

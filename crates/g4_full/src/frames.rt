@@ -1,0 +1,119 @@
+// Sets with a hole in the place of the parser's stack: its return states are put there as far as they are needed.
+ghost use Rattle.std.specs.Prelude.{◌≡◌, ◌<◌, ◌≤◌, All, IfOk, List, false, length, reverse};
+ghost use Rattle.g4_configs.specs.Configs.{Holds, IsOfGroup, IsStacks};
+ghost use Rattle.g4_frames.specs.Framed.{IsAtHole, IsFramed};
+ghost use Rattle.g4_full.specs.Frames.{IsLoweredTo, IsTakenDown, ends_by};
+ghost use Rattle.g4_net.specs.Configurations.{Config, IsRow, IsWithin};
+ghost use Rattle.g4_net.specs.declared.network.TheConstants.{MOST_STATES};
+ghost use Rattle.g4_net.specs.Leads.{WellFormed};
+ghost use Rattle.g4_net.specs.Network.{state_at};
+
+use g4_closure::lower;
+use g4_configs::{Configs, Group};
+use g4_net::{ParserNetwork, State};
+use std::alloc::{AllocError, Global};
+
+/// How many return states are taken step by step. Where more are needed, all are taken.
+const FEW: usize = 64;
+
+/// A set, and the return states that are below its hole, newest last.
+#[derive(Drop)]
+pub(crate) struct Place<'a> {
+    pub(crate) set: Configs,
+    pub(crate) below: &'a [u32],
+}
+
+/// Whether the state is a rule's end.
+fn is_end(net: &ParserNetwork, state: u32) -> bool
+    ensures { result ≡ ends_by (state_at net.now state) }
+{
+    match net.states.as_slice().get(state as usize) {
+        Some(State::End(_)) => true,
+        _ => false,
+    }
+}
+
+/// Whether one of the group is at the hole.
+fn has_hole(net: &ParserNetwork, set: &Configs, group: Group) -> bool
+    requires { IsStacks set.now group.stacks }
+    ensures { result ≡ false → (c : Config) → IsOfGroup set.now group c → IsAtHole net.now c → ⊥ }
+{
+    if !is_end(net, group.state) {
+        return false;
+    }
+    set.has_end(group.stacks)
+}
+
+/// Whether something is at the hole.
+fn is_at_hole(alloc: Global, net: &ParserNetwork, set: &Configs) -> Result<bool, AllocError>
+    ensures { IfOk result (λ found. found ≡ false → (c : Config) → Holds set.now c → IsAtHole net.now c → ⊥) }
+{
+    let groups = set.groups(alloc)?;
+    for group in groups.as_slice() {
+        if has_hole(net, set, *group) {
+            return Ok(true);
+        }
+    }
+    Ok(false)
+}
+
+/// How many return states are left below the hole after the next step, where so many are below it and so many were taken: three
+/// times as many are taken as before, and one more, and all of them in the end.
+fn left_below(below: usize, taken: usize) -> usize
+    ensures { 0 < below → result < below }
+{
+    if taken > FEW {
+        return 0;
+    }
+    below.saturating_sub(3 * taken + 1)
+}
+
+/// Puts return states in the place of the hole while something is there, more each time, so that a set is made a few times only.
+fn lower_all<'a>(
+    alloc: Global,
+    net: &ParserNetwork,
+    from: Configs,
+    returns: &'a [u32],
+) -> Result<Place<'a>, AllocError>
+    requires well_formed { WellFormed net.now }
+    requires few { length net.now.states ≤ MOST_STATES }
+    requires states { All (λ t. t < length net.now.states) returns.now }
+    requires framed { IsFramed net.now (Holds from) }
+    requires within { (c : Config) → Holds from c → IsWithin net.now c }
+    requires row { (row : List Config) × IsRow row (Holds from) }
+    ensures { IfOk result (λ p. IsLoweredTo net.now (Holds from) (reverse returns.now) (Holds p.set) p.below.now) }
+{
+    let mut set = from;
+    let mut below = returns;
+    while !below.is_empty() {
+        if !is_at_hole(alloc, net, &set)? {
+            return Ok(Place { set, below });
+        }
+        let taken = returns.len().saturating_sub(below.len());
+        let left = left_below(below.len(), taken);
+        let (older, newest) = below.split_at(left);
+        set = lower(alloc, net, &set, newest)?;
+        below = older;
+    }
+    Ok(Place { set, below })
+}
+
+/// Takes a framed set down: nothing is at the hole then, or no return state is left. What is not kept is left out.
+pub(crate) fn take_down<'a>(
+    alloc: Global,
+    net: &ParserNetwork,
+    from: Configs,
+    returns: &'a [u32],
+) -> Result<Place<'a>, AllocError>
+    requires well_formed { WellFormed net.now }
+    requires few { length net.now.states ≤ MOST_STATES }
+    requires states { All (λ t. t < length net.now.states) returns.now }
+    requires framed { IsFramed net.now (Holds from) }
+    requires within { (c : Config) → Holds from c → IsWithin net.now c }
+    requires row { (row : List Config) × IsRow row (Holds from) }
+    ensures { IfOk result (λ p. IsTakenDown net.now (Holds from) (reverse returns.now) (Holds p.set) p.below.now) }
+{
+    let mut place = lower_all(alloc, net, from, returns)?;
+    place.set.keep(net);
+    Ok(place)
+}
