@@ -9,45 +9,77 @@ is_old() {
         -type f -newer "$program" 2>/dev/null | head -n 1)" ]
 }
 
-# The program's crate and those below it, lowest first, as crates.txt lists them: a crate is listed after all that it uses.
+# The lines of crates.txt of the program's crate and of those below it. A crate is listed after all that it uses.
 crates() {
     awk '
         { sub(/#.*/, "") }
-        split($0, parts, ":") == 2 { split(parts[1], words, " "); names[++count] = words[1]; uses[words[1]] = parts[2] }
+        split($0, parts, ":") == 2 { split(parts[1], words, " "); lines[++count] = $0; names[count] = words[1]; uses[words[1]] = parts[2] }
         END {
             needed["g4"]
             for (i = count; i > 0; i--)
                 if (names[i] in needed) { n = split(uses[names[i]], used, " "); for (k = 1; k <= n; k++) needed[used[k]] }
-            for (i = 1; i <= count; i++) if (names[i] in needed) print names[i]
+            for (i = 1; i <= count; i++) if (names[i] in needed) print lines[i]
         }' "$top/crates.txt"
 }
 
-# The libraries are built one by one, and the program by a run on the example. A log is shown only where its step fails.
+# Copies these crates, without what earlier builds left and without the edits that the gate tries.
+copy() {
+    mkdir "$1" || return 1
+    crates > "$1/crates.txt" || return 1
+    cp "$top/HANDLES" "$1" || return 1
+    # shellcheck disable=SC2046
+    (cd "$top" && tar cf - --exclude=out --exclude=must-fail $(sed 's/:.*//; s|^|crates/|' "$1/crates.txt")) | tar xf - -C "$1"
+}
+
+# Names each crate as `rt ci` says that it is proved, of so many.
+names() {
+    at=0
+    while read -r from name said; do
+        case "$from $said" in
+        'rt: proved' | 'rt: is kept: '*)
+            at=$((at + 1))
+            echo "g4: $at of $1: $name" >&2
+            ;;
+        esac
+    done
+}
+
+# Of a log of `rt ci` what is said of all but the crates that are proved.
+faults() {
+    awk '
+        /^== / { said = "" }
+        { said = said $0 "\n" }
+        /^rt: [^ ]* (proved|is kept)/ { said = "" }
+        END { printf "%s", said }' "$1" >&2
+}
+
+# Proves the crates on a copy, those that do not use each other side by side on all processors, and builds the program there. What is
+# proved is kept for later builds on this machine, here or elsewhere, of the same files.
 build() (
+    if ! command -v rt > /dev/null; then
+        echo 'g4: the program is to be built, and the command rt of the Rattle kit is not on the PATH' >&2
+        exit 1
+    fi
     work=$(mktemp -d) || exit 1
     trap 'rm -rf "$work"' EXIT
     trap 'exit 1' HUP INT TERM
     touch "$work/began"
-    all=$(crates) || exit 1
-    total=$(echo "$all" | wc -l | tr -d ' ')
+    copy "$work/copy" || exit 1
+    total=$(grep -c : "$work/copy/crates.txt")
     if [ -x "$program" ]; then
-        echo "g4: the sources have changed: the crates that changed and those above them are proved again" >&2
+        echo 'g4: the sources have changed: the crates that changed and those above them are proved again' >&2
     else
         echo "g4: building for the first time: each of $total crates is proved once ($first_time)" >&2
     fi
-    at=0
-    for crate in $all; do
-        at=$((at + 1))
-        echo "g4: $at of $total: $crate" >&2
-        set -- rt lib
-        [ "$crate" != g4 ] || set -- rt run -- parse -g data/H.g4 -s r data/hello.txt
-        if ! (cd "$top/crates/$crate" && "$@") > "$work/log" 2>&1 < /dev/null; then
-            cat "$work/log" >&2
-            exit 1
-        fi
-    done
+    cd "$work/copy" || exit 1
+    (rt ci < /dev/null 2>&1; echo $? > "$work/status") | tee "$work/log" | names "$total"
+    if [ "$(cat "$work/status")" != 0 ]; then
+        faults "$work/log"
+        exit 1
+    fi
     # The time at which the build began, so that a source that was edited meanwhile is newer.
-    touch -c -r "$work/began" "$program"
+    touch -c -r "$work/began" crates/g4/out/g4
+    mkdir -p "$top/crates/g4/out" && cp -p crates/g4/out/g4 "$program.new" && mv "$program.new" "$program"
 )
 
 if is_old; then
