@@ -66,6 +66,8 @@ impl Shelf for MemShelf {
         // It fails exactly at the calls of the list.
         ensures listed { is_failed result ≡ list_any (λ call. call == self.old.calls) self.old.failing.items }
         ensures next { self.old.calls < 2 ^ 64 - 1 → self.new.calls ≡ self.old.calls + 1 }
+        ensures same_files { self.new.files ≡ self.old.files }
+        ensures same_list { self.new.failing ≡ self.old.failing }
     {
         let call = self.calls;
         self.calls = call.saturating_add(1);

@@ -80,6 +80,8 @@ impl Sink for MemSink {
         ensures answer { put_answer result ≡ put_count self.old (length piece.now) }
         ensures next { self.old.calls < 2 ^ 64 - 1 → self.new.calls ≡ self.old.calls + 1 }
         ensures room { self.new.room ≡ self.old.room }
+        ensures same_list { self.new.failing ≡ self.old.failing }
+        ensures same_most { self.new.most ≡ self.old.most }
     {
         let call = self.calls;
         self.calls = call.saturating_add(1);
