@@ -10,6 +10,11 @@ pub length-encoded-le : (w : List ℕ) → length (encode_utf8_all w) ≤ 4 * le
 length-encoded-le [] = omega arith
 length-encoded-le (c ∷ w) = omega (arith, length-append (encode_utf8 c) (encode_utf8_all w), length-encode c, (len_utf8_bounds c).1, length-encoded-le w)
 
+-- and one or more
+pub length-encoded-ge : (w : List ℕ) → length w ≤ length (encode_utf8_all w)
+length-encoded-ge [] = omega arith
+length-encoded-ge (c ∷ w) = omega (arith, length-append (encode_utf8 c) (encode_utf8_all w), length-encode c, (len_utf8_bounds c).0, length-encoded-ge w)
+
 -- the bytes of two pieces end to end
 pub length-encoded-append : (u v : List ℕ) → length (encode_utf8_all (u ++ v)) ≡ length (encode_utf8_all u) + length (encode_utf8_all v)
 length-encoded-append u v = ap length (encodes-append u v) ∙ length-append (encode_utf8_all u) (encode_utf8_all v)

@@ -1,7 +1,7 @@
 -- One turn of the loop that finds the tokens of a text.
 use Rattle.std.proofs.Common.{◌≡◌, ℕ, ◌+◌, ◌-◌, ◌≤◌, ◌<◌, List, [], ◌++◌, length, take, drop, Option, Some, None, Ok, Err, All, refl, sym, ap, ◌∙◌, subst, get_or, unwrap_or, true, false, true≢false, arith, inl, slice_index_or}
 use Rattle.std.specs.Option.{is_some}
-use Rattle.std.proofs.lemmas.List.{take_rest, length-append, length-drop}
+use Rattle.std.proofs.lemmas.List.{take_rest, length-append, length-drop, length-take-le}
 use Rattle.std.proofs.lemmas.List.Elements.{All-append, All-nil, All-cons}
 use Rattle.g4_ordered.specs.declared.start.Start.{Start}
 use Rattle.g4_ordered.specs.Network.{LexerNetwork}
@@ -24,7 +24,8 @@ use Rattle.g4_lexing.specs.Lexers.{starts_in, type_of, commands_of, HasTokenType
 use Rattle.g4_lexing.specs.Lexing.{Course, current, before_commands, NextMatch, made_at, course_after, LexesText, no_token, empty_mode_stack, too_many}
 use Rattle.g4_lexing.specs.Positions.{first_position, position_after}
 use Rattle.g4_lexing.specs.Scanning.{IsScanFault}
-use Rattle.g4_lexing.specs.Tokens.{made_by, going_on, made, goes_on, Concludes, EndsBy}
+use Rattle.g4_lexing.specs.Tokens.{made_by, going_on, made, goes_on, Concludes, EndsBy, HasText}
+use Rattle.g4_lexing.proofs.Encoded.{length-encoded-ge}
 use Rattle.g4_lexing.proofs.Moved.{position_behind}
 use Rattle.g4_lexing.proofs.Reached.{Reached, BeginsBy, next_reached, reached_no_mode, reached_no_room, reached_stuck, reached_end, reached_unfinished}
 use Rattle.g4_lexing.proofs.TokenTypes.{HasTokenType, HaveTokenType, commands_type, made_types}
@@ -40,6 +41,12 @@ made_spans : (fate : Fate) (begun : Begun) (channel : ℕ) (end : Position) → 
 made_spans fates.Dropped begun channel end below = All-nil (EndsBy end.offset)
 made_spans fates.Kept begun channel end below = All-nil (EndsBy end.offset)
 made_spans (fates.Token symbol) begun channel end below = All-cons (EndsBy end.offset) _ [] (below, omega arith) (All-nil (EndsBy end.offset))
+
+-- it has a text where the match ends after it began
+made_texts : (fate : Fate) (begun : Begun) (channel : ℕ) (end : Position) → begun.from.offset < end.offset → All HasText (made_by fate begun channel end)
+made_texts fates.Dropped begun channel end before = All-nil HasText
+made_texts fates.Kept begun channel end before = All-nil HasText
+made_texts (fates.Token symbol) begun channel end before = All-cons HasText _ [] before (All-nil HasText)
 
 -- a token that goes on began before
 on_begins : (fate : Fate) (begun : Begun) (channel bytes : ℕ) → begun.from.offset ≤ bytes → BeginsBy bytes (going_on fate begun channel)
@@ -158,6 +165,17 @@ module _ (lexer : Lexer) (text : List ℕ) (start : ℕ) (s : Course) where
         spans_more begins spans =
             subst (λ (ts : List Token). All (EndsBy end.offset) ts) (sym h.0)
             (All-append (EndsBy end.offset) old (made token e end) (spans_further old s.at.offset end.offset further spans) (made_spans e.fate token e.channel end (begun_before begins)))
+
+        -- a match has a character or more, so a byte or more
+        behind : s.at.offset < end.offset
+        behind =
+            let w = take n (drop start text) in
+            omega (arith, ap (λ (p : Position). p.offset) moved, length-encoded-ge w, length-take-le n (drop start text) next.matches.after.0, next.matches.some)
+
+        pub texts_more : BeginsBy s.at.offset s.begun → All HasText old → All HasText new
+        texts_more begins texts =
+            let before : token.from.offset < end.offset = omega (arith, behind, ap (λ (b : Begun). b.from.offset) token_is, current_begins s.at s.begun begins) in
+            subst (λ (ts : List Token). All HasText ts) (sym h.0) (All-append HasText old (made token e end) texts (made_texts e.fate token e.channel end before))
 
         pub begins_more : BeginsBy s.at.offset s.begun → BeginsBy end.offset kept
         begins_more begins = subst (λ (o : Option Begun). BeginsBy end.offset o) (sym h.1) (on_begins e.fate token e.channel end.offset (begun_before begins))

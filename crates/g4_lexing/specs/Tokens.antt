@@ -59,3 +59,7 @@ closing_tokens text = closing_at (position_after first_position text)
 -- the token begins and ends in a file of this many bytes
 abbrev pub EndsBy : ℕ → Token → Type 0
 EndsBy bytes token = (token.start ≤ token.end) × (token.end ≤ bytes)
+
+-- the token has a text: a byte or more of its file
+abbrev pub HasText : Token → Type 0
+HasText token = token.start < token.end

@@ -5,7 +5,7 @@ ghost use Rattle.g4_ordered.specs.Network.{IsLexable};
 ghost use Rattle.g4_token_list.specs.TokenList.{EndsInEnd, word_of};
 ghost use Rattle.g4_lexing.specs.Lexers.{HasTokenTypes};
 ghost use Rattle.g4_lexing.specs.Lexing.{IsLexing, IsLexingWithin};
-ghost use Rattle.g4_lexing.specs.Tokens.{EndsBy};
+ghost use Rattle.g4_lexing.specs.Tokens.{EndsBy, HasText};
 
 use crate::decode::{DecodeError, characters};
 use crate::fault::LexFault;
@@ -39,6 +39,7 @@ pub fn tokens_within(
     ensures ends { HasTokenTypes lexer.now → IfOk result (λ found. EndsInEnd (word_of found.list)) }
     ensures spans { IfOk result (λ found. All (EndsBy (length bytes)) found.all) }
     ensures list_spans { IfOk result (λ found. All (EndsBy (length bytes)) found.list) }
+    ensures texts { IfOk result (λ found. All HasText found.all) }
 {
     let text = match characters(alloc, bytes.as_slice()) {
         Ok(text) => text,
@@ -72,6 +73,7 @@ pub fn tokens(alloc: Global, lexer: &Lexer, bytes: Octets) -> Result<Tokens, Lex
     ensures ends { HasTokenTypes lexer.now → IfOk result (λ found. EndsInEnd (word_of found.list)) }
     ensures spans { IfOk result (λ found. All (EndsBy (length bytes)) found.all) }
     ensures list_spans { IfOk result (λ found. All (EndsBy (length bytes)) found.list) }
+    ensures texts { IfOk result (λ found. All HasText found.all) }
 {
     tokens_within(alloc, lexer, bytes, MOST_TOKENS)
 }

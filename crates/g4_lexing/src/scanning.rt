@@ -5,7 +5,7 @@ ghost use Rattle.g4_ordered.specs.Network.{IsLexable};
 ghost use Rattle.g4_lexing.specs.Lexers.{HasTokenTypes, IsTokenType};
 ghost use Rattle.g4_lexing.specs.Positions.{first_position, position_after};
 ghost use Rattle.g4_lexing.specs.Scanning.{IsScan};
-ghost use Rattle.g4_lexing.specs.Tokens.{EndsBy};
+ghost use Rattle.g4_lexing.specs.Tokens.{EndsBy, HasText};
 
 use crate::effects::Effects;
 use crate::fault::LexFault;
@@ -41,6 +41,7 @@ pub(crate) fn scan(
     ensures limited { IfOk result (λ found. length found.tokens.items ≤ room) }
     ensures types { HasTokenTypes lexer.now → IfOk result (λ found. All (λ token. IsTokenType token.symbol) found.tokens.items) }
     ensures spans { IfOk result (λ found. All (EndsBy found.end.offset) found.tokens.items) }
+    ensures texts { IfOk result (λ found. All HasText found.tokens.items) }
 {
     let mut matcher = Matcher::new(alloc, &lexer.net, lexer.modes.as_slice())?;
     let mut effects = Effects::new(alloc);

@@ -1,7 +1,6 @@
 -- The text of a tree.
-use Rattle.std.specs.Prelude.{ℕ, ◌-◌, List, [], ◌∷◌, ◌++◌, Option, Some, None, cond, if◌then◌else◌, ◌==◌, ◌||◌, codes, slice_get}
+use Rattle.std.specs.Prelude.{ℕ, ◌-◌, Bool, nat_le, List, [], ◌∷◌, ◌++◌, length, Option, Some, None, cond, if◌then◌else◌, ◌==◌, codes, slice_get}
 use Rattle.std.specs.List.{flat_map}
-use Rattle.g4_symbols.specs.Symbols.{end_of_list, eof}
 use Rattle.g4_token_list.specs.declared.token.Token.{Token}
 use Rattle.g4_token_list.specs.declared.token.Tokens.{Tokens}
 use Rattle.g4_token_list.specs.TokenList.{bytes_of}
@@ -17,9 +16,14 @@ shown_byte b = if b == 10 then codes "\\n" else (if b == 9 then codes "\\t" else
 abbrev pub shown_bytes : List ℕ → List ℕ
 shown_bytes bytes = flat_map shown_byte bytes
 
--- a token as it is shown: its bytes, and EOF and END as `<EOF>`
+-- The token begins where nothing of a file of these bytes is left: it is one of those that close the file. A token that a match makes
+-- is never there, since it has a byte or more, also where a command gives it the symbol EOF.
+abbrev pub is_at_end : List ℕ → Token → Bool
+is_at_end bytes token = nat_le (length bytes) token.start
+
+-- a token as it is shown: its bytes, and those that close the file as `<EOF>`
 abbrev pub token_text : List ℕ → Token → List ℕ
-token_text bytes token = cond (token.symbol == eof || token.symbol == end_of_list) (codes "<EOF>") (shown_bytes (bytes_of bytes token))
+token_text bytes token = cond (is_at_end bytes token) (codes "<EOF>") (shown_bytes (bytes_of bytes token))
 
 -- a token that was looked up, as it is shown, nothing where it is absent
 abbrev pub text_by : List ℕ → Option Token → List ℕ

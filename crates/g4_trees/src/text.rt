@@ -7,7 +7,6 @@ ghost use Rattle.g4_trees.specs.Trees.{Tree as Nested, items_of};
 
 use crate::{Item, Tree};
 use g4_source::ParserRule;
-use g4_symbols::{END, EOF};
 use g4_token_list::{Token, Tokens};
 use std::alloc::AllocError;
 use std::slice;
@@ -58,18 +57,18 @@ pub fn push_shown_bytes(out: &mut Vec<u8>, bytes: &[u8]) -> Result<(), AllocErro
     Ok(())
 }
 
-/// Adds a token of a file of these bytes as it is shown: its bytes, and EOF and END as `<EOF>`.
+/// Adds a token of a file of these bytes as it is shown: its bytes, and one that closes the file as `<EOF>`.
 ///
 /// # Errors
 /// No memory. A front part may be added then.
 pub fn push_token_text(out: &mut Vec<u8>, bytes: &[u8], token: &Token) -> Result<(), AllocError>
     ensures { Adds (token_text bytes.now token.now) out.old.items out.new.items result }
 {
-    if token.symbol == EOF || token.symbol == END {
+    let start = token.start as usize;
+    if bytes.len() <= start {
         return push(out, "<EOF>");
     }
-    let end = (token.end as usize).min(bytes.len());
-    let start = (token.start as usize).min(end);
+    let end = (token.end as usize).clamp(start, bytes.len());
     push_shown_bytes(out, &bytes[start..end])
 }
 

@@ -8,7 +8,7 @@ use Rattle.g4_lexing.specs.Scanning.{IsScanFault}
 use Rattle.g4_lexing.specs.Tokens.{Concludes}
 use Rattle.g4_lexing.proofs.Moved.{line_at, column_at, offset_at, take_short}
 use Rattle.g4_lexing.proofs.Reached.{reached_none}
-use Rattle.g4_lexing.proofs.Scanned.{found_here, found_next, stuck_here, refused_here, full_here, finished_here, unfinished_here, reached_more, within_more, at_more, few_more, types_more, spans_more, begins_more}
+use Rattle.g4_lexing.proofs.Scanned.{found_here, found_next, stuck_here, refused_here, full_here, finished_here, unfinished_here, reached_more, within_more, at_more, few_more, types_more, spans_more, texts_more, begins_more}
 use Rattle.g4_lexing.proofs.scanning.scan.Goals as goal
 
 pub loop-start-init : goal.loop-start-init
@@ -20,6 +20,7 @@ loop-start-init c = record {
   limited = omega (arith, ap length c.new-tokens.ensures.items);
   types = λ h k d less. absurd (omega (arith, less, ap length c.new-tokens.ensures.items));
   spans = λ k d less. absurd (omega (arith, less, ap length c.new-tokens.ensures.items));
+  texts = λ k d less. absurd (omega (arith, less, ap length c.new-tokens.ensures.items));
   begins = tt;
   reached = rw (c.new-tokens.ensures.items, c.new-effects.ensures.mode, c.new-effects.ensures.pushed) (reached_none c.args.lexer.now c.args.text.now c.args.room);
 }
@@ -87,6 +88,7 @@ loop-start-preserved c =
       limited = h.2 i.limited;
       types = types_more c.args.lexer.now c.args.text.now c.loop-start.start s c.args.room old i.reached m.length token e end c.unwrap_or-token.ensures next c.after-at.ensures new kept h i.types;
       spans = spans_more c.args.lexer.now c.args.text.now c.loop-start.start s c.args.room old i.reached m.length token e end c.unwrap_or-token.ensures next c.after-at.ensures new kept h i.begins i.spans;
+      texts = texts_more c.args.lexer.now c.args.text.now c.loop-start.start s c.args.room old i.reached m.length token e end c.unwrap_or-token.ensures next c.after-at.ensures new kept h i.begins i.texts;
       begins = begins_more c.args.lexer.now c.args.text.now c.loop-start.start s c.args.room old i.reached m.length token e end c.unwrap_or-token.ensures next c.after-at.ensures new kept h i.begins;
       reached = reached_more c.args.lexer.now c.args.text.now c.loop-start.start s c.args.room old i.reached m.length token e end c.unwrap_or-token.ensures next c.after-at.ensures new kept h i.limited;
     }

@@ -2,7 +2,7 @@ use Rattle.std.proofs.Common.{◌≡◌, ◌-◌, ◌≤◌, length, take, All}
 use Rattle.g4_token_list.specs.declared.token.Token.{Token}
 use Rattle.g4_lexing.specs.Lexers.{HasTokenTypes, IsTokenType}
 use Rattle.g4_lexing.specs.Positions.{first_position, position_after}
-use Rattle.g4_lexing.specs.Tokens.{EndsBy}
+use Rattle.g4_lexing.specs.Tokens.{EndsBy, HasText}
 use Rattle.g4_lexing.proofs.Reached.{Reached, BeginsBy}
 use Rattle.g4_lexing.proofs.scanning.scan.Given as goal
 
@@ -15,6 +15,7 @@ invariant-loop-start l = record {
   limited : length l.tokens.items ≤ l.room;
   types : HasTokenTypes l.lexer → All (λ (token : Token). IsTokenType token.symbol) l.tokens.items;
   spans : All (EndsBy l.at.offset) l.tokens.items;
+  texts : All HasText l.tokens.items;
   begins : BeginsBy l.at.offset l.begun;
   reached : Reached l.lexer l.text l.room l.tokens.items l.start (record { at = l.at; mode = l.effects.mode; pushed = l.effects.pushed; begun = l.begun });
 }
