@@ -44,16 +44,15 @@ framed_same net F G h g = record {
 }
 
 module _ (net : ParserNetwork) where
-  -- one lowering more, by the newest of the return states
-  pub lowers_on : (F G H : Config → Type 0) (returns below older newest : List ℕ) (left : ℕ) → older ≡ take left below → newest ≡ drop left below → IsFramed net G → AreSame H (Lowered net G (reverse newest)) → AreSame (Meant net F returns) (Meant net G (reverse below)) → AreSame (Meant net F returns) (Meant net H (reverse older))
-  lowers_on F G H returns below older newest left front back g same h =
-      let both : older ++ newest ≡ below = ap (λ (rs : List ℕ). rs ++ newest) front ∙ (ap (λ (rs : List ℕ). take left below ++ rs) back ∙ take-append-drop left below) in
-      let turned : reverse below ≡ reverse newest ++ reverse older = ap (λ (rs : List ℕ). reverse rs) (sym both) ∙ reverse-append older newest in
-      same_then (Meant net F returns) (Meant net G (reverse below)) (Meant net H (reverse older)) h
-      (subst (λ (rs : List ℕ). AreSame (Meant net G rs) (Meant net H (reverse older))) (sym turned)
-      (same_then (Meant net G (reverse newest ++ reverse older)) (Meant net (Lowered net G (reverse newest)) (reverse older)) (Meant net H (reverse older))
-      (lowered_means net G (reverse newest) (reverse older) g.bottomed)
-      (meant_same net (Lowered net G (reverse newest)) H (reverse older) (same_back H (Lowered net G (reverse newest)) same))))
+  -- a lowering by the newest of the return states
+  pub lowers_to : (F H : Config → Type 0) (returns older newest : List ℕ) (left : ℕ) → older ≡ take left returns → newest ≡ drop left returns → IsFramed net F → AreSame H (Lowered net F (reverse newest)) → AreSame (Meant net F (reverse returns)) (Meant net H (reverse older))
+  lowers_to F H returns older newest left front back f same =
+      let both : older ++ newest ≡ returns = ap (λ (rs : List ℕ). rs ++ newest) front ∙ (ap (λ (rs : List ℕ). take left returns ++ rs) back ∙ take-append-drop left returns) in
+      let turned : reverse returns ≡ reverse newest ++ reverse older = ap (λ (rs : List ℕ). reverse rs) (sym both) ∙ reverse-append older newest in
+      subst (λ (rs : List ℕ). AreSame (Meant net F rs) (Meant net H (reverse older))) (sym turned)
+      (same_then (Meant net F (reverse newest ++ reverse older)) (Meant net (Lowered net F (reverse newest)) (reverse older)) (Meant net H (reverse older))
+      (lowered_means net F (reverse newest) (reverse older) f.bottomed)
+      (meant_same net (Lowered net F (reverse newest)) H (reverse older) (same_back H (Lowered net F (reverse newest)) same)))
 
   pub lowers_framed : (G H : Config → Type 0) (above : List ℕ) → IsFramed net G → AreSame H (Lowered net G above) → IsFramed net H
   lowers_framed G H above g same = framed_same net H (Lowered net G above) same (lowered_framed net G above g.bottomed)

@@ -1,7 +1,7 @@
 // Sets with a hole in the place of the parser's stack: its return states are put there as far as they are needed.
-ghost use Rattle.std.specs.Prelude.{◌≡◌, ◌<◌, ◌≤◌, All, IfOk, List, false, length, reverse};
+ghost use Rattle.std.specs.Prelude.{◌≡◌, ◌<◌, ◌≤◌, ◌+◌, All, IfOk, IsTrue, List, false, length, reverse};
 ghost use Rattle.g4_configs.specs.Configs.{Holds, IsOfGroup, IsStacks};
-ghost use Rattle.g4_frames.specs.Framed.{IsAtHole, IsFramed};
+ghost use Rattle.g4_frames.specs.Framed.{IsAtHole, IsDown, IsFramed};
 ghost use Rattle.g4_full.specs.Frames.{IsLoweredTo, IsTakenDown, ends_by};
 ghost use Rattle.g4_net.specs.Configurations.{Config, IsRow, IsWithin};
 ghost use Rattle.g4_net.specs.declared.network.TheConstants.{MOST_STATES};
@@ -13,8 +13,8 @@ use g4_configs::{Configs, Group};
 use g4_net::{ParserNetwork, State};
 use std::alloc::{AllocError, Global};
 
-/// How many return states are taken step by step. Where more are needed, all are taken.
-const FEW: usize = 64;
+/// How many times as many return states are put in the place of the hole where those before were too few.
+const GROWTH: usize = 4;
 
 /// A set, and the return states that are below its hole, newest last.
 #[derive(Drop)]
@@ -57,18 +57,37 @@ fn is_at_hole(alloc: Global, net: &ParserNetwork, set: &Configs) -> Result<bool,
     Ok(false)
 }
 
-/// How many return states are left below the hole after the next step, where so many are below it and so many were taken: three
-/// times as many are taken as before, and one more, and all of them in the end.
-fn left_below(below: usize, taken: usize) -> usize
-    ensures { 0 < below → result < below }
+/// Whether a set is taken down: nothing is at the hole, or no return state is below it.
+fn is_down(
+    alloc: Global,
+    net: &ParserNetwork,
+    set: &Configs,
+    below: &[u32],
+) -> Result<bool, AllocError>
+    ensures down { IfOk result (λ down. IsTrue down → IsDown net.now (Holds set.now) (reverse below.now)) }
+    ensures some { IfOk result (λ down. down ≡ false → 0 < length below.now) }
 {
-    if taken > FEW {
-        return 0;
+    if below.is_empty() {
+        return Ok(true);
     }
-    below.saturating_sub(3 * taken + 1)
+    let found = is_at_hole(alloc, net, set)?;
+    Ok(!found)
 }
 
-/// Puts return states in the place of the hole while something is there, more each time, so that a set is made a few times only.
+/// How many of all return states are left below the hole at the next try, where so many were put in its place at the last one: four
+/// times as many are put there now, and one more. Where it was more than a sixteenth of all, all are put there: so the tries before
+/// the last one cost little beside it.
+fn left_below(all: usize, taken: usize) -> usize
+    ensures { taken < all → result + taken < all }
+{
+    if taken > all / GROWTH / GROWTH {
+        return 0;
+    }
+    all.saturating_sub(GROWTH * taken + 1)
+}
+
+/// Puts return states in the place of the hole while something is there: more each time, in the place of the first hole, so that no
+/// set is made from one that was lowered before.
 fn lower_all<'a>(
     alloc: Global,
     net: &ParserNetwork,
@@ -83,19 +102,22 @@ fn lower_all<'a>(
     requires row { (row : List Config) × IsRow row (Holds from) }
     ensures { IfOk result (λ p. IsLoweredTo net.now (Holds from) (reverse returns.now) (Holds p.set) p.below.now) }
 {
-    let mut set = from;
-    let mut below = returns;
-    while !below.is_empty() {
-        if !is_at_hole(alloc, net, &set)? {
+    if is_down(alloc, net, &from, returns)? {
+        return Ok(Place {
+            set: from,
+            below: returns,
+        });
+    }
+    let all = returns.len();
+    let mut left = all;
+    'tries: loop {
+        left = left_below(all, all - left);
+        let (below, above) = returns.split_at(left);
+        let set = lower(alloc, net, &from, above)?;
+        if is_down(alloc, net, &set, below)? {
             return Ok(Place { set, below });
         }
-        let taken = returns.len().saturating_sub(below.len());
-        let left = left_below(below.len(), taken);
-        let (older, newest) = below.split_at(left);
-        set = lower(alloc, net, &set, newest)?;
-        below = older;
     }
-    Ok(Place { set, below })
 }
 
 /// Takes a framed set down: nothing is at the hole then, or no return state is left. What is not kept is left out.
