@@ -7,7 +7,7 @@ use Rattle.g4_stacks.specs.Graph.{Content, Has, IsNode, Keeps}
 use Rattle.g4_stacks.specs.Lowering.{AreLowered, stacked}
 use Rattle.g4_stacks.specs.Taking.{EachAlike}
 use Rattle.g4_configs.specs.declared.group.Group.{Group}
-use Rattle.g4_configs.specs.Configs.{AreGroups, Holds, View}
+use Rattle.g4_configs.specs.Configs.{AreGroups, View}
 use Rattle.g4_configs.specs.Groups.{AreKnown, InGroup, InSome}
 use Rattle.g4_configs.specs.Lowering.{HasImage, IsLoweredOf, imaged, with_stacks}
 use Rattle.g4_configs.proofs.Adding.{group_kept}

@@ -10,3 +10,4 @@ pub mod Lone
 pub mod Snapshots
 mod Keeping
 mod Imaged
+mod Merges

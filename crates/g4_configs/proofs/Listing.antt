@@ -111,7 +111,7 @@ module _ (g : List Content) (m : BTreeMap (ℕ × ℕ) ℕ) (nodes : AreNodes g 
       let at : In ((x.state, x.alternative), x.stacks) m.entries = subst (λ (q : ℕ × ℕ). let y : (ℕ × ℕ) × ℕ = (q, x.stacks) in In y m.entries) (sym same) there in
       groups_in m.entries ((x.state, x.alternative), x.stacks) at
 
-  parts_of : (found : List Group) → found ≡ map group_of m.entries → AreParts g found
+  pub parts_of : (found : List Group) → found ≡ map group_of m.entries → AreParts g found
   parts_of found is = record {
     known = λ x i. (nodes (x.state, x.alternative) x.stacks (member x i)).0;
     filled = λ x i. (nodes (x.state, x.alternative) x.stacks (member x i)).1;

@@ -1,5 +1,5 @@
 // A set of configurations.
-ghost use Rattle.std.specs.Prelude.{◌≡◌, ◌↔◌, ◌⊎◌, [], IsTrue, IfOk, OnErr, OnOk, false, reverse};
+ghost use Rattle.std.specs.Prelude.{◌≡◌, ◌↔◌, ◌⊎◌, [], IsTrue, IfOk, OnErr, OnOk, false, length, reverse};
 ghost use Rattle.g4_configs.specs.Configs.{AreGroups, IsOfGroup, HasStack, Holds, IsStacks, KeepsStacks};
 ghost use Rattle.g4_configs.specs.Groups.{Subset};
 ghost use Rattle.g4_net.specs.Configurations.{Config, Stack, above_bottom, wildcard};
@@ -8,6 +8,7 @@ ghost use Rattle.g4_stacks.specs.Graph.{HasTops, IsPushed};
 
 use crate::bottom::bottom;
 use crate::group::Group;
+use crate::merging::listed;
 use crate::set::add;
 use g4_stacks::Graph;
 use std::alloc::{AllocError, Global};
@@ -131,15 +132,14 @@ impl Configs {
     pub fn groups(&self, alloc: Global) -> Result<Vec<Group>, AllocError>
         ensures { IfOk result (λ found. AreGroups self.now found.items) }
     {
-        let mut found = Vec::with_capacity(alloc, self.nodes.len())?;
-        for (key, stacks) in &self.nodes {
-            let (state, alternative) = *key;
-            found.push(Group {
-                state,
-                alternative,
-                stacks: *stacks,
-            })?;
-        }
+        let found = listed(alloc, &self.nodes)?;
         Ok(found)
+    }
+
+    /// How many groups the set has.
+    pub fn count(&self) -> usize
+        ensures { result ≡ length self.now.nodes }
+    {
+        self.nodes.len()
     }
 }

@@ -6,6 +6,7 @@ mod configs;
 mod group;
 mod kept;
 mod lowering;
+mod merging;
 mod set;
 mod snapshot;
 mod verdicts;
