@@ -1,6 +1,7 @@
 // What groups of configurations lead to without a symbol read.
 ghost use Rattle.std.specs.Prelude.{◌≡◌, ◌↔◌, ◌⊎◌, ◌<◌, ◌≤◌, ◌*◌, ◌^◌, ◌++◌, ℕ, [], OnOk, Some, length, map, slice_get};
 ghost use Rattle.g4_closure.specs.Joined.{Joined};
+ghost use Rattle.g4_closure.specs.Waiting.{IsExtended, IsLater, IsSpent, IsWaiting};
 ghost use Rattle.g4_closure.specs.Steps.{IsClosed, LedFrom, ReachedFrom, ReturnedFrom, SteppedFrom, listed_by, placed, popped_to};
 ghost use Rattle.g4_configs.specs.Configs.{Holds, IsOfGroup, IsStacks, KeepsStacks};
 ghost use Rattle.g4_configs.specs.Groups.{AreKnown, InSome, Same};
@@ -15,6 +16,15 @@ use g4_configs::{Configs, Group};
 use g4_net::{ParserNetwork, State};
 use g4_symbols::Symbols;
 use std::alloc::{AllocError, Global};
+
+/// How many groups are followed, the newest first, however small the set is.
+const PATIENCE: usize = 256;
+
+/// How often the groups of the set are followed, the newest first, on average.
+const MOST_VISITS: usize = 3;
+
+/// How many groups are followed, the newest first, at most.
+const LONGEST_DIVE: usize = 1_000_000_000;
 
 /// Adds groups to the set, each also to the work list where the set grew.
 pub(crate) fn add_all(
@@ -181,9 +191,77 @@ fn successors(
     }
 }
 
+/// Adds what a group leads to in one step, also to the work list where the set grew.
+fn follow(
+    set: &mut Configs,
+    net: &ParserNetwork,
+    group: Group,
+    work: &mut Vec<Group>,
+    found: &mut Vec<Group>,
+) -> Result<(), AllocError>
+    requires well_formed { WellFormed net.now }
+    requires few { length net.now.states ≤ MOST_STATES }
+    requires waiting { AreKnown set.old.graph work.old.items }
+    requires stacks { IsStacks set.old group.stacks }
+    ensures { OnOk result (IsExtended net.now group set.old work.old.items set.new work.new.items) }
+{
+    successors(set, net, group, found)?;
+    add_all(set, work, found.as_slice())?;
+    Ok(())
+}
+
+/// Follows the groups that wait, the newest first, until none is left, or some groups of the set have been followed again and again.
+fn dive(
+    set: &mut Configs,
+    net: &ParserNetwork,
+    work: &mut Vec<Group>,
+    found: &mut Vec<Group>,
+) -> Result<(), AllocError>
+    requires well_formed { WellFormed net.now }
+    requires few { length net.now.states ≤ MOST_STATES }
+    requires waiting { IsWaiting net.now set.old work.old.items }
+    ensures waiting { OnOk result (IsWaiting net.now set.new work.new.items) }
+    ensures later { OnOk result (IsLater net.now set.old set.new) }
+{
+    for steps in 0..LONGEST_DIVE {
+        if steps > PATIENCE && steps / MOST_VISITS > set.count() {
+            return Ok(());
+        }
+        let Some(next) = work.pop() else {
+            return Ok(());
+        };
+        follow(set, net, next, work, found)?;
+    }
+    Ok(())
+}
+
+/// Follows each group that waits, those of a state and an alternative as one. What they lead to waits then.
+fn sweep(
+    alloc: Global,
+    set: &mut Configs,
+    net: &ParserNetwork,
+    work: &mut Vec<Group>,
+    found: &mut Vec<Group>,
+) -> Result<(), AllocError>
+    requires well_formed { WellFormed net.now }
+    requires few { length net.now.states ≤ MOST_STATES }
+    requires waiting { IsWaiting net.now set.old work.old.items }
+    ensures waiting { OnOk result (IsWaiting net.now set.new work.new.items) }
+    ensures later { OnOk result (IsLater net.now set.old set.new) }
+    ensures spent { OnOk result (IsSpent set.old set.new work.new.items) }
+{
+    let mut round = set.merged(alloc, work.as_slice())?;
+    work.clear();
+    while let Some(next) = round.pop() {
+        follow(set, net, next, work, found)?;
+    }
+    Ok(())
+}
+
 /// Adds a group to a set that has all that its members lead to, and all that the group leads to. The starts lead to all of it. The
 /// two lists are there to be used again.
 fn close(
+    alloc: Global,
     set: &mut Configs,
     net: &ParserNetwork,
     starts: &[Group],
@@ -207,9 +285,9 @@ fn close(
 {
     set.is_canonical();
     add_all(set, work, &[group])?;
-    while let Some(next) = work.pop() {
-        successors(set, net, next, found)?;
-        add_all(set, work, found.as_slice())?;
+    dive(set, net, work, found)?;
+    while !work.is_empty() {
+        sweep(alloc, set, net, work, found)?;
     }
     Ok(())
 }
@@ -234,7 +312,7 @@ pub(crate) fn reach(
     let mut work = Vec::new(alloc);
     let mut found = Vec::new(alloc);
     while let Some(group) = first.pop() {
-        close(set, net, starts, group, &mut work, &mut found)?;
+        close(alloc, set, net, starts, group, &mut work, &mut found)?;
     }
     Ok(())
 }

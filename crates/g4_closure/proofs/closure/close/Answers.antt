@@ -1,51 +1,56 @@
-use Rattle.std.proofs.Common.{rules, ◌≡◌, ◌⊎◌, ◌++◌, ◌∷◌, [], length}
+use Rattle.std.proofs.Common.{rules, ◌≡◌, ◌⊎◌, ◌<◌, length}
 use Rattle.g4_net.specs.Configurations.{Config}
 use Rattle.g4_configs.specs.Configs.{Holds, IsOfGroup}
 use Rattle.g4_configs.specs.Groups.{InSome}
 use Rattle.g4_closure.specs.Steps.{ReachedFrom}
 use Rattle.g4_closure.proofs.Bounding.{universe_of, bounded_by}
-use Rattle.g4_closure.proofs.Closing.{closing_begins, closing_goes_on, closing_smaller, closing_ends, none_left, reached_on}
-use Rattle.g4_closure.proofs.Joining.{known_left, known_right, known_kept}
+use Rattle.g4_closure.proofs.Closing.{added_waits, closing_begins, closing_ends, closing_goes_on, closing_smaller, none_left, reached_on}
 use Rattle.g4_closure.proofs.closure.close.Goals as goal
 
-pub loop-next-init : goal.loop-next-init
-loop-next-init c = closing_begins c.args.net.now (ReachedFrom c.args.net.now (InSome c.args.set.now.graph c.args.starts.now)) c.args.group c.args.set.now c.args.work.now.items c.add_all.new.set c.add_all.new.work.items c.requires.sound c.requires.reached c.requires.closed c.requires.none c.in_ok-add_all.ensures
+pub dive-requires-clause-waiting : goal.dive-requires-clause-waiting
+dive-requires-clause-waiting c = added_waits c.args.net.now c.args.group c.args.set.now c.args.work.now.items c.add_all.new.set c.add_all.new.work.items c.requires.closed c.requires.none c.in_ok-add_all.ensures
 
-pub successors-requires-clause-stacks : goal.successors-requires-clause-stacks
-successors-requires-clause-stacks c =
-    let taken : c.loop-next.work.items ≡ c.pop.new.self.items ++ c.in-Some.next ∷ [] = c.in-Some.ensures.items in
-    (known_right c.loop-next.set.graph c.pop.new.self.items (c.in-Some.next ∷ []) (rw taken at c.loop-next.invariant.known)).0
-
-pub add_all-requires-in-Some-clause-waiting : goal.add_all-requires-in-Some-clause-waiting
-add_all-requires-in-Some-clause-waiting c =
-    let taken : c.loop-next.work.items ≡ c.pop.new.self.items ++ c.in-Some.next ∷ [] = c.in-Some.ensures.items in
-    known_kept c.loop-next.set.graph c.successors.new.set.graph c.pop.new.self.items c.successors.ensures.keeps (known_left c.loop-next.set.graph c.pop.new.self.items (c.in-Some.next ∷ []) (rw taken at c.loop-next.invariant.known))
-
-pub loop-next-smaller : goal.loop-next-smaller
-loop-next-smaller c =
+pub loop-alloc-init : goal.loop-alloc-init
+loop-alloc-init c =
     let R : Config → Type 0 = ReachedFrom c.args.net.now (InSome c.args.set.now.graph c.args.starts.now) in
-    closing_smaller c.args.net.now R (λ d. Holds c.args.set.now d ⊎ IsOfGroup c.args.set.now c.args.group d) c.args.set.now.graph c.loop-next.set c.successors.new.set c.add_all-in-Some.new.set c.loop-next.work.items c.pop.new.self.items c.successors.new.found.items c.add_all-in-Some.new.work.items c.in-Some.next
-    (reached_on c.args.net.now (InSome c.args.set.now.graph c.args.starts.now)) c.in-Some.ensures.items c.successors.ensures.keeps c.successors.ensures.same c.in_ok-successors.ensures.means (rw c.as_slice.ensures.value at c.in_ok-add_all-2.ensures) c.loop-next.invariant (universe_of (length c.args.net.now.states) c.args.starts.now)
+    closing_goes_on c.args.net.now R (λ d. Holds c.args.set.now d ⊎ IsOfGroup c.args.set.now c.args.group d) c.args.set.now.graph c.add_all.new.set c.dive.new.set c.add_all.new.work.items c.dive.new.work.items (reached_on c.args.net.now (InSome c.args.set.now.graph c.args.starts.now))
+    (closing_begins c.args.net.now R c.args.group c.args.set.now c.args.work.now.items c.add_all.new.set c.add_all.new.work.items c.requires.sound c.requires.reached c.requires.closed c.requires.none c.in_ok-add_all.ensures)
+    c.in_ok-dive.ensures.later c.in_ok-dive.ensures.waiting
+
+pub sweep-requires-clause-waiting : goal.sweep-requires-clause-waiting
+sweep-requires-clause-waiting c = c.loop-alloc.invariant.waiting
+
+pub loop-alloc-smaller : goal.loop-alloc-smaller
+loop-alloc-smaller c =
+    let R : Config → Type 0 = ReachedFrom c.args.net.now (InSome c.args.set.now.graph c.args.starts.now) in
+    let some : 0 < length c.loop-alloc.work.items = search rules in
+    closing_smaller c.args.net.now R (λ d. Holds c.args.set.now d ⊎ IsOfGroup c.args.set.now c.args.group d) c.args.set.now.graph c.loop-alloc.set c.sweep.new.set c.loop-alloc.work.items c.sweep.new.work.items some c.in_ok-sweep.ensures.spent
+    (closing_goes_on c.args.net.now R (λ d. Holds c.args.set.now d ⊎ IsOfGroup c.args.set.now c.args.group d) c.args.set.now.graph c.loop-alloc.set c.sweep.new.set c.loop-alloc.work.items c.sweep.new.work.items (reached_on c.args.net.now (InSome c.args.set.now.graph c.args.starts.now))
+    c.loop-alloc.invariant c.in_ok-sweep.ensures.later c.in_ok-sweep.ensures.waiting)
+    (universe_of (length c.args.net.now.states) c.args.starts.now)
     (λ d r. bounded_by c.args.net.now c.requires.well_formed c.args.set.now.graph c.is_canonical.ensures c.args.starts.now r.0 d r.1 (c.requires.within r.0 r.1) r.2)
 
-pub loop-next-preserved : goal.loop-next-preserved
-loop-next-preserved c =
+pub loop-alloc-preserved : goal.loop-alloc-preserved
+loop-alloc-preserved c =
     let R : Config → Type 0 = ReachedFrom c.args.net.now (InSome c.args.set.now.graph c.args.starts.now) in
-    closing_goes_on c.args.net.now R (λ d. Holds c.args.set.now d ⊎ IsOfGroup c.args.set.now c.args.group d) c.args.set.now.graph c.loop-next.set c.successors.new.set c.add_all-in-Some.new.set c.loop-next.work.items c.pop.new.self.items c.successors.new.found.items c.add_all-in-Some.new.work.items c.in-Some.next
-    (reached_on c.args.net.now (InSome c.args.set.now.graph c.args.starts.now)) c.in-Some.ensures.items c.successors.ensures.keeps c.successors.ensures.same c.in_ok-successors.ensures.means (rw c.as_slice.ensures.value at c.in_ok-add_all-2.ensures) c.loop-next.invariant
+    closing_goes_on c.args.net.now R (λ d. Holds c.args.set.now d ⊎ IsOfGroup c.args.set.now c.args.group d) c.args.set.now.graph c.loop-alloc.set c.sweep.new.set c.loop-alloc.work.items c.sweep.new.work.items (reached_on c.args.net.now (InSome c.args.set.now.graph c.args.starts.now))
+    c.loop-alloc.invariant c.in_ok-sweep.ensures.later c.in_ok-sweep.ensures.waiting
 
 pub returns-clause-closed : goal.returns-clause-closed
 returns-clause-closed c =
-    let none : length c.loop-next.work.items ≡ 0 = search rules in
-    closing_ends c.args.net.now (ReachedFrom c.args.net.now (InSome c.args.set.now.graph c.args.starts.now)) (λ d. Holds c.args.set.now d ⊎ IsOfGroup c.args.set.now c.args.group d) c.args.set.now.graph c.loop-next.set c.loop-next.work.items (none_left c.loop-next.work.items none) c.loop-next.invariant
+    let none : length c.loop-alloc.work.items ≡ 0 = search rules in
+    closing_ends c.args.net.now (ReachedFrom c.args.net.now (InSome c.args.set.now.graph c.args.starts.now)) (λ d. Holds c.args.set.now d ⊎ IsOfGroup c.args.set.now c.args.group d) c.args.set.now.graph c.loop-alloc.set c.loop-alloc.work.items (none_left c.loop-alloc.work.items none) c.loop-alloc.invariant
 
 pub returns-clause-keeps : goal.returns-clause-keeps
-returns-clause-keeps c = c.loop-next.invariant.keeps
+returns-clause-keeps c = c.loop-alloc.invariant.keeps
 
 pub returns-clause-sound : goal.returns-clause-sound
-returns-clause-sound c = c.loop-next.invariant.sound
+returns-clause-sound c = c.loop-alloc.invariant.sound
+
+pub returns-clause-has : goal.returns-clause-has
+returns-clause-has c = c.loop-alloc.invariant.begun
 
 pub returns-clause-none : goal.returns-clause-none
 returns-clause-none c =
-    let none : length c.pop.new.self.items ≡ 0 = search rules in
-    none_left c.pop.new.self.items none
+    let none : length c.loop-alloc.work.items ≡ 0 = search rules in
+    none_left c.loop-alloc.work.items none
