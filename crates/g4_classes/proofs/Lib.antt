@@ -3,3 +3,4 @@ mod LeastOnes
 mod Naming
 mod Partitioning
 mod Places
+mod Ranking

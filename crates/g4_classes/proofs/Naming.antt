@@ -13,7 +13,7 @@ use Rattle.g4_classes.proofs.Places.{found_or_not, is_symbol, symbol_rises_or_sa
 
 module _ (net : ParserNetwork) (i j : ℕ) where
   -- each edge takes both symbols or neither where each state does
-  alike_from : AreAlikeIn net.states i j → AreAlike net (symbol_at i) (symbol_at j)
+  pub alike_from : AreAlikeIn net.states i j → AreAlike net (symbol_at i) (symbol_at j)
   alike_from alike p t set' at = alike (Edge set' t) (p, slice_get_within net.states p (Edge set' t) at, get_or_from_slice_get net.states p (Edge set' t) (Edge set' t) at)
 
   together_by : AreAlike net (symbol_at i) (symbol_at j) → (state : State (List ℕ)) → (p : ℕ) → state_at net p ≡ Some state → AreTogether (read_by state) i j
@@ -29,12 +29,12 @@ module _ (net : ParserNetwork) (i j : ℕ) where
   together_by alike (Action t) p at = (λ has. absurd (omega (arith, has.1)), λ has. absurd (omega (arith, has.1)))
   together_by alike (Empty t) p at = (λ has. absurd (omega (arith, has.1)), λ has. absurd (omega (arith, has.1)))
 
-  alike_in : AreAlike net (symbol_at i) (symbol_at j) → AreAlikeIn net.states i j
+  pub alike_in : AreAlike net (symbol_at i) (symbol_at j) → AreAlikeIn net.states i j
   alike_in alike state has = together_by alike state has.0 (slice_get_read net.states (length net.states) has.0 state refl has.1 (sym has.2))
 
 module _ (net : ParserNetwork) (blocks least : List ℕ) (all : length blocks ≡ 4098) (p : IsPartition net.states blocks) (l : AreLeast blocks least) where
   -- the least symbol of the block is the class of each symbol of the block
-  class_at : (i : ℕ) → i < 4098 → IsClassOf net (symbol_at i) (symbol_at (get_or least i 0))
+  pub class_at : (i : ℕ) → i < 4098 → IsClassOf net (symbol_at i) (symbol_at (get_or least i 0))
   class_at i within =
       let i_in : i < length blocks = omega (arith, within, all) in
       let is = l.each i i_in in

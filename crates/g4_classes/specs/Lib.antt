@@ -1,4 +1,5 @@
 pub mod Blocks
 pub mod Classes
+pub mod Columns
 pub mod Indices
 pub mod Partitions

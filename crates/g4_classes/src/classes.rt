@@ -2,6 +2,7 @@
 ghost use Rattle.std.specs.Prelude.{◌≡◌, ◌<◌, All, IfOk, length, map};
 ghost use Rattle.g4_classes.specs.Classes.{AreClassesOf};
 ghost use Rattle.g4_classes.specs.Indices.{class_in, symbol_at as symbol_in};
+ghost use Rattle.g4_classes.specs.Partitions.{IsPartition};
 
 use crate::index::{SYMBOL_COUNT, index_of, symbol_at};
 use crate::partition::Partition;
@@ -50,6 +51,17 @@ fn named(alloc: Global, least: &[usize]) -> Result<Classes, AllocError>
     Ok(Classes { classes })
 }
 
+/// The symbols in blocks of those that no edge distinguishes.
+pub(crate) fn partition_of(alloc: Global, net: &ParserNetwork) -> Result<Partition, AllocError>
+    ensures { IfOk result (λ partition. IsPartition net.now.states partition.blocks.items) }
+{
+    let mut partition = Partition::whole(alloc)?;
+    for state in net.states.as_slice() {
+        partition.divide_by(alloc, state)?;
+    }
+    Ok(partition)
+}
+
 /// The classes of the symbols: in time linear in the size of all sets of the edges.
 ///
 /// # Errors
@@ -57,10 +69,7 @@ fn named(alloc: Global, least: &[usize]) -> Result<Classes, AllocError>
 pub fn classes_of(alloc: Global, net: &ParserNetwork) -> Result<Classes, AllocError>
     ensures { IfOk result (λ classes. AreClassesOf net.now (class_in classes)) }
 {
-    let mut partition = Partition::whole(alloc)?;
-    for state in net.states.as_slice() {
-        partition.divide_by(alloc, state)?;
-    }
+    let partition = partition_of(alloc, net)?;
     let least = partition.least_members(alloc)?;
     let classes = named(alloc, least.as_slice())?;
     Ok(classes)

@@ -2,10 +2,12 @@
 #![tactic(auto)]
 
 mod classes;
+mod columns;
 mod index;
 mod law;
 mod least;
 mod partition;
 
 pub use classes::{Classes, classes_of};
+pub use columns::{Columns, columns_of};
 pub use law::one_classes;

@@ -1,0 +1,15 @@
+pub mod Lists
+pub mod Bucketing
+pub mod Placing
+pub mod Views
+pub mod Loads
+pub mod Stores
+pub mod Growing
+pub mod Moves
+pub mod Passes
+pub mod Benches
+pub mod Following
+pub mod Goings
+pub mod Walking
+pub mod Closed
+pub mod Seen

@@ -1,0 +1,9 @@
+pub mod Numbers
+pub mod Words
+pub mod Buckets
+pub mod Views
+pub mod Found
+pub mod Paths
+pub mod Learned
+pub mod Walks
+pub mod Closing

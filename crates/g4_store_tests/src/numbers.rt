@@ -1,0 +1,86 @@
+// An automaton of numbers, which never ends.
+ghost use Rattle.std.specs.Prelude.{◌≡◌, ◌<◌, All, IfOk};
+ghost use Rattle.g4_store.specs.Paths.{IsPath};
+ghost use Rattle.g4_store.specs.declared.automaton.Plan.{Plan as PlanOf};
+ghost use Rattle.g4_store_tests.specs.Numbers.{StartsAt, LeadsTo};
+
+use g4_store::automaton::{Automaton, Content, Led};
+use g4_store::path::{Looked, Path};
+use g4_store::view::Home;
+use std::alloc::{AllocError, Global};
+use std::collections::VecDeque;
+use std::marker::Brand;
+
+/// What is added at each column.
+#[derive(Clone, Copy)]
+pub struct Salt {
+    pub salt: u64,
+}
+
+#[derive(Drop)]
+pub struct Number {
+    pub value: u64,
+}
+
+impl Content for Number {
+    ghost code = { λ x. x.value };
+
+    fn hash(&self) -> u64 {
+        self.value
+    }
+
+    fn same(&self, other: &Number) -> bool {
+        self.value == other.value
+    }
+}
+
+pub struct Numbers;
+
+impl Automaton<Salt, Number> for Numbers {
+    ghost use Rattle.g4_store_tests.specs.Numbers.{StartsAt, LeadsTo, one_start, one_led};
+
+    ghost starts = { StartsAt };
+
+    ghost leads = { LeadsTo };
+
+    ghost one_start = { one_start };
+
+    ghost one_led = { one_led };
+}
+
+impl Home<Salt> for Brand {
+    ghost use Rattle.g4_store.specs.Views.{no_table};
+    ghost use Rattle.g4_store_tests.specs.Numbers.{no_plan};
+
+    ghost table = { no_table };
+
+    ghost plan = { no_plan };
+}
+
+/// The path of a start along these columns.
+pub fn path_along(
+    alloc: Global,
+    net: &Salt,
+    start: u32,
+    count: u32,
+    columns: &[u32],
+) -> Result<Path<Number>, AllocError>
+    requires { All (λ s. s < count) columns.now }
+    ensures { IfOk result (λ path. (p : PlanOf Salt) → p.net ≡ net.now → p.columns ≡ count → start < p.starts → IsPath StartsAt LeadsTo p path) }
+{
+    let mut value = start as u64 % 1_000_003;
+    let content = Number { value };
+    let mut looked = VecDeque::new(alloc);
+    for column in columns {
+        value = (value * 7 + *column as u64 % 1000 + net.salt % 1000) % 1_000_003;
+        looked.push_back(Looked {
+            column: *column,
+            led: Led::Row(Number { value }, 0),
+        })?;
+    }
+    Ok(Path {
+        start,
+        content,
+        looked,
+    })
+}
