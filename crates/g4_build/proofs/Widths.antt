@@ -1,14 +1,14 @@
 -- Decisions with too many alternatives, by what the elements are made of.
 use Rattle.std.proofs.Common.{◌≡◌, ℕ, ◌+◌, ◌<◌, ◌≤◌, ◌⊎◌, ◌↔◌, inl, inr, List, [], ◌∷◌, length, map, drop, get_or, Bool, true, false, refl, sym, ◌∙◌, ap, subst, arith, IsTrue, Option, None, Vec, Global}
 use Rattle.std.proofs.lemmas.List.{at_drop_more, at_drop_all}
-use Rattle.g4_elements.specs.declared.name.Label.{Label}
-use Rattle.g4_elements.specs.declared.element.Repeat.{Repeat}
-use Rattle.g4_elements.specs.declared.element.Repeat.TheVariants.{Once, Optional, Star, Plus}
-use Rattle.g4_elements.specs.declared.element.Element.{Element as Node}
-use Rattle.g4_elements.specs.declared.element.Element.TheVariants as nodes
-use Rattle.g4_elements.specs.declared.element.Alternative.{Alternative as Side}
-use Rattle.g4_elements.specs.Elements.{Element, block, Elements, Alternatives, either}
-use Rattle.g4_elements.specs.Trees.{element_of, alternative_of, in_order}
+use Rattle.g4_source.specs.declared.name.Label.{Label}
+use Rattle.g4_source.specs.declared.element.Repeat.{Repeat}
+use Rattle.g4_source.specs.declared.element.Repeat.TheVariants.{Once, Optional, Star, Plus}
+use Rattle.g4_source.specs.declared.element.Element.{Element as Node}
+use Rattle.g4_source.specs.declared.element.Element.TheVariants as nodes
+use Rattle.g4_source.specs.declared.element.Alternative.{Alternative as Side}
+use Rattle.g4_source.specs.Elements.{Element, block, Elements, Alternatives, either}
+use Rattle.g4_source.specs.Trees.{element_of, alternative_of, in_order}
 use Rattle.g4_source.specs.declared.rule.RuleAlternative.{RuleAlternative}
 use Rattle.g4_source.specs.declared.rule.ParserRule.{ParserRule}
 use Rattle.g4_source.specs.Rules.{alternatives_of}

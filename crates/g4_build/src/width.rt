@@ -1,12 +1,11 @@
 // Whether the network of rules would have a decision with too many alternatives.
 ghost use Rattle.std.specs.Prelude.{◌↔◌, ◌<◌, ◌+◌, IsTrue, map};
-ghost use Rattle.g4_elements.specs.Elements.{either};
-ghost use Rattle.g4_elements.specs.Trees.{element_of, alternative_of, in_order};
+ghost use Rattle.g4_source.specs.Elements.{either};
+ghost use Rattle.g4_source.specs.Trees.{element_of, alternative_of, in_order};
 ghost use Rattle.g4_source.specs.Rules.{alternatives_of};
 ghost use Rattle.g4_layout.specs.Decisions.{HasDecision, OneHasDecision, SomeHasDecision, RuleHasDecision, RulesHaveDecision, IsWide, most_alternatives, ways_to_exit};
 
-use g4_elements::{Alternative, Element, Repeat};
-use g4_source::{ParserRule, RuleAlternative};
+use g4_source::{Alternative, Element, ParserRule, Repeat, RuleAlternative};
 
 /// The most alternatives that a decision has, the exit branch counted.
 const MOST_ALTERNATIVES: usize = 1_024;

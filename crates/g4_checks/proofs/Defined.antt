@@ -9,10 +9,10 @@ use Rattle.g4_source.specs.declared.rule.Rule.{Rule}
 use Rattle.g4_source.specs.declared.rule.Rule.TheVariants as rules
 use Rattle.g4_source.specs.declared.source.Source.{Source}
 use Rattle.g4_source.specs.Rules.{lexer_rules, parser_rules}
-use Rattle.g4_rules.specs.Atoms.{AtomIn}
-use Rattle.g4_rules.specs.Rules.{rules_of}
-use Rattle.g4_rules.specs.declared.kind.RuleKind.{RuleKind}
-use Rattle.g4_rules.specs.declared.kind.RuleKind.TheVariants.{Parser, Lexer}
+use Rattle.g4_source.specs.Atoms.{AtomIn}
+use Rattle.g4_source.specs.InOrder.{rules_of}
+use Rattle.g4_source.specs.declared.kind.RuleKind.{RuleKind}
+use Rattle.g4_source.specs.declared.kind.RuleKind.TheVariants.{Parser, Lexer}
 use Rattle.g4_grammar.specs.Written.{is_rule_of, KindIsDefined, RulesAreDefined}
 use Rattle.g4_grammar.proofs.Positions.{any_found}
 use Rattle.g4_references.specs.Checking.{HasRules, NamesNoRule, atoms_in}

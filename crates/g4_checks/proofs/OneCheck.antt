@@ -2,7 +2,7 @@
 use Rattle.std.proofs.Common.{◌≡◌, ◌≢◌, Result, Ok, Err, ap, refl}
 use Rattle.std.specs.Prelude.{⊤}
 use Rattle.g4_source.specs.declared.source.Source.{Source}
-use Rattle.g4_rules.specs.Rules.{rules_of}
+use Rattle.g4_source.specs.InOrder.{rules_of}
 use Rattle.g4_references.specs.declared.checking.ReferenceFault.{ReferenceFault}
 use Rattle.g4_references.specs.declared.checking.ReferenceFault.TheVariants as references
 use Rattle.g4_references.specs.Checking.{HasNoClash}

@@ -1,6 +1,6 @@
 // The first fault of a grammar's rules.
 ghost use Rattle.std.specs.Prelude.{OnOk};
-ghost use Rattle.g4_rules.specs.Rules.{rules_of};
+ghost use Rattle.g4_source.specs.InOrder.{rules_of};
 ghost use Rattle.g4_grammar.specs.Written.{RulesAreDefined, RulesCanRun};
 ghost use Rattle.g4_checks.specs.Checking.{IsChecked};
 

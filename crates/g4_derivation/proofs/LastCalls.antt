@@ -2,8 +2,8 @@
 -- leads silently to where the elements lead.
 use Rattle.std.proofs.Common.{◌≡◌, ◌<◌, ◌≤◌, ◌⊎◌, inl, inr, ℕ, ◌+◌, List, [], ◌∷◌, Bool, true, false, cond, ◌&&◌, Option, Some, None, refl, sym, ◌∙◌, subst, arith}
 use native.Mathlib.Decide.{dec_lt}
-use Rattle.g4_elements.specs.Elements.{Element, atom, block, Elements, empty, then, either}
-use Rattle.g4_elements.specs.Marks.{onto}
+use Rattle.g4_source.specs.Elements.{Element, atom, block, Elements, empty, then, either}
+use Rattle.g4_source.specs.Marks.{onto}
 use Rattle.g4_layout.specs.Layout.{AllLeadTo, LieInOrder, no_more, one_more, LieSideBySide, no_other, another, a_call, an_action, a_predicate, an_edge, a_level, an_empty}
 use Rattle.g4_layout.proofs.Sound.{IsSoundState, SoundAt, first_sound, in_order_sound, within_sound, within_in_order_sound}
 use Rattle.g4_layout.proofs.Trees.{IsSound, AreSound}

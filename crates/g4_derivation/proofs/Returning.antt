@@ -3,7 +3,7 @@ use Rattle.std.proofs.Common.{◌≡◌, ◌<◌, ◌≤◌, ◌⊎◌, inl, inr
 use Rattle.std.proofs.lemmas.List.Elements.{All-weaker}
 use native.Mathlib.Decide.{dec_lt}
 use Rattle.std.specs.List.{enumerate_from}
-use Rattle.g4_elements.specs.Elements.{Alternatives, atom, then, either}
+use Rattle.g4_source.specs.Elements.{Alternatives, atom, then, either, Element, Elements, empty, block, or, none, atoms_of_either}
 use Rattle.g4_source.specs.Rules.{alternatives_of}
 use Rattle.g4_grammar.specs.StepRules.{CanBeRewritten, IsPlain, StepRule}
 use Rattle.g4_grammar.specs.Steps.{added_rule}
@@ -15,7 +15,6 @@ use Rattle.g4_layout.proofs.Spans.{side_by_side_up}
 use Rattle.g4_grammar.specs.Steps.{CallsRule}
 use Rattle.g4_layout.proofs.Laying.{full_each, of_each}
 use Rattle.g4_layout.proofs.Trees.{IsSound, AreSound, EachIsSound, CallsKnown, each_sound}
-use Rattle.g4_elements.specs.Elements.{Element, Elements, empty, block, or, none, atoms_of_either}
 use Rattle.g4_net.specs.Loops.{HasLoops}
 use Rattle.g4_net.specs.Loops.{LeadsSilently}
 use Rattle.g4_leftrec.specs.OwnCalls.{operators, primaries, is_left_recursive}

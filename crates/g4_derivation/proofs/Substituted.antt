@@ -1,6 +1,6 @@
 -- Where elements derive letters, each of which is a word, they derive by rules these words joined, and the other way round.
 use Rattle.std.proofs.Common.{◌≡◌, ℕ, List, [], ◌∷◌, ◌++◌, Some, refl, sym, ◌∙◌, ap, subst, append-nil, slice_get}
-use Rattle.g4_elements.specs.Elements.{Element, atom, Elements, Alternatives}
+use Rattle.g4_source.specs.Elements.{Element, atom, Elements, Alternatives}
 use Rattle.g4_grammar.specs.Derives.{NoCalls, Derives, an_atom, a_call, a_block, left_out, taken, no_turn, a_turn, turns, DerivesAll, nothing, one_more, DerivesOne, this, another}
 use Rattle.g4_walks.proofs.Joined.{joined, joined-append}
 

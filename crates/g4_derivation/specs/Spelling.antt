@@ -1,6 +1,6 @@
 -- What the network of rules spells, in terms of what the rules derive.
 use Rattle.std.specs.Prelude.{◌≡◌, ◌↔◌, ℕ, List, [], Some, slice_get}
-use Rattle.g4_elements.specs.Elements.{Alternatives}
+use Rattle.g4_source.specs.Elements.{Alternatives}
 use Rattle.g4_grammar.specs.Derives.{DerivesOne}
 use Rattle.g4_grammar.specs.StepRules.{StepRule}
 use Rattle.g4_grammar.specs.Steps.{CallsRule, ReadsSymbols, added_rule}

@@ -1,8 +1,8 @@
 -- Blocks whose alternatives are laid side by side.
 use Rattle.std.proofs.Common.{◌≡◌, ℕ, ◌+◌, ◌≤◌, List, length, map, refl}
-use Rattle.g4_elements.specs.declared.element.Repeat.{Repeat}
-use Rattle.g4_elements.specs.declared.element.Repeat.TheVariants.{Once, Optional, Star, Plus}
-use Rattle.g4_elements.specs.Elements.{Elements, either}
+use Rattle.g4_source.specs.declared.element.Repeat.{Repeat}
+use Rattle.g4_source.specs.declared.element.Repeat.TheVariants.{Once, Optional, Star, Plus}
+use Rattle.g4_source.specs.Elements.{Elements, either}
 use Rattle.g4_layout.specs.Size.{states_of_bodies_by}
 use Rattle.g4_draft.specs.Drafts.{AreApart, states_after, states_of_block_by}
 use Rattle.g4_draft.proofs.Counts.{count_several}

@@ -3,11 +3,11 @@ use Rattle.std.specs.Option.{MatchOption, SomeIff}
 use Rattle.std.proofs.Common.{◌≡◌, ℕ, ◌+◌, ◌-◌, Option, Some, None, ◌<◌, ◌≤◌, ◌⊎◌, inl, inr, List, [], ◌∷◌, length, map, drop, get_or, refl, sym, ◌∙◌, ap, arith, sum_by}
 use Rattle.std.proofs.lemmas.List.{at_drop_more}
 use Rattle.std.proofs.lemmas.List.Sums.{sum_by-cons}
-use Rattle.g4_elements.specs.declared.name.Label.{Label}
-use Rattle.g4_elements.specs.declared.element.Repeat.{Repeat}
-use Rattle.g4_elements.specs.declared.element.Repeat.TheVariants.{Once, Optional, Star, Plus}
-use Rattle.g4_elements.specs.Elements.{Element, block, Elements, Alternatives, either}
-use Rattle.g4_elements.specs.Trees.{in_order}
+use Rattle.g4_source.specs.declared.name.Label.{Label}
+use Rattle.g4_source.specs.declared.element.Repeat.{Repeat}
+use Rattle.g4_source.specs.declared.element.Repeat.TheVariants.{Once, Optional, Star, Plus}
+use Rattle.g4_source.specs.Elements.{Element, block, Elements, Alternatives, either}
+use Rattle.g4_source.specs.Trees.{in_order}
 use Rattle.g4_layout.specs.Size.{states_by, states_in_order_by, states_of_bodies_by, states_of_rule_by}
 use Rattle.g4_draft.specs.Drafts.{states_of_block_by}
 

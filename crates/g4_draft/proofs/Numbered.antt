@@ -3,7 +3,7 @@ use Rattle.std.proofs.Common.{◌≡◌, ◌≢◌, ℕ, zero, suc, ◌+◌, ◌
 use Rattle.std.proofs.Math.ListN.{set}
 use Rattle.std.proofs.lemmas.List.{length-append, length-map, length-set, length-take-le, length-drop, drop_more, drop_all, get_or-set_same, get_or-set_other, get_or_append_left, get_or-append_right}
 use Rattle.std.proofs.lemmas.Option.{get_or_from_slice_get}
-use Rattle.g4_elements.specs.Elements.{Alternatives}
+use Rattle.g4_source.specs.Elements.{Alternatives}
 use Rattle.g4_grammar.specs.declared.step.Numbering.{Numbering}
 use Rattle.g4_grammar.specs.declared.step.Step.{Step}
 use Rattle.g4_net.specs.declared.network.Network.{Network}

@@ -1,8 +1,8 @@
 -- Elements one after another and alternatives side by side, as far as they are laid.
 use Rattle.std.proofs.Common.{◌≡◌, ◌≢◌, ℕ, ◌+◌, ◌<◌, ◌≤◌, ◌⊎◌, inl, inr, List, [], ◌∷◌, ◌++◌, length, refl, ◌∙◌, subst, arith, slice_get, append_assoc, Result, Ok, Err, IfOk}
 use Rattle.std.proofs.lemmas.List.{length-append, append-nil}
-use Rattle.g4_elements.specs.Elements.{Element, Elements, Alternatives, empty, then, none, or, only}
-use Rattle.g4_elements.specs.declared.element.Repeat.TheVariants.{Once}
+use Rattle.g4_source.specs.Elements.{Element, Elements, Alternatives, empty, then, none, or, only}
+use Rattle.g4_source.specs.declared.element.Repeat.TheVariants.{Once}
 use Rattle.g4_net.specs.declared.network.Network.{Network}
 use Rattle.g4_net.specs.declared.network.State.{State}
 use Rattle.g4_net.specs.declared.network.State.TheVariants.{Empty}

@@ -1,16 +1,16 @@
 -- The trees of elements and of rules, a layer at a time.
 use Rattle.std.proofs.Common.{◌≡◌, ℕ, ◌+◌, ◌<◌, ◌≤◌, List, [], ◌∷◌, length, map, drop, get_or, refl, sym, ◌∙◌, ap, arith, Option, Vec, Global}
 use Rattle.std.proofs.lemmas.List.{at_drop_more, at_drop_all}
-use Rattle.g4_elements.specs.Blocks.{IsSome}
-use Rattle.g4_elements.specs.declared.name.Label.{Label}
-use Rattle.g4_elements.specs.declared.element.Repeat.{Repeat}
-use Rattle.g4_elements.specs.declared.element.Element.{Element as Node}
-use Rattle.g4_elements.specs.declared.element.Element.TheVariants as nodes
-use Rattle.g4_elements.specs.declared.element.Alternative.{Alternative as Side, out-Alternative}
-use Rattle.g4_elements.specs.Elements.{Element, atom, block, Elements, empty, then, Alternatives, none, or, only, either}
-use Rattle.g4_elements.specs.Bind.{over, in_order_over, either_over}
-use Rattle.g4_elements.specs.Trees.{element_of, alternative_of, in_order}
-use Rattle.g4_elements.proofs.Trees.{of_atom, of_block, of_alternative}
+use Rattle.g4_source.specs.Full.{IsSome}
+use Rattle.g4_source.specs.declared.name.Label.{Label}
+use Rattle.g4_source.specs.declared.element.Repeat.{Repeat}
+use Rattle.g4_source.specs.declared.element.Element.{Element as Node}
+use Rattle.g4_source.specs.declared.element.Element.TheVariants as nodes
+use Rattle.g4_source.specs.declared.element.Alternative.{Alternative as Side, out-Alternative}
+use Rattle.g4_source.specs.Elements.{Element, atom, block, Elements, empty, then, Alternatives, none, or, only, either}
+use Rattle.g4_source.specs.Bind.{over, in_order_over, either_over}
+use Rattle.g4_source.specs.Trees.{element_of, alternative_of, in_order}
+use Rattle.g4_source.proofs.Trees.{of_atom, of_block, of_alternative}
 use Rattle.g4_draft.specs.Trees.{tree_of, side_of, run_of, sides_of, bodies_over, rules_over, tree_of_rule}
 
 module _ {X B : Type 0} (tree : X → Elements B) where

@@ -1,7 +1,7 @@
 -- A weight of elements that falls from a layer to the next, by which laying ends.
 use Rattle.std.proofs.Common.{ℕ, zero, suc, ◌+◌, ◌≤◌, List, [], ◌∷◌, map, drop, arith}
-use Rattle.g4_elements.specs.Elements.{Element, atom, block, Elements, empty, then, Alternatives, none, or, either}
-use Rattle.g4_elements.specs.Trees.{in_order}
+use Rattle.g4_source.specs.Elements.{Element, atom, block, Elements, empty, then, Alternatives, none, or, either}
+use Rattle.g4_source.specs.Trees.{in_order}
 
 abbrev mutual
   -- the weight of an element

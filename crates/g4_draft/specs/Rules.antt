@@ -1,7 +1,7 @@
 -- The states of rules while they are made.
 use Rattle.std.specs.Prelude.{◌≡◌, ◌≢◌, ◌≤◌, ◌<◌, ◌⊎◌, ℕ, zero, suc, ◌+◌, ◌*◌, List, [], ◌∷◌, ◌++◌, length, sum_by, Some, slice_get}
-use Rattle.g4_elements.specs.Blocks.{IsSome, EachIsFull}
-use Rattle.g4_elements.specs.Elements.{Alternatives}
+use Rattle.g4_source.specs.Full.{IsSome, EachIsFull}
+use Rattle.g4_source.specs.Elements.{Alternatives}
 use Rattle.g4_grammar.specs.declared.step.Step.{Step}
 use Rattle.g4_net.specs.declared.network.Network.{Network}
 use Rattle.g4_net.specs.declared.network.State.{State}

@@ -1,10 +1,10 @@
 -- The trees of steps that elements and rules over any atoms are.
 use Rattle.std.specs.Prelude.{List, map}
-use Rattle.g4_elements.specs.declared.element.Element.{Element as Node}
-use Rattle.g4_elements.specs.declared.element.Alternative.{Alternative as Side}
-use Rattle.g4_elements.specs.Elements.{Element, Elements, Alternatives, either}
-use Rattle.g4_elements.specs.Bind.{over, in_order_over}
-use Rattle.g4_elements.specs.Trees.{element_of, alternative_of, in_order}
+use Rattle.g4_source.specs.declared.element.Element.{Element as Node}
+use Rattle.g4_source.specs.declared.element.Alternative.{Alternative as Side}
+use Rattle.g4_source.specs.Elements.{Element, Elements, Alternatives, either}
+use Rattle.g4_source.specs.Bind.{over, in_order_over}
+use Rattle.g4_source.specs.Trees.{element_of, alternative_of, in_order}
 
 -- an element of the code over what its atoms become
 unfoldable pub tree_of : {A B : Type 0} → (A → B) → Node A → Element B

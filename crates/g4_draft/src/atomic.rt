@@ -1,8 +1,7 @@
 // What the states of a network are made of: the atoms, the alternatives and the rules of parsers and of lexers alike.
 use g4_base::Sequence;
-use g4_elements::{Element, Elements};
+use g4_source::{Atom, AtomKind, Element, Elements, LexerAlternative, LexerRule, ParserRule, RuleAlternative};
 use g4_grammar::{Step, TokenRule};
-use g4_source::{Atom, AtomKind, LexerAlternative, LexerRule, ParserRule, RuleAlternative};
 
 /// An atom of a rule, which makes some states.
 pub trait Atomic {
@@ -41,8 +40,8 @@ impl Atomic for Atom {
 /// An alternative of a rule over these atoms.
 pub trait Body<A> {
     ghost use Rattle.std.specs.Prelude.{◌≡◌, map};
-    ghost use Rattle.g4_elements.specs.Elements.{Elements as Tree};
-    ghost use Rattle.g4_elements.specs.Trees.{element_of, in_order};
+    ghost use Rattle.g4_source.specs.Elements.{Elements as Tree};
+    ghost use Rattle.g4_source.specs.Trees.{element_of, in_order};
 
     ghost tree: { Self → Tree A };
 

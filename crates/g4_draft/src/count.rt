@@ -1,14 +1,14 @@
 // How many states rules make in a network, as far as that many are to spare.
 ghost use Rattle.std.specs.Prelude.{◌≡◌, ◌<◌, ◌+◌, MatchOption, map, sum_by};
-ghost use Rattle.g4_elements.specs.Elements.{either};
-ghost use Rattle.g4_elements.specs.Trees.{element_of, alternative_of, in_order};
+ghost use Rattle.g4_source.specs.Elements.{either};
+ghost use Rattle.g4_source.specs.Trees.{element_of, alternative_of, in_order};
 ghost use Rattle.g4_layout.specs.Size.{states_by, states_in_order_by, states_of_bodies_by, states_of_rule_by};
 ghost use Rattle.g4_draft.specs.Drafts.{states_of_block_by};
 ghost use Rattle.g4_draft.specs.Trees.{tree_of_rule};
-ghost use Rattle.g4_elements.specs.declared.element.Repeat.TheVariants.{Once};
+ghost use Rattle.g4_source.specs.declared.element.Repeat.TheVariants.{Once};
 
 use crate::atomic::{Atomic, Body, LaidRule};
-use g4_elements::{Alternative, Element, Repeat};
+use g4_source::{Alternative, Element, Repeat};
 
 /// How many of the spare states are left beyond those of an element, where they suffice.
 #[cycle(count)]

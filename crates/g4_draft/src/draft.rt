@@ -1,7 +1,7 @@
 // The states of elements while they are made. A state where something ends is filled once it is known what follows.
 ghost use Rattle.std.specs.Prelude.{◌≡◌, ◌≤◌, ◌<◌, ℕ, ◌+◌, IfOk, length};
-ghost use Rattle.g4_elements.specs.Blocks.{IsSome, IsFull, AreFull, EachIsFull};
-ghost use Rattle.g4_elements.specs.declared.element.Repeat.TheVariants.{Once};
+ghost use Rattle.g4_source.specs.Full.{IsSome, IsFull, AreFull, EachIsFull};
+ghost use Rattle.g4_source.specs.declared.element.Repeat.TheVariants.{Once};
 ghost use Rattle.g4_layout.specs.Layout.{with_exit};
 ghost use Rattle.g4_layout.specs.Size.{states_of, states_in_order, states_of_bodies};
 ghost use Rattle.g4_draft.specs.Drafts.{Among, choice_of, linked, stepped, joined, passed_by, starred, repeated_once, closed, states_after, AreApart, IsLaid, AreLaid, AreBeside, BlockIsLaid, states_of_block};
@@ -11,7 +11,7 @@ ghost use Rattle.g4_net.specs.declared.network.TheConstants.{MOST_STATES};
 use crate::atom::Atom;
 use crate::atomic::Body;
 use g4_base::Sequence;
-use g4_elements::{Alternative, Element, Repeat};
+use g4_source::{Alternative, Element, Repeat};
 use g4_grammar::Step;
 use g4_net::State;
 use std::alloc::{AllocError, Global};

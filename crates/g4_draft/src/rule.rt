@@ -1,6 +1,6 @@
 // The states of rules.
 ghost use Rattle.std.specs.Prelude.{◌≡◌, ◌≤◌, ◌<◌, ◌+◌, ◌*◌, [], ◌∷◌, IfOk, OnOk, length, sum_by};
-ghost use Rattle.g4_elements.specs.Blocks.{EachIsFull};
+ghost use Rattle.g4_source.specs.Full.{EachIsFull};
 ghost use Rattle.g4_net.specs.Network.{start_of};
 ghost use Rattle.g4_layout.specs.Size.{states_of_rule};
 ghost use Rattle.g4_draft.specs.Rules.{RuleIsLaid, HasHeads, HaveLaid, TreeIsFull, AreFullTrees, ends_from};

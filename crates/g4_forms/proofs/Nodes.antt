@@ -3,16 +3,16 @@ use Rattle.std.proofs.Common.{◌≡◌, List, [], ◌∷◌, ◌++◌, Option, 
 use Rattle.std.specs.List.{flat_map}
 use Rattle.std.proofs.lemmas.List.{append-nil}
 use Rattle.std.proofs.lemmas.Grind.{flat_map-append}
-use Rattle.g4_elements.specs.declared.name.Label.{Label}
-use Rattle.g4_elements.specs.declared.element.Repeat.{Repeat}
-use Rattle.g4_elements.specs.declared.element.Element.{Element as Node}
-use Rattle.g4_elements.specs.declared.element.Element.TheVariants as nodes
-use Rattle.g4_elements.specs.declared.element.Alternative.{Alternative as Side, out-Alternative}
-use Rattle.g4_elements.specs.Elements.{either, atoms, atoms_in_order, atoms_of_either}
-use Rattle.g4_elements.specs.Trees.{element_of, alternative_of, in_order}
-use Rattle.g4_elements.proofs.Trees.{of_atom, of_block, of_alternative}
+use Rattle.g4_source.specs.declared.name.Label.{Label}
+use Rattle.g4_source.specs.declared.element.Repeat.{Repeat}
+use Rattle.g4_source.specs.declared.element.Element.{Element as Node}
+use Rattle.g4_source.specs.declared.element.Element.TheVariants as nodes
+use Rattle.g4_source.specs.declared.element.Alternative.{Alternative as Side, out-Alternative}
+use Rattle.g4_source.specs.Elements.{either, atoms, atoms_in_order, atoms_of_either}
+use Rattle.g4_source.specs.Trees.{element_of, alternative_of, in_order}
+use Rattle.g4_source.proofs.Trees.{of_atom, of_block, of_alternative}
 use Rattle.g4_source.specs.declared.atom.Atom.{Atom}
-use Rattle.g4_rules.specs.declared.kind.RuleKind.{RuleKind}
+use Rattle.g4_source.specs.declared.kind.RuleKind.{RuleKind}
 use Rattle.g4_forms.specs.Forms.{Form, atom_forms, element_forms, elements_forms, either_forms}
 
 module _ (kind : RuleKind) where

@@ -2,7 +2,7 @@
 use Rattle.std.proofs.Common.{◌≡◌, List, [], ◌∷◌, ◌++◌, map, refl}
 use Rattle.std.specs.List.{All, Contains, flat_map}
 use Rattle.std.proofs.lemmas.List.Elements.{All-nil, All-cons, All-append, All-contains}
-use Rattle.g4_elements.specs.Elements.{either, atoms_in_order, atoms_of_either}
+use Rattle.g4_source.specs.Elements.{either, atoms_in_order, atoms_of_either}
 use Rattle.g4_source.specs.declared.atom.Atom.{Atom}
 use Rattle.g4_source.specs.declared.atom.AtomKind.{AtomKind}
 use Rattle.g4_source.specs.declared.atom.AtomKind.TheVariants as kinds
@@ -10,7 +10,7 @@ use Rattle.g4_source.specs.declared.rule.Rule.{Rule}
 use Rattle.g4_source.specs.declared.rule.Rule.TheVariants.{Parser}
 use Rattle.g4_source.specs.declared.rule.ParserRule.{ParserRule}
 use Rattle.g4_source.specs.declared.rule.RuleAlternative.{RuleAlternative}
-use Rattle.g4_rules.specs.declared.kind.RuleKind.TheVariants as rule_kinds
+use Rattle.g4_source.specs.declared.kind.RuleKind.TheVariants as rule_kinds
 use Rattle.g4_grammar.specs.Written.{ParserKindIsUntested, ParserRuleIsUntested}
 use Rattle.g4_forms.specs.Forms.{Form, atom_forms, parser_atom_forms, parser_alternative_forms, rule_forms}
 

@@ -3,8 +3,8 @@ use Rattle.std.specs.Prelude.{ℕ, List, [], ◌∷◌, ◌++◌, codes, cond}
 use Rattle.std.specs.List.{flat_map}
 use Rattle.std.specs.Str.{bytes_eq}
 use Rattle.g4_base.specs.declared.place.Place.{Place}
-use Rattle.g4_elements.specs.declared.name.Name.{Name}
-use Rattle.g4_elements.specs.Elements.{Element, Elements, Alternatives, atoms, atoms_in_order, atoms_of_either}
+use Rattle.g4_source.specs.declared.name.Name.{Name}
+use Rattle.g4_source.specs.Elements.{Element, Elements, Alternatives, atoms, atoms_in_order, atoms_of_either}
 use Rattle.g4_source.specs.declared.atom.Atom.{Atom}
 use Rattle.g4_source.specs.declared.atom.AtomKind.{AtomKind}
 use Rattle.g4_source.specs.declared.atom.AtomKind.TheVariants as kinds
@@ -18,8 +18,8 @@ use Rattle.g4_source.specs.declared.rule.LexerAlternative.{LexerAlternative}
 use Rattle.g4_source.specs.declared.source.GrammarKind.{GrammarKind}
 use Rattle.g4_source.specs.declared.source.GrammarKind.TheVariants as grammars
 use Rattle.g4_source.specs.declared.source.Source.{Source}
-use Rattle.g4_rules.specs.declared.kind.RuleKind.{RuleKind}
-use Rattle.g4_rules.specs.declared.kind.RuleKind.TheVariants.{Parser, Lexer}
+use Rattle.g4_source.specs.declared.kind.RuleKind.{RuleKind}
+use Rattle.g4_source.specs.declared.kind.RuleKind.TheVariants.{Parser, Lexer}
 
 -- a form that is not run: the place of its first token, and the bytes of that token
 pub record Form : Type 0 where

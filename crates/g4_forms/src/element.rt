@@ -1,14 +1,12 @@
 // The forms among the elements of a rule that are not run.
 ghost use Rattle.std.specs.Prelude.{map};
-ghost use Rattle.g4_elements.specs.Elements.{either};
-ghost use Rattle.g4_elements.specs.Trees.{alternative_of, element_of, in_order};
+ghost use Rattle.g4_source.specs.Elements.{either};
+ghost use Rattle.g4_source.specs.Trees.{alternative_of, element_of, in_order};
 ghost use Rattle.g4_forms.specs.Forms.{atom_forms, either_forms, element_forms, elements_forms, lexer_atom_forms, parser_atom_forms};
 ghost use Rattle.g4_forms.specs.Answers.{AreRun};
 
 use crate::fault::{FormFault, refuse};
-use g4_elements::{Alternative, Element};
-use g4_rules::RuleKind;
-use g4_source::{Atom, AtomKind};
+use g4_source::{Alternative, Atom, AtomKind, Element, RuleKind};
 use std::alloc::Global;
 
 /// Looks at an atom of a parser rule.

@@ -5,8 +5,7 @@ ghost use Rattle.g4_forms.specs.Answers.{AreRun};
 
 use crate::element::check_elements;
 use crate::fault::{FormFault, refuse};
-use g4_rules::RuleKind;
-use g4_source::{Atom, LexerAlternative, Rule, RuleAlternative};
+use g4_source::{Atom, LexerAlternative, Rule, RuleAlternative, RuleKind};
 use std::alloc::Global;
 
 /// Looks at an alternative of a parser rule.

@@ -1,9 +1,9 @@
 -- Rules over other atoms can be run where the rules themselves can, where an atom reads the empty word and calls a rule only if the
 -- atom of which it is made does.
 use Rattle.std.proofs.Common.{◌≡◌, ◌⊎◌, ◌↔◌, ℕ, List, [], inl, inr, Some, refl, ap, ◌∙◌, subst, slice_get}
-use Rattle.g4_elements.specs.declared.element.Repeat.TheVariants.{Once, Optional, Star, Plus}
-use Rattle.g4_elements.specs.Elements.{Element, atom, block, Elements, empty, then, Alternatives, none, or}
-use Rattle.g4_elements.specs.Bind.{over, in_order_over, either_over}
+use Rattle.g4_source.specs.declared.element.Repeat.TheVariants.{Once, Optional, Star, Plus}
+use Rattle.g4_source.specs.Elements.{Element, atom, block, Elements, empty, then, Alternatives, none, or}
+use Rattle.g4_source.specs.Bind.{over, in_order_over, either_over}
 use Rattle.g4_grammar.specs.Derives.{DerivesOne}
 use Rattle.g4_grammar.specs.LeftCalls.{Nullable, an_atom, a_call, a_block, an_optional, a_star, a_plus, AllNullable, nothing, one_more, OneNullable, this, another, IsLeftOf, IsLeftOfAll, IsLeftOfOne, ReachesBy, one_call, more_calls}
 use Rattle.g4_grammar.specs.Loops.{HasEmptyLoop, OneHasEmptyLoop, SomeHasEmptyLoop}

@@ -1,6 +1,6 @@
 -- Elements derive the empty word by cases where they derive it as a word, and left calls are calls.
 use Rattle.std.proofs.Common.{◌≡◌, inl, inr, ℕ, List, [], ◌∷◌, ◌++◌, refl, sym, ◌∙◌, subst}
-use Rattle.g4_elements.specs.Elements.{Element, atom, block, Elements, empty, then, Alternatives, none, or}
+use Rattle.g4_source.specs.Elements.{Element, atom, block, Elements, empty, then, Alternatives, none, or}
 use Rattle.g4_grammar.specs.Derives.{Derives, DerivesAll, DerivesOne}
 use Rattle.g4_grammar.specs.Derives as word
 use Rattle.g4_grammar.specs.LeftCalls.{Nullable, an_atom, a_call, a_block, an_optional, a_star, a_plus, AllNullable, nothing, one_more, OneNullable, this, another, IsLeftOf, IsLeftOfAll, IsLeftOfOne, HasCall, OneHasCall, SomeHasCall}

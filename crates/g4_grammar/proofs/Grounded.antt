@@ -7,7 +7,7 @@ use Rattle.std.proofs.lemmas.Bool.Decides.{nat_tests}
 use Rattle.std.proofs.lemmas.Map.Keys.{IsDistinct-push}
 use Rattle.std.proofs.lemmas.Map.Steps.{length-le_from_distinct_below}
 use Rattle.std.proofs.lemmas.Option.{slice_get_within}
-use Rattle.g4_elements.specs.Elements.{Alternatives}
+use Rattle.g4_source.specs.Elements.{Alternatives}
 use Rattle.g4_grammar.specs.LeftCalls.{LeftCalls, ReachesLeft, one_call, more_calls, NoLeftCycle}
 
 -- no left calls go on from the rule without end

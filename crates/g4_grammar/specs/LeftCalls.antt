@@ -1,9 +1,9 @@
 -- Which elements derive the empty word, and which rule calls which before anything is read.
 use Rattle.std.specs.Prelude.{◌≡◌, ◌<◌, ℕ, List, [], ◌⊎◌, length, Option, Some, slice_get}
-use Rattle.g4_elements.specs.declared.name.Label.{Label}
-use Rattle.g4_elements.specs.declared.element.Suffix.{Suffix}
-use Rattle.g4_elements.specs.declared.element.Repeat.TheVariants.{Once, Optional, Star, Plus}
-use Rattle.g4_elements.specs.Elements.{Element, atom, block, Elements, empty, then, Alternatives, none, or}
+use Rattle.g4_source.specs.declared.name.Label.{Label}
+use Rattle.g4_source.specs.declared.element.Suffix.{Suffix}
+use Rattle.g4_source.specs.declared.element.Repeat.TheVariants.{Once, Optional, Star, Plus}
+use Rattle.g4_source.specs.Elements.{Element, atom, block, Elements, empty, then, Alternatives, none, or}
 
 mutual
   -- the element derives the empty word

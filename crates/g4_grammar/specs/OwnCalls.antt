@@ -2,7 +2,7 @@
 -- alternatives, which are its primaries, and then any number of turns, each of which is what follows the reference in one of its
 -- operators, the alternatives that begin with it. So this reference is the turn of a loop and no left call.
 use Rattle.std.specs.Prelude.{◌≡◌, ℕ, List, ◌⊎◌, Some, slice_get}
-use Rattle.g4_elements.specs.Elements.{atom, block, Elements, empty, then, Alternatives, none, or}
+use Rattle.g4_source.specs.Elements.{atom, block, Elements, empty, then, Alternatives, none, or}
 use Rattle.g4_grammar.specs.LeftCalls.{Nullable, AllNullable, IsLeftOfAll, NoCycle}
 use Rattle.g4_grammar.specs.Loops.{NoEmptyLoop}
 

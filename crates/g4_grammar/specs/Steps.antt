@@ -2,9 +2,9 @@
 use Rattle.std.specs.Prelude.{◌≡◌, ℕ, List, [], ◌∷◌, true, None, Contains}
 use Rattle.g4_base.specs.Place.{first_place}
 use Rattle.g4_symbols.specs.Symbols.{end_of_list}
-use Rattle.g4_elements.specs.declared.element.Repeat.{Repeat}
-use Rattle.g4_elements.specs.declared.element.Repeat.TheVariants.{Star}
-use Rattle.g4_elements.specs.Elements.{atom, block, empty, then, Alternatives, only}
+use Rattle.g4_source.specs.declared.element.Repeat.{Repeat}
+use Rattle.g4_source.specs.declared.element.Repeat.TheVariants.{Star}
+use Rattle.g4_source.specs.Elements.{atom, block, empty, then, Alternatives, only}
 use Rattle.g4_grammar.specs.declared.step.Step.{Step}
 use Rattle.g4_grammar.specs.declared.step.Step.TheVariants.{Edge, Call, Predicate, Level, Action, Empty}
 

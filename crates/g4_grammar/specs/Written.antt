@@ -3,7 +3,7 @@ use Rattle.std.specs.Prelude.{◌≡◌, ◌≤◌, ◌⊎◌, ℕ, List, [], �
 use Rattle.std.specs.List.{position}
 use Rattle.std.specs.Str.{bytes_eq}
 use Rattle.g4_chars.specs.CharSets.{Has}
-use Rattle.g4_elements.specs.Elements.{atoms_of_either}
+use Rattle.g4_source.specs.Elements.{atoms_of_either}
 use Rattle.g4_source.specs.declared.atom.Atom.{Atom}
 use Rattle.g4_source.specs.declared.atom.AtomKind.{AtomKind}
 use Rattle.g4_source.specs.declared.atom.AtomKind.TheVariants as kinds
@@ -12,9 +12,9 @@ use Rattle.g4_source.specs.declared.rule.Rule.{Rule}
 use Rattle.g4_source.specs.declared.rule.Rule.TheVariants.{Parser, Lexer}
 use Rattle.g4_source.specs.declared.rule.ParserRule.{ParserRule}
 use Rattle.g4_source.specs.Rules.{alternatives_of}
-use Rattle.g4_rules.specs.declared.kind.RuleKind.{RuleKind}
-use Rattle.g4_rules.specs.declared.kind.RuleKind.TheVariants as rule_kinds
-use Rattle.g4_rules.specs.Atoms.{AtomIn, all_atoms, bodies_of}
+use Rattle.g4_source.specs.declared.kind.RuleKind.{RuleKind}
+use Rattle.g4_source.specs.declared.kind.RuleKind.TheVariants as rule_kinds
+use Rattle.g4_source.specs.Atoms.{AtomIn, all_atoms, bodies_of}
 use Rattle.g4_grammar.specs.LeftCalls.{NoCycle}
 use Rattle.g4_grammar.specs.Loops.{NoEmptyLoop}
 use Rattle.g4_grammar.specs.OwnCalls.{CanRun, LeftCallsAsRun}

@@ -1,7 +1,7 @@
 -- How the added rule is laid out at the front of a network.
 use Rattle.std.proofs.Common.{◌≡◌, ℕ, ◌+◌, List, [], ◌∷◌, None, Some, subst, arith}
 use Rattle.g4_symbols.specs.Symbols.{end_of_list}
-use Rattle.g4_elements.specs.Elements.{atom, block, Elements, empty, then, none, or}
+use Rattle.g4_source.specs.Elements.{atom, block, Elements, empty, then, none, or}
 use Rattle.g4_grammar.specs.declared.step.Step.{Step}
 use Rattle.g4_grammar.specs.declared.step.Step.TheVariants as steps
 use Rattle.g4_grammar.specs.Steps.{added_rule, any_number}

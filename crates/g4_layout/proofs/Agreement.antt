@@ -1,7 +1,7 @@
 -- What is laid out in two networks from the same state on has the same states in both.
 use Rattle.std.proofs.Common.{◌≡◌, ◌≢◌, ℕ, zero, suc, ◌+◌, ◌<◌, ◌≤◌, ◌⊎◌, inl, inr, List, [], ◌∷◌, length, Bool, Some, refl, sym, ◌∙◌, ap, subst, arith}
 use native.Mathlib.Decide.{dec_lt}
-use Rattle.g4_elements.specs.Elements.{Element, Elements, Alternatives}
+use Rattle.g4_source.specs.Elements.{Element, Elements, Alternatives}
 use Rattle.g4_grammar.specs.declared.step.Step.{Step}
 use Rattle.g4_net.specs.declared.network.Network.{Network}
 use Rattle.g4_net.specs.declared.network.State.TheVariants.{Decision, Empty}

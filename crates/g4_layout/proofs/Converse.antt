@@ -2,7 +2,7 @@
 -- reaches itself by left calls, has a state that leads above its own stack to itself.
 use Rattle.std.proofs.Common.{◌≡◌, ℕ, zero, suc, ◌+◌, inl, inr, List, [], ◌∷◌, ◌++◌, Bool, true, false, Option, Some, refl, sym, subst, arith, Contains, slice_get}
 use Rattle.std.proofs.lemmas.Option.{slice_get_within}
-use Rattle.g4_elements.specs.Elements.{Element, Elements, Alternatives, none}
+use Rattle.g4_source.specs.Elements.{Element, Elements, Alternatives, none}
 use Rattle.g4_grammar.specs.declared.step.Step.{Step}
 use Rattle.g4_grammar.specs.LeftCalls.{Nullable, an_atom, a_call, a_block, an_optional, a_star, a_plus, AllNullable, nothing, one_more, OneNullable, this, another, IsLeftOf, IsLeftOfAll, IsLeftOfOne, LeftCalls, ReachesLeft, one_call, more_calls, NoLeftCycle}
 use Rattle.g4_grammar.specs.Loops.{HasEmptyLoop, OneHasEmptyLoop, SomeHasEmptyLoop, NoEmptyLoop}

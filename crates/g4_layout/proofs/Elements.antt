@@ -2,7 +2,7 @@
 -- endless leads on from the rules that they call.
 use Rattle.std.proofs.Common.{◌≡◌, ℕ, ◌+◌, ◌<◌, ◌≤◌, ◌⊎◌, inl, inr, List, [], ◌∷◌, Some, refl, sym, subst, arith, Contains, slice_get}
 use native.Mathlib.Decide.{dec_lt}
-use Rattle.g4_elements.specs.Elements.{Element, Elements, Alternatives, none, or}
+use Rattle.g4_source.specs.Elements.{Element, Elements, Alternatives, none, or}
 use Rattle.g4_grammar.specs.declared.step.Step.{Step}
 use Rattle.g4_grammar.specs.declared.step.Step.TheVariants as steps
 use Rattle.g4_grammar.specs.Steps.{CallsRule, ReadsStep}

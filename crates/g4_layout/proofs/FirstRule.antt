@@ -1,7 +1,7 @@
 -- What the first of the rules is does not matter to the others, where no rule calls it.
 use Rattle.std.proofs.Common.{◌≡◌, ℕ, zero, suc, ◌≤◌, inl, inr, List, ◌∷◌, Some, refl, subst, arith, slice_get}
-use Rattle.g4_elements.specs.declared.element.Repeat.TheVariants.{Once, Optional, Star, Plus}
-use Rattle.g4_elements.specs.Elements.{Element, atom, block, Elements, empty, then, Alternatives, none, or}
+use Rattle.g4_source.specs.declared.element.Repeat.TheVariants.{Once, Optional, Star, Plus}
+use Rattle.g4_source.specs.Elements.{Element, atom, block, Elements, empty, then, Alternatives, none, or}
 use Rattle.g4_grammar.specs.LeftCalls.{Nullable, an_atom, a_call, a_block, an_optional, a_star, a_plus, AllNullable, nothing, one_more, OneNullable, this, another, IsLeftOf, IsLeftOfAll, IsLeftOfOne, HasCall, OneHasCall, SomeHasCall, LeftCalls, ReachesLeft, one_call, more_calls, NoLeftCycle}
 use Rattle.g4_grammar.specs.Loops.{IsEmptyBody, HasEmptyLoop, OneHasEmptyLoop, SomeHasEmptyLoop, NoEmptyLoop}
 use Rattle.g4_grammar.proofs.Empty.{one_derives_nothing, one_is_nullable, one_left_is_call}

@@ -1,7 +1,7 @@
 -- A network of rules never comes back to a state, and is well formed.
 use Rattle.std.proofs.Common.{◌≡◌, ℕ, ◌<◌, List, [], length, Some, refl, ◌∙◌, ap, subst, arith, slice_get}
-use Rattle.g4_elements.specs.Elements.{Alternatives}
-use Rattle.g4_elements.specs.Blocks.{EachIsFull}
+use Rattle.g4_source.specs.Elements.{Alternatives}
+use Rattle.g4_source.specs.Full.{EachIsFull}
 use Rattle.g4_grammar.specs.declared.step.Step.{Step}
 use Rattle.g4_grammar.specs.Steps.{CallsRule, ReadsStep}
 use Rattle.g4_grammar.specs.Loops.{NoEmptyLoop}

@@ -2,8 +2,8 @@
 use Rattle.std.proofs.Common.{◌≡◌, ℕ, zero, suc, ◌+◌, ◌≤◌, inl, inr, List, [], ◌∷◌, length, map, Some, refl, subst, arith, slice_get, All}
 use Rattle.std.proofs.lemmas.List.{length-map}
 use Rattle.std.proofs.lemmas.List.Elements.{All-head, All-tail, All-weaker}
-use Rattle.g4_elements.specs.Elements.{atom, empty, then, Alternatives, none, only, atoms_of_either}
-use Rattle.g4_elements.specs.Blocks.{EachIsFull}
+use Rattle.g4_source.specs.Elements.{atom, empty, then, Alternatives, none, only, atoms_of_either}
+use Rattle.g4_source.specs.Full.{EachIsFull}
 use Rattle.g4_source.specs.Rules.{alternatives_of}
 use Rattle.g4_source.specs.Blocks.{ParserRulesAreFull}
 use Rattle.g4_grammar.specs.declared.step.Step.{Step}

@@ -1,7 +1,7 @@
 -- In the network of rules each rule has no end but its own.
 use Rattle.std.proofs.Common.{◌≡◌, ℕ, ◌*◌, ◌<◌, ◌≤◌, ◌⊎◌, inl, inr, List, length, Some, refl, sym, subst, arith, slice_get}
-use Rattle.g4_elements.specs.Blocks.{EachIsFull}
-use Rattle.g4_elements.specs.Elements.{Alternatives}
+use Rattle.g4_source.specs.Full.{EachIsFull}
+use Rattle.g4_source.specs.Elements.{Alternatives}
 use Rattle.g4_grammar.specs.Steps.{CallsRule}
 use Rattle.g4_grammar.specs.declared.step.Step.{Step}
 use Rattle.g4_layout.specs.Layout.{IsNetworkOf}

@@ -2,7 +2,7 @@
 -- and no rule reaches itself by left calls.
 use Rattle.std.proofs.Common.{◌≡◌, ℕ, ◌<◌, ◌≤◌, inl, List, [], ◌∷◌, length, Option, Some, None, refl, arith, slice_get}
 use Rattle.std.proofs.lemmas.Option.{slice_get_within}
-use Rattle.g4_elements.specs.Elements.{Alternatives, none}
+use Rattle.g4_source.specs.Elements.{Alternatives, none}
 use Rattle.g4_grammar.specs.declared.step.Step.{Step}
 use Rattle.g4_grammar.specs.Steps.{CallsRule, ReadsStep}
 use Rattle.g4_grammar.specs.Loops.{SomeHasEmptyLoop, NoEmptyLoop}

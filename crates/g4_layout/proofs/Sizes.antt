@@ -1,6 +1,6 @@
 -- How many states what is laid out has: as many as the table makes of it.
 use Rattle.std.proofs.Common.{◌≡◌, ℕ, ◌+◌, ◌≤◌, List, length, refl, arith}
-use Rattle.g4_elements.specs.Elements.{Element, Elements, Alternatives, none, or}
+use Rattle.g4_source.specs.Elements.{Element, Elements, Alternatives, none, or}
 use Rattle.g4_grammar.specs.declared.step.Step.{Step}
 use Rattle.g4_net.specs.declared.network.Network.{Network}
 use Rattle.g4_layout.specs.Decisions.{number_of}

@@ -2,8 +2,8 @@
 use Rattle.std.proofs.Common.{◌≡◌, ℕ, ◌+◌, ◌<◌, ◌≤◌, ◌⊎◌, inl, inr, List, [], ◌∷◌, length, Bool, true, false, Option, Some, None, refl, sym, ◌∙◌, subst, arith, Contains}
 use Rattle.std.proofs.Math.ListN.{length-append}
 use native.Mathlib.Decide.{dec_lt}
-use Rattle.g4_elements.specs.Elements.{Element, Elements, Alternatives}
-use Rattle.g4_elements.specs.Blocks.{IsSome}
+use Rattle.g4_source.specs.Elements.{Element, Elements, Alternatives}
+use Rattle.g4_source.specs.Full.{IsSome}
 use Rattle.g4_grammar.specs.declared.step.Step.{Step}
 use Rattle.g4_grammar.specs.declared.step.Step.TheVariants as steps
 use Rattle.g4_net.specs.declared.network.Network.{Network}

@@ -1,7 +1,7 @@
 -- Where elements are laid out: their states are in order, and they end at one of these or where they begin.
 use Rattle.std.proofs.Common.{◌≡◌, ℕ, zero, suc, ◌+◌, ◌<◌, ◌≤◌, ◌⊎◌, inl, inr, List, ◌∷◌, length, refl, sym, ◌∙◌, arith, Contains}
-use Rattle.g4_elements.specs.Elements.{Element, Elements, Alternatives, none, or}
-use Rattle.g4_elements.specs.Blocks.{IsSome}
+use Rattle.g4_source.specs.Elements.{Element, Elements, Alternatives, none, or}
+use Rattle.g4_source.specs.Full.{IsSome}
 use Rattle.g4_grammar.specs.declared.step.Step.{Step}
 use Rattle.g4_net.specs.declared.network.Network.{Network}
 use Rattle.g4_layout.specs.Layout.{Lies, an_edge, a_call, a_predicate, a_level, an_action, an_empty, one_alternative, a_block, an_optional, a_star, a_plus_of_one, a_plus, LieInOrder, no_more, one_more, LieSideBySide, no_other, another}

@@ -1,9 +1,9 @@
 -- Trees whose blocks all have an alternative and whose atoms are all good, by cases.
 use Rattle.std.proofs.Common.{ℕ, inl, inr, [], All}
 use Rattle.std.proofs.lemmas.List.Elements.{All-head}
-use Rattle.g4_elements.specs.Elements.{Element, atom, block, Elements, empty, then, Alternatives, none, or, atoms, atoms_in_order, atoms_of_either}
-use Rattle.g4_elements.specs.Blocks.{IsSome, IsFull, AreFull, EachIsFull}
-use Rattle.g4_elements.proofs.Parts.{All-front, All-rest}
+use Rattle.g4_source.specs.Elements.{Element, atom, block, Elements, empty, then, Alternatives, none, or, atoms, atoms_in_order, atoms_of_either}
+use Rattle.g4_source.specs.Full.{IsSome, IsFull, AreFull, EachIsFull}
+use Rattle.g4_source.proofs.Parts.{All-front, All-rest}
 use Rattle.g4_grammar.specs.LeftCalls.{HasCall, OneHasCall, SomeHasCall}
 
 module _ {A : Type 0} (Good : A → Type 0) where

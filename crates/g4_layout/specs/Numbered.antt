@@ -1,6 +1,6 @@
 -- The network of rules with their numberings, over any labels.
 use Rattle.std.specs.Prelude.{◌≡◌, ◌*◌, List, length}
-use Rattle.g4_elements.specs.Elements.{Alternatives}
+use Rattle.g4_source.specs.Elements.{Alternatives}
 use Rattle.g4_grammar.specs.declared.step.Numbering.{Numbering}
 use Rattle.g4_grammar.specs.declared.step.Step.{Step}
 use Rattle.g4_net.specs.declared.network.Network.{Network}

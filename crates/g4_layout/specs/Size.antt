@@ -1,7 +1,7 @@
 -- How many states the table of forms makes, but for the state where an element begins.
 use Rattle.std.specs.Prelude.{ℕ, ◌+◌}
-use Rattle.g4_elements.specs.declared.element.Repeat.TheVariants.{Once, Optional, Star, Plus}
-use Rattle.g4_elements.specs.Elements.{Element, atom, block, Elements, empty, then, Alternatives, none, or}
+use Rattle.g4_source.specs.declared.element.Repeat.TheVariants.{Once, Optional, Star, Plus}
+use Rattle.g4_source.specs.Elements.{Element, atom, block, Elements, empty, then, Alternatives, none, or}
 
 -- the state where a block of several alternatives ends
 abbrev pub more_if_several : {A : Type 0} → Alternatives A → ℕ

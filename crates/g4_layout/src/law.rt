@@ -1,7 +1,7 @@
 // What the definitions of layouts imply.
 ghost use Rattle.std.specs.Prelude.{◌≡◌, ◌≤◌, ◌↔◌, ◌+◌, ◌*◌, ℕ, List, [], length, Some, slice_get, Contains};
-ghost use Rattle.g4_elements.specs.Blocks.{EachIsFull};
-ghost use Rattle.g4_elements.specs.Elements.{Alternatives};
+ghost use Rattle.g4_source.specs.Full.{EachIsFull};
+ghost use Rattle.g4_source.specs.Elements.{Alternatives};
 ghost use Rattle.g4_grammar.specs.LeftCalls.{CallsAreInRange, NoLeftCycle};
 ghost use Rattle.g4_grammar.specs.Loops.{NoEmptyLoop};
 ghost use Rattle.g4_grammar.specs.StepRules.{CanBeLaid, StepRule};

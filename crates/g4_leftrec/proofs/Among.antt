@@ -2,9 +2,9 @@
 use Rattle.std.proofs.Common.{ℕ, List, inl, inr, refl, sym, subst}
 use Rattle.std.specs.List.{All}
 use Rattle.std.proofs.lemmas.List.Elements.{All-nil, All-append}
-use Rattle.g4_elements.specs.Blocks.{AreFull, EachIsFull}
-use Rattle.g4_elements.specs.Elements.{Elements, Alternatives, none, or, atoms_in_order, atoms_of_either}
-use Rattle.g4_elements.proofs.Parts.{All-front, All-rest}
+use Rattle.g4_source.specs.Full.{AreFull, EachIsFull}
+use Rattle.g4_source.specs.Elements.{Elements, Alternatives, none, or, atoms_in_order, atoms_of_either}
+use Rattle.g4_source.proofs.Parts.{All-front, All-rest}
 use Rattle.g4_grammar.specs.LeftCalls.{AllNullable, OneNullable, this, another, IsLeftOfAll, IsLeftOfOne, OneHasCall, SomeHasCall}
 use Rattle.g4_grammar.specs.Loops.{OneHasEmptyLoop, SomeHasEmptyLoop}
 use Rattle.g4_grammar.specs.OwnCalls.{IsOneOf, IsLeftAsRun, IsLeftOfOneAsRun}

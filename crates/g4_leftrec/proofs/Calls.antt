@@ -1,7 +1,7 @@
 -- A call in a rule as it is laid is one in the rule as it is written.
 use Rattle.std.proofs.Common.{◌≡◌, ◌⊎◌, ℕ, List, [], ◌∷◌, Some, inl, inr, subst}
-use Rattle.g4_elements.specs.Elements.{atom, block, Elements, empty, then, Alternatives, only, either}
-use Rattle.g4_elements.specs.Marks.{onto}
+use Rattle.g4_source.specs.Elements.{atom, block, Elements, empty, then, Alternatives, only, either}
+use Rattle.g4_source.specs.Marks.{onto}
 use Rattle.g4_source.specs.Rules.{alternatives_of}
 use Rattle.g4_grammar.specs.declared.step.Step.TheVariants.{Level, Empty}
 use Rattle.g4_grammar.specs.LeftCalls.{OneHasCall, SomeHasCall}

@@ -1,8 +1,8 @@
 -- Worked examples: alternatives of rule 1, which is e, as they are laid, and the numbers with which the rule starts.
 use Rattle.std.proofs.Common.{◌≡◌, ℕ, List, [], ◌∷◌, map, true, false, None, refl}
-use Rattle.g4_elements.specs.declared.element.Repeat.TheVariants.{Once}
-use Rattle.g4_elements.specs.Elements.{Element, atom, block, only, either}
-use Rattle.g4_elements.specs.Trees.{in_order}
+use Rattle.g4_source.specs.declared.element.Repeat.TheVariants.{Once}
+use Rattle.g4_source.specs.Elements.{Element, atom, block, only, either}
+use Rattle.g4_source.specs.Trees.{in_order}
 use Rattle.g4_grammar.specs.declared.step.Step.TheVariants.{Edge, Call, Predicate, Level, Action, Empty}
 use Rattle.g4_grammar.specs.Steps.{any_number}
 use Rattle.g4_leftrec.specs.OwnCalls.{is_left_recursive}

@@ -5,8 +5,8 @@ use Rattle.std.proofs.lemmas.Bool.{cases_Bool}
 use Rattle.std.proofs.lemmas.List.{length-map}
 use Rattle.std.proofs.lemmas.List.Elements.{All-head, All-tail}
 use Rattle.std.proofs.lemmas.Option.{same_Some}
-use Rattle.g4_elements.specs.Blocks.{IsSome}
-use Rattle.g4_elements.specs.Elements.{Elements, only, either}
+use Rattle.g4_source.specs.Full.{IsSome}
+use Rattle.g4_source.specs.Elements.{Elements, only, either}
 use Rattle.g4_source.specs.Blocks.{ParserRuleIsFull}
 use Rattle.g4_source.specs.Rules.{alternatives_of}
 use Rattle.g4_grammar.specs.declared.step.Numbering.{Numbering}

@@ -1,8 +1,8 @@
 -- Blocks of rules as they are laid have alternatives.
 use Rattle.std.proofs.Common.{◌≡◌, ◌<◌, ℕ, List, [], ◌∷◌, true, Some, length, map, inl, inr, refl, sym, ap, subst, arith}
-use Rattle.g4_elements.specs.Blocks.{AreFull, EachIsFull, IsSome}
-use Rattle.g4_elements.specs.Elements.{atom, block, Elements, empty, then, Alternatives, only, either}
-use Rattle.g4_elements.specs.Marks.{onto}
+use Rattle.g4_source.specs.Full.{AreFull, EachIsFull, IsSome}
+use Rattle.g4_source.specs.Elements.{atom, block, Elements, empty, then, Alternatives, only, either}
+use Rattle.g4_source.specs.Marks.{onto}
 use Rattle.g4_source.specs.Blocks.{ParserRuleIsFull}
 use Rattle.g4_source.specs.Rules.{alternatives_of}
 use Rattle.g4_grammar.specs.declared.step.Step.TheVariants.{Level, Empty}

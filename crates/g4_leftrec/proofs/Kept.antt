@@ -1,6 +1,6 @@
 -- The level of a call changes nothing of what elements derive.
 use Rattle.std.proofs.Common.{◌≡◌, ◌↔◌, ◌++◌, ℕ, List, []}
-use Rattle.g4_elements.specs.Elements.{Element, atom, Elements, then}
+use Rattle.g4_source.specs.Elements.{Element, atom, Elements, then}
 use Rattle.g4_grammar.specs.declared.step.Step.TheVariants.{Call}
 use Rattle.g4_grammar.specs.Derives.{Derives, an_atom, a_call, DerivesAll, one_more, NoCalls}
 use Rattle.g4_leftrec.specs.Rewriting.{StepIn, with_last_at}

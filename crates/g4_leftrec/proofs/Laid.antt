@@ -2,7 +2,7 @@
 use Rattle.std.proofs.Common.{◌≡◌, ℕ, zero, suc, ◌+◌, List, [], ◌∷◌, Some, length, map, inl, inr, refl, sym, subst, slice_get, arith}
 use Rattle.std.specs.List.{All, enumerate_from}
 use Rattle.std.proofs.lemmas.Option.{same_Some}
-use Rattle.g4_elements.specs.Elements.{Alternatives}
+use Rattle.g4_source.specs.Elements.{Alternatives}
 use Rattle.g4_source.specs.Blocks.{ParserRuleIsFull, ParserRulesAreFull}
 use Rattle.g4_source.specs.Rules.{alternatives_of}
 use Rattle.g4_grammar.specs.LeftCalls.{LeftCalls, ReachesBy, one_call, more_calls}

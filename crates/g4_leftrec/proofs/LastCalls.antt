@@ -1,10 +1,10 @@
 -- The last element of an alternative, looked for from the end.
 use Rattle.std.proofs.Common.{◌≡◌, ℕ, ◌+◌, ◌<◌, ◌≤◌, List, [], ◌∷◌, ◌++◌, Bool, true, false, ◌&&◌, Some, None, length, get_or, set, take, drop, map, refl, sym, ap, ◌∙◌, subst, arith}
 use Rattle.std.proofs.lemmas.List.{drop_more, drop_all, map-append, take-append-drop, take-set, drop-set}
-use Rattle.g4_elements.specs.Elements.{Element, Elements, empty, then}
-use Rattle.g4_elements.specs.Marks.{onto}
-use Rattle.g4_elements.specs.Trees.{element_of, in_order}
-use Rattle.g4_elements.specs.declared.element.Element.{Element as Node}
+use Rattle.g4_source.specs.Elements.{Element, Elements, empty, then}
+use Rattle.g4_source.specs.Marks.{onto}
+use Rattle.g4_source.specs.Trees.{element_of, in_order}
+use Rattle.g4_source.specs.declared.element.Element.{Element as Node}
 use Rattle.g4_leftrec.specs.OwnCalls.{after_self, are_silent, before_self, is_atom, is_some, with_first}
 
 and_false : (b : Bool) → (b && false) ≡ false

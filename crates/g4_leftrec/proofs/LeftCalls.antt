@@ -1,8 +1,8 @@
 -- A left call of a rule as it is laid is one of the rule as it is run.
 use Rattle.std.proofs.Common.{◌≡◌, ◌⊎◌, ℕ, List, [], ◌∷◌, true, false, Some, None, inl, inr, subst, slice_get}
-use Rattle.g4_elements.specs.declared.element.Repeat.TheVariants.{Once}
-use Rattle.g4_elements.specs.Elements.{Element, atom, block, Elements, empty, then, Alternatives, none, or, only, either}
-use Rattle.g4_elements.specs.Marks.{onto}
+use Rattle.g4_source.specs.declared.element.Repeat.TheVariants.{Once}
+use Rattle.g4_source.specs.Elements.{Element, atom, block, Elements, empty, then, Alternatives, none, or, only, either}
+use Rattle.g4_source.specs.Marks.{onto}
 use Rattle.g4_source.specs.Rules.{alternatives_of}
 use Rattle.g4_grammar.specs.declared.step.Step.TheVariants.{Level, Empty}
 use Rattle.g4_grammar.specs.LeftCalls.{Nullable, a_call, nothing, one_more, this, IsLeftOf, IsLeftOfAll, IsLeftOfOne}

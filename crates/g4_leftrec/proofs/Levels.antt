@@ -1,11 +1,11 @@
 -- Levels put into elements.
 use Rattle.std.proofs.Common.{◌≡◌, ℕ, ◌+◌, ◌<◌, List, [], ◌∷◌, Bool, true, false, cond, Option, Some, None, length, drop, map, set, take, refl, sym, ap, ◌∙◌}
-use Rattle.g4_elements.specs.Elements.{Element, atom, Elements, then}
-use Rattle.g4_elements.specs.Marks.{onto}
-use Rattle.g4_elements.specs.Trees.{element_of, in_order}
-use Rattle.g4_elements.specs.declared.element.Element.{Element as Node}
-use Rattle.g4_elements.specs.declared.element.Element.TheVariants as nodes
-use Rattle.g4_elements.proofs.Trees.{of_atom}
+use Rattle.g4_source.specs.Elements.{Element, atom, Elements, then}
+use Rattle.g4_source.specs.Marks.{onto}
+use Rattle.g4_source.specs.Trees.{element_of, in_order}
+use Rattle.g4_source.specs.declared.element.Element.{Element as Node}
+use Rattle.g4_source.specs.declared.element.Element.TheVariants as nodes
+use Rattle.g4_source.proofs.Trees.{of_atom}
 use Rattle.g4_grammar.specs.declared.step.Step.TheVariants.{Call, Level}
 use Rattle.g4_leftrec.specs.OwnCalls.{LastSelf, after_self, are_silent, before_self, is_atom, with_first}
 use Rattle.g4_leftrec.specs.OwnSteps.{calls, is_silent}

@@ -2,14 +2,14 @@
 use Rattle.std.proofs.Common.{◌≡◌, ℕ, List, [], ◌∷◌, ◌++◌, Bool, true, false, Option, Some, None, length, get_or, map, Vec, Global, refl, sym, ap, ◌∙◌, arith}
 use Rattle.std.specs.List.{cons_option, filter_map, enumerate_from, range_with_len}
 use Rattle.std.proofs.lemmas.List.{length-map, map-append}
-use Rattle.g4_elements.specs.declared.element.Alternative.{Alternative as Side, roll-Alternative}
-use Rattle.g4_elements.specs.declared.element.Element.{Element as Node}
-use Rattle.g4_elements.specs.declared.element.Element.TheVariants as nodes
-use Rattle.g4_elements.specs.declared.element.Repeat.TheVariants.{Once}
-use Rattle.g4_elements.specs.Elements.{Element, atom, block, Elements, empty, then, either}
-use Rattle.g4_elements.specs.Marks.{onto}
-use Rattle.g4_elements.specs.Trees.{alternative_of, element_of, in_order}
-use Rattle.g4_elements.proofs.Trees.{of_atom, of_block, of_elements}
+use Rattle.g4_source.specs.declared.element.Alternative.{Alternative as Side, roll-Alternative}
+use Rattle.g4_source.specs.declared.element.Element.{Element as Node}
+use Rattle.g4_source.specs.declared.element.Element.TheVariants as nodes
+use Rattle.g4_source.specs.declared.element.Repeat.TheVariants.{Once}
+use Rattle.g4_source.specs.Elements.{Element, atom, block, Elements, empty, then, either}
+use Rattle.g4_source.specs.Marks.{onto}
+use Rattle.g4_source.specs.Trees.{alternative_of, element_of, in_order}
+use Rattle.g4_source.proofs.Trees.{of_atom, of_block, of_elements}
 use Rattle.g4_grammar.specs.declared.step.Step.TheVariants.{Empty}
 use Rattle.g4_grammar.specs.StepRules.{StepRule}
 use Rattle.g4_leftrec.specs.OwnCalls.{Part, after_self, is_left_recursive, is_some, operator_of, operator_with, primary_of, primary_with}

@@ -3,7 +3,7 @@ use Rattle.std.proofs.Common.{◌≡◌, ◌⊎◌, ℕ, zero, suc, ◌+◌, Lis
 use Rattle.std.specs.List.{All, enumerate_from}
 use Rattle.std.proofs.lemmas.List.Elements.{All-nil, All-cons, All-head, All-tail}
 use Rattle.std.proofs.lemmas.Option.{same_Some}
-use Rattle.g4_elements.specs.Elements.{Alternatives, none}
+use Rattle.g4_source.specs.Elements.{Alternatives, none}
 use Rattle.g4_source.specs.Rules.{alternatives_of}
 use Rattle.g4_grammar.specs.StepRules.{StepRule, by_number}
 use Rattle.g4_leftrec.specs.Rewriting.{StepIn, formed, rewritten}

@@ -1,7 +1,7 @@
 -- Elements that are others but for the level of a call.
 use Rattle.std.proofs.Common.{◌≡◌, ℕ, Bool, true, false, cond, Option, Some, None, refl, sym, ap, subst, arith}
 use Rattle.std.proofs.lemmas.Bool.Decides.{nat_tests}
-use Rattle.g4_elements.specs.Elements.{Element, atom, block, Elements, empty, then}
+use Rattle.g4_source.specs.Elements.{Element, atom, block, Elements, empty, then}
 use Rattle.g4_grammar.specs.declared.step.Step.TheVariants.{Edge, Call, Predicate, Level, Action, Empty}
 use Rattle.g4_leftrec.specs.OwnCalls.{LastSelf, are_silent, before_self, is_atom, with_first}
 use Rattle.g4_leftrec.specs.OwnSteps.{calls, is_silent}

@@ -1,7 +1,7 @@
 -- The primaries and the operators of a rule.
 use Rattle.std.proofs.Common.{◌≡◌, ℕ, ◌+◌, ◌<◌, List, [], ◌∷◌, Bool, true, ◌||◌, Option, Some, None, length, refl, arith}
 use Rattle.std.specs.List.{cons_option, enumerate_from, filter_map}
-use Rattle.g4_elements.specs.Elements.{Elements}
+use Rattle.g4_source.specs.Elements.{Elements}
 use Rattle.g4_source.specs.declared.rule.RuleAlternative.{RuleAlternative}
 use Rattle.g4_leftrec.specs.OwnCalls.{Part, after_self, is_left_recursive, is_some, operator_of, operator_with, operators, primaries, primary_of, primary_with}
 

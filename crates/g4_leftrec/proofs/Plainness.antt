@@ -2,9 +2,9 @@
 use Rattle.std.proofs.Common.{◌≡◌, ℕ, List, [], ◌∷◌, Some, inl, inr, sym, subst}
 use Rattle.std.specs.List.{All}
 use Rattle.std.proofs.lemmas.List.Elements.{All-nil, All-cons, All-append, All-weaker}
-use Rattle.g4_elements.specs.Elements.{Element, atom, block, Elements, empty, then, Alternatives, only, either, atoms, atoms_in_order, atoms_of_either}
-use Rattle.g4_elements.specs.Marks.{onto}
-use Rattle.g4_elements.proofs.Parts.{All-front, All-rest}
+use Rattle.g4_source.specs.Elements.{Element, atom, block, Elements, empty, then, Alternatives, only, either, atoms, atoms_in_order, atoms_of_either}
+use Rattle.g4_source.specs.Marks.{onto}
+use Rattle.g4_source.proofs.Parts.{All-front, All-rest}
 use Rattle.g4_source.specs.Rules.{alternatives_of}
 use Rattle.g4_grammar.specs.declared.step.Step.TheVariants.{Edge, Call, Predicate, Level, Action, Empty}
 use Rattle.g4_grammar.specs.StepRules.{IsPlain, IsPlainLaid, RuleIsPlain, RuleIsPlainLaid, StepRule}

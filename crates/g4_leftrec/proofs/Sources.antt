@@ -4,7 +4,7 @@ use Rattle.std.specs.List.{cons_option, enumerate_from, filter_map}
 use Rattle.std.proofs.lemmas.Bool.{cases_Bool}
 use Rattle.std.proofs.lemmas.Bool.Decides.{nat_tests}
 use Rattle.std.proofs.lemmas.Option.{cond_some}
-use Rattle.g4_elements.specs.Elements.{atom, block, Elements, empty, then, Alternatives, or, only, either}
+use Rattle.g4_source.specs.Elements.{atom, block, Elements, empty, then, Alternatives, or, only, either}
 use Rattle.g4_source.specs.Rules.{alternatives_of}
 use Rattle.g4_grammar.specs.declared.step.Step.TheVariants.{Edge, Call, Predicate, Level, Action, Empty}
 use Rattle.g4_grammar.specs.OwnCalls.{IsOneOf, IsOperator, LacksPrimary}

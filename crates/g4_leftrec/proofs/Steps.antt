@@ -1,6 +1,6 @@
 -- No step both calls a rule and is silent.
 use Rattle.std.proofs.Common.{◌≡◌, ℕ, true, false, refl}
-use Rattle.g4_elements.specs.Elements.{Element, atom, block}
+use Rattle.g4_source.specs.Elements.{Element, atom, block}
 use Rattle.g4_grammar.specs.declared.step.Step.{Step}
 use Rattle.g4_grammar.specs.declared.step.Step.TheVariants.{Edge, Call, Predicate, Level, Action, Empty}
 use Rattle.g4_leftrec.specs.OwnCalls.{is_atom}

@@ -1,7 +1,7 @@
 -- Alternatives that begin or end with a plain reference to their own rule, over any atoms: primaries and operators.
 use Rattle.std.specs.Prelude.{ℕ, List, Bool, true, false, ◌&&◌, cond, Option, Some, None}
 use Rattle.std.specs.List.{enumerate_from, filter_map, list_any}
-use Rattle.g4_elements.specs.Elements.{Element, atom, block, Elements, empty, then}
+use Rattle.g4_source.specs.Elements.{Element, atom, block, Elements, empty, then}
 use Rattle.g4_source.specs.declared.rule.RuleAlternative.{RuleAlternative}
 
 -- an atom that is so; a block is not

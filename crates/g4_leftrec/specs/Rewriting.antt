@@ -9,9 +9,9 @@
 -- block, or the only one and an empty step, and after that the operators in order, any number of times.
 use Rattle.std.specs.Prelude.{ℕ, ◌+◌, ◌-◌, List, [], ◌∷◌, map, Bool, false, cond, Option, Some, None, length}
 use Rattle.std.specs.List.{enumerate_from}
-use Rattle.g4_elements.specs.declared.element.Repeat.TheVariants.{Once}
-use Rattle.g4_elements.specs.Elements.{atom, block, Elements, empty, then, none, either}
-use Rattle.g4_elements.specs.Marks.{onto}
+use Rattle.g4_source.specs.declared.element.Repeat.TheVariants.{Once}
+use Rattle.g4_source.specs.Elements.{atom, block, Elements, empty, then, none, either}
+use Rattle.g4_source.specs.Marks.{onto}
 use Rattle.g4_source.specs.declared.rule.RuleAlternative.{RuleAlternative}
 use Rattle.g4_grammar.specs.declared.step.Numbering.{Numbering}
 use Rattle.g4_grammar.specs.declared.step.Step.{Step}

@@ -1,16 +1,15 @@
 // The primaries and the operators of a left-recursive rule, with their levels.
 ghost use Rattle.std.specs.Prelude.{◌≡◌, ◌<◌, ◌^◌, ◌+◌, ◌-◌, ◌++◌, [], ◌∷◌, IfOk, OnOk, Some, length, map, true};
 ghost use Rattle.std.specs.List.{filter_map, list_any};
-ghost use Rattle.g4_elements.specs.Elements.{Elements as Tree};
-ghost use Rattle.g4_elements.specs.Trees.{alternative_of, element_of, in_order};
+ghost use Rattle.g4_source.specs.Elements.{Elements as Tree};
+ghost use Rattle.g4_source.specs.Trees.{alternative_of, element_of, in_order};
 ghost use Rattle.g4_leftrec.specs.OwnCalls.{after_self, is_left_recursive, is_some, operator_of, primaries, primary_of};
 ghost use Rattle.g4_leftrec.specs.OwnSteps.{calls};
 ghost use Rattle.g4_leftrec.specs.Rewriting.{StepIn, operand_level, operator_elements, operator_form, operator_forms, primary_form, primary_forms, with_last_at};
 
 use crate::places::{begins_with_call, place_of_last_call};
-use g4_elements::{Alternative, Element};
+use g4_source::{Alternative, Element, RuleAlternative};
 use g4_grammar::Step;
-use g4_source::RuleAlternative;
 use g4_symbols::Symbols;
 use std::alloc::{AllocError, Global};
 

@@ -1,9 +1,9 @@
 // Rules in the form in which they are laid.
 ghost use Rattle.std.specs.Prelude.{◌≡◌, ◌<◌, ◌^◌, ◌+◌, ◌-◌, [], ◌∷◌, IfOk, length, map};
 ghost use Rattle.std.specs.List.{enumerate_from, range_with_len};
-ghost use Rattle.g4_elements.specs.Elements.{Elements as Tree};
-ghost use Rattle.g4_elements.specs.Marks.{onto};
-ghost use Rattle.g4_elements.specs.Trees.{alternative_of, element_of, in_order};
+ghost use Rattle.g4_source.specs.Elements.{Elements as Tree};
+ghost use Rattle.g4_source.specs.Marks.{onto};
+ghost use Rattle.g4_source.specs.Trees.{alternative_of, element_of, in_order};
 ghost use Rattle.g4_source.specs.Rules.{alternatives_of};
 ghost use Rattle.g4_grammar.specs.StepRules.{CanBeLaid, CanBeRewritten};
 ghost use Rattle.g4_layout.specs.Numbers.{NumberingsFit};
@@ -13,9 +13,8 @@ ghost use Rattle.g4_leftrec.specs.Rewriting.{StepIn, after_primary, formed, loop
 
 use crate::kinds::{Kinds, is_left_recursive, kinds_of};
 use g4_base::{Place, Sequence, Text};
-use g4_elements::{Alternative, Element, Elements, Repeat, Suffix};
+use g4_source::{Alternative, Element, Elements, ParserRule, Repeat, RuleAlternative, Suffix};
 use g4_grammar::{Numbering, Step, StepRule};
-use g4_source::{ParserRule, RuleAlternative};
 use g4_symbols::Symbols;
 use std::alloc::{AllocError, Global};
 
@@ -52,7 +51,7 @@ fn primary_elements(
 }
 
 /// The operators, any number of times.
-#[tactic(auto, using(g4_elements::proofs::Trees::of_block))]
+#[tactic(auto, using(g4_source::proofs::Trees::of_block))]
 fn turns_of(operators: Vec<Alternative<Step<Symbols>>>) -> Element<Step<Symbols>>
     ensures { in_order (element_of result ∷ []) ≡ turns_of (map alternative_of operators.items) }
 {

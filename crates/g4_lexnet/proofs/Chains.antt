@@ -1,14 +1,14 @@
 -- Characters one after another, as the code makes them.
 use Rattle.std.proofs.Common.{◌≡◌, ℕ, ◌+◌, ◌<◌, List, [], ◌∷◌, ◌++◌, length, map, take, get_or, refl, ◌∙◌, ap, None, Vec, Global}
 use Rattle.std.proofs.lemmas.List.{map-append}
-use Rattle.g4_elements.specs.declared.element.Repeat.TheVariants.{Once}
-use Rattle.g4_elements.specs.declared.element.Alternative.{Alternative as Side, roll-Alternative}
-use Rattle.g4_elements.specs.declared.element.Element.{Element as Node}
-use Rattle.g4_elements.specs.declared.element.Element.TheVariants as nodes
-use Rattle.g4_elements.specs.Elements.{Element, Elements, atom, block, only, either}
-use Rattle.g4_elements.specs.Elements as trees
-use Rattle.g4_elements.specs.Trees.{element_of, alternative_of, in_order}
-use Rattle.g4_elements.proofs.Trees.{of_atom, of_block, of_elements}
+use Rattle.g4_source.specs.declared.element.Repeat.TheVariants.{Once}
+use Rattle.g4_source.specs.declared.element.Alternative.{Alternative as Side, roll-Alternative}
+use Rattle.g4_source.specs.declared.element.Element.{Element as Node}
+use Rattle.g4_source.specs.declared.element.Element.TheVariants as nodes
+use Rattle.g4_source.specs.Elements.{Element, Elements, atom, block, only, either}
+use Rattle.g4_source.specs.Elements as trees
+use Rattle.g4_source.specs.Trees.{element_of, alternative_of, in_order}
+use Rattle.g4_source.proofs.Trees.{of_atom, of_block, of_elements}
 use Rattle.g4_lexnet.specs.declared.step.LexerStep.{LexerStep}
 use Rattle.g4_lexnet.specs.declared.step.LexerStep.TheVariants.{Character}
 use Rattle.g4_lexnet.specs.Steps.{characters_in_order, chained}

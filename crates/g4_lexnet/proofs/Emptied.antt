@@ -2,8 +2,8 @@
 use Rattle.std.proofs.Common.{◌≡◌, ℕ, zero, suc, ◌+◌, ◌*◌, List, [], ◌∷◌, length, map, Option, Some, refl, sym, ◌∙◌, ap, subst, slice_get}
 use Rattle.std.specs.List.{cons_option, range_with_len}
 use Rattle.std.proofs.lemmas.List.{length-map}
-use Rattle.g4_elements.specs.Elements.{Element, atom, Elements, Alternatives}
-use Rattle.g4_elements.specs.Bind.{over, in_order_over, either_over}
+use Rattle.g4_source.specs.Elements.{Element, atom, Elements, Alternatives}
+use Rattle.g4_source.specs.Bind.{over, in_order_over, either_over}
 use Rattle.g4_grammar.specs.declared.step.Step.{Step}
 use Rattle.g4_grammar.specs.declared.step.Step.TheVariants as steps
 use Rattle.g4_net.specs.declared.network.State.{State}

@@ -3,12 +3,12 @@ use Rattle.std.proofs.Common.{◌≡◌, ℕ, zero, suc, List, [], ◌∷◌, in
 use Rattle.std.specs.List.{position_or_len}
 use Rattle.std.specs.Str.{bytes_eq}
 use Rattle.std.proofs.lemmas.List.{length-map}
-use Rattle.g4_elements.specs.declared.name.Label.{Label}
-use Rattle.g4_elements.specs.declared.element.Repeat.{Repeat}
-use Rattle.g4_elements.specs.declared.element.Repeat.TheVariants.{Once}
-use Rattle.g4_elements.specs.Bind.{over, in_order_over, either_over, either_bind}
-use Rattle.g4_elements.specs.Blocks.{IsSome, IsFull, AreFull, EachIsFull}
-use Rattle.g4_elements.specs.Elements.{Element, atom, block, Elements, empty, then, Alternatives, none, or, only}
+use Rattle.g4_source.specs.declared.name.Label.{Label}
+use Rattle.g4_source.specs.declared.element.Repeat.{Repeat}
+use Rattle.g4_source.specs.declared.element.Repeat.TheVariants.{Once}
+use Rattle.g4_source.specs.Bind.{over, in_order_over, either_over, either_bind}
+use Rattle.g4_source.specs.Full.{IsSome, IsFull, AreFull, EachIsFull}
+use Rattle.g4_source.specs.Elements.{Element, atom, block, Elements, empty, then, Alternatives, none, or, only}
 use Rattle.g4_source.specs.declared.atom.Atom.{Atom}
 use Rattle.g4_source.specs.declared.atom.AtomKind.{AtomKind}
 use Rattle.g4_source.specs.declared.atom.AtomKind.TheVariants as kinds

@@ -6,7 +6,7 @@ use Rattle.g4_chars.specs.declared.range.Range.{Range}
 use Rattle.g4_chars.specs.Building.{scalars, gaps}
 use Rattle.g4_chars.specs.CharSets.{Has, IsScalar}
 use Rattle.g4_chars.proofs.Ranges.{scalars_has, gaps_has, rise_scalar}
-use Rattle.g4_elements.specs.Elements.{atom}
+use Rattle.g4_source.specs.Elements.{atom}
 use Rattle.g4_source.specs.declared.atom.AtomKind.{AtomKind}
 use Rattle.g4_source.specs.declared.atom.AtomKind.TheVariants as kinds
 use Rattle.g4_grammar.specs.Written.{IsBetween, MatchesKind}

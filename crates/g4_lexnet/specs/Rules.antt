@@ -1,8 +1,8 @@
 -- The rules of a lexer's network.
 use Rattle.std.specs.Prelude.{ℕ, ◌+◌, ◌*◌, List, ◌++◌, length, map, sum_by, flat_map}
 use Rattle.std.specs.List.{range_with_len}
-use Rattle.g4_elements.specs.Bind.{in_order_bind, in_order_over}
-use Rattle.g4_elements.specs.Elements.{Elements, Alternatives, either}
+use Rattle.g4_source.specs.Bind.{in_order_bind, in_order_over}
+use Rattle.g4_source.specs.Elements.{Elements, Alternatives, either}
 use Rattle.g4_source.specs.declared.rule.Command.{Command}
 use Rattle.g4_source.specs.declared.rule.LexerRule.{LexerRule}
 use Rattle.g4_source.specs.declared.source.Mode.{Mode}

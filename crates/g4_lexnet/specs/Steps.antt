@@ -5,8 +5,8 @@ use Rattle.std.specs.Str.{bytes_eq}
 use Rattle.g4_chars.specs.Building.{scalars, gaps}
 use Rattle.g4_chars.specs.CharSets.{IsCanonical}
 use Rattle.g4_chars.specs.declared.range.Range.{Range as Span}
-use Rattle.g4_elements.specs.declared.element.Repeat.TheVariants.{Once}
-use Rattle.g4_elements.specs.Elements.{Element, atom, block, Elements, empty, then, only}
+use Rattle.g4_source.specs.declared.element.Repeat.TheVariants.{Once}
+use Rattle.g4_source.specs.Elements.{Element, atom, block, Elements, empty, then, only}
 use Rattle.g4_source.specs.declared.atom.AtomKind.{AtomKind}
 use Rattle.g4_source.specs.declared.atom.AtomKind.TheVariants as kinds
 use Rattle.g4_grammar.specs.declared.step.Step.{Step}

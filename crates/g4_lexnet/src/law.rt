@@ -2,7 +2,7 @@
 ghost use Rattle.std.specs.Prelude.{◌≡◌, ◌↔◌, ℕ, List, [], ◌∷◌, length};
 ghost use Rattle.g4_chars.specs.CharSets.{Has, IsScalar};
 ghost use Rattle.g4_chars.specs.declared.range.Range.{Range as Span};
-ghost use Rattle.g4_elements.specs.Elements.{atom};
+ghost use Rattle.g4_source.specs.Elements.{atom};
 ghost use Rattle.g4_source.specs.declared.atom.AtomKind.{AtomKind as Kind};
 ghost use Rattle.g4_source.specs.declared.rule.LexerRule.{LexerRule as Rule};
 ghost use Rattle.g4_source.specs.declared.source.Mode.{Mode as ModeOf};

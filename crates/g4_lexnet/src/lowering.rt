@@ -1,6 +1,6 @@
 // From lexer rules as they are written to rules over steps: a literal becomes its characters, and a reference a call by number.
 ghost use Rattle.std.specs.Prelude.{◌≡◌, ◌<◌, ◌^◌, IfOk, length, map};
-ghost use Rattle.g4_elements.specs.Trees.{element_of};
+ghost use Rattle.g4_source.specs.Trees.{element_of};
 ghost use Rattle.g4_places.specs.Places.{ArePlaces};
 ghost use Rattle.g4_lexnet.specs.Steps.{chained, reference};
 ghost use Rattle.g4_lexnet.specs.Rules.{names_of, lowered};
@@ -9,9 +9,8 @@ use crate::chars::{all, others, spanned};
 use crate::step::LexerStep;
 use g4_base::Sequence;
 use g4_chars::CharSet;
-use g4_elements::{Alternative, Element, Elements, Repeat, Substitution, substituted};
+use g4_source::{Alternative, Atom, AtomKind, Element, Elements, LexerRule, Repeat, Substitution, substituted};
 use g4_places::Places;
-use g4_source::{Atom, AtomKind, LexerRule};
 use std::alloc::{AllocError, Global};
 
 /// The rules that references may call, and the place of each name among them.
@@ -70,7 +69,7 @@ impl Substitution<Atom> for Stage<'_> {
 
     ghost image = { λ stage a. element_of_kind (names stage.rules.now) a.kind };
 
-    #[tactic(auto, using(g4_elements::proofs::Trees::of_atom))]
+    #[tactic(auto, using(g4_source::proofs::Trees::of_atom))]
     fn image(&self, alloc: Global, atom: &Atom) -> Result<Element<LexerStep>, AllocError> {
         let step = match &atom.kind {
             AtomKind::Literal(literal) => {

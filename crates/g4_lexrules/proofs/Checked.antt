@@ -5,7 +5,7 @@ use Rattle.g4_source.specs.declared.source.Source.{Source}
 use Rattle.g4_source.specs.Blocks.{HaveAlternatives, LexerRulesAreFull, ModesAreFull}
 use Rattle.g4_source.specs.declared.source.Mode.{Mode}
 use Rattle.g4_source.specs.Rules.{lexer_rules}
-use Rattle.g4_rules.specs.Rules.{rules_of}
+use Rattle.g4_source.specs.InOrder.{rules_of}
 use Rattle.g4_grammar.specs.Written.{RulesAreDefined, RulesCanRun}
 use Rattle.g4_vocab.specs.Numbering.{types_of}
 use Rattle.g4_lexnet.specs.Lexable.{CanBeLexed}

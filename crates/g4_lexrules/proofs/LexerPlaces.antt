@@ -10,8 +10,8 @@ use Rattle.g4_source.specs.declared.rule.LexerRule.{LexerRule}
 use Rattle.g4_source.specs.declared.source.Mode.{Mode}
 use Rattle.g4_source.specs.declared.source.Source.{Source}
 use Rattle.g4_source.specs.Rules.{lexer_rule, lexer_rules}
-use Rattle.g4_rules.specs.declared.kind.RuleKind.TheVariants as rule_kinds
-use Rattle.g4_rules.specs.Rules.{mode_rules, rules_of}
+use Rattle.g4_source.specs.declared.kind.RuleKind.TheVariants as rule_kinds
+use Rattle.g4_source.specs.InOrder.{mode_rules, rules_of}
 use Rattle.g4_grammar.specs.Written.{is_rule_of}
 use Rattle.g4_grammar.proofs.Positions.{at_first, at_later, from_later}
 use Rattle.g4_lexnet.specs.Rules.{names_of, rules_of_modes}

@@ -7,9 +7,9 @@ use Rattle.std.proofs.lemmas.Bool.{cases_Bool}
 use Rattle.std.proofs.lemmas.List.{length-map}
 use Rattle.std.proofs.lemmas.List.Elements.{All-nil, All-cons, All-head, All-tail}
 use Rattle.std.proofs.lemmas.Option.{slice_get_within, slice_get-map}
-use Rattle.g4_elements.specs.Elements.{Element, atom, block, Elements, empty, then, Alternatives, none, or, atoms, atoms_in_order, atoms_of_either}
-use Rattle.g4_elements.specs.Bind.{over, in_order_over, either_over}
-use Rattle.g4_elements.proofs.Parts.{All-front, All-rest}
+use Rattle.g4_source.specs.Elements.{Element, atom, block, Elements, empty, then, Alternatives, none, or, atoms, atoms_in_order, atoms_of_either}
+use Rattle.g4_source.specs.Bind.{over, in_order_over, either_over}
+use Rattle.g4_source.proofs.Parts.{All-front, All-rest}
 use Rattle.g4_source.specs.declared.atom.Atom.{Atom}
 use Rattle.g4_source.specs.declared.atom.AtomKind.{AtomKind}
 use Rattle.g4_source.specs.declared.atom.AtomKind.TheVariants as kinds
@@ -18,9 +18,9 @@ use Rattle.g4_source.specs.declared.rule.Rule.TheVariants.{Parser, Lexer}
 use Rattle.g4_source.specs.declared.rule.LexerRule.{LexerRule}
 use Rattle.g4_source.specs.Blocks.{LexerRulesAreFull}
 use Rattle.g4_source.specs.Rules.{lexer_rules, lexer_alternatives_of}
-use Rattle.g4_rules.specs.declared.kind.RuleKind.{RuleKind}
-use Rattle.g4_rules.specs.declared.kind.RuleKind.TheVariants as rule_kinds
-use Rattle.g4_rules.specs.Atoms.{AtomIn, all_atoms, atom_in, body_of, bodies_of, rule_atoms}
+use Rattle.g4_source.specs.declared.kind.RuleKind.{RuleKind}
+use Rattle.g4_source.specs.declared.kind.RuleKind.TheVariants as rule_kinds
+use Rattle.g4_source.specs.Atoms.{AtomIn, all_atoms, atom_in, body_of, bodies_of, rule_atoms}
 use Rattle.g4_grammar.specs.LeftCalls.{HasCall, OneHasCall, SomeHasCall}
 use Rattle.g4_grammar.specs.Written.{ReadsIn, KindReads, CallsIn, KindCalls, OwnIn, is_rule_of, KindIsDefined, RulesAreDefined, RulesCanRun}
 use Rattle.g4_grammar.proofs.Carried.{either_over_twice}

@@ -1,6 +1,6 @@
 -- Rules that are a literal: they call nothing, and have a name that no reference calls.
 use Rattle.std.proofs.Common.{codes, ◌≡◌, inl, inr, ℕ, List, [], ◌∷◌, false, None, map, sym, subst}
-use Rattle.g4_elements.specs.Elements.{Alternatives, either}
+use Rattle.g4_source.specs.Elements.{Alternatives, either}
 use Rattle.g4_source.specs.declared.atom.Atom.{Atom}
 use Rattle.g4_source.specs.declared.atom.AtomKind.TheVariants as kinds
 use Rattle.g4_source.specs.declared.atom.Literal.{Literal}
@@ -8,7 +8,7 @@ use Rattle.g4_source.specs.declared.rule.LexerRule.{LexerRule}
 use Rattle.g4_source.specs.declared.rule.LexerAlternative.{LexerAlternative}
 use Rattle.g4_source.specs.Blocks.{LexerRuleIsFull}
 use Rattle.g4_source.specs.Rules.{lexer_alternatives_of}
-use Rattle.g4_elements.specs.Blocks.{AreFullAlternatives}
+use Rattle.g4_source.specs.Full.{AreFullAlternatives}
 use Rattle.g4_lexnet.specs.Lexable.{ReadsAtom, CallsNamed}
 use Rattle.g4_vocab.specs.Numbering.{literal_alternative}
 use Rattle.g4_lexrules.proofs.Renumbered.{IsClosed}

@@ -4,7 +4,7 @@ ghost use Rattle.std.specs.List.{list_any};
 ghost use Rattle.std.specs.Str.{bytes_eq};
 ghost use Rattle.g4_source.specs.declared.source.Source.{Source as Written};
 ghost use Rattle.g4_source.specs.Blocks.{HaveAlternatives};
-ghost use Rattle.g4_rules.specs.Rules.{rules_of};
+ghost use Rattle.g4_source.specs.InOrder.{rules_of};
 ghost use Rattle.g4_grammar.specs.Written.{RulesAreDefined, RulesCanRun};
 ghost use Rattle.g4_vocab.specs.declared.types.Key.TheVariants.{Name};
 ghost use Rattle.g4_vocab.specs.Numbering.{token_lexers, types_of};

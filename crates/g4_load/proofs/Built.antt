@@ -15,7 +15,7 @@ use Rattle.g4_vocab.specs.Answers.{GivesNumbered}
 use Rattle.g4_vocab.specs.declared.fault.NumberFault.{NumberFault}
 use Rattle.g4_checks.specs.Checking.{IsChecked}
 use Rattle.g4_checks.specs.declared.fault.CheckFault.{CheckFault}
-use Rattle.g4_source.specs.Blocks.{ParserRulesAreFull}
+use Rattle.g4_source.specs.Blocks.{ParserRulesAreFull, HaveAlternatives, LexerRulesAreFull, ModesAreFull}
 use Rattle.g4_grammar.specs.NumberedRules.{NumberedRuleIsUntested, NumberedRulesAreDefined, NumberedRulesCanRun, RuleLeavesEnd}
 use Rattle.g4_grammar.specs.StepRules.{StepRule, CanBeRewritten}
 use Rattle.g4_grammar.specs.declared.step.Numbering.{Numbering}
@@ -41,8 +41,7 @@ use Rattle.g4_load.specs.declared.stop.Halt.{Halt}
 use Rattle.g4_load.specs.declared.stop.Halt.TheVariants as halts
 use Rattle.g4_load.specs.Stages.{Gives, Then, stops, goes_on, OfFile, passes, fails, IsErrorOf, IsHaltOf}
 use Rattle.g4_load.specs.Files.{Files}
-use Rattle.g4_source.specs.Blocks.{HaveAlternatives, LexerRulesAreFull, ModesAreFull}
-use Rattle.g4_rules.specs.Rules.{rules_of}
+use Rattle.g4_source.specs.InOrder.{rules_of}
 use Rattle.g4_grammar.specs.Written.{RulesAreDefined, RulesCanRun}
 use Rattle.g4_symbols.specs.declared.symbol.TheConstants.{MOST_TYPES}
 use Rattle.g4_commands.specs.Tables.{tables_of}

@@ -1,7 +1,7 @@
 -- A tree whose atoms are kept is the same tree.
 use Rattle.std.proofs.Common.{◌≡◌, refl, ap, ◌∙◌}
-use Rattle.g4_elements.specs.Elements.{Element, atom, block, Elements, empty, then, Alternatives, none, or}
-use Rattle.g4_elements.specs.Bind.{bind, in_order_bind, either_bind}
+use Rattle.g4_source.specs.Elements.{Element, atom, block, Elements, empty, then, Alternatives, none, or}
+use Rattle.g4_source.specs.Bind.{bind, in_order_bind, either_bind}
 
 module _ {A : Type 0} where
   mutual

@@ -5,7 +5,7 @@ use Rattle.std.specs.Option.{IfSome}
 use Rattle.std.specs.Str.{bytes_eq}
 use Rattle.std.proofs.lemmas.List.{append-nil}
 use Rattle.std.proofs.lemmas.List.Elements.{All-nil, All-cons, All-head, All-tail, All-append}
-use Rattle.g4_elements.proofs.Parts.{All-front, All-rest}
+use Rattle.g4_source.proofs.Parts.{All-front, All-rest}
 use Rattle.g4_source.specs.Rules.{lexer_rules}
 use Rattle.g4_source.specs.declared.atom.TokenReference.{TokenReference}
 use Rattle.g4_source.specs.declared.atom.TokenReference.TheVariants as refs
@@ -16,7 +16,7 @@ use Rattle.g4_source.specs.declared.rule.LexerAlternative.{LexerAlternative}
 use Rattle.g4_source.specs.declared.rule.Rule.{Rule}
 use Rattle.g4_source.specs.declared.rule.Rule.TheVariants.{Parser, Lexer}
 use Rattle.g4_source.specs.declared.source.Source.{Source}
-use Rattle.g4_rules.specs.Rules.{mode_rules, rules_of}
+use Rattle.g4_source.specs.InOrder.{mode_rules, rules_of}
 use Rattle.g4_references.specs.Checking.{HasNoClash, commands_in}
 use Rattle.g4_references.specs.Commands.{all_commands}
 use Rattle.g4_commands.specs.Known.{ArgumentIsUnknownType, IsKnown, TakesNoType, is_token_name}

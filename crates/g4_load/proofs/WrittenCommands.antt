@@ -18,7 +18,7 @@ use Rattle.g4_vocab.specs.declared.types.Key.{Key}
 use Rattle.g4_vocab.specs.declared.types.Key.TheVariants as keys
 use Rattle.g4_lexnet.specs.Rules.{all_rules, commands_of, rules_of_modes}
 use Rattle.g4_lexrules.specs.Rules.{lexer_modes, literal_tokens, rule_of_token}
-use Rattle.g4_elements.proofs.Parts.{All-front, All-rest}
+use Rattle.g4_source.proofs.Parts.{All-front, All-rest}
 
 module _ (P : Command → Type 0) where
   -- what holds of each command of some alternatives, alternative by alternative

@@ -2,9 +2,8 @@
 ghost use Rattle.std.specs.Prelude.{◌≡◌, IfOk};
 
 use g4_base::{Sequence, Text};
-use g4_elements::{Element, Substitution, substituted};
+use g4_source::{AlternativeLabel, Element, RuleAlternative, Substitution, substituted};
 use g4_grammar::{Step, StepRule};
-use g4_source::{AlternativeLabel, RuleAlternative};
 use g4_symbols::Symbols;
 use std::alloc::{AllocError, Global};
 
@@ -30,7 +29,7 @@ fn step(alloc: Global, step: &Step<Symbols>) -> Result<Step<Symbols>, AllocError
 struct Same;
 
 impl Substitution<Step<Symbols>> for Same {
-    ghost use Rattle.g4_elements.specs.Elements.{atom};
+    ghost use Rattle.g4_source.specs.Elements.{atom};
 
     type To = Step<Symbols>;
 

@@ -1,8 +1,7 @@
 // Trees of small rules, worked out by hand, and large trees.
 use g4_base::{Place, Sequence, Text};
-use g4_elements::{Alternative, Element, Elements, Repeat, Suffix};
+use g4_source::{Alternative, Element, Elements, Repeat, RuleAlternative, Suffix};
 use g4_grammar::{Step, StepRule};
-use g4_source::RuleAlternative;
 use g4_symbols::Symbols;
 use g4_token_list::Token;
 use g4_tree_check::check_tree;

@@ -5,12 +5,12 @@ use Rattle.std.specs.List.{slice_get, All, Contains}
 use Rattle.std.proofs.lemmas.List.{append-nil, length-append}
 use Rattle.std.proofs.lemmas.List.Elements.{All-nil, All-push, All-weaker, Contains-push, Contains-append_left}
 use Rattle.std.proofs.lemmas.Option.{same_Some, slice_get_within, slice_get_cases}
-use Rattle.g4_elements.specs.declared.name.Label.{Label}
-use Rattle.g4_elements.specs.declared.element.Suffix.{Suffix}
-use Rattle.g4_elements.specs.declared.element.Repeat.{Repeat}
-use Rattle.g4_elements.specs.declared.element.Repeat.TheVariants.{Once, Optional, Star, Plus}
-use Rattle.g4_elements.specs.Elements.{Element, atom, block, Elements, empty, then, Alternatives, either}
-use Rattle.g4_elements.specs.Trees.{in_order}
+use Rattle.g4_source.specs.declared.name.Label.{Label}
+use Rattle.g4_source.specs.declared.element.Suffix.{Suffix}
+use Rattle.g4_source.specs.declared.element.Repeat.{Repeat}
+use Rattle.g4_source.specs.declared.element.Repeat.TheVariants.{Once, Optional, Star, Plus}
+use Rattle.g4_source.specs.Elements.{Element, atom, block, Elements, empty, then, Alternatives, either}
+use Rattle.g4_source.specs.Trees.{in_order}
 use Rattle.g4_grammar.specs.LeftCalls.{Nullable, AllNullable}
 use Rattle.g4_horn.specs.declared.clause.Clause.{Clause}
 use Rattle.g4_nullable.specs.declared.lead.Lead.{Lead}

@@ -2,14 +2,14 @@
 use Rattle.std.proofs.Common.{◌≡◌, ℕ, ◌<◌, List, map, length, get_or, Option, Some, Vec, Global, refl, sym, ap, ◌∙◌}
 use Rattle.std.specs.List.{slice_get}
 use Rattle.std.proofs.lemmas.Option.{slice_get_read}
-use Rattle.g4_elements.specs.declared.name.Label.{Label}
-use Rattle.g4_elements.specs.declared.element.Repeat.{Repeat}
-use Rattle.g4_elements.specs.declared.element.Element.{Element as Node}
-use Rattle.g4_elements.specs.declared.element.Element.TheVariants as nodes
-use Rattle.g4_elements.specs.declared.element.Alternative.{Alternative as Side, out-Alternative}
-use Rattle.g4_elements.specs.Elements.{atom, block, Elements, either}
-use Rattle.g4_elements.specs.Trees.{in_order, element_of, alternative_of}
-use Rattle.g4_elements.proofs.Trees.{of_atom, of_block, of_alternative}
+use Rattle.g4_source.specs.declared.name.Label.{Label}
+use Rattle.g4_source.specs.declared.element.Repeat.{Repeat}
+use Rattle.g4_source.specs.declared.element.Element.{Element as Node}
+use Rattle.g4_source.specs.declared.element.Element.TheVariants as nodes
+use Rattle.g4_source.specs.declared.element.Alternative.{Alternative as Side, out-Alternative}
+use Rattle.g4_source.specs.Elements.{atom, block, Elements, either}
+use Rattle.g4_source.specs.Trees.{in_order, element_of, alternative_of}
+use Rattle.g4_source.proofs.Trees.{of_atom, of_block, of_alternative}
 use Rattle.g4_nullable.specs.declared.lead.Lead.{Lead}
 use Rattle.g4_nullable.proofs.Trees.{mapped_at}
 

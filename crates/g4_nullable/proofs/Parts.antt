@@ -1,10 +1,10 @@
 -- What elements and alternatives are, by their first one and the rest.
 use Rattle.std.proofs.Common.{◌↔◌, ℕ, ◌⊎◌, inl, inr, List, [], Option, refl, sym, ap, ◌∙◌}
 use Rattle.std.specs.List.{slice_get}
-use Rattle.g4_elements.specs.declared.name.Label.{Label}
-use Rattle.g4_elements.specs.declared.element.Suffix.{Suffix}
-use Rattle.g4_elements.specs.declared.element.Repeat.TheVariants.{Once, Plus}
-use Rattle.g4_elements.specs.Elements.{Element, atom, block, Elements, then, Alternatives, none, or}
+use Rattle.g4_source.specs.declared.name.Label.{Label}
+use Rattle.g4_source.specs.declared.element.Suffix.{Suffix}
+use Rattle.g4_source.specs.declared.element.Repeat.TheVariants.{Once, Plus}
+use Rattle.g4_source.specs.Elements.{Element, atom, block, Elements, then, Alternatives, none, or}
 use Rattle.g4_grammar.specs.Derives.{DerivesOne}
 use Rattle.g4_grammar.specs.LeftCalls.{Nullable, an_atom, a_call, a_block, a_plus, AllNullable, one_more, OneNullable, this, another}
 use Rattle.g4_grammar.proofs.Empty.{one_derives_nothing, one_is_nullable}

@@ -4,7 +4,7 @@ use Rattle.std.specs.Global.{Global}
 use Rattle.std.specs.List.{slice_get, Contains}
 use Rattle.std.proofs.lemmas.List.{drop_all}
 use Rattle.std.proofs.lemmas.Option.{same_Some}
-use Rattle.g4_elements.specs.Elements.{atom, block, Elements, empty, then, Alternatives, none, or, either}
+use Rattle.g4_source.specs.Elements.{atom, block, Elements, empty, then, Alternatives, none, or, either}
 use Rattle.g4_grammar.specs.LeftCalls.{Nullable, IsLeftOfAll}
 use Rattle.g4_grammar.specs.OwnCalls.{IsOperator, IsLeftAsRun, IsLeftOfOneAsRun, LeftCallsAsRun}
 use Rattle.g4_nullable.specs.declared.lead.Lead.{Lead}

@@ -4,8 +4,8 @@ use Rattle.std.specs.List.{slice_get}
 use Rattle.std.specs.Option.{option_map}
 use Rattle.std.proofs.lemmas.List.{take_more, take_all, length-map}
 use Rattle.std.proofs.lemmas.Option.{same_Some, slice_get_within, get_or_from_slice_get, slice_get-map}
-use Rattle.g4_elements.specs.Elements.{Element, Elements, Alternatives, none, or, either}
-use Rattle.g4_elements.specs.Trees.{in_order}
+use Rattle.g4_source.specs.Elements.{Element, Elements, Alternatives, none, or, either}
+use Rattle.g4_source.specs.Trees.{in_order}
 use Rattle.g4_grammar.specs.LeftCalls.{Nullable, AllNullable, one_more, OneNullable, this, another}
 use Rattle.g4_nullable.specs.declared.lead.Lead.{Lead}
 use Rattle.g4_nullable.specs.Leads.{ReadsLead, CallsLead}

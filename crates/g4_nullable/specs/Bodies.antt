@@ -1,8 +1,8 @@
 -- Bodies by number and their clauses. A body is the alternatives of a rule or of a block. It derives the empty word where the
 -- needs of one of its alternatives do, which are bodies again.
 use Rattle.std.specs.Prelude.{◌≡◌, ◌<◌, ◌≤◌, ℕ, List, [], ◌∷◌, ◌++◌, ◌⊎◌, Bool, true, false, Some, All, Contains, length, slice_get}
-use Rattle.g4_elements.specs.declared.element.Repeat.TheVariants.{Once, Optional, Star, Plus}
-use Rattle.g4_elements.specs.Elements.{Element, atom, block, Elements, empty, then, Alternatives, none, or}
+use Rattle.g4_source.specs.declared.element.Repeat.TheVariants.{Once, Optional, Star, Plus}
+use Rattle.g4_source.specs.Elements.{Element, atom, block, Elements, empty, then, Alternatives, none, or}
 use Rattle.g4_grammar.specs.LeftCalls.{Nullable, AllNullable}
 use Rattle.g4_horn.specs.declared.clause.Clause.{Clause}
 use Rattle.g4_nullable.specs.declared.lead.Lead.{Lead}

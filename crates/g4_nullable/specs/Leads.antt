@@ -1,6 +1,6 @@
 -- Rules whose atoms are seen by what they do before anything is read.
 use Rattle.std.specs.Prelude.{◌≡◌, ℕ, List, [], ◌∷◌, Bool, true, map, Some, slice_get}
-use Rattle.g4_elements.specs.Elements.{atom, Elements, then, Alternatives, either}
+use Rattle.g4_source.specs.Elements.{atom, Elements, then, Alternatives, either}
 use Rattle.g4_grammar.specs.LeftCalls.{OneNullable}
 use Rattle.g4_nullable.specs.declared.lead.Lead.{Lead}
 use Rattle.g4_nullable.specs.declared.lead.Lead.TheVariants.{Empty, Symbol, Call}

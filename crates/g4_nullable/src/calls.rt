@@ -1,9 +1,9 @@
 // Which rules a rule calls before anything is read.
 ghost use Rattle.std.specs.Prelude.{◌≡◌, ◌↔◌, ◌⊎◌, Bool, IsTrue, ℕ, List, map, Option, Some, Vec, IfOk, OnOk, Contains, length, slice_get, vec_len, ◌||◌};
 ghost use Rattle.std.specs.Global.{Global as TheGlobal};
-ghost use Rattle.g4_elements.specs.declared.name.Label.{Label as Named};
-ghost use Rattle.g4_elements.specs.Elements.{atom as lone, block, Alternatives, either};
-ghost use Rattle.g4_elements.specs.Trees.{element_of, alternative_of, in_order};
+ghost use Rattle.g4_source.specs.declared.name.Label.{Label as Named};
+ghost use Rattle.g4_source.specs.Elements.{atom as lone, block, Alternatives, either};
+ghost use Rattle.g4_source.specs.Trees.{element_of, alternative_of, in_order};
 ghost use Rattle.g4_grammar.specs.LeftCalls.{Nullable, AllNullable, OneNullable, IsLeftOf, IsLeftOfAll, IsLeftOfOne};
 ghost use Rattle.g4_grammar.specs.OwnCalls.{IsLeftAsRun, IsLeftOfOneAsRun, LeftCallsAsRun};
 ghost use Rattle.g4_horn.specs.Follows.{Tells};
@@ -14,7 +14,7 @@ ghost use Rattle.g4_nullable.specs.Finds.{TellsCalls};
 use crate::lead::{is_nullable, says};
 use crate::own::after_own_call;
 use crate::{Lead, LeadRule};
-use g4_elements::{Alternative, Element, Repeat};
+use g4_source::{Alternative, Element, Repeat};
 use std::alloc::{AllocError, Global};
 
 /// Adds the call of an atom, and says whether the atom derives the empty word.

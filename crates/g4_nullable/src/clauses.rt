@@ -1,16 +1,16 @@
 // The clauses of bodies. A body is the alternatives of a rule or of a block, and has a number: rules come first. An alternative
 // has a clause whose needs are the bodies of its elements, unless one of these reads something.
 ghost use Rattle.std.specs.Prelude.{◌≡◌, ◌+◌, ℕ, List, map, Option, IfOk, OnOk, length, slice_get, Some};
-ghost use Rattle.g4_elements.specs.declared.name.Label.{Label as Named};
-ghost use Rattle.g4_elements.specs.Elements.{atom as lone, block, Alternatives, either};
-ghost use Rattle.g4_elements.specs.Trees.{element_of, alternative_of, in_order};
+ghost use Rattle.g4_source.specs.declared.name.Label.{Label as Named};
+ghost use Rattle.g4_source.specs.Elements.{atom as lone, block, Alternatives, either};
+ghost use Rattle.g4_source.specs.Trees.{element_of, alternative_of, in_order};
 ghost use Rattle.g4_grammar.specs.LeftCalls.{AllNullable};
 ghost use Rattle.g4_nullable.specs.declared.lead.Lead.{Lead as Atom};
 ghost use Rattle.g4_nullable.specs.Leads.{ReadsLead, CallsLead, trees_of};
 ghost use Rattle.g4_nullable.specs.Bodies.{AddsNeeds, AreBodies, AreCovered, Grows, HasClause, IsAlternative, IsCovered};
 
 use crate::{Lead, LeadRule};
-use g4_elements::{Alternative, Element, Elements, Repeat};
+use g4_source::{Alternative, Element, Elements, Repeat};
 use g4_horn::Clause;
 use std::alloc::{AllocError, Global};
 

@@ -1,13 +1,13 @@
 // Atoms by what they do before anything is read.
 ghost use Rattle.std.specs.Prelude.{◌≡◌, ◌↔◌, IsTrue, List, slice_get, Some, true};
-ghost use Rattle.g4_elements.specs.Elements.{atom as lone, Alternatives};
+ghost use Rattle.g4_source.specs.Elements.{atom as lone, Alternatives};
 ghost use Rattle.g4_grammar.specs.LeftCalls.{Nullable};
 ghost use Rattle.g4_horn.specs.Follows.{Tells};
 ghost use Rattle.g4_nullable.specs.declared.lead.Lead.{Lead as Atom};
 ghost use Rattle.g4_nullable.specs.Leads.{ReadsLead, CallsLead, IsNullableRule};
 
 use g4_base::Sequence;
-use g4_elements::Elements;
+use g4_source::Elements;
 
 /// What an atom does before anything is read.
 #[derive(Clone, Copy, Debug, PartialEq, Eq)]

@@ -1,8 +1,8 @@
 // Which elements derive the empty word, and which rules have a loop that can be empty.
 ghost use Rattle.std.specs.Prelude.{◌≡◌, ◌↔◌, IsTrue, List, map, Option, ◌||◌, ◌&&◌};
-ghost use Rattle.g4_elements.specs.declared.name.Label.{Label as Named};
-ghost use Rattle.g4_elements.specs.Elements.{block, Alternatives, either};
-ghost use Rattle.g4_elements.specs.Trees.{element_of, alternative_of, in_order};
+ghost use Rattle.g4_source.specs.declared.name.Label.{Label as Named};
+ghost use Rattle.g4_source.specs.Elements.{block, Alternatives, either};
+ghost use Rattle.g4_source.specs.Trees.{element_of, alternative_of, in_order};
 ghost use Rattle.g4_grammar.specs.LeftCalls.{Nullable, AllNullable, OneNullable};
 ghost use Rattle.g4_grammar.specs.Loops.{HasEmptyLoop, OneHasEmptyLoop, SomeHasEmptyLoop};
 ghost use Rattle.g4_horn.specs.Follows.{Tells};
@@ -12,7 +12,7 @@ ghost use Rattle.g4_nullable.specs.Finds.{TellsLoops};
 
 use crate::lead::is_nullable;
 use crate::{Lead, LeadRule};
-use g4_elements::{Alternative, Element, Repeat};
+use g4_source::{Alternative, Element, Repeat};
 
 /// What is found of elements: whether they derive the empty word, and whether a `*` or `+` among them has a body that
 /// does.

@@ -1,13 +1,13 @@
 // Alternatives that begin with a call of their own rule.
 ghost use Rattle.std.specs.Prelude.{◌≡◌, ◌↔◌, Bool, IsTrue, List, MatchOption, Some, map, slice_get};
-ghost use Rattle.g4_elements.specs.Elements.{atom as lone, Elements as Tree};
-ghost use Rattle.g4_elements.specs.Trees.{element_of, in_order};
+ghost use Rattle.g4_source.specs.Elements.{atom as lone, Elements as Tree};
+ghost use Rattle.g4_source.specs.Trees.{element_of, in_order};
 ghost use Rattle.g4_grammar.specs.OwnCalls.{IsOperator};
 ghost use Rattle.g4_nullable.specs.declared.lead.Lead.{Lead as Atom};
 ghost use Rattle.g4_nullable.specs.Leads.{FollowsCall, OwnLead};
 
 use crate::Lead;
-use g4_elements::Element;
+use g4_source::Element;
 
 /// Whether it is a call of the rule of this number.
 fn is_call(lead: Lead, number: usize) -> bool

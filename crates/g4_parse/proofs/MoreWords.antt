@@ -1,6 +1,6 @@
 -- Where atoms read some words more, elements still derive what they derived.
 use Rattle.std.proofs.Common.{List, []}
-use Rattle.g4_elements.specs.Elements.{Element, Elements, Alternatives}
+use Rattle.g4_source.specs.Elements.{Element, Elements, Alternatives}
 use Rattle.g4_grammar.specs.Derives.{NoCalls, Derives, an_atom, a_call, a_block, left_out, taken, no_turn, a_turn, turns, DerivesAll, nothing, one_more, DerivesOne, this, another}
 
 module _ {A W : Type 0} (Reads More : A → List W → Type 0) (more : (a : A) (w : List W) → Reads a w → More a w) where

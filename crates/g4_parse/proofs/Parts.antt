@@ -1,7 +1,7 @@
 -- The children so far of an open rule are part of a word of its alternative: what walks from its state to the end of the rule
 -- read, without passing a level, completes them to such a word.
 use Rattle.std.proofs.Common.{◌≡◌, ℕ, ◌+◌, List, [], ◌∷◌, ◌++◌, Option, Some, refl, sym, ◌∙◌, ap, subst, append_assoc, append-nil}
-use Rattle.g4_elements.specs.Elements.{atom, Elements, then}
+use Rattle.g4_source.specs.Elements.{atom, Elements, then}
 use Rattle.g4_source.specs.Rules.{bodies_of}
 use Rattle.g4_grammar.specs.declared.step.Step.{Step}
 use Rattle.g4_grammar.specs.declared.step.Step.TheVariants as steps

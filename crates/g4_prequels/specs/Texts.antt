@@ -6,7 +6,7 @@ use Rattle.g4_base.specs.Place.{first_place}
 use Rattle.g4_tokens.specs.Spelling.{literal_spelling}
 use Rattle.g4_tokens.specs.declared.token.Token.{Token}
 use Rattle.g4_source.specs.declared.atom.Literal.{Literal}
-use Rattle.g4_elements.specs.declared.name.Name.{Name}
+use Rattle.g4_source.specs.declared.name.Name.{Name}
 use Rattle.g4_syntax.specs.Notation.{Spelled, Terminal, Expression, one, optional}
 use Rattle.g4_syntax.specs.Trees.{Tree, leaf, absent, present}
 

@@ -11,7 +11,7 @@ ghost use Rattle.g4_prequels.specs.Texts.{spelled, is_present, place_of, text_of
 
 use crate::spelling::{part, token_at};
 use g4_base::{Place, Text};
-use g4_elements::Name;
+use g4_source::Name;
 use g4_tokens::{Kind, Token};
 use std::alloc::{AllocError, Global};
 use std::marker::Model;

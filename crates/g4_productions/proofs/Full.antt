@@ -1,12 +1,12 @@
 -- Each rule and each block of a grammar text has an alternative.
 use Rattle.std.proofs.Common.{map, Option}
 use Rattle.g4_tokens.specs.declared.token.Kind.TheVariants as kinds
-use Rattle.g4_elements.specs.declared.name.Label.{Label}
-use Rattle.g4_elements.specs.Blocks.{IsSome, IsFull, AreFull, EachIsFull, AreFullAlternatives}
-use Rattle.g4_elements.specs.Elements.{either}
-use Rattle.g4_elements.specs.Trees.{in_order}
-use Rattle.g4_elements.specs.declared.element.Repeat.{Repeat}
-use Rattle.g4_elements.specs.declared.element.Repeat.TheVariants as repeats
+use Rattle.g4_source.specs.declared.name.Label.{Label}
+use Rattle.g4_source.specs.Full.{IsSome, IsFull, AreFull, EachIsFull, AreFullAlternatives}
+use Rattle.g4_source.specs.Elements.{either}
+use Rattle.g4_source.specs.Trees.{in_order}
+use Rattle.g4_source.specs.declared.element.Repeat.{Repeat}
+use Rattle.g4_source.specs.declared.element.Repeat.TheVariants as repeats
 use Rattle.g4_source.specs.Blocks.{LexerRuleIsFull, RulesAreFull, LexerRulesAreFull, ModesAreFull, HaveAlternatives}
 use Rattle.g4_syntax.specs.Notation.{element, lexer_element, ◌▸◌, ◌∣◌, repeated, part, sign}
 use Rattle.g4_syntax.specs.Productions.{action, alternative, unnamed_item, item, labelled_item, unnamed_lexer_item, lexer_item, labelled_lexer_item, rule_alternative, parser_rule, lexer_alternative, lexer_rule, mode, grammar}

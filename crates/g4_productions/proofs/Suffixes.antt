@@ -1,13 +1,13 @@
 -- Atoms with signs are blocks.
 use Rattle.std.proofs.Common.{◌≡◌, List, [], ◌∷◌, map, Vec, Global, refl, ◌∙◌, ap}
-use Rattle.g4_elements.specs.declared.element.Repeat.{Repeat}
-use Rattle.g4_elements.specs.declared.element.Repeat.TheVariants as repeats
-use Rattle.g4_elements.specs.declared.element.Alternative.{Alternative as Side, roll-Alternative}
-use Rattle.g4_elements.specs.declared.element.Element.{Element as Node}
-use Rattle.g4_elements.specs.declared.element.Element.TheVariants as nodes
-use Rattle.g4_elements.specs.Elements.{Element, atom, block, Elements, empty, then, only, either}
-use Rattle.g4_elements.specs.Trees.{in_order, element_of, alternative_of}
-use Rattle.g4_elements.proofs.Trees.{of_atom, of_block, of_elements}
+use Rattle.g4_source.specs.declared.element.Repeat.{Repeat}
+use Rattle.g4_source.specs.declared.element.Repeat.TheVariants as repeats
+use Rattle.g4_source.specs.declared.element.Alternative.{Alternative as Side, roll-Alternative}
+use Rattle.g4_source.specs.declared.element.Element.{Element as Node}
+use Rattle.g4_source.specs.declared.element.Element.TheVariants as nodes
+use Rattle.g4_source.specs.Elements.{Element, atom, block, Elements, empty, then, only, either}
+use Rattle.g4_source.specs.Trees.{in_order, element_of, alternative_of}
+use Rattle.g4_source.proofs.Trees.{of_atom, of_block, of_elements}
 use Rattle.g4_source.specs.declared.atom.Atom.{Atom}
 use Rattle.g4_productions.specs.Elements.{single, unlabelled, with_suffix}
 

@@ -1,13 +1,13 @@
 -- What is common to the elements of parser rules and of lexer rules.
 use Rattle.std.specs.Prelude.{List, Bool, true, false, not, Option, None, map}
 use Rattle.std.proofs.Common.{Vec, Global}
-use Rattle.g4_elements.specs.Elements.{Element, atom, block, Elements, empty, then, Alternatives, only, either}
-use Rattle.g4_elements.specs.Trees.{element_of, alternative_of}
-use Rattle.g4_elements.specs.declared.element.Alternative.{Alternative as Side}
-use Rattle.g4_elements.specs.declared.element.Element.{Element as Item}
-use Rattle.g4_elements.specs.declared.name.Label.{Label}
-use Rattle.g4_elements.specs.declared.element.Repeat.{Repeat}
-use Rattle.g4_elements.specs.declared.element.Repeat.TheVariants as repeats
+use Rattle.g4_source.specs.Elements.{Element, atom, block, Elements, empty, then, Alternatives, only, either}
+use Rattle.g4_source.specs.Trees.{element_of, alternative_of}
+use Rattle.g4_source.specs.declared.element.Alternative.{Alternative as Side}
+use Rattle.g4_source.specs.declared.element.Element.{Element as Item}
+use Rattle.g4_source.specs.declared.name.Label.{Label}
+use Rattle.g4_source.specs.declared.element.Repeat.{Repeat}
+use Rattle.g4_source.specs.declared.element.Repeat.TheVariants as repeats
 use Rattle.g4_source.specs.declared.atom.Atom.{Atom}
 use Rattle.g4_source.specs.declared.atom.AtomKind.TheVariants as atoms
 use Rattle.g4_productions.specs.declared.suffix.Labelled.{Labelled as Node}

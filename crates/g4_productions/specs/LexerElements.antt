@@ -4,12 +4,12 @@ use Rattle.std.specs.Str.{chars}
 use Rattle.g4_tokens.specs.Spelling.{literal_spelling}
 use Rattle.g4_tokens.specs.declared.token.Kind.TheVariants as kinds
 use Rattle.g4_chars.specs.declared.range.Range.{Range as Span}
-use Rattle.g4_elements.specs.Elements.{Element, Elements, either}
-use Rattle.g4_elements.specs.Trees.{in_order}
+use Rattle.g4_source.specs.Elements.{Element, Elements, either}
+use Rattle.g4_source.specs.Trees.{in_order}
 use Rattle.g4_source.specs.declared.atom.Atom.{Atom}
 use Rattle.g4_source.specs.declared.atom.AtomKind.TheVariants as atoms
-use Rattle.g4_elements.specs.declared.name.Label.{Label}
-use Rattle.g4_elements.specs.declared.name.Name.{Name}
+use Rattle.g4_source.specs.declared.name.Label.{Label}
+use Rattle.g4_source.specs.declared.name.Name.{Name}
 use Rattle.g4_syntax.specs.Notation.{Terminal, one, characters, excluded, lexer_element, character_set, ◌▸◌, ◌∣◌, optional, repeated, part, sign, with_bars}
 use Rattle.g4_syntax.specs.Productions.{assign, element_options, lexer_block, unnamed_lexer_item, lexer_item, labelled_lexer_item}
 use Rattle.g4_syntax.specs.Trees.{Tree, both, left, right, absent, present, end, more, inner}

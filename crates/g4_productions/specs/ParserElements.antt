@@ -1,14 +1,14 @@
 -- The elements of parser rules.
 use Rattle.std.specs.Prelude.{List, [], ◌∷◌, ◌++◌, Bool, false, Option, Some, None}
 use Rattle.g4_tokens.specs.declared.token.Kind.TheVariants as kinds
-use Rattle.g4_elements.specs.Elements.{Element, Elements, either}
-use Rattle.g4_elements.specs.Trees.{in_order}
+use Rattle.g4_source.specs.Elements.{Element, Elements, either}
+use Rattle.g4_source.specs.Trees.{in_order}
 use Rattle.g4_source.specs.declared.atom.Atom.{Atom}
 use Rattle.g4_source.specs.declared.atom.AtomKind.TheVariants as atoms
 use Rattle.g4_source.specs.declared.atom.TokenReference.{TokenReference}
 use Rattle.g4_source.specs.declared.atom.TokenReference.TheVariants as references
-use Rattle.g4_elements.specs.declared.name.Label.{Label}
-use Rattle.g4_elements.specs.declared.name.Name.{Name}
+use Rattle.g4_source.specs.declared.name.Label.{Label}
+use Rattle.g4_source.specs.declared.name.Name.{Name}
 use Rattle.g4_syntax.specs.Notation.{element, token_set, ◌▸◌, ◌∣◌, optional, repeated, part, sign, with_bars}
 use Rattle.g4_syntax.specs.Productions.{assign, element_options, reference_end, alternative, block, unnamed_item, item, labelled_item}
 use Rattle.g4_syntax.specs.Trees.{Tree, both, left, right, end, more, inner}

@@ -13,7 +13,7 @@ use Rattle.g4_source.specs.declared.rule.Rule.{Rule}
 use Rattle.g4_source.specs.declared.rule.Rule.TheVariants as rules
 use Rattle.g4_source.specs.declared.rule.RuleAlternative.{RuleAlternative}
 use Rattle.g4_source.specs.declared.source.Mode.{Mode}
-use Rattle.g4_elements.specs.Trees.{in_order}
+use Rattle.g4_source.specs.Trees.{in_order}
 use Rattle.g4_source.specs.declared.atom.Atom.{Atom}
 use Rattle.g4_syntax.specs.Notation.{Terminal, one, ◌▸◌, ◌∣◌, optional, repeated, sign, name, with_commas, with_bars}
 use Rattle.g4_syntax.specs.Productions.{rule_alternative, parser_rule, command, lexer_alternative, lexer_rule, mode}

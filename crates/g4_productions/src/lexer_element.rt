@@ -1,6 +1,6 @@
 // The elements of lexer rules.
 ghost use Rattle.std.specs.Prelude.{◌≡◌};
-ghost use Rattle.g4_elements.specs.Trees.{element_of};
+ghost use Rattle.g4_source.specs.Trees.{element_of};
 ghost use Rattle.g4_syntax.specs.Notation.{part, lexer_element};
 ghost use Rattle.g4_prequels.specs.Progress.{is_next, GivesAs};
 ghost use Rattle.g4_productions.specs.Elements.{labelled_of, elements_in, alternatives_in};
@@ -10,9 +10,8 @@ use crate::excluded::excluded_set;
 use crate::literal::take_literal;
 use crate::set::set;
 use crate::suffix::{Labelled, action, is_at_label_sign, label_sign, optional_suffix, with_suffix};
-use g4_elements::{Alternative, Element, Label, Name};
+use g4_source::{Alternative, Atom, AtomKind, Element, Label, Name};
 use g4_prequels::{Cursor, literal, optional_element_options};
-use g4_source::{Atom, AtomKind};
 use g4_tokens::Kind;
 use std::alloc::AllocError;
 

@@ -7,9 +7,8 @@ ghost use Rattle.g4_productions.specs.Rules.{argument_text_of, argument_of, comm
 
 use crate::lexer_element::elements;
 use g4_base::{Place, Sequence};
-use g4_elements::Elements;
+use g4_source::{Argument, Command, Elements, LexerAlternative, LexerRule, Mode};
 use g4_prequels::{Cursor, pass_optional_options};
-use g4_source::{Argument, Command, LexerAlternative, LexerRule, Mode};
 use g4_tokens::Kind;
 use std::alloc::AllocError;
 

@@ -1,6 +1,6 @@
 // The elements of parser rules.
 ghost use Rattle.std.specs.Prelude.{◌≡◌};
-ghost use Rattle.g4_elements.specs.Trees.{element_of, alternative_of};
+ghost use Rattle.g4_source.specs.Trees.{element_of, alternative_of};
 ghost use Rattle.g4_syntax.specs.Notation.{element as an_element, part};
 ghost use Rattle.g4_prequels.specs.Progress.{is_next, Gives, GivesAs};
 ghost use Rattle.g4_productions.specs.Elements.{labelled_of, elements_in, alternatives_in};
@@ -8,9 +8,8 @@ ghost use Rattle.g4_productions.specs.ParserElements.{reference_right, parser_el
 
 use crate::suffix::{Labelled, action, is_at_label_sign, label_sign, optional_suffix, with_suffix};
 use crate::token_set::excluded_tokens;
-use g4_elements::{Alternative, Element, Label, Name};
+use g4_source::{Alternative, Atom, AtomKind, Element, Label, Name};
 use g4_prequels::{Cursor, literal, optional_element_options, pass_block_prequel};
-use g4_source::{Atom, AtomKind};
 use g4_tokens::Kind;
 use std::alloc::AllocError;
 

@@ -4,11 +4,10 @@ ghost use Rattle.g4_productions.specs.Rules.{alternative_label as label_of, rule
 
 use crate::parser_element::elements;
 use g4_base::Sequence;
-use g4_elements::Elements;
+use g4_source::{AlternativeLabel, Atom, Elements, ParserRule, RuleAlternative};
 use g4_prequels::{
     Cursor, optional_element_options, pass_handlers, pass_modifier, pass_rule_prequels,
 };
-use g4_source::{AlternativeLabel, Atom, ParserRule, RuleAlternative};
 use g4_tokens::Kind;
 use std::alloc::AllocError;
 

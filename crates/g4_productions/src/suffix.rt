@@ -1,7 +1,7 @@
 // What is common to the elements of parser rules and of lexer rules.
 ghost use Rattle.std.specs.Prelude.{◌≡◌, IfOk};
-ghost use Rattle.g4_elements.specs.Elements.{atom as an_atom, block, empty, then, only};
-ghost use Rattle.g4_elements.specs.Trees.{element_of};
+ghost use Rattle.g4_source.specs.Elements.{atom as an_atom, block, empty, then, only};
+ghost use Rattle.g4_source.specs.Trees.{element_of};
 ghost use Rattle.g4_syntax.specs.Notation.{sign, optional};
 ghost use Rattle.g4_syntax.specs.Productions.{assign};
 ghost use Rattle.g4_tokens.specs.declared.token.Kind.TheVariants as kinds;
@@ -10,9 +10,8 @@ ghost use Rattle.g4_productions.specs.Elements.{single, unlabelled, is_greedy, i
 ghost use Rattle.g4_productions.specs.Elements.{labelled_of};
 
 use g4_base::Place;
-use g4_elements::{Alternative, Element, Label, Repeat, Suffix};
+use g4_source::{Alternative, Atom, AtomKind, Element, Label, Repeat, Suffix};
 use g4_prequels::{Cursor, optional_element_options};
-use g4_source::{Atom, AtomKind};
 use g4_tokens::Kind;
 use std::alloc::{AllocError, Global};
 

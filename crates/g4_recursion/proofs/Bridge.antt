@@ -4,16 +4,16 @@ use Rattle.std.specs.List.{All, slice_get}
 use Rattle.std.proofs.lemmas.List.{length-map}
 use Rattle.std.proofs.lemmas.List.Elements.{All-nil, All-cons}
 use Rattle.std.proofs.lemmas.Option.{same_Some, slice_get_within, slice_get-get_or}
-use Rattle.g4_elements.specs.Elements.{atom, block, Elements, empty, then, Alternatives, none, or, either}
-use Rattle.g4_elements.specs.Bind.{in_order_over, either_over}
+use Rattle.g4_source.specs.Elements.{atom, block, Elements, empty, then, Alternatives, none, or, either}
+use Rattle.g4_source.specs.Bind.{in_order_over, either_over}
 use Rattle.g4_source.specs.declared.atom.Atom.{Atom}
 use Rattle.g4_source.specs.declared.rule.ParserRule.{ParserRule}
 use Rattle.g4_source.specs.declared.rule.RuleAlternative.{RuleAlternative}
 use Rattle.g4_source.specs.declared.rule.LexerRule.{LexerRule}
 use Rattle.g4_source.specs.declared.rule.Rule.{Rule}
 use Rattle.g4_source.specs.declared.rule.Rule.TheVariants.{Parser, Lexer}
-use Rattle.g4_rules.specs.Atoms.{AtomIn, atom_in, body_of, bodies_of}
-use Rattle.g4_rules.specs.declared.kind.RuleKind.TheVariants as kinds
+use Rattle.g4_source.specs.Atoms.{AtomIn, atom_in, body_of, bodies_of}
+use Rattle.g4_source.specs.declared.kind.RuleKind.TheVariants as kinds
 use Rattle.g4_grammar.specs.LeftCalls.{ReachesBy, one_call, more_calls}
 use Rattle.g4_grammar.specs.OwnCalls.{IsOneOf, IsOperator, LeftCallsAsRun}
 use Rattle.g4_grammar.specs.Loops.{SomeHasEmptyLoop}

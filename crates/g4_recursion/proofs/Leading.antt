@@ -5,8 +5,8 @@ use Rattle.std.specs.List.{position, slice_get}
 use Rattle.std.proofs.lemmas.Bool.{cases_Bool}
 use Rattle.std.proofs.lemmas.Option.{same_Some}
 use Rattle.std.specs.Str.{bytes_eq}
-use Rattle.g4_elements.specs.Elements.{Elements, either}
-use Rattle.g4_elements.specs.Bind.{in_order_over, either_over}
+use Rattle.g4_source.specs.Elements.{Elements, either}
+use Rattle.g4_source.specs.Bind.{in_order_over, either_over}
 use Rattle.g4_source.specs.declared.atom.Atom.{Atom}
 use Rattle.g4_source.specs.declared.atom.AtomKind.{AtomKind}
 use Rattle.g4_source.specs.declared.atom.AtomKind.TheVariants as atoms
@@ -14,12 +14,12 @@ use Rattle.g4_source.specs.declared.rule.Rule.{Rule}
 use Rattle.g4_source.specs.declared.rule.Rule.TheVariants as rule_variants
 use Rattle.g4_source.specs.declared.rule.RuleAlternative.{RuleAlternative}
 use Rattle.g4_source.specs.declared.rule.LexerAlternative.{LexerAlternative}
-use Rattle.g4_rules.specs.declared.kind.RuleKind.{RuleKind}
-use Rattle.g4_rules.specs.declared.kind.RuleKind.TheVariants.{Parser, Lexer}
-use Rattle.g4_rules.specs.Atoms.{AtomIn, atom_in, body_of, bodies_of}
-use Rattle.g4_rules.specs.declared.rules.RuleView.{RuleView}
-use Rattle.g4_rules.specs.Views.{rule_view}
-use Rattle.g4_rules.proofs.Lists.{map-map}
+use Rattle.g4_source.specs.declared.kind.RuleKind.{RuleKind}
+use Rattle.g4_source.specs.declared.kind.RuleKind.TheVariants.{Parser, Lexer}
+use Rattle.g4_source.specs.Atoms.{AtomIn, atom_in, body_of, bodies_of}
+use Rattle.g4_source.specs.declared.rules.RuleView.{RuleView}
+use Rattle.g4_source.specs.Views.{rule_view}
+use Rattle.g4_source.proofs.Lists.{map-map}
 use mathlib.Core.Path.{fun_ext}
 use Rattle.g4_grammar.specs.Written.{CallsIn, is_rule_of, KindCalls, KindReads, OwnIn, ReadsIn}
 use Rattle.g4_grammar.proofs.Carried.{in_order_over_twice}

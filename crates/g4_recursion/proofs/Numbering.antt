@@ -4,9 +4,9 @@ use Rattle.std.specs.List.{position}
 use Rattle.std.specs.Option.{option_or}
 use Rattle.std.proofs.lemmas.List.{take_more, map-append, length-map, length-take}
 use Rattle.g4_places.proofs.Firsts.{position-push}
-use Rattle.g4_rules.specs.declared.kind.RuleKind.{RuleKind}
-use Rattle.g4_rules.specs.declared.rules.RuleView.{RuleView}
-use Rattle.g4_rules.specs.Views.{rule_view}
+use Rattle.g4_source.specs.declared.kind.RuleKind.{RuleKind}
+use Rattle.g4_source.specs.declared.rules.RuleView.{RuleView}
+use Rattle.g4_source.specs.Views.{rule_view}
 use Rattle.g4_grammar.specs.Written.{is_rule_of}
 use Rattle.g4_recursion.specs.declared.numbers.Numbers.{Numbers}
 use Rattle.g4_recursion.specs.Numbers.{AreNumbers, number_in, rule_number}

@@ -4,16 +4,16 @@ use Rattle.std.specs.List.{All, slice_get}
 use Rattle.std.specs.Option.{IfSome, option_map}
 use Rattle.std.proofs.lemmas.List.{length-map}
 use Rattle.std.proofs.lemmas.Option.{same_Some, slice_get_read}
-use Rattle.g4_elements.specs.Elements.{Alternatives, Elements, either}
+use Rattle.g4_source.specs.Elements.{Alternatives, Elements, either}
 use Rattle.g4_source.specs.declared.rule.Rule.{Rule}
 use Rattle.g4_source.specs.declared.rule.Rule.TheVariants.{Parser, Lexer}
 use Rattle.g4_source.specs.declared.rule.ParserRule.{ParserRule}
 use Rattle.g4_source.specs.declared.rule.LexerRule.{LexerRule}
 use Rattle.g4_source.specs.declared.atom.Atom.{Atom}
 use Rattle.g4_source.specs.Rules.{lexer_alternatives_of}
-use Rattle.g4_rules.specs.Atoms.{AtomIn, body_of}
-use Rattle.g4_rules.specs.Views.{rule_view}
-use Rattle.g4_rules.specs.declared.rules.RuleView.{RuleView}
+use Rattle.g4_source.specs.Atoms.{AtomIn, body_of}
+use Rattle.g4_source.specs.Views.{rule_view}
+use Rattle.g4_source.specs.declared.rules.RuleView.{RuleView}
 use Rattle.g4_cycles.specs.Cycles.{Answers, IsFirstCycle}
 use Rattle.g4_cycles.specs.Edges.{EdgeOf}
 use Rattle.g4_cycles.proofs.SameEdges.{answer_carries}

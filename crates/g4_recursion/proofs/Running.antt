@@ -1,11 +1,11 @@
 -- Rules without a fault can be run.
 use Rattle.std.proofs.Common.{◌≡◌, ◌+◌, ℕ, List, Some, refl, subst}
 use Rattle.std.specs.List.{slice_get}
-use Rattle.g4_elements.specs.Elements.{Elements, Alternatives}
+use Rattle.g4_source.specs.Elements.{Elements, Alternatives}
 use Rattle.g4_source.specs.declared.rule.Rule.{Rule}
 use Rattle.g4_source.specs.declared.rule.Rule.TheVariants.{Parser, Lexer}
 use Rattle.g4_source.specs.Rules.{lexer_alternatives_of}
-use Rattle.g4_rules.specs.Atoms.{AtomIn, body_of, bodies_of}
+use Rattle.g4_source.specs.Atoms.{AtomIn, body_of, bodies_of}
 use Rattle.g4_grammar.specs.LeftCalls.{AllNullable}
 use Rattle.g4_grammar.specs.OwnCalls.{IsOneOf, IsOperator, HasEmptyOperator}
 use Rattle.g4_grammar.specs.Written.{CallsIn, OwnIn, ReadsIn, RulesCanRun}

@@ -1,15 +1,15 @@
 -- The faults of how rules call each other before anything is read, and of loops that can be empty, in the order in which they
 -- are looked for. Rules are numbered from 0 in order, those of both kinds together.
 use Rattle.std.specs.Prelude.{◌≡◌, ℕ, ◌+◌, List, map, Some, slice_get, Result, Ok, Err, ⊤}
-use Rattle.g4_elements.specs.Elements.{Elements, Alternatives}
-use Rattle.g4_elements.specs.Bind.{in_order_over}
+use Rattle.g4_source.specs.Elements.{Elements, Alternatives}
+use Rattle.g4_source.specs.Bind.{in_order_over}
 use Rattle.g4_source.specs.declared.atom.Atom.{Atom}
 use Rattle.g4_source.specs.declared.rule.ParserRule.{ParserRule}
 use Rattle.g4_source.specs.declared.rule.Rule.{Rule}
 use Rattle.g4_source.specs.declared.rule.Rule.TheVariants.{Parser}
 use Rattle.g4_source.specs.Rules.{rule_name}
-use Rattle.g4_rules.specs.declared.kind.RuleKind.TheVariants as kinds
-use Rattle.g4_rules.specs.Atoms.{AtomIn, atom_in, bodies_of}
+use Rattle.g4_source.specs.declared.kind.RuleKind.TheVariants as kinds
+use Rattle.g4_source.specs.Atoms.{AtomIn, atom_in, bodies_of}
 use Rattle.g4_grammar.specs.LeftCalls.{AllNullable}
 use Rattle.g4_grammar.specs.Loops.{SomeHasEmptyLoop}
 use Rattle.g4_grammar.specs.OwnCalls.{IsOperator}

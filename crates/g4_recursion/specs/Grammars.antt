@@ -1,7 +1,7 @@
 -- Rules with what they do before anything is read.
 use Rattle.std.specs.Prelude.{◌≡◌, ◌<◌, ◌^◌, List, length, map}
 use Rattle.g4_source.specs.declared.rule.Rule.{Rule}
-use Rattle.g4_rules.specs.Views.{rule_view}
+use Rattle.g4_source.specs.Views.{rule_view}
 use Rattle.g4_horn.specs.Follows.{Tells}
 use Rattle.g4_nullable.specs.Leads.{IsNullableRule, operators_of, trees_of}
 use Rattle.g4_recursion.specs.declared.grammar.Grammar.{Grammar}

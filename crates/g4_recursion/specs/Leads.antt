@@ -1,15 +1,15 @@
 -- What the atoms of rules do before anything is read, by the numbers of rules.
 use Rattle.std.specs.Prelude.{◌≡◌, ◌<◌, ℕ, List, [], ◌∷◌, Bool, true, false, map, Option, Some, None, slice_get, codes, cond, length}
 use Rattle.std.specs.Str.{bytes_eq}
-use Rattle.g4_elements.specs.Elements.{Alternatives, Elements}
-use Rattle.g4_elements.specs.Bind.{in_order_over}
+use Rattle.g4_source.specs.Elements.{Alternatives, Elements}
+use Rattle.g4_source.specs.Bind.{in_order_over}
 use Rattle.g4_source.specs.declared.atom.AtomKind.{AtomKind}
 use Rattle.g4_source.specs.declared.atom.AtomKind.TheVariants.{Rule as Reference, Token, Literal, Action, Predicate}
 use Rattle.g4_source.specs.declared.rule.Rule.{Rule}
 use Rattle.g4_source.specs.declared.rule.Rule.TheVariants as rule_variants
-use Rattle.g4_rules.specs.declared.kind.RuleKind.{RuleKind}
-use Rattle.g4_rules.specs.declared.kind.RuleKind.TheVariants.{Parser, Lexer}
-use Rattle.g4_rules.specs.Atoms.{AtomIn}
+use Rattle.g4_source.specs.declared.kind.RuleKind.{RuleKind}
+use Rattle.g4_source.specs.declared.kind.RuleKind.TheVariants.{Parser, Lexer}
+use Rattle.g4_source.specs.Atoms.{AtomIn}
 use Rattle.g4_grammar.specs.LeftCalls.{AllNullable}
 use Rattle.g4_nullable.specs.declared.lead.Lead.{Lead}
 use Rattle.g4_nullable.specs.declared.lead.Lead.TheVariants.{Empty, Symbol, Call}

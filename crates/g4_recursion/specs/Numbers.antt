@@ -3,8 +3,8 @@ use Rattle.std.specs.Prelude.{◌≡◌, ℕ, List, Option}
 use Rattle.std.specs.List.{position}
 use Rattle.g4_places.specs.Places.{place_in}
 use Rattle.g4_source.specs.declared.rule.Rule.{Rule}
-use Rattle.g4_rules.specs.declared.kind.RuleKind.{RuleKind}
-use Rattle.g4_rules.specs.declared.kind.RuleKind.TheVariants.{Parser, Lexer}
+use Rattle.g4_source.specs.declared.kind.RuleKind.{RuleKind}
+use Rattle.g4_source.specs.declared.kind.RuleKind.TheVariants.{Parser, Lexer}
 use Rattle.g4_grammar.specs.Written.{is_rule_of}
 use Rattle.g4_recursion.specs.declared.numbers.Numbers.{Numbers}
 

@@ -1,6 +1,6 @@
 // The faults of how rules call each other.
 ghost use Rattle.std.specs.Prelude.{◌≡◌, ◌+◌, IfOk};
-ghost use Rattle.g4_rules.specs.Rules.{rules_of};
+ghost use Rattle.g4_source.specs.InOrder.{rules_of};
 ghost use Rattle.g4_recursion.specs.Checking.{IsChecked};
 
 use crate::grammar::grammar_of;

@@ -2,8 +2,8 @@
 ghost use Rattle.std.specs.Prelude.{◌≡◌, ◌+◌, ◌<◌, ◌↔◌, ℕ, All, IfOk, IfSome, IsTrue, MatchOption, length, option_map};
 ghost use Rattle.g4_cycles.specs.Cycles.{Answers};
 ghost use Rattle.g4_grammar.specs.Written.{RuleLeftCalls};
-ghost use Rattle.g4_rules.specs.Rules.{rules_of};
-ghost use Rattle.g4_rules.specs.Views.{rule_view};
+ghost use Rattle.g4_source.specs.InOrder.{rules_of};
+ghost use Rattle.g4_source.specs.Views.{rule_view};
 ghost use Rattle.g4_source.specs.Rules.{rule_name};
 ghost use Rattle.g4_recursion.specs.Checking.{AreNamed, HasEmptyLoop, HasEmptyOperator, IsEmptyOperator, IsNamed, LacksPrimary};
 ghost use Rattle.g4_recursion.specs.Grammars.{AreLeads, rules_in};
@@ -14,8 +14,7 @@ use crate::leads::lead_rules;
 use g4_base::{Sequence, Text};
 use g4_cycles::first_cycle;
 use g4_nullable::{LeadRule, has_empty_loop, left_calls, nullable};
-use g4_rules::{RuleView, rules_of};
-use g4_source::Source;
+use g4_source::{RuleView, Source, rules_of};
 use std::alloc::{AllocError, Global};
 
 /// The rules of a grammar, what their atoms do before anything is read, and of each rule whether it derives the empty word.

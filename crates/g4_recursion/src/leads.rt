@@ -1,18 +1,16 @@
 // What the atoms of rules do before anything is read.
 ghost use Rattle.std.specs.Prelude.{◌≡◌, ◌<◌, ◌^◌, IfOk, OnOk, length, map};
-ghost use Rattle.g4_elements.specs.Bind.{in_order_over};
-ghost use Rattle.g4_rules.specs.Views.{rule_view};
-ghost use Rattle.g4_rules.specs.declared.kind.RuleKind.TheVariants as kinds;
+ghost use Rattle.g4_source.specs.Bind.{in_order_over};
+ghost use Rattle.g4_source.specs.Views.{rule_view};
+ghost use Rattle.g4_source.specs.declared.kind.RuleKind.TheVariants as kinds;
 ghost use Rattle.g4_nullable.specs.Leads.{operators_of};
 ghost use Rattle.g4_recursion.specs.Leads.{lead_by, leads_by, leads_in, may_have_operators, operators_in, reference_lead, text_lead};
 ghost use Rattle.g4_recursion.specs.Numbers.{number_in};
 
 use crate::numbers::{Numbers, numbers_of};
 use g4_base::Sequence;
-use g4_elements::{Element, Elements, Substitution, substituted};
+use g4_source::{Atom, AtomKind, Element, Elements, LexerRule, ParserRule, RuleKind, RuleView, Substitution, substituted};
 use g4_nullable::{Lead, LeadRule};
-use g4_rules::{RuleKind, RuleView};
-use g4_source::{Atom, AtomKind, LexerRule, ParserRule};
 use std::alloc::{AllocError, Global};
 
 /// What the atoms of rules of one kind become, where rules have these numbers.
@@ -90,13 +88,13 @@ impl Leading<'_, '_> {
 impl Substitution<Atom> for Leading<'_, '_> {
     type To = Lead;
 
-    ghost use Rattle.g4_elements.specs.Elements.{atom as lone};
+    ghost use Rattle.g4_source.specs.Elements.{atom as lone};
     ghost use Rattle.g4_recursion.specs.Leads.{lead_by};
     ghost use Rattle.g4_recursion.specs.Numbers.{number_in};
 
     ghost image = { λ stage a. lone (lead_by (number_in stage.numbers.now) stage.kind a.kind) };
 
-    #[tactic(auto, using(g4_elements::proofs::Trees::of_atom))]
+    #[tactic(auto, using(g4_source::proofs::Trees::of_atom))]
     fn image(&self, _alloc: Global, atom: &Atom) -> Result<Element<Lead>, AllocError> {
         let lead = self.lead_of(&atom.kind);
         Ok(Element::Atom(lead))

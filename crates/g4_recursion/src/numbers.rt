@@ -2,12 +2,12 @@
 ghost use Rattle.std.specs.Prelude.{◌≡◌, ◌<◌, ◌^◌, ℕ, List, IfOk, OnOk, if◌then◌else◌, length, map};
 ghost use Rattle.std.specs.Option.{option_or};
 ghost use Rattle.g4_grammar.specs.Written.{is_rule_of};
-ghost use Rattle.g4_rules.specs.Views.{rule_view};
-ghost use Rattle.g4_rules.specs.declared.kind.RuleKind.{RuleKind as Kind};
+ghost use Rattle.g4_source.specs.Views.{rule_view};
+ghost use Rattle.g4_source.specs.declared.kind.RuleKind.{RuleKind as Kind};
 ghost use Rattle.g4_recursion.specs.Numbers.{AreNumbers, number_in};
 
 use g4_places::Places;
-use g4_rules::{RuleKind, RuleView};
+use g4_source::{RuleKind, RuleView};
 use std::alloc::{AllocError, Global};
 
 /// The number of the first rule of each name, for parser rules and for lexer rules.

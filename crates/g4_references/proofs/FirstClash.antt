@@ -2,11 +2,11 @@
 use Rattle.std.proofs.Common.{◌≡◌, ℕ, List, [], Bool, false, ◌||◌, Option, Some, None, MatchBool, subst, sym, ap, ◌∙◌}
 use Rattle.g4_source.specs.declared.atom.Atom.{Atom}
 use Rattle.g4_source.specs.declared.rule.ParserRule.{ParserRule}
-use Rattle.g4_rules.specs.First.{Finds, FindsFirst, IsFirst}
+use Rattle.g4_source.specs.First.{Finds, FindsFirst, IsFirst}
 use Rattle.g4_references.specs.Known.{AddsAll}
 use Rattle.g4_references.specs.Labels.{HasClash, IsClash, are_partly_labelled, capitalised_names, clashes, is_in_two, labels_of}
 use Rattle.g4_references.specs.Names.{is_one_of}
-use Rattle.g4_rules.proofs.OneFirst.{not_both}
+use Rattle.g4_source.proofs.OneFirst.{not_both}
 
 -- where no rule is partly labelled, its clash is its first label that clashes
 pub clash_of_labels : (does_clash : List ℕ → Bool) (rule : ParserRule Atom) (found : Option (List ℕ)) → are_partly_labelled rule.alternatives ≡ false → FindsFirst (IsClash does_clash) (labels_of rule) found → Finds (HasClash does_clash) rule found

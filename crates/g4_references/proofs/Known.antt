@@ -7,7 +7,7 @@ use Rattle.std.proofs.lemmas.List.Folds.{list_any-append}
 use Rattle.std.proofs.lemmas.Grind.{flat_map-append}
 use Rattle.g4_references.specs.Known.{AddsAll}
 use Rattle.g4_references.specs.Names.{is_one_of}
-use Rattle.g4_rules.proofs.Lists.{map-map}
+use Rattle.g4_source.proofs.Lists.{map-map}
 
 -- one more name of a list
 pub names_more : {X Y : Type 0} (F : X → Y) (xs : List X) (i : ℕ) (x : X) → i < length xs → x ≡ get_or xs i x → map F (take (i + 1) xs) ≡ map F (take i xs) ++ F x ∷ []

@@ -2,14 +2,14 @@
 use Rattle.std.proofs.Common.{◌≡◌, ℕ, List, Bool, Option, Some, None, Err, sym, subst, ◌∙◌}
 use Rattle.std.specs.Str.{chars}
 use Rattle.g4_base.specs.declared.place.Place.{Place}
-use Rattle.g4_elements.specs.declared.name.Name.{Name}
+use Rattle.g4_source.specs.declared.name.Name.{Name}
 use Rattle.g4_preds.specs.declared.predicate.PredicateFault.{PredicateFault}
 use Rattle.g4_preds.specs.declared.predicate.PredicateFault.TheVariants.{Unknown}
 use Rattle.g4_preds.specs.Readings.{IsPredicate, IsReading}
 use Rattle.g4_preds.specs.Trees.{Tree, rules_of}
 use Rattle.g4_preds.proofs.OneReading.{one_reading}
-use Rattle.g4_rules.specs.First.{Finds, FindsFirst, IsFirst, IsNone}
-use Rattle.g4_rules.proofs.OneFirst.{not_both, one_first}
+use Rattle.g4_source.specs.First.{Finds, FindsFirst, IsFirst, IsNone}
+use Rattle.g4_source.proofs.OneFirst.{not_both, one_first}
 use Rattle.g4_references.specs.Predicates.{IsMissing, NamesMissing, Reads, text_of_predicate}
 
 -- a predicate is one tree

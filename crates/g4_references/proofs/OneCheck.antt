@@ -8,18 +8,18 @@ use Rattle.g4_source.specs.declared.atom.AtomKind.TheVariants.{Rule as RuleName,
 use Rattle.g4_source.specs.declared.rule.Argument.{Argument}
 use Rattle.g4_source.specs.declared.rule.Argument.TheVariants.{Name, Number}
 use Rattle.g4_source.specs.declared.source.Source.{Source}
-use Rattle.g4_rules.specs.declared.kind.RuleKind.{RuleKind}
-use Rattle.g4_rules.specs.declared.kind.RuleKind.TheVariants.{Parser, Lexer}
+use Rattle.g4_source.specs.declared.kind.RuleKind.{RuleKind}
+use Rattle.g4_source.specs.declared.kind.RuleKind.TheVariants.{Parser, Lexer}
 use Rattle.g4_references.specs.declared.checking.ReferenceFault.{ReferenceFault}
 use Rattle.g4_references.specs.declared.checking.ReferenceFault.TheVariants.{UndefinedRule, UnknownMode, UnknownCommand, UnknownChannel, LexerPredicate, UnknownPredicate, LabelClash, NoMemory}
-use Rattle.g4_rules.specs.First.{IsNone, IsFirst}
+use Rattle.g4_source.specs.First.{IsNone, IsFirst}
 use Rattle.g4_references.specs.Names.{is_one_of, channel_names, mode_names}
 use Rattle.g4_references.specs.Uses.{IsLexerPredicate, IsPredicateAt, IsUndefined, IsUnknownAt, IsUnknownPredicate, KindIsLexerPredicate, KindIsUndefined, KindIsUnknownPredicate, UndefinedInLexer, UndefinedInParser}
 use Rattle.g4_references.specs.Commands.{ArgumentIsUnknownChannel, ArgumentIsUnknownMode, IsUnknownChannel, IsUnknownCommand, IsUnknownMode}
 use Rattle.g4_references.specs.Labels.{HasClash, IsClash, are_partly_labelled, labels_of, clashes}
 use Rattle.g4_references.specs.Checking.{HasChannels, HasCommands, HasModes, HasNoClash, HasNoLexerPredicate, HasPredicates, HasRules, IsChecked, LabelsClash, NamesNoRule, TakesNoChannel, TakesNoMode, atoms_in, commands_in, lexer_names, parser_names, parsers_in}
 use Rattle.g4_references.proofs.Missing.{one_missing}
-use Rattle.g4_rules.proofs.OneFirst.{IsOne, not_both, one_choice, one_first}
+use Rattle.g4_source.proofs.OneFirst.{IsOne, not_both, one_choice, one_first}
 
 -- of each item one thing is reported
 module _ (is_parser is_lexer : List ℕ → Bool) where

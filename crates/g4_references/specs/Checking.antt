@@ -8,10 +8,10 @@ use Rattle.g4_source.specs.declared.source.Source.{Source}
 use Rattle.g4_source.specs.Rules.{lexer_rules, parser_rules}
 use Rattle.g4_references.specs.declared.checking.ReferenceFault.{ReferenceFault}
 use Rattle.g4_references.specs.declared.checking.ReferenceFault.TheVariants.{UndefinedRule, UnknownMode, UnknownCommand, UnknownChannel, LexerPredicate, UnknownPredicate, LabelClash, NoMemory}
-use Rattle.g4_rules.specs.First.{IsFirst, IsNone}
-use Rattle.g4_rules.specs.Rules.{rules_of}
+use Rattle.g4_source.specs.First.{IsFirst, IsNone}
+use Rattle.g4_source.specs.InOrder.{rules_of}
 use Rattle.g4_references.specs.Names.{channel_names, is_one_of, mode_names}
-use Rattle.g4_rules.specs.Atoms.{AtomIn, all_atoms}
+use Rattle.g4_source.specs.Atoms.{AtomIn, all_atoms}
 use Rattle.g4_references.specs.Uses.{IsLexerPredicate, IsUndefined, IsUnknownPredicate}
 use Rattle.g4_references.specs.Commands.{IsUnknownChannel, IsUnknownCommand, IsUnknownMode, all_commands}
 use Rattle.g4_references.specs.Labels.{HasClash, clashes}

@@ -7,7 +7,7 @@ use Rattle.std.specs.StrCase.Upper.{str_to_uppercase}
 use Rattle.g4_source.specs.declared.atom.Atom.{Atom}
 use Rattle.g4_source.specs.declared.rule.ParserRule.{ParserRule}
 use Rattle.g4_source.specs.declared.rule.RuleAlternative.{RuleAlternative}
-use Rattle.g4_rules.specs.First.{IsFirst}
+use Rattle.g4_source.specs.First.{IsFirst}
 use Rattle.g4_references.specs.Names.{is_one_of}
 
 -- the label of an alternative, where it has one

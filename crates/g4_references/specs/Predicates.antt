@@ -1,10 +1,10 @@
 -- The predicates of rules, and the rules that they name.
 use Rattle.std.specs.Prelude.{◌≡◌, ℕ, List, [], ◌∷◌, Bool, false, ◌==◌, if◌then◌else◌, reverse}
 use Rattle.std.specs.Str.{chars}
-use Rattle.g4_elements.specs.declared.name.Name.{Name}
+use Rattle.g4_source.specs.declared.name.Name.{Name}
 use Rattle.g4_preds.specs.Readings.{IsPredicate}
 use Rattle.g4_preds.specs.Trees.{Tree, rules_of}
-use Rattle.g4_rules.specs.First.{IsFirst}
+use Rattle.g4_source.specs.First.{IsFirst}
 
 -- the text without its first byte, if that is `byte`
 abbrev pub without_first : ℕ → List ℕ → List ℕ

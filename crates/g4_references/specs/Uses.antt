@@ -5,9 +5,9 @@ use Rattle.g4_base.specs.declared.place.Place.{Place}
 use Rattle.g4_source.specs.declared.atom.AtomKind.{AtomKind}
 use Rattle.g4_source.specs.declared.atom.AtomKind.TheVariants.{Rule as RuleName, Token, Predicate}
 use Rattle.g4_preds.specs.Trees.{Tree}
-use Rattle.g4_rules.specs.Atoms.{AtomIn}
-use Rattle.g4_rules.specs.declared.kind.RuleKind.{RuleKind}
-use Rattle.g4_rules.specs.declared.kind.RuleKind.TheVariants.{Parser, Lexer}
+use Rattle.g4_source.specs.Atoms.{AtomIn}
+use Rattle.g4_source.specs.declared.kind.RuleKind.{RuleKind}
+use Rattle.g4_source.specs.declared.kind.RuleKind.TheVariants.{Parser, Lexer}
 use Rattle.g4_references.specs.Predicates.{IsMissing, NamesMissing, Reads}
 
 -- an atom of a parser rule names a parser rule n, and there is none: by a reference to it, or in a predicate

@@ -6,7 +6,7 @@ use Rattle.g4_references.specs.declared.clashes.Clashing.{Clashing}
 use Rattle.g4_references.specs.declared.parts.Parts.{Parts}
 use Rattle.g4_references.specs.Checking.{atoms_in, commands_in, lexers_in, parsers_in}
 use Rattle.g4_references.specs.Names.{is_one_of}
-use Rattle.g4_rules.specs.Atoms.{AtomIn}
+use Rattle.g4_source.specs.Atoms.{AtomIn}
 
 -- the atom that is lent
 abbrev pub use_view : AtomUse → AtomIn

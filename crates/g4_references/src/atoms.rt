@@ -1,17 +1,15 @@
 // The atoms of rules in order.
 ghost use Rattle.std.specs.Prelude.{◌≡◌, ◌++◌, IfOk, OnOk, map};
 ghost use Rattle.std.specs.List.{flat_map};
-ghost use Rattle.g4_elements.specs.Elements.{atoms, atoms_in_order, atoms_of_either};
-ghost use Rattle.g4_elements.specs.Trees.{element_of, in_order};
+ghost use Rattle.g4_source.specs.Elements.{atoms, atoms_in_order, atoms_of_either};
+ghost use Rattle.g4_source.specs.Trees.{element_of, in_order};
 ghost use Rattle.g4_source.specs.Rules.{alternatives_of, lexer_alternatives_of};
-ghost use Rattle.g4_rules.specs.Atoms.{all_atoms, atom_in, rule_atoms};
-ghost use Rattle.g4_rules.specs.Views.{rule_view};
+ghost use Rattle.g4_source.specs.Atoms.{all_atoms, atom_in, rule_atoms};
+ghost use Rattle.g4_source.specs.Views.{rule_view};
 ghost use Rattle.g4_references.specs.Views.{use_view};
-ghost use Rattle.g4_rules.specs.declared.kind.RuleKind.TheVariants as kinds;
+ghost use Rattle.g4_source.specs.declared.kind.RuleKind.TheVariants as kinds;
 
-use g4_elements::Element;
-use g4_rules::{RuleKind, RuleView};
-use g4_source::{Atom, LexerRule, ParserRule};
+use g4_source::{Atom, Element, LexerRule, ParserRule, RuleKind, RuleView};
 use std::alloc::{AllocError, Global};
 
 /// An atom in a rule of a kind.

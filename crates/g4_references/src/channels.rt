@@ -2,7 +2,7 @@
 ghost use Rattle.std.specs.Prelude.{◌≡◌, IfOk, OnOk, map, option_map};
 ghost use Rattle.g4_references.specs.Checking.{TakesNoChannel, commands_in};
 ghost use Rattle.g4_references.specs.Commands.{ArgumentIsUnknownChannel, IsUnknownChannel, argument_text, is_channel, is_channel_number};
-ghost use Rattle.g4_rules.specs.First.{Finds, FindsFirst};
+ghost use Rattle.g4_source.specs.First.{Finds, FindsFirst};
 ghost use Rattle.g4_references.specs.Known.{AddsAll, AreSame};
 ghost use Rattle.g4_references.specs.Names.{channel_names, declared_channels, is_one_of};
 ghost use Rattle.g4_references.specs.Views.{AreParts};

@@ -2,7 +2,7 @@
 ghost use Rattle.std.specs.Prelude.{◌≡◌, IfOk, map, option_map, is_some, is_none};
 ghost use Rattle.std.specs.List.{list_any};
 ghost use Rattle.g4_references.specs.Checking.{LabelsClash, parsers_in};
-ghost use Rattle.g4_rules.specs.First.{Finds, FindsFirst};
+ghost use Rattle.g4_source.specs.First.{Finds, FindsFirst};
 ghost use Rattle.g4_references.specs.Labels.{HasClash, IsClash, are_partly_labelled};
 ghost use Rattle.g4_references.specs.Names.{is_one_of};
 ghost use Rattle.g4_references.specs.Views.{AreParts, clashes_in};

@@ -3,16 +3,15 @@ ghost use Rattle.std.specs.Prelude.{◌≡◌, ◌++◌, IfOk, OnOk, map, option
 ghost use Rattle.std.specs.List.{flat_map};
 ghost use Rattle.g4_references.specs.Checking.{commands_in};
 ghost use Rattle.g4_references.specs.Commands.{IsUnknownCommand, all_commands, is_command, rule_commands};
-ghost use Rattle.g4_rules.specs.First.{FindsFirst};
-ghost use Rattle.g4_rules.specs.Views.{rule_view};
+ghost use Rattle.g4_source.specs.First.{FindsFirst};
+ghost use Rattle.g4_source.specs.Views.{rule_view};
 ghost use Rattle.g4_references.specs.Views.{AreParts};
 
 use crate::modes::takes_mode;
 use crate::names::copied;
 use crate::parts::Parts;
 use g4_base::Text;
-use g4_rules::RuleView;
-use g4_source::{Argument, Command, LexerRule, Source};
+use g4_source::{Argument, Command, LexerRule, RuleView, Source};
 use std::alloc::{AllocError, Global};
 
 /// Adds the commands of an alternative.

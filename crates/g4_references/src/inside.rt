@@ -2,12 +2,12 @@
 ghost use Rattle.std.specs.Prelude.{IfOk, option_map};
 ghost use Rattle.g4_references.specs.Names.{is_one_of};
 ghost use Rattle.g4_references.specs.Predicates.{IsMissing, NamesMissing};
-ghost use Rattle.g4_rules.specs.First.{Finds, FindsFirst};
+ghost use Rattle.g4_source.specs.First.{Finds, FindsFirst};
 
 use crate::names::{Names, copied};
 use crate::readings::predicate_of;
 use g4_base::Text;
-use g4_elements::Name;
+use g4_source::Name;
 use std::alloc::{AllocError, Global};
 
 /// The first of the rules that is not one of these.

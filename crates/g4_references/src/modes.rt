@@ -2,7 +2,7 @@
 ghost use Rattle.std.specs.Prelude.{◌≡◌, IfOk, map, option_map};
 ghost use Rattle.g4_references.specs.Checking.{TakesNoMode, commands_in};
 ghost use Rattle.g4_references.specs.Commands.{ArgumentIsUnknownMode, IsUnknownMode, takes_mode};
-ghost use Rattle.g4_rules.specs.First.{Finds, FindsFirst};
+ghost use Rattle.g4_source.specs.First.{Finds, FindsFirst};
 ghost use Rattle.g4_references.specs.Known.{AreSame};
 ghost use Rattle.g4_references.specs.Names.{is_one_of, mode_names};
 ghost use Rattle.g4_references.specs.Views.{AreParts};

@@ -4,8 +4,7 @@ ghost use Rattle.g4_references.specs.Views.{AreParts};
 
 use crate::atoms::{AtomUse, atoms_of};
 use crate::commands::commands_of;
-use g4_rules::{lexer_rules, parser_rules, rules_of};
-use g4_source::{Atom, Command, LexerRule, ParserRule, Source};
+use g4_source::{Atom, Command, LexerRule, ParserRule, Source, lexer_rules, parser_rules, rules_of};
 use std::alloc::{AllocError, Global};
 
 /// The rules of a grammar of both kinds in order, and their atoms and commands.

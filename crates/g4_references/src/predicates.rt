@@ -1,7 +1,7 @@
 // The first predicate in a lexer rule, and the first in a parser rule with a text that no predicate has.
 ghost use Rattle.std.specs.Prelude.{IfOk, map};
 ghost use Rattle.g4_references.specs.Checking.{atoms_in};
-ghost use Rattle.g4_rules.specs.First.{Finds, FindsFirst};
+ghost use Rattle.g4_source.specs.First.{Finds, FindsFirst};
 ghost use Rattle.g4_references.specs.Uses.{IsLexerPredicate, IsPredicateAt, IsUnknownAt, IsUnknownPredicate, KindIsLexerPredicate, KindIsUnknownPredicate};
 ghost use Rattle.g4_references.specs.Views.{AreParts, use_view};
 
@@ -9,8 +9,7 @@ use crate::atoms::AtomUse;
 use crate::parts::Parts;
 use crate::readings::predicate_of;
 use g4_base::Place;
-use g4_rules::RuleKind;
-use g4_source::{AtomKind, Source};
+use g4_source::{AtomKind, RuleKind, Source};
 use std::alloc::{AllocError, Global};
 
 /// The place of the atom, where it is a predicate.

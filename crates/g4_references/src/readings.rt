@@ -1,9 +1,9 @@
 // The trees of predicates.
 ghost use Rattle.std.specs.Prelude.{◌≡◌, IfOk};
 ghost use Rattle.g4_references.specs.Predicates.{Reads, text_of_predicate};
-ghost use Rattle.g4_rules.specs.First.{Finds};
+ghost use Rattle.g4_source.specs.First.{Finds};
 
-use g4_elements::Name;
+use g4_source::Name;
 use g4_preds::{Predicate, PredicateFault};
 use std::alloc::{AllocError, Global};
 

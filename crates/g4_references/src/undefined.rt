@@ -1,7 +1,7 @@
 // The first rule that an atom names and that is not there.
 ghost use Rattle.std.specs.Prelude.{◌≡◌, IfOk, map};
 ghost use Rattle.g4_references.specs.Checking.{NamesNoRule, atoms_in};
-ghost use Rattle.g4_rules.specs.First.{Finds, FindsFirst};
+ghost use Rattle.g4_source.specs.First.{Finds, FindsFirst};
 ghost use Rattle.g4_references.specs.Known.{AreSame};
 ghost use Rattle.g4_references.specs.Names.{is_one_of};
 ghost use Rattle.g4_references.specs.Predicates.{IsMissing};
@@ -13,8 +13,7 @@ use crate::inside::undefined_inside;
 use crate::names::Names;
 use crate::parts::Parts;
 use g4_base::Text;
-use g4_rules::RuleKind;
-use g4_source::{Atom, AtomKind, LexerRule, ParserRule, Source};
+use g4_source::{Atom, AtomKind, LexerRule, ParserRule, RuleKind, Source};
 use std::alloc::{AllocError, Global};
 
 /// The names of parser rules.

@@ -1,8 +1,8 @@
 -- Elements that `<assoc=right>` follows, in the code.
 use Rattle.std.proofs.Common.{◌≡◌, List, [], ◌∷◌, map, Bool, ◌||◌, refl, ap}
 use Rattle.std.specs.List.{list_any}
-use Rattle.g4_elements.specs.declared.element.Element.{Element as Node}
-use Rattle.g4_elements.specs.Trees.{in_order, element_of}
+use Rattle.g4_source.specs.declared.element.Element.{Element as Node}
+use Rattle.g4_source.specs.Trees.{in_order, element_of}
 use Rattle.g4_grammar.specs.declared.numbered.NumberedAtom.{NumberedAtom}
 use Rattle.g4_resolve.specs.Resolving.{is_right, has_right}
 

@@ -7,10 +7,10 @@ use Rattle.std.proofs.lemmas.List.{map-append, length-map}
 use Rattle.std.proofs.lemmas.List.Elements.{All-nil, All-cons, All-head, All-tail, All-map, All-weaker}
 use Rattle.std.proofs.lemmas.Option.{slice_get_within, slice_get-map}
 use Rattle.g4_base.specs.declared.place.Place.{Place}
-use Rattle.g4_elements.specs.Elements.{Element, atom, block, Elements, empty, then, Alternatives, none, or, either, atoms, atoms_in_order, atoms_of_either}
-use Rattle.g4_elements.specs.Bind.{over, in_order_over, either_over}
-use Rattle.g4_elements.specs.Blocks.{IsFull, AreFull, EachIsFull, IsSome}
-use Rattle.g4_elements.proofs.Parts.{All-front, All-rest}
+use Rattle.g4_source.specs.Elements.{Element, atom, block, Elements, empty, then, Alternatives, none, or, either, atoms, atoms_in_order, atoms_of_either}
+use Rattle.g4_source.specs.Bind.{over, in_order_over, either_over}
+use Rattle.g4_source.specs.Full.{IsFull, AreFull, EachIsFull, IsSome}
+use Rattle.g4_source.proofs.Parts.{All-front, All-rest}
 use Rattle.g4_source.specs.declared.rule.ParserRule.{ParserRule}
 use Rattle.g4_source.specs.declared.rule.RuleAlternative.{RuleAlternative}
 use Rattle.g4_source.specs.Blocks.{ParserRuleIsFull, ParserRulesAreFull}

@@ -3,8 +3,8 @@ use Rattle.std.specs.Prelude.{ℕ, ◌+◌, List, map, Bool, false, ◌==◌, �
 use Rattle.std.specs.List.{position_or_len}
 use Rattle.std.specs.Str.{bytes_eq}
 use Rattle.g4_base.specs.declared.place.Place.{Place}
-use Rattle.g4_elements.specs.Elements.{Element, atom, block, Elements, empty, then}
-use Rattle.g4_elements.specs.Bind.{in_order_over}
+use Rattle.g4_source.specs.Elements.{Element, atom, block, Elements, empty, then}
+use Rattle.g4_source.specs.Bind.{in_order_over}
 use Rattle.g4_source.specs.declared.rule.ParserRule.{ParserRule}
 use Rattle.g4_source.specs.declared.rule.RuleAlternative.{RuleAlternative}
 use Rattle.g4_grammar.specs.declared.numbered.NumberedAtom.{NumberedAtom}

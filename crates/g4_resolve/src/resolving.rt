@@ -1,17 +1,16 @@
 // References to rules as calls by number, and predicates by theirs.
 ghost use Rattle.std.specs.Prelude.{◌≡◌, ◌≤◌, ◌<◌, ◌^◌, All, IfOk, length, map};
 ghost use Rattle.g4_source.specs.Blocks.{ParserRulesAreFull};
-ghost use Rattle.g4_elements.specs.Trees.{element_of};
+ghost use Rattle.g4_source.specs.Trees.{element_of};
 ghost use Rattle.g4_grammar.specs.NumberedRules.{NumberedRuleIsUntested, NumberedRulesAreDefined, NumberedRulesCanRun, RuleLeavesEnd};
 ghost use Rattle.g4_grammar.specs.StepRules.{CanBeRewritten};
 ghost use Rattle.g4_places.specs.Places.{ArePlaces};
 ghost use Rattle.g4_resolve.specs.Resolving.{has_right, is_right, place_named, place_of_predicate, resolved_alternative, resolved_rule, step_of};
 
 use g4_base::{Place, Sequence, Text};
-use g4_elements::{Element, Elements, Substitution, substituted};
+use g4_source::{Element, Elements, ParserRule, RuleAlternative, Substitution, substituted};
 use g4_grammar::{NumberedAtom, NumberedKind, Step, StepRule};
 use g4_places::{Places, places_of};
-use g4_source::{ParserRule, RuleAlternative};
 use g4_symbols::Symbols;
 use std::alloc::{AllocError, Global};
 
@@ -80,12 +79,12 @@ impl Stage<'_> {
 impl Substitution<NumberedAtom> for Stage<'_> {
     type To = Step<Symbols>;
 
-    ghost use Rattle.g4_elements.specs.Elements.{atom as lone};
+    ghost use Rattle.g4_source.specs.Elements.{atom as lone};
     ghost use Rattle.g4_resolve.specs.Resolving.{step_of as becomes};
 
     ghost image = { λ stage a. lone (becomes stage.given.now.names stage.given.now.predicates a.kind) };
 
-    #[tactic(auto, using(g4_elements::proofs::Trees::of_atom))]
+    #[tactic(auto, using(g4_source::proofs::Trees::of_atom))]
     fn image(
         &self,
         alloc: Global,
@@ -97,7 +96,7 @@ impl Substitution<NumberedAtom> for Stage<'_> {
 }
 
 /// Whether the element is an atom that `<assoc=right>` follows.
-#[tactic(auto, using(g4_elements::proofs::Trees::of_atom, g4_elements::proofs::Trees::of_block))]
+#[tactic(auto, using(g4_source::proofs::Trees::of_atom, g4_source::proofs::Trees::of_block))]
 fn is_right(element: &Element<NumberedAtom>) -> bool
     ensures { result ≡ is_right (element_of element.now) }
 {

@@ -1,6 +1,6 @@
 -- Rules whose blocks all have an alternative, as those of every grammar text.
 use Rattle.std.specs.Prelude.{List, [], ◌∷◌}
-use Rattle.g4_elements.specs.Blocks.{AreFullAlternatives}
+use Rattle.g4_source.specs.Full.{AreFullAlternatives}
 use Rattle.g4_source.specs.declared.rule.Rule.{Rule}
 use Rattle.g4_source.specs.declared.rule.Rule.TheVariants.{Parser, Lexer}
 use Rattle.g4_source.specs.declared.rule.ParserRule.{ParserRule}

@@ -1,2 +1,11 @@
+pub mod Atoms
+pub mod Bind
 pub mod Blocks
+pub mod Elements
+pub mod First
+pub mod Full
+pub mod InOrder
+pub mod Marks
 pub mod Rules
+pub mod Trees
+pub mod Views

@@ -1,7 +1,7 @@
 -- The names of rules, and their alternatives as trees.
 use Rattle.std.specs.Prelude.{ℕ, List, map, Option, Some, None}
 use Rattle.std.specs.List.{filter_map}
-use Rattle.g4_elements.specs.Elements.{Elements, Alternatives, either}
+use Rattle.g4_source.specs.Elements.{Elements, Alternatives, either}
 use Rattle.g4_source.specs.declared.atom.Atom.{Atom}
 use Rattle.g4_source.specs.declared.rule.Rule.{Rule}
 use Rattle.g4_source.specs.declared.rule.Rule.TheVariants.{Parser, Lexer}

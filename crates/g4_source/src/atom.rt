@@ -1,7 +1,7 @@
 // The elements of rules that have no others in them, as they are written.
+use crate::{Label, Name};
 use g4_base::{Place, Sequence, Text};
 use g4_chars::CharSet;
-use g4_elements::{Label, Name};
 
 /// An element of a rule that has no others in it, as it is written.
 #[derive(Drop)]

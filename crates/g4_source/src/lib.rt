@@ -2,14 +2,24 @@
 #![tactic(auto)]
 
 mod atom;
+mod element;
+mod kind;
+mod name;
 mod prequel;
 mod rule;
+mod rules;
 mod source;
+mod substitution;
 
 pub use atom::{Atom, AtomKind, Literal, TokenReference};
+pub use element::{Alternative, Element, Elements, Repeat, Suffix};
+pub use kind::RuleKind;
+pub use name::{Label, Name};
 pub use prequel::{OptionValue, Prequel, Setting};
 pub use rule::{
     AlternativeLabel, Argument, Command, LexerAlternative, LexerRule, ParserRule, Rule,
     RuleAlternative,
 };
+pub use rules::{RuleView, lexer_rules, parser_rules, rules_of};
 pub use source::{GrammarKind, Mode, Source};
+pub use substitution::{Substitution, substituted};

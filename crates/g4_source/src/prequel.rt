@@ -1,6 +1,6 @@
 // What comes before the rules of a grammar.
+use crate::Name;
 use g4_base::{Place, Sequence, Text};
-use g4_elements::Name;
 
 /// What comes before the rules, but named actions, which are passed over. The places are those of the first words.
 #[derive(Drop)]

@@ -2,9 +2,8 @@
 ghost use Rattle.std.specs.Prelude.{◌≡◌};
 ghost use Rattle.g4_source.specs.Rules.{rule_name};
 
-use crate::Atom;
+use crate::{Atom, Elements, Name};
 use g4_base::{Place, Sequence, Text};
-use g4_elements::{Elements, Name};
 
 /// A rule: a lower-case name begins a parser rule, an upper-case name a lexer rule.
 #[derive(Drop)]

@@ -6,9 +6,9 @@ use Rattle.g4_chars.specs.Building.{scalars, gaps}
 use Rattle.g4_chars.specs.CharSets.{Has, IsScalar}
 use Rattle.g4_chars.specs.declared.range.Range.{Range}
 use Rattle.g4_chars.proofs.Ranges.{scalars_has}
-use Rattle.g4_elements.specs.declared.element.Repeat.TheVariants.{Once}
-use Rattle.g4_elements.specs.Bind.{over, in_order_over}
-use Rattle.g4_elements.specs.Elements.{Element, atom, block, Elements, Alternatives, none, only}
+use Rattle.g4_source.specs.declared.element.Repeat.TheVariants.{Once}
+use Rattle.g4_source.specs.Bind.{over, in_order_over}
+use Rattle.g4_source.specs.Elements.{Element, atom, block, Elements, Alternatives, none, only}
 use Rattle.g4_source.specs.declared.atom.Atom.{Atom}
 use Rattle.g4_source.specs.declared.atom.AtomKind.{AtomKind}
 use Rattle.g4_source.specs.declared.atom.AtomKind.TheVariants as kinds

@@ -1,14 +1,13 @@
 -- From where an alternative begins exactly what the alternative matches by derivation is spelled.
 use Rattle.std.proofs.Common.{◌≡◌, ℕ, zero, suc, List, [], ◌∷◌, ◌++◌, map, inl, inr, All, Some, refl, sym, ◌∙◌, ap, subst, Contains, slice_get}
 use Rattle.std.specs.List.{repeat}
-use Rattle.g4_elements.specs.Elements.{Elements, Alternatives, atoms_in_order, atoms_of_either}
+use Rattle.g4_source.specs.Elements.{Elements, Alternatives, atoms_in_order, atoms_of_either, either}
 use Rattle.g4_source.specs.declared.atom.Atom.{Atom}
 use Rattle.g4_source.specs.declared.rule.LexerAlternative.{LexerAlternative}
 use Rattle.g4_source.specs.declared.rule.LexerRule.{LexerRule}
 use Rattle.g4_source.specs.declared.source.Mode.{Mode}
 use Rattle.g4_source.specs.Rules.{lexer_alternatives_of}
-use Rattle.g4_elements.specs.Elements.{either}
-use Rattle.g4_elements.proofs.Parts.{All-front, All-rest}
+use Rattle.g4_source.proofs.Parts.{All-front, All-rest}
 use Rattle.g4_grammar.specs.declared.step.Step.{Step}
 use Rattle.g4_grammar.specs.Derives.{NoCalls, DerivesAll, DerivesOne}
 use Rattle.g4_net.specs.declared.network.State.TheVariants.{End, Call}

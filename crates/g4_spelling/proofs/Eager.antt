@@ -2,8 +2,8 @@
 use Rattle.std.proofs.Common.{◌≡◌, ◌*◌, ℕ, zero, suc, ◌<◌, ◌≤◌, ◌⊎◌, inl, inr, List, [], ◌∷◌, length, All, true, false, Some, refl, sym, ◌∙◌, ap, subst, arith, Contains, slice_get}
 use Rattle.std.proofs.lemmas.List.Elements.{All-nil, All-cons}
 use Rattle.std.proofs.lemmas.Option.{slice_get_within}
-use Rattle.g4_elements.specs.Blocks.{EachIsFull}
-use Rattle.g4_elements.specs.Elements.{Alternatives, atoms_of_either}
+use Rattle.g4_source.specs.Full.{EachIsFull}
+use Rattle.g4_source.specs.Elements.{Alternatives, atoms_of_either}
 use Rattle.g4_source.specs.Rules.{lexer_alternatives_of}
 use Rattle.g4_source.specs.declared.rule.LexerAlternative.{LexerAlternative}
 use Rattle.g4_source.specs.declared.rule.LexerRule.{LexerRule}

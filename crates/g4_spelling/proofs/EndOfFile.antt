@@ -1,7 +1,7 @@
 -- `EOF` alone takes no character, and matches only where nothing is left.
 use Rattle.std.proofs.Common.{◌≡◌, ℕ, inl, inr, List, [], ◌∷◌, ◌++◌, map, true, false, refl, sym, ◌∙◌, subst, append-nil}
 use Rattle.std.specs.List.{repeat}
-use Rattle.g4_elements.specs.Elements.{atom, empty, then}
+use Rattle.g4_source.specs.Elements.{atom, empty, then}
 use Rattle.g4_source.specs.declared.atom.Atom.{Atom}
 use Rattle.g4_source.specs.declared.atom.AtomKind.{AtomKind}
 use Rattle.g4_source.specs.declared.atom.AtomKind.TheVariants as kinds

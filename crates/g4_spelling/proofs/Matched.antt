@@ -1,7 +1,7 @@
 -- What rules match alone, and the match by all of them, where rules without non-greedy parts match what they derive.
 use Rattle.std.proofs.Common.{◌≡◌, ℕ, zero, suc, inl, inr, List, [], ◌∷◌, map, drop, Some, refl, sym, ◌∙◌, ap, subst, Contains, slice_get}
-use Rattle.g4_elements.specs.Elements.{Alternatives}
-use Rattle.g4_elements.specs.Bind.{in_order_bind, in_order_over}
+use Rattle.g4_source.specs.Elements.{Alternatives}
+use Rattle.g4_source.specs.Bind.{in_order_bind, in_order_over}
 use Rattle.g4_source.specs.Blocks.{LexerRuleIsFull, LexerRulesAreFull}
 use Rattle.g4_source.specs.Rules.{lexer_alternatives_of}
 use Rattle.g4_source.specs.declared.rule.LexerAlternative.{LexerAlternative}

@@ -2,8 +2,8 @@
 use Rattle.std.proofs.Common.{◌≡◌, ℕ, zero, suc, ◌+◌, ◌<◌, ◌⊎◌, inl, inr, List, [], ◌∷◌, length, map, All, Option, Some, None, refl, sym, ◌∙◌, ap, subst, arith, Contains, slice_get}
 use Rattle.std.proofs.lemmas.List.{length-map}
 use Rattle.std.proofs.lemmas.List.FromFn.{length-map-range_with_len}
-use Rattle.g4_elements.specs.Bind.{in_order_bind, either_bind, in_order_over, either_over}
-use Rattle.g4_elements.specs.Elements.{Elements, Alternatives, either, atoms_of_either}
+use Rattle.g4_source.specs.Bind.{in_order_bind, either_bind, in_order_over, either_over}
+use Rattle.g4_source.specs.Elements.{Elements, Alternatives, either, atoms_of_either}
 use Rattle.g4_source.specs.declared.atom.Atom.{Atom}
 use Rattle.g4_source.specs.declared.rule.LexerAlternative.{LexerAlternative}
 use Rattle.g4_source.specs.declared.rule.LexerRule.{LexerRule}

@@ -1,6 +1,6 @@
 -- Lexer rules whose sets of characters are as every set of the code is.
 use Rattle.std.specs.Prelude.{◌≡◌, ℕ, List, Some, slice_get, All}
-use Rattle.g4_elements.specs.Elements.{atoms_of_either}
+use Rattle.g4_source.specs.Elements.{atoms_of_either}
 use Rattle.g4_source.specs.declared.rule.LexerRule.{LexerRule}
 use Rattle.g4_source.specs.Rules.{lexer_alternatives_of}
 use Rattle.g4_lexnet.specs.Steps.{SetIsCanonical}

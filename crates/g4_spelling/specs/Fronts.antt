@@ -1,7 +1,7 @@
 -- What an alternative of a lexer rule, as it is written, matches at the front of a text.
 use Rattle.std.specs.Prelude.{◌≡◌, ◌≤◌, ℕ, ◌+◌, List, [], ◌∷◌, ◌++◌, map, Some, slice_get, Contains}
 use Rattle.std.specs.List.{repeat}
-use Rattle.g4_elements.specs.Elements.{Elements}
+use Rattle.g4_source.specs.Elements.{Elements}
 use Rattle.g4_source.specs.declared.atom.Atom.{Atom}
 use Rattle.g4_source.specs.declared.rule.LexerAlternative.{LexerAlternative}
 use Rattle.g4_source.specs.declared.rule.LexerRule.{LexerRule}

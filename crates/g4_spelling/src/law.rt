@@ -1,6 +1,6 @@
 // What a lexer's network has to do with its rules as they are written.
 ghost use Rattle.std.specs.Prelude.{◌≡◌, ◌⊎◌, ◌↔◌, ℕ, List, [], Some, slice_get, Contains};
-ghost use Rattle.g4_elements.specs.Elements.{atom, empty, then};
+ghost use Rattle.g4_source.specs.Elements.{atom, empty, then};
 ghost use Rattle.g4_source.specs.declared.atom.Atom.{Atom};
 ghost use Rattle.g4_source.specs.declared.rule.LexerAlternative.{LexerAlternative};
 ghost use Rattle.g4_source.specs.declared.rule.LexerRule.{LexerRule as Rule};

@@ -1,14 +1,14 @@
 -- Elements and alternatives of the code as trees, from one on.
 use Rattle.std.proofs.Common.{◌≡◌, ℕ, ◌+◌, ◌<◌, ◌≤◌, List, ◌∷◌, length, map, drop, get_or, Option, Vec, Global, sym, ap, ◌∙◌}
 use Rattle.std.proofs.lemmas.List.{drop_all, drop_more}
-use Rattle.g4_elements.specs.declared.name.Label.{Label}
-use Rattle.g4_elements.specs.declared.element.Repeat.{Repeat}
-use Rattle.g4_elements.specs.declared.element.Element.{Element as Node}
-use Rattle.g4_elements.specs.declared.element.Element.TheVariants as nodes
-use Rattle.g4_elements.specs.declared.element.Alternative.{Alternative as Side, out-Alternative}
-use Rattle.g4_elements.specs.Elements.{atom, block, Elements, empty, then, Alternatives, none, or, either}
-use Rattle.g4_elements.specs.Trees.{in_order, element_of, alternative_of}
-use Rattle.g4_elements.proofs.Trees.{of_atom, of_block, of_alternative}
+use Rattle.g4_source.specs.declared.name.Label.{Label}
+use Rattle.g4_source.specs.declared.element.Repeat.{Repeat}
+use Rattle.g4_source.specs.declared.element.Element.{Element as Node}
+use Rattle.g4_source.specs.declared.element.Element.TheVariants as nodes
+use Rattle.g4_source.specs.declared.element.Alternative.{Alternative as Side, out-Alternative}
+use Rattle.g4_source.specs.Elements.{atom, block, Elements, empty, then, Alternatives, none, or, either}
+use Rattle.g4_source.specs.Trees.{in_order, element_of, alternative_of}
+use Rattle.g4_source.proofs.Trees.{of_atom, of_block, of_alternative}
 
 -- the items of a list from an index on
 from : {X : Type 0} (xs : List X) (i : ℕ) (x : X) → i < length xs → x ≡ get_or xs i x → drop i xs ≡ x ∷ drop (i + 1) xs

@@ -1,7 +1,7 @@
 -- Children are read one by one, with marks.
 use Rattle.std.proofs.Common.{◌≡◌, ◌↔◌, ℕ, ◌+◌, ◌<◌, ◌≤◌, ◌⊎◌, inl, inr, List, [], ◌∷◌, ◌++◌, length, drop, get_or, Bool, true, false, IsTrue, refl, sym, ◌∙◌, subst}
 use Rattle.std.proofs.lemmas.List.{append-nil, drop_all, drop_more}
-use Rattle.g4_elements.specs.Elements.{Elements}
+use Rattle.g4_source.specs.Elements.{Elements}
 use Rattle.g4_grammar.specs.declared.step.Step.{Step}
 use Rattle.g4_trees.specs.declared.tree.Item.{Item}
 use Rattle.g4_tree_check.specs.Children.{child_of, is_quiet, takes}

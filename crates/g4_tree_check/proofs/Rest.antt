@@ -1,7 +1,7 @@
 -- What marks mean: the words that lead from a mark of an element to its end.
 use Rattle.std.proofs.Common.{◌≡◌, ◌↔◌, ◌⊎◌, inl, inr, List, [], Bool, ◌&&◌, IsTrue, refl, ap, ◌∙◌, subst}
-use Rattle.g4_elements.specs.declared.element.Repeat.TheVariants.{Once, Optional, Star, Plus}
-use Rattle.g4_elements.specs.Elements.{Element, atom, block, Elements, empty, then, Alternatives, none, or}
+use Rattle.g4_source.specs.declared.element.Repeat.TheVariants.{Once, Optional, Star, Plus}
+use Rattle.g4_source.specs.Elements.{Element, atom, block, Elements, empty, then, Alternatives, none, or}
 use Rattle.g4_grammar.specs.Derives.{an_atom, a_block, left_out, taken, no_turn, turns, nothing, one_more, this, another}
 use Rattle.g4_tree_check.specs.Marks.{first_mark, past, past_all, past_either, ends, ends_all, ends_either}
 use Rattle.g4_tree_check.proofs.Derivations.{Gives, GivesAll, GivesOne, atom_parts, then_parts, none_parts, or_parts, once_parts, plus_parts}

@@ -1,10 +1,10 @@
 -- What shifted marks mean: a word leads from them to an end where the word with the next letter before it led there.
 use Rattle.std.proofs.Common.{◌≡◌, ◌↔◌, ◌⊎◌, inl, inr, List, [], ◌∷◌, ◌++◌, Bool, true, false, ◌||◌, IsTrue, Option, refl, sym, ap, ◌∙◌, subst, append_assoc}
-use Rattle.g4_elements.specs.declared.name.Label.{Label}
-use Rattle.g4_elements.specs.declared.element.Suffix.{Suffix}
-use Rattle.g4_elements.specs.declared.element.Repeat.{Repeat}
-use Rattle.g4_elements.specs.declared.element.Repeat.TheVariants.{Once, Optional, Star, Plus}
-use Rattle.g4_elements.specs.Elements.{Element, atom, block, Elements, empty, then, Alternatives, none, or}
+use Rattle.g4_source.specs.declared.name.Label.{Label}
+use Rattle.g4_source.specs.declared.element.Suffix.{Suffix}
+use Rattle.g4_source.specs.declared.element.Repeat.{Repeat}
+use Rattle.g4_source.specs.declared.element.Repeat.TheVariants.{Once, Optional, Star, Plus}
+use Rattle.g4_source.specs.Elements.{Element, atom, block, Elements, empty, then, Alternatives, none, or}
 use Rattle.g4_grammar.specs.Derives.{an_atom, a_block, taken, a_turn, turns, one_more, this, another}
 use Rattle.g4_tree_check.specs.Marks.{past, past_all, past_either, block_ends, body_begins, ends, ends_either, shift, shift_all, shift_either}
 use Rattle.g4_tree_check.proofs.Derivations.{Gives, GivesAll, GivesOne, atom_parts, empty_parts, then_parts, none_parts, or_parts, once_parts, optional_parts, plus_parts, star_turn}

@@ -1,6 +1,6 @@
 -- How far reading has come in a tree: what the items that are still to be read must be.
 use Rattle.std.specs.Prelude.{◌≡◌, ℕ, ◌+◌, List, [], ◌∷◌, ◌++◌, length, reverse}
-use Rattle.g4_elements.specs.Elements.{Elements}
+use Rattle.g4_source.specs.Elements.{Elements}
 use Rattle.g4_grammar.specs.declared.step.Step.{Step}
 use Rattle.g4_grammar.specs.StepRules.{StepRule}
 use Rattle.g4_trees.specs.declared.tree.Item.{Item}

@@ -1,7 +1,7 @@
 -- The trees of a grammar over a word: well nested, with the tokens in order, each node at the place of its first token, and the children
 -- of each node a word of its alternative as the grammar writes it.
 use Rattle.std.specs.Prelude.{◌≡◌, ℕ, ◌+◌, List, [], ◌∷◌, length, Some, slice_get, Contains}
-use Rattle.g4_elements.specs.Elements.{Elements}
+use Rattle.g4_source.specs.Elements.{Elements}
 use Rattle.g4_source.specs.Rules.{bodies_of}
 use Rattle.g4_grammar.specs.declared.step.Step.{Step}
 use Rattle.g4_grammar.specs.declared.step.Step.TheVariants.{Edge, Call, Predicate, Level, Action, Empty}

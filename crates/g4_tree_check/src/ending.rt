@@ -1,12 +1,12 @@
 // Where what was read may end, by the marks of atoms.
 ghost use Rattle.std.specs.Prelude.{◌≡◌, ◌||◌, ◌&&◌, map};
-ghost use Rattle.g4_elements.specs.Elements.{either};
-ghost use Rattle.g4_elements.specs.Trees.{element_of, alternative_of, in_order};
+ghost use Rattle.g4_source.specs.Elements.{either};
+ghost use Rattle.g4_source.specs.Trees.{element_of, alternative_of, in_order};
 ghost use Rattle.g4_tree_check.specs.Children.{is_quiet};
 ghost use Rattle.g4_tree_check.specs.Marks.{block_ends, ends, ends_all, ends_either, first_mark, more_marks, past, past_all, past_either};
 
 use crate::child::is_quiet;
-use g4_elements::{Alternative, Element, Repeat};
+use g4_source::{Alternative, Element, Repeat};
 use g4_grammar::Step;
 use g4_symbols::Symbols;
 

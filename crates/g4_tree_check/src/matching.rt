@@ -6,7 +6,7 @@ ghost use Rattle.g4_tree_check.specs.TreesOf.{DerivesChildren};
 use crate::child::child_of;
 use crate::ending::end_of_elements;
 use crate::shifting::shift_elements;
-use g4_elements::Elements;
+use g4_source::Elements;
 use g4_grammar::Step;
 use g4_symbols::Symbols;
 use g4_token_list::Token;

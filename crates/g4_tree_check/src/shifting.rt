@@ -1,14 +1,14 @@
 // The marks of atoms once the next child is read.
 ghost use Rattle.std.specs.Prelude.{◌≡◌, ◌++◌, false, map, IfOk, OnOk, Option};
-ghost use Rattle.g4_elements.specs.declared.name.Label.{Label as Named};
-ghost use Rattle.g4_elements.specs.Elements.{atom as lone, block, either};
-ghost use Rattle.g4_elements.specs.Trees.{element_of, alternative_of, in_order};
+ghost use Rattle.g4_source.specs.declared.name.Label.{Label as Named};
+ghost use Rattle.g4_source.specs.Elements.{atom as lone, block, either};
+ghost use Rattle.g4_source.specs.Trees.{element_of, alternative_of, in_order};
 ghost use Rattle.g4_tree_check.specs.Children.{is_quiet, takes};
 ghost use Rattle.g4_tree_check.specs.Marks.{body_begins, ends, ends_all, ends_either, past, past_all, past_either, shift, shift_all, shift_either};
 
 use crate::child::{Child, takes};
 use crate::ending::{End, block_ends, either_of, end_of_atom, end_of_either};
-use g4_elements::{Alternative, Element, Repeat};
+use g4_source::{Alternative, Element, Repeat};
 use g4_grammar::Step;
 use g4_symbols::Symbols;
 use std::alloc::AllocError;

@@ -1,6 +1,6 @@
 // How far reading has come in a tree.
 ghost use Rattle.std.specs.Prelude.{◌≡◌, ◌↔◌, [], ◌∷◌, ℕ, List, IfOk, IfSome, IfNone, IsTrue};
-ghost use Rattle.g4_elements.specs.Elements.{Elements as Body};
+ghost use Rattle.g4_source.specs.Elements.{Elements as Body};
 ghost use Rattle.g4_grammar.specs.declared.step.Step.{Step as AStep};
 ghost use Rattle.g4_grammar.specs.StepRules.{StepRule as Rule};
 ghost use Rattle.g4_token_list.specs.TokenList.{word_of};
@@ -10,7 +10,7 @@ ghost use Rattle.g4_tree_check.specs.Standing.{CanEnd, FitsBody, IsOneNode};
 ghost use Rattle.g4_tree_check.specs.TreesOf.{IsBody};
 
 use crate::matching::derives;
-use g4_elements::Elements;
+use g4_source::Elements;
 use g4_grammar::{Step, StepRule};
 use g4_symbols::Symbols;
 use g4_token_list::Token;

@@ -3,15 +3,15 @@ use Rattle.std.proofs.Common.{◌≡◌, List, [], ◌∷◌, ◌++◌, length, 
 use Rattle.std.specs.List.{flat_map}
 use Rattle.std.proofs.lemmas.Grind.{flat_map-append}
 use Rattle.std.proofs.lemmas.List.{append-nil}
-use Rattle.g4_elements.specs.declared.name.Label.{Label}
-use Rattle.g4_elements.specs.declared.element.Repeat.{Repeat}
-use Rattle.g4_elements.specs.declared.element.Element.{Element as Node}
-use Rattle.g4_elements.specs.declared.element.Element.TheVariants as nodes
-use Rattle.g4_elements.specs.declared.element.Alternative.{Alternative as Side, out-Alternative}
-use Rattle.g4_elements.specs.Elements.{Element, atom, block, Elements, Alternatives, empty, then, none, or, either, atoms, atoms_in_order, atoms_of_either}
-use Rattle.g4_elements.specs.Bind.{in_order_bind, either_bind, bind}
-use Rattle.g4_elements.specs.Trees.{in_order, element_of, alternative_of}
-use Rattle.g4_elements.proofs.Trees.{of_atom, of_block, of_alternative}
+use Rattle.g4_source.specs.declared.name.Label.{Label}
+use Rattle.g4_source.specs.declared.element.Repeat.{Repeat}
+use Rattle.g4_source.specs.declared.element.Element.{Element as Node}
+use Rattle.g4_source.specs.declared.element.Element.TheVariants as nodes
+use Rattle.g4_source.specs.declared.element.Alternative.{Alternative as Side, out-Alternative}
+use Rattle.g4_source.specs.Elements.{Element, atom, block, Elements, Alternatives, empty, then, none, or, either, atoms, atoms_in_order, atoms_of_either}
+use Rattle.g4_source.specs.Bind.{in_order_bind, either_bind, bind}
+use Rattle.g4_source.specs.Trees.{in_order, element_of, alternative_of}
+use Rattle.g4_source.proofs.Trees.{of_atom, of_block, of_alternative}
 use Rattle.g4_source.specs.declared.atom.Atom.{Atom}
 use Rattle.g4_source.specs.declared.atom.TokenReference.{TokenReference}
 use Rattle.g4_source.specs.declared.rule.ParserRule.{ParserRule}

@@ -1,13 +1,10 @@
 // Copies of what a numbered grammar keeps of its source.
 ghost use Rattle.std.specs.Prelude.{◌≡◌, IfOk, List, map};
-ghost use Rattle.g4_elements.specs.Elements.{atom};
+ghost use Rattle.g4_source.specs.Elements.{atom};
 
 use g4_base::{Sequence, Text};
 use g4_chars::CharSet;
-use g4_elements::{Element, Label, Substitution, substituted};
-use g4_source::{
-    AlternativeLabel, Argument, Atom, AtomKind, Command, LexerAlternative, Literal, TokenReference,
-};
+use g4_source::{AlternativeLabel, Argument, Atom, AtomKind, Command, Element, Label, LexerAlternative, Literal, Substitution, TokenReference, substituted};
 use std::alloc::{AllocError, Global};
 
 /// A copy of the literal.
@@ -91,7 +88,7 @@ fn kind(alloc: Global, kind: &AtomKind) -> Result<AtomKind, AllocError>
 struct Same;
 
 impl Substitution<Atom> for Same {
-    ghost use Rattle.g4_elements.specs.Elements.{atom};
+    ghost use Rattle.g4_source.specs.Elements.{atom};
 
     type To = Atom;
 

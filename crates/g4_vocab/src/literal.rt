@@ -1,10 +1,9 @@
 // Lexer rules that are a literal and nothing else.
 ghost use Rattle.std.specs.Prelude.{◌≡◌, MatchOption, None, Some, map};
-ghost use Rattle.g4_elements.specs.Trees.{element_of, in_order};
+ghost use Rattle.g4_source.specs.Trees.{element_of, in_order};
 ghost use Rattle.g4_vocab.specs.Numbering.{literal_element, literal_kind, whole_elements, whole_literal};
 
-use g4_elements::Element;
-use g4_source::{Atom, AtomKind, LexerAlternative, Literal};
+use g4_source::{Atom, AtomKind, Element, LexerAlternative, Literal};
 
 /// The literal that the atom is.
 fn literal_kind(kind: &AtomKind) -> Option<&Literal>

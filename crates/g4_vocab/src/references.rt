@@ -1,14 +1,13 @@
 // The tokens that parser rules name, in order of the text.
 ghost use Rattle.std.specs.Prelude.{◌≡◌, ◌++◌, IfOk, OnOk, map};
 ghost use Rattle.std.specs.List.{flat_map};
-ghost use Rattle.g4_elements.specs.Elements.{atoms, atoms_in_order, atoms_of_either};
-ghost use Rattle.g4_elements.specs.Trees.{element_of, in_order};
+ghost use Rattle.g4_source.specs.Elements.{atoms, atoms_in_order, atoms_of_either};
+ghost use Rattle.g4_source.specs.Trees.{element_of, in_order};
 ghost use Rattle.g4_source.specs.Rules.{alternatives_of};
 ghost use Rattle.g4_vocab.specs.Numbering.{all_atoms, all_references, references};
 ghost use Rattle.g4_vocab.specs.Tables.{reference_of};
 
-use g4_elements::Element;
-use g4_source::{Atom, AtomKind, Literal, ParserRule, TokenReference};
+use g4_source::{Atom, AtomKind, Element, Literal, ParserRule, TokenReference};
 use std::alloc::{AllocError, Global};
 
 /// A token by its name or its literal.

@@ -11,9 +11,8 @@ ghost use Rattle.g4_vocab.specs.Tables.{IsTable, reference_of};
 use crate::references::{Reference, reference_to};
 use crate::types::Types;
 use crate::wholes::Wholes;
-use g4_elements::{Element, Substitution};
+use g4_source::{Atom, AtomKind, Element, Literal, Substitution, TokenReference};
 use g4_grammar::{NumberedAtom, NumberedKind};
-use g4_source::{Atom, AtomKind, Literal, TokenReference};
 use g4_symbols::{EOF, Symbols};
 use std::alloc::{AllocError, Global};
 use std::collections::BTreeSet;
@@ -112,7 +111,7 @@ impl Numbering<'_, '_, '_, '_> {
 
 impl Substitution<Atom> for Numbering<'_, '_, '_, '_> {
     ghost use Rattle.std.specs.Prelude.{map};
-    ghost use Rattle.g4_elements.specs.Elements.{atom};
+    ghost use Rattle.g4_source.specs.Elements.{atom};
     ghost use Rattle.g4_vocab.specs.Numbering.{numbered_atom};
 
     type To = NumberedAtom;

@@ -7,9 +7,8 @@ use crate::copies;
 use crate::symbol::Numbering;
 use crate::types::{Entry, Key};
 use g4_base::{Sequence, Text};
-use g4_elements::{Element, Elements};
+use g4_source::{Atom, AtomKind, Element, Elements, LexerAlternative, LexerRule, Literal};
 use g4_grammar::TokenRule;
-use g4_source::{Atom, AtomKind, LexerAlternative, LexerRule, Literal};
 use std::alloc::{AllocError, Global};
 
 /// An alternative that is a literal.

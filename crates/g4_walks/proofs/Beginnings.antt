@@ -1,7 +1,7 @@
 -- Where the alternatives of rules begin, and how they are laid out from there.
 use Rattle.std.proofs.Common.{◌≡◌, ℕ, zero, suc, ◌+◌, List, [], ◌∷◌, Some, refl, sym, ap, subst, arith, slice_get}
 use Rattle.std.proofs.lemmas.Option.{slice_get_within}
-use Rattle.g4_elements.specs.Elements.{Elements, Alternatives, none, or, either}
+use Rattle.g4_source.specs.Elements.{Elements, Alternatives, none, or, either}
 use Rattle.g4_grammar.specs.declared.step.Step.{Step}
 use Rattle.g4_net.specs.declared.network.Network.{Network}
 use Rattle.g4_net.specs.declared.network.State.TheVariants.{Decision, End, Empty}

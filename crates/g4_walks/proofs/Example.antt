@@ -1,7 +1,7 @@
 -- The network of a rule `r : 'a'* ;` alone, where 'a' has the index 5: a walk that reads two of them, and an edge that leads
 -- to the rule's start, which is no outer start.
 use Rattle.std.proofs.Common.{◌≡◌, ℕ, List, [], ◌∷◌, None, Some, refl, arith}
-use Rattle.g4_elements.specs.Elements.{atom, block, Elements, empty, then, only}
+use Rattle.g4_source.specs.Elements.{atom, block, Elements, empty, then, only}
 use Rattle.g4_grammar.specs.declared.step.Step.{Step}
 use Rattle.g4_grammar.specs.declared.step.Step.TheVariants as steps
 use Rattle.g4_grammar.specs.Steps.{any_number}

@@ -1,7 +1,7 @@
 -- The network of a rule `e : e '+' e | 'a' ;` alone, where 'a' has the index 5 and '+' the index 6: where no level is passed a walk
 -- reads an 'a', and over the level it goes on with '+' and another e.
 use Rattle.std.proofs.Common.{◌≡◌, ℕ, List, [], ◌∷◌, false, None, Some, refl, arith}
-use Rattle.g4_elements.specs.Elements.{atom, block, Elements, empty, then, none, only}
+use Rattle.g4_source.specs.Elements.{atom, block, Elements, empty, then, none, only}
 use Rattle.g4_source.specs.Rules.{alternatives_of}
 use Rattle.g4_grammar.specs.declared.step.Step.TheVariants as steps
 use Rattle.g4_grammar.specs.StepRules.{StepRule}

@@ -1,7 +1,7 @@
 -- Where each alternative of a rule that is laid out begins, and how the rule's start leads there.
 use Rattle.std.proofs.Common.{◌≡◌, ℕ, zero, suc, ◌+◌, ◌⊎◌, inl, inr, List, [], Some, refl, arith, Contains, slice_get}
 use Rattle.std.proofs.lemmas.Option.{get_or_from_slice_get, slice_get_within}
-use Rattle.g4_elements.specs.Elements.{Elements, Alternatives, none, or}
+use Rattle.g4_source.specs.Elements.{Elements, Alternatives, none, or}
 use Rattle.g4_grammar.specs.declared.step.Step.{Step}
 use Rattle.g4_grammar.specs.Derives.{NoCalls, DerivesAll, DerivesOne, this, another}
 use Rattle.g4_layout.specs.Layout.{LiesAsRule, of_one, of_several, LieSideBySide, no_other}

@@ -2,7 +2,7 @@
 use Rattle.std.proofs.Common.{◌≡◌, ℕ, zero, suc, ◌+◌, List, [], ◌∷◌, Bool, true, false, cond, Option, Some, None, map, refl, sym, ◌∙◌, ap, arith, slice_get}
 use Rattle.std.specs.List.{cons_option, enumerate_from, filter_map}
 use Rattle.std.proofs.lemmas.Bool.Decides.{nat_tests}
-use Rattle.g4_elements.specs.Elements.{Element, atom, block, Elements, empty, then}
+use Rattle.g4_source.specs.Elements.{Element, atom, block, Elements, empty, then}
 use Rattle.g4_grammar.specs.declared.step.Step.TheVariants.{Edge, Call, Predicate, Level, Action, Empty}
 use Rattle.g4_leftrec.specs.OwnCalls.{Part, after_self, is_atom, operator_of, operator_with, operators, primaries, primary_of, primary_with}
 use Rattle.g4_leftrec.specs.OwnSteps.{calls}

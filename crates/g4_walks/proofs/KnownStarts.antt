@@ -3,7 +3,7 @@ use Rattle.std.proofs.Common.{◌≡◌, ℕ, zero, suc, ◌+◌, List, [], ◌�
 use Rattle.std.specs.List.{enumerate_from}
 use Rattle.std.proofs.lemmas.List.{length-map}
 use Rattle.std.proofs.lemmas.List.FromFn.{length-enumerate_from}
-use Rattle.g4_elements.specs.Elements.{Elements, either}
+use Rattle.g4_source.specs.Elements.{Elements, either}
 use Rattle.g4_net.specs.Network.{ParserNetwork, end_of}
 use Rattle.g4_layout.specs.Layout.{LiesAsRule}
 use Rattle.g4_leftrec.specs.OwnCalls.{Part, is_left_recursive, operators, primaries}

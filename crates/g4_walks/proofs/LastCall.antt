@@ -1,8 +1,8 @@
 -- The level of the last call does not matter for what elements read.
 use Rattle.std.proofs.Common.{◌≡◌, ℕ, List, [], Bool, true, false, cond, Option, Some, None, refl, sym, subst, arith}
 use Rattle.std.proofs.lemmas.Bool.Decides.{nat_tests}
-use Rattle.g4_elements.specs.Elements.{Element, atom, block, Elements, empty, then}
-use Rattle.g4_elements.specs.Marks.{onto}
+use Rattle.g4_source.specs.Elements.{Element, atom, block, Elements, empty, then}
+use Rattle.g4_source.specs.Marks.{onto}
 use Rattle.g4_grammar.specs.declared.step.Step.TheVariants.{Edge, Call, Predicate, Level, Action, Empty}
 use Rattle.g4_grammar.specs.Derives.{NoCalls, Derives, an_atom, a_call, DerivesAll, one_more}
 use Rattle.g4_leftrec.specs.OwnCalls.{LastSelf, is_atom, are_silent, before_self, with_first}

@@ -1,9 +1,9 @@
 -- Elements without levels, and that rules as they are written have none.
 use Rattle.std.proofs.Common.{ℕ, List, [], All}
 use Rattle.std.proofs.lemmas.List.Elements.{All-head}
-use Rattle.g4_elements.specs.Elements.{Element, atom, block, Elements, empty, then, Alternatives, none, or, atoms, atoms_in_order, atoms_of_either}
-use Rattle.g4_elements.specs.Blocks.{IsFull, AreFull, EachIsFull}
-use Rattle.g4_elements.proofs.Parts.{All-front, All-rest}
+use Rattle.g4_source.specs.Elements.{Element, atom, block, Elements, empty, then, Alternatives, none, or, atoms, atoms_in_order, atoms_of_either}
+use Rattle.g4_source.specs.Full.{IsFull, AreFull, EachIsFull}
+use Rattle.g4_source.proofs.Parts.{All-front, All-rest}
 use Rattle.g4_grammar.specs.declared.step.Step.{Step}
 use Rattle.g4_grammar.specs.declared.step.Step.TheVariants.{Edge, Call, Predicate, Level, Action, Empty}
 use Rattle.g4_grammar.specs.StepRules.{IsPlain}

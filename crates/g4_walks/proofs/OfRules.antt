@@ -4,7 +4,7 @@ use Rattle.std.specs.List.{enumerate_from}
 use Rattle.std.proofs.lemmas.List.{length-map}
 use Rattle.std.proofs.lemmas.List.Elements.{All-head, All-tail}
 use Rattle.std.proofs.lemmas.List.FromFn.{length-enumerate_from}
-use Rattle.g4_elements.specs.Elements.{Elements, Alternatives, either}
+use Rattle.g4_source.specs.Elements.{Elements, Alternatives, either}
 use Rattle.g4_source.specs.Blocks.{ParserRuleIsFull, ParserRulesAreFull}
 use Rattle.g4_source.specs.Rules.{alternatives_of}
 use Rattle.g4_grammar.specs.declared.step.Numbering.{Numbering}

@@ -1,7 +1,7 @@
 -- At a level of a rule one of the rule's operators begins.
 use Rattle.std.proofs.Common.{◌≡◌, ℕ, ◌+◌, ◌-◌, ◌<◌, ◌≤◌, inl, inr, List, Some, length, sym, ◌∙◌, ap, subst, arith}
 use Rattle.std.proofs.lemmas.Option.{slice_get_within}
-use Rattle.g4_elements.specs.Elements.{atom, Elements, then, either}
+use Rattle.g4_source.specs.Elements.{atom, Elements, then, either}
 use Rattle.g4_grammar.specs.declared.step.Numbering.{Numbering}
 use Rattle.g4_grammar.specs.declared.step.Step.TheVariants.{Call}
 use Rattle.g4_net.specs.declared.network.State.TheVariants.{Decision, End, Level}

@@ -2,7 +2,7 @@
 use Rattle.std.proofs.Common.{◌≡◌, ℕ, zero, suc, ◌+◌, ◌<◌, ◌≤◌, ◌⊎◌, List, [], Some, length, refl, sym, subst, arith, slice_get, Contains}
 use Rattle.std.proofs.lemmas.Option.{slice_get_within}
 use native.Mathlib.Decide.{dec_lt}
-use Rattle.g4_elements.specs.Elements.{atom, Elements, then}
+use Rattle.g4_source.specs.Elements.{atom, Elements, then}
 use Rattle.g4_grammar.specs.declared.step.Numbering.{Numbering}
 use Rattle.g4_grammar.specs.declared.step.Step.{Step}
 use Rattle.g4_grammar.specs.declared.step.Step.TheVariants.{Call}

@@ -1,7 +1,7 @@
 -- Which states of a rule are levels, and which lead to levels.
 use Rattle.std.proofs.Common.{◌≡◌, ℕ, suc, ◌+◌, ◌<◌, ◌≤◌, ◌⊎◌, inl, inr, List, [], ◌∷◌, length, Some, refl, sym, subst, arith}
 use native.Mathlib.Decide.{dec_lt}
-use Rattle.g4_elements.specs.Elements.{Elements, Alternatives, either}
+use Rattle.g4_source.specs.Elements.{Elements, Alternatives, either}
 use Rattle.g4_net.specs.declared.network.State.{State}
 use Rattle.g4_net.specs.declared.network.State.TheVariants.{Decision, Level, Empty}
 use Rattle.g4_net.specs.Leads.{IsTarget}

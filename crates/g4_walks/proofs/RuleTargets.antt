@@ -1,7 +1,7 @@
 -- To which states the edges of a rule's states lead.
 use Rattle.std.proofs.Common.{◌≡◌, ℕ, ◌+◌, ◌<◌, ◌≤◌, ◌⊎◌, inl, inr, List, length, true, Some, refl, sym, subst, arith, Contains}
 use native.Mathlib.Decide.{dec_lt}
-use Rattle.g4_elements.specs.Elements.{Elements}
+use Rattle.g4_source.specs.Elements.{Elements}
 use Rattle.g4_net.specs.declared.network.State.TheVariants.{Decision, Empty}
 use Rattle.g4_net.specs.Network.{ParserNetwork, state_at, start_of, end_of}
 use Rattle.g4_layout.specs.Layout.{with_exit}

@@ -1,6 +1,6 @@
 -- The two shapes of rules as they are laid out: with all their alternatives at the start, or as a loop.
 use Rattle.std.proofs.Common.{◌≡◌, ℕ, suc, ◌+◌, ◌<◌, inl, inr, List, [], ◌∷◌, map, Some, refl, subst, arith, slice_get, Contains}
-use Rattle.g4_elements.specs.Elements.{Elements, either}
+use Rattle.g4_source.specs.Elements.{Elements, either}
 use Rattle.g4_net.specs.declared.network.State.TheVariants.{Level}
 use Rattle.g4_net.specs.Network.{ParserNetwork, state_at, end_of}
 use Rattle.g4_layout.specs.Layout.{AllLeadTo, a_level, LieInOrder, one_more, LieSideBySide, no_other, another}

@@ -1,6 +1,6 @@
 -- From which states to a rule's end exactly the words of elements are read, where no level is passed.
 use Rattle.std.proofs.Common.{◌≡◌, ℕ, inl, inr, List, [], ◌++◌, true, Some, refl, sym, ◌∙◌, ap, subst, append-nil}
-use Rattle.g4_elements.specs.Elements.{Elements}
+use Rattle.g4_source.specs.Elements.{Elements}
 use Rattle.g4_net.specs.declared.network.State.TheVariants.{Decision, End, Level, Empty}
 use Rattle.g4_net.specs.Network.{ParserNetwork, state_at, end_of}
 use Rattle.g4_layout.specs.Layout.{with_exit}

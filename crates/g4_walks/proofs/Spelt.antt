@@ -1,7 +1,7 @@
 -- What a network spells from a state is read by a walk from there, where a call is one letter. Letters are lists: TakesLetter says which
 -- an edge reads, Names which name a rule, and Covers which part of a word the joined letters are.
 use Rattle.std.proofs.Common.{◌≡◌, ℕ, List, [], ◌∷◌, ◌++◌, Option, Some, None, refl, sym, ◌∙◌, ap, subst, append-nil, Contains, slice_get}
-use Rattle.g4_elements.specs.Elements.{Alternatives, none}
+use Rattle.g4_source.specs.Elements.{Alternatives, none}
 use Rattle.g4_grammar.specs.declared.step.Step.{Step}
 use Rattle.g4_grammar.specs.Derives.{NoCalls, DerivesAll, DerivesOne, this}
 use Rattle.g4_net.specs.declared.network.Network.{Network}

@@ -1,8 +1,8 @@
 -- The layout of a rule that is run as a loop, and of the alternatives with which any rule starts.
 use Rattle.std.proofs.Common.{◌≡◌, ℕ, ◌+◌, ◌≤◌, List, [], ◌∷◌, length, true, None, Some, refl, subst, arith}
-use Rattle.g4_elements.specs.declared.element.Repeat.TheVariants.{Once}
-use Rattle.g4_elements.specs.Elements.{atom, block, Elements, empty, then, none, or, either}
-use Rattle.g4_elements.specs.Marks.{onto}
+use Rattle.g4_source.specs.declared.element.Repeat.TheVariants.{Once}
+use Rattle.g4_source.specs.Elements.{atom, block, Elements, empty, then, none, or, either}
+use Rattle.g4_source.specs.Marks.{onto}
 use Rattle.g4_grammar.specs.declared.step.Step.TheVariants as steps
 use Rattle.g4_net.specs.declared.network.State.TheVariants.{Decision, Empty}
 use Rattle.g4_net.specs.Network.{ParserNetwork, state_at, start_of, end_of}

@@ -2,7 +2,7 @@
 -- leads to the state where its element begins.
 use Rattle.std.proofs.Common.{◌≡◌, ℕ, ◌+◌, ◌<◌, ◌≤◌, ◌⊎◌, inl, inr, List, Bool, Option, Some, None, refl, sym, ◌∙◌, subst, arith, Contains}
 use native.Mathlib.Decide.{dec_lt}
-use Rattle.g4_elements.specs.Elements.{Element, Elements, Alternatives}
+use Rattle.g4_source.specs.Elements.{Element, Elements, Alternatives}
 use Rattle.g4_grammar.specs.declared.step.Step.{Step}
 use Rattle.g4_net.specs.declared.network.Network.{Network}
 use Rattle.g4_net.specs.declared.network.State.{State}

@@ -1,7 +1,7 @@
 -- Which states of a rule are levels, and from where an edge leads to one, by the rule's shape.
 use Rattle.std.proofs.Common.{◌≡◌, ℕ, ◌+◌, ◌<◌, ◌≤◌, ◌⊎◌, inl, inr, List, true, Some, sym, subst, arith}
 use native.Mathlib.Decide.{dec_lt}
-use Rattle.g4_elements.specs.Elements.{Elements, either}
+use Rattle.g4_source.specs.Elements.{Elements, either}
 use Rattle.g4_net.specs.declared.network.State.{State}
 use Rattle.g4_net.specs.declared.network.State.TheVariants.{Decision, End, Empty}
 use Rattle.g4_net.specs.Leads.{IsTarget}

@@ -1,6 +1,6 @@
 -- The walks from where an alternative begins to the end of its rule read exactly the words that the alternative derives.
 use Rattle.std.proofs.Common.{◌≡◌, ℕ, List, [], ◌++◌, Some, sym, ◌∙◌, ap, subst, append-nil, slice_get}
-use Rattle.g4_elements.specs.Elements.{Elements, Alternatives}
+use Rattle.g4_source.specs.Elements.{Elements, Alternatives}
 use Rattle.g4_grammar.specs.declared.step.Step.{Step}
 use Rattle.g4_grammar.specs.Derives.{NoCalls, DerivesAll}
 use Rattle.g4_net.specs.declared.network.Network.{Network}

@@ -1,6 +1,6 @@
 -- The alternatives of a rule by their numbers, and where they begin.
 use Rattle.std.specs.Prelude.{◌≡◌, ◌≤◌, ℕ, ◌+◌, List, [], ◌∷◌, Some, slice_get, length}
-use Rattle.g4_elements.specs.Elements.{Elements, Alternatives, none, or}
+use Rattle.g4_source.specs.Elements.{Elements, Alternatives, none, or}
 use Rattle.g4_source.specs.Rules.{alternatives_of}
 use Rattle.g4_grammar.specs.StepRules.{StepRule}
 use Rattle.g4_grammar.specs.declared.step.Numbering.{Numbering}

@@ -1,6 +1,6 @@
 -- Where alternatives of rules begin, as the rules are written: what is read from there, and which number is written there.
 use Rattle.std.specs.Prelude.{◌≡◌, ℕ, List, [], Some}
-use Rattle.g4_elements.specs.Elements.{atom, Elements, then}
+use Rattle.g4_source.specs.Elements.{atom, Elements, then}
 use Rattle.g4_grammar.specs.declared.step.Step.{Step}
 use Rattle.g4_grammar.specs.declared.step.Step.TheVariants.{Call}
 use Rattle.g4_grammar.specs.Derives.{NoCalls, DerivesAll}

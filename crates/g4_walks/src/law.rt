@@ -1,6 +1,6 @@
 // What the definitions of walks imply.
 ghost use Rattle.std.specs.Prelude.{◌≡◌, ◌≤◌, ◌⊎◌, ◌↔◌, ℕ, List, [], length, Some, slice_get, Contains};
-ghost use Rattle.g4_elements.specs.Elements.{Alternatives, Elements};
+ghost use Rattle.g4_source.specs.Elements.{Alternatives, Elements};
 ghost use Rattle.g4_grammar.specs.Derives.{DerivesAll, NoCalls};
 ghost use Rattle.g4_grammar.specs.StepRules.{CanBeRewritten, StepRule};
 ghost use Rattle.g4_grammar.specs.declared.step.Step.{Step};

@@ -1,5 +1,5 @@
 use Rattle.std.proofs.Common.{ℕ, ◌+◌, ◌*◌, [], ◌∷◌, List, length, sum_by, subst, sym, ◌∙◌, ap, arith}
-use Rattle.g4_elements.specs.Elements.{Alternatives}
+use Rattle.g4_source.specs.Elements.{Alternatives}
 use Rattle.g4_grammar.specs.declared.step.Step.{Step}
 use Rattle.g4_net.specs.declared.network.State.{State}
 use Rattle.g4_layout.specs.Callers.{callers_of}

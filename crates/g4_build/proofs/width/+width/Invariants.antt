@@ -1,7 +1,7 @@
 use Rattle.std.proofs.Common.{map, drop}
 use Rattle.g4_layout.specs.Decisions.{OneHasDecision, SomeHasDecision}
-use Rattle.g4_elements.specs.Elements.{either}
-use Rattle.g4_elements.specs.Trees.{element_of, alternative_of, in_order}
+use Rattle.g4_source.specs.Elements.{either}
+use Rattle.g4_source.specs.Trees.{element_of, alternative_of, in_order}
 use Rattle.g4_build.proofs.Widths.{NotYet}
 use Rattle.g4_build.proofs.width.+width.Given as goal
 

@@ -1,6 +1,6 @@
 use Rattle.std.proofs.Common.{map, drop}
 use Rattle.g4_layout.specs.Decisions.{SomeHasDecision}
-use Rattle.g4_elements.specs.Elements.{either}
+use Rattle.g4_source.specs.Elements.{either}
 use Rattle.g4_build.proofs.Widths.{NotYet}
 use Rattle.g4_build.proofs.width.some_body_is_wide.Given as goal
 

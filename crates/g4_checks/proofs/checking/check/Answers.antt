@@ -1,4 +1,4 @@
-use Rattle.g4_rules.specs.Rules.{rules_of}
+use Rattle.g4_source.specs.InOrder.{rules_of}
 use Rattle.g4_recursion.proofs.Running.{can_run}
 use Rattle.g4_checks.proofs.Defined.{rules_defined}
 use Rattle.g4_checks.proofs.checking.check.Goals as goal

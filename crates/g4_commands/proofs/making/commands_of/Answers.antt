@@ -1,6 +1,6 @@
 use Rattle.std.proofs.Common.{Vec, Global, sym, ap, ◌∙◌}
 use Rattle.g4_lexing.specs.declared.command.LexerCommand.{LexerCommand}
-use Rattle.g4_rules.proofs.Lists.{picks_more, picks_same}
+use Rattle.g4_source.proofs.Lists.{picks_more, picks_same}
 use Rattle.g4_commands.specs.Commands.{command_of}
 use Rattle.g4_commands.proofs.making.commands_of.Goals as goal
 use Rattle.g4_commands.proofs.making.commands_of.Goals.{in-Some+in_ok-push, in_default}

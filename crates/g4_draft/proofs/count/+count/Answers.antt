@@ -1,5 +1,5 @@
 use Rattle.std.proofs.Common.{arith, sym, ◌∙◌, ap}
-use Rattle.g4_elements.specs.Trees.{alternative_of}
+use Rattle.g4_source.specs.Trees.{alternative_of}
 use Rattle.g4_layout.specs.Size.{states_by}
 use Rattle.g4_draft.proofs.Counts.{count_block, count_lone, count_several, count_next, none_left, left_of, less_some}
 use Rattle.g4_draft.proofs.Trees.{plain_atom, plain_block, plain_side}

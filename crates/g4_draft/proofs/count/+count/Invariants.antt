@@ -1,6 +1,6 @@
 use Rattle.std.proofs.Common.{◌≡◌, ◌+◌, map, drop}
-use Rattle.g4_elements.specs.Elements.{either}
-use Rattle.g4_elements.specs.Trees.{element_of, alternative_of, in_order}
+use Rattle.g4_source.specs.Elements.{either}
+use Rattle.g4_source.specs.Trees.{element_of, alternative_of, in_order}
 use Rattle.g4_layout.specs.Size.{states_in_order_by, states_of_bodies_by}
 use Rattle.g4_draft.proofs.count.+count.Given as goal
 

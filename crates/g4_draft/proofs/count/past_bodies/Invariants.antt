@@ -1,5 +1,5 @@
 use Rattle.std.proofs.Common.{◌≡◌, ◌+◌, map, drop}
-use Rattle.g4_elements.specs.Elements.{either}
+use Rattle.g4_source.specs.Elements.{either}
 use Rattle.g4_layout.specs.Size.{states_of_bodies_by}
 use Rattle.g4_draft.proofs.count.past_bodies.Given as goal
 

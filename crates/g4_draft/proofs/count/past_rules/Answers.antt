@@ -1,5 +1,5 @@
 use Rattle.std.proofs.Common.{arith, ap, sym}
-use Rattle.g4_elements.specs.Elements.{either}
+use Rattle.g4_source.specs.Elements.{either}
 use Rattle.std.proofs.Common.{map}
 use Rattle.g4_layout.specs.Size.{states_of_rule_by}
 use Rattle.g4_draft.specs.Trees.{tree_of_rule}

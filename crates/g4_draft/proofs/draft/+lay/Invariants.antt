@@ -1,5 +1,5 @@
 use Rattle.std.proofs.Common.{◌≡◌, ◌+◌, drop, length}
-use Rattle.g4_elements.specs.Blocks.{AreFull, EachIsFull}
+use Rattle.g4_source.specs.Full.{AreFull, EachIsFull}
 use Rattle.g4_draft.specs.Trees.{tree_of, run_of, sides_of}
 use Rattle.g4_draft.proofs.Weights.{weight, weight_of_run, weight_of_sides}
 use Rattle.g4_draft.proofs.Runs.{HasLaid, HasSides}

@@ -1,5 +1,5 @@
 use Rattle.std.proofs.Common.{◌≡◌, drop, length}
-use Rattle.g4_elements.specs.Blocks.{EachIsFull}
+use Rattle.g4_source.specs.Full.{EachIsFull}
 use Rattle.g4_draft.specs.Trees.{bodies_over}
 use Rattle.g4_draft.proofs.Runs.{HasSides}
 use Rattle.g4_draft.proofs.draft.lay_bodies.Given as goal

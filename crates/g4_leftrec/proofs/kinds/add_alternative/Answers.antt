@@ -1,6 +1,6 @@
 use Rattle.std.proofs.Common.{◌≡◌, ℕ, true, false, map, sym, ap, ◌∙◌, arith}
-use Rattle.g4_elements.specs.Elements.{Elements}
-use Rattle.g4_elements.specs.Trees.{element_of, in_order}
+use Rattle.g4_source.specs.Elements.{Elements}
+use Rattle.g4_source.specs.Trees.{element_of, in_order}
 use Rattle.g4_leftrec.specs.OwnCalls.{after_self, is_some}
 use Rattle.g4_leftrec.specs.OwnSteps.{calls}
 use Rattle.g4_leftrec.specs.Rewriting.{StepIn, operator_elements, precedence, with_last_at}

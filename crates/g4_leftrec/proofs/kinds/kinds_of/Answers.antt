@@ -1,6 +1,6 @@
 use Rattle.std.proofs.Common.{◌≡◌, ℕ, ◌+◌, length, map, arith}
 use Rattle.std.proofs.lemmas.List.{length_push}
-use Rattle.g4_elements.specs.Trees.{alternative_of}
+use Rattle.g4_source.specs.Trees.{alternative_of}
 use Rattle.g4_leftrec.specs.OwnCalls.{Part, operator_of, primary_of}
 use Rattle.g4_leftrec.specs.OwnSteps.{calls}
 use Rattle.g4_leftrec.specs.Rewriting.{StepIn, operator_form, primary_form}

@@ -1,5 +1,5 @@
 use Rattle.std.proofs.Common.{◌≡◌, length, map}
-use Rattle.g4_elements.specs.Trees.{alternative_of}
+use Rattle.g4_source.specs.Trees.{alternative_of}
 use Rattle.g4_leftrec.specs.OwnCalls.{Part, operators, primaries}
 use Rattle.g4_leftrec.specs.OwnSteps.{calls}
 use Rattle.g4_leftrec.specs.Rewriting.{StepIn, operator_form, primary_form}

@@ -1,6 +1,6 @@
 use Rattle.std.proofs.Common.{ℕ, map, set, ap, ◌∙◌}
-use Rattle.g4_elements.specs.declared.element.Element.TheVariants as nodes
-use Rattle.g4_elements.specs.Trees.{element_of, in_order}
+use Rattle.g4_source.specs.declared.element.Element.TheVariants as nodes
+use Rattle.g4_source.specs.Trees.{element_of, in_order}
 use Rattle.g4_grammar.specs.declared.step.Step.TheVariants.{Level}
 use Rattle.g4_leftrec.specs.Rewriting.{operand_level, with_last_at}
 use Rattle.g4_leftrec.proofs.Levels.{level_first}

@@ -1,7 +1,7 @@
 use Rattle.std.proofs.Common.{sym, ap, ◌∙◌}
-use Rattle.g4_elements.specs.Elements.{Element}
-use Rattle.g4_elements.specs.Trees.{element_of}
-use Rattle.g4_elements.proofs.Trees.{of_atom, of_block}
+use Rattle.g4_source.specs.Elements.{Element}
+use Rattle.g4_source.specs.Trees.{element_of}
+use Rattle.g4_source.proofs.Trees.{of_atom, of_block}
 use Rattle.g4_leftrec.specs.OwnCalls.{is_atom}
 use Rattle.g4_leftrec.specs.OwnSteps.{is_silent}
 use Rattle.g4_leftrec.specs.Rewriting.{StepIn}

@@ -1,5 +1,5 @@
 use Rattle.std.proofs.Common.{◌≡◌, ℕ, ◌+◌, ◌-◌, ◌<◌, true, false, drop, length, map, sym, subst, ◌∙◌, arith}
-use Rattle.g4_elements.specs.Trees.{element_of, in_order}
+use Rattle.g4_source.specs.Trees.{element_of, in_order}
 use Rattle.g4_leftrec.specs.OwnCalls.{is_atom}
 use Rattle.g4_leftrec.specs.OwnSteps.{calls, is_silent}
 use Rattle.g4_leftrec.proofs.LastCalls.{IsPassed, found_at, not_found_at}

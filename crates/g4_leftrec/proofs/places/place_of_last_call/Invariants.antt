@@ -1,5 +1,5 @@
 use Rattle.std.proofs.Common.{drop, map}
-use Rattle.g4_elements.specs.Trees.{element_of, in_order}
+use Rattle.g4_source.specs.Trees.{element_of, in_order}
 use Rattle.g4_leftrec.specs.OwnSteps.{calls, is_silent}
 use Rattle.g4_leftrec.proofs.LastCalls.{IsPassed}
 use Rattle.g4_leftrec.proofs.places.place_of_last_call.Given as goal

@@ -1,7 +1,7 @@
 use Rattle.std.proofs.Common.{map, sym, ap, ◌∙◌}
-use Rattle.g4_elements.specs.Elements.{Elements, empty}
-use Rattle.g4_elements.specs.Marks.{onto_empty, onto}
-use Rattle.g4_elements.specs.Trees.{alternative_of, element_of, in_order}
+use Rattle.g4_source.specs.Elements.{Elements, empty}
+use Rattle.g4_source.specs.Marks.{onto_empty, onto}
+use Rattle.g4_source.specs.Trees.{alternative_of, element_of, in_order}
 use Rattle.g4_leftrec.specs.Rewriting.{StepIn, plain_alternative, turns_of}
 use Rattle.g4_leftrec.proofs.Made.{one_at_end}
 use Rattle.g4_leftrec.proofs.rewriting.loop_of.Goals as goal

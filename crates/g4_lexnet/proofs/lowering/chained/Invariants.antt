@@ -1,5 +1,5 @@
 use Rattle.std.proofs.Common.{◌≡◌, map, take}
-use Rattle.g4_elements.specs.Trees.{element_of}
+use Rattle.g4_source.specs.Trees.{element_of}
 use Rattle.g4_lexnet.proofs.Chains.{character_of}
 use Rattle.g4_lexnet.proofs.lowering.chained.Given as goal
 

@@ -1,5 +1,5 @@
 use Rattle.std.proofs.Common.{◌≡◌, map, take}
-use Rattle.g4_elements.specs.Bind.{in_order_bind}
+use Rattle.g4_source.specs.Bind.{in_order_bind}
 use Rattle.g4_lexnet.specs.Rules.{names_of}
 use Rattle.g4_lexnet.specs.Steps.{element_of_kind}
 use Rattle.g4_lexnet.proofs.lowering.lowered_rule.Given as goal

@@ -1,7 +1,7 @@
 use Rattle.std.proofs.Common.{◌≡◌, map, Some, subst, arith}
 use Rattle.std.specs.List.{slice_get}
-use Rattle.g4_elements.specs.Elements.{either}
-use Rattle.g4_elements.specs.Trees.{element_of, alternative_of, in_order}
+use Rattle.g4_source.specs.Elements.{either}
+use Rattle.g4_source.specs.Trees.{element_of, alternative_of, in_order}
 use Rattle.g4_nullable.proofs.Calling.{CallsElement, block_calls, calls_start, calls_step, calls_end, passed_start, passed_step, passed_stop, passed_end}
 use Rattle.g4_nullable.proofs.Nodes.{atom_tree, block_tree, side_at, node_at}
 use Rattle.g4_nullable.proofs.Trees.{mapped_past}

@@ -1,6 +1,6 @@
 use Rattle.std.proofs.Common.{◌↔◌, true, IsTrue, refl, sym, subst}
-use Rattle.g4_elements.specs.declared.element.Repeat.{Repeat}
-use Rattle.g4_elements.specs.Elements.{block}
+use Rattle.g4_source.specs.declared.element.Repeat.{Repeat}
+use Rattle.g4_source.specs.Elements.{block}
 use Rattle.g4_grammar.specs.LeftCalls.{Nullable, an_optional, a_star}
 use Rattle.g4_nullable.specs.Leads.{ReadsLead, CallsLead}
 use Rattle.g4_nullable.proofs.Parts.{once_parts, plus_parts}

@@ -1,5 +1,5 @@
 use Rattle.std.proofs.Common.{map}
-use Rattle.g4_elements.specs.Trees.{element_of, in_order}
+use Rattle.g4_source.specs.Trees.{element_of, in_order}
 use Rattle.g4_nullable.proofs.Running.{adds_all, adds_behind}
 use Rattle.g4_nullable.proofs.calls.of_alternative.Goals as goal
 

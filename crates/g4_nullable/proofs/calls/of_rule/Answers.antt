@@ -1,7 +1,7 @@
 use Rattle.std.proofs.Common.{◌≡◌, ◌≤◌, List, length, map, Some, ap, subst, arith}
 use Rattle.std.specs.List.{slice_get}
-use Rattle.g4_elements.specs.Elements.{Elements}
-use Rattle.g4_elements.specs.Trees.{element_of, in_order}
+use Rattle.g4_source.specs.Elements.{Elements}
+use Rattle.g4_source.specs.Trees.{element_of, in_order}
 use Rattle.g4_nullable.specs.declared.lead.Lead.{Lead}
 use Rattle.g4_nullable.proofs.Nodes.{elements_at}
 use Rattle.g4_nullable.proofs.Running.{runs_end, runs_step}

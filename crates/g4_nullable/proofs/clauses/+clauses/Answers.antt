@@ -1,8 +1,8 @@
 use Rattle.std.proofs.Common.{◌≡◌, List, [], ◌∷◌, ◌++◌, map, Some, refl, subst, arith}
 use Rattle.std.specs.List.{slice_get}
-use Rattle.g4_elements.specs.declared.element.Repeat.TheVariants.{Once, Optional, Star, Plus}
-use Rattle.g4_elements.specs.Elements.{Element, Elements, either}
-use Rattle.g4_elements.specs.Trees.{element_of, alternative_of, in_order}
+use Rattle.g4_source.specs.declared.element.Repeat.TheVariants.{Once, Optional, Star, Plus}
+use Rattle.g4_source.specs.Elements.{Element, Elements, either}
+use Rattle.g4_source.specs.Trees.{element_of, alternative_of, in_order}
 use Rattle.g4_horn.specs.declared.clause.Clause.{Clause}
 use Rattle.g4_nullable.specs.declared.lead.Lead.{Lead}
 use Rattle.g4_nullable.specs.declared.clauses.Bodies.{Bodies}

@@ -1,7 +1,7 @@
 use Rattle.std.proofs.Common.{◌≡◌, List, take, map, Some}
 use Rattle.std.specs.List.{slice_get}
-use Rattle.g4_elements.specs.Elements.{Alternatives, either}
-use Rattle.g4_elements.specs.Trees.{element_of, alternative_of, in_order}
+use Rattle.g4_source.specs.Elements.{Alternatives, either}
+use Rattle.g4_source.specs.Trees.{element_of, alternative_of, in_order}
 use Rattle.g4_nullable.specs.declared.lead.Lead.{Lead}
 use Rattle.g4_nullable.specs.Bodies.{AreBodies, Grows, HaveNeeds, IsCovered}
 use Rattle.g4_nullable.proofs.clauses.+clauses.Given as goal

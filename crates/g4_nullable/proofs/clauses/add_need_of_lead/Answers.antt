@@ -1,5 +1,5 @@
 use Rattle.std.proofs.Common.{List, ℕ, true, false, sym, subst, arith}
-use Rattle.g4_elements.specs.Elements.{atom}
+use Rattle.g4_source.specs.Elements.{atom}
 use Rattle.g4_nullable.specs.declared.lead.Lead.{Lead}
 use Rattle.g4_nullable.specs.declared.lead.Lead.TheVariants.{Call}
 use Rattle.g4_nullable.specs.Bodies.{AddsNeeds}

@@ -1,8 +1,8 @@
 use Rattle.std.proofs.Common.{◌≡◌, List, map, Some, subst, arith}
 use Rattle.std.specs.List.{slice_get}
 use Rattle.std.proofs.lemmas.List.{take_all}
-use Rattle.g4_elements.specs.Elements.{Elements, either}
-use Rattle.g4_elements.specs.Trees.{element_of, in_order}
+use Rattle.g4_source.specs.Elements.{Elements, either}
+use Rattle.g4_source.specs.Trees.{element_of, in_order}
 use Rattle.g4_nullable.specs.declared.lead.Lead.{Lead}
 use Rattle.g4_nullable.specs.Bodies.{IsCovered}
 use Rattle.g4_nullable.proofs.Growing.{grows_none, grows_more, covered_none, covered_more}

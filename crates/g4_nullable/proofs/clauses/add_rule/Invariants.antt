@@ -1,6 +1,6 @@
 use Rattle.std.proofs.Common.{◌≡◌, List, take, Some}
 use Rattle.std.specs.List.{slice_get}
-use Rattle.g4_elements.specs.Elements.{Alternatives, either}
+use Rattle.g4_source.specs.Elements.{Alternatives, either}
 use Rattle.g4_nullable.specs.declared.lead.Lead.{Lead}
 use Rattle.g4_nullable.specs.Bodies.{AreBodies, Grows, IsCovered}
 use Rattle.g4_nullable.proofs.clauses.add_rule.Given as goal

@@ -2,7 +2,7 @@ use Rattle.std.proofs.Common.{◌≡◌, ◌≤◌, List, length, Some, refl, sy
 use Rattle.std.specs.List.{slice_get}
 use Rattle.std.proofs.lemmas.List.{length-map}
 use Rattle.std.proofs.lemmas.Option.{slice_get_read}
-use Rattle.g4_elements.specs.Elements.{Elements, either}
+use Rattle.g4_source.specs.Elements.{Elements, either}
 use Rattle.g4_nullable.specs.declared.lead.Lead.{Lead}
 use Rattle.g4_nullable.specs.Leads.{alternatives_of, trees_of}
 use Rattle.g4_nullable.proofs.Growing.{grows_none, grows_more, rules_are_bodies, all_covered, rule_covered}

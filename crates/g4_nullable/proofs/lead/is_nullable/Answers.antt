@@ -1,5 +1,5 @@
 use Rattle.std.proofs.Common.{◌↔◌, true, false, IsTrue, refl, sym, subst}
-use Rattle.g4_elements.specs.Elements.{atom}
+use Rattle.g4_source.specs.Elements.{atom}
 use Rattle.g4_grammar.specs.LeftCalls.{Nullable}
 use Rattle.g4_nullable.specs.declared.lead.Lead.{Lead}
 use Rattle.g4_nullable.specs.Leads.{ReadsLead, CallsLead}

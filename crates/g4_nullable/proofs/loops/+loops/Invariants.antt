@@ -1,6 +1,6 @@
 use Rattle.std.proofs.Common.{List, map}
-use Rattle.g4_elements.specs.Elements.{Alternatives}
-use Rattle.g4_elements.specs.Trees.{element_of, alternative_of}
+use Rattle.g4_source.specs.Elements.{Alternatives}
+use Rattle.g4_source.specs.Trees.{element_of, alternative_of}
 use Rattle.g4_horn.specs.Follows.{Tells}
 use Rattle.g4_nullable.specs.declared.lead.Lead.{Lead}
 use Rattle.g4_nullable.specs.Leads.{IsNullableRule}

@@ -1,7 +1,7 @@
 use Rattle.std.proofs.Common.{◌≡◌, List, map, Some, refl, sym, subst, arith}
 use Rattle.std.specs.List.{slice_get}
-use Rattle.g4_elements.specs.Elements.{Elements, either}
-use Rattle.g4_elements.specs.Trees.{element_of, in_order}
+use Rattle.g4_source.specs.Elements.{Elements, either}
+use Rattle.g4_source.specs.Trees.{element_of, in_order}
 use Rattle.g4_grammar.specs.Loops.{SomeHasEmptyLoop}
 use Rattle.g4_nullable.specs.declared.lead.Lead.{Lead}
 use Rattle.g4_nullable.specs.Leads.{ReadsLead, CallsLead}

@@ -1,7 +1,7 @@
 use Rattle.std.proofs.Common.{◌≡◌, sym, ap, ◌∙◌}
-use Rattle.g4_elements.specs.Elements.{atom}
-use Rattle.g4_elements.specs.Trees.{element_of}
-use Rattle.g4_elements.proofs.Trees.{of_atom, of_block}
+use Rattle.g4_source.specs.Elements.{atom}
+use Rattle.g4_source.specs.Trees.{element_of}
+use Rattle.g4_source.proofs.Trees.{of_atom, of_block}
 use Rattle.g4_nullable.specs.declared.lead.Lead.{Lead}
 use Rattle.g4_nullable.specs.declared.lead.Lead.TheVariants.{Call}
 use Rattle.g4_nullable.proofs.own.is_plain_call.Goals as goal

@@ -2,10 +2,10 @@ use Rattle.std.proofs.Common.{refl, sym, ◌∙◌, ap, append-nil, ◌∷◌, a
 use Rattle.g4_syntax.specs.Notation.{a_set, characters}
 use Rattle.g4_prequels.proofs.Moving.{so, two, upon, first, second, inside, led, ends, asks_same}
 use Rattle.g4_prequels.proofs.Turning.{start, begun, turn, end_turns, sign_over, fewer, fewer_then, no_more}
-use Rattle.g4_elements.specs.declared.name.Name.{Name}
-use Rattle.g4_elements.specs.Elements.{Elements}
-use Rattle.g4_elements.specs.Trees.{element_of, alternative_of, in_order}
-use Rattle.g4_elements.proofs.Trees.{of_elements}
+use Rattle.g4_source.specs.declared.name.Name.{Name}
+use Rattle.g4_source.specs.Elements.{Elements}
+use Rattle.g4_source.specs.Trees.{element_of, alternative_of, in_order}
+use Rattle.g4_source.proofs.Trees.{of_elements}
 use Rattle.g4_source.specs.declared.atom.Atom.{Atom}
 use Rattle.g4_productions.specs.LexerElements.{lexer_element_of, lexer_elements, named_lexer_item, labelled_by, lexer_alternatives_after}
 use Rattle.g4_productions.proofs.Listing.{listed_more}

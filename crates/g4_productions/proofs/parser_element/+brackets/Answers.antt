@@ -1,9 +1,9 @@
 use Rattle.std.proofs.Common.{refl, sym, ◌∙◌, ap, append-nil, arith, Bool, Some}
 use Rattle.g4_prequels.proofs.Moving.{so, two, upon, first, second, inside, led, ends}
 use Rattle.g4_prequels.proofs.Turning.{start, begun, turn, end_turns, sign_over, fewer, fewer_then, no_more}
-use Rattle.g4_elements.specs.declared.name.Name.{Name}
-use Rattle.g4_elements.specs.Trees.{element_of, alternative_of, in_order}
-use Rattle.g4_elements.proofs.Trees.{of_elements}
+use Rattle.g4_source.specs.declared.name.Name.{Name}
+use Rattle.g4_source.specs.Trees.{element_of, alternative_of, in_order}
+use Rattle.g4_source.proofs.Trees.{of_elements}
 use Rattle.g4_productions.specs.ParserElements.{parser_element, parser_elements, named_item, labelled_after, alternative_elements, alternatives_after}
 use Rattle.g4_productions.proofs.Listing.{listed_more}
 use Rattle.g4_productions.proofs.parser_element.+brackets.Goals as goal

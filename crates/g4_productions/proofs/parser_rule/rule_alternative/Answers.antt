@@ -1,6 +1,6 @@
 use Rattle.std.proofs.Common.{refl, ◌∙◌, ap, ◌≡◌}
 use Rattle.g4_prequels.proofs.Moving.{so, two, upon}
-use Rattle.g4_elements.specs.Trees.{in_order}
+use Rattle.g4_source.specs.Trees.{in_order}
 use Rattle.g4_productions.specs.ParserElements.{alternative_right, alternative_elements}
 use Rattle.g4_productions.proofs.parser_rule.rule_alternative.Goals as goal
 

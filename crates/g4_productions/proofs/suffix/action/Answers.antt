@@ -1,6 +1,6 @@
 use Rattle.std.proofs.Common.{refl, sym, ◌∙◌}
 use Rattle.g4_prequels.proofs.Moving.{so, upon, left_out, there, led}
-use Rattle.g4_elements.proofs.Trees.{of_atom}
+use Rattle.g4_source.proofs.Trees.{of_atom}
 use Rattle.g4_productions.proofs.suffix.action.Goals as goal
 
 pub returns-then-not-is_at : goal.returns-then-not-is_at

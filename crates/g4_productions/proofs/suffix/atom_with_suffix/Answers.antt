@@ -1,5 +1,5 @@
 use Rattle.std.proofs.Common.{sym, ◌∙◌, ap}
-use Rattle.g4_elements.proofs.Trees.{of_atom}
+use Rattle.g4_source.proofs.Trees.{of_atom}
 use Rattle.g4_productions.specs.Elements.{single, with_suffix}
 use Rattle.g4_productions.proofs.suffix.atom_with_suffix.Goals as goal
 

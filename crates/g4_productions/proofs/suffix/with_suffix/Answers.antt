@@ -1,5 +1,5 @@
 use Rattle.std.proofs.Common.{sym, ◌∙◌, ap}
-use Rattle.g4_elements.proofs.Trees.{of_block}
+use Rattle.g4_source.proofs.Trees.{of_block}
 use Rattle.g4_productions.specs.declared.suffix.Labelled.{Labelled}
 use Rattle.g4_productions.specs.Elements.{labelled_of, with_suffix}
 use Rattle.g4_productions.proofs.suffix.with_suffix.Goals as goal

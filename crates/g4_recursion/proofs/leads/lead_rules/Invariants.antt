@@ -1,5 +1,5 @@
 use Rattle.std.proofs.Common.{◌≡◌, map, take}
-use Rattle.g4_rules.specs.Views.{rule_view}
+use Rattle.g4_source.specs.Views.{rule_view}
 use Rattle.g4_nullable.specs.Leads.{operators_of}
 use Rattle.g4_recursion.specs.Leads.{leads_by, may_have_operators}
 use Rattle.g4_recursion.specs.Numbers.{number_in}

@@ -1,4 +1,4 @@
-use Rattle.g4_elements.specs.Bind.{in_order_over}
+use Rattle.g4_source.specs.Bind.{in_order_over}
 use Rattle.g4_source.specs.declared.atom.Atom.{Atom}
 use Rattle.g4_source.specs.declared.rule.LexerAlternative.{LexerAlternative}
 use Rattle.g4_recursion.specs.Leads.{lead_by}

@@ -1,7 +1,7 @@
 use Rattle.std.proofs.Common.{◌++◌, List, map, refl, sym, ap, ◌∙◌}
-use Rattle.g4_rules.specs.Atoms.{AtomIn, atom_in}
+use Rattle.g4_source.specs.Atoms.{AtomIn, atom_in}
 use Rattle.g4_references.specs.Views.{use_view}
-use Rattle.g4_rules.proofs.Lists.{parts_more, parts_all, pushed}
+use Rattle.g4_source.proofs.Lists.{parts_more, parts_all, pushed}
 use Rattle.g4_references.proofs.Nodes.{side_atoms, node_atoms, atom_atoms, block_atoms, elements_atoms, side_is}
 use Rattle.g4_references.proofs.atoms.+push.Goals as goal
 

@@ -1,8 +1,8 @@
 use Rattle.std.proofs.Common.{sym, ◌∙◌}
-use Rattle.g4_rules.specs.declared.rules.RuleView.{RuleView}
-use Rattle.g4_rules.specs.Atoms.{rule_atoms}
-use Rattle.g4_rules.specs.Views.{rule_view}
-use Rattle.g4_rules.proofs.Lists.{parts_all, parts-map}
+use Rattle.g4_source.specs.declared.rules.RuleView.{RuleView}
+use Rattle.g4_source.specs.Atoms.{rule_atoms}
+use Rattle.g4_source.specs.Views.{rule_view}
+use Rattle.g4_source.proofs.Lists.{parts_all, parts-map}
 use Rattle.g4_references.proofs.atoms.atoms_of.Goals as goal
 
 pub returns : goal.returns

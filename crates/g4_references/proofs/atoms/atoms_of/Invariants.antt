@@ -1,7 +1,7 @@
 use Rattle.std.proofs.Common.{◌≡◌, ◌++◌, map, drop}
 use Rattle.std.specs.List.{flat_map}
-use Rattle.g4_rules.specs.Atoms.{rule_atoms}
-use Rattle.g4_rules.specs.Views.{rule_view}
+use Rattle.g4_source.specs.Atoms.{rule_atoms}
+use Rattle.g4_source.specs.Views.{rule_view}
 use Rattle.g4_references.specs.Views.{use_view}
 use Rattle.g4_references.proofs.atoms.atoms_of.Given as goal
 

@@ -1,10 +1,10 @@
 use Rattle.std.proofs.Common.{◌++◌, List, map, ap, ◌∙◌}
 use Rattle.g4_source.specs.declared.rule.LexerAlternative.{LexerAlternative}
-use Rattle.g4_elements.specs.Elements.{atoms_in_order}
-use Rattle.g4_rules.specs.declared.kind.RuleKind.TheVariants.{Lexer}
-use Rattle.g4_rules.specs.Atoms.{AtomIn}
+use Rattle.g4_source.specs.Elements.{atoms_in_order}
+use Rattle.g4_source.specs.declared.kind.RuleKind.TheVariants.{Lexer}
+use Rattle.g4_source.specs.Atoms.{AtomIn}
 use Rattle.g4_references.specs.Views.{use_view}
-use Rattle.g4_rules.proofs.Lists.{parts_all}
+use Rattle.g4_source.proofs.Lists.{parts_all}
 use Rattle.g4_references.proofs.Nodes.{in_rule, lexer_atoms}
 use Rattle.g4_references.proofs.atoms.push_lexer.Goals as goal
 

@@ -1,7 +1,7 @@
 use Rattle.std.proofs.Common.{◌≡◌, ◌++◌, map, drop}
 use Rattle.std.specs.List.{flat_map}
-use Rattle.g4_elements.specs.Elements.{atoms_in_order}
-use Rattle.g4_rules.specs.declared.kind.RuleKind.TheVariants.{Lexer}
+use Rattle.g4_source.specs.Elements.{atoms_in_order}
+use Rattle.g4_source.specs.declared.kind.RuleKind.TheVariants.{Lexer}
 use Rattle.g4_references.specs.Views.{use_view}
 use Rattle.g4_references.proofs.Nodes.{in_rule}
 use Rattle.g4_references.proofs.atoms.push_lexer.Given as goal

@@ -5,7 +5,7 @@ use Rattle.g4_source.specs.declared.atom.Atom.{Atom}
 use Rattle.g4_source.specs.declared.rule.ParserRule.{ParserRule}
 use Rattle.g4_references.specs.Labels.{capitalised}
 use Rattle.g4_references.proofs.Known.{names_more}
-use Rattle.g4_rules.proofs.Lists.{map-map}
+use Rattle.g4_source.proofs.Lists.{map-map}
 use Rattle.g4_references.proofs.capital.capitalised_names.Goals as goal
 
 pub loop-rule-preserved : goal.loop-rule-preserved

@@ -3,7 +3,7 @@ use Rattle.std.specs.Borrow.{Bor}
 use Rattle.g4_source.specs.declared.rule.Command.{Command}
 use Rattle.g4_references.specs.Commands.{ArgumentIsUnknownChannel, IsUnknownChannel}
 use Rattle.g4_references.specs.Names.{is_one_of}
-use Rattle.g4_rules.proofs.Firsts.{one_passed, one_reported, all_passed}
+use Rattle.g4_source.proofs.Firsts.{one_passed, one_reported, all_passed}
 use Rattle.g4_references.proofs.channels.first_unknown.Goals as goal
 
 pub returns-in-Some : goal.returns-in-Some

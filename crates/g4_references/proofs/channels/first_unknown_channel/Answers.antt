@@ -5,7 +5,7 @@ use Rattle.g4_source.specs.declared.rule.Command.{Command}
 use Rattle.g4_references.specs.Checking.{commands_in}
 use Rattle.g4_references.specs.Commands.{IsUnknownChannel}
 use Rattle.g4_references.specs.Names.{is_one_of, channel_names}
-use Rattle.g4_rules.proofs.Firsts.{found_same}
+use Rattle.g4_source.proofs.Firsts.{found_same}
 use Rattle.g4_references.proofs.channels.first_unknown_channel.Goals as goal
 
 pub returns : goal.returns

@@ -1,6 +1,6 @@
 use Rattle.std.proofs.Common.{ℕ, List, map, option_map, subst, sym, ap, ◌∙◌}
 use Rattle.std.specs.Borrow.{Bor}
-use Rattle.g4_rules.specs.First.{FindsFirst}
+use Rattle.g4_source.specs.First.{FindsFirst}
 use Rattle.g4_references.specs.Labels.{IsClash, are_partly_labelled}
 use Rattle.g4_references.specs.Views.{clashes_in}
 use Rattle.g4_references.proofs.FirstClash.{clash_of_labels}

@@ -4,7 +4,7 @@ use Rattle.std.proofs.lemmas.Bool.{both_ways}
 use Rattle.std.proofs.lemmas.List.{get_or_default}
 use Rattle.g4_references.specs.Labels.{IsClash}
 use Rattle.g4_references.specs.Views.{clashes_in}
-use Rattle.g4_rules.proofs.Firsts.{one_passed, one_reported, all_passed}
+use Rattle.g4_source.proofs.Firsts.{one_passed, one_reported, all_passed}
 use Rattle.g4_references.proofs.clashes.first_clash.Goals as goal
 
 pub returns-then-has : goal.returns-then-has

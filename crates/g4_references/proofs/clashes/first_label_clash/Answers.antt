@@ -7,7 +7,7 @@ use Rattle.g4_references.specs.Checking.{parsers_in}
 use Rattle.g4_references.specs.Labels.{HasClash, clashes}
 use Rattle.g4_references.specs.Names.{is_one_of}
 use Rattle.g4_references.proofs.FirstClash.{clash_test}
-use Rattle.g4_rules.proofs.Firsts.{found_same}
+use Rattle.g4_source.proofs.Firsts.{found_same}
 use Rattle.g4_references.proofs.clashes.first_label_clash.Goals as goal
 
 pub returns : goal.returns

@@ -2,10 +2,10 @@ use Rattle.std.proofs.Common.{ℕ, List, Option, option_map, subst}
 use Rattle.std.specs.Borrow.{Bor}
 use Rattle.g4_source.specs.declared.atom.Atom.{Atom}
 use Rattle.g4_source.specs.declared.rule.ParserRule.{ParserRule}
-use Rattle.g4_rules.specs.First.{Finds}
+use Rattle.g4_source.specs.First.{Finds}
 use Rattle.g4_references.specs.Labels.{HasClash}
 use Rattle.g4_references.specs.Views.{clashes_in}
-use Rattle.g4_rules.proofs.Firsts.{one_passed, one_reported, all_passed}
+use Rattle.g4_source.proofs.Firsts.{one_passed, one_reported, all_passed}
 use Rattle.g4_references.proofs.clashes.first_of.Goals as goal
 
 pub returns-in-Some : goal.returns-in-Some

@@ -1,7 +1,7 @@
 use Rattle.std.proofs.Common.{◌≡◌, ◌++◌, map, drop}
 use Rattle.std.specs.List.{flat_map}
 use Rattle.g4_references.specs.Commands.{rule_commands}
-use Rattle.g4_rules.specs.Views.{rule_view}
+use Rattle.g4_source.specs.Views.{rule_view}
 use Rattle.g4_references.proofs.commands.commands_of.Given as goal
 
 abbrev pub invariant-loop-rule : goal.invariant-loop-rule

@@ -3,7 +3,7 @@ use Rattle.std.specs.Borrow.{Bor}
 use Rattle.g4_source.specs.declared.rule.Command.{Command}
 use Rattle.g4_references.specs.Commands.{IsUnknownCommand, is_command}
 use Rattle.std.proofs.lemmas.Bool.{both_ways}
-use Rattle.g4_rules.proofs.Firsts.{one_passed, one_reported, all_passed}
+use Rattle.g4_source.proofs.Firsts.{one_passed, one_reported, all_passed}
 use Rattle.g4_references.proofs.commands.first_unknown.Goals as goal
 
 pub returns-then-not-is_command : goal.returns-then-not-is_command

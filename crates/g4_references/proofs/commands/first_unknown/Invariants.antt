@@ -1,5 +1,5 @@
 use Rattle.g4_references.specs.Commands.{IsUnknownCommand}
-use Rattle.g4_rules.proofs.Firsts.{ArePassed}
+use Rattle.g4_source.proofs.Firsts.{ArePassed}
 use Rattle.g4_references.proofs.commands.first_unknown.Given as goal
 
 abbrev pub invariant-loop-command : goal.invariant-loop-command

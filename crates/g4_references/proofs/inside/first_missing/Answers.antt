@@ -1,8 +1,8 @@
 use Rattle.std.proofs.Common.{ℕ, List, sym, ap, subst, ◌∙◌}
 use Rattle.std.proofs.lemmas.Bool.{both_ways}
 use Rattle.std.proofs.lemmas.List.{map-id}
-use Rattle.g4_rules.specs.First.{IsFirst, IsNone}
-use Rattle.g4_rules.proofs.Firsts.{one_passed, one_reported, all_passed}
+use Rattle.g4_source.specs.First.{IsFirst, IsNone}
+use Rattle.g4_source.proofs.Firsts.{one_passed, one_reported, all_passed}
 use Rattle.g4_references.specs.Names.{is_one_of}
 use Rattle.g4_references.specs.Predicates.{IsMissing}
 use Rattle.g4_references.proofs.inside.first_missing.Goals as goal

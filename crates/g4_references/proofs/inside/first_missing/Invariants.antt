@@ -1,6 +1,6 @@
 use Rattle.g4_references.specs.Names.{is_one_of}
 use Rattle.g4_references.specs.Predicates.{IsMissing}
-use Rattle.g4_rules.proofs.Firsts.{ArePassed}
+use Rattle.g4_source.proofs.Firsts.{ArePassed}
 use Rattle.g4_references.proofs.inside.first_missing.Given as goal
 
 abbrev pub invariant-loop-rule : goal.invariant-loop-rule

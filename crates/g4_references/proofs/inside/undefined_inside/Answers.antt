@@ -1,6 +1,6 @@
 use Rattle.std.proofs.Common.{ℕ, List, Option, sym, subst, ◌∙◌}
 use Rattle.g4_preds.specs.Trees.{Tree}
-use Rattle.g4_rules.specs.First.{Finds, FindsFirst}
+use Rattle.g4_source.specs.First.{Finds, FindsFirst}
 use Rattle.g4_references.specs.Names.{is_one_of}
 use Rattle.g4_references.specs.Predicates.{IsMissing, Reads}
 use Rattle.g4_references.proofs.Missing.{missing_of}

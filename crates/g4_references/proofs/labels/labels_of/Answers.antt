@@ -3,7 +3,7 @@ use Rattle.std.specs.Borrow.{Bor}
 use Rattle.std.specs.Option.{option_map}
 use Rattle.g4_source.specs.declared.rule.AlternativeLabel.{AlternativeLabel}
 use Rattle.g4_references.specs.Labels.{label_of}
-use Rattle.g4_rules.proofs.Lists.{pushed, picks_more, picks_same}
+use Rattle.g4_source.proofs.Lists.{pushed, picks_more, picks_same}
 use Rattle.g4_references.proofs.labels.labels_of.Goals.{in-Some+in_ok-push-in-Some, in-None}
 use Rattle.g4_references.proofs.labels.labels_of.Goals as goal
 

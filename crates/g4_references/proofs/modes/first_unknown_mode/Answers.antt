@@ -5,7 +5,7 @@ use Rattle.g4_source.specs.declared.rule.Command.{Command}
 use Rattle.g4_references.specs.Checking.{commands_in}
 use Rattle.g4_references.specs.Commands.{IsUnknownMode}
 use Rattle.g4_references.specs.Names.{is_one_of, mode_names}
-use Rattle.g4_rules.proofs.Firsts.{found_same}
+use Rattle.g4_source.proofs.Firsts.{found_same}
 use Rattle.g4_references.proofs.modes.first_unknown_mode.Goals as goal
 
 pub returns : goal.returns

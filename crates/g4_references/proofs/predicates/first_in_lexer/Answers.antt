@@ -1,6 +1,6 @@
 use Rattle.g4_references.specs.Uses.{IsLexerPredicate}
 use Rattle.g4_references.specs.Views.{use_view}
-use Rattle.g4_rules.proofs.Firsts.{one_reported, all_passed}
+use Rattle.g4_source.proofs.Firsts.{one_reported, all_passed}
 use Rattle.g4_references.proofs.predicates.first_in_lexer.Goals as goal
 
 pub returns-in-Some : goal.returns-in-Some

@@ -1,6 +1,6 @@
 use Rattle.g4_references.specs.Uses.{IsLexerPredicate}
 use Rattle.g4_references.specs.Views.{use_view}
-use Rattle.g4_rules.proofs.Firsts.{ArePassed}
+use Rattle.g4_source.proofs.Firsts.{ArePassed}
 use Rattle.g4_references.proofs.predicates.first_in_lexer.Given as goal
 
 abbrev pub invariant-loop-atom : goal.invariant-loop-atom

@@ -1,9 +1,9 @@
 use Rattle.std.proofs.Common.{Option, subst}
 use Rattle.g4_base.specs.declared.place.Place.{Place}
-use Rattle.g4_rules.specs.First.{Finds}
+use Rattle.g4_source.specs.First.{Finds}
 use Rattle.g4_references.specs.Uses.{IsUnknownPredicate}
 use Rattle.g4_references.specs.Views.{use_view}
-use Rattle.g4_rules.proofs.Firsts.{one_passed, one_reported, all_passed}
+use Rattle.g4_source.proofs.Firsts.{one_passed, one_reported, all_passed}
 use Rattle.g4_references.proofs.predicates.first_unknown.Goals as goal
 
 pub returns-in-Some : goal.returns-in-Some

@@ -1,10 +1,10 @@
 use Rattle.std.proofs.Common.{ℕ, List, Option, subst}
-use Rattle.g4_rules.specs.Atoms.{AtomIn}
-use Rattle.g4_rules.specs.First.{Finds}
+use Rattle.g4_source.specs.Atoms.{AtomIn}
+use Rattle.g4_source.specs.First.{Finds}
 use Rattle.g4_references.specs.Names.{is_one_of}
 use Rattle.g4_references.specs.Uses.{IsUndefined}
 use Rattle.g4_references.specs.Views.{use_view}
-use Rattle.g4_rules.proofs.Firsts.{one_passed, one_reported, all_passed}
+use Rattle.g4_source.proofs.Firsts.{one_passed, one_reported, all_passed}
 use Rattle.g4_references.proofs.undefined.first_undefined.Goals as goal
 
 pub returns-in-Some : goal.returns-in-Some

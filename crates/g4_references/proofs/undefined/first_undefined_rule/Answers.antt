@@ -5,11 +5,11 @@ use Rattle.g4_source.specs.declared.atom.Atom.{Atom}
 use Rattle.g4_source.specs.declared.rule.LexerRule.{LexerRule}
 use Rattle.g4_source.specs.declared.rule.ParserRule.{ParserRule}
 use Rattle.g4_references.specs.Checking.{atoms_in, lexers_in, parser_names, parsers_in}
-use Rattle.g4_rules.specs.First.{FindsFirst}
+use Rattle.g4_source.specs.First.{FindsFirst}
 use Rattle.g4_references.specs.Names.{is_one_of}
 use Rattle.g4_references.specs.Uses.{IsUndefined}
 use Rattle.g4_references.specs.Views.{use_view}
-use Rattle.g4_rules.proofs.Firsts.{found_same}
+use Rattle.g4_source.proofs.Firsts.{found_same}
 use Rattle.g4_references.proofs.Known.{names_lent}
 use Rattle.g4_references.proofs.undefined.first_undefined_rule.Goals as goal
 

@@ -1,8 +1,8 @@
 use Rattle.std.proofs.Common.{List, rules, tests, ap, ◌∙◌}
 use Rattle.std.proofs.lemmas.Iterator.{YieldsList-from_slice}
 use Rattle.std.proofs.lemmas.Iterator.Search.{any_from_yields_List}
-use Rattle.g4_elements.specs.declared.element.Element.{Element as Node}
-use Rattle.g4_elements.specs.Trees.{element_of}
+use Rattle.g4_source.specs.declared.element.Element.{Element as Node}
+use Rattle.g4_source.specs.Trees.{element_of}
 use Rattle.g4_grammar.specs.declared.numbered.NumberedAtom.{NumberedAtom}
 use Rattle.g4_resolve.specs.Resolving.{is_right, has_right}
 use Rattle.g4_resolve.proofs.Associations.{any_right}

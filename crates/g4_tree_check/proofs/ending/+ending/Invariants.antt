@@ -1,6 +1,6 @@
 use Rattle.std.proofs.Common.{◌≡◌, ◌||◌, map}
-use Rattle.g4_elements.specs.Elements.{either}
-use Rattle.g4_elements.specs.Trees.{element_of, alternative_of, in_order}
+use Rattle.g4_source.specs.Elements.{either}
+use Rattle.g4_source.specs.Trees.{element_of, alternative_of, in_order}
 use Rattle.g4_tree_check.specs.Children.{is_quiet}
 use Rattle.g4_tree_check.specs.Marks.{ends_all, ends_either, past_all, past_either}
 use Rattle.g4_tree_check.proofs.Nodes.{elements_from, sides_from}

@@ -1,6 +1,6 @@
 use Rattle.std.proofs.Common.{◌∙◌, ◌+◌, ◌||◌, ◌++◌, List, [], sym, ap, map, arith, append_assoc}
-use Rattle.g4_elements.specs.Elements.{Element, Alternatives, either}
-use Rattle.g4_elements.specs.Trees.{element_of, alternative_of, in_order}
+use Rattle.g4_source.specs.Elements.{Element, Alternatives, either}
+use Rattle.g4_source.specs.Trees.{element_of, alternative_of, in_order}
 use Rattle.g4_tree_check.specs.Children.{is_quiet, takes}
 use Rattle.g4_tree_check.specs.Marks.{block_ends, ends, ends_all, ends_either, past, past_all, past_either, shift, shift_all, shift_either}
 use Rattle.g4_tree_check.proofs.Nodes.{sides_from, atom_tree, block_tree, sides_more}

@@ -1,5 +1,5 @@
 use Rattle.std.proofs.Common.{subst}
-use Rattle.g4_elements.specs.Elements.{Elements}
+use Rattle.g4_source.specs.Elements.{Elements}
 use Rattle.g4_token_list.specs.TokenList.{word_of}
 use Rattle.g4_tree_check.specs.TreesOf.{DerivesChildren}
 use Rattle.g4_tree_check.proofs.Bodies.{one_body}

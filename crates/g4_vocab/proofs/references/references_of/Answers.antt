@@ -1,6 +1,6 @@
 use Rattle.std.proofs.Common.{map, refl, sym, ◌∙◌}
 use Rattle.std.specs.List.{flat_map}
-use Rattle.g4_elements.proofs.Nodes.{made_all}
+use Rattle.g4_source.proofs.Nodes.{made_all}
 use Rattle.g4_vocab.specs.Tables.{reference_of}
 use Rattle.g4_vocab.proofs.Nodes.{rule_tokens, rules_tokens}
 use Rattle.g4_vocab.proofs.references.references_of.Goals as goal

@@ -1,9 +1,9 @@
 use Rattle.std.proofs.Common.{◌≡◌, List, [], ◌∷◌, ◌++◌, None, false, map, refl, ap, ◌∙◌}
-use Rattle.g4_elements.specs.declared.element.Element.{Element as Node}
-use Rattle.g4_elements.specs.declared.element.Element.TheVariants as nodes
-use Rattle.g4_elements.specs.Elements.{Element, atom, empty, then}
-use Rattle.g4_elements.specs.Trees.{element_of, in_order}
-use Rattle.g4_elements.proofs.Trees.{of_atom}
+use Rattle.g4_source.specs.declared.element.Element.{Element as Node}
+use Rattle.g4_source.specs.declared.element.Element.TheVariants as nodes
+use Rattle.g4_source.specs.Elements.{Element, atom, empty, then}
+use Rattle.g4_source.specs.Trees.{element_of, in_order}
+use Rattle.g4_source.proofs.Trees.{of_atom}
 use Rattle.g4_source.specs.declared.atom.Atom.{Atom}
 use Rattle.g4_source.specs.declared.atom.AtomKind.TheVariants as kinds
 use Rattle.g4_vocab.proofs.token_rule.literal_alternative.Goals as goal

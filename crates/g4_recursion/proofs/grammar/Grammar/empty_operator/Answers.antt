@@ -1,8 +1,8 @@
 use Rattle.std.proofs.Common.{◌≡◌, ◌+◌, Some, ap, ◌∙◌}
 use Rattle.std.specs.List.{slice_get}
 use Rattle.g4_source.specs.declared.rule.Rule.TheVariants.{Parser, Lexer}
-use Rattle.g4_rules.specs.declared.rules.RuleView.{RuleView}
-use Rattle.g4_rules.specs.Views.{rule_view}
+use Rattle.g4_source.specs.declared.rules.RuleView.{RuleView}
+use Rattle.g4_source.specs.Views.{rule_view}
 use Rattle.g4_recursion.specs.Grammars.{rules_in}
 use Rattle.g4_recursion.proofs.Read.{no_operator_sought, operator_found, rule_at}
 use Rattle.g4_recursion.proofs.grammar.Grammar.empty_operator.Goals as goal

@@ -1,6 +1,6 @@
 use Rattle.std.proofs.Common.{length, arith}
 use Rattle.std.proofs.lemmas.List.{length-map}
-use Rattle.g4_rules.specs.Views.{rule_view}
+use Rattle.g4_source.specs.Views.{rule_view}
 use Rattle.g4_recursion.specs.Checking.{HasEmptyLoop}
 use Rattle.g4_recursion.specs.Grammars.{rules_in}
 use Rattle.g4_recursion.proofs.Bridge.{loop_within}

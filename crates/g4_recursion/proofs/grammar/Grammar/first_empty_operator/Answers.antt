@@ -1,6 +1,6 @@
 use Rattle.std.proofs.Common.{◌+◌, length, arith, subst}
 use Rattle.std.proofs.lemmas.List.{length-map}
-use Rattle.g4_rules.specs.Views.{rule_view}
+use Rattle.g4_source.specs.Views.{rule_view}
 use Rattle.g4_recursion.specs.Checking.{HasEmptyOperator, IsEmptyOperator}
 use Rattle.g4_recursion.specs.Grammars.{rules_in}
 use Rattle.g4_recursion.proofs.Bridge.{operator_place, operator_within}

@@ -1,6 +1,6 @@
 use Rattle.std.proofs.Common.{ℕ, List, Some, sym, ap, ◌∙◌}
 use Rattle.g4_source.specs.Rules.{rule_name}
-use Rattle.g4_rules.specs.Views.{rule_view}
+use Rattle.g4_source.specs.Views.{rule_view}
 use Rattle.g4_recursion.specs.Grammars.{rules_in}
 use Rattle.g4_recursion.proofs.Over.{mapped_at}
 use Rattle.g4_recursion.proofs.Read.{rule_at}

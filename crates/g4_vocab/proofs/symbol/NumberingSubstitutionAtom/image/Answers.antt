@@ -1,4 +1,4 @@
-use Rattle.g4_elements.proofs.Trees.{of_atom}
+use Rattle.g4_source.proofs.Trees.{of_atom}
 use Rattle.g4_vocab.proofs.symbol.NumberingSubstitutionAtom.image.Goals as goal
 
 pub returns : goal.returns

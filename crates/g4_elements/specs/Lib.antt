@@ -1,5 +1,0 @@
-pub mod Bind
-pub mod Blocks
-pub mod Elements
-pub mod Marks
-pub mod Trees

@@ -1,7 +1,0 @@
-use Rattle.std.proofs.Common.{◌≡◌, map, take}
-use Rattle.g4_source.specs.Rules.{lexer_rules}
-use Rattle.g4_rules.specs.Views.{rule_view}
-use Rattle.g4_rules.proofs.rules.lexer_rules.Given as goal
-
-abbrev pub invariant-loop-rule : goal.invariant-loop-rule
-invariant-loop-rule l = map (λ r. r.now) l.found.items ≡ lexer_rules (map rule_view (take l.rule-index l.rules))

@@ -1,4 +1,0 @@
-pub mod Atoms
-pub mod First
-pub mod Rules
-pub mod Views
