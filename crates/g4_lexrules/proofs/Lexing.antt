@@ -75,7 +75,7 @@ all_unmap P f (x ∷ xs) h = All-cons (λ x. P (f x)) x xs (All-head P (f x) (ma
 -- an atom as a lexer has it: one of a parser rule matches nothing
 abbrev lexed_as : RuleKind → Atom → Atom
 lexed_as rule_kinds.Lexer a = a
-lexed_as rule_kinds.Parser a = record { label = None; right = false; kind = kinds.Set [] }
+lexed_as rule_kinds.Parser a = record { label = None; kind = kinds.Set [] }
 
 abbrev lexed : AtomIn → Atom
 lexed a = lexed_as a.kind a.atom

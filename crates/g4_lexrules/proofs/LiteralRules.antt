@@ -19,7 +19,7 @@ IsLiteralRule rule = (literal : Literal) × (rule.alternatives ≡ literal_alter
 
 -- the atom that is a literal
 abbrev literal_atom : Literal → Atom
-literal_atom literal = record { label = None; right = false; kind = kinds.Literal literal }
+literal_atom literal = record { label = None; kind = kinds.Literal literal }
 
 -- each block of a rule that is a literal has an alternative
 pub literal_full : (rule : LexerRule) (literal : Literal) → rule.alternatives ≡ literal_alternative literal ∷ [] → LexerRuleIsFull rule

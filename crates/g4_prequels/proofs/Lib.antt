@@ -1,4 +1,5 @@
 pub mod Coming
 pub mod Moving
+pub mod Ors
 pub mod Tokens
 pub mod Turning

@@ -24,15 +24,15 @@ action_full (both a (present (both question options))) = tt
 
 -- brackets have an alternative, and each block in them
 abbrev LabelledIsFull : Labelled → Type 0
-LabelledIsFull (single a) = Unit {0}
+LabelledIsFull (single associates a) = Unit {0}
 LabelledIsFull (brackets label alternatives) = IsSome alternatives × EachIsFull alternatives
 
 -- an element with a sign or without one
 suffix_full : (x : Labelled) (r : Repeat) → LabelledIsFull x → IsFull (with_suffix x r)
-suffix_full (single a) repeats.Once full = tt
-suffix_full (single a) (repeats.Optional s) full = (tt, ((tt, tt), tt))
-suffix_full (single a) (repeats.Star s) full = (tt, ((tt, tt), tt))
-suffix_full (single a) (repeats.Plus s) full = (tt, ((tt, tt), tt))
+suffix_full (single associates a) repeats.Once full = tt
+suffix_full (single associates a) (repeats.Optional s) full = (tt, ((tt, tt), tt))
+suffix_full (single associates a) (repeats.Star s) full = (tt, ((tt, tt), tt))
+suffix_full (single associates a) (repeats.Plus s) full = (tt, ((tt, tt), tt))
 suffix_full (brackets label alternatives) r full = full
 
 mutual

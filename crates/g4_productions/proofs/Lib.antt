@@ -1,6 +1,7 @@
 pub mod Full
 pub mod Listing
 pub mod NextSets
+mod Pairs
 pub mod Ranges
 pub mod SetText
 pub mod Suffixes

@@ -9,7 +9,7 @@ use Rattle.g4_source.specs.Elements.{Element, atom, block, Elements, empty, then
 use Rattle.g4_source.specs.Trees.{in_order, element_of, alternative_of}
 use Rattle.g4_source.proofs.Trees.{of_atom, of_block, of_elements}
 use Rattle.g4_source.specs.declared.atom.Atom.{Atom}
-use Rattle.g4_productions.specs.Elements.{single, unlabelled, with_suffix}
+use Rattle.g4_productions.specs.Elements.{signed_atom, unlabelled}
 
 -- a block of the atom alone
 pub in_block : (a : Atom) (r : Repeat) (elements : Vec (Node Atom) Global) (alternatives : Vec (Side Atom) Global) → elements.items ≡ nodes.Atom (unlabelled a) ∷ [] → alternatives.items ≡ roll-Alternative Atom (record { elements = elements }) ∷ [] → element_of (nodes.Block a.label r alternatives) ≡ block a.label r (only (then (atom (unlabelled a)) empty))
@@ -19,7 +19,7 @@ in_block a r elements alternatives one whole =
     ∙ ap (λ (x : Elements Atom). block a.label r (only x)) (of_elements elements ∙ ap (λ (xs : List (Node Atom)). in_order (map element_of xs)) one ∙ ap (λ (e : Element Atom). then e empty) (of_atom (unlabelled a)))
 
 -- an atom with a sign is such a block
-pub with_sign : (a : Atom) (r : Repeat) → (r ≡ repeats.Once → ⊥) → block a.label r (only (then (atom (unlabelled a)) empty)) ≡ with_suffix (single a) r
+pub with_sign : (a : Atom) (r : Repeat) → (r ≡ repeats.Once → ⊥) → block a.label r (only (then (atom (unlabelled a)) empty)) ≡ signed_atom a r
 with_sign a repeats.Once signed = absurd (signed refl)
 with_sign a (repeats.Optional s) signed = refl
 with_sign a (repeats.Star s) signed = refl

@@ -10,6 +10,8 @@ use Rattle.g4_source.specs.declared.element.Repeat.{Repeat}
 use Rattle.g4_source.specs.declared.element.Repeat.TheVariants as repeats
 use Rattle.g4_source.specs.declared.atom.Atom.{Atom}
 use Rattle.g4_source.specs.declared.atom.AtomKind.TheVariants as atoms
+use Rattle.g4_productions.specs.declared.suffix.Associated.{Associated}
+use Rattle.g4_productions.specs.declared.suffix.AssociatedList.{AssociatedList}
 use Rattle.g4_productions.specs.declared.suffix.Labelled.{Labelled as Node}
 use Rattle.g4_productions.specs.declared.suffix.Labelled.TheVariants as nodes
 use Rattle.g4_syntax.specs.Notation.{Terminal, Expression, one, optional}
@@ -44,32 +46,58 @@ optional_suffix_of (present s) = suffix_of s
 
 -- an action, or a predicate where `?` follows it
 abbrev pub action_of : Tree action → Element Atom
-action_of (both a absent) = atom (record { label = None; right = false; kind = atoms.Action })
-action_of (both a (present (both question options))) = atom (record { label = None; right = right_of_optional options; kind = atoms.Predicate (name_of a) })
+action_of (both a absent) = atom (record { label = None; kind = atoms.Action })
+action_of (both a (present (both question options))) = atom (record { label = None; kind = atoms.Predicate (name_of a) })
 
--- an element without its sign: an atom, or alternatives in brackets and their label
+-- whether `<assoc=right>` follows it
+abbrev pub action_right : Tree action → Bool
+action_right (both a absent) = false
+action_right (both a (present (both question options))) = right_of_optional options
+
+-- the same together
+abbrev pub action_item : Tree action → Element Atom × Bool
+action_item x = (action_of x, action_right x)
+
+-- an element without its sign: an atom, and whether `<assoc=right>` follows it; or alternatives in brackets and their label
 pub data Labelled : Type 0 where
-  single : Atom → Labelled
+  single : Bool → Atom → Labelled
   brackets : Option Label → Alternatives Atom → Labelled
 
 -- the atom with no label
 abbrev pub unlabelled : Atom → Atom
-unlabelled a = record { label = None; right = a.right; kind = a.kind }
+unlabelled a = record { label = None; kind = a.kind }
 
--- the element that may be taken so often: an atom with a sign is a block of one alternative, which takes its label
+-- whether `<assoc=right>` follows the element: what is in brackets does not count
+abbrev pub is_right : Labelled → Bool
+is_right (single associates a) = associates
+is_right (brackets label alternatives) = false
+
+-- an atom with a sign is a block of one alternative, which takes its label
+abbrev pub signed_atom : Atom → Repeat → Element Atom
+signed_atom a repeats.Once = atom a
+signed_atom a repeat = block a.label repeat (only (then (atom (unlabelled a)) empty))
+
+-- the element that may be taken so often
 abbrev pub with_suffix : Labelled → Repeat → Element Atom
-with_suffix (single a) repeats.Once = atom a
-with_suffix (single a) repeat = block a.label repeat (only (then (atom (unlabelled a)) empty))
+with_suffix (single associates a) repeat = signed_atom a repeat
 with_suffix (brackets label alternatives) repeat = block label repeat alternatives
 
 -- an element of the code without its sign
 abbrev pub labelled_of : Node → Labelled
-labelled_of (nodes.Single a) = single a
+labelled_of (nodes.Single associates a) = single associates a
 labelled_of (nodes.Brackets label alternatives) = brackets label (either (map alternative_of alternatives.items))
+
+-- an element of the code, and whether `<assoc=right>` follows it
+abbrev pub item_of : Associated → Element Atom × Bool
+item_of x = (element_of x.element, x.right)
 
 -- elements of the code in order
 abbrev pub elements_in : Vec (Item Atom) Global → List (Element Atom)
 elements_in v = map element_of v.items
+
+-- the same, and whether `<assoc=right>` follows one of them
+abbrev pub items_of : AssociatedList → List (Element Atom) × Bool
+items_of x = (elements_in x.elements, x.right)
 
 -- alternatives of the code in order
 abbrev pub alternatives_in : Vec (Side Atom) Global → List (Elements Atom)

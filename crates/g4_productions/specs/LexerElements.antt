@@ -63,8 +63,8 @@ excluded_set tree = set_of_ranges (excluded_ranges tree)
 
 -- a literal, or the characters from its own to that of another, with this label
 abbrev pub literal_item : Option Label → Tree (one characters ▸ (sign kinds.DoubleDot ▸ sign kinds.Literal ∣ optional element_options)) → Labelled
-literal_item l (both literal (left (both dots last))) = single (record { label = l; right = false; kind = atoms.Range (token_of literal).place (literal_of literal) (literal_of last) })
-literal_item l (both literal (right options)) = single (record { label = l; right = right_of_optional options; kind = atoms.Literal (literal_of literal) })
+literal_item l (both literal (left (both dots last))) = single false (record { label = l; kind = atoms.Range (token_of literal).place (literal_of literal) (literal_of last) })
+literal_item l (both literal (right options)) = single (right_of_optional options) (record { label = l; kind = atoms.Literal (literal_of literal) })
 
 abbrev mutual
   -- an element
@@ -86,7 +86,7 @@ abbrev mutual
   -- an item that begins with an upper-case name
   pub upper_lexer_item : Tree (sign kinds.Upper ▸ (assign ▸ lexer_item ∣ optional element_options)) → Labelled
   upper_lexer_item (both n (left x)) = labelled_by (name_of n) x
-  upper_lexer_item (both n (right options)) = single (record { label = None; right = right_of_optional options; kind = atoms.Token (name_of n) })
+  upper_lexer_item (both n (right options)) = single (right_of_optional options) (record { label = None; kind = atoms.Token (name_of n) })
 
   -- an item after a label with this name
   pub labelled_by : Name → Tree (assign ▸ lexer_item) → Labelled
@@ -94,15 +94,15 @@ abbrev mutual
 
   -- an item with this label
   pub named_lexer_item : Option Label → Tree lexer_item → Labelled
-  named_lexer_item l (left (both n options)) = single (record { label = l; right = right_of_optional options; kind = atoms.Token (name_of n) })
+  named_lexer_item l (left (both n options)) = single (right_of_optional options) (record { label = l; kind = atoms.Token (name_of n) })
   named_lexer_item l (right u) = unnamed_lexer l u
 
   -- an item that begins with no name, with this label
   pub unnamed_lexer : Option Label → Tree unnamed_lexer_item → Labelled
   unnamed_lexer l (left x) = literal_item l x
-  unnamed_lexer l (right (left set)) = single (record { label = l; right = false; kind = atoms.Set (set_of_leaf set) })
-  unnamed_lexer l (right (right (left dot))) = single (record { label = l; right = false; kind = atoms.Any (token_of dot).place })
-  unnamed_lexer l (right (right (right (left (both tilde s))))) = single (record { label = l; right = false; kind = atoms.NotCharacters (token_of tilde).place (excluded_set s) })
+  unnamed_lexer l (right (left set)) = single false (record { label = l; kind = atoms.Set (set_of_leaf set) })
+  unnamed_lexer l (right (right (left dot))) = single false (record { label = l; kind = atoms.Any (token_of dot).place })
+  unnamed_lexer l (right (right (right (left (both tilde s))))) = single false (record { label = l; kind = atoms.NotCharacters (token_of tilde).place (excluded_set s) })
   unnamed_lexer l (right (right (right (right b)))) = brackets l (either (lexer_block_of b))
 
   -- the alternatives of a block

@@ -1,5 +1,5 @@
 -- The elements of parser rules.
-use Rattle.std.specs.Prelude.{List, [], ◌∷◌, ◌++◌, Bool, false, Option, Some, None}
+use Rattle.std.specs.Prelude.{List, [], ◌∷◌, ◌++◌, Bool, false, Option, Some, None, ◌||◌}
 use Rattle.g4_tokens.specs.declared.token.Kind.TheVariants as kinds
 use Rattle.g4_source.specs.Elements.{Element, Elements, either}
 use Rattle.g4_source.specs.Trees.{in_order}
@@ -14,7 +14,7 @@ use Rattle.g4_syntax.specs.Productions.{assign, element_options, reference_end, 
 use Rattle.g4_syntax.specs.Trees.{Tree, both, left, right, end, more, inner}
 use Rattle.g4_prequels.specs.Options.{right_of_optional}
 use Rattle.g4_prequels.specs.Texts.{token_of, text_of, name_of, literal_of}
-use Rattle.g4_productions.specs.Elements.{Labelled, single, brackets, is_list, optional_suffix_of, action_of, with_suffix}
+use Rattle.g4_productions.specs.Elements.{Labelled, single, brackets, is_list, is_right, optional_suffix_of, action_of, action_right, with_suffix}
 
 -- whether the reference to a rule associates to the right
 abbrev pub reference_right : Tree reference_end → Bool
@@ -60,12 +60,12 @@ abbrev mutual
   -- an item that begins with a lower-case name
   pub lower_item : Tree (sign kinds.Lower ▸ (assign ▸ item ∣ reference_end)) → Labelled
   lower_item (both n (left x)) = labelled_after (name_of n) x
-  lower_item (both n (right r)) = single (record { label = None; right = reference_right r; kind = atoms.Rule (name_of n) })
+  lower_item (both n (right r)) = single (reference_right r) (record { label = None; kind = atoms.Rule (name_of n) })
 
   -- an item that begins with an upper-case name
   pub upper_item : Tree (sign kinds.Upper ▸ (assign ▸ item ∣ optional element_options)) → Labelled
   upper_item (both n (left x)) = labelled_after (name_of n) x
-  upper_item (both n (right options)) = single (record { label = None; right = right_of_optional options; kind = atoms.Token (name_of n) })
+  upper_item (both n (right options)) = single (right_of_optional options) (record { label = None; kind = atoms.Token (name_of n) })
 
   -- an item after a label with this name
   pub labelled_after : Name → Tree (assign ▸ item) → Labelled
@@ -73,15 +73,15 @@ abbrev mutual
 
   -- an item with this label
   pub named_item : Option Label → Tree item → Labelled
-  named_item l (left (both n r)) = single (record { label = l; right = reference_right r; kind = atoms.Rule (name_of n) })
-  named_item l (right (left (both n options))) = single (record { label = l; right = right_of_optional options; kind = atoms.Token (name_of n) })
+  named_item l (left (both n r)) = single (reference_right r) (record { label = l; kind = atoms.Rule (name_of n) })
+  named_item l (right (left (both n options))) = single (right_of_optional options) (record { label = l; kind = atoms.Token (name_of n) })
   named_item l (right (right u)) = unnamed l u
 
   -- an item that begins with no name, with this label
   pub unnamed : Option Label → Tree unnamed_item → Labelled
-  unnamed l (left (both literal options)) = single (record { label = l; right = right_of_optional options; kind = atoms.Literal (literal_of literal) })
-  unnamed l (right (left (both dot options))) = single (record { label = l; right = right_of_optional options; kind = atoms.Any (token_of dot).place })
-  unnamed l (right (right (left (both tilde s)))) = single (record { label = l; right = false; kind = atoms.NotTokens (token_of tilde).place (references_of s) })
+  unnamed l (left (both literal options)) = single (right_of_optional options) (record { label = l; kind = atoms.Literal (literal_of literal) })
+  unnamed l (right (left (both dot options))) = single (right_of_optional options) (record { label = l; kind = atoms.Any (token_of dot).place })
+  unnamed l (right (right (left (both tilde s)))) = single false (record { label = l; kind = atoms.NotTokens (token_of tilde).place (references_of s) })
   unnamed l (right (right (right b))) = brackets l (either (block_of b))
 
   -- the alternatives of a block
@@ -101,6 +101,24 @@ abbrev mutual
   alternatives_after end = []
   alternatives_after (more (both bar x) xs) = alternative_elements x ∷ alternatives_after xs
 
--- whether an alternative associates to the right
+-- whether `<assoc=right>` follows the element
+abbrev pub element_right : Tree (part element) → Bool
+element_right (inner (left a)) = action_right a
+element_right (inner (right (both x s))) = is_right (labelled x)
+
+-- whether it follows one of the elements
+abbrev pub elements_right : Tree (repeated (part element)) → Bool
+elements_right end = false
+elements_right (more x xs) = element_right x || elements_right xs
+
+-- an element, and whether `<assoc=right>` follows it
+abbrev pub parser_item : Tree (part element) → Element Atom × Bool
+parser_item x = (parser_element x, element_right x)
+
+-- elements one after another, and whether it follows one of them
+abbrev pub parser_items : Tree (repeated (part element)) → List (Element Atom) × Bool
+parser_items xs = (parser_elements xs, elements_right xs)
+
+-- whether an alternative associates to the right: `<assoc=right>` begins it or follows one of its elements
 abbrev pub alternative_right : Tree alternative → Bool
-alternative_right (both options xs) = right_of_optional options
+alternative_right (both options xs) = right_of_optional options || elements_right xs

@@ -41,11 +41,11 @@ fn literal_item(cursor: &mut Cursor<'_>, label: Option<Label>) -> Result<Labelle
         let last = literal(cursor.alloc(), other.text)?;
         let right = false;
         let kind = AtomKind::Range(taken.place, first, last);
-        return Ok(Labelled::Single(Atom { label, right, kind }));
+        return Ok(Labelled::Single(right, Atom { label, kind }));
     }
     let right = optional_element_options(cursor)?;
     let kind = AtomKind::Literal(first);
-    Ok(Labelled::Single(Atom { label, right, kind }))
+    Ok(Labelled::Single(right, Atom { label, kind }))
 }
 
 /// An item that begins with no name, with this label.
@@ -61,18 +61,18 @@ fn unnamed_item(cursor: &mut Cursor<'_>, label: Option<Label>) -> Result<Labelle
     if cursor.is_at(Kind::Set) {
         let set = set(cursor)?;
         let kind = AtomKind::Set(set);
-        return Ok(Labelled::Single(Atom { label, right, kind }));
+        return Ok(Labelled::Single(right, Atom { label, kind }));
     }
     if cursor.is_at(Kind::Dot) {
         let place = cursor.take(Kind::Dot).place;
         let kind = AtomKind::Any(place);
-        return Ok(Labelled::Single(Atom { label, right, kind }));
+        return Ok(Labelled::Single(right, Atom { label, kind }));
     }
     if cursor.is_at(Kind::Tilde) {
         let place = cursor.take(Kind::Tilde).place;
         let set = excluded_set(cursor)?;
         let kind = AtomKind::NotCharacters(place, set);
-        return Ok(Labelled::Single(Atom { label, right, kind }));
+        return Ok(Labelled::Single(right, Atom { label, kind }));
     }
     let alternatives = block(cursor)?;
     Ok(Labelled::Brackets(label, alternatives))
@@ -87,7 +87,7 @@ fn item(cursor: &mut Cursor<'_>, label: Option<Label>) -> Result<Labelled, Alloc
         let name = cursor.named(Kind::Upper)?;
         let right = optional_element_options(cursor)?;
         let kind = AtomKind::Token(name);
-        return Ok(Labelled::Single(Atom { label, right, kind }));
+        return Ok(Labelled::Single(right, Atom { label, kind }));
     }
     let item = unnamed_item(cursor, label)?;
     Ok(item)
@@ -116,7 +116,7 @@ fn upper_item(cursor: &mut Cursor<'_>) -> Result<Labelled, AllocError>
     let label = None;
     let right = optional_element_options(cursor)?;
     let kind = AtomKind::Token(name);
-    Ok(Labelled::Single(Atom { label, right, kind }))
+    Ok(Labelled::Single(right, Atom { label, kind }))
 }
 
 /// An item, perhaps with a label.
@@ -144,7 +144,7 @@ fn element(cursor: &mut Cursor<'_>) -> Result<Element<Atom>, AllocError>
 {
     if cursor.is_at(Kind::Action) {
         let action = action(cursor)?;
-        return Ok(action);
+        return Ok(action.element);
     }
     let item = labelled_item(cursor)?;
     let repeat = optional_suffix(cursor);

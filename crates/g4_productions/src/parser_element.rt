@@ -1,12 +1,15 @@
 // The elements of parser rules.
 ghost use Rattle.std.specs.Prelude.{◌≡◌};
-ghost use Rattle.g4_source.specs.Trees.{element_of, alternative_of};
+ghost use Rattle.g4_source.specs.Trees.{alternative_of};
 ghost use Rattle.g4_syntax.specs.Notation.{element as an_element, part};
 ghost use Rattle.g4_prequels.specs.Progress.{is_next, Gives, GivesAs};
-ghost use Rattle.g4_productions.specs.Elements.{labelled_of, elements_in, alternatives_in};
-ghost use Rattle.g4_productions.specs.ParserElements.{reference_right, parser_element, parser_elements, labelled, lower_item, upper_item, labelled_after, named_item, unnamed, block_of, alternatives_of, alternative_elements};
+ghost use Rattle.g4_productions.specs.Elements.{labelled_of, item_of, items_of, alternatives_in};
+ghost use Rattle.g4_productions.specs.ParserElements.{reference_right, parser_item, parser_items, labelled, lower_item, upper_item, labelled_after, named_item, unnamed, block_of, alternatives_of, alternative_elements};
 
-use crate::suffix::{Labelled, action, is_at_label_sign, label_sign, optional_suffix, with_suffix};
+use crate::suffix::{
+    Associated, AssociatedList, Labelled, action, is_at_label_sign, label_sign, optional_suffix,
+    with_suffix,
+};
 use crate::token_set::excluded_tokens;
 use g4_source::{Alternative, Atom, AtomKind, Element, Label, Name};
 use g4_prequels::{Cursor, literal, optional_element_options, pass_block_prequel};
@@ -32,20 +35,20 @@ fn unnamed_item(cursor: &mut Cursor<'_>, label: Option<Label>) -> Result<Labelle
         let literal = literal(cursor.alloc(), taken.text)?;
         let right = optional_element_options(cursor)?;
         let kind = AtomKind::Literal(literal);
-        return Ok(Labelled::Single(Atom { label, right, kind }));
+        return Ok(Labelled::Single(right, Atom { label, kind }));
     }
     if cursor.is_at(Kind::Dot) {
         let place = cursor.take(Kind::Dot).place;
         let right = optional_element_options(cursor)?;
         let kind = AtomKind::Any(place);
-        return Ok(Labelled::Single(Atom { label, right, kind }));
+        return Ok(Labelled::Single(right, Atom { label, kind }));
     }
     if cursor.is_at(Kind::Tilde) {
         let place = cursor.take(Kind::Tilde).place;
         let references = excluded_tokens(cursor)?;
         let right = false;
         let kind = AtomKind::NotTokens(place, references);
-        return Ok(Labelled::Single(Atom { label, right, kind }));
+        return Ok(Labelled::Single(right, Atom { label, kind }));
     }
     let alternatives = block(cursor)?;
     Ok(Labelled::Brackets(label, alternatives))
@@ -60,13 +63,13 @@ fn item(cursor: &mut Cursor<'_>, label: Option<Label>) -> Result<Labelled, Alloc
         let name = cursor.named(Kind::Lower)?;
         let right = reference_end(cursor)?;
         let kind = AtomKind::Rule(name);
-        return Ok(Labelled::Single(Atom { label, right, kind }));
+        return Ok(Labelled::Single(right, Atom { label, kind }));
     }
     if cursor.is_at(Kind::Upper) {
         let name = cursor.named(Kind::Upper)?;
         let right = optional_element_options(cursor)?;
         let kind = AtomKind::Token(name);
-        return Ok(Labelled::Single(Atom { label, right, kind }));
+        return Ok(Labelled::Single(right, Atom { label, kind }));
     }
     let item = unnamed_item(cursor, label)?;
     Ok(item)
@@ -95,7 +98,7 @@ fn lower_item(cursor: &mut Cursor<'_>) -> Result<Labelled, AllocError>
     let label = None;
     let right = reference_end(cursor)?;
     let kind = AtomKind::Rule(name);
-    Ok(Labelled::Single(Atom { label, right, kind }))
+    Ok(Labelled::Single(right, Atom { label, kind }))
 }
 
 /// An item that begins with an upper-case name, its label or a token's.
@@ -111,7 +114,7 @@ fn upper_item(cursor: &mut Cursor<'_>) -> Result<Labelled, AllocError>
     let label = None;
     let right = optional_element_options(cursor)?;
     let kind = AtomKind::Token(name);
-    Ok(Labelled::Single(Atom { label, right, kind }))
+    Ok(Labelled::Single(right, Atom { label, kind }))
 }
 
 /// An item, perhaps with a label.
@@ -133,17 +136,18 @@ fn labelled_item(cursor: &mut Cursor<'_>) -> Result<Labelled, AllocError>
 
 /// An element.
 #[cycle(brackets)]
-fn element(cursor: &mut Cursor<'_>) -> Result<Element<Atom>, AllocError>
-    ensures { GivesAs element_of parser_element cursor.old cursor.new result }
+fn element(cursor: &mut Cursor<'_>) -> Result<Associated, AllocError>
+    ensures { GivesAs item_of parser_item cursor.old cursor.new result }
 {
     if cursor.is_at(Kind::Action) {
         let action = action(cursor)?;
         return Ok(action);
     }
     let labelled = labelled_item(cursor)?;
+    let right = labelled.is_right();
     let repeat = optional_suffix(cursor);
     let element = with_suffix(cursor.alloc(), labelled, repeat)?;
-    Ok(element)
+    Ok(Associated { element, right })
 }
 
 /// Whether an element is next.
@@ -161,15 +165,17 @@ fn is_at_element(cursor: &Cursor<'_>) -> bool
 
 /// Elements one after another.
 #[cycle(brackets)]
-pub(crate) fn elements(cursor: &mut Cursor<'_>) -> Result<Vec<Element<Atom>>, AllocError>
-    ensures { GivesAs elements_in parser_elements cursor.old cursor.new result }
+pub(crate) fn elements(cursor: &mut Cursor<'_>) -> Result<AssociatedList, AllocError>
+    ensures { GivesAs items_of parser_items cursor.old cursor.new result }
 {
     let mut elements = Vec::new(cursor.alloc());
+    let mut right = false;
     while is_at_element(cursor) {
-        let element = element(cursor)?;
-        elements.push(element)?;
+        let next = element(cursor)?;
+        right |= next.right;
+        elements.push(next.element)?;
     }
-    Ok(elements)
+    Ok(AssociatedList { elements, right })
 }
 
 /// The alternative of a block. Its options are passed over.
@@ -178,8 +184,10 @@ fn alternative(cursor: &mut Cursor<'_>) -> Result<Alternative<Atom>, AllocError>
     ensures { GivesAs alternative_of alternative_elements cursor.old cursor.new result }
 {
     optional_element_options(cursor)?;
-    let elements = elements(cursor)?;
-    Ok(Alternative { elements })
+    let list = elements(cursor)?;
+    Ok(Alternative {
+        elements: list.elements,
+    })
 }
 
 /// The alternatives of a block, with bars between.

@@ -27,12 +27,12 @@ fn alternative_label(cursor: &mut Cursor<'_>) -> Result<Option<AlternativeLabel>
 fn rule_alternative(cursor: &mut Cursor<'_>) -> Result<RuleAlternative<Atom>, AllocError>
     ensures { Gives rule_alternative_of cursor.old cursor.new result }
 {
-    let right = optional_element_options(cursor)?;
-    let elements = Elements::new(elements(cursor)?);
+    let begins = optional_element_options(cursor)?;
+    let list = elements(cursor)?;
     let label = alternative_label(cursor)?;
     Ok(RuleAlternative {
-        right,
-        elements,
+        right: begins | list.right,
+        elements: Elements::new(list.elements),
         label,
     })
 }

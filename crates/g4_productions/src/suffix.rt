@@ -6,7 +6,7 @@ ghost use Rattle.g4_syntax.specs.Notation.{sign, optional};
 ghost use Rattle.g4_syntax.specs.Productions.{assign};
 ghost use Rattle.g4_tokens.specs.declared.token.Kind.TheVariants as kinds;
 ghost use Rattle.g4_prequels.specs.Progress.{is_next, Moves, GivesAs};
-ghost use Rattle.g4_productions.specs.Elements.{single, unlabelled, is_greedy, is_list, optional_suffix_of, action_of, with_suffix};
+ghost use Rattle.g4_productions.specs.Elements.{signed_atom, unlabelled, is_greedy, is_list, is_right, optional_suffix_of, action_item, item_of, with_suffix};
 ghost use Rattle.g4_productions.specs.Elements.{labelled_of};
 
 use g4_base::Place;
@@ -15,25 +15,47 @@ use g4_prequels::{Cursor, optional_element_options};
 use g4_tokens::Kind;
 use std::alloc::{AllocError, Global};
 
+/// An element, and whether `<assoc=right>` follows it: what is in brackets does not count.
+#[derive(Drop)]
+pub(crate) struct Associated {
+    pub element: Element<Atom>,
+    pub right: bool,
+}
+
+/// Elements one after another, and whether `<assoc=right>` follows one of them.
+#[derive(Drop)]
+pub(crate) struct AssociatedList {
+    pub elements: Vec<Element<Atom>>,
+    pub right: bool,
+}
+
 /// An element without its sign.
 #[derive(Drop)]
 pub(crate) enum Labelled {
-    /// An atom with its label.
-    Single(Atom),
+    /// Whether `<assoc=right>` follows an atom, and the atom with its label.
+    Single(bool, Atom),
     /// Alternatives in brackets, and their label.
     Brackets(Option<Label>, Vec<Alternative<Atom>>),
+}
+
+impl Labelled {
+    /// Whether `<assoc=right>` follows the element.
+    pub(crate) fn is_right(&self) -> bool
+        ensures { result ≡ is_right (labelled_of self.now) }
+    {
+        match self {
+            Labelled::Single(right, _) => *right,
+            Labelled::Brackets(..) => false,
+        }
+    }
 }
 
 /// The block of this atom alone, which takes its label.
 fn block_of(alloc: Global, atom: Atom, repeat: Repeat) -> Result<Element<Atom>, AllocError>
     ensures { IfOk result (λ made. element_of made ≡ block atom.label repeat (only (then (an_atom (unlabelled atom)) empty))) }
 {
-    let Atom { label, right, kind } = atom;
-    let atom = Element::Atom(Atom {
-        label: None,
-        right,
-        kind,
-    });
+    let Atom { label, kind } = atom;
+    let atom = Element::Atom(Atom { label: None, kind });
     let elements = vec![in alloc; atom]?;
     let alternatives = vec![in alloc; Alternative { elements }]?;
     Ok(Element::Block(label, repeat, alternatives))
@@ -41,7 +63,7 @@ fn block_of(alloc: Global, atom: Atom, repeat: Repeat) -> Result<Element<Atom>, 
 
 /// The atom with this sign, or with none.
 fn atom_with_suffix(alloc: Global, atom: Atom, repeat: Repeat) -> Result<Element<Atom>, AllocError>
-    ensures { IfOk result (λ made. element_of made ≡ with_suffix (single atom) repeat) }
+    ensures { IfOk result (λ made. element_of made ≡ signed_atom atom repeat) }
 {
     match repeat {
         Repeat::Once => Ok(Element::Atom(atom)),
@@ -61,7 +83,7 @@ pub(crate) fn with_suffix(
     ensures { IfOk result (λ made. element_of made ≡ with_suffix (labelled_of labelled) repeat) }
 {
     match labelled {
-        Labelled::Single(atom) => atom_with_suffix(alloc, atom, repeat),
+        Labelled::Single(_, atom) => atom_with_suffix(alloc, atom, repeat),
         Labelled::Brackets(label, alternatives) => {
             Ok(Element::Block(label, repeat, alternatives))
         }
@@ -115,18 +137,23 @@ pub(crate) fn label_sign(cursor: &mut Cursor<'_>) -> bool
 }
 
 /// An action or a predicate.
-pub(crate) fn action(cursor: &mut Cursor<'_>) -> Result<Element<Atom>, AllocError>
-    ensures { GivesAs element_of action_of cursor.old cursor.new result }
+pub(crate) fn action(cursor: &mut Cursor<'_>) -> Result<Associated, AllocError>
+    ensures { GivesAs item_of action_item cursor.old cursor.new result }
 {
     let label = None;
     let name = cursor.named(Kind::Action)?;
     if !cursor.is_at(Kind::Question) {
-        let right = false;
         let kind = AtomKind::Action;
-        return Ok(Element::Atom(Atom { label, right, kind }));
+        return Ok(Associated {
+            element: Element::Atom(Atom { label, kind }),
+            right: false,
+        });
     }
     cursor.take(Kind::Question);
     let right = optional_element_options(cursor)?;
     let kind = AtomKind::Predicate(name);
-    Ok(Element::Atom(Atom { label, right, kind }))
+    Ok(Associated {
+        element: Element::Atom(Atom { label, kind }),
+        right,
+    })
 }

@@ -113,11 +113,7 @@ fn push_label(out: &mut String, label: &Option<Label>) -> Result<(), AllocError>
 
 fn push_atom(out: &mut String, atom: &Atom) -> Result<(), AllocError> {
     push_label(out, &atom.label)?;
-    push_kind(out, &atom.kind)?;
-    if atom.right {
-        out.push_str("<right>")?;
-    }
-    Ok(())
+    push_kind(out, &atom.kind)
 }
 
 fn push_repeat(out: &mut String, repeat: Repeat) -> Result<(), AllocError> {
@@ -362,11 +358,12 @@ grammar g; r : x=A y+='b' z=s[1]* ; => g; r: | x=A y+='b' z=(| s)*
 grammar g; r : X=. Y=(A) x=~A ; => g; r: | X=. Y=(| A) x=~ A
 grammar g; r : . ~A ~'b' ~(A | 'b' | (C)) ; => g; r: | . ~ A ~ 'b' ~ A 'b' C
 grammar g; r : {a} {b}? {c}?<d=e> A ; => g; r: | {} {b}? {c}? A
-grammar g; r : {a}?<assoc=right> {b}?<assoc=left> ; => g; r: | {a}?<right> {b}?
-grammar g; r : x=A<assoc=right>* (y+=B)? z=(C)+ ; => g; r: | x=(| A<right>)* (| y+=B)? z=(| C)+
+grammar g; r : {a}?<assoc=right> {b}?<assoc=left> ; => g; r: |<right> {a}? {b}?
+grammar g; r : x=A<assoc=right>* (y+=B)? z=(C)+ ; => g; r: |<right> x=(| A)* (| y+=B)? z=(| C)+
+grammar g; r : (A<assoc=right>)+ (B<assoc=right>) ~C ; => g; r: | (| A)+ (| B) ~ C
 grammar g; r : (A | B C)* ( ) (|A)+? ; => g; r: | (| A| B C)* (|) (|| A)+?
 grammar g; r : (options {k=1;} @a {b} : A) (@a {b} : B) ( : C) ; => g; r: | (| A) (| B) (| C)
-grammar g; r : <assoc=right> A #a | B<assoc=right, fail> #B | C<assoc=left> ; => g; r: |<right> A #a | B<right> #B | C
+grammar g; r : <assoc=right> A #a | B<assoc=right, fail> #B | C<assoc=left> ; => g; r: |<right> A #a |<right> B #B | C
 grammar g; r : .<a> s[b]<c> 'd'<e={f}> ; => g; r: | . s 'd'
 grammar g; private r[int x] returns [int y] throws A, b locals [z] options {} @init {a} @after {b} : A ; catch [E e] {} catch [F] {} finally {} s : ; => g; r: | A; s: |
 grammar g; public public : returns locals ; => g; public: | returns locals

@@ -161,7 +161,7 @@ module _ (names : List (List ℕ)) (predicates : List Place) where
   reads_back : (a : NumberedAtom) → ReadsSymbols (becomes a) [] → ReadsNumbered a []
   reads_back a = of_kind a.kind
     where
-      of_kind : (kind : NumberedKind) → ReadsSymbols (step_of names predicates kind) [] → ReadsNumbered (record { right = a.right; kind = kind }) []
+      of_kind : (kind : NumberedKind) → ReadsSymbols (step_of names predicates kind) [] → ReadsNumbered (record { kind = kind }) []
       of_kind (Set set) h = h
       of_kind (Rule name) h = h
       of_kind (Predicate name) h = h

@@ -1,2 +1,1 @@
-mod Associations
 mod Carrying

@@ -1,9 +1,8 @@
 -- What references and predicates become.
-use Rattle.std.specs.Prelude.{ℕ, ◌+◌, List, map, Bool, false, ◌==◌, ◌&&◌, ◌||◌}
+use Rattle.std.specs.Prelude.{ℕ, ◌+◌, List, map, ◌==◌, ◌&&◌}
 use Rattle.std.specs.List.{position_or_len}
 use Rattle.std.specs.Str.{bytes_eq}
 use Rattle.g4_base.specs.declared.place.Place.{Place}
-use Rattle.g4_source.specs.Elements.{Element, atom, block, Elements, empty, then}
 use Rattle.g4_source.specs.Bind.{in_order_over}
 use Rattle.g4_source.specs.declared.rule.ParserRule.{ParserRule}
 use Rattle.g4_source.specs.declared.rule.RuleAlternative.{RuleAlternative}
@@ -29,19 +28,9 @@ step_of names predicates (Rule name) = steps.Call (place_named names name.text +
 step_of names predicates (Predicate name) = steps.Predicate (place_of_predicate predicates name.place)
 step_of names predicates Action = steps.Action
 
--- the element is an atom that `<assoc=right>` follows
-abbrev pub is_right : Element NumberedAtom → Bool
-is_right (atom a) = a.right
-is_right (block label repeat xs) = false
-
--- one of the elements is: atoms in blocks do not count
-abbrev pub has_right : Elements NumberedAtom → Bool
-has_right empty = false
-has_right (then x xs) = is_right x || has_right xs
-
--- an alternative over steps: it is right associative where it begins with `<assoc=right>`, or one of its elements has it
+-- an alternative over steps
 abbrev pub resolved_alternative : List (List ℕ) → List Place → RuleAlternative NumberedAtom → RuleAlternative (Step (List ℕ))
-resolved_alternative names predicates a = record { right = a.right || has_right a.elements; elements = in_order_over (λ b. step_of names predicates b.kind) a.elements; label = a.label }
+resolved_alternative names predicates a = record { right = a.right; elements = in_order_over (λ b. step_of names predicates b.kind) a.elements; label = a.label }
 
 -- a rule over steps
 abbrev pub resolved_rule : List (List ℕ) → List Place → ParserRule NumberedAtom → StepRule

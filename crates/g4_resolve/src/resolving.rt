@@ -1,14 +1,13 @@
 // References to rules as calls by number, and predicates by theirs.
 ghost use Rattle.std.specs.Prelude.{◌≡◌, ◌≤◌, ◌<◌, ◌^◌, All, IfOk, length, map};
 ghost use Rattle.g4_source.specs.Blocks.{ParserRulesAreFull};
-ghost use Rattle.g4_source.specs.Trees.{element_of};
 ghost use Rattle.g4_grammar.specs.NumberedRules.{NumberedRuleIsUntested, NumberedRulesAreDefined, NumberedRulesCanRun, RuleLeavesEnd};
 ghost use Rattle.g4_grammar.specs.StepRules.{CanBeRewritten};
 ghost use Rattle.g4_places.specs.Places.{ArePlaces};
-ghost use Rattle.g4_resolve.specs.Resolving.{has_right, is_right, place_named, place_of_predicate, resolved_alternative, resolved_rule, step_of};
+ghost use Rattle.g4_resolve.specs.Resolving.{place_named, place_of_predicate, resolved_alternative, resolved_rule, step_of};
 
 use g4_base::{Place, Sequence, Text};
-use g4_source::{Element, Elements, ParserRule, RuleAlternative, Substitution, substituted};
+use g4_source::{Element, ParserRule, RuleAlternative, Substitution, substituted};
 use g4_grammar::{NumberedAtom, NumberedKind, Step, StepRule};
 use g4_places::{Places, places_of};
 use g4_symbols::Symbols;
@@ -95,25 +94,7 @@ impl Substitution<NumberedAtom> for Stage<'_> {
     }
 }
 
-/// Whether the element is an atom that `<assoc=right>` follows.
-#[tactic(auto, using(g4_source::proofs::Trees::of_atom, g4_source::proofs::Trees::of_block))]
-fn is_right(element: &Element<NumberedAtom>) -> bool
-    ensures { result ≡ is_right (element_of element.now) }
-{
-    match element {
-        Element::Atom(atom) => atom.right,
-        Element::Block(..) => false,
-    }
-}
-
-/// Whether one of the elements is: atoms in blocks do not count.
-fn has_right(elements: &Elements<NumberedAtom>) -> bool
-    ensures { result ≡ has_right elements.now }
-{
-    elements.as_slice().iter().any(|element| is_right(element))
-}
-
-/// The alternative over steps. It is right associative where it begins with `<assoc=right>`, or one of its elements has it.
+/// The alternative over steps.
 fn resolved_alternative(
     alloc: Global,
     stage: &Stage<'_>,
@@ -126,7 +107,6 @@ fn resolved_alternative(
         elements,
         label,
     } = alternative;
-    let right = right || has_right(&elements);
     let elements = substituted(alloc, stage, &elements)?;
     Ok(RuleAlternative {
         right,

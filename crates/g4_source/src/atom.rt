@@ -8,8 +8,6 @@ use g4_chars::CharSet;
 pub struct Atom {
     /// The label, where the element has no sign. A label before an element with a sign is that of its block.
     pub label: Option<Label>,
-    /// Whether `<assoc=right>` follows it.
-    pub right: bool,
     pub kind: AtomKind,
 }
 

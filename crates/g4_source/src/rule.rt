@@ -34,7 +34,7 @@ pub struct ParserRule<A> {
 /// An alternative of a parser rule.
 #[derive(Drop)]
 pub struct RuleAlternative<A> {
-    /// Whether it is right associative, by an `<assoc=right>` that begins it; once its atoms are steps, also by one on an element.
+    /// Whether it is right associative: `<assoc=right>` begins it, or follows one of its elements. In brackets it says nothing.
     pub right: bool,
     pub elements: Elements<A>,
     pub label: Option<AlternativeLabel>,

@@ -148,7 +148,7 @@ module _ (lexers : List LexerRule) (types : List Entry) where
   -- an atom of a rule of a kind over symbols: one of a lexer rule reads nothing
   abbrev numbered_as : RuleKind → Atom → NumberedAtom
   numbered_as rule_kinds.Parser a = numbered_atom lexers types a
-  numbered_as rule_kinds.Lexer a = record { right = false; kind = Set [] }
+  numbered_as rule_kinds.Lexer a = record { kind = Set [] }
 
   abbrev numbered_in : AtomIn → NumberedAtom
   numbered_in a = numbered_as a.kind a.atom

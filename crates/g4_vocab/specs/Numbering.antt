@@ -193,7 +193,7 @@ numbered_kind lexers types kinds.Action = numbers.Action
 numbered_kind lexers types (kinds.Predicate name) = numbers.Predicate name
 
 abbrev pub numbered_atom : List LexerRule → List Entry → Atom → NumberedAtom
-numbered_atom lexers types a = record { right = a.right; kind = numbered_kind lexers types a.kind }
+numbered_atom lexers types a = record { kind = numbered_kind lexers types a.kind }
 
 -- an alternative of a parser rule over symbols
 abbrev pub numbered_alternative : List LexerRule → List Entry → RuleAlternative Atom → RuleAlternative NumberedAtom
@@ -205,7 +205,7 @@ numbered_rule lexers types rule = record { name = rule.name; alternatives = map 
 
 -- an alternative that is a literal
 abbrev pub literal_alternative : Literal → LexerAlternative
-literal_alternative literal = record { elements = then (atom (record { label = None; right = false; kind = kinds.Literal literal })) empty; commands = [] }
+literal_alternative literal = record { elements = then (atom (record { label = None; kind = kinds.Literal literal })) empty; commands = [] }
 
 -- what makes the tokens of a type, where its key is a literal
 abbrev pub literal_rule_by : ℕ → List ℕ → Key → Option TokenRule

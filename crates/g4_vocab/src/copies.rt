@@ -97,8 +97,7 @@ impl Substitution<Atom> for Same {
     fn image(&self, alloc: Global, atom: &Atom) -> Result<Element<Atom>, AllocError> {
         let label = label(alloc, &atom.label)?;
         let kind = kind(alloc, &atom.kind)?;
-        let right = atom.right;
-        Ok(Element::Atom(Atom { label, right, kind }))
+        Ok(Element::Atom(Atom { label, kind }))
     }
 }
 

@@ -120,7 +120,6 @@ impl Substitution<Atom> for Numbering<'_, '_, '_, '_> {
 
     fn image(&self, alloc: Global, atom: &Atom) -> Result<Element<NumberedAtom>, AllocError> {
         let kind = self.kind_of(alloc, &atom.kind)?;
-        let right = atom.right;
-        Ok(Element::Atom(NumberedAtom { right, kind }))
+        Ok(Element::Atom(NumberedAtom { kind }))
     }
 }

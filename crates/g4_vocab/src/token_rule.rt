@@ -17,7 +17,6 @@ fn literal_alternative(alloc: Global, literal: Literal) -> Result<LexerAlternati
 {
     let atom = Atom {
         label: None,
-        right: false,
         kind: AtomKind::Literal(literal),
     };
     let mut elements = Vec::new(alloc);

@@ -1,24 +1,15 @@
-use Rattle.std.proofs.Common.{◌≡◌, ◌||◌, Bool, true, false, refl, sym, ◌∙◌}
+use Rattle.std.proofs.Common.{◌≡◌, refl, sym, ◌∙◌}
 use Rattle.g4_prequels.proofs.Moving.{upon, so, two, led}
+use Rattle.g4_prequels.proofs.Ors.{either_of_three, or_none}
 use Rattle.g4_prequels.proofs.Turning.{start, sign_over, end_turns, fewer_then}
 use Rattle.g4_prequels.specs.Options.{says_right, one_says_right, commas_say_right}
 use Rattle.g4_prequels.proofs.options.element_options.Goals as goal
-
--- one or another or a third is so
-either : (p q r : Bool) → (p || (q || r)) ≡ ((p || q) || r)
-either true q r = refl
-either false q r = refl
-
--- one or false
-or_none : (p : Bool) → p ≡ (p || false)
-or_none true = refl
-or_none false = refl
 
 pub loop-cursor-init : goal.loop-cursor-init
 loop-cursor-init c = start
 
 pub loop-cursor-preserved : goal.loop-cursor-preserved
-loop-cursor-preserved c = sign_over c.loop-cursor.invariant (sym c.is_at.ensures ∙ c.loop-cursor-test.true) c.take-in-loop-cursor.ensures c.in_ok-says.ensures (λ a b rest p. rw p (either c.loop-cursor.right (says_right b) (one_says_right rest)))
+loop-cursor-preserved c = sign_over c.loop-cursor.invariant (sym c.is_at.ensures ∙ c.loop-cursor-test.true) c.take-in-loop-cursor.ensures c.in_ok-says.ensures (λ a b rest p. rw p (either_of_three c.loop-cursor.right (says_right b) (one_says_right rest)))
 
 pub loop-cursor-smaller : goal.loop-cursor-smaller
 loop-cursor-smaller c = fewer_then (sym c.is_at.ensures ∙ c.loop-cursor-test.true) c.take-in-loop-cursor.ensures c.in_ok-says.ensures

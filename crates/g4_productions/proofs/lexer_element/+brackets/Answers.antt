@@ -3,7 +3,7 @@ use Rattle.g4_syntax.specs.Notation.{a_set, characters}
 use Rattle.g4_prequels.proofs.Moving.{so, two, upon, first, second, inside, led, ends, asks_same}
 use Rattle.g4_prequels.proofs.Turning.{start, begun, turn, end_turns, sign_over, fewer, fewer_then, no_more}
 use Rattle.g4_source.specs.declared.name.Name.{Name}
-use Rattle.g4_source.specs.Elements.{Elements}
+use Rattle.g4_source.specs.Elements.{Element, Elements}
 use Rattle.g4_source.specs.Trees.{element_of, alternative_of, in_order}
 use Rattle.g4_source.proofs.Trees.{of_elements}
 use Rattle.g4_source.specs.declared.atom.Atom.{Atom}
@@ -60,7 +60,8 @@ pub labelled_item-returns : goal.labelled_item-returns
 labelled_item-returns t c = second (led _ _ _ refl ∙ sym c.is_at.ensures ∙ c.if-is_at.false) (second (led _ _ _ refl ∙ sym c.is_at-2.ensures ∙ c.if-is_at-2.false) (c.in_ok-item-3.ensures))
 
 pub element-returns-then-is_at : goal.element-returns-then-is_at
-element-returns-then-is_at t c = inside (first (led _ _ _ refl ∙ sym c.is_at.ensures ∙ c.if-is_at.true) (c.in_ok-action.ensures))
+element-returns-then-is_at t c =
+    inside (first (led _ _ _ refl ∙ sym c.is_at.ensures ∙ c.if-is_at.true) (so c.in_ok-action.ensures (λ a p. ap (λ (z : Element Atom × Bool). z.0) p)))
 
 pub element-returns : goal.element-returns
 element-returns t c = inside (second (led _ _ _ refl ∙ sym c.is_at.ensures ∙ c.if-is_at.false) (upon c.in_ok-item.ensures (so c.optional_suffix-repeat.ensures (λ s r x q. c.in_ok-element.ensures ∙ rw (q, r) refl))))

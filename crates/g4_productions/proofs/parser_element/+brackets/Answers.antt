@@ -1,11 +1,15 @@
-use Rattle.std.proofs.Common.{refl, sym, ◌∙◌, ap, append-nil, arith, Bool, Some}
+use Rattle.std.proofs.Common.{refl, sym, ◌∙◌, ap, append-nil, arith, Bool, List, Some}
 use Rattle.g4_prequels.proofs.Moving.{so, two, upon, first, second, inside, led, ends}
 use Rattle.g4_prequels.proofs.Turning.{start, begun, turn, end_turns, sign_over, fewer, fewer_then, no_more}
 use Rattle.g4_source.specs.declared.name.Name.{Name}
 use Rattle.g4_source.specs.Trees.{element_of, alternative_of, in_order}
 use Rattle.g4_source.proofs.Trees.{of_elements}
-use Rattle.g4_productions.specs.ParserElements.{parser_element, parser_elements, named_item, labelled_after, alternative_elements, alternatives_after}
+use Rattle.g4_productions.specs.ParserElements.{parser_element, parser_elements, element_right, elements_right, named_item, labelled_after, alternative_elements, alternatives_after}
 use Rattle.g4_productions.proofs.Listing.{listed_more}
+use Rattle.g4_productions.proofs.Pairs.{pair}
+use Rattle.g4_prequels.proofs.Ors.{either_of_three, or_none}
+use Rattle.g4_source.specs.Elements.{Element}
+use Rattle.g4_source.specs.declared.atom.Atom.{Atom}
 use Rattle.g4_productions.proofs.parser_element.+brackets.Goals as goal
 
 pub unnamed_item-returns-then-is_at : goal.unnamed_item-returns-then-is_at
@@ -66,25 +70,25 @@ pub element-returns-then-is_at : goal.element-returns-then-is_at
 element-returns-then-is_at t c = inside (first (led _ _ _ refl ∙ sym c.is_at.ensures ∙ c.if-is_at.true) (c.in_ok-action.ensures))
 
 pub element-returns : goal.element-returns
-element-returns t c = inside (second (led _ _ _ refl ∙ sym c.is_at.ensures ∙ c.if-is_at.false) (upon c.in_ok-labelled.ensures (so c.optional_suffix-repeat.ensures (λ s r x q. c.in_ok-element.ensures ∙ rw (q, r) refl))))
+element-returns t c = inside (second (led _ _ _ refl ∙ sym c.is_at.ensures ∙ c.if-is_at.false) (upon c.in_ok-labelled.ensures (so c.optional_suffix-repeat.ensures (λ s r x q. ap (λ (e : Element Atom). (e, c.is_right-right.result)) c.in_ok-element.ensures ∙ rw (c.is_right-right.ensures, q, r) refl))))
 
 pub elements-loop-cursor-init : goal.elements-loop-cursor-init
 elements-loop-cursor-init t c = begun (λ tree. rw c.new-elements.ensures.items refl)
 
 pub elements-loop-cursor-preserved : goal.elements-loop-cursor-preserved
-elements-loop-cursor-preserved t c = turn c.loop-cursor.invariant (sym c.is_at_element.ensures ∙ c.loop-cursor-test.true) c.in_ok-element.ensures (λ x rest p. listed_more element_of _ _ c.in_ok-element.element (parser_element x) (parser_elements rest) c.in_ok-push.ensures.items p)
+elements-loop-cursor-preserved t c = turn c.loop-cursor.invariant (sym c.is_at_element.ensures ∙ c.loop-cursor-test.true) c.in_ok-next.ensures (λ x rest p. pair (listed_more element_of _ _ c.in_ok-next.next.element (parser_element x) (parser_elements rest) c.in_ok-push.ensures.items (ap (λ (z : Element Atom × Bool). z.0) p)) (rw (ap (λ (z : Element Atom × Bool). z.1) p) (either_of_three c.loop-cursor.right (element_right x) (elements_right rest))))
 
 pub elements-loop-cursor-smaller : goal.elements-loop-cursor-smaller
-elements-loop-cursor-smaller t c = fewer (sym c.is_at_element.ensures ∙ c.loop-cursor-test.true) c.in_ok-element.ensures
+elements-loop-cursor-smaller t c = fewer (sym c.is_at_element.ensures ∙ c.loop-cursor-test.true) c.in_ok-next.ensures
 
 pub elements-returns : goal.elements-returns
-elements-returns t c = end_turns c.loop-cursor.invariant (sym c.is_at_element.ensures ∙ c.loop-cursor-test.false) (sym (append-nil _))
+elements-returns t c = end_turns c.loop-cursor.invariant (sym c.is_at_element.ensures ∙ c.loop-cursor-test.false) (pair (sym (append-nil _)) (or_none _))
 
 pub alternative-elements-requires : goal.alternative-elements-requires
 alternative-elements-requires t c = omega (arith, no_more c.in_ok-optional_element_options.ensures)
 
 pub alternative-returns : goal.alternative-returns
-alternative-returns t c = upon c.in_ok-optional_element_options.ensures (so c.in_ok-elements.ensures (λ xs q options p. of_elements c.in_ok-elements.elements ∙ ap in_order q))
+alternative-returns t c = upon c.in_ok-optional_element_options.ensures (so c.in_ok-list.ensures (λ xs q options p. of_elements c.in_ok-list.list.elements ∙ ap in_order (ap (λ (z : List (Element Atom) × Bool). z.0) q)))
 
 pub alternatives-alternative-requires-in-loop-cursor : goal.alternatives-alternative-requires-in-loop-cursor
 alternatives-alternative-requires-in-loop-cursor t c = omega (arith, no_more c.in_ok-first.ensures, c.loop-cursor.invariant.less, no_more c.take.ensures)

@@ -1,7 +1,7 @@
-use Rattle.std.proofs.Common.{◌++◌, ◌+◌, ◌*◌, map}
+use Rattle.std.proofs.Common.{◌++◌, ◌+◌, ◌*◌, ◌||◌, map}
 use Rattle.g4_source.specs.Trees.{element_of, alternative_of}
 use Rattle.g4_prequels.proofs.Turning.{Turned, left}
-use Rattle.g4_productions.specs.ParserElements.{parser_elements, alternatives_after}
+use Rattle.g4_productions.specs.ParserElements.{parser_elements, parser_items, elements_right, alternatives_after}
 use Rattle.g4_productions.proofs.parser_element.+brackets.Given as goal
 
 -- of calls before one token, one that reads a token first is nearest to the end of the recursion, and alternatives are farthest
@@ -39,7 +39,7 @@ abbrev pub decreases-alternatives : goal.decreases-alternatives
 decreases-alternatives l = left l.cursor.now * 11 + 10
 
 abbrev pub invariant-elements-loop-cursor : goal.invariant-elements-loop-cursor
-invariant-elements-loop-cursor l = Turned parser_elements (λ rest. map element_of l.elements.items ++ parser_elements rest) l.initial.cursor l.cursor
+invariant-elements-loop-cursor l = Turned parser_items (λ rest. (map element_of l.elements.items ++ parser_elements rest, l.right || elements_right rest)) l.initial.cursor l.cursor
 
 abbrev pub decreases-elements-loop-cursor : goal.decreases-elements-loop-cursor
 decreases-elements-loop-cursor l = left l.cursor
