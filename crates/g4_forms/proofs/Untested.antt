@@ -10,7 +10,6 @@ use Rattle.g4_source.specs.declared.rule.Rule.{Rule}
 use Rattle.g4_source.specs.declared.rule.Rule.TheVariants.{Parser}
 use Rattle.g4_source.specs.declared.rule.ParserRule.{ParserRule}
 use Rattle.g4_source.specs.declared.rule.RuleAlternative.{RuleAlternative}
-use Rattle.g4_source.specs.declared.kind.RuleKind.TheVariants as rule_kinds
 use Rattle.g4_grammar.specs.Written.{ParserKindIsUntested, ParserRuleIsUntested}
 use Rattle.g4_forms.specs.Forms.{Form, atom_forms, parser_atom_forms, parser_alternative_forms, rule_forms}
 
@@ -46,11 +45,11 @@ abbrev IsUntested : Atom → Type 0
 IsUntested a = ParserKindIsUntested a.kind
 
 -- atoms without a form
-untested_atoms : (xs : List Atom) → flat_map (atom_forms rule_kinds.Parser) xs ≡ [] → All IsUntested xs
+untested_atoms : (xs : List Atom) → flat_map atom_forms xs ≡ [] → All IsUntested xs
 untested_atoms [] h = All-nil IsUntested
 untested_atoms (a ∷ xs) h =
-    let first = no_first (parser_atom_forms a.kind) (flat_map (atom_forms rule_kinds.Parser) xs) h in
-    let others = no_second (parser_atom_forms a.kind) (flat_map (atom_forms rule_kinds.Parser) xs) h in
+    let first = no_first (parser_atom_forms a.kind) (flat_map atom_forms xs) h in
+    let others = no_second (parser_atom_forms a.kind) (flat_map atom_forms xs) h in
     All-cons IsUntested a xs (untested_kind a.kind first) (untested_atoms xs others)
 
 -- the alternatives of a parser rule without a form

@@ -14,12 +14,9 @@ use Rattle.g4_source.specs.declared.prequel.Setting.{Setting}
 use Rattle.g4_source.specs.declared.rule.Rule.{Rule}
 use Rattle.g4_source.specs.declared.rule.Rule.TheVariants as rules
 use Rattle.g4_source.specs.declared.rule.RuleAlternative.{RuleAlternative}
-use Rattle.g4_source.specs.declared.rule.LexerAlternative.{LexerAlternative}
 use Rattle.g4_source.specs.declared.source.GrammarKind.{GrammarKind}
 use Rattle.g4_source.specs.declared.source.GrammarKind.TheVariants as grammars
 use Rattle.g4_source.specs.declared.source.Source.{Source}
-use Rattle.g4_source.specs.declared.kind.RuleKind.{RuleKind}
-use Rattle.g4_source.specs.declared.kind.RuleKind.TheVariants.{Parser, Lexer}
 
 -- a form that is not run: the place of its first token, and the bytes of that token
 pub record Form : Type 0 where
@@ -39,47 +36,29 @@ abbrev pub parser_atom_forms : AtomKind → List Form
 parser_atom_forms (kinds.Predicate text) = named text
 parser_atom_forms a = []
 
--- an atom of a lexer rule: a name of a parser rule, all tokens but some, and a predicate are not run
-abbrev pub lexer_atom_forms : AtomKind → List Form
-lexer_atom_forms (kinds.Rule name) = named name
-lexer_atom_forms (kinds.Token name) = []
-lexer_atom_forms (kinds.Literal literal) = []
-lexer_atom_forms (kinds.Range place first last) = []
-lexer_atom_forms (kinds.Set set) = []
-lexer_atom_forms (kinds.Any place) = []
-lexer_atom_forms (kinds.NotTokens place tokens) = one_form place (codes "~")
-lexer_atom_forms (kinds.NotCharacters place set) = []
-lexer_atom_forms kinds.Action = []
-lexer_atom_forms (kinds.Predicate text) = named text
+-- an atom, whatever its label
+abbrev pub atom_forms : Atom → List Form
+atom_forms a = parser_atom_forms a.kind
 
--- an atom of a rule of this kind, whatever its label
-abbrev pub atom_forms : RuleKind → Atom → List Form
-atom_forms Parser a = parser_atom_forms a.kind
-atom_forms Lexer a = lexer_atom_forms a.kind
-
--- an element of a rule of this kind has the forms of its atoms
-abbrev pub element_forms : RuleKind → Element Atom → List Form
-element_forms kind x = flat_map (atom_forms kind) (atoms x)
+-- an element of a parser rule has the forms of its atoms
+abbrev pub element_forms : Element Atom → List Form
+element_forms x = flat_map atom_forms (atoms x)
 
 -- elements one after another, and alternatives, the same
-abbrev pub elements_forms : RuleKind → Elements Atom → List Form
-elements_forms kind xs = flat_map (atom_forms kind) (atoms_in_order xs)
+abbrev pub elements_forms : Elements Atom → List Form
+elements_forms xs = flat_map atom_forms (atoms_in_order xs)
 
-abbrev pub either_forms : RuleKind → Alternatives Atom → List Form
-either_forms kind xs = flat_map (atom_forms kind) (atoms_of_either xs)
+abbrev pub either_forms : Alternatives Atom → List Form
+either_forms xs = flat_map atom_forms (atoms_of_either xs)
 
 -- an alternative of a parser rule: its elements
 abbrev pub parser_alternative_forms : RuleAlternative Atom → List Form
-parser_alternative_forms alternative = elements_forms Parser alternative.elements
+parser_alternative_forms alternative = elements_forms alternative.elements
 
--- an alternative of a lexer rule: its elements; all commands are run
-abbrev pub lexer_alternative_forms : LexerAlternative → List Form
-lexer_alternative_forms alternative = elements_forms Lexer alternative.elements
-
--- a rule
+-- a rule: all that can be read of a lexer rule is run, but for a predicate, which is a fault of the rule
 abbrev pub rule_forms : Rule → List Form
 rule_forms (rules.Parser rule) = flat_map parser_alternative_forms rule.alternatives
-rule_forms (rules.Lexer rule) = flat_map lexer_alternative_forms rule.alternatives
+rule_forms (rules.Lexer rule) = []
 
 -- an option: only the tokens of another grammar are not run
 abbrev pub setting_forms : Setting → List Form

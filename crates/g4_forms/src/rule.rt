@@ -1,11 +1,11 @@
 // The forms of rules that are not run.
 ghost use Rattle.std.specs.List.{flat_map};
-ghost use Rattle.g4_forms.specs.Forms.{lexer_alternative_forms, parser_alternative_forms, rule_forms};
+ghost use Rattle.g4_forms.specs.Forms.{parser_alternative_forms, rule_forms};
 ghost use Rattle.g4_forms.specs.Answers.{AreRun};
 
 use crate::element::check_elements;
-use crate::fault::{FormFault, refuse};
-use g4_source::{Atom, LexerAlternative, Rule, RuleAlternative, RuleKind};
+use crate::fault::FormFault;
+use g4_source::{Atom, Rule, RuleAlternative};
 use std::alloc::Global;
 
 /// Looks at an alternative of a parser rule.
@@ -15,7 +15,7 @@ fn check_parser_alternative(
 ) -> Result<(), FormFault>
     ensures { AreRun (parser_alternative_forms alternative.now) result }
 {
-    check_elements(alloc, RuleKind::Parser, alternative.elements.as_slice())
+    check_elements(alloc, alternative.elements.as_slice())
 }
 
 /// Looks at the alternatives of a parser rule.
@@ -28,30 +28,13 @@ fn check_parser(alloc: Global, alternatives: &[RuleAlternative<Atom>]) -> Result
     Ok(())
 }
 
-/// Looks at an alternative of a lexer rule.
-fn check_lexer_alternative(alloc: Global, alternative: &LexerAlternative) -> Result<(), FormFault>
-    ensures { AreRun (lexer_alternative_forms alternative.now) result }
-{
-    check_elements(alloc, RuleKind::Lexer, alternative.elements.as_slice())
-}
-
-/// Looks at the alternatives of a lexer rule.
-fn check_lexer(alloc: Global, alternatives: &[LexerAlternative]) -> Result<(), FormFault>
-    ensures { AreRun (flat_map lexer_alternative_forms alternatives.now) result }
-{
-    for alternative in alternatives {
-        check_lexer_alternative(alloc, alternative)?;
-    }
-    Ok(())
-}
-
 /// Looks at a rule.
 fn check_rule(alloc: Global, rule: &Rule) -> Result<(), FormFault>
     ensures { AreRun (rule_forms rule.now) result }
 {
     match rule {
         Rule::Parser(rule) => check_parser(alloc, rule.alternatives.as_slice()),
-        Rule::Lexer(rule) => check_lexer(alloc, rule.alternatives.as_slice()),
+        Rule::Lexer(_) => Ok(()),
     }
 }
 
