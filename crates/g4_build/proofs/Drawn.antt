@@ -4,7 +4,7 @@ use Rattle.std.proofs.Math.ListN.{set as put}
 use Rattle.std.proofs.lemmas.List.{length-append, length-set, length-map}
 use Rattle.std.proofs.lemmas.List.Sums.{sum_by-cons}
 use Rattle.g4_base.specs.Place.{first_place}
-use Rattle.g4_symbols.specs.Symbols.{end_of_list}
+use Rattle.g4_tokens.specs.Symbols.{end_of_list}
 use Rattle.g4_source.specs.declared.element.Suffix.{Suffix}
 use Rattle.g4_source.specs.Elements.{atom, block, Alternatives, empty, then, none, only}
 use Rattle.g4_source.specs.Blocks.{ParserRulesAreFull}
@@ -23,11 +23,11 @@ use Rattle.g4_layout.specs.Layout.{Lies, LieInOrder, LieSideBySide, LiesAsRule, 
 use Rattle.g4_layout.specs.Numbers.{NumberingsFit, added_numbering}
 use Rattle.g4_layout.specs.Rules.{state_count}
 use Rattle.g4_layout.specs.Size.{states_of_rule}
-use Rattle.g4_draft.specs.Rules.{AreFullTrees, HasHeads, HaveLaid, ends_from}
-use Rattle.g4_draft.specs.Numberings.{CanAllBeNumbered, HaveNumbers}
-use Rattle.g4_draft.proofs.Lists.{get_set_same, get_set_other, get_left, get_right}
-use Rattle.g4_draft.proofs.Numbered.{same_ends}
-use Rattle.g4_draft.proofs.Starts.{can_all}
+use Rattle.g4_states.specs.Rules.{AreFullTrees, HasHeads, HaveLaid, ends_from}
+use Rattle.g4_states.specs.Numberings.{CanAllBeNumbered, HaveNumbers}
+use Rattle.g4_states.proofs.Lists.{get_set_same, get_set_other, get_left, get_right}
+use Rattle.g4_states.proofs.Numbered.{same_ends}
+use Rattle.g4_states.proofs.Starts.{can_all}
 use Rattle.g4_build.specs.Numberings.{AllAreWritten}
 use Rattle.g4_build.specs.Rules.{IsDrawn, added_states}
 

@@ -13,7 +13,7 @@ use Rattle.g4_source.specs.declared.rule.RuleAlternative.{RuleAlternative}
 use Rattle.g4_source.specs.declared.rule.ParserRule.{ParserRule}
 use Rattle.g4_source.specs.Rules.{alternatives_of}
 use Rattle.g4_layout.specs.Decisions.{number_of, HasDecision, OneHasDecision, SomeHasDecision, RuleHasDecision, RulesHaveDecision, AreNarrow, IsTooWide, IsWide, ways_to_exit}
-use Rattle.g4_draft.proofs.Trees.{plain_atom, plain_block, next_of, none_of, next_item, no_item}
+use Rattle.g4_states.proofs.Trees.{plain_atom, plain_block, next_of, none_of, next_item, no_item}
 
 -- there are as many alternatives as the code has
 number_of_sides : {X A : Type 0} (tree : X → Elements A) (xs : List X) → number_of (either (map tree xs)) ≡ length xs

@@ -5,8 +5,8 @@ use Rattle.g4_layout.specs.Numbers.{IsNumbered}
 use Rattle.g4_net.specs.declared.network.Network.{Network}
 use Rattle.g4_net.specs.declared.network.State.{State}
 use Rattle.g4_net.specs.Network.{start_of}
-use Rattle.g4_draft.specs.Numberings.{HaveNumbers, RuleIsNumbered, RulesAreNumbered, SharesNumbers}
-use Rattle.g4_draft.specs.Rules.{IsBefore}
+use Rattle.g4_states.specs.Numberings.{HaveNumbers, RuleIsNumbered, RulesAreNumbered, SharesNumbers}
+use Rattle.g4_states.specs.Rules.{IsBefore}
 use Rattle.g4_build.specs.Numberings.{AllAreWritten}
 
 pub first_and_others : {L : Type 0} (states : List (State L)) (none first all : List ℕ) (n m : ℕ) (ends : List ℕ) (numbering : Numbering) (others : List Numbering) → length none ≡ n → n ≡ 2 * length others + 2 → n ≤ m →

@@ -7,15 +7,15 @@ ghost use Rattle.g4_grammar.specs.StepRules.{CanBeLaid};
 ghost use Rattle.g4_layout.specs.Numbers.{NumberingsFit};
 ghost use Rattle.g4_derivation.specs.Spelling.{SpellsRules};
 ghost use Rattle.g4_layout.specs.Rules.{rules_of, state_count};
-ghost use Rattle.g4_symbols.specs.Symbols.{eof};
+ghost use Rattle.g4_tokens.specs.Symbols.{eof};
 ghost use Rattle.g4_build.specs.Answers.{GivesNetwork};
 
 use crate::drawing::draw;
 use crate::width::some_rule_is_wide;
-use g4_draft::past_rules;
+use g4_states::past_rules;
 use g4_grammar::{Numbering, StepRule};
 use g4_net::{MOST_STATES, ParserNetwork};
-use g4_symbols::{EOF, Symbols};
+use g4_tokens::{EOF, Symbols};
 use std::alloc::{AllocError, Global};
 
 /// Why rules have no network.

@@ -10,10 +10,10 @@ ghost use Rattle.g4_net.specs.declared.network.TheConstants.{MOST_STATES};
 
 use crate::numbering::numbers;
 use g4_base::Sequence;
-use g4_draft::{callers, heads, lay_rules};
+use g4_states::{callers, heads, lay_rules};
 use g4_grammar::{Numbering, StepRule};
 use g4_net::{Network, ParserNetwork, State};
-use g4_symbols::{END, Symbols};
+use g4_tokens::{END, Symbols};
 use std::alloc::{AllocError, Global};
 
 /// Adds the states of the added rule, which calls this one and whose loop takes the symbols of the set.

@@ -1,11 +1,11 @@
 // The numbers of alternatives that are written at the states of a parser's rules, the added one among them.
 ghost use Rattle.std.specs.Prelude.{◌≡◌, ◌<◌, ◌+◌, ◌*◌, ◌^◌, ◌∷◌, IfOk, length};
 ghost use Rattle.g4_layout.specs.Numbers.{added_numbering};
-ghost use Rattle.g4_draft.specs.Numberings.{CanAllBeNumbered};
+ghost use Rattle.g4_states.specs.Numberings.{CanAllBeNumbered};
 ghost use Rattle.g4_build.specs.Numberings.{AllAreWritten};
 
 use g4_base::Sequence;
-use g4_draft::{number_rule, number_rules, zeros};
+use g4_states::{number_rule, number_rules, zeros};
 use g4_grammar::Numbering;
 use g4_net::State;
 use std::alloc::{AllocError, Global};

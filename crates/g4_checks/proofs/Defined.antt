@@ -15,10 +15,10 @@ use Rattle.g4_source.specs.declared.kind.RuleKind.{RuleKind}
 use Rattle.g4_source.specs.declared.kind.RuleKind.TheVariants.{Parser, Lexer}
 use Rattle.g4_grammar.specs.Written.{is_rule_of, KindIsDefined, RulesAreDefined}
 use Rattle.g4_grammar.proofs.Positions.{any_found}
-use Rattle.g4_references.specs.Checking.{HasRules, NamesNoRule, atoms_in}
-use Rattle.g4_references.specs.Names.{is_one_of}
-use Rattle.g4_references.specs.Uses.{KindIsUndefined}
-use Rattle.g4_references.proofs.Sets.{bytes_eq-sym}
+use Rattle.g4_checks.specs.References.{HasRules, NamesNoRule, atoms_in}
+use Rattle.g4_checks.specs.Names.{is_one_of}
+use Rattle.g4_checks.specs.Uses.{KindIsUndefined}
+use Rattle.g4_checks.proofs.Sets.{bytes_eq-sym}
 
 -- the names of the parser rules, and of the lexer rules
 abbrev names_of_parsers : List Rule → List (List ℕ)

@@ -3,10 +3,10 @@
 use Rattle.std.specs.Prelude.{Result, Ok, Err, ⊤}
 use Rattle.g4_source.specs.declared.source.Source.{Source}
 use Rattle.g4_source.specs.InOrder.{rules_of}
-use Rattle.g4_references.specs.declared.checking.ReferenceFault.{ReferenceFault}
-use Rattle.g4_references.specs.declared.checking.ReferenceFault.TheVariants as references
-use Rattle.g4_references.specs.Checking.{HasNoClash}
-use Rattle.g4_references.specs.Checking as naming
+use Rattle.g4_checks.specs.declared.references.ReferenceFault.{ReferenceFault}
+use Rattle.g4_checks.specs.declared.references.ReferenceFault.TheVariants as references
+use Rattle.g4_checks.specs.References.{HasNoClash}
+use Rattle.g4_checks.specs.References as naming
 use Rattle.g4_recursion.specs.declared.checking.RecursionFault.{RecursionFault}
 use Rattle.g4_recursion.specs.declared.checking.RecursionFault.TheVariants as recursions
 use Rattle.g4_recursion.specs.Checking.{HaveNoFault}

@@ -6,7 +6,7 @@ ghost use Rattle.g4_checks.specs.Checking.{IsChecked};
 
 use crate::fault::CheckFault;
 use g4_recursion::check_recursion;
-use g4_references::check_references;
+use crate::check_references;
 use g4_source::Source;
 use std::alloc::Global;
 

@@ -1,7 +1,7 @@
 -- Symbols that no edge of a parser's network distinguishes.
 use Rattle.std.specs.Prelude.{◌≡◌, ◌≤◌, ◌⊎◌, ◌↔◌, ℕ, List, Some, Contains}
-use Rattle.g4_symbols.specs.declared.symbol.TheConstants.{MOST_TYPES}
-use Rattle.g4_symbols.specs.Symbols.{eof, end_of_list}
+use Rattle.g4_tokens.specs.declared.symbol.TheConstants.{MOST_TYPES}
+use Rattle.g4_tokens.specs.Symbols.{eof, end_of_list}
 use Rattle.g4_net.specs.declared.network.State.TheVariants.{Edge}
 use Rattle.g4_net.specs.Network.{ParserNetwork, state_at}
 

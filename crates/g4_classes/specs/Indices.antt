@@ -1,7 +1,7 @@
 -- The symbols by index, in order.
 use Rattle.std.specs.Prelude.{ℕ, ◌+◌, ◌-◌, List, Option, Some, None, ◌==◌, ◌&&◌, nat_lt, nat_le, if◌then◌else◌, slice_index}
-use Rattle.g4_symbols.specs.declared.symbol.TheConstants.{MOST_TYPES}
-use Rattle.g4_symbols.specs.Symbols.{eof, end_of_list}
+use Rattle.g4_tokens.specs.declared.symbol.TheConstants.{MOST_TYPES}
+use Rattle.g4_tokens.specs.Symbols.{eof, end_of_list}
 use Rattle.g4_classes.specs.declared.index.TheConstants.{EOF_INDEX, END_INDEX}
 
 -- the index of a symbol, of no other number

@@ -2,7 +2,7 @@
 ghost use Rattle.std.specs.Prelude.{◌≡◌, ◌<◌};
 ghost use Rattle.g4_classes.specs.Indices.{index_of as index_in, symbol_at as symbol_in};
 
-use g4_symbols::{END, EOF, MOST_TYPES};
+use g4_tokens::{END, EOF, MOST_TYPES};
 
 /// The index of `EOF`, after those of the token types.
 const EOF_INDEX: usize = 4_096;

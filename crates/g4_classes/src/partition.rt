@@ -7,7 +7,7 @@ ghost use Rattle.g4_classes.specs.Partitions.{Divides, IsDividing, IsPartition, 
 use crate::index::{SYMBOL_COUNT, index_of};
 use crate::least::least_members;
 use g4_net::State;
-use g4_symbols::Symbols;
+use g4_tokens::Symbols;
 use std::alloc::{AllocError, Global};
 
 /// The symbols that a state reads.

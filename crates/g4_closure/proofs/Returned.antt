@@ -4,8 +4,8 @@ use Rattle.g4_stacks.specs.Graph.{Content, HasTops, In}
 use Rattle.g4_net.specs.Configurations.{Config, config}
 use Rattle.g4_net.specs.Leads.{Reaches, here, further}
 use Rattle.g4_net.specs.Network.{ParserNetwork}
-use Rattle.g4_ways.specs.Ways.{EndsAtOnce}
-use Rattle.g4_ways.proofs.Ends.{marked, reaches_top}
+use Rattle.g4_lookahead.specs.Ways.{EndsAtOnce}
+use Rattle.g4_lookahead.proofs.Ends.{marked, reaches_top}
 use Rattle.g4_configs.specs.declared.group.Group.{Group}
 use Rattle.g4_configs.specs.Configs.{IsOfGroup, View}
 use Rattle.g4_configs.specs.Groups.{InGroup, InSome, AreKnown}

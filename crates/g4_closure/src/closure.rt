@@ -14,7 +14,7 @@ ghost use Rattle.g4_net.specs.Network.{state_at};
 use crate::returns::with_returns;
 use g4_configs::{Configs, Group};
 use g4_net::{ParserNetwork, State};
-use g4_symbols::Symbols;
+use g4_tokens::Symbols;
 use std::alloc::{AllocError, Global};
 
 /// How many groups are followed, the newest first, however small the set is.

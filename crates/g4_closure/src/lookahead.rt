@@ -13,7 +13,7 @@ ghost use Rattle.g4_net.specs.Network.{state_at};
 use crate::closure::reach;
 use g4_configs::{Configs, Group};
 use g4_net::{Allowed, ParserNetwork, State};
-use g4_symbols::Symbols;
+use g4_tokens::Symbols;
 use std::alloc::{AllocError, Global};
 
 /// The kept configurations that the groups lead to, the set being empty.

@@ -6,7 +6,7 @@ ghost use Rattle.g4_configs.specs.Groups.{AreKnown};
 
 use g4_configs::{Configs, Group};
 use g4_net::ParserNetwork;
-use g4_ways::ends_at_once;
+use g4_lookahead::ends_at_once;
 use std::alloc::{AllocError, Global};
 use std::collections::BTreeSet;
 

@@ -17,15 +17,15 @@ use Rattle.g4_net.specs.Network.{ParserNetwork, state_at, start_of, end_of}
 use Rattle.g4_net.specs.Proper.{IsOf}
 use Rattle.g4_net.specs.declared.network.State.{State}
 use Rattle.g4_net.specs.declared.network.State.TheVariants.{Call, Decision, End, Level}
-use Rattle.g4_walks.specs.Letters.{NamesRule, TakesSymbol}
-use Rattle.g4_walks.proofs.Along.{exit_edge}
-use Rattle.g4_walks.proofs.OfRules.{RuleHere, count_rules, facts, rule_here}
-use Rattle.g4_walks.proofs.Placed.{IsHere, at_start, at_end, inside}
-use Rattle.g4_walks.proofs.Rewritten.{before_level}
-use Rattle.g4_walks.proofs.RuleEdges.{here_inside, states_of_here}
-use Rattle.g4_walks.proofs.Starting.{TurnsLie}
-use Rattle.g4_walks.proofs.Targets.{LeadsOnlyTo, LeadsAt, target_allowed, within_bodies}
-use Rattle.g4_walks.proofs.Turning.{end_free, shape_start_free}
+use Rattle.g4_derivation.specs.Letters.{NamesRule, TakesSymbol}
+use Rattle.g4_derivation.proofs.Along.{exit_edge}
+use Rattle.g4_derivation.proofs.OfRules.{RuleHere, count_rules, facts, rule_here}
+use Rattle.g4_derivation.proofs.Placed.{IsHere, at_start, at_end, inside}
+use Rattle.g4_derivation.proofs.Rewritten.{before_level}
+use Rattle.g4_derivation.proofs.RuleEdges.{here_inside, states_of_here}
+use Rattle.g4_derivation.proofs.Starting.{TurnsLie}
+use Rattle.g4_derivation.proofs.Targets.{LeadsOnlyTo, LeadsAt, target_allowed, within_bodies}
+use Rattle.g4_derivation.proofs.Turning.{end_free, shape_start_free}
 
 -- turns that are laid out are a loop
 module _ (net : ParserNetwork) (k u m : ℕ) (operators : List (Elements StepIn)) (turns : TurnsLie net k u (u + 1) m operators)

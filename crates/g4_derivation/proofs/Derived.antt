@@ -17,13 +17,13 @@ use Rattle.g4_layout.specs.Built.{IsBuilt}
 use Rattle.g4_layout.specs.Layout.{IsNetworkOf}
 use Rattle.g4_layout.specs.Rules.{rules_of}
 use Rattle.g4_layout.proofs.Callers.{callers_length}
-use Rattle.g4_walks.specs.Walks.{AnyLevel, ReadsLetter, WalksTo}
-use Rattle.g4_walks.proofs.Beginnings.{laid_as, ends_at}
-use Rattle.g4_walks.proofs.Joining.{decide}
-use Rattle.g4_walks.proofs.Words as words
-use Rattle.g4_walks.proofs.Firsts.{rule_leads}
-use Rattle.g4_walks.proofs.Joined.{joined}
-use Rattle.g4_walks.proofs.Spelt as walks
+use Rattle.g4_derivation.specs.Walks.{AnyLevel, ReadsLetter, WalksTo}
+use Rattle.g4_derivation.proofs.Beginnings.{laid_as, ends_at}
+use Rattle.g4_derivation.proofs.Joining.{decide}
+use Rattle.g4_derivation.proofs.Words as words
+use Rattle.g4_derivation.proofs.Firsts.{rule_leads}
+use Rattle.g4_derivation.proofs.Joined.{joined}
+use Rattle.g4_derivation.proofs.Spelt as walks
 use Rattle.g4_derivation.proofs.Covers.{TakesWord, Covers, covers_both, covers_apart, taken_letter, taken_symbol}
 use Rattle.g4_derivation.proofs.Substituted.{one_back, one_on}
 use Rattle.g4_derivation.specs.Spelling.{SpellsRules}

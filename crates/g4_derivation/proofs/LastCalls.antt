@@ -16,7 +16,7 @@ use Rattle.g4_grammar.specs.declared.step.Step.TheVariants as steps
 use Rattle.g4_net.specs.Network.{ParserNetwork, state_at, start_of}
 use Rattle.g4_net.specs.declared.network.State.{State}
 use Rattle.g4_net.specs.declared.network.State.TheVariants.{Call, Empty}
-use Rattle.g4_walks.proofs.Starting.{StartsLie, one_start, several_starts, TurnsLie}
+use Rattle.g4_derivation.proofs.Starting.{StartsLie, one_start, several_starts, TurnsLie}
 
 -- a step that calls at level 0, or not at all
 abbrev pub IsZero : StepIn → Type 0

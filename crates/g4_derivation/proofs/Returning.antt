@@ -25,14 +25,14 @@ use Rattle.g4_net.specs.Network.{ParserNetwork, state_at, start_of, end_of}
 use Rattle.g4_net.specs.Proper.{IsOf}
 use Rattle.g4_net.specs.declared.network.State.{State}
 use Rattle.g4_net.specs.declared.network.State.TheVariants.{Call, Decision, End, Level}
-use Rattle.g4_walks.specs.Alternatives.{each_of}
-use Rattle.g4_walks.proofs.Items.{map_item, item_map, numbered_item, operator_item, primary_item, begins_with_call}
-use Rattle.g4_walks.proofs.KnownStarts.{written_bodies}
-use Rattle.g4_walks.proofs.OfRules.{RuleHere, facts, rule_at, state_here}
-use Rattle.g4_walks.proofs.Placed.{IsHere, at_start, at_end, inside}
-use Rattle.g4_walks.proofs.RuleEdges.{here_inside, states_of_here}
-use Rattle.g4_walks.proofs.Starting.{LoopLies, TurnsLie, loop_lies, rule_starts}
-use Rattle.g4_walks.proofs.Turning.{end_free, shape_start_free}
+use Rattle.g4_derivation.specs.Alternatives.{each_of}
+use Rattle.g4_derivation.proofs.Items.{map_item, item_map, numbered_item, operator_item, primary_item, begins_with_call}
+use Rattle.g4_derivation.proofs.KnownStarts.{written_bodies}
+use Rattle.g4_derivation.proofs.OfRules.{RuleHere, facts, rule_at, state_here}
+use Rattle.g4_derivation.proofs.Placed.{IsHere, at_start, at_end, inside}
+use Rattle.g4_derivation.proofs.RuleEdges.{here_inside, states_of_here}
+use Rattle.g4_derivation.proofs.Starting.{LoopLies, TurnsLie, loop_lies, rule_starts}
+use Rattle.g4_derivation.proofs.Turning.{end_free, shape_start_free}
 use Rattle.g4_derivation.proofs.BuiltLoops as built_loops
 use Rattle.g4_derivation.proofs.LastCalls.{IsZero, plain_is_zero, LastLevelled, all_zero, later_on, with_last, EachLastLevelled, starts_levelled, turns_levelled}
 

@@ -2,7 +2,7 @@
 use Rattle.std.proofs.Common.{◌≡◌, ℕ, List, [], ◌∷◌, ◌++◌, Some, refl, sym, ◌∙◌, ap, subst, append-nil, slice_get}
 use Rattle.g4_source.specs.Elements.{Element, atom, Elements, Alternatives}
 use Rattle.g4_grammar.specs.Derives.{NoCalls, Derives, an_atom, a_call, a_block, left_out, taken, no_turn, a_turn, turns, DerivesAll, nothing, one_more, DerivesOne, this, another}
-use Rattle.g4_walks.proofs.Joined.{joined, joined-append}
+use Rattle.g4_derivation.proofs.Joined.{joined, joined-append}
 
 module _ {A W : Type 0} (Reads : A → List W → Type 0) (Calls : A → ℕ → Type 0) (rules : List (Alternatives A))
     (Letters : A → List (List W) → Type 0) where

@@ -2,7 +2,7 @@
 use Rattle.std.specs.Prelude.{◌≡◌, ℕ, ◌+◌, List, [], ◌∷◌, map, All, Some, Contains}
 use Rattle.std.specs.List.{position}
 use Rattle.std.specs.Str.{bytes_eq}
-use Rattle.g4_symbols.specs.Symbols.{end_of_list}
+use Rattle.g4_tokens.specs.Symbols.{end_of_list}
 use Rattle.g4_source.specs.Elements.{Alternatives, none, atoms_of_either}
 use Rattle.g4_source.specs.declared.rule.ParserRule.{ParserRule}
 use Rattle.g4_source.specs.Rules.{alternatives_of}

@@ -1,7 +1,7 @@
 -- Steps: what they read, which rule they call, and the added rule.
 use Rattle.std.specs.Prelude.{◌≡◌, ℕ, List, [], ◌∷◌, true, None, Contains}
 use Rattle.g4_base.specs.Place.{first_place}
-use Rattle.g4_symbols.specs.Symbols.{end_of_list}
+use Rattle.g4_tokens.specs.Symbols.{end_of_list}
 use Rattle.g4_source.specs.declared.element.Repeat.{Repeat}
 use Rattle.g4_source.specs.declared.element.Repeat.TheVariants.{Star}
 use Rattle.g4_source.specs.Elements.{atom, block, empty, then, Alternatives, only}

@@ -1,7 +1,7 @@
 // What the atoms of rules are in a network, and what is written of a rule's states.
 use g4_base::Sequence;
 use g4_source::ParserRule;
-use g4_symbols::Symbols;
+use g4_tokens::Symbols;
 
 /// What an atom of a rule is in a network over these labels: one step from a state to another.
 #[derive(Drop)]

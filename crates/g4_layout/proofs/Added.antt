@@ -1,6 +1,6 @@
 -- How the added rule is laid out at the front of a network.
 use Rattle.std.proofs.Common.{◌≡◌, ℕ, ◌+◌, List, [], ◌∷◌, None, Some, subst, arith}
-use Rattle.g4_symbols.specs.Symbols.{end_of_list}
+use Rattle.g4_tokens.specs.Symbols.{end_of_list}
 use Rattle.g4_source.specs.Elements.{atom, block, Elements, empty, then, none, or}
 use Rattle.g4_grammar.specs.declared.step.Step.{Step}
 use Rattle.g4_grammar.specs.declared.step.Step.TheVariants as steps

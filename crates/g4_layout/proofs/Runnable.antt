@@ -2,7 +2,7 @@
 use Rattle.std.proofs.Common.{◌≡◌, ℕ, zero, suc, ◌+◌, ◌*◌, ◌<◌, ◌≤◌, inl, inr, List, ◌∷◌, length, map, Some, refl, sym, ◌∙◌, ap, subst, arith, Contains, slice_get}
 use Rattle.std.proofs.lemmas.List.{length-map}
 use Rattle.std.proofs.lemmas.Option.{slice_get_within}
-use Rattle.g4_symbols.specs.Symbols.{end_of_list}
+use Rattle.g4_tokens.specs.Symbols.{end_of_list}
 use Rattle.g4_source.specs.Elements.{Alternatives}
 use Rattle.g4_source.specs.Rules.{alternatives_of}
 use Rattle.g4_grammar.specs.declared.step.Step.{Step}

@@ -18,7 +18,7 @@ ghost use Rattle.g4_net.specs.Configurations.{above_bottom, config};
 ghost use Rattle.g4_net.specs.Leads.{LeadsOn, WellFormed};
 ghost use Rattle.g4_net.specs.Network.{IsReturn, ParserNetwork};
 ghost use Rattle.g4_net.specs.declared.network.Network.{Network};
-ghost use Rattle.g4_symbols.specs.Symbols.{end_of_list};
+ghost use Rattle.g4_tokens.specs.Symbols.{end_of_list};
 ghost use Rattle.g4_net.specs.declared.network.TheConstants.{MOST_STATES};
 
 /// Where no loop has a body that derives the empty word and no rule reaches itself by left calls, and only there, no state

@@ -10,7 +10,7 @@ ghost use Rattle.g4_leftrec.specs.Rewriting.{StepIn, operand_level, operator_ele
 use crate::places::{begins_with_call, place_of_last_call};
 use g4_source::{Alternative, Element, RuleAlternative};
 use g4_grammar::Step;
-use g4_symbols::Symbols;
+use g4_tokens::Symbols;
 use std::alloc::{AllocError, Global};
 
 /// The alternatives of a left-recursive rule so far, with their levels, and the numbers of the primaries.

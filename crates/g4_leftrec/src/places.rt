@@ -6,7 +6,7 @@ ghost use Rattle.g4_leftrec.specs.OwnSteps.{calls, is_silent};
 
 use g4_source::Element;
 use g4_grammar::Step;
-use g4_symbols::Symbols;
+use g4_tokens::Symbols;
 
 /// Whether the step calls the rule.
 fn calls(rule: u32, step: &Step<Symbols>) -> bool

@@ -15,7 +15,7 @@ use crate::kinds::{Kinds, is_left_recursive, kinds_of};
 use g4_base::{Place, Sequence, Text};
 use g4_source::{Alternative, Element, Elements, ParserRule, Repeat, RuleAlternative, Suffix};
 use g4_grammar::{Numbering, Step, StepRule};
-use g4_symbols::Symbols;
+use g4_tokens::Symbols;
 use std::alloc::{AllocError, Global};
 
 /// Rules in the form in which they are laid, and the numbers of their alternatives.

@@ -23,7 +23,7 @@ use Rattle.g4_leftrec.specs.Rewriting.{rewritten, numberings}
 use Rattle.g4_load.specs.Usable.{CanBeBuilt, IsSound}
 use Rattle.g4_layout.specs.Built.{IsBuilt}
 use Rattle.g4_layout.specs.Rules.{rule_number}
-use Rattle.g4_symbols.specs.Symbols.{eof}
+use Rattle.g4_tokens.specs.Symbols.{eof}
 use Rattle.g4_grammar.specs.declared.numbered.Numbered.{Numbered}
 use Rattle.g4_grammar.specs.declared.numbered.NumberedAtom.{NumberedAtom}
 use Rattle.g4_grammar.specs.declared.numbered.TokenName.{TokenName}
@@ -43,12 +43,12 @@ use Rattle.g4_load.specs.Stages.{Gives, Then, stops, goes_on, OfFile, passes, fa
 use Rattle.g4_load.specs.Files.{Files}
 use Rattle.g4_source.specs.InOrder.{rules_of}
 use Rattle.g4_grammar.specs.Written.{RulesAreDefined, RulesCanRun}
-use Rattle.g4_symbols.specs.declared.symbol.TheConstants.{MOST_TYPES}
-use Rattle.g4_commands.specs.Tables.{tables_of}
-use Rattle.g4_commands.specs.declared.tables.CommandTables.{CommandTables}
-use Rattle.g4_lexrules.specs.Rules.{IsLexerRulesOf}
-use Rattle.g4_lexrules.specs.declared.lexer_rules.LexerRules.{LexerRules}
-use Rattle.g4_lexrules.proofs.Checked.{can_be_lexed}
+use Rattle.g4_tokens.specs.declared.symbol.TheConstants.{MOST_TYPES}
+use Rattle.g4_lexer_rules.specs.Tables.{tables_of}
+use Rattle.g4_lexer_rules.specs.declared.tables.CommandTables.{CommandTables}
+use Rattle.g4_lexer_rules.specs.Rules.{IsLexerRulesOf}
+use Rattle.g4_lexer_rules.specs.declared.lexer_rules.LexerRules.{LexerRules}
+use Rattle.g4_lexer_rules.proofs.Checked.{can_be_lexed}
 use Rattle.g4_load.specs.Lexers.{CanBeMade, GivesLexer}
 use Rattle.g4_load.specs.Loading.{Fetches, IsGrammarIn, Checks, Numbers, Loads, rules_of_lexer, loaded_of}
 use Rattle.g4_load.specs.declared.loading.Loaded.{Loaded}

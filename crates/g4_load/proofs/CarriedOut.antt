@@ -13,20 +13,20 @@ use Rattle.g4_forms.specs.Forms.{forms_not_run}
 use Rattle.g4_checks.specs.Checking.{IsChecked}
 use Rattle.g4_grammar.specs.declared.numbered.Numbered.{Numbered}
 use Rattle.g4_grammar.specs.declared.numbered.TokenName.{TokenName}
-use Rattle.g4_references.specs.Checking.{commands_in}
-use Rattle.g4_references.specs.Commands.{all_commands}
+use Rattle.g4_checks.specs.References.{commands_in}
+use Rattle.g4_checks.specs.Commands.{all_commands}
 use Rattle.g4_vocab.specs.Answers.{GivesNumbered}
 use Rattle.g4_vocab.specs.Names.{HasOwnNames}
 use Rattle.g4_vocab.specs.Numbering.{names_of, types_of}
-use Rattle.g4_lexing.specs.declared.command.LexerCommand.{LexerCommand}
-use Rattle.g4_lexing.specs.declared.lexer.Lexer.{Lexer}
+use Rattle.g4_lexer.specs.declared.command.LexerCommand.{LexerCommand}
+use Rattle.g4_lexer.specs.declared.lexer.Lexer.{Lexer}
 use Rattle.g4_net.specs.Network.{ParserNetwork}
-use Rattle.g4_lexnet.specs.Rules.{all_rules, commands_of}
-use Rattle.g4_lexrules.specs.declared.lexer_rules.LexerRules.{LexerRules}
-use Rattle.g4_commands.specs.Commands.{command_of}
-use Rattle.g4_commands.specs.Known.{IsKnown}
-use Rattle.g4_commands.specs.Tables.{tables_of}
-use Rattle.g4_commands.specs.declared.tables.CommandTables.{CommandTables}
+use Rattle.g4_lexer_rules.specs.NetworkRules.{all_rules, commands_of}
+use Rattle.g4_lexer_rules.specs.declared.lexer_rules.LexerRules.{LexerRules}
+use Rattle.g4_lexer_rules.specs.Commands.{command_of}
+use Rattle.g4_lexer_rules.specs.Known.{IsKnown}
+use Rattle.g4_lexer_rules.specs.Tables.{tables_of}
+use Rattle.g4_lexer_rules.specs.declared.tables.CommandTables.{CommandTables}
 use Rattle.g4_load.specs.Building.{Builds, FromGrammar, GivesRewritten, HasLexer, Lays, interpreter_of, laid_of}
 use Rattle.g4_load.specs.Commands.{CarriesOutAll, IsCarriedOut, written_commands}
 use Rattle.g4_load.specs.Faults.{of_build, of_check, of_form, of_name, of_number, of_read}

@@ -17,9 +17,9 @@ use Rattle.g4_source.specs.declared.rule.Rule.{Rule}
 use Rattle.g4_source.specs.declared.rule.Rule.TheVariants.{Parser, Lexer}
 use Rattle.g4_source.specs.declared.source.Source.{Source}
 use Rattle.g4_source.specs.InOrder.{mode_rules, rules_of}
-use Rattle.g4_references.specs.Checking.{HasNoClash, commands_in}
-use Rattle.g4_references.specs.Commands.{all_commands}
-use Rattle.g4_commands.specs.Known.{ArgumentIsUnknownType, IsKnown, TakesNoType, is_token_name}
+use Rattle.g4_checks.specs.References.{HasNoClash, commands_in}
+use Rattle.g4_checks.specs.Commands.{all_commands}
+use Rattle.g4_lexer_rules.specs.Known.{ArgumentIsUnknownType, IsKnown, TakesNoType, is_token_name}
 use Rattle.g4_vocab.specs.Numbering.{all_commanded, argument_name, commanded_by, commanded_token, names_of, types_of}
 use Rattle.g4_vocab.specs.declared.types.Entry.{Entry}
 use Rattle.g4_load.proofs.TokenNames.{HasSymbol, commanded_have_symbols, is_name}

@@ -1,18 +1,18 @@
 -- The lexer of a grammar can be lexed with, and gives token types.
 use Rattle.std.proofs.Common.{◌≡◌, ◌≤◌, ℕ, zero, suc, List, [], ◌∷◌, All, get_or, sym, ap, subst, arith}
 use Rattle.std.proofs.lemmas.List.Elements.{All-nil, All-head, All-tail}
-use Rattle.g4_symbols.specs.declared.symbol.TheConstants.{MOST_TYPES}
+use Rattle.g4_tokens.specs.declared.symbol.TheConstants.{MOST_TYPES}
 use Rattle.g4_source.specs.declared.rule.LexerRule.{LexerRule}
 use Rattle.g4_source.specs.declared.source.Mode.{Mode}
 use Rattle.g4_ordered.specs.Network.{IsLexable}
-use Rattle.g4_lexing.specs.declared.command.LexerCommand.{LexerCommand}
-use Rattle.g4_lexing.specs.declared.lexer.Lexer.{Lexer}
-use Rattle.g4_lexing.specs.Lexers.{GivesTokenType, HasTokenTypes, of_alternative}
-use Rattle.g4_commands.specs.declared.tables.CommandTables.{CommandTables}
-use Rattle.g4_lexnet.proofs.Lexed.{is_lexable}
-use Rattle.g4_lexnet.specs.LexNets.{IsLexNet}
-use Rattle.g4_lexnet.specs.declared.lex_net.LexNet.{LexNet}
-use Rattle.g4_lexrules.specs.declared.lexer_rules.LexerRules.{LexerRules}
+use Rattle.g4_lexer.specs.declared.command.LexerCommand.{LexerCommand}
+use Rattle.g4_lexer.specs.declared.lexer.Lexer.{Lexer}
+use Rattle.g4_lexer.specs.Lexers.{GivesTokenType, HasTokenTypes, of_alternative}
+use Rattle.g4_lexer_rules.specs.declared.tables.CommandTables.{CommandTables}
+use Rattle.g4_lexer_rules.proofs.Lexed.{is_lexable}
+use Rattle.g4_lexer_rules.specs.LexNets.{IsLexNet}
+use Rattle.g4_lexer_rules.specs.declared.lex_net.LexNet.{LexNet}
+use Rattle.g4_lexer_rules.specs.declared.lexer_rules.LexerRules.{LexerRules}
 use Rattle.g4_load.specs.Lexers.{CanBeMade, lexer_with}
 
 -- the network is that of these rules, where it is that of equal ones

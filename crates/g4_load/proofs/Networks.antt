@@ -1,6 +1,6 @@
 -- The network of what is built for parsing is that of the grammar's rules, as they are run, from the start rule.
 use Rattle.std.proofs.Common.{◌≡◌, ℕ, List, [], ◌∷◌, Ok, sym, ap, subst}
-use Rattle.g4_symbols.specs.Symbols.{eof}
+use Rattle.g4_tokens.specs.Symbols.{eof}
 use Rattle.g4_layout.specs.Built.{IsBuilt}
 use Rattle.g4_leftrec.specs.Rewriting.{numberings, rewritten}
 use Rattle.g4_load.specs.Building.{Builds, FromGrammar, GivesRewritten, HasLexer, Lays, interpreter_of, laid_of}

@@ -1,6 +1,6 @@
 -- A grammar file gives at most one grammar, and at most one interpreter and one listing from a start rule.
 use Rattle.std.proofs.Common.{◌≡◌, ℕ, List, [], ◌∷◌, length, Bool, true, false, Some, Result, Ok, Err, ap, sym, ◌∙◌, refl, subst, arith}
-use Rattle.g4_symbols.specs.Symbols.{eof}
+use Rattle.g4_tokens.specs.Symbols.{eof}
 use Rattle.g4_grammar.specs.StepRules.{StepRule}
 use Rattle.g4_grammar.specs.declared.step.Numbering.{Numbering}
 use Rattle.g4_leftrec.specs.Rewriting.{rewritten, numberings}
@@ -28,10 +28,10 @@ use Rattle.g4_checks.proofs.OneCheck.{one_check}
 use Rattle.g4_build.specs.Answers.{GivesNetwork}
 use Rattle.g4_build.specs.declared.builder.BuildFault.TheVariants as building
 use Rattle.g4_layout.proofs.OneNetwork.{one_network}
-use Rattle.g4_lexnet.proofs.Laws.{one_lex_net}
-use Rattle.g4_lexnet.specs.declared.lex_net.LexNet.{LexNet}
-use Rattle.g4_commands.specs.declared.tables.CommandTables.{CommandTables}
-use Rattle.g4_lexrules.specs.declared.lexer_rules.LexerRules.{LexerRules}
+use Rattle.g4_lexer_rules.proofs.Laws.{one_lex_net}
+use Rattle.g4_lexer_rules.specs.declared.lex_net.LexNet.{LexNet}
+use Rattle.g4_lexer_rules.specs.declared.tables.CommandTables.{CommandTables}
+use Rattle.g4_lexer_rules.specs.declared.lexer_rules.LexerRules.{LexerRules}
 use Rattle.g4_load.specs.Faults.{of_read, of_form, of_name, of_number, of_check, of_build}
 use Rattle.g4_load.specs.Stages.{Gives, Then, stops, goes_on, OfFile}
 use Rattle.g4_load.specs.declared.interpreter.Interpreter.{Interpreter}

@@ -8,7 +8,7 @@ use Rattle.g4_source.specs.Rules.{lexer_rules, parser_rules}
 use Rattle.g4_source.specs.declared.atom.TokenReference.{TokenReference}
 use Rattle.g4_source.specs.declared.atom.TokenReference.TheVariants as refs
 use Rattle.g4_source.specs.declared.rule.Rule.{Rule}
-use Rattle.g4_commands.specs.Known.{is_token_name}
+use Rattle.g4_lexer_rules.specs.Known.{is_token_name}
 use Rattle.g4_vocab.specs.Numbering.{all_atoms, all_commanded, all_references, names_of, own_literal, rule_token, token_lexers, token_name, types_of}
 use Rattle.g4_vocab.specs.Types.{Wanted, greatest_type, is_key, next_entry, number_of, with_key, with_keys}
 use Rattle.g4_vocab.specs.declared.types.Entry.{Entry}

@@ -11,13 +11,13 @@ use Rattle.g4_source.specs.declared.rule.Rule.{Rule}
 use Rattle.g4_source.specs.declared.rule.Rule.TheVariants as kinds
 use Rattle.g4_source.specs.declared.source.Mode.{Mode}
 use Rattle.g4_source.specs.declared.source.Source.{Source}
-use Rattle.g4_references.specs.Commands.{all_commands}
+use Rattle.g4_checks.specs.Commands.{all_commands}
 use Rattle.g4_vocab.specs.Numbering.{literal_rule, types_of}
 use Rattle.g4_vocab.specs.declared.types.Entry.{Entry}
 use Rattle.g4_vocab.specs.declared.types.Key.{Key}
 use Rattle.g4_vocab.specs.declared.types.Key.TheVariants as keys
-use Rattle.g4_lexnet.specs.Rules.{all_rules, commands_of, rules_of_modes}
-use Rattle.g4_lexrules.specs.Rules.{lexer_modes, literal_tokens, rule_of_token}
+use Rattle.g4_lexer_rules.specs.NetworkRules.{all_rules, commands_of, rules_of_modes}
+use Rattle.g4_lexer_rules.specs.Rules.{lexer_modes, literal_tokens, rule_of_token}
 use Rattle.g4_source.proofs.Parts.{All-front, All-rest}
 
 module _ (P : Command → Type 0) where

@@ -1,6 +1,6 @@
 -- A grammar is built: it is loaded, and its networks are laid.
 use Rattle.std.specs.Prelude.{◌≡◌, ℕ, List, [], map, Result, Ok}
-use Rattle.g4_lexing.specs.declared.lexer.Lexer.{Lexer}
+use Rattle.g4_lexer.specs.declared.lexer.Lexer.{Lexer}
 use Rattle.g4_grammar.specs.StepRules.{StepRule}
 use Rattle.g4_net.specs.Network.{ParserNetwork}
 use Rattle.g4_resolve.specs.Resolving.{resolved_rule}

@@ -1,9 +1,9 @@
 -- The commands of a grammar's lexer rules, and what its lexer has of them.
 use Rattle.std.specs.Prelude.{◌≡◌, List, Some, IsSome, map}
 use Rattle.g4_source.specs.declared.rule.Command.{Command}
-use Rattle.g4_lexing.specs.declared.lexer.Lexer.{Lexer}
-use Rattle.g4_lexnet.specs.Rules.{all_rules, commands_of}
-use Rattle.g4_commands.specs.Commands.{command_of}
+use Rattle.g4_lexer.specs.declared.lexer.Lexer.{Lexer}
+use Rattle.g4_lexer_rules.specs.NetworkRules.{all_rules, commands_of}
+use Rattle.g4_lexer_rules.specs.Commands.{command_of}
 use Rattle.g4_load.specs.declared.loading.Loaded.{Loaded}
 
 -- the command does something in the lexer of the grammar

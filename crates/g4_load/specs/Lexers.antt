@@ -1,17 +1,17 @@
 -- The lexer of a grammar, as files are lexed by it.
 use Rattle.std.specs.Prelude.{◌≡◌, ◌<◌, ◌≤◌, ℕ, All, List, map, Result, Ok, Err}
 use Rattle.std.specs.List.{filter_map}
-use Rattle.g4_symbols.specs.declared.symbol.TheConstants.{MOST_TYPES}
+use Rattle.g4_tokens.specs.declared.symbol.TheConstants.{MOST_TYPES}
 use Rattle.g4_source.specs.Blocks.{LexerRulesAreFull, ModesAreFull}
-use Rattle.g4_lexnet.specs.Lexable.{CanBeLexed}
+use Rattle.g4_lexer_rules.specs.Lexable.{CanBeLexed}
 use Rattle.g4_net.specs.declared.network.TheConstants.{MOST_STATES}
-use Rattle.g4_commands.specs.Commands.{command_of}
-use Rattle.g4_commands.specs.declared.tables.CommandTables.{CommandTables}
-use Rattle.g4_lexing.specs.declared.lexer.Lexer.{Lexer}
-use Rattle.g4_lexnet.specs.LexNets.{IsLexNet}
-use Rattle.g4_lexnet.specs.Rules.{all_rules, lexer_states}
-use Rattle.g4_lexnet.specs.declared.lex_net.LexNet.{LexNet}
-use Rattle.g4_lexrules.specs.declared.lexer_rules.LexerRules.{LexerRules}
+use Rattle.g4_lexer_rules.specs.Commands.{command_of}
+use Rattle.g4_lexer_rules.specs.declared.tables.CommandTables.{CommandTables}
+use Rattle.g4_lexer.specs.declared.lexer.Lexer.{Lexer}
+use Rattle.g4_lexer_rules.specs.LexNets.{IsLexNet}
+use Rattle.g4_lexer_rules.specs.NetworkRules.{all_rules, lexer_states}
+use Rattle.g4_lexer_rules.specs.declared.lex_net.LexNet.{LexNet}
+use Rattle.g4_lexer_rules.specs.declared.lexer_rules.LexerRules.{LexerRules}
 use Rattle.g4_load.specs.declared.fault.GrammarFault.{GrammarFault}
 use Rattle.g4_load.specs.declared.fault.GrammarFault.TheVariants as faults
 

@@ -9,9 +9,9 @@ use Rattle.g4_vocab.specs.Names.{HasOwnNames}
 use Rattle.g4_vocab.specs.Answers.{GivesNumbered}
 use Rattle.g4_checks.specs.Checking.{IsChecked}
 use Rattle.g4_base.specs.declared.limits.TheConstants.{MOST_BYTES}
-use Rattle.g4_commands.specs.Tables.{tables_of}
-use Rattle.g4_lexrules.specs.Rules.{lexer_modes, types_of_rules, literal_tokens, rule_of_token}
-use Rattle.g4_lexrules.specs.declared.lexer_rules.LexerRules.{LexerRules}
+use Rattle.g4_lexer_rules.specs.Tables.{tables_of}
+use Rattle.g4_lexer_rules.specs.Rules.{lexer_modes, types_of_rules, literal_tokens, rule_of_token}
+use Rattle.g4_lexer_rules.specs.declared.lexer_rules.LexerRules.{LexerRules}
 use Rattle.g4_load.specs.declared.loading.Loaded.{Loaded}
 use Rattle.g4_load.specs.Faults.{of_read, of_form, of_name, of_number, of_check}
 use Rattle.g4_load.specs.Files.{Files}

@@ -1,12 +1,12 @@
 -- What laying networks asks of a grammar, and parsing of an interpreter.
 use Rattle.std.specs.Prelude.{◌≤◌, ℕ, List, [], ◌∷◌, All, length}
-use Rattle.g4_symbols.specs.Symbols.{eof}
+use Rattle.g4_tokens.specs.Symbols.{eof}
 use Rattle.g4_source.specs.Blocks.{ParserRulesAreFull}
 use Rattle.g4_grammar.specs.NumberedRules.{NumberedRuleIsUntested, NumberedRulesAreDefined, NumberedRulesCanRun, RuleLeavesEnd}
 use Rattle.g4_grammar.specs.StepRules.{StepRule, CanBeRewritten}
 use Rattle.g4_net.specs.Network.{ParserNetwork}
 use Rattle.g4_ordered.specs.Network.{IsLexable}
-use Rattle.g4_lexing.specs.Lexers.{HasTokenTypes}
+use Rattle.g4_lexer.specs.Lexers.{HasTokenTypes}
 use Rattle.g4_vocab.specs.declared.fault.TheConstants.{MOST_RULES}
 use Rattle.g4_net.specs.AddedRule.{IsReady}
 use Rattle.g4_layout.specs.Built.{IsBuilt}

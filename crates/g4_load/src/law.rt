@@ -1,6 +1,6 @@
 // What holds of all grammars in files.
 ghost use Rattle.std.specs.Prelude.{◌≡◌, ℕ, All, List, Ok, Result};
-ghost use Rattle.g4_references.specs.Checking.{commands_in};
+ghost use Rattle.g4_checks.specs.References.{commands_in};
 ghost use Rattle.g4_source.specs.declared.source.Source.{Source};
 ghost use Rattle.g4_load.specs.Building.{Builds};
 ghost use Rattle.g4_load.specs.Commands.{CarriesOutAll, IsCarriedOut};
@@ -11,7 +11,7 @@ ghost use Rattle.g4_load.specs.declared.interpreter.Interpreter.{Interpreter as 
 ghost use Rattle.g4_load.specs.declared.loading.Loaded.{Loaded as Grammar};
 ghost use Rattle.g4_load.specs.declared.stop.Stop.{Stop};
 
-use g4_commands::known_commands_are_carried_out;
+use g4_lexer_rules::known_commands_are_carried_out;
 
 /// A file is loaded in at most one way, or stops a command line in at most one way.
 pub fn one_loaded()

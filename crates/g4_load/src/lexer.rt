@@ -1,17 +1,15 @@
 // The lexer of a grammar: its network, and what is known of its rules.
 ghost use Rattle.std.specs.Prelude.{◌≡◌, ◌≤◌, All, IfOk};
-ghost use Rattle.g4_symbols.specs.declared.symbol.TheConstants.{MOST_TYPES};
-ghost use Rattle.g4_lexing.specs.Lexers.{GivesTokenType, HasTokenTypes};
+ghost use Rattle.g4_tokens.specs.declared.symbol.TheConstants.{MOST_TYPES};
+ghost use Rattle.g4_lexer.specs.Lexers.{GivesTokenType, HasTokenTypes};
 ghost use Rattle.g4_load.specs.Lexers.{CanBeMade, GivesLexer, lexer_with};
 ghost use Rattle.g4_load.specs.Stages.{IsAnswerOf};
 ghost use Rattle.g4_ordered.specs.Network.{IsLexable};
 
 use crate::fault::{CheckError, GrammarFault};
 use g4_base::Sequence;
-use g4_commands::{CommandTables, lexer_commands};
-use g4_lexing::Lexer;
-use g4_lexnet::{LexFault, LexNet, build_lexer};
-use g4_lexrules::LexerRules;
+use g4_lexer_rules::{CommandTables, LexFault, LexNet, LexerRules, build_lexer, lexer_commands};
+use g4_lexer::Lexer;
 use std::alloc::{AllocError, Global};
 
 /// The lexer by a network, the token types of its rules, and what their commands name.

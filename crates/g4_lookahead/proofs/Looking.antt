@@ -1,13 +1,13 @@
 -- What a loop over the tokens keeps, with SLL and with full stacks.
 use Rattle.std.proofs.Common.{◌≡◌, ◌⊎◌, inl, inr, ℕ, ◌+◌, ◌<◌, ◌≤◌, List, [], ◌∷◌, drop, length, get_or, sym, ap, subst, arith, add-one, drop-cons, Contains}
 use Rattle.std.proofs.lemmas.List.{drop_all}
-use Rattle.g4_symbols.specs.Symbols.{end_of_list}
+use Rattle.g4_tokens.specs.Symbols.{end_of_list}
 use Rattle.g4_net.specs.Network.{ParserNetwork}
-use Rattle.g4_token_list.specs.declared.token.Token.{Token}
+use Rattle.g4_tokens.specs.declared.token.Token.{Token}
 use Rattle.g4_net.specs.AddedRule.{IsRunnable}
 use Rattle.g4_net.specs.Configurations.{Stack, Config, IsWithin}
 use Rattle.g4_net.specs.Lookahead.{Start, Next}
-use Rattle.g4_token_list.specs.TokenList.{word_of}
+use Rattle.g4_tokens.specs.TokenList.{word_of}
 use Rattle.g4_net.proofs.Pigeons.{In-from, In-to}
 use Rattle.g4_lookahead.proofs.Apart.{StandsApart, Stands, stands_start, stands_next, last}
 use Rattle.g4_lookahead.proofs.Judging.{AreSame}

@@ -1,1 +1,4 @@
+pub mod Covering
 pub mod EndOfList
+pub mod Near
+pub mod Ways

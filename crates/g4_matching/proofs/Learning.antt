@@ -9,7 +9,7 @@ use Rattle.g4_ordered.specs.Network.{LexerNetwork}
 use Rattle.g4_ordered.specs.Configurations.{LexerConfig}
 use Rattle.g4_ordered.specs.Leads.{ReadsTo}
 use Rattle.g4_ordered.specs.Lists.{ReadAll, all_read, taken, refused}
-use Rattle.g4_char_classes.specs.Classes.{AreAlike, AreAlikeBy, class_in}
+use Rattle.g4_matching.specs.Classes.{AreAlike, AreAlikeBy, class_in}
 use Rattle.g4_matching.specs.declared.learned.Learned.{Learned}
 use Rattle.g4_matching.specs.Automaton.{HasList, StepsTo, Begins, AreLearned, cell_of, class_count, starts_in}
 use Rattle.g4_matching.specs.Cells.{IsNoted}

@@ -5,7 +5,7 @@ use Rattle.g4_ordered.specs.Network.{LexerNetwork}
 use Rattle.g4_ordered.specs.Configurations.{LexerConfig}
 use Rattle.g4_ordered.specs.Starts.{starts_of}
 use Rattle.g4_ordered.specs.Lists.{ListOf, Never}
-use Rattle.g4_char_classes.specs.Classes.{AreAlikeBy, class_in}
+use Rattle.g4_matching.specs.Classes.{AreAlikeBy, class_in}
 use Rattle.g4_matching.specs.declared.automaton.Automaton.{Automaton}
 use Rattle.g4_matching.specs.declared.entry.Entry.{Entry}
 use Rattle.g4_matching.specs.declared.learned.Learned.{Learned}

@@ -11,7 +11,7 @@ use crate::learned::{Learned, are_same, earlier_than, hash_of};
 use crate::listing::Listing;
 use crate::modes::Modes;
 use crate::rule_end::RuleEnd;
-use g4_char_classes::CharClasses;
+use crate::CharClasses;
 use std::alloc::{AllocError, Global};
 use std::collections::BTreeMap;
 

@@ -1,8 +1,11 @@
-// The match at the front of a text by a lexer's ordered list. Lists are learned as texts are read.
+// The next match of a lexer: the best of the ordered list of its network, by lists that are learned as they are made.
+// Lists are kept by the classes of characters that the network's edges distinguish.
 #![tactic(auto)]
 
 mod automaton;
+mod bounds;
 mod cells;
+mod classes;
 mod entry;
 mod expanding;
 mod found;
@@ -17,5 +20,6 @@ mod rule_end;
 mod waiting;
 mod walking;
 
+pub use classes::CharClasses;
 pub use found::Match;
 pub use matcher::Matcher;

@@ -1,7 +1,7 @@
 -- Symbols and sets of symbols as they are shown.
 use Rattle.std.specs.Prelude.{ℕ, ◌-◌, List, [], ◌∷◌, ◌++◌, Option, Some, None, cond, ◌==◌, codes, slice_get}
 use Rattle.std.specs.List.{flat_map}
-use Rattle.g4_symbols.specs.Symbols.{eof, end_of_list}
+use Rattle.g4_tokens.specs.Symbols.{eof, end_of_list}
 
 -- a text, or nothing
 abbrev pub or_nothing : Option (List ℕ) → List ℕ

@@ -6,7 +6,7 @@ ghost use Rattle.g4_netlist.specs.Listing.{name_of, spaced, state_line, state_te
 use crate::shown::{push, push_set};
 use g4_base::Text;
 use g4_net::State;
-use g4_symbols::Symbols;
+use g4_tokens::Symbols;
 use std::alloc::{AllocError, Global};
 
 /// Adds the name of a rule: rule 0 is the added rule `S'`, and these are the names of the rules from 1 on.

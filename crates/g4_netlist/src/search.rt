@@ -4,7 +4,7 @@ ghost use Rattle.g4_net.specs.Network.{ParserNetwork as Net, state_at};
 ghost use Rattle.g4_netlist.specs.Searching.{AreMarks, IsNew, IsUnderWay, targets_by, targets_of, work_left};
 
 use g4_net::{ParserNetwork, State};
-use g4_symbols::Symbols;
+use g4_tokens::Symbols;
 use std::alloc::{AllocError, Global};
 use std::slice;
 

@@ -3,7 +3,7 @@ ghost use Rattle.std.specs.Prelude.{◌≡◌, ◌++◌, ◌-◌, OnOk};
 ghost use Rattle.g4_netlist.specs.Shown.{more_symbols, shown_set, shown_symbol};
 
 use g4_base::Text;
-use g4_symbols::{END, EOF};
+use g4_tokens::{END, EOF};
 use std::alloc::AllocError;
 
 /// Adds a text.

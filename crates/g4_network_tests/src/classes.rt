@@ -5,7 +5,7 @@ use crate::rows::{answered, cut, number, numbers, push_row};
 use g4_base::Sequence;
 use g4_classes::{Classes, classes_of};
 use g4_net::{ParserNetwork, State};
-use g4_symbols::{END, EOF, Symbols};
+use g4_tokens::{END, EOF, Symbols};
 use std::alloc::{AllocError, Global};
 use std::collections::BTreeSet;
 use std::test::Fail;

@@ -1,5 +1,5 @@
 // Tables that are texts: each line is a row.
-use g4_symbols::{END, EOF, MOST_TYPES};
+use g4_tokens::{END, EOF, MOST_TYPES};
 use std::alloc::{AllocError, Global};
 
 /// What a row asks, and the answer; no answer is empty.

@@ -10,7 +10,7 @@ use Rattle.g4_parse.specs.declared.parser.ParseFault.{ParseFault}
 use Rattle.g4_parse.specs.declared.parser.ParseFault.TheVariants.{NoViable, Mismatch, FailedPredicate, TooDeep, NoMemory}
 use Rattle.g4_run.specs.Running.{Ending, Ends, parsed, not_viable, mismatch, failed_predicate, too_deep}
 use Rattle.g4_run.proofs.Derived.{derived_ends, tree_derives}
-use Rattle.g4_token_list.specs.TokenList.{EndsInEnd}
+use Rattle.g4_tokens.specs.TokenList.{EndsInEnd}
 use Rattle.g4_trees.specs.Trees.{Tree}
 use Rattle.g4_trees.specs.declared.tree.Item.{Item}
 

@@ -11,9 +11,9 @@ use Rattle.g4_net.specs.Proper.{IsOf}
 use Rattle.g4_net.specs.Proper as proper
 use Rattle.g4_layout.specs.Built.{IsBuilt}
 use Rattle.g4_leftrec.specs.Rewriting.{rewritten, numberings}
-use Rattle.g4_walks.specs.Alternatives.{all_numberings, IsOuterStart, IsNoLevel}
-use Rattle.g4_walks.specs.Walks.{NoLevel, MovesBy}
-use Rattle.g4_walks.proofs.Rewritten.{starts_once, starts_several, level_begins, before_level, unbegun, never_to_outer_start}
+use Rattle.g4_derivation.specs.Alternatives.{all_numberings, IsOuterStart, IsNoLevel}
+use Rattle.g4_derivation.specs.Walks.{NoLevel, MovesBy}
+use Rattle.g4_derivation.proofs.Rewritten.{starts_once, starts_several, level_begins, before_level, unbegun, never_to_outer_start}
 use Rattle.g4_trees.specs.declared.tree.Item.{Item}
 use Rattle.g4_trees.specs.declared.tree.Item.TheVariants as items
 use Rattle.g4_trees.specs.Trees.{Forest, no_tree, only}

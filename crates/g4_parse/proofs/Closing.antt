@@ -1,6 +1,6 @@
 -- Of a token list that is parsed, nothing is left out of the tree but what ends the list.
 use Rattle.std.proofs.Common.{◌≡◌, ◌⊎◌, inl, inr, ℕ, ◌+◌, ◌*◌, List, [], ◌∷◌, length, drop, Option, Some, None, refl, sym, ◌∙◌, ap, subst, arith, Contains, Result, Ok, Err, IfOk}
-use Rattle.g4_symbols.specs.Symbols.{end_of_list}
+use Rattle.g4_tokens.specs.Symbols.{end_of_list}
 use Rattle.g4_grammar.specs.StepRules.{StepRule, CanBeRewritten}
 use Rattle.g4_net.specs.declared.network.State.{State}
 use Rattle.g4_net.specs.declared.network.State.TheVariants.{Decision, End, Edge, Call, Predicate, Level, Action, Empty}
@@ -9,7 +9,7 @@ use Rattle.g4_net.specs.Proper.{IsProper}
 use Rattle.g4_layout.specs.Built.{IsBuilt}
 use Rattle.g4_layout.specs.Rules.{rule_number}
 use Rattle.g4_leftrec.specs.Rewriting.{rewritten, numberings}
-use Rattle.g4_token_list.specs.TokenList.{EndsInEnd}
+use Rattle.g4_tokens.specs.TokenList.{EndsInEnd}
 use Rattle.g4_trees.specs.declared.tree.Item.{Item}
 use Rattle.g4_trees.specs.Trees.{Tree, Forest, no_tree, and_then, only, tokens_of}
 use Rattle.g4_run.proofs.Closing.{closing_left, returns_to_loop}

@@ -7,7 +7,7 @@ use Rattle.g4_net.specs.Network.{ParserNetwork, state_at, written_at}
 use Rattle.g4_layout.specs.Built.{IsBuilt}
 use Rattle.g4_layout.specs.Rules.{rule_number}
 use Rattle.g4_leftrec.specs.Rewriting.{rewritten, numberings}
-use Rattle.g4_token_list.specs.TokenList.{EndsInEnd}
+use Rattle.g4_tokens.specs.TokenList.{EndsInEnd}
 use Rattle.g4_trees.specs.declared.tree.Item.{Item}
 use Rattle.g4_trees.specs.Trees.{Tree, node, Forest, no_tree, a_tree, and_then, only, items_of, tokens_of_all, leaf}
 use Rattle.g4_tree_check.specs.TreesOf.{ArePlaced, Conforms, IsPlaced, IsTreeOf}

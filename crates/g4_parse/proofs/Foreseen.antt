@@ -5,7 +5,7 @@ use Rattle.g4_net.specs.declared.network.State.TheVariants.{Decision, End, Edge,
 use Rattle.g4_net.specs.AddedRule.{IsRunnable}
 use Rattle.g4_net.specs.Allowed.{Allows}
 use Rattle.g4_net.specs.Network.{ParserNetwork, state_at}
-use Rattle.g4_token_list.specs.TokenList.{EndsInEnd}
+use Rattle.g4_tokens.specs.TokenList.{EndsInEnd}
 use Rattle.g4_trees.specs.Trees.{Tree}
 use Rattle.g4_parse.specs.Standing.{farthest}
 use Rattle.g4_parse.specs.Foreseen.{ForeseesBy}

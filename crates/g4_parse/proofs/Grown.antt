@@ -2,7 +2,7 @@
 use Rattle.std.proofs.Common.{◌≡◌, ◌∷◌, [], ◌++◌, ◌-◌, ℕ, List, length, map, take, refl, ◌∙◌, ap, arith, length-append, reverse, cond, ◌==◌}
 use Rattle.std.proofs.lemmas.List.{reverse-append, take_at}
 use Rattle.g4_trees.specs.Trees.{Tree}
-use Rattle.g4_tree_builder.specs.Growing.{with_tree, with_alternative, with_close, with_wrap}
+use Rattle.g4_trees.specs.Growing.{with_tree, with_alternative, with_close, with_wrap}
 use Rattle.g4_run.specs.Running.{Frame, Run, with_child, with_alt, wrapped, node_of, backs}
 use Rattle.g4_parse.specs.declared.parser.Opened.{Opened}
 use Rattle.g4_parse.specs.Standing.{returns_of, opened_of, grown, open_node}

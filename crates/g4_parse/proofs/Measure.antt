@@ -7,7 +7,7 @@ use Rattle.g4_net.specs.Configurations.{Config, config, above_bottom}
 use Rattle.g4_net.specs.Network.{ParserNetwork, state_at}
 use Rattle.g4_net.specs.Leads.{WellFormed}
 use Rattle.g4_net.specs.AddedRule.{IsRunnable}
-use Rattle.g4_token_list.specs.TokenList.{EndsInEnd}
+use Rattle.g4_tokens.specs.TokenList.{EndsInEnd}
 use Rattle.g4_net.proofs.Ranks.{IsShort, size, rank, rank_small, rank_falls}
 use Rattle.g4_lookahead.proofs.Proper.{proper_within}
 use Rattle.g4_run.specs.Running.{Frame, Run, backs}

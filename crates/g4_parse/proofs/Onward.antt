@@ -3,13 +3,13 @@ use Rattle.std.proofs.Common.{◌≡◌, ◌<◌, [], ℕ, List, length, reverse
 use Rattle.std.specs.Prelude.{Option, Some, None, Ok, Err, Bool, false}
 use Rattle.g4_net.specs.declared.network.State.{State}
 use Rattle.g4_net.specs.declared.network.State.TheVariants.{End}
-use Rattle.g4_token_list.specs.declared.token.Token.{Token}
+use Rattle.g4_tokens.specs.declared.token.Token.{Token}
 use Rattle.g4_net.specs.Network.{ParserNetwork, state_at}
 use Rattle.g4_net.specs.AddedRule.{IsRunnable}
-use Rattle.g4_token_list.specs.TokenList.{word_of, EndsInEnd}
+use Rattle.g4_tokens.specs.TokenList.{word_of, EndsInEnd}
 use Rattle.g4_trees.specs.declared.tree.Item.{Item}
 use Rattle.g4_trees.specs.Trees.{Tree, Forest, only, items_of, items_of_all}
-use Rattle.g4_tree_builder.specs.Kept.{HasGrown}
+use Rattle.g4_trees.specs.Kept.{HasGrown}
 use Rattle.g4_parse.specs.declared.parser.Choosing.{Choosing}
 use Rattle.g4_parse.specs.declared.parser.Choosing.TheVariants.{Exact}
 use Rattle.g4_parse.specs.declared.parser.ParseFault.{ParseFault}

@@ -15,9 +15,9 @@ use Rattle.g4_layout.specs.Built.{IsBuilt}
 use Rattle.g4_layout.specs.Callers.{returns_of}
 use Rattle.g4_leftrec.specs.Rewriting.{rewritten, numberings, formed}
 use Rattle.g4_lookahead.proofs.Apart.{split, calls_outside}
-use Rattle.g4_walks.specs.Alternatives.{IsNoLevel}
-use Rattle.g4_walks.specs.Walks.{NoLevel, MovesBy}
-use Rattle.g4_walks.proofs.Rewritten.{before_level, never_to_outer_start}
+use Rattle.g4_derivation.specs.Alternatives.{IsNoLevel}
+use Rattle.g4_derivation.specs.Walks.{NoLevel, MovesBy}
+use Rattle.g4_derivation.proofs.Rewritten.{before_level, never_to_outer_start}
 use Rattle.g4_trees.specs.declared.tree.Item.{Item}
 use Rattle.g4_trees.specs.declared.tree.Item.TheVariants as items
 use Rattle.g4_trees.specs.Trees.{leaf, no_tree, and_then, only}

@@ -10,10 +10,10 @@ use Rattle.g4_grammar.specs.StepRules.{StepRule}
 use Rattle.g4_net.specs.declared.network.State.{State}
 use Rattle.g4_net.specs.declared.network.State.TheVariants.{End}
 use Rattle.g4_net.specs.Network.{ParserNetwork, state_at}
-use Rattle.g4_walks.specs.Alternatives.{IsWrittenAs}
-use Rattle.g4_walks.specs.Spelling.{IsSpelled}
-use Rattle.g4_walks.specs.Walks.{NoLevel, ReadsLetter, MovesBy, Walk, WalksTo, stays, goes}
-use Rattle.g4_walks.proofs.Beginnings.{item_of_alternative}
+use Rattle.g4_derivation.specs.Alternatives.{IsWrittenAs}
+use Rattle.g4_derivation.specs.WalkSpelling.{IsSpelled}
+use Rattle.g4_derivation.specs.Walks.{NoLevel, ReadsLetter, MovesBy, Walk, WalksTo, stays, goes}
+use Rattle.g4_derivation.proofs.Beginnings.{item_of_alternative}
 use Rattle.g4_trees.specs.declared.tree.Item.{Item}
 use Rattle.g4_trees.specs.declared.tree.Item.TheVariants as items
 use Rattle.g4_tree_check.specs.TreesOf.{IsTakenAt, ReadsChildren, IsBody, DerivesChildren}

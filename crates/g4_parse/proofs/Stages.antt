@@ -4,7 +4,7 @@ use Rattle.std.specs.Prelude.{Option, Some, None, slice_get}
 use Rattle.std.specs.List.{Contains}
 use Rattle.std.proofs.lemmas.Option.{slice_get_within, slice_get-get_or}
 use Rattle.std.proofs.lemmas.List.Elements.{All-head}
-use Rattle.g4_symbols.specs.Symbols.{end_of_list}
+use Rattle.g4_tokens.specs.Symbols.{end_of_list}
 use Rattle.g4_net.specs.declared.network.State.{State}
 use Rattle.g4_net.specs.declared.network.State.TheVariants.{Decision, End, Edge, Call, Predicate, Level, Action, Empty}
 use Rattle.g4_net.specs.Network.{ParserNetwork, state_at, start_of, written_at}
@@ -12,7 +12,7 @@ use Rattle.g4_net.specs.Leads.{IsTarget}
 use Rattle.g4_net.specs.AddedRule.{IsRunnable}
 use Rattle.g4_net.specs.Proper.{start, IsProper, at_bottom}
 use Rattle.g4_lookahead.proofs.Proper.{IsStackFor, Inside, at_call, at_last, at_loop, at_turn, after_turn, at_end, after_end, inside_cases, stack_for, proper_within, proper_target, proper_call, proper_return}
-use Rattle.g4_token_list.specs.TokenList.{EndsInEnd}
+use Rattle.g4_tokens.specs.TokenList.{EndsInEnd}
 use Rattle.g4_trees.specs.Trees.{Tree}
 use Rattle.g4_run.proofs.Moments.{state_child, place_child, first_in, backs_alt, backs_child, backs_token, backs_wrapped}
 use Rattle.g4_run.specs.Running.{Frame, Run, beginning, no_predicates, ClosesBy, with_child, with_token, with_alt, wrapped, begun, node_of, backs}

@@ -24,8 +24,8 @@ use Rattle.g4_predict.specs.declared.decision.DecideFault.{DecideFault}
 use Rattle.g4_predict.specs.declared.decision.DecideFault.TheVariants as deciding
 use Rattle.g4_parse.specs.Deciding.{of_decide}
 use Rattle.g4_trees.specs.Trees.{leaf}
-use Rattle.g4_tree_builder.specs.Growing.{Growing, with_tree, with_alternative, with_close, with_wrap}
-use Rattle.g4_tree_builder.specs.Kept.{HasGrown}
+use Rattle.g4_trees.specs.Growing.{Growing, with_tree, with_alternative, with_close, with_wrap}
+use Rattle.g4_trees.specs.Kept.{HasGrown}
 use Rattle.g4_parse.specs.declared.parser.Opened.{Opened}
 use Rattle.g4_parse.specs.declared.parser.Parser.{Parser}
 use Rattle.g4_parse.specs.declared.parser.ParseFault.{ParseFault}

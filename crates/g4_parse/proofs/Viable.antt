@@ -4,7 +4,7 @@ use Rattle.std.proofs.Common.{◌≡◌, ◌≤◌, ◌<◌, ◌⊎◌, inl, inr
 use Rattle.std.specs.Prelude.{Option, Some, None}
 use Rattle.std.proofs.lemmas.Option.{slice_get_within, get_or_from_slice_get}
 use Rattle.std.proofs.lemmas.List.{drop_all}
-use Rattle.g4_symbols.specs.Symbols.{end_of_list}
+use Rattle.g4_tokens.specs.Symbols.{end_of_list}
 use Rattle.g4_net.specs.declared.network.State.{State}
 use Rattle.g4_net.specs.declared.network.State.TheVariants.{Decision, End, Edge, Call, Predicate, Level, Action, Empty}
 use Rattle.g4_net.specs.AddedRule.{IsRunnable}
@@ -17,7 +17,7 @@ use Rattle.g4_net.specs.Prediction as prediction
 use Rattle.g4_net.specs.Proper.{IsProper, called}
 use Rattle.g4_lookahead.proofs.Apart.{split, calls_outside}
 use Rattle.g4_lookahead.proofs.Proper.{IsStackFor, Inside, at_call, at_last, at_loop, at_turn, after_turn, at_end, after_end, inside_cases, stack_for}
-use Rattle.g4_token_list.specs.TokenList.{EndsInEnd}
+use Rattle.g4_tokens.specs.TokenList.{EndsInEnd}
 use Rattle.g4_trees.specs.Trees.{Tree}
 use Rattle.g4_run.proofs.Moments.{state_child, first_in, backs_alt}
 use Rattle.g4_run.specs.Running.{Frame, Run, Ending, parsed, no_predicates, ClosesBy, StopsBy, Runs, stops, goes, begun, with_alt, node_of, stack_of, backs}

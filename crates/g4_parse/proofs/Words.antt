@@ -4,8 +4,8 @@ use Rattle.std.specs.Prelude.{Some, slice_get}
 use Rattle.std.proofs.lemmas.List.{get_or-map}
 use Rattle.std.proofs.Math.ListN.{length-map}
 use Rattle.std.proofs.lemmas.Option.{slice_get-get_or}
-use Rattle.g4_token_list.specs.declared.token.Token.{Token}
-use Rattle.g4_token_list.specs.TokenList.{word_of}
+use Rattle.g4_tokens.specs.declared.token.Token.{Token}
+use Rattle.g4_tokens.specs.TokenList.{word_of}
 
 -- it is as long as the list
 pub length_word : (tokens : List Token) → length (word_of tokens) ≡ length tokens

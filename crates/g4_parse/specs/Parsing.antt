@@ -1,7 +1,7 @@
 -- What the parse call answers.
 use Rattle.g4_net.specs.Network.{ParserNetwork}
 use Rattle.std.specs.Prelude.{◌≡◌, ◌⊎◌, ℕ, List, Result, Ok, Err, Contains, drop, length}
-use Rattle.g4_symbols.specs.Symbols.{end_of_list}
+use Rattle.g4_tokens.specs.Symbols.{end_of_list}
 use Rattle.g4_trees.specs.declared.tree.Item.{Item}
 use Rattle.g4_trees.specs.Trees.{Tree, items_of, tokens_of}
 use Rattle.g4_parse.specs.declared.parser.ParseFault.{ParseFault}

@@ -6,8 +6,8 @@ use Rattle.g4_net.specs.Network.{ParserNetwork, state_at, start_of}
 use Rattle.g4_net.specs.AddedRule.{IsReady}
 use Rattle.g4_net.specs.Proper.{IsProper}
 use Rattle.g4_trees.specs.Trees.{Forest}
-use Rattle.g4_tree_builder.specs.Growing.{Growing, OpenNode}
-use Rattle.g4_tree_builder.specs.Kept.{HasGrown}
+use Rattle.g4_trees.specs.Growing.{Growing, OpenNode}
+use Rattle.g4_trees.specs.Kept.{HasGrown}
 use Rattle.g4_parse.specs.declared.parser.ParseFault.{ParseFault}
 use Rattle.g4_parse.specs.declared.parser.ParseFault.TheVariants.{NoViable, Mismatch, FailedPredicate, TooDeep, NoMemory}
 use Rattle.g4_parse.specs.declared.parser.Opened.{Opened}

@@ -11,8 +11,8 @@ ghost use Rattle.g4_parse.specs.Depth.{IsLimitOf};
 ghost use Rattle.g4_parse.specs.Foreseen.{IsForeseenTurnBy};
 ghost use Rattle.g4_run.specs.Running.{Run, beginning, with_begun, with_token};
 ghost use Rattle.g4_parse.specs.Standing.{StandsFor, IsNewestOf, IsTurnBy, IsDeciding, IsUnderway, HasEnded};
-ghost use Rattle.g4_token_list.specs.TokenList.{word_of, EndsInEnd};
-ghost use Rattle.g4_tree_builder.specs.Kept.{HasGrown};
+ghost use Rattle.g4_tokens.specs.TokenList.{word_of, EndsInEnd};
+ghost use Rattle.g4_trees.specs.Kept.{HasGrown};
 ghost use Rattle.g4_trees.specs.Trees.{Forest, items_of_all};
 
 use crate::allowed::passing;
@@ -20,10 +20,8 @@ use crate::state::{begun, state_of};
 use g4_base::Sequence;
 use g4_net::{Allowed, ParserNetwork, State};
 use g4_predict::{DecideFault, Foresight, decide, foresee, has_test};
-use g4_symbols::Symbols;
-use g4_token_list::Token;
-use g4_tree_builder::TreeBuilder;
-use g4_trees::Tree;
+use g4_tokens::{Symbols, Token};
+use g4_trees::{Tree, TreeBuilder};
 use std::alloc::{AllocError, Global};
 
 /// Why a token list has no tree.

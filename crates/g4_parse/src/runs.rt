@@ -9,12 +9,12 @@ ghost use Rattle.g4_parse.specs.Foreseen.{IsRun};
 ghost use Rattle.g4_parse.specs.declared.parser.ParseFault.TheVariants.{TooDeep};
 ghost use Rattle.g4_derivation.specs.Spelling.{DerivesFrom};
 ghost use Rattle.g4_parse.specs.Parsing.{IsAcceptance, IsParse, LeavesClosing};
-ghost use Rattle.g4_token_list.specs.TokenList.{word_of, EndsInEnd};
+ghost use Rattle.g4_tokens.specs.TokenList.{word_of, EndsInEnd};
 ghost use Rattle.g4_tree_check.specs.TreesOf.{IsTreeOf};
 
 use crate::parser::{Choosing, ParseFault, Parser};
 use g4_net::ParserNetwork;
-use g4_token_list::Token;
+use g4_tokens::Token;
 use g4_trees::Tree;
 use std::alloc::Global;
 

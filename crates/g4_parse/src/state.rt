@@ -4,7 +4,7 @@ ghost use Rattle.g4_net.specs.Network.{state_at};
 ghost use Rattle.g4_run.specs.Running.{begun};
 
 use g4_net::{ParserNetwork, State};
-use g4_symbols::Symbols;
+use g4_tokens::Symbols;
 
 /// The state of this number.
 pub fn state_of(net: &ParserNetwork, number: u32) -> &State<Symbols>

@@ -2,7 +2,7 @@
 use Rattle.std.proofs.Common.{◌≡◌, List, [], ◌∷◌, Bool, true, false, not, ◌&&◌, ◌||◌, refl, sym, ◌∙◌, true≢false}
 use Rattle.std.specs.List.{list_all}
 use Rattle.std.proofs.lemmas.Bool.{false_from_ne_true}
-use Rattle.g4_tokens.specs.declared.token.Kind.{Kind}
+use Rattle.g4_grammar_tokens.specs.declared.token.Kind.{Kind}
 use Rattle.g4_syntax.specs.Notation.{Spelled, is_kind, Terminal, of_kind, fits, Nonterminal, element, token_set, lexer_element, character_set, more_names, Expression, one, ◌▸◌, ◌∣◌, optional, repeated, part}
 use Rattle.g4_syntax.specs.Productions.{production}
 use Rattle.g4_syntax.specs.Trees.{can_be_empty, is_one_of, begins}

@@ -1,7 +1,7 @@
 -- Trees with no lookahead, and names that are spelled like no keyword that can appear in their place.
 use Rattle.std.specs.Prelude.{◌≡◌, ℕ, List, [], ◌∷◌, Bool, true, false, ◌&&◌, codes, bytes_eq}
 use Rattle.std.specs.List.{list_any}
-use Rattle.g4_tokens.specs.declared.token.Kind.TheVariants as kinds
+use Rattle.g4_grammar_tokens.specs.declared.token.Kind.TheVariants as kinds
 use Rattle.g4_syntax.specs.Notation.{Spelled, is_kind, Terminal, of_kind, fits, Expression}
 use Rattle.g4_syntax.specs.Trees.{Tree, leaf, both, left, right, absent, present, end, more, inner}
 

@@ -2,19 +2,19 @@
 use Rattle.std.proofs.Common.{◌≡◌, ℕ, ◌+◌, ◌-◌, ◌<◌, ◌≤◌, List, [], ◌∷◌, ◌++◌, take, drop, length, Result, Ok, Err, sym, ◌∙◌, ap, subst, arith, Contains, length-append, length-drop}
 use Rattle.std.proofs.lemmas.List.{take_rest, drop-map, drop-append-le, length-map}
 use Rattle.std.proofs.lemmas.List.Elements.{Contains-push}
-use Rattle.g4_symbols.specs.Symbols.{end_of_list}
-use Rattle.g4_token_list.specs.declared.token.Token as tokens
+use Rattle.g4_tokens.specs.Symbols.{end_of_list}
+use Rattle.g4_tokens.specs.declared.token.Token as tokens
 use Rattle.g4_net.specs.Configurations.{wildcard, above_bottom}
 use Rattle.g4_net.specs.Lookahead.{Start}
 use Rattle.g4_net.specs.Network.{ParserNetwork, IsFirst}
 use Rattle.g4_net.specs.Prediction.{Any, Path, answer, error_at, sensitive, Sll, Full, chosen, no_viable, HasTests, Decides, by_answer, by_error, by_full, by_tests}
-use Rattle.g4_token_list.specs.TokenList.{word_of, EndsInEnd}
-use Rattle.g4_path.specs.declared.verdict.Verdict as said
-use Rattle.g4_path.specs.declared.verdict.Verdict.TheVariants.{Answer, ErrorAt, Sensitive}
-use Rattle.g4_full.specs.declared.full.Settled.{Settled}
-use Rattle.g4_full.specs.declared.full.Settled.TheVariants.{Chosen, NoViable}
-use Rattle.g4_path.specs.Paths.{verdict_of}
-use Rattle.g4_full.specs.Verdicts.{choice_of}
+use Rattle.g4_tokens.specs.TokenList.{word_of, EndsInEnd}
+use Rattle.g4_predict.specs.declared.verdict.Verdict as said
+use Rattle.g4_predict.specs.declared.verdict.Verdict.TheVariants.{Answer, ErrorAt, Sensitive}
+use Rattle.g4_predict.specs.declared.full.Settled.{Settled}
+use Rattle.g4_predict.specs.declared.full.Settled.TheVariants.{Chosen, NoViable}
+use Rattle.g4_predict.specs.Paths.{verdict_of}
+use Rattle.g4_predict.specs.FullVerdicts.{choice_of}
 use Rattle.g4_predict.specs.declared.decision.DecideFault.{DecideFault}
 use Rattle.g4_predict.specs.declared.decision.DecideFault.TheVariants as faults
 use Rattle.g4_predict.specs.Deciding.{IsDecided, IsFullyDecided}

@@ -1,16 +1,16 @@
 -- What is foreseen of the choice of a decision.
 use Rattle.std.proofs.Common.{◌≡◌, inl, inr, ℕ, List, drop, Result, Ok, Err, false, true≢false, sym, subst}
-use Rattle.g4_token_list.specs.declared.token.Token as tokens
+use Rattle.g4_tokens.specs.declared.token.Token as tokens
 use Rattle.g4_net.specs.Configurations.{above_bottom}
 use Rattle.g4_net.specs.Network.{ParserNetwork, IsFirst}
 use Rattle.g4_net.specs.Prediction.{Any, Path, sensitive, Sll, Full, chosen, no_viable, HasTests, by_full, by_tests}
-use Rattle.g4_token_list.specs.TokenList.{word_of}
-use Rattle.g4_path.specs.declared.verdict.Verdict as said
-use Rattle.g4_path.specs.declared.verdict.Verdict.TheVariants.{Answer, Sensitive}
-use Rattle.g4_full.specs.declared.foreseen.Foreseen.{Foreseen}
-use Rattle.g4_full.specs.declared.foreseen.Foreseen.TheVariants.{Known}
-use Rattle.g4_full.specs.declared.full.Settled.{Settled}
-use Rattle.g4_full.specs.Foreseeing as full
+use Rattle.g4_tokens.specs.TokenList.{word_of}
+use Rattle.g4_predict.specs.declared.verdict.Verdict as said
+use Rattle.g4_predict.specs.declared.verdict.Verdict.TheVariants.{Answer, Sensitive}
+use Rattle.g4_predict.specs.declared.foreseen.Foreseen.{Foreseen}
+use Rattle.g4_predict.specs.declared.foreseen.Foreseen.TheVariants.{Known}
+use Rattle.g4_predict.specs.declared.full.Settled.{Settled}
+use Rattle.g4_predict.specs.FullForeseeing as full
 use Rattle.g4_predict.specs.declared.decision.DecideFault.{DecideFault}
 use Rattle.g4_predict.specs.declared.decision.DecideFault.TheVariants as faults
 use Rattle.g4_predict.specs.declared.foresight.Foresight.{Foresight}

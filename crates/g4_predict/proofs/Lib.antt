@@ -1,4 +1,20 @@
 pub mod Choosing
-mod Foretelling
-mod Testing
+mod Ending
 mod Fitting
+mod Foreseeing
+mod Foretelling
+mod FullEnding
+mod FullLooking
+mod Leaving
+mod Lists
+mod Looking
+mod Options
+mod Placing
+mod Showing
+mod Sighted
+mod Spreading
+mod States
+mod Takers
+mod Testing
+mod Told
+mod Walking

@@ -1,2 +1,9 @@
 pub mod Deciding
 pub mod Foreseeing
+pub mod Frames
+pub mod FullForeseeing
+pub mod FullVerdicts
+pub mod Looks
+pub mod Paths
+pub mod Telling
+pub mod Verdicts

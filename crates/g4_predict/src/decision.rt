@@ -6,16 +6,15 @@ ghost use Rattle.g4_net.specs.Allowed.{Allows};
 ghost use Rattle.g4_net.specs.declared.network.State.TheVariants.{Decision};
 ghost use Rattle.g4_net.specs.Network.{state_at};
 ghost use Rattle.g4_net.specs.Proper.{IsProper};
-ghost use Rattle.g4_symbols.specs.Symbols.{end_of_list};
-ghost use Rattle.g4_token_list.specs.TokenList.{EndsInEnd, word_of};
+ghost use Rattle.g4_tokens.specs.Symbols.{end_of_list};
+ghost use Rattle.g4_tokens.specs.TokenList.{EndsInEnd, word_of};
 ghost use Rattle.g4_predict.specs.Deciding.{IsDecided, IsFullyDecided, IsLeastChosen};
 
 use crate::first_tests::has_test;
-use g4_full::{Settled, decide_full};
+use crate::{Settled, decide_full};
 use g4_net::{Allowed, ParserNetwork};
-use g4_path::Verdict;
-use g4_sll::verdict;
-use g4_token_list::Token;
+use crate::{Verdict, sll_verdict};
+use g4_tokens::Token;
 use std::alloc::{AllocError, Global};
 
 /// Why a decision has no alternative.
@@ -90,7 +89,7 @@ pub fn decide(
     if has_test(net, decision) {
         return decide_by_stack(alloc, net, decision, allowed, returns, rest, from);
     }
-    match verdict(alloc, net, decision, rest)? {
+    match sll_verdict(alloc, net, decision, rest)? {
         Verdict::Answer(alternative) => Ok(alternative),
         Verdict::ErrorAt(k) => Err(DecideFault::NoViable { at: from + k }),
         Verdict::Sensitive(_) => {

@@ -5,7 +5,7 @@ ghost use Rattle.g4_net.specs.Network.{state_at};
 ghost use Rattle.g4_net.specs.Prediction.{HasTests, IsTestBy};
 
 use g4_net::{ParserNetwork, State};
-use g4_symbols::Symbols;
+use g4_tokens::Symbols;
 
 /// Whether the state is a predicate or a level.
 fn is_test(state: &State<Symbols>) -> bool

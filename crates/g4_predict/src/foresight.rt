@@ -5,17 +5,16 @@ ghost use Rattle.g4_net.specs.Allowed.{Allows};
 ghost use Rattle.g4_net.specs.declared.network.State.TheVariants.{Decision};
 ghost use Rattle.g4_net.specs.Network.{state_at};
 ghost use Rattle.g4_net.specs.Proper.{IsProper};
-ghost use Rattle.g4_symbols.specs.Symbols.{end_of_list};
-ghost use Rattle.g4_token_list.specs.TokenList.{EndsInEnd, word_of};
+ghost use Rattle.g4_tokens.specs.Symbols.{end_of_list};
+ghost use Rattle.g4_tokens.specs.TokenList.{EndsInEnd, word_of};
 ghost use Rattle.g4_predict.specs.Foreseeing.{IsForesight, IsFullForesight};
 
 use crate::decision::DecideFault;
 use crate::first_tests::has_test;
-use g4_full::{Foreseen, Settled, foresee_full};
+use crate::{Foreseen, Settled, foresee_full};
 use g4_net::{Allowed, ParserNetwork};
-use g4_path::Verdict;
-use g4_sll::verdict;
-use g4_token_list::Token;
+use crate::{Verdict, sll_verdict};
+use g4_tokens::Token;
 use std::alloc::Global;
 
 /// The alternative that is foreseen at a decision, counted from 1, and whether it is presumed: chosen, unless none is viable.
@@ -81,7 +80,7 @@ pub fn foresee(
     if has_test(net, decision) {
         return foresee_by_stack(alloc, net, decision, allowed, returns, rest, from);
     }
-    match verdict(alloc, net, decision, rest)? {
+    match sll_verdict(alloc, net, decision, rest)? {
         Verdict::Answer(alternative) => Ok(Foresight {
             alternative,
             presumed: false,

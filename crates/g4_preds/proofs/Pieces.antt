@@ -1,9 +1,9 @@
 -- A text begins with at most one piece.
 use Rattle.std.proofs.Common.{◌≡◌, ℕ, suc, ◌+◌, ◌-◌, ◌<◌, ◌≤◌, List, [], ◌∷◌, Option, Some, None, Result, Ok, Err, length, take, drop, get_or, refl, ap, sym, ◌∙◌, subst, arith}
 use Rattle.g4_chars.specs.declared.escape.Context.TheVariants as contexts
-use Rattle.g4_tokens.specs.Enclosed.{Encloses}
-use Rattle.g4_tokens.specs.Spelling.{literal_spelling}
-use Rattle.g4_tokens.proofs.Ends.{one_enclosed}
+use Rattle.g4_grammar_tokens.specs.Enclosed.{Encloses}
+use Rattle.g4_grammar_tokens.specs.Spelling.{literal_spelling}
+use Rattle.g4_grammar_tokens.proofs.Ends.{one_enclosed}
 use Rattle.std.proofs.lemmas.List.{take_rest}
 use Rattle.g4_preds.specs.declared.fault.Fault.{Fault}
 use Rattle.g4_preds.specs.declared.piece.Piece.{Piece}

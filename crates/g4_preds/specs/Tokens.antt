@@ -3,9 +3,9 @@ use Rattle.std.specs.Prelude.{◌≡◌, ℕ, ◌+◌, ◌-◌, ◌<◌, ◌≤�
 use Rattle.std.specs.List.{prefix_len}
 use Rattle.unicode.specs.Binary.{is_alphabetic}
 use Rattle.g4_chars.specs.declared.escape.Context.TheVariants as contexts
-use Rattle.g4_tokens.specs.Characters.{begins, is_name_part}
-use Rattle.g4_tokens.specs.Enclosed.{Encloses}
-use Rattle.g4_tokens.specs.Spelling.{literal_spelling}
+use Rattle.g4_grammar_tokens.specs.Characters.{begins, is_name_part}
+use Rattle.g4_grammar_tokens.specs.Enclosed.{Encloses}
+use Rattle.g4_grammar_tokens.specs.Spelling.{literal_spelling}
 use Rattle.g4_preds.specs.declared.piece.Piece.{Piece}
 use Rattle.g4_preds.specs.declared.piece.Piece.TheVariants.{Blank, Formed}
 use Rattle.g4_preds.specs.declared.token.Token.{Token}

@@ -1,7 +1,7 @@
 // The classes of characters of a predicate's text.
 ghost use Rattle.std.specs.Prelude.{◌≡◌, ◌≤◌, length};
 ghost use Rattle.std.specs.List.{prefix_len};
-ghost use Rattle.g4_tokens.specs.Characters.{begins, is_name_part};
+ghost use Rattle.g4_grammar_tokens.specs.Characters.{begins, is_name_part};
 ghost use Rattle.g4_preds.specs.Tokens.{is_blank, is_one_to_eight};
 
 use unicode::properties::is_alphabetic;

@@ -1,8 +1,8 @@
 // Where a literal ends.
 ghost use Rattle.std.specs.Prelude.{◌≡◌, ◌≤◌, length, IfSome};
 ghost use Rattle.g4_chars.specs.declared.escape.Context.TheVariants.{Literal};
-ghost use Rattle.g4_tokens.specs.Enclosed.{unit_more, Encloses};
-ghost use Rattle.g4_tokens.specs.Ends.{Finds};
+ghost use Rattle.g4_grammar_tokens.specs.Enclosed.{unit_more, Encloses};
+ghost use Rattle.g4_grammar_tokens.specs.Ends.{Finds};
 
 use g4_chars::{Context, read_escape};
 

@@ -8,7 +8,7 @@ use crate::fault::Fault;
 use crate::literal::literal_length;
 use crate::token::Token;
 use g4_base::Text;
-use g4_tokens::literal_characters;
+use g4_grammar_tokens::literal_characters;
 use std::alloc::{AllocError, Global};
 use unicode::properties::is_alphabetic;
 

@@ -1,6 +1,6 @@
 -- Each rule and each block of a grammar text has an alternative.
 use Rattle.std.proofs.Common.{map, Option}
-use Rattle.g4_tokens.specs.declared.token.Kind.TheVariants as kinds
+use Rattle.g4_grammar_tokens.specs.declared.token.Kind.TheVariants as kinds
 use Rattle.g4_source.specs.declared.name.Label.{Label}
 use Rattle.g4_source.specs.Full.{IsSome, IsFull, AreFull, EachIsFull, AreFullAlternatives}
 use Rattle.g4_source.specs.Elements.{either}

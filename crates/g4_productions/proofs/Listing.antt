@@ -1,12 +1,12 @@
 -- Lists that grow, which are seen item by item; and with which tokens parts begin.
 use Rattle.std.proofs.Common.{◌≡◌, List, [], ◌∷◌, ◌++◌, map, Bool, true, false, ◌&&◌, ◌||◌, refl, sym, ◌∙◌, ap, append_assoc}
-use Rattle.g4_tokens.specs.declared.token.Kind.{Kind}
-use Rattle.g4_tokens.specs.declared.token.Kind.TheVariants as kinds
+use Rattle.g4_grammar_tokens.specs.declared.token.Kind.{Kind}
+use Rattle.g4_grammar_tokens.specs.declared.token.Kind.TheVariants as kinds
 use Rattle.g4_syntax.specs.Notation.{Spelled, Nonterminal, part, sign, is_kind}
 use Rattle.g4_syntax.specs.Productions.{parser_rule}
 use Rattle.g4_syntax.specs.Trees.{first_kinds, is_one_of}
-use Rattle.g4_prequels.specs.Progress.{Progress, reading, stopped, is_next}
-use Rattle.g4_prequels.proofs.Moving.{or_assoc}
+use Rattle.g4_cursor.specs.Progress.{Progress, reading, stopped, is_next}
+use Rattle.g4_cursor.proofs.Moving.{or_assoc}
 
 -- an item that is read after those that are listed is listed at their end
 pub listed_more : {N T : Type 0} (value : N → T) (items : List N) (more : List N) (x : N) (y : T) (others : List T) → more ≡ items ++ x ∷ [] → value x ≡ y → map value items ++ y ∷ others ≡ map value more ++ others

@@ -4,13 +4,13 @@ use Rattle.std.specs.Option.{is_none}
 use Rattle.std.specs.Prelude.{if◌then◌else◌}
 use Rattle.std.specs.Str.{chars}
 use Rattle.g4_chars.specs.declared.range.Range.{Range as Span}
-use Rattle.g4_tokens.specs.declared.token.Kind.{Kind}
-use Rattle.g4_tokens.specs.declared.token.Kind.TheVariants as kinds
+use Rattle.g4_grammar_tokens.specs.declared.token.Kind.{Kind}
+use Rattle.g4_grammar_tokens.specs.declared.token.Kind.TheVariants as kinds
 use Rattle.g4_syntax.specs.Notation.{Spelled, is_kind, fits, Terminal, one, a_set}
 use Rattle.g4_syntax.specs.Trees.{Tree, leaf}
-use Rattle.g4_prequels.specs.Progress.{Progress, reading, stopped, bytes_ahead, BadNext, Moves, reads, stops, stays}
-use Rattle.g4_prequels.specs.Sets.{content, IsBadSet, bytes_at}
-use Rattle.g4_prequels.specs.Texts.{text_of}
+use Rattle.g4_cursor.specs.Progress.{Progress, reading, stopped, bytes_ahead, BadNext, Moves, reads, stops, stays}
+use Rattle.g4_cursor.specs.Sets.{content, IsBadSet, bytes_at}
+use Rattle.g4_cursor.specs.Texts.{text_of}
 use Rattle.g4_productions.specs.Answering.{HasNext, literal_terminal, bad_literal_next}
 use Rattle.g4_productions.specs.LexerElements.{set_of_leaf}
 use Rattle.g4_productions.specs.Members.{set_of}

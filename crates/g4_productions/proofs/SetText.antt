@@ -18,7 +18,7 @@ use Rattle.g4_chars.proofs.Grammar.{items_are, bad_is, parts_are}
 use Rattle.g4_chars.proofs.Laws.{one_form, items_listed, none_listed, parts_listed}
 use Rattle.g4_chars.specs.declared.range.Range.{Range as Span}
 use Rattle.g4_productions.specs.Members.{holds, holds_in, ranges_in, part_of, set_of_ranges, unless_empty, set_of_parts, set_of_items, set_of}
-use Rattle.g4_prequels.specs.Sets.{IsBadContent}
+use Rattle.g4_cursor.specs.Sets.{IsBadContent}
 use Rattle.g4_productions.proofs.Ranges.{IsOfScalars, ranges_rise, ranges_have}
 
 -- a code that passes the test is a scalar value

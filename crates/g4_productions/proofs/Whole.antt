@@ -1,17 +1,17 @@
 -- A grammar text is read to its end, or stops.
 use Rattle.std.proofs.Common.{◌≡◌, ◌∷◌, [], ◌++◌, ◌-◌, ◌<◌, ◌≤◌, ◌+◌, ℕ, List, length, Some, None, sym, ◌∙◌, ap, subst, arith, length-append}
 use Rattle.std.proofs.lemmas.List.{length-map}
-use Rattle.g4_tokens.specs.declared.token.Token.{Token}
+use Rattle.g4_grammar_tokens.specs.declared.token.Token.{Token}
 use Rattle.g4_source.specs.Blocks.{HaveAlternatives}
 use Rattle.g4_source.specs.declared.source.Source.{Source}
 use Rattle.g4_syntax.specs.Notation.{Spelled}
 use Rattle.g4_syntax.specs.Productions.{grammar}
 use Rattle.g4_syntax.specs.Trees.{TextStops, within, after}
 use Rattle.g4_syntax.proofs.Texts.{text, reads_text, read_before, comes_after}
-use Rattle.g4_prequels.specs.declared.cursor.Halt.TheVariants.{Fault, BadSet}
-use Rattle.g4_prequels.specs.Progress.{Progress, reading, stopped, rest_of, halt_of, at_fault, at_bad_set, Moves, reads, stops}
-use Rattle.g4_prequels.specs.Sets.{HasNoBad, HasFirstBad}
-use Rattle.g4_prequels.specs.Texts.{from, spelled, spelled_token}
+use Rattle.g4_cursor.specs.declared.cursor.Halt.TheVariants.{Fault, BadSet}
+use Rattle.g4_cursor.specs.Progress.{Progress, reading, stopped, rest_of, halt_of, at_fault, at_bad_set, Moves, reads, stops}
+use Rattle.g4_cursor.specs.Sets.{HasNoBad, HasFirstBad}
+use Rattle.g4_cursor.specs.Texts.{from, spelled, spelled_token}
 use Rattle.g4_productions.specs.Grammars.{IsGrammarText, source_of}
 use Rattle.g4_productions.proofs.Full.{source_full}
 

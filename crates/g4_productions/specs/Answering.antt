@@ -2,10 +2,10 @@
 use Rattle.std.specs.Prelude.{◌≡◌, ℕ, List, Bool, true, false, ◌&&◌, ◌||◌, Option, Some}
 use Rattle.std.specs.Str.{chars}
 use Rattle.g4_chars.specs.declared.range.Range.{Range as Span}
-use Rattle.g4_tokens.specs.declared.token.Kind.TheVariants as kinds
+use Rattle.g4_grammar_tokens.specs.declared.token.Kind.TheVariants as kinds
 use Rattle.g4_syntax.specs.Notation.{Terminal, characters, excluded}
-use Rattle.g4_prequels.specs.Progress.{Progress, bytes_ahead}
-use Rattle.g4_prequels.specs.Sets.{content, is_no_character, is_bad_range}
+use Rattle.g4_cursor.specs.Progress.{Progress, bytes_ahead}
+use Rattle.g4_cursor.specs.Sets.{content, is_no_character, is_bad_range}
 use Rattle.g4_productions.specs.Members.{set_of}
 
 -- the terminal of a literal that is under `~` or not

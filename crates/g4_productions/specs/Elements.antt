@@ -17,8 +17,8 @@ use Rattle.g4_productions.specs.declared.suffix.Labelled.TheVariants as nodes
 use Rattle.g4_syntax.specs.Notation.{Terminal, Expression, one, optional}
 use Rattle.g4_syntax.specs.Productions.{action, assign, suffix}
 use Rattle.g4_syntax.specs.Trees.{Tree, both, left, right, absent, present}
-use Rattle.g4_prequels.specs.Options.{right_of_optional}
-use Rattle.g4_prequels.specs.Texts.{is_present, token_of, name_of}
+use Rattle.g4_cursor.specs.Options.{right_of_optional}
+use Rattle.g4_cursor.specs.Texts.{is_present, token_of, name_of}
 
 -- whether the sign of a label is `+=`
 abbrev pub is_list : Tree assign → Bool

@@ -5,13 +5,13 @@ use Rattle.g4_base.specs.declared.place.Place.{Place}
 use Rattle.g4_source.specs.declared.prequel.Prequel.{Prequel}
 use Rattle.g4_source.specs.declared.source.Source.{Source}
 use Rattle.g4_source.specs.declared.source.GrammarKind.TheVariants as grammar_kinds
-use Rattle.g4_tokens.specs.declared.token.Token.{Token}
+use Rattle.g4_grammar_tokens.specs.declared.token.Token.{Token}
 use Rattle.g4_syntax.specs.Notation.{Spelled}
 use Rattle.g4_syntax.specs.Productions.{heading, combined_grammar, lexer_grammar, parser_grammar, grammar}
 use Rattle.g4_syntax.specs.Trees.{Tree, both, left, right, HasTree, TextStops}
-use Rattle.g4_prequels.specs.Prequels.{prequels_of}
-use Rattle.g4_prequels.specs.Sets.{HasNoBad, HasFirstBad}
-use Rattle.g4_prequels.specs.Texts.{from, spelled, place_of, token_of, text_of}
+use Rattle.g4_cursor.specs.Prequels.{prequels_of}
+use Rattle.g4_cursor.specs.Sets.{HasNoBad, HasFirstBad}
+use Rattle.g4_cursor.specs.Texts.{from, spelled, place_of, token_of, text_of}
 use Rattle.g4_productions.specs.declared.reader.Stop.{Stop}
 use Rattle.g4_productions.specs.declared.reader.Stop.TheVariants as stops
 use Rattle.g4_productions.specs.Rules.{combined_rules, default_rules, parser_rules, modes_of}

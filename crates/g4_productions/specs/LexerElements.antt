@@ -1,8 +1,8 @@
 -- The elements of lexer rules.
 use Rattle.std.specs.Prelude.{ℕ, List, [], ◌∷◌, ◌++◌, false, Option, Some, None}
 use Rattle.std.specs.Str.{chars}
-use Rattle.g4_tokens.specs.Spelling.{literal_spelling}
-use Rattle.g4_tokens.specs.declared.token.Kind.TheVariants as kinds
+use Rattle.g4_grammar_tokens.specs.Spelling.{literal_spelling}
+use Rattle.g4_grammar_tokens.specs.declared.token.Kind.TheVariants as kinds
 use Rattle.g4_chars.specs.declared.range.Range.{Range as Span}
 use Rattle.g4_source.specs.Elements.{Element, Elements, either}
 use Rattle.g4_source.specs.Trees.{in_order}
@@ -13,9 +13,9 @@ use Rattle.g4_source.specs.declared.name.Name.{Name}
 use Rattle.g4_syntax.specs.Notation.{Terminal, one, characters, excluded, lexer_element, character_set, ◌▸◌, ◌∣◌, optional, repeated, part, sign, with_bars}
 use Rattle.g4_syntax.specs.Productions.{assign, element_options, lexer_block, unnamed_lexer_item, lexer_item, labelled_lexer_item}
 use Rattle.g4_syntax.specs.Trees.{Tree, both, left, right, absent, present, end, more, inner}
-use Rattle.g4_prequels.specs.Options.{right_of_optional}
-use Rattle.g4_prequels.specs.Sets.{content}
-use Rattle.g4_prequels.specs.Texts.{token_of, name_of, literal_of}
+use Rattle.g4_cursor.specs.Options.{right_of_optional}
+use Rattle.g4_cursor.specs.Sets.{content}
+use Rattle.g4_cursor.specs.Texts.{token_of, name_of, literal_of}
 use Rattle.g4_productions.specs.Elements.{Labelled, single, brackets, is_list, optional_suffix_of, action_of, with_suffix}
 use Rattle.g4_productions.specs.Members.{set_of_ranges, ranges_of}
 

@@ -1,6 +1,6 @@
 -- The elements of parser rules.
 use Rattle.std.specs.Prelude.{List, [], ◌∷◌, ◌++◌, Bool, false, Option, Some, None, ◌||◌}
-use Rattle.g4_tokens.specs.declared.token.Kind.TheVariants as kinds
+use Rattle.g4_grammar_tokens.specs.declared.token.Kind.TheVariants as kinds
 use Rattle.g4_source.specs.Elements.{Element, Elements, either}
 use Rattle.g4_source.specs.Trees.{in_order}
 use Rattle.g4_source.specs.declared.atom.Atom.{Atom}
@@ -12,8 +12,8 @@ use Rattle.g4_source.specs.declared.name.Name.{Name}
 use Rattle.g4_syntax.specs.Notation.{element, token_set, ◌▸◌, ◌∣◌, optional, repeated, part, sign, with_bars}
 use Rattle.g4_syntax.specs.Productions.{assign, element_options, reference_end, alternative, block, unnamed_item, item, labelled_item}
 use Rattle.g4_syntax.specs.Trees.{Tree, both, left, right, end, more, inner}
-use Rattle.g4_prequels.specs.Options.{right_of_optional}
-use Rattle.g4_prequels.specs.Texts.{token_of, text_of, name_of, literal_of}
+use Rattle.g4_cursor.specs.Options.{right_of_optional}
+use Rattle.g4_cursor.specs.Texts.{token_of, text_of, name_of, literal_of}
 use Rattle.g4_productions.specs.Elements.{Labelled, single, brackets, is_list, is_right, optional_suffix_of, action_of, action_right, with_suffix}
 
 -- whether the reference to a rule associates to the right

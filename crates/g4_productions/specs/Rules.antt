@@ -1,7 +1,7 @@
 -- Rules and modes.
 use Rattle.std.specs.Prelude.{List, [], ◌∷◌, Option, Some, None}
 use Rattle.g4_base.specs.declared.place.Place.{Place}
-use Rattle.g4_tokens.specs.declared.token.Kind.TheVariants as kinds
+use Rattle.g4_grammar_tokens.specs.declared.token.Kind.TheVariants as kinds
 use Rattle.g4_source.specs.declared.rule.Argument.{Argument}
 use Rattle.g4_source.specs.declared.rule.Argument.TheVariants as arguments
 use Rattle.g4_source.specs.declared.rule.AlternativeLabel.{AlternativeLabel}
@@ -18,7 +18,7 @@ use Rattle.g4_source.specs.declared.atom.Atom.{Atom}
 use Rattle.g4_syntax.specs.Notation.{Terminal, one, ◌▸◌, ◌∣◌, optional, repeated, sign, name, with_commas, with_bars}
 use Rattle.g4_syntax.specs.Productions.{rule_alternative, parser_rule, command, lexer_alternative, lexer_rule, mode}
 use Rattle.g4_syntax.specs.Trees.{Tree, both, left, right, absent, present, end, more}
-use Rattle.g4_prequels.specs.Texts.{token_of, text_of, name_of}
+use Rattle.g4_cursor.specs.Texts.{token_of, text_of, name_of}
 use Rattle.g4_productions.specs.LexerElements.{lexer_elements}
 use Rattle.g4_productions.specs.ParserElements.{alternative_elements, alternative_right}
 

@@ -2,14 +2,14 @@
 ghost use Rattle.std.specs.Prelude.{◌≡◌, ◌++◌, ◌↔◌, ℕ, IfOk, OnOk, map};
 ghost use Rattle.g4_chars.specs.CharSets.{Has};
 ghost use Rattle.g4_chars.specs.SetText.{HoldsIn};
-ghost use Rattle.g4_prequels.specs.Progress.{Moves, Gives};
+ghost use Rattle.g4_cursor.specs.Progress.{Moves, Gives};
 ghost use Rattle.g4_productions.specs.LexerElements.{character_ranges, excluded_ranges, excluded_set, bracket_ranges};
 ghost use Rattle.g4_productions.specs.Members.{part_of, set_of_ranges};
 
 use crate::set::{character, excluded_character, set};
 use g4_chars::{CharSet, Range};
-use g4_prequels::Cursor;
-use g4_tokens::Kind;
+use g4_cursor::Cursor;
+use g4_grammar_tokens::Kind;
 use std::alloc::{AllocError, Global};
 
 /// Adds the range of a literal, or from one to another.

@@ -1,15 +1,15 @@
 // A whole grammar text.
 ghost use Rattle.std.specs.Prelude.{◌≡◌, IfOk};
-ghost use Rattle.g4_prequels.specs.Progress.{Gives, Moves};
+ghost use Rattle.g4_cursor.specs.Progress.{Gives, Moves};
 ghost use Rattle.g4_productions.specs.Grammars.{combined_of, heading_name, heading_prequels, lexer_grammar_of, parser_grammar_of, source_of};
 ghost use Rattle.g4_productions.specs.Rules.{combined_rules, default_rules, parser_rules};
 
 use crate::lexer_rule::{is_at_lexer_rule, lexer_rule, modes};
 use crate::parser_rule::parser_rule;
 use g4_base::{Sequence, Text};
-use g4_prequels::{Cursor, prequels};
+use g4_cursor::{Cursor, prequels};
 use g4_source::{GrammarKind, Prequel, Rule, Source};
-use g4_tokens::Kind;
+use g4_grammar_tokens::Kind;
 use std::alloc::AllocError;
 
 /// The words that a grammar text begins with.

@@ -2,7 +2,7 @@
 ghost use Rattle.std.specs.Prelude.{◌≡◌};
 ghost use Rattle.g4_source.specs.Trees.{element_of};
 ghost use Rattle.g4_syntax.specs.Notation.{part, lexer_element};
-ghost use Rattle.g4_prequels.specs.Progress.{is_next, GivesAs};
+ghost use Rattle.g4_cursor.specs.Progress.{is_next, GivesAs};
 ghost use Rattle.g4_productions.specs.Elements.{labelled_of, elements_in, alternatives_in};
 ghost use Rattle.g4_productions.specs.LexerElements.{literal_item, lexer_element_of, lexer_elements, labelled_lexer, upper_lexer_item, labelled_by, named_lexer_item, unnamed_lexer, lexer_block_of, lexer_alternatives};
 
@@ -11,8 +11,8 @@ use crate::literal::take_literal;
 use crate::set::set;
 use crate::suffix::{Labelled, action, is_at_label_sign, label_sign, optional_suffix, with_suffix};
 use g4_source::{Alternative, Atom, AtomKind, Element, Label, Name};
-use g4_prequels::{Cursor, literal, optional_element_options};
-use g4_tokens::Kind;
+use g4_cursor::{Cursor, literal, optional_element_options};
+use g4_grammar_tokens::Kind;
 use std::alloc::AllocError;
 
 /// Whether an element of a lexer rule is next.

@@ -2,14 +2,14 @@
 ghost use Rattle.std.specs.Prelude.{◌≡◌, codes};
 ghost use Rattle.g4_syntax.specs.Notation.{optional, word};
 ghost use Rattle.g4_syntax.specs.Productions.{lexer_rule as a_lexer_rule};
-ghost use Rattle.g4_prequels.specs.Progress.{is_next, Gives, Moves};
+ghost use Rattle.g4_cursor.specs.Progress.{is_next, Gives, Moves};
 ghost use Rattle.g4_productions.specs.Rules.{argument_text_of, argument_of, command_of, commands_in_order, commands_of, lexer_alternative_of, rule_lexer_alternatives, fragment_place, lexer_rule_of, mode_of, modes_of};
 
 use crate::lexer_element::elements;
 use g4_base::{Place, Sequence};
 use g4_source::{Argument, Command, Elements, LexerAlternative, LexerRule, Mode};
-use g4_prequels::{Cursor, pass_optional_options};
-use g4_tokens::Kind;
+use g4_cursor::{Cursor, pass_optional_options};
+use g4_grammar_tokens::Kind;
 use std::alloc::AllocError;
 
 /// The name that says that a lexer rule is no token.

@@ -1,16 +1,16 @@
 // The literals of lexer rules, which may be bad.
 ghost use Rattle.std.specs.Prelude.{◌≡◌, IfOk};
 ghost use Rattle.std.specs.Str.{chars};
-ghost use Rattle.g4_tokens.specs.declared.token.Kind.TheVariants as kinds;
-ghost use Rattle.g4_tokens.specs.Spelling.{literal_spelling};
+ghost use Rattle.g4_grammar_tokens.specs.declared.token.Kind.TheVariants as kinds;
+ghost use Rattle.g4_grammar_tokens.specs.Spelling.{literal_spelling};
 ghost use Rattle.g4_syntax.specs.Notation.{one};
-ghost use Rattle.g4_prequels.specs.Progress.{bytes_ahead, Moves};
-ghost use Rattle.g4_prequels.specs.Sets.{character_of, goes_on_bad, is_backward, lone};
-ghost use Rattle.g4_prequels.specs.Taken.{IsTaken};
+ghost use Rattle.g4_cursor.specs.Progress.{bytes_ahead, Moves};
+ghost use Rattle.g4_cursor.specs.Sets.{character_of, goes_on_bad, is_backward, lone};
+ghost use Rattle.g4_cursor.specs.Taken.{IsTaken};
 ghost use Rattle.g4_productions.specs.Answering.{bad_literal_next, literal_terminal};
 
-use g4_prequels::{Cursor, Taken, characters_of};
-use g4_tokens::{Kind, literal_characters};
+use g4_cursor::{Cursor, Taken, characters_of};
+use g4_grammar_tokens::{Kind, literal_characters};
 use std::alloc::{AllocError, Global};
 
 /// The one of the characters, if there is just one.

@@ -2,7 +2,7 @@
 ghost use Rattle.std.specs.Prelude.{◌≡◌};
 ghost use Rattle.g4_source.specs.Trees.{alternative_of};
 ghost use Rattle.g4_syntax.specs.Notation.{element as an_element, part};
-ghost use Rattle.g4_prequels.specs.Progress.{is_next, Gives, GivesAs};
+ghost use Rattle.g4_cursor.specs.Progress.{is_next, Gives, GivesAs};
 ghost use Rattle.g4_productions.specs.Elements.{labelled_of, item_of, items_of, alternatives_in};
 ghost use Rattle.g4_productions.specs.ParserElements.{reference_right, parser_item, parser_items, labelled, lower_item, upper_item, labelled_after, named_item, unnamed, block_of, alternatives_of, alternative_elements};
 
@@ -12,8 +12,8 @@ use crate::suffix::{
 };
 use crate::token_set::excluded_tokens;
 use g4_source::{Alternative, Atom, AtomKind, Element, Label, Name};
-use g4_prequels::{Cursor, literal, optional_element_options, pass_block_prequel};
-use g4_tokens::Kind;
+use g4_cursor::{Cursor, literal, optional_element_options, pass_block_prequel};
+use g4_grammar_tokens::Kind;
 use std::alloc::AllocError;
 
 /// Whether a reference to a rule associates to the right, by what follows the rule's name.

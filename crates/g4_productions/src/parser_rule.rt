@@ -1,14 +1,14 @@
 // Parser rules.
-ghost use Rattle.g4_prequels.specs.Progress.{Gives};
+ghost use Rattle.g4_cursor.specs.Progress.{Gives};
 ghost use Rattle.g4_productions.specs.Rules.{alternative_label as label_of, rule_alternative_of, rule_alternatives_of, parser_rule_of};
 
 use crate::parser_element::elements;
 use g4_base::Sequence;
 use g4_source::{AlternativeLabel, Atom, Elements, ParserRule, RuleAlternative};
-use g4_prequels::{
+use g4_cursor::{
     Cursor, optional_element_options, pass_handlers, pass_modifier, pass_rule_prequels,
 };
-use g4_tokens::Kind;
+use g4_grammar_tokens::Kind;
 use std::alloc::AllocError;
 
 /// The label of an alternative, if it has one.

@@ -1,14 +1,14 @@
 // A whole grammar text.
 ghost use Rattle.std.specs.Prelude.{IfOk};
 ghost use Rattle.g4_source.specs.Blocks.{HaveAlternatives};
-ghost use Rattle.g4_prequels.specs.Parts.{AreParts};
+ghost use Rattle.g4_cursor.specs.Parts.{AreParts};
 ghost use Rattle.g4_productions.specs.Grammars.{ReadsText};
 
 use crate::grammar::grammar;
 use g4_base::Place;
-use g4_prequels::{Cursor, Halt};
+use g4_cursor::{Cursor, Halt};
 use g4_source::Source;
-use g4_tokens::Token;
+use g4_grammar_tokens::Token;
 use std::alloc::{AllocError, Global};
 
 /// Why no grammar is read.

@@ -1,19 +1,19 @@
 // The character sets of lexer rules.
 ghost use Rattle.std.specs.Prelude.{◌≡◌, IfOk};
 ghost use Rattle.std.specs.Str.{chars};
-ghost use Rattle.g4_tokens.specs.Spelling.{literal_spelling};
-ghost use Rattle.g4_tokens.specs.declared.token.Kind.TheVariants.{Literal};
+ghost use Rattle.g4_grammar_tokens.specs.Spelling.{literal_spelling};
+ghost use Rattle.g4_grammar_tokens.specs.declared.token.Kind.TheVariants.{Literal};
 ghost use Rattle.g4_syntax.specs.Notation.{one, a_set, excluded, sign};
-ghost use Rattle.g4_prequels.specs.Progress.{Gives, Moves};
-ghost use Rattle.g4_prequels.specs.Sets.{content};
+ghost use Rattle.g4_cursor.specs.Progress.{Gives, Moves};
+ghost use Rattle.g4_cursor.specs.Sets.{content};
 ghost use Rattle.g4_productions.specs.Answering.{HasNext};
 ghost use Rattle.g4_productions.specs.LexerElements.{set_of_leaf, first_character, character_of};
 ghost use Rattle.g4_productions.specs.Members.{set_of};
 
 use crate::literal::take_literal;
 use g4_chars::{CharSet, SetFault, read_set};
-use g4_prequels::{Cursor, characters_of, literal};
-use g4_tokens::Kind;
+use g4_cursor::{Cursor, characters_of, literal};
+use g4_grammar_tokens::Kind;
 use std::alloc::{AllocError, Global};
 
 /// The characters between the brackets of a set.

@@ -4,15 +4,15 @@ ghost use Rattle.g4_source.specs.Elements.{atom as an_atom, block, empty, then, 
 ghost use Rattle.g4_source.specs.Trees.{element_of};
 ghost use Rattle.g4_syntax.specs.Notation.{sign, optional};
 ghost use Rattle.g4_syntax.specs.Productions.{assign};
-ghost use Rattle.g4_tokens.specs.declared.token.Kind.TheVariants as kinds;
-ghost use Rattle.g4_prequels.specs.Progress.{is_next, Moves, GivesAs};
+ghost use Rattle.g4_grammar_tokens.specs.declared.token.Kind.TheVariants as kinds;
+ghost use Rattle.g4_cursor.specs.Progress.{is_next, Moves, GivesAs};
 ghost use Rattle.g4_productions.specs.Elements.{signed_atom, unlabelled, is_greedy, is_list, is_right, optional_suffix_of, action_item, item_of, with_suffix};
 ghost use Rattle.g4_productions.specs.Elements.{labelled_of};
 
 use g4_base::Place;
 use g4_source::{Alternative, Atom, AtomKind, Element, Label, Repeat, Suffix};
-use g4_prequels::{Cursor, optional_element_options};
-use g4_tokens::Kind;
+use g4_cursor::{Cursor, optional_element_options};
+use g4_grammar_tokens::Kind;
 use std::alloc::{AllocError, Global};
 
 /// An element, and whether `<assoc=right>` follows it: what is in brackets does not count.

@@ -1,12 +1,12 @@
 // The tokens after `~` in a parser rule.
 ghost use Rattle.std.specs.Prelude.{◌≡◌, ◌++◌, OnOk};
-ghost use Rattle.g4_prequels.specs.Progress.{Moves, Gives};
+ghost use Rattle.g4_cursor.specs.Progress.{Moves, Gives};
 ghost use Rattle.g4_productions.specs.ParserElements.{references_of, bracket_references};
 
 use g4_base::Sequence;
-use g4_prequels::{Cursor, literal, optional_element_options};
+use g4_cursor::{Cursor, literal, optional_element_options};
 use g4_source::TokenReference;
-use g4_tokens::Kind;
+use g4_grammar_tokens::Kind;
 use std::alloc::AllocError;
 
 /// Adds the references of a set of tokens.

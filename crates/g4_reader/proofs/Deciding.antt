@@ -3,17 +3,17 @@ use Rattle.std.proofs.Common.{◌≡◌, ◌⊎◌, ℕ, List, ◌∷◌, Bool, 
 use Rattle.std.specs.Option.{is_none}
 use Rattle.std.specs.Str.{chars}
 use Rattle.g4_base.specs.declared.place.Place.{Place}
-use Rattle.g4_tokens.specs.declared.token.Kind.TheVariants as kinds
+use Rattle.g4_grammar_tokens.specs.declared.token.Kind.TheVariants as kinds
 use Rattle.g4_syntax.specs.Notation.{Spelled, Terminal, of_kind, keyword, a_name, a_set, characters, excluded, Nonterminal, Expression, one, ◌▸◌, ◌∣◌, optional, repeated, part}
 use Rattle.g4_syntax.specs.Productions.{production, grammar}
 use Rattle.g4_syntax.specs.Trees.{Tree, leaf, both, left, right, absent, present, end, more, inner, begins_there, Reads, Comes, here, in_first, in_second, in_left, in_right, in_optional, in_turn, in_later_turn, in_part, Stops, HasTree, TextStops, within, after}
 use Rattle.g4_syntax.proofs.Unique.{one_reading, never_both}
-use Rattle.g4_prequels.specs.declared.cursor.Halt.{Halt}
-use Rattle.g4_prequels.specs.declared.cursor.Halt.TheVariants.{Fault, BadSet}
-use Rattle.g4_prequels.specs.Progress.{Progress, reading, stopped, is_next, at_fault, at_bad_set, reads, stops, stays, Passes}
-use Rattle.g4_prequels.specs.Sets.{content, IsBadContent, IsBadSet, bytes_at, is_no_character, begins_bad_range, BeginsBad, HasNoBad}
-use Rattle.g4_prequels.specs.Texts.{place_of}
-use Rattle.g4_prequels.proofs.Moving as moving
+use Rattle.g4_cursor.specs.declared.cursor.Halt.{Halt}
+use Rattle.g4_cursor.specs.declared.cursor.Halt.TheVariants.{Fault, BadSet}
+use Rattle.g4_cursor.specs.Progress.{Progress, reading, stopped, is_next, at_fault, at_bad_set, reads, stops, stays, Passes}
+use Rattle.g4_cursor.specs.Sets.{content, IsBadContent, IsBadSet, bytes_at, is_no_character, begins_bad_range, BeginsBad, HasNoBad}
+use Rattle.g4_cursor.specs.Texts.{place_of}
+use Rattle.g4_cursor.proofs.Moving as moving
 use Rattle.g4_productions.specs.Grammars.{HasBadSetAt}
 use Rattle.g4_productions.specs.Members.{set_of}
 use Rattle.g4_productions.proofs.SetText.{bad_set, none_bad}

@@ -2,19 +2,19 @@
 use Rattle.std.proofs.Common.{◌≡◌, ◌≢◌, ◌⊎◌, ℕ, List, [], ◌∷◌, ◌++◌, Result, Ok, Err, inl, inr, refl, sym, ◌∙◌, ap, ap₂, subst, length, arith, append_assoc, append-nil, length-append}
 use Rattle.std.specs.Str.{IsValidUpTo}
 use Rattle.g4_base.specs.declared.place.Place.{Place}
-use Rattle.g4_tokens.specs.declared.position.Position.{Position}
-use Rattle.g4_tokens.specs.declared.token.Token.{Token}
+use Rattle.g4_grammar_tokens.specs.declared.position.Position.{Position}
+use Rattle.g4_grammar_tokens.specs.declared.token.Token.{Token}
 use Rattle.g4_source.specs.declared.source.Source.{Source}
 use Rattle.g4_syntax.specs.Notation.{Spelled}
 use Rattle.g4_syntax.specs.Productions.{grammar}
 use Rattle.g4_syntax.specs.Trees.{Tree, HasTree, BeginsText, Ends}
 use Rattle.g4_syntax.proofs.Unique as trees
 use Rattle.g4_syntax.proofs.Texts.{read_before, comes_after}
-use Rattle.g4_prequels.specs.Texts.{spelled, place_of}
+use Rattle.g4_cursor.specs.Texts.{spelled, place_of}
 use Rattle.g4_productions.specs.Grammars.{IsGrammarText, HasBadSetAt, source_of}
 use Rattle.g4_reader.proofs.Utf8.{not_both, one_point}
 use Rattle.g4_reader.specs.Answering.{IsReadingOf}
-use Rattle.g4_prequels.specs.Sets.{HasNoBad}
+use Rattle.g4_cursor.specs.Sets.{HasNoBad}
 use Rattle.g4_reader.specs.Reading.{Fault, fault_at, opened_fault, HasSpelled, IsCut, IsFirstFault, IsReading}
 use Rattle.g4_reader.specs.declared.reader.ReadFault.{ReadFault}
 use Rattle.g4_reader.specs.declared.reader.ReadFault.TheVariants.{NotUtf8, Syntax, BadSet, NoMemory}

@@ -6,13 +6,13 @@ use Rattle.std.specs.Char.{len_utf8}
 use Rattle.std.specs.Str.{IsCharBoundary, chars, all_scalars}
 use Rattle.std.proofs.lemmas.Str.{IsCharBoundary-at_seam, encodes-append, encodes-chars, scalars-chars, length-encode}
 use Rattle.std.proofs.lemmas.List.Sums.{sum_by-cons}
-use Rattle.g4_tokens.specs.Answers.{HasTokens, start_of, unmarked}
-use Rattle.g4_tokens.specs.Positions.{byte_count, position_past}
-use Rattle.g4_tokens.specs.Scanning.{AreTokens, at_end, after_gap, with_token, token_at, start_at}
-use Rattle.g4_tokens.specs.Statements.{Word}
-use Rattle.g4_tokens.specs.declared.position.Position.{Position}
-use Rattle.g4_tokens.specs.declared.token.Token.{Token}
-use Rattle.g4_prequels.specs.Parts.{IsPart, AreParts, each_is}
+use Rattle.g4_grammar_tokens.specs.Answers.{HasTokens, start_of, unmarked}
+use Rattle.g4_grammar_tokens.specs.Positions.{byte_count, position_past}
+use Rattle.g4_grammar_tokens.specs.Scanning.{AreTokens, at_end, after_gap, with_token, token_at, start_at}
+use Rattle.g4_grammar_tokens.specs.Statements.{Word}
+use Rattle.g4_grammar_tokens.specs.declared.position.Position.{Position}
+use Rattle.g4_grammar_tokens.specs.declared.token.Token.{Token}
+use Rattle.g4_cursor.specs.Parts.{IsPart, AreParts, each_is}
 
 -- how many bytes characters take
 bytes_counted : (cs : List ℕ) → byte_count cs ≡ length (encode_utf8_all cs)

@@ -1,14 +1,14 @@
 -- What the reading of a text's tokens says of the text.
 use Rattle.std.proofs.Common.{◌≡◌, ℕ, List, ◌++◌, Result, Ok, Err, inr, refl, sym}
-use Rattle.g4_tokens.specs.Answers.{HasTokens}
-use Rattle.g4_tokens.specs.declared.token.Token.{Token}
+use Rattle.g4_grammar_tokens.specs.Answers.{HasTokens}
+use Rattle.g4_grammar_tokens.specs.declared.token.Token.{Token}
 use Rattle.g4_source.specs.declared.source.Source.{Source}
 use Rattle.g4_syntax.specs.Notation.{Spelled}
 use Rattle.g4_syntax.specs.Productions.{grammar}
 use Rattle.g4_syntax.specs.Trees.{TextStops}
 use Rattle.g4_syntax.proofs.FirstStop.{begins_text, ends_text}
-use Rattle.g4_prequels.specs.Texts.{spelled}
-use Rattle.g4_prequels.specs.Sets.{HasNoBad}
+use Rattle.g4_cursor.specs.Texts.{spelled}
+use Rattle.g4_cursor.specs.Sets.{HasNoBad}
 use Rattle.g4_reader.specs.Answering.{IsFault, IsReadingOf}
 use Rattle.g4_reader.specs.Reading.{HasSpelled, IsCut, IsReading, fault_at}
 use Rattle.g4_reader.specs.declared.reader.ReadFault.{ReadFault}

@@ -3,24 +3,24 @@ use Rattle.std.proofs.Common.{◌≡◌, ℕ, zero, suc, ◌+◌, ◌≤◌, Lis
 use Rattle.std.specs.Str.{IsUtf8, chars}
 use Rattle.std.proofs.lemmas.Bool.{cases_lt}
 use Rattle.g4_chars.specs.declared.escape.Context.TheVariants as Context
-use Rattle.g4_tokens.specs.Answers.{HasTokens, HasFault, IsScan, start_of, unmarked}
-use Rattle.g4_tokens.specs.Comments.{comment_end}
-use Rattle.g4_tokens.specs.Enclosed.{Encloses}
-use Rattle.g4_tokens.specs.Nesting.{Nests}
-use Rattle.g4_tokens.specs.Pieces.{Closing, comment, literal, set, arguments, action, Opening, decided, up_to, ends, IsEnd, IsPiece, at_once, with_end, endless, closed_piece}
-use Rattle.g4_tokens.specs.Positions.{position_past}
-use Rattle.g4_tokens.specs.Scanning.{AreTokens, IsFaultyAt, at_end, after_gap, with_token, right_here, past_gap, past_token, PieceAt, token_at}
-use Rattle.g4_tokens.specs.Statements.{Word}
-use Rattle.g4_tokens.specs.declared.piece.Piece.{Piece}
-use Rattle.g4_tokens.specs.declared.piece.Piece.TheVariants.{Gap, Formed, Faulty}
-use Rattle.g4_tokens.specs.declared.position.Position.{Position}
-use Rattle.g4_tokens.specs.declared.scanner.ScanFault.{ScanFault}
-use Rattle.g4_tokens.specs.declared.scanner.ScanFault.TheVariants.{NotUtf8, Syntax, NoMemory}
-use Rattle.g4_tokens.specs.declared.token.Token.{Token}
-use Rattle.g4_tokens.specs.Ends.{Finds}
-use Rattle.g4_tokens.proofs.Ends.{enclosed, find_enclosed, find_nesting}
-use Rattle.g4_tokens.proofs.Found.{no_comment, no_literal}
-use Rattle.g4_tokens.proofs.OneScan.{one_scan}
+use Rattle.g4_grammar_tokens.specs.Answers.{HasTokens, HasFault, IsScan, start_of, unmarked}
+use Rattle.g4_grammar_tokens.specs.Comments.{comment_end}
+use Rattle.g4_grammar_tokens.specs.Enclosed.{Encloses}
+use Rattle.g4_grammar_tokens.specs.Nesting.{Nests}
+use Rattle.g4_grammar_tokens.specs.Pieces.{Closing, comment, literal, set, arguments, action, Opening, decided, up_to, ends, IsEnd, IsPiece, at_once, with_end, endless, closed_piece}
+use Rattle.g4_grammar_tokens.specs.Positions.{position_past}
+use Rattle.g4_grammar_tokens.specs.Scanning.{AreTokens, IsFaultyAt, at_end, after_gap, with_token, right_here, past_gap, past_token, PieceAt, token_at}
+use Rattle.g4_grammar_tokens.specs.Statements.{Word}
+use Rattle.g4_grammar_tokens.specs.declared.piece.Piece.{Piece}
+use Rattle.g4_grammar_tokens.specs.declared.piece.Piece.TheVariants.{Gap, Formed, Faulty}
+use Rattle.g4_grammar_tokens.specs.declared.position.Position.{Position}
+use Rattle.g4_grammar_tokens.specs.declared.scanner.ScanFault.{ScanFault}
+use Rattle.g4_grammar_tokens.specs.declared.scanner.ScanFault.TheVariants.{NotUtf8, Syntax, NoMemory}
+use Rattle.g4_grammar_tokens.specs.declared.token.Token.{Token}
+use Rattle.g4_grammar_tokens.specs.Ends.{Finds}
+use Rattle.g4_grammar_tokens.proofs.Ends.{enclosed, find_enclosed, find_nesting}
+use Rattle.g4_grammar_tokens.proofs.Found.{no_comment, no_literal}
+use Rattle.g4_grammar_tokens.proofs.OneScan.{one_scan}
 
 -- where a piece ends, or that it doesn't
 abbrev SomeEnd : Closing → List ℕ → Type 0

@@ -1,14 +1,14 @@
 -- Each text has a reading.
 use Rattle.std.proofs.Common.{◌≡◌, ◌≢◌, ◌⊎◌, ℕ, List, ◌++◌, Result, Ok, Err, inl, inr, refl}
 use Rattle.std.specs.Str.{IsUtf8, IsValidUpTo}
-use Rattle.g4_tokens.specs.declared.position.Position.{Position}
-use Rattle.g4_tokens.specs.declared.token.Token.{Token}
+use Rattle.g4_grammar_tokens.specs.declared.position.Position.{Position}
+use Rattle.g4_grammar_tokens.specs.declared.token.Token.{Token}
 use Rattle.g4_source.specs.declared.source.Source.{Source}
 use Rattle.g4_syntax.specs.Notation.{Spelled}
 use Rattle.g4_syntax.specs.Productions.{grammar}
 use Rattle.g4_syntax.specs.Trees.{Tree, HasTree, TextStops}
 use Rattle.g4_syntax.proofs.Total.{text_or_stop}
-use Rattle.g4_prequels.specs.Texts.{spelled}
+use Rattle.g4_cursor.specs.Texts.{spelled}
 use Rattle.g4_productions.specs.Grammars.{source_of}
 use Rattle.g4_reader.proofs.Utf8.{utf8_or_not}
 use Rattle.g4_reader.specs.Answering.{IsReadingOf}

@@ -2,9 +2,9 @@
 use Rattle.std.proofs.Common.{◌≡◌, ℕ, zero, suc, ◌+◌, List, [], ◌∷◌, ◌++◌, Some, None, slice_get, refl, sym, ◌∙◌, ap, take, drop, map}
 use Rattle.std.proofs.lemmas.List.{drop_more, map-append, take-append-drop}
 use Rattle.std.proofs.lemmas.Option.{slice_get_within, get_or_from_slice_get}
-use Rattle.g4_tokens.specs.declared.token.Token.{Token}
-use Rattle.g4_prequels.specs.Texts.{from}
-use Rattle.g4_prequels.specs.Texts.{characters_of, spelled, spelled_token}
+use Rattle.g4_grammar_tokens.specs.declared.token.Token.{Token}
+use Rattle.g4_cursor.specs.Texts.{from}
+use Rattle.g4_cursor.specs.Texts.{characters_of, spelled, spelled_token}
 use Rattle.g4_reader.specs.Reading.{fault_at}
 
 -- the token at an index is the first of those from there on

@@ -3,7 +3,7 @@ use Rattle.std.specs.Prelude.{◌≡◌, ℕ, List, Result, Ok, Err}
 use Rattle.g4_source.specs.declared.source.Source.{Source}
 use Rattle.g4_syntax.specs.Notation.{Spelled}
 use Rattle.g4_syntax.specs.Productions.{grammar}
-use Rattle.g4_prequels.specs.Sets.{HasNoBad}
+use Rattle.g4_cursor.specs.Sets.{HasNoBad}
 use Rattle.g4_productions.specs.Grammars.{IsGrammarText, HasBadSetAt}
 use Rattle.g4_reader.specs.Reading.{Fault, IsFirstFault}
 use Rattle.g4_reader.specs.declared.reader.ReadFault.{ReadFault}

@@ -1,19 +1,19 @@
 -- What reading a grammar text answers. To trust `read_grammar`, read this file and those that it uses: the productions and trees
--- of `g4_syntax`, what trees say in `g4_productions` and `g4_prequels` (`Options`, `Prequels`, `Texts`), which sets are bad
--- (`Sets` of `g4_prequels`), and the tokens of `g4_tokens`.
+-- of `g4_syntax`, what trees say in `g4_productions` and `g4_cursor` (`Options`, `Prequels`, `Texts`), which sets are bad
+-- (`Sets` of `g4_cursor`), and the tokens of `g4_grammar_tokens`.
 use Rattle.std.specs.Prelude.{◌≡◌, ◌⊎◌, ℕ, List, [], ◌∷◌, ◌++◌, take, drop, Result, Ok, Err, codes}
 use Rattle.std.specs.Str.{IsValidUpTo, chars}
 use Rattle.g4_base.specs.declared.place.Place.{Place}
 use Rattle.g4_base.specs.Place.{first_place, place_after}
-use Rattle.g4_tokens.specs.Answers.{HasTokens, HasFault, unmarked}
-use Rattle.g4_tokens.specs.declared.position.Position.{Position}
-use Rattle.g4_tokens.specs.declared.token.Token.{Token}
+use Rattle.g4_grammar_tokens.specs.Answers.{HasTokens, HasFault, unmarked}
+use Rattle.g4_grammar_tokens.specs.declared.position.Position.{Position}
+use Rattle.g4_grammar_tokens.specs.declared.token.Token.{Token}
 use Rattle.g4_source.specs.declared.source.Source.{Source}
 use Rattle.g4_syntax.specs.Notation.{Spelled}
 use Rattle.g4_syntax.specs.Productions.{grammar}
 use Rattle.g4_syntax.specs.Trees.{BeginsText, Ends}
-use Rattle.g4_prequels.specs.Sets.{HasNoBad}
-use Rattle.g4_prequels.specs.Texts.{spelled}
+use Rattle.g4_cursor.specs.Sets.{HasNoBad}
+use Rattle.g4_cursor.specs.Texts.{spelled}
 use Rattle.g4_productions.specs.Grammars.{IsGrammarText, HasBadSetAt}
 use Rattle.g4_reader.specs.declared.reader.ReadFault.{ReadFault}
 use Rattle.g4_reader.specs.declared.reader.ReadFault.TheVariants.{NotUtf8, Syntax, BadSet, NoMemory}

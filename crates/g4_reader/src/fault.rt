@@ -1,18 +1,18 @@
 // The syntax faults of a text.
 ghost use Rattle.std.specs.Prelude.{◌≡◌, ◌≤◌, [], IfOk, length};
 ghost use Rattle.g4_base.specs.Place.{first_place, place_after};
-ghost use Rattle.g4_tokens.specs.Answers.{unmarked};
-ghost use Rattle.g4_prequels.specs.Texts.{characters_of};
-ghost use Rattle.g4_prequels.specs.Parts.{IsPart, AreParts};
+ghost use Rattle.g4_grammar_tokens.specs.Answers.{unmarked};
+ghost use Rattle.g4_cursor.specs.Texts.{characters_of};
+ghost use Rattle.g4_cursor.specs.Parts.{IsPart, AreParts};
 ghost use Rattle.g4_reader.specs.Reading.{end_of, fault_at, opened_fault};
-ghost use Rattle.g4_prequels.specs.Texts.{from};
+ghost use Rattle.g4_cursor.specs.Texts.{from};
 ghost use Rattle.g4_reader.specs.Answering.{IsFault};
 ghost use Rattle.g4_base.specs.declared.limits.TheConstants.{MOST_BYTES};
 
 use crate::reader::ReadFault;
 use g4_base::{Place, Sequence};
-use g4_prequels::{characters, token_at};
-use g4_tokens::Token;
+use g4_cursor::{characters, token_at};
+use g4_grammar_tokens::Token;
 use std::alloc::{AllocError, Global};
 
 /// The characters of the fault at the end of a text.

@@ -2,16 +2,16 @@
 ghost use Rattle.std.specs.Prelude.{◌≤◌, IfOk, length};
 ghost use Rattle.g4_source.specs.Blocks.{HaveAlternatives};
 ghost use Rattle.g4_reader.specs.Answering.{IsReadingOf};
-ghost use Rattle.g4_prequels.specs.Parts.{AreParts};
+ghost use Rattle.g4_cursor.specs.Parts.{AreParts};
 ghost use Rattle.g4_reader.specs.Reading.{IsReading};
-ghost use Rattle.g4_prequels.specs.Texts.{spelled};
+ghost use Rattle.g4_cursor.specs.Texts.{spelled};
 ghost use Rattle.g4_base.specs.declared.limits.TheConstants.{MOST_BYTES};
 
 use crate::fault::{fault_at, opened_fault};
 use g4_base::{Place, Sequence};
 use g4_productions::{Stop, read_tokens};
 use g4_source::Source;
-use g4_tokens::{ScanFault, Token, scan};
+use g4_grammar_tokens::{ScanFault, Token, scan};
 use std::alloc::Global;
 use std::str;
 

@@ -21,13 +21,13 @@ use Rattle.g4_grammar.specs.Written.{CallsIn, HaveNoEmptyLoop, HaveNoLeftCycle, 
 use Rattle.g4_cycles.specs.Cycles.{Reaches, once, further, LeadsAlong, IsCycle, IsFirstCycle}
 use Rattle.g4_cycles.specs.Edges.{EdgeOf, listed_by}
 use Rattle.g4_cycles.proofs.Reaching.{reaches_on}
-use Rattle.g4_nullable.specs.declared.lead.Lead.{Lead}
-use Rattle.g4_nullable.specs.declared.lead.Lead.TheVariants.{Call}
-use Rattle.g4_nullable.specs.declared.lead.LeadRule.{LeadRule}
-use Rattle.g4_nullable.specs.Leads.{ReadsLead, CallsLead, FollowsCall, OwnLead, operators_of, trees_of}
-use Rattle.g4_nullable.proofs.Running.{is_call}
+use Rattle.g4_recursion.specs.declared.lead.Lead.{Lead}
+use Rattle.g4_recursion.specs.declared.lead.Lead.TheVariants.{Call}
+use Rattle.g4_recursion.specs.declared.lead.LeadRule.{LeadRule}
+use Rattle.g4_recursion.specs.Leads.{ReadsLead, CallsLead, FollowsCall, OwnLead, operators_of, trees_of}
+use Rattle.g4_recursion.proofs.LeadsRunning.{is_call}
 use Rattle.g4_recursion.specs.Checking.{alternatives_in, HasEmptyLoop, HasEmptyOperator, IsAlternative, IsEmptyOperator, LacksPrimary}
-use Rattle.g4_recursion.specs.Leads.{AllBegin, IsEmptyAt, lead_in, leads_by, leads_in, may_have_operators, operators_in}
+use Rattle.g4_recursion.specs.AtomLeads.{AllBegin, IsEmptyAt, lead_in, leads_by, leads_in, may_have_operators, operators_in}
 use Rattle.g4_recursion.specs.Least.{FindsLeast}
 use Rattle.g4_recursion.specs.Numbers.{rule_number}
 use Rattle.g4_recursion.proofs.Leading.{calls, own, reads, rule_tree, trees_over}

@@ -24,13 +24,13 @@ use mathlib.Core.Path.{fun_ext}
 use Rattle.g4_grammar.specs.Written.{CallsIn, is_rule_of, KindCalls, KindReads, OwnIn, ReadsIn}
 use Rattle.g4_grammar.proofs.Carried.{in_order_over_twice}
 use Rattle.g4_grammar.proofs.Positions.{at_first, found_within, from_later}
-use Rattle.g4_nullable.specs.declared.lead.Lead.{Lead}
-use Rattle.g4_nullable.specs.declared.lead.Lead.TheVariants.{Empty, Symbol}
-use Rattle.g4_nullable.specs.declared.lead.LeadRule.{LeadRule}
-use Rattle.g4_nullable.specs.Leads.{ReadsLead, CallsLead, OwnLead, trees_of}
+use Rattle.g4_recursion.specs.declared.lead.Lead.{Lead}
+use Rattle.g4_recursion.specs.declared.lead.Lead.TheVariants.{Empty, Symbol}
+use Rattle.g4_recursion.specs.declared.lead.LeadRule.{LeadRule}
+use Rattle.g4_recursion.specs.Leads.{ReadsLead, CallsLead, OwnLead, trees_of}
 use Rattle.g4_recursion.specs.declared.numbers.Numbers.{Numbers}
 use Rattle.g4_recursion.specs.Numbers.{AreNumbers, number_in, rule_number}
-use Rattle.g4_recursion.specs.Leads.{lead_by, lead_in, leads_by, leads_in, may_have_operators, operators_in, reference_lead, text_lead}
+use Rattle.g4_recursion.specs.AtomLeads.{lead_by, lead_in, leads_by, leads_in, may_have_operators, operators_in, reference_lead, text_lead}
 use Rattle.g4_recursion.proofs.Over.{mapped_at}
 
 -- a symbol does not read the empty word

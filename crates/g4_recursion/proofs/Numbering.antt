@@ -3,7 +3,7 @@ use Rattle.std.proofs.Common.{◌≡◌, ℕ, ◌+◌, ◌<◌, List, [], ◌∷
 use Rattle.std.specs.List.{position}
 use Rattle.std.specs.Option.{option_or}
 use Rattle.std.proofs.lemmas.List.{take_more, map-append, length-map, length-take}
-use Rattle.g4_places.proofs.Firsts.{position-push}
+use Rattle.g4_names.proofs.Firsts.{position-push}
 use Rattle.g4_source.specs.declared.kind.RuleKind.{RuleKind}
 use Rattle.g4_source.specs.declared.rules.RuleView.{RuleView}
 use Rattle.g4_source.specs.Views.{rule_view}

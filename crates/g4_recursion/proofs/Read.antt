@@ -21,12 +21,12 @@ use Rattle.g4_grammar.specs.OwnCalls.{IsOneOf, LeftCallsAsRun}
 use Rattle.g4_grammar.specs.Loops.{SomeHasEmptyLoop}
 use Rattle.g4_grammar.specs.Written.{HaveNoLeftCycle, RuleLeftCalls}
 use Rattle.g4_horn.specs.Follows.{Tells}
-use Rattle.g4_nullable.specs.declared.lead.Lead.{Lead}
-use Rattle.g4_nullable.specs.declared.lead.LeadRule.{LeadRule}
-use Rattle.g4_nullable.specs.Leads.{ReadsLead, CallsLead, IsNullableRule, OwnLead, alternatives_of, operators_of, trees_of}
+use Rattle.g4_recursion.specs.declared.lead.Lead.{Lead}
+use Rattle.g4_recursion.specs.declared.lead.LeadRule.{LeadRule}
+use Rattle.g4_recursion.specs.Leads.{ReadsLead, CallsLead, IsNullableRule, OwnLead, alternatives_of, operators_of, trees_of}
 use Rattle.g4_recursion.specs.Checking.{HasEmptyLoop, IsEmptyOperator, LacksPrimary}
 use Rattle.g4_recursion.specs.Grammars.{AreLeads, rules_in}
-use Rattle.g4_recursion.specs.Leads.{AllBegin, IsEmptyAt, leads_by}
+use Rattle.g4_recursion.specs.AtomLeads.{AllBegin, IsEmptyAt, leads_by}
 use Rattle.g4_recursion.specs.Least.{FindsLeast}
 use Rattle.g4_recursion.specs.Numbers.{rule_number}
 use Rattle.g4_recursion.specs.declared.grammar.Grammar.{Grammar}

@@ -3,9 +3,9 @@ use Rattle.std.specs.Prelude.{◌≡◌, ◌<◌, ◌^◌, List, length, map}
 use Rattle.g4_source.specs.declared.rule.Rule.{Rule}
 use Rattle.g4_source.specs.Views.{rule_view}
 use Rattle.g4_horn.specs.Follows.{Tells}
-use Rattle.g4_nullable.specs.Leads.{IsNullableRule, operators_of, trees_of}
+use Rattle.g4_recursion.specs.Leads.{IsNullableRule, operators_of, trees_of}
 use Rattle.g4_recursion.specs.declared.grammar.Grammar.{Grammar}
-use Rattle.g4_recursion.specs.Leads.{leads_in, operators_in}
+use Rattle.g4_recursion.specs.AtomLeads.{leads_in, operators_in}
 
 -- the rules
 abbrev pub rules_in : Grammar → List Rule

@@ -1,75 +1,43 @@
--- What the atoms of rules do before anything is read, by the numbers of rules.
-use Rattle.std.specs.Prelude.{◌≡◌, ◌<◌, ℕ, List, [], ◌∷◌, Bool, true, false, map, Option, Some, None, slice_get, codes, cond, length}
-use Rattle.std.specs.Str.{bytes_eq}
-use Rattle.g4_source.specs.Elements.{Alternatives, Elements}
-use Rattle.g4_source.specs.Bind.{in_order_over}
-use Rattle.g4_source.specs.declared.atom.AtomKind.{AtomKind}
-use Rattle.g4_source.specs.declared.atom.AtomKind.TheVariants.{Rule as Reference, Token, Literal, Action, Predicate}
-use Rattle.g4_source.specs.declared.rule.Rule.{Rule}
-use Rattle.g4_source.specs.declared.rule.Rule.TheVariants as rule_variants
-use Rattle.g4_source.specs.declared.kind.RuleKind.{RuleKind}
-use Rattle.g4_source.specs.declared.kind.RuleKind.TheVariants.{Parser, Lexer}
-use Rattle.g4_source.specs.Atoms.{AtomIn}
-use Rattle.g4_grammar.specs.LeftCalls.{AllNullable}
-use Rattle.g4_nullable.specs.declared.lead.Lead.{Lead}
-use Rattle.g4_nullable.specs.declared.lead.Lead.TheVariants.{Empty, Symbol, Call}
-use Rattle.g4_nullable.specs.Leads.{ReadsLead, CallsLead, FollowsCall}
-use Rattle.g4_recursion.specs.Numbers.{rule_number}
+-- Rules whose atoms are seen by what they do before anything is read.
+use Rattle.std.specs.Prelude.{◌≡◌, ℕ, List, [], ◌∷◌, Bool, true, map, Some, slice_get}
+use Rattle.g4_source.specs.Elements.{atom, Elements, then, Alternatives, either}
+use Rattle.g4_grammar.specs.LeftCalls.{OneNullable}
+use Rattle.g4_recursion.specs.declared.lead.Lead.{Lead}
+use Rattle.g4_recursion.specs.declared.lead.Lead.TheVariants.{Empty, Symbol, Call}
+use Rattle.g4_recursion.specs.declared.lead.LeadRule.{LeadRule}
 
--- a reference to the rule of this number. Where there is no such rule, it derives nothing, and in particular not the empty word
-abbrev pub reference_lead : Option ℕ → Lead
-reference_lead None = Symbol
-reference_lead (Some k) = Call k
+-- the words of an atom: a symbol represents whatever reads something, and a call reads nothing of its own
+abbrev pub ReadsLead : Lead → List ℕ → Type 0
+ReadsLead Empty w = w ≡ []
+ReadsLead Symbol w = (symbol : ℕ) × (w ≡ symbol ∷ [])
+ReadsLead (Call rule) w = ⊥
 
--- a text that is matched
-abbrev pub text_lead : List ℕ → Lead
-text_lead [] = Empty
-text_lead (c ∷ cs) = Symbol
+-- the rules that an atom calls
+abbrev pub CallsLead : Lead → ℕ → Type 0
+CallsLead Empty k = ⊥
+CallsLead Symbol k = ⊥
+CallsLead (Call rule) k = k ≡ rule
 
-module _ (number_of : RuleKind → List ℕ → Option ℕ) where
-  -- an atom of a rule of this kind, where names have these numbers; in a lexer rule the end of the file is the empty text
-  abbrev pub lead_by : RuleKind → AtomKind → Lead
-  lead_by Parser (Reference name) = reference_lead (number_of Parser name.text)
-  lead_by Parser Action = Empty
-  lead_by Parser (Predicate name) = Empty
-  lead_by Parser a = Symbol
-  lead_by Lexer (Token name) = cond (bytes_eq name.text (codes "EOF")) Empty (reference_lead (number_of Lexer name.text))
-  lead_by Lexer (Literal literal) = text_lead literal.characters
-  lead_by Lexer Action = Empty
-  lead_by Lexer (Predicate name) = Empty
-  lead_by Lexer a = Symbol
+-- the alternatives of a rule as trees
+abbrev pub alternatives_of : LeadRule → Alternatives Lead
+alternatives_of rule = either rule.alternatives
 
-  -- the alternatives of a rule
-  abbrev pub leads_by : Rule → List (Elements Lead)
-  leads_by (rule_variants.Parser rule) = map (λ alternative. in_order_over (λ a. lead_by Parser a.kind) alternative.elements) rule.alternatives
-  leads_by (rule_variants.Lexer rule) = map (λ alternative. in_order_over (λ a. lead_by Lexer a.kind) alternative.elements) rule.alternatives
+-- the same of each rule
+abbrev pub trees_of : List LeadRule → List (Alternatives Lead)
+trees_of rules = map alternatives_of rules
 
--- an atom of one of the rules
-abbrev pub lead_in : List Rule → AtomIn → Lead
-lead_in rules a = lead_by (rule_number rules) a.kind a.atom.kind
+-- of each rule, whether it may have operators
+abbrev pub operators_of : List LeadRule → List Bool
+operators_of rules = map (λ rule. rule.may_have_operators) rules
 
--- the alternatives of each of the rules
-abbrev pub leads_in : List Rule → List (List (Elements Lead))
-leads_in rules = map (leads_by (rule_number rules)) rules
+-- an atom with which an operator of rule k may begin: a call of rule k, which by these answers may have operators
+abbrev pub OwnLead : List Bool → Lead → ℕ → Type 0
+OwnLead operators a k = CallsLead a k × (slice_get operators k ≡ Some true)
 
--- a parser rule may have operators, a lexer rule has none
-abbrev pub may_have_operators : Rule → Bool
-may_have_operators (rule_variants.Parser rule) = true
-may_have_operators (rule_variants.Lexer rule) = false
+-- the elements begin with a plain call of rule k, and the others follow it
+abbrev pub FollowsCall : ℕ → Elements Lead → Elements Lead → Type 0
+FollowsCall k elements rest = elements ≡ then (atom (Call k)) rest
 
--- the same of each of the rules
-abbrev pub operators_in : List Rule → List Bool
-operators_in rules = map may_have_operators rules
-
--- there are alternatives, and each begins with a call of rule k
-pub record AllBegin (k : ℕ) (alternatives : List (Elements Lead)) : Type 0 where
-  pub some : 0 < length alternatives
-  pub each : (place : ℕ) (elements : Elements Lead) → slice_get alternatives place ≡ Some elements → (rest : Elements Lead) × FollowsCall k elements rest
-
--- the elements begin with a call of rule k, and what follows derives the empty word
-abbrev pub IsEmptyAfterCall : List (Alternatives Lead) → ℕ → Elements Lead → Type 0
-IsEmptyAfterCall rules k elements = (rest : Elements Lead) × FollowsCall k elements rest × AllNullable ReadsLead CallsLead rules rest
-
--- the alternative at this place does
-abbrev pub IsEmptyAt : List (Alternatives Lead) → ℕ → List (Elements Lead) → ℕ → Type 0
-IsEmptyAt rules k alternatives place = (elements : Elements Lead) × (slice_get alternatives place ≡ Some elements) × IsEmptyAfterCall rules k elements
+-- rule k derives the empty word
+abbrev pub IsNullableRule : List (Alternatives Lead) → ℕ → Type 0
+IsNullableRule rules k = (xs : Alternatives Lead) × (slice_get rules k ≡ Some xs) × OneNullable ReadsLead CallsLead rules xs

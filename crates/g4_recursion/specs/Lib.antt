@@ -1,4 +1,7 @@
+pub mod AtomLeads
+pub mod Bodies
 pub mod Checking
+pub mod Finds
 pub mod Grammars
 pub mod Leads
 pub mod Least

@@ -1,7 +1,7 @@
 -- The numbers of rules by their names.
 use Rattle.std.specs.Prelude.{◌≡◌, ℕ, List, Option}
 use Rattle.std.specs.List.{position}
-use Rattle.g4_places.specs.Places.{place_in}
+use Rattle.g4_names.specs.Places.{place_in}
 use Rattle.g4_source.specs.declared.rule.Rule.{Rule}
 use Rattle.g4_source.specs.declared.kind.RuleKind.{RuleKind}
 use Rattle.g4_source.specs.declared.kind.RuleKind.TheVariants.{Parser, Lexer}

@@ -2,13 +2,13 @@
 ghost use Rattle.std.specs.Prelude.{◌↔◌, IsTrue, List};
 ghost use Rattle.g4_source.specs.Elements.{Alternatives};
 ghost use Rattle.g4_horn.specs.Follows.{Tells};
-ghost use Rattle.g4_nullable.specs.declared.lead.Lead.{Lead as Atom};
-ghost use Rattle.g4_nullable.specs.Leads.{IsNullableRule};
-ghost use Rattle.g4_recursion.specs.Leads.{AllBegin, IsEmptyAfterCall, IsEmptyAt};
+ghost use Rattle.g4_recursion.specs.declared.lead.Lead.{Lead as Atom};
+ghost use Rattle.g4_recursion.specs.Leads.{IsNullableRule};
+ghost use Rattle.g4_recursion.specs.AtomLeads.{AllBegin, IsEmptyAfterCall, IsEmptyAt};
 ghost use Rattle.g4_recursion.specs.Least.{FindsLeast};
 
 use g4_source::Elements;
-use g4_nullable::{Lead, after_call, are_nullable};
+use crate::{Lead, after_call, are_nullable};
 
 /// Whether there are alternatives, and each begins with a plain call of the rule of this number.
 pub fn all_begin(number: usize, alternatives: &[Elements<Lead>]) -> bool

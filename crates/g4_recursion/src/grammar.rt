@@ -13,7 +13,7 @@ use crate::direct::{all_begin, first_empty};
 use crate::leads::lead_rules;
 use g4_base::{Sequence, Text};
 use g4_cycles::first_cycle;
-use g4_nullable::{LeadRule, has_empty_loop, left_calls, nullable};
+use crate::{LeadRule, has_empty_loop, left_calls, nullable};
 use g4_source::{RuleView, Source, rules_of};
 use std::alloc::{AllocError, Global};
 

@@ -3,14 +3,14 @@ ghost use Rattle.std.specs.Prelude.{◌≡◌, ◌<◌, ◌^◌, IfOk, OnOk, len
 ghost use Rattle.g4_source.specs.Bind.{in_order_over};
 ghost use Rattle.g4_source.specs.Views.{rule_view};
 ghost use Rattle.g4_source.specs.declared.kind.RuleKind.TheVariants as kinds;
-ghost use Rattle.g4_nullable.specs.Leads.{operators_of};
-ghost use Rattle.g4_recursion.specs.Leads.{lead_by, leads_by, leads_in, may_have_operators, operators_in, reference_lead, text_lead};
+ghost use Rattle.g4_recursion.specs.Leads.{operators_of};
+ghost use Rattle.g4_recursion.specs.AtomLeads.{lead_by, leads_by, leads_in, may_have_operators, operators_in, reference_lead, text_lead};
 ghost use Rattle.g4_recursion.specs.Numbers.{number_in};
 
 use crate::numbers::{Numbers, numbers_of};
 use g4_base::Sequence;
 use g4_source::{Atom, AtomKind, Element, Elements, LexerRule, ParserRule, RuleKind, RuleView, Substitution, substituted};
-use g4_nullable::{Lead, LeadRule};
+use crate::{Lead, LeadRule};
 use std::alloc::{AllocError, Global};
 
 /// What the atoms of rules of one kind become, where rules have these numbers.
@@ -89,7 +89,7 @@ impl Substitution<Atom> for Leading<'_, '_> {
     type To = Lead;
 
     ghost use Rattle.g4_source.specs.Elements.{atom as lone};
-    ghost use Rattle.g4_recursion.specs.Leads.{lead_by};
+    ghost use Rattle.g4_recursion.specs.AtomLeads.{lead_by};
     ghost use Rattle.g4_recursion.specs.Numbers.{number_in};
 
     ghost image = { λ stage a. lone (lead_by (number_in stage.numbers.now) stage.kind a.kind) };

@@ -6,7 +6,7 @@ ghost use Rattle.g4_source.specs.Views.{rule_view};
 ghost use Rattle.g4_source.specs.declared.kind.RuleKind.{RuleKind as Kind};
 ghost use Rattle.g4_recursion.specs.Numbers.{AreNumbers, number_in};
 
-use g4_places::Places;
+use g4_names::Places;
 use g4_source::{RuleKind, RuleView};
 use std::alloc::{AllocError, Global};
 

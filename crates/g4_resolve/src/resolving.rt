@@ -3,14 +3,14 @@ ghost use Rattle.std.specs.Prelude.{◌≡◌, ◌≤◌, ◌<◌, ◌^◌, All,
 ghost use Rattle.g4_source.specs.Blocks.{ParserRulesAreFull};
 ghost use Rattle.g4_grammar.specs.NumberedRules.{NumberedRuleIsUntested, NumberedRulesAreDefined, NumberedRulesCanRun, RuleLeavesEnd};
 ghost use Rattle.g4_grammar.specs.StepRules.{CanBeRewritten};
-ghost use Rattle.g4_places.specs.Places.{ArePlaces};
+ghost use Rattle.g4_names.specs.Places.{ArePlaces};
 ghost use Rattle.g4_resolve.specs.Resolving.{place_named, place_of_predicate, resolved_alternative, resolved_rule, step_of};
 
 use g4_base::{Place, Sequence, Text};
 use g4_source::{Element, ParserRule, RuleAlternative, Substitution, substituted};
 use g4_grammar::{NumberedAtom, NumberedKind, Step, StepRule};
-use g4_places::{Places, places_of};
-use g4_symbols::Symbols;
+use g4_names::{Places, places_of};
+use g4_tokens::Symbols;
 use std::alloc::{AllocError, Global};
 
 /// What references and predicates become: the names of the rules, which count from 1, and the places of the predicates, which

@@ -12,8 +12,8 @@ use Rattle.g4_net.specs.declared.network.State.TheVariants.{Call}
 use Rattle.g4_run.specs.Running.{Frame, Run, Values, backs, parsed, Runs}
 use Rattle.g4_run.proofs.LastSymbol.{Closes, loop_closes, nothing_left, only_symbol}
 use Rattle.g4_run.proofs.Spelled.{run_spells}
-use Rattle.g4_symbols.specs.Symbols.{end_of_list}
-use Rattle.g4_token_list.specs.TokenList.{EndsInEnd}
+use Rattle.g4_tokens.specs.Symbols.{end_of_list}
+use Rattle.g4_tokens.specs.TokenList.{EndsInEnd}
 use Rattle.g4_trees.specs.Trees.{Tree}
 
 module _ {looped : List ℕ} (net : ParserNetwork) (rule loop : ℕ) (apart : IsApart net rule loop looped) where

@@ -14,7 +14,7 @@ use Rattle.g4_net.specs.Network.{ParserNetwork}
 use Rattle.g4_run.specs.Running.{Ending, Ends, parsed, too_deep, deepest, no_predicates}
 use Rattle.g4_run.proofs.Levelled.{word_ends}
 use Rattle.g4_run.proofs.Spelled.{tree_is_spelled}
-use Rattle.g4_token_list.specs.TokenList.{EndsInEnd}
+use Rattle.g4_tokens.specs.TokenList.{EndsInEnd}
 use Rattle.g4_trees.specs.Trees.{Tree}
 
 -- a token list that has a tree is derived

@@ -5,8 +5,8 @@ use Rattle.g4_net.specs.AddedRule.{IsApart}
 use Rattle.g4_net.specs.Network.{ParserNetwork, start_of}
 use Rattle.g4_net.specs.declared.network.State.TheVariants.{Decision, End, Edge, Call, Empty}
 use Rattle.g4_run.proofs.Unfolding.{unfold_at}
-use Rattle.g4_symbols.specs.Symbols.{end_of_list}
-use Rattle.g4_token_list.specs.TokenList.{EndsInEnd}
+use Rattle.g4_tokens.specs.Symbols.{end_of_list}
+use Rattle.g4_tokens.specs.TokenList.{EndsInEnd}
 
 -- the one symbol of a set
 pub only_symbol : (x a : ℕ) → Contains (x ∷ []) a → a ≡ x

@@ -16,7 +16,7 @@ use Rattle.g4_net.specs.declared.network.State.{State}
 use Rattle.g4_net.specs.declared.network.State.TheVariants.{Decision, End, Edge, Call, Predicate, Level, Action, Empty}
 use Rattle.g4_run.specs.Running.{Frame, Run, backs, Ending, Values, parsed, too_deep, beginning, begun, with_alt, with_child, with_token, wrapped, level_of, node_of, Passes, no_test, predicate_holds, level_holds, AllowsAt, Predicts, ClosesBy, GoesBy, StopsBy, Runs, stops, goes}
 use Rattle.g4_net.specs.Network.{written_at}
-use Rattle.g4_walks.proofs.Firsts.{at_is_member}
+use Rattle.g4_derivation.proofs.Firsts.{at_is_member}
 use Rattle.g4_run.proofs.Moments.{target_first, same_first, backs_alt, backs_child, backs_token, backs_wrapped, place_child, state_child, symbol_first}
 use Rattle.g4_run.proofs.Unfolding.{unfold_at}
 use Rattle.g4_trees.specs.Trees.{Tree}

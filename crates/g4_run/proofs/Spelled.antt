@@ -9,7 +9,7 @@ use Rattle.g4_net.specs.declared.network.State.TheVariants.{Decision, End, Edge,
 use Rattle.g4_run.specs.Running.{Frame, Run, backs, Ending, Values, parsed, beginning, begun, node_of, ClosesBy, GoesBy, StopsBy, Runs, stops, goes}
 use Rattle.g4_run.proofs.Moments.{first_in, backs_alt, backs_child, backs_token, backs_wrapped, place_child, state_child, symbol_first}
 use Rattle.g4_run.proofs.LastSymbol.{last_symbol, nothing_left}
-use Rattle.g4_token_list.specs.TokenList.{EndsInEnd}
+use Rattle.g4_tokens.specs.TokenList.{EndsInEnd}
 use Rattle.g4_trees.specs.Trees.{Tree}
 
 module _ (net : ParserNetwork) (values : Values) (word : List ℕ) where

@@ -7,7 +7,7 @@ ghost use Rattle.g4_layout.specs.Built.{IsBuilt};
 ghost use Rattle.g4_leftrec.specs.Rewriting.{numberings, rewritten};
 ghost use Rattle.g4_net.specs.Network.{ParserNetwork};
 ghost use Rattle.g4_run.specs.Running.{Ending, Ends, parsed, too_deep};
-ghost use Rattle.g4_token_list.specs.TokenList.{EndsInEnd};
+ghost use Rattle.g4_tokens.specs.TokenList.{EndsInEnd};
 ghost use Rattle.g4_trees.specs.Trees.{Tree};
 
 /// A run over a word has at most one ending.

@@ -1,4 +1,6 @@
 // Grammars as they are written: all that later stages need of a grammar text, in order of the text.
+// The elements of a rule are a tree over any atoms, and each stage is a substitution that puts an element in the place of each atom.
+// The rules of both kinds are lent one by one.
 #![tactic(auto)]
 
 mod atom;

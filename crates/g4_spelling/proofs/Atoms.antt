@@ -18,15 +18,15 @@ use Rattle.g4_grammar.specs.Derives.{NoCalls, Derives, an_atom, a_call, a_block,
 use Rattle.g4_grammar.specs.Written.{IsEndOfFile, MatchesKind}
 use Rattle.g4_ordered.specs.declared.network.Reads.{Reads}
 use Rattle.g4_ordered.specs.declared.network.Reads.TheVariants.{Characters, EndOfText}
-use Rattle.g4_walks.specs.Walks.{AnyLevel, ReadsLetter}
-use Rattle.g4_lexnet.specs.declared.step.LexerStep.{LexerStep}
-use Rattle.g4_lexnet.specs.declared.step.LexerStep.TheVariants.{Set, AtEnd, Call}
-use Rattle.g4_lexnet.specs.Lexable.{CallsNamed, KindCallsNamed}
-use Rattle.g4_lexnet.specs.Steps.{characters_in_order, element_of_kind, spanned, step_of, SetIsCanonical}
-use Rattle.g4_lexnet.proofs.Matches.{sets_match}
+use Rattle.g4_derivation.specs.Walks.{AnyLevel, ReadsLetter}
+use Rattle.g4_lexer_rules.specs.declared.step.LexerStep.{LexerStep}
+use Rattle.g4_lexer_rules.specs.declared.step.LexerStep.TheVariants.{Set, AtEnd, Call}
+use Rattle.g4_lexer_rules.specs.Lexable.{CallsNamed, KindCallsNamed}
+use Rattle.g4_lexer_rules.specs.Steps.{characters_in_order, element_of_kind, spanned, step_of, SetIsCanonical}
+use Rattle.g4_lexer_rules.proofs.Matches.{sets_match}
 use Rattle.g4_spelling.specs.Marks.{Mark, character, end_of_file, ReadsMarks}
 use Rattle.g4_spelling.proofs.Covers.{TakesMarks}
-use Rattle.g4_walks.proofs.Joined.{joined}
+use Rattle.g4_derivation.proofs.Joined.{joined}
 
 -- a letter of a step: the marks that its label takes, or a word that is named by the rule that it calls
 abbrev pub Letters : (ℕ → List Mark → Type 0) → Step Reads → List (List Mark) → Type 0

@@ -12,20 +12,20 @@ use Rattle.g4_net.specs.declared.network.State.{State}
 use Rattle.g4_ordered.specs.Configurations.{In}
 use Rattle.g4_ordered.specs.declared.network.Reads.{Reads}
 use Rattle.g4_ordered.proofs.Lists.{In-cases, In-from, In-left, In-right, In-to}
-use Rattle.g4_walks.specs.Alternatives.{each_of}
-use Rattle.g4_walks.specs.Alternatives as walks
-use Rattle.g4_walks.proofs.Beginnings.{laid_as}
-use Rattle.g4_lexnet.specs.declared.lex_net.LexNet.{LexNet}
+use Rattle.g4_derivation.specs.Alternatives.{each_of}
+use Rattle.g4_derivation.specs.Alternatives as walks
+use Rattle.g4_derivation.proofs.Beginnings.{laid_as}
+use Rattle.g4_lexer_rules.specs.declared.lex_net.LexNet.{LexNet}
 use Rattle.g4_ordered.specs.declared.start.Start.{Start}
-use Rattle.g4_lexnet.specs.Lexable.{CanBeLexed}
-use Rattle.g4_lexnet.specs.LexNets.{IsLexNet}
-use Rattle.g4_lexnet.specs.Rules.{all_rules, rules_of_modes, trees_of}
-use Rattle.g4_lexnet.specs.Starts.{decided_starts, matched_starts, numbered_starts, rule_starts, starts_from, starts_of_modes, unless_fragment}
+use Rattle.g4_lexer_rules.specs.Lexable.{CanBeLexed}
+use Rattle.g4_lexer_rules.specs.LexNets.{IsLexNet}
+use Rattle.g4_lexer_rules.specs.NetworkRules.{all_rules, rules_of_modes, trees_of}
+use Rattle.g4_lexer_rules.specs.Starts.{decided_starts, matched_starts, numbered_starts, rule_starts, starts_from, starts_of_modes, unless_fragment}
 use Rattle.g4_spelling.specs.Begins.{IsRuleOfMode, MayBegin, first_of_mode}
 use Rattle.g4_spelling.specs.Matches.{IsStarted}
 use Rattle.g4_spelling.proofs.Matched.{alternative_there}
 use Rattle.g4_spelling.proofs.Modes.{AreFrom, item_after, item_front, mode_is, own_rule, unfragmented}
-use Rattle.g4_walks.proofs.Firsts.{at_is_member, begins_at}
+use Rattle.g4_derivation.proofs.Firsts.{at_is_member, begins_at}
 use Rattle.g4_spelling.proofs.Placed.{all_laid, alternative_laid, item_below, laid, tree_of}
 
 -- what is left of the starts of a rule is of one that is no fragment

@@ -9,9 +9,9 @@ use Rattle.g4_source.specs.declared.atom.AtomKind.{AtomKind}
 use Rattle.g4_source.specs.declared.atom.AtomKind.TheVariants as kinds
 use Rattle.g4_grammar.specs.LeftCalls.{HasCall, OneHasCall, SomeHasCall}
 use Rattle.g4_grammar.specs.Steps.{CallsRule}
-use Rattle.g4_lexnet.specs.declared.step.LexerStep.TheVariants.{AtEnd, Call}
-use Rattle.g4_lexnet.specs.Lexable.{CallsNamed, KindCallsNamed}
-use Rattle.g4_lexnet.specs.Steps.{characters_in_order, element_of_kind, step_of}
+use Rattle.g4_lexer_rules.specs.declared.step.LexerStep.TheVariants.{AtEnd, Call}
+use Rattle.g4_lexer_rules.specs.Lexable.{CallsNamed, KindCallsNamed}
+use Rattle.g4_lexer_rules.specs.Steps.{characters_in_order, element_of_kind, step_of}
 use Rattle.g4_spelling.specs.Greedy.{IsGreedyElement, AreGreedy, EachIsGreedy}
 use Rattle.g4_spelling.proofs.Atoms.{kind_of}
 

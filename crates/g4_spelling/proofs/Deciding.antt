@@ -17,10 +17,10 @@ use Rattle.g4_grammar.specs.LeftCalls.{ReachesBy, one_call, more_calls, HasCall,
 use Rattle.g4_net.proofs.Finite.{In-below, below}
 use Rattle.g4_net.proofs.Pigeons.{Apart, In, at_most}
 use Rattle.g4_ordered.proofs.Deciding.{Either}
-use Rattle.g4_lexnet.specs.Lexable.{CallsNamed, KindCallsNamed}
-use Rattle.g4_lexnet.specs.Rules.{names_of}
+use Rattle.g4_lexer_rules.specs.Lexable.{CallsNamed, KindCallsNamed}
+use Rattle.g4_lexer_rules.specs.NetworkRules.{names_of}
 use Rattle.g4_spelling.specs.Greedy.{SignIsGreedy, IsGreedyElement, AreGreedy, EachIsGreedy, RuleCalls, IsPartOf, IsWrittenGreedy}
-use Rattle.g4_walks.proofs.Items.{item_map}
+use Rattle.g4_derivation.proofs.Items.{item_map}
 
 -- of two
 decide_both : {P Q : Type 0} → Either P → Either Q → Either (P × Q)

@@ -16,21 +16,21 @@ use Rattle.g4_layout.specs.Layout.{IsNetworkOf}
 use Rattle.g4_ordered.specs.declared.network.Reads.{Reads}
 use Rattle.g4_ordered.specs.Network.{LexerNetwork}
 use Rattle.g4_ordered.specs.Spelling.{SpellsText, TakesText}
-use Rattle.g4_walks.specs.Alternatives as walks
-use Rattle.g4_walks.specs.Walks.{AnyLevel, WalksTo}
-use Rattle.g4_walks.proofs.Beginnings.{laid_as, ends_at}
-use Rattle.g4_walks.proofs.Joining.{decide}
-use Rattle.g4_walks.proofs.Words as words
-use Rattle.g4_walks.proofs.Firsts.{Leads, rule_leads}
-use Rattle.g4_walks.proofs.Items.{item_map, map_item}
-use Rattle.g4_walks.proofs.Joined.{joined}
-use Rattle.g4_walks.proofs.Spelt as spelling
-use Rattle.g4_lexnet.specs.declared.lex_net.LexNet.{LexNet}
-use Rattle.g4_lexnet.specs.Lexable.{CallsNamed, CanBeLexed}
-use Rattle.g4_lexnet.specs.LexNets.{IsLexNet}
-use Rattle.g4_lexnet.specs.Rules.{all_rules, names_of, trees_of}
-use Rattle.g4_lexnet.specs.Starts.{rule_starts}
-use Rattle.g4_lexnet.specs.Steps.{step_of}
+use Rattle.g4_derivation.specs.Alternatives as walks
+use Rattle.g4_derivation.specs.Walks.{AnyLevel, WalksTo}
+use Rattle.g4_derivation.proofs.Beginnings.{laid_as, ends_at}
+use Rattle.g4_derivation.proofs.Joining.{decide}
+use Rattle.g4_derivation.proofs.Words as words
+use Rattle.g4_derivation.proofs.Firsts.{Leads, rule_leads}
+use Rattle.g4_derivation.proofs.Items.{item_map, map_item}
+use Rattle.g4_derivation.proofs.Joined.{joined}
+use Rattle.g4_derivation.proofs.Spelt as spelling
+use Rattle.g4_lexer_rules.specs.declared.lex_net.LexNet.{LexNet}
+use Rattle.g4_lexer_rules.specs.Lexable.{CallsNamed, CanBeLexed}
+use Rattle.g4_lexer_rules.specs.LexNets.{IsLexNet}
+use Rattle.g4_lexer_rules.specs.NetworkRules.{all_rules, names_of, trees_of}
+use Rattle.g4_lexer_rules.specs.Starts.{rule_starts}
+use Rattle.g4_lexer_rules.specs.Steps.{step_of}
 use Rattle.g4_spelling.specs.Canonical.{SetsAreCanonical}
 use Rattle.g4_spelling.specs.Fronts.{IsLexStart, DerivesMarks, IsAlternativeOf, DerivesFront}
 use Rattle.g4_spelling.specs.Marks.{Mark, character, end_of_file, ReadsMarks}

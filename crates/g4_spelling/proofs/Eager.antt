@@ -18,26 +18,26 @@ use Rattle.g4_layout.proofs.Rules.{LaidRule, rule_laid}
 use Rattle.g4_layout.proofs.RulesSound.{heads_sound, others_sound}
 use Rattle.g4_layout.proofs.Sound.{IsSoundState, SoundAt, target_allowed}
 use Rattle.g4_layout.proofs.Trees.{CallsKnown, EachIsSound, each_sound}
-use Rattle.g4_draft.specs.Rules.{AreFullTrees}
+use Rattle.g4_states.specs.Rules.{AreFullTrees}
 use Rattle.g4_ordered.specs.Configurations.{LexerConfig}
 use Rattle.g4_ordered.specs.Greedy.{Within, onward, called, IsGreedy}
 use Rattle.g4_ordered.specs.Greedy as greedy
 use Rattle.g4_ordered.specs.Matching.{IsGreedyRule}
 use Rattle.g4_ordered.specs.Network.{LexerNetwork, is_reluctant}
 use Rattle.g4_ordered.specs.declared.network.Reads.{Reads}
-use Rattle.g4_lexnet.specs.declared.lex_net.LexNet.{LexNet}
+use Rattle.g4_lexer_rules.specs.declared.lex_net.LexNet.{LexNet}
 use Rattle.g4_ordered.specs.declared.start.Start.{Start}
 use Rattle.g4_ordered.specs.Starts.{starts_of}
-use Rattle.g4_lexnet.specs.Lexable.{CanBeLexed}
-use Rattle.g4_lexnet.specs.LexNets.{IsLexNet}
-use Rattle.g4_lexnet.specs.Rules.{all_rules, names_of, trees_of}
-use Rattle.g4_lexnet.specs.Starts.{decided_starts, rule_starts}
-use Rattle.g4_lexnet.proofs.Trees.{trees_full}
+use Rattle.g4_lexer_rules.specs.Lexable.{CanBeLexed}
+use Rattle.g4_lexer_rules.specs.LexNets.{IsLexNet}
+use Rattle.g4_lexer_rules.specs.NetworkRules.{all_rules, names_of, trees_of}
+use Rattle.g4_lexer_rules.specs.Starts.{decided_starts, rule_starts}
+use Rattle.g4_lexer_rules.proofs.Trees.{trees_full}
 use Rattle.g4_spelling.specs.Fronts.{IsLexStart}
 use Rattle.g4_spelling.specs.Greedy.{EachIsGreedy, IsPartOf, IsWrittenGreedy, RuleCalls}
 use Rattle.g4_spelling.proofs.Carried.{either_calls, either_greedy}
 use Rattle.g4_spelling.proofs.Modes.{mode_is, start_at}
-use Rattle.g4_walks.proofs.Firsts.{at_is_member}
+use Rattle.g4_derivation.proofs.Firsts.{at_is_member}
 use Rattle.g4_spelling.proofs.Placed.{all_laid, call_known, decided_at, member_at, tree_of}
 use Rattle.g4_spelling.proofs.Rising.{IsEager, end_eager, rule_eager}
 

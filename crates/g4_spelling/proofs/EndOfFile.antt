@@ -9,8 +9,8 @@ use Rattle.g4_source.specs.declared.rule.LexerRule.{LexerRule}
 use Rattle.g4_source.specs.Rules.{lexer_alternatives_of}
 use Rattle.g4_grammar.specs.Derives.{Derives, an_atom, a_call, nothing, one_more}
 use Rattle.g4_grammar.specs.Written.{IsEndOfFile, MatchesKind}
-use Rattle.g4_lexnet.specs.Lexable.{CallsNamed, KindCallsNamed}
-use Rattle.g4_lexnet.specs.Rules.{names_of}
+use Rattle.g4_lexer_rules.specs.Lexable.{CallsNamed, KindCallsNamed}
+use Rattle.g4_lexer_rules.specs.NetworkRules.{names_of}
 use Rattle.g4_spelling.specs.Fronts.{DerivesMarks, DerivesFront}
 use Rattle.g4_spelling.specs.Marks.{Mark, character, end_of_file, ReadsMarks}
 use Rattle.g4_spelling.proofs.Covers.{Covers, covers_front}

@@ -15,17 +15,17 @@ use Rattle.g4_ordered.specs.Spelling.{SpellsText}
 use Rattle.g4_ordered.specs.declared.network.Reads.{Reads}
 use Rattle.g4_ordered.proofs.Best.{alone_spells, best_is_match, match_is_best, spells_alone}
 use Rattle.g4_ordered.proofs.Lists.{In-to, In-from}
-use Rattle.g4_walks.specs.Alternatives as walks
-use Rattle.g4_walks.proofs.Beginnings.{begins, item_of_alternative}
-use Rattle.g4_lexnet.specs.declared.lex_net.LexNet.{LexNet}
+use Rattle.g4_derivation.specs.Alternatives as walks
+use Rattle.g4_derivation.proofs.Beginnings.{begins, item_of_alternative}
+use Rattle.g4_lexer_rules.specs.declared.lex_net.LexNet.{LexNet}
 use Rattle.g4_ordered.specs.declared.start.Start.{Start}
 use Rattle.g4_ordered.specs.Starts.{starts_of}
-use Rattle.g4_lexnet.specs.Lexable.{CanBeLexed}
-use Rattle.g4_lexnet.specs.LexNets.{IsLexNet}
-use Rattle.g4_lexnet.specs.Rules.{all_rules, lowered, names_of, trees_of}
-use Rattle.g4_lexnet.specs.Steps.{step_of}
-use Rattle.g4_lexnet.proofs.Lexed.{is_lexable}
-use Rattle.g4_lexnet.proofs.Trees.{some_alternative}
+use Rattle.g4_lexer_rules.specs.Lexable.{CanBeLexed}
+use Rattle.g4_lexer_rules.specs.LexNets.{IsLexNet}
+use Rattle.g4_lexer_rules.specs.NetworkRules.{all_rules, lowered, names_of, trees_of}
+use Rattle.g4_lexer_rules.specs.Steps.{step_of}
+use Rattle.g4_lexer_rules.proofs.Lexed.{is_lexable}
+use Rattle.g4_lexer_rules.proofs.Trees.{some_alternative}
 use Rattle.g4_spelling.specs.Canonical.{SetsAreCanonical}
 use Rattle.g4_spelling.specs.Fronts.{IsLexStart, IsAlternativeOf}
 use Rattle.g4_spelling.specs.Greedy.{IsWrittenGreedy}
@@ -35,7 +35,7 @@ use Rattle.g4_spelling.proofs.Deciding.{decide_greedy}
 use Rattle.g4_spelling.proofs.Derived.{derived_spells, spelled_derives}
 use Rattle.g4_spelling.proofs.Eager.{greedy_rule}
 use Rattle.g4_spelling.proofs.Modes.{at_start, fresh, mode_is, start_at}
-use Rattle.g4_walks.proofs.Items.{map_item}
+use Rattle.g4_derivation.proofs.Items.{map_item}
 use Rattle.g4_spelling.proofs.Placed.{all_laid, begins_laid, item_below, tree_is, tree_of}
 
 -- one of several rules has an alternative

@@ -11,12 +11,12 @@ use Rattle.g4_ordered.specs.Configurations.{LexerConfig, In, start}
 use Rattle.g4_ordered.specs.Matching.{AreFresh, InOrder, no_more, more}
 use Rattle.g4_ordered.specs.declared.network.Reads.{Reads}
 use Rattle.g4_ordered.proofs.Lists.{In-cases, In-from, In-map, In-to, map-In}
-use Rattle.g4_lexnet.specs.declared.lex_net.LexNet.{LexNet}
+use Rattle.g4_lexer_rules.specs.declared.lex_net.LexNet.{LexNet}
 use Rattle.g4_ordered.specs.declared.start.Start.{Start}
 use Rattle.g4_ordered.specs.Starts.{starts_of}
-use Rattle.g4_lexnet.specs.LexNets.{IsLexNet}
-use Rattle.g4_lexnet.specs.Rules.{all_rules, rules_of_modes}
-use Rattle.g4_lexnet.specs.Starts.{decided_starts, matched_starts, mode_starts, numbered_starts, rule_starts, starts_from, starts_of_modes, unless_fragment}
+use Rattle.g4_lexer_rules.specs.LexNets.{IsLexNet}
+use Rattle.g4_lexer_rules.specs.NetworkRules.{all_rules, rules_of_modes}
+use Rattle.g4_lexer_rules.specs.Starts.{decided_starts, matched_starts, mode_starts, numbered_starts, rule_starts, starts_from, starts_of_modes, unless_fragment}
 use Rattle.g4_spelling.specs.Fronts.{IsLexStart}
 
 -- the configuration of a start

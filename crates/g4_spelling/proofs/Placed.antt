@@ -17,19 +17,19 @@ use Rattle.g4_net.specs.Network.{state_at, start_of}
 use Rattle.g4_layout.specs.Callers.{callers_of, returns_of}
 use Rattle.g4_ordered.specs.declared.network.Reads.{Reads}
 use Rattle.g4_ordered.specs.Network.{emptied}
-use Rattle.g4_walks.specs.Alternatives.{IsAlternative}
-use Rattle.g4_walks.specs.Alternatives as walks
-use Rattle.g4_walks.proofs.Beginnings.{alternative_of_list}
-use Rattle.g4_walks.proofs.Items.{map_item, item_map}
-use Rattle.g4_lexnet.specs.declared.lex_net.LexNet.{LexNet}
+use Rattle.g4_derivation.specs.Alternatives.{IsAlternative}
+use Rattle.g4_derivation.specs.Alternatives as walks
+use Rattle.g4_derivation.proofs.Beginnings.{alternative_of_list}
+use Rattle.g4_derivation.proofs.Items.{map_item, item_map}
+use Rattle.g4_lexer_rules.specs.declared.lex_net.LexNet.{LexNet}
 use Rattle.g4_ordered.specs.declared.start.Start.{Start}
-use Rattle.g4_lexnet.specs.Lexable.{CanBeLexed}
-use Rattle.g4_lexnet.specs.LexNets.{IsLexNet}
-use Rattle.g4_lexnet.specs.Rules.{all_rules, lowered, names_of, trees_of}
-use Rattle.g4_lexnet.specs.Starts.{decided_starts, numbered_starts, rule_starts}
-use Rattle.g4_lexnet.specs.Steps.{step_of}
-use Rattle.g4_lexnet.proofs.Lexed.{is_lexable}
-use Rattle.g4_lexnet.proofs.Trees.{one_by_one, tree}
+use Rattle.g4_lexer_rules.specs.Lexable.{CanBeLexed}
+use Rattle.g4_lexer_rules.specs.LexNets.{IsLexNet}
+use Rattle.g4_lexer_rules.specs.NetworkRules.{all_rules, lowered, names_of, trees_of}
+use Rattle.g4_lexer_rules.specs.Starts.{decided_starts, numbered_starts, rule_starts}
+use Rattle.g4_lexer_rules.specs.Steps.{step_of}
+use Rattle.g4_lexer_rules.proofs.Lexed.{is_lexable}
+use Rattle.g4_lexer_rules.proofs.Trees.{one_by_one, tree}
 use Rattle.g4_spelling.specs.Canonical.{SetsAreCanonical}
 use Rattle.g4_spelling.proofs.Atoms.{HasCanonical, kind_of}
 

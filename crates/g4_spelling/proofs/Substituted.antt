@@ -7,7 +7,7 @@ use Rattle.g4_source.specs.declared.element.Repeat.TheVariants.{Once, Optional, 
 use Rattle.g4_source.specs.Bind.{bind, in_order_bind, either_bind, over, in_order_over, either_over}
 use Rattle.g4_source.specs.Elements.{Element, atom, block, Elements, empty, then, Alternatives, none, or, atoms, atoms_in_order, atoms_of_either}
 use Rattle.g4_grammar.specs.Derives.{NoCalls, Derives, an_atom, a_call, a_block, left_out, taken, no_turn, a_turn, turns, DerivesAll, nothing, one_more, DerivesOne, this, another}
-use Rattle.g4_walks.proofs.Joined.{joined, joined-append}
+use Rattle.g4_derivation.proofs.Joined.{joined, joined-append}
 
 module _ {A B D W : Type 0} (f : B → D) (g : A → Element B) (Good : A → Type 0) (Reads : A → List W → Type 0) (Calls : A → ℕ → Type 0) (rules : List (Alternatives A)) (Letters : D → List (List W) → Type 0) where
   -- over letters

@@ -3,7 +3,7 @@ use Rattle.std.specs.Prelude.{◌≡◌, ◌≤◌, ◌<◌, ◌⊎◌, ℕ, zer
 use Rattle.g4_source.specs.declared.rule.LexerAlternative.{LexerAlternative}
 use Rattle.g4_source.specs.declared.rule.LexerRule.{LexerRule}
 use Rattle.g4_source.specs.declared.source.Mode.{Mode}
-use Rattle.g4_lexnet.specs.Rules.{all_rules}
+use Rattle.g4_lexer_rules.specs.NetworkRules.{all_rules}
 use Rattle.g4_spelling.specs.Fronts.{IsAlternativeOf}
 
 -- the number of the first rule of mode m, where the rules of all modes are numbered from n on

@@ -9,9 +9,9 @@ use Rattle.g4_source.specs.Rules.{lexer_alternatives_of}
 use Rattle.g4_grammar.specs.Derives.{DerivesAll}
 use Rattle.g4_net.specs.declared.network.State.{State}
 use Rattle.g4_ordered.specs.declared.network.Reads.{Reads}
-use Rattle.g4_lexnet.specs.Lexable.{CallsNamed}
-use Rattle.g4_lexnet.specs.Rules.{names_of}
-use Rattle.g4_lexnet.specs.Starts.{rule_starts}
+use Rattle.g4_lexer_rules.specs.Lexable.{CallsNamed}
+use Rattle.g4_lexer_rules.specs.NetworkRules.{names_of}
+use Rattle.g4_lexer_rules.specs.Starts.{rule_starts}
 use Rattle.g4_spelling.specs.Marks.{Mark, character, end_of_file, ReadsMarks}
 
 -- by these rules the elements derive the marks

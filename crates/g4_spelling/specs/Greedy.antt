@@ -6,8 +6,8 @@ use Rattle.g4_source.specs.Elements.{Element, atom, block, Elements, empty, then
 use Rattle.g4_source.specs.declared.rule.LexerRule.{LexerRule}
 use Rattle.g4_source.specs.Rules.{lexer_alternatives_of}
 use Rattle.g4_grammar.specs.LeftCalls.{ReachesBy, SomeHasCall}
-use Rattle.g4_lexnet.specs.Lexable.{CallsNamed}
-use Rattle.g4_lexnet.specs.Rules.{names_of}
+use Rattle.g4_lexer_rules.specs.Lexable.{CallsNamed}
+use Rattle.g4_lexer_rules.specs.NetworkRules.{names_of}
 
 -- the sign, if there is one, is greedy: no `?` follows it
 abbrev pub SignIsGreedy : Repeat → Type 0

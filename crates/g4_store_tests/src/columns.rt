@@ -2,7 +2,7 @@
 use g4_base::Sequence;
 use g4_classes::columns_of;
 use g4_net::{ParserNetwork, State};
-use g4_symbols::{END, EOF, Symbols};
+use g4_tokens::{END, EOF, Symbols};
 use std::alloc::{AllocError, Global};
 use std::test::Fail;
 

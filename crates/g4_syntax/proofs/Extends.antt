@@ -1,8 +1,8 @@
 -- The tokens with which a text of an expression can go on at its end.
 use Rattle.std.proofs.Common.{◌≡◌, List, [], ◌∷◌, Bool, true, false, ◌&&◌, ◌||◌, ℕ, refl, sym, ◌∙◌}
 use Rattle.g4_base.specs.declared.place.Place.{Place}
-use Rattle.g4_tokens.specs.declared.token.Kind.{Kind}
-use Rattle.g4_tokens.specs.declared.token.Kind.TheVariants as kinds
+use Rattle.g4_grammar_tokens.specs.declared.token.Kind.{Kind}
+use Rattle.g4_grammar_tokens.specs.declared.token.Kind.TheVariants as kinds
 use Rattle.g4_syntax.specs.Notation.{Spelled, Nonterminal, element, token_set, lexer_element, character_set, more_names, Expression, one, ◌▸◌, ◌∣◌, optional, repeated, part}
 use Rattle.g4_syntax.specs.Productions.{production}
 use Rattle.g4_syntax.specs.Trees.{can_be_empty, is_one_of, begins}

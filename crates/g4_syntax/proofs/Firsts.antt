@@ -1,8 +1,8 @@
 -- A part begins with the tokens with which its production begins.
 use Rattle.std.proofs.Common.{◌≡◌, List, ℕ, refl}
 use Rattle.g4_base.specs.declared.place.Place.{Place}
-use Rattle.g4_tokens.specs.declared.token.Kind.{Kind}
-use Rattle.g4_tokens.specs.declared.token.Kind.TheVariants as kinds
+use Rattle.g4_grammar_tokens.specs.declared.token.Kind.{Kind}
+use Rattle.g4_grammar_tokens.specs.declared.token.Kind.TheVariants as kinds
 use Rattle.g4_syntax.specs.Notation.{Spelled, Nonterminal, element, token_set, lexer_element, character_set, more_names, part}
 use Rattle.g4_syntax.specs.Productions.{production}
 use Rattle.g4_syntax.specs.Trees.{begins}

@@ -1,6 +1,6 @@
 -- A short text is read where it is.
 use Rattle.std.proofs.Common.{◌≡◌, List, [], ◌∷◌, ◌++◌, Bool, true, false, ◌||◌, if◌then◌else◌, refl, sym, ap, subst, ◌∙◌, true≢false, append_assoc}
-use Rattle.g4_tokens.specs.declared.token.Kind.TheVariants as kinds
+use Rattle.g4_grammar_tokens.specs.declared.token.Kind.TheVariants as kinds
 use Rattle.g4_syntax.specs.Notation.{Spelled, Terminal, of_kind, a_set, excluded, fits, Nonterminal, element, token_set, lexer_element, character_set, more_names, Expression, one, ◌▸◌, ◌∣◌, optional, repeated, part, sign, name, with_bars}
 use Rattle.g4_syntax.specs.Productions.{production, element_options, labelled_item, labelled_lexer_item, suffix}
 use Rattle.g4_syntax.specs.Trees.{Tree, leaf, both, left, right, absent, end, inner, can_be_empty, begins_there, Reads}

@@ -1,8 +1,8 @@
 -- The notation in which the grammar of grammar texts is written: terminals, and expressions of them.
 use Rattle.std.specs.Prelude.{ℕ, List, Bool, ◌&&◌, ◌||◌, ◌==◌, bytes_eq}
 use Rattle.g4_base.specs.declared.place.Place.{Place}
-use Rattle.g4_tokens.specs.declared.token.Kind.{Kind}
-use Rattle.g4_tokens.specs.declared.token.Kind.TheVariants as kinds
+use Rattle.g4_grammar_tokens.specs.declared.token.Kind.{Kind}
+use Rattle.g4_grammar_tokens.specs.declared.token.Kind.TheVariants as kinds
 
 infixr 40 ◌▸◌
 infixr 30 ◌∣◌

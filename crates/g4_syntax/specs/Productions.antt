@@ -1,7 +1,7 @@
 -- The grammar of grammar texts. Where a name can be a label, it is read once, and what follows it
 -- decides which it is.
 use Rattle.std.specs.Prelude.{codes}
-use Rattle.g4_tokens.specs.declared.token.Kind.TheVariants as kinds
+use Rattle.g4_grammar_tokens.specs.declared.token.Kind.TheVariants as kinds
 use Rattle.g4_syntax.specs.Notation.{a_set, characters, excluded, Nonterminal, element, token_set, lexer_element, character_set, more_names, Expression, one, ◌▸◌, ◌∣◌, optional, repeated, part, sign, word, name, with_commas, with_bars}
 
 -- the value of an option: names with dots between, a literal, a number, an action or `*`: `org.example`, `'x'`, `2`

@@ -1,6 +1,6 @@
 // Texts and their tokens, worked out by hand.
 use crate::rows::{answered, push_other, unescaped};
-use g4_tokens::{Kind, ScanFault, Token, literal_characters, scan};
+use g4_grammar_tokens::{Kind, ScanFault, Token, literal_characters, scan};
 use std::alloc::{AllocError, Global};
 use std::fmt::Write;
 use std::test::Fail;

@@ -1,10 +1,3 @@
-pub mod Comments
-pub mod Counts
-pub mod Ends
-pub mod Found
-pub mod OneScan
-pub mod Quotes
-pub mod Reached
-pub mod Skips
-pub mod Spans
-pub mod Texts
+mod Ranges
+mod Searching
+mod Without

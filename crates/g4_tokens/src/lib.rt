@@ -1,20 +1,11 @@
-// The tokens of a grammar text, with their places.
+// Symbols, which are the token types and what ends a list of tokens, as sets kept by their ranges; and the tokens of a file.
+// A set of symbols is the list of its members, least first.
 #![tactic(auto)]
 
-mod character;
-mod comment;
-mod enclosed;
-mod law;
-mod nesting;
-mod piece;
-mod position;
-mod quote;
-mod scanner;
-mod spelling;
-mod statement;
+mod set;
+mod symbol;
 mod token;
 
-pub use law::one_scan;
-pub use scanner::{ScanFault, scan};
-pub use spelling::literal_characters;
-pub use token::{Kind, Token};
+pub use set::Symbols;
+pub use symbol::{END, EOF, MOST_TYPES};
+pub use token::{Token, Tokens};

@@ -1,76 +1,23 @@
-// A token of a grammar text.
-use g4_base::Place;
+// The tokens of a file.
+use g4_base::{Octets, Place, Sequence};
 
-/// What a token is.
-#[derive(Clone, Copy, Debug, PartialEq, Eq)]
-pub enum Kind {
-    /// A name whose first letter is no upper-case letter.
-    Lower,
-    /// A name whose first letter is an upper-case letter.
-    Upper,
-    /// `'..'` on one line.
-    Literal,
-    /// `[..]` in the body of a rule with an upper-case name.
-    Set,
-    /// `[..]` elsewhere.
-    Arguments,
-    /// `{..}` with its braces balanced.
-    Action,
-    /// Decimal digits.
-    Number,
-    /// `{` after `options`, `tokens` or `channels`.
-    LeftBrace,
-    /// The `}` of such a brace.
-    RightBrace,
-    /// `:`.
-    Colon,
-    /// `::`.
-    DoubleColon,
-    /// `;`.
-    Semicolon,
-    /// `|`.
-    Bar,
-    /// `(`.
-    LeftParenthesis,
-    /// `)`.
-    RightParenthesis,
-    /// `?`.
-    Question,
-    /// `*`.
-    Star,
-    /// `+`.
-    Plus,
-    /// `+=`.
-    PlusEquals,
-    /// `.`.
-    Dot,
-    /// `..`.
-    DoubleDot,
-    /// `~`.
-    Tilde,
-    /// `=`.
-    Equals,
-    /// `#`.
-    Hash,
-    /// `->`.
-    Arrow,
-    /// `,`.
-    Comma,
-    /// `@`.
-    At,
-    /// `<`.
-    Less,
-    /// `>`.
-    Greater,
-    /// A character at which no token begins.
-    Stray,
-}
-
-/// A token: its kind, its place, and its bytes from `start` up to `end`, `end` left out.
+/// A token: its symbol, its channel, its place, and the bytes of the file from `start` up to `end`, `end` left out.
 #[derive(Clone, Copy, Debug, PartialEq, Eq)]
 pub struct Token {
-    pub kind: Kind,
+    pub symbol: u32,
+    pub channel: u32,
     pub place: Place,
-    pub start: usize,
-    pub end: usize,
+    pub start: u32,
+    pub end: u32,
+}
+
+/// The tokens of a file, whose texts are parts of its bytes.
+#[derive(Drop)]
+pub struct Tokens {
+    /// The bytes of the file.
+    pub bytes: Octets,
+    /// The tokens of all channels in order.
+    pub all: Sequence<Token>,
+    /// What the parser sees: the tokens of channel 0 in order, then four of EOF and one of END at the end of the file.
+    pub list: Sequence<Token>,
 }

@@ -1,7 +1,7 @@
 -- What outcomes mean, from what parsing and lexing answer.
 use Rattle.std.proofs.Common.{◌≡◌, ℕ, List, [], ◌∷◌, ◌++◌, All, Ok, Err, IfOk, Result, sym, subst}
 use Rattle.std.proofs.lemmas.List.Elements.{All-append, All-cons, All-nil, All-weaker}
-use Rattle.g4_symbols.specs.Symbols.{eof}
+use Rattle.g4_tokens.specs.Symbols.{eof}
 use Rattle.g4_derivation.specs.Spelling.{DerivesFrom}
 use Rattle.g4_grammar.specs.StepRules.{CanBeRewritten, StepRule}
 use Rattle.g4_layout.specs.Built.{IsBuilt}
@@ -11,9 +11,9 @@ use Rattle.g4_load.specs.declared.interpreter.Interpreter.{Interpreter}
 use Rattle.g4_net.specs.Network.{ParserNetwork}
 use Rattle.g4_parse.specs.Parsing.{IsAcceptance, LeavesClosing}
 use Rattle.g4_parse.specs.declared.parser.ParseFault.{ParseFault}
-use Rattle.g4_token_list.specs.TokenList.{word_of}
-use Rattle.g4_token_list.specs.declared.token.Token.{Token}
-use Rattle.g4_token_list.specs.declared.token.Tokens.{Tokens}
+use Rattle.g4_tokens.specs.TokenList.{word_of}
+use Rattle.g4_tokens.specs.declared.token.Token.{Token}
+use Rattle.g4_tokens.specs.declared.token.Tokens.{Tokens}
 use Rattle.g4_tool.specs.Meaning.{IsMeant, IsMeantAnywhere}
 use Rattle.g4_tool.specs.declared.outcome.Outcome.{Outcome}
 use Rattle.g4_tool.specs.declared.outcome.Outcome.TheVariants as outcomes

@@ -3,8 +3,8 @@ use Rattle.std.proofs.Common.{◌≡◌, ◌≢◌, ◌<◌, ◌+◌, ℕ, suc, 
 use Rattle.std.specs.List.{list_all}
 use Rattle.std.proofs.lemmas.List.{take_more, append_assoc, length-take-le}
 use Rattle.std.proofs.lemmas.List.Sums.{count_by-le-length, sum_by-append, sum_by-cons}
-use Rattle.g4_lexing.specs.declared.fault.LexFault.{LexFault}
-use Rattle.g4_lexing.specs.declared.fault.LexFault.TheVariants as lexing
+use Rattle.g4_lexer.specs.declared.fault.LexFault.{LexFault}
+use Rattle.g4_lexer.specs.declared.fault.LexFault.TheVariants as lexing
 use Rattle.g4_parse.specs.declared.parser.ParseFault.{ParseFault}
 use Rattle.g4_parse.specs.declared.parser.ParseFault.TheVariants as parsing
 use Rattle.g4_tool.specs.declared.files.Parsed.{Parsed}

@@ -1,13 +1,13 @@
 -- A file has at most one outcome.
 use Rattle.std.proofs.Common.{◌≡◌, ◌≢◌, ℕ, List, [], ◌∷◌, Result, Ok, Err, ap, sym, ◌∙◌, refl, subst}
 use Rattle.g4_net.specs.Network.{ParserNetwork}
-use Rattle.g4_token_list.specs.declared.token.Tokens.{Tokens}
-use Rattle.g4_token_list.specs.TokenList.{word_of}
-use Rattle.g4_lexing.specs.declared.fault.LexFault.{LexFault}
-use Rattle.g4_lexing.specs.declared.fault.LexFault.TheVariants as lexing
-use Rattle.g4_lexing.specs.Lexing.{IsLexing}
-use Rattle.g4_lexing.specs.declared.lexing.TheConstants.{MOST_TOKENS}
-use Rattle.g4_lexing.proofs.Unique.{one_answer}
+use Rattle.g4_tokens.specs.declared.token.Tokens.{Tokens}
+use Rattle.g4_tokens.specs.TokenList.{word_of}
+use Rattle.g4_lexer.specs.declared.fault.LexFault.{LexFault}
+use Rattle.g4_lexer.specs.declared.fault.LexFault.TheVariants as lexing
+use Rattle.g4_lexer.specs.Lexing.{IsLexing}
+use Rattle.g4_lexer.specs.declared.lexing.TheConstants.{MOST_TOKENS}
+use Rattle.g4_lexer.proofs.Unique.{one_answer}
 use Rattle.g4_trees.specs.declared.tree.Item.{Item}
 use Rattle.g4_trees.specs.Trees.{items_of}
 use Rattle.g4_parse.specs.declared.parser.ParseFault.{ParseFault}

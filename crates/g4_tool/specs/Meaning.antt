@@ -1,13 +1,13 @@
 -- What the outcome of a file says of its tokens, in the terms of the grammar alone.
 use Rattle.std.specs.Prelude.{ℕ, List, [], ◌∷◌, Err}
-use Rattle.g4_symbols.specs.Symbols.{eof}
+use Rattle.g4_tokens.specs.Symbols.{eof}
 use Rattle.g4_derivation.specs.Spelling.{DerivesFrom}
 use Rattle.g4_leftrec.specs.Rewriting.{rewritten}
 use Rattle.g4_load.specs.Usable.{IsNetworkFrom}
 use Rattle.g4_load.specs.declared.interpreter.Interpreter.{Interpreter}
 use Rattle.g4_parse.specs.Parsing.{IsAcceptance, LeavesClosing}
-use Rattle.g4_token_list.specs.TokenList.{word_of}
-use Rattle.g4_token_list.specs.declared.token.Tokens.{Tokens}
+use Rattle.g4_tokens.specs.TokenList.{word_of}
+use Rattle.g4_tokens.specs.declared.token.Tokens.{Tokens}
 use Rattle.g4_tool.specs.declared.outcome.Outcome.{Outcome}
 use Rattle.g4_tool.specs.declared.outcome.Outcome.TheVariants as outcomes
 use Rattle.g4_tree_check.specs.TreesOf.{IsTreeOf}

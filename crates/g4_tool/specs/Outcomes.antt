@@ -1,10 +1,10 @@
 -- What becomes of a file: a function of the interpreter and the file's bytes alone.
 use Rattle.std.specs.Prelude.{All, ◌≡◌, ◌≢◌, ℕ, ◌+◌, List, [], ◌∷◌, ◌++◌, count_by, Bool, true, false, Ok, Err}
-use Rattle.g4_token_list.specs.declared.token.Tokens.{Tokens}
-use Rattle.g4_token_list.specs.TokenList.{word_of}
-use Rattle.g4_lexing.specs.Lexing.{IsLexing}
-use Rattle.g4_lexing.specs.declared.fault.LexFault.{LexFault}
-use Rattle.g4_lexing.specs.declared.fault.LexFault.TheVariants as lexing
+use Rattle.g4_tokens.specs.declared.token.Tokens.{Tokens}
+use Rattle.g4_tokens.specs.TokenList.{word_of}
+use Rattle.g4_lexer.specs.Lexing.{IsLexing}
+use Rattle.g4_lexer.specs.declared.fault.LexFault.{LexFault}
+use Rattle.g4_lexer.specs.declared.fault.LexFault.TheVariants as lexing
 use Rattle.g4_trees.specs.declared.tree.Item.{Item}
 use Rattle.g4_trees.specs.Events.{tree_events}
 use Rattle.g4_trees.specs.Trees.{Tree, items_of}

@@ -10,13 +10,13 @@ use Rattle.g4_netlist.specs.Shown.{shown_set}
 use Rattle.g4_net.specs.declared.network.State.{State}
 use Rattle.g4_net.specs.declared.network.State.TheVariants.{Decision, End, Edge, Call, Predicate, Level, Action, Empty}
 use Rattle.g4_net.specs.Network.{ParserNetwork, state_at}
-use Rattle.g4_token_list.specs.declared.token.Token.{Token}
-use Rattle.g4_token_list.specs.declared.token.Tokens.{Tokens}
+use Rattle.g4_tokens.specs.declared.token.Token.{Token}
+use Rattle.g4_tokens.specs.declared.token.Tokens.{Tokens}
 use Rattle.g4_grammar.specs.StepRules.{StepRule}
 use Rattle.g4_trees.specs.declared.events.Event.{Event}
 use Rattle.g4_trees.specs.Events.{event_lines}
 use Rattle.g4_trees.specs.TreeText.{text_at}
-use Rattle.g4_token_lines.specs.TokenLines.{token_lines}
+use Rattle.g4_trees.specs.TokenLines.{token_lines}
 use Rattle.g4_tool.specs.declared.write.Line.{Line}
 use Rattle.g4_tool.specs.declared.write.Line.TheVariants.{ToOut, ToErr}
 

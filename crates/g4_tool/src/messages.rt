@@ -8,7 +8,7 @@ use crate::write::Line;
 use g4_base::{Place, Sequence, Text, push_shown};
 use g4_net::{ParserNetwork, State};
 use g4_netlist::{push_name, push_set};
-use g4_token_list::{Token, Tokens};
+use g4_tokens::{Token, Tokens};
 use g4_trees::push_token;
 use std::alloc::{AllocError, Global};
 

@@ -1,6 +1,6 @@
 // What becomes of a file, and the lines that are written of it.
 ghost use Rattle.std.specs.Prelude.{◌≡◌, ◌≤◌, ◌<◌, ◌^◌, ◌++◌, IfOk, OnOk, length};
-ghost use Rattle.g4_token_list.specs.TokenList.{EndsInEnd, word_of};
+ghost use Rattle.g4_tokens.specs.TokenList.{EndsInEnd, word_of};
 ghost use Rattle.g4_trees.specs.Events.{tree_events};
 ghost use Rattle.g4_trees.specs.TreeText.{tree_text};
 ghost use Rattle.g4_tool.specs.Texts.{line_of_events, line_of_tokens, line_of_tree};
@@ -16,12 +16,11 @@ use crate::messages::{
 };
 use crate::write::Line;
 use g4_base::{MOST_BYTES, Octets, Sequence};
-use g4_lexing::{LexFault, tokens};
+use g4_lexer::{LexFault, tokens};
 use g4_load::Interpreter;
 use g4_parse::{ParseFault, parse};
-use g4_token_lines::push_token_lines;
-use g4_token_list::Tokens;
-use g4_trees::Tree;
+use g4_trees::{Tree, push_token_lines};
+use g4_tokens::Tokens;
 use g4_words::Output;
 use std::alloc::{AllocError, Global};
 

@@ -1,17 +1,16 @@
 // The paths of SLL: which sets of configurations it goes through on the tokens of a text.
 ghost use Rattle.std.specs.Prelude.{◌<◌, ◌^◌, IfOk, length};
-ghost use Rattle.g4_lexing.specs.Lexers.{HasTokenTypes};
+ghost use Rattle.g4_lexer.specs.Lexers.{HasTokenTypes};
 ghost use Rattle.g4_load.specs.Usable.{IsUsable};
 ghost use Rattle.g4_ordered.specs.Network.{IsLexable};
-ghost use Rattle.g4_token_list.specs.TokenList.{EndsInEnd, word_of};
+ghost use Rattle.g4_tokens.specs.TokenList.{EndsInEnd, word_of};
 
 use g4_base::{Sequence, Text};
-use g4_lexing::{Lexer, tokens};
+use g4_lexer::{Lexer, tokens};
 use g4_load::{Interpreter, build_interpreter};
-use g4_path::{Led, Looked, Path, Verdict};
+use g4_predict::{Led, Looked, Path, Verdict, simulate};
 use g4_ports::{MemFile, MemShelf};
-use g4_sll::simulate;
-use g4_token_list::Tokens;
+use g4_tokens::Tokens;
 use std::alloc::{AllocError, Global};
 use std::fmt::Write;
 use std::test::Fail;

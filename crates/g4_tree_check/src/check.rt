@@ -1,11 +1,11 @@
 // Whether a tree is one of a grammar over a list of tokens.
 ghost use Rattle.std.specs.Prelude.{◌↔◌, IfOk, IsTrue};
-ghost use Rattle.g4_token_list.specs.TokenList.{word_of};
+ghost use Rattle.g4_tokens.specs.TokenList.{word_of};
 ghost use Rattle.g4_tree_check.specs.TreesOf.{IsTreeOf};
 
 use crate::standing::Standing;
 use g4_grammar::StepRule;
-use g4_token_list::Token;
+use g4_tokens::Token;
 use g4_trees::Tree;
 use std::alloc::{AllocError, Global};
 

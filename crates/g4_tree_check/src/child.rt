@@ -1,11 +1,10 @@
 // The children of a node, and which of them a step reads.
 ghost use Rattle.std.specs.Prelude.{◌≡◌};
-ghost use Rattle.g4_token_list.specs.TokenList.{word_of};
+ghost use Rattle.g4_tokens.specs.TokenList.{word_of};
 ghost use Rattle.g4_tree_check.specs.Children.{child_of, is_quiet, takes};
 
 use g4_grammar::Step;
-use g4_symbols::Symbols;
-use g4_token_list::Token;
+use g4_tokens::{Symbols, Token};
 use g4_trees::Item;
 
 /// A child of a node, by what a step needs to know of it.

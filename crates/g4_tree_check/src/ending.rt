@@ -8,7 +8,7 @@ ghost use Rattle.g4_tree_check.specs.Marks.{block_ends, ends, ends_all, ends_eit
 use crate::child::is_quiet;
 use g4_source::{Alternative, Element, Repeat};
 use g4_grammar::Step;
-use g4_symbols::Symbols;
+use g4_tokens::Symbols;
 
 /// What is found at the end of an element: whether what was read may end there, and the marks of the atoms after it.
 #[derive(Clone, Copy)]

@@ -1,6 +1,6 @@
 // Whether children are a word of elements.
 ghost use Rattle.std.specs.Prelude.{◌≡◌, ◌↔◌, IfOk, IsTrue};
-ghost use Rattle.g4_token_list.specs.TokenList.{word_of};
+ghost use Rattle.g4_tokens.specs.TokenList.{word_of};
 ghost use Rattle.g4_tree_check.specs.TreesOf.{DerivesChildren};
 
 use crate::child::child_of;
@@ -8,8 +8,7 @@ use crate::ending::end_of_elements;
 use crate::shifting::shift_elements;
 use g4_source::Elements;
 use g4_grammar::Step;
-use g4_symbols::Symbols;
-use g4_token_list::Token;
+use g4_tokens::{Symbols, Token};
 use g4_trees::Item;
 use std::alloc::{AllocError, Global};
 use std::mem;

@@ -10,7 +10,7 @@ use crate::child::{Child, takes};
 use crate::ending::{End, block_ends, either_of, end_of_atom, end_of_either};
 use g4_source::{Alternative, Element, Repeat};
 use g4_grammar::Step;
-use g4_symbols::Symbols;
+use g4_tokens::Symbols;
 use std::alloc::AllocError;
 
 /// Whether the body of a block may go on being read at its beginning.

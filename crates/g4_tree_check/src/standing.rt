@@ -3,7 +3,7 @@ ghost use Rattle.std.specs.Prelude.{◌≡◌, ◌↔◌, [], ◌∷◌, ℕ, Li
 ghost use Rattle.g4_source.specs.Elements.{Elements as Body};
 ghost use Rattle.g4_grammar.specs.declared.step.Step.{Step as AStep};
 ghost use Rattle.g4_grammar.specs.StepRules.{StepRule as Rule};
-ghost use Rattle.g4_token_list.specs.TokenList.{word_of};
+ghost use Rattle.g4_tokens.specs.TokenList.{word_of};
 ghost use Rattle.g4_trees.specs.declared.tree.Item.{Item as TreeItem};
 ghost use Rattle.g4_trees.specs.declared.tree.Item.TheVariants.{Enter as enter, Token as token, Exit as exit};
 ghost use Rattle.g4_tree_check.specs.Standing.{CanEnd, FitsBody, IsOneNode};
@@ -12,8 +12,7 @@ ghost use Rattle.g4_tree_check.specs.TreesOf.{IsBody};
 use crate::matching::derives;
 use g4_source::Elements;
 use g4_grammar::{Step, StepRule};
-use g4_symbols::Symbols;
-use g4_token_list::Token;
+use g4_tokens::{Symbols, Token};
 use g4_trees::Item;
 use std::alloc::{AllocError, Global};
 use std::mem;

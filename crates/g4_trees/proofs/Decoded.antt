@@ -1,7 +1,7 @@
 -- A tree is known by its items: no other tree has them.
 use Rattle.std.proofs.Common.{◌≡◌, [], ◌∷◌, ◌++◌, List, refl, sym, ◌∙◌, ap, append_assoc, append-nil}
 use Rattle.std.specs.Prelude.{Some}
-use Rattle.g4_token_list.specs.declared.token.Tokens.{Tokens}
+use Rattle.g4_tokens.specs.declared.token.Tokens.{Tokens}
 use Rattle.g4_source.specs.declared.rule.ParserRule.{ParserRule}
 use Rattle.g4_trees.specs.TreeText.{text_of, text_of_some, tree_text}
 use Rattle.g4_trees.specs.Events.{events_of, events_of_some, tree_events}

@@ -1,6 +1,6 @@
 -- What the items of a tree add to a text is the text of the tree.
 use Rattle.std.proofs.Common.{◌≡◌, [], ◌∷◌, ◌++◌, ℕ, List, Bool, true, false, codes, refl, sym, ◌∙◌, ap, subst, append_assoc, append-nil, arith, length, get_or, take, take_all, drop, ◌-◌, ◌≤◌}
-use Rattle.g4_token_list.specs.declared.token.Tokens.{Tokens}
+use Rattle.g4_tokens.specs.declared.token.Tokens.{Tokens}
 use Rattle.g4_source.specs.declared.rule.ParserRule.{ParserRule}
 use Rattle.g4_trees.specs.declared.tree.Item.{Item}
 use Rattle.g4_trees.specs.declared.tree.Item.TheVariants as items

@@ -2,7 +2,7 @@
 use Rattle.std.specs.Prelude.{ℕ, ◌-◌, List, [], ◌∷◌, ◌++◌, Option, Some, None, codes, slice_get}
 use Rattle.std.specs.List.{flat_map}
 use Rattle.std.specs.Fmt.{decimal}
-use Rattle.g4_token_list.specs.declared.token.Tokens.{Tokens}
+use Rattle.g4_tokens.specs.declared.token.Tokens.{Tokens}
 use Rattle.g4_source.specs.declared.rule.AlternativeLabel.{AlternativeLabel}
 use Rattle.g4_source.specs.declared.rule.ParserRule.{ParserRule}
 use Rattle.g4_source.specs.declared.rule.RuleAlternative.{RuleAlternative}

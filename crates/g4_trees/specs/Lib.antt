@@ -1,7 +1,12 @@
-pub mod Trees
-pub mod Nodes
-pub mod TreeText
-pub mod Events
 pub mod Appending
+pub mod Ends
+pub mod Events
+pub mod Growing
+pub mod Kept
+pub mod Nodes
 pub mod Pieces
 pub mod Steps
+pub mod TokenLines
+pub mod TreeText
+pub mod Trees
+pub mod Unwinding

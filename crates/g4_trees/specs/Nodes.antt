@@ -1,7 +1,7 @@
 -- The nodes of a tree. The number of a node is the place of its beginning among the items: a parent comes before its children.
 use Rattle.std.specs.Prelude.{ℕ, suc, List, [], ◌∷◌, Option, Some, None, slice_get}
 use Rattle.g4_base.specs.declared.place.Place.{Place}
-use Rattle.g4_token_list.specs.declared.token.Token.{Token}
+use Rattle.g4_tokens.specs.declared.token.Token.{Token}
 use Rattle.g4_trees.specs.declared.tree.Item.{Item}
 use Rattle.g4_trees.specs.declared.tree.Item.TheVariants as items
 

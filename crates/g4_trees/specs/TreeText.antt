@@ -1,9 +1,9 @@
 -- The text of a tree.
 use Rattle.std.specs.Prelude.{ℕ, ◌-◌, Bool, nat_le, List, [], ◌∷◌, ◌++◌, length, Option, Some, None, cond, if◌then◌else◌, ◌==◌, codes, slice_get}
 use Rattle.std.specs.List.{flat_map}
-use Rattle.g4_token_list.specs.declared.token.Token.{Token}
-use Rattle.g4_token_list.specs.declared.token.Tokens.{Tokens}
-use Rattle.g4_token_list.specs.TokenList.{bytes_of}
+use Rattle.g4_tokens.specs.declared.token.Token.{Token}
+use Rattle.g4_tokens.specs.declared.token.Tokens.{Tokens}
+use Rattle.g4_tokens.specs.TokenList.{bytes_of}
 use Rattle.g4_source.specs.declared.rule.ParserRule.{ParserRule}
 use Rattle.g4_trees.specs.declared.tree.Item.{Item}
 use Rattle.g4_trees.specs.Trees.{Tree, leaf, node, Forest, no_tree, a_tree, tree_of}

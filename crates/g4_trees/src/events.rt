@@ -9,7 +9,7 @@ ghost use Rattle.g4_trees.specs.declared.tree.Item.{Item as TreeItem};
 use crate::text::{push, push_three, push_token};
 use crate::{Item, Tree};
 use g4_source::{AlternativeLabel, ParserRule, RuleAlternative};
-use g4_token_list::Tokens;
+use g4_tokens::Tokens;
 use itoa::Buffer;
 use std::alloc::{AllocError, Global};
 

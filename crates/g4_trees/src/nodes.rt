@@ -4,7 +4,7 @@ ghost use Rattle.g4_trees.specs.Nodes.{nodes_of, place_of};
 
 use crate::{Item, Tree};
 use g4_base::Place;
-use g4_token_list::Token;
+use g4_tokens::Token;
 use std::alloc::{AllocError, Global};
 
 /// The places of the items that begin a node.

@@ -7,7 +7,7 @@ ghost use Rattle.g4_trees.specs.Trees.{Tree as Nested, items_of};
 
 use crate::{Item, Tree};
 use g4_source::ParserRule;
-use g4_token_list::{Token, Tokens};
+use g4_tokens::{Token, Tokens};
 use std::alloc::AllocError;
 use std::slice;
 

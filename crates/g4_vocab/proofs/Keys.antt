@@ -6,7 +6,7 @@ use Rattle.std.specs.Str.{bytes_eq}
 use Rattle.std.proofs.lemmas.List.{drop_more}
 use Rattle.std.proofs.lemmas.List.Elements.{filter_map-append}
 use Rattle.std.proofs.lemmas.Slice.Eq.{bytes_eq-Decides}
-use Rattle.g4_symbols.specs.declared.symbol.TheConstants.{MOST_TYPES}
+use Rattle.g4_tokens.specs.declared.symbol.TheConstants.{MOST_TYPES}
 use Rattle.g4_vocab.specs.declared.types.Key.{Key}
 use Rattle.g4_vocab.specs.declared.types.Key.TheVariants.{Name, Literal}
 use Rattle.g4_vocab.specs.declared.types.Entry.{Entry}

@@ -5,8 +5,8 @@ use Rattle.std.specs.Str.{bytes_eq}
 use Rattle.std.specs.List.{filter_map, range_with_len, list_any}
 use Rattle.std.proofs.lemmas.List.{map-append}
 use Rattle.std.proofs.lemmas.List.Elements.{All-append, All-map, All-filter, All-cons, All-contains_itself, Contains-append_right}
-use Rattle.g4_symbols.specs.declared.symbol.TheConstants.{MOST_TYPES}
-use Rattle.g4_symbols.specs.Symbols.{eof, end_of_list}
+use Rattle.g4_tokens.specs.declared.symbol.TheConstants.{MOST_TYPES}
+use Rattle.g4_tokens.specs.Symbols.{eof, end_of_list}
 use Rattle.g4_source.specs.Elements.{Element, atom, block, Elements, empty, then, Alternatives, none, or, either, atoms, atoms_in_order, atoms_of_either}
 use Rattle.g4_source.specs.Bind.{over, in_order_over, either_over}
 use Rattle.g4_source.specs.Full.{IsSome, IsFull, AreFull, EachIsFull}

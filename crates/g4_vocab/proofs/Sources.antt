@@ -3,7 +3,7 @@ use Rattle.std.proofs.Common.{◌≡◌, ◌≤◌, ◌<◌, ◌++◌, ◌∷◌
 use Rattle.std.specs.List.{flat_map}
 use Rattle.std.proofs.lemmas.List.{append-nil, length-map}
 use Rattle.std.proofs.lemmas.List.Elements.{filter_map-append}
-use Rattle.g4_symbols.specs.declared.symbol.TheConstants.{MOST_TYPES}
+use Rattle.g4_tokens.specs.declared.symbol.TheConstants.{MOST_TYPES}
 use Rattle.g4_source.specs.declared.atom.Atom.{Atom}
 use Rattle.g4_source.specs.declared.atom.TokenReference.{TokenReference}
 use Rattle.g4_source.specs.declared.rule.ParserRule.{ParserRule}

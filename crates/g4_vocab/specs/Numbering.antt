@@ -4,7 +4,7 @@ use Rattle.std.specs.Prelude.{ℕ, ◌==◌, List, [], ◌∷◌, ◌++◌, map,
 use Rattle.std.specs.List.{filter_map, flat_map, list_any}
 use Rattle.std.specs.Option.{is_some, is_none}
 use Rattle.std.specs.Str.{bytes_eq}
-use Rattle.g4_symbols.specs.Symbols.{eof}
+use Rattle.g4_tokens.specs.Symbols.{eof}
 use Rattle.g4_source.specs.Elements.{Element, atom, block, Elements, empty, then, atoms_of_either}
 use Rattle.g4_source.specs.Bind.{in_order_over}
 use Rattle.g4_source.specs.declared.atom.Atom.{Atom}

@@ -1,6 +1,6 @@
 // From a source to its numbered grammar.
 ghost use Rattle.std.specs.Prelude.{◌≡◌, ◌≤◌, All, Contains, IfOk, [], length, map};
-ghost use Rattle.g4_symbols.specs.Symbols.{end_of_list};
+ghost use Rattle.g4_tokens.specs.Symbols.{end_of_list};
 ghost use Rattle.g4_source.specs.declared.atom.Atom.{Atom};
 ghost use Rattle.g4_source.specs.declared.rule.ParserRule.{ParserRule};
 ghost use Rattle.g4_source.specs.declared.rule.Rule.TheVariants.{Parser};
@@ -26,7 +26,7 @@ use crate::wholes::Wholes;
 use g4_base::{Sequence, Text};
 use g4_source::{Atom, LexerRule, ParserRule, RuleAlternative, Source, substituted};
 use g4_grammar::{Numbered, NumberedAtom};
-use g4_symbols::MOST_TYPES;
+use g4_tokens::MOST_TYPES;
 use std::alloc::{AllocError, Global};
 
 /// An alternative of a parser rule over symbols.

@@ -13,7 +13,7 @@ use crate::types::Types;
 use crate::wholes::Wholes;
 use g4_source::{Atom, AtomKind, Element, Literal, Substitution, TokenReference};
 use g4_grammar::{NumberedAtom, NumberedKind};
-use g4_symbols::{EOF, Symbols};
+use g4_tokens::{EOF, Symbols};
 use std::alloc::{AllocError, Global};
 use std::collections::BTreeSet;
 

@@ -6,7 +6,7 @@ ghost use Rattle.g4_vocab.specs.Tables.{Adds, IsTable};
 use crate::fault::NumberFault;
 use g4_base::{Sequence, Text};
 use g4_source::Literal;
-use g4_symbols::MOST_TYPES;
+use g4_tokens::MOST_TYPES;
 use std::alloc::{AllocError, Global};
 use std::collections::BTreeMap;
 

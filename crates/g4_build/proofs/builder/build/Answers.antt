@@ -1,5 +1,5 @@
 use Rattle.std.proofs.Common.{sym, ◌∙◌, subst, map, List, ℕ, ◌+◌, ◌∷◌, []}
-use Rattle.g4_symbols.specs.Symbols.{eof}
+use Rattle.g4_tokens.specs.Symbols.{eof}
 use Rattle.g4_source.specs.Rules.{alternatives_of}
 use Rattle.g4_layout.proofs.Runnable.{runnable}
 use Rattle.g4_build.specs.Rules.{IsDrawn}

@@ -5,10 +5,10 @@ use Rattle.g4_net.specs.declared.network.State.{State}
 use Rattle.g4_layout.specs.Callers.{callers_of}
 use Rattle.g4_layout.specs.Size.{states_of_rule}
 use Rattle.g4_layout.specs.Numbers.{added_numbering}
-use Rattle.g4_draft.specs.Numberings.{CanAllBeNumbered}
-use Rattle.g4_draft.specs.Rules.{AreFullTrees, HaveLaid, ends_from}
+use Rattle.g4_states.specs.Numberings.{CanAllBeNumbered}
+use Rattle.g4_states.specs.Rules.{AreFullTrees, HaveLaid, ends_from}
 use Rattle.g4_build.proofs.Drawn.{all_states, can_number, drawn, started_size, sum_of_map, full_trees}
-use Rattle.g4_draft.proofs.Trees.{same_rules}
+use Rattle.g4_states.proofs.Trees.{same_rules}
 use Rattle.g4_build.proofs.drawing.draw.Goals as goal
 
 pub lay_rules-requires-clause-full : goal.lay_rules-requires-clause-full

@@ -1,7 +1,7 @@
 use Rattle.std.proofs.Common.{◌≡◌, ℕ, ◌+◌, ◌*◌, List, length, arith, ap, ◌∙◌, subst}
 use Rattle.std.proofs.lemmas.List.{length-replicate}
 use Rattle.g4_layout.specs.Numbers.{added_numbering}
-use Rattle.g4_draft.specs.Numberings.{RuleIsNumbered}
+use Rattle.g4_states.specs.Numberings.{RuleIsNumbered}
 use Rattle.g4_build.proofs.Written.{first_and_others}
 use Rattle.g4_build.proofs.numbering.numbers.Goals as goal
 

@@ -1,5 +1,5 @@
 use Rattle.g4_source.specs.Trees.{alternative_of}
-use Rattle.g4_draft.proofs.Trees.{plain_side}
+use Rattle.g4_states.proofs.Trees.{plain_side}
 use Rattle.g4_build.proofs.Widths.{atom_not_wide, wide_block, told_first, told_second, one_found, one_passed, next_elements, next_sides}
 use Rattle.g4_build.proofs.width.+width.Goals as goal
 

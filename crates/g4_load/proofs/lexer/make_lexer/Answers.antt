@@ -1,4 +1,4 @@
-use Rattle.g4_lexing.specs.Lexers.{HasTokenTypes}
+use Rattle.g4_lexer.specs.Lexers.{HasTokenTypes}
 use Rattle.g4_load.proofs.LexerMade.{lexable, network_of, token_types}
 use Rattle.g4_load.proofs.lexer.make_lexer.Goals as goal
 

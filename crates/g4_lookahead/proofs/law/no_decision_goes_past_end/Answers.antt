@@ -1,5 +1,5 @@
 use Rattle.std.proofs.Common.{[], ◌∷◌, ◌++◌, refl, true, false}
-use Rattle.g4_symbols.specs.Symbols.{end_of_list}
+use Rattle.g4_tokens.specs.Symbols.{end_of_list}
 use Rattle.g4_net.specs.Allowed.{Allows}
 use Rattle.g4_net.specs.Configurations.{wildcard, above_bottom}
 use Rattle.g4_net.specs.Lookahead.{Start}

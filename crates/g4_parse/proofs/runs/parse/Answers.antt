@@ -1,5 +1,5 @@
 use Rattle.std.proofs.Common.{◌≡◌, Bool, true, false, not, Ok, Err, refl}
-use Rattle.g4_token_list.specs.TokenList.{word_of}
+use Rattle.g4_tokens.specs.TokenList.{word_of}
 use Rattle.g4_parse.proofs.Accepting.{accepts, out_of_memory}
 use Rattle.g4_parse.proofs.Closing.{answer_closes}
 use Rattle.g4_parse.proofs.Fitting.{answer_fits}

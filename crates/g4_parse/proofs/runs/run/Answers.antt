@@ -1,5 +1,5 @@
 use Rattle.std.proofs.Common.{◌≡◌, false, Some, None, refl, rules, ◌∙◌}
-use Rattle.g4_token_list.specs.TokenList.{word_of}
+use Rattle.g4_tokens.specs.TokenList.{word_of}
 use Rattle.g4_parse.specs.Depth.{IsFirstReached}
 use Rattle.g4_parse.proofs.Onward.{begun_onward, underway, turn_onward, turn_falls, turn_fails, stops_too_deep, run_ends, run_too_deep, tells_too_deep}
 use Rattle.g4_parse.proofs.runs.run.Goals.{in_default-via-in-None-1, in_default-via-in-Some+else-not-presumed}

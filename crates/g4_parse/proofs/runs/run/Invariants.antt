@@ -1,5 +1,5 @@
 use Rattle.std.proofs.Common.{length, reverse}
-use Rattle.g4_token_list.specs.TokenList.{word_of}
+use Rattle.g4_tokens.specs.TokenList.{word_of}
 use Rattle.g4_parse.proofs.Measure.{measure_at}
 use Rattle.g4_parse.proofs.Onward.{Onward}
 use Rattle.g4_parse.proofs.runs.run.Given as goal

@@ -4,13 +4,13 @@ use Rattle.g4_predict.proofs.Choosing.{ends_ahead, answered, failed, failed_with
 use Rattle.g4_predict.proofs.Fitting.{least_chosen}
 use Rattle.g4_predict.specs.declared.decision.DecideFault.TheVariants.{NoViable}
 use Rattle.g4_predict.proofs.decision.decide.Goals as goal
-use Rattle.g4_token_list.specs.TokenList.{word_of}
+use Rattle.g4_tokens.specs.TokenList.{word_of}
 
 pub decide_by_stack-requires-clause-ends : goal.decide_by_stack-requires-clause-ends
 decide_by_stack-requires-clause-ends c = ends_ahead c.args.from c.args.tokens.now c.requires.ends c.requires.more
 
-pub verdict-requires-clause-ends : goal.verdict-requires-clause-ends
-verdict-requires-clause-ends c = ends_ahead c.args.from c.args.tokens.now c.requires.ends c.requires.more
+pub sll_verdict-requires-clause-ends : goal.sll_verdict-requires-clause-ends
+sll_verdict-requires-clause-ends c = ends_ahead c.args.from c.args.tokens.now c.requires.ends c.requires.more
 
 pub decide_by_stack-requires-in-Sensitive-clause-ends : goal.decide_by_stack-requires-in-Sensitive-clause-ends
 decide_by_stack-requires-in-Sensitive-clause-ends c = ends_ahead c.args.from c.args.tokens.now c.requires.ends c.requires.more

@@ -7,8 +7,8 @@ use Rattle.g4_predict.proofs.foresight.foresee.Goals as goal
 pub foresee_by_stack-requires-clause-ends : goal.foresee_by_stack-requires-clause-ends
 foresee_by_stack-requires-clause-ends c = ends_ahead c.args.from c.args.tokens.now c.requires.ends c.requires.more
 
-pub verdict-requires-clause-ends : goal.verdict-requires-clause-ends
-verdict-requires-clause-ends c = ends_ahead c.args.from c.args.tokens.now c.requires.ends c.requires.more
+pub sll_verdict-requires-clause-ends : goal.sll_verdict-requires-clause-ends
+sll_verdict-requires-clause-ends c = ends_ahead c.args.from c.args.tokens.now c.requires.ends c.requires.more
 
 pub foresee_by_stack-requires-in-Sensitive-clause-ends : goal.foresee_by_stack-requires-in-Sensitive-clause-ends
 foresee_by_stack-requires-in-Sensitive-clause-ends c = ends_ahead c.args.from c.args.tokens.now c.requires.ends c.requires.more

@@ -1,8 +1,8 @@
 use Rattle.std.proofs.Common.{◌≡◌, ◌<◌, length, reverse, arith}
 use Rattle.std.proofs.lemmas.List.{length-map}
 use Rattle.g4_net.specs.Allowed.{Allows}
-use Rattle.g4_token_list.specs.declared.token.Token.{Token}
-use Rattle.g4_token_list.specs.TokenList.{word_of}
+use Rattle.g4_tokens.specs.declared.token.Token.{Token}
+use Rattle.g4_tokens.specs.TokenList.{word_of}
 use Rattle.g4_predict.proofs.Choosing.{settled_on, settled_within}
 use Rattle.g4_predict.proofs.Foretelling.{chosen_foreseen, known_settled}
 use Rattle.g4_predict.proofs.foresight.foresee_by_stack.Goals as goal

@@ -1,8 +1,8 @@
 use Rattle.std.proofs.Common.{◌≡◌, ◌≤◌, ◌+◌, Some, None, length, drop, ℕ, arith, ap, ◌∙◌, sym, length-drop, length-take}
 use Rattle.std.proofs.lemmas.List.{drop_all}
 use Rattle.g4_chars.specs.declared.escape.Context.TheVariants.{Literal}
-use Rattle.g4_tokens.proofs.Ends.{enclosed_from, find_enclosed}
-use Rattle.g4_tokens.proofs.Skips.{enclosed_more, enclosed_stop, enclosed_fault}
+use Rattle.g4_grammar_tokens.proofs.Ends.{enclosed_from, find_enclosed}
+use Rattle.g4_grammar_tokens.proofs.Skips.{enclosed_more, enclosed_stop, enclosed_fault}
 use Rattle.g4_preds.proofs.literal.literal_length.Goals as goal
 
 pub loop-at-preserved : goal.loop-at-preserved

@@ -1,6 +1,6 @@
 use Rattle.std.proofs.Common.{◌≡◌, ◌≤◌, ◌-◌, length, drop}
 use Rattle.g4_chars.specs.declared.escape.Context.TheVariants.{Literal}
-use Rattle.g4_tokens.proofs.Ends.{enclosed, enclosed_from}
+use Rattle.g4_grammar_tokens.proofs.Ends.{enclosed, enclosed_from}
 use Rattle.g4_preds.proofs.literal.literal_length.Given as goal
 
 abbrev pub invariant-loop-at : goal.invariant-loop-at

@@ -1,7 +1,7 @@
 use Rattle.std.proofs.Common.{refl, sym, ◌∙◌, ◌≡◌, append_assoc, append-nil, ◌++◌, arith}
 use Rattle.g4_syntax.specs.Notation.{a_set, excluded}
-use Rattle.g4_prequels.proofs.Moving.{so, two, upon, first, second, inside, led, ends, asks_same}
-use Rattle.g4_prequels.proofs.Turning.{start, end_turns, sign_over, fewer, fewer_then, no_more}
+use Rattle.g4_cursor.proofs.Moving.{so, two, upon, first, second, inside, led, ends, asks_same}
+use Rattle.g4_cursor.proofs.Turning.{start, end_turns, sign_over, fewer, fewer_then, no_more}
 use Rattle.g4_productions.specs.LexerElements.{excluded_ranges, ranges_between, excluded_after}
 use Rattle.g4_productions.proofs.Listing.{all_more}
 use Rattle.g4_productions.proofs.excluded.+brackets.Goals as goal

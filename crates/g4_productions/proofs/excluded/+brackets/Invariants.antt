@@ -1,5 +1,5 @@
 use Rattle.std.proofs.Common.{◌++◌, ◌+◌, ◌*◌}
-use Rattle.g4_prequels.proofs.Turning.{Turned, left}
+use Rattle.g4_cursor.proofs.Turning.{Turned, left}
 use Rattle.g4_productions.specs.LexerElements.{excluded_after}
 use Rattle.g4_productions.proofs.excluded.+brackets.Given as goal
 

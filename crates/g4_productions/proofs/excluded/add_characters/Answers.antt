@@ -1,5 +1,5 @@
 use Rattle.std.proofs.Common.{refl, sym, ◌∙◌}
-use Rattle.g4_prequels.proofs.Moving.{so, upon, left_out, there, led}
+use Rattle.g4_cursor.proofs.Moving.{so, upon, left_out, there, led}
 use Rattle.g4_productions.proofs.excluded.add_characters.Goals as goal
 
 pub returns-then-not-is_at : goal.returns-then-not-is_at

@@ -1,5 +1,5 @@
 use Rattle.std.proofs.Common.{refl, ◌∙◌, ap}
-use Rattle.g4_prequels.proofs.Moving.{so}
+use Rattle.g4_cursor.proofs.Moving.{so}
 use Rattle.g4_productions.specs.Members.{set_of_ranges}
 use Rattle.g4_productions.proofs.excluded.excluded_set.Goals as goal
 

@@ -1,6 +1,6 @@
 use Rattle.std.proofs.Common.{refl, sym, ◌∙◌, ◌≡◌, ◌∷◌, []}
-use Rattle.g4_prequels.proofs.Moving.{so, first, second, or_here, or_there, or_nowhere}
-use Rattle.g4_prequels.proofs.Turning.{start_list, list_turn, list_end, fewer}
+use Rattle.g4_cursor.proofs.Moving.{so, first, second, or_here, or_there, or_nowhere}
+use Rattle.g4_cursor.proofs.Turning.{start_list, list_turn, list_end, fewer}
 use Rattle.g4_source.specs.declared.rule.Rule.{Rule}
 use Rattle.g4_source.specs.declared.rule.Rule.TheVariants as rules
 use Rattle.g4_syntax.specs.Notation.{◌∣◌, repeated}

@@ -1,5 +1,5 @@
 use Rattle.std.proofs.Common.{refl, sym, ◌∙◌}
-use Rattle.g4_prequels.proofs.Turning.{start_list, list_turn, list_end, fewer}
+use Rattle.g4_cursor.proofs.Turning.{start_list, list_turn, list_end, fewer}
 use Rattle.g4_productions.specs.Rules.{default_rules}
 use Rattle.g4_productions.proofs.grammar.default_rules.Goals as goal
 

@@ -1,4 +1,4 @@
-use Rattle.g4_prequels.proofs.Turning.{left, Listed}
+use Rattle.g4_cursor.proofs.Turning.{left, Listed}
 use Rattle.g4_productions.specs.Rules.{default_rules}
 use Rattle.g4_productions.proofs.grammar.default_rules.Given as goal
 

@@ -1,5 +1,5 @@
 use Rattle.std.proofs.Common.{refl, sym, ◌∙◌}
-use Rattle.g4_prequels.proofs.Moving.{first, second, led}
+use Rattle.g4_cursor.proofs.Moving.{first, second, led}
 use Rattle.g4_productions.proofs.grammar.grammar.Goals as goal
 
 pub returns-then-is_at_word : goal.returns-then-is_at_word

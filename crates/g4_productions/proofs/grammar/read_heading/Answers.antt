@@ -1,4 +1,4 @@
-use Rattle.g4_prequels.proofs.Moving.{so, upon}
+use Rattle.g4_cursor.proofs.Moving.{so, upon}
 use Rattle.g4_productions.proofs.grammar.read_heading.Goals as goal
 
 pub returns : goal.returns

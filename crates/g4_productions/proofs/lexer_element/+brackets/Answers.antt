@@ -1,7 +1,7 @@
 use Rattle.std.proofs.Common.{refl, sym, ◌∙◌, ap, append-nil, ◌∷◌, arith, Bool, Some}
 use Rattle.g4_syntax.specs.Notation.{a_set, characters}
-use Rattle.g4_prequels.proofs.Moving.{so, two, upon, first, second, inside, led, ends, asks_same}
-use Rattle.g4_prequels.proofs.Turning.{start, begun, turn, end_turns, sign_over, fewer, fewer_then, no_more}
+use Rattle.g4_cursor.proofs.Moving.{so, two, upon, first, second, inside, led, ends, asks_same}
+use Rattle.g4_cursor.proofs.Turning.{start, begun, turn, end_turns, sign_over, fewer, fewer_then, no_more}
 use Rattle.g4_source.specs.declared.name.Name.{Name}
 use Rattle.g4_source.specs.Elements.{Element, Elements}
 use Rattle.g4_source.specs.Trees.{element_of, alternative_of, in_order}

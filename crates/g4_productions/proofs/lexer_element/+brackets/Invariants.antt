@@ -1,6 +1,6 @@
 use Rattle.std.proofs.Common.{◌++◌, ◌+◌, ◌*◌, map}
 use Rattle.g4_source.specs.Trees.{element_of, alternative_of}
-use Rattle.g4_prequels.proofs.Turning.{Turned, left}
+use Rattle.g4_cursor.proofs.Turning.{Turned, left}
 use Rattle.g4_productions.specs.LexerElements.{lexer_elements, lexer_alternatives_after}
 use Rattle.g4_productions.proofs.lexer_element.+brackets.Given as goal
 

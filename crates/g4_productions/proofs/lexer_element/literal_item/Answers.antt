@@ -1,5 +1,5 @@
 use Rattle.std.proofs.Common.{refl, sym, ◌∙◌}
-use Rattle.g4_prequels.proofs.Moving.{so, upon, first, second, led}
+use Rattle.g4_cursor.proofs.Moving.{so, upon, first, second, led}
 use Rattle.g4_productions.proofs.lexer_element.literal_item.Goals as goal
 
 pub returns-then-is_at : goal.returns-then-is_at

@@ -1,5 +1,5 @@
 use Rattle.std.proofs.Common.{refl, sym, ◌∙◌}
-use Rattle.g4_prequels.proofs.Moving.{so, first, second}
+use Rattle.g4_cursor.proofs.Moving.{so, first, second}
 use Rattle.g4_productions.proofs.lexer_rule.argument_text.Goals as goal
 
 pub returns-then-is_at_name : goal.returns-then-is_at_name

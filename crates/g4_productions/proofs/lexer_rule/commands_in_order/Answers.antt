@@ -1,5 +1,5 @@
 use Rattle.std.proofs.Common.{refl, sym, ◌∙◌}
-use Rattle.g4_prequels.proofs.Turning.{start_list, sign_turn, sign_end, fewer_then}
+use Rattle.g4_cursor.proofs.Turning.{start_list, sign_turn, sign_end, fewer_then}
 use Rattle.g4_productions.specs.Rules.{commands_after}
 use Rattle.g4_productions.proofs.lexer_rule.commands_in_order.Goals as goal
 

@@ -1,4 +1,4 @@
-use Rattle.g4_prequels.proofs.Turning.{left, Listed}
+use Rattle.g4_cursor.proofs.Turning.{left, Listed}
 use Rattle.g4_productions.specs.Rules.{commands_after}
 use Rattle.g4_productions.proofs.lexer_rule.commands_in_order.Given as goal
 

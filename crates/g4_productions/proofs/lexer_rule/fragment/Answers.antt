@@ -1,5 +1,5 @@
 use Rattle.std.proofs.Common.{refl, sym, ◌∙◌}
-use Rattle.g4_prequels.proofs.Moving.{so, left_out, there}
+use Rattle.g4_cursor.proofs.Moving.{so, left_out, there}
 use Rattle.g4_productions.proofs.lexer_rule.fragment.Goals as goal
 
 pub returns-then-not-is_at_word : goal.returns-then-not-is_at_word

@@ -1,11 +1,11 @@
 use Rattle.std.proofs.Common.{refl, sym, ◌||◌, ◌≡◌}
-use Rattle.g4_prequels.proofs.Moving.{led, skip_next, optional_next}
+use Rattle.g4_cursor.proofs.Moving.{led, skip_next, optional_next}
 use Rattle.std.specs.Prelude.{codes}
 use Rattle.g4_syntax.specs.Notation.{◌▸◌, optional, sign, word}
 use Rattle.g4_syntax.specs.Productions.{options, lexer_rule, lexer_alternative}
 use Rattle.g4_syntax.specs.Notation.{with_bars}
-use Rattle.g4_tokens.specs.declared.token.Kind.TheVariants as kinds
-use Rattle.g4_prequels.specs.Progress.{Progress, is_next}
+use Rattle.g4_grammar_tokens.specs.declared.token.Kind.TheVariants as kinds
+use Rattle.g4_cursor.specs.Progress.{Progress, is_next}
 use Rattle.g4_productions.proofs.lexer_rule.is_at_lexer_rule.Goals as goal
 
 -- a lexer rule begins with `fragment` or an upper-case name

@@ -1,5 +1,5 @@
 use Rattle.std.proofs.Common.{refl, ◌∙◌, ap}
-use Rattle.g4_prequels.proofs.Moving.{so, upon}
+use Rattle.g4_cursor.proofs.Moving.{so, upon}
 use Rattle.g4_source.specs.Trees.{in_order}
 use Rattle.g4_productions.proofs.lexer_rule.lexer_alternative.Goals as goal
 

@@ -1,6 +1,6 @@
 use Rattle.std.proofs.Common.{refl, sym, ◌∙◌}
-use Rattle.g4_prequels.proofs.Moving.{so, upon}
-use Rattle.g4_prequels.proofs.Turning.{start_list, list_turn, list_end, fewer}
+use Rattle.g4_cursor.proofs.Moving.{so, upon}
+use Rattle.g4_cursor.proofs.Turning.{start_list, list_turn, list_end, fewer}
 use Rattle.g4_productions.specs.Rules.{lexer_rules}
 use Rattle.g4_productions.proofs.lexer_rule.mode.Goals as goal
 

@@ -1,4 +1,4 @@
-use Rattle.g4_prequels.proofs.Turning.{left, Listed}
+use Rattle.g4_cursor.proofs.Turning.{left, Listed}
 use Rattle.g4_productions.specs.Rules.{lexer_rules}
 use Rattle.g4_productions.proofs.lexer_rule.mode.Given as goal
 

@@ -1,5 +1,5 @@
 use Rattle.std.proofs.Common.{sym, ◌∙◌}
-use Rattle.g4_prequels.proofs.Moving.{refuses, taken_as}
+use Rattle.g4_cursor.proofs.Moving.{refuses, taken_as}
 use Rattle.g4_productions.proofs.NextSets.{literal_fits, literal_bad, literal_good}
 use Rattle.g4_productions.proofs.literal.take_literal.Goals as goal
 

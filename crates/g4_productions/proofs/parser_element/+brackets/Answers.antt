@@ -1,13 +1,13 @@
 use Rattle.std.proofs.Common.{refl, sym, ◌∙◌, ap, append-nil, arith, Bool, List, Some}
-use Rattle.g4_prequels.proofs.Moving.{so, two, upon, first, second, inside, led, ends}
-use Rattle.g4_prequels.proofs.Turning.{start, begun, turn, end_turns, sign_over, fewer, fewer_then, no_more}
+use Rattle.g4_cursor.proofs.Moving.{so, two, upon, first, second, inside, led, ends}
+use Rattle.g4_cursor.proofs.Turning.{start, begun, turn, end_turns, sign_over, fewer, fewer_then, no_more}
 use Rattle.g4_source.specs.declared.name.Name.{Name}
 use Rattle.g4_source.specs.Trees.{element_of, alternative_of, in_order}
 use Rattle.g4_source.proofs.Trees.{of_elements}
 use Rattle.g4_productions.specs.ParserElements.{parser_element, parser_elements, element_right, elements_right, named_item, labelled_after, alternative_elements, alternatives_after}
 use Rattle.g4_productions.proofs.Listing.{listed_more}
 use Rattle.g4_productions.proofs.Pairs.{pair}
-use Rattle.g4_prequels.proofs.Ors.{either_of_three, or_none}
+use Rattle.g4_cursor.proofs.Ors.{either_of_three, or_none}
 use Rattle.g4_source.specs.Elements.{Element}
 use Rattle.g4_source.specs.declared.atom.Atom.{Atom}
 use Rattle.g4_productions.proofs.parser_element.+brackets.Goals as goal

@@ -1,6 +1,6 @@
 use Rattle.std.proofs.Common.{◌++◌, ◌+◌, ◌*◌, ◌||◌, map}
 use Rattle.g4_source.specs.Trees.{element_of, alternative_of}
-use Rattle.g4_prequels.proofs.Turning.{Turned, left}
+use Rattle.g4_cursor.proofs.Turning.{Turned, left}
 use Rattle.g4_productions.specs.ParserElements.{parser_elements, parser_items, elements_right, alternatives_after}
 use Rattle.g4_productions.proofs.parser_element.+brackets.Given as goal
 

@@ -1,4 +1,4 @@
-use Rattle.g4_prequels.proofs.Moving.{so, upon}
+use Rattle.g4_cursor.proofs.Moving.{so, upon}
 use Rattle.g4_productions.proofs.parser_element.reference_end.Goals as goal
 
 pub returns : goal.returns

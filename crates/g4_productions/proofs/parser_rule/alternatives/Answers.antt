@@ -1,5 +1,5 @@
 use Rattle.std.proofs.Common.{refl, sym, ◌∙◌}
-use Rattle.g4_prequels.proofs.Turning.{start_list, sign_turn, sign_end, fewer_then}
+use Rattle.g4_cursor.proofs.Turning.{start_list, sign_turn, sign_end, fewer_then}
 use Rattle.g4_productions.specs.Rules.{rule_alternatives_after}
 use Rattle.g4_productions.proofs.parser_rule.alternatives.Goals as goal
 

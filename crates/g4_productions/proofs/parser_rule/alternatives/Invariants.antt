@@ -1,4 +1,4 @@
-use Rattle.g4_prequels.proofs.Turning.{left, Listed}
+use Rattle.g4_cursor.proofs.Turning.{left, Listed}
 use Rattle.g4_productions.specs.Rules.{rule_alternatives_after}
 use Rattle.g4_productions.proofs.parser_rule.alternatives.Given as goal
 

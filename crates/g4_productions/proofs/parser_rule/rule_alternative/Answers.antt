@@ -1,7 +1,7 @@
 use Rattle.std.proofs.Common.{refl, ◌∙◌, ap, ◌≡◌, ◌||◌, Bool, List}
 use Rattle.g4_source.specs.Elements.{Element}
 use Rattle.g4_source.specs.declared.atom.Atom.{Atom}
-use Rattle.g4_prequels.proofs.Moving.{so, two, upon}
+use Rattle.g4_cursor.proofs.Moving.{so, two, upon}
 use Rattle.g4_source.specs.Trees.{in_order}
 use Rattle.g4_productions.specs.ParserElements.{alternative_right, alternative_elements}
 use Rattle.g4_productions.proofs.parser_rule.rule_alternative.Goals as goal

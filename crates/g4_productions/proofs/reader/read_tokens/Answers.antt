@@ -1,6 +1,6 @@
 use Rattle.std.proofs.Common.{sym, ◌∙◌, ap, Some, arith}
 use Rattle.std.proofs.lemmas.Result.{err_from_is_err_and}
-use Rattle.g4_prequels.specs.Texts.{spelled}
+use Rattle.g4_cursor.specs.Texts.{spelled}
 use Rattle.g4_productions.proofs.Whole.{text_read, read_full, not_longer, text_left, text_stops, at_bad}
 use Rattle.g4_productions.proofs.reader.read_tokens.Goals as goal
 

@@ -1,5 +1,5 @@
 use Rattle.std.proofs.Common.{refl, ◌∙◌}
-use Rattle.g4_prequels.proofs.Moving.{so}
+use Rattle.g4_cursor.proofs.Moving.{so}
 use Rattle.g4_productions.proofs.set.character.Goals as goal
 
 pub returns : goal.returns

@@ -1,8 +1,8 @@
 use Rattle.std.proofs.Common.{refl, sym, ◌∙◌, ap}
 use Rattle.std.specs.Option.{option_map}
-use Rattle.g4_tokens.specs.declared.token.Kind.TheVariants as kinds
+use Rattle.g4_grammar_tokens.specs.declared.token.Kind.TheVariants as kinds
 use Rattle.g4_syntax.specs.Notation.{a_set}
-use Rattle.g4_prequels.proofs.Moving.{taken_as}
+use Rattle.g4_cursor.proofs.Moving.{taken_as}
 use Rattle.g4_productions.proofs.NextSets.{unseen, no_set_next}
 use Rattle.g4_productions.proofs.set.set.Goals as goal
 

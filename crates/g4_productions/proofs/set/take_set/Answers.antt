@@ -1,6 +1,6 @@
 use Rattle.std.proofs.Common.{refl, subst}
-use Rattle.g4_prequels.proofs.Moving.{so, refuses, taken_as}
-use Rattle.g4_tokens.specs.declared.token.Kind.TheVariants as kinds
+use Rattle.g4_cursor.proofs.Moving.{so, refuses, taken_as}
+use Rattle.g4_grammar_tokens.specs.declared.token.Kind.TheVariants as kinds
 use Rattle.g4_productions.specs.Answering.{HasNext}
 use Rattle.g4_productions.proofs.NextSets.{seen, bad_next, good_next, set_taken}
 use Rattle.g4_productions.proofs.set.take_set.Goals as goal

@@ -1,7 +1,7 @@
 use Rattle.std.proofs.Common.{refl, sym, ◌∙◌, ap, false}
 use Rattle.g4_source.specs.Elements.{Element}
 use Rattle.g4_source.specs.declared.atom.Atom.{Atom}
-use Rattle.g4_prequels.proofs.Moving.{so, upon, left_out, there, led}
+use Rattle.g4_cursor.proofs.Moving.{so, upon, left_out, there, led}
 use Rattle.g4_source.proofs.Trees.{of_atom}
 use Rattle.g4_productions.proofs.suffix.action.Goals as goal
 

@@ -1,4 +1,4 @@
-use Rattle.g4_prequels.proofs.Moving.{either}
+use Rattle.g4_cursor.proofs.Moving.{either}
 use Rattle.g4_productions.proofs.suffix.is_at_label_sign.Goals as goal
 
 pub returns : goal.returns

@@ -1,5 +1,5 @@
 use Rattle.std.proofs.Common.{refl, sym, ◌∙◌}
-use Rattle.g4_prequels.proofs.Moving.{so, first, second}
+use Rattle.g4_cursor.proofs.Moving.{so, first, second}
 use Rattle.g4_productions.proofs.suffix.label_sign.Goals as goal
 
 pub returns-then-is_at : goal.returns-then-is_at

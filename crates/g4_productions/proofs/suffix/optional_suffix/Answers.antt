@@ -1,9 +1,9 @@
 use Rattle.std.proofs.Common.{refl, sym, ◌∙◌, ◌≡◌}
-use Rattle.g4_prequels.proofs.Moving.{so, upon, first, second, left_out, there, led, or_here, or_there, or_nowhere}
+use Rattle.g4_cursor.proofs.Moving.{so, upon, first, second, left_out, there, led, or_here, or_there, or_nowhere}
 use Rattle.g4_source.specs.declared.element.Repeat.TheVariants as repeats
 use Rattle.g4_syntax.specs.Notation.{optional, sign}
 use Rattle.g4_syntax.specs.Trees.{Tree, both}
-use Rattle.g4_tokens.specs.declared.token.Kind.TheVariants as kinds
+use Rattle.g4_grammar_tokens.specs.declared.token.Kind.TheVariants as kinds
 use Rattle.g4_productions.specs.Elements.{is_greedy, suffix_of}
 use Rattle.g4_productions.proofs.suffix.optional_suffix.Goals as goal
 

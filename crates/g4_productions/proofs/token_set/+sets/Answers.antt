@@ -1,6 +1,6 @@
 use Rattle.std.proofs.Common.{refl, sym, ◌∙◌, ◌≡◌, append_assoc, append-nil, ◌++◌, arith}
-use Rattle.g4_prequels.proofs.Moving.{so, two, upon, first, second, inside, led, ends}
-use Rattle.g4_prequels.proofs.Turning.{start, end_turns, sign_over, fewer, fewer_then, no_more}
+use Rattle.g4_cursor.proofs.Moving.{so, two, upon, first, second, inside, led, ends}
+use Rattle.g4_cursor.proofs.Turning.{start, end_turns, sign_over, fewer, fewer_then, no_more}
 use Rattle.g4_productions.specs.ParserElements.{references_of, references_between, references_after}
 use Rattle.g4_productions.proofs.Listing.{all_more}
 use Rattle.g4_productions.proofs.token_set.+sets.Goals as goal

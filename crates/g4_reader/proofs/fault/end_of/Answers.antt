@@ -2,7 +2,7 @@ use Rattle.std.proofs.Common.{◌≡◌, ◌∙◌, ap, rules}
 use Rattle.std.specs.Str.{IsUtf8, chars}
 use Rattle.std.proofs.lemmas.Str.{chars_from_encodes}
 use Rattle.g4_base.specs.Place.{first_place, place_after}
-use Rattle.g4_tokens.specs.Answers.{unmarked}
+use Rattle.g4_grammar_tokens.specs.Answers.{unmarked}
 use Rattle.g4_reader.proofs.fault.end_of.Goals as goal
 
 pub returns : goal.returns

@@ -1,5 +1,5 @@
 use Rattle.std.proofs.Common.{take}
-use Rattle.g4_prequels.specs.Texts.{from, spelled}
+use Rattle.g4_cursor.specs.Texts.{from, spelled}
 use Rattle.g4_reader.proofs.Readings.{cut_from, stopped_is}
 use Rattle.g4_reader.proofs.Tokens.{cut_at}
 use Rattle.g4_reader.proofs.reader.read_checked.Goals as goal

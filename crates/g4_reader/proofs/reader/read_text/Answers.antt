@@ -1,5 +1,5 @@
 use Rattle.std.proofs.Common.{ℕ, List, subst}
-use Rattle.g4_tokens.specs.Answers.{HasTokens}
+use Rattle.g4_grammar_tokens.specs.Answers.{HasTokens}
 use Rattle.g4_reader.proofs.Parts.{are_parts}
 use Rattle.g4_reader.proofs.Readings.{IsReading-from}
 use Rattle.g4_reader.proofs.reader.read_text.Goals as goal

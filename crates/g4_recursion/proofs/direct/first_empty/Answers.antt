@@ -2,8 +2,8 @@ use Rattle.std.proofs.Common.{◌≡◌, length, Some, refl, sym, ◌∙◌, sub
 use Rattle.std.specs.List.{slice_get}
 use Rattle.std.proofs.lemmas.Option.{same_Some, slice_get_read, slice_get_within}
 use Rattle.g4_source.specs.Elements.{Elements}
-use Rattle.g4_nullable.specs.declared.lead.Lead.{Lead}
-use Rattle.g4_recursion.specs.Leads.{IsEmptyAfterCall, IsEmptyAt}
+use Rattle.g4_recursion.specs.declared.lead.Lead.{Lead}
+use Rattle.g4_recursion.specs.AtomLeads.{IsEmptyAfterCall, IsEmptyAt}
 use Rattle.g4_recursion.proofs.Searching.{all_passed, least_found, one_passed}
 use Rattle.g4_recursion.proofs.direct.first_empty.Goals as goal
 

@@ -1,10 +1,10 @@
 use Rattle.std.proofs.Common.{map, sym, ap, ◌∙◌}
 use Rattle.std.proofs.lemmas.List.{take_all}
-use Rattle.g4_nullable.specs.declared.lead.LeadRule.{LeadRule}
+use Rattle.g4_recursion.specs.declared.lead.LeadRule.{LeadRule}
 use Rattle.g4_source.specs.declared.rules.RuleView.{RuleView}
 use Rattle.g4_source.specs.Views.{rule_view}
 use Rattle.g4_source.proofs.Lists.{map-map}
-use Rattle.g4_recursion.specs.Leads.{leads_by, may_have_operators}
+use Rattle.g4_recursion.specs.AtomLeads.{leads_by, may_have_operators}
 use Rattle.g4_recursion.specs.Numbers.{number_in}
 use Rattle.g4_recursion.proofs.Leading.{all_leads}
 use Rattle.g4_recursion.proofs.leads.lead_rules.Goals as goal

@@ -1,7 +1,7 @@
 use Rattle.std.proofs.Common.{◌≡◌, map, take}
 use Rattle.g4_source.specs.Views.{rule_view}
-use Rattle.g4_nullable.specs.Leads.{operators_of}
-use Rattle.g4_recursion.specs.Leads.{leads_by, may_have_operators}
+use Rattle.g4_recursion.specs.Leads.{operators_of}
+use Rattle.g4_recursion.specs.AtomLeads.{leads_by, may_have_operators}
 use Rattle.g4_recursion.specs.Numbers.{number_in}
 use Rattle.g4_recursion.proofs.leads.lead_rules.Given as goal
 

@@ -1,7 +1,7 @@
 use Rattle.g4_source.specs.Bind.{in_order_over}
 use Rattle.g4_source.specs.declared.atom.Atom.{Atom}
 use Rattle.g4_source.specs.declared.rule.LexerAlternative.{LexerAlternative}
-use Rattle.g4_recursion.specs.Leads.{lead_by}
+use Rattle.g4_recursion.specs.AtomLeads.{lead_by}
 use Rattle.g4_recursion.specs.Numbers.{number_in}
 use Rattle.g4_recursion.proofs.Searching.{image_more}
 use Rattle.g4_recursion.proofs.leads.lexer_leads.Goals as goal

@@ -1,6 +1,6 @@
 use Rattle.std.proofs.Common.{◌≡◌, map, take}
 use Rattle.g4_source.specs.Bind.{in_order_over}
-use Rattle.g4_recursion.specs.Leads.{lead_by}
+use Rattle.g4_recursion.specs.AtomLeads.{lead_by}
 use Rattle.g4_recursion.specs.Numbers.{number_in}
 use Rattle.g4_recursion.proofs.leads.lexer_leads.Given as goal
 

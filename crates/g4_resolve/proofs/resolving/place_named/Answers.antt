@@ -1,8 +1,8 @@
 use Rattle.std.proofs.Common.{◌≡◌, ℕ, List, Option, None, length, sym, ap, ◌∙◌}
 use Rattle.std.specs.Option.{unwrap_or}
 use Rattle.std.specs.Str.{bytes_eq}
-use Rattle.g4_places.specs.Places.{first_place}
-use Rattle.g4_places.proofs.Firsts.{unwrap_or-position}
+use Rattle.g4_names.specs.Places.{first_place}
+use Rattle.g4_names.proofs.Firsts.{unwrap_or-position}
 use Rattle.g4_resolve.proofs.resolving.place_named.Goals as goal
 
 pub returns-in-None-clause-place : goal.returns-in-None-clause-place

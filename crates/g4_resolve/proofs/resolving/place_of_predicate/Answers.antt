@@ -4,7 +4,7 @@ use Rattle.std.specs.Option.{unwrap_or}
 use Rattle.g4_base.specs.declared.place.Place.{Place}
 use Rattle.std.proofs.lemmas.Iterator.{YieldsList-from_slice}
 use Rattle.std.proofs.lemmas.Iterator.Search.{position_from_yields_List}
-use Rattle.g4_places.proofs.Firsts.{unwrap_or-position}
+use Rattle.g4_names.proofs.Firsts.{unwrap_or-position}
 use Rattle.g4_resolve.proofs.resolving.place_of_predicate.Goals as goal
 
 pub returns-clause-place : goal.returns-clause-place

@@ -1,6 +1,6 @@
 use Rattle.std.proofs.Common.{List, Ok, Err, refl, sym, ◌∙◌, subst}
-use Rattle.g4_token_list.specs.declared.token.Token.{Token}
-use Rattle.g4_token_list.specs.TokenList.{word_of}
+use Rattle.g4_tokens.specs.declared.token.Token.{Token}
+use Rattle.g4_tokens.specs.TokenList.{word_of}
 use Rattle.g4_parse.specs.Parsing.{IsParse}
 use Rattle.g4_tool.specs.Outcomes.{not_lexed, not_parsed, parsed}
 use Rattle.g4_tool.proofs.Meant.{fault_meant, tree_meant}

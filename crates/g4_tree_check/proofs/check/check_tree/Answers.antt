@@ -1,6 +1,6 @@
 use Rattle.std.proofs.Common.{◌≡◌, ◌↔◌, ℕ, ◌+◌, List, [], ◌∷◌, reverse, drop, get_or, sym, ap, subst, IsTrue, arith}
 use Rattle.std.proofs.lemmas.List.{drop_all, drop_more}
-use Rattle.g4_token_list.specs.TokenList.{word_of}
+use Rattle.g4_tokens.specs.TokenList.{word_of}
 use Rattle.g4_trees.specs.declared.tree.Item.{Item}
 use Rattle.g4_trees.specs.declared.tree.Item.TheVariants as items
 use Rattle.g4_tree_check.specs.declared.standing.OpenNode.{OpenNode}

@@ -1,5 +1,5 @@
 use Rattle.std.proofs.Common.{◌↔◌, drop}
-use Rattle.g4_token_list.specs.TokenList.{word_of}
+use Rattle.g4_tokens.specs.TokenList.{word_of}
 use Rattle.g4_tree_check.specs.Standing.{CanEnd}
 use Rattle.g4_tree_check.specs.TreesOf.{IsTreeOf}
 use Rattle.g4_tree_check.proofs.check.check_tree.Given as goal

@@ -1,7 +1,7 @@
 use Rattle.std.proofs.Common.{◌≡◌, ◌↔◌, ◌∙◌, ◌++◌, List, Bool, true, map, get_or, sym, ap, subst, IsTrue, arith}
 use Rattle.g4_source.specs.Elements.{Elements}
 use Rattle.g4_source.specs.Trees.{element_of, in_order}
-use Rattle.g4_token_list.specs.TokenList.{word_of}
+use Rattle.g4_tokens.specs.TokenList.{word_of}
 use Rattle.g4_trees.specs.declared.tree.Item.{Item}
 use Rattle.g4_trees.specs.declared.tree.Item.TheVariants as items
 use Rattle.g4_tree_check.specs.Children.{child_of, is_quiet, takes}

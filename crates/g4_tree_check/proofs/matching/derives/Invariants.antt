@@ -1,6 +1,6 @@
 use Rattle.std.proofs.Common.{map}
 use Rattle.g4_source.specs.Trees.{element_of, in_order}
-use Rattle.g4_token_list.specs.TokenList.{word_of}
+use Rattle.g4_tokens.specs.TokenList.{word_of}
 use Rattle.g4_tree_check.proofs.Reached.{Stands}
 use Rattle.g4_tree_check.proofs.matching.derives.Given as goal
 

@@ -1,6 +1,6 @@
 use Rattle.std.proofs.Common.{subst}
 use Rattle.g4_source.specs.Elements.{Elements}
-use Rattle.g4_token_list.specs.TokenList.{word_of}
+use Rattle.g4_tokens.specs.TokenList.{word_of}
 use Rattle.g4_tree_check.specs.TreesOf.{DerivesChildren}
 use Rattle.g4_tree_check.proofs.Bodies.{one_body}
 use Rattle.g4_tree_check.proofs.standing.fits.Goals as goal

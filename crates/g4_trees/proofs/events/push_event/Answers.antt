@@ -1,7 +1,7 @@
 use Rattle.std.proofs.Common.{◌++◌, codes}
 use Rattle.g4_trees.specs.TreeText.{text_at}
 use Rattle.g4_trees.proofs.Appended.{adds_same, adds_three, stops_in_first, stops_in_second}
-use Rattle.g4_trees.proofs.Lines.{line_parts}
+use Rattle.g4_trees.proofs.TreeLines.{line_parts}
 use Rattle.g4_trees.proofs.events.push_event.Goals as goal
 
 pub returns-in_err-push_three-in-Token : goal.returns-in_err-push_three-in-Token

@@ -5,7 +5,7 @@ use Rattle.g4_trees.specs.declared.events.Event.{Event}
 use Rattle.g4_trees.specs.Events.{event_lines}
 use Rattle.g4_trees.specs.Steps.{events_from}
 use Rattle.g4_trees.proofs.Appended.{adds_front, adds_so_far, leaves_all, leaves_same}
-use Rattle.g4_trees.proofs.Lines.{line_added, line_begun}
+use Rattle.g4_trees.proofs.TreeLines.{line_added, line_begun}
 use Rattle.g4_trees.proofs.events.push_events.Goals as goal
 use Rattle.g4_trees.proofs.events.push_events.Goals.{in-Some+in_ok-push_event, in_default}
 

@@ -2,7 +2,7 @@ use Rattle.std.proofs.Common.{ℕ, List, ◌-◌, get_or, sym, subst, ap}
 use Rattle.std.specs.Prelude.{Some}
 use Rattle.g4_net.specs.declared.network.State.TheVariants.{Decision}
 use Rattle.g4_net.specs.Network.{IsFirst, state_at}
-use Rattle.g4_token_list.specs.TokenList.{word_of}
+use Rattle.g4_tokens.specs.TokenList.{word_of}
 use Rattle.g4_parse.specs.Deciding.{of_decide}
 use Rattle.g4_run.specs.Running.{begun, with_begun}
 use Rattle.g4_parse.proofs.Turns.{chooses, first_of, decides_fault, fails_with, moved_to, state_within}

@@ -2,7 +2,7 @@ use Rattle.std.proofs.Common.{◌∙◌, ℕ, List, ap, refl}
 use Rattle.std.specs.Prelude.{Some, Ok}
 use Rattle.g4_net.specs.declared.network.State.{State}
 use Rattle.g4_net.specs.declared.network.State.TheVariants.{Call, End, Level, Action, Empty}
-use Rattle.g4_token_list.specs.TokenList.{word_of}
+use Rattle.g4_tokens.specs.TokenList.{word_of}
 use Rattle.g4_run.specs.Running.{Run}
 use Rattle.g4_parse.proofs.Turns.{turned}
 use Rattle.g4_parse.proofs.parser.Parser.step.Goals as goal

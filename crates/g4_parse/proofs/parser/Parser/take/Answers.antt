@@ -1,7 +1,7 @@
 use Rattle.std.proofs.Common.{◌≡◌, ◌+◌, IsTrue, get_or, refl}
 use Rattle.std.specs.Prelude.{Some, slice_get}
-use Rattle.g4_token_list.specs.declared.token.Token.{Token}
-use Rattle.g4_token_list.specs.TokenList.{word_of}
+use Rattle.g4_tokens.specs.declared.token.Token.{Token}
+use Rattle.g4_tokens.specs.TokenList.{word_of}
 use Rattle.g4_run.specs.Running.{with_token}
 use Rattle.g4_parse.proofs.Words.{word_get}
 use Rattle.g4_parse.proofs.parser.Parser.take.Goals as goal

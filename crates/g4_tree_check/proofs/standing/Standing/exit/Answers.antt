@@ -1,5 +1,5 @@
 use Rattle.std.proofs.Common.{◌≡◌, ◌∙◌, List, [], ◌∷◌, ◌++◌, reverse, refl, sym, ap, subst}
-use Rattle.g4_token_list.specs.TokenList.{word_of}
+use Rattle.g4_tokens.specs.TokenList.{word_of}
 use Rattle.g4_trees.specs.declared.tree.Item.{Item}
 use Rattle.g4_trees.specs.declared.tree.Item.TheVariants as items
 use Rattle.g4_tree_check.specs.declared.standing.OpenNode.{OpenNode}

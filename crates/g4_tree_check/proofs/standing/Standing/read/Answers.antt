@@ -1,5 +1,5 @@
 use Rattle.std.proofs.Common.{◌↔◌, ◌∷◌, sym, subst, IsTrue}
-use Rattle.g4_token_list.specs.TokenList.{word_of}
+use Rattle.g4_tokens.specs.TokenList.{word_of}
 use Rattle.g4_trees.specs.declared.tree.Item.{Item}
 use Rattle.g4_tree_check.specs.Standing.{CanEnd}
 use Rattle.g4_tree_check.proofs.standing.Standing.read.Goals as goal

@@ -2,7 +2,7 @@ use Rattle.std.proofs.Common.{◌≡◌, [], List, ap, subst, ◌∙◌}
 use Rattle.std.specs.Prelude.{IfOk}
 use Rattle.g4_trees.specs.declared.events.Event.{Event}
 use Rattle.g4_trees.specs.Steps.{events_from}
-use Rattle.g4_trees.proofs.Lines.{events_from_tree}
+use Rattle.g4_trees.proofs.TreeLines.{events_from_tree}
 use Rattle.g4_trees.proofs.tree.Tree.events.Goals as goal
 
 pub returns : goal.returns

@@ -2,7 +2,7 @@ use Rattle.std.proofs.Common.{[], ap, ◌∙◌}
 use Rattle.g4_trees.specs.Events.{event_lines}
 use Rattle.g4_trees.specs.Steps.{events_from}
 use Rattle.g4_trees.proofs.Appended.{adds_same}
-use Rattle.g4_trees.proofs.Lines.{events_from_tree}
+use Rattle.g4_trees.proofs.TreeLines.{events_from_tree}
 use Rattle.g4_trees.proofs.tree.Tree.print_events.Goals as goal
 
 pub returns : goal.returns

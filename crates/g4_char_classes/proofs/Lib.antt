@@ -1,2 +1,0 @@
-mod Collected
-mod Counted

@@ -1,5 +1,0 @@
-mod Carried
-mod ByDigits
-mod Once
-mod Symbols
-mod TokenTypes

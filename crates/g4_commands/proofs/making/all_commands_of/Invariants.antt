@@ -1,7 +1,0 @@
-use Rattle.std.proofs.Common.{◌≡◌, map, take}
-use Rattle.std.specs.List.{filter_map}
-use Rattle.g4_commands.specs.Commands.{command_of}
-use Rattle.g4_commands.proofs.making.all_commands_of.Given as goal
-
-abbrev pub invariant-loop-alternatives : goal.invariant-loop-alternatives
-invariant-loop-alternatives l = l.made.items ≡ map (map (filter_map (command_of l.numbers.tables.now))) (take l.alternatives-index l.rules)

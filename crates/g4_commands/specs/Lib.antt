@@ -1,3 +1,0 @@
-pub mod Commands
-pub mod Known
-pub mod Tables

@@ -1,5 +1,0 @@
-use Rattle.g4_covering.proofs.Choices.{full_choice}
-use Rattle.g4_covering.proofs.law.full_stacks_choose.Goals as goal
-
-pub returns : goal.returns
-returns c = λ net d allowed returns w ready proper ends. full_choice net d allowed returns w ready proper ends

@@ -1,0 +1,9 @@
+use Rattle.std.proofs.Common.{refl, sym, ◌∙◌}
+use Rattle.g4_cursor.proofs.Moving.{left_out, there, led}
+use Rattle.g4_cursor.proofs.options.optional_element_options.Goals as goal
+
+pub returns-then-not-is_at : goal.returns-then-not-is_at
+returns-then-not-is_at c = left_out _ (led _ _ _ refl ∙ sym c.is_at.ensures ∙ c.if-not-is_at.true) refl
+
+pub returns : goal.returns
+returns c = there (led _ _ _ refl ∙ sym c.is_at.ensures ∙ c.if-not-is_at.false) c.in_ok-right.ensures

@@ -1,0 +1,5 @@
+use Rattle.g4_cursor.proofs.Moving.{passed, after}
+use Rattle.g4_cursor.proofs.passing.pass_rule_action.Goals as goal
+
+pub returns : goal.returns
+returns c = after c.take.ensures (after c.take_name.ensures (passed c.take-2.ensures))

@@ -1,0 +1,10 @@
+use Rattle.g4_cursor.proofs.Turning.{left, Passing}
+use Rattle.g4_syntax.specs.Notation.{sign, name, ◌▸◌}
+use Rattle.g4_grammar_tokens.specs.declared.token.Kind.TheVariants as kinds
+use Rattle.g4_cursor.proofs.passing.pass_throws.Given as goal
+
+abbrev pub invariant-loop-cursor : goal.invariant-loop-cursor
+invariant-loop-cursor l = Passing (sign kinds.Comma ▸ name) l.initial.cursor l.cursor
+
+abbrev pub decreases-loop-cursor : goal.decreases-loop-cursor
+decreases-loop-cursor l = left l.cursor

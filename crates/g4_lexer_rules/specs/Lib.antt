@@ -1,0 +1,10 @@
+pub mod Commands
+pub mod Known
+pub mod LexNets
+pub mod Lexable
+pub mod NetworkRules
+pub mod Rules
+pub mod Starts
+pub mod Steps
+pub mod Tables
+pub mod Types

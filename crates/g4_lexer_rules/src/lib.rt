@@ -1,0 +1,37 @@
+// From a grammar to its lexer's network: the rules of literals that have tokens of their own and those of the modes, with their types.
+// The network is laid by the same table as the parser's; what the commands of the rules do is given by number.
+#![tactic(auto)]
+
+mod building;
+mod channels;
+mod chars;
+mod commands;
+mod digits;
+mod drawing;
+mod gathering;
+mod joining;
+mod known;
+mod law;
+mod lex_net;
+mod lexer_rules;
+mod literals;
+mod lowering;
+mod making;
+mod modes;
+mod network;
+mod numbers;
+mod sizes;
+mod starting;
+mod step;
+mod tables;
+mod types;
+
+pub use building::build_lexer;
+pub use gathering::lexer_rules_of;
+pub use known::known_commands_are_carried_out;
+pub use law::{rules_can_be_lexed, types_are_numbered};
+pub use lex_net::{LexFault, LexNet};
+pub use lexer_rules::LexerRules;
+pub use making::lexer_commands;
+pub use network::{is_lexable, one_lex_net, sets_match, states_are_counted};
+pub use tables::{CommandTables, tables_of};

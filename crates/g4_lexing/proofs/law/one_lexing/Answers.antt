@@ -1,6 +1,0 @@
-use Rattle.g4_lexing.specs.declared.lexing.TheConstants.{MOST_TOKENS}
-use Rattle.g4_lexing.proofs.Unique.{one_answer}
-use Rattle.g4_lexing.proofs.law.one_lexing.Goals as goal
-
-pub returns : goal.returns
-returns c = λ lexer. one_answer lexer MOST_TOKENS

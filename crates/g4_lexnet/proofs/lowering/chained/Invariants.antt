@@ -1,7 +1,0 @@
-use Rattle.std.proofs.Common.{◌≡◌, map, take}
-use Rattle.g4_source.specs.Trees.{element_of}
-use Rattle.g4_lexnet.proofs.Chains.{character_of}
-use Rattle.g4_lexnet.proofs.lowering.chained.Given as goal
-
-abbrev pub invariant-loop-character : goal.invariant-loop-character
-invariant-loop-character l = map element_of l.elements.items ≡ map character_of (take l.character-index l.characters)

@@ -1,5 +1,0 @@
-use Rattle.g4_lexrules.proofs.Checked.{can_be_lexed}
-use Rattle.g4_lexrules.proofs.law.rules_can_be_lexed.Goals as goal
-
-pub returns : goal.returns
-returns c = can_be_lexed

@@ -1,4 +1,0 @@
-use Rattle.g4_nullable.proofs.loops.are_nullable.Goals as goal
-
-pub returns : goal.returns
-returns c = λ rules told. (c.of_elements.ensures rules told).nullable

@@ -1,0 +1,75 @@
+// Looking ahead from a decision with the parser's own stack.
+ghost use Rattle.std.specs.Prelude.{◌<◌, ◌^◌, Contains, IfOk, MatchOption, length, reverse};
+ghost use Rattle.g4_configs.specs.Configs.{Holds};
+ghost use Rattle.g4_tokens.specs.Symbols.{end_of_list};
+ghost use Rattle.g4_net.specs.AddedRule.{IsReady};
+ghost use Rattle.g4_net.specs.Allowed.{Allows};
+ghost use Rattle.g4_net.specs.Configurations.{above_bottom};
+ghost use Rattle.g4_net.specs.Prediction.{Full};
+ghost use Rattle.g4_net.specs.Proper.{IsProper};
+ghost use Rattle.g4_tokens.specs.TokenList.{word_of};
+ghost use Rattle.g4_lookahead.specs.EndOfList.{GoesOnFull};
+ghost use Rattle.g4_predict.specs.FullVerdicts.{SettlesWith, choice_of};
+
+use crate::frames::take_down;
+use g4_closure::{framed_advance, framed_start};
+use g4_configs::Configs;
+use g4_net::{Allowed, ParserNetwork};
+use g4_tokens::Token;
+use std::alloc::{AllocError, Global};
+
+/// What full stacks say at a decision. Symbols count from 0, the decision's first.
+#[derive(Drop)]
+pub enum Settled {
+    /// This alternative.
+    Chosen(u32),
+    /// None is left after this symbol.
+    NoViable(u32),
+}
+
+/// What is settled by the set after symbol k, if anything is.
+pub(crate) fn settle(alloc: Global, set: &Configs, k: u32) -> Result<Option<Settled>, AllocError>
+    ensures { IfOk result (λ settled. MatchOption settled (GoesOnFull (Holds set.now)) (SettlesWith (Holds set.now) k)) }
+{
+    let Some(least) = set.least_alternative() else {
+        return Ok(Some(Settled::NoViable(k)));
+    };
+    if let Some(alternative) = set.single_alternative() {
+        return Ok(Some(Settled::Chosen(alternative)));
+    }
+    if set.alike(alloc)? {
+        return Ok(Some(Settled::Chosen(least)));
+    }
+    Ok(None)
+}
+
+/// The choice of a decision, over the allowed alternatives and with the return states of the parser's stack, newest last, on the
+/// tokens from it on.
+///
+/// # Errors
+/// No memory.
+pub fn decide_full(
+    alloc: Global,
+    net: &ParserNetwork,
+    decision: u32,
+    allowed: &Allowed,
+    returns: &[u32],
+    tokens: &[Token],
+) -> Result<Settled, AllocError>
+    requires ready { IsReady net.now }
+    requires proper { IsProper net.now decision (reverse returns.now) }
+    requires ends { Contains (word_of tokens.now) end_of_list }
+    requires few { length tokens.now < 2 ^ 32 }
+    ensures { IfOk result (λ settled. Full net.now decision (Allows allowed.now) (above_bottom (reverse returns.now)) (word_of tokens.now) (choice_of settled)) }
+{
+    let first = framed_start(alloc, net, decision, allowed)?;
+    let mut place = take_down(alloc, net, first, returns)?;
+    for (k, token) in tokens.iter().enumerate() {
+        let next = framed_advance(alloc, net, place.set, token.symbol)?;
+        place = take_down(alloc, net, next, place.below)?;
+        if let Some(settled) = settle(alloc, &place.set, k as u32)? {
+            return Ok(settled);
+        }
+    }
+    unreachable!()
+}

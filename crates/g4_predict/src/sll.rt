@@ -1,0 +1,148 @@
+// SLL: looking ahead from a decision as if any rule had called the one that is open.
+ghost use Rattle.std.specs.Prelude.{◌≡◌, ◌<◌, ◌≤◌, ◌^◌, ◌↔◌, Contains, IfOk, IsTrue, length};
+ghost use Rattle.g4_configs.specs.Configs.{Holds};
+ghost use Rattle.g4_tokens.specs.Symbols.{end_of_list};
+ghost use Rattle.g4_net.specs.AddedRule.{IsReady};
+ghost use Rattle.g4_net.specs.Configurations.{Config, IsWithin};
+ghost use Rattle.g4_net.specs.declared.network.TheConstants.{MOST_STATES};
+ghost use Rattle.g4_net.specs.Leads.{WellFormed};
+ghost use Rattle.g4_net.specs.Lookahead.{Next};
+ghost use Rattle.g4_net.specs.Prediction.{Any, Path as Way, Sll};
+ghost use Rattle.g4_tokens.specs.TokenList.{word_of};
+ghost use Rattle.g4_lookahead.specs.EndOfList.{Matters};
+ghost use Rattle.g4_predict.specs.Paths.{path_of, verdict_of};
+ghost use Rattle.g4_predict.specs.Verdicts.{IsSeen, IsStartSet};
+
+use g4_base::Sequence;
+use g4_closure::{Left, left_after, start};
+use g4_configs::Configs;
+use g4_net::{Allowed, ParserNetwork};
+use crate::{Led, Looked, Path, Verdict};
+use g4_tokens::Token;
+use std::alloc::{AllocError, Global};
+
+/// Whether the parser's stack matters: some two alternatives have the same stacks at a state, and no state is of one alone.
+fn stack_matters(alloc: Global, set: &Configs) -> Result<bool, AllocError>
+    ensures { IfOk result (λ answer. IsTrue answer ↔ Matters (Holds set.now)) }
+{
+    if !set.conflict(alloc)? {
+        return Ok(false);
+    }
+    let lone = set.lone_state(alloc)?;
+    Ok(!lone)
+}
+
+/// The start set of a decision, over all its alternatives and above the wildcard.
+fn start_set(alloc: Global, net: &ParserNetwork, decision: u32) -> Result<Configs, AllocError>
+    requires well_formed { WellFormed net.now }
+    requires few { length net.now.states ≤ MOST_STATES }
+    ensures { IfOk result (λ set. IsStartSet net.now decision (Holds set)) }
+{
+    let set = start(alloc, net, decision, &Allowed::Every, &[], true)?;
+    Ok(set)
+}
+
+/// Where looking at a symbol leads.
+enum Seen {
+    /// SLL ends at the next set.
+    Ended(Verdict),
+    /// Another symbol is looked at after the next set.
+    Onward(Configs),
+}
+
+/// What SLL sees on symbol k after a set.
+fn look(
+    alloc: Global,
+    net: &ParserNetwork,
+    set: Configs,
+    symbol: u32,
+    k: u32,
+) -> Result<Seen, AllocError>
+    requires well_formed { WellFormed net.now }
+    requires few { length net.now.states ≤ MOST_STATES }
+    requires within { (c : Config) → Holds set c → IsWithin net.now c }
+    ensures { IfOk result (IsSeen net.now (Next net.now (Holds set) symbol) k) }
+{
+    let left = left_after(alloc, net, set, symbol)?;
+    match left {
+        Left::Nothing => Ok(Seen::Ended(Verdict::ErrorAt(k))),
+        Left::Only(alternative) => Ok(Seen::Ended(Verdict::Answer(alternative))),
+        Left::Several(next) => {
+            let matters = stack_matters(alloc, &next)?;
+            if matters {
+                return Ok(Seen::Ended(Verdict::Sensitive(k)));
+            }
+            Ok(Seen::Onward(next))
+        }
+    }
+}
+
+/// The SLL verdict of a decision on the tokens from it on, and its path.
+///
+/// # Errors
+/// No memory.
+pub fn simulate(
+    alloc: Global,
+    net: &ParserNetwork,
+    decision: u32,
+    tokens: &[Token],
+) -> Result<(Verdict, Path), AllocError>
+    requires ready { IsReady net.now }
+    requires ends { Contains (word_of tokens.now) end_of_list }
+    requires few { length tokens.now < 2 ^ 32 }
+    ensures decision { IfOk result (λ r. r.1.decision ≡ decision) }
+    ensures path { IfOk result (λ r. Sll net.now decision Any (word_of tokens.now) (verdict_of r.0) (path_of r.1)) }
+{
+    let mut set = start_set(alloc, net, decision)?;
+    let first = set.snapshot(alloc)?;
+    let mut looked = Vec::new(alloc);
+    for (k, token) in tokens.iter().enumerate() {
+        let symbol = token.symbol;
+        let seen = look(alloc, net, set, symbol, k as u32)?;
+        match seen {
+            Seen::Ended(verdict) => {
+                let led = Led::Ended(verdict);
+                looked.push(Looked { symbol, led })?;
+                let path = Path {
+                    decision,
+                    start: first,
+                    looked: Sequence::new(looked),
+                };
+                return Ok((verdict, path));
+            }
+            Seen::Onward(next) => {
+                let row = next.snapshot(alloc)?;
+                let led = Led::Row(row);
+                looked.push(Looked { symbol, led })?;
+                set = next;
+            }
+        }
+    }
+    unreachable!()
+}
+
+/// The SLL verdict of a decision on the tokens from it on, without the path. It makes no snapshot, so it is faster than `simulate`.
+///
+/// # Errors
+/// No memory.
+pub fn sll_verdict(
+    alloc: Global,
+    net: &ParserNetwork,
+    decision: u32,
+    tokens: &[Token],
+) -> Result<Verdict, AllocError>
+    requires ready { IsReady net.now }
+    requires ends { Contains (word_of tokens.now) end_of_list }
+    requires few { length tokens.now < 2 ^ 32 }
+    ensures { IfOk result (λ verdict. (path : Way) × Sll net.now decision Any (word_of tokens.now) (verdict_of verdict) path) }
+{
+    let mut set = start_set(alloc, net, decision)?;
+    for (k, token) in tokens.iter().enumerate() {
+        let seen = look(alloc, net, set, token.symbol, k as u32)?;
+        match seen {
+            Seen::Ended(verdict) => return Ok(verdict),
+            Seen::Onward(next) => set = next,
+        }
+    }
+    unreachable!()
+}

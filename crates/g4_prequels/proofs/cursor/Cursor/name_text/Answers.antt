@@ -1,6 +1,0 @@
-use Rattle.std.proofs.Common.{◌∙◌}
-use Rattle.g4_prequels.proofs.Moving.{so}
-use Rattle.g4_prequels.proofs.cursor.Cursor.name_text.Goals as goal
-
-pub returns : goal.returns
-returns c = so c.take_name-taken.ensures (λ tree is. c.in_ok-text.ensures ∙ is.text)

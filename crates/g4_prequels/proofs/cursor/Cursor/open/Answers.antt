@@ -1,5 +1,0 @@
-use Rattle.g4_prequels.proofs.Moving.{passed}
-use Rattle.g4_prequels.proofs.cursor.Cursor.open.Goals as goal
-
-pub returns-clause-moves : goal.returns-clause-moves
-returns-clause-moves c = passed (rw c.self.view_is at c.take.ensures)

@@ -1,5 +1,0 @@
-use Rattle.std.proofs.Common.{refl}
-use Rattle.g4_prequels.proofs.spelling.literal.Goals as goal
-
-pub returns : goal.returns
-returns c = rw (c.in_ok-characters.ensures, c.deref.ensures.value, c.in_ok-spelling.ensures, c.in_ok-written.ensures) refl

@@ -1,8 +1,0 @@
-use Rattle.std.proofs.Common.{map}
-use Rattle.g4_configs.specs.Configs.{Holds}
-use Rattle.g4_path.specs.Paths.{looked_of}
-use Rattle.g4_sll.proofs.Looking.{IsSimulating}
-use Rattle.g4_sll.proofs.sll.simulate.Given as goal
-
-abbrev pub invariant-loop-k : goal.invariant-loop-k
-invariant-loop-k l = IsSimulating l.net l.decision l.tokens l.k (Holds l.set) l.first (map looked_of l.looked.items)

@@ -1,3 +1,0 @@
-mod Ranges
-mod Searching
-mod Without

@@ -1,8 +1,0 @@
-use Rattle.g4_tokens.specs.Pieces.{action, with_end, endless}
-use Rattle.g4_tokens.proofs.piece.action_piece.Goals as goal
-
-pub returns-in-Some-clause-value : goal.returns-in-Some-clause-value
-returns-in-Some-clause-value c = with_end action c.args.rest.now c.in-Some.taken c.in-Some.ensures.end
-
-pub returns-in-None-clause-value : goal.returns-in-None-clause-value
-returns-in-None-clause-value c = endless action c.args.rest.now c.in-None.ensures.end

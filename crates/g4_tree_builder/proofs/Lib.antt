@@ -1,6 +1,0 @@
-mod Forests
-mod Entries
-mod Standing
-mod Unwound
-mod Steps
-mod Places

@@ -1,6 +1,0 @@
-use Rattle.std.proofs.Common.{refl}
-use Rattle.g4_tree_builder.proofs.Steps.{closes}
-use Rattle.g4_tree_builder.proofs.builder.TreeBuilder.close.Goals as goal
-
-pub returns : goal.returns
-returns c = λ g h. closes c.args.self.now _ c.in-Some._enter g c.in_ok-push.ensures.items c.in-Some.ensures.items refl h

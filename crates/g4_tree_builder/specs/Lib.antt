@@ -1,4 +1,0 @@
-pub mod Growing
-pub mod Kept
-pub mod Unwinding
-pub mod Ends

@@ -1,6 +1,0 @@
-use Rattle.g4_walks.specs.Letters.{NamesRule, TakesSymbol}
-use Rattle.g4_walks.proofs.Rewritten.{operator_begins}
-use Rattle.g4_walks.proofs.law.levels_begin_operators.Goals as goal
-
-pub returns : goal.returns
-returns c = λ set rules start net can built. operator_begins TakesSymbol NamesRule set rules start net can built

@@ -1,4 +1,0 @@
-pub mod Alternatives
-pub mod Letters
-pub mod Spelling
-pub mod Walks

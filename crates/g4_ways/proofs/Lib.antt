@@ -1,2 +1,0 @@
-mod Exactly
-pub mod Ends
