@@ -36,13 +36,17 @@ eof_alone (zero, less, is) = omega arith
 eof_alone (suc k, less, is) = omega arith
 
 -- what is drawn from the place of the start rule is built, as far as it can be parsed with
-pub built : (set : List ℕ) (rules : List StepRule) (numberings : List Numbering) (start : List ℕ) (place : ℕ) (net : ParserNetwork) → AreNarrow (map alternatives_of rules) → position (λ rule. bytes_eq rule.name start) rules ≡ Some place → state_count rules ≤ MOST_STATES →
+pub built : (set : List ℕ) (rules : List StepRule) (numberings : List Numbering) (start : List ℕ) (place : ℕ) (net : ParserNetwork)
+    → AreNarrow (map alternatives_of rules) → position (λ rule. bytes_eq rule.name start) rules ≡ Some place
+    → state_count rules ≤ MOST_STATES →
     IsDrawn set rules numberings (place + 1) net →
-    (rule_number rules start ≤ length rules → IsNetworkOf (rules_of set rules start) net → length net.states ≤ MOST_STATES → net.callers ≡ callers_of net.states (length rules + 1) → IsRunnable net (rule_number rules start) (2 * length rules + 2) set) →
+    (rule_number rules start ≤ length rules → IsNetworkOf (rules_of set rules start) net → length net.states ≤ MOST_STATES
+    → net.callers ≡ callers_of net.states (length rules + 1) → IsRunnable net (rule_number rules start) (2 * length rules + 2) set) →
     IsBuilt set rules numberings start net
 built set rules numberings start place net narrow at few drawn runs =
     let known = known_at rules start place at in
-    let network : IsNetworkOf (rules_of set rules start) net = subst (λ (k : ℕ). IsNetworkOf (added_rule set k ∷ map alternatives_of rules) net) known.1 drawn.network in
+    let network : IsNetworkOf (rules_of set rules start) net =
+    subst (λ (k : ℕ). IsNetworkOf (added_rule set k ∷ map alternatives_of rules) net) known.1 drawn.network in
     record {
       known = known.0;
       narrow = narrow;
@@ -50,5 +54,6 @@ built set rules numberings start place net narrow at few drawn runs =
       network = network;
       runnable = runs (omega (arith, known.1, known.2)) network (omega (arith, drawn.size)) drawn.callers;
       callers = drawn.callers;
-      numbered = subst (λ (k : ℕ). AreNumbered net 0 (2 * length rules + 2) (added_rule set k ∷ map alternatives_of rules) (added_numbering ∷ numberings)) known.1 drawn.numbered;
+      numbered = subst (λ (k : ℕ). AreNumbered net 0 (2 * length rules + 2) (added_rule set k ∷ map alternatives_of rules)
+          (added_numbering ∷ numberings)) known.1 drawn.numbered;
     }

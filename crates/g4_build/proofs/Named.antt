@@ -12,13 +12,16 @@ found : {X : Type 0} (p : X → Bool) (xs : List X) → list_any p xs ≡ nat_lt
 found p [] = refl
 found p (x ∷ xs) = at (p x) (found p xs)
   where
-    at : (b : Bool) → list_any p xs ≡ nat_lt (position_or_len p xs) (length xs) → (b || list_any p xs) ≡ nat_lt (cond (not b) (1 + position_or_len p xs) 0) (suc (length xs))
+    at : (b : Bool) → list_any p xs ≡ nat_lt (position_or_len p xs) (length xs)
+        → (b || list_any p xs) ≡ nat_lt (cond (not b) (1 + position_or_len p xs) 0) (suc (length xs))
     at true h = grind (arith, nat_tests)
     at false h = h ∙ grind (arith, nat_tests)
 
 -- no place, no rule of the name
-pub unknown : (rules : List StepRule) (start : List ℕ) → position (λ rule. bytes_eq rule.name start) rules ≡ None → has_parser_rule rules start ≡ false
-unknown rules start e = found (λ rule. bytes_eq rule.name start) rules ∙ at _ (nat_lt (position_or_len (λ rule. bytes_eq rule.name start) rules) (length rules)) e
+pub unknown : (rules : List StepRule) (start : List ℕ) → position (λ rule. bytes_eq rule.name start) rules ≡ None
+    → has_parser_rule rules start ≡ false
+unknown rules start e = found (λ rule. bytes_eq rule.name start) rules
+    ∙ at _ (nat_lt (position_or_len (λ rule. bytes_eq rule.name start) rules) (length rules)) e
   where
     at : (x : ℕ) (b : Bool) → cond b (Some x) None ≡ None → b ≡ false
     at x true h = cc

@@ -9,8 +9,10 @@ use Rattle.g4_states.specs.Numberings.{HaveNumbers, RuleIsNumbered, RulesAreNumb
 use Rattle.g4_states.specs.Rules.{IsBefore}
 use Rattle.g4_build.specs.Numberings.{AllAreWritten}
 
-pub first_and_others : {L : Type 0} (states : List (State L)) (none first all : List ℕ) (n m : ℕ) (ends : List ℕ) (numbering : Numbering) (others : List Numbering) → length none ≡ n → n ≡ 2 * length others + 2 → n ≤ m →
-    RuleIsNumbered states none first 0 numbering m → RulesAreNumbered states first all 1 ends others → AllAreWritten states all n (m ∷ ends) (numbering ∷ others)
+pub first_and_others : {L : Type 0} (states : List (State L)) (none first all : List ℕ) (n m : ℕ) (ends : List ℕ)
+    (numbering : Numbering) (others : List Numbering) → length none ≡ n → n ≡ 2 * length others + 2 → n ≤ m →
+    RuleIsNumbered states none first 0 numbering m → RulesAreNumbered states first all 1 ends others
+    → AllAreWritten states all n (m ∷ ends) (numbering ∷ others)
 first_and_others {L} states none first all n m ends numbering others size heads up one rest = record {
   size = rest.size;
   numbered = λ net same written. (

@@ -16,7 +16,8 @@ use Rattle.g4_net.specs.declared.network.TheConstants.{MOST_STATES}
 abbrev pub CausesBuildFault : List StepRule → List ℕ → BuildFault → Type 0
 CausesBuildFault rules start UnknownStart = has_parser_rule rules start ≡ false
 CausesBuildFault rules start Alternatives = (has_parser_rule rules start ≡ true) × IsTooWide (map alternatives_of rules)
-CausesBuildFault rules start States = (has_parser_rule rules start ≡ true) × AreNarrow (map alternatives_of rules) × (MOST_STATES < state_count rules)
+CausesBuildFault rules start States = (has_parser_rule rules start ≡ true) × AreNarrow (map alternatives_of rules)
+    × (MOST_STATES < state_count rules)
 CausesBuildFault rules start NoMemory = Unit {0}
 
 -- building gives the network that the rules have with their numberings, whose added rule takes EOF, or a fault with its cause

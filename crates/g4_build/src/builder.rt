@@ -12,9 +12,9 @@ ghost use Rattle.g4_build.specs.Answers.{GivesNetwork};
 
 use crate::drawing::draw;
 use crate::width::some_rule_is_wide;
-use g4_states::past_rules;
 use g4_grammar::{Numbering, StepRule};
 use g4_net::{MOST_STATES, ParserNetwork};
+use g4_states::past_rules;
 use g4_tokens::{EOF, Symbols};
 use std::alloc::{AllocError, Global};
 

@@ -10,9 +10,9 @@ ghost use Rattle.g4_net.specs.declared.network.TheConstants.{MOST_STATES};
 
 use crate::numbering::numbers;
 use g4_base::Sequence;
-use g4_states::{callers, heads, lay_rules};
 use g4_grammar::{Numbering, StepRule};
 use g4_net::{Network, ParserNetwork, State};
+use g4_states::{callers, heads, lay_rules};
 use g4_tokens::{END, Symbols};
 use std::alloc::{AllocError, Global};
 
@@ -25,7 +25,8 @@ fn add_start(
 ) -> Result<(), AllocError>
     requires some { 0 < length states.old.items }
     requires few { length states.old.items ≤ MOST_STATES }
-    ensures { OnOk result (states.new.items ≡ slice_set states.old.items 0 (Call rule 0 (length states.old.items)) ++ added_states set.now (length states.old.items)) }
+    ensures { OnOk result (states.new.items ≡ slice_set states.old.items 0 (Call rule 0 (length states.old.items))
+        ++ added_states set.now (length states.old.items)) }
 {
     let first = states.len() as u32;
     states[0] = State::Call {

@@ -21,7 +21,8 @@ digit_at [] i d h all = absurd (omega arith)
 digit_at (c ∷ cs) zero d h all = all.0
 digit_at (c ∷ cs) (suc i) d h all = digit_at cs i d (omega arith) all.1
 
-digit_step : (n : ℕ) (c : ℕ) (cs : List ℕ) → ((n ≤ prefix_len is_hexadecimal cs) → AllDigits 16 (take n cs)) → (b : Bool) → b ≡ nat_lt (digit_value c) 16 → suc n ≤ cond b (1 + prefix_len is_hexadecimal cs) 0 → (digit_value c < 16) × AllDigits 16 (take n cs)
+digit_step : (n : ℕ) (c : ℕ) (cs : List ℕ) → ((n ≤ prefix_len is_hexadecimal cs) → AllDigits 16 (take n cs)) → (b : Bool)
+    → b ≡ nat_lt (digit_value c) 16 → suc n ≤ cond b (1 + prefix_len is_hexadecimal cs) 0 → (digit_value c < 16) × AllDigits 16 (take n cs)
 digit_step n c cs more true e h = (grind (arith, nat_tests), more (omega arith))
 digit_step n c cs more false e h = absurd (omega arith)
 

@@ -24,18 +24,24 @@ range_same : (r s : Range) → r.first ≡ s.first → r.last ≡ s.last → r �
 range_same r s e f = λ i. record { first = e i; last = f i }
 
 -- the first range of one list begins no later than that of another with its characters
-begins_first : (n m : ℕ) (r s : Range) (rs ss : List Range) → RiseFrom n (r ∷ rs) → RiseFrom m (s ∷ ss) → HaveSame (r ∷ rs) (s ∷ ss) → s.first ≤ r.first
-begins_first n m r s rs ss a b same = elim ((same r.first).0 (inl (omega arith, a.1.0))) [ inl w ↦ w.0 | inr later ↦ omega (arith, b.1.0, rise_past (s.last + 2) ss r.first b.2 later) ]
+begins_first : (n m : ℕ) (r s : Range) (rs ss : List Range) → RiseFrom n (r ∷ rs) → RiseFrom m (s ∷ ss) → HaveSame (r ∷ rs) (s ∷ ss)
+    → s.first ≤ r.first
+begins_first n m r s rs ss a b same = elim ((same r.first).0 (inl (omega arith, a.1.0)))
+    [ inl w ↦ w.0 | inr later ↦ omega (arith, b.1.0, rise_past (s.last + 2) ss r.first b.2 later) ]
 
 -- nor does it end before it
-ends_last : (n m : ℕ) (r s : Range) (rs ss : List Range) → RiseFrom n (r ∷ rs) → RiseFrom m (s ∷ ss) → r.first ≡ s.first → HaveSame (r ∷ rs) (s ∷ ss) → s.last ≤ r.last
+ends_last : (n m : ℕ) (r s : Range) (rs ss : List Range) → RiseFrom n (r ∷ rs) → RiseFrom m (s ∷ ss) → r.first ≡ s.first
+    → HaveSame (r ∷ rs) (s ∷ ss) → s.last ≤ r.last
 ends_last n m r s rs ss a b starts same = elim (cases_lt r.last s.last) [
-  | inl less ↦ absurd (elim ((same (r.last + 1)).1 (inl (omega (arith, starts, a.1.0), omega arith))) [ inl w ↦ absurd (omega (arith, w.1)) | inr later ↦ absurd (omega (arith, rise_past (r.last + 2) rs (r.last + 1) a.2 later)) ])
+  | inl less ↦ absurd (elim ((same (r.last + 1)).1 (inl (omega (arith, starts, a.1.0), omega arith)))
+      [ inl w ↦ absurd (omega (arith, w.1)) | inr later ↦ absurd (omega (arith, rise_past (r.last + 2) rs (r.last + 1) a.2 later)) ])
   | inr done ↦ done
 ]
 
-rest_holds : (n m : ℕ) (r s : Range) (rs ss : List Range) → RiseFrom n (r ∷ rs) → r.last ≡ s.last → HaveSame (r ∷ rs) (s ∷ ss) → (c : ℕ) → Has rs c → Has ss c
-rest_holds n m r s rs ss a ends same c h = elim ((same c).0 (inr h)) [ inl w ↦ absurd (omega (arith, w.1, ends, rise_past (r.last + 2) rs c a.2 h)) | inr later ↦ later ]
+rest_holds : (n m : ℕ) (r s : Range) (rs ss : List Range) → RiseFrom n (r ∷ rs) → r.last ≡ s.last → HaveSame (r ∷ rs) (s ∷ ss)
+    → (c : ℕ) → Has rs c → Has ss c
+rest_holds n m r s rs ss a ends same c h = elim ((same c).0 (inr h))
+    [ inl w ↦ absurd (omega (arith, w.1, ends, rise_past (r.last + 2) rs c a.2 h)) | inr later ↦ later ]
 
 swapped : (rs ss : List Range) → HaveSame rs ss → HaveSame ss rs
 swapped rs ss same c = ((same c).1, (same c).0)
@@ -62,21 +68,26 @@ pub one_form : (rs ss : List Range) → IsCanonical rs → IsCanonical ss → Ha
 one_form = one_form_from 0 0
 
 -- the items of a text are those that are listed
-character_item : (c : ℕ) (cs : List ℕ) → c ≢ 92 → (b : Bool) → b ≡ (c == 92) → cond b (option_map {U = Found} (λ (e : Escape). record { item = escaped_item e.meaning cs; taken = e.taken }) (escape Set cs)) (Some (record { item = Member c true; taken = 0 })) ≡ Some (record { item = Member c true; taken = 0 })
+character_item : (c : ℕ) (cs : List ℕ) → c ≢ 92 → (b : Bool) → b ≡ (c == 92)
+    → cond b (option_map {U = Found} (λ (e : Escape). record { item = escaped_item e.meaning cs; taken = e.taken }) (escape Set cs))
+    (Some (record { item = Member c true; taken = 0 })) ≡ Some (record { item = Member c true; taken = 0 })
 character_item c cs other true is = absurd (other (grind (arith, nat_tests)))
 character_item c cs other false is = refl
 
-escape_item : (cs : List ℕ) (e : Escape) → escape Set cs ≡ Some e → item_at 92 cs ≡ Some (record { item = escaped_item e.meaning cs; taken = e.taken })
+escape_item : (cs : List ℕ) (e : Escape) → escape Set cs ≡ Some e
+    → item_at 92 cs ≡ Some (record { item = escaped_item e.meaning cs; taken = e.taken })
 escape_item cs e is = ap (option_map {U = Found} (λ (e : Escape). record { item = escaped_item e.meaning cs; taken = e.taken })) is
 
 pub items_listed : (text : List ℕ) (is : List Item) → AreItems text is → items text ≡ Some is
 items_listed _ _ no_item = refl
 items_listed _ _ (a_character c cs is other more) =
     let found : Found = record { item = Member c true; taken = 0 } in
-    items_step c cs found (character_item c cs other (c == 92) refl) ∙ ap (option_map (λ more. Member c true ∷ more)) (items_listed cs is more)
+    items_step c cs found (character_item c cs other (c == 92) refl)
+    ∙ ap (option_map (λ more. Member c true ∷ more)) (items_listed cs is more)
 items_listed _ _ (an_escape cs e is found_is more) =
     let found : Found = record { item = escaped_item e.meaning cs; taken = e.taken } in
-    items_step 92 cs found (escape_item cs e found_is) ∙ ap (option_map (λ more. escaped_item e.meaning cs ∷ more)) (items_skip e.taken cs ∙ items_listed (drop e.taken cs) is more)
+    items_step 92 cs found (escape_item cs e found_is)
+    ∙ ap (option_map (λ more. escaped_item e.meaning cs ∷ more)) (items_skip e.taken cs ∙ items_listed (drop e.taken cs) is more)
 
 bad_item : (cs : List ℕ) → escape Set cs ≡ None → item_at 92 cs ≡ None
 bad_item cs is = ap (option_map {U = Found} (λ (e : Escape). record { item = escaped_item e.meaning cs; taken = e.taken })) is
@@ -92,7 +103,8 @@ none_listed _ (after_a_character c cs other more) =
     items_step c cs found (character_item c cs other (c == 92) refl) ∙ ap (option_map (λ more. Member c true ∷ more)) (none_listed cs more)
 none_listed _ (after_an_escape cs e found_is more) =
     let found : Found = record { item = escaped_item e.meaning cs; taken = e.taken } in
-    items_step 92 cs found (escape_item cs e found_is) ∙ ap (option_map (λ more. escaped_item e.meaning cs ∷ more)) (items_skip e.taken cs ∙ none_listed (drop e.taken cs) more)
+    items_step 92 cs found (escape_item cs e found_is)
+    ∙ ap (option_map (λ more. escaped_item e.meaning cs ∷ more)) (items_skip e.taken cs ∙ none_listed (drop e.taken cs) more)
 
 -- the parts that items make are those that are listed
 no_range : (is : List Item) → (EndRange is → ⊥) → (o : Option ℕ) → o ≡ range_end is → None ≡ o
@@ -100,19 +112,22 @@ no_range is none None e = refl
 no_range is none (Some last) e = let end = end_shape is last (sym e) in absurd (none (last, end.0, end.1, end.2))
 
 alone_parts : (c : ℕ) (p : Bool) (is : List Item) → None ≡ range_end is → parts (Member c p ∷ is) ≡ Span c c ∷ parts is
-alone_parts c p is none = let P : Option ℕ → Type 0 = λ o. Span c (unwrap_or o c) ∷ parts_from (cond (is_some o) 2 0) is ≡ Span c c ∷ parts is in subst P none refl
+alone_parts c p is none = let P : Option ℕ → Type 0 =
+    λ o. Span c (unwrap_or o c) ∷ parts_from (cond (is_some o) 2 0) is ≡ Span c c ∷ parts is in subst P none refl
 
 pub parts_listed : (is : List Item) (ps : List Part) → AreParts is ps → parts is ≡ ps
 parts_listed _ _ no_part = refl
 parts_listed _ _ (a_range first last p q is ps more) = ap (◌∷◌ (Span first last)) (parts_listed is ps more)
-parts_listed _ _ (one_character c p is ps none more) = alone_parts c p is (no_range is none (range_end is) refl) ∙ ap (◌∷◌ (Span c c)) (parts_listed is ps more)
+parts_listed _ _ (one_character c p is ps none more) =
+    alone_parts c p is (no_range is none (range_end is) refl) ∙ ap (◌∷◌ (Span c c)) (parts_listed is ps more)
 parts_listed _ _ (a_property complement property is ps more) = ap (◌∷◌ (Class complement property)) (parts_listed is ps more)
 
 -- items and parts of one text are the same
 same_items : (text : List ℕ) (is js : List Item) → AreItems text is → AreItems text js → is ≡ js
 same_items text is js a b = let both : Some is ≡ Some js = sym (items_listed text is a) ∙ items_listed text js b in cc
 
-same_parts : (text : List ℕ) (is js : List Item) (ps qs : List Part) → AreItems text is → AreItems text js → AreParts is ps → AreParts js qs → ps ≡ qs
+same_parts : (text : List ℕ) (is js : List Item) (ps qs : List Part) → AreItems text is → AreItems text js → AreParts is ps
+    → AreParts js qs → ps ≡ qs
 same_parts text is js ps qs a b p q = sym (parts_listed is ps p) ∙ ap parts (same_items text is js a b) ∙ parts_listed js qs q
 
 not_both : (text : List ℕ) (is : List Item) → AreItems text is → HasBadEscape text → ⊥
@@ -130,11 +145,15 @@ good_or_bad text set (is, ps, are, made, sound, some, canonical, have) (js, qs, 
     by_cause (inr none) = none (subst HoldSome same some)
 
 -- a text has one reading
-pub one_reading : (text : List ℕ) (a b : Result (List Range) SetFault) → IsReading text a → IsReading text b → a ≢ Err NoMemory → b ≢ Err NoMemory → a ≡ b
+pub one_reading : (text : List ℕ) (a b : Result (List Range) SetFault) → IsReading text a → IsReading text b → a ≢ Err NoMemory
+    → b ≢ Err NoMemory → a ≡ b
 one_reading text (Ok s) (Ok t) a b x y =
     let same = same_parts text a.0 b.0 a.1 b.1 a.2 b.2 a.3 b.3 in
     let P : List Part → ℕ → Type 0 = λ ps c. HoldsIn ps c in
-    ap Ok (one_form s t a.6 b.6 (λ c. (λ h. (b.7 c).1 (subst (λ ps. P ps c) same ((a.7 c).0 h)), λ h. (a.7 c).1 (subst (λ ps. P ps c) (sym same) ((b.7 c).0 h)))))
+    ap Ok (one_form s t a.6 b.6 (λ c. (
+      λ h. (b.7 c).1 (subst (λ ps. P ps c) same ((a.7 c).0 h)),
+      λ h. (a.7 c).1 (subst (λ ps. P ps c) (sym same) ((b.7 c).0 h)),
+    )))
 one_reading text (Ok s) (Err BadEscape) a b x y = absurd (not_both text a.0 a.2 b)
 one_reading text (Ok s) (Err BadSet) a b x y = absurd (good_or_bad text s a b)
 one_reading text (Ok s) (Err NoMemory) a b x y = absurd (y refl)

@@ -22,7 +22,8 @@ pub all_scalars_ranges : (rs : List (ℕ × ℕ)) → building.AreRanges (all_sc
 all_scalars_ranges [] = tt
 all_scalars_ranges (r ∷ rs) = ranges_append (scalars r.0 (r.1 + 1)) (all_scalars rs) (scalars_ranges r.0 (r.1 + 1)) (all_scalars_ranges rs)
 
-held_step : (c first last : ℕ) (later : Bool) → ((nat_le first c && nat_le c last) || later) ≡ true → ((first ≤ c) × (c < last + 1)) ⊎ (later ≡ true)
+held_step : (c first last : ℕ) (later : Bool) → ((nat_le first c && nat_le c last) || later) ≡ true
+    → ((first ≤ c) × (c < last + 1)) ⊎ (later ≡ true)
 held_step c first last true h = inr refl
 held_step c first last false h = inl (grind (arith, nat_tests), grind (arith, nat_tests))
 
@@ -53,25 +54,43 @@ all_scalars_has (r ∷ rs) c =
 pub pushed_first : (rs : List Range) (all : List Part) → rs ≡ [] → ArePushed rs all all
 pushed_first rs all none =
     let P : List Range → Type 0 = λ l. ArePushed l all all in
-    subst P (sym none) (record { members = λ c. (λ h. elim h [ inl n ↦ absurd n | inr more ↦ more ], λ h. inr h); ranges = All-nil IsRange })
+    subst P (sym none) (record {
+      members = λ c. (λ h. elim h [ inl n ↦ absurd n | inr more ↦ more ], λ h. inr h);
+      ranges = All-nil IsRange;
+    })
 
-pushed_step : (rs after : List Range) (p : Part) (left all : List Part) → ((c : ℕ) → Has after c ↔ (Has rs c ⊎ Holds p c)) → (All IsRange rs → All IsRange after) → ArePushed rs (p ∷ left) all → ArePushed after left all
+pushed_step : (rs after : List Range) (p : Part) (left all : List Part) → ((c : ℕ) → Has after c ↔ (Has rs c ⊎ Holds p c))
+    → (All IsRange rs → All IsRange after) → ArePushed rs (p ∷ left) all → ArePushed after left all
 pushed_step rs after p left all new keeps before = record {
   members = λ c. (
-    λ h. elim h [ inl a ↦ elim ((new c).0 a) [ inl old ↦ (before.members c).0 (inl old) | inr here' ↦ (before.members c).0 (inr (inl here')) ] | inr more ↦ (before.members c).0 (inr (inr more)) ],
-    λ h. elim ((before.members c).1 h) [ inl old ↦ inl ((new c).1 (inl old)) | inr more ↦ elim more [ inl here' ↦ inl ((new c).1 (inr here')) | inr later ↦ inr later ] ],
+    λ h. elim h [
+      | inl a ↦ elim ((new c).0 a) [
+        | inl old ↦ (before.members c).0 (inl old)
+        | inr here' ↦ (before.members c).0
+            (inr (inl here'))
+      ]
+      | inr more ↦ (before.members c).0 (inr (inr more))
+    ],
+    λ h. elim ((before.members c).1 h) [
+      | inl old ↦ inl ((new c).1 (inl old))
+      | inr more ↦ elim more
+          [ inl here' ↦ inl ((new c).1 (inr here')) | inr later ↦ inr later ]
+    ],
   );
   ranges = keeps before.ranges;
 }
 
 -- one more part
-pub pushed_more : (rs after : List Range) (at : ℕ) (all : List Part) (d : Part) → at < length all → ((c : ℕ) → Has after c ↔ (Has rs c ⊎ Holds (get_or all at d) c)) → (All IsRange rs → All IsRange after) → ArePushed rs (drop at all) all → ArePushed after (drop (at + 1) all) all
+pub pushed_more : (rs after : List Range) (at : ℕ) (all : List Part) (d : Part) → at < length all
+    → ((c : ℕ) → Has after c ↔ (Has rs c ⊎ Holds (get_or all at d) c)) → (All IsRange rs → All IsRange after)
+    → ArePushed rs (drop at all) all → ArePushed after (drop (at + 1) all) all
 pushed_more rs after at all d h new keeps before =
     let P : List Part → Type 0 = λ l. ArePushed rs l all in
     pushed_step rs after (get_or all at d) (drop (at + 1) all) all new keeps (subst P (drop_more all at d h) before)
 
 -- at last all is pushed
-pub pushed_all : (rs : List Range) (at : ℕ) (all : List Part) → length all ≤ at → ArePushed rs (drop at all) all → (c : ℕ) → Has rs c ↔ HoldsIn all c
+pub pushed_all : (rs : List Range) (at : ℕ) (all : List Part) → length all ≤ at → ArePushed rs (drop at all) all → (c : ℕ)
+    → Has rs c ↔ HoldsIn all c
 pushed_all rs at all past pushed c =
     let P : List Part → Type 0 = λ l. ArePushed rs l all in
     let done = subst P (drop_of_length-le all past) pushed in

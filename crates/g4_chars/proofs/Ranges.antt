@@ -42,7 +42,8 @@ has_permutation rs ss c p h =
     let found = has_range rs c h in
     let d : Range = record { first = 0; last = 0 } in
     let there = Contains-permutation rs ss (get_or rs found.0 d) p (Contains-get_or rs found.0 d found.1) in
-    let held : IsWithin (get_or ss there.0 (get_or rs found.0 d)) c = let P : Range → Type 0 = λ r. IsWithin r c in subst P (sym there.2) (found.2 d) in
+    let held : IsWithin (get_or ss there.0 (get_or rs found.0 d)) c = let P : Range → Type 0 = λ r. IsWithin r c in
+    subst P (sym there.2) (found.2 d) in
     has_at ss there.0 (get_or rs found.0 d) c there.1 held
 
 -- ranges, one by one
@@ -63,11 +64,13 @@ ranges_from_rising n [] h = tt
 ranges_from_rising n (r ∷ rs) h = (h.1, ranges_from_rising (r.last + 2) rs h.2)
 
 -- ranges in order
-pub start_from : (n : ℕ) (rs : List Range) → ((k : ℕ) (d : Range) → k < length rs → n ≤ (get_or rs k d).first) → IsNonDecreasingBy (λ (r : Range). r.first) rs → StartFrom n rs
+pub start_from : (n : ℕ) (rs : List Range) → ((k : ℕ) (d : Range) → k < length rs → n ≤ (get_or rs k d).first)
+    → IsNonDecreasingBy (λ (r : Range). r.first) rs → StartFrom n rs
 start_from n [] least rise = tt
 start_from n (r ∷ rs) least rise = (
   least 0 r (omega arith),
-  start_from r.first rs (λ k d h. rise 0 (suc k) d (omega arith) (omega (arith, h))) (λ i j d le h. rise (suc i) (suc j) d (omega (arith, le)) (omega (arith, h))),
+  start_from r.first rs (λ k d h. rise 0 (suc k) d (omega arith) (omega (arith, h)))
+      (λ i j d le h. rise (suc i) (suc j) d (omega (arith, le)) (omega (arith, h))),
 )
 
 start_lower : (n m : ℕ) (rs : List Range) → n ≤ m → StartFrom m rs → StartFrom n rs
@@ -76,17 +79,28 @@ start_lower n m (r ∷ rs) h s = (omega (arith, s.0), s.1)
 
 -- a range over two that touch
 over_has : (r s : Range) (c : ℕ) → r.first ≤ s.first → s.first ≤ r.last + 1 → IsWithin (over r s) c ↔ (IsWithin r c ⊎ IsWithin s c)
-over_has r s c order touch = (λ w. elim (cases_lt r.last c) [ inl past ↦ inr (omega arith, grind arith) | inr in_first ↦ inl (w.0, in_first) ], λ w. elim w [ inl a ↦ (a.0, grind arith) | inr b ↦ (omega arith, grind arith) ])
+over_has r s c order touch = (
+  λ w. elim (cases_lt r.last c)
+      [ inl past ↦ inr (omega arith, grind arith) | inr in_first ↦ inl (w.0, in_first) ],
+  λ w. elim w [ inl a ↦ (a.0, grind arith) | inr b ↦ (omega arith, grind arith) ],
+)
 
 over_range : (r s : Range) → IsRange r → IsRange s → r.first ≤ s.first → s.first ≤ r.last + 1 → IsRange (over r s)
 over_range r s a b order touch = grind arith
 
-joined_step_has : (r s : Range) (ss : List Range) (c : ℕ) → StartFrom r.first (s ∷ ss) → (b : Bool) → b ≡ nat_le s.first (r.last + 1) → (StartFrom (over r s).first ss → Has (joined_from (over r s) ss) c ↔ (IsWithin (over r s) c ⊎ Has ss c)) → (StartFrom s.first ss → Has (joined_from s ss) c ↔ (IsWithin s c ⊎ Has ss c)) → Has (cond b (joined_from (over r s) ss) (r ∷ joined_from s ss)) c ↔ (IsWithin r c ⊎ Has (s ∷ ss) c)
+joined_step_has : (r s : Range) (ss : List Range) (c : ℕ) → StartFrom r.first (s ∷ ss) → (b : Bool) → b ≡ nat_le s.first (r.last + 1)
+    → (StartFrom (over r s).first ss → Has (joined_from (over r s) ss) c ↔ (IsWithin (over r s) c ⊎ Has ss c))
+    → (StartFrom s.first ss → Has (joined_from s ss) c ↔ (IsWithin s c ⊎ Has ss c))
+    → Has (cond b (joined_from (over r s) ss) (r ∷ joined_from s ss)) c ↔ (IsWithin r c ⊎ Has (s ∷ ss) c)
 joined_step_has r s ss c start true e both rest =
     let same = both (start_lower r.first s.first ss start.0 start.1) in
     let held = over_has r s c start.0 (grind (arith, nat_tests)) in (
       λ h. elim (same.0 h) [ inl w ↦ elim (held.0 w) [ inl a ↦ inl a | inr b ↦ inr (inl b) ] | inr more ↦ inr (inr more) ],
-      λ h. elim h [ inl a ↦ same.1 (inl (held.1 (inl a))) | inr more ↦ elim more [ inl b ↦ same.1 (inl (held.1 (inr b))) | inr further ↦ same.1 (inr further) ] ],
+      λ h. elim h [
+        | inl a ↦ same.1 (inl (held.1 (inl a)))
+        | inr more ↦ elim more
+            [ inl b ↦ same.1 (inl (held.1 (inr b))) | inr further ↦ same.1 (inr further) ]
+      ],
     )
 joined_step_has r s ss c start false e both rest =
     let same = rest start.1 in
@@ -95,9 +109,14 @@ joined_step_has r s ss c start false e both rest =
 -- ranges that are joined have what they had
 pub joined_from_has : (r : Range) (rs : List Range) (c : ℕ) → StartFrom r.first rs → Has (joined_from r rs) c ↔ (IsWithin r c ⊎ Has rs c)
 joined_from_has r [] c start = (λ h. elim h [ inl w ↦ inl w | inr n ↦ absurd n ], λ h. elim h [ inl w ↦ inl w | inr n ↦ absurd n ])
-joined_from_has r (s ∷ ss) c start = joined_step_has r s ss c start (nat_le s.first (r.last + 1)) refl (joined_from_has (over r s) ss c) (joined_from_has s ss c)
+joined_from_has r (s ∷ ss) c start = joined_step_has r s ss c start (nat_le s.first (r.last + 1)) refl
+    (joined_from_has (over r s) ss c) (joined_from_has s ss c)
 
-joined_step_rises : (n : ℕ) (r s : Range) (ss : List Range) → n ≤ r.first → IsRange r → AreRanges (s ∷ ss) → StartFrom r.first (s ∷ ss) → (b : Bool) → b ≡ nat_le s.first (r.last + 1) → ((m : ℕ) → m ≤ (over r s).first → IsRange (over r s) → StartFrom (over r s).first ss → RiseFrom m (joined_from (over r s) ss)) → ((m : ℕ) → m ≤ s.first → IsRange s → StartFrom s.first ss → RiseFrom m (joined_from s ss)) → RiseFrom n (cond b (joined_from (over r s) ss) (r ∷ joined_from s ss))
+joined_step_rises : (n : ℕ) (r s : Range) (ss : List Range) → n ≤ r.first → IsRange r → AreRanges (s ∷ ss)
+    → StartFrom r.first (s ∷ ss) → (b : Bool) → b ≡ nat_le s.first (r.last + 1)
+    → ((m : ℕ) → m ≤ (over r s).first → IsRange (over r s) → StartFrom (over r s).first ss → RiseFrom m (joined_from (over r s) ss))
+    → ((m : ℕ) → m ≤ s.first → IsRange s → StartFrom s.first ss → RiseFrom m (joined_from s ss))
+    → RiseFrom n (cond b (joined_from (over r s) ss) (r ∷ joined_from s ss))
 joined_step_rises n r s ss least one all start true e both rest =
     let touch : s.first ≤ r.last + 1 = grind (arith, nat_tests) in
     both n least (over_range r s one all.0 start.0 touch) (start_lower r.first s.first ss start.0 start.1)
@@ -106,9 +125,12 @@ joined_step_rises n r s ss least one all start false e both rest =
     (least, one, rest (r.last + 2) apart all.0 start.1)
 
 -- ranges that are joined neither touch nor overlap
-pub joined_from_rises : (n : ℕ) (r : Range) (rs : List Range) → n ≤ r.first → IsRange r → AreRanges rs → StartFrom r.first rs → RiseFrom n (joined_from r rs)
+pub joined_from_rises : (n : ℕ) (r : Range) (rs : List Range) → n ≤ r.first → IsRange r → AreRanges rs → StartFrom r.first rs
+    → RiseFrom n (joined_from r rs)
 joined_from_rises n r [] least one all start = (least, one, tt)
-joined_from_rises n r (s ∷ ss) least one all start = joined_step_rises n r s ss least one all start (nat_le s.first (r.last + 1)) refl (λ m le is st. joined_from_rises m (over r s) ss le is all.1 st) (λ m le is st. joined_from_rises m s ss le is all.1 st)
+joined_from_rises n r (s ∷ ss) least one all start =
+    joined_step_rises n r s ss least one all start (nat_le s.first (r.last + 1)) refl
+    (λ m le is st. joined_from_rises m (over r s) ss le is all.1 st) (λ m le is st. joined_from_rises m s ss le is all.1 st)
 
 pub joined_has : (rs : List Range) (c : ℕ) → StartFrom 0 rs → Has (joined rs) c ↔ Has rs c
 joined_has [] c start = (λ h. h, λ h. h)
@@ -118,15 +140,20 @@ pub joined_rises : (rs : List Range) → AreRanges rs → StartFrom 0 rs → IsC
 joined_rises [] all start = tt
 joined_rises (r ∷ rs) all start = joined_from_rises 0 r rs (omega arith) all.0 all.1 start.1
 
-between_has_by : (start end c : ℕ) → (b : Bool) → b ≡ nat_lt start end → Has (cond b (record { first = start; last = end - 1 } ∷ []) []) c ↔ ((start ≤ c) × (c < end))
-between_has_by start end c true e = (λ h. elim h [ inl w ↦ (w.0, grind (arith, nat_tests)) | inr n ↦ absurd n ], λ h. inl (h.0, omega arith))
+between_has_by : (start end c : ℕ) → (b : Bool) → b ≡ nat_lt start end
+    → Has (cond b (record { first = start; last = end - 1 } ∷ []) []) c ↔ ((start ≤ c) × (c < end))
+between_has_by start end c true e = (
+  λ h. elim h [ inl w ↦ (w.0, grind (arith, nat_tests)) | inr n ↦ absurd n ],
+  λ h. inl (h.0, omega arith),
+)
 between_has_by start end c false e = (λ h. absurd h, λ h. absurd (grind (arith, nat_tests)))
 
 -- what the code points between two have
 between_has : (start end c : ℕ) → Has (between start end) c ↔ ((start ≤ c) × (c < end))
 between_has start end c = between_has_by start end c (nat_lt start end) refl
 
-between_ranges_by : (start end : ℕ) → (end ≤ 0xD800) ⊎ ((0xE000 ≤ start) × (end ≤ 0x110000)) → (b : Bool) → b ≡ nat_lt start end → AreRanges (cond b (record { first = start; last = end - 1 } ∷ []) [])
+between_ranges_by : (start end : ℕ) → (end ≤ 0xD800) ⊎ ((0xE000 ≤ start) × (end ≤ 0x110000)) → (b : Bool) → b ≡ nat_lt start end
+    → AreRanges (cond b (record { first = start; last = end - 1 } ∷ []) [])
 between_ranges_by start end side true e =
     let some : start < end = grind (arith, nat_tests) in
     ((omega arith, elim side [ inl low ↦ inl (omega arith) | inr high ↦ inr (high.0, omega (arith, high.1)) ]), tt)
@@ -136,7 +163,9 @@ between_ranges : (start end : ℕ) → (end ≤ 0xD800) ⊎ ((0xE000 ≤ start) 
 between_ranges start end side = between_ranges_by start end side (nat_lt start end) refl
 
 pub scalars_ranges : (start end : ℕ) → AreRanges (scalars start end)
-scalars_ranges start end = ranges_append (between start (min end 0xD800)) (between (max start 0xE000) (min end 0x110000)) (between_ranges start (min end 0xD800) (inl (grind arith))) (between_ranges (max start 0xE000) (min end 0x110000) (inr (grind arith, grind arith)))
+scalars_ranges start end = ranges_append (between start (min end 0xD800)) (between (max start 0xE000) (min end 0x110000))
+    (between_ranges start (min end 0xD800) (inl (grind arith)))
+    (between_ranges (max start 0xE000) (min end 0x110000) (inr (grind arith, grind arith)))
 
 pub scalars_has : (start end c : ℕ) → Has (scalars start end) c ↔ ((start ≤ c) × (c < end) × IsScalar c)
 scalars_has start end c =
@@ -147,8 +176,10 @@ scalars_has start end c =
         | inr b ↦ let w = high.0 b in (grind arith, grind arith, inr (grind arith, grind arith))
       ],
       λ h. elim h.2 [
-        | inl a ↦ has_append_left (between start (min end 0xD800)) (between (max start 0xE000) (min end 0x110000)) c (low.1 (h.0, grind arith))
-        | inr b ↦ has_append_right (between start (min end 0xD800)) (between (max start 0xE000) (min end 0x110000)) c (high.1 (grind arith, grind arith))
+        | inl a ↦ has_append_left (between start (min end 0xD800)) (between (max start 0xE000) (min end 0x110000)) c
+            (low.1 (h.0, grind arith))
+        | inr b ↦ has_append_right (between start (min end 0xD800)) (between (max start 0xE000) (min end 0x110000)) c
+            (high.1 (grind arith, grind arith))
       ],
     )
 
@@ -160,7 +191,8 @@ rise_past n (r ∷ rs) c rise (inr h) = omega (arith, rise.0, rise.1.0, rise_pas
 
 pub rise_scalar : (n : ℕ) (rs : List Range) (c : ℕ) → RiseFrom n rs → Has rs c → IsScalar c
 rise_scalar n [] c rise h = absurd h
-rise_scalar n (r ∷ rs) c rise (inl w) = elim rise.1.1 [ inl low ↦ inl (omega (arith, w.1)) | inr high ↦ inr (omega (arith, w.0, high.0), omega (arith, w.1, high.1)) ]
+rise_scalar n (r ∷ rs) c rise (inl w) = elim rise.1.1
+    [ inl low ↦ inl (omega (arith, w.1)) | inr high ↦ inr (omega (arith, w.0, high.0), omega (arith, w.1, high.1)) ]
 rise_scalar n (r ∷ rs) c rise (inr h) = rise_scalar (r.last + 2) rs c rise.2 h
 
 -- a list that is not empty holds the first character of its first range
@@ -179,14 +211,16 @@ some_held (r ∷ rs) rise some = (r.first, first_held r rs rise)
 
 pub gaps_ranges : (start : ℕ) (rs : List Range) → AreRanges (gaps start rs)
 gaps_ranges start [] = scalars_ranges start 0x110000
-gaps_ranges start (r ∷ rs) = ranges_append (scalars start r.first) (gaps (r.last + 1) rs) (scalars_ranges start r.first) (gaps_ranges (r.last + 1) rs)
+gaps_ranges start (r ∷ rs) = ranges_append (scalars start r.first) (gaps (r.last + 1) rs) (scalars_ranges start r.first)
+    (gaps_ranges (r.last + 1) rs)
 
 rise_lower : (n m : ℕ) (rs : List Range) → n ≤ m → RiseFrom m rs → RiseFrom n rs
 rise_lower n m [] h rise = tt
 rise_lower n m (r ∷ rs) h rise = (omega (arith, rise.0), rise.1, rise.2)
 
 -- what ranges that rise leave out
-pub gaps_has : (start : ℕ) (rs : List Range) (c : ℕ) → RiseFrom start rs → Has (gaps start rs) c ↔ ((start ≤ c) × IsScalar c × (Has rs c → ⊥))
+pub gaps_has : (start : ℕ) (rs : List Range) (c : ℕ) → RiseFrom start rs
+    → Has (gaps start rs) c ↔ ((start ≤ c) × IsScalar c × (Has rs c → ⊥))
 gaps_has start [] c rise =
     let all = scalars_has start 0x110000 c in
     (λ h. let w = all.0 h in (w.0, w.2, λ n. n), λ h. all.1 (h.0, grind arith, h.1))
@@ -195,8 +229,20 @@ gaps_has start (r ∷ rs) c rise =
     let later = rise_lower (r.last + 1) (r.last + 2) rs (omega arith) rise.2 in
     let rest = gaps_has (r.last + 1) rs c later in (
       λ h. elim (has_append_cases (scalars start r.first) (gaps (r.last + 1) rs) c h) [
-        | inl a ↦ let w = before.0 a in (w.0, w.2, λ n. elim n [ inl i ↦ absurd (omega (arith, i.0, w.1)) | inr j ↦ absurd (omega (arith, w.1, rise.1.0, rise_past (r.last + 2) rs c rise.2 j)) ])
-        | inr b ↦ let w = rest.0 b in (omega (arith, w.0, rise.0, rise.1.0), w.1, λ n. elim n [ inl i ↦ absurd (omega (arith, i.1, w.0)) | inr j ↦ w.2 j ])
+        | inl a ↦ let w = before.0 a in (
+          w.0,
+          w.2,
+          λ n. elim n [
+            | inl i ↦ absurd (omega (arith, i.0, w.1))
+            | inr j ↦ absurd
+                (omega (arith, w.1, rise.1.0, rise_past (r.last + 2) rs c rise.2 j))
+          ],
+        )
+        | inr b ↦ let w = rest.0 b in (
+          omega (arith, w.0, rise.0, rise.1.0),
+          w.1,
+          λ n. elim n [ inl i ↦ absurd (omega (arith, i.1, w.0)) | inr j ↦ w.2 j ],
+        )
       ],
       λ h. elim (cases_lt c r.first) [
         | inl first ↦ has_append_left (scalars start r.first) (gaps (r.last + 1) rs) c (before.1 (h.0, first, h.1))

@@ -35,7 +35,8 @@ four_digits text = if nat_le 4 (prefix_len is_hexadecimal text) then coded (digi
 abbrev pub braced_digits : List ℕ → Option Escape
 braced_digits text =
     let count = prefix_len is_hexadecimal text in
-    if (nat_lt 0 count && nat_le count 6) && begins 125 (drop count text) then coded (digits_value 16 (take count text)) (count + 3) else None
+    if (nat_lt 0 count && nat_le count 6) && begins 125 (drop count text) then coded (digits_value 16 (take count text)) (count + 3)
+    else None
 
 -- `\u..`, read from what follows the `u`
 abbrev pub unicode_escape : List ℕ → Option Escape
@@ -57,7 +58,8 @@ named_escape complement text = if begins 123 text then property complement (drop
 
 -- the character that `\n`, `\r`, `\t`, `\b` or `\f` means
 abbrev pub control : ℕ → Option ℕ
-control c = if c == 110 then Some 10 else (if c == 114 then Some 13 else (if c == 116 then Some 9 else (if c == 98 then Some 8 else (if c == 102 then Some 12 else None))))
+control c = if c == 110 then Some 10 else (if c == 114 then Some 13
+    else (if c == 116 then Some 9 else (if c == 98 then Some 8 else (if c == 102 then Some 12 else None))))
 
 -- a literal ends with its line
 abbrev pub breaks : Context → ℕ → Bool

@@ -36,7 +36,8 @@ if_short count set = if count == letters_of set then Some set else None
 
 -- the general category, or group of them, with exactly this short name, as `Lu` or `L`
 abbrev pub category_named : List ℕ → Option Set
-category_named name = if is_capitalized name then option_and_then (if_short (length name)) (by_value (codes "gc") (normalize name)) else None
+category_named name = if is_capitalized name then option_and_then (if_short (length name)) (by_value (codes "gc") (normalize name))
+    else None
 
 -- the one other property, by exactly its name
 abbrev pub white_space_named : List ℕ → Option Set

@@ -20,7 +20,8 @@ item_at c rest =
 abbrev pub items_from : ℕ → List ℕ → Option (List Item)
 items_from skip [] = Some []
 items_from (suc skip) (c ∷ cs) = items_from skip cs
-items_from zero (c ∷ cs) = elim (item_at c cs) [ None ↦ None | Some found ↦ option_map (λ more. found.item ∷ more) (items_from found.taken cs) ]
+items_from zero (c ∷ cs) = elim (item_at c cs)
+    [ None ↦ None | Some found ↦ option_map (λ more. found.item ∷ more) (items_from found.taken cs) ]
 
 -- the items of the text, unless it has a bad escape
 abbrev pub items : List ℕ → Option (List Item)

@@ -28,7 +28,8 @@ escaped_item (Property complement count) rest = Named complement (property_named
 pub data AreItems : List ℕ → List Item → Type 0 where
   no_item : AreItems [] []
   a_character : (c : ℕ) (cs : List ℕ) (is : List Item) → c ≢ 92 → AreItems cs is → AreItems (c ∷ cs) (Member c true ∷ is)
-  an_escape : (cs : List ℕ) (e : Escape) (is : List Item) → escape Set cs ≡ Some e → AreItems (drop e.taken cs) is → AreItems (92 ∷ cs) (escaped_item e.meaning cs ∷ is)
+  an_escape : (cs : List ℕ) (e : Escape) (is : List Item) → escape Set cs ≡ Some e → AreItems (drop e.taken cs) is
+      → AreItems (92 ∷ cs) (escaped_item e.meaning cs ∷ is)
 
 -- after some of its items the text has a backslash with no escape
 pub data HasBadEscape : List ℕ → Type 0 where
@@ -44,9 +45,12 @@ EndRange is = (last : ℕ) × (plain : Bool) × (rest : List Item) × (is ≡ Me
 -- is a part of its own
 pub data AreParts : List Item → List Part → Type 0 where
   no_part : AreParts [] []
-  a_range : (first last : ℕ) (p q : Bool) (is : List Item) (ps : List Part) → AreParts is ps → AreParts (Member first p ∷ Member 45 true ∷ Member last q ∷ is) (Span first last ∷ ps)
-  one_character : (c : ℕ) (p : Bool) (is : List Item) (ps : List Part) → (EndRange is → ⊥) → AreParts is ps → AreParts (Member c p ∷ is) (Span c c ∷ ps)
-  a_property : (complement : Bool) (property : Option PropertySet) (is : List Item) (ps : List Part) → AreParts is ps → AreParts (Named complement property ∷ is) (Class complement property ∷ ps)
+  a_range : (first last : ℕ) (p q : Bool) (is : List Item) (ps : List Part) → AreParts is ps
+      → AreParts (Member first p ∷ Member 45 true ∷ Member last q ∷ is) (Span first last ∷ ps)
+  one_character : (c : ℕ) (p : Bool) (is : List Item) (ps : List Part) → (EndRange is → ⊥) → AreParts is ps
+      → AreParts (Member c p ∷ is) (Span c c ∷ ps)
+  a_property : (complement : Bool) (property : Option PropertySet) (is : List Item) (ps : List Part) → AreParts is ps
+      → AreParts (Named complement property ∷ is) (Class complement property ∷ ps)
 
 -- the range does not run backward, or the property is known
 abbrev pub is_sound : Part → Bool
@@ -74,7 +78,8 @@ HoldSome ps = (c : ℕ) × HoldsIn ps c
 
 -- the text spells the set: its parts are sound and hold some character, and the set has their characters and no others
 abbrev pub Spells : List ℕ → List Range → Type 0
-Spells text set = (is : List Item) × (ps : List Part) × AreItems text is × AreParts is ps × (are_sound ps ≡ true) × HoldSome ps × IsCanonical set × ((c : ℕ) → Has set c ↔ HoldsIn ps c)
+Spells text set = (is : List Item) × (ps : List Part) × AreItems text is × AreParts is ps × (are_sound ps ≡ true) × HoldSome ps
+    × IsCanonical set × ((c : ℕ) → Has set c ↔ HoldsIn ps c)
 
 -- the text is refused for this fault: a bad escape; else a range that runs backward, a property that is not known or a set
 -- that is empty, as no character is in any of its parts

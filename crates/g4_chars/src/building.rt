@@ -54,7 +54,8 @@ pub fn gaps(alloc: Global, ranges: &[Range]) -> Result<Vec<Range>, AllocError>
 
 /// The range that is joined to the next one so far, once that is read; a range that it does not touch is done.
 fn joined_to(done: &mut Vec<Range>, current: Range, next: Range) -> Result<Range, AllocError>
-    ensures { IfOk result (λ r. (rest : List Span) → done.new.items ++ joined_from r rest ≡ done.old.items ++ joined_from current (next ∷ rest)) }
+    ensures { IfOk result (λ r. (rest : List Span)
+        → done.new.items ++ joined_from r rest ≡ done.old.items ++ joined_from current (next ∷ rest)) }
 {
     if next.first as u32 <= current.last as u32 + 1 {
         return Ok(Range {

@@ -13,5 +13,6 @@ pub fn one_form()
 
 /// A text has one reading, where memory suffices: one set, or one fault.
 pub fn one_reading()
-    ensures { (text : List ℕ) (a b : Result (List Range) SetFault) → IsReading text a → IsReading text b → a ≢ Err NoMemory → b ≢ Err NoMemory → a ≡ b }
+    ensures { (text : List ℕ) (a b : Result (List Range) SetFault) → IsReading text a → IsReading text b → a ≢ Err NoMemory
+        → b ≢ Err NoMemory → a ≡ b }
 {}

@@ -29,14 +29,20 @@ first-other byte (b ∷ bs) h = go (b == byte) refl
     go false e = rw e
 
 -- what is left of a text where its first byte is taken away, if it is this byte
-pub front_is : (byte : ℕ) (text : Bor (List ℕ)) (r : Option (Bor (List ℕ))) → MatchOption r ((rest : List ℕ) → text.now ≢ byte ∷ rest) (λ x. text.now ≡ byte ∷ x.now) → (unwrap_or r text).now ≡ without_first byte text.now
+pub front_is : (byte : ℕ) (text : Bor (List ℕ)) (r : Option (Bor (List ℕ)))
+    → MatchOption r ((rest : List ℕ) → text.now ≢ byte ∷ rest) (λ x. text.now ≡ byte ∷ x.now)
+    → (unwrap_or r text).now ≡ without_first byte text.now
 front_is byte text None h = sym (first-other byte text.now h)
 front_is byte text (Some x) h = sym (ap (without_first byte) h ∙ first-at byte x.now)
 
 -- and where its last byte is
-pub end_is : (byte : ℕ) (text : Bor (List ℕ)) (r : Option (Bor (List ℕ))) → MatchOption r ((front : List ℕ) → text.now ≢ front ++ (byte ∷ [])) (λ x. text.now ≡ x.now ++ (byte ∷ [])) → (unwrap_or r text).now ≡ without_last byte text.now
+pub end_is : (byte : ℕ) (text : Bor (List ℕ)) (r : Option (Bor (List ℕ)))
+    → MatchOption r ((front : List ℕ) → text.now ≢ front ++ (byte ∷ [])) (λ x. text.now ≡ x.now ++ (byte ∷ []))
+    → (unwrap_or r text).now ≡ without_last byte text.now
 end_is byte text None h =
-    sym (ap reverse (first-other byte (reverse text.now) (λ rest e. h (reverse rest) (sym (reverse-reverse text.now) ∙ (ap reverse e ∙ reverse-append (byte ∷ []) rest)))) ∙ reverse-reverse text.now)
+    sym (ap reverse (first-other byte (reverse text.now)
+    (λ rest e. h (reverse rest) (sym (reverse-reverse text.now) ∙ (ap reverse e ∙ reverse-append (byte ∷ []) rest))))
+    ∙ reverse-reverse text.now)
 end_is byte text (Some x) h = sym (ap (without_last byte) h ∙ last-at byte x.now)
 
 -- the text between braces

@@ -12,7 +12,8 @@ use Rattle.g4_checks.specs.Names.{is_one_of}
 use Rattle.g4_checks.proofs.Sets.{bytes_same}
 
 -- whether a label is there, at a text that it is
-pub at_label : (names : List (List ℕ)) (n label : List ℕ) (there : Bool) → is_one_of names label ≡ there → (is_one_of names n && bytes_eq n label) ≡ (there && bytes_eq n label)
+pub at_label : (names : List (List ℕ)) (n label : List ℕ) (there : Bool) → is_one_of names label ≡ there
+    → (is_one_of names n && bytes_eq n label) ≡ (there && bytes_eq n label)
 at_label names n label there is = by (bytes_eq n label) refl
   where
     right : (a : Bool) → (a && false) ≡ false
@@ -24,7 +25,8 @@ at_label names n label there is = by (bytes_eq n label) refl
     by false e = right (is_one_of names n) ∙ sym (right there)
 
 -- a label that is new in its rule, and in all
-pub first_time : (names : List (List ℕ)) (n label : List ℕ) (twice : Bool) → is_one_of names label ≡ false → twice ≡ (twice || (is_one_of names n && bytes_eq n label))
+pub first_time : (names : List (List ℕ)) (n label : List ℕ) (twice : Bool) → is_one_of names label ≡ false
+    → twice ≡ (twice || (is_one_of names n && bytes_eq n label))
 first_time names n label twice is = sym (ap (λ (b : Bool). twice || b) (at_label names n label false is) ∙ or_false twice)
   where
     or_false : (a : Bool) → (a || false) ≡ a
@@ -32,7 +34,8 @@ first_time names n label twice is = sym (ap (λ (b : Bool). twice || b) (at_labe
     or_false false = refl
 
 -- a label that is new in its rule, and not in all
-pub next_time : (names : List (List ℕ)) (n label : List ℕ) (twice : Bool) → is_one_of names label ≡ true → (twice || bytes_eq n label) ≡ (twice || (is_one_of names n && bytes_eq n label))
+pub next_time : (names : List (List ℕ)) (n label : List ℕ) (twice : Bool) → is_one_of names label ≡ true
+    → (twice || bytes_eq n label) ≡ (twice || (is_one_of names n && bytes_eq n label))
 next_time names n label twice is = sym (ap (λ (b : Bool). twice || b) (at_label names n label true is))
 
 -- or in another order
@@ -50,13 +53,17 @@ covered : (o e : Bool) → (o && e) ≡ e → o ≡ (o || e)
 covered true e all = refl
 covered false e all = all
 
-module _ (before twice own own' once again once' again' : List (List ℕ)) (label : List ℕ) (h : Counting before twice own once again) (added : (n : List ℕ) → is_one_of own' n ≡ (is_one_of own n || bytes_eq n label)) where
+module _ (before twice own own' once again once' again' : List (List ℕ)) (label : List ℕ) (h : Counting before twice own once again)
+    (added : (n : List ℕ) → is_one_of own' n ≡ (is_one_of own n || bytes_eq n label)) where
   -- a label that is new in its rule
-  pub counting_new : is_one_of own label ≡ false → ((n : List ℕ) → is_one_of once' n ≡ (is_one_of once n || bytes_eq n label)) → ((n : List ℕ) → is_one_of again' n ≡ (is_one_of again n || (is_one_of once n && bytes_eq n label))) →
+  pub counting_new : is_one_of own label ≡ false → ((n : List ℕ) → is_one_of once' n ≡ (is_one_of once n || bytes_eq n label))
+      → ((n : List ℕ) → is_one_of again' n ≡ (is_one_of again n || (is_one_of once n && bytes_eq n label))) →
       Counting before twice own' once' again'
   counting_new new one two = record {
     in_one = λ n.
-        one n ∙ (ap (λ (b : Bool). b || bytes_eq n label) (h.in_one n) ∙ (once_more (is_one_of before n) (is_one_of own n) (bytes_eq n label) ∙ ap (λ (b : Bool). is_one_of before n || b) (sym (added n))));
+        one n ∙ (ap (λ (b : Bool). b || bytes_eq n label) (h.in_one n)
+        ∙ (once_more (is_one_of before n) (is_one_of own n) (bytes_eq n label)
+        ∙ ap (λ (b : Bool). is_one_of before n || b) (sym (added n))));
     in_two = λ n.
         two n ∙ (ap (λ (b : Bool). b || (is_one_of once n && bytes_eq n label)) (h.in_two n)
         ∙ (ap (λ (b : Bool). (is_one_of twice n || (is_one_of before n && is_one_of own n)) || (b && bytes_eq n label)) (h.in_one n)
@@ -67,13 +74,18 @@ module _ (before twice own own' once again once' again' : List (List ℕ)) (labe
   -- a label that is not
   pub counting_old : is_one_of own label ≡ true → Counting before twice own' once again
   counting_old old = record {
-    in_one = λ n. h.in_one n ∙ ap (λ (b : Bool). is_one_of before n || b) (covered (is_one_of own n) (bytes_eq n label) (at_label own n label true old) ∙ sym (added n));
-    in_two = λ n. h.in_two n ∙ ap (λ (b : Bool). is_one_of twice n || (is_one_of before n && b)) (covered (is_one_of own n) (bytes_eq n label) (at_label own n label true old) ∙ sym (added n));
+    in_one = λ n. h.in_one n ∙ ap (λ (b : Bool). is_one_of before n || b)
+        (covered (is_one_of own n) (bytes_eq n label) (at_label own n label true old) ∙ sym (added n));
+    in_two = λ n. h.in_two n ∙ ap (λ (b : Bool). is_one_of twice n || (is_one_of before n && b))
+        (covered (is_one_of own n) (bytes_eq n label) (at_label own n label true old) ∙ sym (added n));
   }
 
 -- before the first label of a rule
 pub counting_none : (once again : List (List ℕ)) → Counting once again [] once again
-counting_none once again = record { in_one = λ n. or_none (is_one_of once n); in_two = λ n. or_and_none (is_one_of again n) (is_one_of once n) }
+counting_none once again = record {
+  in_one = λ n. or_none (is_one_of once n);
+  in_two = λ n. or_and_none (is_one_of again n) (is_one_of once n);
+}
   where
     or_none : (a : Bool) → a ≡ (a || false)
     or_none true = refl
@@ -97,10 +109,13 @@ two_more k true = grind (arith, nat_tests)
 two_more k false = grind (arith, nat_tests)
 
 -- the labels of one rule more
-pub counts_more : (rules : List (ParserRule Atom)) (rule : ParserRule Atom) (before twice own once again : List (List ℕ)) → Counts rules before twice → Counting before twice own once again → ((n : List ℕ) → is_one_of own n ≡ has_label n rule) → Counts (rules ++ rule ∷ []) once again
+pub counts_more : (rules : List (ParserRule Atom)) (rule : ParserRule Atom) (before twice own once again : List (List ℕ))
+    → Counts rules before twice → Counting before twice own once again → ((n : List ℕ) → is_one_of own n ≡ has_label n rule)
+    → Counts (rules ++ rule ∷ []) once again
 counts_more rules rule before twice own once again counts counting own_is = record {
   in_one = λ n.
-      counting.in_one n ∙ (ap (λ (b : Bool). b || is_one_of own n) (counts.in_one n) ∙ (ap (λ (b : Bool). nat_le 1 (count_by (has_label n) rules) || b) (own_is n)
+      counting.in_one n ∙ (ap (λ (b : Bool). b || is_one_of own n) (counts.in_one n)
+      ∙ (ap (λ (b : Bool). nat_le 1 (count_by (has_label n) rules) || b) (own_is n)
       ∙ (one_more (count_by (has_label n) rules) (has_label n rule) ∙ ap (nat_le 1) (sym (count_more (has_label n) rules rule)))));
   in_two = λ n.
       counting.in_two n ∙ (ap (λ (b : Bool). b || (is_one_of before n && is_one_of own n)) (counts.in_two n)
@@ -111,4 +126,7 @@ counts_more rules rule before twice own once again counts counting own_is = reco
 
 -- no rules
 pub counts_none : (once again : List (List ℕ)) → once ≡ [] → again ≡ [] → Counts [] once again
-counts_none once again no_once no_again = record { in_one = λ n. ap (λ (names : List (List ℕ)). is_one_of names n) no_once; in_two = λ n. ap (λ (names : List (List ℕ)). is_one_of names n) no_again }
+counts_none once again no_once no_again = record {
+  in_one = λ n. ap (λ (names : List (List ℕ)). is_one_of names n) no_once;
+  in_two = λ n. ap (λ (names : List (List ℕ)). is_one_of names n) no_again;
+}

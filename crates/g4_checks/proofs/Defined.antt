@@ -30,12 +30,14 @@ names_of_lexers all = map (λ rule. rule.name) (lexer_rules all)
 -- a rule of one of these names is a rule
 is_parser : (all : List Rule) (name : List ℕ) → is_one_of (names_of_parsers all) name ≡ list_any (is_rule_of Parser name) all
 is_parser [] name = refl
-is_parser (rules.Parser rule ∷ all) name = ap (λ (b : Bool). b || is_one_of (names_of_parsers all) name) (bytes_eq-sym name rule.name) ∙ ap (λ (b : Bool). bytes_eq rule.name name || b) (is_parser all name)
+is_parser (rules.Parser rule ∷ all) name = ap (λ (b : Bool). b || is_one_of (names_of_parsers all) name) (bytes_eq-sym name rule.name)
+    ∙ ap (λ (b : Bool). bytes_eq rule.name name || b) (is_parser all name)
 is_parser (rules.Lexer rule ∷ all) name = is_parser all name
 
 is_lexer : (all : List Rule) (name : List ℕ) → is_one_of (names_of_lexers all) name ≡ list_any (is_rule_of Lexer name) all
 is_lexer [] name = refl
-is_lexer (rules.Lexer rule ∷ all) name = ap (λ (b : Bool). b || is_one_of (names_of_lexers all) name) (bytes_eq-sym name rule.name) ∙ ap (λ (b : Bool). bytes_eq rule.name name || b) (is_lexer all name)
+is_lexer (rules.Lexer rule ∷ all) name = ap (λ (b : Bool). b || is_one_of (names_of_lexers all) name) (bytes_eq-sym name rule.name)
+    ∙ ap (λ (b : Bool). bytes_eq rule.name name || b) (is_lexer all name)
 is_lexer (rules.Parser rule ∷ all) name = is_lexer all name
 
 -- where it cannot be that a test fails, it holds
@@ -50,7 +52,8 @@ module _ (all : List Rule) where
 
   -- a reference of an atom that names no such rule is to a rule
   defined : (kind : RuleKind) (a : AtomKind) → ((n : List ℕ) → Misses kind a n → ⊥) → KindIsDefined all kind a
-  defined Parser (kinds.Rule name) h = any_found (is_rule_of Parser name.text) all (holds (list_any (is_rule_of Parser name.text) all) (λ e. h name.text (refl, is_parser all name.text ∙ e)))
+  defined Parser (kinds.Rule name) h = any_found (is_rule_of Parser name.text) all
+      (holds (list_any (is_rule_of Parser name.text) all) (λ e. h name.text (refl, is_parser all name.text ∙ e)))
   defined Parser (kinds.Token name) h = tt
   defined Parser (kinds.Literal literal) h = tt
   defined Parser (kinds.Range place first last) h = tt
@@ -62,7 +65,9 @@ module _ (all : List Rule) where
   defined Parser (kinds.Predicate name) h = tt
   defined Lexer (kinds.Rule name) h = tt
   defined Lexer (kinds.Token name) h = λ other.
-      let found = any_found (is_rule_of Lexer name.text) all (holds (list_any (is_rule_of Lexer name.text) all) (λ e. h name.text (other, (refl, is_lexer all name.text ∙ e)))) in (found.0, (other, found.1))
+      let found = any_found (is_rule_of Lexer name.text) all
+      (holds (list_any (is_rule_of Lexer name.text) all) (λ e. h name.text (other, (refl, is_lexer all name.text ∙ e)))) in
+      (found.0, (other, found.1))
   defined Lexer (kinds.Literal literal) h = tt
   defined Lexer (kinds.Range place first last) h = tt
   defined Lexer (kinds.Set set) h = tt
@@ -75,4 +80,5 @@ module _ (all : List Rule) where
 -- the references of a grammar that has the rules that it names
 pub rules_defined : (source : Source) → HasRules source → RulesAreDefined (rules_of source)
 rules_defined source h =
-    All-weaker (λ (a : AtomIn). (n : List ℕ) → NamesNoRule source a n → ⊥) (λ a. KindIsDefined (rules_of source) a.kind a.atom.kind) (λ a none. defined (rules_of source) a.kind a.atom.kind none) (atoms_in source) h
+    All-weaker (λ (a : AtomIn). (n : List ℕ) → NamesNoRule source a n → ⊥) (λ a. KindIsDefined (rules_of source) a.kind a.atom.kind)
+    (λ a none. defined (rules_of source) a.kind a.atom.kind none) (atoms_in source) h

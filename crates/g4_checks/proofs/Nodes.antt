@@ -41,10 +41,13 @@ module _ (kind : RuleKind) where
   either_atoms : (xs : List (Side Atom)) → in_rule (atoms_of_either (either (map alternative_of xs))) ≡ flat_map side_atoms xs
   either_atoms [] = refl
   either_atoms (x ∷ xs) =
-      map-append (atom_in kind) (atoms_in_order (alternative_of x)) (atoms_of_either (either (map alternative_of xs))) ∙ ap (λ (zs : List AtomIn). side_atoms x ++ zs) (either_atoms xs)
+      map-append (atom_in kind) (atoms_in_order (alternative_of x)) (atoms_of_either (either (map alternative_of xs)))
+      ∙ ap (λ (zs : List AtomIn). side_atoms x ++ zs) (either_atoms xs)
 
   -- an element that is a block
-  pub block_atoms : (node : Node Atom) (label : Option Label) (repeat : Repeat) (alternatives : Vec (Side Atom) Global) (sides : List (Side Atom)) → node ≡ nodes.Block label repeat alternatives → sides ≡ alternatives.items → node_atoms node ≡ flat_map side_atoms sides
+  pub block_atoms : (node : Node Atom) (label : Option Label) (repeat : Repeat) (alternatives : Vec (Side Atom) Global)
+      (sides : List (Side Atom)) → node ≡ nodes.Block label repeat alternatives → sides ≡ alternatives.items
+      → node_atoms node ≡ flat_map side_atoms sides
   block_atoms node label repeat alternatives sides is whole =
       ap node_atoms is ∙ (ap (λ (x : Element Atom). in_rule (atoms x)) (of_block label repeat alternatives)
       ∙ (either_atoms alternatives.items ∙ ap (flat_map side_atoms) (sym whole)))
@@ -53,27 +56,36 @@ module _ (kind : RuleKind) where
   pub elements_atoms : (xs : List (Node Atom)) → in_rule (atoms_in_order (in_order (map element_of xs))) ≡ flat_map node_atoms xs
   elements_atoms [] = refl
   elements_atoms (x ∷ xs) =
-      map-append (atom_in kind) (atoms (element_of x)) (atoms_in_order (in_order (map element_of xs))) ∙ ap (λ (zs : List AtomIn). node_atoms x ++ zs) (elements_atoms xs)
+      map-append (atom_in kind) (atoms (element_of x)) (atoms_in_order (in_order (map element_of xs)))
+      ∙ ap (λ (zs : List AtomIn). node_atoms x ++ zs) (elements_atoms xs)
 
   -- an alternative of these elements
-  pub side_is : (side : Side Atom) (elements : List (Node Atom)) → elements ≡ (out-Alternative Atom side).elements.items → in_rule (atoms_in_order (in_order (map element_of elements))) ≡ side_atoms side
+  pub side_is : (side : Side Atom) (elements : List (Node Atom)) → elements ≡ (out-Alternative Atom side).elements.items
+      → in_rule (atoms_in_order (in_order (map element_of elements))) ≡ side_atoms side
   side_is side elements whole =
-      ap (λ (xs : List (Node Atom)). in_rule (atoms_in_order (in_order (map element_of xs)))) whole ∙ ap (λ (x : Elements Atom). in_rule (atoms_in_order x)) (sym (of_alternative side))
+      ap (λ (xs : List (Node Atom)). in_rule (atoms_in_order (in_order (map element_of xs)))) whole
+      ∙ ap (λ (x : Elements Atom). in_rule (atoms_in_order x)) (sym (of_alternative side))
 
   -- the alternatives of a rule
-  pub alternatives_atoms : (xs : List (Elements Atom)) → in_rule (atoms_of_either (either xs)) ≡ flat_map (λ x. in_rule (atoms_in_order x)) xs
+  pub alternatives_atoms : (xs : List (Elements Atom))
+      → in_rule (atoms_of_either (either xs)) ≡ flat_map (λ x. in_rule (atoms_in_order x)) xs
   alternatives_atoms [] = refl
   alternatives_atoms (x ∷ xs) =
-      map-append (atom_in kind) (atoms_in_order x) (atoms_of_either (either xs)) ∙ ap (λ (zs : List AtomIn). in_rule (atoms_in_order x) ++ zs) (alternatives_atoms xs)
+      map-append (atom_in kind) (atoms_in_order x) (atoms_of_either (either xs))
+      ∙ ap (λ (zs : List AtomIn). in_rule (atoms_in_order x) ++ zs) (alternatives_atoms xs)
 
   -- those of a parser rule
-  pub parser_atoms : (rule : ParserRule Atom) (items : List (RuleAlternative Atom)) → items ≡ rule.alternatives → flat_map (λ a. in_rule (atoms_in_order a.elements)) items ≡ in_rule (atoms_of_either (alternatives_of rule))
+  pub parser_atoms : (rule : ParserRule Atom) (items : List (RuleAlternative Atom)) → items ≡ rule.alternatives
+      → flat_map (λ a. in_rule (atoms_in_order a.elements)) items ≡ in_rule (atoms_of_either (alternatives_of rule))
   parser_atoms rule items whole =
       ap (flat_map (λ (a : RuleAlternative Atom). in_rule (atoms_in_order a.elements))) whole
-      ∙ sym (alternatives_atoms (bodies_of rule) ∙ parts-map (λ (x : Elements Atom). in_rule (atoms_in_order x)) (λ (a : RuleAlternative Atom). a.elements) rule.alternatives)
+      ∙ sym (alternatives_atoms (bodies_of rule)
+      ∙ parts-map (λ (x : Elements Atom). in_rule (atoms_in_order x)) (λ (a : RuleAlternative Atom). a.elements) rule.alternatives)
 
   -- and of a lexer rule
-  pub lexer_atoms : (rule : LexerRule) (items : List LexerAlternative) → items ≡ rule.alternatives → flat_map (λ a. in_rule (atoms_in_order a.elements)) items ≡ in_rule (atoms_of_either (lexer_alternatives_of rule))
+  pub lexer_atoms : (rule : LexerRule) (items : List LexerAlternative) → items ≡ rule.alternatives
+      → flat_map (λ a. in_rule (atoms_in_order a.elements)) items ≡ in_rule (atoms_of_either (lexer_alternatives_of rule))
   lexer_atoms rule items whole =
       ap (flat_map (λ (a : LexerAlternative). in_rule (atoms_in_order a.elements))) whole
-      ∙ sym (alternatives_atoms (lexer_bodies_of rule) ∙ parts-map (λ (x : Elements Atom). in_rule (atoms_in_order x)) (λ (a : LexerAlternative). a.elements) rule.alternatives)
+      ∙ sym (alternatives_atoms (lexer_bodies_of rule)
+      ∙ parts-map (λ (x : Elements Atom). in_rule (atoms_in_order x)) (λ (a : LexerAlternative). a.elements) rule.alternatives)

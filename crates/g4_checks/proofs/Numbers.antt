@@ -19,7 +19,8 @@ grows n (digit ∷ digits) = omega (arith, grows (10 * n + (digit - 48)) digits)
 
 -- a number that is too great
 pub too_great : (n : ℕ) (text : List ℕ) → MOST_CHANNEL < n → goes_on n text ≡ false
-too_great n text above = and_right (all_ascii_digits text) (nat_le (decimal_after n text) MOST_CHANNEL) (lt-leb (decimal_after n text) MOST_CHANNEL (omega (arith, grows n text)))
+too_great n text above = and_right (all_ascii_digits text) (nat_le (decimal_after n text) MOST_CHANNEL)
+    (lt-leb (decimal_after n text) MOST_CHANNEL (omega (arith, grows n text)))
 
 module _ (n : ℕ) (text : List ℕ) (i : ℕ) (byte : ℕ) (within : i < length text) (item : byte ≡ get_or text i byte) where
   split : drop i text ≡ byte ∷ drop (i + 1) text
@@ -28,9 +29,11 @@ module _ (n : ℕ) (text : List ℕ) (i : ℕ) (byte : ℕ) (within : i < length
   -- one digit more
   pub digit_more : is_ascii_digit byte ≡ true → goes_on n (drop i text) ≡ goes_on (10 * n + (byte - 48)) (drop (i + 1) text)
   digit_more digit =
-      ap (goes_on n) split ∙ ap (λ (b : Bool). (b && all_ascii_digits (drop (i + 1) text)) && nat_le (decimal_after (10 * n + (byte - 48)) (drop (i + 1) text)) MOST_CHANNEL) digit
+      ap (goes_on n) split ∙ ap (λ (b : Bool). (b && all_ascii_digits (drop (i + 1) text))
+      && nat_le (decimal_after (10 * n + (byte - 48)) (drop (i + 1) text)) MOST_CHANNEL) digit
 
   -- a character that is no digit
   pub no_digit : is_ascii_digit byte ≡ false → goes_on n (drop i text) ≡ false
   no_digit other =
-      ap (goes_on n) split ∙ ap (λ (b : Bool). (b && all_ascii_digits (drop (i + 1) text)) && nat_le (decimal_after (10 * n + (byte - 48)) (drop (i + 1) text)) MOST_CHANNEL) other
+      ap (goes_on n) split ∙ ap (λ (b : Bool). (b && all_ascii_digits (drop (i + 1) text))
+      && nat_le (decimal_after (10 * n + (byte - 48)) (drop (i + 1) text)) MOST_CHANNEL) other

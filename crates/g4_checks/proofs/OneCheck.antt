@@ -20,8 +20,10 @@ use Rattle.g4_checks.specs.Checking.{of_reference, of_recursion, IsChecked}
 -- An answer that is not for want of memory, by the half that gives it.
 data IsBy (source : Source) : Result ⊤ CheckFault → Type 0 where
   no_fault : (t : ⊤) → HasNoClash source → HaveNoFault (rules_of source) → IsBy source (Ok t)
-  by_reference : (fault : ReferenceFault) → naming.IsChecked source (Err fault) → fault ≢ references.NoMemory → IsBy source (Err (of_reference fault))
-  by_recursion : (fault : RecursionFault) → HasNoClash source → calling.IsChecked (rules_of source) (Err fault) → fault ≢ recursions.NoMemory → IsBy source (Err (of_recursion fault))
+  by_reference : (fault : ReferenceFault) → naming.IsChecked source (Err fault) → fault ≢ references.NoMemory
+      → IsBy source (Err (of_reference fault))
+  by_recursion : (fault : RecursionFault) → HasNoClash source → calling.IsChecked (rules_of source) (Err fault)
+      → fault ≢ recursions.NoMemory → IsBy source (Err (of_recursion fault))
 
 module _ (source : Source) where
   is_by : (answer : Result ⊤ CheckFault) → IsChecked source answer → answer ≢ Err NoMemory → IsBy source answer
@@ -41,17 +43,23 @@ module _ (source : Source) where
 
   -- there are no two answers by what the rules name
   not_both : (fault : ReferenceFault) → HasNoClash source → naming.IsChecked source (Err fault) → fault ≢ references.NoMemory → ⊥
-  not_both fault none told other = let e : Ok tt ≡ Err fault = one_naming.one_check source (Ok tt) (Err fault) none told (λ n. cc) (λ n. other (cc)) in cc
+  not_both fault none told other = let e : Ok tt ≡ Err fault =
+      one_naming.one_check source (Ok tt) (Err fault) none told (λ n. cc) (λ n. other (cc)) in cc
 
   -- nor by how they call each other
-  not_both_calls : (fault : RecursionFault) → HaveNoFault (rules_of source) → calling.IsChecked (rules_of source) (Err fault) → fault ≢ recursions.NoMemory → ⊥
-  not_both_calls fault none told other = let e : Ok tt ≡ Err fault = one_calling.one_recursion (rules_of source) (Ok tt) (Err fault) none told (λ n. cc) (λ n. other (cc)) in cc
+  not_both_calls : (fault : RecursionFault) → HaveNoFault (rules_of source) → calling.IsChecked (rules_of source) (Err fault)
+      → fault ≢ recursions.NoMemory → ⊥
+  not_both_calls fault none told other = let e : Ok tt ≡ Err fault =
+      one_calling.one_recursion (rules_of source) (Ok tt) (Err fault) none told (λ n. cc) (λ n. other (cc)) in cc
 
-  one_reference : (f g : ReferenceFault) → naming.IsChecked source (Err f) → naming.IsChecked source (Err g) → f ≢ references.NoMemory → g ≢ references.NoMemory → f ≡ g
+  one_reference : (f g : ReferenceFault) → naming.IsChecked source (Err f) → naming.IsChecked source (Err g) → f ≢ references.NoMemory
+      → g ≢ references.NoMemory → f ≡ g
   one_reference f g h k m n = let e : Err f ≡ Err g = one_naming.one_check source (Err f) (Err g) h k (λ e. m (cc)) (λ e. n (cc)) in cc
 
-  one_recursion : (f g : RecursionFault) → calling.IsChecked (rules_of source) (Err f) → calling.IsChecked (rules_of source) (Err g) → f ≢ recursions.NoMemory → g ≢ recursions.NoMemory → f ≡ g
-  one_recursion f g h k m n = let e : Err f ≡ Err g = one_calling.one_recursion (rules_of source) (Err f) (Err g) h k (λ e. m (cc)) (λ e. n (cc)) in cc
+  one_recursion : (f g : RecursionFault) → calling.IsChecked (rules_of source) (Err f) → calling.IsChecked (rules_of source) (Err g)
+      → f ≢ recursions.NoMemory → g ≢ recursions.NoMemory → f ≡ g
+  one_recursion f g h k m n = let e : Err f ≡ Err g =
+      one_calling.one_recursion (rules_of source) (Err f) (Err g) h k (λ e. m (cc)) (λ e. n (cc)) in cc
 
   one_by : (a b : Result ⊤ CheckFault) → IsBy source a → IsBy source b → a ≡ b
   one_by _ _ (no_fault t h l) (no_fault u k m) = refl
@@ -65,5 +73,6 @@ module _ (source : Source) where
   one_by _ _ (by_recursion f h l o) (by_recursion g k m n) = ap (λ (x : RecursionFault). Err (of_recursion x)) (one_recursion f g l m o n)
 
 -- the answer is one
-pub one_check : (source : Source) (a b : Result ⊤ CheckFault) → IsChecked source a → IsChecked source b → a ≢ Err NoMemory → b ≢ Err NoMemory → a ≡ b
+pub one_check : (source : Source) (a b : Result ⊤ CheckFault) → IsChecked source a → IsChecked source b → a ≢ Err NoMemory
+    → b ≢ Err NoMemory → a ≡ b
 one_check source a b h k m n = one_by source a b (is_by source a h m) (is_by source b k n)

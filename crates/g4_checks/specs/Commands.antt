@@ -63,7 +63,8 @@ IsUnknownCommand command n = (n ≡ command.name.text) × (is_command command.na
 -- the command of this name with this argument takes a channel n, and there is none
 abbrev pub ArgumentIsUnknownChannel : (List ℕ → Bool) → List ℕ → Option Argument → List ℕ → Type 0
 ArgumentIsUnknownChannel is_name name None n = ⊥
-ArgumentIsUnknownChannel is_name name (Some argument) n = (n ≡ argument_text argument) × (bytes_eq name (codes "channel") ≡ true) × (is_channel is_name argument ≡ false)
+ArgumentIsUnknownChannel is_name name (Some argument) n = (n ≡ argument_text argument) × (bytes_eq name (codes "channel") ≡ true)
+    × (is_channel is_name argument ≡ false)
 
 abbrev pub IsUnknownChannel : (List ℕ → Bool) → Command → List ℕ → Type 0
 IsUnknownChannel is_name command n = ArgumentIsUnknownChannel is_name command.name.text command.argument n

@@ -53,4 +53,5 @@ IsClash does_clash label n = (n ≡ label) × (does_clash label ≡ true)
 
 -- n is the name of a rule that is partly labelled, or else the first label of the rule that clashes
 abbrev pub HasClash : (List ℕ → Bool) → ParserRule Atom → List ℕ → Type 0
-HasClash does_clash rule n = MatchBool (are_partly_labelled rule.alternatives) (n ≡ rule.name) (IsFirst (IsClash does_clash) (labels_of rule) n)
+HasClash does_clash rule n = MatchBool (are_partly_labelled rule.alternatives) (n ≡ rule.name)
+    (IsFirst (IsClash does_clash) (labels_of rule) n)

@@ -1,3 +1,4 @@
+-- Other crates cite Checking, Commands, Names, References; only this crate cites Known, Labels, Predicates, Uses, Views.
 pub mod Checking
 pub mod Commands
 pub mod Known

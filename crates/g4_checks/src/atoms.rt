@@ -26,7 +26,8 @@ fn push_element<'a>(
     kind: RuleKind,
     element: &'a Element<Atom>,
 ) -> Result<(), AllocError>
-    ensures { OnOk result (map use_view found.new.items ≡ map use_view found.old.items ++ map (atom_in kind) (atoms (element_of element.now))) }
+    ensures { OnOk result (map use_view found.new.items
+        ≡ map use_view found.old.items ++ map (atom_in kind) (atoms (element_of element.now))) }
 {
     match element {
         Element::Atom(atom) => {
@@ -48,7 +49,8 @@ fn push_elements<'a>(
     kind: RuleKind,
     elements: &'a [Element<Atom>],
 ) -> Result<(), AllocError>
-    ensures { OnOk result (map use_view found.new.items ≡ map use_view found.old.items ++ map (atom_in kind) (atoms_in_order (in_order (map element_of elements.now)))) }
+    ensures { OnOk result (map use_view found.new.items
+        ≡ map use_view found.old.items ++ map (atom_in kind) (atoms_in_order (in_order (map element_of elements.now)))) }
 {
     for element in elements {
         push_element(found, kind, element)?;
@@ -61,7 +63,8 @@ fn push_parser<'a>(
     found: &mut Vec<AtomUse<'a>>,
     rule: &'a ParserRule<Atom>,
 ) -> Result<(), AllocError>
-    ensures { OnOk result (map use_view found.new.items ≡ map use_view found.old.items ++ map (atom_in kinds.Parser) (atoms_of_either (alternatives_of rule.now))) }
+    ensures { OnOk result (map use_view found.new.items
+        ≡ map use_view found.old.items ++ map (atom_in kinds.Parser) (atoms_of_either (alternatives_of rule.now))) }
 {
     for alternative in rule.alternatives.as_slice() {
         push_elements(found, RuleKind::Parser, alternative.elements.as_slice())?;
@@ -71,7 +74,8 @@ fn push_parser<'a>(
 
 /// Adds the atoms of a lexer rule.
 fn push_lexer<'a>(found: &mut Vec<AtomUse<'a>>, rule: &'a LexerRule) -> Result<(), AllocError>
-    ensures { OnOk result (map use_view found.new.items ≡ map use_view found.old.items ++ map (atom_in kinds.Lexer) (atoms_of_either (lexer_alternatives_of rule.now))) }
+    ensures { OnOk result (map use_view found.new.items
+        ≡ map use_view found.old.items ++ map (atom_in kinds.Lexer) (atoms_of_either (lexer_alternatives_of rule.now))) }
 {
     for alternative in rule.alternatives.as_slice() {
         push_elements(found, RuleKind::Lexer, alternative.elements.as_slice())?;

@@ -4,9 +4,9 @@ ghost use Rattle.g4_source.specs.InOrder.{rules_of};
 ghost use Rattle.g4_grammar.specs.Written.{RulesAreDefined, RulesCanRun};
 ghost use Rattle.g4_checks.specs.Checking.{IsChecked};
 
+use crate::check_references;
 use crate::fault::CheckFault;
 use g4_recursion::check_recursion;
-use crate::check_references;
 use g4_source::Source;
 use std::alloc::Global;
 

@@ -85,7 +85,8 @@ fn first_of<'a>(
     clashing: &Clashing<'_, '_>,
     rules: &[&'a ParserRule<Atom>],
 ) -> Result<Option<&'a str>, AllocError>
-    ensures { IfOk result (λ found. FindsFirst (HasClash (clashes_in clashing.now)) (map (λ r. r.now) rules.now) (option_map (λ n. n.now) found)) }
+    ensures { IfOk result (λ found. FindsFirst (HasClash (clashes_in clashing.now)) (map (λ r. r.now) rules.now)
+        (option_map (λ n. n.now) found)) }
 {
     for rule in rules {
         if let Some(name) = clash(alloc, clashing, *rule)? {

@@ -29,7 +29,8 @@ fn push_commands<'a>(
 
 /// Adds the commands of a lexer rule.
 fn push_lexer<'a>(found: &mut Vec<&'a Command>, rule: &'a LexerRule) -> Result<(), AllocError>
-    ensures { OnOk result (map (λ c. c.now) found.new.items ≡ map (λ c. c.now) found.old.items ++ flat_map (λ a. a.commands) rule.now.alternatives) }
+    ensures { OnOk result (map (λ c. c.now) found.new.items
+        ≡ map (λ c. c.now) found.old.items ++ flat_map (λ a. a.commands) rule.now.alternatives) }
 {
     for alternative in rule.alternatives.as_slice() {
         push_commands(found, alternative.commands.as_slice())?;

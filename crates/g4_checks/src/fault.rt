@@ -1,7 +1,7 @@
 // The faults of a grammar's rules.
+use crate::ReferenceFault;
 use g4_base::{Place, Sequence, Text};
 use g4_recursion::RecursionFault;
-use crate::ReferenceFault;
 
 /// Why a grammar cannot be run. The variants are in the order in which they are looked for.
 #[derive(Drop)]

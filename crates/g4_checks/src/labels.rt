@@ -39,7 +39,8 @@ impl<'a> LabelSets<'a> {
     /// Adds a label of a rule that has not come in the rule before.
     fn add_new(&mut self, label: &'a str) -> Result<(), AllocError>
         ensures once { OnOk result ((n : List ℕ) → is_one_of self.new.once n ≡ (is_one_of self.old.once n || bytes_eq n label.now)) }
-        ensures again { OnOk result ((n : List ℕ) → is_one_of self.new.again n ≡ (is_one_of self.old.again n || (is_one_of self.old.once n && bytes_eq n label.now))) }
+        ensures again { OnOk result ((n : List ℕ) → is_one_of self.new.again n
+            ≡ (is_one_of self.old.again n || (is_one_of self.old.once n && bytes_eq n label.now))) }
     {
         let is_first = self.once.add(label)?;
         if !is_first {
@@ -51,7 +52,8 @@ impl<'a> LabelSets<'a> {
     /// Adds a label of a rule of which `own` are the labels before.
     fn add_label(&mut self, own: &mut Names<'a>, label: &'a str) -> Result<(), AllocError>
         ensures own { OnOk result ((n : List ℕ) → is_one_of own.new n ≡ (is_one_of own.old n || bytes_eq n label.now)) }
-        ensures counting { OnOk result ((once again : List (List ℕ)) → Counting once again own.old self.old.once self.old.again → Counting once again own.new self.new.once self.new.again) }
+        ensures counting { OnOk result ((once again : List (List ℕ)) → Counting once again own.old self.old.once self.old.again
+            → Counting once again own.new self.new.once self.new.again) }
     {
         let is_new = own.add(label)?;
         if is_new {
@@ -62,7 +64,8 @@ impl<'a> LabelSets<'a> {
 
     /// Adds the labels of a rule.
     fn add_rule(&mut self, alloc: Global, rule: &'a ParserRule<Atom>) -> Result<(), AllocError>
-        ensures { OnOk result ((rules : List (LabelledRule AnyAtom)) → Counts rules self.old.once self.old.again → Counts (rules ++ rule.now ∷ []) self.new.once self.new.again) }
+        ensures { OnOk result ((rules : List (LabelledRule AnyAtom)) → Counts rules self.old.once self.old.again
+            → Counts (rules ++ rule.now ∷ []) self.new.once self.new.again) }
     {
         let labels = labels_of(alloc, rule)?;
         let mut own = Names::new(alloc);

@@ -4,7 +4,9 @@ ghost use Rattle.g4_checks.specs.Views.{AreParts};
 
 use crate::atoms::{AtomUse, atoms_of};
 use crate::commands::commands_of;
-use g4_source::{Atom, Command, LexerRule, ParserRule, Source, lexer_rules, parser_rules, rules_of};
+use g4_source::{
+    Atom, Command, LexerRule, ParserRule, Source, lexer_rules, parser_rules, rules_of,
+};
 use std::alloc::{AllocError, Global};
 
 /// The rules of a grammar of both kinds in order, and their atoms and commands.

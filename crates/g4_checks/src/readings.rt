@@ -3,8 +3,8 @@ ghost use Rattle.std.specs.Prelude.{◌≡◌, IfOk};
 ghost use Rattle.g4_checks.specs.Predicates.{Reads, text_of_predicate};
 ghost use Rattle.g4_source.specs.First.{Finds};
 
-use g4_source::Name;
 use g4_preds::{Predicate, PredicateFault};
+use g4_source::Name;
 use std::alloc::{AllocError, Global};
 
 /// What is left of the action without its braces.

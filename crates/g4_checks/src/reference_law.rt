@@ -8,7 +8,8 @@ ghost use Rattle.g4_checks.specs.declared.references.ReferenceFault.TheVariants.
 
 /// What is reported of a grammar is one answer, where memory suffices.
 pub fn one_reference_check()
-    ensures { (source : Source) (a b : Result ⊤ ReferenceFault) → IsChecked source a → IsChecked source b → a ≢ Err NoMemory → b ≢ Err NoMemory → a ≡ b }
+    ensures { (source : Source) (a b : Result ⊤ ReferenceFault) → IsChecked source a → IsChecked source b → a ≢ Err NoMemory
+        → b ≢ Err NoMemory → a ≡ b }
 {}
 
 /// The text of a predicate is what is between the braces of its action.

@@ -23,7 +23,8 @@ least_within blocks least n is l k d within =
 
 module _ (seen old : List ℕ) (first_new symbol : ℕ) (blocks moved : List ℕ) (d : IsDividing seen old first_new blocks moved) where
   -- a number that is not the symbol of an index that could move
-  pub passed_over : ((i : ℕ) → i < length old → get_or blocks i 0 < first_new → symbol ≡ symbol_at i → ⊥) → IsDividing (seen ++ symbol ∷ []) old first_new blocks moved
+  pub passed_over : ((i : ℕ) → i < length old → get_or blocks i 0 < first_new → symbol ≡ symbol_at i → ⊥)
+      → IsDividing (seen ++ symbol ∷ []) old first_new blocks moved
   passed_over other = record {
     count = d.count;
     room = d.room;
@@ -40,7 +41,8 @@ module _ (seen old : List ℕ) (first_new symbol : ℕ) (blocks moved : List ℕ
   }
 
   -- a symbol that has moved before
-  pub has_moved : (index block : ℕ) → length blocks ≡ 4098 → (index < 4098) × (symbol_at index ≡ symbol) → block ≡ get_or blocks index block → first_new ≤ block → IsDividing (seen ++ symbol ∷ []) old first_new blocks moved
+  pub has_moved : (index block : ℕ) → length blocks ≡ 4098 → (index < 4098) × (symbol_at index ≡ symbol)
+      → block ≡ get_or blocks index block → first_new ≤ block → IsDividing (seen ++ symbol ∷ []) old first_new blocks moved
   has_moved index block many at is more = passed_over (λ i within less same.
       let count = d.count in
       let e : i ≡ index = one_index i index (omega (arith, within, count, many)) at.0 (sym same ∙ sym at.1) in
@@ -48,7 +50,9 @@ module _ (seen old : List ℕ) (first_new symbol : ℕ) (blocks moved : List ℕ
       let read : block ≡ get_or blocks index 0 = get_or_read blocks index block (omega (arith, at.0, many)) is 0 in
       omega (arith, value, read, less, more))
 
-  module _ (index block target : ℕ) (then_moved : List ℕ) (many : length blocks ≡ 4098) (at : (index < 4098) × (symbol_at index ≡ symbol)) (read : block ≡ get_or blocks index block) (less : block < first_new) (t : IsTarget block first_new target moved then_moved) where
+  module _ (index block target : ℕ) (then_moved : List ℕ) (many : length blocks ≡ 4098)
+      (at : (index < 4098) × (symbol_at index ≡ symbol)) (read : block ≡ get_or blocks index block) (less : block < first_new)
+      (t : IsTarget block first_new target moved then_moved) where
     all : length old ≡ 4098
     all = let count = d.count in omega (arith, count, many)
 
@@ -75,15 +79,18 @@ module _ (seen old : List ℕ) (first_new symbol : ℕ) (blocks moved : List ℕ
       | inr known ↦ other (sym (d.apart block c less c_old known (sym (t.before known) ∙ sym same)))
     ]
 
-    still_apart : (b c : ℕ) → b < first_new → c < first_new → first_new ≤ get_or then_moved b 0 → get_or then_moved b 0 ≡ get_or then_moved c 0 → b ≡ c
+    still_apart : (b c : ℕ) → b < first_new → c < first_new → first_new ≤ get_or then_moved b 0
+        → get_or then_moved b 0 ≡ get_or then_moved c 0 → b ≡ c
     still_apart b c b_old c_old more same = elim (cases_eq b block) [
       | inl b_is ↦ elim (cases_eq c block) [
         | inl c_is ↦ b_is ∙ sym c_is
-        | inr c_not ↦ absurd (alone c c_old c_not (sym (other c c_old c_not) ∙ sym same ∙ ap (λ (x : ℕ). get_or then_moved x 0) b_is ∙ t.here))
+        | inr c_not ↦ absurd (alone c c_old c_not (sym (other c c_old c_not) ∙ sym same ∙ ap (λ (x : ℕ). get_or then_moved x 0) b_is
+            ∙ t.here))
       ]
       | inr b_not ↦ elim (cases_eq c block) [
         | inl c_is ↦ absurd (alone b b_old b_not (sym (other b b_old b_not) ∙ same ∙ ap (λ (x : ℕ). get_or then_moved x 0) c_is ∙ t.here))
-        | inr c_not ↦ d.apart b c b_old c_old (subst (λ (x : ℕ). first_new ≤ x) (other b b_old b_not) more) (sym (other b b_old b_not) ∙ same ∙ other c c_old c_not)
+        | inr c_not ↦ d.apart b c b_old c_old (subst (λ (x : ℕ). first_new ≤ x) (other b b_old b_not) more)
+            (sym (other b b_old b_not) ∙ same ∙ other c c_old c_not)
       ]
     ]
       where
@@ -106,7 +113,9 @@ module _ (seen old : List ℕ) (first_new symbol : ℕ) (blocks moved : List ℕ
       room = let r = d.room in let s = t.room in omega (arith, r, s);
       are_old = d.are_old;
       kept = λ i i_within i_less. elim (cases_eq i index) [
-        | inl same ↦ (let value : get_or (set blocks index target) i 0 ≡ target = ap (λ (x : ℕ). get_or (set blocks index target) x 0) same ∙ here_is in let new = t.new in absurd (omega (arith, value, new, i_less)))
+        | inl same ↦ (let value : get_or (set blocks index target) i 0 ≡ target =
+            ap (λ (x : ℕ). get_or (set blocks index target) x 0) same ∙ here_is in let new = t.new in
+            absurd (omega (arith, value, new, i_less)))
         | inr differs ↦ (
             let was = d.kept i i_within (subst (λ (x : ℕ). x < first_new) (there_is i differs) i_less) in (
               there_is i differs ∙ was.0,
@@ -120,14 +129,16 @@ module _ (seen old : List ℕ) (first_new symbol : ℕ) (blocks moved : List ℕ
       gone = λ i i_within i_more. elim (cases_eq i index) [
         | inl same ↦ (
             let old_is : get_or old index 0 ≡ block = sym (d.kept index within (subst (λ (x : ℕ). x < first_new) is less)).0 ∙ sym is in (
-              ap (λ (x : ℕ). get_or (set blocks index target) x 0) same ∙ here_is ∙ sym t.here ∙ ap (λ (x : ℕ). get_or then_moved x 0) (sym old_is) ∙ ap (λ (x : ℕ). get_or then_moved (get_or old x 0) 0) (sym same),
+              ap (λ (x : ℕ). get_or (set blocks index target) x 0) same ∙ here_is ∙ sym t.here
+                  ∙ ap (λ (x : ℕ). get_or then_moved x 0) (sym old_is) ∙ ap (λ (x : ℕ). get_or then_moved (get_or old x 0) 0) (sym same),
               subst (Contains (seen ++ symbol ∷ [])) (sym at.1 ∙ ap symbol_at (sym same)) (Contains-push seen symbol),
             )
             )
         | inr differs ↦ (
             let more : first_new ≤ get_or blocks i 0 = subst (λ (x : ℕ). first_new ≤ x) (there_is i differs) i_more in
             let was = d.gone i i_within more in (
-              there_is i differs ∙ was.0 ∙ sym (stays (get_or old i 0) (d.are_old i i_within) (subst (λ (x : ℕ). first_new ≤ x) was.0 more)),
+              there_is i differs ∙ was.0 ∙ sym (stays (get_or old i 0) (d.are_old i i_within)
+                  (subst (λ (x : ℕ). first_new ≤ x) was.0 more)),
               Contains-append_left seen (symbol ∷ []) (symbol_at i) was.1,
             )
             )
@@ -136,7 +147,8 @@ module _ (seen old : List ℕ) (first_new symbol : ℕ) (blocks moved : List ℕ
     }
 
 module _ (set' old : List ℕ) (first_new : ℕ) (blocks moved : List ℕ) (d : IsDividing set' old first_new blocks moved) where
-  parted : (i j : ℕ) → i < length old → j < length old → get_or blocks i 0 ≡ get_or blocks j 0 → (get_or old i 0 ≡ get_or old j 0) × AreTogether set' i j
+  parted : (i j : ℕ) → i < length old → j < length old → get_or blocks i 0 ≡ get_or blocks j 0
+      → (get_or old i 0 ≡ get_or old j 0) × AreTogether set' i j
   parted i j i_within j_within same = elim (cases_lt (get_or blocks i 0) first_new) [
     | inl i_less ↦ (
         let one = d.kept i i_within i_less in
@@ -145,12 +157,16 @@ module _ (set' old : List ℕ) (first_new : ℕ) (blocks moved : List ℕ) (d : 
         )
     | inr i_more ↦ (
         let one = d.gone i i_within i_more in
-        let two = d.gone j j_within (subst (λ (x : ℕ). first_new ≤ x) same i_more) in
-        (d.apart (get_or old i 0) (get_or old j 0) (d.are_old i i_within) (d.are_old j j_within) (subst (λ (x : ℕ). first_new ≤ x) one.0 i_more) (sym one.0 ∙ same ∙ two.0), (λ has. two.1, λ has. one.1))
+        let two = d.gone j j_within (subst (λ (x : ℕ). first_new ≤ x) same i_more) in (
+          d.apart (get_or old i 0) (get_or old j 0) (d.are_old i i_within) (d.are_old j j_within)
+              (subst (λ (x : ℕ). first_new ≤ x) one.0 i_more) (sym one.0 ∙ same ∙ two.0),
+          (λ has. two.1, λ has. one.1),
+        )
         )
   ]
 
-  joined : (i j : ℕ) → i < length old → j < length old → get_or old i 0 ≡ get_or old j 0 → AreTogether set' i j → get_or blocks i 0 ≡ get_or blocks j 0
+  joined : (i j : ℕ) → i < length old → j < length old → get_or old i 0 ≡ get_or old j 0 → AreTogether set' i j
+      → get_or blocks i 0 ≡ get_or blocks j 0
   joined i j i_within j_within same together = elim (cases_lt (get_or blocks i 0) first_new) [
     | inl i_less ↦ (
         let one = d.kept i i_within i_less in
@@ -170,7 +186,11 @@ module _ (set' old : List ℕ) (first_new : ℕ) (blocks moved : List ℕ) (d : 
 
   -- at last each block is divided
   pub divided : Divides set' old blocks
-  divided = record { count = d.count; exactly = λ i j i_within j_within. (parted i j i_within j_within, λ h. joined i j i_within j_within h.0 h.1) }
+  divided = record {
+    count = d.count;
+    exactly =
+        λ i j i_within j_within. (parted i j i_within j_within, λ h. joined i j i_within j_within h.0 h.1);
+  }
 
 -- no number is in the empty set
 together_in_none : (i j : ℕ) → AreTogether [] i j

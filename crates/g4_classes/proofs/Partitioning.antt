@@ -23,21 +23,29 @@ module _ (states : List (State (List ℕ))) (state : State (List ℕ)) (i j : �
   together_last : AreAlikeIn (states ++ state ∷ []) i j → AreTogether (read_by state) i j
   together_last alike = alike state (Contains-push states state)
 
-one_more_after : (states : List (State (List ℕ))) (state : State (List ℕ)) (old new : List ℕ) → IsPartition states old → Divides (read_by state) old new → IsPartition (states ++ state ∷ []) new
+one_more_after : (states : List (State (List ℕ))) (state : State (List ℕ)) (old new : List ℕ) → IsPartition states old
+    → Divides (read_by state) old new → IsPartition (states ++ state ∷ []) new
 one_more_after states state old new p d i j i_within j_within =
     let count = d.count in
     let i_old : i < length old = omega (arith, i_within, count) in
     let j_old : j < length old = omega (arith, j_within, count) in (
       λ same. (let h = (d.exactly i j i_old j_old).0 same in alike_more states state i j ((p i j i_old j_old).0 h.0) h.1),
-      λ alike. (d.exactly i j i_old j_old).1 ((p i j i_old j_old).1 (alike_before states state i j alike), together_last states state i j alike),
+      λ alike. (d.exactly i j i_old j_old).1 (
+        (p i j i_old j_old).1 (alike_before states state i j alike),
+        together_last states state i j alike,
+      ),
     )
 
 -- one more of the states
-pub one_more_state : (states : List (State (List ℕ))) (k : ℕ) (state : State (List ℕ)) (old new : List ℕ) → k < length states → state ≡ get_or states k state → IsPartition (take k states) old → Divides (read_by state) old new → IsPartition (take (k + 1) states) new
+pub one_more_state : (states : List (State (List ℕ))) (k : ℕ) (state : State (List ℕ)) (old new : List ℕ) → k < length states
+    → state ≡ get_or states k state → IsPartition (take k states) old → Divides (read_by state) old new
+    → IsPartition (take (k + 1) states) new
 one_more_state states k state old new within is p d =
-    let next : take (k + 1) states ≡ take k states ++ state ∷ [] = take_more states k state within ∙ ap (λ (s : State (List ℕ)). take k states ++ s ∷ []) (sym is) in
+    let next : take (k + 1) states ≡ take k states ++ state ∷ [] =
+    take_more states k state within ∙ ap (λ (s : State (List ℕ)). take k states ++ s ∷ []) (sym is) in
     subst (λ (xs : List (State (List ℕ))). IsPartition xs new) (sym next) (one_more_after (take k states) state old new p d)
 
 -- all states
-pub all_states : (states : List (State (List ℕ))) (n : ℕ) (blocks : List ℕ) → length states ≤ n → IsPartition (take n states) blocks → IsPartition states blocks
+pub all_states : (states : List (State (List ℕ))) (n : ℕ) (blocks : List ℕ) → length states ≤ n → IsPartition (take n states) blocks
+    → IsPartition states blocks
 all_states states n blocks past p = subst (λ (xs : List (State (List ℕ))). IsPartition xs blocks) (take_all n states past) p

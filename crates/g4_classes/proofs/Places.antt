@@ -14,8 +14,17 @@ is_at : (i : ℕ) → IsAt i (symbol_at i)
 is_at i = elim (cases_eq i 4096) [
   | inl last ↦ inl (last, cond-true (eqb i 4096) 65536 (cond (eqb i 4097) 65537 (i + 1)) (eq-eqb i 4096 last))
   | inr differs ↦ elim (cases_eq i 4097) [
-    | inl last ↦ inr (inl (last, cond-false (eqb i 4096) 65536 (cond (eqb i 4097) 65537 (i + 1)) (ne_eqb i 4096 differs) ∙ cond-true (eqb i 4097) 65537 (i + 1) (eq-eqb i 4097 last)))
-    | inr not_last ↦ inr (inr (differs, not_last, cond-false (eqb i 4096) 65536 (cond (eqb i 4097) 65537 (i + 1)) (ne_eqb i 4096 differs) ∙ cond-false (eqb i 4097) 65537 (i + 1) (ne_eqb i 4097 not_last)))
+    | inl last ↦ inr (inl (
+      last,
+      cond-false (eqb i 4096) 65536 (cond (eqb i 4097) 65537 (i + 1)) (ne_eqb i 4096 differs)
+          ∙ cond-true (eqb i 4097) 65537 (i + 1) (eq-eqb i 4097 last),
+    ))
+    | inr not_last ↦ inr (inr (
+      differs,
+      not_last,
+      cond-false (eqb i 4096) 65536 (cond (eqb i 4097) 65537 (i + 1)) (ne_eqb i 4096 differs)
+          ∙ cond-false (eqb i 4097) 65537 (i + 1) (ne_eqb i 4097 not_last),
+    ))
   ]
 ]
 
@@ -71,7 +80,8 @@ module _ (a : ℕ) where
   -- a number that is neither of the last two symbols
   index_is : (a ≡ 65536 → ⊥) → (a ≡ 65537 → ⊥) → (b : Bool) → (ltb 0 a && leb a 4096) ≡ b → index_of a ≡ cond b (Some (a - 1)) None
   index_is differs not_last b is =
-      cond-false (eqb a 65536) (Some 4096) (cond (eqb a 65537) (Some 4097) (cond (ltb 0 a && leb a 4096) (Some (a - 1)) None)) (ne_eqb a 65536 differs)
+      cond-false (eqb a 65536) (Some 4096) (cond (eqb a 65537) (Some 4097) (cond (ltb 0 a && leb a 4096) (Some (a - 1)) None))
+      (ne_eqb a 65536 differs)
       ∙ cond-false (eqb a 65537) (Some 4097) (cond (ltb 0 a && leb a 4096) (Some (a - 1)) None) (ne_eqb a 65537 not_last)
       ∙ ap (λ (t : Bool). cond t (Some (a - 1)) None) is
 
@@ -83,12 +93,22 @@ module _ (a : ℕ) where
   -- each number is a symbol with an index, or no symbol
   pub found_or_not : ((i : ℕ) × IsFound a i) ⊎ IsNoSymbol a
   found_or_not = elim (cases_eq a 65536) [
-    | inl e ↦ inl (4096, record { is = cond-true (eqb a 65536) (Some 4096) (cond (eqb a 65537) (Some 4097) (cond (ltb 0 a && leb a 4096) (Some (a - 1)) None)) (eq-eqb a 65536 e); within = omega arith; there = sym e })
+    | inl e ↦ inl (
+      4096,
+      record {
+        is = cond-true (eqb a 65536) (Some 4096)
+            (cond (eqb a 65537) (Some 4097) (cond (ltb 0 a && leb a 4096) (Some (a - 1)) None)) (eq-eqb a 65536 e);
+        within = omega arith;
+        there = sym e;
+      },
+    )
     | inr differs ↦ elim (cases_eq a 65537) [
       | inl e ↦ inl (
         4097,
         record {
-          is = cond-false (eqb a 65536) (Some 4096) (cond (eqb a 65537) (Some 4097) (cond (ltb 0 a && leb a 4096) (Some (a - 1)) None)) (ne_eqb a 65536 differs) ∙ cond-true (eqb a 65537) (Some 4097) (cond (ltb 0 a && leb a 4096) (Some (a - 1)) None) (eq-eqb a 65537 e);
+          is = cond-false (eqb a 65536) (Some 4096)
+              (cond (eqb a 65537) (Some 4097) (cond (ltb 0 a && leb a 4096) (Some (a - 1)) None)) (ne_eqb a 65536 differs)
+              ∙ cond-true (eqb a 65537) (Some 4097) (cond (ltb 0 a && leb a 4096) (Some (a - 1)) None) (eq-eqb a 65537 e);
           within = omega arith;
           there = sym e;
         },
@@ -98,7 +118,14 @@ module _ (a : ℕ) where
             let parts = and_parts (ltb 0 a) (leb a 4096) t in
             let one : 0 < a = ltb-true 0 a parts.0 in
             let few : a ≤ 4096 = leb-true a 4096 parts.1 in
-            inl (a - 1, record { is = index_is differs not_last true t; within = omega (arith, few, one); there = at_type (a - 1) a (symbol_at (a - 1)) (is_at (a - 1)) few (omega (arith, one)) })
+            inl (
+              a - 1,
+              record {
+                is = index_is differs not_last true t;
+                within = omega (arith, few, one);
+                there = at_type (a - 1) a (symbol_at (a - 1)) (is_at (a - 1)) few (omega (arith, one));
+              },
+            )
             )
         | inr f ↦ inr (record { is = index_is differs not_last false f; none = not_symbol differs not_last f })
       ]
@@ -108,6 +135,7 @@ module _ (a : ℕ) where
   -- an index that is found is the symbol's
   pub found : (i : ℕ) → index_of a ≡ Some i → (i < 4098) × (symbol_at i ≡ a)
   found i is = elim found_or_not [
-    | inl (j, f) ↦ (let e : j ≡ i = same_Some j i (sym f.is ∙ is) in subst (λ (k : ℕ). (k < 4098) × (symbol_at k ≡ a)) e (f.within, f.there))
+    | inl (j, f) ↦ (let e : j ≡ i = same_Some j i (sym f.is ∙ is) in
+        subst (λ (k : ℕ). (k < 4098) × (symbol_at k ≡ a)) e (f.within, f.there))
     | inr none ↦ absurd (let differs : ⊥ = cc (none.is, is) in differs)
   ]

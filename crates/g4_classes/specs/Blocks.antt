@@ -10,7 +10,8 @@ pub record IsLeastFrom (from : ℕ) (blocks : List ℕ) (block least : ℕ) : Ty
 
 -- each block that has a member from `from` on is given the least of those
 abbrev pub AreLeastFrom : ℕ → List ℕ → List ℕ → Type 0
-AreLeastFrom from blocks least = (i : ℕ) → from ≤ i → i < length blocks → IsLeastFrom from blocks (slice_index blocks i) (slice_index least (slice_index blocks i))
+AreLeastFrom from blocks least = (i : ℕ) → from ≤ i → i < length blocks
+    → IsLeastFrom from blocks (slice_index blocks i) (slice_index least (slice_index blocks i))
 
 -- each member is given the least one of its block
 pub record AreLeast (blocks least : List ℕ) : Type 0 where

@@ -6,7 +6,8 @@ use Rattle.g4_classes.specs.declared.index.TheConstants.{EOF_INDEX, END_INDEX}
 
 -- the index of a symbol, of no other number
 abbrev pub index_of : ℕ → Option ℕ
-index_of a = if a == eof then Some EOF_INDEX else (if a == end_of_list then Some END_INDEX else (if nat_lt 0 a && nat_le a MOST_TYPES then Some (a - 1) else None))
+index_of a = if a == eof then Some EOF_INDEX
+    else (if a == end_of_list then Some END_INDEX else (if nat_lt 0 a && nat_le a MOST_TYPES then Some (a - 1) else None))
 
 -- the symbol of an index
 abbrev pub symbol_at : ℕ → ℕ

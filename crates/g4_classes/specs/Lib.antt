@@ -1,3 +1,4 @@
+-- Only this crate cites these.
 pub mod Blocks
 pub mod Classes
 pub mod Columns

@@ -22,7 +22,8 @@ AreTogether set i j = Contains set (symbol_at i) ↔ Contains set (symbol_at j)
 -- two symbols are in one new block where they were in one block and the set has both or neither
 pub record Divides (set old new : List ℕ) : Type 0 where
   pub count : length new ≡ length old
-  pub exactly : (i j : ℕ) → i < length old → j < length old → (slice_index new i ≡ slice_index new j) ↔ ((slice_index old i ≡ slice_index old j) × AreTogether set i j)
+  pub exactly : (i j : ℕ) → i < length old → j < length old
+      → (slice_index new i ≡ slice_index new j) ↔ ((slice_index old i ≡ slice_index old j) × AreTogether set i j)
 
 -- each of these states reads both of the symbols of these indices or neither
 abbrev pub AreAlikeIn : List (State (List ℕ)) → ℕ → ℕ → Type 0
@@ -30,7 +31,8 @@ AreAlikeIn states i j = (state : State (List ℕ)) → Contains states state →
 
 -- two symbols are in one block where each of the states reads both or neither
 abbrev pub IsPartition : List (State (List ℕ)) → List ℕ → Type 0
-IsPartition states blocks = (i j : ℕ) → i < length blocks → j < length blocks → (slice_index blocks i ≡ slice_index blocks j) ↔ AreAlikeIn states i j
+IsPartition states blocks = (i j : ℕ) → i < length blocks → j < length blocks
+    → (slice_index blocks i ≡ slice_index blocks j) ↔ AreAlikeIn states i j
 
 -- Of each old block, those of its symbols that are among the seen ones are now in a block of their own, which is one of the new
 -- blocks, from first_new on. For each old block `moved` has the number of that block, or that of an older one.
@@ -38,9 +40,12 @@ pub record IsDividing (seen old : List ℕ) (first_new : ℕ) (blocks moved : Li
   pub count : length blocks ≡ length old
   pub room : first_new ≤ length moved
   pub are_old : (i : ℕ) → i < length old → slice_index old i < first_new
-  pub kept : (i : ℕ) → i < length old → slice_index blocks i < first_new → (slice_index blocks i ≡ slice_index old i) × (Contains seen (symbol_at i) → ⊥)
-  pub gone : (i : ℕ) → i < length old → first_new ≤ slice_index blocks i → (slice_index blocks i ≡ slice_index moved (slice_index old i)) × Contains seen (symbol_at i)
-  pub apart : (b c : ℕ) → b < first_new → c < first_new → first_new ≤ slice_index moved b → slice_index moved b ≡ slice_index moved c → b ≡ c
+  pub kept : (i : ℕ) → i < length old → slice_index blocks i < first_new
+      → (slice_index blocks i ≡ slice_index old i) × (Contains seen (symbol_at i) → ⊥)
+  pub gone : (i : ℕ) → i < length old → first_new ≤ slice_index blocks i
+      → (slice_index blocks i ≡ slice_index moved (slice_index old i)) × Contains seen (symbol_at i)
+  pub apart : (b c : ℕ) → b < first_new → c < first_new → first_new ≤ slice_index moved b → slice_index moved b ≡ slice_index moved c
+      → b ≡ c
 
 -- Members of the block move to `target`: to where others of it have moved, or to a block that is new. Nothing else changes.
 pub record IsTarget (block first_new target : ℕ) (moved then_moved : List ℕ) : Type 0 where

@@ -71,7 +71,8 @@ impl Partition {
     fn move_symbol(&mut self, symbol: u32, first_new: usize) -> Result<(), AllocError>
         requires { first_new ≤ length self.old.moved.items }
         ensures room { OnOk result (first_new ≤ length self.new.moved.items) }
-        ensures moves { (seen old : List ℕ) → IsDividing seen old first_new self.old.blocks.items self.old.moved.items → OnOk result (IsDividing (seen ++ symbol ∷ []) old first_new self.new.blocks.items self.new.moved.items) }
+        ensures moves { (seen old : List ℕ) → IsDividing seen old first_new self.old.blocks.items self.old.moved.items
+            → OnOk result (IsDividing (seen ++ symbol ∷ []) old first_new self.new.blocks.items self.new.moved.items) }
     {
         let Some(index) = index_of(symbol) else {
             return Ok(());

@@ -36,16 +36,24 @@ In-right x (y ∷ xs) ys h = inr (In-right x xs ys h)
 -- all configurations of the network whose stacks are not much higher than those of a group
 abbrev pub universe_of : ℕ → List Group → List Config
 universe_of n [] = []
-universe_of n (x ∷ xs) = everywhere (below n) x.alternative true (lists n (n + x.stacks)) ++ (everywhere (below n) x.alternative false (lists n (n + x.stacks)) ++ universe_of n xs)
+universe_of n (x ∷ xs) = everywhere (below n) x.alternative true (lists n (n + x.stacks))
+    ++ (everywhere (below n) x.alternative false (lists n (n + x.stacks)) ++ universe_of n xs)
 
-in_both : (n alt : ℕ) (d : Config) (ls : List (List ℕ)) (rest : List Config) → d.alt ≡ alt → In d.state (below n) → In d.stack.returns ls → (b : Bool) → d.stack.wild ≡ b
+in_both : (n alt : ℕ) (d : Config) (ls : List (List ℕ)) (rest : List Config) → d.alt ≡ alt → In d.state (below n)
+    → In d.stack.returns ls → (b : Bool) → d.stack.wild ≡ b
     → In d (everywhere (below n) alt true ls ++ (everywhere (below n) alt false ls ++ rest))
-in_both n alt d ls rest e s r true w = In-left d (everywhere (below n) alt true ls) _ (subst (λ (a : ℕ). In d (everywhere (below n) a true ls)) e (subst (λ (b : Bool). In d (everywhere (below n) d.alt b ls)) w (In-everywhere d (below n) ls s r)))
-in_both n alt d ls rest e s r false w = In-right d (everywhere (below n) alt true ls) _ (In-left d (everywhere (below n) alt false ls) rest (subst (λ (a : ℕ). In d (everywhere (below n) a false ls)) e (subst (λ (b : Bool). In d (everywhere (below n) d.alt b ls)) w (In-everywhere d (below n) ls s r))))
+in_both n alt d ls rest e s r true w = In-left d (everywhere (below n) alt true ls) _
+    (subst (λ (a : ℕ). In d (everywhere (below n) a true ls)) e
+    (subst (λ (b : Bool). In d (everywhere (below n) d.alt b ls)) w (In-everywhere d (below n) ls s r)))
+in_both n alt d ls rest e s r false w = In-right d (everywhere (below n) alt true ls) _
+    (In-left d (everywhere (below n) alt false ls) rest
+    (subst (λ (a : ℕ). In d (everywhere (below n) a false ls)) e
+    (subst (λ (b : Bool). In d (everywhere (below n) d.alt b ls)) w (In-everywhere d (below n) ls s r))))
 
 module _ (net : ParserNetwork) (well : WellFormed net) (g : List Content) (canon : IsCanonical g) where
   -- all that the groups lead to is in the list
-  pub bounded_by : (starts : List Group) (c d : Config) → InSome g starts c → IsWithin net c → Reaches net c d → In d (universe_of (length net.states) starts)
+  pub bounded_by : (starts : List Group) (c d : Config) → InSome g starts c → IsWithin net c → Reaches net c d
+      → In d (universe_of (length net.states) starts)
   bounded_by [] c d i within r = absurd i
   bounded_by (x ∷ xs) c d (inl i) within r =
       let n : ℕ = length net.states in
@@ -54,7 +62,9 @@ module _ (net : ParserNetwork) (well : WellFormed net) (g : List Content) (canon
       let grows = grows_little net c d well.never_again r in
       let high = depth g canon c.stack.returns c.stack.wild x.stacks i.stack in
       let fits : length d.stack.returns ≤ n + x.stacks = omega (arith, grows, high) in
-      in_both n x.alternative d (lists n (n + x.stacks)) (universe_of n xs) alt (In-below n d.state there.0) (In-lists n (n + x.stacks) d.stack.returns fits (AllBelow-from n d.stack.returns there.1)) d.stack.wild refl
+      in_both n x.alternative d (lists n (n + x.stacks)) (universe_of n xs) alt (In-below n d.state there.0)
+      (In-lists n (n + x.stacks) d.stack.returns fits (AllBelow-from n d.stack.returns there.1)) d.stack.wild refl
   bounded_by (x ∷ xs) c d (inr i) within r =
       let n : ℕ = length net.states in
-      In-right d (everywhere (below n) x.alternative true (lists n (n + x.stacks))) _ (In-right d (everywhere (below n) x.alternative false (lists n (n + x.stacks))) (universe_of n xs) (bounded_by xs c d i within r))
+      In-right d (everywhere (below n) x.alternative true (lists n (n + x.stacks))) _
+      (In-right d (everywhere (below n) x.alternative false (lists n (n + x.stacks))) (universe_of n xs) (bounded_by xs c d i within r))

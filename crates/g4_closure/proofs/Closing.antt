@@ -17,18 +17,21 @@ use Rattle.g4_closure.proofs.Missing.{no_more}
 use Rattle.g4_closure.proofs.Joining.{known_kept, known_left, known_right, some_append, some_kept}
 
 -- a group is followed: u is the set where the stacks of what is found have been made
-pub extended_by : (net : ParserNetwork) (x : Group) (v u v' : View) (work found work' : List Group) → AreKnown v.graph work → Keeps v.graph u.graph → Same (Holds u) (Holds v)
+pub extended_by : (net : ParserNetwork) (x : Group) (v u v' : View) (work found work' : List Group) → AreKnown v.graph work
+    → Keeps v.graph u.graph → Same (Holds u) (Holds v)
     → Same (InSome u.graph found) (LedFrom net (InGroup v.graph x)) → Joined u work found v' work' → IsExtended net x v work v' work'
 extended_by net x v u v' work found work' known kept same leads j = record {
   keeps = keeps_then v.graph u.graph v'.graph kept j.keeps;
   known = j.known;
   members = λ c. (
-    (λ h. elim (let f : Holds u c ⊎ InSome u.graph found c = (j.members c).0 h in f) [ inl a ↦ inl ((same c).0 a) | inr a ↦ inr ((leads c).0 a) ]),
+    (λ h. elim (let f : Holds u c ⊎ InSome u.graph found c = (j.members c).0 h in f)
+        [ inl a ↦ inl ((same c).0 a) | inr a ↦ inr ((leads c).0 a) ]),
     (λ o. (j.members c).1 (elim o [ inl a ↦ inl ((same c).1 a) | inr a ↦ inr ((leads c).1 a) ])),
   );
   waits = λ c h. elim (let f : Holds u c ⊎ InSome v'.graph work' c = j.waits c h in f) [ inl a ↦ inl ((same c).0 a) | inr a ↦ inr a ];
   stays = λ c a. j.stays c ((some_kept v.graph u.graph work kept known c).0 a);
-  only = λ c a. elim (let f : InSome u.graph work c ⊎ InSome u.graph found c = j.only c a in f) [ inl b ↦ inl ((some_kept v.graph u.graph work kept known c).1 b) | inr b ↦ inr ((leads c).0 b) ];
+  only = λ c a. elim (let f : InSome u.graph work c ⊎ InSome u.graph found c = j.only c a in f)
+      [ inl b ↦ inl ((some_kept v.graph u.graph work kept known c).1 b) | inr b ↦ inr ((leads c).0 b) ];
   spent = λ all bounds.
       let a = j.spent all bounds in
       let b = no_more (Holds v) (Holds u) (dec_holds v) (dec_holds u) (λ c w. (same c).1 w) all in
@@ -52,7 +55,8 @@ pub record IsTaken (net : ParserNetwork) (v0 v : View) (aside work : List Group)
   pub aside_held : (c : Config) → InSome v.graph aside c → Holds v c
   pub held : (c : Config) → InSome v.graph work c → Holds v c
   pub own : (c : Config) → InGroup v.graph x c → Holds v c
-  pub closed : (c d : Config) → Holds v c → Leads net c d → Holds v d ⊎ (InSome v.graph aside c ⊎ (InSome v.graph work c ⊎ InGroup v.graph x c))
+  pub closed : (c d : Config) → Holds v c → Leads net c d
+      → Holds v d ⊎ (InSome v.graph aside c ⊎ (InSome v.graph work c ⊎ InGroup v.graph x c))
   pub later : IsLater net v0 v
 
 pub later_at_once : (net : ParserNetwork) (v : View) → IsLater net v v
@@ -63,11 +67,13 @@ later_at_once net v = record {
 }
 
 -- the last group of a list
-last_of : (g : List Content) (all rest : List Group) (x : Group) → all ≡ rest ++ x ∷ [] → (c : Config) → InSome g all c → InSome g rest c ⊎ InGroup g x c
-last_of g all rest x taken c a = elim (let f : InSome g rest c ⊎ InSome g (x ∷ []) c = (some_append g rest (x ∷ []) c).0 (subst (λ (w : List Group). InSome g w c) taken a) in f) [
-  | inl b ↦ inl b
-  | inr b ↦ elim b [ inl y ↦ inr y | inr y ↦ absurd y ]
-]
+last_of : (g : List Content) (all rest : List Group) (x : Group) → all ≡ rest ++ x ∷ [] → (c : Config) → InSome g all c
+    → InSome g rest c ⊎ InGroup g x c
+last_of g all rest x taken c a = elim (let f : InSome g rest c ⊎ InSome g (x ∷ []) c =
+    (some_append g rest (x ∷ []) c).0 (subst (λ (w : List Group). InSome g w c) taken a) in f) [
+      | inl b ↦ inl b
+      | inr b ↦ elim b [ inl y ↦ inr y | inr y ↦ absurd y ]
+    ]
 
 rest_in : (g : List Content) (all rest : List Group) (x : Group) → all ≡ rest ++ x ∷ [] → (c : Config) → InSome g rest c → InSome g all c
 rest_in g all rest x taken c a = subst (λ (w : List Group). InSome g w c) (sym taken) ((some_append g rest (x ∷ []) c).1 (inl a))
@@ -111,7 +117,8 @@ module _ (net : ParserNetwork) (v0 v : View) (all other rest : List Group) (x : 
   }
 
 -- The group that was taken has been followed: v' is the set after it.
-module _ (net : ParserNetwork) (v0 v v' : View) (aside work work' : List Group) (x : Group) (t : IsTaken net v0 v aside work x) (f : IsExtended net x v work v' work') where
+module _ (net : ParserNetwork) (v0 v v' : View) (aside work work' : List Group) (x : Group) (t : IsTaken net v0 v aside work x)
+    (f : IsExtended net x v work v' work') where
   grown : (c : Config) → Holds v c → Holds v' c
   grown c h = (f.members c).1 (inl h)
 
@@ -123,7 +130,8 @@ module _ (net : ParserNetwork) (v0 v v' : View) (aside work work' : List Group) 
     aside_known = known_kept v.graph v'.graph aside f.keeps t.aside_known;
     known = f.known;
     aside_held = λ c a. grown c (t.aside_held c (aside_back c a));
-    held = λ c a. elim (let g : InSome v.graph work c ⊎ LedFrom net (InGroup v.graph x) c = f.only c a in g) [ inl b ↦ grown c (t.held c b) | inr b ↦ (f.members c).1 (inr b) ];
+    held = λ c a. elim (let g : InSome v.graph work c ⊎ LedFrom net (InGroup v.graph x) c = f.only c a in g)
+        [ inl b ↦ grown c (t.held c b) | inr b ↦ (f.members c).1 (inr b) ];
     closed = λ c d h l. elim (let g : Holds v c ⊎ InSome v'.graph work' c = f.waits c h in g) [ inl a ↦ old c d a l | inr a ↦ inr (inr a) ];
     later = record {
       keeps = keeps_then v0.graph v.graph v'.graph t.later.keeps f.keeps;
@@ -136,13 +144,14 @@ module _ (net : ParserNetwork) (v0 v v' : View) (aside work work' : List Group) 
   }
     where
       old : (c d : Config) → Holds v c → Leads net c d → Holds v' d ⊎ (InSome v'.graph aside c ⊎ InSome v'.graph work' c)
-      old c d h l = elim (let g : Holds v d ⊎ (InSome v.graph aside c ⊎ (InSome v.graph work c ⊎ InGroup v.graph x c)) = t.closed c d h l in g) [
-        | inl a ↦ inl (grown d a)
-        | inr a ↦ elim a [
-          | inl b ↦ inr (inl ((some_kept v.graph v'.graph aside f.keeps t.aside_known c).0 b))
-          | inr b ↦ elim b [ inl y ↦ inr (inr (f.stays c y)) | inr y ↦ inl ((f.members d).1 (inr (c, y, l))) ]
-        ]
-      ]
+      old c d h l = elim (let g : Holds v d ⊎ (InSome v.graph aside c ⊎ (InSome v.graph work c ⊎ InGroup v.graph x c)) =
+          t.closed c d h l in g) [
+            | inl a ↦ inl (grown d a)
+            | inr a ↦ elim a [
+              | inl b ↦ inr (inl ((some_kept v.graph v'.graph aside f.keeps t.aside_known c).0 b))
+              | inr b ↦ elim b [ inl y ↦ inr (inr (f.stays c y)) | inr y ↦ inl ((f.members d).1 (inr (c, y, l))) ]
+            ]
+          ]
 
   pub spending_goes_on : IsSpent v0 v work → IsSpent v0 v' work'
   spending_goes_on spent all bounds =
@@ -161,13 +170,18 @@ waiting_begins net v work i = record {
 }
 
 -- nothing is left aside
-pub waiting_ends : (net : ParserNetwork) (v0 v : View) (aside work : List Group) → aside ≡ [] → AreWaiting net v0 v aside work → IsWaiting net v work
+pub waiting_ends : (net : ParserNetwork) (v0 v : View) (aside work : List Group) → aside ≡ [] → AreWaiting net v0 v aside work
+    → IsWaiting net v work
 waiting_ends net v0 v aside work none i = record {
   known = i.known;
   held = i.held;
   closed = λ c d h l. elim (let f : Holds v d ⊎ (InSome v.graph aside c ⊎ InSome v.graph work c) = i.closed c d h l in f) [
     | inl a ↦ inl a
-    | inr a ↦ elim a [ inl b ↦ absurd (let y : InSome v.graph [] c = subst (λ (w : List Group). InSome v.graph w c) none b in y) | inr b ↦ inr b ]
+    | inr a ↦ elim a [
+      | inl b ↦ absurd (let y : InSome v.graph [] c = subst (λ (w : List Group). InSome v.graph w c) none b in y)
+      | inr
+          b ↦ inr b
+    ]
   ];
 }
 
@@ -179,7 +193,8 @@ parts_known g xs parts = all xs parts.known
     all (y ∷ ys) each = (each y (In-to (y ∷ ys) y (inl refl)), all ys (λ x i. each x (In-to (y ∷ ys) x (inr (In-from ys x i.0 i.1 i.2)))))
 
 -- What waits is merged: u is the set where the stacks of that have been made.
-module _ (net : ParserNetwork) (v u : View) (work round none : List Group) (i : IsWaiting net v work) (kept : Keeps v.graph u.graph) (same : Same (Holds u) (Holds v))
+module _ (net : ParserNetwork) (v u : View) (work round none : List Group) (i : IsWaiting net v work) (kept : Keeps v.graph u.graph)
+    (same : Same (Holds u) (Holds v))
     (parts : AreParts u.graph round) (means : Same (InSome u.graph round) (InSome v.graph work)) (empty : none ≡ []) where
   pub round_begins : AreWaiting net v u round none
   round_begins = record {
@@ -187,7 +202,8 @@ module _ (net : ParserNetwork) (v u : View) (work round none : List Group) (i : 
     known = subst (AreKnown u.graph) (sym empty) tt;
     aside_held = λ c a. (same c).1 (i.held c ((means c).0 a));
     held = λ c a. absurd (let y : InSome u.graph [] c = subst (λ (w : List Group). InSome u.graph w c) empty a in y);
-    closed = λ c d h l. elim (let f : Holds v d ⊎ InSome v.graph work c = i.closed c d ((same c).0 h) l in f) [ inl a ↦ inl ((same d).1 a) | inr a ↦ inr (inl ((means c).1 a)) ];
+    closed = λ c d h l. elim (let f : Holds v d ⊎ InSome v.graph work c = i.closed c d ((same c).0 h) l in f)
+        [ inl a ↦ inl ((same d).1 a) | inr a ↦ inr (inl ((means c).1 a)) ];
     later = record { keeps = kept; has = λ c h. (same c).1 h; reached = λ c h. (c, (same c).0 h, here) };
   }
 
@@ -205,21 +221,25 @@ pub record IsClosing (net : ParserNetwork) (R B : Config → Type 0) (g0 : List 
   pub waiting : IsWaiting net v work
 
 -- a group is added to a closed set
-pub added_waits : (net : ParserNetwork) (x : Group) (v0 : View) (w0 : List Group) (v : View) (work : List Group) → IsClosed net (Holds v0) → w0 ≡ [] → Joined v0 w0 (x ∷ []) v work → IsWaiting net v work
+pub added_waits : (net : ParserNetwork) (x : Group) (v0 : View) (w0 : List Group) (v : View) (work : List Group)
+    → IsClosed net (Holds v0) → w0 ≡ [] → Joined v0 w0 (x ∷ []) v work → IsWaiting net v work
 added_waits net x v0 w0 v work closed none j = record {
   known = j.known;
   held = λ c a. elim (let f : InSome v0.graph w0 c ⊎ InSome v0.graph (x ∷ []) c = j.only c a in f) [
     | inl b ↦ absurd (let y : InSome v0.graph [] c = subst (λ (w : List Group). InSome v0.graph w c) none b in y)
     | inr b ↦ (j.members c).1 (inr b)
   ];
-  closed = λ c d i l. elim (let f : Holds v0 c ⊎ InSome v.graph work c = j.waits c i in f) [ inl a ↦ inl ((j.members d).1 (inl (closed c d a l))) | inr a ↦ inr a ];
+  closed = λ c d i l. elim (let f : Holds v0 c ⊎ InSome v.graph work c = j.waits c i in f)
+      [ inl a ↦ inl ((j.members d).1 (inl (closed c d a l))) | inr a ↦ inr a ];
 }
 
 pub closing_begins : (net : ParserNetwork) (R : Config → Type 0) (x : Group) (v0 : View) (w0 : List Group) (v : View) (work : List Group)
-    → ((c : Config) → Holds v0 c → R c) → ((c : Config) → InGroup v0.graph x c → R c) → IsClosed net (Holds v0) → w0 ≡ [] → Joined v0 w0 (x ∷ []) v work → IsClosing net R (λ c. Holds v0 c ⊎ InGroup v0.graph x c) v0.graph v work
+    → ((c : Config) → Holds v0 c → R c) → ((c : Config) → InGroup v0.graph x c → R c) → IsClosed net (Holds v0) → w0 ≡ []
+    → Joined v0 w0 (x ∷ []) v work → IsClosing net R (λ c. Holds v0 c ⊎ InGroup v0.graph x c) v0.graph v work
 closing_begins net R x v0 w0 v work sound reached closed none j = record {
   keeps = j.keeps;
-  sound = λ c i. elim (let f : Holds v0 c ⊎ InSome v0.graph (x ∷ []) c = (j.members c).0 i in f) [ inl a ↦ sound c a | inr a ↦ reached c (one c a) ];
+  sound = λ c i. elim (let f : Holds v0 c ⊎ InSome v0.graph (x ∷ []) c = (j.members c).0 i in f)
+      [ inl a ↦ sound c a | inr a ↦ reached c (one c a) ];
   begun = λ c i. (j.members c).1 (elim i [ inl a ↦ inl a | inr a ↦ inr (inl a) ]);
   waiting = added_waits net x v0 w0 v work closed none j;
 }
@@ -233,7 +253,8 @@ closed_has net C closed c d in_c here = in_c
 closed_has net C closed c d in_c (further e _ r l) = closed e d (closed_has net C closed c e in_c r) l
 
 -- the set is later
-pub closing_goes_on : (net : ParserNetwork) (R B : Config → Type 0) (g0 : List Content) (v v' : View) (work work' : List Group) → IsClosed net R → IsClosing net R B g0 v work → IsLater net v v' → IsWaiting net v' work' → IsClosing net R B g0 v' work'
+pub closing_goes_on : (net : ParserNetwork) (R B : Config → Type 0) (g0 : List Content) (v v' : View) (work work' : List Group)
+    → IsClosed net R → IsClosing net R B g0 v work → IsLater net v v' → IsWaiting net v' work' → IsClosing net R B g0 v' work'
 closing_goes_on net R B g0 v v' work work' on i later waiting = record {
   keeps = keeps_then g0 v.graph v'.graph i.keeps later.keeps;
   sound = λ c h. let r = later.reached c h in closed_has net R on r.0 c (i.sound r.0 r.1) r.2;
@@ -242,14 +263,16 @@ closing_goes_on net R B g0 v v' work work' on i later waiting = record {
 }
 
 -- what the set lacks of all that is reached, and what waits, are together fewer
-pub closing_smaller : (net : ParserNetwork) (R B : Config → Type 0) (g0 : List Content) (v v' : View) (work work' : List Group) → 0 < length work → IsSpent v v' work' → IsClosing net R B g0 v' work'
+pub closing_smaller : (net : ParserNetwork) (R B : Config → Type 0) (g0 : List Content) (v v' : View) (work work' : List Group)
+    → 0 < length work → IsSpent v v' work' → IsClosing net R B g0 v' work'
     → (all : List Config) → ((d : Config) → R d → In d all) → lacks v' all + length work' < lacks v all + length work
 closing_smaller net R B g0 v v' work work' some spent i all bounds =
     let a = spent all (λ c h. bounds c (i.sound c h)) in
     omega (arith, a, some)
 
 -- with nothing left to do the set is closed
-pub closing_ends : (net : ParserNetwork) (R B : Config → Type 0) (g0 : List Content) (v : View) (work : List Group) → work ≡ [] → IsClosing net R B g0 v work → IsClosed net (Holds v)
+pub closing_ends : (net : ParserNetwork) (R B : Config → Type 0) (g0 : List Content) (v : View) (work : List Group) → work ≡ []
+    → IsClosing net R B g0 v work → IsClosed net (Holds v)
 closing_ends net R B g0 v work done i c d in_c l = elim (let f : Holds v d ⊎ InSome v.graph work c = i.waiting.closed c d in_c l in f) [
   | inl a ↦ a
   | inr a ↦ absurd (let b : InSome v.graph [] c = subst (λ (w : List Group). InSome v.graph w c) done a in b)

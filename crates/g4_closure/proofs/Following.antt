@@ -24,7 +24,9 @@ first_in (y ∷ ys) x e = inl (sym (some_is y x e))
     some_is y x e = cc
 
 -- the end of a rule leads to the first state on top, with what is below it
-pub top_returned : (net : ParserNetwork) (well : WellFormed net) (v : View) (x : Group) (rule : ℕ) (tops : List (ℕ × ℕ)) (t m : ℕ) → HasTops v.graph x.stacks tops → slice_get tops 0 ≡ Some (t, m) → IsNextReturn net v rule x (record { state = t; alternative = x.alternative; stacks = m })
+pub top_returned : (net : ParserNetwork) (well : WellFormed net) (v : View) (x : Group) (rule : ℕ) (tops : List (ℕ × ℕ)) (t m : ℕ)
+    → HasTops v.graph x.stacks tops → slice_get tops 0 ≡ Some (t, m)
+    → IsNextReturn net v rule x (record { state = t; alternative = x.alternative; stacks = m })
 top_returned net well v x rule tops t m has is =
     let i = first_in tops (t, m) is in record {
       known = has.known t m i;
@@ -32,16 +34,22 @@ top_returned net well v x rule tops t m has is =
     }
 
 -- with the wildcard alone, to the first return state that is listed
-pub wild_returned : (net : ParserNetwork) (well : WellFormed net) (v : View) (x : Group) (rule : ℕ) (tops : List (ℕ × ℕ)) (node t : ℕ) → HasTops v.graph x.stacks tops → IsStacks v node → ((s : Stack) → HasStack v node s ↔ (s ≡ wildcard)) → HasStack v x.stacks wildcard → slice_get (listed_by (slice_get net.callers rule)) 0 ≡ Some t → IsNextReturn net v rule x (record { state = t; alternative = x.alternative; stacks = node })
+pub wild_returned : (net : ParserNetwork) (well : WellFormed net) (v : View) (x : Group) (rule : ℕ) (tops : List (ℕ × ℕ)) (node t : ℕ)
+    → HasTops v.graph x.stacks tops → IsStacks v node → ((s : Stack) → HasStack v node s ↔ (s ≡ wildcard))
+    → HasStack v x.stacks wildcard → slice_get (listed_by (slice_get net.callers rule)) 0 ≡ Some t
+    → IsNextReturn net v rule x (record { state = t; alternative = x.alternative; stacks = node })
 wild_returned net well v x rule tops node t has known means there is = record {
   known = known;
   returned = λ d j. (ended_wild net well rule v.graph x tops has node means there d).0
-      ((some_append v.graph (map (popped_to x.alternative) tops) (map (placed x.alternative node) (listed_by (slice_get net.callers rule))) d).1
-      (inr (placed_some v.graph x.alternative node (listed_by (slice_get net.callers rule)) d t (first_in (listed_by (slice_get net.callers rule)) t is) j)));
+      ((some_append v.graph (map (popped_to x.alternative) tops)
+      (map (placed x.alternative node) (listed_by (slice_get net.callers rule))) d).1
+      (inr (placed_some v.graph x.alternative node (listed_by (slice_get net.callers rule)) d t
+      (first_in (listed_by (slice_get net.callers rule)) t is) j)));
 }
 
 -- where some state is on top there is a stack
-pub some_stack : (v : View) (n : ℕ) (tops : List (ℕ × ℕ)) → HasTops v.graph n tops → (none : Bool) → none ≡ (length tops == 0) → IsTrue (not none) → (s : Stack) × HasStack v n s
+pub some_stack : (v : View) (n : ℕ) (tops : List (ℕ × ℕ)) → HasTops v.graph n tops → (none : Bool) → none ≡ (length tops == 0)
+    → IsTrue (not none) → (s : Stack) × HasStack v n s
 some_stack v n [] has none is so = absurd (not_so none (is ∙ zero_is) so)
   where
     zero_is : (0 == 0) ≡ true
@@ -72,20 +80,24 @@ pub followed_here : (net : ParserNetwork) (v : View) (from : Group) → IsStacks
 followed_here net v from known = record { known = known; reached = λ d i. (d, i, here) }
 
 -- the end of a rule is left as from any state with the same stack
-returns_from : (net : ParserNetwork) (rule e : ℕ) (c d : Config) (returns : List ℕ) (wild : Bool) → c.stack.returns ≡ returns → c.stack.wild ≡ wild → Returns net rule c returns wild d → Returns net rule (config e c.alt c.stack) returns wild d
+returns_from : (net : ParserNetwork) (rule e : ℕ) (c d : Config) (returns : List ℕ) (wild : Bool) → c.stack.returns ≡ returns
+    → c.stack.wild ≡ wild → Returns net rule c returns wild d → Returns net rule (config e c.alt c.stack) returns wild d
 returns_from net rule e c d (t ∷ rest) wild is mark r = r
 returns_from net rule e c d [] true is mark r = r
 returns_from net rule e c d [] false is mark r = r
 
 -- from a state that leads to the end of a rule, what that end leads to is reached
-pub end_reached : (net : ParserNetwork) (rule : ℕ) (c d : Config) → LeadsToEnd net c.state rule → Returns net rule c c.stack.returns c.stack.wild d → Reaches net c d
+pub end_reached : (net : ParserNetwork) (rule : ℕ) (c d : Config) → LeadsToEnd net c.state rule
+    → Returns net rule c c.stack.returns c.stack.wild d → Reaches net c d
 end_reached net rule c d way r =
     let e : Config = config way.end c.alt c.stack in
-    let step : Leads net e d = subst (λ (o : Option (State (List ℕ))). LeadsBy net o e d) (sym way.is_end) (returns_from net rule way.end c d c.stack.returns c.stack.wild refl refl r) in
+    let step : Leads net e d = subst (λ (o : Option (State (List ℕ))). LeadsBy net o e d) (sym way.is_end)
+    (returns_from net rule way.end c d c.stack.returns c.stack.wild refl refl r) in
     further e d (way.reaches c.alt c.stack) step
 
 -- where the group's state leads to the end of a rule, the next group is followed
-pub followed_next : (net : ParserNetwork) (v : View) (from at next : Group) (rule : ℕ) → LeadsToEnd net at.state rule → IsNextReturn net v rule at next → IsFollowed net v from at → IsFollowed net v from next
+pub followed_next : (net : ParserNetwork) (v : View) (from at next : Group) (rule : ℕ) → LeadsToEnd net at.state rule
+    → IsNextReturn net v rule at next → IsFollowed net v from at → IsFollowed net v from next
 followed_next net v from at next rule way h before = record {
   known = h.known;
   reached = λ d i. (
@@ -96,7 +108,8 @@ followed_next net v from at next rule way h before = record {
 }
 
 -- where the group's state leads to what is kept and the group has a stack, something is kept
-pub kept_ahead : (net : ParserNetwork) (v : View) (from at : Group) → LeadsToKept net at.state → ((s : Stack) × HasStack v at.stacks s) → IsFollowed net v from at → GoesOn net (IsOfGroup v from)
+pub kept_ahead : (net : ParserNetwork) (v : View) (from at : Group) → LeadsToKept net at.state
+    → ((s : Stack) × HasStack v at.stacks s) → IsFollowed net v from at → GoesOn net (IsOfGroup v from)
 kept_ahead net v from at way (s, held) h =
     let c : Config = config at.state at.alternative s in
     let i : IsOfGroup v at c = record { state = refl; alt = refl; stack = held } in

@@ -65,7 +65,9 @@ module _ (net : ParserNetwork) (v : View) where
   held_none = record { known = tt; means = λ c. ((λ h. absurd h), (λ h. absurd h.0)) }
 
   -- one that is held
-  pub held_more : (xs found : List Group) (x y : Group) (hold : Hold) → AreHeld net v xs found → hold ≡ hold_by (state_at net x.state) → IsNode v.graph y.stacks → ((c : Config) → IsOfGroup v y c ↔ (IsOfGroup v x c × IsHeldBy hold c)) → AreHeld net v (xs ++ x ∷ []) (found ++ y ∷ [])
+  pub held_more : (xs found : List Group) (x y : Group) (hold : Hold) → AreHeld net v xs found → hold ≡ hold_by (state_at net x.state)
+      → IsNode v.graph y.stacks → ((c : Config) → IsOfGroup v y c ↔ (IsOfGroup v x c × IsHeldBy hold c))
+      → AreHeld net v (xs ++ x ∷ []) (found ++ y ∷ [])
   held_more xs found x y hold are is known means = record {
     known = known_append v.graph found (y ∷ []) are.known (known, tt);
     means = λ c. (
@@ -90,26 +92,36 @@ module _ (net : ParserNetwork) (v : View) where
       held_from c (i, h) = (i, subst (λ (k : Hold). IsHeldBy k c) (sym is) h)
 
   -- one that is not
-  pub held_skip : (xs found : List Group) (x : Group) (hold : Hold) → AreHeld net v xs found → hold ≡ hold_by (state_at net x.state) → ((c : Config) → ⊥ ↔ (IsOfGroup v x c × IsHeldBy hold c)) → AreHeld net v (xs ++ x ∷ []) found
+  pub held_skip : (xs found : List Group) (x : Group) (hold : Hold) → AreHeld net v xs found → hold ≡ hold_by (state_at net x.state)
+      → ((c : Config) → ⊥ ↔ (IsOfGroup v x c × IsHeldBy hold c)) → AreHeld net v (xs ++ x ∷ []) found
   held_skip xs found x hold are is means = record {
     known = are.known;
     means = λ c. (
       (λ h. let r = (are.means c).0 h in ((some_append v.graph xs (x ∷ []) c).1 (inl r.0), r.1)),
       (λ (h, held). elim ((some_append v.graph xs (x ∷ []) c).0 h) [
         | inl old ↦ (are.means c).1 (old, held)
-        | inr new ↦ elim new [ inl i ↦ absurd ((means c).1 (let r = (group_held x c).1 (i, held) in (r.0, subst (λ (k : Hold). IsHeldBy k c) (sym is) r.1))) | inr none ↦ absurd none ]
+        | inr new ↦ elim new [
+          | inl i ↦ absurd ((means c).1
+              (let r = (group_held x c).1 (i, held) in (r.0, subst (λ (k : Hold). IsHeldBy k c) (sym is) r.1)))
+          | inr none ↦ absurd none
+        ]
       ]),
     );
   }
 
   -- so one or none
-  pub held_on : (xs found : List Group) (x : Group) (o : Option Group) (hold : Hold) → AreHeld net v xs found → hold ≡ hold_by (state_at net x.state) → AreKnown v.graph (items_of o) → ((c : Config) → IsOfOption v o c ↔ (IsOfGroup v x c × IsHeldBy hold c)) → AreHeld net v (xs ++ x ∷ []) (found ++ items_of o)
-  held_on xs found x None hold are is known means = subst (AreHeld net v (xs ++ x ∷ [])) (sym (append-nil found)) (held_skip xs found x hold are is means)
+  pub held_on : (xs found : List Group) (x : Group) (o : Option Group) (hold : Hold) → AreHeld net v xs found
+      → hold ≡ hold_by (state_at net x.state) → AreKnown v.graph (items_of o)
+      → ((c : Config) → IsOfOption v o c ↔ (IsOfGroup v x c × IsHeldBy hold c)) → AreHeld net v (xs ++ x ∷ []) (found ++ items_of o)
+  held_on xs found x None hold are is known means =
+      subst (AreHeld net v (xs ++ x ∷ [])) (sym (append-nil found)) (held_skip xs found x hold are is means)
   held_on xs found x (Some y) hold are is known means = held_more xs found x y hold are is known.0 means
 
 module _ (net : ParserNetwork) (C : Config → Type 0) where
   -- a set made of what is held of all that is reached
-  pub framed_held : (u w f v : View) (xs found : List Group) → Same (Holds u) (ReachedFrom net C) → ((c : Config) → Holds w c ↔ Holds u c) → AreGroups w xs → AreHeld net w xs found → Keeps w.graph f.graph → ((c : Config) → Holds f c → ⊥) → Same (Holds v) (λ c. Holds f c ⊎ InSome f.graph found c) → Same (Holds v) (Framed net C)
+  pub framed_held : (u w f v : View) (xs found : List Group) → Same (Holds u) (ReachedFrom net C)
+      → ((c : Config) → Holds w c ↔ Holds u c) → AreGroups w xs → AreHeld net w xs found → Keeps w.graph f.graph
+      → ((c : Config) → Holds f c → ⊥) → Same (Holds v) (λ c. Holds f c ⊎ InSome f.graph found c) → Same (Holds v) (Framed net C)
   framed_held u w f v xs found reached same groups are keeps empty members c = (
     (λ h. elim ((members c).0 h) [
       | inl none ↦ absurd (empty c none)
@@ -118,16 +130,21 @@ module _ (net : ParserNetwork) (C : Config → Type 0) where
           let s = (reached c).0 ((same c).0 ((groups.members c).0 r.0)) in
           (s.0, s.1, s.2, r.1))
     ]),
-    (λ (b, i, r, held). (members c).1 (inr ((some_kept w.graph f.graph found keeps are.known c).0 ((are.means c).1 ((groups.members c).1 ((same c).1 ((reached c).1 (b, i, r))), held))))),
+    (λ (b, i, r, held). (members c).1 (inr ((some_kept w.graph f.graph found keeps are.known c).0
+        ((are.means c).1 ((groups.members c).1 ((same c).1 ((reached c).1 (b, i, r))), held))))),
   )
 
   -- it is within the network
-  pub framed_within : (v : View) → WellFormed net → ((c : Config) → C c → IsWithin net c) → Same (Holds v) (Framed net C) → (d : Config) → Holds v d → IsWithin net d
+  pub framed_within : (v : View) → WellFormed net → ((c : Config) → C c → IsWithin net c) → Same (Holds v) (Framed net C)
+      → (d : Config) → Holds v d → IsWithin net d
   framed_within v well within members d h = let r = (members d).0 h in reached_within net r.0 d well (within r.0 r.1) r.2
 
   -- and of the same set
   pub framed_of : (D E : Config → Type 0) → Same C D → Same E (Framed net C) → Same E (Framed net D)
-  framed_of D E same members d = ((λ i. let r = (members d).0 i in (r.0, (same r.0).0 r.1, r.2, r.3)), (λ r. (members d).1 (r.0, (same r.0).1 r.1, r.2, r.3)))
+  framed_of D E same members d = (
+    (λ i. let r = (members d).0 i in (r.0, (same r.0).0 r.1, r.2, r.3)),
+    (λ r. (members d).1 (r.0, (same r.0).1 r.1, r.2, r.3)),
+  )
 
 module _ (C : Config → Type 0) (below : List ℕ) where
   -- return states below the stacks of a set are those in the place of the hole
@@ -144,16 +161,27 @@ module _ (C : Config → Type 0) (below : List ℕ) where
   )
 
   -- so groups with them are within the network
-  pub lowered_within : (net : ParserNetwork) (g : List Content) (xs : List Group) → All (λ s. s < length net.states) below → ((c : Config) → C c → IsWithin net c) → ((c : Config) → InSome g xs c ↔ IsLoweredOf C below c) → (c : Config) → InSome g xs c → IsWithin net c
+  pub lowered_within : (net : ParserNetwork) (g : List Content) (xs : List Group) → All (λ s. s < length net.states) below
+      → ((c : Config) → C c → IsWithin net c) → ((c : Config) → InSome g xs c ↔ IsLoweredOf C below c) → (c : Config) → InSome g xs c
+      → IsWithin net c
   lowered_within net g xs states within means c i =
       let (rs, j, is) = (means c).0 i in
-      let w = within (config c.state c.alt (above_bottom rs)) j in
-      (w.0, subst (λ (z : Stack). All (λ s. s < length net.states) z.returns) (sym is) (All-append (λ s. s < length net.states) rs below w.1 states))
+      let w = within (config c.state c.alt (above_bottom rs)) j in (
+        w.0,
+        subst (λ (z : Stack). All (λ s. s < length net.states) z.returns) (sym is)
+            (All-append (λ s. s < length net.states) rs below w.1 states),
+      )
 
   -- and lead to the lowered set
-  pub lowered_framed : (net : ParserNetwork) (g : List Content) (xs : List Group) (E : Config → Type 0) → ((c : Config) → C c → c.stack.wild ≡ false) → ((c : Config) → InSome g xs c ↔ IsLoweredOf C below c) → Same E (Framed net (InSome g xs)) → Same E (Framed net (Over below C))
-  lowered_framed net g xs E bottomed means = framed_of net (InSome g xs) (Over below C) E (λ d. ((λ i. (lowered_over bottomed d).0 ((means d).0 i)), (λ i. (means d).1 ((lowered_over bottomed d).1 i))))
+  pub lowered_framed : (net : ParserNetwork) (g : List Content) (xs : List Group) (E : Config → Type 0)
+      → ((c : Config) → C c → c.stack.wild ≡ false) → ((c : Config) → InSome g xs c ↔ IsLoweredOf C below c)
+      → Same E (Framed net (InSome g xs)) → Same E (Framed net (Over below C))
+  lowered_framed net g xs E bottomed means = framed_of net (InSome g xs) (Over below C) E
+      (λ d. ((λ i. (lowered_over bottomed d).0 ((means d).0 i)), (λ i. (means d).1 ((lowered_over bottomed d).1 i))))
 
 -- what groups lead to as far as the hole has a row
-pub framed_has_row : (net : ParserNetwork) (g : List Content) (starts : List Group) (v : View) → WellFormed net → IsCanonical g → ((c : Config) → InSome g starts c → IsWithin net c) → Same (Holds v) (Framed net (InSome g starts)) → (row : List Config) × IsRow row (Holds v)
-framed_has_row net g starts v well canon within members = reached_has_row net g starts v well canon within (λ d h. let r = (members d).0 h in (r.0, r.1, r.2))
+pub framed_has_row : (net : ParserNetwork) (g : List Content) (starts : List Group) (v : View) → WellFormed net → IsCanonical g
+    → ((c : Config) → InSome g starts c → IsWithin net c) → Same (Holds v) (Framed net (InSome g starts))
+    → (row : List Config) × IsRow row (Holds v)
+framed_has_row net g starts v well canon within members =
+    reached_has_row net g starts v well canon within (λ d h. let r = (members d).0 h in (r.0, r.1, r.2))

@@ -16,7 +16,11 @@ pub some_append : (g : List Content) (xs ys : List Group) (c : Config) → InSom
 some_append g [] ys c = ((λ h. inr h), (λ h. elim h [ inl k ↦ absurd k | inr k ↦ k ]))
 some_append g (x ∷ xs) ys c = (
   (λ h. elim h [ inl i ↦ inl (inl i) | inr i ↦ elim ((some_append g xs ys c).0 i) [ inl k ↦ inl (inr k) | inr k ↦ inr k ] ]),
-  (λ h. elim h [ inl i ↦ elim i [ inl k ↦ inl k | inr k ↦ inr ((some_append g xs ys c).1 (inl k)) ] | inr k ↦ inr ((some_append g xs ys c).1 (inr k)) ]),
+  (λ h. elim h [
+    | inl i ↦ elim i [ inl k ↦ inl k | inr k ↦ inr ((some_append g xs ys c).1 (inl k)) ]
+    | inr k ↦ inr
+        ((some_append g xs ys c).1 (inr k))
+  ]),
 )
 
 pub known_append : (g : List Content) (xs ys : List Group) → AreKnown g xs → AreKnown g ys → AreKnown g (xs ++ ys)
@@ -60,7 +64,8 @@ pub take_next : (xs : List Group) (k : ℕ) (d : Group) → k < length xs → ta
 take_next xs k d lt = let n : k + 1 ≡ suc k = omega arith in ap (λ (m : ℕ). take m xs) n ∙ take-suc xs k d lt
 
 pub joined_as : (v v' : View) (w w' w'' xs ys : List Group) → ys ≡ xs → w'' ≡ w' → Joined v w xs v' w' → Joined v w ys v' w''
-joined_as v v' w w' w'' xs ys e f j = subst (λ (zs : List Group). Joined v w zs v' w'') (sym e) (subst (λ (u : List Group). Joined v w xs v' u) (sym f) j)
+joined_as v v' w w' w'' xs ys e f j = subst (λ (zs : List Group). Joined v w zs v' w'') (sym e)
+    (subst (λ (u : List Group). Joined v w xs v' u) (sym f) j)
 
 pub joined_none : (v : View) (w : List Group) → AreKnown v.graph w → Joined v w [] v w
 joined_none v w known = record {
@@ -87,7 +92,8 @@ module _ (v u v' : View) (w w1 xs : List Group) (x : Group) (j : Joined v w xs u
     where
       to : Holds v' c → Holds v c ⊎ InSome v.graph (xs ++ x ∷ []) c
       to i = elim ((members c).0 i) [
-        | inl a ↦ elim (let f : Holds v c ⊎ InSome v.graph xs c = (j.members c).0 a in f) [ inl b ↦ inl b | inr b ↦ inr ((some_append v.graph xs (x ∷ []) c).1 (inl b)) ]
+        | inl a ↦ elim (let f : Holds v c ⊎ InSome v.graph xs c = (j.members c).0 a in f)
+            [ inl b ↦ inl b | inr b ↦ inr ((some_append v.graph xs (x ∷ []) c).1 (inl b)) ]
         | inr a ↦ inr ((some_append v.graph xs (x ∷ []) c).1 (inr (inl ((group_kept v.graph u.graph x j.keeps in' c).1 a))))
       ]
 
@@ -99,7 +105,9 @@ module _ (v u v' : View) (w w1 xs : List Group) (x : Group) (j : Joined v w xs u
       ]
 
   only_old : (c : Config) → InSome v'.graph w1 c → InSome v.graph w c ⊎ InSome v.graph (xs ++ x ∷ []) c
-  only_old c i = elim (let f : InSome v.graph w c ⊎ InSome v.graph xs c = j.only c ((some_kept u.graph v'.graph w1 kept j.known c).1 i) in f) [ inl a ↦ inl a | inr a ↦ inr ((some_append v.graph xs (x ∷ []) c).1 (inl a)) ]
+  only_old c i = elim (let f : InSome v.graph w c ⊎ InSome v.graph xs c =
+      j.only c ((some_kept u.graph v'.graph w1 kept j.known c).1 i) in f)
+      [ inl a ↦ inl a | inr a ↦ inr ((some_append v.graph xs (x ∷ []) c).1 (inl a)) ]
 
   within_all : (all : List Config) → ((c : Config) → Holds v' c → In c all) → (c : Config) → Holds u c → In c all
   within_all all in_all c i = in_all c (grown c i)
@@ -129,14 +137,19 @@ module _ (v u v' : View) (w w1 xs : List Group) (x : Group) (j : Joined v w xs u
     known = known_append v'.graph w1 (x ∷ []) (known_kept u.graph v'.graph w1 kept j.known) ((kept x.stacks at_u).0, tt);
     members = more_members;
     waits = λ c i. elim ((members c).0 i) [
-      | inl a ↦ elim (let f : Holds v c ⊎ InSome u.graph w1 c = j.waits c a in f) [ inl b ↦ inl b | inr b ↦ inr ((some_append v'.graph w1 (x ∷ []) c).1 (inl ((some_kept u.graph v'.graph w1 kept j.known c).0 b))) ]
+      | inl a ↦ elim (let f : Holds v c ⊎ InSome u.graph w1 c = j.waits c a in f) [
+        | inl b ↦ inl b
+        | inr b ↦ inr ((some_append v'.graph w1 (x ∷ []) c).1
+            (inl ((some_kept u.graph v'.graph w1 kept j.known c).0 b)))
+      ]
       | inr a ↦ inr ((some_append v'.graph w1 (x ∷ []) c).1 (inr (inl ((group_kept u.graph v'.graph x kept at_u c).0 a))))
     ];
     stays = λ c i. (some_append v'.graph w1 (x ∷ []) c).1 (inl ((some_kept u.graph v'.graph w1 kept j.known c).0 (j.stays c i)));
     only = λ c i. elim (let f : InSome v'.graph w1 c ⊎ InSome v'.graph (x ∷ []) c = (some_append v'.graph w1 (x ∷ []) c).0 i in f) [
       | inl a ↦ only_old c a
       | inr a ↦ elim a [
-        | inl b ↦ inr ((some_append v.graph xs (x ∷ []) c).1 (inr (inl ((group_kept v.graph u.graph x j.keeps in' c).1 ((group_kept u.graph v'.graph x kept at_u c).1 b)))))
+        | inl b ↦ inr ((some_append v.graph xs (x ∷ []) c).1
+            (inr (inl ((group_kept v.graph u.graph x j.keeps in' c).1 ((group_kept u.graph v'.graph x kept at_u c).1 b)))))
         | inr b ↦ absurd b
       ]
     ];

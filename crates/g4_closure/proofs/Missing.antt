@@ -25,7 +25,8 @@ module _ {X : Type 0} (P Q : X → Type 0) (p : (x : X) → Dec (P x)) (q : (x :
   fewer [] = inr (λ x i. absurd i)
   fewer (x ∷ xs) = first (less x (p x) (q x)) (fewer xs)
     where
-      first : (unless (q x) < unless (p x)) ⊎ (Q x → P x) → (missing Q q xs < missing P p xs) ⊎ ((y : X) → In y xs → Q y → P y) → (missing Q q (x ∷ xs) < missing P p (x ∷ xs)) ⊎ ((y : X) → In y (x ∷ xs) → Q y → P y)
+      first : (unless (q x) < unless (p x)) ⊎ (Q x → P x) → (missing Q q xs < missing P p xs) ⊎ ((y : X) → In y xs → Q y → P y)
+          → (missing Q q (x ∷ xs) < missing P p (x ∷ xs)) ⊎ ((y : X) → In y (x ∷ xs) → Q y → P y)
       first (inl lt) r = inl (let b = no_more xs in omega (arith, lt, b))
       first (inr h) (inl lt) = inl (let a = one x (p x) (q x) in omega (arith, lt, a))
       first (inr h) (inr k) = inr (λ y i. elim i [ inl e ↦ (λ l. subst P (sym e) (h (subst Q e l))) | inr j ↦ k y j ])

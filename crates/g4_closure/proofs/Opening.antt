@@ -21,7 +21,8 @@ pub record IsOpening (net : ParserNetwork) (g0 : List Content) (starts : List Gr
   pub begun : (c : Config) → InSome g0 starts c → Holds v c ⊎ InSome g0 first c
   pub closed : IsClosed net (Holds v)
 
-pub opening_begins : (net : ParserNetwork) (starts first : List Group) (v : View) → ((c : Config) → Holds v c → ⊥) → AreReached net v.graph starts first → IsOpening net v.graph starts v first
+pub opening_begins : (net : ParserNetwork) (starts first : List Group) (v : View) → ((c : Config) → Holds v c → ⊥)
+    → AreReached net v.graph starts first → IsOpening net v.graph starts v first
 opening_begins net starts first v empty h = record {
   keeps = λ n lt. (lt, (λ s. ((λ x. x), (λ x. x))));
   known = h.known;
@@ -32,14 +33,16 @@ opening_begins net starts first v empty h = record {
 }
 
 -- what is reached from groups is reached from the same groups in a graph that has grown
-pub reached_kept : (net : ParserNetwork) (g h : List Content) (xs : List Group) → Keeps g h → AreKnown g xs → (c : Config) → ReachedFrom net (InSome g xs) c ↔ ReachedFrom net (InSome h xs) c
+pub reached_kept : (net : ParserNetwork) (g h : List Content) (xs : List Group) → Keeps g h → AreKnown g xs → (c : Config)
+    → ReachedFrom net (InSome g xs) c ↔ ReachedFrom net (InSome h xs) c
 reached_kept net g h xs kept known c = (
   (λ r. (r.0, (some_kept g h xs kept known r.0).0 r.1, r.2)),
   λ r. (r.0, (some_kept g h xs kept known r.0).1 r.1, r.2),
 )
 
 -- The last group is taken, and added to the set u, with all that it leads to: v is the set after it.
-module _ (net : ParserNetwork) (g0 : List Content) (starts : List Group) (u v : View) (first rest : List Group) (x : Group) (taken : first ≡ rest ++ x ∷ []) (i : IsOpening net g0 starts u first) where
+module _ (net : ParserNetwork) (g0 : List Content) (starts : List Group) (u v : View) (first rest : List Group) (x : Group)
+    (taken : first ≡ rest ++ x ∷ []) (i : IsOpening net g0 starts u first) where
   last_known : AreKnown g0 (x ∷ [])
   last_known = known_right g0 rest (x ∷ []) (subst (AreKnown g0) taken i.known)
 
@@ -53,9 +56,12 @@ module _ (net : ParserNetwork) (g0 : List Content) (starts : List Group) (u v : 
   last_reached c h = i.waiting c (subst (λ (w : List Group). InSome g0 w c) (sym taken) ((some_append g0 rest (x ∷ []) c).1 (inr (inl h))))
 
   pub opening_reached : AreKnown g0 starts → (c : Config) → InGroup u.graph x c → ReachedFrom net (InSome u.graph starts) c
-  opening_reached known c h = (reached_kept net g0 u.graph starts i.keeps known c).0 (last_reached c ((group_kept g0 u.graph x i.keeps last_known.0 c).1 h))
+  opening_reached known c h = (reached_kept net g0 u.graph starts i.keeps known c).0
+      (last_reached c ((group_kept g0 u.graph x i.keeps last_known.0 c).1 h))
 
-  pub opening_goes_on : AreKnown g0 starts → Keeps u.graph v.graph → ((c : Config) → Holds v c → ReachedFrom net (InSome u.graph starts) c) → ((c : Config) → Holds u c ⊎ InGroup u.graph x c → Holds v c) → IsClosed net (Holds v) → IsOpening net g0 starts v rest
+  pub opening_goes_on : AreKnown g0 starts → Keeps u.graph v.graph
+      → ((c : Config) → Holds v c → ReachedFrom net (InSome u.graph starts) c)
+      → ((c : Config) → Holds u c ⊎ InGroup u.graph x c → Holds v c) → IsClosed net (Holds v) → IsOpening net g0 starts v rest
   opening_goes_on known kept sound has closed = record {
     keeps = keeps_then g0 u.graph v.graph i.keeps kept;
     known = known_left g0 rest (x ∷ []) (subst (AreKnown g0) taken i.known);
@@ -63,17 +69,23 @@ module _ (net : ParserNetwork) (g0 : List Content) (starts : List Group) (u v : 
     waiting = λ c h. i.waiting c (subst (λ (w : List Group). InSome g0 w c) (sym taken) ((some_append g0 rest (x ∷ []) c).1 (inl h)));
     begun = λ c h. elim (i.begun c h) [
       | inl a ↦ inl (has c (inl a))
-      | inr a ↦ elim (let f : InSome g0 rest c ⊎ InSome g0 (x ∷ []) c = (some_append g0 rest (x ∷ []) c).0 (subst (λ (w : List Group). InSome g0 w c) taken a) in f) [
-        | inl b ↦ inr b
-        | inr b ↦ elim b [ inl y ↦ inl (has c (inr ((group_kept g0 u.graph x i.keeps last_known.0 c).0 y))) | inr y ↦ absurd y ]
-      ]
+      | inr a ↦ elim (let f : InSome g0 rest c ⊎ InSome g0 (x ∷ []) c =
+          (some_append g0 rest (x ∷ []) c).0 (subst (λ (w : List Group). InSome g0 w c) taken a) in f) [
+            | inl b ↦ inr b
+            | inr b ↦ elim b [ inl y ↦ inl (has c (inr ((group_kept g0 u.graph x i.keeps last_known.0 c).0 y))) | inr y ↦ absurd y ]
+          ]
     ];
     closed = closed;
   }
 
 -- once none waits the set has what the starts lead to
-pub opening_ends : (net : ParserNetwork) (g0 : List Content) (starts : List Group) (v : View) (first : List Group) → first ≡ [] → IsOpening net g0 starts v first → Same (Holds v) (ReachedFrom net (InSome g0 starts))
+pub opening_ends : (net : ParserNetwork) (g0 : List Content) (starts : List Group) (v : View) (first : List Group) → first ≡ []
+    → IsOpening net g0 starts v first → Same (Holds v) (ReachedFrom net (InSome g0 starts))
 opening_ends net g0 starts v first none i d = (i.sound d, λ (c, s, r). closed_has net (Holds v) i.closed c d (there c s) r)
   where
     there : (c : Config) → InSome g0 starts c → Holds v c
-    there c s = elim (i.begun c s) [ inl a ↦ a | inr a ↦ absurd (let b : InSome g0 [] c = subst (λ (w : List Group). InSome g0 w c) none a in b) ]
+    there c s = elim (i.begun c s) [
+      | inl a ↦ a
+      | inr a ↦ absurd
+          (let b : InSome g0 [] c = subst (λ (w : List Group). InSome g0 w c) none a in b)
+    ]

@@ -42,7 +42,8 @@ first_known g [] x e known = absurd (let no : ⊥ = cc in no)
 first_known g (y ∷ ys) x e known = let is : y ≡ x = cc in subst (λ (z : Group). IsNode g z.stacks) is known.0
 
 -- one alternative is left of groups that are all of it, where something is kept of what the first leads to
-pub sole : (net : ParserNetwork) (v : View) (xs : List Group) (x : Group) → slice_get xs 0 ≡ Some x → All (λ y. y.alternative ≡ x.alternative) xs → GoesOn net (IsOfGroup v x) → IsOnly (Rest net (InSome v.graph xs)) x.alternative
+pub sole : (net : ParserNetwork) (v : View) (xs : List Group) (x : Group) → slice_get xs 0 ≡ Some x
+    → All (λ y. y.alternative ≡ x.alternative) xs → GoesOn net (IsOfGroup v x) → IsOnly (Rest net (InSome v.graph xs)) x.alternative
 sole net v xs x is all (d, (c, i, r, kept)) = record {
   some = (d, (c, first_in v.graph xs x c is i, r, kept));
   all = λ e (b, j, q, k). sym (reached_keeps net b e q).0 ∙ alternative_of v.graph x.alternative xs b all j;
@@ -68,12 +69,14 @@ left_same net C D (Several set) same h = record {
 }
 
 -- the next set is the rest of the groups at the targets
-pub next_of : (net : ParserNetwork) (v f : View) (a : ℕ) (xs firsts : List Group) → Keeps v.graph f.graph → AreGroups v xs → firsts ≡ targets_of net a xs → Same (Rest net (InSome f.graph firsts)) (Next net (Holds v) a)
+pub next_of : (net : ParserNetwork) (v f : View) (a : ℕ) (xs firsts : List Group) → Keeps v.graph f.graph → AreGroups v xs
+    → firsts ≡ targets_of net a xs → Same (Rest net (InSome f.graph firsts)) (Next net (Holds v) a)
 next_of net v f a xs firsts kept groups is = rest_same net (InSome f.graph firsts) (Targets net (Holds v) a)
     (subst (λ (ys : List Group). Same (InSome f.graph ys) (Targets net (Holds v) a)) (sym is) (taken_of net v f a xs kept groups))
 
 -- where there are none of these, nothing is left
-pub none_next : (net : ParserNetwork) (v : View) (a : ℕ) (xs firsts : List Group) → AreGroups v xs → firsts ≡ targets_of net a xs → firsts ≡ [] → IsEmpty (Next net (Holds v) a)
+pub none_next : (net : ParserNetwork) (v : View) (a : ℕ) (xs firsts : List Group) → AreGroups v xs → firsts ≡ targets_of net a xs
+    → firsts ≡ [] → IsEmpty (Next net (Holds v) a)
 none_next net v a xs firsts groups is none d h =
     let (c, i, r, k) = (next_of net v v a xs firsts (keeps_same v.graph) groups is d).1 h in
     let there : InSome v.graph [] c = subst (λ (ys : List Group). InSome v.graph ys c) none i in

@@ -24,12 +24,20 @@ in_at (y ∷ ys) zero d less = inl refl
 in_at (y ∷ ys) (suc k) d less = inr (in_at ys k d (omega (arith, less)))
 
 -- nothing is added yet
-pub followed_none : (net : ParserNetwork) (v : View) (x : Group) (found : List Group) → AreKnown v.graph found → AreFollowed net v x found found
+pub followed_none : (net : ParserNetwork) (v : View) (x : Group) (found : List Group) → AreKnown v.graph found
+    → AreFollowed net v x found found
 followed_none net v x found known = record { known = known; has = λ c i. i; led = λ c i. inl i }
 
 -- a group of the states on top is reached
-top_reached : (net : ParserNetwork) (v : View) (x : Group) (tops : List (ℕ × ℕ)) (t m : ℕ) → EndsAtOnce net x.state → HasTops v.graph x.stacks tops → In (t, m) tops → (c : Config) → InGroup v.graph (top_of x (t, m)) c → ReachedFrom net (IsOfGroup v x) c
-top_reached net v x tops t m ends has top c i = (b, in_x, subst (λ (d : Config). Reaches net b d) there (reaches_top net b x.alternative x.state t c.stack.returns c.stack.wild ends here))
+top_reached : (net : ParserNetwork) (v : View) (x : Group) (tops : List (ℕ × ℕ)) (t m : ℕ) → EndsAtOnce net x.state
+    → HasTops v.graph x.stacks tops → In (t, m) tops → (c : Config) → InGroup v.graph (top_of x (t, m)) c
+    → ReachedFrom net (IsOfGroup v x) c
+top_reached net v x tops t m ends has top c i = (
+  b,
+  in_x,
+  subst (λ (d : Config). Reaches net b d) there
+      (reaches_top net b x.alternative x.state t c.stack.returns c.stack.wild ends here),
+)
   where
     b : Config
     b = config x.state x.alternative (marked (t ∷ c.stack.returns) c.stack.wild)
@@ -41,7 +49,9 @@ top_reached net v x tops t m ends has top c i = (b, in_x, subst (λ (d : Config)
     there = rw (← i.state, ← i.alt) refl
 
 -- the group at a place of the states on top is added
-pub followed_next : (net : ParserNetwork) (v : View) (x : Group) (tops : List (ℕ × ℕ)) (k : ℕ) (first found more : List Group) → EndsAtOnce net x.state → HasTops v.graph x.stacks tops → k < length tops → more ≡ found ++ top_of x (get_or tops k (0, 0)) ∷ [] → AreFollowed net v x first found → AreFollowed net v x first more
+pub followed_next : (net : ParserNetwork) (v : View) (x : Group) (tops : List (ℕ × ℕ)) (k : ℕ) (first found more : List Group)
+    → EndsAtOnce net x.state → HasTops v.graph x.stacks tops → k < length tops → more ≡ found ++ top_of x (get_or tops k (0, 0)) ∷ []
+    → AreFollowed net v x first found → AreFollowed net v x first more
 followed_next net v x tops k first found more ends has less is h = subst (AreFollowed net v x first) (sym is) (record {
   known = known_append v.graph found (y ∷ []) h.known (has.known e.0 e.1 there, tt);
   has = λ c i. (some_append v.graph found (y ∷ []) c).1 (inl (h.has c i));
@@ -61,11 +71,14 @@ followed_next net v x tops k first found more ends has less is h = subst (AreFol
     there = in_at tops k (0, 0) less
 
 -- the starts alone
-pub reached_first : (net : ParserNetwork) (g : List Content) (starts found : List Group) → found ≡ starts → AreKnown g starts → AreReached net g starts found
-reached_first net g starts found is known = subst (AreReached net g starts) (sym is) (record { known = known; has = λ c i. i; reached = λ c i. (c, i, here) })
+pub reached_first : (net : ParserNetwork) (g : List Content) (starts found : List Group) → found ≡ starts → AreKnown g starts
+    → AreReached net g starts found
+reached_first net g starts found is known = subst (AreReached net g starts) (sym is)
+    (record { known = known; has = λ c i. i; reached = λ c i. (c, i, here) })
 
 -- what is in a group of the list is in the list
-in_some_at : (g : List Content) (xs : List Group) (k : ℕ) (d : Group) (c : Config) → k < length xs → InGroup g (get_or xs k d) c → InSome g xs c
+in_some_at : (g : List Content) (xs : List Group) (k : ℕ) (d : Group) (c : Config) → k < length xs → InGroup g (get_or xs k d) c
+    → InSome g xs c
 in_some_at g [] k d c less i = absurd (omega (arith, less))
 in_some_at g (x ∷ xs) zero d c less i = inl i
 in_some_at g (x ∷ xs) (suc k) d c less i = inr (in_some_at g xs k d c (omega (arith, less)) i)
@@ -76,7 +89,8 @@ reaches_then net c d e r here = r
 reaches_then net c d e r (further f _ s l) = further f e (reaches_then net c d f r s) l
 
 -- one of the list is followed
-pub reached_next : (net : ParserNetwork) (v : View) (starts found more : List Group) (k : ℕ) (d : Group) → k < length found → AreFollowed net v (get_or found k d) found more → AreReached net v.graph starts found → AreReached net v.graph starts more
+pub reached_next : (net : ParserNetwork) (v : View) (starts found more : List Group) (k : ℕ) (d : Group) → k < length found
+    → AreFollowed net v (get_or found k d) found more → AreReached net v.graph starts found → AreReached net v.graph starts more
 reached_next net v starts found more k d less followed h = record {
   known = followed.known;
   has = λ c i. followed.has c (h.has c i);

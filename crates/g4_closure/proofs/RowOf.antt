@@ -58,8 +58,15 @@ pub listed_has_row : (v : View) (cs : List Config) → ((c : Config) → Holds v
 listed_has_row v cs all = (row_of (those (Holds v) (dec_holds v) cs), row_in (Holds v) (dec_holds v) cs all)
 
 -- so has one whose configurations are reached from groups
-pub reached_has_row : (net : ParserNetwork) (g : List Content) (starts : List Group) (v : View) → WellFormed net → IsCanonical g → ((c : Config) → InSome g starts c → IsWithin net c) → ((d : Config) → Holds v d → (c : Config) × InSome g starts c × Reaches net c d) → (row : List Config) × IsRow row (Holds v)
-reached_has_row net g starts v well canon within from = listed_has_row v (universe_of (length net.states) starts) (λ d h. let r = from d h in bounded_by net well g canon starts r.0 d r.1 (within r.0 r.1) r.2)
+pub reached_has_row : (net : ParserNetwork) (g : List Content) (starts : List Group) (v : View) → WellFormed net → IsCanonical g
+    → ((c : Config) → InSome g starts c → IsWithin net c)
+    → ((d : Config) → Holds v d → (c : Config) × InSome g starts c × Reaches net c d) → (row : List Config) × IsRow row (Holds v)
+reached_has_row net g starts v well canon within from =
+    listed_has_row v (universe_of (length net.states) starts)
+    (λ d h. let r = from d h in bounded_by net well g canon starts r.0 d r.1 (within r.0 r.1) r.2)
 
-pub rest_has_row : (net : ParserNetwork) (g : List Content) (starts : List Group) (v : View) → WellFormed net → IsCanonical g → ((c : Config) → InSome g starts c → IsWithin net c) → Same (Holds v) (Rest net (InSome g starts)) → (row : List Config) × IsRow row (Holds v)
-rest_has_row net g starts v well canon within rest = reached_has_row net g starts v well canon within (λ d h. let r = (rest d).0 h in (r.0, r.1, r.2))
+pub rest_has_row : (net : ParserNetwork) (g : List Content) (starts : List Group) (v : View) → WellFormed net → IsCanonical g
+    → ((c : Config) → InSome g starts c → IsWithin net c) → Same (Holds v) (Rest net (InSome g starts))
+    → (row : List Config) × IsRow row (Holds v)
+rest_has_row net g starts v well canon within rest =
+    reached_has_row net g starts v well canon within (λ d h. let r = (rest d).0 h in (r.0, r.1, r.2))

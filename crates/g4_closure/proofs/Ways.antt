@@ -86,7 +86,8 @@ no_end_into rule called true e = cc
 no_end_into rule called false e = cc
 
 -- where it goes on to a state, a step leads there, whatever the stack
-steps_to : (net : ParserNetwork) (o : Option (State (List ℕ))) (t p i : ℕ) (s : Stack) → onward_by o ≡ onwards.To t → LeadsBy net o (config p i s) (config t i s)
+steps_to : (net : ParserNetwork) (o : Option (State (List ℕ))) (t p i : ℕ) (s : Stack) → onward_by o ≡ onwards.To t
+    → LeadsBy net o (config p i s) (config t i s)
 steps_to net (Some (Decision targets)) t p i s e = (t, among targets 0 t (target_is (slice_get targets 0) t e), refl)
 steps_to net (Some (Predicate k u)) t p i s e = ap (λ (q : ℕ). config q i s) (sym (ap state_of e))
 steps_to net (Some (Level q u)) t p i s e = ap (λ (q : ℕ). config q i s) (sym (ap state_of e))
@@ -119,27 +120,31 @@ pub on_way_here : (net : ParserNetwork) (p : ℕ) → IsOnWay net p p false
 on_way_here net p = record { reaches = λ i s. (s, here); same = λ e i s. here }
 
 -- so is where it leads
-pub on_way_next : (net : ParserNetwork) (p q t : ℕ) (inside : Bool) → onward_by (state_at net q) ≡ onwards.To t → IsOnWay net p q inside → IsOnWay net p t inside
+pub on_way_next : (net : ParserNetwork) (p q t : ℕ) (inside : Bool) → onward_by (state_at net q) ≡ onwards.To t
+    → IsOnWay net p q inside → IsOnWay net p t inside
 on_way_next net p q t inside e h = record {
   reaches = λ i s. let (z, r) = h.reaches i s in (z, further (config q i z) (config t i z) r (steps_to net (state_at net q) t q i z e));
   same = λ none i s. further (config q i s) (config t i s) (h.same none i s) (steps_to net (state_at net q) t q i s e);
 }
 
 -- and where the rule starts that it calls
-pub on_way_into : (net : ParserNetwork) (p q rule : ℕ) (inside : Bool) → onward_by (state_at net q) ≡ onwards.Into rule → IsOnWay net p q inside → IsOnWay net p (start_of rule) true
+pub on_way_into : (net : ParserNetwork) (p q rule : ℕ) (inside : Bool) → onward_by (state_at net q) ≡ onwards.Into rule
+    → IsOnWay net p q inside → IsOnWay net p (start_of rule) true
 on_way_into net p q rule inside e h = record {
   reaches = λ i s. (
       let (z, r) = h.reaches i s in
       let (level, back, is) = calls_by (state_at net q) rule e in
       let above : Stack = record { returns = back ∷ z.returns; wild = z.wild } in
-      let step : Leads net (config q i z) (config (start_of rule) i above) = subst (λ (o : Option (State (List ℕ))). LeadsBy net o (config q i z) (config (start_of rule) i above)) (sym is) refl in
+      let step : Leads net (config q i z) (config (start_of rule) i above) =
+      subst (λ (o : Option (State (List ℕ))). LeadsBy net o (config q i z) (config (start_of rule) i above)) (sym is) refl in
       (above, further (config q i z) (config (start_of rule) i above) r step)
       );
   same = λ none. absurd (let no : ⊥ = cc in no);
 }
 
 -- the start of a rule that is called is a state
-pub start_fits : (net : ParserNetwork) (q rule : ℕ) → WellFormed net → onward_by (state_at net q) ≡ onwards.Into rule → start_of rule < length net.states
+pub start_fits : (net : ParserNetwork) (q rule : ℕ) → WellFormed net → onward_by (state_at net q) ≡ onwards.Into rule
+    → start_of rule < length net.states
 start_fits net q rule well e =
     let (level, back, is) = calls_by (state_at net q) rule e in
     let called : rule < length net.callers = well.calls q rule level back is in
@@ -147,9 +152,11 @@ start_fits net q rule well e =
     omega (arith, called, twice)
 
 -- where the way comes to what is kept, the first state leads to it
-pub way_kept : (net : ParserNetwork) (p q : ℕ) (inside : Bool) → onward_by (state_at net q) ≡ onwards.Kept → IsOnWay net p q inside → LeadsToKept net p
+pub way_kept : (net : ParserNetwork) (p q : ℕ) (inside : Bool) → onward_by (state_at net q) ≡ onwards.Kept → IsOnWay net p q inside
+    → LeadsToKept net p
 way_kept net p q inside e h i s = let (z, r) = h.reaches i s in (config q i z, r, kept_by (state_at net q) e)
 
 -- where it comes to the end of a rule and no rule was called, the first state leads to it
-pub way_ended : (net : ParserNetwork) (p q rule : ℕ) (inside : Bool) → inside ≡ false → onward_by (state_at net q) ≡ onwards.Ends rule → IsOnWay net p q inside → LeadsToEnd net p rule
+pub way_ended : (net : ParserNetwork) (p q rule : ℕ) (inside : Bool) → inside ≡ false → onward_by (state_at net q) ≡ onwards.Ends rule
+    → IsOnWay net p q inside → LeadsToEnd net p rule
 way_ended net p q rule inside none e h = record { end = q; is_end = ended_by (state_at net q) rule e; reaches = h.same none }

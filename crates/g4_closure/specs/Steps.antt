@@ -55,7 +55,8 @@ alternatives_by None = []
 
 -- the first state of one of the first n alternatives, if it is allowed, with a set of stacks
 abbrev pub FirstsBelow : (ℕ → Type 0) → ℕ → List ℕ → ℕ → Group → Type 0
-FirstsBelow A stacks targets n x = A x.alternative × ((k : ℕ) × (k < n) × (slice_get targets k ≡ Some x.state) × (x.alternative ≡ k + 1)) × (x.stacks ≡ stacks)
+FirstsBelow A stacks targets n x = A x.alternative
+    × ((k : ℕ) × (k < n) × (slice_get targets k ≡ Some x.state) × (x.alternative ≡ k + 1)) × (x.stacks ≡ stacks)
 
 -- the list has the members and no others
 abbrev pub AreExactly : List Group → (Group → Type 0) → Type 0

@@ -130,7 +130,8 @@ fn steps(
     ensures keeps { KeepsStacks set.old set.new }
     ensures same { (c : Config) → Holds set.new c ↔ Holds set.old c }
     ensures known { OnOk result (AreKnown set.new.graph found.new.items) }
-    ensures means { OnOk result (Same (InSome set.new.graph found.new.items) (SteppedFrom net.now (Some state.now) (IsOfGroup set.old group))) }
+    ensures means { OnOk result (Same (InSome set.new.graph found.new.items)
+        (SteppedFrom net.now (Some state.now) (IsOfGroup set.old group))) }
 {
     match state {
         State::Edge(..) => Ok(()),

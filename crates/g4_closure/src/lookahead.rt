@@ -135,7 +135,8 @@ pub fn start(
     requires well_formed { WellFormed net.now }
     requires few { length net.now.states ≤ MOST_STATES }
     requires within { All (λ t. t < length net.now.states) returns.now }
-    ensures members { IfOk result (λ found. Same (Holds found) (Start net.now decision (Allows allowed.now) (record { returns = reverse returns.now; wild = wild }))) }
+    ensures members { IfOk result (λ found. Same (Holds found)
+        (Start net.now decision (Allows allowed.now) (record { returns = reverse returns.now; wild = wild }))) }
     ensures within { IfOk result (λ found. (c : Config) → Holds found c → IsWithin net.now c) }
     ensures row { IfOk result (λ found. (row : List Config) × IsRow row (Holds found)) }
 {

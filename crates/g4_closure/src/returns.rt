@@ -5,8 +5,8 @@ ghost use Rattle.g4_configs.specs.Configs.{IsStacks};
 ghost use Rattle.g4_configs.specs.Groups.{AreKnown};
 
 use g4_configs::{Configs, Group};
-use g4_net::ParserNetwork;
 use g4_lookahead::ends_at_once;
+use g4_net::ParserNetwork;
 use std::alloc::{AllocError, Global};
 use std::collections::BTreeSet;
 

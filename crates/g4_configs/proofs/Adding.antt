@@ -36,7 +36,8 @@ same_keys : (q r : ℕ × ℕ) → q ≡ r → is_eq (pair_cmp q r) ≡ true
 same_keys q r e = subst (λ (z : ℕ × ℕ). is_eq (pair_cmp q z) ≡ true) e (same_key q)
 
 -- no node means no stack
-pub none_means : (g : List Content) (n : ℕ) (o : Option ℕ) → o ≡ None → ((s : stacks.Stack) → Has g n s → ⊥) → (returns : List ℕ) (wild : Bool) → HasOf g n returns wild ↔ HasAt g o returns wild
+pub none_means : (g : List Content) (n : ℕ) (o : Option ℕ) → o ≡ None → ((s : stacks.Stack) → Has g n s → ⊥)
+    → (returns : List ℕ) (wild : Bool) → HasOf g n returns wild ↔ HasAt g o returns wild
 none_means g n None e empty returns wild = ((λ h. absurd (empty (record { returns = returns; wild = wild }) h)), (λ h. absurd h))
 none_means g n (Some m) e empty returns wild = absurd cc
 
@@ -45,16 +46,19 @@ pub keeps_then : (f g h : List Content) → Keeps f g → Keeps g h → Keeps f 
 keeps_then f g h k l n lt = let a = k n lt in let b = l n a.0 in
     (b.0, (λ s. ((λ x. (b.1 s).0 ((a.1 s).0 x)), (λ x. (a.1 s).1 ((b.1 s).1 x)))))
 
-pub kept_of : (g h : List Content) (n : ℕ) → Keeps g h → IsNode g n → (returns : List ℕ) (wild : Bool) → HasOf g n returns wild ↔ HasOf h n returns wild
+pub kept_of : (g h : List Content) (n : ℕ) → Keeps g h → IsNode g n → (returns : List ℕ) (wild : Bool)
+    → HasOf g n returns wild ↔ HasOf h n returns wild
 kept_of g h n kept in' returns wild = (kept n in').1 (record { returns = returns; wild = wild })
 
-kept_at : (g h : List Content) (o : Option ℕ) → Keeps g h → ((n : ℕ) → o ≡ Some n → IsNode g n) → (returns : List ℕ) (wild : Bool) → HasAt g o returns wild ↔ HasAt h o returns wild
+kept_at : (g h : List Content) (o : Option ℕ) → Keeps g h → ((n : ℕ) → o ≡ Some n → IsNode g n) → (returns : List ℕ) (wild : Bool)
+    → HasAt g o returns wild ↔ HasAt h o returns wild
 kept_at g h None kept in' returns wild = ((λ x. x), (λ x. x))
 kept_at g h (Some n) kept in' returns wild = kept_of g h n kept (in' n refl) returns wild
 
 -- a set means the same in a grown graph
 pub within_kept : (g h : List Content) (m : Entries) → Keeps g h → AreNodes g m → (c : Config) → Within g m c ↔ Within h m c
-within_kept g h m kept nodes c = kept_at g h (node_at m (c.state, c.alt)) kept (λ n e. (nodes (c.state, c.alt) n e).0) c.stack.returns c.stack.wild
+within_kept g h m kept nodes c = kept_at g h (node_at m (c.state, c.alt)) kept (λ n e. (nodes (c.state, c.alt) n e).0) c.stack.returns
+    c.stack.wild
 
 pub nodes_kept : (g h : List Content) (m : Entries) → Keeps g h → AreNodes g m → AreNodes h m
 nodes_kept g h m kept nodes q n is = let r = nodes q n is in ((kept n r.0).0, r.1)
@@ -65,13 +69,16 @@ group_kept g h x kept in' c = (
   (λ i. record { state = i.state; alt = i.alt; stack = (kept_of g h x.stacks kept in' c.stack.returns c.stack.wild).1 i.stack }),
 )
 
-module _ (g h : List Content) (m : Entries) (x : Group) (before both : ℕ) (kept : Keeps g h) (nodes : AreNodes g m) (in' : IsNode g x.stacks) (there : IsNode g before)
+module _ (g h : List Content) (m : Entries) (x : Group) (before both : ℕ) (kept : Keeps g h) (nodes : AreNodes g m)
+    (in' : IsNode g x.stacks) (there : IsNode g before)
     (was : (returns : List ℕ) (wild : Bool) → HasOf g before returns wild ↔ HasAt g (node_at m (x.state, x.alternative)) returns wild)
     (union : IsUnion g before x.stacks h both) where
   -- the set has what its node at the group's state and alternative has
   here : (c : Config) → c.state ≡ x.state → c.alt ≡ x.alternative → HasOf g before c.stack.returns c.stack.wild ↔ Within g m c
-  here c e f = subst (λ (i : ℕ). HasOf g before c.stack.returns c.stack.wild ↔ HasAt g (node_at m (c.state, i)) c.stack.returns c.stack.wild) (sym f)
-      (subst (λ (p : ℕ). HasOf g before c.stack.returns c.stack.wild ↔ HasAt g (node_at m (p, x.alternative)) c.stack.returns c.stack.wild) (sym e) (was c.stack.returns c.stack.wild))
+  here c e f = subst (λ (i : ℕ). HasOf g before c.stack.returns c.stack.wild
+      ↔ HasAt g (node_at m (c.state, i)) c.stack.returns c.stack.wild) (sym f)
+      (subst (λ (p : ℕ). HasOf g before c.stack.returns c.stack.wild
+      ↔ HasAt g (node_at m (p, x.alternative)) c.stack.returns c.stack.wild) (sym e) (was c.stack.returns c.stack.wild))
 
   union_of : (returns : List ℕ) (wild : Bool) → HasOf h both returns wild ↔ (HasOf g before returns wild ⊎ HasOf g x.stacks returns wild)
   union_of returns wild = union (record { returns = returns; wild = wild })
@@ -94,10 +101,11 @@ module _ (g h : List Content) (m : Entries) (x : Group) (before both : ℕ) (kep
   pub no_more : Subset (InGroup g x) (Within g m) → (s : stacks.Stack) → Has h before s ↔ Has h both s
   no_more sub s = (
     (λ b. (union s).1 (inl ((kept_of g h before kept there s.returns s.wild).1 b))),
-    λ b. (kept_of g h before kept there s.returns s.wild).0 (elim (let o : HasOf g before s.returns s.wild ⊎ HasOf g x.stacks s.returns s.wild = (union s).0 b in o) [
-      | inl k ↦ k
-      | inr k ↦ (here (made s) refl refl).1 (sub (made s) (record { state = refl; alt = refl; stack = k }))
-    ]),
+    λ b. (kept_of g h before kept there s.returns s.wild).0
+        (elim (let o : HasOf g before s.returns s.wild ⊎ HasOf g x.stacks s.returns s.wild = (union s).0 b in o) [
+          | inl k ↦ k
+          | inr k ↦ (here (made s) refl refl).1 (sub (made s) (record { state = refl; alt = refl; stack = k }))
+        ]),
   )
     where
       made : stacks.Stack → Config
@@ -111,7 +119,10 @@ module _ (g h : List Content) (m : Entries) (x : Group) (before both : ℕ) (kep
       none e s i = none_in h canon s (subst (λ (n : ℕ). Has h n s) e i)
 
       by : (n : ℕ) → both ≡ n → 0 < both
-      by zero e = absurd (differ (λ s. ((λ i. (union s).1 (inl ((kept_of g h before kept there s.returns s.wild).1 i))), λ i. absurd (none e s i))))
+      by zero e = absurd (differ (λ s. (
+        (λ i. (union s).1 (inl ((kept_of g h before kept there s.returns s.wild).1 i))),
+        λ i. absurd (none e s i),
+      )))
       by (suc n) e = omega (arith, e)
 
   module _ (m' : Entries) (known : IsNode h both) (filled : 0 < both)
@@ -136,8 +147,11 @@ module _ (g h : List Content) (m : Entries) (x : Group) (before both : ℕ) (kep
       where
         by : (t : Bool) → is_eq (pair_cmp (x.state, x.alternative) (c.state, c.alt)) ≡ t → Within h m' c ↔ (Within g m c ⊎ InGroup g x c)
         by true e =
-            let same : (x.state, x.alternative) ≡ (c.state, c.alt) = exact_pairs nat_cmp nat_cmp exact_unsigned exact_unsigned (x.state, x.alternative) (c.state, c.alt) ((Equal-is (pair_cmp (x.state, x.alternative) (c.state, c.alt))).0 e) in
-            let found : node_at m' (c.state, c.alt) ≡ Some both = updates (c.state, c.alt) ∙ ap (λ (t : Bool). cond t (Some both) (node_at m (c.state, c.alt))) e in
+            let same : (x.state, x.alternative) ≡ (c.state, c.alt) =
+            exact_pairs nat_cmp nat_cmp exact_unsigned exact_unsigned (x.state, x.alternative) (c.state, c.alt)
+            ((Equal-is (pair_cmp (x.state, x.alternative) (c.state, c.alt))).0 e) in
+            let found : node_at m' (c.state, c.alt) ≡ Some both =
+            updates (c.state, c.alt) ∙ ap (λ (t : Bool). cond t (Some both) (node_at m (c.state, c.alt))) e in
             let at_state : c.state ≡ x.state = sym (ap (λ (q : ℕ × ℕ). q.0) same) in
             let at_alt : c.alt ≡ x.alternative = sym (ap (λ (q : ℕ × ℕ). q.1) same) in
             let told : HasAt h (Some both) c.stack.returns c.stack.wild ↔ (Within g m c ⊎ InGroup g x c) = (
@@ -152,8 +166,11 @@ module _ (g h : List Content) (m : Entries) (x : Group) (before both : ℕ) (kep
             ) in
             subst (λ (o : Option ℕ). HasAt h o c.stack.returns c.stack.wild ↔ (Within g m c ⊎ InGroup g x c)) (sym found) told
         by false e =
-            let found : node_at m' (c.state, c.alt) ≡ node_at m (c.state, c.alt) = updates (c.state, c.alt) ∙ ap (λ (t : Bool). cond t (Some both) (node_at m (c.state, c.alt))) e in
-            let differ : InGroup g x c → ⊥ = λ i. absurd (true≢false (sym (same_keys (x.state, x.alternative) (c.state, c.alt) (pair_equal x.state x.alternative c.state c.alt (sym i.state) (sym i.alt))) ∙ e)) in
+            let found : node_at m' (c.state, c.alt) ≡ node_at m (c.state, c.alt) =
+            updates (c.state, c.alt) ∙ ap (λ (t : Bool). cond t (Some both) (node_at m (c.state, c.alt))) e in
+            let differ : InGroup g x c → ⊥ = λ i. absurd
+            (true≢false (sym (same_keys (x.state, x.alternative) (c.state, c.alt)
+            (pair_equal x.state x.alternative c.state c.alt (sym i.state) (sym i.alt))) ∙ e)) in
             let told : HasAt h (node_at m (c.state, c.alt)) c.stack.returns c.stack.wild ↔ (Within g m c ⊎ InGroup g x c) = (
               (λ w. inl ((within_kept g h m kept nodes c).1 w)),
               λ o. (within_kept g h m kept nodes c).0 (elim o [
@@ -164,8 +181,10 @@ module _ (g h : List Content) (m : Entries) (x : Group) (before both : ℕ) (kep
             subst (λ (o : Option ℕ). HasAt h o c.stack.returns c.stack.wild ↔ (Within g m c ⊎ InGroup g x c)) (sym found) told
 
 -- a set in a grown graph has the same configurations
-pub grown_holds : (g h : List Content) (m : Entries) (v : View) → Path View (record { graph = g; nodes = m }) v → AreNodes g m → Keeps g h → (c : Config) → Within h m c ↔ Holds v c
-grown_holds g h m v at nodes kept c = subst (λ (u : View). Within h m c ↔ Holds u c) at (let s = within_kept g h m kept nodes c in (s.1, s.0))
+pub grown_holds : (g h : List Content) (m : Entries) (v : View) → Path View (record { graph = g; nodes = m }) v → AreNodes g m
+    → Keeps g h → (c : Config) → Within h m c ↔ Holds v c
+grown_holds g h m v at nodes kept c = subst (λ (u : View). Within h m c ↔ Holds u c) at
+    (let s = within_kept g h m kept nodes c in (s.1, s.0))
 
 pub turned : {C D : Config → Type 0} → Same C D → Same D C
 turned same c = ((same c).1, (same c).0)

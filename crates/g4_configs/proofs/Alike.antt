@@ -12,8 +12,12 @@ use Rattle.g4_configs.proofs.Listing.{place_in}
 use Rattle.g4_configs.specs.Verdicts.{AreAlike, HasAlternative, IsLike}
 
 -- what `all` answers of a test of P
-pub all_answer : {X : Type 0} (P : X → Type 0) (r : Bool) (xs : List X) → MatchBool r (AllWithin P xs 0 (length xs)) ((k : ℕ) × (k < length xs) × HoldsAt (λ (x : X). P x → ⊥) xs k) → IsTrue r ↔ All P xs
-all_answer P r xs cases = ((λ t k d lt. (MatchBool-at_true _ _ t cases) k d (omega arith) lt), (λ all. true_from_All P (λ x. P x → ⊥) r xs (λ x p n. n p) cases all))
+pub all_answer : {X : Type 0} (P : X → Type 0) (r : Bool) (xs : List X)
+    → MatchBool r (AllWithin P xs 0 (length xs)) ((k : ℕ) × (k < length xs) × HoldsAt (λ (x : X). P x → ⊥) xs k) → IsTrue r ↔ All P xs
+all_answer P r xs cases = (
+  (λ t k d lt. (MatchBool-at_true _ _ t cases) k d (omega arith) lt),
+  (λ all. true_from_All P (λ x. P x → ⊥) r xs (λ x p n. n p) cases all),
+)
 
 -- an item at a place is a member
 pub member_at : {X : Type 0} (xs : List X) (i : ℕ) (x : X) → slice_get xs i ≡ Some x → Contains xs x
@@ -39,12 +43,14 @@ module _ {X : Type 0} (test : X → Bool) where
 pub each_all : {X : Type 0} (P : X → Type 0) (xs : List X) → ((x : X) → Contains xs x → P x) → All P xs
 each_all P xs each k d lt = each (get_or xs k d) (All-contains_itself xs k d lt)
 
-module _ (m : Entries) (xs : List Group) (entries : (x : Group) → Contains xs x ↔ (node_at m (x.state, x.alternative) ≡ Some x.stacks)) (first : Group) (there : Contains xs first) where
+module _ (m : Entries) (xs : List Group) (entries : (x : Group)
+    → Contains xs x ↔ (node_at m (x.state, x.alternative) ≡ Some x.stacks)) (first : Group) (there : Contains xs first) where
   abbrev made : ℕ → ℕ → ℕ → Group
   made p i n = record { state = p; alternative = i; stacks = n }
 
   in_block : (x : Group) → Contains xs x → x.state ≡ first.state → Contains (first_block first xs) x
-  in_block x (k, lt, e) same = In-to (first_block first xs) x (stays (λ (y : Group). nat_eq y.state first.state) x xs (In-from xs x k lt e) (eq-eqb x.state first.state same))
+  in_block x (k, lt, e) same = In-to (first_block first xs) x
+      (stays (λ (y : Group). nat_eq y.state first.state) x xs (In-from xs x k lt e) (eq-eqb x.state first.state same))
 
   from_like : All (IsLike m first (first_block first xs)) xs → AreAlike m xs
   from_like like x y in_x in_y =
@@ -53,13 +59,15 @@ module _ (m : Entries) (xs : List Group) (entries : (x : Group) → Contains xs 
       let head = made y.state first.alternative y.stacks in
       let l = All-contains (IsLike m first (first_block first xs)) xs head like ((entries head).1 b) in
       let other = made first.state x.alternative first.stacks in
-      All-contains (HasAlternative m y.state y.stacks) (first_block first xs) other (l.each refl) (in_block other ((entries other).1 a) refl)
+      All-contains (HasAlternative m y.state y.stacks) (first_block first xs) other (l.each refl)
+      (in_block other ((entries other).1 a) refl)
 
   to_like : AreAlike m xs → All (IsLike m first (first_block first xs)) xs
   to_like alike = each_all (IsLike m first (first_block first xs)) xs (λ x in_x. record {
     here = alike first x there in_x;
     there = alike x first in_x there;
-    each = λ e. All-filter (λ (y : Group). nat_eq y.state first.state) (HasAlternative m x.state x.stacks) xs (each_all (HasAlternative m x.state x.stacks) xs (λ y in_y. alike y x in_y in_x));
+    each = λ e. All-filter (λ (y : Group). nat_eq y.state first.state) (HasAlternative m x.state x.stacks) xs
+        (each_all (HasAlternative m x.state x.stacks) xs (λ y in_y. alike y x in_y in_x));
   })
 
   pub like_exact : All (IsLike m first (first_block first xs)) xs ↔ AreAlike m xs

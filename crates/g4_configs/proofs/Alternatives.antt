@@ -62,10 +62,12 @@ known_some (Some k) n e = refl
 
 module _ (g : List Content) (m : BTreeMap (ℕ × ℕ) ℕ) (canon : IsCanonical g) (nodes : AreNodes g m.entries) where
   key_known : (q : ℕ × ℕ) → Contains (keys m) q → (n : ℕ) × (node_at m.entries q ≡ Some n)
-  key_known q h = some_known (node_at m.entries q) ((btree_map_contains_key_iff pair_total (exact_pairs nat_cmp nat_cmp exact_unsigned exact_unsigned) m q).1 h)
+  key_known q h = some_known (node_at m.entries q)
+      ((btree_map_contains_key_iff pair_total (exact_pairs nat_cmp nat_cmp exact_unsigned exact_unsigned) m q).1 h)
 
   known_key : (q : ℕ × ℕ) (n : ℕ) → node_at m.entries q ≡ Some n → Contains (keys m) q
-  known_key q n e = (btree_map_contains_key_iff pair_total (exact_pairs nat_cmp nat_cmp exact_unsigned exact_unsigned) m q).0 (known_some (node_at m.entries q) n e)
+  known_key q n e = (btree_map_contains_key_iff pair_total (exact_pairs nat_cmp nat_cmp exact_unsigned exact_unsigned) m q).0
+      (known_some (node_at m.entries q) n e)
 
   key_held : (q : ℕ × ℕ) → Contains (keys m) q → (c : Config) × Within g m.entries c × (c.alt ≡ q.1)
   key_held q h =
@@ -82,10 +84,13 @@ module _ (g : List Content) (m : BTreeMap (ℕ × ℕ) ℕ) (canon : IsCanonical
   alternative_held : (i : ℕ) → In i (alternatives (keys m)) → (c : Config) × Within g m.entries c × (c.alt ≡ i)
   alternative_held i h = let q = in_alternatives (keys m) i h in key_held (q.0, i) (In-to (keys m) (q.0, i) q.1)
 
-  pub least_exact : (r : Option ℕ) → r ≡ reduce min (alternatives (keys m)) → MatchOption r (IsEmpty (Within g m.entries)) (IsLeast (Within g m.entries))
-  least_exact r is = subst (λ (o : Option ℕ). MatchOption o (IsEmpty (Within g m.entries)) (IsLeast (Within g m.entries))) (sym is) (by (alternatives (keys m)) refl)
+  pub least_exact : (r : Option ℕ) → r ≡ reduce min (alternatives (keys m))
+      → MatchOption r (IsEmpty (Within g m.entries)) (IsLeast (Within g m.entries))
+  least_exact r is = subst (λ (o : Option ℕ). MatchOption o (IsEmpty (Within g m.entries)) (IsLeast (Within g m.entries))) (sym is)
+      (by (alternatives (keys m)) refl)
     where
-      by : (xs : List ℕ) → alternatives (keys m) ≡ xs → MatchOption (reduce min xs) (IsEmpty (Within g m.entries)) (IsLeast (Within g m.entries))
+      by : (xs : List ℕ) → alternatives (keys m) ≡ xs
+          → MatchOption (reduce min xs) (IsEmpty (Within g m.entries)) (IsLeast (Within g m.entries))
       by [] e = λ c w. subst (In c.alt) e (held_alternative c w)
       by (x ∷ xs) e =
           let l = fold_least x xs in record {
@@ -94,14 +99,16 @@ module _ (g : List Content) (m : BTreeMap (ℕ × ℕ) ℕ) (canon : IsCanonical
           }
 
   -- a key of another alternative
-  pub other_exact : (i : ℕ) (r : Bool) → MatchBool r ((k : ℕ) × (k < length (keys m)) × HoldsAt (λ (q : ℕ × ℕ). q.1 ≢ i) (keys m) k) (AllWithin (λ (q : ℕ × ℕ). q.1 ≡ i) (keys m) 0 (length (keys m)))
+  pub other_exact : (i : ℕ) (r : Bool) → MatchBool r ((k : ℕ) × (k < length (keys m)) × HoldsAt (λ (q : ℕ × ℕ). q.1 ≢ i) (keys m) k)
+      (AllWithin (λ (q : ℕ × ℕ). q.1 ≡ i) (keys m) 0 (length (keys m)))
       → IsTrue r ↔ ((c : Config) × Within g m.entries c × (c.alt ≢ i))
   other_exact i r cases = (
     (λ t. let w = MatchBool-at_true _ _ t cases in
         let q : ℕ × ℕ = get_or (keys m) w.0 (0, 0) in
         let c = key_held q (w.0, w.1, get_or_any w.0 w.1) in
         (c.0, c.1, (λ e. w.2 (0, 0) (sym c.2 ∙ e)))),
-    (λ h. true_from_Any (λ (q : ℕ × ℕ). q.1 ≢ i) (λ (q : ℕ × ℕ). q.1 ≡ i) r (keys m) (λ q ne e. ne e) cases (h.0.state, h.0.alt) (held_key h.0 h.1) h.2),
+    (λ h. true_from_Any (λ (q : ℕ × ℕ). q.1 ≢ i) (λ (q : ℕ × ℕ). q.1 ≡ i) r (keys m) (λ q ne e. ne e) cases (h.0.state, h.0.alt)
+        (held_key h.0 h.1) h.2),
   )
     where
       get_or_any : (k : ℕ) → k < length (keys m) → get_or (keys m) k (get_or (keys m) k (0, 0)) ≡ get_or (keys m) k (0, 0)

@@ -39,7 +39,8 @@ module _ (v : View) (canon : IsCanonical v.graph) (nodes : AreNodes v.graph v.no
     (λ alike x y in_x in_y. alike x.state x.alternative x.stacks y.state y.alternative y.stacks ((entries x).0 in_x) ((entries y).0 in_y)),
   )
 
-  pub alike_verdict : (r : Bool) → AreEntries v.nodes xs → (IsTrue r ↔ AreAlike v.nodes xs) → ((c d : Config) × Holds v c × Holds v d × (c.alt ≢ d.alt)) → IsTrue r ↔ Alike (Holds v)
+  pub alike_verdict : (r : Bool) → AreEntries v.nodes xs → (IsTrue r ↔ AreAlike v.nodes xs)
+      → ((c d : Config) × Holds v c × Holds v d × (c.alt ≢ d.alt)) → IsTrue r ↔ Alike (Holds v)
   alike_verdict r entries answer several =
       let same = alike_exact v.graph v.nodes canon nodes several in
       let groups = groups_alike entries in
@@ -56,19 +57,29 @@ module _ (v : View) (canon : IsCanonical v.graph) (nodes : AreNodes v.graph v.no
           let y : Group = get_or xs j (made 0 0 0) in
           let in_x : Contains xs x = (i, omega arith, get_or_default xs i x (made 0 0 0) (omega arith)) in
           let in_y : Contains xs y = (j, omega arith, get_or_default xs j y (made 0 0 0) (omega arith)) in
-          let pairs : pair_of x ≡ pair_of y = sym (get_or-map pair_of xs i (made 0 0 0) (0, 0) (omega arith)) ∙ same (0, 0) ∙ get_or-map pair_of xs j (made 0 0 0) (0, 0) (omega arith) in
-          let before : ComesBefore x y = groups.ascending i j (made 0 0 0) lt (omega arith) in
-          (x.state, x.alternative, y.alternative, x.stacks, apart x y pairs before, (groups.entries x).0 in_x, at_pair x y pairs ((groups.entries y).0 in_y))
+          let pairs : pair_of x ≡ pair_of y = sym (get_or-map pair_of xs i (made 0 0 0) (0, 0) (omega arith)) ∙ same (0, 0)
+          ∙ get_or-map pair_of xs j (made 0 0 0) (0, 0) (omega arith) in
+          let before : ComesBefore x y = groups.ascending i j (made 0 0 0) lt (omega arith) in (
+            x.state,
+            x.alternative,
+            y.alternative,
+            x.stacks,
+            apart x y pairs before,
+            (groups.entries x).0 in_x,
+            at_pair x y pairs ((groups.entries y).0 in_y),
+          )
         where
           apart : (x y : Group) → pair_of x ≡ pair_of y → ComesBefore x y → x.alternative ≢ y.alternative
           apart x y pairs (inl less) e = let p : x.state ≡ y.state = ap (λ (q : ℕ × ℕ). q.0) pairs in omega arith
           apart x y pairs (inr less) e = omega (arith, less.1)
 
-          at_pair : (x y : Group) → pair_of x ≡ pair_of y → node_at v.nodes (y.state, y.alternative) ≡ Some y.stacks → node_at v.nodes (x.state, y.alternative) ≡ Some x.stacks
+          at_pair : (x y : Group) → pair_of x ≡ pair_of y → node_at v.nodes (y.state, y.alternative) ≡ Some y.stacks
+              → node_at v.nodes (x.state, y.alternative) ≡ Some x.stacks
           at_pair x y pairs at =
               let p : y.state ≡ x.state = ap (λ (q : ℕ × ℕ). q.0) (sym pairs) in
               let n : y.stacks ≡ x.stacks = ap (λ (q : ℕ × ℕ). q.1) (sym pairs) in
-              subst (λ (k : ℕ). node_at v.nodes (x.state, y.alternative) ≡ Some k) n (subst (λ (p : ℕ). node_at v.nodes (p, y.alternative) ≡ Some y.stacks) p at)
+              subst (λ (k : ℕ). node_at v.nodes (x.state, y.alternative) ≡ Some k) n
+              (subst (λ (p : ℕ). node_at v.nodes (p, y.alternative) ≡ Some y.stacks) p at)
 
       from : NodesConflict v.nodes → HasTwice (map pair_of xs)
       from (p, i, j, n, ne, a, b) = two ((groups.entries (made p i n)).1 a) ((groups.entries (made p j n)).1 b)
@@ -112,7 +123,8 @@ module _ (v : View) (canon : IsCanonical v.graph) (nodes : AreNodes v.graph v.no
           only j k (l, l_in, e) =
               let y : Group = made (get_or xs i (made 0 0 0)).state j k in
               let here : get_or xs i y ≡ get_or xs i (made 0 0 0) = get_or_default xs i y (made 0 0 0) within in
-              let state : (get_or xs l y).state ≡ (get_or xs i y).state = ap (λ (x : Group). x.state) e ∙ ap (λ (x : Group). x.state) (sym here) in
+              let state : (get_or xs l y).state ≡ (get_or xs i y).state =
+              ap (λ (x : Group). x.state) e ∙ ap (λ (x : Group). x.state) (sym here) in
               let same : l ≡ i = lone l y l_in state in
               ap (λ (x : Group). x.alternative) (sym e ∙ ap (λ (h : ℕ). get_or xs h y) same ∙ here)
 
@@ -123,7 +135,8 @@ module _ (v : View) (canon : IsCanonical v.graph) (nodes : AreNodes v.graph v.no
           order k l = grind arith
 
           -- two groups of one state and one alternative are at one place
-          one : (j k : ℕ) (d : Group) → j < length xs → k < length xs → (get_or xs j d).state ≡ (get_or xs k d).state → (get_or xs j d).alternative ≡ (get_or xs k d).alternative → j ≡ k
+          one : (j k : ℕ) (d : Group) → j < length xs → k < length xs → (get_or xs j d).state ≡ (get_or xs k d).state
+              → (get_or xs j d).alternative ≡ (get_or xs k d).alternative → j ≡ k
           one j k d j_in k_in e f = elim (order j k) [
             | inl lt ↦ absurd (apart (get_or xs j d) (get_or xs k d) (groups.ascending j k d lt k_in) e f)
             | inr (inl same) ↦ same
@@ -143,7 +156,8 @@ module _ (v : View) (canon : IsCanonical v.graph) (nodes : AreNodes v.graph v.no
                   let here : get_or xs k d ≡ made p i n = get_or_default xs k d (made p i n) k_in ∙ e in
                   let in_y : Contains xs y = (j, j_in, get_or_default xs j y d j_in) in
                   let at_p : y.state ≡ p = state ∙ ap (λ (x : Group). x.state) here in
-                  let found : node_at v.nodes (p, y.alternative) ≡ Some y.stacks = subst (λ (q : ℕ). node_at v.nodes (q, y.alternative) ≡ Some y.stacks) at_p ((groups.entries y).0 in_y) in
+                  let found : node_at v.nodes (p, y.alternative) ≡ Some y.stacks =
+                  subst (λ (q : ℕ). node_at v.nodes (q, y.alternative) ≡ Some y.stacks) at_p ((groups.entries y).0 in_y) in
                   one j k d j_in k_in state (only y.alternative y.stacks found ∙ ap (λ (x : Group). x.alternative) (sym here))
 
   pub lone_verdict : (r : Bool) → AreGroups v xs → (IsTrue r ↔ ((i : ℕ) × (i < length xs) × IsLone xs i)) → IsTrue r ↔ LoneState (Holds v)

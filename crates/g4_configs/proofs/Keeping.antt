@@ -48,7 +48,8 @@ module _ (net : ParserNetwork) (g : List Content) (m : Entries) where
   found_kept q b is = lookup-filter-keys (is_at (pair_cmp q)) (keeps_pair net) b at_key m
     where
       at_key : (k : ℕ × ℕ) → is_at (pair_cmp q) k ≡ true → keeps_pair net k ≡ b
-      at_key k h = subst (λ (r : ℕ × ℕ). keeps_pair net r ≡ b) (exact_pairs nat_cmp nat_cmp exact_unsigned exact_unsigned q k ((Equal-is (pair_cmp q k)).0 h)) is
+      at_key k h = subst (λ (r : ℕ × ℕ). keeps_pair net r ≡ b)
+          (exact_pairs nat_cmp nat_cmp exact_unsigned exact_unsigned q k ((Equal-is (pair_cmp q k)).0 h)) is
 
   pub kept_nodes : (m' : Entries) → m' ≡ kept → AreNodes g m → AreNodes g m'
   kept_nodes m' at nodes q n is = by (keeps_pair net q) refl
@@ -60,8 +61,11 @@ module _ (net : ParserNetwork) (g : List Content) (m : Entries) where
       by true e = nodes q n (sym (found_kept q true e) ∙ here)
       by false e = let no : None ≡ Some n = sym (found_kept q false e) ∙ here in absurd cc
 
-  pub kept_members : (v w : View) (m' : Entries) → m' ≡ kept → Path View (record { graph = g; nodes = m }) v → Path View (record { graph = g; nodes = m' }) w → (c : Config) → Holds w c ↔ (Holds v c × IsKept net c)
-  kept_members v w m' at old new c = subst (λ (u : View). Holds u c ↔ (Holds v c × IsKept net c)) new (subst (λ (u : View). Within g m' c ↔ (Holds u c × IsKept net c)) old (subst (λ (es : Entries). Within g es c ↔ (Within g m c × IsKept net c)) (sym at) (by (keeps_pair net (c.state, c.alt)) refl)))
+  pub kept_members : (v w : View) (m' : Entries) → m' ≡ kept → Path View (record { graph = g; nodes = m }) v
+      → Path View (record { graph = g; nodes = m' }) w → (c : Config) → Holds w c ↔ (Holds v c × IsKept net c)
+  kept_members v w m' at old new c = subst (λ (u : View). Holds u c ↔ (Holds v c × IsKept net c)) new
+      (subst (λ (u : View). Within g m' c ↔ (Holds u c × IsKept net c)) old
+      (subst (λ (es : Entries). Within g es c ↔ (Within g m c × IsKept net c)) (sym at) (by (keeps_pair net (c.state, c.alt)) refl)))
     where
       by : (b : Bool) → keeps_pair net (c.state, c.alt) ≡ b → Within g kept c ↔ (Within g m c × IsKept net c)
       by true e =

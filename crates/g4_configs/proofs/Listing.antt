@@ -57,7 +57,8 @@ at_some g (y ∷ xs) c x (inl e) i = inl (subst (λ (z : Group). InGroup g z c) 
 at_some g (y ∷ xs) c x (inr j) i = inr (at_some g xs c x j i)
 
 group_equal : (x y : Group) → x.state ≡ y.state → x.alternative ≡ y.alternative → x.stacks ≡ y.stacks → x ≡ y
-group_equal x y e f h = ap (λ (p : ℕ). made p x.alternative x.stacks) e ∙ (ap (λ (i : ℕ). made y.state i x.stacks) f ∙ ap (λ (n : ℕ). made y.state y.alternative n) h)
+group_equal x y e f h = ap (λ (p : ℕ). made p x.alternative x.stacks) e
+    ∙ (ap (λ (i : ℕ). made y.state i x.stacks) f ∙ ap (λ (n : ℕ). made y.state y.alternative n) h)
   where
     made : ℕ → ℕ → ℕ → Group
     made p i n = record { state = p; alternative = i; stacks = n }
@@ -91,7 +92,8 @@ unfolding IsStrictlySortedBy
 ascends [] sorted = λ i j d lt in'. absurd (omega arith)
 ascends (e ∷ es) sorted = AllPairs-cons ComesBefore (group_of e) (map group_of es) (first es sorted.0) (ascends es sorted.1)
   where
-    first : (fs : List ((ℕ × ℕ) × ℕ)) → AllByRecursion (λ q. pair_cmp e.0 q ≡ Less) (keys_of fs) → All (ComesBefore (group_of e)) (map group_of fs)
+    first : (fs : List ((ℕ × ℕ) × ℕ)) → AllByRecursion (λ q. pair_cmp e.0 q ≡ Less) (keys_of fs)
+        → All (ComesBefore (group_of e)) (map group_of fs)
     first [] less = λ k d lt. absurd (omega arith)
     first (f ∷ fs) less = All-cons (ComesBefore (group_of e)) (group_of f) (map group_of fs) (comes_before e f less.0) (first fs less.1)
 
@@ -106,16 +108,20 @@ module _ (g : List Content) (m : BTreeMap (ℕ × ℕ) ℕ) (nodes : AreNodes g 
   listed_from : (x : Group) → node_at m.entries (x.state, x.alternative) ≡ Some x.stacks → In x (map group_of m.entries)
   listed_from x got =
       let p = place_from_lookup (is_at (pair_cmp (x.state, x.alternative))) m.entries x.stacks got in
-      let same : (x.state, x.alternative) ≡ p.1 = exact_pairs nat_cmp nat_cmp exact_unsigned exact_unsigned (x.state, x.alternative) p.1 ((Equal-is (pair_cmp (x.state, x.alternative) p.1)).0 p.3) in
+      let same : (x.state, x.alternative) ≡ p.1 =
+      exact_pairs nat_cmp nat_cmp exact_unsigned exact_unsigned (x.state, x.alternative) p.1
+      ((Equal-is (pair_cmp (x.state, x.alternative) p.1)).0 p.3) in
       let there : In (p.1, x.stacks) m.entries = place_in _ m.entries p.0 p.2 in
-      let at : In ((x.state, x.alternative), x.stacks) m.entries = subst (λ (q : ℕ × ℕ). let y : (ℕ × ℕ) × ℕ = (q, x.stacks) in In y m.entries) (sym same) there in
+      let at : In ((x.state, x.alternative), x.stacks) m.entries =
+      subst (λ (q : ℕ × ℕ). let y : (ℕ × ℕ) × ℕ = (q, x.stacks) in In y m.entries) (sym same) there in
       groups_in m.entries ((x.state, x.alternative), x.stacks) at
 
   pub parts_of : (found : List Group) → found ≡ map group_of m.entries → AreParts g found
   parts_of found is = record {
     known = λ x i. (nodes (x.state, x.alternative) x.stacks (member x i)).0;
     filled = λ x i. (nodes (x.state, x.alternative) x.stacks (member x i)).1;
-    once = λ x y i j e f. group_equal x y e f (some_equal (sym (member x i) ∙ ap (λ (q : ℕ × ℕ). node_at m.entries q) (keys x.state x.alternative y.state y.alternative e f) ∙ (member y j)));
+    once = λ x y i j e f. group_equal x y e f (some_equal
+        (sym (member x i) ∙ ap (λ (q : ℕ × ℕ). node_at m.entries q) (keys x.state x.alternative y.state y.alternative e f) ∙ (member y j)));
   }
     where
       keys : (a b a' b' : ℕ) → a ≡ a' → b ≡ b' → Path (ℕ × ℕ) (a, b) (a', b')
@@ -131,8 +137,10 @@ module _ (g : List Content) (m : BTreeMap (ℕ × ℕ) ℕ) (nodes : AreNodes g 
       to i =
           let x = some_at g found c i in
           let l = listed_to x.0 (subst (In x.0) is x.1) in
-          let at_alt : node_at m.entries (c.state, x.0.alternative) ≡ Some x.0.stacks = subst (λ (p : ℕ). node_at m.entries (p, x.0.alternative) ≡ Some x.0.stacks) (sym x.2.state) l in
-          let at_c : node_at m.entries (c.state, c.alt) ≡ Some x.0.stacks = subst (λ (j : ℕ). node_at m.entries (c.state, j) ≡ Some x.0.stacks) (sym x.2.alt) at_alt in
+          let at_alt : node_at m.entries (c.state, x.0.alternative) ≡ Some x.0.stacks =
+          subst (λ (p : ℕ). node_at m.entries (p, x.0.alternative) ≡ Some x.0.stacks) (sym x.2.state) l in
+          let at_c : node_at m.entries (c.state, c.alt) ≡ Some x.0.stacks =
+          subst (λ (j : ℕ). node_at m.entries (c.state, j) ≡ Some x.0.stacks) (sym x.2.alt) at_alt in
           subst (λ (o : Option ℕ). HasAt g o c.stack.returns c.stack.wild) (sym at_c) x.2.stack
 
       by : (o : Option ℕ) → node_at m.entries (c.state, c.alt) ≡ o → HasAt g o c.stack.returns c.stack.wild → InSome g found c
@@ -141,7 +149,8 @@ module _ (g : List Content) (m : BTreeMap (ℕ × ℕ) ℕ) (nodes : AreNodes g 
           let x : Group = record { state = c.state; alternative = c.alt; stacks = n } in
           at_some g found c x (subst (In x) (sym is) (listed_from x e)) (record { state = refl; alt = refl; stack = w })
 
-  pub groups_listed : (v : View) (found : List Group) → Path View (record { graph = g; nodes = m.entries }) v → found ≡ map group_of m.entries → AreGroups v found
+  pub groups_listed : (v : View) (found : List Group) → Path View (record { graph = g; nodes = m.entries }) v
+      → found ≡ map group_of m.entries → AreGroups v found
   groups_listed v found at is = subst (λ (u : View). AreGroups u found) at (record {
     parts = parts_of found is;
     members = members_of found is;

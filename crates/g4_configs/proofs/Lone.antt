@@ -6,8 +6,14 @@ use Rattle.g4_configs.specs.Groups.{ComesBefore}
 use Rattle.g4_configs.specs.Verdicts.{Follows, IsLone}
 
 -- the states before an index that has been tested
-pub follows_at : (xs : List Group) (i : ℕ) (e : Group) → 0 < i → i < length xs → (get_or xs (i - 1) e).state ≡ (get_or xs i e).state → Follows xs i
-follows_at xs i e pos within same = (pos, within, λ d. ap (λ (x : Group). x.state) (get_or_default xs (i - 1) d e (omega arith)) ∙ same ∙ ap (λ (x : Group). x.state) (get_or_default xs i e d within))
+pub follows_at : (xs : List Group) (i : ℕ) (e : Group) → 0 < i → i < length xs → (get_or xs (i - 1) e).state ≡ (get_or xs i e).state
+    → Follows xs i
+follows_at xs i e pos within same = (
+  pos,
+  within,
+  λ d. ap (λ (x : Group). x.state) (get_or_default xs (i - 1) d e (omega arith))
+      ∙ same ∙ ap (λ (x : Group). x.state) (get_or_default xs i e d within),
+)
 
 module _ (xs : List Group) (ascending : AllPairs ComesBefore xs) where
   state_of : ℕ → Group → ℕ
@@ -29,7 +35,8 @@ module _ (xs : List Group) (ascending : AllPairs ComesBefore xs) where
       before x y (inr less) = omega (arith, less.0)
 
   -- so between two groups of one state all are of it
-  between : (i j k : ℕ) (d : Group) → i ≤ j → j ≤ k → k < length xs → (get_or xs i d).state ≡ (get_or xs k d).state → (get_or xs j d).state ≡ (get_or xs k d).state
+  between : (i j k : ℕ) (d : Group) → i ≤ j → j ≤ k → k < length xs → (get_or xs i d).state ≡ (get_or xs k d).state
+      → (get_or xs j d).state ≡ (get_or xs k d).state
   between i j k d low high within same =
       let a = rising i j d low (omega arith) in
       let b = rising j k d high within in
@@ -39,7 +46,8 @@ module _ (xs : List Group) (ascending : AllPairs ComesBefore xs) where
   lone_between i within first last j d j_in same = elim (order j i) [
     | inl lt ↦ absurd (first (follows_at xs i d (omega arith) within (between j (i - 1) i d (omega arith) (omega arith) within same)))
     | inr (inl e) ↦ e
-    | inr (inr lt) ↦ absurd (last (follows_at xs (i + 1) d (omega arith) (omega arith) (back d ∙ sym (between i (i + 1) j d (omega arith) (omega arith) j_in (sym same) ∙ same))))
+    | inr (inr lt) ↦ absurd (last (follows_at xs (i + 1) d (omega arith) (omega arith)
+        (back d ∙ sym (between i (i + 1) j d (omega arith) (omega arith) j_in (sym same) ∙ same))))
   ]
     where
       back : (d : Group) → (get_or xs (i + 1 - 1) d).state ≡ (get_or xs i d).state

@@ -24,7 +24,8 @@ module _ (g : List Content) (m : Entries) where
   pub held : (c : Config) → Within g m c → (n : ℕ) × (node_at m (c.state, c.alt) ≡ Some n) × HasOf g n c.stack.returns c.stack.wild
   held c w = by (node_at m (c.state, c.alt)) refl w
     where
-      by : (o : Option ℕ) → node_at m (c.state, c.alt) ≡ o → HasAt g o c.stack.returns c.stack.wild → (n : ℕ) × (node_at m (c.state, c.alt) ≡ Some n) × HasOf g n c.stack.returns c.stack.wild
+      by : (o : Option ℕ) → node_at m (c.state, c.alt) ≡ o → HasAt g o c.stack.returns c.stack.wild
+          → (n : ℕ) × (node_at m (c.state, c.alt) ≡ Some n) × HasOf g n c.stack.returns c.stack.wild
       by None e h = absurd h
       by (Some n) e h = (n, e, h)
 
@@ -73,7 +74,8 @@ module _ (g : List Content) (m : Entries) where
         to (p, i, n, a, only) = (p, i, some_stack p i n a, (λ j s w. let k = held (config p j s) w in only j k.0 k.1))
 
         from : LoneState (Within g m) → HasLoneNode m
-        from (p, i, (s, w), only) = let k = held (config p i s) w in (p, i, k.0, k.1, (λ j n a. let z = some_stack p j n a in only j z.0 z.1))
+        from (p, i, (s, w), only) = let k = held (config p i s) w in
+            (p, i, k.0, k.1, (λ j n a. let z = some_stack p j n a in only j z.0 z.1))
 
     pub alike_exact : ((c d : Config) × Within g m c × Within g m d × (c.alt ≢ d.alt)) → NodesAlike m ↔ Alike (Within g m)
     alike_exact several = (to, from)
@@ -85,7 +87,8 @@ module _ (g : List Content) (m : Entries) where
               let x = held c in_c in
               let y = held d in_d in
               let z = held e in_e in
-              same_stacks e.state c.alt d.alt z.0 (alike c.state c.alt x.0 e.state e.alt z.0 x.1 z.1) (alike d.state d.alt y.0 e.state e.alt z.0 y.1 z.1);
+              same_stacks e.state c.alt d.alt z.0 (alike c.state c.alt x.0 e.state e.alt z.0 x.1 z.1)
+              (alike d.state d.alt y.0 e.state e.alt z.0 y.1 z.1);
         }
 
         from : Alike (Within g m) → NodesAlike m

@@ -27,7 +27,11 @@ some_more : (g : List Content) (xs : List Group) (x : Group) (c : Config) → In
 some_more g [] x c = ((λ i. elim i [ inl a ↦ inr a | inr a ↦ absurd a ]), (λ o. elim o [ inl a ↦ absurd a | inr a ↦ inl a ]))
 some_more g (y ∷ ys) x c = (
   (λ i. elim i [ inl a ↦ inl (inl a) | inr a ↦ elim ((some_more g ys x c).0 a) [ inl b ↦ inl (inr b) | inr b ↦ inr b ] ]),
-  (λ o. elim o [ inl a ↦ elim a [ inl b ↦ inl b | inr b ↦ inr ((some_more g ys x c).1 (inl b)) ] | inr a ↦ inr ((some_more g ys x c).1 (inr a)) ]),
+  (λ o. elim o [
+    | inl a ↦ elim a [ inl b ↦ inl b | inr b ↦ inr ((some_more g ys x c).1 (inl b)) ]
+    | inr a ↦ inr
+        ((some_more g ys x c).1 (inr a))
+  ]),
 )
 
 -- a group of the list
@@ -39,22 +43,27 @@ known_at g (x ∷ xs) (suc k) d known lt = known_at g xs k d known.1 (omega (ari
 take_next : (xs : List Group) (k : ℕ) (d : Group) → k < length xs → take (k + 1) xs ≡ take k xs ++ get_or xs k d ∷ []
 take_next xs k d lt = let n : k + 1 ≡ suc k = omega arith in ap (λ (m : ℕ). take m xs) n ∙ take-suc xs k d lt
 
-pub merging_goes_on : (g : List Content) (m : Entries) (xs : List Group) (k : ℕ) (d : Group) (h : List Content) (m' : Entries) (h' : List Content) (m'' : Entries) → k < length xs → AreKnown g xs
-    → IsMerging g m (take k xs) h m' → Keeps h h' → AreNodes h' m'' → ((c : Config) → Within h' m'' c ↔ (Within h m' c ⊎ InGroup h (get_or xs k d) c)) → IsMerging g m (take (k + 1) xs) h' m''
-merging_goes_on g m xs k d h m' h' m'' lt known i kept nodes members = subst (λ (ys : List Group). IsMerging g m ys h' m'') (sym (take_next xs k d lt)) (record {
-  keeps = keeps_then g h h' i.keeps kept;
-  nodes = nodes;
-  members = λ c. (
-    (λ w. elim (let f : Within h m' c ⊎ InGroup h x c = (members c).0 w in f) [
-      | inl a ↦ elim (let f : Within g m c ⊎ InSome g (take k xs) c = (i.members c).0 a in f) [ inl b ↦ inl b | inr b ↦ inr ((some_more g (take k xs) x c).1 (inl b)) ]
-      | inr a ↦ inr ((some_more g (take k xs) x c).1 (inr ((group_kept g h x i.keeps in' c).1 a)))
-    ]),
-    (λ o. (members c).1 (elim o [
-      | inl a ↦ inl ((i.members c).1 (inl a))
-      | inr a ↦ elim (let f : InSome g (take k xs) c ⊎ InGroup g x c = (some_more g (take k xs) x c).0 a in f) [ inl b ↦ inl ((i.members c).1 (inr b)) | inr b ↦ inr ((group_kept g h x i.keeps in' c).0 b) ]
-    ])),
-  );
-})
+pub merging_goes_on : (g : List Content) (m : Entries) (xs : List Group) (k : ℕ) (d : Group) (h : List Content) (m' : Entries)
+    (h' : List Content) (m'' : Entries) → k < length xs → AreKnown g xs
+    → IsMerging g m (take k xs) h m' → Keeps h h' → AreNodes h' m''
+    → ((c : Config) → Within h' m'' c ↔ (Within h m' c ⊎ InGroup h (get_or xs k d) c)) → IsMerging g m (take (k + 1) xs) h' m''
+merging_goes_on g m xs k d h m' h' m'' lt known i kept nodes members =
+    subst (λ (ys : List Group). IsMerging g m ys h' m'') (sym (take_next xs k d lt)) (record {
+      keeps = keeps_then g h h' i.keeps kept;
+      nodes = nodes;
+      members = λ c. (
+        (λ w. elim (let f : Within h m' c ⊎ InGroup h x c = (members c).0 w in f) [
+          | inl a ↦ elim (let f : Within g m c ⊎ InSome g (take k xs) c = (i.members c).0 a in f)
+              [ inl b ↦ inl b | inr b ↦ inr ((some_more g (take k xs) x c).1 (inl b)) ]
+          | inr a ↦ inr ((some_more g (take k xs) x c).1 (inr ((group_kept g h x i.keeps in' c).1 a)))
+        ]),
+        (λ o. (members c).1 (elim o [
+          | inl a ↦ inl ((i.members c).1 (inl a))
+          | inr a ↦ elim (let f : InSome g (take k xs) c ⊎ InGroup g x c = (some_more g (take k xs) x c).0 a in f)
+              [ inl b ↦ inl ((i.members c).1 (inr b)) | inr b ↦ inr ((group_kept g h x i.keeps in' c).0 b) ]
+        ])),
+      );
+    })
   where
     x : Group
     x = get_or xs k d
@@ -63,8 +72,10 @@ merging_goes_on g m xs k d h m' h' m'' lt known i kept nodes members = subst (λ
     in' = known_at g xs k d known lt
 
 -- the entries of the map as groups have the configurations of the groups
-pub merged_means : (g h : List Content) (m0 : Entries) (xs : List Group) (m : BTreeMap (ℕ × ℕ) ℕ) (found : List Group) → m0 ≡ [] → AreNodes h m.entries → IsOrdered pair_cmp m
-    → ((c : Config) → Within h m.entries c ↔ (Within g m0 c ⊎ InSome g xs c)) → found ≡ map group_of m.entries → Same (InSome h found) (InSome g xs)
+pub merged_means : (g h : List Content) (m0 : Entries) (xs : List Group) (m : BTreeMap (ℕ × ℕ) ℕ) (found : List Group) → m0 ≡ []
+    → AreNodes h m.entries → IsOrdered pair_cmp m
+    → ((c : Config) → Within h m.entries c ↔ (Within g m0 c ⊎ InSome g xs c)) → found ≡ map group_of m.entries
+    → Same (InSome h found) (InSome g xs)
 merged_means g h m0 xs m found none nodes ordered members is c = (
   (λ i. elim (let f : Within g m0 c ⊎ InSome g xs c = (members c).0 ((members_of h m nodes ordered found is c).0 i) in f) [
     | inl a ↦ absurd (let b : Within g [] c = subst (λ (e : Entries). Within g e c) none a in b)
@@ -73,5 +84,6 @@ merged_means g h m0 xs m found none nodes ordered members is c = (
   (λ i. (members_of h m nodes ordered found is c).1 ((members c).1 (inr i))),
 )
 
-pub merged_parts : (h : List Content) (m : BTreeMap (ℕ × ℕ) ℕ) (found : List Group) → AreNodes h m.entries → IsOrdered pair_cmp m → found ≡ map group_of m.entries → AreParts h found
+pub merged_parts : (h : List Content) (m : BTreeMap (ℕ × ℕ) ℕ) (found : List Group) → AreNodes h m.entries → IsOrdered pair_cmp m
+    → found ≡ map group_of m.entries → AreParts h found
 merged_parts h m found nodes ordered is = parts_of h m nodes ordered found is

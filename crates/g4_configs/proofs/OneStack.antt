@@ -17,7 +17,8 @@ pub record IsOneStack (old new : List Content) (n : ℕ) (returns : List ℕ) (w
   pub known : IsNode new n
   pub means : (s : Stack) → Has new n s ↔ (s ≡ stack_of returns wild)
 
-pub one_more : (g h k : List Content) (n m : ℕ) (returns : List ℕ) (i : ℕ) (wild : Bool) → i < length returns → IsOneStack g h n (take i returns) wild → Keeps h k → IsNode k m
+pub one_more : (g h k : List Content) (n m : ℕ) (returns : List ℕ) (i : ℕ) (wild : Bool) → i < length returns
+    → IsOneStack g h n (take i returns) wild → Keeps h k → IsNode k m
     → ((s : Stack) → Has k m s ↔ IsPushed h n (get_or returns i 0) s) → IsOneStack g k m (take (i + 1) returns) wild
 one_more g h k n m returns i wild lt one kept known means = record {
   keeps = keeps_then g h k one.keeps kept;
@@ -32,4 +33,6 @@ one_more g h k n m returns i wild lt one kept known means = record {
     next = let e : i + 1 ≡ suc i = omega arith in ap (λ (k : ℕ). take k returns) e ∙ take-suc returns i 0 lt
 
     whole : stack_of (take (i + 1) returns) wild ≡ pushed (get_or returns i 0) (stack_of (take i returns) wild)
-    whole = ap (λ (xs : List ℕ). stack_of xs wild) next ∙ ap (λ (xs : List ℕ). let s : Stack = record { returns = xs; wild = wild } in s) (reverse-append (take i returns) (get_or returns i 0 ∷ []))
+    whole = ap (λ (xs : List ℕ). stack_of xs wild) next
+        ∙ ap (λ (xs : List ℕ). let s : Stack = record { returns = xs; wild = wild } in s)
+        (reverse-append (take i returns) (get_or returns i 0 ∷ []))

@@ -27,7 +27,8 @@ abbrev BeginsElsewhere : ℕ × ℕ → List Config → Type 0
 BeginsElsewhere q [] = Unit {0}
 BeginsElsewhere q (c ∷ cs) = key_of c ≢ q
 
-begins_elsewhere : (q : ℕ × ℕ) (qs : List (ℕ × ℕ)) (ls : List (List Stack)) → AllByRecursion (PairBefore q) qs → IsParted qs ls → BeginsElsewhere q (row_of qs ls)
+begins_elsewhere : (q : ℕ × ℕ) (qs : List (ℕ × ℕ)) (ls : List (List Stack)) → AllByRecursion (PairBefore q) qs → IsParted qs ls
+    → BeginsElsewhere q (row_of qs ls)
 unfolding key_of
 begins_elsewhere q [] ls before parted = tt
 begins_elsewhere q (r ∷ qs) [] before parted = absurd parted
@@ -39,7 +40,8 @@ begins_elsewhere q (r ∷ qs) ((s ∷ m) ∷ ls) before parted = λ e. apart r b
     apart r (inr less) e = let p : r.1 ≡ q.1 = ap (λ (k : ℕ × ℕ). k.1) e in omega (arith, less.1)
 
 -- equal rows begin with equal lists for a state and alternative that neither rest begins with
-cut : (q : ℕ × ℕ) (m n : List Stack) (rest more : List Config) → BeginsElsewhere q rest → BeginsElsewhere q more → configs_of q m ++ rest ≡ configs_of q n ++ more → (m ≡ n) × (rest ≡ more)
+cut : (q : ℕ × ℕ) (m n : List Stack) (rest more : List Config) → BeginsElsewhere q rest → BeginsElsewhere q more
+    → configs_of q m ++ rest ≡ configs_of q n ++ more → (m ≡ n) × (rest ≡ more)
 unfolding key_of
 cut q [] [] rest more a b e = (refl, e)
 cut q [] (s ∷ n) rest more a b e = absurd ((subst (BeginsElsewhere q) e a) refl)
@@ -53,7 +55,8 @@ cut q (s ∷ m) (t ∷ n) rest more a b e =
     (lists, same.1)
 
 -- equal rows have equal states and alternatives, with equal stacks
-pub parts_equal : (qs rs : List (ℕ × ℕ)) (ls ms : List (List Stack)) → IsParted qs ls → IsParted rs ms → row_of qs ls ≡ row_of rs ms → (qs ≡ rs) × (ls ≡ ms)
+pub parts_equal : (qs rs : List (ℕ × ℕ)) (ls ms : List (List Stack)) → IsParted qs ls → IsParted rs ms → row_of qs ls ≡ row_of rs ms
+    → (qs ≡ rs) × (ls ≡ ms)
 unfolding key_of
 parts_equal [] [] [] [] a b e = (refl, refl)
 parts_equal [] rs (l ∷ ls) ms a b e = absurd a
@@ -70,16 +73,19 @@ parts_equal (q ∷ qs) (r ∷ rs) ((s ∷ l) ∷ ls) ([] ∷ ms) a b e = absurd 
 parts_equal (q ∷ qs) (r ∷ rs) ((s ∷ l) ∷ ls) ((t ∷ m) ∷ ms) a b e =
     let head : config q.0 q.1 s ≡ config r.0 r.1 t = cc in
     let key : q ≡ r = ap (λ (c : Config). key_of c) head in
-    let moved : configs_of q (s ∷ l) ++ row_of qs ls ≡ configs_of q (t ∷ m) ++ row_of rs ms = subst (λ (p : ℕ × ℕ). configs_of q (s ∷ l) ++ row_of qs ls ≡ configs_of p (t ∷ m) ++ row_of rs ms) (sym key) e in
+    let moved : configs_of q (s ∷ l) ++ row_of qs ls ≡ configs_of q (t ∷ m) ++ row_of rs ms =
+    subst (λ (p : ℕ × ℕ). configs_of q (s ∷ l) ++ row_of qs ls ≡ configs_of p (t ∷ m) ++ row_of rs ms) (sym key) e in
     let before = subst (λ (p : ℕ × ℕ). AllByRecursion (PairBefore p) rs) (sym key) b.1 in
-    let same = cut q (s ∷ l) (t ∷ m) (row_of qs ls) (row_of rs ms) (begins_elsewhere q qs ls a.1 a.2) (begins_elsewhere q rs ms before b.2) moved in
+    let same = cut q (s ∷ l) (t ∷ m) (row_of qs ls) (row_of rs ms) (begins_elsewhere q qs ls a.1 a.2)
+    (begins_elsewhere q rs ms before b.2) moved in
     let rest = parts_equal qs rs ls ms a.2 b.2 same.1 in
     let keys : q ∷ qs ≡ r ∷ rs = let k = rest.0 in cc in
     let lists : (s ∷ l) ∷ ls ≡ (t ∷ m) ∷ ms = let k = same.0 in let h = rest.1 in cc in
     (keys, lists)
 
 -- a test of both parts is a test of the rows
-pub rows_tell : (qs rs : List (ℕ × ℕ)) (ls ms : List (List Stack)) (v w : List Config) → row_of qs ls ≡ v → row_of rs ms ≡ w → IsParted qs ls → IsParted rs ms
+pub rows_tell : (qs rs : List (ℕ × ℕ)) (ls ms : List (List Stack)) (v w : List Config) → row_of qs ls ≡ v → row_of rs ms ≡ w
+    → IsParted qs ls → IsParted rs ms
     → (r : Bool) → qs ≡ rs → (IsTrue r ↔ (ls ≡ ms)) → IsTrue r ↔ (v ≡ w)
 rows_tell qs rs ls ms v w at_v at_w a b r same answer = (
   (λ t. sym at_v ∙ ap (λ (ps : List (ℕ × ℕ)). row_of ps ls) same ∙ ap (row_of rs) (answer.0 t) ∙ at_w),
@@ -87,7 +93,8 @@ rows_tell qs rs ls ms v w at_v at_w a b r same answer = (
 )
 
 -- equal rows have equal states and alternatives
-pub rows_apart : (qs rs : List (ℕ × ℕ)) (ls ms : List (List Stack)) (v w : List Config) → row_of qs ls ≡ v → row_of rs ms ≡ w → IsParted qs ls → IsParted rs ms → v ≡ w → qs ≡ rs
+pub rows_apart : (qs rs : List (ℕ × ℕ)) (ls ms : List (List Stack)) (v w : List Config) → row_of qs ls ≡ v → row_of rs ms ≡ w
+    → IsParted qs ls → IsParted rs ms → v ≡ w → qs ≡ rs
 rows_apart qs rs ls ms v w at_v at_w a b e = (parts_equal qs rs ls ms a b (at_v ∙ e ∙ sym at_w)).0
 
 -- members of joined lists
@@ -110,7 +117,11 @@ in_configs q [] c = ((λ h. absurd h), (λ o. absurd o.stack))
 in_configs q (s ∷ more) c =
     let r = in_configs q more c in (
       (λ h. elim h [
-        | inl e ↦ record { state = ap (λ (d : Config). d.state) e; alt = ap (λ (d : Config). d.alt) e; stack = inl (ap (λ (d : Config). d.stack) e) }
+        | inl e ↦ record {
+          state = ap (λ (d : Config). d.state) e;
+          alt = ap (λ (d : Config). d.alt) e;
+          stack = inl (ap (λ (d : Config). d.stack) e);
+        }
         | inr i ↦ (let o = r.0 i in record { state = o.state; alt = o.alt; stack = inr o.stack })
       ]),
       (λ o. elim o.stack [
@@ -120,7 +131,8 @@ in_configs q (s ∷ more) c =
     )
   where
     by_parts : (q : ℕ × ℕ) (s : Stack) (c : Config) → c.state ≡ q.0 → c.alt ≡ q.1 → c.stack ≡ s → c ≡ config q.0 q.1 s
-    by_parts q s c p i e = ap (λ (r : ℕ). config r c.alt c.stack) p ∙ ap (λ (a : ℕ). config q.0 a c.stack) i ∙ ap (λ (z : Stack). config q.0 q.1 z) e
+    by_parts q s c p i e = ap (λ (r : ℕ). config r c.alt c.stack) p ∙ ap (λ (a : ℕ). config q.0 a c.stack) i
+        ∙ ap (λ (z : Stack). config q.0 q.1 z) e
 
 -- the lists of the nodes of some entries
 abbrev pub row_at : List Content → List ((ℕ × ℕ) × ℕ) → List Config
@@ -160,7 +172,8 @@ all_before q [] less = tt
 all_before q (r ∷ rs) less = (pair_before q r less.0, all_before q rs less.1)
 
 -- the configurations of a list in order, before those of greater states and alternatives
-rising_before : (q : ℕ × ℕ) (stacks : List Stack) (rest : List Config) → StacksRise stacks → IsRising rest → ((c : Config) → In c rest → PairBefore q (c.state, c.alt)) → IsRising (configs_of q stacks ++ rest)
+rising_before : (q : ℕ × ℕ) (stacks : List Stack) (rest : List Config) → StacksRise stacks → IsRising rest
+    → ((c : Config) → In c rest → PairBefore q (c.state, c.alt)) → IsRising (configs_of q stacks ++ rest)
 rising_before q [] rest rise rising before = rising
 rising_before q (s ∷ []) [] rise rising before = tt
 rising_before q (s ∷ []) (d ∷ ds) rise rising before = (precede (before d (inl refl)), rising)
@@ -168,7 +181,8 @@ rising_before q (s ∷ []) (d ∷ ds) rise rising before = (precede (before d (i
     precede : PairBefore q (d.state, d.alt) → Precedes (config q.0 q.1 s) d
     precede (inl less) = inl less
     precede (inr less) = inr (less.0, inl less.1)
-rising_before q (s ∷ t ∷ more) rest rise rising before = (inr (refl, inr (refl, rise.0)), rising_before q (t ∷ more) rest rise.1 rising before)
+rising_before q (s ∷ t ∷ more) rest rise rising before =
+    (inr (refl, inr (refl, rise.0)), rising_before q (t ∷ more) rest rise.1 rising before)
 
 is_filled : (s : Stack) (stacks : List Stack) → In s stacks → IsFilled stacks
 is_filled s [] i = absurd i
@@ -189,12 +203,18 @@ module _ (g : List Content) (canon : IsCanonical g) where
   unfolding IsStrictlySortedBy
   row_rises [] sorted = tt
   row_rises (e ∷ es) sorted = rising_before e.0 (stacks_of g e.1) (row_at g es) (lists_in_order g canon e.1) (row_rises es sorted.1)
-      (λ c i. pair_before e.0 (c.state, c.alt) (in_all (λ (q : ℕ × ℕ). pair_cmp e.0 q ≡ Less) (keys_of es) (c.state, c.alt) sorted.0 (row_key es c i)))
+      (λ c i. pair_before e.0 (c.state, c.alt) (in_all (λ (q : ℕ × ℕ). pair_cmp e.0 q ≡ Less) (keys_of es) (c.state, c.alt) sorted.0
+      (row_key es c i)))
 
-  parted_by : (es : List ((ℕ × ℕ) × ℕ)) → IsStrictlySortedBy pair_cmp (keys_of es) → ((e : (ℕ × ℕ) × ℕ) → In e es → IsNode g e.1 × (0 < e.1)) → IsParted (keys_of es) (map (stacks_of g) (values_of es))
+  parted_by : (es : List ((ℕ × ℕ) × ℕ)) → IsStrictlySortedBy pair_cmp (keys_of es)
+      → ((e : (ℕ × ℕ) × ℕ) → In e es → IsNode g e.1 × (0 < e.1)) → IsParted (keys_of es) (map (stacks_of g) (values_of es))
   unfolding IsStrictlySortedBy
   parted_by [] sorted known = tt
-  parted_by (e ∷ es) sorted known = (filled e.1 (known e (inl refl)), all_before e.0 (keys_of es) sorted.0, parted_by es sorted.1 (λ f i. known f (inr i)))
+  parted_by (e ∷ es) sorted known = (
+    filled e.1 (known e (inl refl)),
+    all_before e.0 (keys_of es) sorted.0,
+    parted_by es sorted.1 (λ f i. known f (inr i)),
+  )
     where
       filled : (n : ℕ) → IsNode g n × (0 < n) → IsFilled (stacks_of g n)
       filled n node =
@@ -207,23 +227,28 @@ module _ (g : List Content) (canon : IsCanonical g) where
     entry_known e i = nodes e.0 e.1 (listed_to g m nodes ordered (group_of e) (groups_in m.entries e i))
 
     pub parted : (qs : List (ℕ × ℕ)) (ls : List (List Stack)) → qs ≡ keys m → ls ≡ map (stacks_of g) (values m) → IsParted qs ls
-    parted qs ls e f = subst (λ (rs : List (ℕ × ℕ)). IsParted rs ls) (sym e) (subst (IsParted (keys m)) (sym f) (parted_by m.entries ordered entry_known))
+    parted qs ls e f = subst (λ (rs : List (ℕ × ℕ)). IsParted rs ls) (sym e)
+        (subst (IsParted (keys m)) (sym f) (parted_by m.entries ordered entry_known))
 
     pub values_known : All (IsNode g) (values m)
-    values_known = each_all (IsNode g) (values m) (λ n h. (let e = value_entry m.entries n (In-from (values m) n h.0 h.1 h.2) in subst (IsNode g) (sym e.2) (entry_known e.0 e.1).0))
+    values_known = each_all (IsNode g) (values m)
+        (λ n h. (let e = value_entry m.entries n (In-from (values m) n h.0 h.1 h.2) in subst (IsNode g) (sym e.2) (entry_known e.0 e.1).0))
       where
         value_entry : (es : List ((ℕ × ℕ) × ℕ)) (n : ℕ) → In n (values_of es) → (e : (ℕ × ℕ) × ℕ) × In e es × (n ≡ e.1)
         value_entry [] n i = absurd i
         value_entry (e ∷ es) n (inl is) = (e, inl refl, is)
         value_entry (e ∷ es) n (inr i) = let r = value_entry es n i in (r.0, inr r.1, r.2)
 
-    pub row_is : (v : View) (qs : List (ℕ × ℕ)) (ls : List (List Stack)) → Path View (record { graph = g; nodes = m.entries }) v → qs ≡ keys m → ls ≡ map (stacks_of g) (values m) → IsRow (row_of qs ls) (Holds v)
-    row_is v qs ls at e f = subst (λ (row : List Config). IsRow row (Holds v)) (sym (ap (λ (rs : List (ℕ × ℕ)). row_of rs ls) e ∙ ap (row_of (keys m)) f)) (subst (λ (u : View). IsRow (row_at g m.entries) (Holds u)) at (record {
-      rising = row_rises m.entries ordered;
-      exactly = λ c.
-          let row = in_row g canon m.entries c in
-          let members = members_of g m nodes ordered (map group_of m.entries) refl c in (
-            (λ h. members.0 (row.0 (In-from (row_at g m.entries) c h.0 h.1 h.2))),
-            (λ w. In-to (row_at g m.entries) c (row.1 (members.1 w))),
-          );
-    }))
+    pub row_is : (v : View) (qs : List (ℕ × ℕ)) (ls : List (List Stack)) → Path View (record { graph = g; nodes = m.entries }) v
+        → qs ≡ keys m → ls ≡ map (stacks_of g) (values m) → IsRow (row_of qs ls) (Holds v)
+    row_is v qs ls at e f = subst (λ (row : List Config). IsRow row (Holds v))
+        (sym (ap (λ (rs : List (ℕ × ℕ)). row_of rs ls) e ∙ ap (row_of (keys m)) f))
+        (subst (λ (u : View). IsRow (row_at g m.entries) (Holds u)) at (record {
+          rising = row_rises m.entries ordered;
+          exactly = λ c.
+              let row = in_row g canon m.entries c in
+              let members = members_of g m nodes ordered (map group_of m.entries) refl c in (
+                (λ h. members.0 (row.0 (In-from (row_at g m.entries) c h.0 h.1 h.2))),
+                (λ w. In-to (row_at g m.entries) c (row.1 (members.1 w))),
+              );
+        }))

@@ -26,17 +26,25 @@ pairs_apart a b apart same = true≢false (sym ((pairs_Decides a b).1 same) ∙ 
 
 module _ (xs : List (ℕ × ℕ)) where
   -- the pairs at an index and before it
-  pub found_equal : (i : ℕ) → 1 ≤ i → i < length xs → true ≡ same_pairs (get_or xs (i - 1) (0, 0)) (get_or xs i (0, 0)) → HasEqualNeighbours xs
-  found_equal i from within same = (i - 1, omega arith, λ d. get_or_default xs (i - 1) d (0, 0) (omega arith) ∙ pairs_equal (get_or xs (i - 1) (0, 0)) (get_or xs i (0, 0)) same ∙ here d)
+  pub found_equal : (i : ℕ) → 1 ≤ i → i < length xs → true ≡ same_pairs (get_or xs (i - 1) (0, 0)) (get_or xs i (0, 0))
+      → HasEqualNeighbours xs
+  found_equal i from within same = (
+    i - 1,
+    omega arith,
+    λ d. get_or_default xs (i - 1) d (0, 0) (omega arith)
+        ∙ pairs_equal (get_or xs (i - 1) (0, 0)) (get_or xs i (0, 0)) same ∙ here d,
+  )
     where
       here : (d : ℕ × ℕ) → get_or xs i (0, 0) ≡ get_or xs (i - 1 + 1) d
       here d = let at : i ≡ i - 1 + 1 = omega arith in get_or_default xs i (0, 0) d within ∙ ap (λ (k : ℕ). get_or xs k d) at
 
-  pub one_more_apart : (i : ℕ) → 1 ≤ i → ((k : ℕ) → k + 1 < i → ((d : ℕ × ℕ) → get_or xs k d ≡ get_or xs (k + 1) d) → ⊥) → false ≡ same_pairs (get_or xs (i - 1) (0, 0)) (get_or xs i (0, 0))
+  pub one_more_apart : (i : ℕ) → 1 ≤ i → ((k : ℕ) → k + 1 < i → ((d : ℕ × ℕ) → get_or xs k d ≡ get_or xs (k + 1) d) → ⊥)
+      → false ≡ same_pairs (get_or xs (i - 1) (0, 0)) (get_or xs i (0, 0))
       → (k : ℕ) → k + 1 < i + 1 → ((d : ℕ × ℕ) → get_or xs k d ≡ get_or xs (k + 1) d) → ⊥
   one_more_apart i from before apart k lt same = elim (split k lt) [
     | inl less ↦ before k less same
-    | inr last ↦ pairs_apart (get_or xs (i - 1) (0, 0)) (get_or xs i (0, 0)) apart (subst (λ (h : ℕ). get_or xs (i - 1) (0, 0) ≡ get_or xs h (0, 0)) last (moved last))
+    | inr last ↦ pairs_apart (get_or xs (i - 1) (0, 0)) (get_or xs i (0, 0)) apart
+        (subst (λ (h : ℕ). get_or xs (i - 1) (0, 0) ≡ get_or xs h (0, 0)) last (moved last))
   ]
     where
       split : (k : ℕ) → k + 1 < i + 1 → (k + 1 < i) ⊎ (k + 1 ≡ i)
@@ -75,7 +83,8 @@ module _ {X : Type 0} where
       which : (k h : ℕ) → (k ≡ h) ⊎ (k ≢ h)
       which k h = grind arith
 
-      by : (k : ℕ) → (k ≡ a) ⊎ (k ≢ a) → (k ≡ b) ⊎ (k ≢ b) → (k' : ℕ) × IsMoved a b k k' × ((d : X) → get_or (swap l a b) k' d ≡ get_or l k d)
+      by : (k : ℕ) → (k ≡ a) ⊎ (k ≢ a) → (k ≡ b) ⊎ (k ≢ b)
+          → (k' : ℕ) × IsMoved a b k k' × ((d : X) → get_or (swap l a b) k' d ≡ get_or l k d)
       by k (inl e) f = (b, inl (e, refl), (λ d. (at d).1 ∙ ap (λ (h : ℕ). get_or l h d) (sym e)))
       by k (inr ne) (inl f) = (a, inr (inl (f, refl)), (λ d. (at d).0 ∙ ap (λ (h : ℕ). get_or l h d) (sym f)))
       by k (inr ne) (inr nf) = (k, inr (inr (ne, nf, refl)), (λ d. (at d).2 k ne nf))
@@ -106,11 +115,16 @@ between a b h k = by (pair_cmp a b) refl
     by : (o : Ordering) → pair_cmp a b ≡ o → a ≡ b
     by Less e = absurd (true≢false (sym (ap is_lt e) ∙ h))
     by Equal e = exact_pairs nat_cmp nat_cmp exact_unsigned exact_unsigned a b e
-    by Greater e = let f : pair_cmp b a ≡ Less = pair_total.antisymm b a ∙ ap ordering_reverse e in absurd (true≢false (sym (ap is_lt f) ∙ k))
+    by Greater e = let f : pair_cmp b a ≡ Less = pair_total.antisymm b a ∙ ap ordering_reverse e in
+        absurd (true≢false (sym (ap is_lt f) ∙ k))
 
 module _ (ys : List (ℕ × ℕ)) (sorted : IsSorted pair_cmp ys) where
   twice_neighbours : HasTwice ys → HasEqualNeighbours ys
-  twice_neighbours (i, j, lt, within, same) = (i, omega arith, λ d. between (get_or ys i d) (get_or ys (i + 1) d) (upper d) (sorted i d (omega arith) (omega arith)))
+  twice_neighbours (i, j, lt, within, same) = (
+    i,
+    omega arith,
+    λ d. between (get_or ys i d) (get_or ys (i + 1) d) (upper d) (sorted i d (omega arith) (omega arith)),
+  )
     where
       far : (d : ℕ × ℕ) → is_lt (pair_cmp (get_or ys j d) (get_or ys (i + 1) d)) ≡ false
       far d = sorted_far (λ x y. is_lt (pair_cmp x y)) (ranks_by pair_total (λ (q : ℕ × ℕ). q)) ys sorted (i + 1) j d (omega arith) within
@@ -129,7 +143,8 @@ module _ (ys : List (ℕ × ℕ)) (sorted : IsSorted pair_cmp ys) where
   )
 
 -- what is found among the neighbours of the sorted list
-pub twice_by : (xs ys zs : List (ℕ × ℕ)) (r : Bool) → IsPermutation xs ys → IsSorted pair_cmp ys → zs ≡ ys → IsTrue r ↔ HasEqualNeighbours zs → IsTrue r ↔ HasTwice xs
+pub twice_by : (xs ys zs : List (ℕ × ℕ)) (r : Bool) → IsPermutation xs ys → IsSorted pair_cmp ys → zs ≡ ys
+    → IsTrue r ↔ HasEqualNeighbours zs → IsTrue r ↔ HasTwice xs
 twice_by xs ys zs r moved sorted same answer =
     let exact = sorted_exact ys sorted xs moved in
     let told = subst (λ (list : List (ℕ × ℕ)). IsTrue r ↔ HasEqualNeighbours list) same answer in

@@ -1,6 +1,7 @@
-pub mod Groups
+-- Other crates cite Configs, Groups, Lowering; only this crate cites Kept, Rows, Verdicts.
 pub mod Configs
-pub mod Verdicts
-pub mod Rows
+pub mod Groups
 pub mod Kept
 pub mod Lowering
+pub mod Rows
+pub mod Verdicts

@@ -74,7 +74,8 @@ impl Configs {
         ensures keeps { KeepsStacks self.old self.new }
         ensures same { (c : Config) → Holds self.new c ↔ Holds self.old c }
         ensures known { IfOk result (λ stacks. IsStacks self.new stacks) }
-        ensures means { IfOk result (λ stacks. (s : Stack) → HasStack self.new stacks s ↔ (s ≡ record { returns = reverse returns.now; wild = wild })) }
+        ensures means { IfOk result (λ stacks. (s : Stack)
+            → HasStack self.new stacks s ↔ (s ≡ record { returns = reverse returns.now; wild = wild })) }
     {
         let stacks = bottom(&mut self.graph, returns, wild)?;
         Ok(stacks)

@@ -85,7 +85,8 @@ impl Configs {
     pub fn lowered(&self, alloc: Global, states: &[u32]) -> Result<Lowered, AllocError>
         ensures known { IfOk result (λ lowered. AreKnown lowered.set.graph lowered.groups.items) }
         ensures empty { IfOk result (λ lowered. (c : Config) → Holds lowered.set c → ⊥) }
-        ensures means { IfOk result (λ lowered. (c : Config) → InSome lowered.set.graph lowered.groups.items c ↔ IsLoweredOf (Holds self.now) (reverse states.now) c) }
+        ensures means { IfOk result (λ lowered. (c : Config)
+            → InSome lowered.set.graph lowered.groups.items c ↔ IsLoweredOf (Holds self.now) (reverse states.now) c) }
     {
         let own = self.own(alloc)?;
         let mut graph = own.graph;

@@ -44,7 +44,8 @@ fn add_each(
     requires known { AreKnown graph.old groups.now }
     ensures keeps { Keeps graph.old graph.new }
     ensures nodes { AreNodes graph.new nodes.new.entries }
-    ensures members { OnOk result ((c : Config) → Within graph.new nodes.new.entries c ↔ (Within graph.old nodes.old.entries c ⊎ InSome graph.old groups.now c)) }
+    ensures members { OnOk result ((c : Config)
+        → Within graph.new nodes.new.entries c ↔ (Within graph.old nodes.old.entries c ⊎ InSome graph.old groups.now c)) }
 {
     for group in groups {
         add(graph, nodes, *group)?;

@@ -13,7 +13,8 @@ use std::collections::BTreeMap;
 fn node_of(graph: &Graph, nodes: &BTreeMap<(u32, u32), u32>, state: u32, alternative: u32) -> u32
     requires { AreNodes graph.now nodes.now.entries }
     ensures known { IsNode graph.now result }
-    ensures means { (returns : List ℕ) (wild : Bool) → HasOf graph.now result returns wild ↔ HasAt graph.now (node_at nodes.now.entries (state, alternative)) returns wild }
+    ensures means { (returns : List ℕ) (wild : Bool)
+        → HasOf graph.now result returns wild ↔ HasAt graph.now (node_at nodes.now.entries (state, alternative)) returns wild }
 {
     match nodes.get(&(state, alternative)).copied() {
         Some(node) => node,
@@ -32,7 +33,8 @@ pub(crate) fn add(
     ensures keeps { Keeps graph.old graph.new }
     ensures nodes { AreNodes graph.new nodes.new.entries }
     ensures unchanged { OnErr result ((c : Config) → Within graph.new nodes.new.entries c ↔ Within graph.old nodes.old.entries c) }
-    ensures members { OnOk result ((c : Config) → Within graph.new nodes.new.entries c ↔ (Within graph.old nodes.old.entries c ⊎ InGroup graph.old group c)) }
+    ensures members { OnOk result ((c : Config)
+        → Within graph.new nodes.new.entries c ↔ (Within graph.old nodes.old.entries c ⊎ InGroup graph.old group c)) }
     ensures grew { IfOk result (λ more. (more ≡ false) ↔ Subset (InGroup graph.old group) (Within graph.old nodes.old.entries)) }
 {
     let before = node_of(graph, nodes, group.state, group.alternative);

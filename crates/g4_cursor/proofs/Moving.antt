@@ -21,19 +21,30 @@ After x from other = (between : List Spelled) × (a : Tree x) × Reads a from be
 
 -- Reading one expression leads into another, and to bad sets in no other way, but after it: where reading the other stops,
 -- reading the one does.
-pub halts_in : {x y : Expression} {from between rest : List Spelled} (halt : Halt) → ((t : Terminal) (other : List Spelled) → Comes t x between other → Comes t y from other) → ((t : Terminal) (other : List Spelled) → Comes t y from other → BeginsBad t other → Comes t x between other ⊎ After x between other) → Halts halt x between rest → Halts halt y from rest
+pub halts_in : {x y : Expression} {from between rest : List Spelled} (halt : Halt)
+    → ((t : Terminal) (other : List Spelled) → Comes t x between other → Comes t y from other)
+    → ((t : Terminal) (other : List Spelled) → Comes t y from other → BeginsBad t other
+    → Comes t x between other ⊎ After x between other) → Halts halt x between rest → Halts halt y from rest
 halts_in {x} {y} {from} {between} {rest} _ leads back (at_fault stop none) =
-    at_fault (record { terminal = stop.terminal; comes = leads stop.terminal rest stop.comes; none = stop.none }) (λ t other comes bad. good t other bad (back t other comes bad))
+    at_fault (record { terminal = stop.terminal; comes = leads stop.terminal rest stop.comes; none = stop.none })
+    (λ t other comes bad. good t other bad (back t other comes bad))
   where
     good : (t : Terminal) (other : List Spelled) → BeginsBad t other → Comes t x between other ⊎ After x between other → ⊥
     good t other bad (inl comes) = none t other comes bad
     good t other bad (inr later) = never_both between later.0 rest later.1 later.2 stop
 halts_in {x} {y} {from} {between} {rest} _ leads back (at_bad_set found) =
-    at_bad_set (record { terminal = found.terminal; comes = leads found.terminal rest found.comes; bad = found.bad; first = λ t other comes bad. after t other bad (back t other comes bad) })
+    at_bad_set (record {
+      terminal = found.terminal;
+      comes = leads found.terminal rest found.comes;
+      bad = found.bad;
+      first = λ t other comes bad. after t other bad (back t other comes bad);
+    })
   where
-    after : (t : Terminal) (other : List Spelled) → BeginsBad t other → Comes t x between other ⊎ After x between other → length other ≤ length rest
+    after : (t : Terminal) (other : List Spelled) → BeginsBad t other → Comes t x between other ⊎ After x between other
+        → length other ≤ length rest
     after t other bad (inl comes) = found.first t other comes bad
-    after t other bad (inr later) = let ends = comes_read between later.0 rest later.1 later.2 found.comes in rw ends.is (omega (arith, ends.after, later.3))
+    after t other bad (inr later) = let ends = comes_read between later.0 rest later.1 later.2 found.comes in
+        rw ends.is (omega (arith, ends.after, later.3))
 
 -- what holds of the tree makes something else hold of it
 pub so : {x : Expression} {P Q : Tree x → Type 0} {s t : Progress} → Moves P s t → ((tree : Tree x) → P tree → Q tree) → Moves Q s t
@@ -46,32 +57,44 @@ pub passed : {x : Expression} {P : Tree x → Type 0} {s t : Progress} → Moves
 passed moves = so moves (λ tree says. tt)
 
 -- there is no bad set in either of two
-good_two : {x y : Expression} (from between : List Spelled) (a : Tree x) → Reads a from between → HasNoBad x from → HasNoBad y between → HasNoBad (x ▸ y) from
-good_two {x} {y} from between a read good other_good = λ t rest comes bad. elim (comes_two from between rest a read comes) [ inl first ↦ good t rest first bad | inr second ↦ other_good t rest second bad ]
+good_two : {x y : Expression} (from between : List Spelled) (a : Tree x) → Reads a from between → HasNoBad x from → HasNoBad y between
+    → HasNoBad (x ▸ y) from
+good_two {x} {y} from between a read good other_good =
+    λ t rest comes bad. elim (comes_two from between rest a read comes)
+    [ inl first ↦ good t rest first bad | inr second ↦ other_good t rest second bad ]
 
 -- where reading stops in the second of two
-halts_second : {x y : Expression} (from between rest : List Spelled) (halt : Halt) (a : Tree x) → Reads a from between → HasNoBad x from → Halts halt y between rest → Halts halt (x ▸ y) from rest
+halts_second : {x y : Expression} (from between rest : List Spelled) (halt : Halt) (a : Tree x) → Reads a from between
+    → HasNoBad x from → Halts halt y between rest → Halts halt (x ▸ y) from rest
 halts_second {x} {y} from between rest halt a read good halts =
-    halts_in halt (λ t other comes. in_second from between other a read comes) (λ t other comes bad. elim (comes_two from between other a read comes) [ inl first ↦ absurd (good t other first bad) | inr second ↦ inl second ]) halts
+    halts_in halt (λ t other comes. in_second from between other a read comes)
+    (λ t other comes bad. elim (comes_two from between other a read comes)
+    [ inl first ↦ absurd (good t other first bad) | inr second ↦ inl second ]) halts
 
 -- the first of two is not after itself, and the second is
-first_or_after : {t : Terminal} {x y : Expression} (from other : List Spelled) → Comes t (x ▸ y) from other → Comes t x from other ⊎ After x from other
+first_or_after : {t : Terminal} {x y : Expression} (from other : List Spelled) → Comes t (x ▸ y) from other
+    → Comes t x from other ⊎ After x from other
 first_or_after from other (in_first _ _ comes) = inl comes
 first_or_after from other (in_second _ between _ a read comes) = inr (between, a, read, comes_no_longer comes)
 
 -- where reading stops in the first of two
 halts_first : {x y : Expression} (from rest : List Spelled) (halt : Halt) → Halts halt x from rest → Halts halt (x ▸ y) from rest
-halts_first from rest halt halts = halts_in halt (λ t other comes. in_first from other comes) (λ t other comes bad. first_or_after from other comes) halts
+halts_first from rest halt halts = halts_in halt (λ t other comes. in_first from other comes)
+    (λ t other comes bad. first_or_after from other comes) halts
 
 -- two, one after the other
-pub two : {x y : Expression} {P : Tree x → Type 0} {Q : Tree y → Type 0} {R : Tree (x ▸ y) → Type 0} {s t u : Progress} → Moves P s t → Moves Q t u → ((a : Tree x) (b : Tree y) → P a → Q b → R (both a b)) → Moves R s u
-two (reads from between a first good p) (reads _ to b second other_good q) means = reads from to (both a b) (between, first, second) (good_two from between a first good other_good) (means a b p q)
-two (reads from between a first good p) (stops _ rest halt halts) means = stops from rest halt (halts_second from between rest halt a first good halts)
+pub two : {x y : Expression} {P : Tree x → Type 0} {Q : Tree y → Type 0} {R : Tree (x ▸ y) → Type 0} {s t u : Progress} → Moves P s t
+    → Moves Q t u → ((a : Tree x) (b : Tree y) → P a → Q b → R (both a b)) → Moves R s u
+two (reads from between a first good p) (reads _ to b second other_good q) means =
+    reads from to (both a b) (between, first, second) (good_two from between a first good other_good) (means a b p q)
+two (reads from between a first good p) (stops _ rest halt halts) means =
+    stops from rest halt (halts_second from between rest halt a first good halts)
 two (stops from rest halt halts) (stays _ _) means = stops from rest halt (halts_first from rest halt halts)
 two (stays halt rest) (stays _ _) means = stays halt rest
 
 -- one after another, of whose tree this holds with any tree of the first
-pub upon : {x y : Expression} {P : Tree x → Type 0} {R : Tree (x ▸ y) → Type 0} {s t u : Progress} → Moves P s t → Moves (λ b. (a : Tree x) → P a → R (both a b)) t u → Moves R s u
+pub upon : {x y : Expression} {P : Tree x → Type 0} {R : Tree (x ▸ y) → Type 0} {s t u : Progress} → Moves P s t
+    → Moves (λ b. (a : Tree x) → P a → R (both a b)) t u → Moves R s u
 upon first then = two first then (λ a b p q. q a p)
 
 -- one after another, of which nothing is kept
@@ -81,15 +104,20 @@ after first then = two first then (λ a b p q. tt)
 -- the first alternative
 pub first : {x y : Expression} {R : Tree (x ∣ y) → Type 0} {s t : Progress} → is_next x s ≡ true → Moves (λ a. R (left a)) s t → Moves R s t
 unfolding is_next
-first is (reads from to a read good says) = reads from to (left a) (is, read) (λ t other comes bad. good t other (comes_left from other is comes) bad) says
-first is (stops from rest halt halts) = stops from rest halt (halts_in halt (λ t other comes. in_left from other is comes) (λ t other comes bad. inl (comes_left from other is comes)) halts)
+first is (reads from to a read good says) = reads from to (left a) (is, read)
+    (λ t other comes bad. good t other (comes_left from other is comes) bad) says
+first is (stops from rest halt halts) = stops from rest halt
+    (halts_in halt (λ t other comes. in_left from other is comes) (λ t other comes bad. inl (comes_left from other is comes)) halts)
 first is (stays halt rest) = stays halt rest
 
 -- the second alternative
-pub second : {x y : Expression} {R : Tree (x ∣ y) → Type 0} {s t : Progress} → is_next x s ≡ false → Moves (λ b. R (right b)) s t → Moves R s t
+pub second : {x y : Expression} {R : Tree (x ∣ y) → Type 0} {s t : Progress} → is_next x s ≡ false → Moves (λ b. R (right b)) s t
+    → Moves R s t
 unfolding is_next
-second none (reads from to b read good says) = reads from to (right b) (none, read) (λ t other comes bad. good t other (comes_right from other none comes) bad) says
-second none (stops from rest halt halts) = stops from rest halt (halts_in halt (λ t other comes. in_right from other none comes) (λ t other comes bad. inl (comes_right from other none comes)) halts)
+second none (reads from to b read good says) =
+    reads from to (right b) (none, read) (λ t other comes bad. good t other (comes_right from other none comes) bad) says
+second none (stops from rest halt halts) = stops from rest halt
+    (halts_in halt (λ t other comes. in_right from other none comes) (λ t other comes bad. inl (comes_right from other none comes)) halts)
 second none (stays halt rest) = stays halt rest
 
 -- what is optional is left out
@@ -99,16 +127,21 @@ left_out (reading from) none says = reads from from absent (none, refl) (λ t ot
 left_out (stopped halt rest) none says = stays halt rest
 
 -- what is optional is there
-pub there : {x : Expression} {R : Tree (optional x) → Type 0} {s t : Progress} → is_next x s ≡ true → Moves (λ a. R (present a)) s t → Moves R s t
+pub there : {x : Expression} {R : Tree (optional x) → Type 0} {s t : Progress} → is_next x s ≡ true → Moves (λ a. R (present a)) s t
+    → Moves R s t
 unfolding is_next
-there is (reads from to a read good says) = reads from to (present a) (is, read) (λ t other comes bad. good t other (comes_optional from other comes) bad) says
-there is (stops from rest halt halts) = stops from rest halt (halts_in halt (λ t other comes. in_optional from other is comes) (λ t other comes bad. inl (comes_optional from other comes)) halts)
+there is (reads from to a read good says) = reads from to (present a) (is, read)
+    (λ t other comes bad. good t other (comes_optional from other comes) bad) says
+there is (stops from rest halt halts) = stops from rest halt
+    (halts_in halt (λ t other comes. in_optional from other is comes) (λ t other comes bad. inl (comes_optional from other comes)) halts)
 there is (stays halt rest) = stays halt rest
 
 -- a part of its own kind
 pub inside : {n : Nonterminal} {R : Tree (part n) → Type 0} {s t : Progress} → Moves (λ a. R (inner a)) s t → Moves R s t
-inside (reads from to a read good says) = reads from to (inner a) read (λ t other comes bad. good t other (comes_inside from other comes) bad) says
-inside (stops from rest halt halts) = stops from rest halt (halts_in halt (λ t other comes. in_part from other comes) (λ t other comes bad. inl (comes_inside from other comes)) halts)
+inside (reads from to a read good says) = reads from to (inner a) read
+    (λ t other comes bad. good t other (comes_inside from other comes) bad) says
+inside (stops from rest halt halts) = stops from rest halt
+    (halts_in halt (λ t other comes. in_part from other comes) (λ t other comes bad. inl (comes_inside from other comes)) halts)
 inside (stays halt rest) = stays halt rest
 
 -- no turn of what is repeated is left
@@ -118,18 +151,26 @@ no_turn (reading from) none says = reads from from end (none, refl) (λ t other 
 no_turn (stopped halt rest) none says = stays halt rest
 
 -- a turn is not after itself, and the later ones are
-turn_or_after : {t : Terminal} {x : Expression} (from other : List Spelled) → Comes t (repeated x) from other → Comes t x from other ⊎ After x from other
+turn_or_after : {t : Terminal} {x : Expression} (from other : List Spelled) → Comes t (repeated x) from other
+    → Comes t x from other ⊎ After x from other
 turn_or_after from other (in_turn _ _ _ comes) = inl comes
 turn_or_after from other (in_later_turn _ between _ a _ read comes) = inr (between, a, read, comes_no_longer comes)
 
 -- one turn, and the later ones
-pub one_more : {x : Expression} {P : Tree x → Type 0} {Q R : Tree (repeated x) → Type 0} {s t u : Progress} → is_next x s ≡ true → Moves P s t → Moves Q t u → ((a : Tree x) (rest : Tree (repeated x)) → P a → Q rest → R (more a rest)) → Moves R s u
+pub one_more : {x : Expression} {P : Tree x → Type 0} {Q R : Tree (repeated x) → Type 0} {s t u : Progress} → is_next x s ≡ true
+    → Moves P s t → Moves Q t u → ((a : Tree x) (rest : Tree (repeated x)) → P a → Q rest → R (more a rest)) → Moves R s u
 unfolding is_next
 one_more is (reads from between a first good p) (reads _ to rest second later_good q) means =
-    reads from to (more a rest) (is, between, first, second) (λ t other comes bad. elim (comes_turn from between other a first comes) [ inl turn ↦ good t other turn bad | inr later ↦ later_good t other later bad ]) (means a rest p q)
+    reads from to (more a rest) (is, between, first, second)
+    (λ t other comes bad. elim (comes_turn from between other a first comes)
+    [ inl turn ↦ good t other turn bad | inr later ↦ later_good t other later bad ]) (means a rest p q)
 one_more is (reads from between a first good p) (stops _ rest halt halts) means =
-    stops from rest halt (halts_in halt (λ t other comes. in_later_turn from between other a is first comes) (λ t other comes bad. elim (comes_turn from between other a first comes) [ inl turn ↦ absurd (good t other turn bad) | inr later ↦ inl later ]) halts)
-one_more is (stops from rest halt halts) (stays _ _) means = stops from rest halt (halts_in halt (λ t other comes. in_turn from other is comes) (λ t other comes bad. turn_or_after from other comes) halts)
+    stops from rest halt (halts_in halt (λ t other comes. in_later_turn from between other a is first comes)
+    (λ t other comes bad. elim (comes_turn from between other a first comes)
+    [ inl turn ↦ absurd (good t other turn bad) | inr later ↦ inl later ]) halts)
+one_more is (stops from rest halt halts) (stays _ _) means =
+    stops from rest halt (halts_in halt (λ t other comes. in_turn from other is comes)
+    (λ t other comes bad. turn_or_after from other comes) halts)
 one_more is (stays halt rest) (stays _ _) means = stays halt rest
 
 -- there is no bad set in a terminal but one that begins there
@@ -156,50 +197,66 @@ only_there : {t v : Terminal} {from rest : List Spelled} → Comes v (one t) fro
 only_there (here _) = (refl, refl)
 
 -- a token that the terminal asks for is taken
-pub takes : {t : Terminal} {taken : Taken} (s u : Progress) → is_next (one t) s ≡ true → (BadNext t s → ⊥) → Advances s taken u → Moves {x = one t} (IsTaken taken) s u
+pub takes : {t : Terminal} {taken : Taken} (s u : Progress) → is_next (one t) s ≡ true → (BadNext t s → ⊥) → Advances s taken u
+    → Moves {x = one t} (IsTaken taken) s u
 unfolding is_next
 takes (reading []) u is good moved = absurd (true≢false (sym is))
-takes {t} (reading (token ∷ rest)) u is good moved = rw moved.1 (reads (token ∷ rest) rest (leaf token) (refl, is) (good_terminal t (token ∷ rest) good) moved.0)
+takes {t} (reading (token ∷ rest)) u is good moved =
+    rw moved.1 (reads (token ∷ rest) rest (leaf token) (refl, is) (good_terminal t (token ∷ rest) good) moved.0)
 takes (stopped halt rest) u is good moved = absurd (true≢false (sym is))
 
 -- reading stops where another token is next
-pub stops_at : {t : Terminal} {P : Tree (one t) → Type 0} (s u : Progress) → is_next (one t) s ≡ false → (BadNext t s → ⊥) → u ≡ halted Fault s → Moves P s u
+pub stops_at : {t : Terminal} {P : Tree (one t) → Type 0} (s u : Progress) → is_next (one t) s ≡ false → (BadNext t s → ⊥)
+    → u ≡ halted Fault s → Moves P s u
 unfolding is_next
-stops_at {t} (reading rest) u none good is = rw is (stops rest rest Fault (at_fault (record { terminal = t; comes = here rest; none = none }) (good_terminal t rest good)))
+stops_at {t} (reading rest) u none good is =
+    rw is (stops rest rest Fault (at_fault (record { terminal = t; comes = here rest; none = none }) (good_terminal t rest good)))
 stops_at (stopped halt rest) u none good is = rw is (stays halt rest)
 
 -- reading stops where a bad set is next
 pub refuses : {t : Terminal} {P : Tree (one t) → Type 0} (s u : Progress) → BadNext t s → u ≡ halted BadSet s → Moves P s u
-refuses {t} (reading rest) u bad is = rw is (stops rest rest BadSet (at_bad_set (record { terminal = t; comes = here rest; bad = bad; first = λ v other comes worse. no_later v other comes })))
+refuses {t} (reading rest) u bad is = rw is (stops rest rest BadSet
+    (at_bad_set (record { terminal = t; comes = here rest; bad = bad; first = λ v other comes worse. no_later v other comes })))
   where
     no_later : (v : Terminal) (other : List Spelled) → Comes v (one t) rest other → length other ≤ length rest
     no_later v other comes = comes_no_longer comes
 refuses (stopped halt rest) u bad is = absurd bad
 
 -- tokens that are none of a kind are none of a terminal that asks for the same kind
-not_of_kind : (k : Kind) (t : Terminal) (tokens : List Spelled) → ((token : Spelled) → fits t token ≡ is_kind k token.kind) → begins_there (sign k) tokens ≡ false → begins_there (one t) tokens ≡ false
+not_of_kind : (k : Kind) (t : Terminal) (tokens : List Spelled) → ((token : Spelled) → fits t token ≡ is_kind k token.kind)
+    → begins_there (sign k) tokens ≡ false → begins_there (one t) tokens ≡ false
 not_of_kind k t [] same none = refl
 not_of_kind k t (token ∷ _) same none = same token ∙ none
 
 -- where a terminal that asks for the same kind was taken, or not, this one was
-pub taken_as : {k : Kind} {t : Terminal} {taken : Taken} (s u : Progress) → ((token : Spelled) → fits t token ≡ is_kind k token.kind) → (BadNext t s → ⊥) → Moves {x = sign k} (IsTaken taken) s u → Moves {x = one t} (IsTaken taken) s u
-taken_as {k} {t} s u same good (reads from to (leaf token) read none says) = reads from to (leaf token) (read.0, same token ∙ read.1) (good_terminal t from good) says
+pub taken_as : {k : Kind} {t : Terminal} {taken : Taken} (s u : Progress) → ((token : Spelled) → fits t token ≡ is_kind k token.kind)
+    → (BadNext t s → ⊥) → Moves {x = sign k} (IsTaken taken) s u → Moves {x = one t} (IsTaken taken) s u
+taken_as {k} {t} s u same good (reads from to (leaf token) read none says) =
+    reads from to (leaf token) (read.0, same token ∙ read.1) (good_terminal t from good) says
 taken_as {k} {t} s u same good (stops from rest _ (at_fault stop none)) =
     let there = only_there stop.comes in
     let no_token = subst (λ (v : Terminal). begins_there (one v) rest ≡ false) there.0 stop.none in
-    stops from rest Fault (at_fault (record { terminal = t; comes = subst (λ (l : List Spelled). Comes t (one t) from l) there.1 (here from); none = not_of_kind k t rest same no_token }) (good_terminal t from good))
-taken_as {k} {t} s u same good (stops from rest _ (at_bad_set found)) = absurd (subst (λ (v : Terminal). BeginsBad v rest) (only_there found.comes).0 found.bad)
+    stops from rest Fault (at_fault (record {
+      terminal = t;
+      comes = subst (λ (l : List Spelled). Comes t (one t) from l) there.1 (here from);
+      none = not_of_kind k t rest same no_token;
+    })
+    (good_terminal t from good))
+taken_as {k} {t} s u same good (stops from rest _ (at_bad_set found)) =
+    absurd (subst (λ (v : Terminal). BeginsBad v rest) (only_there found.comes).0 found.bad)
 taken_as s u same good (stays halt rest) = stays halt rest
 
 -- a terminal is next where one that asks for the same kind is
-pub asks_same : (k : Kind) (t : Terminal) (s : Progress) → ((token : Spelled) → fits t token ≡ is_kind k token.kind) → is_next (one t) s ≡ is_next (sign k) s
+pub asks_same : (k : Kind) (t : Terminal) (s : Progress) → ((token : Spelled) → fits t token ≡ is_kind k token.kind)
+    → is_next (one t) s ≡ is_next (sign k) s
 unfolding is_next
 asks_same k t (reading []) same = refl
 asks_same k t (reading (token ∷ _)) same = same token
 asks_same k t (stopped halt rest) same = refl
 
 -- where its first token is not next, an expression stops
-pub ends : {t : Terminal} {y : Expression} {P : Tree (one t) → Type 0} {R : Tree (one t ▸ y) → Type 0} {s u : Progress} → is_next (one t) s ≡ false → Moves P s u → Moves R s u
+pub ends : {t : Terminal} {y : Expression} {P : Tree (one t) → Type 0} {R : Tree (one t ▸ y) → Type 0} {s u : Progress}
+    → is_next (one t) s ≡ false → Moves P s u → Moves R s u
 unfolding is_next
 ends {t} none (reads from to (leaf token) read good says) = absurd (apart (begins_there (one t) from) (rw read.0 read.1) none)
 ends none (stops from rest halt halts) = stops from rest halt (halts_first from rest halt halts)

@@ -32,36 +32,55 @@ pub start : {x : Expression} {V : Type 0} {Whole : Tree x → V} {s : Progress} 
 start = record { less = omega arith; whole = λ value u moves. moves }
 
 -- nothing has been read at the beginning, where as much has been said
-pub begun : {x : Expression} {V : Type 0} {Whole With : Tree x → V} {s : Progress} → ((tree : Tree x) → With tree ≡ Whole tree) → Turned Whole With s s
+pub begun : {x : Expression} {V : Type 0} {Whole With : Tree x → V} {s : Progress} → ((tree : Tree x) → With tree ≡ Whole tree)
+    → Turned Whole With s s
 begun same = record { less = omega arith; whole = λ value u moves. so moves (λ tree says. says ∙ same tree) }
 
 -- one turn more
-pub turn : {x : Expression} {V : Type 0} {P : Tree x → Type 0} {Whole With Then : Tree (repeated x) → V} {s t u : Progress} → Turned Whole With s t → is_next x t ≡ true → Moves P t u → ((a : Tree x) (rest : Tree (repeated x)) → P a → With (more a rest) ≡ Then rest) → Turned Whole Then s u
-turn turned is moves same = record { less = omega (arith, turned.less, no_more moves); whole = λ value v rest. turned.whole value v (one_more is moves rest (λ a later p e. e ∙ sym (same a later p))) }
+pub turn : {x : Expression} {V : Type 0} {P : Tree x → Type 0} {Whole With Then : Tree (repeated x) → V} {s t u : Progress}
+    → Turned Whole With s t → is_next x t ≡ true → Moves P t u
+    → ((a : Tree x) (rest : Tree (repeated x)) → P a → With (more a rest) ≡ Then rest) → Turned Whole Then s u
+turn turned is moves same = record {
+  less = omega (arith, turned.less, no_more moves);
+  whole = λ value v rest. turned.whole value v (one_more is moves rest (λ a later p e. e ∙ sym (same a later p)));
+}
 
 -- the turns end
-pub end_turns : {x : Expression} {V : Type 0} {Whole With : Tree (repeated x) → V} {s t : Progress} {value : V} → Turned Whole With s t → is_next x t ≡ false → value ≡ With end → Moves (λ tree. value ≡ Whole tree) s t
+pub end_turns : {x : Expression} {V : Type 0} {Whole With : Tree (repeated x) → V} {s t : Progress} {value : V}
+    → Turned Whole With s t → is_next x t ≡ false → value ≡ With end → Moves (λ tree. value ≡ Whole tree) s t
 end_turns {t = t} {value = value} turned none same = turned.whole value t (no_turn t none same)
 
 -- turns of which these items have been listed, after those before
-pub record Listed {x : Expression} {T : Type 0} (items : Tree (repeated x) → List T) (before : List T) (s : Progress) (listed : List T) (t : Progress) : Type 0 where
+pub record Listed {x : Expression} {T : Type 0} (items : Tree (repeated x) → List T) (before : List T) (s : Progress)
+    (listed : List T) (t : Progress) : Type 0 where
   pub turned : Turned (λ tree. before ++ items tree) (λ rest. listed ++ items rest) s t
 
 -- nothing is listed at the beginning but what was before
-pub start_list : {x : Expression} {T : Type 0} {items : Tree (repeated x) → List T} {before : List T} {s : Progress} → Listed items before s before s
+pub start_list : {x : Expression} {T : Type 0} {items : Tree (repeated x) → List T} {before : List T} {s : Progress}
+    → Listed items before s before s
 start_list = record { turned = start }
 
 -- one item more
-pub one_item : {T : Type 0} (listed longer later items : List T) (item : T) → items ≡ item ∷ later → longer ≡ listed ++ item ∷ [] → listed ++ items ≡ longer ++ later
+pub one_item : {T : Type 0} (listed longer later items : List T) (item : T) → items ≡ item ∷ later → longer ≡ listed ++ item ∷ []
+    → listed ++ items ≡ longer ++ later
 one_item listed longer later items item is more_is = rw (is, more_is) (sym (append_assoc listed (item ∷ []) later))
 
 -- one turn more, which adds an item
-pub list_turn : {x : Expression} {T : Type 0} {P : Tree x → Type 0} (items : Tree (repeated x) → List T) {before listed longer : List T} {item : T} {s t u : Progress} → Listed items before s listed t → is_next x t ≡ true → Moves P t u → ((a : Tree x) (rest : Tree (repeated x)) → P a → items (more a rest) ≡ item ∷ items rest) → longer ≡ listed ++ item ∷ [] → Listed items before s longer u
+pub list_turn : {x : Expression} {T : Type 0} {P : Tree x → Type 0} (items : Tree (repeated x) → List T)
+    {before listed longer : List T} {item : T} {s t u : Progress} → Listed items before s listed t → is_next x t ≡ true → Moves P t u
+    → ((a : Tree x) (rest : Tree (repeated x)) → P a → items (more a rest) ≡ item ∷ items rest) → longer ≡ listed ++ item ∷ []
+    → Listed items before s longer u
 list_turn items {before} {listed} {longer} {item} turned is moves same more_is =
-    record { turned = turn turned.turned is moves (λ a rest p. one_item listed longer (items rest) (items (more a rest)) item (same a rest p) more_is) }
+    record {
+      turned = turn turned.turned is moves
+          (λ a rest p. one_item listed longer (items rest) (items (more a rest)) item (same a rest p) more_is);
+    }
 
 -- one turn more after a sign
-pub sign_over : {t : Terminal} {y : Expression} {V : Type 0} {P : Tree (one t) → Type 0} {Q : Tree y → Type 0} {Whole With Then : Tree (repeated (one t ▸ y)) → V} {s u v w : Progress} → Turned Whole With s u → is_next (one t) u ≡ true → Moves P u v → Moves Q v w → ((a : Tree (one t)) (b : Tree y) (rest : Tree (repeated (one t ▸ y))) → Q b → With (more (both a b) rest) ≡ Then rest) → Turned Whole Then s w
+pub sign_over : {t : Terminal} {y : Expression} {V : Type 0} {P : Tree (one t) → Type 0} {Q : Tree y → Type 0}
+    {Whole With Then : Tree (repeated (one t ▸ y)) → V} {s u v w : Progress} → Turned Whole With s u → is_next (one t) u ≡ true
+    → Moves P u v → Moves Q v w → ((a : Tree (one t)) (b : Tree y) (rest : Tree (repeated (one t ▸ y))) → Q b
+    → With (more (both a b) rest) ≡ Then rest) → Turned Whole Then s w
 sign_over {t} {y} {V} {P} {Q} {Whole} {With} {Then} {s} {u} turned is first second same =
     turn turned (led (one t) y u refl ∙ is) (two {R = Each} first second (λ a b p q. q)) whole
   where
@@ -72,19 +91,30 @@ sign_over {t} {y} {V} {P} {Q} {Whole} {With} {Then} {s} {u} turned is first seco
     whole (both a b) rest q = same a b rest q
 
 -- one turn more after a sign, which adds an item
-pub sign_turn : {t : Terminal} {y : Expression} {T : Type 0} {P : Tree (one t) → Type 0} {Q : Tree y → Type 0} (items : Tree (repeated (one t ▸ y)) → List T) {before listed longer : List T} {item : T} {s u v w : Progress} → Listed items before s listed u → is_next (one t) u ≡ true → Moves P u v → Moves Q v w → ((a : Tree (one t)) (b : Tree y) (rest : Tree (repeated (one t ▸ y))) → Q b → items (more (both a b) rest) ≡ item ∷ items rest) → longer ≡ listed ++ item ∷ [] → Listed items before s longer w
+pub sign_turn : {t : Terminal} {y : Expression} {T : Type 0} {P : Tree (one t) → Type 0} {Q : Tree y → Type 0}
+    (items : Tree (repeated (one t ▸ y)) → List T) {before listed longer : List T} {item : T} {s u v w : Progress}
+    → Listed items before s listed u → is_next (one t) u ≡ true → Moves P u v → Moves Q v w
+    → ((a : Tree (one t)) (b : Tree y) (rest : Tree (repeated (one t ▸ y))) → Q b → items (more (both a b) rest) ≡ item ∷ items rest)
+    → longer ≡ listed ++ item ∷ [] → Listed items before s longer w
 sign_turn items {before} {listed} {longer} {item} turned is first second same more_is =
-    record { turned = sign_over turned.turned is first second (λ a b rest q. one_item listed longer (items rest) (items (more (both a b) rest)) item (same a b rest q) more_is) }
+    record {
+      turned = sign_over turned.turned is first second
+          (λ a b rest q. one_item listed longer (items rest) (items (more (both a b) rest)) item (same a b rest q) more_is);
+    }
 
 -- the turns end, and the items are all that are listed
-pub list_end : {x : Expression} {T : Type 0} (items : Tree (repeated x) → List T) {before listed all : List T} {s t : Progress} → Listed items before s listed t → is_next x t ≡ false → items end ≡ [] → before ≡ [] → all ≡ listed → Moves (λ tree. all ≡ items tree) s t
+pub list_end : {x : Expression} {T : Type 0} (items : Tree (repeated x) → List T) {before listed all : List T} {s t : Progress}
+    → Listed items before s listed t → is_next x t ≡ false → items end ≡ [] → before ≡ [] → all ≡ listed
+    → Moves (λ tree. all ≡ items tree) s t
 list_end items {before} {listed} {all} turned none empty begun is =
-    so (end_turns {value = listed} turned.turned none (rw empty (sym (append-nil listed)))) (λ tree says. is ∙ says ∙ ap (λ (l : List _). l ++ items tree) begun)
+    so (end_turns {value = listed} turned.turned none (rw empty (sym (append-nil listed))))
+    (λ tree says. is ∙ says ∙ ap (λ (l : List _). l ++ items tree) begun)
 
 -- what is read where it begins leaves fewer tokens
 pub fewer : {x : Expression} {P : Tree x → Type 0} {s t : Progress} → is_next x s ≡ true → Moves P s t → left t < left s
 unfolding is_next
-fewer is (reads from to tree read good says) = some (text tree) from to (reads_text tree from to read) (λ none. apart _ is (nothing_read tree from to read none).1)
+fewer is (reads from to tree read good says) =
+    some (text tree) from to (reads_text tree from to read) (λ none. apart _ is (nothing_read tree from to read none).1)
   where
     some : (w from to : List Spelled) → from ≡ w ++ to → (w ≡ [] → ⊥) → suc (length to) < suc (length from)
     some [] from to is not_empty = absurd (not_empty refl)
@@ -93,13 +123,18 @@ fewer is (stops from rest halt halts) = omega arith
 fewer is (stays halt rest) = absurd (true≢false (sym is))
 
 -- what is read after a sign that is next leaves fewer tokens
-pub fewer_then : {t : Terminal} {y : Expression} {P : Tree (one t) → Type 0} {Q : Tree y → Type 0} {s u v : Progress} → is_next (one t) s ≡ true → Moves P s u → Moves Q u v → left v < left s
+pub fewer_then : {t : Terminal} {y : Expression} {P : Tree (one t) → Type 0} {Q : Tree y → Type 0} {s u v : Progress}
+    → is_next (one t) s ≡ true → Moves P s u → Moves Q u v → left v < left s
 fewer_then {t} {y} {s = s} is first second = fewer (led (one t) y s refl ∙ is) (two {R = λ tree. Unit {0}} first second (λ a b p q. tt))
 
 -- the turns end where no sign is next, and the items are those that are listed, of which the first was read before
-pub sign_end : {t : Terminal} {x y : Expression} {T : Type 0} {P : Tree x → Type 0} {Whole : Tree (x ▸ repeated (one t ▸ y)) → List T} (items : Tree (repeated (one t ▸ y)) → List T) {before listed all : List T} {item : T} {r s u : Progress} → Moves P r s → Listed items before s listed u → is_next (one t) u ≡ false → items end ≡ [] → before ≡ item ∷ [] → all ≡ listed → ((a : Tree x) (b : Tree (repeated (one t ▸ y))) → P a → Whole (both a b) ≡ item ∷ items b) → Moves (λ tree. all ≡ Whole tree) r u
+pub sign_end : {t : Terminal} {x y : Expression} {T : Type 0} {P : Tree x → Type 0} {Whole : Tree (x ▸ repeated (one t ▸ y)) → List T}
+    (items : Tree (repeated (one t ▸ y)) → List T) {before listed all : List T} {item : T} {r s u : Progress} → Moves P r s
+    → Listed items before s listed u → is_next (one t) u ≡ false → items end ≡ [] → before ≡ item ∷ [] → all ≡ listed
+    → ((a : Tree x) (b : Tree (repeated (one t ▸ y))) → P a → Whole (both a b) ≡ item ∷ items b) → Moves (λ tree. all ≡ Whole tree) r u
 sign_end {t} {x} {y} items {before} {listed} {all} {item} {u = u} first turned none empty begun is same =
-    two first (end_turns {value = listed} turned.turned (led (one t) y u refl ∙ none) (rw empty (sym (append-nil listed)))) (λ a b p says. is ∙ says ∙ ap (λ (l : List _). l ++ items b) begun ∙ sym (same a b p))
+    two first (end_turns {value = listed} turned.turned (led (one t) y u refl ∙ none) (rw empty (sym (append-nil listed))))
+    (λ a b p says. is ∙ says ∙ ap (λ (l : List _). l ++ items b) begun ∙ sym (same a b p))
 
 -- turns of which nothing is kept
 pub record Passing (x : Expression) (s t : Progress) : Type 0 where

@@ -1,3 +1,4 @@
+-- Other crates cite each of these.
 pub mod Options
 pub mod Parts
 pub mod Prequels

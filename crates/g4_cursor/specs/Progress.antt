@@ -56,7 +56,8 @@ pub data Halts : Halt → Expression → List Spelled → List Spelled → Type 
 
 -- The expression is read, with no bad set in it, and this holds of its tree; or reading stops in it; or it had stopped before.
 pub data Moves {x : Expression} (Says : Tree x → Type 0) : Progress → Progress → Type 0 where
-  reads : (from to : List Spelled) (tree : Tree x) → Reads tree from to → HasNoBad x from → Says tree → Moves Says (reading from) (reading to)
+  reads : (from to : List Spelled) (tree : Tree x) → Reads tree from to → HasNoBad x from → Says tree
+      → Moves Says (reading from) (reading to)
   stops : (from rest : List Spelled) (halt : Halt) → Halts halt x from rest → Moves Says (reading from) (stopped halt rest)
   stays : (halt : Halt) (rest : List Spelled) → Moves Says (stopped halt rest) (stopped halt rest)
 

@@ -67,7 +67,8 @@ is_bad_range (Some first) dots last = goes_on_bad (character_of first) dots last
 
 -- the same of the first tokens of these
 abbrev pub begins_bad_range : List Spelled → Bool
-begins_bad_range tokens = is_bad_range (bytes_at 0 kinds.Literal tokens) (bytes_at 1 kinds.DoubleDot tokens) (bytes_at 2 kinds.Literal tokens)
+begins_bad_range tokens = is_bad_range (bytes_at 0 kinds.Literal tokens) (bytes_at 1 kinds.DoubleDot tokens)
+    (bytes_at 2 kinds.Literal tokens)
 
 -- if reading asks for the terminal here, a bad character set begins with the first of these tokens
 abbrev pub BeginsBad : Terminal → List Spelled → Type 0

@@ -11,8 +11,8 @@ ghost use Rattle.g4_cursor.specs.Texts.{spelled, is_present, place_of, text_of, 
 
 use crate::spelling::{part, token_at};
 use g4_base::{Place, Text};
-use g4_source::Name;
 use g4_grammar_tokens::{Kind, Token};
+use g4_source::Name;
 use std::alloc::{AllocError, Global};
 use std::marker::Model;
 

@@ -5,8 +5,8 @@ ghost use Rattle.g4_cursor.specs.Options.{dotted_names, value_of, setting_of, se
 
 use crate::cursor::Cursor;
 use g4_base::{Sequence, Text};
-use g4_source::{OptionValue, Setting};
 use g4_grammar_tokens::Kind;
+use g4_source::{OptionValue, Setting};
 use std::alloc::AllocError;
 
 /// Names with dots between.

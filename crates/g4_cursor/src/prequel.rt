@@ -9,8 +9,8 @@ ghost use Rattle.g4_cursor.specs.Progress.{is_next, Passes, Gives};
 use crate::cursor::Cursor;
 use crate::options::options;
 use g4_base::{Sequence, Text};
-use g4_source::Prequel;
 use g4_grammar_tokens::Kind;
+use g4_source::Prequel;
 use std::alloc::AllocError;
 
 /// The name of an imported grammar. The name under which it is imported does not count.

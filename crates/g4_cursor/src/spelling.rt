@@ -6,8 +6,8 @@ ghost use Rattle.g4_cursor.specs.Texts.{bytes_of, characters_of as characters_in
 ghost use Rattle.g4_cursor.specs.Parts.{IsPart};
 
 use g4_base::Text;
-use g4_source::Literal;
 use g4_grammar_tokens::{Token, literal_characters};
+use g4_source::Literal;
 use std::alloc::{AllocError, Global};
 
 /// The token at the index, if there is one.

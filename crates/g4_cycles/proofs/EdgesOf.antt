@@ -12,14 +12,18 @@ pub nothing_in : (xs : List ℕ) (k : ℕ) → xs ≡ [] → Contains xs k → �
 nothing_in xs k is has = let has' = subst (λ (ys : List ℕ). Contains ys k) is has in omega (arith, has'.1)
 
 -- the items up to the next index are those before it and the one there
-pub taken_cases : (xs : List ℕ) (i x k : ℕ) → i < length xs → get_or xs i 0 ≡ x → Contains (take (i + 1) xs) k → Contains (take i xs) k ⊎ (k ≡ x)
-taken_cases xs i x k within at has = elim (Contains-push_cases (take i xs) (get_or xs i 0) k (subst (λ (ys : List ℕ). Contains ys k) (take_more xs i 0 within) has)) [ inl old ↦ inl old | inr is ↦ inr (sym is ∙ at) ]
+pub taken_cases : (xs : List ℕ) (i x k : ℕ) → i < length xs → get_or xs i 0 ≡ x → Contains (take (i + 1) xs) k
+    → Contains (take i xs) k ⊎ (k ≡ x)
+taken_cases xs i x k within at has = elim (Contains-push_cases (take i xs) (get_or xs i 0) k
+    (subst (λ (ys : List ℕ). Contains ys k) (take_more xs i 0 within) has)) [ inl old ↦ inl old | inr is ↦ inr (sym is ∙ at) ]
 
 pub taken_before : (xs : List ℕ) (i k : ℕ) → i < length xs → Contains (take i xs) k → Contains (take (i + 1) xs) k
-taken_before xs i k within has = subst (λ (ys : List ℕ). Contains ys k) (sym (take_more xs i 0 within)) (Contains-append_left (take i xs) (get_or xs i 0 ∷ []) k has)
+taken_before xs i k within has = subst (λ (ys : List ℕ). Contains ys k) (sym (take_more xs i 0 within))
+    (Contains-append_left (take i xs) (get_or xs i 0 ∷ []) k has)
 
 pub taken_next : (xs : List ℕ) (i x : ℕ) → i < length xs → get_or xs i 0 ≡ x → Contains (take (i + 1) xs) x
-taken_next xs i x within at = subst (λ (ys : List ℕ). Contains ys x) (sym (take_more xs i 0 within)) (subst (Contains (take i xs ++ get_or xs i 0 ∷ [])) at (Contains-push (take i xs) (get_or xs i 0)))
+taken_next xs i x within at = subst (λ (ys : List ℕ). Contains ys x) (sym (take_more xs i 0 within))
+    (subst (Contains (take i xs ++ get_or xs i 0 ∷ [])) at (Contains-push (take i xs) (get_or xs i 0)))
 
 -- a node with a successor is one of the nodes
 listed_within : (graph : Graph) (k i : ℕ) (o : Option (Vec ℕ Global)) → slice_get graph k ≡ o → Contains (listed_by o) i → k < length graph
@@ -59,20 +63,23 @@ pub successors_other : (graph : Graph) (i k : ℕ) (v : Vec ℕ Global) → (k �
 successors_other graph i k v other = ap listed_by (get_other graph i k v other)
 
 -- a successor past the last node adds nothing
-pub adds_past : (node : ℕ) (old new : Graph) (xs : List ℕ) (i x : ℕ) → i < length xs → get_or xs i 0 ≡ x → length new ≤ x → AddsReversed node (take i xs) old new → AddsReversed node (take (i + 1) xs) old new
+pub adds_past : (node : ℕ) (old new : Graph) (xs : List ℕ) (i x : ℕ) → i < length xs → get_or xs i 0 ≡ x → length new ≤ x
+    → AddsReversed node (take i xs) old new → AddsReversed node (take (i + 1) xs) old new
 adds_past node old new xs i x within at past adds = record {
   size = adds.size;
   edges = λ k j. (
     (λ e. elim ((adds.edges k j).0 e) [ inl before ↦ inl before | inr added ↦ inr (added.0, taken_before xs i j within added.1, added.2) ]),
     (λ h. (adds.edges k j).1 (elim h [
       | inl before ↦ inl before
-      | inr added ↦ elim (taken_cases xs i x j within at added.1) [ inl has ↦ inr (added.0, has, added.2) | inr is ↦ absurd (omega (arith, adds.size, added.2)) ]
+      | inr added ↦ elim (taken_cases xs i x j within at added.1)
+          [ inl has ↦ inr (added.0, has, added.2) | inr is ↦ absurd (omega (arith, adds.size, added.2)) ]
     ])),
   );
 }
 
 -- a successor adds the edge to it
-pub adds_one : (node : ℕ) (old mid new : Graph) (xs : List ℕ) (i x : ℕ) (v : Vec ℕ Global) → i < length xs → get_or xs i 0 ≡ x → x < length mid → new ≡ set mid x v → v.items ≡ successors_of mid x ++ node ∷ []
+pub adds_one : (node : ℕ) (old mid new : Graph) (xs : List ℕ) (i x : ℕ) (v : Vec ℕ Global) → i < length xs → get_or xs i 0 ≡ x
+    → x < length mid → new ≡ set mid x v → v.items ≡ successors_of mid x ++ node ∷ []
     → AddsReversed node (take i xs) old mid → AddsReversed node (take (i + 1) xs) old new
 adds_one node old mid new xs i x v within at short is_set pushed adds = record {
   size = ap length is_set ∙ (length-set mid x v ∙ adds.size);
@@ -89,15 +96,21 @@ adds_one node old mid new xs i x v within at short is_set pushed adds = record {
     short_old = omega (arith, adds.size)
 
     old_edge : (k j : ℕ) → EdgeOf mid j k → EdgeOf old j k ⊎ ((k ≡ node) × Contains (take (i + 1) xs) j × (j < length old))
-    old_edge k j e = elim ((adds.edges k j).0 e) [ inl before ↦ inl before | inr added ↦ inr (added.0, taken_before xs i j within added.1, added.2) ]
+    old_edge k j e = elim ((adds.edges k j).0 e)
+        [ inl before ↦ inl before | inr added ↦ inr (added.0, taken_before xs i j within added.1, added.2) ]
 
     to : (k j : ℕ) → EdgeOf new j k → EdgeOf old j k ⊎ ((k ≡ node) × Contains (take (i + 1) xs) j × (j < length old))
     to k j e = elim (cases_eq j x) [
       | inl same ↦ (
-          let e' : Contains (successors_of mid x ++ node ∷ []) k = subst (λ (ys : List ℕ). Contains ys k) here (subst (λ (y : ℕ). EdgeOf new y k) same e) in
+          let e' : Contains (successors_of mid x ++ node ∷ []) k =
+          subst (λ (ys : List ℕ). Contains ys k) here (subst (λ (y : ℕ). EdgeOf new y k) same e) in
           elim (Contains-push_cases (successors_of mid x) node k e') [
             | inl before ↦ old_edge k j (subst (λ (y : ℕ). EdgeOf mid y k) (sym same) before)
-            | inr is ↦ inr (sym is, subst (Contains (take (i + 1) xs)) (sym same) (taken_next xs i x within at), subst (λ (y : ℕ). y < length old) (sym same) short_old)
+            | inr is ↦ inr (
+              sym is,
+              subst (Contains (take (i + 1) xs)) (sym same) (taken_next xs i x within at),
+              subst (λ (y : ℕ). y < length old) (sym same) short_old,
+            )
           ]
           )
       | inr other ↦ old_edge k j (subst (λ (ys : List ℕ). Contains ys k) (elsewhere j other) e)
@@ -107,7 +120,8 @@ adds_one node old mid new xs i x v within at short is_set pushed adds = record {
     kept k j e = elim (cases_eq j x) [
       | inl same ↦ (
           let e' : Contains (successors_of mid x) k = subst (λ (y : ℕ). EdgeOf mid y k) same e in
-          subst (λ (y : ℕ). EdgeOf new y k) (sym same) (subst (λ (ys : List ℕ). Contains ys k) (sym here) (Contains-append_left (successors_of mid x) (node ∷ []) k e'))
+          subst (λ (y : ℕ). EdgeOf new y k) (sym same)
+          (subst (λ (ys : List ℕ). Contains ys k) (sym here) (Contains-append_left (successors_of mid x) (node ∷ []) k e'))
           )
       | inr other ↦ subst (λ (ys : List ℕ). Contains ys k) (sym (elsewhere j other)) e
     ]
@@ -117,7 +131,8 @@ adds_one node old mid new xs i x v within at short is_set pushed adds = record {
     from k j (inr (is, has, less)) = elim (taken_cases xs i x j within at has) [
       | inl has' ↦ kept k j ((adds.edges k j).1 (inr (is, has', less)))
       | inr same ↦ (
-          let e : Contains (successors_of new x) node = subst (λ (ys : List ℕ). Contains ys node) (sym here) (Contains-push (successors_of mid x) node) in
+          let e : Contains (successors_of new x) node =
+          subst (λ (ys : List ℕ). Contains ys node) (sym here) (Contains-push (successors_of mid x) node) in
           subst (EdgeOf new j) (sym is) (subst (λ (y : ℕ). EdgeOf new y node) (sym same) e)
           )
     ]
@@ -127,7 +142,8 @@ pub record IsReverseBelow (graph : Graph) (n : ℕ) (reversed : Graph) : Type 0 
   pub size : length reversed ≡ length graph
   pub edges : (k i : ℕ) → EdgeOf reversed i k ↔ (EdgeOf graph k i × (i < length graph) × (k < n))
 
-pub reverse_goes_on : (graph old new : Graph) (n : ℕ) (successors : List ℕ) → successors ≡ successors_of graph n → IsReverseBelow graph n old → AddsReversed n successors old new → IsReverseBelow graph (n + 1) new
+pub reverse_goes_on : (graph old new : Graph) (n : ℕ) (successors : List ℕ) → successors ≡ successors_of graph n
+    → IsReverseBelow graph n old → AddsReversed n successors old new → IsReverseBelow graph (n + 1) new
 reverse_goes_on graph old new n successors is r adds = record {
   size = adds.size ∙ r.size;
   edges = λ k i. (to k i, from k i);
@@ -144,7 +160,11 @@ reverse_goes_on graph old new n successors is r adds = record {
 
     from : (k i : ℕ) → EdgeOf graph k i × (i < length graph) × (k < n + 1) → EdgeOf new i k
     from k i (e, less, low) = (adds.edges k i).1 (elim (cases_eq k n) [
-      | inl same ↦ inr (same, subst (λ (ys : List ℕ). Contains ys i) (sym is) (subst (λ (y : ℕ). EdgeOf graph y i) same e), omega (arith, less, r.size))
+      | inl same ↦ inr (
+        same,
+        subst (λ (ys : List ℕ). Contains ys i) (sym is) (subst (λ (y : ℕ). EdgeOf graph y i) same e),
+        omega (arith, less, r.size),
+      )
       | inr other ↦ inl ((r.edges k i).1 (e, less, omega (arith, low, other)))
     ])
 
@@ -159,12 +179,15 @@ reverse_ends graph reversed n past r = record {
 
 -- the predecessors are nodes
 pub reversed_within : (graph reversed : Graph) → IsReverse graph reversed → (k i : ℕ) → EdgeOf reversed i k → k < length reversed
-reversed_within graph reversed r k i e = let h = (r.edges k i).0 e in let within : k < length graph = edge_within graph k i h.0 in omega (arith, within, r.size)
+reversed_within graph reversed r k i e = let h = (r.edges k i).0 e in let within : k < length graph = edge_within graph k i h.0 in
+    omega (arith, within, r.size)
 
 -- what a node reaches along the edges is a node that it reaches along the reversed ones
-pub reaches_reversed : (graph reversed : Graph) → IsReverse graph reversed → (k j : ℕ) → j < length graph → Reaches (EdgeOf graph) k j → Reaches (Backward reversed) k j
+pub reaches_reversed : (graph reversed : Graph) → IsReverse graph reversed → (k j : ℕ) → j < length graph → Reaches (EdgeOf graph) k j
+    → Reaches (Backward reversed) k j
 reaches_reversed graph reversed r k j less (once a b e) = once k j ((r.edges k j).1 (e, less))
-reaches_reversed graph reversed r k j less (further a i b e more) = further k i j ((r.edges k i).1 (e, reaches_within graph i j more)) (reaches_reversed graph reversed r i j less more)
+reaches_reversed graph reversed r k j less (further a i b e more) =
+    further k i j ((r.edges k i).1 (e, reaches_within graph i j more)) (reaches_reversed graph reversed r i j less more)
 
 -- a list that was lent out as a whole is what came back
 pub came_back : {X : Type 0} (n : ℕ) (new items : List X) → n ≡ length new → take n (new ++ drop (length new) items) ≡ new

@@ -32,7 +32,11 @@ module _ (Edge : ℕ → ℕ → Type 0) where
       let e : length cycle ≡ length other = omega (arith, s.shortest other t.begins t.is_cycle, t.shortest cycle s.begins s.is_cycle) in
       elim (precedes_cases cycle other e) [
         | inl same ↦ same
-        | inr order ↦ elim order [ inl less ↦ absurd (t.least cycle s.begins s.is_cycle e less) | inr more ↦ absurd (s.least other t.begins t.is_cycle (sym e) more) ]
+        | inr order ↦ elim order [
+          | inl less ↦ absurd (t.least cycle s.begins s.is_cycle e less)
+          | inr more ↦ absurd
+              (s.least other t.begins t.is_cycle (sym e) more)
+        ]
       ]
 
   -- two lists that are both the first cycle are equal

@@ -19,7 +19,8 @@ pub record IsSpreading (Edge : ℕ → ℕ → Type 0) (root : ℕ) (old new : L
   pub most : (k m : ℕ) → distance_of old k ≡ None → distance_of new k ≡ Some m → m ≤ distance
   pub in_level : (k : ℕ) → Contains level k → distance_of new k ≡ Some distance
   pub level_all : (k : ℕ) → distance_of old k ≡ None → distance_of new k ≡ Some distance → Contains level k
-  pub before : (k i m : ℕ) → Edge k i → distance_of old i ≡ None → distance_of new i ≡ Some m → m < distance → IsSome (distance_of old k) ⊎ ((j : ℕ) × (distance_of new k ≡ Some j) × (j ≤ suc m))
+  pub before : (k i m : ℕ) → Edge k i → distance_of old i ≡ None → distance_of new i ≡ Some m → m < distance
+      → IsSome (distance_of old k) ⊎ ((j : ℕ) × (distance_of new k ≡ Some j) × (j ≤ suc m))
   pub room : distance + open_count new + min 1 (length level) ≤ length old
 
 -- the one item of a list
@@ -29,9 +30,11 @@ only_one x k (suc j, within, is) = absurd (omega (arith, within))
 
 module _ (Edge : ℕ → ℕ → Type 0) (root : ℕ) (old : List (Option ℕ)) where
   -- at first the root alone has its distance
-  pub spread_begins : IsOpen old root → (new : List (Option ℕ)) (level : List ℕ) → new ≡ set old root (Some 0) → level ≡ root ∷ [] → IsSpreading Edge root old new 0 level
+  pub spread_begins : IsOpen old root → (new : List (Option ℕ)) (level : List ℕ) → new ≡ set old root (Some 0) → level ≡ root ∷ []
+      → IsSpreading Edge root old new 0 level
   spread_begins open' new level is level_is =
-      subst (λ (d : List (Option ℕ)). IsSpreading Edge root old d 0 level) (sym is) (subst (λ (xs : List ℕ). IsSpreading Edge root old (set old root (Some 0)) 0 xs) (sym level_is) begun)
+      subst (λ (d : List (Option ℕ)). IsSpreading Edge root old d 0 level) (sym is)
+      (subst (λ (xs : List ℕ). IsSpreading Edge root old (set old root (Some 0)) 0 xs) (sym level_is) begun)
     where
       first : List (Option ℕ)
       first = set old root (Some 0)
@@ -45,7 +48,11 @@ module _ (Edge : ℕ → ℕ → Type 0) (root : ℕ) (old : List (Option ℕ)) 
       -- what had no distance and has one now is the root
       new_root : (k m : ℕ) → distance_of old k ≡ None → distance_of (set old root (Some 0)) k ≡ Some m → (k ≡ root) × (m ≡ 0)
       new_root k m none some = elim (cases_eq k root) [
-        | inl same ↦ (same, same_value (distance_of (set old root (Some 0)) k) m 0 some (subst (λ (y : ℕ). distance_of (set old root (Some 0)) y ≡ Some 0) (sym same) here))
+        | inl same ↦ (
+          same,
+          same_value (distance_of (set old root (Some 0)) k) m 0 some
+              (subst (λ (y : ℕ). distance_of (set old root (Some 0)) y ≡ Some 0) (sym same) here),
+        )
         | inr other ↦ absurd (none_or_some (distance_of old k) m none (sym (there k other) ∙ some))
       ]
 
@@ -67,8 +74,10 @@ module _ (Edge : ℕ → ℕ → Type 0) (root : ℕ) (old : List (Option ℕ)) 
       }
 
   -- one more level
-  pub spread_goes_on : (mid new : List (Option ℕ)) (distance : ℕ) (level found : List ℕ) (Before : ℕ → Type 0) → ((k : ℕ) → Before k → (i : ℕ) × Contains level i × Edge k i) → ((k i : ℕ) → Contains level i → Edge k i → Before k)
-      → ((k i : ℕ) → Edge k i → k < length old) → 0 < length level → IsSpreading Edge root old mid distance level → AreMarked Before (distance + 1) mid [] new found → IsSpreading Edge root old new (distance + 1) found
+  pub spread_goes_on : (mid new : List (Option ℕ)) (distance : ℕ) (level found : List ℕ) (Before : ℕ → Type 0)
+      → ((k : ℕ) → Before k → (i : ℕ) × Contains level i × Edge k i) → ((k i : ℕ) → Contains level i → Edge k i → Before k)
+      → ((k i : ℕ) → Edge k i → k < length old) → 0 < length level → IsSpreading Edge root old mid distance level
+      → AreMarked Before (distance + 1) mid [] new found → IsSpreading Edge root old new (distance + 1) found
   spread_goes_on mid new distance level found Before leads led within some_level s a = record {
     size = a.size ∙ s.size;
     kept = λ k m some. a.kept k m (s.kept k m some);
@@ -106,7 +115,8 @@ module _ (Edge : ℕ → ℕ → Type 0) (root : ℕ) (old : List (Option ℕ)) 
       most k m none some = elim (cases k m some) [ inl fresh ↦ omega (arith, fresh.0) | inr was ↦ omega (arith, s.most k m none was) ]
 
       -- a node that leads to the level has a distance
-      led_has : (k i m : ℕ) → Edge k i → m ≡ distance → Contains level i → IsSome (distance_of old k) ⊎ ((j : ℕ) × (distance_of new k ≡ Some j) × (j ≤ suc m))
+      led_has : (k i m : ℕ) → Edge k i → m ≡ distance → Contains level i
+          → IsSome (distance_of old k) ⊎ ((j : ℕ) × (distance_of new k ≡ Some j) × (j ≤ suc m))
       led_has k i m e is has =
           let short : k < length mid = let l = within k i e in omega (arith, l, s.size) in
           let v = value_of (distance_of new k) (a.marked k (led k i has e) short) in
@@ -115,7 +125,8 @@ module _ (Edge : ℕ → ℕ → Type 0) (root : ℕ) (old : List (Option ℕ)) 
             | inr some ↦ inl (is_some_of (distance_of old k) some.0 some.1)
           ]
 
-      before : (k i m : ℕ) → Edge k i → distance_of old i ≡ None → distance_of new i ≡ Some m → m < distance + 1 → IsSome (distance_of old k) ⊎ ((j : ℕ) × (distance_of new k ≡ Some j) × (j ≤ suc m))
+      before : (k i m : ℕ) → Edge k i → distance_of old i ≡ None → distance_of new i ≡ Some m → m < distance + 1
+          → IsSome (distance_of old k) ⊎ ((j : ℕ) × (distance_of new k ≡ Some j) × (j ≤ suc m))
       before k i m e none some less = elim (cases i m some) [
         | inl fresh ↦ absurd (omega (arith, fresh.0, less))
         | inr was ↦ elim (cases_lt m distance) [
@@ -131,7 +142,8 @@ module _ (Edge : ℕ → ℕ → Type 0) (root : ℕ) (old : List (Option ℕ)) 
       ]
 
   -- no node is left to go on from
-  pub spread_ends : (new : List (Option ℕ)) (distance : ℕ) (level : List ℕ) → length level ≡ 0 → IsSpreading Edge root old new distance level → IsSpread Edge root old new
+  pub spread_ends : (new : List (Option ℕ)) (distance : ℕ) (level : List ℕ) → length level ≡ 0
+      → IsSpreading Edge root old new distance level → IsSpread Edge root old new
   spread_ends new distance level none s = record {
     size = s.size;
     kept = s.kept;
@@ -149,7 +161,9 @@ module _ (Edge : ℕ → ℕ → Type 0) (root : ℕ) (old : List (Option ℕ)) 
   }
 
   -- Each node that leads to one with a distance has one.
-  pub closed_more : (new : List (Option ℕ)) → IsSpread Edge root old new → ((k i : ℕ) → Edge k i → IsSome (distance_of old i) → IsSome (distance_of old k)) → (k i : ℕ) → Edge k i → IsSome (distance_of new i) → IsSome (distance_of new k)
+  pub closed_more : (new : List (Option ℕ)) → IsSpread Edge root old new
+      → ((k i : ℕ) → Edge k i → IsSome (distance_of old i) → IsSome (distance_of old k)) → (k i : ℕ) → Edge k i
+      → IsSome (distance_of new i) → IsSome (distance_of new k)
   closed_more new s closed k i e has = elim (option_cases (distance_of old i)) [
     | inl none ↦ (
         let v = value_of (distance_of new i) has in
@@ -165,7 +179,8 @@ module _ (Edge : ℕ → ℕ → Type 0) (root : ℕ) (old : List (Option ℕ)) 
   ]
 
   -- where no node had a distance, they are the distances to the root
-  pub spread_alone : (new : List (Option ℕ)) → ((k : ℕ) → distance_of old k ≡ None) → IsSpread Edge root old new → AreDistances Edge root new
+  pub spread_alone : (new : List (Option ℕ)) → ((k : ℕ) → distance_of old k ≡ None) → IsSpread Edge root old new
+      → AreDistances Edge root new
   spread_alone new none s = record {
     at_root = s.at_root;
     zero_at_root = λ k. s.zero_at_root k (none k);
@@ -177,19 +192,27 @@ module _ (Edge : ℕ → ℕ → Type 0) (root : ℕ) (old : List (Option ℕ)) 
   }
 
 -- What reaches a node whose predecessors all have distances has one.
-reaching_has : (Edge : ℕ → ℕ → Type 0) (d : List (Option ℕ)) (root : ℕ) → ((k i : ℕ) → Edge k i → IsSome (distance_of d i) → IsSome (distance_of d k)) → ((k : ℕ) → Edge k root → IsSome (distance_of d k)) → (k j : ℕ) → j ≡ root → Reaches Edge k j → IsSome (distance_of d k)
+reaching_has : (Edge : ℕ → ℕ → Type 0) (d : List (Option ℕ)) (root : ℕ)
+    → ((k i : ℕ) → Edge k i → IsSome (distance_of d i) → IsSome (distance_of d k))
+    → ((k : ℕ) → Edge k root → IsSome (distance_of d k)) → (k j : ℕ) → j ≡ root → Reaches Edge k j → IsSome (distance_of d k)
 reaching_has Edge d root closed all k j is (once a b e) = all k (subst (Edge k) is e)
 reaching_has Edge d root closed all k j is (further a i b e more) = closed k i e (reaching_has Edge d root closed all i j is more)
 
 -- a node that has no distance while its predecessors have is on no cycle
-pub on_no_cycle : (Edge : ℕ → ℕ → Type 0) (d : List (Option ℕ)) (root : ℕ) → ((k i : ℕ) → Edge k i → IsSome (distance_of d i) → IsSome (distance_of d k)) → ((k : ℕ) → Edge k root → IsSome (distance_of d k)) → IsOpen d root → Reaches Edge root root → ⊥
-on_no_cycle Edge d root closed all open' reaches = let v = value_of (distance_of d root) (reaching_has Edge d root closed all root root refl reaches) in none_or_some (distance_of d root) v.0 open'.1 v.1
+pub on_no_cycle : (Edge : ℕ → ℕ → Type 0) (d : List (Option ℕ)) (root : ℕ)
+    → ((k i : ℕ) → Edge k i → IsSome (distance_of d i) → IsSome (distance_of d k))
+    → ((k : ℕ) → Edge k root → IsSome (distance_of d k)) → IsOpen d root → Reaches Edge root root → ⊥
+on_no_cycle Edge d root closed all open' reaches = let v =
+    value_of (distance_of d root) (reaching_has Edge d root closed all root root refl reaches) in
+    none_or_some (distance_of d root) v.0 open'.1 v.1
 
 -- the distances along reversed edges are those along the edges of the graph
-pub distances_reversed : (graph reversed : Graph) (root : ℕ) (d : List (Option ℕ)) → IsReverse graph reversed → length d ≡ length graph → AreDistances (Backward reversed) root d → AreDistances (EdgeOf graph) root d
+pub distances_reversed : (graph reversed : Graph) (root : ℕ) (d : List (Option ℕ)) → IsReverse graph reversed
+    → length d ≡ length graph → AreDistances (Backward reversed) root d → AreDistances (EdgeOf graph) root d
 distances_reversed graph reversed root d r size a = record {
   at_root = a.at_root;
   zero_at_root = a.zero_at_root;
   next = λ k m some. let to = a.next k m some in (to.0, ((r.edges k to.0).0 to.1).0, to.2);
-  before = λ k i m e some. a.before k i m ((r.edges k i).1 (e, let less : i < length d = distance_within d i m some in omega (arith, less, size))) some;
+  before = λ k i m e some. a.before k i m ((r.edges k i).1
+      (e, let less : i < length d = distance_within d i m some in omega (arith, less, size))) some;
 }

@@ -14,7 +14,8 @@ abbrev pub open_count : List (Option ℕ) → ℕ
 open_count distances = count_by is_none distances
 
 -- The open nodes among the wanted ones got this distance, and are listed after those that were listed before.
-pub record AreMarked (Wanted : ℕ → Type 0) (distance : ℕ) (old : List (Option ℕ)) (listed : List ℕ) (new : List (Option ℕ)) (found : List ℕ) : Type 0 where
+pub record AreMarked (Wanted : ℕ → Type 0) (distance : ℕ) (old : List (Option ℕ)) (listed : List ℕ) (new : List (Option ℕ))
+    (found : List ℕ) : Type 0 where
   pub size : length new ≡ length old
   pub kept : (k m : ℕ) → distance_of old k ≡ Some m → distance_of new k ≡ Some m
   pub marked : (k : ℕ) → Wanted k → k < length old → IsSome (distance_of new k)
@@ -34,7 +35,8 @@ pub record IsSpread (Edge : ℕ → ℕ → Type 0) (root : ℕ) (old new : List
   pub at_root : distance_of new root ≡ Some 0
   pub zero_at_root : (k : ℕ) → distance_of old k ≡ None → distance_of new k ≡ Some 0 → k ≡ root
   pub next : (k m : ℕ) → distance_of old k ≡ None → distance_of new k ≡ Some (suc m) → (i : ℕ) × Edge k i × (distance_of new i ≡ Some m)
-  pub before : (k i m : ℕ) → Edge k i → distance_of old i ≡ None → distance_of new i ≡ Some m → IsSome (distance_of old k) ⊎ ((j : ℕ) × (distance_of new k ≡ Some j) × (j ≤ suc m))
+  pub before : (k i m : ℕ) → Edge k i → distance_of old i ≡ None → distance_of new i ≡ Some m
+      → IsSome (distance_of old k) ⊎ ((j : ℕ) × (distance_of new k ≡ Some j) × (j ≤ suc m))
 
 -- Each node that leads to the root has its distance: the root alone has 0, each other node one more than the least of those
 -- that it leads to.

@@ -79,7 +79,8 @@ fn cycle_from(
     requires few { length graph.now < 2 ^ 32 }
     requires reversed { IsReverse graph.now reversed.now }
     requires first { first < length graph.now }
-    ensures { IfOk result (λ found. MatchOption found (Reaches (EdgeOf graph.now) first first → ⊥) (λ cycle. IsShortestFrom (EdgeOf graph.now) first cycle.items)) }
+    ensures { IfOk result (λ found. MatchOption found (Reaches (EdgeOf graph.now) first first → ⊥)
+        (λ cycle. IsShortestFrom (EdgeOf graph.now) first cycle.items)) }
 {
     let distances = distances_to(alloc, reversed, first)?;
     match least_distance(distances.as_slice(), row(graph, first)) {

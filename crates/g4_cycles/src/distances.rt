@@ -49,7 +49,8 @@ fn mark_before(
     distance: u32,
     found: &mut Vec<u32>,
 ) -> Result<(), AllocError>
-    ensures { OnOk result (AreMarked (LeadsTo reversed.now level.now) distance distances.old found.old.items distances.new found.new.items) }
+    ensures { OnOk result (AreMarked (LeadsTo reversed.now level.now) distance distances.old found.old.items distances.new
+        found.new.items) }
 {
     for node in level {
         mark(distances, distance, row(reversed, *node), found)?;

@@ -55,43 +55,61 @@ module _ {L C : Type 0} (Takes : L → C → Type 0) (Names : ℕ → C → Type
     pub along : {x : Element (Step L)} {s t n m : ℕ} {w : List C} → Derives Reads NoCalls [] x w → Lies net x s t n m → Goes s t w
     along (a_call a called xs w is at d) l = absurd is
     along (an_atom _ w reads) (lay.an_edge label s n is) = one_step Takes Names Passes net (Some (Edge label n)) is (refl, reads)
-    along (an_atom _ w reads) (lay.a_call called level s n is) = one_step Takes Names Passes net (Some (Call called level n)) is (refl, reads)
+    along (an_atom _ w reads) (lay.a_call called level s n is) =
+        one_step Takes Names Passes net (Some (Call called level n)) is (refl, reads)
     along (an_atom _ w reads) (lay.a_predicate number s n is) = one_step Takes Names Passes net (Some (Predicate number n)) is (refl, reads)
     along (an_atom _ w reads) (lay.a_level q s n is) = one_step Takes Names Passes net (Some (Level q n)) is (refl, reads)
     along (an_atom _ w reads) (lay.an_action s n is) = one_step Takes Names Passes net (Some (Action n)) is (refl, reads)
     along (an_atom _ w reads) (lay.an_empty s n is) = one_step Takes Names Passes net (Some (Empty n)) is (refl, reads)
     along (a_block _ _ w (this x _ _ d)) (lay.one_alternative name _ s t n m l) = in_order_along d l
     along (a_block _ _ w (another x _ _ d)) (lay.one_alternative name _ s t n m l) = absurd (some_alternative d refl)
-    along (a_block _ _ w d) (lay.a_block name xs firsts lasts s n m two is l a) = let b = body_along d l m a in decide Takes Names Passes net firsts is b.1 b.2
+    along (a_block _ _ w d) (lay.a_block name xs firsts lasts s n m two is l a) = let b = body_along d l m a in
+        decide Takes Names Passes net firsts is b.1 b.2
     along (left_out _ _ _) (lay.an_optional name sign xs firsts lasts s n m is l a exit) =
-        then_pass Takes Names Passes net (one_step Takes Names Passes net (Some (Decision (with_exit sign.greedy firsts m))) is (exit_edge sign.greedy firsts m, refl)) exit
+        then_pass Takes Names Passes net (one_step Takes Names Passes net (Some (Decision (with_exit sign.greedy firsts m))) is
+        (exit_edge sign.greedy firsts m, refl)) exit
     along (taken _ _ _ w d) (lay.an_optional name sign xs firsts lasts s n m is l a exit) =
-        let b = body_along d l (m + 1) a in decide Takes Names Passes net (with_exit sign.greedy firsts m) is (body_edge sign.greedy firsts m b.0 b.1) b.2
-    along (no_turn _ _ _) (lay.a_star name sign xs firsts lasts s n m is l a) = one_step Takes Names Passes net (Some (Decision (with_exit sign.greedy firsts m))) is (exit_edge sign.greedy firsts m, refl)
+        let b = body_along d l (m + 1) a in decide Takes Names Passes net (with_exit sign.greedy firsts m) is
+        (body_edge sign.greedy firsts m b.0 b.1) b.2
+    along (no_turn _ _ _) (lay.a_star name sign xs firsts lasts s n m is l a) =
+        one_step Takes Names Passes net (Some (Decision (with_exit sign.greedy firsts m))) is (exit_edge sign.greedy firsts m, refl)
     along (a_turn _ _ _ u v w d more parts) (lay.a_star name sign xs firsts lasts s n m is l a) =
         let b = body_along d l s a in
-        decide Takes Names Passes net (with_exit sign.greedy firsts m) is (body_edge sign.greedy firsts m b.0 b.1) (and_on Takes Names Passes net b.2 (around_along more l s m a is) parts)
+        decide Takes Names Passes net (with_exit sign.greedy firsts m) is (body_edge sign.greedy firsts m b.0 b.1)
+        (and_on Takes Names Passes net b.2 (around_along more l s m a is) parts)
     along (turns _ _ _ u v w d more parts) (lay.a_plus_of_one name sign xs first lasts s n m is l a again) =
         let b = body_along d l m a in
-        and_on Takes Names Passes net (one_step Takes Names Passes net (Some (Empty first)) is (refl, refl)) (and_on Takes Names Passes net (subst (λ (f : ℕ). Goes f m u) (only_member first b.0 b.1) b.2) (around_along more l m (m + 1) a again) parts) refl
+        and_on Takes Names Passes net (one_step Takes Names Passes net (Some (Empty first)) is (refl, refl))
+        (and_on Takes Names Passes net (subst (λ (f : ℕ). Goes f m u) (only_member first b.0 b.1) b.2)
+        (around_along more l m (m + 1) a again) parts) refl
     along (turns _ _ _ u v w d more parts) (lay.a_plus name sign xs firsts lasts s n m two is l a again) =
-        let b = body_along d l m a in decide Takes Names Passes net firsts is b.1 (and_on Takes Names Passes net b.2 (around_along more l m (m + 1) a again) parts)
+        let b = body_along d l m a in decide Takes Names Passes net firsts is b.1
+        (and_on Takes Names Passes net b.2 (around_along more l m (m + 1) a again) parts)
 
     -- from a loop's decision to its exit branch state
-    around_along : {name : Option Label} {sign : Suffix} {xs : Alternatives (Step L)} {w : List C} {firsts lasts : List ℕ} {n m : ℕ} → Derives Reads NoCalls [] (block name (Star sign) xs) w →
-        LieSideBySide net xs firsts lasts n m → (d exit : ℕ) → AllLeadTo net lasts d → state_at net d ≡ Some (Decision (with_exit sign.greedy firsts exit)) → Goes d exit w
-    around_along {firsts = firsts} (no_turn _ sign _) l d exit a is = one_step Takes Names Passes net (Some (Decision (with_exit sign.greedy firsts exit))) is (exit_edge sign.greedy firsts exit, refl)
+    around_along : {name : Option Label} {sign : Suffix} {xs : Alternatives (Step L)} {w : List C} {firsts lasts : List ℕ} {n m : ℕ}
+        → Derives Reads NoCalls [] (block name (Star sign) xs) w →
+        LieSideBySide net xs firsts lasts n m → (d exit : ℕ) → AllLeadTo net lasts d
+        → state_at net d ≡ Some (Decision (with_exit sign.greedy firsts exit)) → Goes d exit w
+    around_along {firsts = firsts} (no_turn _ sign _) l d exit a is =
+        one_step Takes Names Passes net (Some (Decision (with_exit sign.greedy firsts exit))) is (exit_edge sign.greedy firsts exit, refl)
     around_along {firsts = firsts} (a_turn _ sign _ u v w one more parts) l d exit a is =
         let b = body_along one l d a in
-        decide Takes Names Passes net (with_exit sign.greedy firsts exit) is (body_edge sign.greedy firsts exit b.0 b.1) (and_on Takes Names Passes net b.2 (around_along more l d exit a is) parts)
+        decide Takes Names Passes net (with_exit sign.greedy firsts exit) is (body_edge sign.greedy firsts exit b.0 b.1)
+        (and_on Takes Names Passes net b.2 (around_along more l d exit a is) parts)
 
     -- through elements one after another
-    pub in_order_along : {xs : Elements (Step L)} {s t n m : ℕ} {w : List C} → DerivesAll Reads NoCalls [] xs w → LieInOrder net xs s t n m → Goes s t w
+    pub in_order_along : {xs : Elements (Step L)} {s t n m : ℕ} {w : List C} → DerivesAll Reads NoCalls [] xs w
+        → LieInOrder net xs s t n m → Goes s t w
     in_order_along nothing (lay.no_more s n) = (0, stays s)
-    in_order_along (one_more _ _ u v w d ds parts) (lay.one_more x xs s mid t n k m l ls) = and_on Takes Names Passes net (along d l) (in_order_along ds ls) parts
+    in_order_along (one_more _ _ u v w d ds parts) (lay.one_more x xs s mid t n k m l ls) =
+        and_on Takes Names Passes net (along d l) (in_order_along ds ls) parts
 
     -- through one of some bodies that lead to t
-    pub body_along : {xs : Alternatives (Step L)} {firsts lasts : List ℕ} {n m : ℕ} {w : List C} → DerivesOne Reads NoCalls [] xs w → LieSideBySide net xs firsts lasts n m → (t : ℕ) → AllLeadTo net lasts t →
+    pub body_along : {xs : Alternatives (Step L)} {firsts lasts : List ℕ} {n m : ℕ} {w : List C} → DerivesOne Reads NoCalls [] xs w
+        → LieSideBySide net xs firsts lasts n m → (t : ℕ) → AllLeadTo net lasts t →
         (f : ℕ) × Contains firsts f × Goes f t w
-    body_along (this _ _ w d) (lay.another x xs last n k m firsts lasts l ls) t a = (n, (0, omega arith, refl), then_pass Takes Names Passes net (in_order_along d l) a.0)
-    body_along (another _ _ w d) (lay.another x xs last n k m firsts lasts l ls) t a = let b = body_along d ls t a.1 in (b.0, later n firsts b.0 b.1, b.2)
+    body_along (this _ _ w d) (lay.another x xs last n k m firsts lasts l ls) t a =
+        (n, (0, omega arith, refl), then_pass Takes Names Passes net (in_order_along d l) a.0)
+    body_along (another _ _ w d) (lay.another x xs last n k m firsts lasts l ls) t a = let b = body_along d ls t a.1 in
+        (b.0, later n firsts b.0 b.1, b.2)

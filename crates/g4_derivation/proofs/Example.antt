@@ -36,7 +36,8 @@ is_network = record {
       (of_one 0 4 2 5 loop
       (one_more (block None any_number (only letter)) empty 0 4 4 2 5 5
       (a_star None _ (only letter) (2 ∷ []) (3 ∷ []) 0 2 4 refl
-      (another letter _ 3 2 4 4 [] [] (one_more (atom (steps.Edge (5 ∷ []))) empty 2 3 3 3 4 4 (an_edge (5 ∷ []) 2 3 refl) (no_more 3 4)) (no_other 4)) (refl, tt))
+      (another letter _ 3 2 4 4 [] [] (one_more (atom (steps.Edge (5 ∷ []))) empty 2 3 3 3 4 4 (an_edge (5 ∷ []) 2 3 refl)
+      (no_more 3 4)) (no_other 4)) (refl, tt))
       (no_more 4 5)) refl) refl (no_rule 1 5);
   written = refl;
 }
@@ -52,12 +53,15 @@ Goes = WalksTo TakesSymbol NamesRule NoLevel net
 -- one turn of the loop
 turn : Goes 0 0 (symbol 5 ∷ [])
 turn =
-    let edge : Goes 2 3 (symbol 5 ∷ []) = one_step TakesSymbol NamesRule NoLevel net (Some (Edge (5 ∷ []) 3)) refl (refl, (symbol 5, (0, omega arith, refl), refl)) in
-    decide TakesSymbol NamesRule NoLevel net (2 ∷ 4 ∷ []) refl (0, omega arith, refl) (then_pass TakesSymbol NamesRule NoLevel net edge refl)
+    let edge : Goes 2 3 (symbol 5 ∷ []) = one_step TakesSymbol NamesRule NoLevel net (Some (Edge (5 ∷ []) 3)) refl
+    (refl, (symbol 5, (0, omega arith, refl), refl)) in
+    decide TakesSymbol NamesRule NoLevel net (2 ∷ 4 ∷ []) refl (0, omega arith, refl)
+    (then_pass TakesSymbol NamesRule NoLevel net edge refl)
 
 -- from the loop to the end
 leave : Goes 0 1 []
-leave = decide TakesSymbol NamesRule NoLevel net (2 ∷ 4 ∷ []) refl (1, omega arith, refl) (one_step TakesSymbol NamesRule NoLevel net (Some (Empty 1)) refl (refl, refl))
+leave = decide TakesSymbol NamesRule NoLevel net (2 ∷ 4 ∷ []) refl (1, omega arith, refl)
+    (one_step TakesSymbol NamesRule NoLevel net (Some (Empty 1)) refl (refl, refl))
 
 -- a walk from the rule's start to its end reads two letters
 pub two_letters : Goes (start_of 0) (end_of 0) (symbol 5 ∷ symbol 5 ∷ [])

@@ -75,20 +75,25 @@ module _ (Passes : ℕ → Type 0) where
 
   -- 'a' is read up to the turns
   primary : Goes 0 3 (symbol 5 ∷ [])
-  primary = then_pass TakesSymbol NamesRule Passes net (one_step TakesSymbol NamesRule Passes net (Some (Edge (5 ∷ []) 2)) refl (refl, (symbol 5, (0, omega arith, refl), refl))) refl
+  primary = then_pass TakesSymbol NamesRule Passes net
+      (one_step TakesSymbol NamesRule Passes net (Some (Edge (5 ∷ []) 2)) refl (refl, (symbol 5, (0, omega arith, refl), refl))) refl
 
   -- no more turns are taken
   leave : Goes 3 1 []
-  leave = decide TakesSymbol NamesRule Passes net (4 ∷ 8 ∷ []) refl (1, omega arith, refl) (one_step TakesSymbol NamesRule Passes net (Some (Empty 1)) refl (refl, refl))
+  leave = decide TakesSymbol NamesRule Passes net (4 ∷ 8 ∷ []) refl (1, omega arith, refl)
+      (one_step TakesSymbol NamesRule Passes net (Some (Empty 1)) refl (refl, refl))
 
   -- a turn, where its level is passed
   one_turn : Passes 2 → Goes 3 3 (symbol 6 ∷ called 0 ∷ [])
   one_turn passes =
       let level : Goes 4 5 [] = one_step TakesSymbol NamesRule Passes net (Some (Level 2 5)) refl (refl, (passes, refl)) in
-      let plus : Goes 5 6 (symbol 6 ∷ []) = one_step TakesSymbol NamesRule Passes net (Some (Edge (6 ∷ []) 6)) refl (refl, (symbol 6, (0, omega arith, refl), refl)) in
-      let operand : Goes 6 7 (called 0 ∷ []) = one_step TakesSymbol NamesRule Passes net (Some (Call 0 3 7)) refl (refl, (called 0, refl, refl)) in
+      let plus : Goes 5 6 (symbol 6 ∷ []) = one_step TakesSymbol NamesRule Passes net (Some (Edge (6 ∷ []) 6)) refl
+      (refl, (symbol 6, (0, omega arith, refl), refl)) in
+      let operand : Goes 6 7 (called 0 ∷ []) = one_step TakesSymbol NamesRule Passes net (Some (Call 0 3 7)) refl
+      (refl, (called 0, refl, refl)) in
       decide TakesSymbol NamesRule Passes net (4 ∷ 8 ∷ []) refl (0, omega arith, refl)
-      (and_on TakesSymbol NamesRule Passes net level (and_on TakesSymbol NamesRule Passes net plus (then_pass TakesSymbol NamesRule Passes net operand refl) refl) refl)
+      (and_on TakesSymbol NamesRule Passes net level
+      (and_on TakesSymbol NamesRule Passes net plus (then_pass TakesSymbol NamesRule Passes net operand refl) refl) refl)
 
 -- where no level is passed, 'a' is read
 pub one_letter : Goes NoLevel (start_of 0) (end_of 0) (symbol 5 ∷ [])
@@ -96,4 +101,5 @@ one_letter = and_on TakesSymbol NamesRule NoLevel net (primary NoLevel) (leave N
 
 -- where each level is passed, 'a' '+' e is read too
 pub a_sum : Goes AnyLevel (start_of 0) (end_of 0) (symbol 5 ∷ symbol 6 ∷ called 0 ∷ [])
-a_sum = and_on TakesSymbol NamesRule AnyLevel net (primary AnyLevel) (and_on TakesSymbol NamesRule AnyLevel net (one_turn AnyLevel tt) (leave AnyLevel) refl) refl
+a_sum = and_on TakesSymbol NamesRule AnyLevel net (primary AnyLevel)
+    (and_on TakesSymbol NamesRule AnyLevel net (one_turn AnyLevel tt) (leave AnyLevel) refl) refl

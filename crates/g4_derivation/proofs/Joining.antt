@@ -12,7 +12,8 @@ module _ {L C : Type 0} (Takes : L → C → Type 0) (Names : ℕ → C → Type
   Goes = WalksTo Takes Names Passes net
 
   -- a walk of known length and then another
-  join : {k j p q r : ℕ} {u v w : List C} → Walk Takes Names Passes net k p q u → Walk Takes Names Passes net j q r v → w ≡ u ++ v → Goes p r w
+  join : {k j p q r : ℕ} {u v w : List C} → Walk Takes Names Passes net k p q u → Walk Takes Names Passes net j q r v → w ≡ u ++ v
+      → Goes p r w
   join {j = j} {q = q} {r = r} {v = v} (stays p) more parts = (j, subst (Walk Takes Names Passes net j q r) (sym parts) more)
   join {v = v} {w = w} (goes k p t q x y u moves walk parts) more whole =
       let rest = join walk more refl in
@@ -28,10 +29,15 @@ module _ {L C : Type 0} (Takes : L → C → Type 0) (Names : ℕ → C → Type
 
   -- one step of a state whose edges are known
   pub one_step : {p t : ℕ} {w : List C} (o : Option (State L)) → state_at net p ≡ o → MovesBy Takes Names Passes o t w → Goes p t w
-  one_step {p} {t} {w} o is moves = (0 + 1, goes 0 p t t w [] w (subst (λ (s : Option (State L)). MovesBy Takes Names Passes s t w) (sym is) moves) (stays t) (sym (append-nil w)))
+  one_step {p} {t} {w} o is moves = (
+    0 + 1,
+    goes 0 p t t w [] w
+        (subst (λ (s : Option (State L)). MovesBy Takes Names Passes s t w) (sym is) moves) (stays t) (sym (append-nil w)),
+  )
 
   -- an edge of a decision, and then a walk
-  pub decide : {p q r : ℕ} {w : List C} (targets : List ℕ) → state_at net p ≡ Some (Decision targets) → Contains targets q → Goes q r w → Goes p r w
+  pub decide : {p q r : ℕ} {w : List C} (targets : List ℕ) → state_at net p ≡ Some (Decision targets) → Contains targets q
+      → Goes q r w → Goes p r w
   decide targets is c walk = and_on (one_step (Some (Decision targets)) is (c, refl)) walk refl
 
   -- a walk and then an empty edge

@@ -14,7 +14,8 @@ use Rattle.g4_derivation.proofs.LevelFree.{AreLevelFree}
 -- the elements are the same but perhaps for the level of one call
 pub data AreAlike : Elements StepIn → Elements StepIn → Type 0 where
   the_same : (xs : Elements StepIn) → AreAlike xs xs
-  another_level : (rule level other : ℕ) (xs : Elements StepIn) → AreAlike (then (atom (Call rule level)) xs) (then (atom (Call rule other)) xs)
+  another_level : (rule level other : ℕ) (xs : Elements StepIn)
+      → AreAlike (then (atom (Call rule level)) xs) (then (atom (Call rule other)) xs)
   later : (x : Element StepIn) (xs ys : Elements StepIn) → AreAlike xs ys → AreAlike (then x xs) (then x ys)
 
 -- and back
@@ -42,16 +43,20 @@ module _ (k level : ℕ) where
   own_call (atom Empty) xs true own = absurd (let n : ⊥ = cc in n)
   own_call (atom (Call rule before)) xs true own =
       let same : k ≡ rule = grind (arith, nat_tests) in
-      subst (λ (j : ℕ). AreAlike (then (atom (Call rule before)) xs) (then (atom (Call j level)) xs)) (sym same) (another_level rule before level xs)
+      subst (λ (j : ℕ). AreAlike (then (atom (Call rule before)) xs) (then (atom (Call j level)) xs)) (sym same)
+      (another_level rule before level xs)
 
   -- an element in front
-  in_front : (x : Element StepIn) (xs : Elements StepIn) (last : Option (LastSelf StepIn)) → AreAlike xs (last_at k level xs last) → AreAlike (then x xs) (last_at k level (then x xs) (with_first x last))
+  in_front : (x : Element StepIn) (xs : Elements StepIn) (last : Option (LastSelf StepIn)) → AreAlike xs (last_at k level xs last)
+      → AreAlike (then x xs) (last_at k level (then x xs) (with_first x last))
   in_front x xs None h = the_same (then x xs)
   in_front x xs (Some last) h = later x xs (onto last.before (then (atom (Call k level)) last.trailing)) h
 
   -- either of the two
-  by_trailing : (x : Element StepIn) (xs : Elements StepIn) (silent : Bool) (last : Option (LastSelf StepIn)) → AreAlike xs (last_at k level xs last) →
-      AreAlike (then x xs) (last_at k level (then x xs) (cond silent (cond (is_atom (calls k) x) (Some (record { before = empty; trailing = xs })) None) (with_first x last)))
+  by_trailing : (x : Element StepIn) (xs : Elements StepIn) (silent : Bool) (last : Option (LastSelf StepIn))
+      → AreAlike xs (last_at k level xs last) →
+      AreAlike (then x xs) (last_at k level (then x xs)
+      (cond silent (cond (is_atom (calls k) x) (Some (record { before = empty; trailing = xs })) None) (with_first x last)))
   by_trailing x xs true last h = own_call x xs (is_atom (calls k) x) refl
   by_trailing x xs false last h = in_front x xs last h
 
@@ -66,12 +71,15 @@ module _ {C : Type 0} (Takes : List ℕ → C → Type 0) (Names : ℕ → C →
   Reading = DerivesAll (ReadsLetter Takes Names Passes) NoCalls []
 
   -- a call reads the same at another level
-  other_call : {rule level : ℕ} {w : List C} (other : ℕ) → Derives (ReadsLetter Takes Names Passes) NoCalls [] (atom (Call rule level)) w → Derives (ReadsLetter Takes Names Passes) NoCalls [] (atom (Call rule other)) w
+  other_call : {rule level : ℕ} {w : List C} (other : ℕ)
+      → Derives (ReadsLetter Takes Names Passes) NoCalls [] (atom (Call rule level)) w
+      → Derives (ReadsLetter Takes Names Passes) NoCalls [] (atom (Call rule other)) w
   other_call {rule} other (an_atom _ w reads) = an_atom (Call rule other) w reads
   other_call other (a_call a called xs w is at d) = absurd is
 
   -- alike elements derive the same words
   pub alike_derive : {xs ys : Elements StepIn} {w : List C} → AreAlike xs ys → Reading xs w → Reading ys w
   alike_derive (the_same xs) d = d
-  alike_derive (another_level rule level other xs) (one_more _ _ u v w d ds parts) = one_more (atom (Call rule other)) xs u v w (other_call other d) ds parts
+  alike_derive (another_level rule level other xs) (one_more _ _ u v w d ds parts) =
+      one_more (atom (Call rule other)) xs u v w (other_call other d) ds parts
   alike_derive (later x xs ys h) (one_more _ _ u v w d ds parts) = one_more x ys u v w d (alike_derive h ds) parts

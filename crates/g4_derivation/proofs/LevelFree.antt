@@ -44,7 +44,10 @@ mutual
   -- the same of elements
   pub plain_elements : (xs : Elements (Step (List ℕ))) → AreFull xs → All IsPlain (atoms_in_order xs) → AreLevelFree xs
   plain_elements empty full every = tt
-  plain_elements (then x xs) full every = (plain_element x full.0 (All-front IsPlain (atoms x) (atoms_in_order xs) every), plain_elements xs full.1 (All-rest IsPlain (atoms x) (atoms_in_order xs) every))
+  plain_elements (then x xs) full every = (
+    plain_element x full.0 (All-front IsPlain (atoms x) (atoms_in_order xs) every),
+    plain_elements xs full.1 (All-rest IsPlain (atoms x) (atoms_in_order xs) every),
+  )
 
   -- the same of alternatives
   pub plain_alternatives : (xs : Alternatives (Step (List ℕ))) → EachIsFull xs → All IsPlain (atoms_of_either xs) → EachIsLevelFree xs

@@ -34,7 +34,8 @@ all_at P (y ∷ xs) every zero x is = let same : y ≡ x = cc in subst P same (A
 all_at P (y ∷ xs) every (suc j) x is = all_at P xs (All-tail P y xs every) j x is
 
 -- each of full rules is full
-full_at : (rules : List StepRule) → ParserRulesAreFull rules → (j : ℕ) (rule : StepRule) → slice_get rules j ≡ Some rule → ParserRuleIsFull rule
+full_at : (rules : List StepRule) → ParserRulesAreFull rules → (j : ℕ) (rule : StepRule) → slice_get rules j ≡ Some rule
+    → ParserRuleIsFull rule
 full_at [] full j rule is = absurd (let n : ⊥ = cc in n)
 full_at (r ∷ rules) full zero rule is = let same : r ≡ rule = cc in subst (λ (x : StepRule). ParserRuleIsFull x) same full.0
 full_at (r ∷ rules) full (suc j) rule is = full_at rules full.1 j rule is
@@ -47,7 +48,8 @@ pub record RuleFacts (net : ParserNetwork) (k count n m : ℕ) (numbers : List �
   pub free : EachIsLevelFree (either forms)
   pub long : length forms ≡ length numbers
 
-module _ (set : List ℕ) (rules : List StepRule) (start : List ℕ) (net : ParserNetwork) (can : CanBeRewritten rules) (built : IsBuilt set (rewritten rules) (numberings rules) start net) where
+module _ (set : List ℕ) (rules : List StepRule) (start : List ℕ) (net : ParserNetwork) (can : CanBeRewritten rules)
+    (built : IsBuilt set (rewritten rules) (numberings rules) start net) where
   -- the alternatives of all rules as they are laid
   abbrev pub all_rules : List (Alternatives StepIn)
   all_rules = rules_of set (rewritten rules) start
@@ -55,20 +57,23 @@ module _ (set : List ℕ) (rules : List StepRule) (start : List ℕ) (net : Pars
   -- there is the added rule and one for each that is written
   pub count_rules : length all_rules ≡ length rules + 1
   count_rules =
-      let laid : length (map alternatives_of (rewritten rules)) ≡ length (rewritten rules) = length-map (rewritten rules) (λ (r : StepRule). alternatives_of r) in
+      let laid : length (map alternatives_of (rewritten rules)) ≡ length (rewritten rules) =
+      length-map (rewritten rules) (λ (r : StepRule). alternatives_of r) in
       let forms : length (rewritten rules) ≡ length rules = length-map (enumerate_from 1 rules) formed ∙ length-enumerate_from 1 rules in
       omega (arith, laid, forms)
 
   -- as many numberings are there
   pub count_numberings : length (all_numberings rules) ≡ length all_rules
   count_numberings =
-      let given : length (numberings rules) ≡ length rules = length-map (enumerate_from 1 rules) numbering_of ∙ length-enumerate_from 1 rules in
+      let given : length (numberings rules) ≡ length rules =
+      length-map (enumerate_from 1 rules) numbering_of ∙ length-enumerate_from 1 rules in
       omega (arith, given, count_rules)
 
   -- the numbers are those of these numberings
   numbered : AreNumbered net 0 (2 * length all_rules) all_rules (all_numberings rules)
   numbered =
-      let laid : length (map alternatives_of (rewritten rules)) ≡ length (rewritten rules) = length-map (rewritten rules) (λ (r : StepRule). alternatives_of r) in
+      let laid : length (map alternatives_of (rewritten rules)) ≡ length (rewritten rules) =
+      length-map (rewritten rules) (λ (r : StepRule). alternatives_of r) in
       let same : 2 * length (rewritten rules) + 2 ≡ 2 * length all_rules = omega (arith, laid) in
       subst (λ (q : ℕ). AreNumbered net 0 q all_rules (all_numberings rules)) same built.numbered
 
@@ -81,7 +86,8 @@ module _ (set : List ℕ) (rules : List StepRule) (start : List ℕ) (net : Pars
   rule_here k below = rule_placed net all_rules (all_numberings rules) built.network numbered k below
 
   -- each state is one of a rule
-  pub state_here : (p : ℕ) (s : State (List ℕ)) → state_at net p ≡ Some s → Somewhere net all_rules (all_numberings rules) (2 * length all_rules) p
+  pub state_here : (p : ℕ) (s : State (List ℕ)) → state_at net p ≡ Some s
+      → Somewhere net all_rules (all_numberings rules) (2 * length all_rules) p
   state_here p s is = state_placed net all_rules (all_numberings rules) built.network numbered p s is
 
   -- the rule as it is written, and the alternatives with which it starts as it is laid out
@@ -91,25 +97,30 @@ module _ (set : List ℕ) (rules : List StepRule) (start : List ℕ) (net : Pars
 
   -- as it is written, a rule has no levels
   written_rule_free : (j : ℕ) (rule : StepRule) → slice_get rules j ≡ Some rule → EachIsLevelFree (alternatives_of rule)
-  written_rule_free j rule at = plain_alternatives (alternatives_of rule) (full_at rules can.full j rule at).1 (all_at (λ (r : StepRule). RuleIsPlain r) rules can.plain j rule at)
+  written_rule_free j rule at = plain_alternatives (alternatives_of rule) (full_at rules can.full j rule at).1
+      (all_at (λ (r : StepRule). RuleIsPlain r) rules can.plain j rule at)
 
   -- rule k is one of those that are written, but for the added rule
   pub rule_written : (k j : ℕ) (rule : StepRule) → k ≡ suc j → slice_get rules j ≡ Some rule → (r : RuleHere k) → IsWrittenRule k r rule
   rule_written k j rule next at r =
-      let found = map_item (λ (x : StepRule). alternatives_of x) (rewritten rules) j r.alternatives (subst (λ (q : ℕ). slice_get all_rules q ≡ Some r.alternatives) next r.is) in
+      let found = map_item (λ (x : StepRule). alternatives_of x) (rewritten rules) j r.alternatives
+      (subst (λ (q : ℕ). slice_get all_rules q ≡ Some r.alternatives) next r.is) in
       let form = map_item formed (enumerate_from 1 rules) j found.0 found.1 in
       let item = numbered_item 1 rules j form.0 form.1 in
-      let given = map_item numbering_of (enumerate_from 1 rules) j r.numbering (subst (λ (q : ℕ). slice_get (all_numberings rules) q ≡ Some r.numbering) next r.has) in
+      let given = map_item numbering_of (enumerate_from 1 rules) j r.numbering
+      (subst (λ (q : ℕ). slice_get (all_numberings rules) q ≡ Some r.numbering) next r.has) in
       let other = numbered_item 1 rules j given.0 given.1 in
       let this : form.0.1 ≡ rule = same_item item.0 at in
       let that : given.0.1 ≡ rule = same_item other.0 at in
       let first : form.0.0 ≡ k = omega (arith, item.1, next) in
       let second : given.0.0 ≡ k = omega (arith, other.1, next) in
       let laid : r.alternatives ≡ alternatives_of (formed (k, rule)) =
-      found.2 ∙ (ap (λ (x : StepRule). alternatives_of x) form.2 ∙ (ap (λ (q : ℕ). alternatives_of (formed (q, form.0.1))) first ∙ ap (λ (x : StepRule). alternatives_of (formed (k, x))) this)) in
+      found.2 ∙ (ap (λ (x : StepRule). alternatives_of x) form.2
+      ∙ (ap (λ (q : ℕ). alternatives_of (formed (q, form.0.1))) first ∙ ap (λ (x : StepRule). alternatives_of (formed (k, x))) this)) in
       record {
         numbering = given.2 ∙ (ap (λ (q : ℕ). numbering_of (q, given.0.1)) second ∙ ap (λ (x : StepRule). numbering_of (k, x)) that);
-        known = starts_known net k r.from r.upto rule.alternatives (written_rule_free j rule at) (subst (λ (xs : Alternatives StepIn). LiesAsRule net k xs r.from r.upto) laid r.lies);
+        known = starts_known net k r.from r.upto rule.alternatives (written_rule_free j rule at)
+            (subst (λ (xs : Alternatives StepIn). LiesAsRule net k xs r.from r.upto) laid r.lies);
       }
     where
       -- there is one rule at a place
@@ -119,7 +130,8 @@ module _ (set : List ℕ) (rules : List StepRule) (start : List ℕ) (net : Pars
   -- each rule but the added one is one of those that are written
   pub rule_at : (k j : ℕ) → k ≡ suc j → RuleHere k → (rule : StepRule) × (slice_get rules j ≡ Some rule)
   rule_at k j next r =
-      let found = map_item (λ (x : StepRule). alternatives_of x) (rewritten rules) j r.alternatives (subst (λ (q : ℕ). slice_get all_rules q ≡ Some r.alternatives) next r.is) in
+      let found = map_item (λ (x : StepRule). alternatives_of x) (rewritten rules) j r.alternatives
+      (subst (λ (q : ℕ). slice_get all_rules q ≡ Some r.alternatives) next r.is) in
       let form = map_item formed (enumerate_from 1 rules) j found.0 found.1 in
       let item = numbered_item 1 rules j form.0 form.1 in
       (form.0.1, item.0)
@@ -134,7 +146,8 @@ module _ (set : List ℕ) (rules : List StepRule) (start : List ℕ) (net : Pars
       record {
         forms = each_of (added_rule set (rule_number (rewritten rules) start));
         parts = [];
-        shape = plain_shape (rule_starts (each_of (added_rule set (rule_number (rewritten rules) start))) (subst (λ (xs : Alternatives StepIn). LiesAsRule net k xs r.from r.upto) laid r.lies));
+        shape = plain_shape (rule_starts (each_of (added_rule set (rule_number (rewritten rules) start)))
+            (subst (λ (xs : Alternatives StepIn). LiesAsRule net k xs r.from r.upto) laid r.lies));
         free = ((tt, ((tt, ((tt, tt), tt)), (tt, tt))), tt);
         long = ap (λ (x : Numbering). length x.starts) (sym numbering);
       }
@@ -149,7 +162,8 @@ module _ (set : List ℕ) (rules : List StepRule) (start : List ℕ) (net : Pars
       record {
         forms = w.known.forms;
         parts = operators (calls (suc j)) rule.0.alternatives;
-        shape = subst (λ (x : Numbering). Shape net (suc j) x.count r.from r.upto w.known.forms (operators (calls (suc j)) rule.0.alternatives)) (sym given) w.known.shape;
+        shape = subst (λ (x : Numbering). Shape net (suc j) x.count r.from r.upto w.known.forms
+            (operators (calls (suc j)) rule.0.alternatives)) (sym given) w.known.shape;
         free = w.known.free;
         long = w.known.long ∙ ap (λ (x : Numbering). length x.starts) (sym given);
       }

@@ -33,7 +33,8 @@ module _ (net : ParserNetwork) where
   -- a state of a level leads to the state after it
   after_level : (p q u : ℕ) → state_at net p ≡ Some (Level q u) → IsNoLevel net u → AvoidsLevels p
   after_level p q u is free t s found target =
-      let same : s ≡ Level q u = cc in let at : t ≡ u = subst (λ (x : State (List ℕ)). IsTarget x t) same target in subst (IsNoLevel net) (sym at) free
+      let same : s ≡ Level q u = cc in let at : t ≡ u = subst (λ (x : State (List ℕ)). IsTarget x t) same target in
+      subst (IsNoLevel net) (sym at) free
 
   -- a state of elements without levels whose targets are allowed ones
   abbrev IsFreeState : (ℕ → Type 0) → ℕ → Type 0
@@ -45,9 +46,11 @@ module _ (net : ParserNetwork) where
 
   -- and leads to none, where these are allowed
   free_avoids : (p : ℕ) → IsFreeState (IsNoLevel net) p → AvoidsLevels p
-  free_avoids p h t s is target = target_allowed IsNotLevel Any (IsNoLevel net) s t (subst (IsSoundState IsNotLevel Any (IsNoLevel net)) is h) target
+  free_avoids p h t s is target = target_allowed IsNotLevel Any (IsNoLevel net) s t
+      (subst (IsSoundState IsNotLevel Any (IsNoLevel net)) is h) target
 
-  module _ (Allowed : ℕ → Type 0) {y : Elements StepIn} {a last n m t : ℕ} (l : LieInOrder net y a last n m) (free : AreLevelFree y) (leads : state_at net last ≡ Some (Empty t))
+  module _ (Allowed : ℕ → Type 0) {y : Elements StepIn} {a last n m t : ℕ} (l : LieInOrder net y a last n m) (free : AreLevelFree y)
+      (leads : state_at net last ≡ Some (Empty t))
       (t_allowed : Allowed t) (allowed : (q : ℕ) → n ≤ q → q < m → Allowed q) where
     -- where elements without levels begin
     run_begins : IsFreeState Allowed a
@@ -73,26 +76,38 @@ module _ (net : ParserNetwork) where
   IsFreeAt p = IsNoLevel net p × AvoidsLevels p
 
   -- elements without levels that are laid out up to a state that is no level
-  run_free : {y : Elements StepIn} {a last n m t : ℕ} → LieInOrder net y a last n m → AreLevelFree y → state_at net last ≡ Some (Empty t) → IsNoLevel net t → IsFreeAt a × IsFree n m
+  run_free : {y : Elements StepIn} {a last n m t : ℕ} → LieInOrder net y a last n m → AreLevelFree y
+      → state_at net last ≡ Some (Empty t) → IsNoLevel net t → IsFreeAt a × IsFree n m
   run_free {a = a} {n = n} {m = m} l free leads t_free =
       let here = free_no_level a (run_begins Any l free leads tt (λ q from below. tt)) in
-      let none : (p : ℕ) → n ≤ p → p < m → IsNoLevel net p = λ p from below. free_no_level p (run_goes Any l free leads tt (λ q q_from q_below. tt) tt p from below) in (
+      let none : (p : ℕ) → n ≤ p → p < m → IsNoLevel net p =
+      λ p from below. free_no_level p (run_goes Any l free leads tt (λ q q_from q_below. tt) tt p from below) in (
         (here, free_avoids a (run_begins (IsNoLevel net) l free leads t_free none)),
         record { none = none; avoid = λ p from below. free_avoids p (run_goes (IsNoLevel net) l free leads t_free none here p from below) },
       )
 
   -- bodies without levels that are laid out up to such a state, and the decision between them
-  bodies_free : (s t : ℕ) {xs : Alternatives StepIn} {firsts lasts : List ℕ} {n m : ℕ} → 2 ≤ length firsts → state_at net s ≡ Some (Decision firsts) → LieSideBySide net xs firsts lasts n m → AllLeadTo net lasts t → EachIsLevelFree xs → IsNoLevel net t →
+  bodies_free : (s t : ℕ) {xs : Alternatives StepIn} {firsts lasts : List ℕ} {n m : ℕ} → 2 ≤ length firsts
+      → state_at net s ≡ Some (Decision firsts) → LieSideBySide net xs firsts lasts n m → AllLeadTo net lasts t → EachIsLevelFree xs
+      → IsNoLevel net t →
       IsFreeAt s × IsFree n m
   bodies_free s t {firsts = firsts} {n = n} {m = m} two is l leads free t_free =
-      let none : (p : ℕ) → n ≤ p → p < m → IsNoLevel net p = λ p from below. free_no_level p (within_bodies_sound net IsNotLevel Any Any l t leads free (λ q q_from q_below. tt) tt p from below) in
-      let at_start = sound_by net IsNotLevel Any (IsNoLevel net) s (Some (Decision firsts)) is (two, λ q c. let b = firsts_between l q c in none q b.0 b.1) in (
+      let none : (p : ℕ) → n ≤ p → p < m → IsNoLevel net p =
+      λ p from below. free_no_level p (within_bodies_sound net IsNotLevel Any Any l t leads free (λ q q_from q_below. tt) tt p
+      from below) in
+      let at_start = sound_by net IsNotLevel Any (IsNoLevel net) s (Some (Decision firsts)) is
+      (two, λ q c. let b = firsts_between l q c in none q b.0 b.1) in (
         (other_state s (Decision firsts) is (λ q u e. let n : ⊥ = cc in n), free_avoids s at_start),
-        record { none = none; avoid = λ p from below. free_avoids p (within_bodies_sound net IsNotLevel Any (IsNoLevel net) l t leads free none t_free p from below) },
+        record {
+          none = none;
+          avoid = λ p from below.
+              free_avoids p (within_bodies_sound net IsNotLevel Any (IsNoLevel net) l t leads free none t_free p from below);
+        },
       )
 
   -- the alternatives with which a rule starts
-  pub starts_free : {k g n m : ℕ} {xs : List (Elements StepIn)} → StartsLie net k g n m xs → EachIsLevelFree (either xs) → IsNoLevel net g → IsFreeAt (start_of k) × IsFree n m
+  pub starts_free : {k g n m : ℕ} {xs : List (Elements StepIn)} → StartsLie net k g n m xs → EachIsLevelFree (either xs)
+      → IsNoLevel net g → IsFreeAt (start_of k) × IsFree n m
   starts_free (one_start x last l leads) free g_free = run_free l free.0 leads g_free
   starts_free {k} {g} (several_starts xs firsts lasts two is l leads) free g_free = bodies_free (start_of k) g two is l leads free g_free
 
@@ -104,15 +119,20 @@ module _ (net : ParserNetwork) where
 
     -- a state of the turns after the first
     later_turn : (x : Part StepIn) (parts : List (Part StepIn)) (p : ℕ) → IsTurnState parts p → IsTurnState (x ∷ parts) p
-    later_turn x parts p s = record { avoids = s.avoids; level = elim s.level [ inl free ↦ inl free | inr b ↦ inr (begins_later net k count u x parts p b.0, b.1) ] }
+    later_turn x parts p s = record {
+      avoids = s.avoids;
+      level = elim s.level [ inl free ↦ inl free | inr b ↦ inr (begins_later net k count u x parts p b.0, b.1) ];
+    }
 
     -- a state that is free
     free_turn : (parts : List (Part StepIn)) (p : ℕ) → IsFreeAt p → IsTurnState parts p
     free_turn parts p h = record { avoids = h.1; level = inl h.0 }
 
     -- the states of an operator
-    first_turn : (x : Part StepIn) (parts : List (Part StepIn)) {n last m : ℕ} → AreLevelFree x.elements → state_at net n ≡ Some (Level (precedence count x.number) (n + 1)) →
-        LieInOrder net (laid_rest k count x) (n + 1) last (n + 1 + 1) m → state_at net last ≡ Some (Empty u) → (p : ℕ) → n ≤ p → p < m → IsTurnState (x ∷ parts) p
+    first_turn : (x : Part StepIn) (parts : List (Part StepIn)) {n last m : ℕ} → AreLevelFree x.elements
+        → state_at net n ≡ Some (Level (precedence count x.number) (n + 1)) →
+        LieInOrder net (laid_rest k count x) (n + 1) last (n + 1 + 1) m → state_at net last ≡ Some (Empty u) → (p : ℕ) → n ≤ p → p < m
+        → IsTurnState (x ∷ parts) p
     first_turn x parts {n} {last} {m} free is l leads p from below =
         let rest = alike_level_free (with_last_alike k (operand_level (precedence count x.number) x.right) x.elements) free in
         let h = run_free l rest leads u_free in
@@ -128,10 +148,12 @@ module _ (net : ParserNetwork) where
         ]
 
     -- the states of the operators
-    pub operator_states : (parts : List (Part StepIn)) → PartsAreLevelFree parts → {firsts lasts : List ℕ} {n m : ℕ} → LieSideBySide net (either (laid_operators k count parts)) firsts lasts n m → AllLeadTo net lasts u →
+    pub operator_states : (parts : List (Part StepIn)) → PartsAreLevelFree parts → {firsts lasts : List ℕ} {n m : ℕ}
+        → LieSideBySide net (either (laid_operators k count parts)) firsts lasts n m → AllLeadTo net lasts u →
         (p : ℕ) → n ≤ p → p < m → IsTurnState parts p
     operator_states [] free (no_other n) leads p from below = absurd (omega arith)
-    operator_states (x ∷ parts) free (another _ _ last n j m firsts lasts (one_more _ _ _ _ _ _ _ _ (a_level q _ _ is) l) ls) leads p from below = elim (dec_lt p j) [
-      | yes before ↦ first_turn x parts (free 0 x refl) is l leads.0 p from before
-      | no after ↦ later_turn x parts p (operator_states parts (λ i y e. free (suc i) y e) ls leads.1 p (omega arith) below)
-    ]
+    operator_states (x ∷ parts) free (another _ _ last n j m firsts lasts (one_more _ _ _ _ _ _ _ _ (a_level q _ _ is) l) ls) leads p
+        from below = elim (dec_lt p j) [
+          | yes before ↦ first_turn x parts (free 0 x refl) is l leads.0 p from before
+          | no after ↦ later_turn x parts p (operator_states parts (λ i y e. free (suc i) y e) ls leads.1 p (omega arith) below)
+        ]

@@ -42,17 +42,22 @@ module _ {C : Type 0} (Takes : List ℕ → C → Type 0) (Names : ℕ → C →
   module _ (end_is : state_at net (end_of k) ≡ Some (End k)) where
     -- the end itself
     pub end_near : IsNearEnd (end_of k)
-    end_near = record { walks = no_step Takes Names NoLevel net (end_of k); silent = λ e ended n w is walk. (stopped Takes Names NoLevel net k end_is walk).1 }
+    end_near = record {
+      walks = no_step Takes Names NoLevel net (end_of k);
+      silent = λ e ended n w is walk. (stopped Takes Names NoLevel net k end_is walk).1;
+    }
 
     -- a state that leads to the end
-    leads_near : (p : ℕ) → state_at net p ≡ Some (Empty (end_of k)) → (e ended n : ℕ) (w : List C) → state_at net e ≡ Some (End ended) → Goes n p e w → w ≡ []
+    leads_near : (p : ℕ) → state_at net p ≡ Some (Empty (end_of k)) → (e ended n : ℕ) (w : List C) → state_at net e ≡ Some (End ended)
+        → Goes n p e w → w ≡ []
     leads_near p is e ended n w end walk =
         let h = onward Takes Names NoLevel net e ended end (Empty (end_of k)) is tt walk in
         let moved = subst (λ (q : ℕ). Goes h.steps q e h.rest) h.moves.0 h.walk in
         after_nothing h.parts h.moves.1 (stopped Takes Names NoLevel net k end_is moved).1
 
     -- a level is not passed
-    never_passed : (p q t : ℕ) → state_at net p ≡ Some (Level q t) → (e ended n : ℕ) (w : List C) → state_at net e ≡ Some (End ended) → Goes n p e w → ⊥
+    never_passed : (p q t : ℕ) → state_at net p ≡ Some (Level q t) → (e ended n : ℕ) (w : List C) → state_at net e ≡ Some (End ended)
+        → Goes n p e w → ⊥
     never_passed p q t is e ended n w end walk = let h = onward Takes Names NoLevel net e ended end (Level q t) is tt walk in h.moves.1.0
 
     module _ (count : ℕ) {u n m : ℕ} (parts : List (Part StepIn)) (turns : TurnsLie net k u n m (laid_operators k count parts)) where
@@ -61,14 +66,17 @@ module _ {C : Type 0} (Takes : List ℕ → C → Type 0) (Names : ℕ → C →
       no_turn e ended j w end walk =
           let h = onward Takes Names NoLevel net e ended end (Decision (with_exit true turns.firsts turns.exit)) turns.decides tt walk in
           elim (with_exit_cases true turns.firsts turns.exit h.to h.moves.0) [
-            | inl same ↦ after_nothing h.parts h.moves.1 (leads_near turns.exit turns.leaves e ended h.steps h.rest end (subst (λ (q : ℕ). Goes h.steps q e h.rest) same h.walk))
-            | inr old ↦ (let b = operator_at net k count u parts turns.bodies turns.back h.to old in absurd (never_passed h.to _ _ b.level e ended h.steps h.rest end h.walk))
+            | inl same ↦ after_nothing h.parts h.moves.1
+                (leads_near turns.exit turns.leaves e ended h.steps h.rest end (subst (λ (q : ℕ). Goes h.steps q e h.rest) same h.walk))
+            | inr old ↦ (let b = operator_at net k count u parts turns.bodies turns.back h.to old in
+                absurd (never_passed h.to _ _ b.level e ended h.steps h.rest end h.walk))
           ]
 
       -- the decision of the turns
       pub turns_near : IsNearEnd u
       turns_near = record {
-        walks = decide Takes Names NoLevel net (with_exit true turns.firsts turns.exit) turns.decides (exit_edge true turns.firsts turns.exit)
+        walks = decide Takes Names NoLevel net (with_exit true turns.firsts turns.exit) turns.decides
+            (exit_edge true turns.firsts turns.exit)
             (one_step Takes Names NoLevel net (Some (Empty (end_of k))) turns.leaves (refl, refl));
         silent = no_turn;
       }
@@ -77,11 +85,13 @@ module _ {C : Type 0} (Takes : List ℕ → C → Type 0) (Names : ℕ → C →
   pub spelled : {x y : Elements StepIn} {p g : ℕ} → AreAlike x y → LiesTo net y p g → IsNearEnd g → IsSpelled Takes Names net k x p
   spelled {x} {y} {p} {g} alike lies near = record {
     derives = λ e ended n w end walk.
-        let passed = finish Takes Names NoLevel net e ended end {P = Reads y} lies.leads (in_order_through Takes Names NoLevel net e ended end lies.lies n w walk) in
+        let passed = finish Takes Names NoLevel net e ended end {P = Reads y} lies.leads
+        (in_order_through Takes Names NoLevel net e ended end lies.lies n w walk) in
         let nothing = near.silent e ended passed.steps passed.rest end passed.walk in
         let whole : w ≡ passed.front = passed.parts ∙ ap (λ (u : List C). passed.front ++ u) nothing ∙ append-nil passed.front in
         alike_derive Takes Names NoLevel (alike_back alike) (subst (Reads y) (sym whole) passed.derived);
     walks = λ w d.
-        let through = then_pass Takes Names NoLevel net (in_order_along Takes Names NoLevel net (alike_derive Takes Names NoLevel alike d) lies.lies) lies.leads in
+        let through = then_pass Takes Names NoLevel net
+        (in_order_along Takes Names NoLevel net (alike_derive Takes Names NoLevel alike d) lies.lies) lies.leads in
         and_on Takes Names NoLevel net through near.walks (sym (append-nil w));
   }

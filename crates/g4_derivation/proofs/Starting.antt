@@ -13,8 +13,10 @@ use Rattle.g4_leftrec.specs.Rewriting.{StepIn, after_primary, turns_of}
 -- The alternatives with which rule k starts are laid out from its start to the state g, the states other than the start being
 -- those from n up to m: one begins at the start, and several at the first states of the decision there.
 pub data StartsLie (net : ParserNetwork) (k g n m : ℕ) : List (Elements StepIn) → Type 0 where
-  one_start : (x : Elements StepIn) (last : ℕ) → LieInOrder net x (start_of k) last n m → state_at net last ≡ Some (Empty g) → StartsLie net k g n m (x ∷ [])
-  several_starts : (xs : List (Elements StepIn)) (firsts lasts : List ℕ) → 2 ≤ length firsts → state_at net (start_of k) ≡ Some (Decision firsts) → LieSideBySide net (either xs) firsts lasts n m → AllLeadTo net lasts g →
+  one_start : (x : Elements StepIn) (last : ℕ) → LieInOrder net x (start_of k) last n m → state_at net last ≡ Some (Empty g)
+      → StartsLie net k g n m (x ∷ [])
+  several_starts : (xs : List (Elements StepIn)) (firsts lasts : List ℕ) → 2 ≤ length firsts
+      → state_at net (start_of k) ≡ Some (Decision firsts) → LieSideBySide net (either xs) firsts lasts n m → AllLeadTo net lasts g →
       StartsLie net k g n m xs
 
 -- The operators of rule k are laid out as turns: from the decision u, by the exit branch state, to the rule's end, the states
@@ -54,13 +56,16 @@ module _ {net : ParserNetwork} where
   none_begin (no_other n) = refl
 
   -- the turns
-  turns_lie : (k : ℕ) {operators : List (Elements StepIn)} {u last n m : ℕ} → LieInOrder net (turns_of operators) u last n m → state_at net last ≡ Some (Empty (end_of k)) → TurnsLie net k u n m operators
+  turns_lie : (k : ℕ) {operators : List (Elements StepIn)} {u last n m : ℕ} → LieInOrder net (turns_of operators) u last n m
+      → state_at net last ≡ Some (Empty (end_of k)) → TurnsLie net k u n m operators
   turns_lie k (one_more _ _ _ _ _ _ _ _ (a_star _ _ _ firsts lasts _ _ exit decides bodies back) (no_more _ _)) leaves =
       record { exit = exit; firsts = firsts; lasts = lasts; decides = decides; bodies = bodies; back = back; leaves = leaves; after = refl }
 
   -- one primary and then the turns
-  after_one : (k : ℕ) {x : Elements StepIn} {operators : List (Elements StepIn)} {s last n upto m : ℕ} → s ≡ start_of k → {mid : ℕ} → LieInOrder net x s mid n upto →
-      LieInOrder net (then (atom steps.Empty) (turns_of operators)) mid last upto m → state_at net last ≡ Some (Empty (end_of k)) → LoopLies net k n m (x ∷ []) operators
+  after_one : (k : ℕ) {x : Elements StepIn} {operators : List (Elements StepIn)} {s last n upto m : ℕ} → s ≡ start_of k → {mid : ℕ}
+      → LieInOrder net x s mid n upto →
+      LieInOrder net (then (atom steps.Empty) (turns_of operators)) mid last upto m → state_at net last ≡ Some (Empty (end_of k))
+      → LoopLies net k n m (x ∷ []) operators
   after_one k {x} {n = n} {upto = upto} start {mid} front (one_more _ _ _ _ _ _ _ _ (an_empty _ _ is) ls) leaves = record {
     turning = upto;
     front = one_start x mid (subst (λ (q : ℕ). LieInOrder net x q mid n upto) start front) is;
@@ -69,7 +74,8 @@ module _ {net : ParserNetwork} where
 
   -- several primaries and then the turns
   after_several : (k : ℕ) {x y : Elements StepIn} {others operators : List (Elements StepIn)} {s last n m : ℕ} → s ≡ start_of k →
-      LieInOrder net (then (block None Once (either (x ∷ y ∷ others))) (turns_of operators)) s last n m → state_at net last ≡ Some (Empty (end_of k)) → LoopLies net k n m (x ∷ y ∷ others) operators
+      LieInOrder net (then (block None Once (either (x ∷ y ∷ others))) (turns_of operators)) s last n m
+      → state_at net last ≡ Some (Empty (end_of k)) → LoopLies net k n m (x ∷ y ∷ others) operators
   after_several k {x} {y} {others} start (one_more _ _ _ _ _ _ _ _ (a_block _ _ firsts lasts _ _ u two is l leads) ls) leaves = record {
     turning = u;
     front = several_starts (x ∷ y ∷ others) firsts lasts two (subst (λ (q : ℕ). state_at net q ≡ Some (Decision firsts)) start is) l leads;
@@ -77,32 +83,41 @@ module _ {net : ParserNetwork} where
   }
 
   -- no primary is not laid
-  after_none : (operators : List (Elements StepIn)) {s last n m : ℕ} → LieInOrder net (then (block None Once none) (turns_of operators)) s last n m → ⊥
-  after_none operators (one_more _ _ _ _ _ _ _ _ (a_block _ _ firsts lasts _ _ u two is l leads) ls) = let few = none_begin l in let short = subst (λ (fs : List ℕ). 2 ≤ length fs) few two in omega arith
+  after_none : (operators : List (Elements StepIn)) {s last n m : ℕ}
+      → LieInOrder net (then (block None Once none) (turns_of operators)) s last n m → ⊥
+  after_none operators (one_more _ _ _ _ _ _ _ _ (a_block _ _ firsts lasts _ _ u two is l leads) ls) = let few = none_begin l in
+      let short = subst (λ (fs : List ℕ). 2 ≤ length fs) few two in omega arith
 
   -- the primaries and then the turns
-  loop_in_order : (k : ℕ) (primaries : List (Elements StepIn)) {operators : List (Elements StepIn)} {last n m : ℕ} → LieInOrder net (after_primary primaries (turns_of operators)) (start_of k) last n m →
+  loop_in_order : (k : ℕ) (primaries : List (Elements StepIn)) {operators : List (Elements StepIn)} {last n m : ℕ}
+      → LieInOrder net (after_primary primaries (turns_of operators)) (start_of k) last n m →
       state_at net last ≡ Some (Empty (end_of k)) → LoopLies net k n m primaries operators
   loop_in_order k [] {operators} l leaves = absurd (after_none operators l)
-  loop_in_order k (x ∷ []) {operators} l leaves = let h = halves x (then (atom steps.Empty) (turns_of operators)) l in after_one k refl h.front h.rest leaves
+  loop_in_order k (x ∷ []) {operators} l leaves = let h = halves x (then (atom steps.Empty) (turns_of operators)) l in
+      after_one k refl h.front h.rest leaves
   loop_in_order k (x ∷ y ∷ others) l leaves = after_several k refl l leaves
 
   -- a rule of one alternative
-  of_only : {k n m : ℕ} {x : Elements StepIn} → LiesAsRule net k (or x none) n m → (last : ℕ) × LieInOrder net x (start_of k) last n m × (state_at net last ≡ Some (Empty (end_of k)))
+  of_only : {k n m : ℕ} {x : Elements StepIn} → LiesAsRule net k (or x none) n m
+      → (last : ℕ) × LieInOrder net x (start_of k) last n m × (state_at net last ≡ Some (Empty (end_of k)))
   of_only (of_one rule last n m x l leads) = (last, l, leads)
   of_only (of_several rule n m xs firsts lasts two is l leads) = let one = one_first l in absurd (omega arith)
 
   -- a left-recursive rule as it is laid out
-  pub loop_lies : (k : ℕ) (primaries : List (Elements StepIn)) {operators : List (Elements StepIn)} {n m : ℕ} → LiesAsRule net k (or (after_primary primaries (turns_of operators)) none) n m → LoopLies net k n m primaries operators
+  pub loop_lies : (k : ℕ) (primaries : List (Elements StepIn)) {operators : List (Elements StepIn)} {n m : ℕ}
+      → LiesAsRule net k (or (after_primary primaries (turns_of operators)) none) n m → LoopLies net k n m primaries operators
   loop_lies k primaries l = let o = of_only l in loop_in_order k primaries o.1 o.2
 
   -- a rule of several alternatives
-  of_more : {k n m : ℕ} {x y : Elements StepIn} {others : List (Elements StepIn)} → LiesAsRule net k (or x (or y (either others))) n m → StartsLie net k (end_of k) n m (x ∷ y ∷ others)
-  of_more {x = x} {y = y} {others = others} (of_several rule n m xs firsts lasts two is l leads) = several_starts (x ∷ y ∷ others) firsts lasts two is l leads
+  of_more : {k n m : ℕ} {x y : Elements StepIn} {others : List (Elements StepIn)} → LiesAsRule net k (or x (or y (either others))) n m
+      → StartsLie net k (end_of k) n m (x ∷ y ∷ others)
+  of_more {x = x} {y = y} {others = others} (of_several rule n m xs firsts lasts two is l leads) =
+      several_starts (x ∷ y ∷ others) firsts lasts two is l leads
 
   -- of none
   of_none : {k n m : ℕ} → LiesAsRule net k none n m → ⊥
-  of_none (of_several rule n m xs firsts lasts two is l leads) = let few = none_begin l in let short = subst (λ (fs : List ℕ). 2 ≤ length fs) few two in omega arith
+  of_none (of_several rule n m xs firsts lasts two is l leads) = let few = none_begin l in
+      let short = subst (λ (fs : List ℕ). 2 ≤ length fs) few two in omega arith
 
   -- any rule of these alternatives
   pub rule_starts : {k n m : ℕ} (xs : List (Elements StepIn)) → LiesAsRule net k (either xs) n m → StartsLie net k (end_of k) n m xs

@@ -32,10 +32,12 @@ module _ {L C : Type 0} (Takes : L → C → Type 0) (Names : ℕ → C → Type
   -- no step or a first step
   begun : {k p e : ℕ} {w : List C} → Walk Takes Names Passes net k p e w → ((p ≡ e) × (w ≡ [])) ⊎ Onward (state_at net p) e k w
   begun (stays p) = inl (refl, refl)
-  begun (goes k p t q u v w moves walk parts) = inr (record { steps = k; to = t; first = u; rest = v; moves = moves; walk = walk; count = refl; parts = parts })
+  begun (goes k p t q u v w moves walk parts) =
+      inr (record { steps = k; to = t; first = u; rest = v; moves = moves; walk = walk; count = refl; parts = parts })
 
   -- from the end of a rule there is no way on
-  pub stopped : (rule : ℕ) {k p e : ℕ} {w : List C} → state_at net p ≡ Some (End rule) → Walk Takes Names Passes net k p e w → (p ≡ e) × (w ≡ [])
+  pub stopped : (rule : ℕ) {k p e : ℕ} {w : List C} → state_at net p ≡ Some (End rule) → Walk Takes Names Passes net k p e w
+      → (p ≡ e) × (w ≡ [])
   stopped rule {k} {p} {e} {w} is walk = elim (begun walk) [
     | inl same ↦ same
     | inr h ↦ absurd ((subst (λ (o : Option (State L)). Onward o e k w) is h).moves)
@@ -43,8 +45,10 @@ module _ {L C : Type 0} (Takes : L → C → Type 0) (Names : ℕ → C → Type
 
   module _ (e rule : ℕ) (is_end : state_at net e ≡ Some (End rule)) where
     -- a state that is no end is not the last
-    pub onward : {k p : ℕ} {w : List C} (s : State L) → state_at net p ≡ Some s → GoesOn s → Walk Takes Names Passes net k p e w → Onward (Some s) e k w
+    pub onward : {k p : ℕ} {w : List C} (s : State L) → state_at net p ≡ Some s → GoesOn s → Walk Takes Names Passes net k p e w
+        → Onward (Some s) e k w
     onward {k} {p} {w} s is on walk = elim (begun walk) [
-      | inl same ↦ absurd (let last : Some s ≡ Some (End rule) = sym is ∙ ap (state_at net) same.0 ∙ is_end in let this : s ≡ End rule = cc in subst GoesOn this on)
+      | inl same ↦ absurd (let last : Some s ≡ Some (End rule) = sym is ∙ ap (state_at net) same.0 ∙ is_end in
+          let this : s ≡ End rule = cc in subst GoesOn this on)
       | inr h ↦ subst (λ (o : Option (State L)). Onward o e k w) is h
     ]

@@ -25,10 +25,12 @@ module _ (net : ParserNetwork) (k : ℕ) (end_is : state_at net (end_of k) ≡ S
 
   -- the decision of the turns is no level
   pub turning_free : {u n m : ℕ} {operators : List (Elements StepIn)} → TurnsLie net k u n m operators → IsNoLevel net u
-  turning_free {u} turns = other_state net u (Decision (with_exit true turns.firsts turns.exit)) turns.decides (λ q t e. let n : ⊥ = cc in n)
+  turning_free {u} turns = other_state net u (Decision (with_exit true turns.firsts turns.exit)) turns.decides
+      (λ q t e. let n : ⊥ = cc in n)
 
   -- the start of a rule is no level
-  pub shape_start_free : {count n m : ℕ} {xs : List (Elements StepIn)} {parts : List (Part StepIn)} → Shape net k count n m xs parts → EachIsLevelFree (either xs) → IsFreeAt net (start_of k)
+  pub shape_start_free : {count n m : ℕ} {xs : List (Elements StepIn)} {parts : List (Part StepIn)} → Shape net k count n m xs parts
+      → EachIsLevelFree (either xs) → IsFreeAt net (start_of k)
   shape_start_free (plain_shape l) free = (starts_free net l free end_free.0).0
   shape_start_free (loop_shape u l parts_free turns) free = (starts_free net l free (turning_free turns)).0
 
@@ -50,7 +52,8 @@ module _ (net : ParserNetwork) (k : ℕ) (end_is : state_at net (end_of k) ≡ S
     free_state p h = record { avoids = inl h.1; level = inl h.0 }
 
     -- a state of the turns
-    turn_state : (u : ℕ) → PartsAreLevelFree parts → TurnsLie net k u (u + 1) m (laid_operators k count parts) → (p : ℕ) → u < p → p < m → IsRuleState p
+    turn_state : (u : ℕ) → PartsAreLevelFree parts → TurnsLie net k u (u + 1) m (laid_operators k count parts) → (p : ℕ) → u < p
+        → p < m → IsRuleState p
     turn_state u free turns p from below =
         let u_free = turning_free turns in let after = turns.after in
         elim (dec_lt p turns.exit) [
@@ -62,17 +65,22 @@ module _ (net : ParserNetwork) (k : ℕ) (end_is : state_at net (end_of k) ≡ S
           | no at ↦ (
               let same : turns.exit ≡ p = omega arith in subst IsRuleState same (free_state turns.exit (
                 other_state net turns.exit (Empty (end_of k)) turns.leaves (λ q t e. let n : ⊥ = cc in n),
-                λ t s is target. let equal : s ≡ Empty (end_of k) = cc in let at_end : t ≡ end_of k = subst (λ (x : State (List ℕ)). IsTarget x t) equal target in subst (IsNoLevel net) (sym at_end) end_free.0,
+                λ t s is target. let equal : s ≡ Empty (end_of k) = cc in
+                    let at_end : t ≡ end_of k = subst (λ (x : State (List ℕ)). IsTarget x t) equal target in
+                    subst (IsNoLevel net) (sym at_end) end_free.0,
               )))
         ]
 
     -- the states of a rule other than its start and end
-    pub shape_states : {xs : List (Elements StepIn)} → Shape net k count n m xs parts → EachIsLevelFree (either xs) → (p : ℕ) → n ≤ p → p < m → IsRuleState p
-    shape_states (plain_shape l) free p from below = let h = (starts_free net l free end_free.0).1 in free_state p (h.none p from below, h.avoid p from below)
+    pub shape_states : {xs : List (Elements StepIn)} → Shape net k count n m xs parts → EachIsLevelFree (either xs) → (p : ℕ) → n ≤ p
+        → p < m → IsRuleState p
+    shape_states (plain_shape l) free p from below = let h = (starts_free net l free end_free.0).1 in
+        free_state p (h.none p from below, h.avoid p from below)
     shape_states (loop_shape u l parts_free turns) free p from below = elim (dec_lt p u) [
       | yes before ↦ (let h = (starts_free net l free (turning_free turns)).1 in free_state p (h.none p from before, h.avoid p from before))
       | no not_before ↦ elim (dec_lt u p) [
         | yes beyond ↦ turn_state u parts_free turns p beyond below
-        | no at ↦ (let same : u ≡ p = omega arith in subst IsRuleState same (record { avoids = inr turns; level = inl (turning_free turns) }))
+        | no at ↦ (let same : u ≡ p = omega arith in
+            subst IsRuleState same (record { avoids = inr turns; level = inl (turning_free turns) }))
       ]
     ]

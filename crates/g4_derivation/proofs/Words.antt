@@ -15,8 +15,10 @@ use Rattle.g4_derivation.proofs.Joining.{then_pass}
 use Rattle.g4_derivation.proofs.Steps.{stopped}
 use Rattle.g4_derivation.proofs.Through.{in_order_through, finish}
 
-module _ {L C : Type 0} (Takes : L → C → Type 0) (Names : ℕ → C → Type 0) (Passes : ℕ → Type 0) (rules : List (Alternatives (Step L))) (net : Network L) (network : IsNetworkOf rules net) (k : ℕ) (xs : Alternatives (Step L))
-    (is : slice_get rules k ≡ Some xs) (i a : ℕ) (x : Elements (Step L)) (alternative : IsAlternative xs i x) (start : BeginsAt net k xs i a) where
+module _ {L C : Type 0} (Takes : L → C → Type 0) (Names : ℕ → C → Type 0) (Passes : ℕ → Type 0) (rules : List (Alternatives (Step L)))
+    (net : Network L) (network : IsNetworkOf rules net) (k : ℕ) (xs : Alternatives (Step L))
+    (is : slice_get rules k ≡ Some xs) (i a : ℕ) (x : Elements (Step L)) (alternative : IsAlternative xs i x)
+    (start : BeginsAt net k xs i a) where
   -- the words of the alternative
   abbrev Derived : List C → Type 0
   Derived = DerivesAll (ReadsLetter Takes Names Passes) NoCalls [] x
@@ -27,9 +29,11 @@ module _ {L C : Type 0} (Takes : L → C → Type 0) (Names : ℕ → C → Type
       subst (λ (y : Elements (Step L)). LiesTo net y a (end_of k)) (same_alternative xs b.is alternative) b.lies
 
   -- a walk to the end of some rule ends at this one's end, and reads what the alternative derives
-  pub walk_ends : (e rule n : ℕ) (w : List C) → state_at net e ≡ Some (End rule) → Walk Takes Names Passes net n a e w → (e ≡ end_of k) × (rule ≡ k) × Derived w
+  pub walk_ends : (e rule n : ℕ) (w : List C) → state_at net e ≡ Some (End rule) → Walk Takes Names Passes net n a e w
+      → (e ≡ end_of k) × (rule ≡ k) × Derived w
   walk_ends e rule n w end walk =
-      let p = finish Takes Names Passes net e rule end {P = Derived} lies.leads (in_order_through Takes Names Passes net e rule end lies.lies n w walk) in
+      let p = finish Takes Names Passes net e rule end {P = Derived} lies.leads
+      (in_order_through Takes Names Passes net e rule end lies.lies n w walk) in
       let at_end = ends_at rules net network k xs is in
       let last = stopped Takes Names Passes net k at_end p.walk in
       let moved = subst (λ (q : ℕ). state_at net q ≡ Some (End k)) last.0 at_end in

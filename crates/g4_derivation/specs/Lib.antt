@@ -1,3 +1,4 @@
+-- Other crates cite Alternatives, Spelling, WalkSpelling, Walks; only this crate cites Letters.
 pub mod Alternatives
 pub mod Letters
 pub mod Spelling

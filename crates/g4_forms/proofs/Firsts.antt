@@ -23,16 +23,19 @@ module _ {X : Type 0} (forms : X → List Form) (xs : List X) (i : ℕ) where
   AreLeft = flat_map forms xs ≡ flat_map forms (drop i xs)
 
   -- an item without a form
-  pub one_passed : (x : X) → i < length xs → x ≡ get_or xs i x → forms x ≡ [] → AreLeft → flat_map forms xs ≡ flat_map forms (drop (i + 1) xs)
+  pub one_passed : (x : X) → i < length xs → x ≡ get_or xs i x → forms x ≡ [] → AreLeft
+      → flat_map forms xs ≡ flat_map forms (drop (i + 1) xs)
   one_passed x within item none left =
       let next : drop i xs ≡ x ∷ drop (i + 1) xs = drop_more xs i x within ∙ ap (λ (z : X). z ∷ drop (i + 1) xs) (sym item) in
       left ∙ (ap (flat_map forms) next ∙ ap (λ (zs : List Form). zs ++ flat_map forms (drop (i + 1) xs)) none)
 
   -- an item with a form
-  pub one_told : (x : X) (fault : FormFault) → i < length xs → x ≡ get_or xs i x → TellsFirst (forms x) fault → AreLeft → TellsFirst (flat_map forms xs) fault
+  pub one_told : (x : X) (fault : FormFault) → i < length xs → x ≡ get_or xs i x → TellsFirst (forms x) fault → AreLeft
+      → TellsFirst (flat_map forms xs) fault
   one_told x fault within item told left =
       let next : drop i xs ≡ x ∷ drop (i + 1) xs = drop_more xs i x within ∙ ap (λ (z : X). z ∷ drop (i + 1) xs) (sym item) in
-      subst (λ (zs : List Form). TellsFirst zs fault) (sym (left ∙ ap (flat_map forms) next)) (first_of_more (forms x) (flat_map forms (drop (i + 1) xs)) fault told)
+      subst (λ (zs : List Form). TellsFirst zs fault) (sym (left ∙ ap (flat_map forms) next))
+      (first_of_more (forms x) (flat_map forms (drop (i + 1) xs)) fault told)
 
   -- all items
   pub all_passed : length xs ≤ i → AreLeft → flat_map forms xs ≡ []

@@ -20,8 +20,10 @@ none_told forms (NotRun place characters) none told n = subst (λ (fs : List For
 none_told forms NoMemory none told n = n refl
 
 -- the answer is one
-pub one_answer : (forms : List Form) (a b : Result ⊤ FormFault) → AreRun forms a → AreRun forms b → a ≢ Err NoMemory → b ≢ Err NoMemory → a ≡ b
+pub one_answer : (forms : List Form) (a b : Result ⊤ FormFault) → AreRun forms a → AreRun forms b → a ≢ Err NoMemory
+    → b ≢ Err NoMemory → a ≡ b
 one_answer forms (Ok _) (Ok _) p q n m = refl
 one_answer forms (Ok _) (Err f) p q n m = absurd (none_told forms f p q (λ e. m (ap (λ x. Err x) e)))
 one_answer forms (Err e) (Ok _) p q n m = absurd (none_told forms e q p (λ e. n (ap (λ x. Err x) e)))
-one_answer forms (Err e) (Err f) p q n m = ap (λ x. Err x) (one_first forms e f p q (λ e. n (ap (λ x. Err x) e)) (λ e. m (ap (λ x. Err x) e)))
+one_answer forms (Err e) (Err f) p q n m = ap (λ x. Err x)
+    (one_first forms e f p q (λ e. n (ap (λ x. Err x) e)) (λ e. m (ap (λ x. Err x) e)))

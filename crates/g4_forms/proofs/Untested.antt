@@ -25,7 +25,8 @@ no_second (x ∷ xs) ys h = absurd (cc)
 -- where items have no forms together, no item has one
 each_has_none : {X : Type 0} (forms : X → List Form) (xs : List X) → flat_map forms xs ≡ [] → All (λ x. forms x ≡ []) xs
 each_has_none forms [] h = All-nil (λ x. forms x ≡ [])
-each_has_none forms (x ∷ xs) h = All-cons (λ x. forms x ≡ []) x xs (no_first (forms x) (flat_map forms xs) h) (each_has_none forms xs (no_second (forms x) (flat_map forms xs) h))
+each_has_none forms (x ∷ xs) h = All-cons (λ x. forms x ≡ []) x xs (no_first (forms x) (flat_map forms xs) h)
+    (each_has_none forms xs (no_second (forms x) (flat_map forms xs) h))
 
 -- an atom of a parser rule without a form
 untested_kind : (a : AtomKind) → parser_atom_forms a ≡ [] → ParserKindIsUntested a
@@ -53,7 +54,8 @@ untested_atoms (a ∷ xs) h =
     All-cons IsUntested a xs (untested_kind a.kind first) (untested_atoms xs others)
 
 -- the alternatives of a parser rule without a form
-untested_bodies : (xs : List (RuleAlternative Atom)) → flat_map parser_alternative_forms xs ≡ [] → All IsUntested (atoms_of_either (either (map (λ a. a.elements) xs)))
+untested_bodies : (xs : List (RuleAlternative Atom)) → flat_map parser_alternative_forms xs ≡ []
+    → All IsUntested (atoms_of_either (either (map (λ a. a.elements) xs)))
 untested_bodies [] h = All-nil IsUntested
 untested_bodies (x ∷ xs) h =
     let first = no_first (parser_alternative_forms x) (flat_map parser_alternative_forms xs) h in
@@ -61,5 +63,7 @@ untested_bodies (x ∷ xs) h =
     All-append IsUntested (atoms_in_order x.elements) _ (untested_atoms (atoms_in_order x.elements) first) (untested_bodies xs others)
 
 -- the parser rules of rules without a form
-pub untested_rules : (rules : List Rule) → flat_map rule_forms rules ≡ [] → (rule : ParserRule Atom) → Contains rules (Parser rule) → ParserRuleIsUntested rule
-untested_rules rules none rule has = untested_bodies rule.alternatives (All-contains (λ r. rule_forms r ≡ []) rules (Parser rule) (each_has_none rule_forms rules none) has)
+pub untested_rules : (rules : List Rule) → flat_map rule_forms rules ≡ [] → (rule : ParserRule Atom) → Contains rules (Parser rule)
+    → ParserRuleIsUntested rule
+untested_rules rules none rule has = untested_bodies rule.alternatives
+    (All-contains (λ r. rule_forms r ≡ []) rules (Parser rule) (each_has_none rule_forms rules none) has)

@@ -1,2 +1,3 @@
+-- Other crates cite each of these.
 pub mod Answers
 pub mod Forms

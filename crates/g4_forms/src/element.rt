@@ -32,10 +32,7 @@ fn check_element(alloc: Global, element: &Element<Atom>) -> Result<(), FormFault
 
 /// Looks at alternatives in order.
 #[cycle(check)]
-fn check_either(
-    alloc: Global,
-    alternatives: &[Alternative<Atom>],
-) -> Result<(), FormFault>
+fn check_either(alloc: Global, alternatives: &[Alternative<Atom>]) -> Result<(), FormFault>
     ensures { AreRun (either_forms (either (map alternative_of alternatives.now))) result }
 {
     for alternative in alternatives {
@@ -46,10 +43,7 @@ fn check_either(
 
 /// Looks at elements one after another.
 #[cycle(check)]
-pub fn check_elements(
-    alloc: Global,
-    elements: &[Element<Atom>],
-) -> Result<(), FormFault>
+pub fn check_elements(alloc: Global, elements: &[Element<Atom>]) -> Result<(), FormFault>
     ensures { AreRun (elements_forms (in_order (map element_of elements.now))) result }
 {
     for element in elements {

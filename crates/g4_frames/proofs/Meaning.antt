@@ -72,11 +72,19 @@ module _ (net : ParserNetwork) where
       )
 
   -- Where nothing is at the hole, or no return state is below, a framed set means what is kept of it.
-  pub down_means : (F : Config → Type 0) (below : List ℕ) → IsFramed net F → IsDown net F below → AreSame (Meant net F below) (Over below (Kept net F))
+  pub down_means : (F : Config → Type 0) (below : List ℕ) → IsFramed net F → IsDown net F below
+      → AreSame (Meant net F below) (Over below (Kept net F))
   down_means F [] f clear d = (to, from)
     where
       to : Meant net F [] d → Over [] (Kept net F) d
-      to (x, (c, i, is), r, kept) = (d, (f.closed c d i (subst (λ (y : Config). Reaches net y d) (is ∙ over_none c) r) (inl kept), kept), sym (over_none d))
+      to (x, (c, i, is), r, kept) = (
+        d,
+        (
+          f.closed c d i (subst (λ (y : Config). Reaches net y d) (is ∙ over_none c) r) (inl kept),
+          kept,
+        ),
+        sym (over_none d),
+      )
 
       from : Over [] (Kept net F) d → Meant net F [] d
       from (c, (i, kept), is) = (over [] c, (c, i, refl), subst (Reaches net (over [] c)) (sym is) here, subst (IsKept net) (sym is) kept)
@@ -84,15 +92,22 @@ module _ (net : ParserNetwork) where
     where
       to : Meant net F (t ∷ rest) d → Over (t ∷ rest) (Kept net F) d
       to (x, (c, i, is), r, kept) = elim (parted net (t ∷ rest) c d (f.bottomed c i) (subst (λ (y : Config). Reaches net y d) is r)) [
-        | inl a ↦ (let kept' : IsKept net a.own = subst (IsKept net) a.is kept in (a.own, (f.closed c a.own i a.reached (inl kept'), kept'), a.is))
+        | inl a ↦ (let kept' : IsKept net a.own = subst (IsKept net) a.is kept in
+            (a.own, (f.closed c a.own i a.reached (inl kept'), kept'), a.is))
         | inr h ↦ absurd (clear h.hole (f.closed c h.hole i h.reached (inr h.at_hole)) h.at_hole)
       ]
 
       from : Over (t ∷ rest) (Kept net F) d → Meant net F (t ∷ rest) d
-      from (c, (i, kept), is) = (over (t ∷ rest) c, (c, i, refl), subst (Reaches net (over (t ∷ rest) c)) (sym is) here, subst (IsKept net) (sym is) kept)
+      from (c, (i, kept), is) = (
+        over (t ∷ rest) c,
+        (c, i, refl),
+        subst (Reaches net (over (t ∷ rest) c)) (sym is) here,
+        subst (IsKept net) (sym is) kept,
+      )
 
   -- A step by return states keeps the meaning.
-  pub lowered_means : (F : Config → Type 0) (above rest : List ℕ) → AreBottomed F → AreSame (Meant net F (above ++ rest)) (Meant net (Lowered net F above) rest)
+  pub lowered_means : (F : Config → Type 0) (above rest : List ℕ) → AreBottomed F
+      → AreSame (Meant net F (above ++ rest)) (Meant net (Lowered net F above) rest)
   lowered_means F above rest h =
       same_then (Meant net F (above ++ rest)) (Meant net (Over above F) rest) (Meant net (Lowered net F above) rest)
       (rest_same (Over (above ++ rest) F) (Over rest (Over above F)) (over_append F above rest))
@@ -102,7 +117,8 @@ module _ (net : ParserNetwork) where
   lowered_framed F above h = framed (Over above F) (over_bottomed F above h)
 
   -- so a set that is taken down means what is kept of it
-  pub taken_means : (F : Config → Type 0) (above rest below : List ℕ) → IsFramed net F → below ≡ above ++ rest → IsDown net (Lowered net F above) rest → AreSame (Meant net F below) (Over rest (Kept net (Lowered net F above)))
+  pub taken_means : (F : Config → Type 0) (above rest below : List ℕ) → IsFramed net F → below ≡ above ++ rest
+      → IsDown net (Lowered net F above) rest → AreSame (Meant net F below) (Over rest (Kept net (Lowered net F above)))
   taken_means F above rest below f are clear =
       subst (λ (rs : List ℕ). AreSame (Meant net F rs) (Over rest (Kept net (Lowered net F above)))) (sym are)
       (same_then (Meant net F (above ++ rest)) (Meant net (Lowered net F above) rest) (Over rest (Kept net (Lowered net F above)))
@@ -113,9 +129,14 @@ module _ (net : ParserNetwork) where
   firsts_bottomed : (d : ℕ) (A : ℕ → Type 0) → AreBottomed (Firsts net d A (above_bottom []))
   firsts_bottomed d A c (allowed, first, is) = ap (λ (z : Stack). z.wild) is
 
-  firsts_over : (d : ℕ) (A : ℕ → Type 0) (below : List ℕ) → AreSame (Firsts net d A (above_bottom below)) (Over below (Firsts net d A (above_bottom [])))
+  firsts_over : (d : ℕ) (A : ℕ → Type 0) (below : List ℕ)
+      → AreSame (Firsts net d A (above_bottom below)) (Over below (Firsts net d A (above_bottom [])))
   firsts_over d A below c = (
-    (λ (allowed, first, is). (config c.state c.alt (above_bottom []), (allowed, first, refl), ap (λ (z : Stack). config c.state c.alt z) is)),
+    (λ (allowed, first, is). (
+      config c.state c.alt (above_bottom []),
+      (allowed, first, refl),
+      ap (λ (z : Stack). config c.state c.alt z) is,
+    )),
     (λ (b, (allowed, first, is), same). (
       subst A (sym (ap (λ (x : Config). x.alt) same)) allowed,
       subst (λ (x : Config). IsFirst net d x.alt x.state) (sym same) first,
@@ -127,9 +148,11 @@ module _ (net : ParserNetwork) where
   pub start_framed : (d : ℕ) (A : ℕ → Type 0) → IsFramed net (FramedStart net d A)
   start_framed d A = framed (Firsts net d A (above_bottom [])) (firsts_bottomed d A)
 
-  pub start_means : (d : ℕ) (A : ℕ → Type 0) (below : List ℕ) → AreSame (Start net d A (above_bottom below)) (Meant net (FramedStart net d A) below)
+  pub start_means : (d : ℕ) (A : ℕ → Type 0) (below : List ℕ)
+      → AreSame (Start net d A (above_bottom below)) (Meant net (FramedStart net d A) below)
   start_means d A below =
-      same_then (Start net d A (above_bottom below)) (Meant net (Firsts net d A (above_bottom [])) below) (Meant net (FramedStart net d A) below)
+      same_then (Start net d A (above_bottom below)) (Meant net (Firsts net d A (above_bottom [])) below)
+      (Meant net (FramedStart net d A) below)
       (rest_same (Firsts net d A (above_bottom below)) (Over below (Firsts net d A (above_bottom []))) (firsts_over d A below))
       (closing_means (Firsts net d A (above_bottom [])) below (firsts_bottomed d A))
 
@@ -146,7 +169,8 @@ module _ (net : ParserNetwork) where
   takes_kept (Some (Empty t)) a u h = absurd h
 
   -- the targets of what is kept, over return states
-  targets_over : (F : Config → Type 0) (below : List ℕ) (a : ℕ) → AreSame (Targets net (Over below (Kept net F)) a) (Over below (Targets net F a))
+  targets_over : (F : Config → Type 0) (below : List ℕ) (a : ℕ)
+      → AreSame (Targets net (Over below (Kept net F)) a) (Over below (Targets net F a))
   targets_over F below a d = (to, from)
     where
       to : Targets net (Over below (Kept net F)) a d → Over below (Targets net F a) d
@@ -170,9 +194,11 @@ module _ (net : ParserNetwork) where
   next_framed F a f = framed (Targets net F a) (targets_bottomed F a f.bottomed)
 
   next_of_same : (C D : Config → Type 0) (a : ℕ) → AreSame C D → AreSame (Next net C a) (Next net D a)
-  next_of_same C D a h = rest_same (Targets net C a) (Targets net D a) (λ d. ((λ (c, i, takes, is). (c, (h c).0 i, takes, is)), λ (c, i, takes, is). (c, (h c).1 i, takes, is)))
+  next_of_same C D a h = rest_same (Targets net C a) (Targets net D a)
+      (λ d. ((λ (c, i, takes, is). (c, (h c).0 i, takes, is)), λ (c, i, takes, is). (c, (h c).1 i, takes, is)))
 
-  pub next_means : (C F : Config → Type 0) (below : List ℕ) (a : ℕ) → AreBottomed F → AreSame C (Over below (Kept net F)) → AreSame (Next net C a) (Meant net (FramedNext net F a) below)
+  pub next_means : (C F : Config → Type 0) (below : List ℕ) (a : ℕ) → AreBottomed F → AreSame C (Over below (Kept net F))
+      → AreSame (Next net C a) (Meant net (FramedNext net F a) below)
   next_means C F below a f means =
       same_then (Next net C a) (Next net (Over below (Kept net F)) a) (Meant net (FramedNext net F a) below)
       (next_of_same C (Over below (Kept net F)) a means)
@@ -181,9 +207,11 @@ module _ (net : ParserNetwork) where
       (closing_means (Targets net F a) below (targets_bottomed F a f)))
 
   -- so, from a set that is taken down, what the next set of its meaning is
-  pub next_meant : (F : Config → Type 0) (below : List ℕ) (a : ℕ) → IsFramed net F → IsDown net F below → AreSame (Next net (Meant net F below) a) (Meant net (FramedNext net F a) below)
+  pub next_meant : (F : Config → Type 0) (below : List ℕ) (a : ℕ) → IsFramed net F → IsDown net F below
+      → AreSame (Next net (Meant net F below) a) (Meant net (FramedNext net F a) below)
   next_meant F below a f clear = next_means (Meant net F below) F below a f.bottomed (down_means F below f clear)
 
   -- sets with the same members mean the same
   pub meant_same : (F G : Config → Type 0) (below : List ℕ) → AreSame F G → AreSame (Meant net F below) (Meant net G below)
-  meant_same F G below h = rest_same (Over below F) (Over below G) (λ d. ((λ (c, i, is). (c, (h c).0 i, is)), λ (c, i, is). (c, (h c).1 i, is)))
+  meant_same F G below h = rest_same (Over below F) (Over below G)
+      (λ d. ((λ (c, i, is). (c, (h c).0 i, is)), λ (c, i, is). (c, (h c).1 i, is)))

@@ -15,7 +15,8 @@ over_none c = ap (λ (rs : List ℕ). config c.state c.alt (record { returns = r
 
 -- return states one after the other
 pub over_over : (above rest : List ℕ) (c : Config) → over rest (over above c) ≡ over (above ++ rest) c
-over_over above rest c = ap (λ (rs : List ℕ). config c.state c.alt (record { returns = rs; wild = c.stack.wild })) (append_assoc c.stack.returns above rest)
+over_over above rest c = ap (λ (rs : List ℕ). config c.state c.alt (record { returns = rs; wild = c.stack.wild }))
+    (append_assoc c.stack.returns above rest)
 
 module _ (net : ParserNetwork) where
   -- steps and then steps
@@ -25,13 +26,15 @@ module _ (net : ParserNetwork) where
 
 module _ (net : ParserNetwork) (below : List ℕ) where
   -- a return over them is the same return
-  over_returns : (rule : ℕ) (c d : Config) (returns : List ℕ) (wild : Bool) → wild ≡ false → Returns net rule c returns wild d → Returns net rule (over below c) (returns ++ below) wild (over below d)
+  over_returns : (rule : ℕ) (c d : Config) (returns : List ℕ) (wild : Bool) → wild ≡ false → Returns net rule c returns wild d
+      → Returns net rule (over below c) (returns ++ below) wild (over below d)
   over_returns rule c d (t ∷ rest) wild bottom l = ap (over below) l
   over_returns rule c d [] true bottom l = absurd (true≢false bottom)
   over_returns rule c d [] false bottom l = absurd l
 
   -- and so is each step
-  over_leads : (o : Option (State (List ℕ))) (c d : Config) → c.stack.wild ≡ false → LeadsBy net o c d → LeadsBy net o (over below c) (over below d)
+  over_leads : (o : Option (State (List ℕ))) (c d : Config) → c.stack.wild ≡ false → LeadsBy net o c d
+      → LeadsBy net o (over below c) (over below d)
   over_leads None c d bottom l = absurd l
   over_leads (Some (Decision targets)) c d bottom (t, has, is) = (t, has, ap (over below) is)
   over_leads (Some (End rule)) c d bottom l = over_returns rule c d c.stack.returns c.stack.wild bottom l
@@ -46,7 +49,8 @@ module _ (net : ParserNetwork) (below : List ℕ) where
   pub over_reaches : (c d : Config) → c.stack.wild ≡ false → Reaches net c d → Reaches net (over below c) (over below d)
   over_reaches c _ bottom here = here
   over_reaches c d bottom (further e _ r l) =
-      further (over below e) (over below d) (over_reaches c e bottom r) (over_leads (state_at net e.state) e d (sym (reached_keeps net c e r).1 ∙ bottom) l)
+      further (over below e) (over below d) (over_reaches c e bottom r)
+      (over_leads (state_at net e.state) e d (sym (reached_keeps net c e r).1 ∙ bottom) l)
 
   -- a step over them is a step above the hole, or what makes it is at the hole
   abbrev IsStep : Option (State (List ℕ)) → Config → Config → Type 0
@@ -54,16 +58,20 @@ module _ (net : ParserNetwork) (below : List ℕ) where
 
   -- a stack by its parts
   bare : (s : Stack) → s.returns ≡ [] → s.wild ≡ false → s ≡ above_bottom []
-  bare s none bottom = ap (λ (rs : List ℕ). record { returns = rs; wild = s.wild }) none ∙ ap (λ (w : Bool). record { returns = []; wild = w }) bottom
+  bare s none bottom = ap (λ (rs : List ℕ). record { returns = rs; wild = s.wild }) none
+      ∙ ap (λ (w : Bool). record { returns = []; wild = w }) bottom
 
   -- a rule's end
-  step_end : (rule : ℕ) (e d : Config) → state_at net e.state ≡ Some (End rule) → (returns : List ℕ) (wild : Bool) → e.stack.returns ≡ returns → e.stack.wild ≡ wild → wild ≡ false → Returns net rule (over below e) (returns ++ below) wild d → IsStep (Some (End rule)) e d
+  step_end : (rule : ℕ) (e d : Config) → state_at net e.state ≡ Some (End rule) → (returns : List ℕ) (wild : Bool)
+      → e.stack.returns ≡ returns → e.stack.wild ≡ wild → wild ≡ false → Returns net rule (over below e) (returns ++ below) wild d
+      → IsStep (Some (End rule)) e d
   step_end rule e d is (t ∷ rest) wild top mark bottom l =
       inl (at_with e t rest, subst (λ (rs : List ℕ). Returns net rule e rs e.stack.wild (at_with e t rest)) (sym top) refl, l)
   step_end rule e d is [] wild top mark bottom l = inr (rule, is, bare e.stack top (mark ∙ bottom))
 
   -- each step
-  step : (o : Option (State (List ℕ))) (e d : Config) → state_at net e.state ≡ o → e.stack.wild ≡ false → LeadsBy net o (over below e) d → IsStep o e d
+  step : (o : Option (State (List ℕ))) (e d : Config) → state_at net e.state ≡ o → e.stack.wild ≡ false
+      → LeadsBy net o (over below e) d → IsStep o e d
   step None e d is bottom l = absurd l
   step (Some (Decision targets)) e d is bottom (t, has, same) = inl (at e t, (t, has, refl), same)
   step (Some (End rule)) e d is bottom l = step_end rule e d is e.stack.returns e.stack.wild refl refl bottom l
@@ -101,6 +109,7 @@ module _ (net : ParserNetwork) (below : List ℕ) where
   pub parted : (b c : Config) → b.stack.wild ≡ false → Reaches net (over below b) c → IsAbove b c ⊎ IsThrough b c
   parted b _ bottom here = inl (record { own = b; is = refl; reached = here })
   parted b c bottom (further d _ r l) = elim (parted b d bottom r) [
-    | inl h ↦ one_more b d c h l (step (state_at net h.own.state) h.own c refl (sym (reached_keeps net b h.own h.reached).1 ∙ bottom) (subst (λ (x : Config). Leads net x c) h.is l))
+    | inl h ↦ one_more b d c h l (step (state_at net h.own.state) h.own c refl (sym (reached_keeps net b h.own h.reached).1 ∙ bottom)
+        (subst (λ (x : Config). Leads net x c) h.is l))
     | inr h ↦ inr (record { hole = h.hole; reached = h.reached; at_hole = h.at_hole; from = further d c h.from l })
   ]

@@ -38,7 +38,8 @@ agree_then C D E h k = record {
 }
 
 -- sets with the same verdicts settle alike
-pub settles_agree : (D E : Config → Type 0) (k : ℕ) (L M : Choice → Type 0) → HaveSameVerdicts D E → ((c : Choice) → L c → M c) → (c : Choice) → Settles D k L c → Settles E k M c
+pub settles_agree : (D E : Config → Type 0) (k : ℕ) (L M : Choice → Type 0) → HaveSameVerdicts D E → ((c : Choice) → L c → M c)
+    → (c : Choice) → Settles D k L c → Settles E k M c
 settles_agree D E k L M h on _ (prediction.none_left e) = prediction.none_left (h.empty.0 e)
 settles_agree D E k L M h on _ (prediction.one_left i o) = prediction.one_left i ((h.only i).0 o)
 settles_agree D E k L M h on _ (prediction.least i a l) = prediction.least i (h.alike.0 a) ((h.least i).0 l)
@@ -50,11 +51,13 @@ module _ (below : List ℕ) where
   stacks_equal : (r s : Stack) → stack_over below r ≡ stack_over below s → r ≡ s
   stacks_equal r s is =
       let make : List ℕ → Bool → Stack = λ rs w. record { returns = rs; wild = w } in
-      ap (λ (rs : List ℕ). make rs r.wild) (append_cancel_right r.returns s.returns below (ap (λ (z : Stack). z.returns) is)) ∙ ap (λ (w : Bool). make s.returns w) (ap (λ (z : Stack). z.wild) is)
+      ap (λ (rs : List ℕ). make rs r.wild) (append_cancel_right r.returns s.returns below (ap (λ (z : Stack). z.returns) is))
+      ∙ ap (λ (w : Bool). make s.returns w) (ap (λ (z : Stack). z.wild) is)
 
   -- a configuration by its parts
   by_parts : (c : Config) (p i : ℕ) (s : Stack) → c.state ≡ p → c.alt ≡ i → c.stack ≡ s → c ≡ config p i s
-  by_parts c p i s at_p of_i has = ap (λ (q : ℕ). config q c.alt c.stack) at_p ∙ ap (λ (a : ℕ). config p a c.stack) of_i ∙ ap (λ (z : Stack). config p i z) has
+  by_parts c p i s at_p of_i has = ap (λ (q : ℕ). config q c.alt c.stack) at_p ∙ ap (λ (a : ℕ). config p a c.stack) of_i
+      ∙ ap (λ (z : Stack). config p i z) has
 
   module _ (F : Config → Type 0) where
     -- the stacks of a state and an alternative, over return states
@@ -79,14 +82,23 @@ module _ (below : List ℕ) where
 
     only_over : (i : ℕ) → IsOnly F i ↔ IsOnly (Over below F) i
     only_over i = (
-      (λ o. record { some = (over below o.some.0, (o.some.0, o.some.1, refl)); all = λ d (c, h, is). ap (λ (x : Config). x.alt) is ∙ o.all c h }),
+      (λ o. record {
+        some = (over below o.some.0, (o.some.0, o.some.1, refl));
+        all = λ d (c, h, is). ap (λ (x : Config). x.alt) is ∙ o.all c h;
+      }),
       (λ o. record { some = (o.some.1.0, o.some.1.1); all = λ c h. o.all (over below c) (c, h, refl) }),
     )
 
     least_over : (i : ℕ) → IsLeast F i ↔ IsLeast (Over below F) i
     least_over i = (
-      (λ l. record { some = (over below l.some.0, (l.some.0, l.some.1, refl), l.some.2); least = λ d (c, h, is). subst (λ (a : ℕ). i ≤ a) (sym (ap (λ (x : Config). x.alt) is)) (l.least c h) }),
-      (λ l. record { some = (l.some.1.0, l.some.1.1, sym (ap (λ (x : Config). x.alt) l.some.1.2) ∙ l.some.2); least = λ c h. l.least (over below c) (c, h, refl) }),
+      (λ l. record {
+        some = (over below l.some.0, (l.some.0, l.some.1, refl), l.some.2);
+        least = λ d (c, h, is). subst (λ (a : ℕ). i ≤ a) (sym (ap (λ (x : Config). x.alt) is)) (l.least c h);
+      }),
+      (λ l. record {
+        some = (l.some.1.0, l.some.1.1, sym (ap (λ (x : Config). x.alt) l.some.1.2) ∙ l.some.2);
+        least = λ c h. l.least (over below c) (c, h, refl);
+      }),
     )
 
     -- two alternatives have the same stacks at a state
@@ -106,10 +118,13 @@ module _ (below : List ℕ) where
     alike_over : Alike F → Alike (Over below F)
     alike_over h = record {
       several = (let (c, d, in_c, in_d, ne) = h.several in (over below c, over below d, (c, in_c, refl), (d, in_d, refl), ne));
-      same = λ c d e (c', in_c, is_c) (d', in_d, is_d) (e', in_e, is_e). moved c d e c' d' e' (ap (λ (x : Config). x.alt) is_c) (ap (λ (x : Config). x.alt) is_d) (ap (λ (x : Config). x.state) is_e) (stacks_over e'.state c'.alt d'.alt (h.same c' d' e' in_c in_d in_e));
+      same = λ c d e (c', in_c, is_c) (d', in_d, is_d) (e', in_e, is_e).
+          moved c d e c' d' e' (ap (λ (x : Config). x.alt) is_c) (ap (λ (x : Config). x.alt) is_d) (ap (λ (x : Config). x.state) is_e)
+          (stacks_over e'.state c'.alt d'.alt (h.same c' d' e' in_c in_d in_e));
     }
       where
-        moved : (c d e c' d' e' : Config) → c.alt ≡ c'.alt → d.alt ≡ d'.alt → e.state ≡ e'.state → HaveSameStacks (Over below F) e'.state c'.alt d'.alt → HaveSameStacks (Over below F) e.state c.alt d.alt
+        moved : (c d e c' d' e' : Config) → c.alt ≡ c'.alt → d.alt ≡ d'.alt → e.state ≡ e'.state
+            → HaveSameStacks (Over below F) e'.state c'.alt d'.alt → HaveSameStacks (Over below F) e.state c.alt d.alt
         moved c d e c' d' e' of_c of_d at_e x =
             subst (λ (p : ℕ). HaveSameStacks (Over below F) p c.alt d.alt) (sym at_e)
             (subst (λ (i : ℕ). HaveSameStacks (Over below F) e'.state i d.alt) (sym of_c)
@@ -117,8 +132,10 @@ module _ (below : List ℕ) where
 
     alike_from : Alike (Over below F) → Alike F
     alike_from h = record {
-      several = (let (x, y, (c, in_c, is_c), (d, in_d, is_d), ne) = h.several in (c, d, in_c, in_d, λ same. ne (ap (λ (z : Config). z.alt) is_c ∙ (same ∙ sym (ap (λ (z : Config). z.alt) is_d)))));
-      same = λ c d e in_c in_d in_e. stacks_from e.state c.alt d.alt (h.same (over below c) (over below d) (over below e) (c, in_c, refl) (d, in_d, refl) (e, in_e, refl));
+      several = (let (x, y, (c, in_c, is_c), (d, in_d, is_d), ne) = h.several in
+          (c, d, in_c, in_d, λ same. ne (ap (λ (z : Config). z.alt) is_c ∙ (same ∙ sym (ap (λ (z : Config). z.alt) is_d)))));
+      same = λ c d e in_c in_d in_e. stacks_from e.state c.alt d.alt
+          (h.same (over below c) (over below d) (over below e) (c, in_c, refl) (d, in_d, refl) (e, in_e, refl));
     }
 
     -- A set over return states has the verdicts of the set.

@@ -20,12 +20,14 @@ pub record HaveSameVerdicts (D E : Config → Type 0) : Type 0 where
 -- The set is taken down by the newest of the return states, by so many that nothing is at the hole or none is left. What is then said
 -- of the set and of those that are left.
 abbrev pub TakesDown : ParserNetwork → (Config → Type 0) → List ℕ → ((Config → Type 0) → List ℕ → Type 0) → Type 0
-TakesDown net F below Then = (above rest : List ℕ) × (below ≡ above ++ rest) × IsDown net (Lowered net F above) rest × Then (Lowered net F above) rest
+TakesDown net F below Then = (above rest : List ℕ) × (below ≡ above ++ rest) × IsDown net (Lowered net F above) rest
+    × Then (Lowered net F above) rest
 
 -- the answer from a framed set over return states, before symbol k
 abbrev pub FramedFrom : ParserNetwork → (Config → Type 0) → List ℕ → List ℕ → ℕ → Choice → Type 0
 FramedFrom net F below [] k c = ⊥
-FramedFrom net F below (a ∷ w) k c = TakesDown net (FramedNext net F a) below (λ G rest. Settles (Kept net G) k (FramedFrom net G rest w (suc k)) c)
+FramedFrom net F below (a ∷ w) k c = TakesDown net (FramedNext net F a) below
+    (λ G rest. Settles (Kept net G) k (FramedFrom net G rest w (suc k)) c)
 
 -- the answer of a decision by framed sets, over the allowed alternatives and with the parser's return states, newest first
 abbrev pub FramedFull : ParserNetwork → ℕ → (ℕ → Type 0) → List ℕ → List ℕ → Choice → Type 0

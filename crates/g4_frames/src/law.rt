@@ -11,22 +11,27 @@ ghost use Rattle.g4_net.specs.Prediction.{Choice, Full};
 
 /// The framed start set means the start set with the parser's stack.
 pub fn start_means()
-    ensures { (net : ParserNetwork) (d : ℕ) (allowed : Allowed) (returns : List ℕ) → AreSame (Start net d (Allows allowed) (above_bottom returns)) (Meant net (FramedStart net d (Allows allowed)) returns) }
+    ensures { (net : ParserNetwork) (d : ℕ) (allowed : Allowed) (returns : List ℕ)
+        → AreSame (Start net d (Allows allowed) (above_bottom returns)) (Meant net (FramedStart net d (Allows allowed)) returns) }
 {}
 
 /// A step by the newest return states keeps what a framed set means.
 pub fn lowering_means()
-    ensures { (net : ParserNetwork) (row : List Config) (above below : List ℕ) → IsFramed net (Contains row) → AreSame (Meant net (Contains row) (above ++ below)) (Meant net (Lowered net (Contains row) above) below) }
+    ensures { (net : ParserNetwork) (row : List Config) (above below : List ℕ) → IsFramed net (Contains row)
+        → AreSame (Meant net (Contains row) (above ++ below)) (Meant net (Lowered net (Contains row) above) below) }
 {}
 
 /// From a set that is taken down, a step by a symbol means the next set.
 pub fn next_means()
-    ensures { (net : ParserNetwork) (row : List Config) (below : List ℕ) (a : ℕ) → IsFramed net (Contains row) → IsDown net (Contains row) below → AreSame (Next net (Meant net (Contains row) below) a) (Meant net (FramedNext net (Contains row) a) below) }
+    ensures { (net : ParserNetwork) (row : List Config) (below : List ℕ) (a : ℕ) → IsFramed net (Contains row)
+        → IsDown net (Contains row) below → AreSame (Next net (Meant net (Contains row) below) a)
+        (Meant net (FramedNext net (Contains row) a) below) }
 {}
 
 /// A set that is taken down means what is kept of it, over the return states.
 pub fn down_means()
-    ensures { (net : ParserNetwork) (row : List Config) (below : List ℕ) → IsFramed net (Contains row) → IsDown net (Contains row) below → AreSame (Meant net (Contains row) below) (Over below (Kept net (Contains row))) }
+    ensures { (net : ParserNetwork) (row : List Config) (below : List ℕ) → IsFramed net (Contains row)
+        → IsDown net (Contains row) below → AreSame (Meant net (Contains row) below) (Over below (Kept net (Contains row))) }
 {}
 
 /// Sets have the same verdicts over return states.
@@ -36,5 +41,6 @@ pub fn verdicts_stay()
 
 /// Full stacks choose what framed sets choose.
 pub fn frames_choose()
-    ensures { (net : ParserNetwork) (d : ℕ) (allowed : Allowed) (returns w : List ℕ) (c : Choice) → Full net d (Allows allowed) (above_bottom returns) w c ↔ FramedFull net d (Allows allowed) returns w c }
+    ensures { (net : ParserNetwork) (d : ℕ) (allowed : Allowed) (returns w : List ℕ) (c : Choice)
+        → Full net d (Allows allowed) (above_bottom returns) w c ↔ FramedFull net d (Allows allowed) returns w c }
 {}

@@ -50,7 +50,8 @@ module _ {A : Type 0} (Reads : A → List ℕ → Type 0) (Calls : A → ℕ →
     -- elements one after another
     pub all_are_nullable : {xs : Elements A} {w : List ℕ} → DerivesAll Reads Calls rules xs w → w ≡ [] → AllNullable Reads Calls rules xs
     all_are_nullable word.nothing e = nothing
-    all_are_nullable (word.one_more x xs u v w h hs is) e = one_more x xs (is_nullable h (front_empty u v (sym e ∙ is))) (all_are_nullable hs (back_empty u v (sym e ∙ is)))
+    all_are_nullable (word.one_more x xs u v w h hs is) e =
+        one_more x xs (is_nullable h (front_empty u v (sym e ∙ is))) (all_are_nullable hs (back_empty u v (sym e ∙ is)))
 
     -- alternatives
     pub one_is_nullable : {xs : Alternatives A} {w : List ℕ} → DerivesOne Reads Calls rules xs w → w ≡ [] → OneNullable Reads Calls rules xs

@@ -14,29 +14,33 @@ module _ {X : Type 0} (p : X → Bool) (x : X) (xs : List X) where
   at_later k e is = rw e (by (position_or_len p xs) (length xs) is)
     where
       by : (n l : ℕ) → cond (nat_lt n l) (Some n) None ≡ Some k → cond (nat_lt (1 + n) (suc l)) (Some (1 + n)) None ≡ Some (suc k)
-      by n l h = elim (let c : ((nat_lt n l ≡ true) × (nat_lt (1 + n) (suc l) ≡ true)) ⊎ (nat_lt n l ≡ false) = grind (arith, nat_tests) in c) [
-        | inl e ↦
-            let same : Some n ≡ Some k = subst (λ (b : Bool). cond b (Some n) None ≡ Some k) e.0 h in
-            let here : n ≡ k = cc in
-            let next : 1 + n ≡ suc k = omega (arith, here) in
-            rw e.1 (ap (λ (m : ℕ). Some m) next)
-        | inr e ↦ let wrong : None ≡ Some k = subst (λ (b : Bool). cond b (Some n) None ≡ Some k) e h in cc
-      ]
+      by n l h = elim (let c : ((nat_lt n l ≡ true) × (nat_lt (1 + n) (suc l) ≡ true)) ⊎ (nat_lt n l ≡ false) =
+          grind (arith, nat_tests) in c) [
+            | inl e ↦
+                let same : Some n ≡ Some k = subst (λ (b : Bool). cond b (Some n) None ≡ Some k) e.0 h in
+                let here : n ≡ k = cc in
+                let next : 1 + n ≡ suc k = omega (arith, here) in
+                rw e.1 (ap (λ (m : ℕ). Some m) next)
+            | inr e ↦ let wrong : None ≡ Some k = subst (λ (b : Bool). cond b (Some n) None ≡ Some k) e h in cc
+          ]
 
   -- it is not, so the item is one of the others
   pub from_later : (k : ℕ) → p x ≡ false → position p (x ∷ xs) ≡ Some k → (j : ℕ) × (position p xs ≡ Some j) × (k ≡ suc j)
   from_later k e is =
       by (position_or_len p xs) (length xs)
-      (subst (λ (b : Bool). cond (nat_lt (cond (not b) (1 + position_or_len p xs) 0) (length (x ∷ xs))) (Some (cond (not b) (1 + position_or_len p xs) 0)) None ≡ Some k) e is)
+      (subst (λ (b : Bool). cond (nat_lt (cond (not b) (1 + position_or_len p xs) 0) (length (x ∷ xs)))
+      (Some (cond (not b) (1 + position_or_len p xs) 0)) None ≡ Some k) e is)
     where
-      by : (n l : ℕ) → cond (nat_lt (1 + n) (suc l)) (Some (1 + n)) None ≡ Some k → (j : ℕ) × (cond (nat_lt n l) (Some n) None ≡ Some j) × (k ≡ suc j)
-      by n l h = elim (let c : ((nat_lt n l ≡ true) × (nat_lt (1 + n) (suc l) ≡ true)) ⊎ (nat_lt (1 + n) (suc l) ≡ false) = grind (arith, nat_tests) in c) [
-        | inl e ↦
-            let same : Some (1 + n) ≡ Some k = subst (λ (b : Bool). cond b (Some (1 + n)) None ≡ Some k) e.1 h in
-            let here : 1 + n ≡ k = cc in
-            (n, rw e.0 refl, omega (arith, here))
-        | inr e ↦ let wrong : None ≡ Some k = subst (λ (b : Bool). cond b (Some (1 + n)) None ≡ Some k) e h in cc
-      ]
+      by : (n l : ℕ) → cond (nat_lt (1 + n) (suc l)) (Some (1 + n)) None ≡ Some k
+          → (j : ℕ) × (cond (nat_lt n l) (Some n) None ≡ Some j) × (k ≡ suc j)
+      by n l h = elim (let c : ((nat_lt n l ≡ true) × (nat_lt (1 + n) (suc l) ≡ true)) ⊎ (nat_lt (1 + n) (suc l) ≡ false) =
+          grind (arith, nat_tests) in c) [
+            | inl e ↦
+                let same : Some (1 + n) ≡ Some k = subst (λ (b : Bool). cond b (Some (1 + n)) None ≡ Some k) e.1 h in
+                let here : 1 + n ≡ k = cc in
+                (n, rw e.0 refl, omega (arith, here))
+            | inr e ↦ let wrong : None ≡ Some k = subst (λ (b : Bool). cond b (Some (1 + n)) None ≡ Some k) e h in cc
+          ]
 
 -- what is found is within the list
 pub found_within : {X : Type 0} (p : X → Bool) (xs : List X) (n : ℕ) → position p xs ≡ Some n → position_or_len p xs < length xs
@@ -49,7 +53,8 @@ found_within p xs n is = by (position_or_len p xs) (length xs) is
     ]
 
 -- what is within the list is found
-pub within_found : {X : Type 0} (p : X → Bool) (xs : List X) → position_or_len p xs < length xs → position p xs ≡ Some (position_or_len p xs)
+pub within_found : {X : Type 0} (p : X → Bool) (xs : List X) → position_or_len p xs < length xs
+    → position p xs ≡ Some (position_or_len p xs)
 within_found p xs less = let e : nat_lt (position_or_len p xs) (length xs) ≡ true = grind (arith, nat_tests) in rw e refl
 
 -- the place of an item of which the test holds is within the list

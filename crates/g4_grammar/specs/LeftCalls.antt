@@ -7,21 +7,28 @@ use Rattle.g4_source.specs.Elements.{Element, atom, block, Elements, empty, then
 
 mutual
   -- the element derives the empty word
-  pub data Nullable {A : Type 0} (Reads : A → List ℕ → Type 0) (Calls : A → ℕ → Type 0) (rules : List (Alternatives A)) : Element A → Type 0 where
+  pub data Nullable {A : Type 0} (Reads : A → List ℕ → Type 0) (Calls : A → ℕ → Type 0) (rules : List (Alternatives A)) : Element A
+      → Type 0 where
     an_atom : (a : A) → Reads a [] → Nullable Reads Calls rules (atom a)
-    a_call : (a : A) (rule : ℕ) (xs : Alternatives A) → Calls a rule → slice_get rules rule ≡ Some xs → OneNullable Reads Calls rules xs → Nullable Reads Calls rules (atom a)
-    a_block : (label : Option Label) (xs : Alternatives A) → OneNullable Reads Calls rules xs → Nullable Reads Calls rules (block label Once xs)
+    a_call : (a : A) (rule : ℕ) (xs : Alternatives A) → Calls a rule → slice_get rules rule ≡ Some xs
+        → OneNullable Reads Calls rules xs → Nullable Reads Calls rules (atom a)
+    a_block : (label : Option Label) (xs : Alternatives A) → OneNullable Reads Calls rules xs
+        → Nullable Reads Calls rules (block label Once xs)
     an_optional : (label : Option Label) (sign : Suffix) (xs : Alternatives A) → Nullable Reads Calls rules (block label (Optional sign) xs)
     a_star : (label : Option Label) (sign : Suffix) (xs : Alternatives A) → Nullable Reads Calls rules (block label (Star sign) xs)
-    a_plus : (label : Option Label) (sign : Suffix) (xs : Alternatives A) → OneNullable Reads Calls rules xs → Nullable Reads Calls rules (block label (Plus sign) xs)
+    a_plus : (label : Option Label) (sign : Suffix) (xs : Alternatives A) → OneNullable Reads Calls rules xs
+        → Nullable Reads Calls rules (block label (Plus sign) xs)
 
   -- each of the elements does
-  pub data AllNullable {A : Type 0} (Reads : A → List ℕ → Type 0) (Calls : A → ℕ → Type 0) (rules : List (Alternatives A)) : Elements A → Type 0 where
+  pub data AllNullable {A : Type 0} (Reads : A → List ℕ → Type 0) (Calls : A → ℕ → Type 0) (rules : List (Alternatives A)) :
+      Elements A → Type 0 where
     nothing : AllNullable Reads Calls rules empty
-    one_more : (x : Element A) (xs : Elements A) → Nullable Reads Calls rules x → AllNullable Reads Calls rules xs → AllNullable Reads Calls rules (then x xs)
+    one_more : (x : Element A) (xs : Elements A) → Nullable Reads Calls rules x → AllNullable Reads Calls rules xs
+        → AllNullable Reads Calls rules (then x xs)
 
   -- one of the alternatives does
-  pub data OneNullable {A : Type 0} (Reads : A → List ℕ → Type 0) (Calls : A → ℕ → Type 0) (rules : List (Alternatives A)) : Alternatives A → Type 0 where
+  pub data OneNullable {A : Type 0} (Reads : A → List ℕ → Type 0) (Calls : A → ℕ → Type 0) (rules : List (Alternatives A)) :
+      Alternatives A → Type 0 where
     this : (x : Elements A) (xs : Alternatives A) → AllNullable Reads Calls rules x → OneNullable Reads Calls rules (or x xs)
     another : (x : Elements A) (xs : Alternatives A) → OneNullable Reads Calls rules xs → OneNullable Reads Calls rules (or x xs)
 

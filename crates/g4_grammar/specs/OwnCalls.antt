@@ -32,7 +32,8 @@ module _ {A : Type 0} (Reads : A → List ℕ → Type 0) (Calls Own : A → ℕ
   -- the alternative of rule k calls rule j before anything is read, as the rule is run
   abbrev pub IsLeftAsRun : ℕ → Elements A → ℕ → Type 0
   IsLeftAsRun k empty j = ⊥
-  IsLeftAsRun k (then (atom a) xs) j = (Calls a j × (Own a k → ⊥)) ⊎ (Nullable Reads Calls rules (atom a) × IsLeftOfAll Reads Calls rules xs j)
+  IsLeftAsRun k (then (atom a) xs) j = (Calls a j × (Own a k → ⊥))
+      ⊎ (Nullable Reads Calls rules (atom a) × IsLeftOfAll Reads Calls rules xs j)
   IsLeftAsRun k (then (block label repeat ys) xs) j = IsLeftOfAll Reads Calls rules (then (block label repeat ys) xs) j
 
   -- one of the alternatives of rule k does

@@ -37,4 +37,5 @@ any_number = Star (record { place = first_place; greedy = true })
 
 -- the added rule of a start rule S: S x* END, where x is any symbol of the set
 abbrev pub added_rule : List ℕ → ℕ → Alternatives (Step (List ℕ))
-added_rule set start = only (then (atom (Call start 0)) (then (block None any_number (only (then (atom (Edge set)) empty))) (then (atom (Edge (end_of_list ∷ []))) empty)))
+added_rule set start = only (then (atom (Call start 0))
+    (then (block None any_number (only (then (atom (Edge set)) empty))) (then (atom (Edge (end_of_list ∷ []))) empty)))

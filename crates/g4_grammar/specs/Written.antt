@@ -75,7 +75,8 @@ is_rule_of rule_kinds.Lexer name (Lexer rule) = bytes_eq rule.name name
 -- lexer rule, but for the end of the file; these are the rules, which count from 0
 abbrev pub KindCalls : List Rule → RuleKind → AtomKind → ℕ → Type 0
 KindCalls rules rule_kinds.Parser (kinds.Rule name) k = position (is_rule_of rule_kinds.Parser name.text) rules ≡ Some k
-KindCalls rules rule_kinds.Lexer (kinds.Token name) k = (bytes_eq name.text (codes "EOF") ≡ false) × (position (is_rule_of rule_kinds.Lexer name.text) rules ≡ Some k)
+KindCalls rules rule_kinds.Lexer (kinds.Token name) k = (bytes_eq name.text (codes "EOF") ≡ false)
+    × (position (is_rule_of rule_kinds.Lexer name.text) rules ≡ Some k)
 KindCalls rules kind a k = ⊥
 
 abbrev pub CallsIn : List Rule → AtomIn → ℕ → Type 0
@@ -104,7 +105,8 @@ RulesCanRun rules = CanRun ReadsIn (CallsIn rules) (OwnIn rules) (bodies_of rule
 -- an atom of a rule of this kind that calls one of the rules, if it is a reference
 abbrev pub KindIsDefined : List Rule → RuleKind → AtomKind → Type 0
 KindIsDefined rules rule_kinds.Parser (kinds.Rule name) = (k : ℕ) × KindCalls rules rule_kinds.Parser (kinds.Rule name) k
-KindIsDefined rules rule_kinds.Lexer (kinds.Token name) = bytes_eq name.text (codes "EOF") ≡ false → (k : ℕ) × KindCalls rules rule_kinds.Lexer (kinds.Token name) k
+KindIsDefined rules rule_kinds.Lexer (kinds.Token name) = bytes_eq name.text (codes "EOF") ≡ false
+    → (k : ℕ) × KindCalls rules rule_kinds.Lexer (kinds.Token name) k
 KindIsDefined rules kind a = Unit {0}
 
 -- each reference of the rules is to one of them

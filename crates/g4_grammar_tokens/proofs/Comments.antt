@@ -9,7 +9,8 @@ abbrev pub comment_end_from : ℕ → List ℕ → Option ℕ
 comment_end_from taken [] = None
 comment_end_from taken (c ∷ cs) = if (c == 42) && begins 47 cs then Some (taken + 2) else comment_end_from (taken + 1) cs
 
-by_end : (ends : Bool) (n : ℕ) (a b : Option ℕ) → a ≡ more_by (n + 1) b → cond ends (Some (n + 2)) a ≡ more_by n (cond ends (Some 2) (option_map suc b))
+by_end : (ends : Bool) (n : ℕ) (a b : Option ℕ) → a ≡ more_by (n + 1) b
+    → cond ends (Some (n + 2)) a ≡ more_by n (cond ends (Some 2) (option_map suc b))
 by_end true n a b f = refl
 by_end false n a b f = f ∙ one_more n b
 

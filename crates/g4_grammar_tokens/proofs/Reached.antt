@@ -22,7 +22,8 @@ pub record Reached (start : Position) (text : List ℕ) (statement : Statement) 
   pub fault_goes_on : (fault : Position) → IsFaultyAt words p (drop at text) fault → IsFaultyAt [] start text fault
 
 -- nothing is read
-pub reached_start : (start p : Position) (text : List ℕ) (statement : Statement) → statement ≡ statement_of [] → p ≡ start → Reached start text statement p 0 []
+pub reached_start : (start p : Position) (text : List ℕ) (statement : Statement) → statement ≡ statement_of [] → p ≡ start
+    → Reached start text statement p 0 []
 reached_start start p text statement known same = record {
   words = [];
   known = known;
@@ -31,23 +32,32 @@ reached_start start p text statement known same = record {
 }
 
 -- the statement decides the piece
-pub piece_is : (statement : Statement) (words : List Word) (c : ℕ) (rest : List ℕ) (found piece : Piece) → statement ≡ statement_of words → IsPiece (opening (holds_sets statement) statement.names_braces statement.in_braces c rest) rest found → found ≡ piece → PieceAt words c rest piece
+pub piece_is : (statement : Statement) (words : List Word) (c : ℕ) (rest : List ℕ) (found piece : Piece)
+    → statement ≡ statement_of words → IsPiece (opening (holds_sets statement) statement.names_braces statement.in_braces c rest) rest
+    found → found ≡ piece → PieceAt words c rest piece
 piece_is statement words c rest found piece known is same =
-    subst (PieceAt words c rest) same (subst (λ (s : Statement). IsPiece (opening (holds_sets s) s.names_braces s.in_braces c rest) rest found) known is)
+    subst (PieceAt words c rest) same (subst (λ (s : Statement).
+    IsPiece (opening (holds_sets s) s.names_braces s.in_braces c rest) rest found) known is)
 
 -- tokens at the same position of the same text
-pub same_tokens : (words : List Word) (p q : Position) (rest other : List ℕ) (tokens : List Token) → p ≡ q → rest ≡ other → AreTokens words p rest tokens → AreTokens words q other tokens
+pub same_tokens : (words : List Word) (p q : Position) (rest other : List ℕ) (tokens : List Token) → p ≡ q → rest ≡ other
+    → AreTokens words p rest tokens → AreTokens words q other tokens
 same_tokens words p q rest other tokens same_p same_rest are =
     subst (λ (r : List ℕ). AreTokens words q r tokens) same_rest (subst (λ (r : Position). AreTokens words r rest tokens) same_p are)
 
 -- a fault at the same position of the same text
-pub same_fault : (words : List Word) (p q : Position) (rest other : List ℕ) (fault : Position) → p ≡ q → rest ≡ other → IsFaultyAt words p rest fault → IsFaultyAt words q other fault
+pub same_fault : (words : List Word) (p q : Position) (rest other : List ℕ) (fault : Position) → p ≡ q → rest ≡ other
+    → IsFaultyAt words p rest fault → IsFaultyAt words q other fault
 same_fault words p q rest other fault same_p same_rest opens =
     subst (λ (r : List ℕ). IsFaultyAt words q r fault) same_rest (subst (λ (r : Position). IsFaultyAt words r rest fault) same_p opens)
 
 -- what is reached after a gap
-pub reached_gap : (start : Position) (text : List ℕ) (statement : Statement) (p next : Position) (at c more : ℕ) (tokens : List Token) (found : Piece) → Reached start text statement p at tokens → at < length text → c ≡ get_or text at c →
-    IsPiece (opening (holds_sets statement) statement.names_braces statement.in_braces c (take (length text - (at + 1)) (drop (at + 1) text))) (take (length text - (at + 1)) (drop (at + 1) text)) found → found ≡ Gap more → next ≡ position_past p (take (at + 1 + more - at) (drop at text)) → Reached start text statement next (at + 1 + more) tokens
+pub reached_gap : (start : Position) (text : List ℕ) (statement : Statement) (p next : Position) (at c more : ℕ) (tokens : List Token)
+    (found : Piece) → Reached start text statement p at tokens → at < length text → c ≡ get_or text at c →
+    IsPiece (opening (holds_sets statement) statement.names_braces statement.in_braces c
+    (take (length text - (at + 1)) (drop (at + 1) text))) (take (length text - (at + 1)) (drop (at + 1) text)) found
+    → found ≡ Gap more → next ≡ position_past p (take (at + 1 + more - at) (drop at text))
+    → Reached start text statement next (at + 1 + more) tokens
 reached_gap start text statement p next at c more tokens found r h read found_is gap next_is =
     let rest : List ℕ = take (length text - (at + 1)) (drop (at + 1) text) in
     let cut : drop at text ≡ c ∷ rest = from_index text at c h read in
@@ -57,45 +67,73 @@ reached_gap start text statement p next at c more tokens found r h read found_is
     record {
       words = r.words;
       known = r.known;
-      tokens_go_on = λ after are. r.tokens_go_on after (same_tokens r.words p p (c ∷ rest) (drop at text) after refl (sym cut) (after_gap r.words p c more rest after is (same_tokens r.words next (position_past p (c ∷ take more rest)) (drop (at + 1 + more) text) (drop more rest) after moved left are)));
-      fault_goes_on = λ fault opens. r.fault_goes_on fault (same_fault r.words p p (c ∷ rest) (drop at text) fault refl (sym cut) (past_gap r.words p fault c more rest is (same_fault r.words next (position_past p (c ∷ take more rest)) (drop (at + 1 + more) text) (drop more rest) fault moved left opens)));
+      tokens_go_on = λ after are. r.tokens_go_on after
+          (same_tokens r.words p p (c ∷ rest) (drop at text) after refl (sym cut)
+          (after_gap r.words p c more rest after is
+          (same_tokens r.words next (position_past p (c ∷ take more rest)) (drop (at + 1 + more) text) (drop more rest) after moved
+          left are)));
+      fault_goes_on = λ fault opens. r.fault_goes_on fault
+          (same_fault r.words p p (c ∷ rest) (drop at text) fault refl (sym cut)
+          (past_gap r.words p fault c more rest is (same_fault r.words next (position_past p (c ∷ take more rest))
+          (drop (at + 1 + more) text) (drop more rest) fault moved left opens)));
     }
 
 -- the statement after one more token is that of the tokens with it
-pub statement_more : (statement after : Statement) (words : List Word) (kind : Kind) (word characters : List ℕ) → statement ≡ statement_of words → after ≡ statement_past statement kind word → word ≡ characters → after ≡ statement_of (record { kind = kind; characters = characters } ∷ words)
+pub statement_more : (statement after : Statement) (words : List Word) (kind : Kind) (word characters : List ℕ)
+    → statement ≡ statement_of words → after ≡ statement_past statement kind word → word ≡ characters
+    → after ≡ statement_of (record { kind = kind; characters = characters } ∷ words)
 statement_more statement after words kind word characters known after_is same =
     after_is ∙ ap (λ (s : Statement). statement_past s kind word) known ∙ ap (statement_past (statement_of words) kind) same
 
 -- what is reached after a token
-pub reached_token : (start : Position) (text : List ℕ) (statement after : Statement) (p next : Position) (at c more : ℕ) (kind : Kind) (tokens longer : List Token) (found : Piece) → Reached start text statement p at tokens → at < length text → c ≡ get_or text at c →
-    IsPiece (opening (holds_sets statement) statement.names_braces statement.in_braces c (take (length text - (at + 1)) (drop (at + 1) text))) (take (length text - (at + 1)) (drop (at + 1) text)) found → found ≡ Formed kind more → next ≡ position_past p (take (at + 1 + more - at) (drop at text)) →
-    after ≡ statement_past statement kind (take (at + 1 + more - at) (drop at text)) → longer ≡ tokens ++ (record { kind = kind; place = p.place; start = p.index; end = next.index } ∷ []) → Reached start text after next (at + 1 + more) longer
+pub reached_token : (start : Position) (text : List ℕ) (statement after : Statement) (p next : Position) (at c more : ℕ) (kind : Kind)
+    (tokens longer : List Token) (found : Piece) → Reached start text statement p at tokens → at < length text → c ≡ get_or text at c →
+    IsPiece (opening (holds_sets statement) statement.names_braces statement.in_braces c
+    (take (length text - (at + 1)) (drop (at + 1) text))) (take (length text - (at + 1)) (drop (at + 1) text)) found
+    → found ≡ Formed kind more → next ≡ position_past p (take (at + 1 + more - at) (drop at text)) →
+    after ≡ statement_past statement kind (take (at + 1 + more - at) (drop at text))
+    → longer ≡ tokens ++ (record { kind = kind; place = p.place; start = p.index; end = next.index } ∷ [])
+    → Reached start text after next (at + 1 + more) longer
 reached_token start text statement after p next at c more kind tokens longer found r h read found_is formed next_is after_is longer_is =
     let rest : List ℕ = take (length text - (at + 1)) (drop (at + 1) text) in
     let piece_characters : List ℕ = c ∷ take more rest in
     let cut : drop at text ≡ c ∷ rest = from_index text at c h read in
     let word : take (at + 1 + more - at) (drop at text) ≡ piece_characters = word_is text at c more h read in
-    let is : PieceAt r.words c rest (Formed kind more) = piece_is statement r.words c rest found (Formed kind more) r.known found_is formed in
+    let is : PieceAt r.words c rest (Formed kind more) =
+    piece_is statement r.words c rest found (Formed kind more) r.known found_is formed in
     let moved : next ≡ position_past p piece_characters = next_is ∙ ap (position_past p) word in
     let left : drop (at + 1 + more) text ≡ drop more rest = sym (beyond text at more) in
     let token : Token = token_at kind p piece_characters in
-    let same_token : longer ≡ tokens ++ (token ∷ []) = longer_is ∙ ap (λ (q : Position). tokens ++ (record { kind = kind; place = p.place; start = p.index; end = q.index } ∷ [])) moved in
+    let same_token : longer ≡ tokens ++ (token ∷ []) =
+    longer_is ∙ ap (λ (q : Position). tokens ++ (record { kind = kind; place = p.place; start = p.index; end = q.index } ∷ [])) moved in
     let words : List Word = record { kind = kind; characters = piece_characters } ∷ r.words in
     record {
       words = words;
       known = statement_more statement after r.words kind (take (at + 1 + more - at) (drop at text)) piece_characters r.known after_is word;
-      tokens_go_on = λ others are. subst (λ (ts : List Token). AreTokens [] start text ts) (sym (ap (λ (ts : List Token). ts ++ others) same_token ∙ append_assoc tokens (token ∷ []) others)) (r.tokens_go_on (token ∷ others) (same_tokens r.words p p (c ∷ rest) (drop at text) (token ∷ others) refl (sym cut) (with_token r.words p c more kind rest others is (same_tokens words next (position_past p piece_characters) (drop (at + 1 + more) text) (drop more rest) others moved left are))));
-      fault_goes_on = λ fault opens. r.fault_goes_on fault (same_fault r.words p p (c ∷ rest) (drop at text) fault refl (sym cut) (past_token r.words p fault c more kind rest is (same_fault words next (position_past p piece_characters) (drop (at + 1 + more) text) (drop more rest) fault moved left opens)));
+      tokens_go_on = λ others are. subst (λ (ts : List Token). AreTokens [] start text ts)
+          (sym (ap (λ (ts : List Token). ts ++ others) same_token ∙ append_assoc tokens (token ∷ []) others))
+          (r.tokens_go_on (token ∷ others) (same_tokens r.words p p (c ∷ rest) (drop at text) (token ∷ others) refl (sym cut)
+          (with_token r.words p c more kind rest others is
+          (same_tokens words next (position_past p piece_characters) (drop (at + 1 + more) text) (drop more rest) others moved left are))));
+      fault_goes_on = λ fault opens. r.fault_goes_on fault
+          (same_fault r.words p p (c ∷ rest) (drop at text) fault refl (sym cut)
+          (past_token r.words p fault c more kind rest is
+          (same_fault words next (position_past p piece_characters) (drop (at + 1 + more) text) (drop more rest) fault moved left opens)));
     }
 
 -- what is reached at the end
-pub reached_end : (start : Position) (text : List ℕ) (statement : Statement) (p : Position) (at : ℕ) (tokens : List Token) → Reached start text statement p at tokens → length text ≤ at → AreTokens [] start text tokens
+pub reached_end : (start : Position) (text : List ℕ) (statement : Statement) (p : Position) (at : ℕ) (tokens : List Token)
+    → Reached start text statement p at tokens → length text ≤ at → AreTokens [] start text tokens
 reached_end start text statement p at tokens r h =
-    subst (λ (ts : List Token). AreTokens [] start text ts) (append-nil tokens) (r.tokens_go_on [] (same_tokens r.words p p [] (drop at text) [] refl (sym (drop_all at text h)) (at_end r.words p)))
+    subst (λ (ts : List Token). AreTokens [] start text ts) (append-nil tokens)
+    (r.tokens_go_on [] (same_tokens r.words p p [] (drop at text) [] refl (sym (drop_all at text h)) (at_end r.words p)))
 
 -- what is reached at a fault
-pub reached_fault : (start : Position) (text : List ℕ) (statement : Statement) (p : Position) (at c : ℕ) (tokens : List Token) (found : Piece) → Reached start text statement p at tokens → at < length text → c ≡ get_or text at c →
-    IsPiece (opening (holds_sets statement) statement.names_braces statement.in_braces c (take (length text - (at + 1)) (drop (at + 1) text))) (take (length text - (at + 1)) (drop (at + 1) text)) found → found ≡ Faulty → IsFaultyAt [] start text p
+pub reached_fault : (start : Position) (text : List ℕ) (statement : Statement) (p : Position) (at c : ℕ) (tokens : List Token)
+    (found : Piece) → Reached start text statement p at tokens → at < length text → c ≡ get_or text at c →
+    IsPiece (opening (holds_sets statement) statement.names_braces statement.in_braces c
+    (take (length text - (at + 1)) (drop (at + 1) text))) (take (length text - (at + 1)) (drop (at + 1) text)) found
+    → found ≡ Faulty → IsFaultyAt [] start text p
 reached_fault start text statement p at c tokens found r h read found_is faulty =
     let rest : List ℕ = take (length text - (at + 1)) (drop (at + 1) text) in
     let cut : drop at text ≡ c ∷ rest = from_index text at c h read in

@@ -31,20 +31,23 @@ earlier from later until [] before order = omega (arith, before, order)
 earlier from later until (t ∷ ts) before order = (omega (arith, before, order.0), order.1, order.2)
 
 -- the tokens of a text are within it
-pub tokens_in_order : (words : List Word) (p : Position) (text : List ℕ) (tokens : List Token) → AreTokens words p text tokens → AreInOrder p.index (p.index + byte_count text) tokens
+pub tokens_in_order : (words : List Word) (p : Position) (text : List ℕ) (tokens : List Token) → AreTokens words p text tokens
+    → AreInOrder p.index (p.index + byte_count text) tokens
 tokens_in_order _ _ _ _ (at_end words p) = omega arith
 tokens_in_order _ _ _ tokens (after_gap words p c more cs _ is rest) =
     let taken : ℕ = byte_count (c ∷ take more cs) in
     let next : ℕ = p.index + taken in
     let order : AreInOrder next (next + byte_count (drop more cs)) tokens = tokens_in_order words _ (drop more cs) tokens rest in
-    let same : next + byte_count (drop more cs) ≡ p.index + byte_count (c ∷ cs) = omega (arith, split more cs, one_more c cs, one_more c (take more cs)) in
+    let same : next + byte_count (drop more cs) ≡ p.index + byte_count (c ∷ cs) =
+    omega (arith, split more cs, one_more c cs, one_more c (take more cs)) in
     let before : p.index ≤ next = omega arith in
     earlier p.index next (p.index + byte_count (c ∷ cs)) tokens before (subst (λ (until : ℕ). AreInOrder next until tokens) same order)
 tokens_in_order _ _ _ _ (with_token words p c more kind cs tokens is rest) =
     let taken : ℕ = byte_count (c ∷ take more cs) in
     let next : ℕ = p.index + taken in
     let order : AreInOrder next (next + byte_count (drop more cs)) tokens = tokens_in_order _ _ (drop more cs) tokens rest in
-    let same : next + byte_count (drop more cs) ≡ p.index + byte_count (c ∷ cs) = omega (arith, split more cs, one_more c cs, one_more c (take more cs)) in
+    let same : next + byte_count (drop more cs) ≡ p.index + byte_count (c ∷ cs) =
+    omega (arith, split more cs, one_more c cs, one_more c (take more cs)) in
     let some = len_utf8_bounds c in
     (omega arith, omega (arith, some.0, one_more c (take more cs)), subst (λ (until : ℕ). AreInOrder next until tokens) same order)
 
@@ -62,7 +65,8 @@ mark_bytes c is =
     let same : c ≡ 65279 = grind (arith, nat_tests) in
     ap len_utf8 same
 
-by_mark : (c : ℕ) (cs : List ℕ) (mark : Bool) → (c == 65279) ≡ mark → cond mark 3 0 + byte_count (cond mark cs (c ∷ cs)) ≡ byte_count (c ∷ cs)
+by_mark : (c : ℕ) (cs : List ℕ) (mark : Bool) → (c == 65279) ≡ mark
+    → cond mark 3 0 + byte_count (cond mark cs (c ∷ cs)) ≡ byte_count (c ∷ cs)
 by_mark c cs true is =
     let three = mark_bytes c is in
     omega (arith, three, one_more c cs)
@@ -80,5 +84,6 @@ scan_in_order bytes (Ok tokens) is =
     let all : (start_of text).index + byte_count (unmarked text) ≡ length bytes = unmarked_bytes text ∙ whole in
     let order = tokens_in_order [] (start_of text) (unmarked text) tokens is.tokens_are in
     let before : 0 ≤ (start_of text).index = omega arith in
-    earlier 0 (start_of text).index (length bytes) tokens before (subst (λ (until : ℕ). AreInOrder (start_of text).index until tokens) all order)
+    earlier 0 (start_of text).index (length bytes) tokens before
+    (subst (λ (until : ℕ). AreInOrder (start_of text).index until tokens) all order)
 scan_in_order bytes (Err fault) is = tt

@@ -13,4 +13,5 @@ unit_more context c rest =
 -- the text has this many characters up to the one that closes, that included, and no bad escape among them
 pub data Encloses (context : Context) (close : ℕ) : List ℕ → ℕ → Type 0 where
   at_close : (c : ℕ) (cs : List ℕ) → (c == close) ≡ true → Encloses context close (c ∷ cs) 1
-  one_more : (c more n : ℕ) (cs : List ℕ) → (c == close) ≡ false → unit_more context c cs ≡ Some more → Encloses context close (drop more cs) n → Encloses context close (c ∷ cs) (1 + more + n)
+  one_more : (c more n : ℕ) (cs : List ℕ) → (c == close) ≡ false → unit_more context c cs ≡ Some more
+      → Encloses context close (drop more cs) n → Encloses context close (c ∷ cs) (1 + more + n)

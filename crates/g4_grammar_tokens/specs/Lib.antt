@@ -1,3 +1,5 @@
+-- Other crates cite Answers, Characters, Comments, Enclosed, Ends, Nesting, Pieces, Positions, Scanning, Spelling, Statements;
+-- only this crate cites Readings, Spans.
 pub mod Answers
 pub mod Characters
 pub mod Comments

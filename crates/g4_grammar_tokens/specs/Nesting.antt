@@ -47,8 +47,10 @@ whole c rest = if c == 34 || c == 39 then quoted c rest else (if c == 47 then co
 -- texts and comments are passed over whole
 pub data Nests (opening closing : ℕ) : List ℕ → ℕ → Type 0 where
   closed : (c : ℕ) (cs : List ℕ) → (c == closing) ≡ true → Nests opening closing (c ∷ cs) 1
-  nested : (c n m : ℕ) (cs : List ℕ) → (c == closing) ≡ false → (c == opening) ≡ true → Nests opening closing cs n → Nests opening closing (drop n cs) m → Nests opening closing (c ∷ cs) (1 + n + m)
-  passed : (c n : ℕ) (cs : List ℕ) → (c == closing) ≡ false → (c == opening) ≡ false → Nests opening closing (drop (whole c cs) cs) n → Nests opening closing (c ∷ cs) (1 + whole c cs + n)
+  nested : (c n m : ℕ) (cs : List ℕ) → (c == closing) ≡ false → (c == opening) ≡ true → Nests opening closing cs n
+      → Nests opening closing (drop n cs) m → Nests opening closing (c ∷ cs) (1 + n + m)
+  passed : (c n : ℕ) (cs : List ℕ) → (c == closing) ≡ false → (c == opening) ≡ false → Nests opening closing (drop (whole c cs) cs) n
+      → Nests opening closing (c ∷ cs) (1 + whole c cs + n)
 
 -- the character closes, and nothing is open inside
 abbrev pub closes : ℕ → ℕ → ℕ → Bool

@@ -49,7 +49,8 @@ closed_piece action more = Formed Action more
 -- the piece that begins so, given what follows its first character: it is faulty if nothing closes it
 pub data IsPiece : Opening → List ℕ → Piece → Type 0 where
   at_once : (piece : Piece) (rest : List ℕ) → IsPiece (decided piece) rest piece
-  with_end : (closing : Closing) (rest : List ℕ) (more : ℕ) → IsEnd closing rest more → IsPiece (up_to closing) rest (closed_piece closing more)
+  with_end : (closing : Closing) (rest : List ℕ) (more : ℕ) → IsEnd closing rest more
+      → IsPiece (up_to closing) rest (closed_piece closing more)
   endless : (closing : Closing) (rest : List ℕ) → ((more : ℕ) → IsEnd closing rest more → ⊥) → IsPiece (up_to closing) rest Faulty
 
 -- a comment, or a stray `/`, decided by what follows the `/`

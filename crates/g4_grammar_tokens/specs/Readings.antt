@@ -8,7 +8,13 @@ use Rattle.g4_grammar_tokens.specs.Statements.{Word, in_braces, in_body, rule_na
 
 -- all of it
 abbrev pub statement_of : List Word → Statement
-statement_of ws = record { named = rule_name ws; in_body = in_body ws; in_braces = in_braces ws; last = last_kind ws; names_braces = names_braces ws }
+statement_of ws = record {
+  named = rule_name ws;
+  in_body = in_body ws;
+  in_braces = in_braces ws;
+  last = last_kind ws;
+  names_braces = names_braces ws;
+}
 
 -- the name of the rule after one more token
 abbrev pub named_past : Statement → Kind → List ℕ → Named
@@ -29,7 +35,13 @@ body_open s kind = if s.in_braces then s.in_body else body_past kind s.in_body
 
 -- the statement after one more token
 abbrev pub statement_past : Statement → Kind → List ℕ → Statement
-statement_past s kind word = record { named = named_past s kind word; in_body = body_open s kind; in_braces = braces_past kind s.in_braces; last = kind; names_braces = braces_named s kind word }
+statement_past s kind word = record {
+  named = named_past s kind word;
+  in_body = body_open s kind;
+  in_braces = braces_past kind s.in_braces;
+  last = kind;
+  names_braces = braces_named s kind word;
+}
 
 -- brackets hold a set
 abbrev pub holds_sets : Statement → Bool

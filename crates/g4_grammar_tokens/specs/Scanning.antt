@@ -23,7 +23,8 @@ pub data AreTokens : List Word → Position → List ℕ → List Token → Type
   at_end : (words : List Word) (p : Position) → AreTokens words p [] []
   after_gap : (words : List Word) (p : Position) (c more : ℕ) (cs : List ℕ) (tokens : List Token) → PieceAt words c cs (Gap more) →
       AreTokens words (position_past p (c ∷ take more cs)) (drop more cs) tokens → AreTokens words p (c ∷ cs) tokens
-  with_token : (words : List Word) (p : Position) (c more : ℕ) (kind : Kind) (cs : List ℕ) (tokens : List Token) → PieceAt words c cs (Formed kind more) →
+  with_token : (words : List Word) (p : Position) (c more : ℕ) (kind : Kind) (cs : List ℕ) (tokens : List Token)
+      → PieceAt words c cs (Formed kind more) →
       AreTokens (record { kind = kind; characters = c ∷ take more cs } ∷ words) (position_past p (c ∷ take more cs)) (drop more cs) tokens →
       AreTokens words p (c ∷ cs) (token_at kind p (c ∷ take more cs) ∷ tokens)
 
@@ -33,7 +34,8 @@ pub data IsFaultyAt : List Word → Position → List ℕ → Position → Type 
   past_gap : (words : List Word) (p at : Position) (c more : ℕ) (cs : List ℕ) → PieceAt words c cs (Gap more) →
       IsFaultyAt words (position_past p (c ∷ take more cs)) (drop more cs) at → IsFaultyAt words p (c ∷ cs) at
   past_token : (words : List Word) (p at : Position) (c more : ℕ) (kind : Kind) (cs : List ℕ) → PieceAt words c cs (Formed kind more) →
-      IsFaultyAt (record { kind = kind; characters = c ∷ take more cs } ∷ words) (position_past p (c ∷ take more cs)) (drop more cs) at → IsFaultyAt words p (c ∷ cs) at
+      IsFaultyAt (record { kind = kind; characters = c ∷ take more cs } ∷ words) (position_past p (c ∷ take more cs)) (drop more cs)
+      at → IsFaultyAt words p (c ∷ cs) at
 
 -- the start of a text with this many bytes before it
 abbrev pub start_at : ℕ → Position

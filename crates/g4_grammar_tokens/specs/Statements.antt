@@ -39,7 +39,8 @@ is_list_word word = bytes_eq word (codes "tokens") || bytes_eq word (codes "chan
 
 -- a modifier of a rule
 abbrev pub is_modifier : List ℕ → Bool
-is_modifier word = ((bytes_eq word (codes "public") || bytes_eq word (codes "private")) || bytes_eq word (codes "protected")) || bytes_eq word (codes "fragment")
+is_modifier word = ((bytes_eq word (codes "public") || bytes_eq word (codes "private")) || bytes_eq word (codes "protected"))
+    || bytes_eq word (codes "fragment")
 
 -- a word that begins what follows a rule
 abbrev pub is_handler : List ℕ → Bool
@@ -120,7 +121,8 @@ begins_list inside body name word = is_list_word word && ((not inside && not bod
 abbrev pub names_braces : List Word → Bool
 names_braces [] = false
 names_braces (w ∷ ws) =
-    (is_lower w.kind && not (is_mark (last_kind ws))) && (begins_options (last_kind ws) (in_body ws) w.characters || begins_list (in_braces ws) (in_body ws) (rule_name ws) w.characters)
+    (is_lower w.kind && not (is_mark (last_kind ws)))
+    && (begins_options (last_kind ws) (in_body ws) w.characters || begins_list (in_braces ws) (in_body ws) (rule_name ws) w.characters)
 
 -- a `[` after these tokens begins a set: they end in the body of a rule with an upper-case name
 abbrev pub in_lexer_rule : List Word → Bool

@@ -11,7 +11,9 @@ use Rattle.g4_horn.specs.Chaining.{Says, IsWait, IsAmong, NoneWaitsFor, HasCome,
 use Rattle.g4_horn.proofs.Lists.{Contains-cons_cases, Contains-nil, Contains-from_slice_get}
 
 -- at first no number is known to follow, and all clauses are to be looked at
-pub at_first : (clauses : List Clause) (count : ℕ) (left : List Wait) (follows : List Bool) (waiting : List (Vec Wait Global)) (ready : List ℕ) → length follows ≡ count → ((number : ℕ) → Says follows number → ⊥) → length waiting ≡ count → All (λ ws. ws.items ≡ []) waiting → ready ≡ [] →
+pub at_first : (clauses : List Clause) (count : ℕ) (left : List Wait) (follows : List Bool) (waiting : List (Vec Wait Global))
+    (ready : List ℕ) → length follows ≡ count → ((number : ℕ) → Says follows number → ⊥) → length waiting ≡ count
+    → All (λ ws. ws.items ≡ []) waiting → ready ≡ [] →
     All (IsWait clauses) left → ((k : ℕ) → k < length clauses → IsAmong left k) → Known clauses count left follows waiting ready
 at_first clauses count left follows waiting ready follows_count none_said waiting_count none_waits none_ready are_waits each = record {
   follows_count = follows_count;
@@ -19,22 +21,28 @@ at_first clauses count left follows waiting ready follows_count none_said waitin
   sound = λ number said. absurd (none_said number said);
   are_ready = subst (All (Says follows)) (sym none_ready) (All-nil (Says follows));
   left_waits = are_waits;
-  other_waits = λ number ws at. subst (All (IsWait clauses)) (sym (All-contains (λ (v : Vec Wait Global). v.items ≡ []) waiting ws none_waits (Contains-from_slice_get waiting number ws at))) (All-nil (IsWait clauses));
+  other_waits = λ number ws at. subst (All (IsWait clauses))
+      (sym (All-contains (λ (v : Vec Wait Global). v.items ≡ []) waiting ws none_waits
+      (Contains-from_slice_get waiting number ws at))) (All-nil (IsWait clauses));
   empty = λ number said. absurd (none_said number said);
   come = λ index clause at. in_hand (each index (slice_get_within clauses index clause at));
 }
 
-module _ (clauses : List Clause) (count : ℕ) (follows : List Bool) (waiting : List (Vec Wait Global)) (known : Known clauses count [] follows waiting []) where
+module _ (clauses : List Clause) (count : ℕ) (follows : List Bool) (waiting : List (Vec Wait Global))
+    (known : Known clauses count [] follows waiting []) where
   -- no clause waits for a number that is known to follow
   none_waits : (number : ℕ) → Says follows number → NoneWaitsFor waiting number
   none_waits number said = elim (known.empty number said) [ inl ready ↦ absurd (Contains-nil number ready) | inr none ↦ none ]
 
   -- where all needs of a clause are known to follow, its head is
-  head_said : (index : ℕ) (clause : Clause) → ((need : ℕ) → Contains clause.needs.items need → Says follows need) → HasCome count [] follows waiting index clause → Says follows clause.head
+  head_said : (index : ℕ) (clause : Clause) → ((need : ℕ) → Contains clause.needs.items need → Says follows need)
+      → HasCome count [] follows waiting index clause → Says follows clause.head
   head_said index clause needs (in_hand (w, among, is)) = absurd (Contains-nil w among)
   head_said index clause needs (concluded said) = said
-  head_said index clause needs (blocked need has past) = absurd (omega (arith, past, slice_get_within follows need true (needs need has), known.follows_count))
-  head_said index clause needs (waits need has (ws, at, (w, among, is))) = absurd (Contains-nil w (subst (λ (v : List Wait). Contains v w) (none_waits need (needs need has) ws at) among))
+  head_said index clause needs (blocked need has past) =
+      absurd (omega (arith, past, slice_get_within follows need true (needs need has), known.follows_count))
+  head_said index clause needs (waits need has (ws, at, (w, among, is))) =
+      absurd (Contains-nil w (subst (λ (v : List Wait). Contains v w) (none_waits need (needs need has) ws at) among))
 
   mutual
     -- a number that follows is known to

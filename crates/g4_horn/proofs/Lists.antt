@@ -24,7 +24,8 @@ slice_get-set_same (y ∷ xs) zero x within = refl
 slice_get-set_same (y ∷ xs) (suc i) x within = slice_get-set_same xs i x (omega (arith, within))
 
 -- an item is the new one or an old one at another index
-pub slice_get-set_cases : {X : Type 0} (xs : List X) (i : ℕ) (x : X) (k : ℕ) (y : X) → slice_get (set xs i x) k ≡ Some y → ((k ≡ i) × (x ≡ y)) ⊎ ((k ≡ i → ⊥) × (slice_get xs k ≡ Some y))
+pub slice_get-set_cases : {X : Type 0} (xs : List X) (i : ℕ) (x : X) (k : ℕ) (y : X) → slice_get (set xs i x) k ≡ Some y
+    → ((k ≡ i) × (x ≡ y)) ⊎ ((k ≡ i → ⊥) × (slice_get xs k ≡ Some y))
 slice_get-set_cases [] i x k y at = inr (λ e. cc, at)
 slice_get-set_cases (z ∷ xs) zero x zero y at = inl (refl, same_Some x y at)
 slice_get-set_cases (z ∷ xs) zero x (suc k) y at = inr (λ e. omega (arith, e), at)
@@ -35,7 +36,8 @@ slice_get-set_cases (z ∷ xs) (suc i) x (suc k) y at = elim (slice_get-set_case
 ]
 
 -- an old item is replaced or still there
-pub slice_get-set_old : {X : Type 0} (xs : List X) (i : ℕ) (x : X) (k : ℕ) (y : X) → slice_get xs k ≡ Some y → ((k ≡ i) × (slice_get (set xs i x) k ≡ Some x)) ⊎ (slice_get (set xs i x) k ≡ Some y)
+pub slice_get-set_old : {X : Type 0} (xs : List X) (i : ℕ) (x : X) (k : ℕ) (y : X) → slice_get xs k ≡ Some y
+    → ((k ≡ i) × (slice_get (set xs i x) k ≡ Some x)) ⊎ (slice_get (set xs i x) k ≡ Some y)
 slice_get-set_old [] i x k y at = inr at
 slice_get-set_old (z ∷ xs) zero x zero y at = inl (refl, refl)
 slice_get-set_old (z ∷ xs) zero x (suc k) y at = inr at
@@ -60,10 +62,13 @@ not_said (false ∷ answers) zero within open_there = refl
 not_said (b ∷ answers) (suc k) within open_there = not_said answers k (omega (arith, within)) open_there
 
 -- one more answer is yes: one fewer is not
-pub one_fewer : (answers : List Bool) (k : ℕ) → k < length answers → (slice_get answers k ≡ Some true → ⊥) → count_by not (set answers k true) + 1 ≡ count_by not answers
+pub one_fewer : (answers : List Bool) (k : ℕ) → k < length answers → (slice_get answers k ≡ Some true → ⊥)
+    → count_by not (set answers k true) + 1 ≡ count_by not answers
 one_fewer answers k within open_there =
-    let sums : count_by not (set answers k true) + cond (not (get_or answers k true)) 1 0 ≡ count_by not answers + 0 = sum_by-set (λ (b : Bool). cond (not b) 1 0) answers k true true within in
-    let was : ◌≡◌ {A = ℕ} (cond (not (get_or answers k true)) 1 0) 1 = ap (λ (b : Bool). cond (not b) 1 0) (not_said answers k within open_there) in
+    let sums : count_by not (set answers k true) + cond (not (get_or answers k true)) 1 0 ≡ count_by not answers + 0 =
+    sum_by-set (λ (b : Bool). cond (not b) 1 0) answers k true true within in
+    let was : ◌≡◌ {A = ℕ} (cond (not (get_or answers k true)) 1 0) 1 =
+    ap (λ (b : Bool). cond (not b) 1 0) (not_said answers k within open_there) in
     omega (arith, sums, was)
 
 -- what is said stays said

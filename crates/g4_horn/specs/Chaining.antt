@@ -36,14 +36,16 @@ abbrev pub NoneWaitsFor : List (Vec Wait Global) → ℕ → Type 0
 NoneWaitsFor waiting number = (waits : Vec Wait Global) → slice_get waiting number ≡ Some waits → waits.items ≡ []
 
 -- What a clause has come to: it is one of these, its head follows, or one of its needs is past all numbers or waited for.
-pub data HasCome (count : ℕ) (left : List Wait) (follows : List Bool) (waiting : List (Vec Wait Global)) (index : ℕ) (clause : Clause) : Type 0 where
+pub data HasCome (count : ℕ) (left : List Wait) (follows : List Bool) (waiting : List (Vec Wait Global)) (index : ℕ)
+    (clause : Clause) : Type 0 where
   in_hand : IsAmong left index → HasCome count left follows waiting index clause
   concluded : Says follows clause.head → HasCome count left follows waiting index clause
   blocked : (need : ℕ) → Contains clause.needs.items need → count ≤ need → HasCome count left follows waiting index clause
   waits : (need : ℕ) → Contains clause.needs.items need → WaitsFor waiting index need → HasCome count left follows waiting index clause
 
 -- What is known of numbers below the count, while these waits are still to be looked at.
-pub record Known (clauses : List Clause) (count : ℕ) (left : List Wait) (follows : List Bool) (waiting : List (Vec Wait Global)) (ready : List ℕ) : Type 0 where
+pub record Known (clauses : List Clause) (count : ℕ) (left : List Wait) (follows : List Bool) (waiting : List (Vec Wait Global))
+    (ready : List ℕ) : Type 0 where
   pub follows_count : length follows ≡ count
   pub waiting_count : length waiting ≡ count
   pub sound : (number : ℕ) → Says follows number → Follows clauses number

@@ -5,7 +5,8 @@ use Rattle.g4_horn.specs.declared.clause.Clause.{Clause}
 mutual
   -- the number follows: it is the head of a clause whose needs all follow
   pub data Follows (clauses : List Clause) : ℕ → Type 0 where
-    by_clause : (number : ℕ) (clause : Clause) → Contains clauses clause → clause.head ≡ number → AllFollow clauses clause.needs.items → Follows clauses number
+    by_clause : (number : ℕ) (clause : Clause) → Contains clauses clause → clause.head ≡ number → AllFollow clauses clause.needs.items
+        → Follows clauses number
 
   -- each of the numbers follows
   pub data AllFollow (clauses : List Clause) : List ℕ → Type 0 where

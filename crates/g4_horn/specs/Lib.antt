@@ -1,2 +1,3 @@
+-- Other crates cite Follows; only this crate cites Chaining.
 pub mod Chaining
 pub mod Follows

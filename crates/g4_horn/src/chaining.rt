@@ -99,7 +99,8 @@ impl Chaining {
     fn advance(&mut self, clauses: &[Clause], wait: Wait) -> Result<(), AllocError>
         requires wait { IsWait clauses.now wait }
         requires heads { All (λ c. c.head < length self.old.follows.items) clauses.now }
-        ensures under_way { (count : ℕ) (left : List Waiting) → IsUnderWay clauses.now count (wait ∷ left) self.old → OnOk result (IsUnderWay clauses.now count left self.new) }
+        ensures under_way { (count : ℕ) (left : List Waiting) → IsUnderWay clauses.now count (wait ∷ left) self.old
+            → OnOk result (IsUnderWay clauses.now count left self.new) }
         ensures work { OnOk result (work_left self.new ≡ work_left self.old) }
         ensures count { length self.new.follows.items ≡ length self.old.follows.items }
     {
@@ -119,7 +120,8 @@ impl Chaining {
     fn advance_all(&mut self, clauses: &[Clause], waits: &[Wait]) -> Result<(), AllocError>
         requires waits { All (IsWait clauses.now) waits.now }
         requires heads { All (λ c. c.head < length self.old.follows.items) clauses.now }
-        ensures under_way { (count : ℕ) → IsUnderWay clauses.now count waits.now self.old → OnOk result (IsUnderWay clauses.now count [] self.new) }
+        ensures under_way { (count : ℕ) → IsUnderWay clauses.now count waits.now self.old
+            → OnOk result (IsUnderWay clauses.now count [] self.new) }
         ensures work { OnOk result (work_left self.new ≡ work_left self.old) }
         ensures count { length self.new.follows.items ≡ length self.old.follows.items }
     {
@@ -132,7 +134,8 @@ impl Chaining {
     /// The clauses that wait for a number that follows, if there is such a number still.
     fn next_waits(&mut self, alloc: Global) -> Option<Vec<Wait>>
         requires { All (λ k. k < length self.old.waiting.items) self.old.ready.items }
-        ensures under_way { IfSome result (λ waits. (clauses : List Definite) (count : ℕ) → IsUnderWay clauses count [] self.old → IsUnderWay clauses count waits.items self.new) }
+        ensures under_way { IfSome result (λ waits. (clauses : List Definite) (count : ℕ) → IsUnderWay clauses count [] self.old
+            → IsUnderWay clauses count waits.items self.new) }
         ensures work { OnSome result (work_left self.new + 1 ≡ work_left self.old) }
         ensures done { IfNone result (self.old.ready.items ≡ []) }
         ensures same { IfNone result (self.new.follows.items ≡ self.old.follows.items) }

@@ -22,9 +22,11 @@ record AddedLies (net : ParserNetwork) (set : List ℕ) (start s last n m : ℕ)
   after : m ≡ n + 5
 
 -- the numbers of the states as they are made
-added_lies : {net : ParserNetwork} (set : List ℕ) (start s n : ℕ) → state_at net s ≡ Some (Call start 0 n) → state_at net n ≡ Some (Decision ((n + 1) ∷ (((n + 1) + 1) + 1) ∷ [])) →
+added_lies : {net : ParserNetwork} (set : List ℕ) (start s n : ℕ) → state_at net s ≡ Some (Call start 0 n)
+    → state_at net n ≡ Some (Decision ((n + 1) ∷ (((n + 1) + 1) + 1) ∷ [])) →
     state_at net (n + 1) ≡ Some (Edge set ((n + 1) + 1)) → state_at net ((n + 1) + 1) ≡ Some (Empty n) →
-    state_at net (((n + 1) + 1) + 1) ≡ Some (Edge (end_of_list ∷ []) ((((n + 1) + 1) + 1) + 1)) → AddedLies net set start s ((((n + 1) + 1) + 1) + 1) n (((((n + 1) + 1) + 1) + 1) + 1)
+    state_at net (((n + 1) + 1) + 1) ≡ Some (Edge (end_of_list ∷ []) ((((n + 1) + 1) + 1) + 1))
+    → AddedLies net set start s ((((n + 1) + 1) + 1) + 1) n (((((n + 1) + 1) + 1) + 1) + 1)
 added_lies {net} set start s n called decides takes back leaves =
     let two : (n + 1) + 1 ≡ n + 2 = omega arith in
     let three : ((n + 1) + 1) + 1 ≡ n + 3 = omega arith in
@@ -42,10 +44,13 @@ added_lies {net} set start s n called decides takes back leaves =
 
 -- the elements of the added rule, by the table of forms
 in_order_added : {net : ParserNetwork} {set : List ℕ} {start s n last m : ℕ} →
-    LieInOrder net (then (atom (steps.Call start 0)) (then (block None any_number (or (then (atom (steps.Edge set)) empty) none)) (then (atom (steps.Edge (end_of_list ∷ []))) empty))) s last n m →
+    LieInOrder net (then (atom (steps.Call start 0))
+    (then (block None any_number (or (then (atom (steps.Edge set)) empty) none))
+    (then (atom (steps.Edge (end_of_list ∷ []))) empty))) s last n m →
     AddedLies net set start s last n m
 in_order_added (one_more _ _ s _ _ _ _ _ (a_call start _ _ n called)
-    (one_more _ _ _ _ _ _ _ _ (a_star _ _ _ _ _ _ _ _ decides (another _ _ _ _ _ _ _ _ (one_more _ _ _ _ _ _ _ _ (an_edge set _ _ takes) (no_more _ _)) (no_other _)) back)
+    (one_more _ _ _ _ _ _ _ _ (a_star _ _ _ _ _ _ _ _ decides
+    (another _ _ _ _ _ _ _ _ (one_more _ _ _ _ _ _ _ _ (an_edge set _ _ takes) (no_more _ _)) (no_other _)) back)
     (one_more _ _ _ _ _ _ _ _ (an_edge _ _ _ leaves) (no_more _ _)))) = added_lies set start s n called decides takes back.0 leaves
 
 -- one alternative begins at the start of its rule
@@ -55,7 +60,8 @@ of_only (of_one rule last n m x l leads) = (last, l, leads)
 of_only (of_several rule n m xs firsts lasts two is l a) = let one = one_first l in absurd (omega arith)
 
 -- the added rule, whose states after the heads of the rules are the five from n on
-pub added_at : {net : ParserNetwork} {set : List ℕ} {start n m : ℕ} → LiesAsRule net 0 (added_rule set start) n m → state_at net 1 ≡ Some (End 0) → HasAddedRule net start n set × (m ≡ n + 5)
+pub added_at : {net : ParserNetwork} {set : List ℕ} {start n m : ℕ} → LiesAsRule net 0 (added_rule set start) n m
+    → state_at net 1 ≡ Some (End 0) → HasAddedRule net start n set × (m ≡ n + 5)
 added_at {net} l end_is =
     let o = of_only l in let a = in_order_added o.1 in (
       record {

@@ -22,9 +22,11 @@ own_test true rule t more e = (0, omega arith, refl)
 own_test false rule t more e = absurd (grind (arith, nat_tests))
 
 -- what one test leaves
-tested : (b : Bool) (called back rule t : ℕ) (more : List ℕ) → (called == rule) ≡ b → Contains (cons_option (cond b (Some back) None) more) t →
+tested : (b : Bool) (called back rule t : ℕ) (more : List ℕ) → (called == rule) ≡ b
+    → Contains (cons_option (cond b (Some back) None) more) t →
     ((called ≡ rule) × (back ≡ t)) ⊎ Contains more t
-tested true called back rule t more e h = elim (member_cases back more t h) [ inl same ↦ inl (grind (arith, nat_tests), sym same) | inr old ↦ inr old ]
+tested true called back rule t more e h = elim (member_cases back more t h)
+    [ inl same ↦ inl (grind (arith, nat_tests), sym same) | inr old ↦ inr old ]
 tested false called back rule t more e h = inr h
 
 module _ {L : Type 0} where
@@ -33,7 +35,8 @@ module _ {L : Type 0} where
   same_call s called level back rule t is e f = cc
 
   -- a return state is that of the state, or of those after it
-  first_or_more : (s : State L) (rule t : ℕ) (more : List ℕ) → Contains (cons_option (return_of rule s) more) t → ((k : ℕ) × (s ≡ Call rule k t)) ⊎ Contains more t
+  first_or_more : (s : State L) (rule t : ℕ) (more : List ℕ) → Contains (cons_option (return_of rule s) more) t
+      → ((k : ℕ) × (s ≡ Call rule k t)) ⊎ Contains more t
   first_or_more (Decision targets) rule t more h = inr h
   first_or_more (End ended) rule t more h = inr h
   first_or_more (Edge label u) rule t more h = inr h
@@ -47,7 +50,8 @@ module _ {L : Type 0} where
   first_or_more (Empty u) rule t more h = inr h
 
   -- each return state is that of a call
-  pub calls_of_returns : (states : List (State L)) (rule t : ℕ) → Contains (returns_of states rule) t → (q level : ℕ) × (slice_get states q ≡ Some (Call rule level t))
+  pub calls_of_returns : (states : List (State L)) (rule t : ℕ) → Contains (returns_of states rule) t
+      → (q level : ℕ) × (slice_get states q ≡ Some (Call rule level t))
   calls_of_returns [] rule t h = absurd (omega (arith, h.1))
   calls_of_returns (s ∷ states) rule t h = elim (first_or_more s rule t (returns_of states rule) h) [
     | inl is ↦ (0, is.0, ap Some is.1)
@@ -55,26 +59,32 @@ module _ {L : Type 0} where
   ]
 
   -- and each call's is one
-  pub returns_of_calls : (states : List (State L)) (rule t q level : ℕ) → slice_get states q ≡ Some (Call rule level t) → Contains (returns_of states rule) t
+  pub returns_of_calls : (states : List (State L)) (rule t q level : ℕ) → slice_get states q ≡ Some (Call rule level t)
+      → Contains (returns_of states rule) t
   returns_of_calls [] rule t q level is = absurd (let n : ⊥ = cc in n)
   returns_of_calls (s ∷ states) rule t zero level is =
       let same : Call rule level t ≡ s = cc in
-      subst (λ (x : State L). Contains (cons_option (return_of rule x) (returns_of states rule)) t) same (own_test (rule == rule) rule t (returns_of states rule) refl)
-  returns_of_calls (s ∷ states) rule t (suc q) level is = after_first (return_of rule s) (returns_of states rule) t (returns_of_calls states rule t q level is)
+      subst (λ (x : State L). Contains (cons_option (return_of rule x) (returns_of states rule)) t) same
+      (own_test (rule == rule) rule t (returns_of states rule) refl)
+  returns_of_calls (s ∷ states) rule t (suc q) level is =
+      after_first (return_of rule s) (returns_of states rule) t (returns_of_calls states rule t q level is)
 
   -- there is a list of callers for each rule
   pub callers_length : (states : List (State L)) (count : ℕ) → length (callers_of states count) ≡ count
   callers_length states count = length-map-range_with_len (returns_of states) 0 count
 
   -- the list of a rule
-  pub callers_at : (states : List (State L)) (count rule : ℕ) (listed : List ℕ) → slice_get (callers_of states count) rule ≡ Some listed → listed ≡ returns_of states rule
+  pub callers_at : (states : List (State L)) (count rule : ℕ) (listed : List ℕ)
+      → slice_get (callers_of states count) rule ≡ Some listed → listed ≡ returns_of states rule
   callers_at states count rule listed is =
       let size = callers_length states count in
       let within = slice_get_within (callers_of states count) rule listed is in
-      sym (get_or_from_slice_get (callers_of states count) rule listed [] is) ∙ get_or-map-range_with_len (returns_of states) 0 count rule rule [] (omega arith) (omega arith)
+      sym (get_or_from_slice_get (callers_of states count) rule listed [] is)
+      ∙ get_or-map-range_with_len (returns_of states) 0 count rule rule [] (omega arith) (omega arith)
 
   -- the callers listed of a rule are the return states of its calls
-  pub callers_are_returns : (net : Network L) (count rule t : ℕ) (listed : List ℕ) → slice_get (callers_of net.states count) rule ≡ Some listed → Contains listed t ↔ IsReturn net rule t
+  pub callers_are_returns : (net : Network L) (count rule t : ℕ) (listed : List ℕ)
+      → slice_get (callers_of net.states count) rule ≡ Some listed → Contains listed t ↔ IsReturn net rule t
   callers_are_returns net count rule t listed is =
       let same = callers_at net.states count rule listed is in (
         λ h. calls_of_returns net.states rule t (subst (λ (xs : List ℕ). Contains xs t) same h),

@@ -44,11 +44,13 @@ only_member : (x y : ℕ) → Contains (x ∷ []) y → y ≡ x
 only_member x y h = elim (member_cases x [] y h) [ inl same ↦ same | inr more ↦ absurd (omega (arith, more.1)) ]
 
 -- no alternative derives nothing
-some_nullable : {A : Type 0} {Reads : A → List ℕ → Type 0} {Calls : A → ℕ → Type 0} {rules : List (Alternatives A)} {xs : Alternatives A} → OneNullable Reads Calls rules xs → xs ≡ none → ⊥
+some_nullable : {A : Type 0} {Reads : A → List ℕ → Type 0} {Calls : A → ℕ → Type 0} {rules : List (Alternatives A)}
+    {xs : Alternatives A} → OneNullable Reads Calls rules xs → xs ≡ none → ⊥
 some_nullable (this x xs d) e = let k : ⊥ = cc in k
 some_nullable (another x xs d) e = let k : ⊥ = cc in k
 
-module _ {L : Type 0} (Takes : L → ℕ → Type 0) (rules : List (Alternatives (Step L))) (net : Network L) (network : IsNetworkOf rules net) (i : ℕ) where
+module _ {L : Type 0} (Takes : L → ℕ → Type 0) (rules : List (Alternatives (Step L))) (net : Network L)
+    (network : IsNetworkOf rules net) (i : ℕ) where
   -- what steps read
   abbrev Reads : Step L → List ℕ → Type 0
   Reads = ReadsStep Takes
@@ -63,7 +65,8 @@ module _ {L : Type 0} (Takes : L → ℕ → Type 0) (rules : List (Alternatives
   Goes returns p q = Reaches net (bottomed p i returns) (bottomed q i returns)
 
   -- a step of a state whose edges are known
-  step_by : (p : ℕ) (o : Option (State L)) → state_at net p ≡ o → (returns : List ℕ) (d : Config) → LeadsBy net o (bottomed p i returns) d → Leads net (bottomed p i returns) d
+  step_by : (p : ℕ) (o : Option (State L)) → state_at net p ≡ o → (returns : List ℕ) (d : Config)
+      → LeadsBy net o (bottomed p i returns) d → Leads net (bottomed p i returns) d
   step_by p o is returns d l = subst (λ (s : Option (State L)). LeadsBy net s (bottomed p i returns) d) (sym is) l
 
   -- one step
@@ -71,7 +74,8 @@ module _ {L : Type 0} (Takes : L → ℕ → Type 0) (rules : List (Alternatives
   one_step {c} {d} l = further c d here l
 
   -- an edge of a decision
-  decide : (returns : List ℕ) (p q : ℕ) (targets : List ℕ) → state_at net p ≡ Some (Decision targets) → Contains targets q → Leads net (bottomed p i returns) (bottomed q i returns)
+  decide : (returns : List ℕ) (p q : ℕ) (targets : List ℕ) → state_at net p ≡ Some (Decision targets) → Contains targets q
+      → Leads net (bottomed p i returns) (bottomed q i returns)
   decide returns p q targets is h = step_by p (Some (Decision targets)) is returns (bottomed q i returns) (q, h, refl)
 
   -- an empty edge
@@ -80,11 +84,14 @@ module _ {L : Type 0} (Takes : L → ℕ → Type 0) (rules : List (Alternatives
 
   mutual
     -- leading goes through an element that derives the empty word
-    pub through : {x : Element (Step L)} {s t n m : ℕ} → Nullable Reads CallsRule rules x → Lies net x s t n m → (returns : List ℕ) → Goes returns s t
+    pub through : {x : Element (Step L)} {s t n m : ℕ} → Nullable Reads CallsRule rules x → Lies net x s t n m → (returns : List ℕ)
+        → Goes returns s t
     through (an_atom _ reads) (lay.an_edge label s n is) returns = absurd (let e = reads.2 in let k : ⊥ = cc in k)
     through (a_call _ _ _ called at h) (lay.an_edge label s n is) returns = absurd called
-    through (an_atom _ reads) (lay.a_predicate k s n is) returns = one_step (step_by s (Some (Predicate k n)) is returns (bottomed n i returns) refl)
-    through (an_atom _ reads) (lay.a_level q s n is) returns = one_step (step_by s (Some (Level q n)) is returns (bottomed n i returns) refl)
+    through (an_atom _ reads) (lay.a_predicate k s n is) returns =
+        one_step (step_by s (Some (Predicate k n)) is returns (bottomed n i returns) refl)
+    through (an_atom _ reads) (lay.a_level q s n is) returns =
+        one_step (step_by s (Some (Level q n)) is returns (bottomed n i returns) refl)
     through (a_call _ _ _ called at h) (lay.a_predicate k s n is) returns = absurd called
     through (a_call _ _ _ called at h) (lay.a_level q s n is) returns = absurd called
     through (a_call _ _ _ called at h) (lay.an_action s n is) returns = absurd called
@@ -96,7 +103,8 @@ module _ {L : Type 0} (Takes : L → ℕ → Type 0) (rules : List (Alternatives
         let found_at : slice_get rules rule ≡ Some xs = subst (λ (q : ℕ). slice_get rules q ≡ Some xs) called at in
         let r = rule_laid rules net network rule (slice_get_within rules rule xs found_at) in
         let found = r.is in let same : r.alternatives ≡ xs = cc in
-        let inside = rule_through h (subst (λ (ys : Alternatives (Step L)). LiesAsRule net rule ys r.from r.upto) same r.lies) (n ∷ returns) in
+        let inside = rule_through h (subst (λ (ys : Alternatives (Step L)). LiesAsRule net rule ys r.from r.upto) same r.lies)
+        (n ∷ returns) in
         further (bottomed (end_of rule) i (n ∷ returns)) (bottomed n i returns)
         (reach_then (one_step (step_by s (Some (Call rule level n)) is returns (bottomed (start_of rule) i (n ∷ returns)) refl)) inside)
         (step_by (end_of rule) (Some (End rule)) r.last (n ∷ returns) (bottomed n i returns) refl)
@@ -105,8 +113,11 @@ module _ {L : Type 0} (Takes : L → ℕ → Type 0) (rules : List (Alternatives
     through (a_block _ _ h) (lay.a_block name xs firsts lasts s n m two is l a) returns =
         let b = body_through h l m a in reach_then (one_step (decide returns s b.0 firsts is b.1)) (b.2 returns)
     through (an_optional _ _ _) (lay.an_optional name sign xs firsts lasts s n m is l a exit) returns =
-        further (bottomed m i returns) (bottomed (m + 1) i returns) (one_step (decide returns s m (with_exit sign.greedy firsts m) is (exit_edge sign.greedy firsts m))) (pass returns m (m + 1) exit)
-    through (a_star _ _ _) (lay.a_star name sign xs firsts lasts s n m is l a) returns = one_step (decide returns s m (with_exit sign.greedy firsts m) is (exit_edge sign.greedy firsts m))
+        further (bottomed m i returns) (bottomed (m + 1) i returns)
+        (one_step (decide returns s m (with_exit sign.greedy firsts m) is (exit_edge sign.greedy firsts m)))
+        (pass returns m (m + 1) exit)
+    through (a_star _ _ _) (lay.a_star name sign xs firsts lasts s n m is l a) returns =
+        one_step (decide returns s m (with_exit sign.greedy firsts m) is (exit_edge sign.greedy firsts m))
     through (a_plus _ _ _ h) (lay.a_plus_of_one name sign xs first lasts s n m is l a more) returns =
         let b = body_through h l m a in
         further (bottomed m i returns) (bottomed (m + 1) i returns)
@@ -119,27 +130,39 @@ module _ {L : Type 0} (Takes : L → ℕ → Type 0) (rules : List (Alternatives
         (decide returns m (m + 1) (with_exit sign.greedy firsts (m + 1)) more (exit_edge sign.greedy firsts (m + 1)))
 
     -- through elements one after another
-    pub in_order_through : {xs : Elements (Step L)} {s t n m : ℕ} → AllNullable Reads CallsRule rules xs → LieInOrder net xs s t n m → (returns : List ℕ) → Goes returns s t
+    pub in_order_through : {xs : Elements (Step L)} {s t n m : ℕ} → AllNullable Reads CallsRule rules xs → LieInOrder net xs s t n m
+        → (returns : List ℕ) → Goes returns s t
     in_order_through nothing (lay.no_more s n) returns = here
-    in_order_through (one_more _ _ d ds) (lay.one_more x xs s mid t n k m l ls) returns = reach_then (through d l returns) (in_order_through ds ls returns)
+    in_order_through (one_more _ _ d ds) (lay.one_more x xs s mid t n k m l ls) returns =
+        reach_then (through d l returns) (in_order_through ds ls returns)
 
     -- through one of some bodies
-    pub body_through : {xs : Alternatives (Step L)} {firsts lasts : List ℕ} {n m : ℕ} → OneNullable Reads CallsRule rules xs → LieSideBySide net xs firsts lasts n m → (u : ℕ) → AllLeadTo net lasts u →
+    pub body_through : {xs : Alternatives (Step L)} {firsts lasts : List ℕ} {n m : ℕ} → OneNullable Reads CallsRule rules xs
+        → LieSideBySide net xs firsts lasts n m → (u : ℕ) → AllLeadTo net lasts u →
         (f : ℕ) × Contains firsts f × ((returns : List ℕ) → Goes returns f u)
-    body_through (this _ _ d) (lay.another x xs last n k m firsts lasts l ls) u a =
-        (n, (0, omega arith, refl), λ returns. further (bottomed last i returns) (bottomed u i returns) (in_order_through d l returns) (pass returns last u a.0))
-    body_through (another _ _ d) (lay.another x xs last n k m firsts lasts l ls) u a = let b = body_through d ls u a.1 in (b.0, later n firsts b.0 b.1, b.2)
+    body_through (this _ _ d) (lay.another x xs last n k m firsts lasts l ls) u a = (
+      n,
+      (0, omega arith, refl),
+      λ returns. further (bottomed last i returns) (bottomed u i returns) (in_order_through d l returns)
+          (pass returns last u a.0),
+    )
+    body_through (another _ _ d) (lay.another x xs last n k m firsts lasts l ls) u a = let b = body_through d ls u a.1 in
+        (b.0, later n firsts b.0 b.1, b.2)
 
     -- through a rule
-    pub rule_through : {xs : Alternatives (Step L)} {rule n m : ℕ} → OneNullable Reads CallsRule rules xs → LiesAsRule net rule xs n m → (returns : List ℕ) → Goes returns (start_of rule) (end_of rule)
+    pub rule_through : {xs : Alternatives (Step L)} {rule n m : ℕ} → OneNullable Reads CallsRule rules xs → LiesAsRule net rule xs n m
+        → (returns : List ℕ) → Goes returns (start_of rule) (end_of rule)
     rule_through (this _ _ d) (of_one rule last n m x l leads) returns =
-        further (bottomed last i returns) (bottomed (end_of rule) i returns) (in_order_through d l returns) (pass returns last (end_of rule) leads)
+        further (bottomed last i returns) (bottomed (end_of rule) i returns) (in_order_through d l returns)
+        (pass returns last (end_of rule) leads)
     rule_through (another _ _ d) (of_one rule last n m x l leads) returns = absurd (some_nullable d refl)
     rule_through (this _ _ d) (of_several rule n m _ _ _ two is (lay.another x xs last _ k _ firsts lasts l ls) a) returns =
         further (bottomed last i returns) (bottomed (end_of rule) i returns)
-        (reach_then (one_step (decide returns (start_of rule) n (n ∷ firsts) is (0, omega arith, refl))) (in_order_through d l returns)) (pass returns last (end_of rule) a.0)
+        (reach_then (one_step (decide returns (start_of rule) n (n ∷ firsts) is (0, omega arith, refl)))
+        (in_order_through d l returns)) (pass returns last (end_of rule) a.0)
     rule_through (another _ _ d) (of_several rule n m _ _ _ two is (lay.another x xs last _ k _ firsts lasts l ls) a) returns =
-        let b = body_through d ls (end_of rule) a.1 in reach_then (one_step (decide returns (start_of rule) b.0 (n ∷ firsts) is (later n firsts b.0 b.1))) (b.2 returns)
+        let b = body_through d ls (end_of rule) a.1 in
+        reach_then (one_step (decide returns (start_of rule) b.0 (n ∷ firsts) is (later n firsts b.0 b.1))) (b.2 returns)
 
   -- the state leads to the rule's start
   abbrev Leaves : List ℕ → ℕ → ℕ → Type 0
@@ -151,11 +174,15 @@ module _ {L : Type 0} (Takes : L → ℕ → Type 0) (rules : List (Alternatives
 
   mutual
     -- an element's first state leads to what is called before anything is read
-    pub first_calls : (j : ℕ) {x : Element (Step L)} {s t n m : ℕ} → Lies net x s t n m → IsLeftOf Reads CallsRule rules x j → (returns : List ℕ) → Leaves returns s j
+    pub first_calls : (j : ℕ) {x : Element (Step L)} {s t n m : ℕ} → Lies net x s t n m → IsLeftOf Reads CallsRule rules x j
+        → (returns : List ℕ) → Leaves returns s j
     first_calls j (lay.an_edge label s n is) h returns = absurd h
     first_calls j (lay.a_call rule level s n is) h returns =
-        subst (λ (k : ℕ). Leaves returns s k) (sym h)
-        (n ∷ returns, once (bottomed (start_of rule) i (n ∷ returns)) (step_by s (Some (Call rule level n)) is returns (bottomed (start_of rule) i (n ∷ returns)) refl))
+        subst (λ (k : ℕ). Leaves returns s k) (sym h) (
+          n ∷ returns,
+          once (bottomed (start_of rule) i (n ∷ returns))
+              (step_by s (Some (Call rule level n)) is returns (bottomed (start_of rule) i (n ∷ returns)) refl),
+        )
     first_calls j (lay.a_predicate k s n is) h returns = absurd h
     first_calls j (lay.a_level q s n is) h returns = absurd h
     first_calls j (lay.an_action s n is) h returns = absurd h
@@ -165,33 +192,41 @@ module _ {L : Type 0} (Takes : L → ℕ → Type 0) (rules : List (Alternatives
     first_calls j (lay.a_block name xs firsts lasts s n m two is l a) h returns =
         let b = body_calls j l h in calls_after returns s b.0 j (one_step (decide returns s b.0 firsts is b.1)) (b.2 returns)
     first_calls j (lay.an_optional name sign xs firsts lasts s n m is l a exit) h returns =
-        let b = body_calls j l h in calls_after returns s b.0 j (one_step (decide returns s b.0 (with_exit sign.greedy firsts m) is (body_edge sign.greedy firsts m b.0 b.1))) (b.2 returns)
+        let b = body_calls j l h in calls_after returns s b.0 j
+        (one_step (decide returns s b.0 (with_exit sign.greedy firsts m) is (body_edge sign.greedy firsts m b.0 b.1))) (b.2 returns)
     first_calls j (lay.a_star name sign xs firsts lasts s n m is l a) h returns =
-        let b = body_calls j l h in calls_after returns s b.0 j (one_step (decide returns s b.0 (with_exit sign.greedy firsts m) is (body_edge sign.greedy firsts m b.0 b.1))) (b.2 returns)
+        let b = body_calls j l h in calls_after returns s b.0 j
+        (one_step (decide returns s b.0 (with_exit sign.greedy firsts m) is (body_edge sign.greedy firsts m b.0 b.1))) (b.2 returns)
     first_calls j (lay.a_plus_of_one name sign xs first lasts s n m is l a more) h returns =
-        let b = body_calls j l h in calls_after returns s first j (one_step (pass returns s first is)) (subst (λ (f : ℕ). Leaves returns f j) (only_member first b.0 b.1) (b.2 returns))
+        let b = body_calls j l h in calls_after returns s first j (one_step (pass returns s first is))
+        (subst (λ (f : ℕ). Leaves returns f j) (only_member first b.0 b.1) (b.2 returns))
     first_calls j (lay.a_plus name sign xs firsts lasts s n m two is l a more) h returns =
         let b = body_calls j l h in calls_after returns s b.0 j (one_step (decide returns s b.0 firsts is b.1)) (b.2 returns)
 
     -- the same of elements one after another
-    pub in_order_calls : (j : ℕ) {xs : Elements (Step L)} {s t n m : ℕ} → LieInOrder net xs s t n m → IsLeftOfAll Reads CallsRule rules xs j → (returns : List ℕ) → Leaves returns s j
+    pub in_order_calls : (j : ℕ) {xs : Elements (Step L)} {s t n m : ℕ} → LieInOrder net xs s t n m
+        → IsLeftOfAll Reads CallsRule rules xs j → (returns : List ℕ) → Leaves returns s j
     in_order_calls j (lay.no_more s n) h returns = absurd h
     in_order_calls j (lay.one_more x xs s mid t n k m l ls) (inl h) returns = first_calls j l h returns
-    in_order_calls j (lay.one_more x xs s mid t n k m l ls) (inr h) returns = calls_after returns s mid j (through h.0 l returns) (in_order_calls j ls h.1 returns)
+    in_order_calls j (lay.one_more x xs s mid t n k m l ls) (inr h) returns =
+        calls_after returns s mid j (through h.0 l returns) (in_order_calls j ls h.1 returns)
 
     -- and of bodies
-    pub body_calls : (j : ℕ) {xs : Alternatives (Step L)} {firsts lasts : List ℕ} {n m : ℕ} → LieSideBySide net xs firsts lasts n m → IsLeftOfOne Reads CallsRule rules xs j →
+    pub body_calls : (j : ℕ) {xs : Alternatives (Step L)} {firsts lasts : List ℕ} {n m : ℕ} → LieSideBySide net xs firsts lasts n m
+        → IsLeftOfOne Reads CallsRule rules xs j →
         (f : ℕ) × Contains firsts f × ((returns : List ℕ) → Leaves returns f j)
     body_calls j (lay.no_other n) h = absurd h
     body_calls j (lay.another x xs last n k m firsts lasts l ls) (inl h) = (n, (0, omega arith, refl), in_order_calls j l h)
     body_calls j (lay.another x xs last n k m firsts lasts l ls) (inr h) = let b = body_calls j ls h in (b.0, later n firsts b.0 b.1, b.2)
 
   -- a rule's start leads to the start of each rule that it calls before anything is read
-  rule_calls : (j : ℕ) {xs : Alternatives (Step L)} {rule n m : ℕ} → LiesAsRule net rule xs n m → IsLeftOfOne Reads CallsRule rules xs j → (returns : List ℕ) → Leaves returns (start_of rule) j
+  rule_calls : (j : ℕ) {xs : Alternatives (Step L)} {rule n m : ℕ} → LiesAsRule net rule xs n m
+      → IsLeftOfOne Reads CallsRule rules xs j → (returns : List ℕ) → Leaves returns (start_of rule) j
   rule_calls j (of_one rule last n m x l leads) (inl h) returns = in_order_calls j l h returns
   rule_calls j (of_one rule last n m x l leads) (inr h) returns = absurd h
   rule_calls j (of_several rule n m xs firsts lasts two is l a) h returns =
-      let b = body_calls j l h in calls_after returns (start_of rule) b.0 j (one_step (decide returns (start_of rule) b.0 firsts is b.1)) (b.2 returns)
+      let b = body_calls j l h in calls_after returns (start_of rule) b.0 j
+      (one_step (decide returns (start_of rule) b.0 firsts is b.1)) (b.2 returns)
 
   -- one left call
   left_call : (k j : ℕ) → LeftCalls Reads CallsRule rules k j → (returns : List ℕ) → Leaves returns (start_of k) j
@@ -216,10 +251,15 @@ module _ {L : Type 0} (Takes : L → ℕ → Type 0) (rules : List (Alternatives
   ComesBack = (p : ℕ) × LeadsOn net (bottomed p i []) (bottomed p i [])
 
   -- from a loop's decision through a body and back
-  around : {xs : Alternatives (Step L)} {firsts lasts : List ℕ} {n m : ℕ} (greedy : Bool) (u exit : ℕ) → LieSideBySide net xs firsts lasts n m → AllLeadTo net lasts u →
+  around : {xs : Alternatives (Step L)} {firsts lasts : List ℕ} {n m : ℕ} (greedy : Bool) (u exit : ℕ)
+      → LieSideBySide net xs firsts lasts n m → AllLeadTo net lasts u →
       state_at net u ≡ Some (Decision (with_exit greedy firsts exit)) → OneNullable Reads CallsRule rules xs → ComesBack
   around {firsts = firsts} greedy u exit l a is h =
-      let b = body_through h l u a in (u, step_then (decide [] u b.0 (with_exit greedy firsts exit) is (body_edge greedy firsts exit b.0 b.1)) (b.2 []))
+      let b = body_through h l u a in (
+        u,
+        step_then
+            (decide [] u b.0 (with_exit greedy firsts exit) is (body_edge greedy firsts exit b.0 b.1)) (b.2 []),
+      )
 
   mutual
     -- an element with a loop whose body derives the empty word comes back to a state
@@ -234,36 +274,44 @@ module _ {L : Type 0} (Takes : L → ℕ → Type 0) (rules : List (Alternatives
     loop_back (lay.one_alternative name x s t n m l) (inr h) = absurd h
     loop_back (lay.a_block name xs firsts lasts s n m two is l a) h = bodies_back l h
     loop_back (lay.an_optional name sign xs firsts lasts s n m is l a exit) h = bodies_back l h
-    loop_back (lay.a_star name sign xs firsts lasts s n m is l a) (inl h) = around sign.greedy s m l a is (one_is_nullable Reads CallsRule rules h refl)
+    loop_back (lay.a_star name sign xs firsts lasts s n m is l a) (inl h) =
+        around sign.greedy s m l a is (one_is_nullable Reads CallsRule rules h refl)
     loop_back (lay.a_star name sign xs firsts lasts s n m is l a) (inr h) = bodies_back l h
-    loop_back (lay.a_plus_of_one name sign xs first lasts s n m is l a more) (inl h) = around sign.greedy m (m + 1) l a more (one_is_nullable Reads CallsRule rules h refl)
+    loop_back (lay.a_plus_of_one name sign xs first lasts s n m is l a more) (inl h) =
+        around sign.greedy m (m + 1) l a more (one_is_nullable Reads CallsRule rules h refl)
     loop_back (lay.a_plus_of_one name sign xs first lasts s n m is l a more) (inr h) = bodies_back l h
-    loop_back (lay.a_plus name sign xs firsts lasts s n m two is l a more) (inl h) = around sign.greedy m (m + 1) l a more (one_is_nullable Reads CallsRule rules h refl)
+    loop_back (lay.a_plus name sign xs firsts lasts s n m two is l a more) (inl h) =
+        around sign.greedy m (m + 1) l a more (one_is_nullable Reads CallsRule rules h refl)
     loop_back (lay.a_plus name sign xs firsts lasts s n m two is l a more) (inr h) = bodies_back l h
 
     -- so do elements one after another
-    pub in_order_back : {xs : Elements (Step L)} {s t n m : ℕ} → LieInOrder net xs s t n m → OneHasEmptyLoop Reads CallsRule rules xs → ComesBack
+    pub in_order_back : {xs : Elements (Step L)} {s t n m : ℕ} → LieInOrder net xs s t n m → OneHasEmptyLoop Reads CallsRule rules xs
+        → ComesBack
     in_order_back (lay.no_more s n) h = absurd h
     in_order_back (lay.one_more x xs s mid t n k m l ls) (inl h) = loop_back l h
     in_order_back (lay.one_more x xs s mid t n k m l ls) (inr h) = in_order_back ls h
 
     -- and bodies
-    pub bodies_back : {xs : Alternatives (Step L)} {firsts lasts : List ℕ} {n m : ℕ} → LieSideBySide net xs firsts lasts n m → SomeHasEmptyLoop Reads CallsRule rules xs → ComesBack
+    pub bodies_back : {xs : Alternatives (Step L)} {firsts lasts : List ℕ} {n m : ℕ} → LieSideBySide net xs firsts lasts n m
+        → SomeHasEmptyLoop Reads CallsRule rules xs → ComesBack
     bodies_back (lay.no_other n) h = absurd h
     bodies_back (lay.another x xs last n k m firsts lasts l ls) (inl h) = in_order_back l h
     bodies_back (lay.another x xs last n k m firsts lasts l ls) (inr h) = bodies_back ls h
 
   -- a rule does
-  rule_back : {xs : Alternatives (Step L)} {rule n m : ℕ} → LiesAsRule net rule xs n m → SomeHasEmptyLoop Reads CallsRule rules xs → ComesBack
+  rule_back : {xs : Alternatives (Step L)} {rule n m : ℕ} → LiesAsRule net rule xs n m → SomeHasEmptyLoop Reads CallsRule rules xs
+      → ComesBack
   rule_back (of_one rule last n m x l leads) (inl h) = in_order_back l h
   rule_back (of_one rule last n m x l leads) (inr h) = absurd h
   rule_back (of_several rule n m xs firsts lasts two is l a) h = bodies_back l h
 
   -- a network that never comes back to a state has rules without empty loops and left cycles
-  pub only_so : ((p : ℕ) (returns : List ℕ) → LeadsOn net (bottomed p i []) (bottomed p i returns) → ⊥) → NoEmptyLoop Reads CallsRule rules × NoLeftCycle Reads CallsRule rules
+  pub only_so : ((p : ℕ) (returns : List ℕ) → LeadsOn net (bottomed p i []) (bottomed p i returns) → ⊥)
+      → NoEmptyLoop Reads CallsRule rules × NoLeftCycle Reads CallsRule rules
   only_so never = (
     λ k xs is h. let r = rule_laid rules net network k (slice_get_within rules k xs is) in
         let found = r.is in let same : r.alternatives ≡ xs = cc in
-        let back = rule_back (subst (λ (ys : Alternatives (Step L)). LiesAsRule net k ys r.from r.upto) same r.lies) h in never back.0 [] back.1,
+        let back = rule_back (subst (λ (ys : Alternatives (Step L)). LiesAsRule net k ys r.from r.upto) same r.lies) h in
+        never back.0 [] back.1,
     λ k r. let back = left_calls k k r [] in never (start_of k) back.0 back.1,
   )

@@ -31,7 +31,8 @@ at_two {P} m below here next p from upto = elim (dec_lt p (m + 1)) [
 ]
 
 -- the edges of a decision with an exit branch
-pub with_exit_cases : (greedy : Bool) (firsts : List ℕ) (exit q : ℕ) → Contains (with_exit greedy firsts exit) q → (q ≡ exit) ⊎ Contains firsts q
+pub with_exit_cases : (greedy : Bool) (firsts : List ℕ) (exit q : ℕ) → Contains (with_exit greedy firsts exit) q
+    → (q ≡ exit) ⊎ Contains firsts q
 with_exit_cases true firsts exit q h = elim (Contains-push_cases firsts exit q h) [ inl old ↦ inr old | inr same ↦ inl (sym same) ]
 with_exit_cases false firsts exit q h = member_cases exit firsts q h
 
@@ -41,29 +42,35 @@ module _ {L : Type 0} (net : Network L) (i : ℕ) where
   EndsAt returns p = Ends net (bottomed p i returns)
 
   -- a state whose edges are known
-  pub ends_by : (returns : List ℕ) (p : ℕ) (o : Option (State L)) → state_at net p ≡ o → ((d : Config) → LeadsBy net o (bottomed p i returns) d → Ends net d) → EndsAt returns p
-  ends_by returns p o is on = ends (bottomed p i returns) (λ d l. on d (subst (λ (s : Option (State L)). LeadsBy net s (bottomed p i returns) d) is l))
+  pub ends_by : (returns : List ℕ) (p : ℕ) (o : Option (State L)) → state_at net p ≡ o
+      → ((d : Config) → LeadsBy net o (bottomed p i returns) d → Ends net d) → EndsAt returns p
+  ends_by returns p o is on = ends (bottomed p i returns)
+      (λ d l. on d (subst (λ (s : Option (State L)). LeadsBy net s (bottomed p i returns) d) is l))
 
   -- a state with an empty edge
   pub ends_empty : (returns : List ℕ) (p t : ℕ) → state_at net p ≡ Some (Empty t) → EndsAt returns t → EndsAt returns p
   ends_empty returns p t is h = ends_by returns p (Some (Empty t)) is (λ d l. subst (Ends net) (sym l) h)
 
   -- a decision
-  pub ends_decision : (returns : List ℕ) (p : ℕ) (targets : List ℕ) → state_at net p ≡ Some (Decision targets) → ((q : ℕ) → Contains targets q → EndsAt returns q) → EndsAt returns p
+  pub ends_decision : (returns : List ℕ) (p : ℕ) (targets : List ℕ) → state_at net p ≡ Some (Decision targets)
+      → ((q : ℕ) → Contains targets q → EndsAt returns q) → EndsAt returns p
   ends_decision returns p targets is on = ends_by returns p (Some (Decision targets)) is (λ d l. subst (Ends net) (sym l.2) (on l.0 l.1))
 
   -- a decision with an exit branch
-  pub ends_exit : (returns : List ℕ) (p : ℕ) (greedy : Bool) (firsts : List ℕ) (exit : ℕ) → state_at net p ≡ Some (Decision (with_exit greedy firsts exit)) →
+  pub ends_exit : (returns : List ℕ) (p : ℕ) (greedy : Bool) (firsts : List ℕ) (exit : ℕ)
+      → state_at net p ≡ Some (Decision (with_exit greedy firsts exit)) →
       ((q : ℕ) → Contains firsts q → EndsAt returns q) → EndsAt returns exit → EndsAt returns p
   ends_exit returns p greedy firsts exit is on h = ends_decision returns p (with_exit greedy firsts exit) is
       (λ q c. elim (with_exit_cases greedy firsts exit q c) [ inl same ↦ subst (EndsAt returns) (sym same) h | inr old ↦ on q old ])
 
   -- a call
-  pub ends_call : (returns : List ℕ) (p rule level back : ℕ) → state_at net p ≡ Some (Call rule level back) → EndsAt (back ∷ returns) (start_of rule) → EndsAt returns p
+  pub ends_call : (returns : List ℕ) (p rule level back : ℕ) → state_at net p ≡ Some (Call rule level back)
+      → EndsAt (back ∷ returns) (start_of rule) → EndsAt returns p
   ends_call returns p rule level back is h = ends_by returns p (Some (Call rule level back)) is (λ d l. subst (Ends net) (sym l) h)
 
   -- a rule's end with a return state
-  pub ends_return : (returns : List ℕ) (p rule back : ℕ) → state_at net p ≡ Some (End rule) → EndsAt returns back → EndsAt (back ∷ returns) p
+  pub ends_return : (returns : List ℕ) (p rule back : ℕ) → state_at net p ≡ Some (End rule) → EndsAt returns back
+      → EndsAt (back ∷ returns) p
   ends_return returns p rule back is h = ends_by (back ∷ returns) p (Some (End rule)) is (λ d l. subst (Ends net) (sym l) h)
 
   -- a rule's end at the bottom

@@ -17,13 +17,15 @@ lifted below c = record { state = c.state; alt = c.alt; stack = record { returns
 
 module _ {L : Type 0} (net : Network L) (below : List ℕ) where
   -- popping works with more return states below
-  lift_pop : (rule : ℕ) (c d : Config) (returns : List ℕ) (wild : Bool) → wild ≡ false → Returns net rule c returns wild d → Returns net rule (lifted below c) (returns ++ below) wild (lifted below d)
+  lift_pop : (rule : ℕ) (c d : Config) (returns : List ℕ) (wild : Bool) → wild ≡ false → Returns net rule c returns wild d
+      → Returns net rule (lifted below c) (returns ++ below) wild (lifted below d)
   lift_pop rule c d (t ∷ rest) wild w l = ap (lifted below) l
   lift_pop rule c d [] true w l = absurd (true≢false w)
   lift_pop rule c d [] false w l = absurd l
 
   -- a step does
-  lift_step : (c d : Config) (o : Option (State L)) → c.stack.wild ≡ false → LeadsBy net o c d → LeadsBy net o (lifted below c) (lifted below d)
+  lift_step : (c d : Config) (o : Option (State L)) → c.stack.wild ≡ false → LeadsBy net o c d
+      → LeadsBy net o (lifted below c) (lifted below d)
   lift_step c d None w l = absurd l
   lift_step c d (Some (Decision ts)) w l = (l.0, l.1, ap (lifted below) l.2)
   lift_step c d (Some (End rule)) w l = lift_pop rule c d c.stack.returns c.stack.wild w l
@@ -36,9 +38,14 @@ module _ {L : Type 0} (net : Network L) (below : List ℕ) where
 
   -- and so do steps
   lift_on : (c d : Config) → c.stack.wild ≡ false → LeadsOn net c d → LeadsOn net (lifted below c) (lifted below d) × (d.stack.wild ≡ false)
-  lift_on c d w (once _ l) = (once (lifted below d) (lift_step c d (state_at net c.state) w l), sym (keeps net c d (state_at net c.state) l).1 ∙ w)
-  lift_on c d w (again e _ on l) = let r = lift_on c e w on in
-      (again (lifted below e) (lifted below d) r.0 (lift_step e d (state_at net e.state) r.1 l), sym (keeps net e d (state_at net e.state) l).1 ∙ r.1)
+  lift_on c d w (once _ l) = (
+    once (lifted below d) (lift_step c d (state_at net c.state) w l),
+    sym (keeps net c d (state_at net c.state) l).1 ∙ w,
+  )
+  lift_on c d w (again e _ on l) = let r = lift_on c e w on in (
+    again (lifted below e) (lifted below d) r.0 (lift_step e d (state_at net e.state) r.1 l),
+    sym (keeps net e d (state_at net e.state) l).1 ∙ r.1,
+  )
 
 module _ {L : Type 0} where
   -- the first step of several
@@ -63,5 +70,6 @@ module _ {L : Type 0} (net : Network L) (i p : ℕ) (returns : List ℕ) (back :
       ])
 
 -- no such state leads above its own stack to itself
-pub never_again : {L : Type 0} (net : Network L) (i p : ℕ) (returns : List ℕ) → Ends net (bottomed p i []) → LeadsOn net (bottomed p i []) (bottomed p i returns) → ⊥
+pub never_again : {L : Type 0} (net : Network L) (i p : ℕ) (returns : List ℕ) → Ends net (bottomed p i [])
+    → LeadsOn net (bottomed p i []) (bottomed p i returns) → ⊥
 never_again net i p returns h on = never_ends net i p returns on h returns on

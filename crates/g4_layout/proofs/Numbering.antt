@@ -32,7 +32,8 @@ same_of_each f g (q ∷ ps) same p (inl e) = let head : f q ≡ g q = cc in ap f
 same_of_each f g (q ∷ ps) same p (inr h) = let rest : map f ps ≡ map g ps = cc in same_of_each f g ps rest p h
 
 -- a first state of a decision is one of its targets
-first_in : {L : Type 0} (net : Network L) (d i p : ℕ) (firsts : List ℕ) → state_at net d ≡ Some (Decision firsts) → IsFirst net d i p → In p firsts
+first_in : {L : Type 0} (net : Network L) (d i p : ℕ) (firsts : List ℕ) → state_at net d ≡ Some (Decision firsts) → IsFirst net d i p
+    → In p firsts
 first_in net d i p firsts is (targets, k, decides, found, number) =
     listed_in firsts k p (subst (λ (ts : List ℕ). slice_get ts k ≡ Some p) (same_targets _ targets firsts decides is) found)
 
@@ -52,7 +53,8 @@ module _ {L : Type 0} (a b : Network L) (states : a.states ≡ b.states) where
   starts_same k (i ∷ j ∷ more) x y = let (_, _, _, here) = x in let (_, _, _, there) = y in here ∙ sym there
 
   -- a state at which an alternative begins in both, or in neither
-  starts_or_not : (k : ℕ) (starts : List ℕ) (p : ℕ) → StartsAreWritten a k starts → StartsAreWritten b k starts → SameAt p ⊎ ((StartsAt a k starts p → ⊥) × (StartsAt b k starts p → ⊥))
+  starts_or_not : (k : ℕ) (starts : List ℕ) (p : ℕ) → StartsAreWritten a k starts → StartsAreWritten b k starts
+      → SameAt p ⊎ ((StartsAt a k starts p → ⊥) × (StartsAt b k starts p → ⊥))
   starts_or_not k [] p x y = inr (λ h. h, λ h. h)
   starts_or_not k (i ∷ []) p x y = elim (same_or_not p (start_of k)) [
     | inl is ↦ inl (subst SameAt (sym is) (x ∙ sym y))
@@ -63,11 +65,15 @@ module _ {L : Type 0} (a b : Network L) (states : a.states ≡ b.states) where
       let both : map (written_at a) firsts ≡ map (written_at b) firsts = named ∙ sym (ap (map (written_at b)) same ∙ named') in
       elim (in_or_not firsts p) [
         | inl h ↦ inl (same_of_each (written_at a) (written_at b) firsts both p h)
-        | inr non ↦ inr (λ h. non (first_in a (start_of k) h.0 p firsts is h.1), λ h. non (subst (λ (fs : List ℕ). In p fs) (sym same) (first_in b (start_of k) h.0 p firsts' is' h.1)))
+        | inr non ↦ inr (
+          λ h. non (first_in a (start_of k) h.0 p firsts is h.1),
+          λ h. non (subst (λ (fs : List ℕ). In p fs) (sym same) (first_in b (start_of k) h.0 p firsts' is' h.1)),
+        )
       ]
 
   -- a state of a rule
-  rule_same : (k : ℕ) (numbering : Numbering) (n m p : ℕ) → IsNumbered a k numbering n m → IsNumbered b k numbering n m → n ≤ p → p < m → SameAt p
+  rule_same : (k : ℕ) (numbering : Numbering) (n m p : ℕ) → IsNumbered a k numbering n m → IsNumbered b k numbering n m → n ≤ p
+      → p < m → SameAt p
   rule_same k numbering n m p x y from below = elim (starts_or_not k numbering.starts p x.starts y.starts) [
     | inl same ↦ same
     | inr non ↦ x.others p from below non.0 ∙ (ap (number_by numbering.count) (same_state p) ∙ sym (y.others p from below non.1))
@@ -81,11 +87,13 @@ module _ {L : Type 0} (a b : Network L) (states : a.states ≡ b.states) where
   -- rules with the same numberings in both
   pub numbers_agree : {rule n m : ℕ} {rules : List (Alternatives (Step L))} (numberings : List Numbering) → RulesLie a rule rules n m →
       AreNumbered a rule n rules numberings → AreNumbered b rule n rules numberings → NumbersAgree rule (length rules) n m
-  numbers_agree numberings (lay.no_rule rule n) x y = record { heads = λ p low high. absurd (omega arith); within = λ p low high. absurd (omega arith) }
+  numbers_agree numberings (lay.no_rule rule n) x y =
+      record { heads = λ p low high. absurd (omega arith); within = λ p low high. absurd (omega arith) }
   numbers_agree [] (lay.a_rule rule n k m xs more l last ls) x y = absurd x
   numbers_agree (numbering ∷ others) (lay.a_rule rule n k m xs more l last ls) x y =
       let size = rule_size l in
-      let rest = numbers_agree others ls (subst (λ (q : ℕ). AreNumbered a (rule + 1) q more others) (sym size) x.1) (subst (λ (q : ℕ). AreNumbered b (rule + 1) q more others) (sym size) y.1) in
+      let rest = numbers_agree others ls (subst (λ (q : ℕ). AreNumbered a (rule + 1) q more others) (sym size) x.1)
+      (subst (λ (q : ℕ). AreNumbered b (rule + 1) q more others) (sym size) y.1) in
       record {
         heads = λ p low high. elim (same_or_not p (start_of rule)) [
           | inl is ↦ subst SameAt (sym is) (starts_same rule numbering.starts x.0.starts y.0.starts)

@@ -13,7 +13,8 @@ use Rattle.g4_net.specs.Network.{ParserNetwork, state_at, start_of, end_of}
 use Rattle.g4_net.specs.Proper.{IsOf, start, further, EndsAreOwn}
 use Rattle.g4_net.specs.declared.network.State.TheVariants.{End}
 
-module _ (rules : List (Alternatives (Step (List ℕ)))) (net : ParserNetwork) (network : IsNetworkOf rules net) (full : (k : ℕ) (xs : Alternatives (Step (List ℕ))) → slice_get rules k ≡ Some xs → EachIsFull xs) where
+module _ (rules : List (Alternatives (Step (List ℕ)))) (net : ParserNetwork) (network : IsNetworkOf rules net)
+    (full : (k : ℕ) (xs : Alternatives (Step (List ℕ))) → slice_get rules k ≡ Some xs → EachIsFull xs) where
   -- any step
   abbrev IsAny : Step (List ℕ) → Type 0
   IsAny = CallsKnown (λ a. Unit {0}) CallsRule (λ j. Unit {0})
@@ -33,18 +34,21 @@ module _ (rules : List (Alternatives (Step (List ℕ)))) (net : ParserNetwork) (
 
     -- its start and end
     heads : SoundAt net IsAny IsIt IsPart (start_of k) × SoundAt net IsAny IsIt IsPart (end_of k)
-    heads = heads_sound net IsAny IsIt IsPart rules (2 * length rules) k r tree (inr (inl refl)) (λ q from below. inr (inr (from, below))) refl
+    heads = heads_sound net IsAny IsIt IsPart rules (2 * length rules) k r tree (inr (inl refl))
+        (λ q from below. inr (inr (from, below))) refl
 
     -- each state of the rule leads to such states, and has the rule's number if it is an end
     part_sound : (q : ℕ) → IsPart q → SoundAt net IsAny IsIt IsPart q
     part_sound q (inl is) = subst (SoundAt net IsAny IsIt IsPart) (sym is) heads.0
     part_sound q (inr (inl is)) = subst (SoundAt net IsAny IsIt IsPart) (sym is) heads.1
-    part_sound q (inr (inr (from, below))) = others_sound net IsAny IsIt IsPart rules (2 * length rules) k r tree (inr (inl refl)) (λ p p_from p_below. inr (inr (p_from, p_below))) (inl refl) q from below
+    part_sound q (inr (inr (from, below))) = others_sound net IsAny IsIt IsPart rules (2 * length rules) k r tree (inr (inl refl))
+        (λ p p_from p_below. inr (inr (p_from, p_below))) (inl refl) q from below
 
     -- so all states of the rule are among them
     of_rule : (p : ℕ) → IsOf net k p → IsPart p
     of_rule _ start = inl refl
-    of_rule t (further p _ s of is to) = target_allowed IsAny IsIt IsPart s t (subst (IsSoundState IsAny IsIt IsPart) is (part_sound p (of_rule p of))) to
+    of_rule t (further p _ s of is to) = target_allowed IsAny IsIt IsPart s t
+        (subst (IsSoundState IsAny IsIt IsPart) is (part_sound p (of_rule p of))) to
 
     -- and an end that is one of them is the rule's
     own_end : (p ended : ℕ) → IsOf net k p → state_at net p ≡ Some (End ended) → ended ≡ k

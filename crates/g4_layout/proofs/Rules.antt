@@ -46,8 +46,10 @@ module _ {L : Type 0} where
 
 module _ {L : Type 0} (net : Network L) (rules : List (Alternatives (Step L))) (lowest : ℕ) where
   -- each rule is laid out, and each state after the starts and ends is of one
-  pub every_rule : {rule n m : ℕ} {rest : List (Alternatives (Step L))} → RulesLie net rule rest n m → ((k : ℕ) (xs : Alternatives (Step L)) → slice_get rest k ≡ Some xs → slice_get rules (rule + k) ≡ Some xs) →
-      lowest ≤ n → m ≤ length net.states → ((k : ℕ) → rule ≤ k → k < rule + length rest → Laid net rules lowest k) × ((p : ℕ) → n ≤ p → p < m → IsWithinRule net rules lowest rule p)
+  pub every_rule : {rule n m : ℕ} {rest : List (Alternatives (Step L))} → RulesLie net rule rest n m
+      → ((k : ℕ) (xs : Alternatives (Step L)) → slice_get rest k ≡ Some xs → slice_get rules (rule + k) ≡ Some xs) →
+      lowest ≤ n → m ≤ length net.states → ((k : ℕ) → rule ≤ k → k < rule + length rest → Laid net rules lowest k)
+      × ((p : ℕ) → n ≤ p → p < m → IsWithinRule net rules lowest rule p)
   every_rule (no_rule rule n) found low room = (λ k from below. absurd (omega arith), λ p from below. absurd (omega arith))
   every_rule (a_rule rule n k m xs more l last rest) found low room =
       let own_up = rule_up l in let up = rules_up rest in
@@ -62,14 +64,16 @@ module _ {L : Type 0} (net : Network L) (rules : List (Alternatives (Step L))) (
         lies = l;
         last = last;
       } in
-      let r = every_rule rest (λ j ys e. let next : rule + suc j ≡ rule + 1 + j = omega arith in subst (λ (q : ℕ). slice_get rules q ≡ Some ys) next (found (suc j) ys e)) (omega arith) room in (
+      let r = every_rule rest (λ j ys e. let next : rule + suc j ≡ rule + 1 + j = omega arith in
+      subst (λ (q : ℕ). slice_get rules q ≡ Some ys) next (found (suc j) ys e)) (omega arith) room in (
         λ j from below. elim (dec_lt rule j) [
           | yes after ↦ r.0 j (omega arith) (omega arith)
           | no at ↦ (let same : rule ≡ j = omega arith in subst (Laid net rules lowest) same own)
         ],
         λ p from below. elim (dec_lt p k) [
           | yes before ↦ record { number = rule; after = omega arith; laid = own; from = from; upto = before }
-          | no after ↦ (let i = r.1 p (omega arith) below in record { number = i.number; after = omega (arith, i.after); laid = i.laid; from = i.from; upto = i.upto })
+          | no after ↦ (let i = r.1 p (omega arith) below in
+              record { number = i.number; after = omega (arith, i.after); laid = i.laid; from = i.from; upto = i.upto })
         ],
       )
 
@@ -79,14 +83,17 @@ module _ {L : Type 0} (rules : List (Alternatives (Step L))) (net : Network L) (
   LaidRule k = Laid net rules (2 * length rules) k
 
   -- how the rules are laid out
-  laid : ((k : ℕ) → 0 ≤ k → k < 0 + length rules → LaidRule k) × ((p : ℕ) → 2 * length rules ≤ p → p < length net.states → IsWithinRule net rules (2 * length rules) 0 p)
-  laid = every_rule net rules (2 * length rules) network.lie (λ k xs e. let same : k ≡ 0 + k = omega arith in subst (λ (q : ℕ). slice_get rules q ≡ Some xs) same e) (omega arith) (omega arith)
+  laid : ((k : ℕ) → 0 ≤ k → k < 0 + length rules → LaidRule k)
+      × ((p : ℕ) → 2 * length rules ≤ p → p < length net.states → IsWithinRule net rules (2 * length rules) 0 p)
+  laid = every_rule net rules (2 * length rules) network.lie
+      (λ k xs e. let same : k ≡ 0 + k = omega arith in subst (λ (q : ℕ). slice_get rules q ≡ Some xs) same e) (omega arith) (omega arith)
 
   -- rule k as it is laid out
   pub rule_laid : (k : ℕ) → k < length rules → LaidRule k
   rule_laid k below = laid.0 k (omega arith) (omega arith)
 
-  module _ (P : ℕ → Type 0) (heads : (k : ℕ) → LaidRule k → P (start_of k) × P (end_of k)) (inside : (k p : ℕ) (r : LaidRule k) → r.from ≤ p → p < r.upto → P p)
+  module _ (P : ℕ → Type 0) (heads : (k : ℕ) → LaidRule k → P (start_of k) × P (end_of k))
+      (inside : (k p : ℕ) (r : LaidRule k) → r.from ≤ p → p < r.upto → P p)
       (nowhere : (p : ℕ) → length net.states ≤ p → P p) where
     -- this holds of each number, if it does of the states of each rule and of what is no state
     pub every_state : (p : ℕ) → P p

@@ -15,25 +15,31 @@ use Rattle.g4_layout.proofs.Trees.{EachIsSound}
 
 module _ {L : Type 0} (net : Network L) (Good : Step L → Type 0) (Ended Allowed : ℕ → Type 0) where
   -- the start of a rule
-  start_sound : {rule n m : ℕ} {xs : Alternatives (Step L)} → LiesAsRule net rule xs n m → EachIsSound Good xs → Allowed (end_of rule) → AreAllowed net Good Ended Allowed n m → SoundAt net Good Ended Allowed (start_of rule)
+  start_sound : {rule n m : ℕ} {xs : Alternatives (Step L)} → LiesAsRule net rule xs n m → EachIsSound Good xs → Allowed (end_of rule)
+      → AreAllowed net Good Ended Allowed n m → SoundAt net Good Ended Allowed (start_of rule)
   start_sound (of_one rule last n m x l leads) sound end allowed = elim (in_order_sound net Good Ended Allowed l sound.0 allowed) [
     | inl same ↦ subst (SoundAt net Good Ended Allowed) same (sound_by net Good Ended Allowed last (Some (Empty (end_of rule))) leads end)
     | inr h ↦ h
   ]
   start_sound (of_several rule n m xs firsts lasts two is l a) sound end allowed =
-      sound_by net Good Ended Allowed (start_of rule) (Some (Decision firsts)) is (two, λ t c. let b = firsts_between l t c in allowed t b.0 b.1)
+      sound_by net Good Ended Allowed (start_of rule) (Some (Decision firsts)) is
+      (two, λ t c. let b = firsts_between l t c in allowed t b.0 b.1)
 
   -- the states of a rule other than its start and end
-  inside_sound : {rule n m : ℕ} {xs : Alternatives (Step L)} → LiesAsRule net rule xs n m → EachIsSound Good xs → Allowed (start_of rule) → Allowed (end_of rule) → AreAllowed net Good Ended Allowed n m →
+  inside_sound : {rule n m : ℕ} {xs : Alternatives (Step L)} → LiesAsRule net rule xs n m → EachIsSound Good xs
+      → Allowed (start_of rule) → Allowed (end_of rule) → AreAllowed net Good Ended Allowed n m →
       (p : ℕ) → n ≤ p → p < m → SoundAt net Good Ended Allowed p
-  inside_sound (of_one rule last n m x l leads) sound start end allowed p from below = elim (within_in_order_sound net Good Ended Allowed l sound.0 start allowed p from below) [
-    | inl same ↦ subst (SoundAt net Good Ended Allowed) (sym same) (sound_by net Good Ended Allowed last (Some (Empty (end_of rule))) leads end)
-    | inr h ↦ h
-  ]
+  inside_sound (of_one rule last n m x l leads) sound start end allowed p from below =
+      elim (within_in_order_sound net Good Ended Allowed l sound.0 start allowed p from below) [
+        | inl same ↦ subst (SoundAt net Good Ended Allowed) (sym same)
+            (sound_by net Good Ended Allowed last (Some (Empty (end_of rule))) leads end)
+        | inr h ↦ h
+      ]
   inside_sound (of_several rule n m xs firsts lasts two is l a) sound start end allowed p from below =
       within_bodies_sound net Good Ended Allowed l (end_of rule) a sound allowed end p from below
 
-  module _ (rules : List (Alternatives (Step L))) (lowest k : ℕ) (r : Laid net rules lowest k) (sound : EachIsSound Good r.alternatives) (end : Allowed (end_of k))
+  module _ (rules : List (Alternatives (Step L))) (lowest k : ℕ) (r : Laid net rules lowest k)
+      (sound : EachIsSound Good r.alternatives) (end : Allowed (end_of k))
       (allowed : AreAllowed net Good Ended Allowed r.from r.upto) where
     -- the start and end of a rule as it is laid out
     pub heads_sound : Ended k → SoundAt net Good Ended Allowed (start_of k) × SoundAt net Good Ended Allowed (end_of k)
@@ -80,8 +86,10 @@ module _ {L : Type 0} (rules : List (Alternatives (Step L))) (net : Network L) (
   -- each state of a network whose rules are sound is sound, its targets being states
   all_states_sound : (p : ℕ) → SoundAt net Good IsRule IsState p
   all_states_sound = every_state rules net network (SoundAt net Good IsRule IsState)
-      (λ k r. heads_sound net Good IsRule IsState rules (2 * length rules) k r (sound k r.alternatives r.is) (end_within k r) (others_within k r) (known k r))
-      (λ k p r from below. others_sound net Good IsRule IsState rules (2 * length rules) k r (sound k r.alternatives r.is) (end_within k r) (others_within k r) (start_within k r) p from below)
+      (λ k r. heads_sound net Good IsRule IsState rules (2 * length rules) k r (sound k r.alternatives r.is) (end_within k r)
+      (others_within k r) (known k r))
+      (λ k p r from below. others_sound net Good IsRule IsState rules (2 * length rules) k r (sound k r.alternatives r.is)
+      (end_within k r) (others_within k r) (start_within k r) p from below)
       (λ p past. nowhere p (state_at net p) refl past)
 
   -- a state that is there

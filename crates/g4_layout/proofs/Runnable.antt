@@ -27,7 +27,8 @@ use Rattle.g4_layout.proofs.Trees.{EachIsSound, CallsKnown}
 use Rattle.g4_net.specs.declared.network.TheConstants.{MOST_STATES}
 
 -- a state whose step is no predicate
-unpredicated_state : (Ended Allowed : ℕ → Type 0) (s : State (List ℕ)) → IsSoundState (CallsKnown IsUnpredicated CallsRule (λ j. Unit {0})) Ended Allowed (Some s) → IsNoPredicate s
+unpredicated_state : (Ended Allowed : ℕ → Type 0) (s : State (List ℕ))
+    → IsSoundState (CallsKnown IsUnpredicated CallsRule (λ j. Unit {0})) Ended Allowed (Some s) → IsNoPredicate s
 unpredicated_state Ended Allowed (Decision targets) h = tt
 unpredicated_state Ended Allowed (End rule) h = tt
 unpredicated_state Ended Allowed (Edge set t) h = tt
@@ -43,12 +44,14 @@ record AfterAdded (net : ParserNetwork) (all : List (Alternatives (Step (List �
   states : (p : ℕ) → loop + 5 ≤ p → p < length net.states → IsWithinRule net all (loop + 5) 1 p
 
 -- the added rule is laid out, and then the others
-added_and_others : (net : ParserNetwork) (set : List ℕ) (start loop m : ℕ) (list : List (Alternatives (Step (List ℕ)))) → m ≡ length net.states → RulesLie net 0 (added_rule set start ∷ list) loop m →
+added_and_others : (net : ParserNetwork) (set : List ℕ) (start loop m : ℕ) (list : List (Alternatives (Step (List ℕ))))
+    → m ≡ length net.states → RulesLie net 0 (added_rule set start ∷ list) loop m →
     HasAddedRule net start loop set × AfterAdded net (added_rule set start ∷ list) (length list) loop
 added_and_others net set start loop m list all (a_rule _ _ k _ _ _ l last rest) =
     let added = added_at l last in let up = rules_up rest in
     let laid = every_rule net (added_rule set start ∷ list) (loop + 5) rest
-    (λ j xs e. let next : suc j ≡ 1 + j = omega arith in subst (λ (q : ℕ). slice_get (added_rule set start ∷ list) q ≡ Some xs) next e) (omega (arith, added.1)) (omega arith) in (
+    (λ j xs e. let next : suc j ≡ 1 + j = omega arith in
+    subst (λ (q : ℕ). slice_get (added_rule set start ∷ list) q ≡ Some xs) next e) (omega (arith, added.1)) (omega arith) in (
       added.0,
       record {
         rules = λ j from below. laid.0 j from (omega arith);
@@ -56,9 +59,12 @@ added_and_others net set start loop m list all (a_rule _ _ k _ _ _ l last rest) 
       },
     )
 
-module _ (net : ParserNetwork) (set : List ℕ) (start : ℕ) (list : List (Alternatives (Step (List ℕ)))) (loop : ℕ) (loop_is : loop ≡ 2 * length list + 2)
-    (added : HasAddedRule net start loop set) (others : AfterAdded net (added_rule set start ∷ list) (length list) loop) (from : 1 ≤ start) (within : start ≤ length list)
-    (trees : (k : ℕ) (xs : Alternatives (Step (List ℕ))) → slice_get list k ≡ Some xs → EachIsSound (CallsKnown IsPlainLaid CallsRule (λ j. (1 ≤ j) × (j ≤ length list))) xs) where
+module _ (net : ParserNetwork) (set : List ℕ) (start : ℕ) (list : List (Alternatives (Step (List ℕ)))) (loop : ℕ)
+    (loop_is : loop ≡ 2 * length list + 2)
+    (added : HasAddedRule net start loop set) (others : AfterAdded net (added_rule set start ∷ list) (length list) loop)
+    (from : 1 ≤ start) (within : start ≤ length list)
+    (trees : (k : ℕ) (xs : Alternatives (Step (List ℕ))) → slice_get list k ≡ Some xs
+    → EachIsSound (CallsKnown IsPlainLaid CallsRule (λ j. (1 ≤ j) × (j ≤ length list))) xs) where
   -- the rules, the added one first
   abbrev all : List (Alternatives (Step (List ℕ)))
   all = added_rule set start ∷ list
@@ -94,18 +100,21 @@ module _ (net : ParserNetwork) (set : List ℕ) (start : ℕ) (list : List (Alte
   -- its start and end are sound
   heads : (k : ℕ) → IsOther k → IsSoundAt (start_of k) × IsSoundAt (end_of k)
   heads k other = let r = others.rules k other.0 other.1 in
-      heads_sound net IsGood IsOther (IsOutside loop) all (loop + 5) k r (tree_at k r.alternatives other.0 r.is) (end_outside k other) (others_outside k r) other
+      heads_sound net IsGood IsOther (IsOutside loop) all (loop + 5) k r (tree_at k r.alternatives other.0 r.is) (end_outside k other)
+      (others_outside k r) other
 
   -- a state other than those
   inside : (p : ℕ) → IsWithinRule net all (loop + 5) 1 p → IsSoundAt p
   inside p i =
       let r = i.laid in let below = slice_get_within all i.number r.alternatives r.is in
       let other : IsOther i.number = (i.after, omega arith) in
-      others_sound net IsGood IsOther (IsOutside loop) all (loop + 5) i.number r (tree_at i.number r.alternatives i.after r.is) (end_outside i.number other) (others_outside i.number r)
+      others_sound net IsGood IsOther (IsOutside loop) all (loop + 5) i.number r (tree_at i.number r.alternatives i.after r.is)
+      (end_outside i.number other) (others_outside i.number r)
       (start_outside i.number other) p i.from i.upto
 
   -- each state outside the added rule is sound
-  outside_sound : (p : ℕ) (s : State (List ℕ)) → IsOutside loop p → state_at net p ≡ Some s → IsSoundState IsGood IsOther (IsOutside loop) (Some s)
+  outside_sound : (p : ℕ) (s : State (List ℕ)) → IsOutside loop p → state_at net p ≡ Some s
+      → IsSoundState IsGood IsOther (IsOutside loop) (Some s)
   outside_sound p s (two, place) is =
       let below = slice_get_within net.states p s is in
       subst (IsSoundState IsGood IsOther (IsOutside loop)) is (elim place [
@@ -130,8 +139,10 @@ module _ (net : ParserNetwork) (set : List ℕ) (start : ℕ) (list : List (Alte
   }
 
 -- every network of rules that can be laid can be parsed with
-pub runnable : (set : List ℕ) (rules : List StepRule) (start : List ℕ) (net : ParserNetwork) → CanBeLaid rules → rule_number rules start ≤ length rules → (Contains set end_of_list → ⊥) →
-    IsNetworkOf (rules_of set rules start) net → length net.states ≤ MOST_STATES → net.callers ≡ callers_of net.states (length rules + 1) → IsRunnable net (rule_number rules start) (2 * length rules + 2) set
+pub runnable : (set : List ℕ) (rules : List StepRule) (start : List ℕ) (net : ParserNetwork) → CanBeLaid rules
+    → rule_number rules start ≤ length rules → (Contains set end_of_list → ⊥) →
+    IsNetworkOf (rules_of set rules start) net → length net.states ≤ MOST_STATES
+    → net.callers ≡ callers_of net.states (length rules + 1) → IsRunnable net (rule_number rules start) (2 * length rules + 2) set
 runnable set rules start net can within no_end network few callers =
     let number = rule_number rules start in
     let from : 1 ≤ number = omega arith in
@@ -142,14 +153,17 @@ runnable set rules start net can within no_end network few callers =
     let lies = subst (λ (n : ℕ). RulesLie net 0 all n (length net.states)) loop_is network.lie in
     let parts = added_and_others net set number (2 * length rules + 2) (length net.states) (map alternatives_of rules) refl lies in
     record {
-      well_formed = well_formed Contains all net network (all_in_range set number rules can from within) (all_full set number rules can from within) (all_loops set number rules can from within)
+      well_formed = well_formed Contains all net network (all_in_range set number rules can from within)
+          (all_full set number rules can from within) (all_loops set number rules can from within)
           (all_cycles set number rules can from within) (callers ∙ ap (λ (n : ℕ). callers_of net.states n) (sym size));
       apart = apart net set number (map alternatives_of rules) (2 * length rules + 2) (omega arith) parts.0 parts.1 from (omega arith)
-          (subst (λ (n : ℕ). (k : ℕ) (xs : Alternatives (Step (List ℕ))) → slice_get (map alternatives_of rules) k ≡ Some xs → EachIsSound (CallsKnown IsPlainLaid CallsRule (λ j. (1 ≤ j) × (j ≤ n))) xs)
+          (subst (λ (n : ℕ). (k : ℕ) (xs : Alternatives (Step (List ℕ))) → slice_get (map alternatives_of rules) k ≡ Some xs
+          → EachIsSound (CallsKnown IsPlainLaid CallsRule (λ j. (1 ≤ j) × (j ≤ n))) xs)
           (sym long) (plain_trees set number rules can from within)) no_end;
       own_ends = ends_are_own all net network (all_full set number rules can from within)
           (ap length callers ∙ (callers_length net.states (length rules + 1) ∙ sym size));
       unpredicated = λ p s is. unpredicated_state (λ k. k < length all) (λ q. q < length net.states) s
-          (state_sound all net network (CallsKnown IsUnpredicated CallsRule (λ j. Unit {0})) (unpredicated_trees set number rules can from within) p s is);
+          (state_sound all net network (CallsKnown IsUnpredicated CallsRule (λ j. Unit {0}))
+          (unpredicated_trees set number rules can from within) p s is);
       few = few;
     }

@@ -10,7 +10,8 @@ use Rattle.g4_layout.specs.Size.{states_of, states_in_order, states_of_bodies, s
 
 module _ {L : Type 0} where
   -- there are as many first states as alternatives
-  pub as_many : {net : Network L} {xs : Alternatives (Step L)} {firsts lasts : List ℕ} {n m : ℕ} → LieSideBySide net xs firsts lasts n m → number_of xs ≡ length firsts
+  pub as_many : {net : Network L} {xs : Alternatives (Step L)} {firsts lasts : List ℕ} {n m : ℕ}
+      → LieSideBySide net xs firsts lasts n m → number_of xs ≡ length firsts
   as_many (lay.no_other n) = refl
   as_many (lay.another x xs last n k m firsts lasts l ls) = omega (arith, as_many ls)
 
@@ -49,7 +50,8 @@ module _ {L : Type 0} where
     in_order_size (lay.one_more x xs s mid t n k m l ls) = omega (arith, lies_size l, in_order_size ls)
 
     -- the same of bodies side by side
-    sides_size : {net : Network L} {xs : Alternatives (Step L)} {firsts lasts : List ℕ} {n m : ℕ} → LieSideBySide net xs firsts lasts n m → m ≡ n + states_of_bodies xs
+    sides_size : {net : Network L} {xs : Alternatives (Step L)} {firsts lasts : List ℕ} {n m : ℕ}
+        → LieSideBySide net xs firsts lasts n m → m ≡ n + states_of_bodies xs
     sides_size (lay.no_other n) = omega arith
     sides_size (lay.another x xs last n k m firsts lasts l ls) = omega (arith, in_order_size l, sides_size ls)
 

@@ -63,21 +63,26 @@ module _ {L : Type 0} (net : Network L) (Good : Step L → Type 0) (Ended Allowe
   last_allowed spans s_allowed allowed = elim spans.last [ inl same ↦ subst Allowed (sym same) s_allowed | inr h ↦ allowed _ h.0 h.1 ]
 
   -- a decision with an exit branch
-  sound_exit : {xs : Alternatives (Step L)} {firsts lasts : List ℕ} {n m : ℕ} (p : ℕ) (greedy : Bool) (exit : ℕ) → state_at net p ≡ Some (Decision (with_exit greedy firsts exit)) →
+  sound_exit : {xs : Alternatives (Step L)} {firsts lasts : List ℕ} {n m : ℕ} (p : ℕ) (greedy : Bool) (exit : ℕ)
+      → state_at net p ≡ Some (Decision (with_exit greedy firsts exit)) →
       LieSideBySide net xs firsts lasts n m → IsSome xs → AreAllowed n m → Allowed exit → SoundAt p
   sound_exit {firsts = firsts} {n = n} {m = m} p greedy exit is l some allowed h =
       let one_at_least = some_first l some in let long = exit_length greedy firsts exit in
       sound_by p (Some (Decision (with_exit greedy firsts exit))) is (omega arith, targets)
     where
       targets : (t : ℕ) → Contains (with_exit greedy firsts exit) t → Allowed t
-      targets t c = elim (with_exit_cases greedy firsts exit t c) [ inl same ↦ subst Allowed (sym same) h | inr old ↦ (let b = firsts_between l t old in allowed t b.0 b.1) ]
+      targets t c = elim (with_exit_cases greedy firsts exit t c)
+          [ inl same ↦ subst Allowed (sym same) h | inr old ↦ (let b = firsts_between l t old in allowed t b.0 b.1) ]
 
   mutual
     -- an element's first state is its last, or sound
     pub first_sound : {x : Element (Step L)} {s t n m : ℕ} → Lies net x s t n m → IsSound Good x → AreAllowed n m → (t ≡ s) ⊎ SoundAt s
-    first_sound (an_edge label s n is) sound allowed = inr (sound_by s (Some (Edge label n)) is (sound, allowed n (omega arith) (omega arith)))
-    first_sound (a_call rule level s n is) sound allowed = inr (sound_by s (Some (Call rule level n)) is (sound, allowed n (omega arith) (omega arith)))
-    first_sound (a_predicate k s n is) sound allowed = inr (sound_by s (Some (Predicate k n)) is (sound, allowed n (omega arith) (omega arith)))
+    first_sound (an_edge label s n is) sound allowed =
+        inr (sound_by s (Some (Edge label n)) is (sound, allowed n (omega arith) (omega arith)))
+    first_sound (a_call rule level s n is) sound allowed =
+        inr (sound_by s (Some (Call rule level n)) is (sound, allowed n (omega arith) (omega arith)))
+    first_sound (a_predicate k s n is) sound allowed =
+        inr (sound_by s (Some (Predicate k n)) is (sound, allowed n (omega arith) (omega arith)))
     first_sound (a_level q s n is) sound allowed = inr (sound_by s (Some (Level q n)) is (sound, allowed n (omega arith) (omega arith)))
     first_sound (an_action s n is) sound allowed = inr (sound_by s (Some (Action n)) is (sound, allowed n (omega arith) (omega arith)))
     first_sound (an_empty s n is) sound allowed = inr (sound_by s (Some (Empty n)) is (allowed n (omega arith) (omega arith)))
@@ -85,16 +90,19 @@ module _ {L : Type 0} (net : Network L) (Good : Step L → Type 0) (Ended Allowe
     first_sound (a_block name xs firsts lasts s n m two is l a) sound allowed =
         inr (sound_by s (Some (Decision firsts)) is (two, λ t c. let b = firsts_between l t c in allowed t b.0 (omega arith)))
     first_sound (an_optional name sign xs firsts lasts s n m is l a exit) sound allowed =
-        let up = side_by_side_up l in inr (sound_exit s sign.greedy m is l sound.0 (λ q from below. allowed q from (omega arith)) (allowed m up (omega arith)))
+        let up = side_by_side_up l in inr (sound_exit s sign.greedy m is l sound.0 (λ q from below. allowed q from (omega arith))
+        (allowed m up (omega arith)))
     first_sound (a_star name sign xs firsts lasts s n m is l a) sound allowed =
-        let up = side_by_side_up l in inr (sound_exit s sign.greedy m is l sound.0 (λ q from below. allowed q from (omega arith)) (allowed m up (omega arith)))
+        let up = side_by_side_up l in inr (sound_exit s sign.greedy m is l sound.0 (λ q from below. allowed q from (omega arith))
+        (allowed m up (omega arith)))
     first_sound (a_plus_of_one name sign xs first lasts s n m is l a again) sound allowed =
         let b = firsts_between l first (0, omega arith, refl) in inr (sound_by s (Some (Empty first)) is (allowed first b.0 (omega arith)))
     first_sound (a_plus name sign xs firsts lasts s n m two is l a again) sound allowed =
         inr (sound_by s (Some (Decision firsts)) is (two, λ t c. let b = firsts_between l t c in allowed t b.0 (omega arith)))
 
     -- the same of elements one after another
-    pub in_order_sound : {xs : Elements (Step L)} {s t n m : ℕ} → LieInOrder net xs s t n m → AreSound Good xs → AreAllowed n m → (t ≡ s) ⊎ SoundAt s
+    pub in_order_sound : {xs : Elements (Step L)} {s t n m : ℕ} → LieInOrder net xs s t n m → AreSound Good xs → AreAllowed n m
+        → (t ≡ s) ⊎ SoundAt s
     in_order_sound (no_more s n) sound allowed = inl refl
     in_order_sound (one_more x xs s mid t n k m l ls) sound allowed =
         let a = lies_spans l in let b = in_order_spans ls in
@@ -108,41 +116,51 @@ module _ {L : Type 0} (net : Network L) (Good : Step L → Type 0) (Ended Allowe
 
   mutual
     -- each state of an element is its last, or sound
-    pub within_sound : {x : Element (Step L)} {s t n m : ℕ} → Lies net x s t n m → IsSound Good x → Allowed s → AreAllowed n m → (p : ℕ) → n ≤ p → p < m → (p ≡ t) ⊎ SoundAt p
+    pub within_sound : {x : Element (Step L)} {s t n m : ℕ} → Lies net x s t n m → IsSound Good x → Allowed s → AreAllowed n m
+        → (p : ℕ) → n ≤ p → p < m → (p ≡ t) ⊎ SoundAt p
     within_sound (an_edge label s n is) sound s_allowed allowed p from below = inl (omega arith)
     within_sound (a_call rule level s n is) sound s_allowed allowed p from below = inl (omega arith)
     within_sound (a_predicate k s n is) sound s_allowed allowed p from below = inl (omega arith)
     within_sound (a_level q s n is) sound s_allowed allowed p from below = inl (omega arith)
     within_sound (an_action s n is) sound s_allowed allowed p from below = inl (omega arith)
     within_sound (an_empty s n is) sound s_allowed allowed p from below = inl (omega arith)
-    within_sound (one_alternative name x s t n m l) sound s_allowed allowed p from below = within_in_order_sound l sound.1.0 s_allowed allowed p from below
+    within_sound (one_alternative name x s t n m l) sound s_allowed allowed p from below =
+        within_in_order_sound l sound.1.0 s_allowed allowed p from below
     within_sound (a_block name xs firsts lasts s n m two is l a) sound s_allowed allowed p from below =
         let up = side_by_side_up l in
         at_or_below {P = λ r. (r ≡ m) ⊎ SoundAt r} m
-        (λ q q_from q_below. inr (within_bodies_sound l m a sound.1 (λ r r_from r_below. allowed r r_from (omega arith)) (allowed m up (omega arith)) q q_from q_below))
+        (λ q q_from q_below. inr (within_bodies_sound l m a sound.1 (λ r r_from r_below. allowed r r_from (omega arith))
+        (allowed m up (omega arith)) q q_from q_below))
         (inl refl) p from below
     within_sound (an_optional name sign xs firsts lasts s n m is l a exit) sound s_allowed allowed p from below =
         let up = side_by_side_up l in let next = allowed (m + 1) (omega arith) (omega arith) in
         at_two {P = λ r. (r ≡ m + 1) ⊎ SoundAt r} m
-        (λ q q_from q_below. inr (within_bodies_sound l (m + 1) a sound.1 (λ r r_from r_below. allowed r r_from (omega arith)) next q q_from q_below))
+        (λ q q_from q_below. inr (within_bodies_sound l (m + 1) a sound.1 (λ r r_from r_below. allowed r r_from (omega arith)) next q
+        q_from q_below))
         (inr (sound_by m (Some (Empty (m + 1))) exit next)) (inl refl) p from below
     within_sound (a_star name sign xs firsts lasts s n m is l a) sound s_allowed allowed p from below =
         at_or_below {P = λ r. (r ≡ m) ⊎ SoundAt r} m
-        (λ q q_from q_below. inr (within_bodies_sound l s a sound.1 (λ r r_from r_below. allowed r r_from (omega arith)) s_allowed q q_from q_below))
+        (λ q q_from q_below. inr (within_bodies_sound l s a sound.1 (λ r r_from r_below. allowed r r_from (omega arith)) s_allowed q
+        q_from q_below))
         (inl refl) p from below
     within_sound (a_plus_of_one name sign xs first lasts s n m is l a again) sound s_allowed allowed p from below =
         let up = side_by_side_up l in
         at_two {P = λ r. (r ≡ m + 1) ⊎ SoundAt r} m
-        (λ q q_from q_below. inr (within_bodies_sound l m a sound.1 (λ r r_from r_below. allowed r r_from (omega arith)) (allowed m up (omega arith)) q q_from q_below))
-        (inr (sound_exit m sign.greedy (m + 1) again l sound.0 (λ r r_from r_below. allowed r r_from (omega arith)) (allowed (m + 1) (omega arith) (omega arith)))) (inl refl) p from below
+        (λ q q_from q_below. inr (within_bodies_sound l m a sound.1 (λ r r_from r_below. allowed r r_from (omega arith))
+        (allowed m up (omega arith)) q q_from q_below))
+        (inr (sound_exit m sign.greedy (m + 1) again l sound.0 (λ r r_from r_below. allowed r r_from (omega arith))
+        (allowed (m + 1) (omega arith) (omega arith)))) (inl refl) p from below
     within_sound (a_plus name sign xs firsts lasts s n m two is l a again) sound s_allowed allowed p from below =
         let up = side_by_side_up l in
         at_two {P = λ r. (r ≡ m + 1) ⊎ SoundAt r} m
-        (λ q q_from q_below. inr (within_bodies_sound l m a sound.1 (λ r r_from r_below. allowed r r_from (omega arith)) (allowed m up (omega arith)) q q_from q_below))
-        (inr (sound_exit m sign.greedy (m + 1) again l sound.0 (λ r r_from r_below. allowed r r_from (omega arith)) (allowed (m + 1) (omega arith) (omega arith)))) (inl refl) p from below
+        (λ q q_from q_below. inr (within_bodies_sound l m a sound.1 (λ r r_from r_below. allowed r r_from (omega arith))
+        (allowed m up (omega arith)) q q_from q_below))
+        (inr (sound_exit m sign.greedy (m + 1) again l sound.0 (λ r r_from r_below. allowed r r_from (omega arith))
+        (allowed (m + 1) (omega arith) (omega arith)))) (inl refl) p from below
 
     -- the same of elements one after another
-    pub within_in_order_sound : {xs : Elements (Step L)} {s t n m : ℕ} → LieInOrder net xs s t n m → AreSound Good xs → Allowed s → AreAllowed n m → (p : ℕ) → n ≤ p → p < m → (p ≡ t) ⊎ SoundAt p
+    pub within_in_order_sound : {xs : Elements (Step L)} {s t n m : ℕ} → LieInOrder net xs s t n m → AreSound Good xs → Allowed s
+        → AreAllowed n m → (p : ℕ) → n ≤ p → p < m → (p ≡ t) ⊎ SoundAt p
     within_in_order_sound (no_more s n) sound s_allowed allowed p from below = absurd (omega arith)
     within_in_order_sound (one_more x xs s mid t n k m l ls) sound s_allowed allowed p from below =
         let a = lies_spans l in let b = in_order_spans ls in
@@ -160,7 +178,8 @@ module _ {L : Type 0} (net : Network L) (Good : Step L → Type 0) (Ended Allowe
         ]
 
     -- all states of bodies that lead to u are sound
-    pub within_bodies_sound : {xs : Alternatives (Step L)} {firsts lasts : List ℕ} {n m : ℕ} → LieSideBySide net xs firsts lasts n m → (u : ℕ) → AllLeadTo net lasts u → EachIsSound Good xs →
+    pub within_bodies_sound : {xs : Alternatives (Step L)} {firsts lasts : List ℕ} {n m : ℕ} → LieSideBySide net xs firsts lasts n m
+        → (u : ℕ) → AllLeadTo net lasts u → EachIsSound Good xs →
         AreAllowed n m → Allowed u → (p : ℕ) → n ≤ p → p < m → SoundAt p
     within_bodies_sound (no_other n) u a sound allowed u_allowed p from below = absurd (omega arith)
     within_bodies_sound (another x xs last n k m firsts lasts l ls) u a sound allowed u_allowed p from below =
@@ -178,5 +197,6 @@ module _ {L : Type 0} (net : Network L) (Good : Step L → Type 0) (Ended Allowe
               | inr h ↦ h
             ]))
           ]
-          | no after ↦ within_bodies_sound ls u a.1 sound.1 (λ q q_from q_below. allowed q (omega arith) q_below) u_allowed p (omega arith) below
+          | no after ↦ within_bodies_sound ls u a.1 sound.1 (λ q q_from q_below. allowed q (omega arith) q_below) u_allowed p
+              (omega arith) below
         ]

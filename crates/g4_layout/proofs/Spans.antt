@@ -42,10 +42,13 @@ module _ {L : Type 0} where
     lies_spans (an_empty s n is) = ends_after s n n (n + 1) (omega arith) (omega arith)
     lies_spans (one_alternative name x s t n m l) = in_order_spans l
     lies_spans (a_block name xs firsts lasts s n m two is l a) = let up = side_by_side_up l in ends_after s m n (m + 1) up (omega arith)
-    lies_spans (an_optional name sign xs firsts lasts s n m is l a exit) = let up = side_by_side_up l in ends_after s (m + 1) n (m + 2) (omega arith) (omega arith)
+    lies_spans (an_optional name sign xs firsts lasts s n m is l a exit) = let up = side_by_side_up l in
+        ends_after s (m + 1) n (m + 2) (omega arith) (omega arith)
     lies_spans (a_star name sign xs firsts lasts s n m is l a) = let up = side_by_side_up l in ends_after s m n (m + 1) up (omega arith)
-    lies_spans (a_plus_of_one name sign xs first lasts s n m is l a again) = let up = side_by_side_up l in ends_after s (m + 1) n (m + 2) (omega arith) (omega arith)
-    lies_spans (a_plus name sign xs firsts lasts s n m two is l a again) = let up = side_by_side_up l in ends_after s (m + 1) n (m + 2) (omega arith) (omega arith)
+    lies_spans (a_plus_of_one name sign xs first lasts s n m is l a again) = let up = side_by_side_up l in
+        ends_after s (m + 1) n (m + 2) (omega arith) (omega arith)
+    lies_spans (a_plus name sign xs firsts lasts s n m two is l a again) = let up = side_by_side_up l in
+        ends_after s (m + 1) n (m + 2) (omega arith) (omega arith)
 
     -- elements one after another
     pub in_order_spans : {net : Network L} {xs : Elements (Step L)} {s t n m : ℕ} → LieInOrder net xs s t n m → Spans s t n m
@@ -53,12 +56,14 @@ module _ {L : Type 0} where
     in_order_spans (one_more x xs s mid t n k m l ls) = join_spans (lies_spans l) (in_order_spans ls)
 
     -- alternatives side by side
-    pub side_by_side_up : {net : Network L} {xs : Alternatives (Step L)} {firsts lasts : List ℕ} {n m : ℕ} → LieSideBySide net xs firsts lasts n m → n ≤ m
+    pub side_by_side_up : {net : Network L} {xs : Alternatives (Step L)} {firsts lasts : List ℕ} {n m : ℕ}
+        → LieSideBySide net xs firsts lasts n m → n ≤ m
     side_by_side_up (no_other n) = omega arith
     side_by_side_up (another x xs last n k m firsts lasts l ls) = let a = in_order_spans l in let b = side_by_side_up ls in omega arith
 
   -- each first state is one of the bodies' states
-  pub firsts_between : {net : Network L} {xs : Alternatives (Step L)} {firsts lasts : List ℕ} {n m : ℕ} → LieSideBySide net xs firsts lasts n m → (f : ℕ) → Contains firsts f → (n ≤ f) × (f < m)
+  pub firsts_between : {net : Network L} {xs : Alternatives (Step L)} {firsts lasts : List ℕ} {n m : ℕ}
+      → LieSideBySide net xs firsts lasts n m → (f : ℕ) → Contains firsts f → (n ≤ f) × (f < m)
   firsts_between (no_other n) f h = absurd (omega (arith, h.1))
   firsts_between (another x xs last n k m firsts lasts l ls) f h =
       let a = in_order_spans l in let up = side_by_side_up ls in
@@ -68,7 +73,8 @@ module _ {L : Type 0} where
       ]
 
   -- where there is an alternative there is a first state
-  pub some_first : {net : Network L} {xs : Alternatives (Step L)} {firsts lasts : List ℕ} {n m : ℕ} → LieSideBySide net xs firsts lasts n m → IsSome xs → 1 ≤ length firsts
+  pub some_first : {net : Network L} {xs : Alternatives (Step L)} {firsts lasts : List ℕ} {n m : ℕ}
+      → LieSideBySide net xs firsts lasts n m → IsSome xs → 1 ≤ length firsts
   some_first (no_other n) some = absurd some
   some_first (another x xs last n k m firsts lasts l ls) some = omega arith
 
@@ -77,5 +83,6 @@ module _ {L : Type 0} where
   no_firsts (no_other n) = refl
 
   -- one alternative has one first state
-  pub one_first : {net : Network L} {x : Elements (Step L)} {firsts lasts : List ℕ} {n m : ℕ} → LieSideBySide net (or x none) firsts lasts n m → length firsts ≡ 1
+  pub one_first : {net : Network L} {x : Elements (Step L)} {firsts lasts : List ℕ} {n m : ℕ}
+      → LieSideBySide net (or x none) firsts lasts n m → length firsts ≡ 1
   one_first (another x xs last n k m firsts lasts l ls) = no_firsts ls

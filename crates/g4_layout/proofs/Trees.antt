@@ -35,7 +35,8 @@ module _ {A : Type 0} (P : A → Type 0) (Calls : A → ℕ → Type 0) (Known :
     sound (block label repeat xs) full every calls = (full.0, each_sound xs full.1 every calls)
 
     -- the same of elements
-    pub all_sound : (xs : Elements A) → AreFull xs → All P (atoms_in_order xs) → ((j : ℕ) → OneHasCall Calls xs j → Known j) → AreSound CallsKnown xs
+    pub all_sound : (xs : Elements A) → AreFull xs → All P (atoms_in_order xs) → ((j : ℕ) → OneHasCall Calls xs j → Known j)
+        → AreSound CallsKnown xs
     all_sound empty full every calls = tt
     all_sound (then x xs) full every calls = (
       sound x full.0 (All-front P (atoms x) (atoms_in_order xs) every) (λ j c. calls j (inl c)),
@@ -43,7 +44,8 @@ module _ {A : Type 0} (P : A → Type 0) (Calls : A → ℕ → Type 0) (Known :
     )
 
     -- the same of alternatives
-    pub each_sound : (xs : Alternatives A) → EachIsFull xs → All P (atoms_of_either xs) → ((j : ℕ) → SomeHasCall Calls xs j → Known j) → EachIsSound CallsKnown xs
+    pub each_sound : (xs : Alternatives A) → EachIsFull xs → All P (atoms_of_either xs) → ((j : ℕ) → SomeHasCall Calls xs j → Known j)
+        → EachIsSound CallsKnown xs
     each_sound none full every calls = tt
     each_sound (or x xs) full every calls = (
       all_sound x full.0 (All-front P (atoms_in_order x) (atoms_of_either xs) every) (λ j c. calls j (inl c)),

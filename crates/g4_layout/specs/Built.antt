@@ -14,7 +14,8 @@ use Rattle.g4_net.specs.declared.network.TheConstants.{MOST_STATES}
 
 -- The network of the rules from a start rule, the added rule's loop taking the symbols of the set: it can be parsed with, it has
 -- its callers, and the numbers of alternatives are written at its states.
-pub record IsBuilt (set : List ℕ) (rules : List StepRule) (numberings : List Numbering) (start : List ℕ) (net : ParserNetwork) : Type 0 where
+pub record IsBuilt (set : List ℕ) (rules : List StepRule) (numberings : List Numbering) (start : List ℕ) (net : ParserNetwork) :
+    Type 0 where
   pub known : has_parser_rule rules start ≡ true
   pub narrow : AreNarrow (map alternatives_of rules)
   pub fits : state_count rules ≤ MOST_STATES

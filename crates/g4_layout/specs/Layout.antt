@@ -31,46 +31,60 @@ mutual
     an_action : (s n : ℕ) → state_at net s ≡ Some (Action n) → Lies net (atom steps.Action) s n n (n + 1)
     an_empty : (s n : ℕ) → state_at net s ≡ Some (Empty n) → Lies net (atom steps.Empty) s n n (n + 1)
     -- a block of one alternative is that alternative
-    one_alternative : (name : Option Label) (x : Elements (Step L)) (s t n m : ℕ) → LieInOrder net x s t n m → Lies net (block name Once (only x)) s t n m
+    one_alternative : (name : Option Label) (x : Elements (Step L)) (s t n m : ℕ) → LieInOrder net x s t n m
+        → Lies net (block name Once (only x)) s t n m
     -- a block of several is a decision at s, then its bodies, then t
-    a_block : (name : Option Label) (xs : Alternatives (Step L)) (firsts lasts : List ℕ) (s n m : ℕ) → 2 ≤ length firsts → state_at net s ≡ Some (Decision firsts) →
+    a_block : (name : Option Label) (xs : Alternatives (Step L)) (firsts lasts : List ℕ) (s n m : ℕ) → 2 ≤ length firsts
+        → state_at net s ≡ Some (Decision firsts) →
         LieSideBySide net xs firsts lasts n m → AllLeadTo net lasts m → Lies net (block name Once xs) s m n (m + 1)
     -- `x?`: the decision at s, the bodies, an exit branch, then t
-    an_optional : (name : Option Label) (sign : Suffix) (xs : Alternatives (Step L)) (firsts lasts : List ℕ) (s n m : ℕ) → state_at net s ≡ Some (Decision (with_exit sign.greedy firsts m)) →
-        LieSideBySide net xs firsts lasts n m → AllLeadTo net lasts (m + 1) → state_at net m ≡ Some (Empty (m + 1)) → Lies net (block name (Optional sign) xs) s (m + 1) n (m + 2)
+    an_optional : (name : Option Label) (sign : Suffix) (xs : Alternatives (Step L)) (firsts lasts : List ℕ) (s n m : ℕ)
+        → state_at net s ≡ Some (Decision (with_exit sign.greedy firsts m)) →
+        LieSideBySide net xs firsts lasts n m → AllLeadTo net lasts (m + 1) → state_at net m ≡ Some (Empty (m + 1))
+        → Lies net (block name (Optional sign) xs) s (m + 1) n (m + 2)
     -- `x*`: the decision at s, the bodies, which go back to s, then the exit branch state, which is t
-    a_star : (name : Option Label) (sign : Suffix) (xs : Alternatives (Step L)) (firsts lasts : List ℕ) (s n m : ℕ) → state_at net s ≡ Some (Decision (with_exit sign.greedy firsts m)) →
+    a_star : (name : Option Label) (sign : Suffix) (xs : Alternatives (Step L)) (firsts lasts : List ℕ) (s n m : ℕ)
+        → state_at net s ≡ Some (Decision (with_exit sign.greedy firsts m)) →
         LieSideBySide net xs firsts lasts n m → AllLeadTo net lasts s → Lies net (block name (Star sign) xs) s m n (m + 1)
     -- `x+`: from s to the bodies, then the decision u over the same bodies, then the exit branch state, which is t
-    a_plus_of_one : (name : Option Label) (sign : Suffix) (xs : Alternatives (Step L)) (first : ℕ) (lasts : List ℕ) (s n m : ℕ) → state_at net s ≡ Some (Empty first) →
-        LieSideBySide net xs (first ∷ []) lasts n m → AllLeadTo net lasts m → state_at net m ≡ Some (Decision (with_exit sign.greedy (first ∷ []) (m + 1))) →
+    a_plus_of_one : (name : Option Label) (sign : Suffix) (xs : Alternatives (Step L)) (first : ℕ) (lasts : List ℕ) (s n m : ℕ)
+        → state_at net s ≡ Some (Empty first) →
+        LieSideBySide net xs (first ∷ []) lasts n m → AllLeadTo net lasts m
+        → state_at net m ≡ Some (Decision (with_exit sign.greedy (first ∷ []) (m + 1))) →
         Lies net (block name (Plus sign) xs) s (m + 1) n (m + 2)
-    a_plus : (name : Option Label) (sign : Suffix) (xs : Alternatives (Step L)) (firsts lasts : List ℕ) (s n m : ℕ) → 2 ≤ length firsts → state_at net s ≡ Some (Decision firsts) →
-        LieSideBySide net xs firsts lasts n m → AllLeadTo net lasts m → state_at net m ≡ Some (Decision (with_exit sign.greedy firsts (m + 1))) →
+    a_plus : (name : Option Label) (sign : Suffix) (xs : Alternatives (Step L)) (firsts lasts : List ℕ) (s n m : ℕ)
+        → 2 ≤ length firsts → state_at net s ≡ Some (Decision firsts) →
+        LieSideBySide net xs firsts lasts n m → AllLeadTo net lasts m
+        → state_at net m ≡ Some (Decision (with_exit sign.greedy firsts (m + 1))) →
         Lies net (block name (Plus sign) xs) s (m + 1) n (m + 2)
 
   -- the elements are laid out one after another; where there are none, t is s
   pub data LieInOrder {L : Type 0} (net : Network L) : Elements (Step L) → ℕ → ℕ → ℕ → ℕ → Type 0 where
     no_more : (s n : ℕ) → LieInOrder net empty s s n n
-    one_more : (x : Element (Step L)) (xs : Elements (Step L)) (s mid t n k m : ℕ) → Lies net x s mid n k → LieInOrder net xs mid t k m → LieInOrder net (then x xs) s t n m
+    one_more : (x : Element (Step L)) (xs : Elements (Step L)) (s mid t n k m : ℕ) → Lies net x s mid n k
+        → LieInOrder net xs mid t k m → LieInOrder net (then x xs) s t n m
 
   -- the alternatives are laid out beside each other: of each its first state is made, and then its elements, up to its last
   pub data LieSideBySide {L : Type 0} (net : Network L) : Alternatives (Step L) → List ℕ → List ℕ → ℕ → ℕ → Type 0 where
     no_other : (n : ℕ) → LieSideBySide net none [] [] n n
-    another : (x : Elements (Step L)) (xs : Alternatives (Step L)) (last n k m : ℕ) (firsts lasts : List ℕ) → LieInOrder net x n last (n + 1) k → LieSideBySide net xs firsts lasts k m →
+    another : (x : Elements (Step L)) (xs : Alternatives (Step L)) (last n k m : ℕ) (firsts lasts : List ℕ)
+        → LieInOrder net x n last (n + 1) k → LieSideBySide net xs firsts lasts k m →
         LieSideBySide net (or x xs) (n ∷ firsts) (last ∷ lasts) n m
 
 -- A rule is laid out from its start to its end, its other states being those from n up to m. One alternative begins at the
 -- start; of several the start is the decision.
 pub data LiesAsRule {L : Type 0} (net : Network L) : ℕ → Alternatives (Step L) → ℕ → ℕ → Type 0 where
-  of_one : (rule last n m : ℕ) (x : Elements (Step L)) → LieInOrder net x (start_of rule) last n m → state_at net last ≡ Some (Empty (end_of rule)) → LiesAsRule net rule (only x) n m
-  of_several : (rule n m : ℕ) (xs : Alternatives (Step L)) (firsts lasts : List ℕ) → 2 ≤ length firsts → state_at net (start_of rule) ≡ Some (Decision firsts) →
+  of_one : (rule last n m : ℕ) (x : Elements (Step L)) → LieInOrder net x (start_of rule) last n m
+      → state_at net last ≡ Some (Empty (end_of rule)) → LiesAsRule net rule (only x) n m
+  of_several : (rule n m : ℕ) (xs : Alternatives (Step L)) (firsts lasts : List ℕ) → 2 ≤ length firsts
+      → state_at net (start_of rule) ≡ Some (Decision firsts) →
       LieSideBySide net xs firsts lasts n m → AllLeadTo net lasts (end_of rule) → LiesAsRule net rule xs n m
 
 -- the rules from this number on are laid out one after another, each ending in its end state
 pub data RulesLie {L : Type 0} (net : Network L) : ℕ → List (Alternatives (Step L)) → ℕ → ℕ → Type 0 where
   no_rule : (rule n : ℕ) → RulesLie net rule [] n n
-  a_rule : (rule n k m : ℕ) (xs : Alternatives (Step L)) (more : List (Alternatives (Step L))) → LiesAsRule net rule xs n k → state_at net (end_of rule) ≡ Some (End rule) →
+  a_rule : (rule n k m : ℕ) (xs : Alternatives (Step L)) (more : List (Alternatives (Step L))) → LiesAsRule net rule xs n k
+      → state_at net (end_of rule) ≡ Some (End rule) →
       RulesLie net (rule + 1) more k m → RulesLie net rule (xs ∷ more) n m
 
 -- the network of these rules, the added rule being the first: it has their states and no others

@@ -1,3 +1,4 @@
+-- Other crates cite each of these.
 pub mod Built
 pub mod Callers
 pub mod Decisions

@@ -16,7 +16,8 @@ use Rattle.g4_layout.specs.Size.{states_of_rule}
 abbrev pub StartsAreWritten : {L : Type 0} → Network L → ℕ → List ℕ → Type 0
 StartsAreWritten net k [] = written_at net (start_of k) ≡ 0
 StartsAreWritten net k (i ∷ []) = written_at net (start_of k) ≡ i
-StartsAreWritten net k (i ∷ j ∷ more) = (firsts : List ℕ) × (state_at net (start_of k) ≡ Some (Decision firsts)) × (map (written_at net) firsts ≡ i ∷ j ∷ more) × (written_at net (start_of k) ≡ 0)
+StartsAreWritten net k (i ∷ j ∷ more) = (firsts : List ℕ) × (state_at net (start_of k) ≡ Some (Decision firsts))
+    × (map (written_at net) firsts ≡ i ∷ j ∷ more) × (written_at net (start_of k) ≡ 0)
 
 -- one of these alternatives begins at the state
 abbrev pub StartsAt : {L : Type 0} → Network L → ℕ → List ℕ → ℕ → Type 0
@@ -40,14 +41,16 @@ number_by count None = 0
 pub record IsNumbered {L : Type 0} (net : Network L) (k : ℕ) (numbering : Numbering) (n m : ℕ) : Type 0 where
   pub starts : StartsAreWritten net k numbering.starts
   pub end : written_at net (end_of k) ≡ 0
-  pub others : (p : ℕ) → n ≤ p → p < m → (StartsAt net k numbering.starts p → ⊥) → written_at net p ≡ number_by numbering.count (state_at net p)
+  pub others : (p : ℕ) → n ≤ p → p < m → (StartsAt net k numbering.starts p → ⊥)
+      → written_at net p ≡ number_by numbering.count (state_at net p)
 
 -- the numbers of the rules from number k on, whose states after the starts and ends of all rules are those from n on
 abbrev pub AreNumbered : {L : Type 0} → Network L → ℕ → ℕ → List (Alternatives (Step L)) → List Numbering → Type 0
 AreNumbered net k n [] [] = Unit {0}
 AreNumbered net k n [] (numbering ∷ others) = ⊥
 AreNumbered net k n (xs ∷ more) [] = ⊥
-AreNumbered net k n (xs ∷ more) (numbering ∷ others) = IsNumbered net k numbering n (n + states_of_rule xs) × AreNumbered net (k + 1) (n + states_of_rule xs) more others
+AreNumbered net k n (xs ∷ more) (numbering ∷ others) = IsNumbered net k numbering n (n + states_of_rule xs)
+    × AreNumbered net (k + 1) (n + states_of_rule xs) more others
 
 -- the added rule has one alternative
 abbrev pub added_numbering : Numbering

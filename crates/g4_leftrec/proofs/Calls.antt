@@ -43,15 +43,18 @@ module _ (j : ℕ) where
   after_empty more (inr c) = c
 
   -- one of the primaries, or what follows
-  primary_call : (primaries : List (Elements StepIn)) (more : Elements StepIn) → HaveCall (after_primary primaries more) j → OneCalls (either primaries) j ⊎ HaveCall more j
+  primary_call : (primaries : List (Elements StepIn)) (more : Elements StepIn) → HaveCall (after_primary primaries more) j
+      → OneCalls (either primaries) j ⊎ HaveCall more j
   primary_call [] more c = c
-  primary_call (x ∷ []) more c = elim (onto_call x (then (atom Empty) more) c) [ inl front ↦ inl (inl front) | inr back ↦ inr (after_empty more back) ]
+  primary_call (x ∷ []) more c = elim (onto_call x (then (atom Empty) more) c)
+      [ inl front ↦ inl (inl front) | inr back ↦ inr (after_empty more back) ]
   primary_call (x ∷ y ∷ others) more c = c
 
   -- an alternative that begins with the rule itself has the calls of what follows
   operator_call : (x rest : Elements StepIn) (k : ℕ) → after_self (calls k) x ≡ Some rest → HaveCall rest j → HaveCall x j
   operator_call empty rest k h c = absurd (cc)
-  operator_call (then (atom a) xs) rest k h c = let operator = operator_here k (then (atom a) xs) rest h in inr (subst (λ (ys : Elements StepIn). HaveCall ys j) operator.1 c)
+  operator_call (then (atom a) xs) rest k h c = let operator = operator_here k (then (atom a) xs) rest h in
+      inr (subst (λ (ys : Elements StepIn). HaveCall ys j) operator.1 c)
   operator_call (then (block label repeat ys) xs) rest k h c = absurd (operator_here k (then (block label repeat ys) xs) rest h)
 
   module _ (k : ℕ) (xs : List Written) where
@@ -67,7 +70,8 @@ module _ (j : ℕ) where
     in_operator c =
         let found = calling_one CallsRule (either (operator_forms k xs)) j c in
         let source : IsOperatorOf k (bodies xs) found.0 = operator_source k xs found.0 found.1 in
-        let back : HaveCall (then (atom (Level source.level)) source.changed) j = subst (λ (ys : Elements StepIn). HaveCall ys j) source.is found.2 in
+        let back : HaveCall (then (atom (Level source.level)) source.changed) j =
+        subst (λ (ys : Elements StepIn). HaveCall ys j) source.is found.2 in
         let rest : HaveCall source.rest j = elim back [ inl never ↦ absurd never | inr more ↦ differing_call source.differs more ] in
         one_calling CallsRule (bodies xs) source.written j source.among (operator_call source.written source.rest k source.begins rest)
 
@@ -78,11 +82,13 @@ module _ (j : ℕ) where
 
     -- the whole loop
     in_loop : OneCalls (only (loop_of k xs)) j → OneCalls (bodies xs) j
-    in_loop (inl c) = elim (primary_call (primary_forms k xs) (turns_of (operator_forms k xs)) c) [ inl front ↦ in_primary front | inr back ↦ in_turns back ]
+    in_loop (inl c) = elim (primary_call (primary_forms k xs) (turns_of (operator_forms k xs)) c)
+        [ inl front ↦ in_primary front | inr back ↦ in_turns back ]
     in_loop (inr c) = absurd c
 
   -- a call of a rule as it is laid
-  pub formed_call : (k : ℕ) (rule : StepRule) → SomeHasCall CallsRule (alternatives_of (formed (k, rule))) j → SomeHasCall CallsRule (alternatives_of rule) j
+  pub formed_call : (k : ℕ) (rule : StepRule) → SomeHasCall CallsRule (alternatives_of (formed (k, rule))) j
+      → SomeHasCall CallsRule (alternatives_of rule) j
   formed_call k rule c = elim (formed_cases k rule) [
     | inl plain ↦ subst (λ (ys : Alternatives StepIn). OneCalls ys j) plain.1 c
     | inr looped ↦ in_loop k rule.alternatives (subst (λ (ys : Alternatives StepIn). OneCalls ys j) looped.1 c)

@@ -27,9 +27,11 @@ abbrev pub OneHasLoop : List (Alternatives StepIn) → Alternatives StepIn → T
 OneHasLoop rules xs = SomeHasEmptyLoop ReadsSymbols CallsRule rules xs
 
 -- an alternative that begins with the rule itself has the loops of what follows
-operator_loop : (rules : List (Alternatives StepIn)) (k : ℕ) (x rest : Elements StepIn) → after_self (calls k) x ≡ Some rest → HaveLoop rules rest → HaveLoop rules x
+operator_loop : (rules : List (Alternatives StepIn)) (k : ℕ) (x rest : Elements StepIn) → after_self (calls k) x ≡ Some rest
+    → HaveLoop rules rest → HaveLoop rules x
 operator_loop rules k empty rest h l = absurd (cc)
-operator_loop rules k (then (atom a) xs) rest h l = let operator = operator_here k (then (atom a) xs) rest h in inr (subst (HaveLoop rules) operator.1 l)
+operator_loop rules k (then (atom a) xs) rest h l = let operator = operator_here k (then (atom a) xs) rest h in
+    inr (subst (HaveLoop rules) operator.1 l)
 operator_loop rules k (then (block label repeat ys) xs) rest h l = absurd (operator_here k (then (block label repeat ys) xs) rest h)
 
 module _ (rules : List (Alternatives StepIn)) where
@@ -53,9 +55,11 @@ module _ (rules : List (Alternatives StepIn)) where
   after_empty more (inr l) = l
 
   -- one of the primaries, or what follows
-  primary_loop : (primaries : List (Elements StepIn)) (more : Elements StepIn) → HaveLoop rules (after_primary primaries more) → OneHasLoop rules (either primaries) ⊎ HaveLoop rules more
+  primary_loop : (primaries : List (Elements StepIn)) (more : Elements StepIn) → HaveLoop rules (after_primary primaries more)
+      → OneHasLoop rules (either primaries) ⊎ HaveLoop rules more
   primary_loop [] more l = l
-  primary_loop (x ∷ []) more l = elim (onto_loop x (then (atom Empty) more) l) [ inl front ↦ inl (inl front) | inr back ↦ inr (after_empty more back) ]
+  primary_loop (x ∷ []) more l = elim (onto_loop x (then (atom Empty) more) l)
+      [ inl front ↦ inl (inl front) | inr back ↦ inr (after_empty more back) ]
   primary_loop (x ∷ y ∷ others) more l = l
 
   module _ (k : ℕ) (xs : List Written) (full : HasEmptyOperator ReadsSymbols CallsRule CallsRule rules k (bodies xs) → ⊥) where
@@ -73,14 +77,17 @@ module _ (rules : List (Alternatives StepIn)) where
         let source : IsOperatorOf k (bodies xs) found.0 = operator_source k xs found.0 found.1 in
         let back : HaveLoop rules (then (atom (Level source.level)) source.changed) = subst (HaveLoop rules) source.is found.2 in
         let rest : HaveLoop rules source.rest = elim back [ inl never ↦ absurd never | inr more ↦ differing_loop source.differs more ] in
-        one_looped ReadsSymbols CallsRule rules (bodies xs) source.written source.among (operator_loop rules k source.written source.rest source.begins rest)
+        one_looped ReadsSymbols CallsRule rules (bodies xs) source.written source.among
+        (operator_loop rules k source.written source.rest source.begins rest)
 
     -- no operator derives the empty word
     turns_read : IsEmptyBody ReadsSymbols CallsRule rules (either (operator_forms k xs)) → ⊥
     turns_read e =
-        let found = nullable_one ReadsSymbols CallsRule rules (either (operator_forms k xs)) (one_is_nullable ReadsSymbols CallsRule rules e refl) in
+        let found = nullable_one ReadsSymbols CallsRule rules (either (operator_forms k xs))
+        (one_is_nullable ReadsSymbols CallsRule rules e refl) in
         let source : IsOperatorOf k (bodies xs) found.0 = operator_source k xs found.0 found.1 in
-        let rest : AreEmpty rules source.rest = differing_empty rules source.differs (front_empty rules (subst (AreEmpty rules) source.is found.2)).1 in
+        let rest : AreEmpty rules source.rest = differing_empty rules source.differs
+        (front_empty rules (subst (AreEmpty rules) source.is found.2)).1 in
         full (source.written, source.rest, source.among, operator_here k source.written source.rest source.begins, rest)
 
     -- any number of operators
@@ -91,21 +98,26 @@ module _ (rules : List (Alternatives StepIn)) where
 
     -- the whole loop
     in_loop : OneHasLoop rules (only (loop_of k xs)) → OneHasLoop rules (bodies xs)
-    in_loop (inl l) = elim (primary_loop (primary_forms k xs) (turns_of (operator_forms k xs)) l) [ inl front ↦ in_primary front | inr back ↦ in_turns back ]
+    in_loop (inl l) = elim (primary_loop (primary_forms k xs) (turns_of (operator_forms k xs)) l)
+        [ inl front ↦ in_primary front | inr back ↦ in_turns back ]
     in_loop (inr l) = absurd l
 
   -- a loop that can be empty of a rule as it is laid is one of the rule
-  pub formed_loop : (k : ℕ) (rule : StepRule) → (HasEmptyOperator ReadsSymbols CallsRule CallsRule rules k (alternatives_of rule) → ⊥) → OneHasLoop rules (alternatives_of (formed (k, rule))) → OneHasLoop rules (alternatives_of rule)
+  pub formed_loop : (k : ℕ) (rule : StepRule) → (HasEmptyOperator ReadsSymbols CallsRule CallsRule rules k (alternatives_of rule) → ⊥)
+      → OneHasLoop rules (alternatives_of (formed (k, rule))) → OneHasLoop rules (alternatives_of rule)
   formed_loop k rule full l = elim (formed_cases k rule) [
     | inl plain ↦ subst (OneHasLoop rules) plain.1 l
     | inr looped ↦ in_loop k rule.alternatives full (subst (OneHasLoop rules) looped.1 l)
   ]
 
 -- a loop of other rules can be empty only where it can be in these
-module _ (rules laid : List (Alternatives StepIn)) (back : (k : ℕ) (ys : Alternatives StepIn) → slice_get laid k ≡ Some ys → OneIsEmpty rules ys → (xs : Alternatives StepIn) × (slice_get rules k ≡ Some xs) × OneIsEmpty rules xs) where
+module _ (rules laid : List (Alternatives StepIn))
+    (back : (k : ℕ) (ys : Alternatives StepIn) → slice_get laid k ≡ Some ys → OneIsEmpty rules ys
+    → (xs : Alternatives StepIn) × (slice_get rules k ≡ Some xs) × OneIsEmpty rules xs) where
   -- a body
   body_back : (xs : Alternatives StepIn) → IsEmptyBody ReadsSymbols CallsRule laid xs → IsEmptyBody ReadsSymbols CallsRule rules xs
-  body_back xs e = one_derives_nothing ReadsSymbols CallsRule rules (one_empty_back rules laid back (one_is_nullable ReadsSymbols CallsRule laid e refl))
+  body_back xs e = one_derives_nothing ReadsSymbols CallsRule rules
+      (one_empty_back rules laid back (one_is_nullable ReadsSymbols CallsRule laid e refl))
 
   mutual
     -- an element

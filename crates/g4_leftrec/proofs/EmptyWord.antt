@@ -23,7 +23,8 @@ OneIsEmpty rules xs = OneNullable ReadsSymbols CallsRule rules xs
 
 module _ (rules : List (Alternatives StepIn)) where
   -- the first of elements, and the others
-  pub front_empty : {x : Element StepIn} {xs : Elements StepIn} → AreEmpty rules (then x xs) → Nullable ReadsSymbols CallsRule rules x × AreEmpty rules xs
+  pub front_empty : {x : Element StepIn} {xs : Elements StepIn} → AreEmpty rules (then x xs)
+      → Nullable ReadsSymbols CallsRule rules x × AreEmpty rules xs
   front_empty (one_more x xs h hs) = (h, hs)
 
   -- the body of a block
@@ -35,7 +36,8 @@ module _ (rules : List (Alternatives StepIn)) where
   no_alternative h = absurd (nullable_one ReadsSymbols CallsRule rules none h).1
 
   -- a call at another level
-  pub call_empty : (k p q : ℕ) → Nullable ReadsSymbols CallsRule rules (atom (Call k q)) → Nullable ReadsSymbols CallsRule rules (atom (Call k p))
+  pub call_empty : (k p q : ℕ) → Nullable ReadsSymbols CallsRule rules (atom (Call k q))
+      → Nullable ReadsSymbols CallsRule rules (atom (Call k p))
   call_empty k p q (an_atom a h) = absurd h
   call_empty k p q (a_call a rule xs c is h) = a_call (Call k p) rule xs c is h
 
@@ -48,10 +50,12 @@ module _ (rules : List (Alternatives StepIn)) where
   -- elements in two parts
   onto_empty : (xs ys : Elements StepIn) → AreEmpty rules (onto xs ys) → AreEmpty rules xs × AreEmpty rules ys
   onto_empty empty ys h = (nothing, h)
-  onto_empty (then x xs) ys h = let parts = front_empty h in let others = onto_empty xs ys parts.1 in (one_more x xs parts.0 others.0, others.1)
+  onto_empty (then x xs) ys h = let parts = front_empty h in let others = onto_empty xs ys parts.1 in
+      (one_more x xs parts.0 others.0, others.1)
 
   -- one of the primaries, and what follows
-  pub primary_empty : (primaries : List (Elements StepIn)) (more : Elements StepIn) → AreEmpty rules (after_primary primaries more) → OneIsEmpty rules (either primaries) × AreEmpty rules more
+  pub primary_empty : (primaries : List (Elements StepIn)) (more : Elements StepIn) → AreEmpty rules (after_primary primaries more)
+      → OneIsEmpty rules (either primaries) × AreEmpty rules more
   primary_empty [] more h = let parts = front_empty h in (body_empty parts.0, parts.1)
   primary_empty (x ∷ []) more h = let parts = onto_empty x (then (atom Empty) more) h in (this x none parts.0, (front_empty parts.1).1)
   primary_empty (x ∷ y ∷ others) more h = let parts = front_empty h in (body_empty parts.0, parts.1)
@@ -64,19 +68,24 @@ module _ (rules : List (Alternatives StepIn)) where
       one_nullable ReadsSymbols CallsRule rules (bodies xs) source.written source.among (differing_empty source.differs found.2)
 
   -- a rule as it is laid
-  pub formed_empty : (k : ℕ) (rule : StepRule) → OneIsEmpty rules (alternatives_of (formed (k, rule))) → OneIsEmpty rules (alternatives_of rule)
+  pub formed_empty : (k : ℕ) (rule : StepRule) → OneIsEmpty rules (alternatives_of (formed (k, rule)))
+      → OneIsEmpty rules (alternatives_of rule)
   formed_empty k rule h = elim (formed_cases k rule) [
     | inl plain ↦ subst (OneIsEmpty rules) plain.1 h
     | inr looped ↦ looped_empty (loop_of k rule.alternatives) refl (subst (OneIsEmpty rules) looped.1 h)
   ]
     where
       -- a loop
-      looped_empty : (x : Elements StepIn) → x ≡ loop_of k rule.alternatives → OneIsEmpty rules (only x) → OneIsEmpty rules (alternatives_of rule)
-      looped_empty _ e (this x xs h) = primaries_empty k rule.alternatives (primary_empty (primary_forms k rule.alternatives) (turns_of (operator_forms k rule.alternatives)) (subst (AreEmpty rules) e h)).0
+      looped_empty : (x : Elements StepIn) → x ≡ loop_of k rule.alternatives → OneIsEmpty rules (only x)
+          → OneIsEmpty rules (alternatives_of rule)
+      looped_empty _ e (this x xs h) = primaries_empty k rule.alternatives
+          (primary_empty (primary_forms k rule.alternatives) (turns_of (operator_forms k rule.alternatives)) (subst (AreEmpty rules) e h)).0
       looped_empty _ e (another x xs h) = absurd (no_alternative h)
 
 -- a rule of others derives the empty word only where one of these does
-module _ (rules laid : List (Alternatives StepIn)) (back : (k : ℕ) (ys : Alternatives StepIn) → slice_get laid k ≡ Some ys → OneIsEmpty rules ys → (xs : Alternatives StepIn) × (slice_get rules k ≡ Some xs) × OneIsEmpty rules xs) where
+module _ (rules laid : List (Alternatives StepIn))
+    (back : (k : ℕ) (ys : Alternatives StepIn) → slice_get laid k ≡ Some ys → OneIsEmpty rules ys
+    → (xs : Alternatives StepIn) × (slice_get rules k ≡ Some xs) × OneIsEmpty rules xs) where
   mutual
     -- an element
     pub empty_back : {x : Element StepIn} → Nullable ReadsSymbols CallsRule laid x → Nullable ReadsSymbols CallsRule rules x

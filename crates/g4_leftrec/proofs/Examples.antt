@@ -65,9 +65,12 @@ integer = token 6
 
 -- e : e '*' e | e '+' e | '(' e ')' | INT
 abbrev arithmetic : List Written
-arithmetic = written (e 0 ∷ times ∷ e 0 ∷ []) ∷ written (e 0 ∷ plus ∷ e 0 ∷ []) ∷ written (open_bracket ∷ e 0 ∷ close_bracket ∷ []) ∷ written (integer ∷ []) ∷ []
+arithmetic = written (e 0 ∷ times ∷ e 0 ∷ []) ∷ written (e 0 ∷ plus ∷ e 0 ∷ []) ∷ written (open_bracket ∷ e 0 ∷ close_bracket ∷ [])
+    ∷ written (integer ∷ []) ∷ []
 
-arithmetic_laid : loop_of 1 arithmetic ≡ in_order (one_of ((open_bracket ∷ e 0 ∷ close_bracket ∷ []) ∷ (integer ∷ []) ∷ []) ∷ turns ((level 4 ∷ times ∷ e 5 ∷ []) ∷ (level 3 ∷ plus ∷ e 4 ∷ []) ∷ []) ∷ [])
+arithmetic_laid : loop_of 1 arithmetic ≡ in_order
+    (one_of ((open_bracket ∷ e 0 ∷ close_bracket ∷ []) ∷ (integer ∷ []) ∷ [])
+    ∷ turns ((level 4 ∷ times ∷ e 5 ∷ []) ∷ (level 3 ∷ plus ∷ e 4 ∷ []) ∷ []) ∷ [])
 arithmetic_laid = refl
 
 arithmetic_starts : starts_of 1 arithmetic ≡ 3 ∷ 4 ∷ []
@@ -84,25 +87,32 @@ power_starts : starts_of 1 power ≡ 2 ∷ []
 power_starts = refl
 
 -- e : e '*' e | '-' e | e '+' e | INT
-prefix : loop_of 1 (written (e 0 ∷ times ∷ e 0 ∷ []) ∷ written (minus ∷ e 0 ∷ []) ∷ written (e 0 ∷ plus ∷ e 0 ∷ []) ∷ written (integer ∷ []) ∷ [])
-    ≡ in_order (one_of ((minus ∷ e 3 ∷ []) ∷ (integer ∷ []) ∷ []) ∷ turns ((level 4 ∷ times ∷ e 5 ∷ []) ∷ (level 2 ∷ plus ∷ e 3 ∷ []) ∷ []) ∷ [])
+prefix : loop_of 1 (written (e 0 ∷ times ∷ e 0 ∷ []) ∷ written (minus ∷ e 0 ∷ []) ∷ written (e 0 ∷ plus ∷ e 0 ∷ [])
+    ∷ written (integer ∷ []) ∷ [])
+    ≡ in_order (one_of ((minus ∷ e 3 ∷ []) ∷ (integer ∷ []) ∷ [])
+    ∷ turns ((level 4 ∷ times ∷ e 5 ∷ []) ∷ (level 2 ∷ plus ∷ e 3 ∷ []) ∷ []) ∷ [])
 prefix = refl
 
 -- e : e '!' | e | INT, where nothing follows the second e
-suffix : loop_of 1 (written (e 0 ∷ token 8 ∷ []) ∷ written (e 0 ∷ []) ∷ written (integer ∷ []) ∷ []) ≡ in_order (integer ∷ nothing ∷ turns ((level 3 ∷ token 8 ∷ []) ∷ (level 2 ∷ []) ∷ []) ∷ [])
+suffix : loop_of 1 (written (e 0 ∷ token 8 ∷ []) ∷ written (e 0 ∷ []) ∷ written (integer ∷ []) ∷ [])
+    ≡ in_order (integer ∷ nothing ∷ turns ((level 3 ∷ token 8 ∷ []) ∷ (level 2 ∷ []) ∷ []) ∷ [])
 suffix = refl
 
 -- e : e '?' e ':' e | INT
-ternary : loop_of 1 (written (e 0 ∷ token 9 ∷ e 0 ∷ token 10 ∷ e 0 ∷ []) ∷ written (integer ∷ []) ∷ []) ≡ in_order (integer ∷ nothing ∷ turns ((level 2 ∷ token 9 ∷ e 0 ∷ token 10 ∷ e 3 ∷ []) ∷ []) ∷ [])
+ternary : loop_of 1 (written (e 0 ∷ token 9 ∷ e 0 ∷ token 10 ∷ e 0 ∷ []) ∷ written (integer ∷ []) ∷ [])
+    ≡ in_order (integer ∷ nothing ∷ turns ((level 2 ∷ token 9 ∷ e 0 ∷ token 10 ∷ e 3 ∷ []) ∷ []) ∷ [])
 ternary = refl
 
 -- e : e e | INT
-application : loop_of 1 (written (e 0 ∷ e 0 ∷ []) ∷ written (integer ∷ []) ∷ []) ≡ in_order (integer ∷ nothing ∷ turns ((level 2 ∷ e 3 ∷ []) ∷ []) ∷ [])
+application : loop_of 1 (written (e 0 ∷ e 0 ∷ []) ∷ written (integer ∷ []) ∷ [])
+    ≡ in_order (integer ∷ nothing ∷ turns ((level 2 ∷ e 3 ∷ []) ∷ []) ∷ [])
 application = refl
 
 -- e : e '+' e {..} {..}? | '-' e {..} | INT {..}
-trailing : loop_of 1 (written (e 0 ∷ plus ∷ e 0 ∷ action ∷ atom (Predicate 0) ∷ []) ∷ written (minus ∷ e 0 ∷ action ∷ []) ∷ written (integer ∷ action ∷ []) ∷ [])
-    ≡ in_order (one_of ((minus ∷ e 2 ∷ action ∷ []) ∷ (integer ∷ action ∷ []) ∷ []) ∷ turns ((level 3 ∷ plus ∷ e 4 ∷ action ∷ atom (Predicate 0) ∷ []) ∷ []) ∷ [])
+trailing : loop_of 1 (written (e 0 ∷ plus ∷ e 0 ∷ action ∷ atom (Predicate 0) ∷ []) ∷ written (minus ∷ e 0 ∷ action ∷ [])
+    ∷ written (integer ∷ action ∷ []) ∷ [])
+    ≡ in_order (one_of ((minus ∷ e 2 ∷ action ∷ []) ∷ (integer ∷ action ∷ []) ∷ [])
+    ∷ turns ((level 3 ∷ plus ∷ e 4 ∷ action ∷ atom (Predicate 0) ∷ []) ∷ []) ∷ [])
 trailing = refl
 
 -- e : (e) '+' e | INT, which does not begin with a plain e

@@ -37,12 +37,14 @@ module _ (rules : List (Alternatives StepIn)) (j : ℕ) where
   -- an alternative that does not begin with the rule itself
   left_apart : (k : ℕ) (x : Elements StepIn) → after_self (calls k) x ≡ None → AreLeft rules x j → IsLeftRun rules k x j
   left_apart k empty h l = l
-  left_apart k (then (atom a) xs) h (inl l) = inl (l, λ own. let begins : calls k a ≡ true = step_own k a own in let e : Some xs ≡ None = rw begins at h in absurd (cc))
+  left_apart k (then (atom a) xs) h (inl l) = inl
+      (l, λ own. let begins : calls k a ≡ true = step_own k a own in let e : Some xs ≡ None = rw begins at h in absurd (cc))
   left_apart k (then (atom a) xs) h (inr l) = inr l
   left_apart k (then (block label repeat ys) xs) h l = l
 
   -- an alternative that begins with it, where the rule derives the empty word
-  left_operator : (k : ℕ) (x rest : Elements StepIn) → IsOperator CallsRule k x rest → ((a : StepIn) → CallsRule a k → Nullable ReadsSymbols CallsRule rules (atom a)) → AreLeft rules rest j → IsLeftRun rules k x j
+  left_operator : (k : ℕ) (x rest : Elements StepIn) → IsOperator CallsRule k x rest
+      → ((a : StepIn) → CallsRule a k → Nullable ReadsSymbols CallsRule rules (atom a)) → AreLeft rules rest j → IsLeftRun rules k x j
   left_operator k empty rest o silent l = absurd o
   left_operator k (then (atom a) xs) rest o silent l = inr (silent a o.0, subst (λ (ys : Elements StepIn). AreLeft rules ys j) o.1 l)
   left_operator k (then (block label repeat ys) xs) rest o silent l = absurd o
@@ -59,7 +61,8 @@ module _ (rules : List (Alternatives StepIn)) (j : ℕ) where
   onto_left : (xs ys : Elements StepIn) → AreLeft rules (onto xs ys) j → AreLeft rules xs j ⊎ (AreEmpty rules xs × AreLeft rules ys j)
   onto_left empty ys l = inr (nothing, l)
   onto_left (then x xs) ys (inl l) = inl (inl l)
-  onto_left (then x xs) ys (inr l) = elim (onto_left xs ys l.1) [ inl front ↦ inl (inr (l.0, front)) | inr back ↦ inr (one_more x xs l.0 back.0, back.1) ]
+  onto_left (then x xs) ys (inr l) = elim (onto_left xs ys l.1)
+      [ inl front ↦ inl (inr (l.0, front)) | inr back ↦ inr (one_more x xs l.0 back.0, back.1) ]
 
   -- an empty step calls nothing
   after_empty : (more : Elements StepIn) → AreLeft rules (then (atom Empty) more) j → AreLeft rules more j
@@ -67,14 +70,17 @@ module _ (rules : List (Alternatives StepIn)) (j : ℕ) where
   after_empty more (inr l) = l.1
 
   -- a block taken once, or what follows
-  block_left : (ys : Alternatives StepIn) (more : Elements StepIn) → AreLeft rules (then (block None Once ys) more) j → OneIsLeft rules ys j ⊎ (OneIsEmpty rules ys × AreLeft rules more j)
+  block_left : (ys : Alternatives StepIn) (more : Elements StepIn) → AreLeft rules (then (block None Once ys) more) j
+      → OneIsLeft rules ys j ⊎ (OneIsEmpty rules ys × AreLeft rules more j)
   block_left ys more (inl l) = inl l
   block_left ys more (inr l) = inr (body_empty rules l.0, l.1)
 
   -- one of the primaries, or what follows
-  primary_left : (primaries : List (Elements StepIn)) (more : Elements StepIn) → AreLeft rules (after_primary primaries more) j → OneIsLeft rules (either primaries) j ⊎ (OneIsEmpty rules (either primaries) × AreLeft rules more j)
+  primary_left : (primaries : List (Elements StepIn)) (more : Elements StepIn) → AreLeft rules (after_primary primaries more) j
+      → OneIsLeft rules (either primaries) j ⊎ (OneIsEmpty rules (either primaries) × AreLeft rules more j)
   primary_left [] more l = block_left none more l
-  primary_left (x ∷ []) more l = elim (onto_left x (then (atom Empty) more) l) [ inl front ↦ inl (inl front) | inr back ↦ inr (this x none back.0, after_empty more back.1) ]
+  primary_left (x ∷ []) more l = elim (onto_left x (then (atom Empty) more) l)
+      [ inl front ↦ inl (inl front) | inr back ↦ inr (this x none back.0, after_empty more back.1) ]
   primary_left (x ∷ y ∷ others) more l = block_left (either (x ∷ y ∷ others)) more l
 
   module _ (k : ℕ) (xs : List Written) (is : slice_get rules k ≡ Some (bodies xs)) where
@@ -83,43 +89,53 @@ module _ (rules : List (Alternatives StepIn)) (j : ℕ) where
     in_primary l =
         let found = left_one ReadsSymbols CallsRule rules (either (primary_forms k xs)) j l in
         let source : IsPrimaryOf k (bodies xs) found.0 = primary_source k xs found.0 found.1 in
-        one_left_as_run ReadsSymbols CallsRule rules CallsRule k (bodies xs) source.written j source.among (left_apart k source.written source.apart (differing_left source.differs found.2))
+        one_left_as_run ReadsSymbols CallsRule rules CallsRule k (bodies xs) source.written j source.among
+        (left_apart k source.written source.apart (differing_left source.differs found.2))
 
     -- a left call of an operator, where a primary derives the empty word
-    in_operator : OneIsEmpty rules (either (primary_forms k xs)) → OneIsLeft rules (either (operator_forms k xs)) j → OneIsLeftRun rules k (bodies xs) j
+    in_operator : OneIsEmpty rules (either (primary_forms k xs)) → OneIsLeft rules (either (operator_forms k xs)) j
+        → OneIsLeftRun rules k (bodies xs) j
     in_operator silent l =
         let found = left_one ReadsSymbols CallsRule rules (either (operator_forms k xs)) j l in
         let source : IsOperatorOf k (bodies xs) found.0 = operator_source k xs found.0 found.1 in
-        let back : AreLeft rules (then (atom (Level source.level)) source.changed) j = subst (λ (ys : Elements StepIn). AreLeft rules ys j) source.is found.2 in
+        let back : AreLeft rules (then (atom (Level source.level)) source.changed) j =
+        subst (λ (ys : Elements StepIn). AreLeft rules ys j) source.is found.2 in
         let rest : AreLeft rules source.rest j = elim back [ inl never ↦ absurd never | inr more ↦ differing_left source.differs more.1 ] in
         one_left_as_run ReadsSymbols CallsRule rules CallsRule k (bodies xs) source.written j source.among
-        (left_operator k source.written source.rest (operator_here k source.written source.rest source.begins) (λ a c. a_call a k (bodies xs) c is (primaries_empty rules k xs silent)) rest)
+        (left_operator k source.written source.rest (operator_here k source.written source.rest source.begins)
+        (λ a c. a_call a k (bodies xs) c is (primaries_empty rules k xs silent)) rest)
 
     -- any number of operators
-    in_turns : OneIsEmpty rules (either (primary_forms k xs)) → AreLeft rules (turns_of (operator_forms k xs)) j → OneIsLeftRun rules k (bodies xs) j
+    in_turns : OneIsEmpty rules (either (primary_forms k xs)) → AreLeft rules (turns_of (operator_forms k xs)) j
+        → OneIsLeftRun rules k (bodies xs) j
     in_turns silent (inl l) = in_operator silent l
     in_turns silent (inr l) = absurd l.1
 
     -- the whole loop
     in_loop : OneIsLeft rules (only (loop_of k xs)) j → OneIsLeftRun rules k (bodies xs) j
-    in_loop (inl l) = elim (primary_left (primary_forms k xs) (turns_of (operator_forms k xs)) l) [ inl front ↦ in_primary front | inr back ↦ in_turns back.0 back.1 ]
+    in_loop (inl l) = elim (primary_left (primary_forms k xs) (turns_of (operator_forms k xs)) l)
+        [ inl front ↦ in_primary front | inr back ↦ in_turns back.0 back.1 ]
     in_loop (inr l) = absurd l
 
     -- a rule that stays as it is written
     in_written : is_left_recursive (calls k) xs ≡ false → OneIsLeft rules (bodies xs) j → OneIsLeftRun rules k (bodies xs) j
     in_written plain l =
         let found = left_one ReadsSymbols CallsRule rules (bodies xs) j l in
-        one_left_as_run ReadsSymbols CallsRule rules CallsRule k (bodies xs) found.0 j found.1 (left_apart k found.0 (none_begins k xs plain found.0 found.1) found.2)
+        one_left_as_run ReadsSymbols CallsRule rules CallsRule k (bodies xs) found.0 j found.1
+        (left_apart k found.0 (none_begins k xs plain found.0 found.1) found.2)
 
   -- a left call of rule k as it is laid
-  pub formed_left : (k : ℕ) (rule : StepRule) → slice_get rules k ≡ Some (alternatives_of rule) → OneIsLeft rules (alternatives_of (formed (k, rule))) j → OneIsLeftRun rules k (alternatives_of rule) j
+  pub formed_left : (k : ℕ) (rule : StepRule) → slice_get rules k ≡ Some (alternatives_of rule)
+      → OneIsLeft rules (alternatives_of (formed (k, rule))) j → OneIsLeftRun rules k (alternatives_of rule) j
   formed_left k rule is l = elim (formed_cases k rule) [
     | inl plain ↦ in_written k rule.alternatives is plain.0 (subst (λ (ys : Alternatives StepIn). OneIsLeft rules ys j) plain.1 l)
     | inr looped ↦ in_loop k rule.alternatives is (subst (λ (ys : Alternatives StepIn). OneIsLeft rules ys j) looped.1 l)
   ]
 
 -- left calls by which words of other rules are empty, are left calls by these
-module _ (rules laid : List (Alternatives StepIn)) (back : (k : ℕ) (ys : Alternatives StepIn) → slice_get laid k ≡ Some ys → OneIsEmpty rules ys → (xs : Alternatives StepIn) × (slice_get rules k ≡ Some xs) × OneIsEmpty rules xs) (j : ℕ) where
+module _ (rules laid : List (Alternatives StepIn))
+    (back : (k : ℕ) (ys : Alternatives StepIn) → slice_get laid k ≡ Some ys → OneIsEmpty rules ys
+    → (xs : Alternatives StepIn) × (slice_get rules k ≡ Some xs) × OneIsEmpty rules xs) (j : ℕ) where
   mutual
     -- an element
     left_back : (x : Element StepIn) → IsLeftOf ReadsSymbols CallsRule laid x j → IsLeftOf ReadsSymbols CallsRule rules x j

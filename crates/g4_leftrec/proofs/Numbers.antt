@@ -15,17 +15,21 @@ pub record IsLaidAs (rules : List StepRule) (k : ℕ) (ys : Alternatives StepIn)
   pub is : ys ≡ alternatives_of (formed (k, rule))
 
 -- the alternatives at an index
-pub at_index : (rules : List StepRule) (i : ℕ) (rule : StepRule) → slice_get rules i ≡ Some rule → slice_get (map alternatives_of rules) i ≡ Some (alternatives_of rule)
+pub at_index : (rules : List StepRule) (i : ℕ) (rule : StepRule) → slice_get rules i ≡ Some rule
+    → slice_get (map alternatives_of rules) i ≡ Some (alternatives_of rule)
 at_index [] i rule h = absurd (cc)
 at_index (other ∷ rules) zero rule h = ap (λ (r : StepRule). Some (alternatives_of r)) (same_Some other rule h)
 at_index (other ∷ rules) (suc i) rule h = at_index rules i rule h
 
 -- the same by the number, which counts from 1
-pub at_number : (rules : List StepRule) (i : ℕ) (rule : StepRule) → slice_get rules i ≡ Some rule → slice_get (by_number rules) (1 + i) ≡ Some (alternatives_of rule)
+pub at_number : (rules : List StepRule) (i : ℕ) (rule : StepRule) → slice_get rules i ≡ Some rule
+    → slice_get (by_number rules) (1 + i) ≡ Some (alternatives_of rule)
 at_number rules i rule h = let next : 1 + i ≡ suc i = omega arith in ap (slice_get (by_number rules)) next ∙ at_index rules i rule h
 
 -- the rule at an index as it is laid
-laid_at : (n i : ℕ) (rules : List StepRule) (ys : Alternatives StepIn) → slice_get (map alternatives_of (map formed (enumerate_from n rules))) i ≡ Some ys → (rule : StepRule) × (slice_get rules i ≡ Some rule) × (ys ≡ alternatives_of (formed (n + i, rule)))
+laid_at : (n i : ℕ) (rules : List StepRule) (ys : Alternatives StepIn)
+    → slice_get (map alternatives_of (map formed (enumerate_from n rules))) i ≡ Some ys
+    → (rule : StepRule) × (slice_get rules i ≡ Some rule) × (ys ≡ alternatives_of (formed (n + i, rule)))
 laid_at n i [] ys h = absurd (cc)
 laid_at n zero (rule ∷ rules) ys h =
     let same : n ≡ n + 0 = omega arith in
@@ -36,7 +40,8 @@ laid_at n (suc i) (rule ∷ rules) ys h =
     (found.0, found.1, found.2 ∙ ap (λ (m : ℕ). alternatives_of (formed (m, found.0))) same)
 
 -- a rule by its number is the added one, or laid as one of these rules
-pub laid_cases : (rules : List StepRule) (k : ℕ) (ys : Alternatives StepIn) → slice_get (by_number (rewritten rules)) k ≡ Some ys → (ys ≡ none) ⊎ IsLaidAs rules k ys
+pub laid_cases : (rules : List StepRule) (k : ℕ) (ys : Alternatives StepIn) → slice_get (by_number (rewritten rules)) k ≡ Some ys
+    → (ys ≡ none) ⊎ IsLaidAs rules k ys
 laid_cases rules zero ys h = inl (sym (same_Some none ys h))
 laid_cases rules (suc i) ys h =
     let found = laid_at 1 i rules ys h in
@@ -48,6 +53,8 @@ laid_cases rules (suc i) ys h =
     })
 
 -- what holds of each rule, holds of each as it is laid
-pub all_formed : (P Q : StepRule → Type 0) → ((k : ℕ) (rule : StepRule) → P rule → Q (formed (k, rule))) → (n : ℕ) (rules : List StepRule) → All P rules → All Q (map formed (enumerate_from n rules))
+pub all_formed : (P Q : StepRule → Type 0) → ((k : ℕ) (rule : StepRule) → P rule → Q (formed (k, rule)))
+    → (n : ℕ) (rules : List StepRule) → All P rules → All Q (map formed (enumerate_from n rules))
 all_formed P Q f n [] h = All-nil Q
-all_formed P Q f n (rule ∷ rules) h = All-cons Q (formed (n, rule)) (map formed (enumerate_from (n + 1) rules)) (f n rule (All-head P rule rules h)) (all_formed P Q f (n + 1) rules (All-tail P rule rules h))
+all_formed P Q f n (rule ∷ rules) h = All-cons Q (formed (n, rule)) (map formed (enumerate_from (n + 1) rules))
+    (f n rule (All-head P rule rules h)) (all_formed P Q f (n + 1) rules (All-tail P rule rules h))

@@ -31,8 +31,10 @@ own_call k (block label repeat xs) h = absurd (cc)
 
 module _ (k q : ℕ) where
   -- an element in front, by what is last
-  by_cases : (x : Element StepIn) (xs : Elements StepIn) (quiet own : Bool) (w : Option (LastSelf StepIn)) → is_atom (calls k) x ≡ own → DiffersInLevel k xs (last_at k q xs w) →
-      DiffersInLevel k (then x xs) (last_at k q (then x xs) (cond quiet (cond own (Some (record { before = empty; trailing = xs })) None) (with_first x w)))
+  by_cases : (x : Element StepIn) (xs : Elements StepIn) (quiet own : Bool) (w : Option (LastSelf StepIn)) → is_atom (calls k) x ≡ own
+      → DiffersInLevel k xs (last_at k q xs w) →
+      DiffersInLevel k (then x xs) (last_at k q (then x xs)
+      (cond quiet (cond own (Some (record { before = empty; trailing = xs })) None) (with_first x w)))
   by_cases x xs true true w h d =
       let call = own_call k x h in
       subst (λ (y : Element StepIn). DiffersInLevel k (then y xs) (then (atom (Call k q)) xs)) (sym call.1) (here call.0 q xs)
@@ -43,4 +45,5 @@ module _ (k q : ℕ) where
   -- with rule k at a level where it is the last
   pub last_differs : (xs : Elements StepIn) → DiffersInLevel k xs (with_last_at k q xs)
   last_differs empty = nowhere empty
-  last_differs (then x xs) = by_cases x xs (are_silent is_silent xs) (is_atom (calls k) x) (before_self (calls k) is_silent xs) refl (last_differs xs)
+  last_differs (then x xs) = by_cases x xs (are_silent is_silent xs) (is_atom (calls k) x) (before_self (calls k) is_silent xs) refl
+      (last_differs xs)

@@ -43,24 +43,30 @@ one_plain a h = All-cons IsPlainLaid a [] h (All-nil IsPlainLaid)
 -- elements with a call at another level
 differing_plain : {k : ℕ} {xs ys : Elements StepIn} → DiffersInLevel k xs ys → ArePlain xs → ArePlain ys
 differing_plain (nowhere xs) h = h
-differing_plain {k} (here p q xs) h = more_plain (atom (Call k q)) xs (one_plain (Call k q) tt) (All-rest IsPlainLaid (Call k p ∷ []) (atoms_in_order xs) h)
-differing_plain (later x xs ys d) h = more_plain x ys (All-front IsPlainLaid (atoms x) (atoms_in_order xs) h) (differing_plain d (All-rest IsPlainLaid (atoms x) (atoms_in_order xs) h))
+differing_plain {k} (here p q xs) h = more_plain (atom (Call k q)) xs (one_plain (Call k q) tt)
+    (All-rest IsPlainLaid (Call k p ∷ []) (atoms_in_order xs) h)
+differing_plain (later x xs ys d) h = more_plain x ys (All-front IsPlainLaid (atoms x) (atoms_in_order xs) h)
+    (differing_plain d (All-rest IsPlainLaid (atoms x) (atoms_in_order xs) h))
 
 -- elements in two parts
 onto_plain : (xs ys : Elements StepIn) → ArePlain xs → ArePlain ys → ArePlain (onto xs ys)
 onto_plain empty ys h hs = hs
-onto_plain (then x xs) ys h hs = more_plain x (onto xs ys) (All-front IsPlainLaid (atoms x) (atoms_in_order xs) h) (onto_plain xs ys (All-rest IsPlainLaid (atoms x) (atoms_in_order xs) h) hs)
+onto_plain (then x xs) ys h hs = more_plain x (onto xs ys) (All-front IsPlainLaid (atoms x) (atoms_in_order xs) h)
+    (onto_plain xs ys (All-rest IsPlainLaid (atoms x) (atoms_in_order xs) h) hs)
 
 -- one of the primaries, and then these
-primary_plain : (primaries : List (Elements StepIn)) (more : Elements StepIn) → EachIsPlain (either primaries) → ArePlain more → ArePlain (after_primary primaries more)
+primary_plain : (primaries : List (Elements StepIn)) (more : Elements StepIn) → EachIsPlain (either primaries) → ArePlain more
+    → ArePlain (after_primary primaries more)
 primary_plain [] more each h = h
-primary_plain (x ∷ []) more each h = onto_plain x (then (atom Empty) more) (All-front IsPlainLaid (atoms_in_order x) [] each) (more_plain (atom Empty) more (one_plain Empty tt) h)
+primary_plain (x ∷ []) more each h = onto_plain x (then (atom Empty) more) (All-front IsPlainLaid (atoms_in_order x) [] each)
+    (more_plain (atom Empty) more (one_plain Empty tt) h)
 primary_plain (x ∷ y ∷ others) more each h = All-append IsPlainLaid (atoms_of_either (either (x ∷ y ∷ others))) (atoms_in_order more) each h
 
 -- what follows the rule itself in an alternative
 operator_plain : (k : ℕ) (x rest : Elements StepIn) → after_self (calls k) x ≡ Some rest → ArePlain x → ArePlain rest
 operator_plain k empty rest h p = absurd (cc)
-operator_plain k (then (atom a) xs) rest h p = let operator = operator_here k (then (atom a) xs) rest h in subst ArePlain (sym operator.1) (All-rest IsPlainLaid (a ∷ []) (atoms_in_order xs) p)
+operator_plain k (then (atom a) xs) rest h p = let operator = operator_here k (then (atom a) xs) rest h in
+    subst ArePlain (sym operator.1) (All-rest IsPlainLaid (a ∷ []) (atoms_in_order xs) p)
 operator_plain k (then (block label repeat ys) xs) rest h p = absurd (operator_here k (then (block label repeat ys) xs) rest h)
 
 module _ (k : ℕ) (xs : List Written) (plain : EachIsPlain (bodies xs)) where
@@ -71,17 +77,22 @@ module _ (k : ℕ) (xs : List Written) (plain : EachIsPlain (bodies xs)) where
   -- the steps of an operator
   in_operator : (y : Elements StepIn) → IsOperatorOf k (bodies xs) y → ArePlain y
   in_operator y source =
-      let rest : ArePlain source.rest = operator_plain k source.written source.rest source.begins (atoms_one IsPlainLaid (bodies xs) source.written plain source.among) in
-      subst ArePlain (sym source.is) (more_plain (atom (Level source.level)) source.changed (one_plain (Level source.level) tt) (differing_plain source.differs rest))
+      let rest : ArePlain source.rest = operator_plain k source.written source.rest source.begins
+      (atoms_one IsPlainLaid (bodies xs) source.written plain source.among) in
+      subst ArePlain (sym source.is) (more_plain (atom (Level source.level)) source.changed (one_plain (Level source.level) tt)
+      (differing_plain source.differs rest))
 
   -- the steps of the turns
   turns_plain : ArePlain (turns_of (operator_forms k xs))
-  turns_plain = All-append IsPlainLaid (atoms_of_either (either (operator_forms k xs))) [] (each_atoms IsPlainLaid (either (operator_forms k xs)) (λ y among. in_operator y (operator_source k xs y among))) (All-nil IsPlainLaid)
+  turns_plain = All-append IsPlainLaid (atoms_of_either (either (operator_forms k xs))) []
+      (each_atoms IsPlainLaid (either (operator_forms k xs)) (λ y among. in_operator y (operator_source k xs y among)))
+      (All-nil IsPlainLaid)
 
   -- the steps of the whole loop
   loop_plain : EachIsPlain (only (loop_of k xs))
   loop_plain =
-      let loop : ArePlain (loop_of k xs) = primary_plain (primary_forms k xs) (turns_of (operator_forms k xs)) (each_atoms IsPlainLaid (either (primary_forms k xs)) (λ y among. in_primary y (primary_source k xs y among))) turns_plain in
+      let loop : ArePlain (loop_of k xs) = primary_plain (primary_forms k xs) (turns_of (operator_forms k xs))
+      (each_atoms IsPlainLaid (either (primary_forms k xs)) (λ y among. in_primary y (primary_source k xs y among))) turns_plain in
       All-append IsPlainLaid (atoms_in_order (loop_of k xs)) [] loop (All-nil IsPlainLaid)
 
 -- the steps of a rule as it is laid

@@ -63,27 +63,48 @@ operator_here k (then (block label repeat ys) xs) rest h = absurd (cc)
 
 module _ (k n : ℕ) where
   -- a primary in front, if it is one
-  primary_front : (number : ℕ) (a : Written) (o : Option (Elements StepIn)) (kept : List (Part StepIn)) (others : Alternatives StepIn) (y : Elements StepIn) → after_self (calls k) a.elements ≡ o → (IsOneOf (either (map (primary_form k n) kept)) y → IsPrimaryOf k others y) →
-      IsOneOf (either (map (primary_form k n) (cons_option (primary_with (calls k) number a.right a.elements o) kept))) y → IsPrimaryOf k (or a.elements others) y
+  primary_front : (number : ℕ) (a : Written) (o : Option (Elements StepIn)) (kept : List (Part StepIn)) (others : Alternatives StepIn)
+      (y : Elements StepIn) → after_self (calls k) a.elements ≡ o
+      → (IsOneOf (either (map (primary_form k n) kept)) y → IsPrimaryOf k others y) →
+      IsOneOf (either (map (primary_form k n) (cons_option (primary_with (calls k) number a.right a.elements o) kept))) y
+      → IsPrimaryOf k (or a.elements others) y
   primary_front number a None kept others y is more (inl same) = record {
     written = a.elements;
     among = inl refl;
     apart = is;
     differs = subst (DiffersInLevel k a.elements) (sym same) (last_differs k (precedence n number) a.elements);
   }
-  primary_front number a None kept others y is more (inr h) = let p = more h in record { written = p.written; among = inr p.among; apart = p.apart; differs = p.differs }
-  primary_front number a (Some rest) kept others y is more h = let p = more h in record { written = p.written; among = inr p.among; apart = p.apart; differs = p.differs }
+  primary_front number a None kept others y is more (inr h) = let p = more h in
+      record { written = p.written; among = inr p.among; apart = p.apart; differs = p.differs }
+  primary_front number a (Some rest) kept others y is more h = let p = more h in
+      record { written = p.written; among = inr p.among; apart = p.apart; differs = p.differs }
 
   -- each primary, the alternatives counting from this number
-  primary_from : (number : ℕ) (xs : List Written) (y : Elements StepIn) → IsOneOf (either (map (primary_form k n) (filter_map (primary_of (calls k)) (enumerate_from number xs)))) y → IsPrimaryOf k (bodies xs) y
+  primary_from : (number : ℕ) (xs : List Written) (y : Elements StepIn)
+      → IsOneOf (either (map (primary_form k n) (filter_map (primary_of (calls k)) (enumerate_from number xs)))) y
+      → IsPrimaryOf k (bodies xs) y
   primary_from number [] y h = absurd h
   primary_from number (a ∷ xs) y h =
-      primary_front number a (after_self (calls k) a.elements) (filter_map (primary_of (calls k)) (enumerate_from (number + 1) xs)) (bodies xs) y refl (primary_from (number + 1) xs y) h
+      primary_front number a (after_self (calls k) a.elements) (filter_map (primary_of (calls k)) (enumerate_from (number + 1) xs))
+      (bodies xs) y refl (primary_from (number + 1) xs y) h
 
   -- an operator in front, if it is one
-  operator_front : (number : ℕ) (a : Written) (o : Option (Elements StepIn)) (kept : List (Part StepIn)) (others : Alternatives StepIn) (y : Elements StepIn) → after_self (calls k) a.elements ≡ o → (IsOneOf (either (map (operator_form k n) kept)) y → IsOperatorOf k others y) →
-      IsOneOf (either (map (operator_form k n) (cons_option (operator_with (calls k) number a.right o) kept))) y → IsOperatorOf k (or a.elements others) y
-  operator_front number a None kept others y is more h = let p = more h in record { level = p.level; written = p.written; rest = p.rest; changed = p.changed; among = inr p.among; begins = p.begins; differs = p.differs; is = p.is }
+  operator_front : (number : ℕ) (a : Written) (o : Option (Elements StepIn)) (kept : List (Part StepIn))
+      (others : Alternatives StepIn) (y : Elements StepIn) → after_self (calls k) a.elements ≡ o
+      → (IsOneOf (either (map (operator_form k n) kept)) y → IsOperatorOf k others y) →
+      IsOneOf (either (map (operator_form k n) (cons_option (operator_with (calls k) number a.right o) kept))) y
+      → IsOperatorOf k (or a.elements others) y
+  operator_front number a None kept others y is more h = let p = more h in
+      record {
+        level = p.level;
+        written = p.written;
+        rest = p.rest;
+        changed = p.changed;
+        among = inr p.among;
+        begins = p.begins;
+        differs = p.differs;
+        is = p.is;
+      }
   operator_front number a (Some rest) kept others y is more (inl same) =
       let q : ℕ = operand_level (precedence n number) a.right in
       record {
@@ -96,13 +117,26 @@ module _ (k n : ℕ) where
         differs = last_differs k q rest;
         is = same;
       }
-  operator_front number a (Some rest) kept others y is more (inr h) = let p = more h in record { level = p.level; written = p.written; rest = p.rest; changed = p.changed; among = inr p.among; begins = p.begins; differs = p.differs; is = p.is }
+  operator_front number a (Some rest) kept others y is more (inr h) = let p = more h in
+      record {
+        level = p.level;
+        written = p.written;
+        rest = p.rest;
+        changed = p.changed;
+        among = inr p.among;
+        begins = p.begins;
+        differs = p.differs;
+        is = p.is;
+      }
 
   -- each operator
-  operator_from : (number : ℕ) (xs : List Written) (y : Elements StepIn) → IsOneOf (either (map (operator_form k n) (filter_map (operator_of (calls k)) (enumerate_from number xs)))) y → IsOperatorOf k (bodies xs) y
+  operator_from : (number : ℕ) (xs : List Written) (y : Elements StepIn)
+      → IsOneOf (either (map (operator_form k n) (filter_map (operator_of (calls k)) (enumerate_from number xs)))) y
+      → IsOperatorOf k (bodies xs) y
   operator_from number [] y h = absurd h
   operator_from number (a ∷ xs) y h =
-      operator_front number a (after_self (calls k) a.elements) (filter_map (operator_of (calls k)) (enumerate_from (number + 1) xs)) (bodies xs) y refl (operator_from (number + 1) xs y) h
+      operator_front number a (after_self (calls k) a.elements) (filter_map (operator_of (calls k)) (enumerate_from (number + 1) xs))
+      (bodies xs) y refl (operator_from (number + 1) xs y) h
 
 module _ (k : ℕ) where
   -- each primary of a rule is made of an alternative that does not begin with the rule itself
@@ -114,33 +148,43 @@ module _ (k : ℕ) where
   operator_source xs y h = operator_from k (length xs) 1 xs y h
 
   -- without a primary each alternative begins with the rule itself
-  none_kept : (number : ℕ) (a : Written) (o : Option (Elements StepIn)) (kept : List (Part StepIn)) → cons_option (primary_with (calls k) number a.right a.elements o) kept ≡ [] → (rest : Elements StepIn) × (o ≡ Some rest) × (kept ≡ [])
+  none_kept : (number : ℕ) (a : Written) (o : Option (Elements StepIn)) (kept : List (Part StepIn))
+      → cons_option (primary_with (calls k) number a.right a.elements o) kept ≡ []
+      → (rest : Elements StepIn) × (o ≡ Some rest) × (kept ≡ [])
   none_kept number a None kept h = absurd (cc)
   none_kept number a (Some rest) kept h = (rest, refl, h)
 
   -- the same of each of the alternatives
-  all_operators : (number : ℕ) (xs : List Written) → filter_map (primary_of (calls k)) (enumerate_from number xs) ≡ [] → (x : Elements StepIn) → IsOneOf (bodies xs) x → (rest : Elements StepIn) × IsOperator CallsRule k x rest
+  all_operators : (number : ℕ) (xs : List Written) → filter_map (primary_of (calls k)) (enumerate_from number xs) ≡ []
+      → (x : Elements StepIn) → IsOneOf (bodies xs) x → (rest : Elements StepIn) × IsOperator CallsRule k x rest
   all_operators number [] h x among = absurd among
   all_operators number (a ∷ xs) h x (inl same) =
-      let found = none_kept number a (after_self (calls k) a.elements) (filter_map (primary_of (calls k)) (enumerate_from (number + 1) xs)) h in
+      let found = none_kept number a (after_self (calls k) a.elements)
+      (filter_map (primary_of (calls k)) (enumerate_from (number + 1) xs)) h in
       (found.0, operator_here k x found.0 (ap (after_self (calls k)) same ∙ found.1))
   all_operators number (a ∷ xs) h x (inr among) =
-      let found = none_kept number a (after_self (calls k) a.elements) (filter_map (primary_of (calls k)) (enumerate_from (number + 1) xs)) h in
+      let found = none_kept number a (after_self (calls k) a.elements)
+      (filter_map (primary_of (calls k)) (enumerate_from (number + 1) xs)) h in
       all_operators (number + 1) xs found.2 x among
 
   -- a left-recursive rule has an alternative that begins with the rule itself
-  some_here : (a : Written) (o : Option (Elements StepIn)) (any : Bool) (others : Alternatives StepIn) → after_self (calls k) a.elements ≡ o → (any ≡ true → (x rest : Elements StepIn) × IsOneOf others x × IsOperator CallsRule k x rest) → (is_some o || any) ≡ true →
+  some_here : (a : Written) (o : Option (Elements StepIn)) (any : Bool) (others : Alternatives StepIn)
+      → after_self (calls k) a.elements ≡ o → (any ≡ true
+      → (x rest : Elements StepIn) × IsOneOf others x × IsOperator CallsRule k x rest) → (is_some o || any) ≡ true →
       (x rest : Elements StepIn) × IsOneOf (or a.elements others) x × IsOperator CallsRule k x rest
   some_here a None any others is more h = let found = more h in (found.0, found.1, inr found.2, found.3)
   some_here a (Some rest) any others is more h = (a.elements, rest, inl refl, operator_here k a.elements rest is)
 
   -- the same of the alternatives of the rule
-  some_operator : (xs : List Written) → is_left_recursive (calls k) xs ≡ true → (x rest : Elements StepIn) × IsOneOf (bodies xs) x × IsOperator CallsRule k x rest
+  some_operator : (xs : List Written) → is_left_recursive (calls k) xs ≡ true
+      → (x rest : Elements StepIn) × IsOneOf (bodies xs) x × IsOperator CallsRule k x rest
   some_operator [] h = absurd (cc)
-  some_operator (a ∷ xs) h = some_here a (after_self (calls k) a.elements) (is_left_recursive (calls k) xs) (bodies xs) refl (some_operator xs) h
+  some_operator (a ∷ xs) h = some_here a (after_self (calls k) a.elements) (is_left_recursive (calls k) xs) (bodies xs) refl
+      (some_operator xs) h
 
   -- a left-recursive rule without a primary lacks one
-  pub lacks_primary : (xs : List Written) → is_left_recursive (calls k) xs ≡ true → primaries (calls k) xs ≡ [] → LacksPrimary CallsRule k (bodies xs)
+  pub lacks_primary : (xs : List Written) → is_left_recursive (calls k) xs ≡ true → primaries (calls k) xs ≡ []
+      → LacksPrimary CallsRule k (bodies xs)
   lacks_primary xs recursive h = record { some = some_operator xs recursive; each = all_operators 1 xs h }
 
   -- no alternative of another rule begins with the rule itself
@@ -148,13 +192,17 @@ module _ (k : ℕ) where
   none_front None any h = (refl, h)
   none_front (Some rest) any h = absurd (cc)
 
-  pub none_begins : (xs : List Written) → is_left_recursive (calls k) xs ≡ false → (x : Elements StepIn) → IsOneOf (bodies xs) x → after_self (calls k) x ≡ None
+  pub none_begins : (xs : List Written) → is_left_recursive (calls k) xs ≡ false → (x : Elements StepIn) → IsOneOf (bodies xs) x
+      → after_self (calls k) x ≡ None
   none_begins [] h x among = absurd among
-  none_begins (a ∷ xs) h x (inl same) = ap (after_self (calls k)) same ∙ (none_front (after_self (calls k) a.elements) (is_left_recursive (calls k) xs) h).0
-  none_begins (a ∷ xs) h x (inr among) = none_begins xs (none_front (after_self (calls k) a.elements) (is_left_recursive (calls k) xs) h).1 x among
+  none_begins (a ∷ xs) h x (inl same) = ap (after_self (calls k)) same
+      ∙ (none_front (after_self (calls k) a.elements) (is_left_recursive (calls k) xs) h).0
+  none_begins (a ∷ xs) h x (inr among) = none_begins xs
+      (none_front (after_self (calls k) a.elements) (is_left_recursive (calls k) xs) h).1 x among
 
   -- a rule stays as it is written, or it becomes a loop
-  pub formed_cases : (rule : StepRule) → ((is_left_recursive (calls k) rule.alternatives ≡ false) × (alternatives_of (formed (k, rule)) ≡ alternatives_of rule))
+  pub formed_cases : (rule : StepRule) → ((is_left_recursive (calls k) rule.alternatives ≡ false)
+      × (alternatives_of (formed (k, rule)) ≡ alternatives_of rule))
       ⊎ ((is_left_recursive (calls k) rule.alternatives ≡ true) × (alternatives_of (formed (k, rule)) ≡ only (loop_of k rule.alternatives)))
   formed_cases rule = elim (cases_Bool (is_left_recursive (calls k) rule.alternatives)) [
     | inl recursive ↦ inr (recursive, rw recursive)

@@ -1,3 +1,4 @@
+-- Other crates cite each of these.
 pub mod OwnCalls
 pub mod OwnSteps
 pub mod Rewriting

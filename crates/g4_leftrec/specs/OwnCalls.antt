@@ -77,4 +77,5 @@ module _ {A : Type 0} (is_self : A → Bool) (is_silent : A → Bool) where
   -- what is before and after the rule itself, where it is the last element but for silent ones; no atom is both
   abbrev pub before_self : Elements A → Option (LastSelf A)
   before_self empty = None
-  before_self (then x xs) = cond (are_silent is_silent xs) (cond (is_atom is_self x) (Some (record { before = empty; trailing = xs })) None) (with_first x (before_self xs))
+  before_self (then x xs) = cond (are_silent is_silent xs)
+      (cond (is_atom is_self x) (Some (record { before = empty; trailing = xs })) None) (with_first x (before_self xs))

@@ -86,7 +86,11 @@ plain_alternative x = record { right = false; elements = x; label = None }
 
 -- a rule with its number in the form in which it is laid
 abbrev pub formed : ℕ × StepRule → StepRule
-formed x = record { name = x.1.name; alternatives = cond (is_left_recursive (calls x.0) x.1.alternatives) (plain_alternative (loop_of x.0 x.1.alternatives) ∷ []) x.1.alternatives }
+formed x = record {
+  name = x.1.name;
+  alternatives =
+      cond (is_left_recursive (calls x.0) x.1.alternatives) (plain_alternative (loop_of x.0 x.1.alternatives) ∷ []) x.1.alternatives;
+}
 
 -- the rules, which count from 1, in the forms in which they are laid
 abbrev pub rewritten : List StepRule → List StepRule
@@ -94,7 +98,8 @@ rewritten rules = map formed (enumerate_from 1 rules)
 
 -- the numbers of the alternatives with which rule k starts: all of them, or the primaries
 abbrev pub starts_of : ℕ → List Written → List ℕ
-starts_of k alternatives = cond (is_left_recursive (calls k) alternatives) (map (λ x. x.number) (primaries (calls k) alternatives)) (map (λ x. x.0) (enumerate_from 1 alternatives))
+starts_of k alternatives = cond (is_left_recursive (calls k) alternatives) (map (λ x. x.number) (primaries (calls k) alternatives))
+    (map (λ x. x.0) (enumerate_from 1 alternatives))
 
 -- what is written of the states of a rule with its number
 abbrev pub numbering_of : ℕ × StepRule → Numbering

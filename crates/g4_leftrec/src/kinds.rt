@@ -8,8 +8,8 @@ ghost use Rattle.g4_leftrec.specs.OwnSteps.{calls};
 ghost use Rattle.g4_leftrec.specs.Rewriting.{StepIn, operand_level, operator_elements, operator_form, operator_forms, primary_form, primary_forms, with_last_at};
 
 use crate::places::{begins_with_call, place_of_last_call};
-use g4_source::{Alternative, Element, RuleAlternative};
 use g4_grammar::Step;
+use g4_source::{Alternative, Element, RuleAlternative};
 use g4_tokens::Symbols;
 use std::alloc::{AllocError, Global};
 
@@ -67,7 +67,8 @@ fn operator_elements(
 ) -> Vec<Element<Step<Symbols>>>
     requires precedence { precedence < 2 ^ 32 - 1 }
     requires begins { is_some (after_self (calls rule) (in_order (map element_of elements.items))) ≡ true }
-    ensures { (rest : Tree StepIn) → after_self (calls rule) (in_order (map element_of elements.items)) ≡ Some rest → in_order (map element_of result.items) ≡ operator_elements rule precedence right rest }
+    ensures { (rest : Tree StepIn) → after_self (calls rule) (in_order (map element_of elements.items)) ≡ Some rest
+        → in_order (map element_of result.items) ≡ operator_elements rule precedence right rest }
 {
     elements[0] = Element::Atom(Step::Level(precedence));
     let level = operand_level(precedence, right);
@@ -84,9 +85,14 @@ fn add_alternative(
 ) -> Result<(), AllocError>
     requires count { count < 2 ^ 32 - 1 }
     requires number { 0 < number }
-    ensures primaries { OnOk result (map alternative_of kinds.new.primaries.items ≡ map alternative_of kinds.old.primaries.items ++ map (primary_form rule count) (filter_map (primary_of (calls rule)) ((number, alternative) ∷ []))) }
-    ensures operators { OnOk result (map alternative_of kinds.new.operators.items ≡ map alternative_of kinds.old.operators.items ++ map (operator_form rule count) (filter_map (operator_of (calls rule)) ((number, alternative) ∷ []))) }
-    ensures starts { OnOk result (kinds.new.starts.items ≡ kinds.old.starts.items ++ map (λ x. x.number) (filter_map (primary_of (calls rule)) ((number, alternative) ∷ []))) }
+    ensures primaries { OnOk result (map alternative_of kinds.new.primaries.items
+        ≡ map alternative_of kinds.old.primaries.items
+        ++ map (primary_form rule count) (filter_map (primary_of (calls rule)) ((number, alternative) ∷ []))) }
+    ensures operators { OnOk result (map alternative_of kinds.new.operators.items
+        ≡ map alternative_of kinds.old.operators.items
+        ++ map (operator_form rule count) (filter_map (operator_of (calls rule)) ((number, alternative) ∷ []))) }
+    ensures starts { OnOk result (kinds.new.starts.items
+        ≡ kinds.old.starts.items ++ map (λ x. x.number) (filter_map (primary_of (calls rule)) ((number, alternative) ∷ []))) }
 {
     let RuleAlternative {
         right,

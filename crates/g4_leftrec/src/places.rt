@@ -4,8 +4,8 @@ ghost use Rattle.g4_source.specs.Trees.{element_of, in_order};
 ghost use Rattle.g4_leftrec.specs.OwnCalls.{after_self, before_self, is_atom, is_some, LastSelf};
 ghost use Rattle.g4_leftrec.specs.OwnSteps.{calls, is_silent};
 
-use g4_source::Element;
 use g4_grammar::Step;
+use g4_source::Element;
 use g4_tokens::Symbols;
 
 /// Whether the step calls the rule.
@@ -64,7 +64,11 @@ pub(crate) fn place_of_last_call(rule: u32, elements: &[Element<Step<Symbols>>])
     ensures within { IfSome result (λ place. place < length elements.now) }
     ensures last { MatchOption result
         (before_self (calls rule) is_silent (in_order (map element_of elements.now)) ≡ None)
-        (λ place. before_self (calls rule) is_silent (in_order (map element_of elements.now)) ≡ Some (record { before = in_order (map element_of (take place elements.now)); trailing = in_order (map element_of (drop (place + 1) elements.now)) })) }
+        (λ place. before_self (calls rule) is_silent (in_order (map element_of elements.now))
+        ≡ Some (record {
+          before = in_order (map element_of (take place elements.now));
+          trailing = in_order (map element_of (drop (place + 1) elements.now));
+        })) }
 {
     for place in (0..elements.len()).rev() {
         let element = &elements[place];

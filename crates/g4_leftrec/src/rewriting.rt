@@ -13,8 +13,8 @@ ghost use Rattle.g4_leftrec.specs.Rewriting.{StepIn, after_primary, formed, loop
 
 use crate::kinds::{Kinds, is_left_recursive, kinds_of};
 use g4_base::{Place, Sequence, Text};
-use g4_source::{Alternative, Element, Elements, ParserRule, Repeat, RuleAlternative, Suffix};
 use g4_grammar::{Numbering, Step, StepRule};
+use g4_source::{Alternative, Element, Elements, ParserRule, Repeat, RuleAlternative, Suffix};
 use g4_tokens::Symbols;
 use std::alloc::{AllocError, Global};
 
@@ -38,7 +38,8 @@ fn primary_elements(
     alloc: Global,
     mut primaries: Vec<Alternative<Step<Symbols>>>,
 ) -> Result<Vec<Element<Step<Symbols>>>, AllocError>
-    ensures { IfOk result (λ made. (more : Tree StepIn) → onto (in_order (map element_of made.items)) more ≡ after_primary (map alternative_of primaries.items) more) }
+    ensures { IfOk result (λ made. (more : Tree StepIn)
+        → onto (in_order (map element_of made.items)) more ≡ after_primary (map alternative_of primaries.items) more) }
 {
     if primaries.len() != 1 {
         let block = Element::Block(None, Repeat::Once, primaries);
@@ -68,7 +69,8 @@ fn loop_of(
     primaries: Vec<Alternative<Step<Symbols>>>,
     operators: Vec<Alternative<Step<Symbols>>>,
 ) -> Result<RuleAlternative<Step<Symbols>>, AllocError>
-    ensures { IfOk result (λ made. made ≡ plain_alternative (after_primary (map alternative_of primaries.items) (turns_of (map alternative_of operators.items)))) }
+    ensures { IfOk result (λ made. made ≡ plain_alternative
+        (after_primary (map alternative_of primaries.items) (turns_of (map alternative_of operators.items)))) }
 {
     let mut elements = primary_elements(alloc, primaries)?;
     elements.push(turns_of(operators))?;
@@ -113,8 +115,10 @@ fn looped(
 ) -> Result<Laid, AllocError>
     requires count { count ≡ length alternatives.items }
     requires small { count < 2 ^ 32 - 1 }
-    ensures rule { IfOk result (λ made. made.rule ≡ record { name = name; alternatives = plain_alternative (loop_of number alternatives.items) ∷ [] }) }
-    ensures numbering { IfOk result (λ made. made.numbering ≡ record { starts = map (λ x. x.number) (primaries (calls number) alternatives.items); count = count }) }
+    ensures rule { IfOk result (λ made. made.rule
+        ≡ record { name = name; alternatives = plain_alternative (loop_of number alternatives.items) ∷ [] }) }
+    ensures numbering { IfOk result (λ made. made.numbering
+        ≡ record { starts = map (λ x. x.number) (primaries (calls number) alternatives.items); count = count }) }
 {
     let Kinds {
         primaries,
@@ -169,7 +173,8 @@ pub fn rewrite(alloc: Global, rules: Vec<StepRule>) -> Result<Rewritten, AllocEr
     ensures rules { IfOk result (λ made. made.rules.items ≡ rewritten rules.items) }
     ensures numberings { IfOk result (λ made. made.numberings.items ≡ numberings rules.items) }
     ensures laid { CanBeRewritten rules.items → IfOk result (λ made. CanBeLaid made.rules.items) }
-    ensures fit { CanBeRewritten rules.items → IfOk result (λ made. NumberingsFit (map alternatives_of made.rules.items) made.numberings.items) }
+    ensures fit { CanBeRewritten rules.items → IfOk result
+        (λ made. NumberingsFit (map alternatives_of made.rules.items) made.numberings.items) }
 {
     let mut made = Rewritten {
         rules: Vec::new(alloc),

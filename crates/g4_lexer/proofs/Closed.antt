@@ -28,22 +28,29 @@ low_type symbol (inl low) = omega arith
 low_type symbol (inr is) = omega arith
 
 -- the symbols of the tokens, and of four EOF after them, are low
-word_low : (found : List Token) → All (λ (token : Token). IsTokenType token.symbol) found → AreLow (word_of found ++ eof ∷ eof ∷ eof ∷ eof ∷ [])
+word_low : (found : List Token) → All (λ (token : Token). IsTokenType token.symbol) found
+    → AreLow (word_of found ++ eof ∷ eof ∷ eof ∷ eof ∷ [])
 word_low [] types = (omega arith, (omega arith, (omega arith, (omega arith, tt))))
 word_low (t ∷ ts) types = (low_type t.symbol (types 0 t (omega arith)), word_low ts (λ k d less. types (suc k) d (omega arith)))
 
-word_closed : (found : List Token) (end : Position) → word_of (found ++ closing_at end) ≡ (word_of found ++ eof ∷ eof ∷ eof ∷ eof ∷ []) ++ end_of_list ∷ []
+word_closed : (found : List Token) (end : Position)
+    → word_of (found ++ closing_at end) ≡ (word_of found ++ eof ∷ eof ∷ eof ∷ eof ∷ []) ++ end_of_list ∷ []
 word_closed [] end = refl
 word_closed (t ∷ ts) end = ap (λ w. t.symbol ∷ w) (word_closed ts end)
 
 -- tokens of token types, closed, end in END
-pub ends_in_end : (tokens found : List Token) (end : Position) → tokens ≡ found ++ closing_at end → All (λ (token : Token). IsTokenType token.symbol) found → EndsInEnd (word_of tokens)
+pub ends_in_end : (tokens found : List Token) (end : Position) → tokens ≡ found ++ closing_at end
+    → All (λ (token : Token). IsTokenType token.symbol) found → EndsInEnd (word_of tokens)
 ends_in_end tokens found end is types =
-    subst (λ (ts : List Token). EndsInEnd (word_of ts)) (sym is)
-    (word_of found ++ eof ∷ eof ∷ eof ∷ eof ∷ [], word_closed found end, low_lacks (word_of found ++ eof ∷ eof ∷ eof ∷ eof ∷ []) (word_low found types))
+    subst (λ (ts : List Token). EndsInEnd (word_of ts)) (sym is) (
+      word_of found ++ eof ∷ eof ∷ eof ∷ eof ∷ [],
+      word_closed found end,
+      low_lacks (word_of found ++ eof ∷ eof ∷ eof ∷ eof ∷ []) (word_low found types),
+    )
 
 -- the end of the characters of some bytes is that of the bytes
-pub end_offset : (bytes text : List ℕ) (end : Position) → AreCharacters bytes text → end ≡ position_after first_position text → end.offset ≡ length bytes
+pub end_offset : (bytes text : List ℕ) (end : Position) → AreCharacters bytes text → end ≡ position_after first_position text
+    → end.offset ≡ length bytes
 end_offset bytes text end are is =
     let whole : encode_utf8_all text ≡ bytes = ap encode_utf8_all are.same ∙ encodes-chars bytes are.utf8 in
     omega (arith, ap (λ (p : Position). p.offset) is, ap length whole)
@@ -53,14 +60,18 @@ closing_spans : (end : Position) (bytes : ℕ) → end.offset ≤ bytes → All 
 closing_spans end bytes below =
     let at : ℕ → Token = λ symbol. token_between symbol 0 end end in
     let one : (symbol : ℕ) → EndsBy bytes (token_between symbol 0 end end) = λ symbol. (omega arith, omega arith) in
-    let two = All-cons (EndsBy bytes) (at eof) (at end_of_list ∷ []) (one eof) (All-cons (EndsBy bytes) (at end_of_list) [] (one end_of_list) (All-nil (EndsBy bytes))) in
+    let two = All-cons (EndsBy bytes) (at eof) (at end_of_list ∷ []) (one eof)
+    (All-cons (EndsBy bytes) (at end_of_list) [] (one end_of_list) (All-nil (EndsBy bytes))) in
     let three = All-cons (EndsBy bytes) (at eof) (at eof ∷ at end_of_list ∷ []) (one eof) two in
     let four = All-cons (EndsBy bytes) (at eof) (at eof ∷ at eof ∷ at end_of_list ∷ []) (one eof) three in
     All-cons (EndsBy bytes) (at eof) (at eof ∷ at eof ∷ at eof ∷ at end_of_list ∷ []) (one eof) four
 
 -- the spans of tokens and of those that close their file
-pub spans_closed : (list found : List Token) (end : Position) (bytes : ℕ) → list ≡ found ++ closing_at end → end.offset ≤ bytes → All (EndsBy bytes) found → All (EndsBy bytes) list
-spans_closed list found end bytes is below h = subst (λ (ts : List Token). All (EndsBy bytes) ts) (sym is) (All-append (EndsBy bytes) found (closing_at end) h (closing_spans end bytes below))
+pub spans_closed : (list found : List Token) (end : Position) (bytes : ℕ) → list ≡ found ++ closing_at end → end.offset ≤ bytes
+    → All (EndsBy bytes) found → All (EndsBy bytes) list
+spans_closed list found end bytes is below h =
+    subst (λ (ts : List Token). All (EndsBy bytes) ts) (sym is)
+    (All-append (EndsBy bytes) found (closing_at end) h (closing_spans end bytes below))
 
 -- the parser sees no more tokens than there are
 pub visible_few : (tokens : List Token) → length (visible tokens) ≤ length tokens

@@ -17,9 +17,11 @@ place_after-append p (c ∷ u) v = place_after-append (place_past p c) u v
 -- the position after two pieces end to end
 pub position_after-append : (p : Position) (u v : List ℕ) → position_after p (u ++ v) ≡ position_after (position_after p u) v
 position_after-append p u v =
-    let bytes : p.offset + length (encode_utf8_all (u ++ v)) ≡ (p.offset + length (encode_utf8_all u)) + length (encode_utf8_all v) = omega (arith, length-encoded-append u v) in
+    let bytes : p.offset + length (encode_utf8_all (u ++ v)) ≡ (p.offset + length (encode_utf8_all u)) + length (encode_utf8_all v) =
+    omega (arith, length-encoded-append u v) in
     ap (λ n. record { offset = n; place = place_after p.place (u ++ v) }) bytes
-    ∙ ap (λ (q : Place). record { offset = (p.offset + length (encode_utf8_all u)) + length (encode_utf8_all v); place = q }) (place_after-append p.place u v)
+    ∙ ap (λ (q : Place). record { offset = (p.offset + length (encode_utf8_all u)) + length (encode_utf8_all v); place = q })
+    (place_after-append p.place u v)
 
 line_past : (p : Place) (c : ℕ) → (place_past p c).line ≤ p.line + 1
 line_past p c = grind arith
@@ -43,13 +45,24 @@ take_short zero xs = omega arith
 take_short (suc n) [] = omega arith
 take_short (suc n) (x ∷ xs) = omega (arith, take_short n xs)
 
-module _ (text : List ℕ) (start : ℕ) (at : Position) (within : start ≤ length text) (is : at ≡ position_after first_position (take start text)) where
+module _ (text : List ℕ) (start : ℕ) (at : Position) (within : start ≤ length text)
+    (is : at ≡ position_after first_position (take start text)) where
   -- the lines, columns and bytes before a position are bounded by its characters
   pub line_at : at.place.line ≤ 1 + start
-  line_at = omega (arith, ap (λ (p : Position). p.place.line) is, line_after first_place (take start text), length-take-le start text within)
+  line_at = omega (
+    arith,
+    ap (λ (p : Position). p.place.line) is,
+    line_after first_place (take start text),
+    length-take-le start text within,
+  )
 
   pub column_at : at.place.column ≤ start
-  column_at = omega (arith, ap (λ (p : Position). p.place.column) is, column_after first_place (take start text), length-take-le start text within)
+  column_at = omega (
+    arith,
+    ap (λ (p : Position). p.place.column) is,
+    column_after first_place (take start text),
+    length-take-le start text within,
+  )
 
   pub offset_at : at.offset ≤ 4 * start
   offset_at = omega (arith, ap (λ (p : Position). p.offset) is, length-encoded-le (take start text), length-take-le start text within)
@@ -57,4 +70,6 @@ module _ (text : List ℕ) (start : ℕ) (at : Position) (within : start ≤ len
   -- the position after n more characters
   pub position_behind : (n : ℕ) → position_after at (take n (drop start text)) ≡ position_after first_position (take (start + n) text)
   position_behind n =
-      ap (λ (p : Position). position_after p (take n (drop start text))) is ∙ sym (position_after-append first_position (take start text) (take n (drop start text))) ∙ ap (λ w. position_after first_position w) (sym (take-add start n text))
+      ap (λ (p : Position). position_after p (take n (drop start text))) is
+      ∙ sym (position_after-append first_position (take start text) (take n (drop start text)))
+      ∙ ap (λ w. position_after first_position w) (sym (take-add start n text))

@@ -9,7 +9,11 @@ not_both_texts bytes at utf8 up = up.longest (length bytes) up.short (subst IsUt
 
 -- bytes end being text at one byte
 pub one_end : (bytes : List ℕ) (at to : ℕ) → IsValidUpTo bytes at → IsValidUpTo bytes to → at ≡ to
-one_end bytes at to p q = elim (compared at to) [ inl less ↦ absurd (p.longest to less q.front) | inr others ↦ elim others [ inl same ↦ same | inr more ↦ absurd (q.longest at more p.front) ] ]
+one_end bytes at to p q = elim (compared at to) [
+  | inl less ↦ absurd (p.longest to less q.front)
+  | inr others ↦ elim others
+      [ inl same ↦ same | inr more ↦ absurd (q.longest at more p.front) ]
+]
   where
     compared : (a b : ℕ) → (a < b) ⊎ ((a ≡ b) ⊎ (b < a))
     compared a b = grind arith

@@ -29,7 +29,8 @@ module _ (net : LexerNetwork) where
   has_end list rule alternative t = let f = first_in (EndsRule net rule) list t.first.0 t.first.1 in (t.first.0, f.0, f.1.0, f.1.1)
 
   -- a list gives one end
-  one_told : (list : List LexerConfig) (rule alternative other choice : ℕ) → IsLeastEnd net list rule alternative → IsLeastEnd net list other choice → (rule ≡ other) × (alternative ≡ choice)
+  one_told : (list : List LexerConfig) (rule alternative other choice : ℕ) → IsLeastEnd net list rule alternative
+      → IsLeastEnd net list other choice → (rule ≡ other) × (alternative ≡ choice)
   one_told list rule alternative other choice x y =
       let up = x.least other (has_end list other choice y) in
       let down = y.least rule (has_end list rule alternative x) in
@@ -46,7 +47,8 @@ module _ (net : LexerNetwork) where
       pub alternative_is : alternative ≡ choice
 
     -- no match is longer than another
-    not_longer : (n m rule alternative other choice : ℕ) → IsMatch net starts text n rule alternative → IsMatch net starts text m other choice → n < m → ⊥
+    not_longer : (n m rule alternative other choice : ℕ) → IsMatch net starts text n rule alternative
+        → IsMatch net starts text m other choice → n < m → ⊥
     not_longer n m rule alternative other choice x y less = x.longest m other y.list less y.after (has_end y.list other choice y.tells)
 
     as_long : (n m : ℕ) → (n < m → ⊥) → (m < n → ⊥) → n ≡ m
@@ -61,12 +63,15 @@ module _ (net : LexerNetwork) where
         go (inr (inr more)) = absurd (b more)
 
     -- there is at most one match
-    pub one_match : (n m rule alternative other choice : ℕ) → IsMatch net starts text n rule alternative → IsMatch net starts text m other choice → IsSame n m rule other alternative choice
+    pub one_match : (n m rule alternative other choice : ℕ) → IsMatch net starts text n rule alternative
+        → IsMatch net starts text m other choice → IsSame n m rule other alternative choice
     one_match n m rule alternative other choice x y =
-        let long : n ≡ m = as_long n m (not_longer n m rule alternative other choice x y) (not_longer m n other choice rule alternative y x) in
+        let long : n ≡ m = as_long n m (not_longer n m rule alternative other choice x y)
+        (not_longer m n other choice rule alternative y x) in
         let after = subst (λ k. ListAfter net starts text k y.list) (sym long) y.after in
         let list : x.list ≡ y.list = one_list net starts text (drop n text) x.list y.list x.after.1 after.1 in
-        let told = one_told x.list rule alternative other choice x.tells (subst (λ (l : List LexerConfig). IsLeastEnd net l other choice) (sym list) y.tells) in
+        let told = one_told x.list rule alternative other choice x.tells
+        (subst (λ (l : List LexerConfig). IsLeastEnd net l other choice) (sym list) y.tells) in
         record { length_is = long; rule_is = told.0; alternative_is = told.1 }
 
     -- where there is a match, some rule matches
@@ -80,7 +85,8 @@ module _ (lexer : Lexer) (s : Course) where
     pub effects_are : e ≡ f
 
   -- there is at most one next match
-  pub one_next : (text : List ℕ) (n m : ℕ) (e f : Option Effects) → NextMatch lexer s text n e → NextMatch lexer s text m f → IsSameNext n m e f
+  pub one_next : (text : List ℕ) (n m : ℕ) (e f : Option Effects) → NextMatch lexer s text n e → NextMatch lexer s text m f
+      → IsSameNext n m e f
   one_next text n m e f x y =
       let same = one_match lexer.net (starts_in lexer s.mode) text n m x.rule x.alternative y.rule y.alternative x.matches y.matches in
       let rules = ap (λ r. after_commands (commands_of lexer r x.alternative) (before_commands lexer s r)) same.rule_is in
@@ -92,5 +98,6 @@ module _ (lexer : Lexer) (s : Course) where
   none_of_empty n e x = omega (arith, x.matches.some, x.matches.after.0)
 
   -- where no rule matches there is none
-  pub none_next : (text : List ℕ) (n : ℕ) (e : Option Effects) → NoMatch lexer.net (starts_in lexer s.mode) text → NextMatch lexer s text n e → ⊥
+  pub none_next : (text : List ℕ) (n : ℕ) (e : Option Effects) → NoMatch lexer.net (starts_in lexer s.mode) text
+      → NextMatch lexer s text n e → ⊥
   none_next text n e none x = not_none lexer.net (starts_in lexer s.mode) text n x.rule x.alternative none x.matches

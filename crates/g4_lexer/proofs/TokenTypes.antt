@@ -38,17 +38,22 @@ command_type (commands.Mode mode) e g h = h
 command_type (commands.PushMode mode) e g h = h
 command_type commands.PopMode e g h = back_type e e.pushed h
 
-then_type : (f : Effects → Option Effects) (o : Option Effects) → ((e : Effects) → HasTokenType e.fate → HaveTokenType (f e)) → HaveTokenType o → HaveTokenType (option_and_then f o)
+then_type : (f : Effects → Option Effects) (o : Option Effects) → ((e : Effects) → HasTokenType e.fate → HaveTokenType (f e))
+    → HaveTokenType o → HaveTokenType (option_and_then f o)
 then_type f None then h = tt
 then_type f (Some e) then h = then e h
 
 -- commands leave token types
-pub commands_type : (cs : List LexerCommand) (e : Effects) → All GivesTokenType cs → HasTokenType e.fate → HaveTokenType (after_commands cs e)
+pub commands_type : (cs : List LexerCommand) (e : Effects) → All GivesTokenType cs → HasTokenType e.fate
+    → HaveTokenType (after_commands cs e)
 commands_type [] e g h = h
-commands_type (c ∷ cs) e g h = then_type (after_commands cs) (after_command c e) (λ x k. commands_type cs x (λ i d less. g (suc i) d (omega arith)) k) (command_type c e (g 0 c (omega arith)) h)
+commands_type (c ∷ cs) e g h = then_type (after_commands cs) (after_command c e)
+    (λ x k. commands_type cs x (λ i d less. g (suc i) d (omega arith)) k) (command_type c e (g 0 c (omega arith)) h)
 
 -- so the token that a match makes has one
-pub made_types : (fate : Fate) (begun : Begun) (channel : ℕ) (end : Position) → HasTokenType fate → All (λ (t : Token). IsTokenType t.symbol) (made_by fate begun channel end)
+pub made_types : (fate : Fate) (begun : Begun) (channel : ℕ) (end : Position) → HasTokenType fate
+    → All (λ (t : Token). IsTokenType t.symbol) (made_by fate begun channel end)
 made_types fates.Dropped begun channel end h = λ k d less. absurd (omega arith)
 made_types fates.Kept begun channel end h = λ k d less. absurd (omega arith)
-made_types (fates.Token symbol) begun channel end h = All-cons (λ (t : Token). IsTokenType t.symbol) _ [] h (All-nil (λ (t : Token). IsTokenType t.symbol))
+made_types (fates.Token symbol) begun channel end h =
+    All-cons (λ (t : Token). IsTokenType t.symbol) _ [] h (All-nil (λ (t : Token). IsTokenType t.symbol))

@@ -36,7 +36,12 @@ current s = unwrap_or s.begun (record { from = s.at; channel = 0 })
 
 -- before the commands of a match of the rule are carried out: it makes a token of the rule's type
 abbrev pub before_commands : Lexer → Course → ℕ → Effects
-before_commands lexer s rule = record { mode = s.mode; pushed = s.pushed; channel = (current s).channel; fate = fates.Token (type_of lexer rule) }
+before_commands lexer s rule = record {
+  mode = s.mode;
+  pushed = s.pushed;
+  channel = (current s).channel;
+  fate = fates.Token (type_of lexer rule);
+}
 
 -- The next match has n characters, and the commands of its alternative have these effects; they are `None` where one of them finds
 -- no mode to go back to.
@@ -70,11 +75,16 @@ with_tokens tokens (Err stuck) = Err stuck
 pub data LexesWithin (lexer : Lexer) : ℕ → Course → List ℕ → Result (List Token) Stuck → Type 0 where
   at_end : (room : ℕ) (s : Course) → s.begun ≡ None → LexesWithin lexer room s [] (Ok [])
   unfinished : (room : ℕ) (s : Course) (begun : Begun) → s.begun ≡ Some begun → LexesWithin lexer room s [] (Err (no_token s.at.place None))
-  no_match : (room : ℕ) (s : Course) (c : ℕ) (text : List ℕ) → NoMatch lexer.net (starts_in lexer s.mode) (c ∷ text) → LexesWithin lexer room s (c ∷ text) (Err (no_token s.at.place (Some c)))
-  no_mode : (room : ℕ) (s : Course) (text : List ℕ) (n : ℕ) → NextMatch lexer s text n None → LexesWithin lexer room s text (Err (empty_mode_stack s.at.place))
-  no_room : (room : ℕ) (s : Course) (text : List ℕ) (n : ℕ) (e : Effects) → NextMatch lexer s text n (Some e) → room < length (made_at s e (take n text)) → LexesWithin lexer room s text (Err (too_many (current s).from.place))
-  a_match : (room left : ℕ) (s : Course) (text : List ℕ) (n : ℕ) (e : Effects) (more : Result (List Token) Stuck) → NextMatch lexer s text n (Some e) → room ≡ length (made_at s e (take n text)) + left →
-      LexesWithin lexer left (course_after s e (take n text)) (drop n text) more → LexesWithin lexer room s text (with_tokens (made_at s e (take n text)) more)
+  no_match : (room : ℕ) (s : Course) (c : ℕ) (text : List ℕ) → NoMatch lexer.net (starts_in lexer s.mode) (c ∷ text)
+      → LexesWithin lexer room s (c ∷ text) (Err (no_token s.at.place (Some c)))
+  no_mode : (room : ℕ) (s : Course) (text : List ℕ) (n : ℕ) → NextMatch lexer s text n None
+      → LexesWithin lexer room s text (Err (empty_mode_stack s.at.place))
+  no_room : (room : ℕ) (s : Course) (text : List ℕ) (n : ℕ) (e : Effects) → NextMatch lexer s text n (Some e)
+      → room < length (made_at s e (take n text)) → LexesWithin lexer room s text (Err (too_many (current s).from.place))
+  a_match : (room left : ℕ) (s : Course) (text : List ℕ) (n : ℕ) (e : Effects) (more : Result (List Token) Stuck)
+      → NextMatch lexer s text n (Some e) → room ≡ length (made_at s e (take n text)) + left →
+      LexesWithin lexer left (course_after s e (take n text)) (drop n text) more
+      → LexesWithin lexer room s text (with_tokens (made_at s e (take n text)) more)
 
 -- the tokens of a text, of which this many may be made
 abbrev pub LexesText : Lexer → ℕ → List ℕ → Result (List Token) Stuck → Type 0
@@ -98,7 +108,8 @@ IsLexFaultWithin room lexer bytes faults.NoMemory = Unit {0}
 
 -- the call answers with the tokens of the file or its fault, where this many tokens may be made, unless memory runs out
 abbrev pub IsLexingWithin : ℕ → Lexer → List ℕ → Result Tokens LexFault → Type 0
-IsLexingWithin room lexer bytes (Ok found) = IsUtf8 bytes × LexesText lexer room (chars bytes) (Ok found.all) × (found ≡ token_list bytes found.all)
+IsLexingWithin room lexer bytes (Ok found) = IsUtf8 bytes × LexesText lexer room (chars bytes) (Ok found.all)
+    × (found ≡ token_list bytes found.all)
 IsLexingWithin room lexer bytes (Err fault) = IsLexFaultWithin room lexer bytes fault
 
 -- the call answers with the tokens of the file or its fault, unless memory runs out

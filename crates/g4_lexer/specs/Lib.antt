@@ -1,3 +1,4 @@
+-- Other crates cite Lexers, Lexing; only this crate cites Commands, Decoding, Positions, Scanning, Tokens.
 pub mod Commands
 pub mod Decoding
 pub mod Lexers

@@ -14,7 +14,8 @@ use Rattle.g4_lexer.specs.Positions.{first_position, position_after}
 
 -- a token of this type and channel, from one position up to another
 abbrev pub token_between : ℕ → ℕ → Position → Position → Token
-token_between symbol channel from to = record { symbol = symbol; channel = channel; place = from.place; start = from.offset; end = to.offset }
+token_between symbol channel from to = record
+    { symbol = symbol; channel = channel; place = from.place; start = from.offset; end = to.offset }
 
 -- The tokens that a match makes which ends at the position: one or none. The token begins where its first match began.
 abbrev pub made_by : Fate → Begun → ℕ → Position → List Token
@@ -37,11 +38,13 @@ goes_on begun e = going_on e.fate begun e.channel
 
 -- concluding a match adds what it makes and gives what goes on, or there is no room for what it makes, unless memory runs out
 abbrev pub Concludes : ℕ → Begun → Effects → Position → List Token → List Token → Result (Option Begun) LexFault → Type 0
-Concludes room begun e end old new (Ok kept) = (new ≡ old ++ made begun e end) × (kept ≡ goes_on begun e) × (length old ≤ room → length new ≤ room)
+Concludes room begun e end old new (Ok kept) = (new ≡ old ++ made begun e end) × (kept ≡ goes_on begun e)
+    × (length old ≤ room → length new ≤ room)
 Concludes room begun e end old new (Err (faults.NotUtf8 at)) = ⊥
 Concludes room begun e end old new (Err (faults.NoToken place character)) = ⊥
 Concludes room begun e end old new (Err (faults.EmptyModeStack place)) = ⊥
-Concludes room begun e end old new (Err (faults.Tokens place)) = (room < length old + length (made begun e end)) × (place ≡ begun.from.place)
+Concludes room begun e end old new (Err (faults.Tokens place)) = (room < length old + length (made begun e end))
+    × (place ≡ begun.from.place)
 Concludes room begun e end old new (Err faults.NoMemory) = Unit {0}
 
 -- the tokens that the parser sees, but for those that close the file: those of channel 0
@@ -50,7 +53,8 @@ visible tokens = filter (λ (t : Token). t.channel == 0) tokens
 
 -- what follows the tokens of a file that ends at the position: four of EOF and one of END
 abbrev pub closing_at : Position → List Token
-closing_at end = token_between eof 0 end end ∷ token_between eof 0 end end ∷ token_between eof 0 end end ∷ token_between eof 0 end end ∷ token_between end_of_list 0 end end ∷ []
+closing_at end = token_between eof 0 end end ∷ token_between eof 0 end end ∷ token_between eof 0 end end ∷ token_between eof 0 end end
+    ∷ token_between end_of_list 0 end end ∷ []
 
 -- what follows the tokens of a file of these characters, at its end
 abbrev pub closing_tokens : List ℕ → List Token

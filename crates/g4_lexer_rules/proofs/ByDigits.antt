@@ -24,7 +24,9 @@ none_above n text above = ap (λ (b : Bool). cond b (Some (decimal_after n text)
 module _ (n : ℕ) (text : List ℕ) (i : ℕ) (byte : ℕ) (within : i < length text) (item : byte ≡ get_or text i byte) where
   -- the number with what is after this character, if that is a digit
   abbrev next : Bool → Option ℕ
-  next b = cond ((b && all_ascii_digits (drop (i + 1) text)) && nat_le (decimal_after (10 * n + (byte - 48)) (drop (i + 1) text)) MOST_CHANNEL) (Some (decimal_after (10 * n + (byte - 48)) (drop (i + 1) text))) None
+  next b = cond ((b && all_ascii_digits (drop (i + 1) text))
+      && nat_le (decimal_after (10 * n + (byte - 48)) (drop (i + 1) text)) MOST_CHANNEL)
+      (Some (decimal_after (10 * n + (byte - 48)) (drop (i + 1) text))) None
 
   -- what is left begins with this character
   split : number_after n (drop i text) ≡ number_after n (byte ∷ drop (i + 1) text)

@@ -19,10 +19,12 @@ abbrev pub character_of : ℕ → Element LexerStep
 character_of c = atom (Character c)
 
 -- one character more
-pub character_more : (cs : List ℕ) (i c : ℕ) (old new : List (Node LexerStep)) → i < length cs → c ≡ get_or cs i c → new ≡ old ++ nodes.Atom (Character c) ∷ [] → map element_of old ≡ map character_of (take i cs) →
+pub character_more : (cs : List ℕ) (i c : ℕ) (old new : List (Node LexerStep)) → i < length cs → c ≡ get_or cs i c
+    → new ≡ old ++ nodes.Atom (Character c) ∷ [] → map element_of old ≡ map character_of (take i cs) →
     map element_of new ≡ map character_of (take (i + 1) cs)
 character_more cs i c old new less at push so_far =
-    image_more character_of cs i c (element_of (nodes.Atom (Character c))) (map element_of old) (map element_of new) less at (of_atom (Character c))
+    image_more character_of cs i c (element_of (nodes.Atom (Character c))) (map element_of old) (map element_of new) less at
+    (of_atom (Character c))
     (ap (map element_of) push ∙ map-append element_of old (nodes.Atom (Character c) ∷ [])) so_far
 
 -- the atoms of characters, one after another
@@ -31,8 +33,11 @@ in_order_of [] = refl
 in_order_of (c ∷ cs) = ap (trees.then (character_of c)) (in_order_of cs)
 
 -- a block of these characters alone
-pub is_chained : (cs : List ℕ) (elements : Vec (Node LexerStep) Global) (alternatives : Vec (Side LexerStep) Global) → map element_of elements.items ≡ map character_of cs →
-    alternatives.items ≡ roll-Alternative LexerStep (record { elements = elements }) ∷ [] → element_of (nodes.Block None Once alternatives) ≡ chained cs
+pub is_chained : (cs : List ℕ) (elements : Vec (Node LexerStep) Global) (alternatives : Vec (Side LexerStep) Global)
+    → map element_of elements.items ≡ map character_of cs →
+    alternatives.items ≡ roll-Alternative LexerStep (record { elements = elements }) ∷ []
+    → element_of (nodes.Block None Once alternatives) ≡ chained cs
 is_chained cs elements alternatives made is =
     of_block None Once alternatives ∙ ap (block None Once)
-    (ap (λ (xs : List (Side LexerStep)). either (map alternative_of xs)) is ∙ ap only (of_elements elements ∙ (ap in_order made ∙ in_order_of cs)))
+    (ap (λ (xs : List (Side LexerStep)). either (map alternative_of xs)) is
+    ∙ ap only (of_elements elements ∙ (ap in_order made ∙ in_order_of cs)))

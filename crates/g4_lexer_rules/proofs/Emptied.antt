@@ -43,7 +43,8 @@ module _ (net : LexerNetwork) where
   leads_bare (b ∷ bs) t a = (there b (Empty t) a.0, leads_bare bs t a.1)
 
   -- an edge
-  edge_bare : (label : Reads) (s n : ℕ) → state_at net s ≡ Some (Edge label n) → Lies (all_emptied net) (over bare (atom (steps.Edge label))) s n n (n + 1)
+  edge_bare : (label : Reads) (s n : ℕ) → state_at net s ≡ Some (Edge label n)
+      → Lies (all_emptied net) (over bare (atom (steps.Edge label))) s n n (n + 1)
   edge_bare (Characters set) s n is = lay.an_edge (Characters set) s n (there s (Edge (Characters set) n) is)
   edge_bare EndOfText s n is = lay.an_empty s n (there s (Edge EndOfText n) is)
 
@@ -57,42 +58,59 @@ module _ (net : LexerNetwork) where
     lies_bare (lay.an_action s n is) = lay.an_action s n (there s (Action n) is)
     lies_bare (lay.an_empty s n is) = lay.an_empty s n (there s (Empty n) is)
     lies_bare (lay.one_alternative name x s t n m l) = lay.one_alternative name (in_order_over bare x) s t n m (in_order_bare l)
-    lies_bare (lay.a_block name xs firsts lasts s n m two is l a) = lay.a_block name (either_over bare xs) firsts lasts s n m two (there s (Decision firsts) is) (sides_bare l) (leads_bare lasts m a)
+    lies_bare (lay.a_block name xs firsts lasts s n m two is l a) =
+        lay.a_block name (either_over bare xs) firsts lasts s n m two (there s (Decision firsts) is) (sides_bare l) (leads_bare lasts m a)
     lies_bare (lay.an_optional name sign xs firsts lasts s n m is l a exit) =
-        lay.an_optional name sign (either_over bare xs) firsts lasts s n m (there s (Decision (lay.with_exit sign.greedy firsts m)) is) (sides_bare l) (leads_bare lasts (m + 1) a) (there m (Empty (m + 1)) exit)
+        lay.an_optional name sign (either_over bare xs) firsts lasts s n m
+        (there s (Decision (lay.with_exit sign.greedy firsts m)) is) (sides_bare l) (leads_bare lasts (m + 1) a)
+        (there m (Empty (m + 1)) exit)
     lies_bare (lay.a_star name sign xs firsts lasts s n m is l a) =
-        lay.a_star name sign (either_over bare xs) firsts lasts s n m (there s (Decision (lay.with_exit sign.greedy firsts m)) is) (sides_bare l) (leads_bare lasts s a)
+        lay.a_star name sign (either_over bare xs) firsts lasts s n m (there s (Decision (lay.with_exit sign.greedy firsts m)) is)
+        (sides_bare l) (leads_bare lasts s a)
     lies_bare (lay.a_plus_of_one name sign xs first lasts s n m is l a again) =
-        lay.a_plus_of_one name sign (either_over bare xs) first lasts s n m (there s (Empty first) is) (sides_bare l) (leads_bare lasts m a) (there m (Decision (lay.with_exit sign.greedy (first ∷ []) (m + 1))) again)
+        lay.a_plus_of_one name sign (either_over bare xs) first lasts s n m (there s (Empty first) is) (sides_bare l)
+        (leads_bare lasts m a) (there m (Decision (lay.with_exit sign.greedy (first ∷ []) (m + 1))) again)
     lies_bare (lay.a_plus name sign xs firsts lasts s n m two is l a again) =
-        lay.a_plus name sign (either_over bare xs) firsts lasts s n m two (there s (Decision firsts) is) (sides_bare l) (leads_bare lasts m a) (there m (Decision (lay.with_exit sign.greedy firsts (m + 1))) again)
+        lay.a_plus name sign (either_over bare xs) firsts lasts s n m two (there s (Decision firsts) is) (sides_bare l)
+        (leads_bare lasts m a) (there m (Decision (lay.with_exit sign.greedy firsts (m + 1))) again)
 
-    in_order_bare : {xs : Elements (Step Reads)} {s t n m : ℕ} → LieInOrder net xs s t n m → LieInOrder (all_emptied net) (in_order_over bare xs) s t n m
+    in_order_bare : {xs : Elements (Step Reads)} {s t n m : ℕ} → LieInOrder net xs s t n m
+        → LieInOrder (all_emptied net) (in_order_over bare xs) s t n m
     in_order_bare (lay.no_more s n) = lay.no_more s n
-    in_order_bare (lay.one_more x xs s mid t n k m l ls) = lay.one_more (over bare x) (in_order_over bare xs) s mid t n k m (lies_bare l) (in_order_bare ls)
+    in_order_bare (lay.one_more x xs s mid t n k m l ls) =
+        lay.one_more (over bare x) (in_order_over bare xs) s mid t n k m (lies_bare l) (in_order_bare ls)
 
-    sides_bare : {xs : Alternatives (Step Reads)} {firsts lasts : List ℕ} {n m : ℕ} → LieSideBySide net xs firsts lasts n m → LieSideBySide (all_emptied net) (either_over bare xs) firsts lasts n m
+    sides_bare : {xs : Alternatives (Step Reads)} {firsts lasts : List ℕ} {n m : ℕ} → LieSideBySide net xs firsts lasts n m
+        → LieSideBySide (all_emptied net) (either_over bare xs) firsts lasts n m
     sides_bare (lay.no_other n) = lay.no_other n
-    sides_bare (lay.another x xs last n k m firsts lasts l ls) = lay.another (in_order_over bare x) (either_over bare xs) last n k m firsts lasts (in_order_bare l) (sides_bare ls)
+    sides_bare (lay.another x xs last n k m firsts lasts l ls) =
+        lay.another (in_order_over bare x) (either_over bare xs) last n k m firsts lasts (in_order_bare l) (sides_bare ls)
 
   -- a rule
-  rule_bare : {rule n m : ℕ} {xs : Alternatives (Step Reads)} → LiesAsRule net rule xs n m → LiesAsRule (all_emptied net) rule (either_over bare xs) n m
+  rule_bare : {rule n m : ℕ} {xs : Alternatives (Step Reads)} → LiesAsRule net rule xs n m
+      → LiesAsRule (all_emptied net) rule (either_over bare xs) n m
   rule_bare (lay.of_one rule last n m x l leads) = lay.of_one rule last n m (in_order_over bare x) (in_order_bare l) (there last _ leads)
-  rule_bare (lay.of_several rule n m xs firsts lasts two is l a) = lay.of_several rule n m (either_over bare xs) firsts lasts two (there _ (Decision firsts) is) (sides_bare l) (leads_bare lasts _ a)
+  rule_bare (lay.of_several rule n m xs firsts lasts two is l a) =
+      lay.of_several rule n m (either_over bare xs) firsts lasts two (there _ (Decision firsts) is) (sides_bare l) (leads_bare lasts _ a)
 
   -- rules
-  rules_bare : {rule n m : ℕ} {rules : List (Alternatives (Step Reads))} → RulesLie net rule rules n m → RulesLie (all_emptied net) rule (map (either_over bare) rules) n m
+  rules_bare : {rule n m : ℕ} {rules : List (Alternatives (Step Reads))} → RulesLie net rule rules n m
+      → RulesLie (all_emptied net) rule (map (either_over bare) rules) n m
   rules_bare (lay.no_rule rule n) = lay.no_rule rule n
-  rules_bare (lay.a_rule rule n k m xs more l end rest) = lay.a_rule rule n k m (either_over bare xs) (map (either_over bare) more) (rule_bare l) (there _ (End rule) end) (rules_bare rest)
+  rules_bare (lay.a_rule rule n k m xs more l end rest) =
+      lay.a_rule rule n k m (either_over bare xs) (map (either_over bare) more) (rule_bare l) (there _ (End rule) end) (rules_bare rest)
 
   -- the network of rules
-  pub network_bare : (rules : List (Alternatives (Step Reads))) → IsNetworkOf rules net → IsNetworkOf (map (either_over bare) rules) (all_emptied net)
+  pub network_bare : (rules : List (Alternatives (Step Reads))) → IsNetworkOf rules net
+      → IsNetworkOf (map (either_over bare) rules) (all_emptied net)
   network_bare rules network =
       let many = length-map rules (either_over bare) in
       let size = length-map net.states emptied in
       record {
-        lie = subst (λ (n : ℕ). RulesLie (all_emptied net) 0 (map (either_over bare) rules) (2 * n) (length (map emptied net.states))) (sym many)
-            (subst (λ (n : ℕ). RulesLie (all_emptied net) 0 (map (either_over bare) rules) (2 * length rules) n) (sym size) (rules_bare network.lie));
+        lie = subst (λ (n : ℕ). RulesLie (all_emptied net) 0 (map (either_over bare) rules) (2 * n) (length (map emptied net.states)))
+            (sym many)
+            (subst (λ (n : ℕ). RulesLie (all_emptied net) 0 (map (either_over bare) rules) (2 * length rules) n) (sym size)
+            (rules_bare network.lie));
         written = network.written ∙ sym size;
       }
 
@@ -111,7 +129,8 @@ return_bare rule (Empty t) = refl
 returns_bare : (states : List (State Reads)) (rule : ℕ) → returns_of (map emptied states) rule ≡ returns_of states rule
 returns_bare [] rule = refl
 returns_bare (s ∷ states) rule =
-    ap (λ (o : Option ℕ). cons_option o (returns_of (map emptied states) rule)) (return_bare rule s) ∙ ap (cons_option (return_of rule s)) (returns_bare states rule)
+    ap (λ (o : Option ℕ). cons_option o (returns_of (map emptied states) rule)) (return_bare rule s)
+    ∙ ap (cons_option (return_of rule s)) (returns_bare states rule)
 
 -- who calls rules
 pub callers_bare : (states : List (State Reads)) (count : ℕ) → callers_of (map emptied states) count ≡ callers_of states count
@@ -119,4 +138,5 @@ callers_bare states count = by (range_with_len 0 count)
   where
     by : (ks : List ℕ) → map (returns_of (map emptied states)) ks ≡ map (returns_of states) ks
     by [] = refl
-    by (k ∷ ks) = ap (λ (xs : List ℕ). xs ∷ map (returns_of (map emptied states)) ks) (returns_bare states k) ∙ ap (λ (xs : List (List ℕ)). returns_of states k ∷ xs) (by ks)
+    by (k ∷ ks) = ap (λ (xs : List ℕ). xs ∷ map (returns_of (map emptied states)) ks) (returns_bare states k)
+        ∙ ap (λ (xs : List (List ℕ)). returns_of states k ∷ xs) (by ks)

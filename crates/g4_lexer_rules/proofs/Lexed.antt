@@ -51,7 +51,8 @@ edge_reads label (a, takes, is) = let n : ⊥ = cc in n
 
 -- the step of an atom that is an edge
 not_edge : (b : Step Reads) (set : List Range) → atom b ≡ atom (steps.Edge (Characters set)) → ReadsBare b [] → ⊥
-not_edge b set e r = let same : b ≡ steps.Edge (Characters set) = cc in edge_reads (Characters set) (subst (λ (z : Step Reads). ReadsBare z []) same r)
+not_edge b set e r = let same : b ≡ steps.Edge (Characters set) = cc in
+    edge_reads (Characters set) (subst (λ (z : Step Reads). ReadsBare z []) same r)
 
 no_call : (b : Step Reads) (set : List Range) (k : ℕ) → atom b ≡ atom (steps.Edge (Characters set)) → CallsRule b k → ⊥
 no_call b set k e c = let same : b ≡ steps.Edge (Characters set) = cc in subst (λ (z : Step Reads). CallsRule z k) same c
@@ -74,7 +75,8 @@ module _ (made : List (Alternatives (Step Reads))) where
   chain_null [] h = refl
   chain_null (c ∷ cs) (one_more _ _ h hs) = absurd (lone_null _ h)
 
-  block_null : (xs : Elements (Step Reads)) → Nullable ReadsBare CallsRule made (block None Once (only xs)) → AllNullable ReadsBare CallsRule made xs
+  block_null : (xs : Elements (Step Reads)) → Nullable ReadsBare CallsRule made (block None Once (only xs))
+      → AllNullable ReadsBare CallsRule made xs
   block_null xs (a_block _ _ (this _ _ h)) = h
   block_null xs (a_block _ _ (another _ _ h)) = elim h [ ]
 
@@ -104,18 +106,24 @@ module _ (names : List (List ℕ)) where
   atom_image a = kind_image a.kind
 
   -- a reference that is the end of the file, or not
-  token_reads : (t is_end : Bool) (k : ℕ) → is_end ≡ t → (b : Step Reads) → atom b ≡ over bare (over step_of (atom (cond t AtEnd (Call k)))) → ReadsBare b [] → is_end ≡ true
+  token_reads : (t is_end : Bool) (k : ℕ) → is_end ≡ t → (b : Step Reads)
+      → atom b ≡ over bare (over step_of (atom (cond t AtEnd (Call k)))) → ReadsBare b [] → is_end ≡ true
   token_reads true is_end k is b e r = is
   token_reads false is_end k is b e r = absurd (let same : b ≡ steps.Call k 0 = cc in subst (λ (z : Step Reads). ReadsBare z []) same r)
 
-  token_calls : (t is_end : Bool) (k j : ℕ) → is_end ≡ t → (b : Step Reads) → atom b ≡ over bare (over step_of (atom (cond t AtEnd (Call k)))) → CallsRule b j → (is_end ≡ false) × (j ≡ k)
+  token_calls : (t is_end : Bool) (k j : ℕ) → is_end ≡ t → (b : Step Reads)
+      → atom b ≡ over bare (over step_of (atom (cond t AtEnd (Call k)))) → CallsRule b j → (is_end ≡ false) × (j ≡ k)
   token_calls true is_end k j is b e c = absurd (no_empty_call b j e c)
   token_calls false is_end k j is b e c = (is, let same : b ≡ steps.Call k 0 = cc in subst (λ (z : Step Reads). CallsRule z j) same c)
 
   -- what an atom reads
   reads : (a : AtomKind) (b : Step Reads) → atom b ≡ kind_image a → ReadsBare b [] → ReadsKind a []
   reads (kinds.Rule name) b e r = absurd (not_edge b _ e r)
-  reads (kinds.Token name) b e r = inr (token_reads (bytes_eq name.text (codes "EOF")) (bytes_eq name.text (codes "EOF")) _ refl b e r, refl)
+  reads (kinds.Token name) b e r = inr (
+    token_reads (bytes_eq name.text (codes "EOF")) (bytes_eq name.text (codes "EOF")) _ refl b e
+        r,
+    refl,
+  )
   reads (kinds.Literal literal) b e r = absurd (let n : ⊥ = cc in n)
   reads (kinds.Range place first last) b e r = absurd (not_edge b _ e r)
   reads (kinds.Set set) b e r = absurd (not_edge b _ e r)
@@ -140,10 +148,13 @@ module _ (names : List (List ℕ)) where
 
   module _ (made : List (Alternatives (Step Reads))) where
     -- a literal that derives the empty word has no character
-    blocks : (a : AtomKind) (label : Option Label) (repeat : Repeat) (ys : Alternatives (Step Reads)) → block label repeat ys ≡ kind_image a → Nullable ReadsBare CallsRule made (block label repeat ys) → ReadsKind a []
+    blocks : (a : AtomKind) (label : Option Label) (repeat : Repeat) (ys : Alternatives (Step Reads))
+        → block label repeat ys ≡ kind_image a → Nullable ReadsBare CallsRule made (block label repeat ys) → ReadsKind a []
     blocks (kinds.Rule name) label repeat ys e h = absurd (let n : ⊥ = cc in n)
     blocks (kinds.Token name) label repeat ys e h = absurd (let n : ⊥ = cc in n)
-    blocks (kinds.Literal literal) label repeat ys e h = inl (chain_null made literal.characters (block_null made (chain literal.characters) (subst (Nullable ReadsBare CallsRule made) e h)))
+    blocks (kinds.Literal literal) label repeat ys e h =
+        inl (chain_null made literal.characters (block_null made (chain literal.characters)
+        (subst (Nullable ReadsBare CallsRule made) e h)))
     blocks (kinds.Range place first last) label repeat ys e h = absurd (let n : ⊥ = cc in n)
     blocks (kinds.Set set) label repeat ys e h = absurd (let n : ⊥ = cc in n)
     blocks (kinds.Any place) label repeat ys e h = absurd (let n : ⊥ = cc in n)
@@ -169,7 +180,9 @@ module _ (names : List (List ℕ)) where
     -- its left calls are its calls
     lefts : (a : AtomKind) (j : ℕ) → IsLeftOf ReadsBare CallsRule made (kind_image a) j → KindCallsNamed names a j
     lefts (kinds.Rule name) j h = h
-    lefts (kinds.Token name) j h = calls (kinds.Token name) (bare (step_of (cond (bytes_eq name.text (codes "EOF")) AtEnd (Call (position_or_len (λ other. bytes_eq other name.text) names))))) j refl h
+    lefts (kinds.Token name) j h = calls (kinds.Token name)
+        (bare (step_of (cond (bytes_eq name.text (codes "EOF")) AtEnd
+        (Call (position_or_len (λ other. bytes_eq other name.text) names))))) j refl h
     lefts (kinds.Literal literal) j (inl h) = chain_left made j literal.characters h
     lefts (kinds.Literal literal) j (inr h) = h
     lefts (kinds.Range place first last) j h = h
@@ -183,7 +196,9 @@ module _ (names : List (List ℕ)) where
   -- and so are all
   has : (a : AtomKind) (j : ℕ) → HasCall CallsRule (kind_image a) j → KindCallsNamed names a j
   has (kinds.Rule name) j h = h
-  has (kinds.Token name) j h = calls (kinds.Token name) (bare (step_of (cond (bytes_eq name.text (codes "EOF")) AtEnd (Call (position_or_len (λ other. bytes_eq other name.text) names))))) j refl h
+  has (kinds.Token name) j h = calls (kinds.Token name)
+      (bare (step_of (cond (bytes_eq name.text (codes "EOF")) AtEnd
+      (Call (position_or_len (λ other. bytes_eq other name.text) names))))) j refl h
   has (kinds.Literal literal) j (inl h) = chain_call j literal.characters h
   has (kinds.Literal literal) j (inr h) = h
   has (kinds.Range place first last) j h = h
@@ -213,7 +228,8 @@ mutual
   some_over f (or x xs) some = tt
 
 -- the alternatives of one of several rules
-full_at : (trees : List (Alternatives (Step Reads))) → AreFullTrees trees → (k : ℕ) (xs : Alternatives (Step Reads)) → slice_get (map (either_over bare) trees) k ≡ Some xs → EachIsFull xs
+full_at : (trees : List (Alternatives (Step Reads))) → AreFullTrees trees → (k : ℕ) (xs : Alternatives (Step Reads))
+    → slice_get (map (either_over bare) trees) k ≡ Some xs → EachIsFull xs
 full_at [] full k xs is = absurd (let n : ⊥ = cc in n)
 full_at (x ∷ trees) full zero xs is = let same : either_over bare x ≡ xs = cc in subst EachIsFull same (each_over bare x full.0.1)
 full_at (x ∷ trees) full (suc k) xs is = full_at trees full.1 k xs is
@@ -222,33 +238,50 @@ module _ (all : List LexerRule) where
   -- a rule as it is bare
   same_tree : (rule : LexerRule) → either_over bare (tree all rule) ≡ either_bind (atom_image (names_of all)) (lexer_alternatives_of rule)
   same_tree rule =
-      ap (either_over bare) (one_by_one (names_of all) rule.alternatives ∙ either_over_bound step_of (image (names_of all)) (lexer_alternatives_of rule)) ∙
+      ap (either_over bare) (one_by_one (names_of all) rule.alternatives
+      ∙ either_over_bound step_of (image (names_of all)) (lexer_alternatives_of rule)) ∙
       either_over_bound bare (λ (a : Atom). over step_of (image (names_of all) a)) (lexer_alternatives_of rule)
 
   -- of which rule one is made
-  same_at : (rules : List LexerRule) (k : ℕ) (ys : Alternatives (Step Reads)) → slice_get (map (either_over bare) (map (tree all) rules)) k ≡ Some ys →
-      (xs : Alternatives Atom) × (slice_get (map lexer_alternatives_of rules) k ≡ Some xs) × (ys ≡ either_bind (atom_image (names_of all)) xs)
+  same_at : (rules : List LexerRule) (k : ℕ) (ys : Alternatives (Step Reads))
+      → slice_get (map (either_over bare) (map (tree all) rules)) k ≡ Some ys →
+      (xs : Alternatives Atom) × (slice_get (map lexer_alternatives_of rules) k ≡ Some xs)
+      × (ys ≡ either_bind (atom_image (names_of all)) xs)
   same_at [] k ys is = absurd (let n : ⊥ = cc in n)
-  same_at (rule ∷ rules) zero ys is = (lexer_alternatives_of rule, refl, (let same : either_over bare (tree all rule) ≡ ys = cc in sym same) ∙ same_tree rule)
+  same_at (rule ∷ rules) zero ys is = (
+    lexer_alternatives_of rule,
+    refl,
+    (let same : either_over bare (tree all rule) ≡ ys = cc in sym same) ∙ same_tree rule,
+  )
   same_at (rule ∷ rules) (suc k) ys is = same_at rules k ys is
 
 -- the network can be lexed with
-pub is_lexable : (literals : List LexerRule) (modes : List Mode) (made : LexNet) → IsLexNet literals modes made → CanBeLexed (all_rules literals modes) → IsLexable made.net
+pub is_lexable : (literals : List LexerRule) (modes : List Mode) (made : LexNet) → IsLexNet literals modes made
+    → CanBeLexed (all_rules literals modes) → IsLexable made.net
 is_lexable literals modes made x can =
     let rules = all_rules literals modes in
     let names = names_of rules in
     let bared = map (either_over bare) (trees_of rules) in
     let given = map lexer_alternatives_of rules in
-    let reads_here : (a : Atom) (b : Step Reads) → atom b ≡ atom_image names a → ReadsBare b [] → ReadsAtom a [] = λ a b e r. reads names a.kind b e r in
-    let calls_named : (a : Atom) (b : Step Reads) (k : ℕ) → atom b ≡ atom_image names a → CallsRule b k → CallsNamed names a k = λ a b k e c. calls names a.kind b k e c in
-    let blocks_here : (a : Atom) (label : Option Label) (repeat : Repeat) (ys : Alternatives (Step Reads)) → block label repeat ys ≡ atom_image names a → Nullable ReadsBare CallsRule bared (block label repeat ys) → ReadsAtom a [] =
+    let reads_here : (a : Atom) (b : Step Reads) → atom b ≡ atom_image names a → ReadsBare b []
+    → ReadsAtom a [] = λ a b e r. reads names a.kind b e r in
+    let calls_named : (a : Atom) (b : Step Reads) (k : ℕ) → atom b ≡ atom_image names a → CallsRule b k
+    → CallsNamed names a k = λ a b k e c. calls names a.kind b k e c in
+    let blocks_here : (a : Atom) (label : Option Label) (repeat : Repeat) (ys : Alternatives (Step Reads))
+    → block label repeat ys ≡ atom_image names a → Nullable ReadsBare CallsRule bared (block label repeat ys) → ReadsAtom a [] =
     λ a label repeat ys e h. blocks names bared a.kind label repeat ys e h in
-    let many : length given ≡ length bared = length-map rules lexer_alternatives_of ∙ (sym (length-map rules (tree rules)) ∙ sym (length-map (trees_of rules) (either_over bare))) in
+    let many : length given ≡ length bared = length-map rules lexer_alternatives_of
+    ∙ (sym (length-map rules (tree rules)) ∙ sym (length-map (trees_of rules) (either_over bare))) in
     let within : CallsAreInRange CallsRule bared =
-    calls_within (atom_image names) ReadsAtom ReadsBare (CallsNamed names) CallsRule given bared reads_here calls_named blocks_here (same_at rules rules) (λ a j h. has names a.kind j h) many can.within in
+    calls_within (atom_image names) ReadsAtom ReadsBare (CallsNamed names) CallsRule given bared reads_here calls_named blocks_here
+    (same_at rules rules) (λ a j h. has names a.kind j h) many can.within in
     let loops : NoEmptyLoop ReadsBare CallsRule bared =
-    no_loop_over (atom_image names) ReadsAtom ReadsBare (CallsNamed names) CallsRule given bared reads_here calls_named blocks_here (same_at rules rules) (λ a h. no_loop names bared a.kind h) can.loops in
+    no_loop_over (atom_image names) ReadsAtom ReadsBare (CallsNamed names) CallsRule given bared reads_here calls_named blocks_here
+    (same_at rules rules) (λ a h. no_loop names bared a.kind h) can.loops in
     let cycles : NoLeftCycle ReadsBare CallsRule bared =
-    no_cycle_over (atom_image names) ReadsAtom ReadsBare (CallsNamed names) CallsRule given bared reads_here calls_named blocks_here (same_at rules rules) (λ a j h. lefts names bared a.kind j h) can.cycles in
-    formed.well_formed Takes bared (all_emptied made.net) (network_bare made.net (trees_of rules) x.network.network) within (full_at (trees_of rules) (trees_full rules can.full)) loops cycles
-    (x.network.callers ∙ (sym (callers_bare made.net.states (length (trees_of rules))) ∙ ap (callers_of (all_emptied made.net).states) (sym (length-map (trees_of rules) (either_over bare)))))
+    no_cycle_over (atom_image names) ReadsAtom ReadsBare (CallsNamed names) CallsRule given bared reads_here calls_named blocks_here
+    (same_at rules rules) (λ a j h. lefts names bared a.kind j h) can.cycles in
+    formed.well_formed Takes bared (all_emptied made.net) (network_bare made.net (trees_of rules) x.network.network) within
+    (full_at (trees_of rules) (trees_full rules can.full)) loops cycles
+    (x.network.callers ∙ (sym (callers_bare made.net.states (length (trees_of rules)))
+    ∙ ap (callers_of (all_emptied made.net).states) (sym (length-map (trees_of rules) (either_over bare)))))

@@ -88,16 +88,20 @@ reads_in rule_kinds.Parser a (inr r) = absurd r.0
 
 -- the alternatives of a lexer rule are those of its body
 body_over : (rule : LexerRule) → lexer_alternatives_of rule ≡ either_over lexed (body_of (Lexer rule))
-body_over rule = sym (either_over_twice lexed (atom_in rule_kinds.Lexer) (lexer_alternatives_of rule) ∙ same_either (lexer_alternatives_of rule))
+body_over rule = sym (either_over_twice lexed (atom_in rule_kinds.Lexer) (lexer_alternatives_of rule)
+    ∙ same_either (lexer_alternatives_of rule))
 
 -- the rule in whose place an alternative of a list is
-rule_back : (lexers : List LexerRule) (k : ℕ) (ys : Alternatives Atom) → slice_get (map lexer_alternatives_of lexers) k ≡ Some ys → (rule : LexerRule) × (slice_get lexers k ≡ Some rule) × (ys ≡ lexer_alternatives_of rule)
+rule_back : (lexers : List LexerRule) (k : ℕ) (ys : Alternatives Atom) → slice_get (map lexer_alternatives_of lexers) k ≡ Some ys
+    → (rule : LexerRule) × (slice_get lexers k ≡ Some rule) × (ys ≡ lexer_alternatives_of rule)
 rule_back lexers k ys is = by (slice_get lexers k) refl (sym (slice_get-map lexer_alternatives_of lexers k) ∙ is)
   where
-    by : (o : Option LexerRule) → slice_get lexers k ≡ o → option_map lexer_alternatives_of (slice_get lexers k) ≡ Some ys → (rule : LexerRule) × (slice_get lexers k ≡ Some rule) × (ys ≡ lexer_alternatives_of rule)
+    by : (o : Option LexerRule) → slice_get lexers k ≡ o → option_map lexer_alternatives_of (slice_get lexers k) ≡ Some ys
+        → (rule : LexerRule) × (slice_get lexers k ≡ Some rule) × (ys ≡ lexer_alternatives_of rule)
     by None e h = let wrong : None ≡ Some ys = ap (λ (o : Option LexerRule). option_map lexer_alternatives_of o) (sym e) ∙ h in cc
     by (Some rule) e h =
-        let one : Some (lexer_alternatives_of rule) ≡ Some ys = ap (λ (o : Option LexerRule). option_map lexer_alternatives_of o) (sym e) ∙ h in
+        let one : Some (lexer_alternatives_of rule) ≡ Some ys =
+        ap (λ (o : Option LexerRule). option_map lexer_alternatives_of o) (sym e) ∙ h in
         (rule, e, (cc))
 
 -- the place among all rules of rule k, where rules of literals come first: these have none
@@ -112,58 +116,73 @@ module _ (all : List Rule) (names : List (List ℕ)) (made : List (Alternatives 
   IsClosedHere ys = IsClosed ReadsAtom (CallsNamed names) made ys
 
   -- a lexer rule
-  lexer_body : (k : ℕ) (ys : Alternatives Atom) → slice_get (map lexer_alternatives_of (lexer_rules all)) k ≡ Some ys → IsMadeOf lexed (bodies_of all) (place_of all k) ys
+  lexer_body : (k : ℕ) (ys : Alternatives Atom) → slice_get (map lexer_alternatives_of (lexer_rules all)) k ≡ Some ys
+      → IsMadeOf lexed (bodies_of all) (place_of all k) ys
   lexer_body k ys is =
-      let rule = rule_back (lexer_rules all) k ys is in
-      (body_of (Lexer rule.0), slice_get-map body_of all (place_of all k) ∙ ap (option_map body_of) (at_place all k rule.0 rule.1), rule.2 ∙ body_over rule.0)
+      let rule = rule_back (lexer_rules all) k ys is in (
+        body_of (Lexer rule.0),
+        slice_get-map body_of all (place_of all k) ∙ ap (option_map body_of) (at_place all k rule.0 rule.1),
+        rule.2 ∙ body_over rule.0,
+      )
 
   -- the first rule is a literal
-  first_closed : (rule : LexerRule) (others : List LexerRule) (ys : Alternatives Atom) → IsLiteralRule rule → slice_get (map lexer_alternatives_of (rule ∷ others)) 0 ≡ Some ys → IsClosedHere ys
+  first_closed : (rule : LexerRule) (others : List LexerRule) (ys : Alternatives Atom) → IsLiteralRule rule
+      → slice_get (map lexer_alternatives_of (rule ∷ others)) 0 ≡ Some ys → IsClosedHere ys
   first_closed rule others ys lit is =
       let one : Some (lexer_alternatives_of rule) ≡ Some ys = is in
       let e : lexer_alternatives_of rule ≡ ys = cc in
       subst IsClosedHere e (literal_closed names made rule lit)
 
   -- a literal's rule has another name than a reference that is no end of the file
-  other_name : (rule : LexerRule) → IsLiteralRule rule → (name : List ℕ) → bytes_eq name (codes "EOF") ≡ false → bytes_eq rule.name name ≡ true → ⊥
+  other_name : (rule : LexerRule) → IsLiteralRule rule → (name : List ℕ) → bytes_eq name (codes "EOF") ≡ false
+      → bytes_eq rule.name name ≡ true → ⊥
   other_name rule (literal, is, named) name apart same =
       let is_name : rule.name ≡ name = (bytes_eq-Decides rule.name name).0 same in
       let end : bytes_eq name (codes "EOF") ≡ true = (bytes_eq-Decides name (codes "EOF")).1 (sym is_name ∙ named) in
       absurd (let no : ⊥ = cc in no)
 
   -- the rules of literals, and then the lexer rules
-  bodies : (front : List LexerRule) → All IsLiteralRule front → (k : ℕ) (ys : Alternatives Atom) → slice_get (map lexer_alternatives_of (front ++ lexer_rules all)) k ≡ Some ys → IsClosedHere ys ⊎ IsMadeOf lexed (bodies_of all) (number front all k) ys
+  bodies : (front : List LexerRule) → All IsLiteralRule front → (k : ℕ) (ys : Alternatives Atom)
+      → slice_get (map lexer_alternatives_of (front ++ lexer_rules all)) k ≡ Some ys
+      → IsClosedHere ys ⊎ IsMadeOf lexed (bodies_of all) (number front all k) ys
   bodies [] lits k ys is = inr (lexer_body k ys is)
   bodies (rule ∷ front) lits zero ys is = inl (first_closed rule (front ++ lexer_rules all) ys (All-head IsLiteralRule rule front lits) is)
   bodies (rule ∷ front) lits (suc k) ys is = bodies front (All-tail IsLiteralRule rule front lits) k ys is
 
   -- the first rule of a name, which is not that of the end of the file, is the first lexer rule of this name
   abbrev IsFirst : List LexerRule → List ℕ → Alternatives Atom → ℕ → Type 0
-  IsFirst front name ys k = (position (is_rule_of rule_kinds.Lexer name) all ≡ Some (number front all k)) × IsMadeOf lexed (bodies_of all) (number front all k) ys
+  IsFirst front name ys k = (position (is_rule_of rule_kinds.Lexer name) all ≡ Some (number front all k))
+      × IsMadeOf lexed (bodies_of all) (number front all k) ys
 
-  called : (front : List LexerRule) → All IsLiteralRule front → (name : List ℕ) → bytes_eq name (codes "EOF") ≡ false → (k : ℕ) (ys : Alternatives Atom) → position (λ other. bytes_eq other name) (names_of (front ++ lexer_rules all)) ≡ Some k →
+  called : (front : List LexerRule) → All IsLiteralRule front → (name : List ℕ) → bytes_eq name (codes "EOF") ≡ false
+      → (k : ℕ) (ys : Alternatives Atom) → position (λ other. bytes_eq other name) (names_of (front ++ lexer_rules all)) ≡ Some k →
       slice_get (map lexer_alternatives_of (front ++ lexer_rules all)) k ≡ Some ys → IsFirst front name ys k
   called [] lits name apart k ys found is = (first_place all name k found, lexer_body k ys is)
   called (rule ∷ front) lits name apart k ys found is = elim (cases_Bool (bytes_eq rule.name name)) [
     | inl e ↦ absurd (other_name rule (All-head IsLiteralRule rule front lits) name apart e)
     | inr e ↦
         let later = from_later (λ other. bytes_eq other name) rule.name (names_of (front ++ lexer_rules all)) k e found in
-        let next : slice_get (map lexer_alternatives_of (rule ∷ (front ++ lexer_rules all))) (suc later.0) ≡ Some ys = subst (λ (n : ℕ). slice_get (map lexer_alternatives_of (rule ∷ (front ++ lexer_rules all))) n ≡ Some ys) later.2 is in
-        subst (IsFirst (rule ∷ front) name ys) (sym later.2) (called front (All-tail IsLiteralRule rule front lits) name apart later.0 ys later.1 next)
+        let next : slice_get (map lexer_alternatives_of (rule ∷ (front ++ lexer_rules all))) (suc later.0) ≡ Some ys =
+        subst (λ (n : ℕ). slice_get (map lexer_alternatives_of (rule ∷ (front ++ lexer_rules all))) n ≡ Some ys) later.2 is in
+        subst (IsFirst (rule ∷ front) name ys) (sym later.2)
+        (called front (All-tail IsLiteralRule rule front lits) name apart later.0 ys later.1 next)
   ]
 
   -- the atoms of a lexer rule among these are defined
-  defined_body : (some : List Rule) → All (λ a. KindIsDefined all a.kind a.atom.kind) (all_atoms some) → (k : ℕ) (ys : Alternatives Atom) → slice_get (map lexer_alternatives_of (lexer_rules some)) k ≡ Some ys →
+  defined_body : (some : List Rule) → All (λ a. KindIsDefined all a.kind a.atom.kind) (all_atoms some)
+      → (k : ℕ) (ys : Alternatives Atom) → slice_get (map lexer_alternatives_of (lexer_rules some)) k ≡ Some ys →
       All (λ a. KindIsDefined all rule_kinds.Lexer a.kind) (atoms_of_either ys)
   defined_body [] h k ys is = absurd (let wrong : None ≡ Some ys = is in let n : ⊥ = cc in n)
-  defined_body (Parser rule ∷ some) h k ys is = defined_body some (All-rest (λ a. KindIsDefined all a.kind a.atom.kind) (rule_atoms (Parser rule)) (all_atoms some) h) k ys is
+  defined_body (Parser rule ∷ some) h k ys is =
+      defined_body some (All-rest (λ a. KindIsDefined all a.kind a.atom.kind) (rule_atoms (Parser rule)) (all_atoms some) h) k ys is
   defined_body (Lexer rule ∷ some) h zero ys is =
       let one : Some (lexer_alternatives_of rule) ≡ Some ys = is in
       let e : lexer_alternatives_of rule ≡ ys = cc in
       subst (λ (xs : Alternatives Atom). All (λ a. KindIsDefined all rule_kinds.Lexer a.kind) (atoms_of_either xs)) e
       (all_unmap (λ a. KindIsDefined all a.kind a.atom.kind) (atom_in rule_kinds.Lexer) (atoms_of_either (lexer_alternatives_of rule))
       (All-front (λ a. KindIsDefined all a.kind a.atom.kind) (rule_atoms (Lexer rule)) (all_atoms some) h))
-  defined_body (Lexer rule ∷ some) h (suc k) ys is = defined_body some (All-rest (λ a. KindIsDefined all a.kind a.atom.kind) (rule_atoms (Lexer rule)) (all_atoms some) h) k ys is
+  defined_body (Lexer rule ∷ some) h (suc k) ys is =
+      defined_body some (All-rest (λ a. KindIsDefined all a.kind a.atom.kind) (rule_atoms (Lexer rule)) (all_atoms some) h) k ys is
 
 module _ (literals : List LexerRule) (all : List Rule) where
   -- the rules of the lexer, their names and their alternatives
@@ -182,10 +201,13 @@ module _ (literals : List LexerRule) (all : List Rule) where
 
   module _ (lits : All IsLiteralRule literals) where
     -- a name that is called
-    name_called : (name : List ℕ) → bytes_eq name (codes "EOF") ≡ false → (k : ℕ) (ys : Alternatives Atom) → k ≡ position_or_len (λ other. bytes_eq other name) names → slice_get made k ≡ Some ys → IsFirst all names made literals name ys k
+    name_called : (name : List ℕ) → bytes_eq name (codes "EOF") ≡ false → (k : ℕ) (ys : Alternatives Atom)
+        → k ≡ position_or_len (λ other. bytes_eq other name) names → slice_get made k ≡ Some ys → IsFirst all names made literals name ys k
     name_called name apart k ys same is =
-        let less : position_or_len (λ other. bytes_eq other name) names < length names = omega (arith, same, as_many, slice_get_within made k ys is) in
-        called all names made literals lits name apart k ys (within_found (λ other. bytes_eq other name) names less ∙ ap (λ (n : ℕ). Some n) (sym same)) is
+        let less : position_or_len (λ other. bytes_eq other name) names < length names =
+        omega (arith, same, as_many, slice_get_within made k ys is) in
+        called all names made literals lits name apart k ys
+        (within_found (λ other. bytes_eq other name) names less ∙ ap (λ (n : ℕ). Some n) (sym same)) is
 
     -- what an atom calls
     abbrev IsCalled : AtomKind → ℕ → Alternatives Atom → Type 0
@@ -203,7 +225,8 @@ module _ (literals : List LexerRule) (all : List Rule) where
     kind_called kinds.Action k ys c is = absurd c
     kind_called (kinds.Predicate name) k ys c is = absurd c
 
-    calls_in : (kind : RuleKind) (a : Atom) (k : ℕ) (ys : Alternatives Atom) → CallsNamed names (lexed_as kind a) k → slice_get made k ≡ Some ys →
+    calls_in : (kind : RuleKind) (a : Atom) (k : ℕ) (ys : Alternatives Atom) → CallsNamed names (lexed_as kind a) k
+        → slice_get made k ≡ Some ys →
         CallsIn all (atom_in kind a) (number literals all k) × IsMadeOf lexed (bodies_of all) (number literals all k) ys
     calls_in rule_kinds.Lexer a k ys c is = kind_called a.kind k ys c is
     calls_in rule_kinds.Parser a k ys c is = absurd c
@@ -214,7 +237,8 @@ module _ (literals : List LexerRule) (all : List Rule) where
     unowned rule_kinds.Parser a j k c o = c
 
     -- a reference that is defined is to one of the rules
-    name_within : (name : List ℕ) (place j : ℕ) → position (is_rule_of rule_kinds.Lexer name) all ≡ Some place → j ≡ position_or_len (λ other. bytes_eq other name) names → j < length names
+    name_within : (name : List ℕ) (place j : ℕ) → position (is_rule_of rule_kinds.Lexer name) all ≡ Some place
+        → j ≡ position_or_len (λ other. bytes_eq other name) names → j < length names
     name_within name place j is same =
         let first = first_lexer all name place is in
         let found = found_after literals (lexer_rules all) name first.0 first.1 in
@@ -233,12 +257,18 @@ module _ (literals : List LexerRule) (all : List Rule) where
     kind_within (kinds.Predicate name) j d c = absurd c
 
     -- each call is of one of the rules
-    front_within : RulesAreDefined all → (front : List LexerRule) → All IsLiteralRule front → (k j : ℕ) (ys : Alternatives Atom) → slice_get (map lexer_alternatives_of (front ++ lexer_rules all)) k ≡ Some ys → SomeHasCall (CallsNamed names) ys j → j < length names
+    front_within : RulesAreDefined all → (front : List LexerRule) → All IsLiteralRule front → (k j : ℕ) (ys : Alternatives Atom)
+        → slice_get (map lexer_alternatives_of (front ++ lexer_rules all)) k ≡ Some ys → SomeHasCall (CallsNamed names) ys j
+        → j < length names
     front_within defined [] front_lits k j ys is has =
-        let one = some_caller (λ (a : Atom). KindIsDefined all rule_kinds.Lexer a.kind) (CallsNamed names) j ys (defined_body all names made all defined k ys is) has in
+        let one = some_caller (λ (a : Atom). KindIsDefined all rule_kinds.Lexer a.kind) (CallsNamed names) j ys
+        (defined_body all names made all defined k ys is) has in
         kind_within one.0.kind j one.1 one.2
-    front_within defined (rule ∷ front) front_lits zero j ys is has = absurd ((first_closed all names made rule (front ++ lexer_rules all) ys (All-head IsLiteralRule rule front front_lits) is).callless j has)
-    front_within defined (rule ∷ front) front_lits (suc k) j ys is has = front_within defined front (All-tail IsLiteralRule rule front front_lits) k j ys is has
+    front_within defined (rule ∷ front) front_lits zero j ys is has =
+        absurd ((first_closed all names made rule (front ++ lexer_rules all) ys (All-head IsLiteralRule rule front front_lits)
+        is).callless j has)
+    front_within defined (rule ∷ front) front_lits (suc k) j ys is has =
+        front_within defined front (All-tail IsLiteralRule rule front front_lits) k j ys is has
 
     -- the rules can be lexed with
     pub rules_lexed : LexerRulesAreFull rules → RulesAreDefined all → RulesCanRun all → CanBeLexed rules
@@ -246,8 +276,11 @@ module _ (literals : List LexerRule) (all : List Rule) where
       full = full;
       within = λ k j ys is has. omega (arith, as_many, front_within defined literals lits k j ys is has);
       loops =
-          no_empty_loop lexed ReadsIn ReadsAtom (CallsIn all) (CallsNamed names) (bodies_of all) made (number literals all) (λ a r. reads_in a.kind a.atom r) (λ a k ys c is. calls_in a.kind a.atom k ys c is) (bodies all names made literals lits) can.loops;
+          no_empty_loop lexed ReadsIn ReadsAtom (CallsIn all) (CallsNamed names) (bodies_of all) made (number literals all)
+          (λ a r. reads_in a.kind a.atom r) (λ a k ys c is. calls_in a.kind a.atom k ys c is)
+          (bodies all names made literals lits) can.loops;
       cycles =
-          no_left_cycle lexed ReadsIn ReadsAtom (CallsIn all) (CallsNamed names) (bodies_of all) made (number literals all) (λ a r. reads_in a.kind a.atom r) (λ a k ys c is. calls_in a.kind a.atom k ys c is) (bodies all names made literals lits)
+          no_left_cycle lexed ReadsIn ReadsAtom (CallsIn all) (CallsNamed names) (bodies_of all) made (number literals all)
+          (λ a r. reads_in a.kind a.atom r) (λ a k ys c is. calls_in a.kind a.atom k ys c is) (bodies all names made literals lits)
           (OwnIn all) (λ a j k c o. unowned a.kind a.atom j k c o) can.cycles;
     }

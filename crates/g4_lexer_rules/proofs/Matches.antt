@@ -20,13 +20,15 @@ scalar_low c (inl low) = omega arith
 scalar_low c (inr high) = high.1
 
 -- the characters between those of two literals
-spanned_has : (first last : List ℕ) (c : ℕ) → Has (spanned first last) c ↔ (IsScalar c × ((a b : ℕ) × (first ≡ a ∷ []) × (last ≡ b ∷ []) × (a ≤ c) × (c ≤ b)))
+spanned_has : (first last : List ℕ) (c : ℕ) → Has (spanned first last) c
+    ↔ (IsScalar c × ((a b : ℕ) × (first ≡ a ∷ []) × (last ≡ b ∷ []) × (a ≤ c) × (c ≤ b)))
 spanned_has [] last c = (λ h. absurd h, λ (scalar, (a, b, is, other, low, high)). absurd (let k : ⊥ = cc in k))
 spanned_has (x ∷ []) [] c = (λ h. absurd h, λ (scalar, (a, b, is, other, low, high)). absurd (let k : ⊥ = cc in k))
 spanned_has (x ∷ []) (y ∷ []) c =
     let all = scalars_has x (y + 1) c in (
       λ h. let w = all.0 h in (w.2, (x, y, refl, refl, w.0, omega (arith, w.1))),
-      λ (scalar, (a, b, first, last, low, high)). all.1 (let same : x ≡ a = cc in omega (arith, same, low), let same : y ≡ b = cc in omega (arith, same, high), scalar),
+      λ (scalar, (a, b, first, last, low, high)).
+          all.1 (let same : x ≡ a = cc in omega (arith, same, low), let same : y ≡ b = cc in omega (arith, same, high), scalar),
     )
 spanned_has (x ∷ []) (y ∷ z ∷ zs) c = (λ h. absurd h, λ (scalar, (a, b, is, other, low, high)). absurd (let k : ⊥ = cc in k))
 spanned_has (x ∷ y ∷ zs) last c = (λ h. absurd h, λ (scalar, (a, b, is, other, low, high)). absurd (let k : ⊥ = cc in k))
@@ -45,15 +47,20 @@ set_of : (xs ys : List Range) → Set xs ≡ Set ys → xs ≡ ys
 set_of xs ys e = cc
 
 -- no block is an atom, and nothing is no set
-pub sets_match : (names : List (List ℕ)) (kind : AtomKind) (set : List Range) → SetIsCanonical kind → element_of_kind names kind ≡ atom (Set set) → (c : ℕ) → Has set c ↔ (IsScalar c × MatchesKind kind (c ∷ []))
-sets_match names (kinds.Rule name) set canonical is c = let same = set_of [] set (inside (Set []) (Set set) is) in (λ h. absurd (subst (λ (xs : List Range). Has xs c) (sym same) h), λ h. absurd h.1)
-sets_match names (kinds.Token name) set canonical is c = absurd (no_set (bytes_eq name.text (codes "EOF")) _ set (inside (reference names name.text) (Set set) is))
+pub sets_match : (names : List (List ℕ)) (kind : AtomKind) (set : List Range) → SetIsCanonical kind
+    → element_of_kind names kind ≡ atom (Set set) → (c : ℕ) → Has set c ↔ (IsScalar c × MatchesKind kind (c ∷ []))
+sets_match names (kinds.Rule name) set canonical is c = let same = set_of [] set (inside (Set []) (Set set) is) in
+    (λ h. absurd (subst (λ (xs : List Range). Has xs c) (sym same) h), λ h. absurd h.1)
+sets_match names (kinds.Token name) set canonical is c =
+    absurd (no_set (bytes_eq name.text (codes "EOF")) _ set (inside (reference names name.text) (Set set) is))
 sets_match names (kinds.Literal literal) set canonical is c = absurd (let n : ⊥ = cc in n)
 sets_match names (kinds.Range place first last) set canonical is c =
-    let same = set_of (spanned first.characters last.characters) set (inside (Set (spanned first.characters last.characters)) (Set set) is) in
+    let same = set_of (spanned first.characters last.characters) set
+    (inside (Set (spanned first.characters last.characters)) (Set set) is) in
     let all = spanned_has first.characters last.characters c in (
       λ h. let w = all.0 (subst (λ (xs : List Range). Has xs c) (sym same) h) in (w.0, (c, refl, w.1)),
-      λ (scalar, (a, one, between)). subst (λ (xs : List Range). Has xs c) same (all.1 (scalar, subst (IsBetween first last) (let e : a ≡ c = cc in e) between)),
+      λ (scalar, (a, one, between)). subst (λ (xs : List Range). Has xs c) same
+          (all.1 (scalar, subst (IsBetween first last) (let e : a ≡ c = cc in e) between)),
     )
 sets_match names (kinds.Set own) set canonical is c =
     let same = set_of own set (inside (Set own) (Set set) is) in (
@@ -66,12 +73,14 @@ sets_match names (kinds.Any place) set canonical is c =
       λ h. let w = all.0 (subst (λ (xs : List Range). Has xs c) (sym same) h) in (w.2, (c, refl)),
       λ (scalar, more). subst (λ (xs : List Range). Has xs c) same (all.1 (omega arith, scalar_low c scalar, scalar)),
     )
-sets_match names (kinds.NotTokens place tokens) set canonical is c = let same = set_of [] set (inside (Set []) (Set set) is) in (λ h. absurd (subst (λ (xs : List Range). Has xs c) (sym same) h), λ h. absurd h.1)
+sets_match names (kinds.NotTokens place tokens) set canonical is c = let same = set_of [] set (inside (Set []) (Set set) is) in
+    (λ h. absurd (subst (λ (xs : List Range). Has xs c) (sym same) h), λ h. absurd h.1)
 sets_match names (kinds.NotCharacters place own) set canonical is c =
     let same = set_of (gaps 0 own) set (inside (Set (gaps 0 own)) (Set set) is) in
     let all = gaps_has 0 own c canonical in (
       λ h. let w = all.0 (subst (λ (xs : List Range). Has xs c) (sym same) h) in (w.1, (c, refl, w.2)),
-      λ (scalar, (a, one, not)). subst (λ (xs : List Range). Has xs c) same (all.1 (omega arith, scalar, λ has. not (subst (Has own) (let e : c ≡ a = cc in e) has))),
+      λ (scalar, (a, one, not)). subst (λ (xs : List Range). Has xs c) same
+          (all.1 (omega arith, scalar, λ has. not (subst (Has own) (let e : c ≡ a = cc in e) has))),
     )
 sets_match names kinds.Action set canonical is c = absurd (let e = inside Empty (Set set) is in let n : ⊥ = cc in n)
 sets_match names (kinds.Predicate name) set canonical is c = absurd (let e = inside Empty (Set set) is in let n : ⊥ = cc in n)

@@ -48,7 +48,9 @@ named_gives : (types : List TokenName) (name : List ℕ) → AreLow types → Gi
 named_gives [] name low = tt
 named_gives (token ∷ types) name low = by (bytes_eq token.name name) (named_gives types name (λ k d less. low (suc k) d (omega arith)))
   where
-    by : (b : Bool) → Gives (option_map commands.Type (type_named types name)) → Gives (option_map commands.Type (option_map (λ (t : TokenName). t.symbol) (cond b (Some token) (find (λ t. bytes_eq t.name name) types))))
+    by : (b : Bool) → Gives (option_map commands.Type (type_named types name))
+        → Gives (option_map commands.Type (option_map (λ (t : TokenName). t.symbol)
+        (cond b (Some token) (find (λ t. bytes_eq t.name name) types))))
     by true rest = inl (low 0 token (omega arith))
     by false rest = rest
 
@@ -64,7 +66,8 @@ symbol_gives types name low = by (bytes_eq name (codes "EOF"))
 bare_gives : (name : List ℕ) → Gives (bare_command name)
 bare_gives name = by (bytes_eq name (codes "skip")) (bytes_eq name (codes "more")) (bytes_eq name (codes "popMode"))
   where
-    by : (skip more pop : Bool) → Gives (cond skip (Some commands.Skip) (cond more (Some commands.More) (cond pop (Some commands.PopMode) None)))
+    by : (skip more pop : Bool) → Gives (cond skip (Some commands.Skip)
+        (cond more (Some commands.More) (cond pop (Some commands.PopMode) None)))
     by true more pop = tt
     by false true pop = tt
     by false false true = tt
@@ -77,22 +80,28 @@ module _ (tables : CommandTables) (low : AreLow tables.types) where
       let mode : Option ℕ = first_place tables.modes argument in
       let pushes : Option LexerCommand = cond (bytes_eq name (codes "pushMode")) (option_map commands.PushMode mode) None in
       let changes : Option LexerCommand = cond (bytes_eq name (codes "mode")) (option_map commands.Mode mode) pushes in
-      let sorts : Option LexerCommand = cond (bytes_eq name (codes "channel")) (option_map commands.Channel (first_place tables.channels argument)) changes in
-      either_gives (bytes_eq name (codes "type")) (option_map commands.Type (symbol_of tables.types argument)) sorts (symbol_gives tables.types argument low)
-      (either_gives (bytes_eq name (codes "channel")) (option_map commands.Channel (first_place tables.channels argument)) changes (channel_gives (first_place tables.channels argument))
-      (either_gives (bytes_eq name (codes "mode")) (option_map commands.Mode mode) pushes (mode_gives mode) (either_gives (bytes_eq name (codes "pushMode")) (option_map commands.PushMode mode) None (push_gives mode) tt)))
+      let sorts : Option LexerCommand = cond (bytes_eq name (codes "channel"))
+      (option_map commands.Channel (first_place tables.channels argument)) changes in
+      either_gives (bytes_eq name (codes "type")) (option_map commands.Type (symbol_of tables.types argument)) sorts
+      (symbol_gives tables.types argument low)
+      (either_gives (bytes_eq name (codes "channel")) (option_map commands.Channel (first_place tables.channels argument)) changes
+      (channel_gives (first_place tables.channels argument))
+      (either_gives (bytes_eq name (codes "mode")) (option_map commands.Mode mode) pushes (mode_gives mode)
+      (either_gives (bytes_eq name (codes "pushMode")) (option_map commands.PushMode mode) None (push_gives mode) tt)))
 
   with_gives : (name : List ℕ) (argument : Option Argument) → Gives (command_with tables name argument)
   with_gives name None = bare_gives name
   with_gives name (Some (Name argument)) = name_gives name argument
-  with_gives name (Some (Number digits)) = either_gives (bytes_eq name (codes "channel")) (option_map commands.Channel (number_of digits)) None (channel_gives (number_of digits)) tt
+  with_gives name (Some (Number digits)) = either_gives (bytes_eq name (codes "channel"))
+      (option_map commands.Channel (number_of digits)) None (channel_gives (number_of digits)) tt
 
   -- what those of an alternative do
   commands_give : (written : List Command) → All GivesTokenType (filter_map (command_of tables) written)
   commands_give [] = All-nil GivesTokenType
   commands_give (command ∷ written) = by (command_of tables command) (with_gives command.name.text command.argument) (commands_give written)
     where
-      by : (o : Option LexerCommand) → Gives o → All GivesTokenType (filter_map (command_of tables) written) → All GivesTokenType (cons_option o (filter_map (command_of tables) written))
+      by : (o : Option LexerCommand) → Gives o → All GivesTokenType (filter_map (command_of tables) written)
+          → All GivesTokenType (cons_option o (filter_map (command_of tables) written))
       by None gives rest = rest
       by (Some made) gives rest = All-cons GivesTokenType made (filter_map (command_of tables) written) gives rest
 
@@ -100,4 +109,5 @@ module _ (tables : CommandTables) (low : AreLow tables.types) where
   pub all_give : (rules : List (List (List Command))) → All (All (All GivesTokenType)) (map (map (filter_map (command_of tables))) rules)
   all_give rules =
       All-map (All (All GivesTokenType)) (map (filter_map (command_of tables))) rules
-      (λ k d less. All-map (All GivesTokenType) (filter_map (command_of tables)) (slice_index_or rules k d) (λ j e within. commands_give (slice_index_or (slice_index_or rules k d) j e)))
+      (λ k d less. All-map (All GivesTokenType) (filter_map (command_of tables)) (slice_index_or rules k d)
+      (λ j e within. commands_give (slice_index_or (slice_index_or rules k d) j e)))

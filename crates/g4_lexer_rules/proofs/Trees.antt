@@ -68,17 +68,20 @@ module _ (names : List (List ℕ)) where
     element_states (block label (Plus sign) xs) = omega (arith, bodies_states xs)
 
     -- elements one after another
-    in_order_states : (xs : Elements Atom) → states_in_order_by one_state (in_order_over step_of (in_order_bind image xs)) ≡ states_in_order_by states_of_atom xs
+    in_order_states : (xs : Elements Atom) → states_in_order_by one_state (in_order_over step_of (in_order_bind image xs))
+        ≡ states_in_order_by states_of_atom xs
     in_order_states empty = refl
     in_order_states (then x xs) = omega (arith, element_states x, in_order_states xs)
 
     -- bodies side by side
-    bodies_states : (xs : Alternatives Atom) → states_of_bodies_by one_state (either_over step_of (either_bind image xs)) ≡ states_of_bodies_by states_of_atom xs
+    bodies_states : (xs : Alternatives Atom) → states_of_bodies_by one_state (either_over step_of (either_bind image xs))
+        ≡ states_of_bodies_by states_of_atom xs
     bodies_states none = refl
     bodies_states (or x xs) = omega (arith, in_order_states x, bodies_states xs)
 
     -- the alternatives of a rule
-    rule_states : (xs : Alternatives Atom) → states_of_rule_by one_state (either_over step_of (either_bind image xs)) ≡ states_of_rule_by states_of_atom xs
+    rule_states : (xs : Alternatives Atom) → states_of_rule_by one_state (either_over step_of (either_bind image xs))
+        ≡ states_of_rule_by states_of_atom xs
     rule_states none = refl
     rule_states (or x none) = in_order_states x
     rule_states (or x (or y more)) = omega (arith, in_order_states x, in_order_states y, bodies_states more)
@@ -121,7 +124,9 @@ module _ (names : List (List ℕ)) where
     either_full (or x xs) full = (in_order_full x full.0, either_full xs full.1)
 
   -- the alternatives of a rule, one by one
-  pub one_by_one : (xs : List LexerAlternative) → either (map (in_order_over step_of) (map (λ x. in_order_bind image x.elements) xs)) ≡ either_over step_of (either_bind image (either (map (λ x. x.elements) xs)))
+  pub one_by_one : (xs : List LexerAlternative)
+      → either (map (in_order_over step_of) (map (λ x. in_order_bind image x.elements) xs))
+      ≡ either_over step_of (either_bind image (either (map (λ x. x.elements) xs)))
   one_by_one [] = refl
   one_by_one (x ∷ xs) = ap (or (in_order_over step_of (in_order_bind image x.elements))) (one_by_one xs)
 
@@ -132,7 +137,8 @@ module _ (all : List LexerRule) where
 
   -- how many states they make
   tree_states : (rule : LexerRule) → states_of_rule (tree rule) ≡ states_of_rule_by states_of_atom (lexer_alternatives_of rule)
-  tree_states rule = ap (states_of_rule_by one_state) (one_by_one (names_of all) rule.alternatives) ∙ rule_states (names_of all) (lexer_alternatives_of rule)
+  tree_states rule = ap (states_of_rule_by one_state) (one_by_one (names_of all) rule.alternatives)
+      ∙ rule_states (names_of all) (lexer_alternatives_of rule)
 
   -- each block has one
   tree_full : (rule : LexerRule) → AreFullAlternatives (map (λ x. x.elements) rule.alternatives) → TreeIsFull (tree rule)
@@ -147,7 +153,9 @@ module _ (all : List LexerRule) where
   pub tree_number : (rule : LexerRule) → number_of (tree rule) ≡ length rule.alternatives
   tree_number rule = by rule.alternatives
     where
-      by : (xs : List LexerAlternative) → number_of (either (map (in_order_over step_of) (map (λ (x : LexerAlternative). in_order_bind (λ (a : Atom). element_of_kind (names_of all) a.kind) x.elements) xs))) ≡ length xs
+      by : (xs : List LexerAlternative) → number_of
+          (either (map (in_order_over step_of) (map
+          (λ (x : LexerAlternative). in_order_bind (λ (a : Atom). element_of_kind (names_of all) a.kind) x.elements) xs))) ≡ length xs
       by [] = refl
       by (x ∷ xs) = omega (arith, by xs)
 
@@ -157,7 +165,8 @@ module _ (all : List LexerRule) where
   over_lowered (rule ∷ rules) = ap (λ (ys : List (Alternatives (Step Reads))). tree rule ∷ ys) (over_lowered rules)
 
   -- the states of all
-  sum_states : (rules : List LexerRule) → sum_by states_of_rule (map tree rules) ≡ sum_by (λ rule. states_of_rule_by states_of_atom (lexer_alternatives_of rule)) rules
+  sum_states : (rules : List LexerRule) → sum_by states_of_rule (map tree rules)
+      ≡ sum_by (λ rule. states_of_rule_by states_of_atom (lexer_alternatives_of rule)) rules
   sum_states [] = refl
   sum_states (rule ∷ rules) =
       let a = sum_by-cons states_of_rule (tree rule) (map tree rules) in
@@ -174,7 +183,8 @@ pub lowered_trees : (rules : List LexerRule) → rules_over step_of (λ x. x) (�
 lowered_trees rules = over_lowered rules rules
 
 -- their states
-pub trees_states : (rules : List LexerRule) → sum_by states_of_rule (trees_of rules) ≡ sum_by (λ rule. states_of_rule_by states_of_atom (lexer_alternatives_of rule)) rules
+pub trees_states : (rules : List LexerRule) → sum_by states_of_rule (trees_of rules)
+    ≡ sum_by (λ rule. states_of_rule_by states_of_atom (lexer_alternatives_of rule)) rules
 trees_states rules = sum_states rules rules
 
 -- each of their blocks has an alternative
@@ -198,13 +208,15 @@ number_of_alternatives [] = refl
 number_of_alternatives (x ∷ xs) = omega (arith, number_of_alternatives xs)
 
 -- a rule has few alternatives where rules have few states
-pub few_each : (rules : List LexerRule) → sum_by (λ rule. states_of_rule_by states_of_atom (lexer_alternatives_of rule)) rules + 2 ≤ MOST_STATES → All (λ rule. length rule.alternatives ≤ MOST_STATES) rules
+pub few_each : (rules : List LexerRule) → sum_by (λ rule. states_of_rule_by states_of_atom (lexer_alternatives_of rule)) rules + 2
+    ≤ MOST_STATES → All (λ rule. length rule.alternatives ≤ MOST_STATES) rules
 few_each [] few = All-nil (λ (rule : LexerRule). length rule.alternatives ≤ MOST_STATES)
 few_each (rule ∷ rules) few =
     let b = sum_by-cons (λ (r : LexerRule). states_of_rule_by states_of_atom (lexer_alternatives_of r)) rule rules in
     let own = few_alternatives states_of_atom (lexer_alternatives_of rule) in
     let many = number_of_alternatives rule.alternatives in
-    All-cons (λ (r : LexerRule). length r.alternatives ≤ MOST_STATES) rule rules (omega (arith, b, own, many, few)) (few_each rules (omega (arith, b, few)))
+    All-cons (λ (r : LexerRule). length r.alternatives ≤ MOST_STATES) rule rules (omega (arith, b, own, many, few))
+    (few_each rules (omega (arith, b, few)))
 
 -- rules have few states where the network has
 pub few_all : (rules : List LexerRule) → lexer_states rules ≤ MOST_STATES → All (λ rule. length rule.alternatives ≤ MOST_STATES) rules
@@ -223,14 +235,19 @@ some_alternative [] some = absurd some
 some_alternative (x ∷ xs) some = omega arith
 
 -- the numberings fit the rules
-fit_all : (all rules : List LexerRule) → LexerRulesAreFull rules → All (λ rule. length rule.alternatives ≤ MOST_STATES) rules → NumberingsFit (map (tree all) rules) (numberings_of rules)
+fit_all : (all rules : List LexerRule) → LexerRulesAreFull rules → All (λ rule. length rule.alternatives ≤ MOST_STATES) rules
+    → NumberingsFit (map (tree all) rules) (numberings_of rules)
 fit_all all [] full few = tt
 fit_all all (rule ∷ rules) full few = (
-  (can_start (tree all rule) (length rule.alternatives) (tree_number all rule) (some_alternative rule.alternatives full.0.0), omega (arith, All-head (λ (r : LexerRule). length r.alternatives ≤ MOST_STATES) rule rules few)),
+  (
+    can_start (tree all rule) (length rule.alternatives) (tree_number all rule) (some_alternative rule.alternatives full.0.0),
+    omega (arith, All-head (λ (r : LexerRule). length r.alternatives ≤ MOST_STATES) rule rules few),
+  ),
   fit_all all rules full.1 (All-tail (λ (r : LexerRule). length r.alternatives ≤ MOST_STATES) rule rules few),
 )
 
-pub numberings_fit : (rules : List LexerRule) → LexerRulesAreFull rules → All (λ rule. length rule.alternatives ≤ MOST_STATES) rules → NumberingsFit (trees_of rules) (numberings_of rules)
+pub numberings_fit : (rules : List LexerRule) → LexerRulesAreFull rules → All (λ rule. length rule.alternatives ≤ MOST_STATES) rules
+    → NumberingsFit (trees_of rules) (numberings_of rules)
 numberings_fit rules full few = fit_all rules rules full few
 
 -- two lists of rules
@@ -244,5 +261,6 @@ full_modes [] full = tt
 full_modes (mode ∷ modes) full = full_append mode.rules (rules_of_modes modes) full.0 (full_modes modes full.1)
 
 -- all rules
-pub full_rules : (literals : List LexerRule) (modes : List Mode) → LexerRulesAreFull literals → ModesAreFull modes → LexerRulesAreFull (literals ++ rules_of_modes modes)
+pub full_rules : (literals : List LexerRule) (modes : List Mode) → LexerRulesAreFull literals → ModesAreFull modes
+    → LexerRulesAreFull (literals ++ rules_of_modes modes)
 full_rules literals modes a b = full_append literals (rules_of_modes modes) a (full_modes modes b)

@@ -14,7 +14,8 @@ use Rattle.g4_lexer_rules.specs.Rules.{lexer_tokens}
 use Rattle.g4_lexer_rules.specs.Types.{type_by_name}
 
 -- where one of the rules has the name
-by_name : (types : List Entry) (rules : List LexerRule) (name : List ℕ) → list_any (λ rule. bytes_eq rule.name name) rules ≡ true → type_by_name (map (token_rule types) rules) name ≡ Some (type_of types (keys.Name name))
+by_name : (types : List Entry) (rules : List LexerRule) (name : List ℕ) → list_any (λ rule. bytes_eq rule.name name) rules ≡ true
+    → type_by_name (map (token_rule types) rules) name ≡ Some (type_of types (keys.Name name))
 by_name types [] name there = absurd (let n : ⊥ = cc in n)
 by_name types (rule ∷ rules) name there = elim (cases_Bool (bytes_eq rule.name name)) [
   | inl e ↦ rw e (ap (λ (n : List ℕ). Some (type_of types (keys.Name n))) ((bytes_eq-Decides rule.name name).0 e))
@@ -22,5 +23,7 @@ by_name types (rule ∷ rules) name there = elim (cases_Bool (bytes_eq rule.name
 ]
 
 -- so it is of the grammar's rules
-pub types_are_numbered : (source : Source) (name : List ℕ) → list_any (λ rule. bytes_eq rule.name name) (token_lexers source.rules) ≡ true → type_by_name (lexer_tokens source) name ≡ Some (type_of (types_of [] source.rules) (keys.Name name))
+pub types_are_numbered : (source : Source) (name : List ℕ)
+    → list_any (λ rule. bytes_eq rule.name name) (token_lexers source.rules) ≡ true
+    → type_by_name (lexer_tokens source) name ≡ Some (type_of (types_of [] source.rules) (keys.Name name))
 types_are_numbered source name there = by_name (types_of [] source.rules) (token_lexers source.rules) name there

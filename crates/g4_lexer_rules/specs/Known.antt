@@ -17,7 +17,8 @@ is_token_name types name = bytes_eq name (codes "EOF") || list_any (λ token. by
 -- the command of this name with this argument takes a token type n, and there is none
 abbrev pub ArgumentIsUnknownType : List TokenName → List ℕ → Option Argument → List ℕ → Type 0
 ArgumentIsUnknownType types name None n = ⊥
-ArgumentIsUnknownType types name (Some (Name argument)) n = (n ≡ argument) × (bytes_eq name (codes "type") ≡ true) × (is_token_name types n ≡ false)
+ArgumentIsUnknownType types name (Some (Name argument)) n = (n ≡ argument) × (bytes_eq name (codes "type") ≡ true)
+    × (is_token_name types n ≡ false)
 ArgumentIsUnknownType types name (Some (Number argument)) n = ⊥
 
 abbrev pub TakesNoType : List TokenName → Command → List ℕ → Type 0

@@ -23,7 +23,8 @@ ReadsAtom a w = ReadsKind a.kind w
 -- a name that is not the end of the file calls the first of the rules with this name, or their number where there is none
 abbrev pub KindCallsNamed : List (List ℕ) → AtomKind → ℕ → Type 0
 KindCallsNamed names (kinds.Rule name) k = ⊥
-KindCallsNamed names (kinds.Token name) k = (bytes_eq name.text (codes "EOF") ≡ false) × (k ≡ position_or_len (λ other. bytes_eq other name.text) names)
+KindCallsNamed names (kinds.Token name) k = (bytes_eq name.text (codes "EOF") ≡ false)
+    × (k ≡ position_or_len (λ other. bytes_eq other name.text) names)
 KindCallsNamed names (kinds.Literal literal) k = ⊥
 KindCallsNamed names (kinds.Range place first last) k = ⊥
 KindCallsNamed names (kinds.Set set) k = ⊥

@@ -1,3 +1,4 @@
+-- Other crates cite Commands, Known, LexNets, Lexable, NetworkRules, Rules, Starts, Steps, Tables; only this crate cites Types.
 pub mod Commands
 pub mod Known
 pub mod LexNets

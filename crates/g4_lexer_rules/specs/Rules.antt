@@ -38,9 +38,11 @@ lexer_modes source = default_mode source ∷ source.modes
 
 -- the types of the rules in order: those of the literals, and then those of the rules of each mode by their names
 abbrev pub types_of_rules : Source → List ℕ
-types_of_rules source = map (λ token. token.symbol) (literal_tokens source) ++ map (type_of_rule (lexer_tokens source)) (rules_of_modes (lexer_modes source))
+types_of_rules source = map (λ token. token.symbol) (literal_tokens source)
+    ++ map (type_of_rule (lexer_tokens source)) (rules_of_modes (lexer_modes source))
 
--- The rules of the lexer of a grammar: those of the literals that have tokens of their own, by type, those of its modes, and the type of each of
+-- The rules of the lexer of a grammar: those of the literals that have tokens of their own, by type, those of its modes, and the type of
+-- each of
 -- these rules.
 pub record IsLexerRulesOf (source : Source) (made : LexerRules) : Type 0 where
   pub literals : made.literals ≡ map rule_of_token (literal_tokens source)

@@ -14,7 +14,8 @@ use Rattle.g4_ordered.specs.declared.start.Start.{Start}
 -- the alternatives of a rule from this number on begin at these states
 abbrev pub numbered_starts : ℕ → ℕ → List ℕ → List Start
 numbered_starts rule alternative [] = []
-numbered_starts rule alternative (p ∷ ps) = record { rule = rule; alternative = alternative; state = p } ∷ numbered_starts rule (alternative + 1) ps
+numbered_starts rule alternative (p ∷ ps) = record { rule = rule; alternative = alternative; state = p }
+    ∷ numbered_starts rule (alternative + 1) ps
 
 -- where several alternatives of a rule begin whose start is this state: at the first states of its decision
 abbrev pub decided_starts : ℕ → Option (State Reads) → List Start
@@ -51,7 +52,8 @@ starts_from states number (rule ∷ rules) = matched_starts states number rule +
 -- the same in each mode, where the rules of the first have the numbers from this one on, and these starts come before
 abbrev pub starts_of_modes : List (State Reads) → List Start → ℕ → List Mode → List (List Start)
 starts_of_modes states front number [] = []
-starts_of_modes states front number (mode ∷ modes) = (front ++ starts_from states number mode.rules) ∷ starts_of_modes states front (number + length mode.rules) modes
+starts_of_modes states front number (mode ∷ modes) =
+    (front ++ starts_from states number mode.rules) ∷ starts_of_modes states front (number + length mode.rules) modes
 
 -- where a match may begin in each mode: with a literal, or with a rule of the mode
 abbrev pub mode_starts : List (State Reads) → List LexerRule → List Mode → List (List Start)
@@ -60,11 +62,14 @@ mode_starts states literals modes = starts_of_modes states (starts_from states 0
 -- the same where the rules of all modes are in one list, with how many of them each mode has
 abbrev pub starts_by_sizes : List (State Reads) → List Start → ℕ → List LexerRule → List ℕ → List (List Start)
 starts_by_sizes states front number rules [] = []
-starts_by_sizes states front number rules (n ∷ sizes) = (front ++ starts_from states number (take n rules)) ∷ starts_by_sizes states front (number + n) (drop n rules) sizes
+starts_by_sizes states front number rules (n ∷ sizes) =
+    (front ++ starts_from states number (take n rules)) ∷ starts_by_sizes states front (number + n) (drop n rules) sizes
 
 -- The rule has an alternative; its decision, where it has several, has no more edges than a network has states.
 abbrev pub CanStart : List (State Reads) → ℕ → LexerRule → Type 0
-CanStart states number rule = (1 ≤ length rule.alternatives) × ((targets : List ℕ) → 2 ≤ length rule.alternatives → slice_get states (start_of number) ≡ Some (Decision targets) → length targets ≤ MOST_STATES)
+CanStart states number rule = (1 ≤ length rule.alternatives)
+    × ((targets : List ℕ) → 2 ≤ length rule.alternatives → slice_get states (start_of number) ≡ Some (Decision targets)
+    → length targets ≤ MOST_STATES)
 
 -- the same of rules, the first of which has this number
 abbrev pub AllCanStart : List (State Reads) → ℕ → List LexerRule → Type 0

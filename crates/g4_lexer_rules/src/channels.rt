@@ -45,7 +45,9 @@ fn all_channels(alloc: Global, source: &Source) -> Result<Vec<&str>, AllocError>
 /// Adds the name to those that are there, and says whether it is new.
 fn is_new<'a>(seen: &mut BTreeSet<&'a str>, name: &'a str) -> Result<bool, AllocError>
     ensures new { IfOk result (λ is_new. is_new ≡ not (is_one_of (map (λ key. key.now) seen.old.keys) name.now)) }
-    ensures added { OnOk result ((text : List ℕ) → is_one_of (map (λ key. key.now) seen.new.keys) text ≡ (is_one_of (map (λ key. key.now) seen.old.keys) text || bytes_eq text name.now)) }
+    ensures added { OnOk result ((text : List ℕ)
+        → is_one_of (map (λ key. key.now) seen.new.keys) text
+        ≡ (is_one_of (map (λ key. key.now) seen.old.keys) text || bytes_eq text name.now)) }
 {
     let is_new = seen.insert(name)?;
     Ok(is_new)

@@ -11,11 +11,11 @@ ghost use Rattle.g4_lexer_rules.specs.Steps.{step_of};
 
 use crate::step::LexerStep;
 use g4_base::Sequence;
-use g4_states::{callers, heads, lay_rules, number_rules, zeros};
-use g4_source::{Elements, LexerRule};
 use g4_grammar::Numbering;
 use g4_net::Network;
 use g4_ordered::LexerNetwork;
+use g4_source::{Elements, LexerRule};
+use g4_states::{callers, heads, lay_rules, number_rules, zeros};
 use std::alloc::{AllocError, Global};
 
 /// The numbering of a rule that begins with each of `count` alternatives.

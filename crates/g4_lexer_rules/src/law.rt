@@ -18,10 +18,12 @@ ghost use Rattle.g4_lexer_rules.specs.declared.lexer_rules.LexerRules.{LexerRule
 /// The rules of the lexer of a checked grammar can be lexed with: where each block has an alternative, each reference is to a rule
 /// and the rules can be run, of all modes.
 pub fn rules_can_be_lexed()
-    ensures { (source : Written) (made : Made) → IsLexerRulesOf source made → HaveAlternatives source → RulesAreDefined (rules_of source) → RulesCanRun (rules_of source) → CanBeLexed (all_rules made.literals made.modes) }
+    ensures { (source : Written) (made : Made) → IsLexerRulesOf source made → HaveAlternatives source
+        → RulesAreDefined (rules_of source) → RulesCanRun (rules_of source) → CanBeLexed (all_rules made.literals made.modes) }
 {}
 
 /// The type of a name that a lexer rule without `fragment` of the default mode has is the type that numbering gives this name.
 pub fn types_are_numbered()
-    ensures { (source : Written) (name : List ℕ) → list_any (λ rule. bytes_eq rule.name name) (token_lexers source.rules) ≡ true → type_by_name (lexer_tokens source) name ≡ Some (type_of (types_of [] source.rules) (Name name)) }
+    ensures { (source : Written) (name : List ℕ) → list_any (λ rule. bytes_eq rule.name name) (token_lexers source.rules) ≡ true
+        → type_by_name (lexer_tokens source) name ≡ Some (type_of (types_of [] source.rules) (Name name)) }
 {}

@@ -9,8 +9,10 @@ use crate::chars::{all, others, spanned};
 use crate::step::LexerStep;
 use g4_base::Sequence;
 use g4_chars::CharSet;
-use g4_source::{Alternative, Atom, AtomKind, Element, Elements, LexerRule, Repeat, Substitution, substituted};
 use g4_names::Places;
+use g4_source::{
+    Alternative, Atom, AtomKind, Element, Elements, LexerRule, Repeat, Substitution, substituted,
+};
 use std::alloc::{AllocError, Global};
 
 /// The rules that references may call, and the place of each name among them.

@@ -22,15 +22,18 @@ pub fn one_lex_net()
 
 /// The network has as many states as are counted for the limit.
 pub fn states_are_counted()
-    ensures { (literals : List Rule) (modes : List ModeOf) (made : Made) → IsLexNet literals modes made → length made.net.states ≡ lexer_states (all_rules literals modes) }
+    ensures { (literals : List Rule) (modes : List ModeOf) (made : Made) → IsLexNet literals modes made
+        → length made.net.states ≡ lexer_states (all_rules literals modes) }
 {}
 
 /// The set of an atom has exactly the characters that the atom matches.
 pub fn sets_match()
-    ensures { (names : List (List ℕ)) (kind : Kind) (set : List Span) → SetIsCanonical kind → element_of_kind names kind ≡ atom (SetStep set) → (c : ℕ) → Has set c ↔ (IsScalar c × MatchesKind kind (c ∷ [])) }
+    ensures { (names : List (List ℕ)) (kind : Kind) (set : List Span) → SetIsCanonical kind
+        → element_of_kind names kind ≡ atom (SetStep set) → (c : ℕ) → Has set c ↔ (IsScalar c × MatchesKind kind (c ∷ [])) }
 {}
 
 /// The network of rules that can be lexed with can be lexed with.
 pub fn is_lexable()
-    ensures { (literals : List Rule) (modes : List ModeOf) (made : Made) → IsLexNet literals modes made → CanBeLexed (all_rules literals modes) → IsLexable made.net }
+    ensures { (literals : List Rule) (modes : List ModeOf) (made : Made) → IsLexNet literals modes made
+        → CanBeLexed (all_rules literals modes) → IsLexable made.net }
 {}

@@ -3,9 +3,9 @@ ghost use Rattle.std.specs.Prelude.{◌≤◌, ◌↔◌, IsTrue};
 ghost use Rattle.g4_net.specs.declared.network.TheConstants.{MOST_STATES};
 ghost use Rattle.g4_lexer_rules.specs.NetworkRules.{lexer_states};
 
-use g4_states::past_rules;
 use g4_net::MOST_STATES;
 use g4_source::LexerRule;
+use g4_states::past_rules;
 
 /// Whether the rules make no more states than a network may have.
 pub fn fits(rules: &[LexerRule]) -> bool

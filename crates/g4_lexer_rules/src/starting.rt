@@ -38,7 +38,8 @@ fn add_rule(
     requires some { 1 ≤ length alternatives.now }
     requires within { start_of rule < length states.now }
     requires few { length states.now ≤ MOST_STATES }
-    requires narrow { (targets : List ℕ) → 2 ≤ length alternatives.now → slice_get states.now (start_of rule) ≡ Some (Decision targets) → length targets ≤ MOST_STATES }
+    requires narrow { (targets : List ℕ) → 2 ≤ length alternatives.now
+        → slice_get states.now (start_of rule) ≡ Some (Decision targets) → length targets ≤ MOST_STATES }
     ensures { OnOk result (starts.new.items ≡ starts.old.items ++ rule_starts states.now rule alternatives.now) }
 {
     if alternatives.len() == 1 {
@@ -87,7 +88,8 @@ pub fn starts_of_modes(
     requires within { start_of (length rules.now) ≤ length states.now }
     requires few { length states.now ≤ MOST_STATES }
     requires sizes { literals + sum sizes.now ≤ length rules.now }
-    ensures { IfOk result (λ all. all.items ≡ starts_by_sizes states.now (starts_from states.now 0 (take literals rules.now)) literals (drop literals rules.now) sizes.now) }
+    ensures { IfOk result (λ all. all.items ≡ starts_by_sizes states.now (starts_from states.now 0 (take literals rules.now)) literals
+        (drop literals rules.now) sizes.now) }
 {
     let mut front = Vec::new(alloc);
     add_rules(&mut front, states, 0, &rules[..literals])?;

@@ -1,9 +1,9 @@
 // What the atoms of lexer rules become, while their labels are not made yet.
 use crate::chars::between;
 use g4_chars::CharSet;
-use g4_states::Atom;
 use g4_grammar::Step;
 use g4_ordered::Reads;
+use g4_states::Atom;
 use std::alloc::{AllocError, Global};
 
 /// What one atom of a lexer rule becomes, but for a literal, which becomes one of these for each of its characters.

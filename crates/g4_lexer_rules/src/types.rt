@@ -68,7 +68,8 @@ pub fn types_of(
     tokens: &[TokenRule],
     modes: &[Mode],
 ) -> Result<Vec<u32>, AllocError>
-    ensures { IfOk result (λ types. types.items ≡ map (λ token. token.symbol) literals.now ++ map (type_of_rule tokens.now) (rules_of_modes modes.now)) }
+    ensures { IfOk result (λ types. types.items
+        ≡ map (λ token. token.symbol) literals.now ++ map (type_of_rule tokens.now) (rules_of_modes modes.now)) }
 {
     let mut all = symbols(alloc, literals)?;
     let types = Types::new(alloc, tokens)?;

@@ -56,7 +56,8 @@ use Rattle.g4_load.specs.Building.{names_of, steps_of, laid_of, GivesRewritten, 
 use Rattle.g4_load.specs.declared.interpreter.Laid.{Laid}
 
 -- a layer's fault at which a stage ends
-pub stage_exit : {X Y E : Type 0} (IsAnswer : Result X E → Type 0) (seen : E → CheckError) (Second : X → Result Y GrammarFault → Type 0) (e : E) →
+pub stage_exit : {X Y E : Type 0} (IsAnswer : Result X E → Type 0) (seen : E → CheckError)
+    (Second : X → Result Y GrammarFault → Type 0) (e : E) →
     IsAnswer (Err e) → IsErrorOf (Then (Gives IsAnswer seen) Second) (seen e)
 stage_exit IsAnswer seen Second e is = by_seen (seen e) refl
   where
@@ -65,21 +66,26 @@ stage_exit IsAnswer seen Second e is = by_seen (seen e) refl
     by_seen errors.NoMemory same = tt
 
 -- the error that a call gives is that of a stage
-pub reported : {X : Type 0} (Stage : Result X GrammarFault → Type 0) (made error : CheckError) → made ≡ error → IsErrorOf Stage error → IsErrorOf Stage made
+pub reported : {X : Type 0} (Stage : Result X GrammarFault → Type 0) (made error : CheckError) → made ≡ error → IsErrorOf Stage error
+    → IsErrorOf Stage made
 reported Stage made error same h = subst (λ (e : CheckError). IsErrorOf Stage e) (sym same) h
 
 -- an error of a stage is one of the whole
-error_within : {X : Type 0} (Stage Whole : Result X GrammarFault → Type 0) (within : (r : Result X GrammarFault) → Stage r → Whole r) (error : CheckError) → IsErrorOf Stage error → IsErrorOf Whole error
+error_within : {X : Type 0} (Stage Whole : Result X GrammarFault → Type 0) (within : (r : Result X GrammarFault) → Stage r → Whole r)
+    (error : CheckError) → IsErrorOf Stage error → IsErrorOf Whole error
 error_within Stage Whole within (errors.Fault fault) h = within (Err fault) h
 error_within Stage Whole within errors.NoMemory h = tt
 
 -- the names that are kept, the rules being lent
-pub names_are : (grammar : Loaded) (names : List (List ℕ)) (slice : List (ParserRule NumberedAtom)) → names ≡ map (λ rule. rule.name) slice → slice ≡ grammar.rules → names ≡ names_of grammar
+pub names_are : (grammar : Loaded) (names : List (List ℕ)) (slice : List (ParserRule NumberedAtom))
+    → names ≡ map (λ rule. rule.name) slice → slice ≡ grammar.rules → names ≡ names_of grammar
 names_are grammar names slice made lent = made ∙ ap (map (λ rule. rule.name)) lent
 
 -- the rules over steps, no predicate having a place yet
-pub steps_are : (grammar : Loaded) (names : List (List ℕ)) (predicates : List Place) (rules : List (ParserRule NumberedAtom)) (steps : List StepRule) →
-    names ≡ names_of grammar → predicates ≡ [] → rules ≡ grammar.rules → steps ≡ map (resolved_rule names predicates) rules → steps ≡ steps_of grammar
+pub steps_are : (grammar : Loaded) (names : List (List ℕ)) (predicates : List Place) (rules : List (ParserRule NumberedAtom))
+    (steps : List StepRule) →
+    names ≡ names_of grammar → predicates ≡ [] → rules ≡ grammar.rules → steps ≡ map (resolved_rule names predicates) rules
+    → steps ≡ steps_of grammar
 steps_are grammar names predicates rules steps names_is predicates_is rules_is made =
     made
     ∙ (ap (λ (n : List (List ℕ)). map (resolved_rule n predicates) rules) names_is
@@ -89,41 +95,78 @@ steps_are grammar names predicates rules steps names_is predicates_is rules_is m
 -- what resolving asks of rules, so that they can be rewritten
 abbrev pub AreRewritable : List (List ℕ) → List (ParserRule NumberedAtom) → List StepRule → Type 0
 AreRewritable names rules steps =
-    names ≡ map (λ rule. rule.name) rules → ParserRulesAreFull rules → All RuleLeavesEnd rules → All NumberedRuleIsUntested rules → NumberedRulesAreDefined rules → NumberedRulesCanRun rules → CanBeRewritten steps
+    names ≡ map (λ rule. rule.name) rules → ParserRulesAreFull rules → All RuleLeavesEnd rules → All NumberedRuleIsUntested rules
+    → NumberedRulesAreDefined rules → NumberedRulesCanRun rules → CanBeRewritten steps
 
 -- the rules of a grammar that can be built
-pub can_be_rewritten : (grammar : Loaded) (names : List (List ℕ)) (rules : List (ParserRule NumberedAtom)) (steps : List StepRule) → CanBeBuilt grammar → names ≡ names_of grammar → rules ≡ grammar.rules →
+pub can_be_rewritten : (grammar : Loaded) (names : List (List ℕ)) (rules : List (ParserRule NumberedAtom)) (steps : List StepRule)
+    → CanBeBuilt grammar → names ≡ names_of grammar → rules ≡ grammar.rules →
     AreRewritable names rules steps → CanBeRewritten steps
 can_be_rewritten grammar names rules steps can named same h =
-    let here : AreRewritable names grammar.rules steps = subst (λ (rs : List (ParserRule NumberedAtom)). AreRewritable names rs steps) same h in
+    let here : AreRewritable names grammar.rules steps =
+    subst (λ (rs : List (ParserRule NumberedAtom)). AreRewritable names rs steps) same h in
     here named can.full can.ends can.untested can.defined can.run
 
 module _ (start : List ℕ) (grammar : Loaded) where
   -- the answer of building, where the rules are those of the grammar
-  pub gives_rewritten : (steps made : List StepRule) (numbers : List Numbering) (r : Result ParserNetwork BuildFault) → steps ≡ steps_of grammar → made ≡ rewritten steps → numbers ≡ numberings steps →
+  pub gives_rewritten : (steps made : List StepRule) (numbers : List Numbering) (r : Result ParserNetwork BuildFault)
+      → steps ≡ steps_of grammar → made ≡ rewritten steps → numbers ≡ numberings steps →
       GivesNetwork made numbers start r → GivesRewritten start grammar r
   gives_rewritten steps made numbers r same laid numbered is =
       subst (λ (ss : List StepRule). GivesNetwork (rewritten ss) (numberings ss) start r) same
-      (subst (λ (ns : List Numbering). GivesNetwork (rewritten steps) ns start r) numbered (subst (λ (ms : List StepRule). GivesNetwork ms numbers start r) laid is))
+      (subst (λ (ns : List Numbering). GivesNetwork (rewritten steps) ns start r) numbered
+      (subst (λ (ms : List StepRule). GivesNetwork ms numbers start r) laid is))
 
   -- a numbered grammar without a network
   pub build_exit : (e : BuildFault) → GivesRewritten start grammar (Err e) → IsErrorOf (Lays start grammar) (of_build start e)
   build_exit e is = stage_exit (GivesRewritten start grammar) (of_build start) (λ net result. result ≡ Ok (laid_of grammar net)) e is
 
   -- the grammar and its network
-  pub laid : (kept : List StepRule) (net : ParserNetwork) (names : List (List ℕ)) → kept ≡ steps_of grammar → GivesRewritten start grammar (Ok net) → names ≡ names_of grammar →
-      Lays start grammar (Ok (record { names = names; rules = kept; shown = grammar.shown; lexer = grammar.lexer; tables = grammar.tables; net = net }))
+  pub laid : (kept : List StepRule) (net : ParserNetwork) (names : List (List ℕ)) → kept ≡ steps_of grammar
+      → GivesRewritten start grammar (Ok net) → names ≡ names_of grammar →
+      Lays start grammar (Ok (record {
+        names = names;
+        rules = kept;
+        shown = grammar.shown;
+        lexer = grammar.lexer;
+        tables = grammar.tables;
+        net = net;
+      }))
   laid kept net names same built named =
-      goes_on net (Ok (record { names = names; rules = kept; shown = grammar.shown; lexer = grammar.lexer; tables = grammar.tables; net = net })) built
-      (ap (λ (n : List (List ℕ)). Ok (record { names = n; rules = kept; shown = grammar.shown; lexer = grammar.lexer; tables = grammar.tables; net = net })) named
-      ∙ ap (λ (rs : List StepRule). Ok (record { names = names_of grammar; rules = rs; shown = grammar.shown; lexer = grammar.lexer; tables = grammar.tables; net = net })) same)
+      goes_on net (Ok (record {
+        names = names;
+        rules = kept;
+        shown = grammar.shown;
+        lexer = grammar.lexer;
+        tables = grammar.tables;
+        net = net;
+      })) built
+      (ap (λ (n : List (List ℕ)). Ok (record {
+        names = n;
+        rules = kept;
+        shown = grammar.shown;
+        lexer = grammar.lexer;
+        tables = grammar.tables;
+        net = net;
+      })) named
+      ∙ ap (λ (rs : List StepRule). Ok (record {
+        names = names_of grammar;
+        rules = rs;
+        shown = grammar.shown;
+        lexer = grammar.lexer;
+        tables = grammar.tables;
+        net = net;
+      })) same)
 
   -- it can be parsed with, and its lexer made
-  pub sound : CanBeBuilt grammar → (steps kept made : List StepRule) (numbers : List Numbering) (net : ParserNetwork) (names : List (List ℕ)) → kept ≡ steps → CanBeRewritten steps → made ≡ rewritten steps → numbers ≡ numberings steps →
-      GivesNetwork made numbers start (Ok net) → IsSound (record { names = names; rules = kept; shown = grammar.shown; lexer = grammar.lexer; tables = grammar.tables; net = net })
+  pub sound : CanBeBuilt grammar → (steps kept made : List StepRule) (numbers : List Numbering) (net : ParserNetwork)
+      (names : List (List ℕ)) → kept ≡ steps → CanBeRewritten steps → made ≡ rewritten steps → numbers ≡ numberings steps →
+      GivesNetwork made numbers start (Ok net) → IsSound
+      (record { names = names; rules = kept; shown = grammar.shown; lexer = grammar.lexer; tables = grammar.tables; net = net })
   sound can steps kept made numbers net names same rewritable laid numbered built =
       let here : IsBuilt (eof ∷ []) (rewritten steps) (numberings steps) start net =
-      subst (λ (ns : List Numbering). IsBuilt (eof ∷ []) (rewritten steps) ns start net) numbered (subst (λ (ms : List StepRule). IsBuilt (eof ∷ []) ms numbers start net) laid built) in record {
+      subst (λ (ns : List Numbering). IsBuilt (eof ∷ []) (rewritten steps) ns start net) numbered
+      (subst (λ (ms : List StepRule). IsBuilt (eof ∷ []) ms numbers start net) laid built) in record {
         parsing = record {
           ready = (rule_number (rewritten steps) start, 2 * length (rewritten steps) + 2, eof ∷ [], here.runnable);
           rewritable = subst (λ (ss : List StepRule). CanBeRewritten ss) (sym same) rewritable;
@@ -137,8 +180,10 @@ lexer_is : (source : Source) (made : LexerRules) → IsLexerRulesOf source made 
 lexer_is source made are = rw (are.literals, are.modes, are.types) refl
 
 -- so they can be made a lexer of, where the source is checked
-pub can_be_made : (source : Source) (made : LexerRules) → IsLexerRulesOf source made → HaveAlternatives source → RulesAreDefined (rules_of source) → RulesCanRun (rules_of source) → LexerRulesAreFull made.literals × ModesAreFull made.modes →
-    All (λ type. type ≤ MOST_TYPES) made.types → (tables : CommandTables) → All (λ name. name.symbol ≤ MOST_TYPES) tables.types → CanBeMade made tables
+pub can_be_made : (source : Source) (made : LexerRules) → IsLexerRulesOf source made → HaveAlternatives source
+    → RulesAreDefined (rules_of source) → RulesCanRun (rules_of source) → LexerRulesAreFull made.literals × ModesAreFull made.modes →
+    All (λ type. type ≤ MOST_TYPES) made.types → (tables : CommandTables) → All (λ name. name.symbol ≤ MOST_TYPES) tables.types
+    → CanBeMade made tables
 can_be_made source made are have defined can full low tables named = record {
   literals = full.0;
   modes = full.1;
@@ -148,16 +193,19 @@ can_be_made source made are have defined can full low tables named = record {
 }
 
 -- the names of types that commands can take are those of the numbered grammar
-pub named_low : (source : Source) (names : List TokenName) → (tables : CommandTables) → tables ≡ tables_of source names → All (λ name. name.symbol ≤ MOST_TYPES) names → All (λ name. name.symbol ≤ MOST_TYPES) tables.types
+pub named_low : (source : Source) (names : List TokenName) → (tables : CommandTables) → tables ≡ tables_of source names
+    → All (λ name. name.symbol ≤ MOST_TYPES) names → All (λ name. name.symbol ≤ MOST_TYPES) tables.types
 named_low source names tables are low = subst (λ (t : CommandTables). All (λ name. name.symbol ≤ MOST_TYPES) t.types) (sym are) low
 
 -- a stage that stops, stops what follows it
-pub stage_stops : {X Y : Type 0} (Stage : Result X GrammarFault → Type 0) (Second : X → Result Y GrammarFault → Type 0) (error : CheckError) → IsErrorOf Stage error → IsErrorOf (Then Stage Second) error
+pub stage_stops : {X Y : Type 0} (Stage : Result X GrammarFault → Type 0) (Second : X → Result Y GrammarFault → Type 0)
+    (error : CheckError) → IsErrorOf Stage error → IsErrorOf (Then Stage Second) error
 stage_stops Stage Second (errors.Fault fault) h = stops fault h
 stage_stops Stage Second errors.NoMemory h = tt
 
 -- a lexer with too many states
-pub lexer_exit : (start : List ℕ) (grammar : Loaded) (laid : Laid) (e : CheckError) → Lays start grammar (Ok laid) → IsErrorOf (GivesLexer laid.lexer laid.tables) e → IsErrorOf (FromGrammar start grammar) e
+pub lexer_exit : (start : List ℕ) (grammar : Loaded) (laid : Laid) (e : CheckError) → Lays start grammar (Ok laid)
+    → IsErrorOf (GivesLexer laid.lexer laid.tables) e → IsErrorOf (FromGrammar start grammar) e
 lexer_exit start grammar laid (errors.Fault fault) is h = goes_on laid (Err fault) is (stops fault h)
 lexer_exit start grammar laid errors.NoMemory is h = tt
 
@@ -179,7 +227,8 @@ module _ (bytes : List ℕ) where
 
     -- a grammar with a form that is not run yet
     pub form_exit : (e : FormFault) → AreRun {A = ⊤} (forms_not_run source) (Err e) → IsErrorOf (IsGrammarIn bytes) (of_form e)
-    form_exit e is = error_within (Numbers source) (IsGrammarIn bytes) after_reading (of_form e) (stage_exit (AreRun {A = ⊤} (forms_not_run source)) of_form (λ _. WithForms) e is)
+    form_exit e is = error_within (Numbers source) (IsGrammarIn bytes) after_reading (of_form e)
+        (stage_exit (AreRun {A = ⊤} (forms_not_run source)) of_form (λ _. WithForms) e is)
 
     module _ (run : AreRun {A = ⊤} (forms_not_run source) (Ok tt)) where
       after_forms : (r : Result Loaded GrammarFault) → WithForms r → IsGrammarIn bytes r
@@ -187,7 +236,8 @@ module _ (bytes : List ℕ) where
 
       -- a grammar with a rule name that is used twice
       pub name_exit : (e : NameFault) → HasOwnNames source.rules (Err e) → IsErrorOf (IsGrammarIn bytes) (of_name e)
-      name_exit e is = error_within WithForms (IsGrammarIn bytes) after_forms (of_name e) (stage_exit (HasOwnNames source.rules) of_name (λ _. WithNames) e is)
+      name_exit e is = error_within WithForms (IsGrammarIn bytes) after_forms (of_name e)
+          (stage_exit (HasOwnNames source.rules) of_name (λ _. WithNames) e is)
 
       module _ (named : HasOwnNames source.rules (Ok tt)) where
         after_names : (r : Result Loaded GrammarFault) → WithNames r → IsGrammarIn bytes r
@@ -195,7 +245,8 @@ module _ (bytes : List ℕ) where
 
         -- a grammar that is not numbered
         pub number_exit : (e : NumberFault) → GivesNumbered source (Err e) → IsErrorOf (IsGrammarIn bytes) (of_number e)
-        number_exit e is = error_within WithNames (IsGrammarIn bytes) after_names (of_number e) (stage_exit (GivesNumbered source) of_number (Checks source) e is)
+        number_exit e is = error_within WithNames (IsGrammarIn bytes) after_names (of_number e)
+            (stage_exit (GivesNumbered source) of_number (Checks source) e is)
 
         module _ (grammar : Numbered) (numbered : GivesNumbered source (Ok grammar)) where
           after_numbers : (r : Result Loaded GrammarFault) → Checks source grammar r → IsGrammarIn bytes r
@@ -203,31 +254,42 @@ module _ (bytes : List ℕ) where
 
           -- a grammar that cannot be run
           pub check_exit : (e : CheckFault) → IsChecked source (Err e) → IsErrorOf (IsGrammarIn bytes) (of_check e)
-          check_exit e is = error_within (Checks source grammar) (IsGrammarIn bytes) after_numbers (of_check e) (stage_exit (IsChecked source) of_check (λ _ result. result ≡ Ok (loaded_of source grammar)) e is)
+          check_exit e is = error_within (Checks source grammar) (IsGrammarIn bytes) after_numbers (of_check e)
+              (stage_exit (IsChecked source) of_check (λ _ result. result ≡ Ok (loaded_of source grammar)) e is)
 
           -- a grammar without fault
-          pub checked : IsChecked source (Ok tt) → (tables : CommandTables) → tables ≡ tables_of source grammar.names → (lexer : LexerRules) → IsLexerRulesOf source lexer →
+          pub checked : IsChecked source (Ok tt) → (tables : CommandTables) → tables ≡ tables_of source grammar.names
+              → (lexer : LexerRules) → IsLexerRulesOf source lexer →
               IsGrammarIn bytes (Ok (record { rules = grammar.rules; shown = grammar.shown; lexer = lexer; tables = tables }))
           checked is tables named lexer are =
               after_numbers (Ok (record { rules = grammar.rules; shown = grammar.shown; lexer = lexer; tables = tables }))
               (goes_on tt (Ok (record { rules = grammar.rules; shown = grammar.shown; lexer = lexer; tables = tables })) is
-              (ap (λ (l : LexerRules). Ok (record { rules = grammar.rules; shown = grammar.shown; lexer = l; tables = tables })) (lexer_is source lexer are)
-              ∙ ap (λ (t : CommandTables). Ok (record { rules = grammar.rules; shown = grammar.shown; lexer = rules_of_lexer source; tables = t })) named))
+              (ap (λ (l : LexerRules). Ok (record { rules = grammar.rules; shown = grammar.shown; lexer = l; tables = tables }))
+              (lexer_is source lexer are)
+              ∙ ap (λ (t : CommandTables). Ok (record {
+                rules = grammar.rules;
+                shown = grammar.shown;
+                lexer = rules_of_lexer source;
+                tables = t;
+              })) named))
 
 -- what a stage over the grammar of one file gives of a command line
 abbrev pub of_one : {X : Type 0} → List ℕ → Result X GrammarFault → Result X Stop
 of_one name (Ok x) = Ok x
 of_one name (Err fault) = Err (stopping.Fault name fault)
 
-over_file : {X : Type 0} (name : List ℕ) (Stage : Result X GrammarFault → Type 0) (r : Result X GrammarFault) → Stage r → OfFile name Stage (of_one name r)
+over_file : {X : Type 0} (name : List ℕ) (Stage : Result X GrammarFault → Type 0) (r : Result X GrammarFault) → Stage r
+    → OfFile name Stage (of_one name r)
 over_file name Stage (Ok x) h = passes x h
 over_file name Stage (Err fault) h = fails fault h
 
 module _ (files : Files) (name bytes : List ℕ) (fetched : Fetches files name (Ok bytes)) where
   -- the grammar of a file that is fetched
   pub loaded : (r : Result Loaded GrammarFault) → IsGrammarIn bytes r → Loads files name (name ∷ []) (of_one name r)
-  loaded r (stops fault h) = stops (stopping.Fault name fault) (refl, goes_on bytes (Err (stopping.Fault name fault)) fetched (fails fault h))
-  loaded r (goes_on source s h k) = goes_on source (of_one name s) (refl, goes_on bytes (Ok source) fetched (passes source h)) (over_file name (Numbers source) s k)
+  loaded r (stops fault h) = stops (stopping.Fault name fault)
+      (refl, goes_on bytes (Err (stopping.Fault name fault)) fetched (fails fault h))
+  loaded r (goes_on source s h k) = goes_on source (of_one name s) (refl, goes_on bytes (Ok source) fetched (passes source h))
+      (over_file name (Numbers source) s k)
 
 module _ (files : Files) (name : List ℕ) where
   -- a file that is not fetched is not loaded
@@ -248,5 +310,6 @@ module _ (files : Files) (name : List ℕ) where
     not_loaded halts.NoMemory h = tt
 
     -- what is made of a grammar that is loaded
-    pub made_of : (grammar : Loaded) (r : Result X GrammarFault) → Loads files name (name ∷ []) (Ok grammar) → Stage grammar r → Makes (of_one name r)
+    pub made_of : (grammar : Loaded) (r : Result X GrammarFault) → Loads files name (name ∷ []) (Ok grammar) → Stage grammar r
+        → Makes (of_one name r)
     made_of grammar r h k = goes_on grammar (of_one name r) h (over_file name (Stage grammar) r k)

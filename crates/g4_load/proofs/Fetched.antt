@@ -9,7 +9,8 @@ use Rattle.g4_load.specs.Files.{Files}
 use Rattle.g4_load.specs.Loading.{Fetches, absent, too_large}
 
 -- what is answered for a file, where the files are known
-pub told_file : (told : Option Files) (files : Files) (name : List ℕ) (got : Got) → told ≡ Some files → IfSome told (λ f. IsFileOf (f name) got) → IsFileOf (files name) got
+pub told_file : (told : Option Files) (files : Files) (name : List ℕ) (got : Got) → told ≡ Some files
+    → IfSome told (λ f. IsFileOf (f name) got) → IsFileOf (files name) got
 told_file told files name got is content = let P : Option Files → Type 0 = λ t. IfSome t (λ f. IsFileOf (f name) got) in subst P is content
 
 -- a grammar file that is absent, whose name is copied
@@ -17,8 +18,10 @@ pub absent_file : (files : Files) (name copy : List ℕ) → copy ≡ name → f
 absent_file files name copy same none = subst (λ (n : List ℕ). Fetches files name (Err (stopping.Absent n))) (sym same) (absent none)
 
 -- a grammar file that is too large
-pub large_file : (files : Files) (name copy : List ℕ) (size : ℕ) → copy ≡ name → IsFileOf (files name) (answers.TooLarge size) → MOST_BYTES < size → Fetches files name (Err (stopping.TooLarge copy size))
+pub large_file : (files : Files) (name copy : List ℕ) (size : ℕ) → copy ≡ name → IsFileOf (files name) (answers.TooLarge size)
+    → MOST_BYTES < size → Fetches files name (Err (stopping.TooLarge copy size))
 large_file files name copy size same is large =
     let here : MOST_BYTES < length is.0 = subst (λ n. MOST_BYTES < n) (sym is.2) large in
-    let stop : Fetches files name (Err (stopping.TooLarge name size)) = subst (λ n. Fetches files name (Err (stopping.TooLarge name n))) is.2 (too_large is.0 is.1 here) in
+    let stop : Fetches files name (Err (stopping.TooLarge name size)) =
+    subst (λ n. Fetches files name (Err (stopping.TooLarge name n))) is.2 (too_large is.0 is.1 here) in
     subst (λ (n : List ℕ). Fetches files name (Err (stopping.TooLarge n size))) (sym same) stop

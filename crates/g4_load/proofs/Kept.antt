@@ -13,9 +13,11 @@ module _ {A : Type 0} where
     -- elements one after another
     pub same_in_order : (xs : Elements A) → in_order_bind (λ (a : A). atom a) xs ≡ xs
     same_in_order empty = refl
-    same_in_order (then x xs) = ap (λ (y : Element A). then y (in_order_bind (λ (a : A). atom a) xs)) (same x) ∙ ap (then x) (same_in_order xs)
+    same_in_order (then x xs) = ap (λ (y : Element A). then y (in_order_bind (λ (a : A). atom a) xs)) (same x)
+        ∙ ap (then x) (same_in_order xs)
 
     -- alternatives
     same_either : (xs : Alternatives A) → either_bind (λ (a : A). atom a) xs ≡ xs
     same_either none = refl
-    same_either (or x xs) = ap (λ (y : Elements A). or y (either_bind (λ (a : A). atom a) xs)) (same_in_order x) ∙ ap (or x) (same_either xs)
+    same_either (or x xs) = ap (λ (y : Elements A). or y (either_bind (λ (a : A). atom a) xs)) (same_in_order x)
+        ∙ ap (or x) (same_either xs)

@@ -25,9 +25,11 @@ use Rattle.g4_vocab.specs.declared.types.Entry.{Entry}
 use Rattle.g4_load.proofs.TokenNames.{HasSymbol, commanded_have_symbols, is_name}
 
 -- what follows of each part of one list, of a part of the other, follows of the lists
-each_part : {X A B : Type 0} (f : X → List A) (g : X → List B) (P : A → Type 0) (Q : B → Type 0) → ((x : X) → All P (f x) → All Q (g x)) → (xs : List X) → All P (flat_map f xs) → All Q (flat_map g xs)
+each_part : {X A B : Type 0} (f : X → List A) (g : X → List B) (P : A → Type 0) (Q : B → Type 0)
+    → ((x : X) → All P (f x) → All Q (g x)) → (xs : List X) → All P (flat_map f xs) → All Q (flat_map g xs)
 each_part f g P Q one [] h = All-nil Q
-each_part f g P Q one (x ∷ xs) h = All-append Q (g x) (flat_map g xs) (one x (All-front P (f x) (flat_map f xs) h)) (each_part f g P Q one xs (All-rest P (f x) (flat_map f xs) h))
+each_part f g P Q one (x ∷ xs) h = All-append Q (g x) (flat_map g xs) (one x (All-front P (f x) (flat_map f xs) h))
+    (each_part f g P Q one xs (All-rest P (f x) (flat_map f xs) h))
 
 module _ (types : List Entry) where
   -- the command takes no token type that is not there
@@ -35,33 +37,43 @@ module _ (types : List Entry) where
   TakesAType command = (n : List ℕ) → TakesNoType (names_of types) command n → ⊥
 
   -- a name that a command of this name takes
-  takes_name : (b : Bool) (argument n : List ℕ) → IfSome (cond b (Some (refs.Token argument)) None) (HasSymbol types) → n ≡ argument → b ≡ true → is_token_name (names_of types) n ≡ false → ⊥
-  takes_name true argument n has same takes absent = let there : is_token_name (names_of types) argument ≡ true = is_name types argument has in cc
+  takes_name : (b : Bool) (argument n : List ℕ) → IfSome (cond b (Some (refs.Token argument)) None) (HasSymbol types) → n ≡ argument
+      → b ≡ true → is_token_name (names_of types) n ≡ false → ⊥
+  takes_name true argument n has same takes absent = let there : is_token_name (names_of types) argument ≡ true =
+      is_name types argument has in cc
   takes_name false argument n has same takes absent = cc
 
   -- an argument
-  takes_argument : (name : List ℕ) (argument : Option Argument) → IfSome (cond (bytes_eq name (codes "type")) (argument_name argument) None) (HasSymbol types) → (n : List ℕ) → ArgumentIsUnknownType (names_of types) name argument n → ⊥
+  takes_argument : (name : List ℕ) (argument : Option Argument)
+      → IfSome (cond (bytes_eq name (codes "type")) (argument_name argument) None) (HasSymbol types) → (n : List ℕ)
+      → ArgumentIsUnknownType (names_of types) name argument n → ⊥
   takes_argument name None has n absent = absent
   takes_argument name (Some (Number digits)) has n absent = absent
-  takes_argument name (Some (Name argument)) has n (same, takes, absent) = takes_name (bytes_eq name (codes "type")) argument n has same takes absent
+  takes_argument name (Some (Name argument)) has n (same, takes, absent) =
+      takes_name (bytes_eq name (codes "type")) argument n has same takes absent
 
   -- the commands of an alternative, whose tokens have symbols
   take_types : (commands : List Command) → All (HasSymbol types) (filter_map commanded_token commands) → All TakesAType commands
   take_types [] h = All-nil TakesAType
   take_types (command ∷ commands) h =
-      All-cons TakesAType command commands (takes_argument command.name.text command.argument (here (commanded_token command) h)) (take_types commands (others (commanded_token command) h))
+      All-cons TakesAType command commands (takes_argument command.name.text command.argument (here (commanded_token command) h))
+      (take_types commands (others (commanded_token command) h))
     where
-      here : (o : Option TokenReference) → All (HasSymbol types) (cons_option o (filter_map commanded_token commands)) → IfSome o (HasSymbol types)
+      here : (o : Option TokenReference) → All (HasSymbol types) (cons_option o (filter_map commanded_token commands))
+          → IfSome o (HasSymbol types)
       here None all = tt
       here (Some token) all = All-head (HasSymbol types) token (filter_map commanded_token commands) all
 
-      others : (o : Option TokenReference) → All (HasSymbol types) (cons_option o (filter_map commanded_token commands)) → All (HasSymbol types) (filter_map commanded_token commands)
+      others : (o : Option TokenReference) → All (HasSymbol types) (cons_option o (filter_map commanded_token commands))
+          → All (HasSymbol types) (filter_map commanded_token commands)
       others None all = all
       others (Some token) all = All-tail (HasSymbol types) token (filter_map commanded_token commands) all
 
   -- the commands of the alternatives of a rule
-  alternatives_take : (alternatives : List LexerAlternative) → All (HasSymbol types) (flat_map commanded_by alternatives) → All TakesAType (flat_map (λ alternative. alternative.commands) alternatives)
-  alternatives_take = each_part commanded_by (λ (alternative : LexerAlternative). alternative.commands) (HasSymbol types) TakesAType (λ alternative h. take_types alternative.commands h)
+  alternatives_take : (alternatives : List LexerAlternative) → All (HasSymbol types) (flat_map commanded_by alternatives)
+      → All TakesAType (flat_map (λ alternative. alternative.commands) alternatives)
+  alternatives_take = each_part commanded_by (λ (alternative : LexerAlternative). alternative.commands) (HasSymbol types) TakesAType
+      (λ alternative h. take_types alternative.commands h)
 
   -- the commands of rules
   rules_take : (rules : List Rule) → All (HasSymbol types) (all_commanded (lexer_rules rules)) → All TakesAType (all_commands rules)
@@ -70,18 +82,21 @@ module _ (types : List Entry) where
   rules_take (Lexer rule ∷ rules) h =
       let commanded : List TokenReference = flat_map commanded_by rule.alternatives in
       All-append TakesAType (flat_map (λ alternative. alternative.commands) rule.alternatives) (all_commands rules)
-      (alternatives_take rule.alternatives (All-front (HasSymbol types) commanded (all_commanded (lexer_rules rules)) h)) (rules_take rules (All-rest (HasSymbol types) commanded (all_commanded (lexer_rules rules)) h))
+      (alternatives_take rule.alternatives (All-front (HasSymbol types) commanded (all_commanded (lexer_rules rules)) h))
+      (rules_take rules (All-rest (HasSymbol types) commanded (all_commanded (lexer_rules rules)) h))
 
 -- without modes all rules are those outside of modes
 pub rules_are : (source : Source) → source.modes ≡ [] → rules_of source ≡ source.rules
 rules_are source none = ap (λ ms. source.rules ++ flat_map mode_rules ms) none ∙ append-nil source.rules
 
 -- so where the names of the rules are checked, each command is known, and its token type is that of the numbered grammar
-pub all_known : (source : Source) → source.modes ≡ [] → HasNoClash source → All (IsKnown source (names_of (types_of [] source.rules))) (commands_in source)
+pub all_known : (source : Source) → source.modes ≡ [] → HasNoClash source
+    → All (IsKnown source (names_of (types_of [] source.rules))) (commands_in source)
 all_known source none checked =
     let types : List Entry = types_of [] source.rules in
     let typed : All (TakesAType types) (commands_in source) =
-    subst (λ (rules : List Rule). All (TakesAType types) (all_commands rules)) (sym (rules_are source none)) (rules_take types source.rules (commanded_have_symbols source.rules)) in
+    subst (λ (rules : List Rule). All (TakesAType types) (all_commands rules)) (sym (rules_are source none))
+    (rules_take types source.rules (commanded_have_symbols source.rules)) in
     λ k d less. record {
       known = checked.0.0.0.0.1 k d less;
       mode = checked.0.0.0.0.0.1 k d less;

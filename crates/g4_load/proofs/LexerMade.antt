@@ -16,13 +16,17 @@ use Rattle.g4_lexer_rules.specs.declared.lexer_rules.LexerRules.{LexerRules}
 use Rattle.g4_load.specs.Lexers.{CanBeMade, lexer_with}
 
 -- the network is that of these rules, where it is that of equal ones
-pub network_of : (literals lits : List LexerRule) (modes ms : List Mode) (made : LexNet) → lits ≡ literals → ms ≡ modes → IsLexNet lits ms made → IsLexNet literals modes made
-network_of literals lits modes ms made a b is = subst (λ (xs : List LexerRule). IsLexNet xs modes made) a (subst (λ (ys : List Mode). IsLexNet lits ys made) b is)
+pub network_of : (literals lits : List LexerRule) (modes ms : List Mode) (made : LexNet) → lits ≡ literals → ms ≡ modes
+    → IsLexNet lits ms made → IsLexNet literals modes made
+network_of literals lits modes ms made a b is =
+    subst (λ (xs : List LexerRule). IsLexNet xs modes made) a (subst (λ (ys : List Mode). IsLexNet lits ys made) b is)
 
 -- the lexer of rules that can be lexed with can be lexed with
-pub lexable : (rules : LexerRules) (made : LexNet) (lexer : Lexer) (types : List ℕ) (tables : CommandTables) → IsLexNet rules.literals rules.modes made → lexer ≡ lexer_with made types tables →
+pub lexable : (rules : LexerRules) (made : LexNet) (lexer : Lexer) (types : List ℕ) (tables : CommandTables)
+    → IsLexNet rules.literals rules.modes made → lexer ≡ lexer_with made types tables →
     CanBeMade rules tables → IsLexable lexer.net
-lexable rules made lexer types tables is same can = subst (λ (l : Lexer). IsLexable l.net) (sym same) (is_lexable rules.literals rules.modes made is can.lexed)
+lexable rules made lexer types tables is same can =
+    subst (λ (l : Lexer). IsLexable l.net) (sym same) (is_lexable rules.literals rules.modes made is can.lexed)
 
 -- a number of a list that is low, or 0
 low_at : (types : List ℕ) (k : ℕ) → All (λ type. type ≤ MOST_TYPES) types → get_or types k 0 ≤ MOST_TYPES
@@ -36,14 +40,17 @@ all_at P [] k h = All-nil P
 all_at P (xs ∷ more) zero h = All-head (All P) xs more h
 all_at P (xs ∷ more) (suc k) h = all_at P more k (All-tail (All P) xs more h)
 
-alternative_types : (alternatives : List (List LexerCommand)) (k : ℕ) → All (All GivesTokenType) alternatives → All GivesTokenType (of_alternative alternatives k)
+alternative_types : (alternatives : List (List LexerCommand)) (k : ℕ) → All (All GivesTokenType) alternatives
+    → All GivesTokenType (of_alternative alternatives k)
 alternative_types alternatives zero h = All-nil GivesTokenType
 alternative_types alternatives (suc k) h = all_at GivesTokenType alternatives k h
 
 -- the lexer gives token types, where its rules have such types and its commands give such
-pub token_types : (made : LexNet) (types : List ℕ) (tables : CommandTables) (lexer : Lexer) → lexer ≡ lexer_with made types tables → All (λ type. type ≤ MOST_TYPES) types →
+pub token_types : (made : LexNet) (types : List ℕ) (tables : CommandTables) (lexer : Lexer) → lexer ≡ lexer_with made types tables
+    → All (λ type. type ≤ MOST_TYPES) types →
     All (All (All GivesTokenType)) lexer.commands → HasTokenTypes lexer
 token_types made types tables lexer same low given = record {
   rules = λ rule. subst (λ (ts : List ℕ). get_or ts rule 0 ≤ MOST_TYPES) (sym (ap (λ (l : Lexer). l.types) same)) (low_at types rule low);
-  commands = λ rule alternative. alternative_types (get_or lexer.commands rule []) alternative (all_at (All GivesTokenType) lexer.commands rule given);
+  commands = λ rule alternative. alternative_types (get_or lexer.commands rule []) alternative
+      (all_at (All GivesTokenType) lexer.commands rule given);
 }

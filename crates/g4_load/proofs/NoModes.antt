@@ -16,4 +16,5 @@ no_modes (right (right (both keyword (both other (both h rs))))) run = refl
 -- nor has the grammar that is read from it
 pub run_without_modes : (bytes : List ℕ) (source : Source) → IsReading bytes (Ok source) → forms_not_run source ≡ [] → source.modes ≡ []
 run_without_modes bytes source read run =
-    let same : source ≡ source_of read.is.0 = read.is.2 in ap (λ (s : Source). s.modes) same ∙ no_modes read.is.0 (ap forms_not_run (sym same) ∙ run)
+    let same : source ≡ source_of read.is.0 = read.is.2 in
+    ap (λ (s : Source). s.modes) same ∙ no_modes read.is.0 (ap forms_not_run (sym same) ∙ run)

@@ -68,7 +68,8 @@ not_both : (b : Bool) → b ≡ true → b ≡ false → ⊥
 not_both b p q = cc
 
 -- rules with their numberings and a start rule have at most one network, or fault
-one_build : (rules : List StepRule) (numbers : List Numbering) (start : List ℕ) → IsSingleBeside building.NoMemory (GivesNetwork rules numbers start)
+one_build : (rules : List StepRule) (numbers : List Numbering) (start : List ℕ)
+    → IsSingleBeside building.NoMemory (GivesNetwork rules numbers start)
 one_build rules numbers start (Ok a) (Ok b) p q n m = ap (λ x. Ok x) (one_network (eof ∷ []) rules numbers start a b p q)
 one_build rules numbers start (Ok a) (Err building.UnknownStart) p q n m = absurd (not_both _ p.known q)
 one_build rules numbers start (Ok a) (Err building.Alternatives) p q n m = absurd (omega (arith, p.narrow q.1.0 q.1.1, q.1.2))
@@ -95,18 +96,21 @@ one_build rules numbers start (Err building.NoMemory) b p q n m = absurd (n refl
 one_laid : (start : List ℕ) (grammar : Loaded) → IsSingle (Lays start grammar)
 one_laid start grammar =
     one_then (Gives (GivesRewritten start grammar) (of_build start)) (λ net result. result ≡ Ok (laid_of grammar net))
-    (one_gift (GivesRewritten start grammar) (of_build start) building.NoMemory refl (one_build (rewritten (steps_of grammar)) (numberings (steps_of grammar)) start)) (λ net a b p q. p ∙ sym q)
+    (one_gift (GivesRewritten start grammar) (of_build start) building.NoMemory refl
+    (one_build (rewritten (steps_of grammar)) (numberings (steps_of grammar)) start)) (λ net a b p q. p ∙ sym q)
 
 -- the rules of a lexer give at most one lexer
 one_lexer : (rules : LexerRules) (tables : CommandTables) → IsSingle (GivesLexer rules tables)
-one_lexer rules tables (Ok a) (Ok b) p q = ap (λ x. Ok x) (p.2 ∙ ap (λ (m : LexNet). lexer_with m rules.types tables) (one_lex_net rules.literals rules.modes p.0 q.0 p.1 q.1) ∙ sym q.2)
+one_lexer rules tables (Ok a) (Ok b) p q = ap (λ x. Ok x)
+    (p.2 ∙ ap (λ (m : LexNet). lexer_with m rules.types tables) (one_lex_net rules.literals rules.modes p.0 q.0 p.1 q.1) ∙ sym q.2)
 one_lexer rules tables (Ok a) (Err g) p q = absurd (omega (arith, p.1.fits, q.0))
 one_lexer rules tables (Err f) (Ok b) p q = absurd (omega (arith, q.1.fits, p.0))
 one_lexer rules tables (Err f) (Err g) p q = ap (λ x. Err x) (p.1 ∙ sym q.1)
 
 -- a network goes with at most one lexer
 one_with_lexer : (laid : Laid) → IsSingle (HasLexer laid)
-one_with_lexer laid = one_then (GivesLexer laid.lexer laid.tables) (λ lexer result. result ≡ Ok (interpreter_of laid lexer)) (one_lexer laid.lexer laid.tables) (λ lexer a b p q. p ∙ sym q)
+one_with_lexer laid = one_then (GivesLexer laid.lexer laid.tables) (λ lexer result. result ≡ Ok (interpreter_of laid lexer))
+    (one_lexer laid.lexer laid.tables) (λ lexer a b p q. p ∙ sym q)
 
 -- a grammar gives at most one thing to parse with
 one_from_grammar : (start : List ℕ) (grammar : Loaded) → IsSingle (FromGrammar start grammar)
@@ -130,15 +134,18 @@ one_from_rule rule grammar = one_then (Lays rule grammar) ListsStart (one_laid r
 
 -- a source has at most one checked numbering
 one_checked : (source : Source) (grammar : Numbered) → IsSingle (Checks source grammar)
-one_checked source grammar = one_then (Gives (IsChecked source) of_check) (λ _ result. result ≡ Ok (loaded_of source grammar)) (one_gift (IsChecked source) of_check checking.NoMemory refl (one_check source)) (λ _ a b p q. p ∙ sym q)
+one_checked source grammar = one_then (Gives (IsChecked source) of_check) (λ _ result. result ≡ Ok (loaded_of source grammar))
+    (one_gift (IsChecked source) of_check checking.NoMemory refl (one_check source)) (λ _ a b p q. p ∙ sym q)
 
 one_numbers : (source : Source) → IsSingle (Numbers source)
 one_numbers source =
-    one_then (Gives (AreRun (forms_not_run source)) of_form) (λ _. Then (Gives (HasOwnNames source.rules) of_name) (λ _. Then (Gives (GivesNumbered source) of_number) (Checks source)))
+    one_then (Gives (AreRun (forms_not_run source)) of_form)
+    (λ _. Then (Gives (HasOwnNames source.rules) of_name) (λ _. Then (Gives (GivesNumbered source) of_number) (Checks source)))
     (one_gift (AreRun (forms_not_run source)) of_form forming.NoMemory refl (one_answer (forms_not_run source)))
     (λ _. one_then (Gives (HasOwnNames source.rules) of_name) (λ _. Then (Gives (GivesNumbered source) of_number) (Checks source))
     (one_gift (HasOwnNames source.rules) of_name naming.NoMemory refl (one_naming source.rules))
-    (λ _. one_then (Gives (GivesNumbered source) of_number) (Checks source) (one_gift (GivesNumbered source) of_number numbering.NoMemory refl (one_numbering source)) (one_checked source)))
+    (λ _. one_then (Gives (GivesNumbered source) of_number) (Checks source)
+    (one_gift (GivesNumbered source) of_number numbering.NoMemory refl (one_numbering source)) (one_checked source)))
 
 module _ (files : Files) (name : List ℕ) where
   -- a name has at most one file
@@ -170,7 +177,9 @@ module _ (files : Files) (name : List ℕ) where
   ReadsAny = Then (Fetches files name) AfterFetch
 
   one_reads : IsSingle ReadsAny
-  one_reads = one_then (Fetches files name) AfterFetch one_fetch (λ bytes. one_of_file name (Gives (IsReading bytes) of_read) (one_gift (IsReading bytes) of_read reading.NoMemory refl (one_reading bytes)))
+  one_reads = one_then (Fetches files name) AfterFetch one_fetch
+      (λ bytes. one_of_file name (Gives (IsReading bytes) of_read)
+      (one_gift (IsReading bytes) of_read reading.NoMemory refl (one_reading bytes)))
 
   -- a file is at most one source, or stops at most one way
   pub one_read : (f g : List (List ℕ)) (a b : Result Source Stop) → Reads files name f a → Reads files name g b → a ≡ b
@@ -180,7 +189,8 @@ module _ (files : Files) (name : List ℕ) where
   LoadsAny = Then ReadsAny (λ source. OfFile name (Numbers source))
 
   one_loads : IsSingle LoadsAny
-  one_loads = one_then ReadsAny (λ source. OfFile name (Numbers source)) one_reads (λ source. one_of_file name (Numbers source) (one_numbers source))
+  one_loads = one_then ReadsAny (λ source. OfFile name (Numbers source)) one_reads
+      (λ source. one_of_file name (Numbers source) (one_numbers source))
 
   loads_any : (fetched : List (List ℕ)) (r : Result Loaded Stop) → Loads files name fetched r → LoadsAny r
   loads_any fetched r (stops fault h) = stops fault h.1
@@ -203,12 +213,15 @@ module _ (files : Files) (name : List ℕ) where
     makes_any fetched r (goes_on grammar s h k) = goes_on grammar s (loads_any fetched (Ok grammar) h) k
 
     one_made : (f g : List (List ℕ)) (a b : Result X Stop) → Makes f a → Makes g b → a ≡ b
-    one_made f g a b p q = one_then LoadsAny (λ grammar. OfFile name (Stage grammar)) one_loads (λ grammar. one_of_file name (Stage grammar) (one grammar)) a b (makes_any f a p) (makes_any g b q)
+    one_made f g a b p q = one_then LoadsAny (λ grammar. OfFile name (Stage grammar)) one_loads
+        (λ grammar. one_of_file name (Stage grammar) (one grammar)) a b (makes_any f a p) (makes_any g b q)
 
   -- a file and a start rule give at most one interpreter, or stop at most one way
-  pub one_built : (start : List ℕ) (f g : List (List ℕ)) (a b : Result Interpreter Stop) → Builds files name start f a → Builds files name start g b → a ≡ b
+  pub one_built : (start : List ℕ) (f g : List (List ℕ)) (a b : Result Interpreter Stop) → Builds files name start f a
+      → Builds files name start g b → a ≡ b
   one_built start f g a b p q = one_made (FromGrammar start) (one_from_grammar start) f g a b p q
 
   -- a file and a rule give at most one listing, or stop at most one way
-  pub one_listed : (rule : List ℕ) (f g : List (List ℕ)) (a b : Result (List ℕ) Stop) → Lists files name rule f a → Lists files name rule g b → a ≡ b
+  pub one_listed : (rule : List ℕ) (f g : List (List ℕ)) (a b : Result (List ℕ) Stop) → Lists files name rule f a
+      → Lists files name rule g b → a ≡ b
   one_listed rule f g a b p q = one_made (FromRule rule) (one_from_rule rule) f g a b p q

@@ -14,7 +14,8 @@ IsSingle {X} {E} IsResult = (a b : Result X E) → IsResult a → IsResult b →
 abbrev pub IsSingleBeside : {X E : Type 0} → E → (Result X E → Type 0) → Type 0
 IsSingleBeside {X} {E} free IsResult = (a b : Result X E) → IsResult a → IsResult b → a ≢ Err free → b ≢ Err free → a ≡ b
 
-module _ {X E : Type 0} (IsAnswer : Result X E → Type 0) (seen : E → CheckError) (free : E) (unseen : seen free ≡ errors.NoMemory) (one : IsSingleBeside free IsAnswer) where
+module _ {X E : Type 0} (IsAnswer : Result X E → Type 0) (seen : E → CheckError) (free : E) (unseen : seen free ≡ errors.NoMemory)
+    (one : IsSingleBeside free IsAnswer) where
   -- a fault that is seen is not the free answer
   seen_apart : (e : E) (fault : GrammarFault) → seen e ≡ errors.Fault fault → ◌≢◌ {A = Result X E} (Err e) (Err free)
   seen_apart e fault t same = let here : e ≡ free = cc in let seen_same : seen e ≡ seen free = ap seen here in cc
@@ -34,7 +35,8 @@ module _ {X E : Type 0} (IsAnswer : Result X E → Type 0) (seen : E → CheckEr
       let same : ◌≡◌ {A = Result X E} (Err e) (Err d) = one (Err e) (Err d) h k (seen_apart e f t) (seen_apart d g u) in
       cc
 
-module _ {X Y F : Type 0} (First : Result X F → Type 0) (Second : X → Result Y F → Type 0) (one : IsSingle First) (one_more : (x : X) → IsSingle (Second x)) where
+module _ {X Y F : Type 0} (First : Result X F → Type 0) (Second : X → Result Y F → Type 0) (one : IsSingle First)
+    (one_more : (x : X) → IsSingle (Second x)) where
   -- two stages give at most one thing
   pub one_then : IsSingle (Then First Second)
   one_then a b (stops f h) (stops g k) =

@@ -5,7 +5,8 @@ use Rattle.g4_load.specs.declared.fault.GrammarFault.{GrammarFault}
 use Rattle.g4_load.specs.declared.stop.Stop.{Stop}
 
 -- where two stages give something, both do
-pub both_give : {X Y F : Type 0} (First : Result X F → Type 0) (Second : X → Result Y F → Type 0) (y : Y) → Then First Second (Ok y) → (x : X) × First (Ok x) × Second x (Ok y)
+pub both_give : {X Y F : Type 0} (First : Result X F → Type 0) (Second : X → Result Y F → Type 0) (y : Y) → Then First Second (Ok y)
+    → (x : X) × First (Ok x) × Second x (Ok y)
 both_give {X} {Y} {F} First Second y h = by (Ok y) h refl
   where
     by : (r : Result Y F) → Then First Second r → r ≡ Ok y → (x : X) × First (Ok x) × Second x (Ok y)

@@ -34,7 +34,8 @@ keeps_number table wanted key there = by (number_of table wanted.key) refl
 
     by : (found : Option ℕ) → number_of table wanted.key ≡ found → HasNumber (with_key table wanted) key
     by (Some n) is = subst (λ (t : List Entry). HasNumber t key) (with_key-old table wanted (ap is_some is)) there
-    by None is = ap (λ (t : List Entry). is_some (number_of t key)) (with_key-new table wanted is) ∙ (ap is_some (number_of-push table (next_entry table wanted) key is) ∙ in_front (is_key wanted.key key))
+    by None is = ap (λ (t : List Entry). is_some (number_of t key)) (with_key-new table wanted is)
+        ∙ (ap is_some (number_of-push table (next_entry table wanted) key is) ∙ in_front (is_key wanted.key key))
 
 -- the key that is added has a number
 gets_number : (table : List Entry) (wanted : Wanted) → HasNumber (with_key table wanted) wanted.key
@@ -55,7 +56,8 @@ keep_number table (first ∷ more) key there = keep_number (with_key table first
 get_numbers : (table : List Entry) (wanted : List Wanted) → All (IsNumbered (with_keys table wanted)) wanted
 get_numbers table [] = All-nil (IsNumbered table)
 get_numbers table (first ∷ more) =
-    All-cons (IsNumbered (with_keys (with_key table first) more)) first more (keep_number (with_key table first) more first.key (gets_number table first)) (get_numbers (with_key table first) more)
+    All-cons (IsNumbered (with_keys (with_key table first) more)) first more
+    (keep_number (with_key table first) more first.key (gets_number table first)) (get_numbers (with_key table first) more)
 
 -- the name is `EOF`, or has a number in the table
 abbrev pub HasSymbol : List Entry → TokenReference → Type 0
@@ -67,17 +69,22 @@ abbrev named : List ℕ → Wanted
 named name = record { key = keys.Name name; shown = name }
 
 -- names that are wanted have symbols, where what is wanted has numbers
-have_symbols : (table : List Entry) (tokens : List TokenReference) → All (IsNumbered table) (filter_map token_name tokens) → All (HasSymbol table) tokens
+have_symbols : (table : List Entry) (tokens : List TokenReference) → All (IsNumbered table) (filter_map token_name tokens)
+    → All (HasSymbol table) tokens
 have_symbols table [] h = All-nil (HasSymbol table)
-have_symbols table (refs.Literal literal ∷ tokens) h = All-cons (HasSymbol table) (refs.Literal literal) tokens tt (have_symbols table tokens h)
+have_symbols table (refs.Literal literal ∷ tokens) h =
+    All-cons (HasSymbol table) (refs.Literal literal) tokens tt (have_symbols table tokens h)
 have_symbols table (refs.Token name ∷ tokens) h =
-    All-cons (HasSymbol table) (refs.Token name) tokens (here (bytes_eq name (codes "EOF")) h) (have_symbols table tokens (others (bytes_eq name (codes "EOF")) h))
+    All-cons (HasSymbol table) (refs.Token name) tokens (here (bytes_eq name (codes "EOF")) h)
+    (have_symbols table tokens (others (bytes_eq name (codes "EOF")) h))
   where
-    here : (b : Bool) → All (IsNumbered table) (cons_option (cond b None (Some (named name))) (filter_map token_name tokens)) → (b || is_some (number_of table (keys.Name name))) ≡ true
+    here : (b : Bool) → All (IsNumbered table) (cons_option (cond b None (Some (named name))) (filter_map token_name tokens))
+        → (b || is_some (number_of table (keys.Name name))) ≡ true
     here true all = refl
     here false all = All-head (IsNumbered table) (named name) (filter_map token_name tokens) all
 
-    others : (b : Bool) → All (IsNumbered table) (cons_option (cond b None (Some (named name))) (filter_map token_name tokens)) → All (IsNumbered table) (filter_map token_name tokens)
+    others : (b : Bool) → All (IsNumbered table) (cons_option (cond b None (Some (named name))) (filter_map token_name tokens))
+        → All (IsNumbered table) (filter_map token_name tokens)
     others true all = all
     others false all = All-tail (IsNumbered table) (named name) (filter_map token_name tokens) all
 
@@ -91,21 +98,26 @@ commanded_have_symbols rules =
     let names : List Wanted = filter_map token_name tokens in
     let more : List Wanted = filter_map token_name commanded in
     let before : List Entry = with_keys (with_keys (with_keys [] literals) lexers) names in
-    let all : with_keys before more ≡ types_of [] rules = with_four [] (with_keys [] literals) (with_keys (with_keys [] literals) lexers) before literals lexers names more refl refl refl in
+    let all : with_keys before more ≡ types_of [] rules =
+    with_four [] (with_keys [] literals) (with_keys (with_keys [] literals) lexers) before literals lexers names more refl refl refl in
     have_symbols (types_of [] rules) commanded (subst (λ (t : List Entry). All (IsNumbered t) more) all (get_numbers before more))
 
 -- a name has a type exactly where it has a number
-names_are : (types : List Entry) (name : List ℕ) → list_any (λ token. bytes_eq token.name name) (names_of types) ≡ is_some (number_of types (keys.Name name))
+names_are : (types : List Entry) (name : List ℕ)
+    → list_any (λ token. bytes_eq token.name name) (names_of types) ≡ is_some (number_of types (keys.Name name))
 names_are [] name = refl
 names_are (entry ∷ types) name = by entry.key (names_are types name)
   where
     is_in : (b : Bool) → list_any (λ token. bytes_eq token.name name) (names_of types) ≡ is_some (number_of types (keys.Name name)) →
-        (b || list_any (λ token. bytes_eq token.name name) (names_of types)) ≡ is_some (cond b (Some entry.number) (number_of types (keys.Name name)))
+        (b || list_any (λ token. bytes_eq token.name name) (names_of types))
+        ≡ is_some (cond b (Some entry.number) (number_of types (keys.Name name)))
     is_in true rest = refl
     is_in false rest = rest
 
     by : (key : Key) → list_any (λ token. bytes_eq token.name name) (names_of types) ≡ is_some (number_of types (keys.Name name)) →
-        list_any (λ token. bytes_eq token.name name) (names_of (record { key = key; number = entry.number; shown = entry.shown } ∷ types)) ≡ is_some (number_of (record { key = key; number = entry.number; shown = entry.shown } ∷ types) (keys.Name name))
+        list_any (λ token. bytes_eq token.name name)
+        (names_of (record { key = key; number = entry.number; shown = entry.shown } ∷ types))
+        ≡ is_some (number_of (record { key = key; number = entry.number; shown = entry.shown } ∷ types) (keys.Name name))
     by (keys.Name other) rest = is_in (bytes_eq other name) rest
     by (keys.Literal characters) rest = rest
 

@@ -28,7 +28,14 @@ steps_of grammar = map (resolved_rule (names_of grammar) []) grammar.rules
 
 -- a grammar with its rules and their network
 abbrev pub laid_of : Loaded → ParserNetwork → Laid
-laid_of grammar net = record { names = names_of grammar; rules = steps_of grammar; shown = grammar.shown; lexer = grammar.lexer; tables = grammar.tables; net = net }
+laid_of grammar net = record {
+  names = names_of grammar;
+  rules = steps_of grammar;
+  shown = grammar.shown;
+  lexer = grammar.lexer;
+  tables = grammar.tables;
+  net = net;
+}
 
 -- the same with its lexer
 abbrev pub interpreter_of : Laid → Lexer → Interpreter

@@ -15,11 +15,15 @@ StopMisses usage before now (stops.Fault name fault) = before ≤ now
 
 -- the count of faults rises where a fetch failed, and stays the same otherwise
 abbrev pub HaltCounts : Type 0 → ℕ → ℕ → ℕ → ℕ → Halt → Type 0
-HaltCounts usage faults_before faults_now misses_before misses_now (halts.Stop stop) = (faults_now ≡ faults_before) × StopMisses usage misses_before misses_now stop
-HaltCounts usage faults_before faults_now misses_before misses_now halts.Failed = Rose faults_before faults_now × (misses_before ≤ misses_now)
-HaltCounts usage faults_before faults_now misses_before misses_now halts.NoMemory = (faults_now ≡ faults_before) × (misses_before ≤ misses_now)
+HaltCounts usage faults_before faults_now misses_before misses_now (halts.Stop stop) = (faults_now ≡ faults_before)
+    × StopMisses usage misses_before misses_now stop
+HaltCounts usage faults_before faults_now misses_before misses_now halts.Failed = Rose faults_before faults_now
+    × (misses_before ≤ misses_now)
+HaltCounts usage faults_before faults_now misses_before misses_now halts.NoMemory = (faults_now ≡ faults_before)
+    × (misses_before ≤ misses_now)
 
 -- the counts after fetching
 abbrev pub Counts : {X : Type 0} → Type 0 → ℕ → ℕ → ℕ → ℕ → Result X Halt → Type 0
 Counts usage faults_before faults_now misses_before misses_now (Ok x) = (faults_now ≡ faults_before) × (misses_before ≤ misses_now)
-Counts usage faults_before faults_now misses_before misses_now (Err halt) = HaltCounts usage faults_before faults_now misses_before misses_now halt
+Counts usage faults_before faults_now misses_before misses_now (Err halt) =
+    HaltCounts usage faults_before faults_now misses_before misses_now halt

@@ -17,7 +17,12 @@ use Rattle.g4_load.specs.declared.fault.GrammarFault.TheVariants as faults
 
 -- the lexer by a network, the token types of its rules, and what their commands name
 abbrev pub lexer_with : LexNet → List ℕ → CommandTables → Lexer
-lexer_with made types tables = record { net = made.net; modes = made.modes; types = types; commands = map (map (filter_map (command_of tables))) made.commands }
+lexer_with made types tables = record {
+  net = made.net;
+  modes = made.modes;
+  types = types;
+  commands = map (map (filter_map (command_of tables))) made.commands;
+}
 
 -- The rules can be lexed with, each block of them has an alternative, and each has a token type or none; names of types have such types.
 pub record CanBeMade (rules : LexerRules) (tables : CommandTables) : Type 0 where
@@ -29,5 +34,6 @@ pub record CanBeMade (rules : LexerRules) (tables : CommandTables) : Type 0 wher
 
 -- the lexer by the network of these rules, or that this would have too many states
 abbrev pub GivesLexer : LexerRules → CommandTables → Result Lexer GrammarFault → Type 0
-GivesLexer rules tables (Ok lexer) = (made : LexNet) × IsLexNet rules.literals rules.modes made × (lexer ≡ lexer_with made rules.types tables)
+GivesLexer rules tables (Ok lexer) = (made : LexNet) × IsLexNet rules.literals rules.modes made
+    × (lexer ≡ lexer_with made rules.types tables)
 GivesLexer rules tables (Err fault) = (MOST_STATES < lexer_states (all_rules rules.literals rules.modes)) × (fault ≡ faults.States)

@@ -1,10 +1,11 @@
+-- Other crates cite Building, Counting, Files, Listing, Loading, Stages, Usable; only this crate cites Commands, Faults, Lexers.
 pub mod Building
 pub mod Commands
 pub mod Counting
 pub mod Faults
 pub mod Files
+pub mod Lexers
 pub mod Listing
 pub mod Loading
 pub mod Stages
 pub mod Usable
-pub mod Lexers

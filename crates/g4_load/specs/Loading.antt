@@ -23,20 +23,31 @@ use Rattle.g4_load.specs.declared.stop.Stop.TheVariants as stops
 -- The bytes of a grammar file, or how the command line stops where there are none.
 pub data Fetches (files : Files) (name : List ℕ) : Result (List ℕ) Stop → Type 0 where
   absent : files name ≡ None → Fetches files name (Err (stops.Absent name))
-  too_large : (bytes : List ℕ) → files name ≡ Some bytes → MOST_BYTES < length bytes → Fetches files name (Err (stops.TooLarge name (length bytes)))
+  too_large : (bytes : List ℕ) → files name ≡ Some bytes → MOST_BYTES < length bytes
+      → Fetches files name (Err (stops.TooLarge name (length bytes)))
   there : (bytes : List ℕ) → files name ≡ Some bytes → length bytes ≤ MOST_BYTES → Fetches files name (Ok bytes)
 
 -- reading a grammar over the files: the names that are fetched, in order, and the grammar as it is written
 abbrev pub Reads : Files → List ℕ → List (List ℕ) → Result Source Stop → Type 0
-Reads files name fetched result = (fetched ≡ name ∷ []) × Then (Fetches files name) (λ bytes. OfFile name (Gives (IsReading bytes) of_read)) result
+Reads files name fetched result = (fetched ≡ name ∷ [])
+    × Then (Fetches files name) (λ bytes. OfFile name (Gives (IsReading bytes) of_read)) result
 
 -- the rules of the lexer of a source: of the literals that have tokens of their own, of all modes, and the type of each
 abbrev pub rules_of_lexer : Source → LexerRules
-rules_of_lexer source = record { literals = map rule_of_token (literal_tokens source); modes = lexer_modes source; types = types_of_rules source }
+rules_of_lexer source = record {
+  literals = map rule_of_token (literal_tokens source);
+  modes = lexer_modes source;
+  types = types_of_rules source;
+}
 
 -- a source whose numbered grammar is this, as it is handed on
 abbrev pub loaded_of : Source → Numbered → Loaded
-loaded_of source grammar = record { rules = grammar.rules; shown = grammar.shown; lexer = rules_of_lexer source; tables = tables_of source grammar.names }
+loaded_of source grammar = record {
+  rules = grammar.rules;
+  shown = grammar.shown;
+  lexer = rules_of_lexer source;
+  tables = tables_of source grammar.names;
+}
 
 -- the grammar, where its rules have no fault
 abbrev pub Checks : Source → Numbered → Result Loaded GrammarFault → Type 0
@@ -45,7 +56,8 @@ Checks source grammar = Then (Gives (IsChecked source) of_check) (λ _ result. r
 -- the grammar of a source, or its first fault: a form that is not run yet, a rule name used twice, a limit, a fault of the rules
 abbrev pub Numbers : Source → Result Loaded GrammarFault → Type 0
 Numbers source =
-    Then (Gives (AreRun {A = ⊤} (forms_not_run source)) of_form) (λ _. Then (Gives (HasOwnNames source.rules) of_name) (λ _. Then (Gives (GivesNumbered source) of_number) (Checks source)))
+    Then (Gives (AreRun {A = ⊤} (forms_not_run source)) of_form)
+    (λ _. Then (Gives (HasOwnNames source.rules) of_name) (λ _. Then (Gives (GivesNumbered source) of_number) (Checks source)))
 
 -- the grammar that the bytes are, or its first fault
 abbrev pub IsGrammarIn : List ℕ → Result Loaded GrammarFault → Type 0

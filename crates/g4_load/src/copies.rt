@@ -2,8 +2,8 @@
 ghost use Rattle.std.specs.Prelude.{◌≡◌, IfOk};
 
 use g4_base::{Sequence, Text};
-use g4_source::{AlternativeLabel, Element, RuleAlternative, Substitution, substituted};
 use g4_grammar::{Step, StepRule};
+use g4_source::{AlternativeLabel, Element, RuleAlternative, Substitution, substituted};
 use g4_tokens::Symbols;
 use std::alloc::{AllocError, Global};
 

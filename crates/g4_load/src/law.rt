@@ -15,24 +15,29 @@ use g4_lexer_rules::known_commands_are_carried_out;
 
 /// A file is loaded in at most one way, or stops a command line in at most one way.
 pub fn one_loaded()
-    ensures { (files : Files) (name : List ℕ) (f g : List (List ℕ)) (a b : Result Grammar Stop) → Loads files name f a → Loads files name g b → a ≡ b }
+    ensures { (files : Files) (name : List ℕ) (f g : List (List ℕ)) (a b : Result Grammar Stop) → Loads files name f a
+        → Loads files name g b → a ≡ b }
 {}
 
 /// A file and a start rule give at most one interpreter, or stop a command line in at most one way.
 pub fn one_built()
-    ensures { (files : Files) (name start : List ℕ) (f g : List (List ℕ)) (a b : Result Made Stop) → Builds files name start f a → Builds files name start g b → a ≡ b }
+    ensures { (files : Files) (name start : List ℕ) (f g : List (List ℕ)) (a b : Result Made Stop) → Builds files name start f a
+        → Builds files name start g b → a ≡ b }
 {}
 
 /// A file and a rule give at most one listing, or stop a command line in at most one way.
 pub fn one_listed()
-    ensures { (files : Files) (name rule : List ℕ) (f g : List (List ℕ)) (a b : Result (List ℕ) Stop) → Lists files name rule f a → Lists files name rule g b → a ≡ b }
+    ensures { (files : Files) (name rule : List ℕ) (f g : List (List ℕ)) (a b : Result (List ℕ) Stop) → Lists files name rule f a
+        → Lists files name rule g b → a ≡ b }
 {}
 
 /// Each command of the lexer rules of a grammar that is loaded is carried out. The lexer of an interpreter has what each of them does,
 /// in order, so none is passed over.
 pub fn commands_are_carried_out()
-    ensures each { (files : Files) (name : List ℕ) (f g : List (List ℕ)) (source : Source) (grammar : Grammar) → Reads files name f (Ok source) → Loads files name g (Ok grammar) → All (IsCarriedOut grammar) (commands_in source) }
-    ensures all { (files : Files) (name start : List ℕ) (f g : List (List ℕ)) (grammar : Grammar) (made : Made) → Loads files name f (Ok grammar) → Builds files name start g (Ok made) → CarriesOutAll grammar made.lexer }
+    ensures each { (files : Files) (name : List ℕ) (f g : List (List ℕ)) (source : Source) (grammar : Grammar)
+        → Reads files name f (Ok source) → Loads files name g (Ok grammar) → All (IsCarriedOut grammar) (commands_in source) }
+    ensures all { (files : Files) (name start : List ℕ) (f g : List (List ℕ)) (grammar : Grammar) (made : Made)
+        → Loads files name f (Ok grammar) → Builds files name start g (Ok made) → CarriesOutAll grammar made.lexer }
 {
     // The checks before leave no command that is not known.
     known_commands_are_carried_out();

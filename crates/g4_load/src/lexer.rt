@@ -8,8 +8,8 @@ ghost use Rattle.g4_ordered.specs.Network.{IsLexable};
 
 use crate::fault::{CheckError, GrammarFault};
 use g4_base::Sequence;
-use g4_lexer_rules::{CommandTables, LexFault, LexNet, LexerRules, build_lexer, lexer_commands};
 use g4_lexer::Lexer;
+use g4_lexer_rules::{CommandTables, LexFault, LexNet, LexerRules, build_lexer, lexer_commands};
 use std::alloc::{AllocError, Global};
 
 /// The lexer by a network, the token types of its rules, and what their commands name.
@@ -20,7 +20,8 @@ fn lexer_with(
     tables: &CommandTables,
 ) -> Result<Lexer, AllocError>
     ensures made { IfOk result (λ lexer. lexer ≡ lexer_with made types tables.now) }
-    ensures types { All (λ name. name.symbol ≤ MOST_TYPES) tables.now.types → IfOk result (λ lexer. All (All (All GivesTokenType)) lexer.commands) }
+    ensures types { All (λ name. name.symbol ≤ MOST_TYPES) tables.now.types
+        → IfOk result (λ lexer. All (All (All GivesTokenType)) lexer.commands) }
 {
     let commands = lexer_commands(alloc, tables, made.commands.as_slice())?;
     Ok(Lexer {

@@ -24,11 +24,13 @@ blank : Token
 blank = record { symbol = 0; channel = 0; place = record { line = 0; column = 0 }; start = 0; end = 0 }
 
 -- configurations that are looked at are within the network above the bottom
-looking_plain : (net : ParserNetwork) (returns : List ℕ) (tokens : List Token) (k : ℕ) (C : Config → Type 0) → IsLooking net (above_bottom returns) tokens k C → (c : Config) → C c → IsPlain net c
+looking_plain : (net : ParserNetwork) (returns : List ℕ) (tokens : List Token) (k : ℕ) (C : Config → Type 0)
+    → IsLooking net (above_bottom returns) tokens k C → (c : Config) → C c → IsPlain net c
 looking_plain net returns tokens k C h c i = (h.within c i, (h.stands c i).marked)
 
 -- On the tokens that are left full stacks choose from a finite set, by induction on their number.
-pub choice_of : (net : ParserNetwork) (returns : List ℕ) (tokens : List Token) (n k : ℕ) (C : Config → Type 0) → length tokens ≤ k + n → IsLooking net (above_bottom returns) tokens k C → IsFinite C → (c : Choice) × FullFrom net C (word_of (drop k tokens)) k c
+pub choice_of : (net : ParserNetwork) (returns : List ℕ) (tokens : List Token) (n k : ℕ) (C : Config → Type 0) → length tokens ≤ k + n
+    → IsLooking net (above_bottom returns) tokens k C → IsFinite C → (c : Choice) × FullFrom net C (word_of (drop k tokens)) k c
 choice_of net returns tokens zero k C few h f = absurd (not_past net (above_bottom returns) tokens k C (omega (arith, few)) h)
 choice_of net returns tokens (suc n) k C few h f = elim (let split : (k < length tokens) ⊎ (length tokens ≤ k) = grind arith in split) [
   | inr past ↦ absurd (not_past net (above_bottom returns) tokens k C past h)
@@ -39,15 +41,18 @@ choice_of net returns tokens (suc n) k C few h f = elim (let split : (k < length
       let finite = next_finite net C a h.runnable.well_formed plain f in
       let within : (c : Config) → D c → IsWithin net c = λ c i. (next_plain net C a h.runnable.well_formed plain c i).0 in
       let r = settles D finite k (FullFrom net D (word_of (drop (k + 1) tokens)) (suc k)) (λ g.
-      let next = looking_next net (above_bottom returns) tokens k blank C D less (λ c. ((λ i. i), λ i. i)) within (λ p y one. settled_full p y D one g) h in
+      let next = looking_next net (above_bottom returns) tokens k blank C D less (λ c. ((λ i. i), λ i. i)) within
+      (λ p y one. settled_full p y D one g) h in
       let later = choice_of net returns tokens n (k + 1) D (omega (arith, few)) next finite in
       (later.0, subst (λ (m : ℕ). FullFrom net D (word_of (drop (k + 1) tokens)) m later.0) (add-one k) later.1)) in
       (r.0, subst (λ (w : List ℕ). FullFrom net C w k r.0) (sym (left tokens k blank less)) r.1))
 ]
 
 -- on what is left of the tokens full stacks choose from a finite set
-pub choice_from : (net : ParserNetwork) (returns : List ℕ) (tokens : List Token) (k : ℕ) (C : Config → Type 0) (row : List Config) → IsLooking net (above_bottom returns) tokens k C → IsRow row C → (c : Choice) × FullFrom net C (word_of (drop k tokens)) k c
-choice_from net returns tokens k C row looking is = choice_of net returns tokens (length tokens) k C (omega arith) looking (finite_row C row is)
+pub choice_from : (net : ParserNetwork) (returns : List ℕ) (tokens : List Token) (k : ℕ) (C : Config → Type 0) (row : List Config)
+    → IsLooking net (above_bottom returns) tokens k C → IsRow row C → (c : Choice) × FullFrom net C (word_of (drop k tokens)) k c
+choice_from net returns tokens k C row looking is =
+    choice_of net returns tokens (length tokens) k C (omega arith) looking (finite_row C row is)
 
 -- a token of each symbol
 abbrev tokens_of : List ℕ → List Token
@@ -64,7 +69,8 @@ allowed_decided Every i = yes tt
 allowed_decided (Listed list) i = contains_decided list i
 
 -- on a word with END full stacks have a choice
-pub full_choice : (net : ParserNetwork) (d : ℕ) (allowed : Allowed) (returns w : List ℕ) → IsReady net → IsProper net d returns → Contains w end_of_list → (c : Choice) × Full net d (Allows allowed) (above_bottom returns) w c
+pub full_choice : (net : ParserNetwork) (d : ℕ) (allowed : Allowed) (returns w : List ℕ) → IsReady net → IsProper net d returns
+    → Contains w end_of_list → (c : Choice) × Full net d (Allows allowed) (above_bottom returns) w c
 full_choice net d allowed returns w (rule, loop, set, runnable) proper ends =
     let z = above_bottom returns in
     let C : Config → Type 0 = Start net d (Allows allowed) z in
@@ -75,6 +81,7 @@ full_choice net d allowed returns w (rule, loop, set, runnable) proper ends =
     let within : (c : Config) → C c → IsWithin net c = λ c i. (plain c i).0 in
     let apart = stands_apart net rule loop runnable.apart d returns proper in
     let has = subst (λ (v : List ℕ). Contains v end_of_list) (sym (word_of_tokens w)) ends in
-    let looking = looking_start net d (Allows allowed) z (tokens_of w) C (rule, loop, set, runnable, apart) (λ c. ((λ i. i), λ i. i)) within has in
+    let looking = looking_start net d (Allows allowed) z (tokens_of w) C (rule, loop, set, runnable, apart) (λ c. ((λ i. i), λ i. i))
+    within has in
     let r = choice_of net returns (tokens_of w) (length (tokens_of w)) 0 C (omega arith) looking finite in
     (r.0, subst (λ (v : List ℕ). FullFrom net C v 0 r.0) (word_of_tokens w) r.1)

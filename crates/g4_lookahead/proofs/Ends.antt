@@ -27,18 +27,24 @@ abbrev pub ReachesEnd : ParserNetwork → Config → ℕ → Stack → Type 0
 ReachesEnd net b i z = (p : ℕ) × (rule : ℕ) × (state_at net p ≡ Some (End rule)) × Reaches net b (config p i z)
 
 -- what reaches a state at which the rule ends at once reaches its end, with the same stack
-pub reaches_end : (net : ParserNetwork) (b : Config) (i p : ℕ) (z : Stack) → EndsAtOnce net p → Reaches net b (config p i z) → ReachesEnd net b i z
+pub reaches_end : (net : ParserNetwork) (b : Config) (i p : ℕ) (z : Stack) → EndsAtOnce net p → Reaches net b (config p i z)
+    → ReachesEnd net b i z
 reaches_end net b i p z (at_end _ rule is) r = (p, rule, is, r)
 reaches_end net b i p z (along _ t s is edge ends) r =
-    let step : Leads net (config p i z) (config t i z) = subst (λ (o : Option (State (List ℕ))). LeadsBy net o (config p i z) (config t i z)) (sym is) (silent_leads net s t (config p i z) edge) in
+    let step : Leads net (config p i z) (config t i z) =
+    subst (λ (o : Option (State (List ℕ))). LeadsBy net o (config p i z) (config t i z)) (sym is)
+    (silent_leads net s t (config p i z) edge) in
     reaches_end net b i t z ends (further (config p i z) (config t i z) r step)
 
 -- a rule's end pops the first return state
-pub pop : (net : ParserNetwork) (i p rule t : ℕ) (rest : List ℕ) (wild : Bool) → state_at net p ≡ Some (End rule) → Leads net (config p i (marked (t ∷ rest) wild)) (config t i (marked rest wild))
-pop net i p rule t rest wild is = subst (λ (o : Option (State (List ℕ))). LeadsBy net o (config p i (marked (t ∷ rest) wild)) (config t i (marked rest wild))) (sym is) refl
+pub pop : (net : ParserNetwork) (i p rule t : ℕ) (rest : List ℕ) (wild : Bool) → state_at net p ≡ Some (End rule)
+    → Leads net (config p i (marked (t ∷ rest) wild)) (config t i (marked rest wild))
+pop net i p rule t rest wild is = subst (λ (o : Option (State (List ℕ))).
+    LeadsBy net o (config p i (marked (t ∷ rest) wild)) (config t i (marked rest wild))) (sym is) refl
 
 -- so it goes on from the state that is on top
-pub reaches_top : (net : ParserNetwork) (b : Config) (i p t : ℕ) (rest : List ℕ) (wild : Bool) → EndsAtOnce net p → Reaches net b (config p i (marked (t ∷ rest) wild)) → Reaches net b (config t i (marked rest wild))
+pub reaches_top : (net : ParserNetwork) (b : Config) (i p t : ℕ) (rest : List ℕ) (wild : Bool) → EndsAtOnce net p
+    → Reaches net b (config p i (marked (t ∷ rest) wild)) → Reaches net b (config t i (marked rest wild))
 reaches_top net b i p t rest wild ends r =
     let (e, rule, is, there) = reaches_end net b i p (marked (t ∷ rest) wild) ends r in
     further (config e i (marked (t ∷ rest) wild)) (config t i (marked rest wild)) there (pop net i e rule t rest wild is)

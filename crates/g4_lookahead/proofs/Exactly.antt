@@ -43,7 +43,11 @@ among targets k t is = (k, slice_get_within targets k t is, get_or_from_slice_ge
 -- where it goes on, an edge leads that reads nothing and opens no rule
 pub is_silent : (o : Option (State (List ℕ))) (t : ℕ) → way_by o ≡ To t → (s : State (List ℕ)) × (o ≡ Some s) × IsSilent s t
 is_silent None t e = absurd (let no : ⊥ = cc in no)
-is_silent (Some (Decision targets)) t e = (Decision targets, refl, among targets (length targets - 1) t (target_is (slice_get targets (length targets - 1)) t e))
+is_silent (Some (Decision targets)) t e = (
+  Decision targets,
+  refl,
+  among targets (length targets - 1) t (target_is (slice_get targets (length targets - 1)) t e),
+)
 is_silent (Some (End rule)) t e = absurd (let no : ⊥ = cc in no)
 is_silent (Some (Edge set u)) t e = absurd (let no : ⊥ = cc in no)
 is_silent (Some (Call rule level back)) t e = absurd (let no : ⊥ = cc in no)
@@ -83,16 +87,19 @@ pub one_less : (k : ℕ) → k < 64 → 64 - k ≡ suc (64 - (k + 1))
 one_less k less = omega (arith, less)
 
 -- a way that goes on comes to an end within what is left, where it does from the next state within one less
-pub next_within : (net : ParserNetwork) (k p t q : ℕ) → k < 64 → way_by (state_at net p) ≡ To t → (EndsWithin net (64 - k) p ↔ EndsWithin net 64 q) → EndsWithin net (64 - (k + 1)) t ↔ EndsWithin net 64 q
+pub next_within : (net : ParserNetwork) (k p t q : ℕ) → k < 64 → way_by (state_at net p) ≡ To t
+    → (EndsWithin net (64 - k) p ↔ EndsWithin net 64 q) → EndsWithin net (64 - (k + 1)) t ↔ EndsWithin net 64 q
 next_within net k p t q less e before = (
   (λ more. before.0 (subst (λ (n : ℕ). EndsWithin net n p) (sym (one_less k less)) (onward (64 - (k + 1)) p t e more))),
   (λ from. goes_on net (64 - (k + 1)) p t e (subst (λ (n : ℕ). EndsWithin net n p) (one_less k less) (before.1 from))),
 )
 
 -- where the way ends, it comes to an end within what is left
-pub ended_within : (net : ParserNetwork) (k p q : ℕ) → k < 64 → way_by (state_at net p) ≡ Ended → (EndsWithin net (64 - k) p ↔ EndsWithin net 64 q) → EndsWithin net 64 q
+pub ended_within : (net : ParserNetwork) (k p q : ℕ) → k < 64 → way_by (state_at net p) ≡ Ended
+    → (EndsWithin net (64 - k) p ↔ EndsWithin net 64 q) → EndsWithin net 64 q
 ended_within net k p q less e before = before.0 (subst (λ (n : ℕ). EndsWithin net n p) (sym (one_less k less)) (ended (64 - (k + 1)) p e))
 
 -- where nothing is left, it comes to none
 pub none_left : (net : ParserNetwork) (k p : ℕ) → 64 ≤ k → EndsWithin net (64 - k) p → ⊥
-none_left net k p all within = none_within net p (subst (λ (n : ℕ). EndsWithin net n p) (let none : 64 - k ≡ 0 = omega (arith, all) in none) within)
+none_left net k p all within = none_within net p
+    (subst (λ (n : ℕ). EndsWithin net n p) (let none : 64 - k ≡ 0 = omega (arith, all) in none) within)

@@ -14,10 +14,27 @@ least_of : (c : Config) (cs : List Config) → (d : Config) × In d (c ∷ cs) �
 least_of c [] = (c, inl refl, λ x i. elim i [ inl is ↦ (let e = ap (λ (y : Config). y.alt) is in omega (arith, e)) | inr j ↦ absurd j ])
 least_of c (d ∷ ds) = by (least_of d ds)
   where
-    by : (e : Config) × In e (d ∷ ds) × ((x : Config) → In x (d ∷ ds) → e.alt ≤ x.alt) → (e : Config) × In e (c ∷ d ∷ ds) × ((x : Config) → In x (c ∷ d ∷ ds) → e.alt ≤ x.alt)
+    by : (e : Config) × In e (d ∷ ds) × ((x : Config) → In x (d ∷ ds) → e.alt ≤ x.alt)
+        → (e : Config) × In e (c ∷ d ∷ ds) × ((x : Config) → In x (c ∷ d ∷ ds) → e.alt ≤ x.alt)
     by (e, i, least) = elim (let split : (e.alt ≤ c.alt) ⊎ (c.alt ≤ e.alt) = grind arith in split) [
-      | inl low ↦ (e, inr i, λ x j. elim j [ inl is ↦ (let s = ap (λ (y : Config). y.alt) is in omega (arith, low, s)) | inr k ↦ least x k ])
-      | inr high ↦ (c, inl refl, λ x j. elim j [ inl is ↦ (let s = ap (λ (y : Config). y.alt) is in omega (arith, s)) | inr k ↦ (let less = least x k in omega (arith, less, high)) ])
+      | inl low ↦ (
+        e,
+        inr i,
+        λ x j. elim j [
+          | inl is ↦ (let s = ap (λ (y : Config). y.alt) is in omega (arith, low, s))
+          | inr k ↦ least
+              x k
+        ],
+      )
+      | inr high ↦ (
+        c,
+        inl refl,
+        λ x j. elim j [
+          | inl is ↦ (let s = ap (λ (y : Config). y.alt) is in omega (arith, s))
+          | inr k ↦
+              (let less = least x k in omega (arith, less, high))
+        ],
+      )
     ]
 
 module _ (D : Config → Type 0) (f : IsFinite D) where
@@ -39,15 +56,18 @@ module _ (D : Config → Type 0) (f : IsFinite D) where
   subset_decided : (p i j : ℕ) → Dec ((s : Stack) → D (config p i s) → D (config p j s))
   subset_decided p i j = by (all_or_one f.members (Follows p i j) (follows_decided p i j))
     where
-      by : ((x : Config) → In x f.members → Follows p i j x) ⊎ ((x : Config) × In x f.members × (Follows p i j x → ⊥)) → Dec ((s : Stack) → D (config p i s) → D (config p j s))
+      by : ((x : Config) → In x f.members → Follows p i j x) ⊎ ((x : Config) × In x f.members × (Follows p i j x → ⊥))
+          → Dec ((s : Stack) → D (config p i s) → D (config p j s))
       by (inl all) = yes (λ s h. all (config p i s) (f.complete (config p i s) h) (refl, refl))
-      by (inr (x, i', fails)) = no (λ g. fails (λ is. g x.stack (subst D (ap (λ (q : ℕ). config q x.alt x.stack) is.0 ∙ ap (λ (a : ℕ). config p a x.stack) is.1) (f.sound x i'))))
+      by (inr (x, i', fails)) = no (λ g. fails (λ is.
+          g x.stack (subst D (ap (λ (q : ℕ). config q x.alt x.stack) is.0 ∙ ap (λ (a : ℕ). config p a x.stack) is.1) (f.sound x i'))))
 
   -- and that both have the same
   stacks_decided : (p i j : ℕ) → Dec (HaveSameStacks D p i j)
   stacks_decided p i j = by (subset_decided p i j) (subset_decided p j i)
     where
-      by : Dec ((s : Stack) → D (config p i s) → D (config p j s)) → Dec ((s : Stack) → D (config p j s) → D (config p i s)) → Dec (HaveSameStacks D p i j)
+      by : Dec ((s : Stack) → D (config p i s) → D (config p j s)) → Dec ((s : Stack) → D (config p j s) → D (config p i s))
+          → Dec (HaveSameStacks D p i j)
       by (yes g) (yes h) = yes (λ s. (g s, h s))
       by (no n) m = no (λ h. n (λ s x. (h s).0 x))
       by (yes g) (no n) = no (λ h. n (λ s x. (h s).1 x))
@@ -91,7 +111,8 @@ module _ (D : Config → Type 0) (f : IsFinite D) where
   least_or_none : IsEmpty D ⊎ ((c : Config) × D c × ((x : Config) → D x → c.alt ≤ x.alt))
   least_or_none = by f.members f.sound f.complete
     where
-      by : (xs : List Config) → ((c : Config) → In c xs → D c) → ((c : Config) → D c → In c xs) → IsEmpty D ⊎ ((c : Config) × D c × ((x : Config) → D x → c.alt ≤ x.alt))
+      by : (xs : List Config) → ((c : Config) → In c xs → D c) → ((c : Config) → D c → In c xs)
+          → IsEmpty D ⊎ ((c : Config) × D c × ((x : Config) → D x → c.alt ≤ x.alt))
       by [] sound complete = inl complete
       by (c ∷ cs) sound complete = let l = least_of c cs in inr (l.0, sound l.0 l.1, λ x h. l.2 x (complete x h))
 
@@ -102,14 +123,22 @@ module _ (D : Config → Type 0) (f : IsFinite D) where
     | inr (c, in_c, least) ↦ one_or_more c in_c least (all_or_one f.members (λ d. d.alt ≡ c.alt) (λ d. ℕ_discrete d.alt c.alt))
   ]
     where
-      alike_or_not : (c d : Config) → D c → ((x : Config) → D x → c.alt ≤ x.alt) → D d → d.alt ≢ c.alt → Dec (Alike D) → (c : Choice) × Settles D k Later c
-      alike_or_not c d in_c least in_d differ (yes alike) = (chosen c.alt, prediction.least c.alt alike (record { some = (c, in_c, refl); least = least }))
+      alike_or_not : (c d : Config) → D c → ((x : Config) → D x → c.alt ≤ x.alt) → D d → d.alt ≢ c.alt → Dec (Alike D)
+          → (c : Choice) × Settles D k Later c
+      alike_or_not c d in_c least in_d differ (yes alike) =
+          (chosen c.alt, prediction.least c.alt alike (record { some = (c, in_c, refl); least = least }))
       alike_or_not c d in_c least in_d differ (no unlike) =
           let some : IsEmpty D → ⊥ = λ e. e c in_c in
           let several : (i : ℕ) → IsOnly D i → ⊥ = λ i o. differ (o.all d in_d ∙ sym (o.all c in_c)) in
           let r = later (record { some = some; several = several; unlike = unlike }) in
           (r.0, prediction.goes_on r.0 some several unlike r.1)
 
-      one_or_more : (c : Config) → D c → ((x : Config) → D x → c.alt ≤ x.alt) → ((d : Config) → In d f.members → d.alt ≡ c.alt) ⊎ ((d : Config) × In d f.members × (d.alt ≡ c.alt → ⊥)) → (c : Choice) × Settles D k Later c
-      one_or_more c in_c least (inl all) = (chosen c.alt, prediction.one_left c.alt (record { some = (c, in_c); all = λ d h. all d (f.complete d h) }))
-      one_or_more c in_c least (inr (d, i, differ)) = alike_or_not c d in_c least (f.sound d i) differ (alike_decided c d in_c (f.sound d i) (λ e. differ (sym e)))
+      one_or_more : (c : Config) → D c → ((x : Config) → D x → c.alt ≤ x.alt)
+          → ((d : Config) → In d f.members → d.alt ≡ c.alt) ⊎ ((d : Config) × In d f.members × (d.alt ≡ c.alt → ⊥))
+          → (c : Choice) × Settles D k Later c
+      one_or_more c in_c least (inl all) = (
+        chosen c.alt,
+        prediction.one_left c.alt (record { some = (c, in_c); all = λ d h. all d (f.complete d h) }),
+      )
+      one_or_more c in_c least (inr (d, i, differ)) =
+          alike_or_not c d in_c least (f.sound d i) differ (alike_decided c d in_c (f.sound d i) (λ e. differ (sym e)))

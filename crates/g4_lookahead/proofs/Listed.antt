@@ -57,12 +57,17 @@ pub finite_both : (C D : Config → Type 0) → IsFinite C → IsFinite D → Is
 finite_both C D f g = record {
   members = f.members ++ g.members;
   sound = λ c i. elim (In-either c f.members g.members i) [ inl j ↦ inl (f.sound c j) | inr j ↦ inr (g.sound c j) ];
-  complete = λ c h. elim h [ inl x ↦ In-left c f.members g.members (f.complete c x) | inr y ↦ In-right c f.members g.members (g.complete c y) ];
+  complete = λ c h. elim h [
+    | inl x ↦ In-left c f.members g.members (f.complete c x)
+    | inr y ↦ In-right c f.members g.members
+        (g.complete c y)
+  ];
 }
 
 module _ {X : Type 0} where
   -- so are finite sets, one for each of a list
-  pub finite_some : (xs : List X) (Q : X → Config → Type 0) → ((x : X) → In x xs → IsFinite (Q x)) → IsFinite (λ c. (x : X) × In x xs × Q x c)
+  pub finite_some : (xs : List X) (Q : X → Config → Type 0) → ((x : X) → In x xs → IsFinite (Q x))
+      → IsFinite (λ c. (x : X) × In x xs × Q x c)
   finite_some [] Q f = finite_none (λ c. (x : X) × In x [] × Q x c) (λ c h. h.1)
   finite_some (x ∷ xs) Q f =
       finite_same (λ c. Q x c ⊎ ((y : X) × In y xs × Q y c)) (λ c. (y : X) × In y (x ∷ xs) × Q y c)
@@ -71,7 +76,8 @@ module _ {X : Type 0} where
       (finite_both (Q x) (λ c. (y : X) × In y xs × Q y c) (f x (inl refl)) (finite_some xs Q (λ y i. f y (inr i))))
 
 -- so are finite sets, one for each of a finite set
-pub finite_each : (C : Config → Type 0) (Q : Config → Config → Type 0) → IsFinite C → ((c : Config) → C c → IsFinite (Q c)) → IsFinite (λ d. (c : Config) × C c × Q c d)
+pub finite_each : (C : Config → Type 0) (Q : Config → Config → Type 0) → IsFinite C → ((c : Config) → C c → IsFinite (Q c))
+    → IsFinite (λ d. (c : Config) × C c × Q c d)
 finite_each C Q f g =
     finite_same (λ d. (c : Config) × In c f.members × Q c d) (λ d. (c : Config) × C c × Q c d)
     (λ d (c, i, q). (c, f.sound c i, q))
@@ -96,7 +102,8 @@ module _ {X : Type 0} where
   all_or_one [] P decided = inl (λ x i. absurd i)
   all_or_one (x ∷ xs) P decided = by (decided x) (all_or_one xs P decided)
     where
-      by : Dec (P x) → ((y : X) → In y xs → P y) ⊎ ((y : X) × In y xs × (P y → ⊥)) → ((y : X) → In y (x ∷ xs) → P y) ⊎ ((y : X) × In y (x ∷ xs) × (P y → ⊥))
+      by : Dec (P x) → ((y : X) → In y xs → P y) ⊎ ((y : X) × In y xs × (P y → ⊥))
+          → ((y : X) → In y (x ∷ xs) → P y) ⊎ ((y : X) × In y (x ∷ xs) × (P y → ⊥))
       by (no n) more = inr (x, inl refl, n)
       by (yes p) (inr r) = inr (r.0, inr r.1, r.2)
       by (yes p) (inl all) = inl (λ y i. elim i [ inl is ↦ subst P (sym is) p | inr j ↦ all y j ])
@@ -141,14 +148,17 @@ marks_decided false true = no (λ e. true≢false (sym e))
 -- configurations with equal parts are equal
 by_parts : (c d : Config) → c.state ≡ d.state → c.alt ≡ d.alt → c.stack.returns ≡ d.stack.returns → c.stack.wild ≡ d.stack.wild → c ≡ d
 by_parts c d p i rs w =
-    let stack : c.stack ≡ d.stack = ap (λ (r : List ℕ). record { returns = r; wild = c.stack.wild }) rs ∙ ap (λ (m : Bool). record { returns = d.stack.returns; wild = m }) w in
+    let stack : c.stack ≡ d.stack = ap (λ (r : List ℕ). record { returns = r; wild = c.stack.wild }) rs
+    ∙ ap (λ (m : Bool). record { returns = d.stack.returns; wild = m }) w in
     ap (λ (q : ℕ). config q c.alt c.stack) p ∙ ap (λ (a : ℕ). config d.state a c.stack) i ∙ ap (λ (z : Stack). config d.state d.alt z) stack
 
 -- whether configurations are equal can be decided
 same_decided : (c d : Config) → Dec (c ≡ d)
-same_decided c d = by (ℕ_discrete c.state d.state) (ℕ_discrete c.alt d.alt) (numbers_decided c.stack.returns d.stack.returns) (marks_decided c.stack.wild d.stack.wild)
+same_decided c d = by (ℕ_discrete c.state d.state) (ℕ_discrete c.alt d.alt) (numbers_decided c.stack.returns d.stack.returns)
+    (marks_decided c.stack.wild d.stack.wild)
   where
-    by : Dec (c.state ≡ d.state) → Dec (c.alt ≡ d.alt) → Dec (c.stack.returns ≡ d.stack.returns) → Dec (c.stack.wild ≡ d.stack.wild) → Dec (c ≡ d)
+    by : Dec (c.state ≡ d.state) → Dec (c.alt ≡ d.alt) → Dec (c.stack.returns ≡ d.stack.returns) → Dec (c.stack.wild ≡ d.stack.wild)
+        → Dec (c ≡ d)
     by (yes p) (yes i) (yes rs) (yes w) = yes (by_parts c d p i rs w)
     by (no n) i rs w = no (λ e. n (ap (λ (x : Config). x.state) e))
     by (yes p) (no n) rs w = no (λ e. n (ap (λ (x : Config). x.alt) e))

@@ -13,8 +13,10 @@ use Rattle.g4_lookahead.proofs.Apart.{StandsApart, Stands, stands_start, stands_
 use Rattle.g4_lookahead.proofs.Judging.{AreSame}
 
 -- what is left of a word is a symbol and what is left after it
-pub left : (tokens : List Token) (k : ℕ) (t : Token) → k < length tokens → word_of (drop k tokens) ≡ (get_or tokens k t).symbol ∷ word_of (drop (k + 1) tokens)
-left tokens k t less = ap (λ (xs : List Token). word_of xs) (let e : drop k tokens ≡ get_or tokens k t ∷ drop (k + 1) tokens = rw (add-one, drop-cons tokens k t) in e)
+pub left : (tokens : List Token) (k : ℕ) (t : Token) → k < length tokens
+    → word_of (drop k tokens) ≡ (get_or tokens k t).symbol ∷ word_of (drop (k + 1) tokens)
+left tokens k t less = ap (λ (xs : List Token). word_of xs)
+    (let e : drop k tokens ≡ get_or tokens k t ∷ drop (k + 1) tokens = rw (add-one, drop-cons tokens k t) in e)
 
 -- END is the symbol or after it
 head_or_tail : (a : ℕ) (w : List ℕ) → Contains (a ∷ w) end_of_list → (a ≡ end_of_list) ⊎ Contains w end_of_list
@@ -35,7 +37,10 @@ pub record IsLooking (net : ParserNetwork) (z : Stack) (tokens : List Token) (k 
   pub ahead : Contains (word_of (drop k tokens)) end_of_list
 
 -- it holds of the start set
-pub looking_start : (net : ParserNetwork) (d : ℕ) (A : ℕ → Type 0) (z : Stack) (tokens : List Token) (C : Config → Type 0) → (rule : ℕ) × (loop : ℕ) × (set : List ℕ) × IsRunnable net rule loop set × StandsApart loop d z.returns → AreSame C (Start net d A z) → ((c : Config) → C c → IsWithin net c) → Contains (word_of tokens) end_of_list → IsLooking net z tokens 0 C
+pub looking_start : (net : ParserNetwork) (d : ℕ) (A : ℕ → Type 0) (z : Stack) (tokens : List Token) (C : Config → Type 0)
+    → (rule : ℕ) × (loop : ℕ) × (set : List ℕ) × IsRunnable net rule loop set × StandsApart loop d z.returns
+    → AreSame C (Start net d A z) → ((c : Config) → C c → IsWithin net c) → Contains (word_of tokens) end_of_list
+    → IsLooking net z tokens 0 C
 looking_start net d A z tokens C (rule, loop, set, runnable, apart) has within ends = record {
   rule = rule;
   loop = loop;
@@ -47,7 +52,10 @@ looking_start net d A z tokens C (rule, loop, set, runnable, apart) has within e
 }
 
 -- the next set, should it go on
-pub looking_next : (net : ParserNetwork) (z : Stack) (tokens : List Token) (k : ℕ) (t : Token) (C D : Config → Type 0) → k < length tokens → AreSame D (Next net C (get_or tokens k t).symbol) → ((c : Config) → D c → IsWithin net c) → ((p : ℕ) (y : Stack) → ((c : Config) → D c → (c.state ≡ p) × (c.stack ≡ y)) → ⊥) → IsLooking net z tokens k C → IsLooking net z tokens (k + 1) D
+pub looking_next : (net : ParserNetwork) (z : Stack) (tokens : List Token) (k : ℕ) (t : Token) (C D : Config → Type 0)
+    → k < length tokens → AreSame D (Next net C (get_or tokens k t).symbol) → ((c : Config) → D c → IsWithin net c)
+    → ((p : ℕ) (y : Stack) → ((c : Config) → D c → (c.state ≡ p) × (c.stack ≡ y)) → ⊥) → IsLooking net z tokens k C
+    → IsLooking net z tokens (k + 1) D
 looking_next net z tokens k t C D less has within spread h = record {
   rule = h.rule;
   loop = h.loop;
@@ -55,10 +63,11 @@ looking_next net z tokens k t C D less has within spread h = record {
   runnable = h.runnable;
   stands = stands_same h.loop z (Next net C a) D has (stands_next net h.rule h.loop a z.wild C h.runnable.apart h.stands);
   within = within;
-  ahead = elim (head_or_tail a (word_of (drop (k + 1) tokens)) (subst (λ (w : List ℕ). Contains w end_of_list) (left tokens k t less) h.ahead)) [
-    | inl is ↦ absurd (at_end is)
-    | inr more ↦ more
-  ];
+  ahead = elim (head_or_tail a (word_of (drop (k + 1) tokens))
+      (subst (λ (w : List ℕ). Contains w end_of_list) (left tokens k t less) h.ahead)) [
+        | inl is ↦ absurd (at_end is)
+        | inr more ↦ more
+      ];
 }
   where
     a : ℕ
@@ -67,10 +76,12 @@ looking_next net z tokens k t C D less has within spread h = record {
     at_end : a ≡ end_of_list → ⊥
     at_end is =
         let has' : AreSame D (Next net C end_of_list) = subst (λ (b : ℕ). AreSame D (Next net C b)) is has in
-        spread 1 (record { returns = []; wild = z.wild }) (λ c i. last net h.rule h.loop z.wild C h.runnable.apart h.stands c ((has' c).0 i))
+        spread 1 (record { returns = []; wild = z.wild })
+        (λ c i. last net h.rule h.loop z.wild C h.runnable.apart h.stands c ((has' c).0 i))
 
 -- the tokens do not run out
-pub not_past : (net : ParserNetwork) (z : Stack) (tokens : List Token) (k : ℕ) (C : Config → Type 0) → length tokens ≤ k → IsLooking net z tokens k C → ⊥
+pub not_past : (net : ParserNetwork) (z : Stack) (tokens : List Token) (k : ℕ) (C : Config → Type 0) → length tokens ≤ k
+    → IsLooking net z tokens k C → ⊥
 not_past net z tokens k C past h =
     let none : drop k tokens ≡ [] = drop_all k tokens past in
     let no : Contains [] end_of_list = subst (λ (ts : List Token). Contains (word_of ts) end_of_list) none h.ahead in

@@ -20,7 +20,8 @@ abbrev pub IsPlain : ParserNetwork → Config → Type 0
 IsPlain net c = IsWithin net c × (c.stack.wild ≡ false)
 
 -- where the end of a rule leads, above the bottom
-returns_finite : (net : ParserNetwork) (rule : ℕ) (c : Config) (returns : List ℕ) (wild : Bool) → wild ≡ false → IsFinite (Returns net rule c returns wild)
+returns_finite : (net : ParserNetwork) (rule : ℕ) (c : Config) (returns : List ℕ) (wild : Bool) → wild ≡ false
+    → IsFinite (Returns net rule c returns wild)
 returns_finite net rule c (t ∷ rest) wild w = finite_one (at_with c t rest)
 returns_finite net rule c [] true w = absurd (true≢false w)
 returns_finite net rule c [] false w = finite_none (λ d. ⊥) (λ d h. h)
@@ -46,13 +47,15 @@ abbrev numberless : Config → Config
 numberless c = record c { alt = 0 }
 
 -- it leads on in the same way
-numberless_returns : (net : ParserNetwork) (rule : ℕ) (c d : Config) (returns : List ℕ) (wild : Bool) → Returns net rule c returns wild d → Returns net rule (numberless c) returns wild (numberless d)
+numberless_returns : (net : ParserNetwork) (rule : ℕ) (c d : Config) (returns : List ℕ) (wild : Bool)
+    → Returns net rule c returns wild d → Returns net rule (numberless c) returns wild (numberless d)
 numberless_returns net rule c d (t ∷ rest) wild l = ap numberless l
 numberless_returns net rule c d [] true l = (l.0, l.1, ap numberless l.2)
 numberless_returns net rule c d [] false l = absurd l
 
 -- so it does in each step
-numberless_leads : (net : ParserNetwork) (o : Option (State (List ℕ))) (c d : Config) → LeadsBy net o c d → LeadsBy net o (numberless c) (numberless d)
+numberless_leads : (net : ParserNetwork) (o : Option (State (List ℕ))) (c d : Config) → LeadsBy net o c d
+    → LeadsBy net o (numberless c) (numberless d)
 numberless_leads net None c d l = absurd l
 numberless_leads net (Some (Decision targets)) c d l = (l.0, l.1, ap numberless l.2)
 numberless_leads net (Some (End rule)) c d l = numberless_returns net rule c d c.stack.returns c.stack.wild l
@@ -78,7 +81,8 @@ module _ (net : ParserNetwork) where
   ]
 
   -- a configuration that is reached is short, with alternative 0
-  reached_short : (b c : Config) → WellFormed net → IsPlain net b → Reaches net b c → IsShort net (length net.states + length b.stack.returns) (numberless c)
+  reached_short : (b c : Config) → WellFormed net → IsPlain net b → Reaches net b c
+      → IsShort net (length net.states + length b.stack.returns) (numberless c)
   reached_short b c well plain r = record {
     within = reached_within net b c well plain.0 r;
     first = refl;
@@ -92,20 +96,24 @@ module _ (net : ParserNetwork) where
       finite_same (λ d. (d ≡ c) ⊎ ((e : Config) × Leads net c e × Reaches net e d)) (Reaches net c)
       (λ d h. elim h [ inl is ↦ subst (Reaches net c) (sym is) here | inr s ↦ step_first c s.0 d s.1 s.2 ])
       (first_step c)
-      (finite_both (λ d. d ≡ c) (λ d. (e : Config) × Leads net c e × Reaches net e d) (finite_one c) (finite_each (Leads net c) (Reaches net) (leads_finite net (state_at net c.state) c w) on))
+      (finite_both (λ d. d ≡ c) (λ d. (e : Config) × Leads net c e × Reaches net e d) (finite_one c)
+      (finite_each (Leads net c) (Reaches net) (leads_finite net (state_at net c.state) c w) on))
 
   -- and so it is, by induction on how far it goes
-  goes_finite : (n : ℕ) (b c : Config) → WellFormed net → IsPlain net b → Reaches net b c → rank net (length net.states + length b.stack.returns) (numberless c) < n → IsFinite (Reaches net c)
+  goes_finite : (n : ℕ) (b c : Config) → WellFormed net → IsPlain net b → Reaches net b c
+      → rank net (length net.states + length b.stack.returns) (numberless c) < n → IsFinite (Reaches net c)
   goes_finite zero b c well plain r less = absurd (omega arith)
   goes_finite (suc n) b c well plain r less =
       one_more c (λ e l.
-      let falls = rank_falls net (length net.states + length b.stack.returns) (numberless c) (numberless e) well (reached_short b c well plain r) (numberless_leads net (state_at net c.state) c e l) in
+      let falls = rank_falls net (length net.states + length b.stack.returns) (numberless c) (numberless e) well
+      (reached_short b c well plain r) (numberless_leads net (state_at net c.state) c e l) in
       goes_finite n b e well plain (further c e r l) (omega (arith, falls, less)))
       (sym (reached_keeps net b c r).1 ∙ plain.1)
 
   -- all that a configuration reaches is a finite set
   reach_finite : (c : Config) → WellFormed net → IsPlain net c → IsFinite (Reaches net c)
-  reach_finite c well plain = goes_finite (suc (rank net (length net.states + length c.stack.returns) (numberless c))) c c well plain here (omega arith)
+  reach_finite c well plain = goes_finite (suc (rank net (length net.states + length c.stack.returns) (numberless c))) c c well plain
+      here (omega arith)
 
   -- whether a configuration is kept can be decided
   kept_decided : (o : Option (State (List ℕ))) → Dec (IsKeptBy o)
@@ -125,7 +133,8 @@ module _ (net : ParserNetwork) where
       finite_same (λ d. (c : Config) × C c × (Reaches net c d × IsKept net d)) (Rest net C)
       (λ d (c, h, (r, k)). (c, h, r, k))
       (λ d (c, h, r, k). (c, h, (r, k)))
-      (finite_each C (λ c d. Reaches net c d × IsKept net d) f (λ c h. finite_those (Reaches net c) (IsKept net) (reach_finite c well (plain c h)) (λ d. kept_decided (state_at net d.state))))
+      (finite_each C (λ c d. Reaches net c d × IsKept net d) f
+      (λ c h. finite_those (Reaches net c) (IsKept net) (reach_finite c well (plain c h)) (λ d. kept_decided (state_at net d.state))))
 
   -- and its configurations are within the network above the bottom, as the set's are
   rest_plain : (C : Config → Type 0) → WellFormed net → ((c : Config) → C c → IsPlain net c) → (d : Config) → Rest net C d → IsPlain net d
@@ -152,9 +161,11 @@ module _ (net : ParserNetwork) where
   takes_finite (Some (Empty t)) c a = finite_none _ (λ d h. h.0)
 
   -- the target of an edge that takes a symbol is within the network
-  took_within : (o : Option (State (List ℕ))) (c d : Config) (a : ℕ) → WellFormed net → state_at net c.state ≡ o → TakesBy o a d.state → d ≡ at c d.state → IsWithin net c → IsWithin net d
+  took_within : (o : Option (State (List ℕ))) (c d : Config) (a : ℕ) → WellFormed net → state_at net c.state ≡ o → TakesBy o a d.state
+      → d ≡ at c d.state → IsWithin net c → IsWithin net d
   took_within None c d a well is t e w = absurd t
-  took_within (Some (Edge set u)) c d a well is t e w = subst (IsWithin net) (sym (e ∙ ap (λ (p : ℕ). at c p) t.1)) (target_within net c set u well is w)
+  took_within (Some (Edge set u)) c d a well is t e w =
+      subst (IsWithin net) (sym (e ∙ ap (λ (p : ℕ). at c p) t.1)) (target_within net c set u well is w)
   took_within (Some (End rule)) c d a well is t e w = absurd t
   took_within (Some (Decision targets)) c d a well is t e w = absurd t
   took_within (Some (Call rule level back)) c d a well is t e w = absurd t
@@ -164,8 +175,10 @@ module _ (net : ParserNetwork) where
   took_within (Some (Empty u)) c d a well is t e w = absurd t
 
   -- the targets of a set are within the network above the bottom
-  targets_plain : (C : Config → Type 0) (a : ℕ) → WellFormed net → ((c : Config) → C c → IsPlain net c) → (d : Config) → Targets net C a d → IsPlain net d
-  targets_plain C a well plain d (c, h, t, is) = (took_within (state_at net c.state) c d a well refl t is (plain c h).0, ap (λ (x : Config). x.stack.wild) is ∙ (plain c h).1)
+  targets_plain : (C : Config → Type 0) (a : ℕ) → WellFormed net → ((c : Config) → C c → IsPlain net c) → (d : Config)
+      → Targets net C a d → IsPlain net d
+  targets_plain C a well plain d (c, h, t, is) =
+      (took_within (state_at net c.state) c d a well refl t is (plain c h).0, ap (λ (x : Config). x.stack.wild) is ∙ (plain c h).1)
 
   -- the targets of a finite set are finite
   targets_finite : (C : Config → Type 0) (a : ℕ) → IsFinite C → IsFinite (Targets net C a)
@@ -173,18 +186,22 @@ module _ (net : ParserNetwork) where
       finite_same (λ d. (c : Config) × C c × (TakesBy (state_at net c.state) a d.state × (d ≡ at c d.state))) (Targets net C a)
       (λ d (c, h, (t, is)). (c, h, t, is))
       (λ d (c, h, t, is). (c, h, (t, is)))
-      (finite_each C (λ c d. TakesBy (state_at net c.state) a d.state × (d ≡ at c d.state)) f (λ c h. takes_finite (state_at net c.state) c a))
+      (finite_each C (λ c d. TakesBy (state_at net c.state) a d.state × (d ≡ at c d.state)) f
+      (λ c h. takes_finite (state_at net c.state) c a))
 
   -- the set after a finite set is finite
-  pub next_finite : (C : Config → Type 0) (a : ℕ) → WellFormed net → ((c : Config) → C c → IsPlain net c) → IsFinite C → IsFinite (Next net C a)
+  pub next_finite : (C : Config → Type 0) (a : ℕ) → WellFormed net → ((c : Config) → C c → IsPlain net c) → IsFinite C
+      → IsFinite (Next net C a)
   next_finite C a well plain f = rest_finite (Targets net C a) well (targets_plain C a well plain) (targets_finite C a f)
 
   -- and within the network above the bottom
-  pub next_plain : (C : Config → Type 0) (a : ℕ) → WellFormed net → ((c : Config) → C c → IsPlain net c) → (d : Config) → Next net C a d → IsPlain net d
+  pub next_plain : (C : Config → Type 0) (a : ℕ) → WellFormed net → ((c : Config) → C c → IsPlain net c) → (d : Config)
+      → Next net C a d → IsPlain net d
   next_plain C a well plain = rest_plain (Targets net C a) well (targets_plain C a well plain)
 
 -- a state is a decision, or none
-decision_or_not : (o : Option (State (List ℕ))) → ((targets : List ℕ) × (o ≡ Some (Decision targets))) ⊎ ((targets : List ℕ) → o ≡ Some (Decision targets) → ⊥)
+decision_or_not : (o : Option (State (List ℕ)))
+    → ((targets : List ℕ) × (o ≡ Some (Decision targets))) ⊎ ((targets : List ℕ) → o ≡ Some (Decision targets) → ⊥)
 decision_or_not (Some (Decision targets)) = inl (targets, refl)
 decision_or_not None = inr (λ ts e. let clash : ⊥ = cc in clash)
 decision_or_not (Some (End rule)) = inr (λ ts e. let clash : ⊥ = cc in clash)
@@ -210,14 +227,16 @@ module _ (net : ParserNetwork) (d : ℕ) (A : ℕ → Type 0) (decided : (i : �
       by (yes a) None e = finite_none (IsFirstAt targets k) (λ c h. let e' = h.1 in let clash : ⊥ = cc in clash)
       by (yes a) (Some t) e =
           finite_same (λ c. c ≡ config t (k + 1) z) (IsFirstAt targets k)
-          (λ c is. let same = ap (λ (x : Config). x.state) is in (a, e ∙ ap (λ (p : ℕ). Some p) (sym same), is ∙ ap (λ (p : ℕ). config p (k + 1) z) (sym same)))
+          (λ c is. let same = ap (λ (x : Config). x.state) is in
+          (a, e ∙ ap (λ (p : ℕ). Some p) (sym same), is ∙ ap (λ (p : ℕ). config p (k + 1) z) (sym same)))
           (λ c h. let e' = h.1 in let same : c.state ≡ t = cc in h.2 ∙ ap (λ (p : ℕ). config p (k + 1) z) same)
           (finite_one (config t (k + 1) z))
 
   -- the first states of the allowed alternatives of a decision are finite
   firsts_of : (targets : List ℕ) → state_at net d ≡ Some (Decision targets) → IsFinite (Firsts net d A z)
   unfolding IsFirstAt
-  firsts_of targets is = finite_same (λ c. (k : ℕ) × In k (below (length targets)) × IsFirstAt targets k c) (Firsts net d A z) to from (finite_some (below (length targets)) (IsFirstAt targets) (λ k i. first_finite targets k))
+  firsts_of targets is = finite_same (λ c. (k : ℕ) × In k (below (length targets)) × IsFirstAt targets k c) (Firsts net d A z) to from
+      (finite_some (below (length targets)) (IsFirstAt targets) (λ k i. first_finite targets k))
     where
       to : (c : Config) → (k : ℕ) × In k (below (length targets)) × IsFirstAt targets k c → Firsts net d A z c
       to c (k, i, (a, at_place, same)) =
@@ -227,8 +246,11 @@ module _ (net : ParserNetwork) (d : ℕ) (A : ℕ → Type 0) (decided : (i : �
       from : (c : Config) → Firsts net d A z c → (k : ℕ) × In k (below (length targets)) × IsFirstAt targets k c
       from c (a, (ts, k, is', at_place, alt), stack) =
           let same : ts ≡ targets = cc in
-          let at_own : slice_get targets k ≡ Some c.state = subst (λ (xs : List ℕ). slice_get xs k ≡ Some c.state) same at_place in
-          (k, In-below (length targets) k (slice_get_within targets k c.state at_own), (subst A alt a, at_own, ap (λ (i : ℕ). config c.state i c.stack) alt ∙ ap (λ (y : Stack). config c.state (k + 1) y) stack))
+          let at_own : slice_get targets k ≡ Some c.state = subst (λ (xs : List ℕ). slice_get xs k ≡ Some c.state) same at_place in (
+            k,
+            In-below (length targets) k (slice_get_within targets k c.state at_own),
+            (subst A alt a, at_own, ap (λ (i : ℕ). config c.state i c.stack) alt ∙ ap (λ (y : Stack). config c.state (k + 1) y) stack),
+          )
 
   -- and where there is no decision there are none
   firsts_finite : IsFinite (Firsts net d A z)
@@ -238,14 +260,21 @@ module _ (net : ParserNetwork) (d : ℕ) (A : ℕ → Type 0) (decided : (i : �
   ]
 
   -- they are within the network above the bottom, as the stack is
-  firsts_plain : WellFormed net → All (λ t. t < length net.states) z.returns → z.wild ≡ false → (c : Config) → Firsts net d A z c → IsPlain net c
-  firsts_plain well all marked c (a, (targets, k, is, at_place, alt), stack) =
-      ((well.targets d c.state (Decision targets) is (taken targets k c.state at_place), subst (λ (y : Stack). All (λ t. t < length net.states) y.returns) (sym stack) all), ap (λ (y : Stack). y.wild) stack ∙ marked)
+  firsts_plain : WellFormed net → All (λ t. t < length net.states) z.returns → z.wild ≡ false → (c : Config) → Firsts net d A z c
+      → IsPlain net c
+  firsts_plain well all marked c (a, (targets, k, is, at_place, alt), stack) = (
+    (
+      well.targets d c.state (Decision targets) is (taken targets k c.state at_place),
+      subst (λ (y : Stack). All (λ t. t < length net.states) y.returns) (sym stack) all,
+    ),
+    ap (λ (y : Stack). y.wild) stack ∙ marked,
+  )
 
   -- the start set is finite
   pub start_finite : WellFormed net → All (λ t. t < length net.states) z.returns → z.wild ≡ false → IsFinite (Start net d A z)
   start_finite well all marked = rest_finite net (Firsts net d A z) well (firsts_plain well all marked) firsts_finite
 
   -- and within the network above the bottom
-  pub start_plain : WellFormed net → All (λ t. t < length net.states) z.returns → z.wild ≡ false → (c : Config) → Start net d A z c → IsPlain net c
+  pub start_plain : WellFormed net → All (λ t. t < length net.states) z.returns → z.wild ≡ false → (c : Config) → Start net d A z c
+      → IsPlain net c
   start_plain well all marked = rest_plain net (Firsts net d A z) well (firsts_plain well all marked)

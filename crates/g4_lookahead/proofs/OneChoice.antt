@@ -19,7 +19,8 @@ some_in : (D : Config → Type 0) → Conflict D → IsEmpty D → ⊥
 some_in D c e = e (config c.0 c.1 c.4.0) c.4.1
 
 -- the cases of a verdict exclude each other
-judges_once : (D : Config → Type 0) (k a : ℕ) (Later : Verdict → List Looked → Type 0) → ((v w : Verdict) (p q : List Looked) → Later v p → Later w q → (v ≡ w) × (p ≡ q)) →
+judges_once : (D : Config → Type 0) (k a : ℕ) (Later : Verdict → List Looked → Type 0)
+    → ((v w : Verdict) (p q : List Looked) → Later v p → Later w q → (v ≡ w) × (p ≡ q)) →
     (v w : Verdict) (p q : List Looked) → Judges D k a Later v p → Judges D k a Later w q → (v ≡ w) × (p ≡ q)
 judges_once D k a Later once v w p q (nothing_left e) (nothing_left f) = (refl, refl)
 judges_once D k a Later once v w p q (nothing_left e) (one_left j g) = absurd (e g.some.0 g.some.1)
@@ -39,11 +40,15 @@ judges_once D k a Later once v w p q (goes_on _ _ _ e n s r l) (nothing_left f) 
 judges_once D k a Later once v w p q (goes_on _ _ _ e n s r l) (one_left j g) = absurd (n j g)
 judges_once D k a Later once v w p q (goes_on _ _ _ e n s r l) (gives_up m c t) = absurd (s c t)
 judges_once D k a Later once v w p q (goes_on v' p' row e n s r l) (goes_on w' q' row' f m t r' l') =
-    let later = once v w p' q' l l' in
-    (later.0, ap (λ (xs : List Config). record { symbol = a; led = led_to xs } ∷ p') (one_row D row row' r r') ∙ ap (λ (xs : List Looked). record { symbol = a; led = led_to row' } ∷ xs) later.1)
+    let later = once v w p' q' l l' in (
+      later.0,
+      ap (λ (xs : List Config). record { symbol = a; led = led_to xs } ∷ p') (one_row D row row' r r')
+          ∙ ap (λ (xs : List Looked). record { symbol = a; led = led_to row' } ∷ xs) later.1,
+    )
 
 -- there is at most one SLL verdict from a set, and one path
-one_verdict : (net : ParserNetwork) (C : Config → Type 0) (word : List ℕ) (k : ℕ) (v w : Verdict) (p q : List Looked) → SllFrom net C word k v p → SllFrom net C word k w q → (v ≡ w) × (p ≡ q)
+one_verdict : (net : ParserNetwork) (C : Config → Type 0) (word : List ℕ) (k : ℕ) (v w : Verdict) (p q : List Looked)
+    → SllFrom net C word k v p → SllFrom net C word k w q → (v ≡ w) × (p ≡ q)
 one_verdict net C [] k v w p q h g = absurd h
 one_verdict net C (a ∷ word) k v w p q h g =
     judges_once (Next net C a) k a (SllFrom net (Next net C a) word (suc k)) (one_verdict net (Next net C a) word (suc k)) v w p q h g
@@ -60,7 +65,8 @@ one_least D i j h g =
     omega (arith, h.some.2, g.some.2)
 
 -- the cases of an answer with full stacks exclude each other
-settles_once : (D : Config → Type 0) (k : ℕ) (Later : Choice → Type 0) → ((b c : Choice) → Later b → Later c → b ≡ c) → (b c : Choice) → Settles D k Later b → Settles D k Later c → b ≡ c
+settles_once : (D : Config → Type 0) (k : ℕ) (Later : Choice → Type 0) → ((b c : Choice) → Later b → Later c → b ≡ c) → (b c : Choice)
+    → Settles D k Later b → Settles D k Later c → b ≡ c
 settles_once D k Later once b c (none_left e) (none_left f) = refl
 settles_once D k Later once b c (none_left e) (one_left j g) = absurd (e g.some.0 g.some.1)
 settles_once D k Later once b c (none_left e) (least j a g) = absurd (e g.some.0 g.some.1)
@@ -79,31 +85,44 @@ settles_once D k Later once b c (goes_on _ e n s l) (least j a g) = absurd (s a)
 settles_once D k Later once b c (goes_on _ e n s l) (goes_on _ f m t r) = once b c l r
 
 -- there is at most one answer with full stacks
-one_full : (net : ParserNetwork) (C : Config → Type 0) (word : List ℕ) (k : ℕ) (b c : Choice) → FullFrom net C word k b → FullFrom net C word k c → b ≡ c
+one_full : (net : ParserNetwork) (C : Config → Type 0) (word : List ℕ) (k : ℕ) (b c : Choice) → FullFrom net C word k b
+    → FullFrom net C word k c → b ≡ c
 one_full net C [] k b c h g = absurd h
-one_full net C (a ∷ word) k b c h g = settles_once (Next net C a) k (FullFrom net (Next net C a) word (suc k)) (one_full net (Next net C a) word (suc k)) b c h g
+one_full net C (a ∷ word) k b c h g = settles_once (Next net C a) k (FullFrom net (Next net C a) word (suc k))
+    (one_full net (Next net C a) word (suc k)) b c h g
 
 -- a decision has at most one SLL verdict, with one path
-pub one_sll : (net : ParserNetwork) (d : ℕ) (A : ℕ → Type 0) (word : List ℕ) (v w : Verdict) (p q : Path) → Sll net d A word v p → Sll net d A word w q → (v ≡ w) × (p ≡ q)
+pub one_sll : (net : ParserNetwork) (d : ℕ) (A : ℕ → Type 0) (word : List ℕ) (v w : Verdict) (p q : Path) → Sll net d A word v p
+    → Sll net d A word w q → (v ≡ w) × (p ≡ q)
 one_sll net d A word v w p q h g =
     let later = one_verdict net (Start net d A wildcard) word 0 v w p.looked q.looked h.1 g.1 in
     let from : p.start ≡ q.start = one_row (Start net d A wildcard) p.start q.start h.0 g.0 in (
       later.0,
-      ap (λ (xs : List Config). record { start = xs; looked = p.looked }) from ∙ ap (λ (xs : List Looked). record { start = q.start; looked = xs }) later.1,
+      ap (λ (xs : List Config). record { start = xs; looked = p.looked }) from
+          ∙ ap (λ (xs : List Looked). record { start = q.start; looked = xs }) later.1,
     )
 
 -- a decision has at most one choice
-pub one_choice : (net : ParserNetwork) (d : ℕ) (A : ℕ → Type 0) (z : Stack) (word : List ℕ) (b c : Choice) → Decides net d A z word b → Decides net d A z word c → b ≡ c
-one_choice net d A z word b c (by_answer i p n s) (by_answer j q m t) = let e : answer i ≡ answer j = (one_sll net d Any word _ _ p q s t).0 in cc
-one_choice net d A z word b c (by_answer i p n s) (by_error k q m t) = let e : answer i ≡ error_at k = (one_sll net d Any word _ _ p q s t).0 in cc
-one_choice net d A z word b c (by_answer i p n s) (by_full k q _ m t f) = let e : answer i ≡ sensitive k = (one_sll net d Any word _ _ p q s t).0 in cc
+pub one_choice : (net : ParserNetwork) (d : ℕ) (A : ℕ → Type 0) (z : Stack) (word : List ℕ) (b c : Choice) → Decides net d A z word b
+    → Decides net d A z word c → b ≡ c
+one_choice net d A z word b c (by_answer i p n s) (by_answer j q m t) = let e : answer i ≡ answer j =
+    (one_sll net d Any word _ _ p q s t).0 in cc
+one_choice net d A z word b c (by_answer i p n s) (by_error k q m t) = let e : answer i ≡ error_at k =
+    (one_sll net d Any word _ _ p q s t).0 in cc
+one_choice net d A z word b c (by_answer i p n s) (by_full k q _ m t f) = let e : answer i ≡ sensitive k =
+    (one_sll net d Any word _ _ p q s t).0 in cc
 one_choice net d A z word b c (by_answer i p n s) (by_tests _ m f) = absurd (n m)
-one_choice net d A z word b c (by_error k p n s) (by_answer j q m t) = let e : error_at k ≡ answer j = (one_sll net d Any word _ _ p q s t).0 in cc
-one_choice net d A z word b c (by_error k p n s) (by_error l q m t) = let e : error_at k ≡ error_at l = (one_sll net d Any word _ _ p q s t).0 in cc
-one_choice net d A z word b c (by_error k p n s) (by_full l q _ m t f) = let e : error_at k ≡ sensitive l = (one_sll net d Any word _ _ p q s t).0 in cc
+one_choice net d A z word b c (by_error k p n s) (by_answer j q m t) = let e : error_at k ≡ answer j =
+    (one_sll net d Any word _ _ p q s t).0 in cc
+one_choice net d A z word b c (by_error k p n s) (by_error l q m t) = let e : error_at k ≡ error_at l =
+    (one_sll net d Any word _ _ p q s t).0 in cc
+one_choice net d A z word b c (by_error k p n s) (by_full l q _ m t f) = let e : error_at k ≡ sensitive l =
+    (one_sll net d Any word _ _ p q s t).0 in cc
 one_choice net d A z word b c (by_error k p n s) (by_tests _ m f) = absurd (n m)
-one_choice net d A z word b c (by_full k p _ n s g) (by_answer j q m t) = let e : sensitive k ≡ answer j = (one_sll net d Any word _ _ p q s t).0 in cc
-one_choice net d A z word b c (by_full k p _ n s g) (by_error l q m t) = let e : sensitive k ≡ error_at l = (one_sll net d Any word _ _ p q s t).0 in cc
+one_choice net d A z word b c (by_full k p _ n s g) (by_answer j q m t) = let e : sensitive k ≡ answer j =
+    (one_sll net d Any word _ _ p q s t).0 in cc
+one_choice net d A z word b c (by_full k p _ n s g) (by_error l q m t) = let e : sensitive k ≡ error_at l =
+    (one_sll net d Any word _ _ p q s t).0 in cc
 one_choice net d A z word b c (by_full k p _ n s g) (by_full l q _ m t f) = one_full net (Start net d Any z) word 0 b c g f
 one_choice net d A z word b c (by_full k p _ n s g) (by_tests _ m f) = absurd (n m)
 one_choice net d A z word b c (by_tests _ n g) (by_answer j q m t) = absurd (m n)

@@ -32,19 +32,20 @@ module _ {looped : List ℕ} (net : ParserNetwork) (rule loop : ℕ) (apart : Is
   pub inside_cases : (p : ℕ) → IsInside loop p → Inside p
   inside_cases p (inl e) = at_call e (ap (λ (q : ℕ). state_at net q) e ∙ apart.added.call)
   inside_cases p (inr (inl e)) = at_last e (ap (λ (q : ℕ). state_at net q) e ∙ apart.added.end)
-  inside_cases p (inr (inr (low, high))) = elim (let split : (p ≡ loop) ⊎ ((p ≡ loop + 1) ⊎ ((p ≡ loop + 2) ⊎ ((p ≡ loop + 3) ⊎ (p ≡ loop + 4)))) = grind arith in split) [
-    | inl e ↦ at_loop e (ap (λ (q : ℕ). state_at net q) e ∙ apart.added.turn_or_leave)
-    | inr f ↦ elim f [
-      | inl e ↦ at_turn e (ap (λ (q : ℕ). state_at net q) e ∙ apart.added.turn)
-      | inr g ↦ elim g [
-        | inl e ↦ after_turn e (ap (λ (q : ℕ). state_at net q) e ∙ apart.added.again)
-        | inr h ↦ elim h [
-          | inl e ↦ at_end e (ap (λ (q : ℕ). state_at net q) e ∙ apart.added.leave)
-          | inr e ↦ after_end e (ap (λ (q : ℕ). state_at net q) e ∙ apart.added.last)
+  inside_cases p (inr (inr (low, high))) = elim
+      (let split : (p ≡ loop) ⊎ ((p ≡ loop + 1) ⊎ ((p ≡ loop + 2) ⊎ ((p ≡ loop + 3) ⊎ (p ≡ loop + 4)))) = grind arith in split) [
+        | inl e ↦ at_loop e (ap (λ (q : ℕ). state_at net q) e ∙ apart.added.turn_or_leave)
+        | inr f ↦ elim f [
+          | inl e ↦ at_turn e (ap (λ (q : ℕ). state_at net q) e ∙ apart.added.turn)
+          | inr g ↦ elim g [
+            | inl e ↦ after_turn e (ap (λ (q : ℕ). state_at net q) e ∙ apart.added.again)
+            | inr h ↦ elim h [
+              | inl e ↦ at_end e (ap (λ (q : ℕ). state_at net q) e ∙ apart.added.leave)
+              | inr e ↦ after_end e (ap (λ (q : ℕ). state_at net q) e ∙ apart.added.last)
+            ]
+          ]
         ]
       ]
-    ]
-  ]
 
   -- the two targets of its loop
   two_targets : (x y t : ℕ) → Contains (x ∷ y ∷ []) t → (t ≡ x) ⊎ (t ≡ y)
@@ -54,15 +55,21 @@ module _ {looped : List ℕ} (net : ParserNetwork) (rule loop : ℕ) (apart : Is
 
   -- the added rule leads to itself
   inside_target : (p t : ℕ) (s : State (List ℕ)) → Inside p → state_at net p ≡ Some s → IsTarget s t → IsInside loop t
-  inside_target p t s (at_call e at) is to = let same : s ≡ Call rule 0 loop = cc in let target : t ≡ loop = subst (λ (x : State (List ℕ)). IsTarget x t) same to in inr (inr (omega arith, omega arith))
+  inside_target p t s (at_call e at) is to = let same : s ≡ Call rule 0 loop = cc in
+      let target : t ≡ loop = subst (λ (x : State (List ℕ)). IsTarget x t) same to in inr (inr (omega arith, omega arith))
   inside_target p t s (at_last e at) is to = let same : s ≡ End 0 = cc in absurd (subst (λ (x : State (List ℕ)). IsTarget x t) same to)
   inside_target p t s (at_loop e at) is to =
       let same : s ≡ Decision ((loop + 1) ∷ (loop + 3) ∷ []) = cc in
-      elim (two_targets (loop + 1) (loop + 3) t (subst (λ (x : State (List ℕ)). IsTarget x t) same to)) [ inl a ↦ inr (inr (omega arith, omega arith)) | inr b ↦ inr (inr (omega arith, omega arith)) ]
-  inside_target p t s (at_turn e at) is to = let same : s ≡ Edge looped (loop + 2) = cc in let target : t ≡ loop + 2 = subst (λ (x : State (List ℕ)). IsTarget x t) same to in inr (inr (omega arith, omega arith))
-  inside_target p t s (after_turn e at) is to = let same : s ≡ Empty loop = cc in let target : t ≡ loop = subst (λ (x : State (List ℕ)). IsTarget x t) same to in inr (inr (omega arith, omega arith))
-  inside_target p t s (at_end e at) is to = let same : s ≡ Edge (end_of_list ∷ []) (loop + 4) = cc in let target : t ≡ loop + 4 = subst (λ (x : State (List ℕ)). IsTarget x t) same to in inr (inr (omega arith, omega arith))
-  inside_target p t s (after_end e at) is to = let same : s ≡ Empty 1 = cc in let target : t ≡ 1 = subst (λ (x : State (List ℕ)). IsTarget x t) same to in inr (inl target)
+      elim (two_targets (loop + 1) (loop + 3) t (subst (λ (x : State (List ℕ)). IsTarget x t) same to))
+      [ inl a ↦ inr (inr (omega arith, omega arith)) | inr b ↦ inr (inr (omega arith, omega arith)) ]
+  inside_target p t s (at_turn e at) is to = let same : s ≡ Edge looped (loop + 2) = cc in
+      let target : t ≡ loop + 2 = subst (λ (x : State (List ℕ)). IsTarget x t) same to in inr (inr (omega arith, omega arith))
+  inside_target p t s (after_turn e at) is to = let same : s ≡ Empty loop = cc in
+      let target : t ≡ loop = subst (λ (x : State (List ℕ)). IsTarget x t) same to in inr (inr (omega arith, omega arith))
+  inside_target p t s (at_end e at) is to = let same : s ≡ Edge (end_of_list ∷ []) (loop + 4) = cc in
+      let target : t ≡ loop + 4 = subst (λ (x : State (List ℕ)). IsTarget x t) same to in inr (inr (omega arith, omega arith))
+  inside_target p t s (after_end e at) is to = let same : s ≡ Empty 1 = cc in
+      let target : t ≡ 1 = subst (λ (x : State (List ℕ)). IsTarget x t) same to in inr (inl target)
 
   -- a state of rule 0 is of the added rule
   of_added : (p : ℕ) → IsOf net 0 p → IsInside loop p
@@ -98,28 +105,38 @@ module _ {looped : List ℕ} (net : ParserNetwork) (rule loop : ℕ) (apart : Is
       record { alone = alone p returns h; apart = are_apart p returns h }
 
 -- the return states of a proper stack are states of the network
-pub proper_within : (net : ParserNetwork) (p : ℕ) (returns : List ℕ) → WellFormed net → IsProper net p returns → All (λ t. t < length net.states) returns
+pub proper_within : (net : ParserNetwork) (p : ℕ) (returns : List ℕ) → WellFormed net → IsProper net p returns
+    → All (λ t. t < length net.states) returns
 proper_within net p _ well (at_bottom _ of) = λ k d less. absurd (omega arith)
-proper_within net p _ well (called r _ t more of (q, level, is) proper) = All-cons (λ t. t < length net.states) t more (well.targets q t (Call r level t) is refl) (proper_within net t more well proper)
+proper_within net p _ well (called r _ t more of (q, level, is) proper) =
+    All-cons (λ t. t < length net.states) t more (well.targets q t (Call r level t) is refl) (proper_within net t more well proper)
 
 -- the same of return states the other way
-pub turned_within : (net : ParserNetwork) (p : ℕ) (returns : List ℕ) → WellFormed net → IsProper net p (reverse returns) → All (λ t. t < length net.states) returns
-turned_within net p returns well proper = subst (All (λ t. t < length net.states)) (reverse-reverse returns) (turned (reverse returns) (proper_within net p (reverse returns) well proper))
+pub turned_within : (net : ParserNetwork) (p : ℕ) (returns : List ℕ) → WellFormed net → IsProper net p (reverse returns)
+    → All (λ t. t < length net.states) returns
+turned_within net p returns well proper = subst (All (λ t. t < length net.states)) (reverse-reverse returns)
+    (turned (reverse returns) (proper_within net p (reverse returns) well proper))
   where
     turned : (xs : List ℕ) → All (λ t. t < length net.states) xs → All (λ t. t < length net.states) (reverse xs)
     turned [] h = h
     turned (x ∷ xs) h =
-        let last : All (λ t. t < length net.states) (x ∷ []) = All-cons (λ t. t < length net.states) x [] (All-head (λ t. t < length net.states) x xs h) (λ k d lt. absurd (omega (arith, lt))) in
-        subst (All (λ t. t < length net.states)) (sym (reverse-append (x ∷ []) xs)) (All-append (λ t. t < length net.states) (reverse xs) (x ∷ []) (turned xs (All-tail (λ t. t < length net.states) x xs h)) last)
+        let last : All (λ t. t < length net.states) (x ∷ []) =
+        All-cons (λ t. t < length net.states) x [] (All-head (λ t. t < length net.states) x xs h)
+        (λ k d lt. absurd (omega (arith, lt))) in
+        subst (All (λ t. t < length net.states)) (sym (reverse-append (x ∷ []) xs))
+        (All-append (λ t. t < length net.states) (reverse xs) (x ∷ []) (turned xs (All-tail (λ t. t < length net.states) x xs h)) last)
 
 -- an edge keeps a proper stack
-pub proper_target : {net : ParserNetwork} (p t : ℕ) (s : State (List ℕ)) (returns : List ℕ) → state_at net p ≡ Some s → IsTarget s t → IsProper net p returns → IsProper net t returns
+pub proper_target : {net : ParserNetwork} (p t : ℕ) (s : State (List ℕ)) (returns : List ℕ) → state_at net p ≡ Some s → IsTarget s t
+    → IsProper net p returns → IsProper net t returns
 proper_target p t s _ is to (at_bottom _ of) = at_bottom t (further p t s of is to)
 proper_target p t s _ is to (called r _ u more of back proper) = called r t u more (further p t s of is to) back proper
 
 -- so does a call, which adds its return state
-pub proper_call : (net : ParserNetwork) (p rule level back : ℕ) (returns : List ℕ) → state_at net p ≡ Some (Call rule level back) → IsProper net p returns → IsProper net (start_of rule) (back ∷ returns)
-proper_call net p rule level back returns is h = called rule (start_of rule) back returns start (p, level, is) (proper_target p back (Call rule level back) returns is refl h)
+pub proper_call : (net : ParserNetwork) (p rule level back : ℕ) (returns : List ℕ) → state_at net p ≡ Some (Call rule level back)
+    → IsProper net p returns → IsProper net (start_of rule) (back ∷ returns)
+proper_call net p rule level back returns is h =
+    called rule (start_of rule) back returns start (p, level, is) (proper_target p back (Call rule level back) returns is refl h)
 
 -- and so does a return
 pub proper_return : (net : ParserNetwork) (p t : ℕ) (more : List ℕ) → IsProper net p (t ∷ more) → IsProper net t more

@@ -17,10 +17,12 @@ made : (p : ℕ) (z : Stack) (c : Config) → (c.state ≡ p) × (c.stack ≡ z)
 made p z c h = ap (λ (q : ℕ). config q c.alt c.stack) h.0 ∙ ap (λ (s : Stack). config p c.alt s) h.1
 
 -- each alternative of such a set has the same stacks at each state
-same_at_one : (p : ℕ) (z : Stack) (D : Config → Type 0) → AtOne p z D → (q : ℕ) (c d : Config) → D d → (s : Stack) → D (config q c.alt s) → D (config q d.alt s)
+same_at_one : (p : ℕ) (z : Stack) (D : Config → Type 0) → AtOne p z D → (q : ℕ) (c d : Config) → D d → (s : Stack)
+    → D (config q c.alt s) → D (config q d.alt s)
 same_at_one p z D one q c d in_d s h =
     let e = one (config q c.alt s) h in
-    let e' : config p d.alt z ≡ config q d.alt s = ap (λ (r : ℕ). config r d.alt z) (sym e.0) ∙ ap (λ (x : Stack). config q d.alt x) (sym e.1) in
+    let e' : config p d.alt z ≡ config q d.alt s =
+    ap (λ (r : ℕ). config r d.alt z) (sym e.0) ∙ ap (λ (x : Stack). config q d.alt x) (sym e.1) in
     subst D (made p z d (one d in_d) ∙ e') in_d
 
 -- two numbers are the same or not
@@ -42,10 +44,18 @@ settled_sll p z D one g = g.some (all_the_same D g.several clash)
     clash : (c d : Config) → D c → D d → c.alt ≢ d.alt → ⊥
     clash c d in_c in_d ne =
         g.clear (record {
-          conflict = (p, c.alt, d.alt, ne, (z, subst D (made p z c (one c in_c)) in_c), λ s. (same_at_one p z D one p c d in_d s, same_at_one p z D one p d c in_c s));
+          conflict = (
+            p,
+            c.alt,
+            d.alt,
+            ne,
+            (z, subst D (made p z c (one c in_c)) in_c),
+            λ s. (same_at_one p z D one p c d in_d s, same_at_one p z D one p d c in_c s),
+          );
           none_lone = λ (q, i, (s, has), alone).
               let e = one (config q i s) has in
-              let of = λ (x : Config) (in_x : D x). alone x.alt x.stack (subst D (ap (λ (r : ℕ). config r x.alt x.stack) ((one x in_x).0 ∙ sym e.0)) in_x) in
+              let of = λ (x : Config) (in_x : D x). alone x.alt x.stack
+              (subst D (ap (λ (r : ℕ). config r x.alt x.stack) ((one x in_x).0 ∙ sym e.0)) in_x) in
               ne (of c in_c ∙ sym (of d in_d));
         })
 
@@ -88,14 +98,17 @@ only_first net d i D h o =
     (first.0, subst (λ (j : ℕ). IsFirst net d j first.0) (o.all o.some.0 o.some.1) first.1)
 
 -- a verdict on such a set says it, if what is said later does
-judge_tells : (net : ParserNetwork) (d k a bound : ℕ) (D : Config → Type 0) (Later : Verdict → List Looked → Type 0) → k < bound → Begins net d D → ((v : Verdict) (more : List Looked) → Later v more → Tells net d bound v) → (v : Verdict) (looked : List Looked) → Judges D k a Later v looked → Tells net d bound v
+judge_tells : (net : ParserNetwork) (d k a bound : ℕ) (D : Config → Type 0) (Later : Verdict → List Looked → Type 0) → k < bound
+    → Begins net d D → ((v : Verdict) (more : List Looked) → Later v more → Tells net d bound v)
+    → (v : Verdict) (looked : List Looked) → Judges D k a Later v looked → Tells net d bound v
 judge_tells net d k a bound D Later less h later _ _ (prediction.nothing_left e) = less
 judge_tells net d k a bound D Later less h later _ _ (prediction.one_left i o) = only_first net d i D h o
 judge_tells net d k a bound D Later less h later _ _ (prediction.gives_up n c l) = less
 judge_tells net d k a bound D Later less h later _ _ (prediction.goes_on v more row e n s has l) = later v more l
 
 -- the alternative that SLL answers is one of the decision's, and an error is within the word
-pub sll_tells : (net : ParserNetwork) (d : ℕ) (C : Config → Type 0) → Begins net d C → (w : List ℕ) (k bound : ℕ) → k + length w ≤ bound → (v : Verdict) (looked : List Looked) → SllFrom net C w k v looked → Tells net d bound v
+pub sll_tells : (net : ParserNetwork) (d : ℕ) (C : Config → Type 0) → Begins net d C → (w : List ℕ) (k bound : ℕ)
+    → k + length w ≤ bound → (v : Verdict) (looked : List Looked) → SllFrom net C w k v looked → Tells net d bound v
 sll_tells net d C h [] k bound less v looked s = absurd s
 sll_tells net d C h (a ∷ w) k bound less v looked s =
     judge_tells net d k a bound (Next net C a) (SllFrom net (Next net C a) w (suc k)) (omega arith) (begins_next net d a C h)
@@ -107,7 +120,8 @@ Shows net d bound (chosen i) = (t : ℕ) × IsFirst net d i t
 Shows net d bound (no_viable k) = k < bound
 
 -- a choice on such a set shows it, if what is said later does
-settles_shows : (net : ParserNetwork) (d k bound : ℕ) (D : Config → Type 0) (Later : Choice → Type 0) → k < bound → Begins net d D → ((c : Choice) → Later c → Shows net d bound c) → (c : Choice) → Settles D k Later c → Shows net d bound c
+settles_shows : (net : ParserNetwork) (d k bound : ℕ) (D : Config → Type 0) (Later : Choice → Type 0) → k < bound → Begins net d D
+    → ((c : Choice) → Later c → Shows net d bound c) → (c : Choice) → Settles D k Later c → Shows net d bound c
 settles_shows net d k bound D Later less h later _ (prediction.none_left e) = less
 settles_shows net d k bound D Later less h later _ (prediction.one_left i o) = only_first net d i D h o
 settles_shows net d k bound D Later less h later _ (prediction.least i alike l) =
@@ -116,7 +130,8 @@ settles_shows net d k bound D Later less h later _ (prediction.least i alike l) 
 settles_shows net d k bound D Later less h later _ (prediction.goes_on c e n s l) = later c l
 
 -- the same of full stacks
-pub full_shows : (net : ParserNetwork) (d : ℕ) (C : Config → Type 0) → Begins net d C → (w : List ℕ) (k bound : ℕ) → k + length w ≤ bound → (c : Choice) → FullFrom net C w k c → Shows net d bound c
+pub full_shows : (net : ParserNetwork) (d : ℕ) (C : Config → Type 0) → Begins net d C → (w : List ℕ) (k bound : ℕ)
+    → k + length w ≤ bound → (c : Choice) → FullFrom net C w k c → Shows net d bound c
 full_shows net d C h [] k bound less c s = absurd s
 full_shows net d C h (a ∷ w) k bound less c s =
     settles_shows net d k bound (Next net C a) (FullFrom net (Next net C a) w (suc k)) (omega arith) (begins_next net d a C h)

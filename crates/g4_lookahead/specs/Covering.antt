@@ -16,7 +16,8 @@ pub record Extends (net : ParserNetwork) (longer shorter : List ℕ) : Type 0 wh
 
 -- the set has the configuration for the alternative too, with the same return states or more of that kind
 abbrev pub HasExtended : ParserNetwork → (Config → Type 0) → ℕ → Config → Type 0
-HasExtended net C i c = (longer : List ℕ) × C (config c.state i (record { returns = longer; wild = c.stack.wild })) × Extends net longer c.stack.returns
+HasExtended net C i c = (longer : List ℕ) × C (config c.state i (record { returns = longer; wild = c.stack.wild }))
+    × Extends net longer c.stack.returns
 
 -- the alternative covers all of the set
 abbrev pub Covers : ParserNetwork → (Config → Type 0) → ℕ → Type 0

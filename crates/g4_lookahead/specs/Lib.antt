@@ -1,3 +1,4 @@
+-- Other crates cite each of these.
 pub mod Covering
 pub mod EndOfList
 pub mod Near

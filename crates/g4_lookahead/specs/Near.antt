@@ -50,4 +50,5 @@ pub record AreNear (net : ParserNetwork) (N : Config → Type 0) (a i j : ℕ) (
 -- end, the return states are near.
 pub record IsNear (net : ParserNetwork) (d : ℕ) (A : ℕ → Type 0) (returns : List ℕ) (a i : ℕ) : Type 0 where
   pub own : (c : Config) → Takers net (Own net d A) a c → (i ≤ c.alt) × Own net d A (config c.state i c.stack)
-  pub leaving : (c : Config) → Firsts net d A (above_bottom []) c → Leaves net c → (i ≤ c.alt) × ((c.alt ≡ i) ⊎ AreNear net (Own net d A) a i c.alt returns)
+  pub leaving : (c : Config) → Firsts net d A (above_bottom []) c → Leaves net c
+      → (i ≤ c.alt) × ((c.alt ≡ i) ⊎ AreNear net (Own net d A) a i c.alt returns)

@@ -16,7 +16,8 @@ pub seen_more : {A : Type 0} (seen : List A) (x : A) → reverse (seen ++ x ∷ 
 seen_more seen x = reverse-append seen (x ∷ [])
 
 -- and what is pushed for it on top
-pub pushed_back : {A : Type 0} (f : A → Entry) (seen : List A) (x : A) (entries new base : List Entry) → new ≡ entries ++ f x ∷ [] → reverse entries ≡ map f (reverse seen) ++ base → reverse new ≡ map f (reverse (seen ++ x ∷ [])) ++ base
+pub pushed_back : {A : Type 0} (f : A → Entry) (seen : List A) (x : A) (entries new base : List Entry) → new ≡ entries ++ f x ∷ []
+    → reverse entries ≡ map f (reverse seen) ++ base → reverse new ≡ map f (reverse (seen ++ x ∷ [])) ++ base
 pushed_back f seen x entries new base is h =
     on_top entries new (f x) is ∙ ap (λ (l : List Entry). f x ∷ l) h ∙ ap (λ l. map f l ++ base) (sym (seen_more seen x))
 
@@ -25,10 +26,13 @@ abbrev pub entry_of : Start → Entry
 entry_of s = record { state = s.state; rule = s.rule; alternative = s.alternative; returns = 0; passed = false }
 
 -- its configuration
-pub start_configs : (lists : List (List ℕ)) (starts : List Start) → IsEmptyFirst lists → configs_of lists (map entry_of starts) ≡ starts_of starts
+pub start_configs : (lists : List (List ℕ)) (starts : List Start) → IsEmptyFirst lists
+    → configs_of lists (map entry_of starts) ≡ starts_of starts
 start_configs lists [] first = refl
 start_configs lists (s ∷ starts) first =
-    ap (λ (r : List ℕ). record { rule = s.rule; alternative = s.alternative; state = s.state; returns = r; passed = false } ∷ configs_of lists (map entry_of starts)) first.1 ∙ ap (λ (l : List LexerConfig). start s.rule s.alternative s.state ∷ l) (start_configs lists starts first)
+    ap (λ (r : List ℕ). record { rule = s.rule; alternative = s.alternative; state = s.state; returns = r; passed = false }
+    ∷ configs_of lists (map entry_of starts)) first.1
+    ∙ ap (λ (l : List LexerConfig). start s.rule s.alternative s.state ∷ l) (start_configs lists starts first)
 
 -- and each is known
 pub starts_known : (lists : List (List ℕ)) (starts : List Start) → IsEmptyFirst lists → AreKnown lists (map entry_of starts)
@@ -37,24 +41,33 @@ starts_known lists (s ∷ starts) first e (inl is) = subst (IsKnown lists) (sym 
 starts_known lists (s ∷ starts) first e (inr i) = starts_known lists starts first e i
 
 -- an entry that reads the character
-read_taken : (net : LexerNetwork) (a : ℕ) (lists : List (List ℕ)) (seen entries new : List Entry) (e : Entry) (t : ℕ) → Takes net a e.state t → new ≡ entries ++ placed e t ∷ [] → ReadAll net a (configs_of lists (reverse seen)) (stacked lists entries)
+read_taken : (net : LexerNetwork) (a : ℕ) (lists : List (List ℕ)) (seen entries new : List Entry) (e : Entry) (t : ℕ)
+    → Takes net a e.state t → new ≡ entries ++ placed e t ∷ [] → ReadAll net a (configs_of lists (reverse seen)) (stacked lists entries)
     → ReadAll net a (configs_of lists (reverse (seen ++ e ∷ []))) (stacked lists new)
 read_taken net a lists seen entries new e t takes is h =
     subst (λ (l : List Entry). ReadAll net a (configs_of lists l) (stacked lists new)) (sym (seen_more seen e))
-    (subst (λ (l : List Entry). ReadAll net a (config_of lists e ∷ configs_of lists (reverse seen)) (configs_of lists l)) (sym (on_top entries new (placed e t) is))
+    (subst (λ (l : List Entry). ReadAll net a (config_of lists e ∷ configs_of lists (reverse seen)) (configs_of lists l))
+    (sym (on_top entries new (placed e t) is))
     (taken (config_of lists e) (config_of lists (placed e t)) _ _ (takes.0, t, takes.1, takes.2, refl) h))
 
 -- an entry that does not
-read_refused : (net : LexerNetwork) (a : ℕ) (lists : List (List ℕ)) (seen entries : List Entry) (e : Entry) → ((t : ℕ) → Takes net a e.state t → ⊥) → ReadAll net a (configs_of lists (reverse seen)) (stacked lists entries)
+read_refused : (net : LexerNetwork) (a : ℕ) (lists : List (List ℕ)) (seen entries : List Entry) (e : Entry)
+    → ((t : ℕ) → Takes net a e.state t → ⊥) → ReadAll net a (configs_of lists (reverse seen)) (stacked lists entries)
     → ReadAll net a (configs_of lists (reverse (seen ++ e ∷ []))) (stacked lists entries)
 read_refused net a lists seen entries e never h =
     subst (λ (l : List Entry). ReadAll net a (configs_of lists l) (stacked lists entries)) (sym (seen_more seen e))
     (refused (config_of lists e) _ _ (λ d r. never r.1 (r.0, r.2, r.3)) h)
 
 -- either way
-pub read_on : (net : LexerNetwork) (a : ℕ) (lists : List (List ℕ)) (seen entries new : List Entry) (e : Entry) (target : Option ℕ) → MatchOption target ((t : ℕ) → Takes net a e.state t → ⊥) (λ t. Takes net a e.state t) → new ≡ entries ++ moved_to e target → IsKnown lists e
-    → AreKnown lists entries × ReadAll net a (configs_of lists (reverse seen)) (stacked lists entries) → AreKnown lists new × ReadAll net a (configs_of lists (reverse (seen ++ e ∷ []))) (stacked lists new)
+pub read_on : (net : LexerNetwork) (a : ℕ) (lists : List (List ℕ)) (seen entries new : List Entry) (e : Entry) (target : Option ℕ)
+    → MatchOption target ((t : ℕ) → Takes net a e.state t → ⊥) (λ t. Takes net a e.state t) → new ≡ entries ++ moved_to e target
+    → IsKnown lists e
+    → AreKnown lists entries × ReadAll net a (configs_of lists (reverse seen)) (stacked lists entries)
+    → AreKnown lists new × ReadAll net a (configs_of lists (reverse (seen ++ e ∷ []))) (stacked lists new)
 read_on net a lists seen entries new e None never is known h =
-    subst (λ (l : List Entry). AreKnown lists l × ReadAll net a (configs_of lists (reverse (seen ++ e ∷ []))) (stacked lists l)) (sym (is ∙ append-nil entries)) (h.0, read_refused net a lists seen entries e never h.1)
-read_on net a lists seen entries new e (Some t) takes is known h =
-    (subst (AreKnown lists) (sym is) (known_both lists entries (placed e t ∷ []) h.0 (known_one lists (placed e t) known)), read_taken net a lists seen entries new e t takes is h.1)
+    subst (λ (l : List Entry). AreKnown lists l × ReadAll net a (configs_of lists (reverse (seen ++ e ∷ []))) (stacked lists l))
+    (sym (is ∙ append-nil entries)) (h.0, read_refused net a lists seen entries e never h.1)
+read_on net a lists seen entries new e (Some t) takes is known h = (
+  subst (AreKnown lists) (sym is) (known_both lists entries (placed e t ∷ []) h.0 (known_one lists (placed e t) known)),
+  read_taken net a lists seen entries new e t takes is h.1,
+)

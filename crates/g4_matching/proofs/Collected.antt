@@ -19,10 +19,13 @@ of_append [] ss = refl
 of_append (r ∷ rs) ss = ap (λ l. r.first ∷ (r.last + 1) ∷ l) (of_append rs ss)
 
 -- of ranges and one more
-pub one_range : (old new after : List ℕ) (rs : List Range) (i : ℕ) (r : Range) → i < length rs → r ≡ get_or rs i r → old ≡ after ++ bounds_of (take i rs) → new ≡ (old ++ r.first ∷ []) ++ (r.last + 1) ∷ [] → new ≡ after ++ bounds_of (take (i + 1) rs)
+pub one_range : (old new after : List ℕ) (rs : List Range) (i : ℕ) (r : Range) → i < length rs → r ≡ get_or rs i r
+    → old ≡ after ++ bounds_of (take i rs) → new ≡ (old ++ r.first ∷ []) ++ (r.last + 1) ∷ [] → new ≡ after ++ bounds_of (take (i + 1) rs)
 one_range old new after rs i r lt is h e =
-    let more : bounds_of (take (i + 1) rs) ≡ bounds_of (take i rs) ++ bounds_of (r ∷ []) = ap bounds_of (take_more rs i r lt ∙ ap (λ (x : Range). take i rs ++ x ∷ []) (sym is)) ∙ of_append (take i rs) (r ∷ []) in
-    e ∙ append_assoc old (r.first ∷ []) ((r.last + 1) ∷ []) ∙ ap (λ l. l ++ r.first ∷ (r.last + 1) ∷ []) h ∙ append_assoc after (bounds_of (take i rs)) (r.first ∷ (r.last + 1) ∷ []) ∙ ap (λ l. after ++ l) (sym more)
+    let more : bounds_of (take (i + 1) rs) ≡ bounds_of (take i rs) ++ bounds_of (r ∷ []) =
+    ap bounds_of (take_more rs i r lt ∙ ap (λ (x : Range). take i rs ++ x ∷ []) (sym is)) ∙ of_append (take i rs) (r ∷ []) in
+    e ∙ append_assoc old (r.first ∷ []) ((r.last + 1) ∷ []) ∙ ap (λ l. l ++ r.first ∷ (r.last + 1) ∷ []) h
+    ∙ append_assoc after (bounds_of (take i rs)) (r.first ∷ (r.last + 1) ∷ []) ∙ ap (λ l. after ++ l) (sym more)
 
 -- of states and some more
 in_append : (ss ts : List (State Reads)) → bounds_in (ss ++ ts) ≡ bounds_in ss ++ bounds_in ts
@@ -34,9 +37,12 @@ nothing_more [] = refl
 nothing_more (x ∷ xs) = ap (λ l. x ∷ l) (nothing_more xs)
 
 -- of states and one more
-pub one_state : (old new : List ℕ) (ss : List (State Reads)) (i : ℕ) (s : State Reads) → i < length ss → s ≡ get_or ss i s → old ≡ bounds_in (take i ss) → new ≡ old ++ bounds_at s → new ≡ bounds_in (take (i + 1) ss)
+pub one_state : (old new : List ℕ) (ss : List (State Reads)) (i : ℕ) (s : State Reads) → i < length ss → s ≡ get_or ss i s
+    → old ≡ bounds_in (take i ss) → new ≡ old ++ bounds_at s → new ≡ bounds_in (take (i + 1) ss)
 one_state old new ss i s lt is h e =
-    let more : bounds_in (take (i + 1) ss) ≡ bounds_in (take i ss) ++ bounds_at s = ap bounds_in (take_more ss i s lt ∙ ap (λ (x : State Reads). take i ss ++ x ∷ []) (sym is)) ∙ in_append (take i ss) (s ∷ []) ∙ ap (λ l. bounds_in (take i ss) ++ l) (nothing_more (bounds_at s)) in
+    let more : bounds_in (take (i + 1) ss) ≡ bounds_in (take i ss) ++ bounds_at s =
+    ap bounds_in (take_more ss i s lt ∙ ap (λ (x : State Reads). take i ss ++ x ∷ []) (sym is)) ∙ in_append (take i ss) (s ∷ [])
+    ∙ ap (λ l. bounds_in (take i ss) ++ l) (nothing_more (bounds_at s)) in
     e ∙ ap (λ l. l ++ bounds_at s) h ∙ sym more
 
 -- what is in a list is in it with others before or after
@@ -48,7 +54,8 @@ contains_right [] ys x c = c
 contains_right (z ∷ xs) ys x c = let r = contains_right xs ys x c in let lt = r.1 in (suc r.0, omega arith, r.2)
 
 -- the bounds of each edge are among those of all states
-pub has_bounds : (ss : List (State Reads)) (p t b : ℕ) (set : List Range) → slice_get ss p ≡ Some (Edge (Characters set) t) → Contains (bounds_of set) b → Contains (bounds_in ss) b
+pub has_bounds : (ss : List (State Reads)) (p t b : ℕ) (set : List Range) → slice_get ss p ≡ Some (Edge (Characters set) t)
+    → Contains (bounds_of set) b → Contains (bounds_in ss) b
 has_bounds [] p t b set is c = absurd (cc)
 has_bounds (s ∷ ss) zero t b set is c =
     let same : s ≡ Edge (Characters set) t = cc in

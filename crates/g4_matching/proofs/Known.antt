@@ -21,13 +21,15 @@ grown_known old new e g k = let n = grown_length old new g in omega arith
 
 -- and stays the same configuration
 pub grown_config : (old new : List (List ℕ)) (e : Entry) → Grows old new → IsKnown old e → config_of new e ≡ config_of old e
-grown_config old new e g k = ap (λ (r : List ℕ). record { rule = e.rule; alternative = e.alternative; state = e.state; returns = r; passed = e.passed }) (grown_at old new e.returns g k)
+grown_config old new e g k = ap (λ (r : List ℕ).
+    record { rule = e.rule; alternative = e.alternative; state = e.state; returns = r; passed = e.passed }) (grown_at old new e.returns g k)
 
 -- so do entries
 pub grown_configs : (old new : List (List ℕ)) (es : List Entry) → Grows old new → AreKnown old es → configs_of new es ≡ configs_of old es
 grown_configs old new [] g k = refl
 grown_configs old new (e ∷ es) g k =
-    ap (λ (c : LexerConfig). c ∷ configs_of new es) (grown_config old new e g (k e (inl refl))) ∙ ap (λ (l : List LexerConfig). config_of old e ∷ l) (grown_configs old new es g (λ x i. k x (inr i)))
+    ap (λ (c : LexerConfig). c ∷ configs_of new es) (grown_config old new e g (k e (inl refl)))
+    ∙ ap (λ (l : List LexerConfig). config_of old e ∷ l) (grown_configs old new es g (λ x i. k x (inr i)))
 
 -- entries known in any order
 pub known_reversed : (lists : List (List ℕ)) (es : List Entry) → AreKnown lists es → AreKnown lists (reverse es)
@@ -53,16 +55,23 @@ known_placed lists e (t ∷ ts) k x (inl is) = subst (IsKnown lists) (sym is) k
 known_placed lists e (t ∷ ts) k x (inr i) = known_placed lists e ts k x i
 
 -- their configurations
-pub placed_configs : (lists : List (List ℕ)) (e : Entry) (ts : List ℕ) → configs_of lists (map (placed e) ts) ≡ map (at (config_of lists e)) ts
+pub placed_configs : (lists : List (List ℕ)) (e : Entry) (ts : List ℕ)
+    → configs_of lists (map (placed e) ts) ≡ map (at (config_of lists e)) ts
 placed_configs lists e [] = refl
 placed_configs lists e (t ∷ ts) = ap (λ (l : List LexerConfig). at (config_of lists e) t ∷ l) (placed_configs lists e ts)
 
 -- entries put on top, as the store grows
-pub adds_grown : (old new : Waiting) (xs : List Entry) → Grows old.returns new.returns → reverse new.entries.items ≡ xs ++ reverse old.entries.items → AreKnown new.returns xs → AreKnown old.returns old.entries.items → Adds old new (configs_of new.returns xs)
+pub adds_grown : (old new : Waiting) (xs : List Entry) → Grows old.returns new.returns
+    → reverse new.entries.items ≡ xs ++ reverse old.entries.items → AreKnown new.returns xs → AreKnown old.returns old.entries.items
+    → Adds old new (configs_of new.returns xs)
 adds_grown old new xs g top known waiting = record {
   grows = g;
-  known = known_back new.returns new.entries.items (subst (AreKnown new.returns) (sym top) (known_both new.returns xs (reverse old.entries.items) known (λ e i. grown_known old.returns new.returns e g (old_known e i))));
-  on_top = ap (configs_of new.returns) top ∙ map-append (config_of new.returns) xs (reverse old.entries.items) ∙ ap (λ (l : List LexerConfig). configs_of new.returns xs ++ l) (grown_configs old.returns new.returns (reverse old.entries.items) g old_known);
+  known = known_back new.returns new.entries.items
+      (subst (AreKnown new.returns) (sym top) (known_both new.returns xs (reverse old.entries.items) known
+      (λ e i. grown_known old.returns new.returns e g (old_known e i))));
+  on_top = ap (configs_of new.returns) top ∙ map-append (config_of new.returns) xs (reverse old.entries.items)
+      ∙ ap (λ (l : List LexerConfig). configs_of new.returns xs ++ l)
+      (grown_configs old.returns new.returns (reverse old.entries.items) g old_known);
 }
   where
     old_known : AreKnown old.returns (reverse old.entries.items)
@@ -81,7 +90,8 @@ pub on_top : (es new : List Entry) (e : Entry) → new ≡ es ++ e ∷ [] → re
 on_top es new e is = ap reverse is ∙ reverse-append es (e ∷ [])
 
 -- no return states are open exactly where the number is 0
-pub closed_zero : (lists : List (List ℕ)) (n : ℕ) → IsDistinct lists → IsEmptyFirst lists → n < length lists → get_or lists n [] ≡ [] → n ≡ 0
+pub closed_zero : (lists : List (List ℕ)) (n : ℕ) → IsDistinct lists → IsEmptyFirst lists → n < length lists → get_or lists n [] ≡ []
+    → n ≡ 0
 closed_zero lists n distinct first lt e = distinct n 0 lt first.0 (e ∙ sym first.1)
 
 -- the number 0 is that of no return states
@@ -89,7 +99,8 @@ pub zero_closed : (lists : List (List ℕ)) (n : ℕ) → IsEmptyFirst lists →
 zero_closed lists n first z = ap (λ (m : ℕ). get_or lists m []) z ∙ first.1
 
 -- known entries with the same configuration are the same
-pub same_entry : (lists : List (List ℕ)) (a b : Entry) → IsDistinct lists → IsKnown lists a → IsKnown lists b → config_of lists a ≡ config_of lists b → a ≡ b
+pub same_entry : (lists : List (List ℕ)) (a b : Entry) → IsDistinct lists → IsKnown lists a → IsKnown lists b
+    → config_of lists a ≡ config_of lists b → a ≡ b
 same_entry lists a b distinct ka kb e =
     let r = distinct a.returns b.returns ka kb (ap (λ (c : LexerConfig). c.returns) e) in
     let s = ap (λ (c : LexerConfig). c.state) e in
@@ -101,23 +112,30 @@ same_entry lists a b distinct ka kb e =
     ∙ ap (make b.state b.rule b.alternative b.returns) p
 
 -- entries at other states put on top
-pub adds_placed : (old new : Waiting) (e : Entry) (ts : List ℕ) (cs : List LexerConfig) → new.returns ≡ old.returns → reverse new.entries.items ≡ map (placed e) ts ++ reverse old.entries.items → IsKnown old.returns e → AreKnown old.returns old.entries.items
+pub adds_placed : (old new : Waiting) (e : Entry) (ts : List ℕ) (cs : List LexerConfig) → new.returns ≡ old.returns
+    → reverse new.entries.items ≡ map (placed e) ts ++ reverse old.entries.items → IsKnown old.returns e
+    → AreKnown old.returns old.entries.items
     → map (at (config_of old.returns e)) ts ≡ cs → Adds old new cs
 adds_placed old new e ts cs same top known waiting are =
     subst (Adds old new) (ap (λ (l : List (List ℕ)). configs_of l (map (placed e) ts)) same ∙ placed_configs old.returns e ts ∙ are)
-    (adds_grown old new (map (placed e) ts) (subst (Grows old.returns) (sym same) (grows_not old.returns)) top (subst (λ (l : List (List ℕ)). AreKnown l (map (placed e) ts)) (sym same) (known_placed old.returns e ts known)) waiting)
+    (adds_grown old new (map (placed e) ts) (subst (Grows old.returns) (sym same) (grows_not old.returns)) top
+    (subst (λ (l : List (List ℕ)). AreKnown l (map (placed e) ts)) (sym same) (known_placed old.returns e ts known)) waiting)
 
 -- one entry put on top, as the store grows
-pub adds_one : (old new : Waiting) (e : Entry) (cs : List LexerConfig) → Grows old.returns new.returns → new.entries.items ≡ old.entries.items ++ e ∷ [] → IsKnown new.returns e → AreKnown old.returns old.entries.items → config_of new.returns e ∷ [] ≡ cs → Adds old new cs
+pub adds_one : (old new : Waiting) (e : Entry) (cs : List LexerConfig) → Grows old.returns new.returns
+    → new.entries.items ≡ old.entries.items ++ e ∷ [] → IsKnown new.returns e → AreKnown old.returns old.entries.items
+    → config_of new.returns e ∷ [] ≡ cs → Adds old new cs
 adds_one old new e cs g pushed known waiting are =
-    subst (Adds old new) are (adds_grown old new (e ∷ []) g (on_top old.entries.items new.entries.items e pushed) (known_one new.returns e known) waiting)
+    subst (Adds old new) are (adds_grown old new (e ∷ []) g (on_top old.entries.items new.entries.items e pushed)
+    (known_one new.returns e known) waiting)
 
 -- nothing put on top
 pub adds_nothing : (old : Waiting) → AreKnown old.returns old.entries.items → Adds old old []
 adds_nothing old waiting = record { grows = grows_not old.returns; known = waiting; on_top = refl }
 
 -- the top of the list where it is known
-pub popped : (lists : List (List ℕ)) (c : LexerConfig) (r : List ℕ) (t m : ℕ) → r ≡ pushed lists t m → at_with c t (get_or lists m []) ∷ [] ≡ returned c r
+pub popped : (lists : List (List ℕ)) (c : LexerConfig) (r : List ℕ) (t m : ℕ) → r ≡ pushed lists t m
+    → at_with c t (get_or lists m []) ∷ [] ≡ returned c r
 popped lists c r t m is = ap (returned c) (sym is)
 
 -- a list that a number has is known
@@ -125,5 +143,6 @@ pub number_known : (lists : List (List ℕ)) (n : ℕ) (r : List ℕ) → slice_
 number_known lists n r is = slice_get_within lists n r is
 
 -- a call's return states
-pub called : (c : LexerConfig) (rule back n : ℕ) (new : List (List ℕ)) → slice_get new n ≡ Some (back ∷ c.returns) → at_with c (start_of rule) (get_or new n []) ∷ [] ≡ at_with c (start_of rule) (back ∷ c.returns) ∷ []
+pub called : (c : LexerConfig) (rule back n : ℕ) (new : List (List ℕ)) → slice_get new n ≡ Some (back ∷ c.returns)
+    → at_with c (start_of rule) (get_or new n []) ∷ [] ≡ at_with c (start_of rule) (back ∷ c.returns) ∷ []
 called c rule back n new is = ap (λ (r : List ℕ). at_with c (start_of rule) r ∷ []) (get_or_from_slice_get new n (back ∷ c.returns) [] is)

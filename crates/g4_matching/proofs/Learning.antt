@@ -25,14 +25,19 @@ alike_reads : (net : LexerNetwork) (a b : ℕ) (c d : LexerConfig) → AreAlike 
 alike_reads net a b c d alike r = (r.0, r.1, r.2, (alike c.state r.1 r.0 r.2).0 r.3, r.4)
 
 -- so does a list
-alike_reads_all : (net : LexerNetwork) (a b : ℕ) (list read : List LexerConfig) → AreAlike net a b → AreAlike net b a → ReadAll net a list read → ReadAll net b list read
+alike_reads_all : (net : LexerNetwork) (a b : ℕ) (list read : List LexerConfig) → AreAlike net a b → AreAlike net b a
+    → ReadAll net a list read → ReadAll net b list read
 alike_reads_all net a b list read ab ba all_read = all_read
-alike_reads_all net a b list read ab ba (taken c d cs ds r h) = taken c d cs ds (alike_reads net a b c d ab r) (alike_reads_all net a b cs ds ab ba h)
-alike_reads_all net a b list read ab ba (refused c cs _ never h) = refused c cs read (λ d r. never d (alike_reads net b a c d ba r)) (alike_reads_all net a b cs read ab ba h)
+alike_reads_all net a b list read ab ba (taken c d cs ds r h) =
+    taken c d cs ds (alike_reads net a b c d ab r) (alike_reads_all net a b cs ds ab ba h)
+alike_reads_all net a b list read ab ba (refused c cs _ never h) =
+    refused c cs read (λ d r. never d (alike_reads net b a c d ba r)) (alike_reads_all net a b cs read ab ba h)
 
 -- the list after a character is the one after each of its class
-pub alike_next : (net : LexerNetwork) (bounds : List ℕ) (last : Bool) (a b : ℕ) (list next : List LexerConfig) → AreAlikeBy net bounds → class_in bounds a ≡ class_in bounds b → IsNext net last a list next → IsNext net last b list next
-alike_next net bounds last a b list next alike same h = record { read = h.read; reads = alike_reads_all net a b list h.read (alike a b same) (alike b a (sym same)) h.reads; makes = h.makes }
+pub alike_next : (net : LexerNetwork) (bounds : List ℕ) (last : Bool) (a b : ℕ) (list next : List LexerConfig) → AreAlikeBy net bounds
+    → class_in bounds a ≡ class_in bounds b → IsNext net last a list next → IsNext net last b list next
+alike_next net bounds last a b list next alike same h =
+    record { read = h.read; reads = alike_reads_all net a b list h.read (alike a b same) (alike b a (sym same)) h.reads; makes = h.makes }
 
 -- a class is below the number of classes
 pub class_within : (bounds : List ℕ) (a : ℕ) → class_in bounds a < class_count bounds
@@ -57,10 +62,12 @@ within_cells bounds a from n cells lt is = elim (split from n) [
 
 -- one cell is of one list and one class
 same_list : (bounds : List ℕ) (a b from other : ℕ) → cell_of bounds from a ≡ cell_of bounds other b → from ≡ other
-same_list bounds a b from other is = sym (div-mul-add from (class_count bounds) (class_in bounds a) (class_within bounds a)) ∙ ap (λ (n : ℕ). n / class_count bounds) is ∙ div-mul-add other (class_count bounds) (class_in bounds b) (class_within bounds b)
+same_list bounds a b from other is = sym (div-mul-add from (class_count bounds) (class_in bounds a) (class_within bounds a))
+    ∙ ap (λ (n : ℕ). n / class_count bounds) is ∙ div-mul-add other (class_count bounds) (class_in bounds b) (class_within bounds b)
 
 same_class : (bounds : List ℕ) (a b from other : ℕ) → cell_of bounds from a ≡ cell_of bounds other b → class_in bounds a ≡ class_in bounds b
-same_class bounds a b from other is = sym (mod-mul-add from (class_count bounds) (class_in bounds a) (class_within bounds a)) ∙ ap (λ (n : ℕ). n % class_count bounds) is ∙ mod-mul-add other (class_count bounds) (class_in bounds b) (class_within bounds b)
+same_class bounds a b from other is = sym (mod-mul-add from (class_count bounds) (class_in bounds a) (class_within bounds a))
+    ∙ ap (λ (n : ℕ). n % class_count bounds) is ∙ mod-mul-add other (class_count bounds) (class_in bounds b) (class_within bounds b)
 
 -- in empty cells nothing is noted
 pub none_noted : (n k : ℕ) (x : ℕ) → slice_get (replicate n None) k ≡ Some (Some x) → ⊥
@@ -69,25 +76,33 @@ none_noted (suc n) zero x is = cc
 none_noted (suc n) (suc k) x is = none_noted n k x is
 
 -- nor in more of them
-left_noted : (cells : List (Option ℕ)) (n k x : ℕ) → slice_get (cells ++ replicate n None) k ≡ Some (Some x) → slice_get cells k ≡ Some (Some x)
+left_noted : (cells : List (Option ℕ)) (n k x : ℕ) → slice_get (cells ++ replicate n None) k ≡ Some (Some x)
+    → slice_get cells k ≡ Some (Some x)
 left_noted [] n k x is = absurd (none_noted n k x is)
 left_noted (c ∷ cells) n zero x is = is
 left_noted (c ∷ cells) n (suc k) x is = left_noted cells n k x is
 
 -- a list stays the same as the store grows
-grown_list : (old new : List (List ℕ)) (lists : List Learned) (n : ℕ) (list : List LexerConfig) → Grows old new → ((k : ℕ) (l : Learned) → slice_get lists k ≡ Some l → AreKnown old l.entries.items) → HasList old lists n list → HasList new lists n list
+grown_list : (old new : List (List ℕ)) (lists : List Learned) (n : ℕ) (list : List LexerConfig) → Grows old new
+    → ((k : ℕ) (l : Learned) → slice_get lists k ≡ Some l → AreKnown old l.entries.items) → HasList old lists n list
+    → HasList new lists n list
 grown_list old new lists n list g known h = (h.0, h.1, grown_configs old new h.0.entries.items g (known n h.0 h.1) ∙ h.2)
 
 -- and as others are added
-pub more_list : (returns : List (List ℕ)) (old new : List Learned) (n : ℕ) (list : List LexerConfig) → ((k : ℕ) (l : Learned) → slice_get old k ≡ Some l → slice_get new k ≡ Some l) → HasList returns old n list → HasList returns new n list
+pub more_list : (returns : List (List ℕ)) (old new : List Learned) (n : ℕ) (list : List LexerConfig)
+    → ((k : ℕ) (l : Learned) → slice_get old k ≡ Some l → slice_get new k ≡ Some l) → HasList returns old n list
+    → HasList returns new n list
 more_list returns old new n list keeps h = (h.0, keeps n h.0 h.1, h.2)
 
 -- with no list nothing is wrong
-pub learned_none : (net : LexerNetwork) (modes : List (List Start)) (bounds : List ℕ) (returns : List (List ℕ)) (lists : List Learned) (next firsts : List (Option ℕ)) → AreAlikeBy net bounds → lists ≡ [] → next ≡ [] → ((mode n : ℕ) → slice_get firsts mode ≡ Some (Some n) → ⊥)
+pub learned_none : (net : LexerNetwork) (modes : List (List Start)) (bounds : List ℕ) (returns : List (List ℕ)) (lists : List Learned)
+    (next firsts : List (Option ℕ)) → AreAlikeBy net bounds → lists ≡ [] → next ≡ []
+    → ((mode n : ℕ) → slice_get firsts mode ≡ Some (Some n) → ⊥)
     → AreLearned net modes bounds returns lists next firsts
 learned_none net modes bounds returns lists next firsts alike no_list no_cell none = record {
   alike = alike;
-  cells = let a = ap length no_list in let b = ap length no_cell in let e : length lists * class_count bounds ≡ 0 = ap (λ (n : ℕ). n * class_count bounds) a ∙ grind arith in b ∙ sym e;
+  cells = let a = ap length no_list in let b = ap length no_cell in
+      let e : length lists * class_count bounds ≡ 0 = ap (λ (n : ℕ). n * class_count bounds) a ∙ grind arith in b ∙ sym e;
   known = λ n l is. absurd (nothing n l (ap (λ (x : List Learned). slice_get x n) (sym no_list) ∙ is));
   ends = λ n l is. absurd (nothing n l (ap (λ (x : List Learned). slice_get x n) (sym no_list) ∙ is));
   noted = λ a from to lt is. let n = ap length no_list in absurd (omega arith);
@@ -99,30 +114,59 @@ learned_none net modes bounds returns lists next firsts alike no_list no_cell no
 
 module _ (net : LexerNetwork) (modes : List (List Start)) (bounds : List ℕ) where
   -- as the store grows
-  pub learned_grows : (old new : List (List ℕ)) (lists : List Learned) (next firsts : List (Option ℕ)) → Grows old new → AreLearned net modes bounds old lists next firsts → AreLearned net modes bounds new lists next firsts
+  pub learned_grows : (old new : List (List ℕ)) (lists : List Learned) (next firsts : List (Option ℕ)) → Grows old new
+      → AreLearned net modes bounds old lists next firsts → AreLearned net modes bounds new lists next firsts
   learned_grows old new lists next firsts g h = record {
     alike = h.alike;
     cells = h.cells;
     known = λ n l is e i. grown_known old new e g (h.known n l is e i);
-    ends = λ n l is. subst (λ (c : List LexerConfig). TellsEnd net c l.end) (sym (grown_configs old new l.entries.items g (h.known n l is))) (h.ends n l is);
-    noted = λ a from to lt is. let s = h.noted a from to lt is in record { list = s.list; next = s.next; before = grown_list old new lists from s.list g h.known s.before; after = grown_list old new lists to s.next g h.known s.after; is_next = s.is_next };
-    begun = λ mode n is. let s = h.begun mode n is in record { list = s.list; has = grown_list old new lists n s.list g h.known s.has; is_first = s.is_first };
+    ends = λ n l is. subst (λ (c : List LexerConfig). TellsEnd net c l.end)
+        (sym (grown_configs old new l.entries.items g (h.known n l is))) (h.ends n l is);
+    noted = λ a from to lt is. let s = h.noted a from to lt is in
+        record {
+          list = s.list;
+          next = s.next;
+          before = grown_list old new lists from s.list g h.known s.before;
+          after = grown_list old new lists to s.next g h.known s.after;
+          is_next = s.is_next;
+        };
+    begun = λ mode n is. let s = h.begun mode n is in
+        record { list = s.list; has = grown_list old new lists n s.list g h.known s.has; is_first = s.is_first };
   }
 
   -- as a list is added
-  pub learned_more : (returns : List (List ℕ)) (lists new : List Learned) (l : Learned) (next cells firsts : List (Option ℕ)) → AreLearned net modes bounds returns lists next firsts → new ≡ lists ++ l ∷ [] → cells ≡ next ++ replicate (class_count bounds) None
-      → AreKnown returns l.entries.items → TellsEnd net (configs_of returns l.entries.items) l.end → AreLearned net modes bounds returns new cells firsts
+  pub learned_more : (returns : List (List ℕ)) (lists new : List Learned) (l : Learned) (next cells firsts : List (Option ℕ))
+      → AreLearned net modes bounds returns lists next firsts → new ≡ lists ++ l ∷ [] → cells ≡ next ++ replicate (class_count bounds) None
+      → AreKnown returns l.entries.items → TellsEnd net (configs_of returns l.entries.items) l.end
+      → AreLearned net modes bounds returns new cells firsts
   learned_more returns lists new l next cells firsts h is_new is_cells known tells = record {
     alike = h.alike;
     cells = many;
-    known = λ n x is. elim (at n x is) [ inl old ↦ h.known n x old | inr same ↦ subst (λ (y : Learned). AreKnown returns y.entries.items) same known ];
-    ends = λ n x is. elim (at n x is) [ inl old ↦ h.ends n x old | inr same ↦ subst (λ (y : Learned). TellsEnd net (configs_of returns y.entries.items) y.end) same tells ];
+    known = λ n x is. elim (at n x is) [
+      | inl old ↦ h.known n x old
+      | inr same ↦ subst
+          (λ (y : Learned). AreKnown returns y.entries.items) same known
+    ];
+    ends = λ n x is. elim (at n x is) [
+      | inl old ↦ h.ends n x old
+      | inr same ↦ subst
+          (λ (y : Learned). TellsEnd net (configs_of returns y.entries.items) y.end) same tells
+    ];
     noted = λ a from to lt is.
-        let old = left_noted next (class_count bounds) (cell_of bounds from a) to (ap (λ (c : List (Option ℕ)). slice_get c (cell_of bounds from a)) (sym is_cells) ∙ is) in
-        let there = within_cells bounds a from (length lists) (length next) (slice_get_within next (cell_of bounds from a) (Some to) old) h.cells in
+        let old = left_noted next (class_count bounds) (cell_of bounds from a) to
+        (ap (λ (c : List (Option ℕ)). slice_get c (cell_of bounds from a)) (sym is_cells) ∙ is) in
+        let there = within_cells bounds a from (length lists) (length next)
+        (slice_get_within next (cell_of bounds from a) (Some to) old) h.cells in
         let s = h.noted a from to there old in
-        record { list = s.list; next = s.next; before = more_list returns lists new from s.list keeps s.before; after = more_list returns lists new to s.next keeps s.after; is_next = s.is_next };
-    begun = λ mode n is. let s = h.begun mode n is in record { list = s.list; has = more_list returns lists new n s.list keeps s.has; is_first = s.is_first };
+        record {
+          list = s.list;
+          next = s.next;
+          before = more_list returns lists new from s.list keeps s.before;
+          after = more_list returns lists new to s.next keeps s.after;
+          is_next = s.is_next;
+        };
+    begun = λ mode n is. let s = h.begun mode n is in
+        record { list = s.list; has = more_list returns lists new n s.list keeps s.has; is_first = s.is_first };
   }
     where
       many : length cells ≡ length new * class_count bounds
@@ -137,13 +181,16 @@ module _ (net : LexerNetwork) (modes : List (List Start)) (bounds : List ℕ) wh
           omega arith
 
       at : (n : ℕ) (x : Learned) → slice_get new n ≡ Some x → (slice_get lists n ≡ Some x) ⊎ (l ≡ x)
-      at n x is = elim (at_cases lists l x n (ap (λ (y : List Learned). slice_get y n) (sym is_new) ∙ is)) [ inl old ↦ inl old | inr here ↦ inr here.1 ]
+      at n x is = elim (at_cases lists l x n (ap (λ (y : List Learned). slice_get y n) (sym is_new) ∙ is))
+          [ inl old ↦ inl old | inr here ↦ inr here.1 ]
 
       keeps : (n : ℕ) (x : Learned) → slice_get lists n ≡ Some x → slice_get new n ≡ Some x
       keeps n x is = ap (λ (y : List Learned). slice_get y n) is_new ∙ at_left lists (l ∷ []) n x is
 
   -- as the list after a list is noted
-  pub learned_next : (returns : List (List ℕ)) (lists : List Learned) (next cells firsts : List (Option ℕ)) (a from to : ℕ) → AreLearned net modes bounds returns lists next firsts → length cells ≡ length next → IsNoted next (cell_of bounds from a) to cells → StepsTo net returns lists a from to
+  pub learned_next : (returns : List (List ℕ)) (lists : List Learned) (next cells firsts : List (Option ℕ)) (a from to : ℕ)
+      → AreLearned net modes bounds returns lists next firsts → length cells ≡ length next
+      → IsNoted next (cell_of bounds from a) to cells → StepsTo net returns lists a from to
       → AreLearned net modes bounds returns lists cells firsts
   learned_next returns lists next cells firsts a from to h many noted steps = record {
     alike = h.alike;
@@ -153,14 +200,23 @@ module _ (net : LexerNetwork) (modes : List (List Start)) (bounds : List ℕ) wh
     noted = λ b other n lt is. elim (noted (cell_of bounds other b) n is) [
       | inl here ↦ (let list_is = same_list bounds b a other from here.0 in
           subst (StepsTo net returns lists b other) (sym here.1) (subst (λ (k : ℕ). StepsTo net returns lists b k to) (sym list_is)
-          (record { list = steps.list; next = steps.next; before = steps.before; after = steps.after; is_next = alike_next net bounds false a b steps.list steps.next h.alike (sym (same_class bounds b a other from here.0)) steps.is_next })))
+          (record {
+            list = steps.list;
+            next = steps.next;
+            before = steps.before;
+            after = steps.after;
+            is_next = alike_next net bounds false a b steps.list steps.next h.alike (sym (same_class bounds b a other from here.0))
+                steps.is_next;
+          })))
       | inr old ↦ h.noted b other n lt old
     ];
     begun = h.begun;
   }
 
   -- as the first list of a mode is noted
-  pub learned_first : (returns : List (List ℕ)) (lists : List Learned) (next firsts cells : List (Option ℕ)) (mode n : ℕ) → AreLearned net modes bounds returns lists next firsts → IsNoted firsts mode n cells → Begins net (starts_in modes mode) returns lists n → AreLearned net modes bounds returns lists next cells
+  pub learned_first : (returns : List (List ℕ)) (lists : List Learned) (next firsts cells : List (Option ℕ)) (mode n : ℕ)
+      → AreLearned net modes bounds returns lists next firsts → IsNoted firsts mode n cells
+      → Begins net (starts_in modes mode) returns lists n → AreLearned net modes bounds returns lists next cells
   learned_first returns lists next firsts cells mode n h noted begins = record {
     alike = h.alike;
     cells = h.cells;
@@ -168,7 +224,8 @@ module _ (net : LexerNetwork) (modes : List (List Start)) (bounds : List ℕ) wh
     ends = h.ends;
     noted = h.noted;
     begun = λ other m is. elim (noted other m is) [
-      | inl here ↦ subst (Begins net (starts_in modes other) returns lists) (sym here.1) (subst (λ (k : ℕ). Begins net (starts_in modes k) returns lists n) (sym here.0) begins)
+      | inl here ↦ subst (Begins net (starts_in modes other) returns lists) (sym here.1)
+          (subst (λ (k : ℕ). Begins net (starts_in modes k) returns lists n) (sym here.0) begins)
       | inr old ↦ h.begun other m old
     ];
   }
@@ -178,7 +235,8 @@ pub put_back : (n : ℕ) (old new : List (Option ℕ)) → length new ≡ length
 put_back n old new many is = take_at new (drop (length new) old) n (many ∙ sym is)
 
 -- a list of cells made longer
-pub resized : (n count len : ℕ) (old new : List (Option ℕ)) → new ≡ take n old ++ replicate (n - len) None → len ≡ length old → n ≡ len + count → new ≡ old ++ replicate count None
+pub resized : (n count len : ℕ) (old new : List (Option ℕ)) → new ≡ take n old ++ replicate (n - len) None → len ≡ length old
+    → n ≡ len + count → new ≡ old ++ replicate count None
 resized n count len old new is many more =
     let front : take n old ≡ old = take_all n old (omega arith) in
     let rest : n - len ≡ count = omega arith in

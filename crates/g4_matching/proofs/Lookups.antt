@@ -31,7 +31,8 @@ module _ {X : Type 0} where
   at_last (z ∷ xs) x = at_last xs x
 
   -- a place is an old one or the last
-  pub at_cases : (xs : List X) (y x : X) (k : ℕ) → slice_get (xs ++ y ∷ []) k ≡ Some x → (slice_get xs k ≡ Some x) ⊎ ((k ≡ length xs) × (y ≡ x))
+  pub at_cases : (xs : List X) (y x : X) (k : ℕ) → slice_get (xs ++ y ∷ []) k ≡ Some x
+      → (slice_get xs k ≡ Some x) ⊎ ((k ≡ length xs) × (y ≡ x))
   at_cases [] y x zero is = inr (refl, cc)
   at_cases [] y x (suc k) is = absurd (cc)
   at_cases (z ∷ xs) y x zero is = inl is

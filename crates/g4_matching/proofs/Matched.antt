@@ -22,17 +22,20 @@ IsAsGood best rule = MatchOption best ⊥ (λ b. b.rule ≤ rule)
 
 module _ (net : LexerNetwork) where
   -- the first stays the first
-  first_on : (rule : ℕ) (xs : List LexerConfig) (y c : LexerConfig) → IsFirst (EndsRule net rule) xs c → IsFirst (EndsRule net rule) (xs ++ y ∷ []) c
+  first_on : (rule : ℕ) (xs : List LexerConfig) (y c : LexerConfig) → IsFirst (EndsRule net rule) xs c
+      → IsFirst (EndsRule net rule) (xs ++ y ∷ []) c
   first_on rule xs y c (here _ cs p) = here c (cs ++ y ∷ []) p
   first_on rule xs y c (later _ d cs no' h) = later c d (cs ++ y ∷ []) no' (first_on rule cs y c h)
 
   -- the last is the first where it is alone
-  first_at : (rule : ℕ) (xs : List LexerConfig) (y : LexerConfig) → ((x : LexerConfig) → In x xs → EndsRule net rule x → ⊥) → EndsRule net rule y → IsFirst (EndsRule net rule) (xs ++ y ∷ []) y
+  first_at : (rule : ℕ) (xs : List LexerConfig) (y : LexerConfig) → ((x : LexerConfig) → In x xs → EndsRule net rule x → ⊥)
+      → EndsRule net rule y → IsFirst (EndsRule net rule) (xs ++ y ∷ []) y
   first_at rule [] y none p = here y [] p
   first_at rule (x ∷ xs) y none p = later y x (xs ++ y ∷ []) (none x (inl refl)) (first_at rule xs y (λ z i. none z (inr i)) p)
 
   -- one more that is no end, or not of a lesser rule
-  pub tells_same : (xs : List LexerConfig) (y : LexerConfig) (best : Option RuleEnd) → (IsAtEnd net y → IsAsGood best y.rule) → TellsEnd net xs best → TellsEnd net (xs ++ y ∷ []) best
+  pub tells_same : (xs : List LexerConfig) (y : LexerConfig) (best : Option RuleEnd) → (IsAtEnd net y → IsAsGood best y.rule)
+      → TellsEnd net xs best → TellsEnd net (xs ++ y ∷ []) best
   tells_same xs y None h t = λ e i end. elim (In-cases xs (y ∷ []) e i) [
     | inl j ↦ t e j end
     | inr j ↦ h (subst (IsAtEnd net) (only y e j) end)
@@ -41,7 +44,8 @@ module _ (net : LexerNetwork) where
     first = (t.first.0, first_on b.rule xs y t.first.0 t.first.1, t.first.2);
     least = λ r e. elim (In-cases xs (y ∷ []) e.0 e.1) [
       | inl j ↦ t.least r (e.0, j, e.2, e.3)
-      | inr j ↦ (let is = only y e.0 j in let le = h (subst (IsAtEnd net) is e.3) in let a = ap (λ (x : LexerConfig). x.rule) is in let k = e.2 in omega arith)
+      | inr j ↦ (let is = only y e.0 j in let le = h (subst (IsAtEnd net) is e.3) in let a = ap (λ (x : LexerConfig). x.rule) is in
+          let k = e.2 in omega arith)
     ];
   }
 
@@ -57,7 +61,8 @@ module _ (net : LexerNetwork) where
       go (inr lt) = lt
 
   -- the first end, or the first of a lesser rule
-  pub tells_new : (xs : List LexerConfig) (y : LexerConfig) (best : Option RuleEnd) → IsAtEnd net y → (IsAsGood best y.rule → ⊥) → TellsEnd net xs best → IsLeastEnd net (xs ++ y ∷ []) y.rule y.alternative
+  pub tells_new : (xs : List LexerConfig) (y : LexerConfig) (best : Option RuleEnd) → IsAtEnd net y → (IsAsGood best y.rule → ⊥)
+      → TellsEnd net xs best → IsLeastEnd net (xs ++ y ∷ []) y.rule y.alternative
   tells_new xs y None end h t = record {
     first = (y, first_at y.rule xs y (λ x i e. t x i e.1) (refl, end), refl);
     least = λ r e. elim (In-cases xs (y ∷ []) e.0 e.1) [
@@ -75,15 +80,18 @@ module _ (net : LexerNetwork) where
 
 -- no end after prefixes from one character to n
 abbrev pub NoneUpTo : LexerNetwork → List LexerConfig → List ℕ → ℕ → ℕ → Type 0
-NoneUpTo net starts text from n = (m r : ℕ) (list : List LexerConfig) → from < m → m ≤ n → ListAfter net starts text m list → HasEnd net list r → ⊥
+NoneUpTo net starts text from n = (m r : ℕ) (list : List LexerConfig) → from < m → m ≤ n → ListAfter net starts text m list
+    → HasEnd net list r → ⊥
 
 -- the best match of the prefixes up to n characters
 abbrev pub IsBestUpTo : LexerNetwork → List LexerConfig → List ℕ → ℕ → Option Match → Type 0
 IsBestUpTo net starts text n None = NoneUpTo net starts text 0 n
-IsBestUpTo net starts text n (Some b) = (list : List LexerConfig) × (1 ≤ b.length) × (b.length ≤ n) × ListAfter net starts text b.length list × IsLeastEnd net list b.rule b.alternative × NoneUpTo net starts text b.length n
+IsBestUpTo net starts text n (Some b) = (list : List LexerConfig) × (1 ≤ b.length) × (b.length ≤ n)
+    × ListAfter net starts text b.length list × IsLeastEnd net list b.rule b.alternative × NoneUpTo net starts text b.length n
 
 -- the list and the best match after n characters
-pub record SoFar (net : LexerNetwork) (starts : List LexerConfig) (text : List ℕ) (n : ℕ) (list : List LexerConfig) (best : Option Match) : Type 0 where
+pub record SoFar (net : LexerNetwork) (starts : List LexerConfig) (text : List ℕ) (n : ℕ) (list : List LexerConfig)
+    (best : Option Match) : Type 0 where
   pub after : ListAfter net starts text n list
   pub best_is : IsBestUpTo net starts text n best
 
@@ -99,7 +107,8 @@ expands_nothing net last cs zs nothing e = refl
 expands_nothing net last cs zs (each c more xs ys f g) e = absurd (cc)
 
 -- nothing appended makes nothing new
-appends_nothing : (Late : List LexerConfig → LexerConfig → Type 0) (new more old : List LexerConfig) → Appends Late new more old → more ≡ [] → new ≡ old
+appends_nothing : (Late : List LexerConfig → LexerConfig → Type 0) (new more old : List LexerConfig) → Appends Late new more old
+    → more ≡ [] → new ≡ old
 appends_nothing Late new more old done e = refl
 appends_nothing Late new more old (dropped c cs _ h a) e = absurd (cc)
 appends_nothing Late new more old (appended c cs _ h a) e = absurd (cc)
@@ -111,58 +120,79 @@ keeps_nothing net cs ds (keeps c more kept k h) e = absurd (cc)
 keeps_nothing net cs ds (leaves c more _ k h) e = absurd (cc)
 
 -- so the list of nothing is empty
-from_nothing : (net : LexerNetwork) (last : Bool) (Late : List LexerConfig → LexerConfig → Type 0) (starts list : List LexerConfig) → ListOf net last Late starts list → starts ≡ [] → list ≡ []
-from_nothing net last Late starts list h e = keeps_nothing net h.all list h.keeps (appends_nothing Late h.all h.expansion [] h.appends (expands_nothing net last starts h.expansion h.expands e))
+from_nothing : (net : LexerNetwork) (last : Bool) (Late : List LexerConfig → LexerConfig → Type 0) (starts list : List LexerConfig)
+    → ListOf net last Late starts list → starts ≡ [] → list ≡ []
+from_nothing net last Late starts list h e =
+    keeps_nothing net h.all list h.keeps (appends_nothing Late h.all h.expansion [] h.appends
+    (expands_nothing net last starts h.expansion h.expands e))
 
 module _ (net : LexerNetwork) (starts : List LexerConfig) (text : List ℕ) where
   -- before the text
-  pub begins : (last : Bool) (list : List LexerConfig) → last ≡ is_last text → ListOf net last Never starts list → SoFar net starts text 0 list None
+  pub begins : (last : Bool) (list : List LexerConfig) → last ≡ is_last text → ListOf net last Never starts list
+      → SoFar net starts text 0 list None
   begins last list is h = record {
     after = (omega arith, first list (subst (λ b. ListOf net b Never starts list) is h));
     best_is = λ m r l lt le at e. absurd (omega arith);
   }
 
   -- one character further
-  pub goes_on : (n a : ℕ) (last : Bool) (list new : List LexerConfig) (best : Option Match) → n < length text → a ≡ get_or text n 0 → last ≡ is_last (drop (n + 1) text) → IsNext net last a list new → SoFar net starts text n list best → ListAfter net starts text (n + 1) new
+  pub goes_on : (n a : ℕ) (last : Bool) (list new : List LexerConfig) (best : Option Match) → n < length text → a ≡ get_or text n 0
+      → last ≡ is_last (drop (n + 1) text) → IsNext net last a list new → SoFar net starts text n list best
+      → ListAfter net starts text (n + 1) new
   goes_on n a last list new best lt at is h so =
-      let cut : drop n text ≡ a ∷ drop (n + 1) text = drop_more text n 0 lt ∙ ap (λ x. x ∷ drop (n + 1) text) (sym at) in
-      (omega arith, step a (drop (n + 1) text) list h.read new (subst (λ v. ListAt net starts text v list) cut so.after.1) h.reads (subst (λ b. ListOf net b (BehindEnd net) h.read new) is h.makes))
+      let cut : drop n text ≡ a ∷ drop (n + 1) text = drop_more text n 0 lt ∙ ap (λ x. x ∷ drop (n + 1) text) (sym at) in (
+        omega arith,
+        step a (drop (n + 1) text) list h.read new (subst (λ v. ListAt net starts text v list) cut so.after.1) h.reads
+            (subst (λ b. ListOf net b (BehindEnd net) h.read new) is h.makes),
+      )
 
   -- with a rule's end
-  with_end : (n : ℕ) (new : List LexerConfig) (end : RuleEnd) → ListAfter net starts text (n + 1) new → IsLeastEnd net new end.rule end.alternative → SoFar net starts text (n + 1) new (Some (record { length = n + 1; rule = end.rule; alternative = end.alternative }))
-  with_end n new end at least = record { after = at; best_is = (new, omega arith, omega arith, at, least, λ m r l lt le o e. absurd (omega arith)) }
+  with_end : (n : ℕ) (new : List LexerConfig) (end : RuleEnd) → ListAfter net starts text (n + 1) new
+      → IsLeastEnd net new end.rule end.alternative
+      → SoFar net starts text (n + 1) new (Some (record { length = n + 1; rule = end.rule; alternative = end.alternative }))
+  with_end n new end at least = record {
+    after = at;
+    best_is = (new, omega arith, omega arith, at, least, λ m r l lt le o e. absurd (omega arith));
+  }
 
   -- no end after one character more
-  up_to : (from n : ℕ) (new : List LexerConfig) → ListAfter net starts text (n + 1) new → HasNoEnd net new → NoneUpTo net starts text from n → NoneUpTo net starts text from (n + 1)
+  up_to : (from n : ℕ) (new : List LexerConfig) → ListAfter net starts text (n + 1) new → HasNoEnd net new
+      → NoneUpTo net starts text from n → NoneUpTo net starts text from (n + 1)
   up_to from n new at none h m r l lt le o e = elim (split m le) [
     | inl less ↦ h m r l lt less o e
-    | inr is ↦ (let same = one_list net starts text (drop (n + 1) text) l new (subst (λ (k : ℕ). ListAt net starts text (drop k text) l) is o.1) at.1 in none e.0 (subst (In e.0) same e.1) e.3)
+    | inr is ↦ (let same = one_list net starts text (drop (n + 1) text) l new
+        (subst (λ (k : ℕ). ListAt net starts text (drop k text) l) is o.1) at.1 in none e.0 (subst (In e.0) same e.1) e.3)
   ]
     where
       split : (m : ℕ) → m ≤ n + 1 → (m ≤ n) ⊎ (m ≡ n + 1)
       split m le = grind arith
 
   -- without one
-  without_end : (n : ℕ) (list new : List LexerConfig) (best : Option Match) → ListAfter net starts text (n + 1) new → HasNoEnd net new → SoFar net starts text n list best → SoFar net starts text (n + 1) new best
+  without_end : (n : ℕ) (list new : List LexerConfig) (best : Option Match) → ListAfter net starts text (n + 1) new → HasNoEnd net new
+      → SoFar net starts text n list best → SoFar net starts text (n + 1) new best
   without_end n list new None at none so = record { after = at; best_is = up_to 0 n new at none so.best_is }
   without_end n list new (Some b) at none so =
       let h = so.best_is in
       record { after = at; best_is = (h.0, h.1, (let le = h.2 in omega arith), h.3, h.4, up_to b.length n new at none h.5) }
 
   -- with what the list gives
-  pub best_on : (n : ℕ) (list new : List LexerConfig) (best : Option Match) (end : Option RuleEnd) → ListAfter net starts text (n + 1) new → TellsEnd net new end → SoFar net starts text n list best → SoFar net starts text (n + 1) new (best_after best (n + 1) end)
+  pub best_on : (n : ℕ) (list new : List LexerConfig) (best : Option Match) (end : Option RuleEnd)
+      → ListAfter net starts text (n + 1) new → TellsEnd net new end → SoFar net starts text n list best
+      → SoFar net starts text (n + 1) new (best_after best (n + 1) end)
   best_on n list new best None at none so = without_end n list new best at none so
   best_on n list new best (Some end) at least so = with_end n new end at least
 
   -- nothing comes of an empty list
-  empty_stays : (v : List ℕ) → ListAt net starts text v [] → (w : List ℕ) (list : List LexerConfig) → ListAt net starts text w list → length w ≤ length v → list ≡ []
+  empty_stays : (v : List ℕ) → ListAt net starts text v [] → (w : List ℕ) (list : List LexerConfig) → ListAt net starts text w list
+      → length w ≤ length v → list ≡ []
   empty_stays v h w list (first _ k) le =
       let r = at_rest net starts text v [] h in
       let n = ap length r.1 ∙ length-append r.0 v in
       let same : text ≡ v = same_rest [] r.0 text v r.1 (omega arith) in
       one_list net starts text text list [] (first list k) (subst (λ x. ListAt net starts text x []) (sym same) h)
   empty_stays v h w list (step a _ l read _ k q g) le = elim (split (length w) (length v) le) [
-    | inl less ↦ from_nothing net (is_last w) (BehindEnd net) read list g (reads_nothing net a l read q (empty_stays v h (a ∷ w) l k (omega arith)))
+    | inl less ↦ from_nothing net (is_last w) (BehindEnd net) read list g
+        (reads_nothing net a l read q (empty_stays v h (a ∷ w) l k (omega arith)))
     | inr e ↦ (let r = at_rest net starts text v [] h in
         let p = at_rest net starts text w list (step a w l read list k q g) in
         let same : w ≡ v = same_rest p.0 r.0 w v (sym p.1 ∙ r.1) e in
@@ -173,15 +203,19 @@ module _ (net : LexerNetwork) (starts : List LexerConfig) (text : List ℕ) wher
       split a b le = grind arith
 
   -- where all of the text is read, or nothing is left in the list
-  pub whole : (n : ℕ) (list : List LexerConfig) (best : Option Match) → (length text ≤ n) ⊎ (list ≡ []) → SoFar net starts text n list best → MatchOption best (NoMatch net starts text) (λ b. IsMatch net starts text b.length b.rule b.alternative)
+  pub whole : (n : ℕ) (list : List LexerConfig) (best : Option Match) → (length text ≤ n) ⊎ (list ≡ [])
+      → SoFar net starts text n list best → MatchOption best (NoMatch net starts text)
+      (λ b. IsMatch net starts text b.length b.rule b.alternative)
   whole n list best over so = go best so.best_is
     where
-      past : (from m r : ℕ) (l : List LexerConfig) → NoneUpTo net starts text from n → from < m → ListAfter net starts text m l → HasEnd net l r → ⊥
+      past : (from m r : ℕ) (l : List LexerConfig) → NoneUpTo net starts text from n → from < m → ListAfter net starts text m l
+          → HasEnd net l r → ⊥
       past from m r l none lt o e = elim (split m) [
         | inl le ↦ none m r l lt le o e
         | inr more ↦ elim over [
           | inl all ↦ (let k = o.0 in absurd (omega arith))
-          | inr is ↦ (let k = empty_stays (drop n text) (subst (ListAt net starts text (drop n text)) is so.after.1) (drop m text) l o.1 (shorter m more) in absurd (subst (In e.0) k e.1))
+          | inr is ↦ (let k = empty_stays (drop n text) (subst (ListAt net starts text (drop n text)) is so.after.1) (drop m text) l
+              o.1 (shorter m more) in absurd (subst (In e.0) k e.1))
         ]
       ]
         where
@@ -191,7 +225,8 @@ module _ (net : LexerNetwork) (starts : List LexerConfig) (text : List ℕ) wher
           split : (m : ℕ) → (m ≤ n) ⊎ (n < m)
           split m = grind arith
 
-      go : (best : Option Match) → IsBestUpTo net starts text n best → MatchOption best (NoMatch net starts text) (λ b. IsMatch net starts text b.length b.rule b.alternative)
+      go : (best : Option Match) → IsBestUpTo net starts text n best
+          → MatchOption best (NoMatch net starts text) (λ b. IsMatch net starts text b.length b.rule b.alternative)
       go None h = λ m r l some o e. past 0 m r l h (omega arith) o e
       go (Some b) h = record { some = h.1; list = h.0; after = h.3; longest = λ m r l lt o e. past b.length m r l h.5 lt o e; tells = h.4 }
 

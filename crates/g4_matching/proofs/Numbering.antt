@@ -36,15 +36,18 @@ node_decides p q = (to, from)
     same n = sym (nat_cmp_is n n Equal refl)
 
     from : p ≡ q → is_eq (node_cmp p q) ≡ true
-    from e = subst (λ (x : ℕ × ℕ). is_eq (node_cmp p x) ≡ true) e ((Equal-is (node_cmp p p)).1 (then_equal (nat_cmp p.0 p.0) (nat_cmp p.1 p.1) (same p.0) (same p.1)))
+    from e = subst (λ (x : ℕ × ℕ). is_eq (node_cmp p x) ≡ true) e
+        ((Equal-is (node_cmp p p)).1 (then_equal (nat_cmp p.0 p.0) (nat_cmp p.1 p.1) (same p.0) (same p.1)))
 
 -- one node more, in the list and in its map
-numbered_more : (nodes : List (ℕ × ℕ)) (m m' : BTreeMap (ℕ × ℕ) ℕ) (p : ℕ × ℕ) (n : ℕ) → n ≡ length nodes + 1 → IsStore nodes m → get node_cmp m p ≡ None
+numbered_more : (nodes : List (ℕ × ℕ)) (m m' : BTreeMap (ℕ × ℕ) ℕ) (p : ℕ × ℕ) (n : ℕ) → n ≡ length nodes + 1 → IsStore nodes m
+    → get node_cmp m p ≡ None
     → ((q : ℕ × ℕ) → get node_cmp m' q ≡ cond (is_at (node_cmp p) q) (Some n) (get node_cmp m q))
     → (q : ℕ × ℕ) (i : ℕ) → (get node_cmp m' q ≡ Some i) ↔ ((k : ℕ) × (i ≡ k + 1) × (slice_get (nodes ++ p ∷ []) k ≡ Some q))
 numbered_more nodes m m' p n is_n store absent updates q i = by (is_eq (node_cmp p q)) refl
   where
-    by : (t : Bool) → is_eq (node_cmp p q) ≡ t → (get node_cmp m' q ≡ Some i) ↔ ((k : ℕ) × (i ≡ k + 1) × (slice_get (nodes ++ p ∷ []) k ≡ Some q))
+    by : (t : Bool) → is_eq (node_cmp p q) ≡ t → (get node_cmp m' q ≡ Some i)
+        ↔ ((k : ℕ) × (i ≡ k + 1) × (slice_get (nodes ++ p ∷ []) k ≡ Some q))
     by true e =
         let same : p ≡ q = (node_decides p q).0 e in
         let found : get node_cmp m' q ≡ Some n = updates q ∙ ap (λ (t : Bool). cond t (Some n) (get node_cmp m q)) e in (
@@ -64,7 +67,8 @@ numbered_more nodes m m' p n is_n store absent updates q i = by (is_eq (node_cmp
         )
 
 -- a store with one node more
-pub one_node_more : (nodes new : List (ℕ × ℕ)) (m m' : BTreeMap (ℕ × ℕ) ℕ) (p : ℕ × ℕ) (n : ℕ) → n ≡ length nodes + 1 → p.1 < length nodes + 1 → n < 2 ^ 32 - 1 → IsStore nodes m → get node_cmp m p ≡ None
+pub one_node_more : (nodes new : List (ℕ × ℕ)) (m m' : BTreeMap (ℕ × ℕ) ℕ) (p : ℕ × ℕ) (n : ℕ) → n ≡ length nodes + 1
+    → p.1 < length nodes + 1 → n < 2 ^ 32 - 1 → IsStore nodes m → get node_cmp m p ≡ None
     → ((q : ℕ × ℕ) → get node_cmp m' q ≡ cond (is_at (node_cmp p) q) (Some n) (get node_cmp m q)) → new ≡ nodes ++ p ∷ [] → IsStore new m'
 one_node_more nodes new m m' p n is_n low few store absent updates grown = subst (λ (l : List (ℕ × ℕ)). IsStore l m') (sym grown) (record {
   numbered = numbered_more nodes m m' p n is_n store absent updates;
@@ -76,7 +80,8 @@ one_node_more nodes new m m' p n is_n low few store absent updates grown = subst
 })
 
 -- a store whose map is unchanged
-pub unchanged : (nodes new : List (ℕ × ℕ)) (m m' : BTreeMap (ℕ × ℕ) ℕ) → new ≡ nodes → ((q : ℕ × ℕ) → get node_cmp m' q ≡ get node_cmp m q) → IsStore nodes m → IsStore new m'
+pub unchanged : (nodes new : List (ℕ × ℕ)) (m m' : BTreeMap (ℕ × ℕ) ℕ) → new ≡ nodes
+    → ((q : ℕ × ℕ) → get node_cmp m' q ≡ get node_cmp m q) → IsStore nodes m → IsStore new m'
 unchanged nodes new m m' same kept store = subst (λ (l : List (ℕ × ℕ)). IsStore l m') (sym same) (record {
   numbered = λ q n. ((λ h. (store.numbered q n).0 (sym (kept q) ∙ h)), λ h. kept q ∙ (store.numbered q n).1 h);
   below = store.below;

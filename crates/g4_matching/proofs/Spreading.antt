@@ -37,7 +37,13 @@ module _ (net : LexerNetwork) (last : Bool) where
   split [] ys zs e = record { front = []; back = zs; is = refl; first = nothing; second = e }
   split (x ∷ xs) ys zs (each _ _ us vs e f) =
       let s = split xs ys vs f in
-      record { front = x ∷ us ++ s.front; back = s.back; is = ap (λ l. x ∷ l) (ap (λ l. us ++ l) s.is ∙ sym (append_assoc us s.front s.back)); first = each x xs us s.front e s.first; second = s.second }
+      record {
+        front = x ∷ us ++ s.front;
+        back = s.back;
+        is = ap (λ l. x ∷ l) (ap (λ l. us ++ l) s.is ∙ sym (append_assoc us s.front s.back));
+        first = each x xs us s.front e s.first;
+        second = s.second;
+      }
 
   -- what is reached is reached by a first step, if by any
   reach_first : (c e : LexerConfig) → Reaches net last c e → (e ≡ c) ⊎ ((d : LexerConfig) × In d (leads net last c) × Reaches net last d e)
@@ -62,7 +68,8 @@ module _ (net : LexerNetwork) (last : Bool) where
     lighter c d g i = let e = each_within weight (leads net last c) d i in let h = weighs.more c g in omega arith
 
     -- every list of configurations has an expansion
-    expansion_within : (n : ℕ) (cs : List LexerConfig) → AllGood Good cs → total weight cs < n → (zs : List LexerConfig) × Expands net last cs zs
+    expansion_within : (n : ℕ) (cs : List LexerConfig) → AllGood Good cs → total weight cs < n
+        → (zs : List LexerConfig) × Expands net last cs zs
     expansion_within zero cs g lt = absurd (omega arith)
     expansion_within (suc n) [] g lt = ([], nothing)
     expansion_within (suc n) (c ∷ cs) g lt =
@@ -90,18 +97,24 @@ module _ (net : LexerNetwork) (last : Bool) where
       late_on all c e l (further f _ r i) = lasting.inherits all f e (late_on all c f l r) i
 
       -- where nothing pending is lighter, all that a listed configuration leads to is dropped
-      settled_at : (all cs : List LexerConfig) (c : LexerConfig) (front back : List LexerConfig) → c ∷ cs ≡ front ++ back → ((d : LexerConfig) → In d front → weight d < weight c)
-          → ((e : LexerConfig) → Reaches net last c e → IsDropped Late all e ⊎ ((d : LexerConfig) × In d front × Reaches net last d e)) → (e : LexerConfig) → Reaches net last c e → IsDropped Late all e
+      settled_at : (all cs : List LexerConfig) (c : LexerConfig) (front back : List LexerConfig) → c ∷ cs ≡ front ++ back
+          → ((d : LexerConfig) → In d front → weight d < weight c)
+          → ((e : LexerConfig) → Reaches net last c e
+          → IsDropped Late all e ⊎ ((d : LexerConfig) × In d front × Reaches net last d e)) → (e : LexerConfig)
+          → Reaches net last c e → IsDropped Late all e
       settled_at all cs c [] back is less rest e r = elim (rest e r) [ inl h ↦ h | inr h ↦ absurd h.1 ]
-      settled_at all cs c (f ∷ front) back is less rest e r = let h : weight f < weight c = less f (inl refl) in let same : c ≡ f = cc in let w = ap weight same in absurd (omega arith)
+      settled_at all cs c (f ∷ front) back is less rest e r = let h : weight f < weight c = less f (inl refl) in
+          let same : c ≡ f = cc in let w = ap weight same in absurd (omega arith)
 
       -- where the first that is pending is dropped, so is all that it leads to
-      dropped_on : (all cs : List LexerConfig) (c : LexerConfig) → ((x : LexerConfig) → In x all → Settles all (c ∷ cs) x) → IsDropped Late all c → (e : LexerConfig) → Reaches net last c e → IsDropped Late all e
+      dropped_on : (all cs : List LexerConfig) (c : LexerConfig) → ((x : LexerConfig) → In x all → Settles all (c ∷ cs) x)
+          → IsDropped Late all c → (e : LexerConfig) → Reaches net last c e → IsDropped Late all e
       dropped_on all cs c settles (inl i) e r = let s = settles c i in settled_at all cs c s.front s.back s.is s.less s.rest e r
       dropped_on all cs c settles (inr l) e r = inr (late_on all c e l r)
 
       -- what is dropped appends nothing
-      drop_all : (new xs ys all : List LexerConfig) → ((x : LexerConfig) → In x xs → IsDropped Late all x) → Appends Late new ys all → Appends Late new (xs ++ ys) all
+      drop_all : (new xs ys all : List LexerConfig) → ((x : LexerConfig) → In x xs → IsDropped Late all x) → Appends Late new ys all
+          → Appends Late new (xs ++ ys) all
       drop_all new [] ys all h a = a
       drop_all new (x ∷ xs) ys all h a = dropped x (xs ++ ys) all (h x (inl refl)) (drop_all new xs ys all (λ y i. h y (inr i)) a)
 
@@ -111,11 +124,13 @@ module _ (net : LexerNetwork) (last : Bool) where
       still_dropped all c e (inr l) = inr (lasting.grows all c e l)
 
       -- one that is dropped
-      passes : (all cs : List LexerConfig) (c x : LexerConfig) → ((e : LexerConfig) → Reaches net last c e → IsDropped Late all e) → Settles all (c ∷ cs) x → Settles all cs x
+      passes : (all cs : List LexerConfig) (c x : LexerConfig) → ((e : LexerConfig) → Reaches net last c e → IsDropped Late all e)
+          → Settles all (c ∷ cs) x → Settles all cs x
       passes all cs c x gone s = go s.front s.is s.less s.rest
         where
           go : (front : List LexerConfig) → c ∷ cs ≡ front ++ s.back → ((d : LexerConfig) → In d front → weight d < weight x)
-              → ((e : LexerConfig) → Reaches net last x e → IsDropped Late all e ⊎ ((d : LexerConfig) × In d front × Reaches net last d e)) → Settles all cs x
+              → ((e : LexerConfig) → Reaches net last x e
+              → IsDropped Late all e ⊎ ((d : LexerConfig) × In d front × Reaches net last d e)) → Settles all cs x
           go [] is less rest = record { front = []; back = cs; is = refl; less = λ d i. absurd i; rest = rest }
           go (f ∷ front) is less rest = record {
             front = front;
@@ -124,7 +139,11 @@ module _ (net : LexerNetwork) (last : Bool) where
             less = λ d i. less d (inr i);
             rest = λ e r. elim (rest e r) [
               | inl h ↦ inl h
-              | inr h ↦ elim h.1 [ inl same ↦ inl (gone e (subst (λ y. Reaches net last y e) (same ∙ heads) h.2)) | inr j ↦ inr (h.0, j, h.2) ]
+              | inr h ↦ elim h.1 [
+                | inl same ↦ inl (gone e (subst (λ y. Reaches net last y e) (same ∙ heads) h.2))
+                | inr j ↦ inr
+                    (h.0, j, h.2)
+              ]
             ];
           }
             where
@@ -132,11 +151,14 @@ module _ (net : LexerNetwork) (last : Bool) where
               heads = cc
 
       -- one that is appended
-      opened : (all cs : List LexerConfig) (c x : LexerConfig) → Good c → Settles all (c ∷ cs) x → Settles (all ++ c ∷ []) (leads net last c ++ cs) x
+      opened : (all cs : List LexerConfig) (c x : LexerConfig) → Good c → Settles all (c ∷ cs) x
+          → Settles (all ++ c ∷ []) (leads net last c ++ cs) x
       opened all cs c x g s = go s.front s.is s.less s.rest
         where
           go : (front : List LexerConfig) → c ∷ cs ≡ front ++ s.back → ((d : LexerConfig) → In d front → weight d < weight x)
-              → ((e : LexerConfig) → Reaches net last x e → IsDropped Late all e ⊎ ((d : LexerConfig) × In d front × Reaches net last d e)) → Settles (all ++ c ∷ []) (leads net last c ++ cs) x
+              → ((e : LexerConfig) → Reaches net last x e
+              → IsDropped Late all e ⊎ ((d : LexerConfig) × In d front × Reaches net last d e))
+              → Settles (all ++ c ∷ []) (leads net last c ++ cs) x
           go [] is less rest = record {
             front = [];
             back = leads net last c ++ cs;
@@ -147,7 +169,8 @@ module _ (net : LexerNetwork) (last : Bool) where
           go (f ∷ front) is less rest = record {
             front = leads net last c ++ front;
             back = s.back;
-            is = let t : cs ≡ front ++ s.back = cc in ap (λ l. leads net last c ++ l) t ∙ sym (append_assoc (leads net last c) front s.back);
+            is = let t : cs ≡ front ++ s.back = cc in
+                ap (λ l. leads net last c ++ l) t ∙ sym (append_assoc (leads net last c) front s.back);
             less = λ d i. elim (In-cases (leads net last c) front d i) [
               | inl j ↦ (let p = lighter c d g j in let q = less f (inl refl) in let w = ap weight heads in omega arith)
               | inr j ↦ less d (inr j)
@@ -178,10 +201,13 @@ module _ (net : LexerNetwork) (last : Bool) where
       }
 
   -- what the loop keeps of the list so far and of what is pending
-  pub record Spreading (weight : LexerConfig → ℕ) (Good : LexerConfig → Type 0) (Late : List LexerConfig → LexerConfig → Type 0) (starts all pending : List LexerConfig) : Type 0 where
+  pub record Spreading (weight : LexerConfig → ℕ) (Good : LexerConfig → Type 0) (Late : List LexerConfig → LexerConfig → Type 0)
+      (starts all pending : List LexerConfig) : Type 0 where
     -- what appending the rest makes of the list, appending the whole expansion makes of the empty one
-    pub goal : (new zs : List LexerConfig) → Expands net last pending zs → Appends Late new zs all → (us : List LexerConfig) × Expands net last starts us × Appends Late new us []
-    pub settles : (weighs : Weighs weight Good) (lasting : IsLasting net last Late) (c : LexerConfig) → In c all → Settles weight Good weighs Late lasting all pending c
+    pub goal : (new zs : List LexerConfig) → Expands net last pending zs → Appends Late new zs all
+        → (us : List LexerConfig) × Expands net last starts us × Appends Late new us []
+    pub settles : (weighs : Weighs weight Good) (lasting : IsLasting net last Late) (c : LexerConfig) → In c all
+        → Settles weight Good weighs Late lasting all pending c
     pub good : AllGood Good pending
 
   module _ (weight : LexerConfig → ℕ) (Good : LexerConfig → Type 0) (Late : List LexerConfig → LexerConfig → Type 0) where
@@ -190,11 +216,15 @@ module _ (net : LexerNetwork) (last : Bool) where
     begins starts g = record { goal = λ new zs e a. (zs, e, a); settles = λ w l c i. absurd i; good = g }
 
     -- when one is dropped
-    pub passes_over : (starts all cs : List LexerConfig) (c : LexerConfig) → Weighs weight Good → IsLasting net last Late → IsDropped Late all c → Spreading weight Good Late starts all (c ∷ cs) → Spreading weight Good Late starts all cs
+    pub passes_over : (starts all cs : List LexerConfig) (c : LexerConfig) → Weighs weight Good → IsLasting net last Late
+        → IsDropped Late all c → Spreading weight Good Late starts all (c ∷ cs) → Spreading weight Good Late starts all cs
     passes_over starts all cs c weighs lasting drop h = record {
       goal = λ new ys e a. let x = expansion weight Good weighs (leads net last c) (λ d i. weighs.good c d (h.good c (inl refl)) i) in
-          h.goal new (c ∷ x.0 ++ ys) (each c cs x.0 ys x.1 e) (dropped c (x.0 ++ ys) all drop (drop_all weight Good weighs Late lasting new x.0 ys all (λ y i. let r = led net last (leads net last c) x.0 x.1 y i in gone y (from_step net last c r.0 y r.1 r.2)) a));
-      settles = λ w l x i. passes weight Good w Late l all cs c x (dropped_on weight Good w Late l all cs c (h.settles w l) drop) (h.settles w l x i);
+          h.goal new (c ∷ x.0 ++ ys) (each c cs x.0 ys x.1 e)
+          (dropped c (x.0 ++ ys) all drop (drop_all weight Good weighs Late lasting new x.0 ys all
+          (λ y i. let r = led net last (leads net last c) x.0 x.1 y i in gone y (from_step net last c r.0 y r.1 r.2)) a));
+      settles = λ w l x i. passes weight Good w Late l all cs c x (dropped_on weight Good w Late l all cs c (h.settles w l) drop)
+          (h.settles w l x i);
       good = λ x i. h.good x (inr i);
     }
       where
@@ -202,19 +232,27 @@ module _ (net : LexerNetwork) (last : Bool) where
         gone = dropped_on weight Good weighs Late lasting all cs c (h.settles weighs lasting) drop
 
     -- when one is appended
-    pub takes_in : (starts all cs : List LexerConfig) (c : LexerConfig) → Weighs weight Good → (IsDropped Late all c → ⊥) → Spreading weight Good Late starts all (c ∷ cs) → Spreading weight Good Late starts (all ++ c ∷ []) (leads net last c ++ cs)
+    pub takes_in : (starts all cs : List LexerConfig) (c : LexerConfig) → Weighs weight Good → (IsDropped Late all c → ⊥)
+        → Spreading weight Good Late starts all (c ∷ cs) → Spreading weight Good Late starts (all ++ c ∷ []) (leads net last c ++ cs)
     takes_in starts all cs c weighs new' h = record {
       goal = λ new zs e a. let s = split (leads net last c) cs zs e in
-          h.goal new (c ∷ s.front ++ s.back) (each c cs s.front s.back s.first s.second) (appended c (s.front ++ s.back) all new' (subst (λ l. Appends Late new l (all ++ c ∷ [])) s.is a));
+          h.goal new (c ∷ s.front ++ s.back) (each c cs s.front s.back s.first s.second)
+          (appended c (s.front ++ s.back) all new' (subst (λ l. Appends Late new l (all ++ c ∷ [])) s.is a));
       settles = λ w l x i. elim (In-cases all (c ∷ []) x i) [
         | inl j ↦ opened weight Good w Late l all cs c x (h.good c (inl refl)) (h.settles w l x j)
-        | inr j ↦ elim j [ inl is ↦ subst (Settles weight Good w Late l (all ++ c ∷ []) (leads net last c ++ cs)) (sym is) (own weight Good w Late l all cs c (h.good c (inl refl))) | inr no' ↦ absurd no' ]
+        | inr j ↦ elim j [
+          | inl is ↦ subst (Settles weight Good w Late l (all ++ c ∷ []) (leads net last c ++ cs)) (sym is)
+              (own weight Good w Late l all cs c (h.good c (inl refl)))
+          | inr no' ↦ absurd no'
+        ]
       ];
-      good = λ x i. elim (In-cases (leads net last c) cs x i) [ inl j ↦ weighs.good c x (h.good c (inl refl)) j | inr j ↦ h.good x (inr j) ];
+      good = λ x i. elim (In-cases (leads net last c) cs x i)
+          [ inl j ↦ weighs.good c x (h.good c (inl refl)) j | inr j ↦ h.good x (inr j) ];
     }
 
     -- when nothing is pending
-    pub ended : (starts all : List LexerConfig) → Spreading weight Good Late starts all [] → (us : List LexerConfig) × Expands net last starts us × Appends Late all us []
+    pub ended : (starts all : List LexerConfig) → Spreading weight Good Late starts all []
+        → (us : List LexerConfig) × Expands net last starts us × Appends Late all us []
     ended starts all h = h.goal all [] nothing done
 
 -- the size of its expansion is a configuration's weight

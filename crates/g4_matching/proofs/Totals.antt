@@ -32,18 +32,22 @@ size net last zero c = 0
 size net last (suc n) c = suc (total (size net last n) (leads net last c))
 
 -- more steps count no more, where fewer follow one another
-stable : (net : LexerNetwork) (last : Bool) (m n : ℕ) (c : LexerConfig) → m ≤ n → EndsWithin net last m c → size net last n c ≡ size net last m c
+stable : (net : LexerNetwork) (last : Bool) (m n : ℕ) (c : LexerConfig) → m ≤ n → EndsWithin net last m c
+    → size net last n c ≡ size net last m c
 unfolding size
 stable net last zero n c le h = absurd h
 stable net last (suc m) zero c le h = absurd (omega arith)
-stable net last (suc m) (suc n) c le h = ap suc (same_total (size net last n) (size net last m) (leads net last c) (λ d i. stable net last m n d (omega arith) (h d i)))
+stable net last (suc m) (suc n) c le h = ap suc
+    (same_total (size net last n) (size net last m) (leads net last c) (λ d i. stable net last m n d (omega arith) (h d i)))
 
 -- what a configuration leads to has less below it
-pub size_more : (net : LexerNetwork) (last : Bool) (n : ℕ) (c : LexerConfig) → EndsWithin net last n c → total (size net last n) (leads net last c) < size net last n c
+pub size_more : (net : LexerNetwork) (last : Bool) (n : ℕ) (c : LexerConfig) → EndsWithin net last n c
+    → total (size net last n) (leads net last c) < size net last n c
 unfolding size
 size_more net last zero c h = absurd h
 size_more net last (suc n) c h =
-    let e = same_total (size net last (suc n)) (size net last n) (leads net last c) (λ d i. stable net last n (suc n) d (omega arith) (h d i)) in omega arith
+    let e = same_total (size net last (suc n)) (size net last n) (leads net last c)
+    (λ d i. stable net last n (suc n) d (omega arith) (h d i)) in omega arith
 
 -- what ends within some steps ends within one more
 ends_one_later : (net : LexerNetwork) (last : Bool) (n : ℕ) (c : LexerConfig) → EndsWithin net last n c → EndsWithin net last (suc n) c
@@ -51,6 +55,7 @@ ends_one_later net last zero c h = absurd h
 ends_one_later net last (suc n) c h = λ d i. ends_one_later net last n d (h d i)
 
 -- and so does what it leads to
-pub ends_on : (net : LexerNetwork) (last : Bool) (n : ℕ) (c d : LexerConfig) → EndsWithin net last n c → In d (leads net last c) → EndsWithin net last n d
+pub ends_on : (net : LexerNetwork) (last : Bool) (n : ℕ) (c d : LexerConfig) → EndsWithin net last n c → In d (leads net last c)
+    → EndsWithin net last n d
 ends_on net last zero c d h i = absurd h
 ends_on net last (suc n) c d h i = ends_one_later net last n d (h d i)

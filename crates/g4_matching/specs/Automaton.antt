@@ -47,12 +47,14 @@ cell_of bounds list a = list * class_count bounds + class_in bounds a
 
 -- What is learned is right: each list gives its end; what is noted for a list and a class is the list after it, by each character of
 -- that class; what is noted for a mode is its first list.
-pub record AreLearned (net : LexerNetwork) (modes : List (List Start)) (bounds : List ℕ) (returns : List (List ℕ)) (lists : List Learned) (next firsts : List (Option ℕ)) : Type 0 where
+pub record AreLearned (net : LexerNetwork) (modes : List (List Start)) (bounds : List ℕ) (returns : List (List ℕ))
+    (lists : List Learned) (next firsts : List (Option ℕ)) : Type 0 where
   pub alike : AreAlikeBy net bounds
   pub cells : length next ≡ length lists * class_count bounds
   pub known : (n : ℕ) (l : Learned) → slice_get lists n ≡ Some l → AreKnown returns l.entries.items
   pub ends : (n : ℕ) (l : Learned) → slice_get lists n ≡ Some l → TellsEnd net (configs_of returns l.entries.items) l.end
-  pub noted : (a from to : ℕ) → from < length lists → slice_get next (cell_of bounds from a) ≡ Some (Some to) → StepsTo net returns lists a from to
+  pub noted : (a from to : ℕ) → from < length lists → slice_get next (cell_of bounds from a) ≡ Some (Some to)
+      → StepsTo net returns lists a from to
   pub begun : (mode n : ℕ) → slice_get firsts mode ≡ Some (Some n) → Begins net (starts_in modes mode) returns lists n
 
 -- so it is in an automaton for these modes

@@ -31,4 +31,5 @@ bounds_at (Empty t) = []
 
 -- the list has the bounds of each edge of the network
 abbrev pub AreBounds : LexerNetwork → List ℕ → Type 0
-AreBounds net bounds = (p t b : ℕ) (set : List Range) → state_at net p ≡ Some (Edge (Characters set) t) → Contains (bounds_of set) b → Contains bounds b
+AreBounds net bounds = (p t b : ℕ) (set : List Range) → state_at net p ≡ Some (Edge (Characters set) t) → Contains (bounds_of set) b
+    → Contains bounds b

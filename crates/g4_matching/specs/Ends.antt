@@ -26,7 +26,8 @@ IsEndAt net list rule place = (e : Entry) × (slice_get list place ≡ Some e) �
 
 -- for each rule whose end is in the list, the place of one is noted
 abbrev pub AreEnds : LexerNetwork → List Entry → List ℕ → Type 0
-AreEnds net list ends = (k : ℕ) (e : Entry) → slice_get list k ≡ Some e → EndsAt net e → (place : ℕ) × (slice_get ends e.rule ≡ Some place) × IsEndAt net list e.rule place
+AreEnds net list ends = (k : ℕ) (e : Entry) → slice_get list k ≡ Some e → EndsAt net e
+    → (place : ℕ) × (slice_get ends e.rule ≡ Some place) × IsEndAt net list e.rule place
 
 -- no rule ends in the list
 abbrev pub HasNoEnd : LexerNetwork → List LexerConfig → Type 0

@@ -11,7 +11,13 @@ use Rattle.g4_matching.specs.declared.entry.Entry.{Entry}
 
 -- the configuration of an entry
 abbrev pub config_of : List (List ℕ) → Entry → LexerConfig
-config_of lists e = record { rule = e.rule; alternative = e.alternative; state = e.state; returns = slice_index_or lists e.returns []; passed = e.passed }
+config_of lists e = record {
+  rule = e.rule;
+  alternative = e.alternative;
+  state = e.state;
+  returns = slice_index_or lists e.returns [];
+  passed = e.passed;
+}
 
 -- those of entries, in their order
 abbrev pub configs_of : List (List ℕ) → List Entry → List LexerConfig

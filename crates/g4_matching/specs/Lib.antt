@@ -1,3 +1,5 @@
+-- Other crates cite Matcher; only this crate cites Automaton, Bounds, Cells, Classes, Ends, Entries, Expanding, Listed, Listing,
+-- Places, Returns, Waiting.
 pub mod Automaton
 pub mod Bounds
 pub mod Cells

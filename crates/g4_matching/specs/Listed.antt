@@ -20,5 +20,6 @@ IsNewest list key (Some place) = IsAt list key place × ((k : ℕ) → IsAt list
 -- of the newest.
 pub record IsIndexed (list : List Entry) (earlier : List (Option ℕ)) (newest : List ℕ) : Type 0 where
   pub as_many : length earlier ≡ length list
-  pub linked : (k : ℕ) (e : Entry) (link : Option ℕ) → slice_get list k ≡ Some e → slice_get earlier k ≡ Some link → IsNewest (take k list) (key_of e) link
+  pub linked : (k : ℕ) (e : Entry) (link : Option ℕ) → slice_get list k ≡ Some e → slice_get earlier k ≡ Some link
+      → IsNewest (take k list) (key_of e) link
   pub noted : (key k : ℕ) → IsAt list key k → (place : ℕ) × (slice_get newest key ≡ Some place) × IsNewest list key (Some place)

@@ -6,12 +6,12 @@ ghost use Rattle.g4_matching.specs.declared.learned.Learned.{Learned as List};
 ghost use Rattle.g4_matching.specs.Automaton.{HasEntries, IsForgotten, IsSound, KeepsLists, MakesNext, StepsTo, cell_of, class_count, starts_in};
 ghost use Rattle.g4_matching.specs.Listing.{IsReady, listed, returns_of};
 
+use crate::CharClasses;
 use crate::cells::note;
 use crate::learned::{Learned, are_same, earlier_than, hash_of};
 use crate::listing::Listing;
 use crate::modes::Modes;
 use crate::rule_end::RuleEnd;
-use crate::CharClasses;
 use std::alloc::{AllocError, Global};
 use std::collections::BTreeMap;
 

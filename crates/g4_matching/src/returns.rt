@@ -63,7 +63,8 @@ impl Returns {
     /// The state on top of a list, and the number of the list below it.
     pub fn top(&self, number: u32) -> Option<(u32, u32)>
         requires { number < length self.now }
-        ensures { MatchOption result (slice_index_or self.now number [] ≡ []) (λ p. (p.1 < length self.now) × (slice_index_or self.now number [] ≡ pushed self.now p.0 p.1)) }
+        ensures { MatchOption result (slice_index_or self.now number [] ≡ [])
+            (λ p. (p.1 < length self.now) × (slice_index_or self.now number [] ≡ pushed self.now p.0 p.1)) }
     {
         let nodes = self.nodes.as_slice();
         if number == 0 {

@@ -132,7 +132,8 @@ impl Waiting {
     fn push_through(&mut self, from: Entry, targets: &[u32]) -> Result<(), AllocError>
         requires known { IsKnown self.old.returns from }
         requires waiting { AreKnown self.old.returns self.old.entries.items }
-        ensures { OnOk result (Adds self.old self.new (map (through (is_reluctant targets.now) (config_of self.old.returns from)) targets.now)) }
+        ensures { OnOk result (Adds self.old self.new
+            (map (through (is_reluctant targets.now) (config_of self.old.returns from)) targets.now)) }
     {
         let passed = passes(targets, from.passed);
         push_each(&mut self.entries, Entry { passed, ..from }, targets)?;
@@ -143,7 +144,8 @@ impl Waiting {
     fn push_called(&mut self, from: Entry, rule: u32, back: u32) -> Result<(), AllocError>
         requires known { IsKnown self.old.returns from }
         requires waiting { AreKnown self.old.returns self.old.entries.items }
-        ensures { OnOk result (let c = config_of self.old.returns from in Adds self.old self.new (at_with c (start_of rule) (back ∷ c.returns) ∷ [])) }
+        ensures { OnOk result (let c = config_of self.old.returns from in
+            Adds self.old self.new (at_with c (start_of rule) (back ∷ c.returns) ∷ [])) }
     {
         let returns = self.returns.push(back, from.returns)?;
         let state = 2 * rule as usize;
@@ -233,7 +235,8 @@ impl Waiting {
         requires { AreKnown self.old.returns list.now }
         ensures same { OnOk result (self.new.returns ≡ self.old.returns) }
         ensures known { OnOk result (AreKnown self.new.returns self.new.entries.items) }
-        ensures waiting { OnOk result (ReadAll net.now character (configs_of self.new.returns list.now) (stacked self.new.returns self.new.entries.items)) }
+        ensures waiting { OnOk result (ReadAll net.now character (configs_of self.new.returns list.now)
+            (stacked self.new.returns self.new.entries.items)) }
     {
         self.entries.clear();
         for entry in list.iter().rev() {

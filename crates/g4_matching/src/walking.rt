@@ -18,7 +18,8 @@ impl Automaton {
         requires lexable { IsLexable modes.now.net.now }
         requires sound { IsSound modes.now self.old }
         ensures sound { IsSound modes.now self.new }
-        ensures first { IfOk result (Begins modes.now.net.now (starts_in modes.now.starts.now mode) (returns_of self.new.listing) self.new.lists.items) }
+        ensures first { IfOk result (Begins modes.now.net.now (starts_in modes.now.starts.now mode) (returns_of self.new.listing)
+            self.new.lists.items) }
     {
         self.make_first(modes, mode)?;
         let number = self.learn(modes)?;
@@ -31,7 +32,8 @@ impl Automaton {
         requires lexable { IsLexable modes.now.net.now }
         requires sound { IsSound modes.now self.old }
         ensures sound { IsSound modes.now self.new }
-        ensures first { IfOk result (Begins modes.now.net.now (starts_in modes.now.starts.now mode) (returns_of self.new.listing) self.new.lists.items) }
+        ensures first { IfOk result (Begins modes.now.net.now (starts_in modes.now.starts.now mode) (returns_of self.new.listing)
+            self.new.lists.items) }
     {
         if let Some(number) = noted(self.firsts.as_slice(), mode as usize) {
             return Ok(number);

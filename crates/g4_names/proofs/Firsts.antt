@@ -23,10 +23,12 @@ or_none None = refl
 or_none (Some k) = refl
 
 -- a name that is not there is given a number
-pub new_name : (old : List ℕ → Option ℕ) (name : List ℕ) (number : ℕ) → is_some (old name) ≡ false → (other : List ℕ) → cond (bytes_eq name other) (Some number) (old other) ≡ option_or (old other) (cond (bytes_eq name other) (Some number) None)
+pub new_name : (old : List ℕ → Option ℕ) (name : List ℕ) (number : ℕ) → is_some (old name) ≡ false → (other : List ℕ)
+    → cond (bytes_eq name other) (Some number) (old other) ≡ option_or (old other) (cond (bytes_eq name other) (Some number) None)
 new_name old name number absent other = by (bytes_eq name other) (old other) refl refl
   where
-    by : (b : Bool) (o : Option ℕ) → bytes_eq name other ≡ b → old other ≡ o → cond b (Some number) o ≡ option_or o (cond b (Some number) None)
+    by : (b : Bool) (o : Option ℕ) → bytes_eq name other ≡ b → old other ≡ o
+        → cond b (Some number) o ≡ option_or o (cond b (Some number) None)
     by true None e f = refl
     by true (Some k) e f =
         let same : name ≡ other = (bytes_eq-Decides name other).0 e in
@@ -34,7 +36,8 @@ new_name old name number absent other = by (bytes_eq name other) (old other) ref
     by false o e f = sym (or_none o)
 
 -- a name that is there keeps its number
-pub old_name : (old : List ℕ → Option ℕ) (name : List ℕ) (number : ℕ) → is_some (old name) ≡ true → (other : List ℕ) → old other ≡ option_or (old other) (cond (bytes_eq name other) (Some number) None)
+pub old_name : (old : List ℕ → Option ℕ) (name : List ℕ) (number : ℕ) → is_some (old name) ≡ true → (other : List ℕ)
+    → old other ≡ option_or (old other) (cond (bytes_eq name other) (Some number) None)
 old_name old name number there other = by (bytes_eq name other) (old other) refl refl
   where
     by : (b : Bool) (o : Option ℕ) → bytes_eq name other ≡ b → old other ≡ o → o ≡ option_or o (cond b (Some number) None)
@@ -49,7 +52,8 @@ position_or_len-within : {X : Type 0} (p : X → Bool) (xs : List X) → positio
 position_or_len-within p xs = prefix_len-le-length (λ y. not (p y)) xs
 
 -- the place of the first item that passes, with one item more
-pub position-push : {X : Type 0} (p : X → Bool) (xs : List X) (x : X) → position p (xs ++ x ∷ []) ≡ option_or (position p xs) (cond (p x) (Some (length xs)) None)
+pub position-push : {X : Type 0} (p : X → Bool) (xs : List X) (x : X)
+    → position p (xs ++ x ∷ []) ≡ option_or (position p xs) (cond (p x) (Some (length xs)) None)
 position-push p xs x =
     let short = position_or_len-within p xs in
     let next = position_or_len_push p xs x in
@@ -63,12 +67,15 @@ unwrap_or-position p xs =
     grind (arith, nat_tests)
 
 -- the places of the names before an index, with the next name
-pub one_more : (names : List (List ℕ)) (i : ℕ) (item name : List ℕ) (old new : Places) → i < length names → item ≡ get_or names i item → name ≡ item → ArePlaces (take i names) old →
-    ((other : List ℕ) → place_in new other ≡ option_or (place_in old other) (cond (bytes_eq name other) (Some i) None)) → ArePlaces (take (i + 1) names) new
+pub one_more : (names : List (List ℕ)) (i : ℕ) (item name : List ℕ) (old new : Places) → i < length names → item ≡ get_or names i item
+    → name ≡ item → ArePlaces (take i names) old →
+    ((other : List ℕ) → place_in new other ≡ option_or (place_in old other) (cond (bytes_eq name other) (Some i) None))
+    → ArePlaces (take (i + 1) names) new
 one_more names i item name old new within is same before added other =
     let front : List (List ℕ) = take i names in
     let test : List ℕ → Bool = λ (n : List ℕ). bytes_eq n other in
-    let next : take (i + 1) names ≡ front ++ name ∷ [] = take_more names i item within ∙ ap (λ (n : List ℕ). front ++ n ∷ []) (sym (same ∙ is)) in
+    let next : take (i + 1) names ≡ front ++ name ∷ [] =
+    take_more names i item within ∙ ap (λ (n : List ℕ). front ++ n ∷ []) (sym (same ∙ is)) in
     let long : length front ≡ i = omega (arith, length-take i names) in
     added other
     ∙ (ap (λ (o : Option ℕ). option_or o (cond (bytes_eq name other) (Some i) None)) (before other)

@@ -29,7 +29,8 @@ impl<'a> Places<'a> {
     /// # Errors
     /// No memory: then all is as it was.
     pub fn add(&mut self, name: &'a str, place: u32) -> Result<(), AllocError>
-        ensures added { OnOk result ((other : List ℕ) → place_in self.new other ≡ option_or (place_in self.old other) (if bytes_eq name.now other then Some place else None)) }
+        ensures added { OnOk result ((other : List ℕ)
+            → place_in self.new other ≡ option_or (place_in self.old other) (if bytes_eq name.now other then Some place else None)) }
         ensures kept { OnErr result ((other : List ℕ) → place_in self.new other ≡ place_in self.old other) }
     {
         if !self.by_name.contains_key(name) {

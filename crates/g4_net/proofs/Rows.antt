@@ -31,7 +31,8 @@ returns_order [] (u ∷ us) = inl tt
 returns_order (t ∷ ts) [] = inr (inr tt)
 returns_order (t ∷ ts) (u ∷ us) = by_heads (number_order t u) (returns_order ts us)
   where
-    by_heads : (t < u) ⊎ ((t ≡ u) ⊎ (u < t)) → ReturnsPrecede ts us ⊎ ((ts ≡ us) ⊎ ReturnsPrecede us ts) → ReturnsPrecede (t ∷ ts) (u ∷ us) ⊎ ((t ∷ ts ≡ u ∷ us) ⊎ ReturnsPrecede (u ∷ us) (t ∷ ts))
+    by_heads : (t < u) ⊎ ((t ≡ u) ⊎ (u < t)) → ReturnsPrecede ts us ⊎ ((ts ≡ us) ⊎ ReturnsPrecede us ts)
+        → ReturnsPrecede (t ∷ ts) (u ∷ us) ⊎ ((t ∷ ts ≡ u ∷ us) ⊎ ReturnsPrecede (u ∷ us) (t ∷ ts))
     by_heads (inl less) more = inl (inl less)
     by_heads (inr (inr less)) more = inr (inr (inl less))
     by_heads (inr (inl same)) (inl h) = inl (inr (same, h))
@@ -65,7 +66,8 @@ stack_order s t = by_returns (returns_order s.returns t.returns)
     by_marks true true v w e = inr (inl (stack_by_parts s t e (v ∙ sym w)))
     by_marks false false v w e = inr (inl (stack_by_parts s t e (v ∙ sym w)))
 
-    by_returns : ReturnsPrecede s.returns t.returns ⊎ ((s.returns ≡ t.returns) ⊎ ReturnsPrecede t.returns s.returns) → StackPrecedes s t ⊎ ((s ≡ t) ⊎ StackPrecedes t s)
+    by_returns : ReturnsPrecede s.returns t.returns ⊎ ((s.returns ≡ t.returns) ⊎ ReturnsPrecede t.returns s.returns)
+        → StackPrecedes s t ⊎ ((s ≡ t) ⊎ StackPrecedes t s)
     by_returns (inl h) = inl (inl h)
     by_returns (inr (inl e)) = by_marks s.wild t.wild refl refl e
     by_returns (inr (inr h)) = inr (inr (inl h))
@@ -77,7 +79,9 @@ irreflexive c (inl less) = omega arith
 irreflexive c (inr (_, inl less)) = omega arith
 irreflexive c (inr (_, inr h)) = stack_irreflexive c.stack h.1
 
-alternatives_transitive : (c d e : Config) → (c.alt < d.alt) ⊎ ((c.alt ≡ d.alt) × StackPrecedes c.stack d.stack) → (d.alt < e.alt) ⊎ ((d.alt ≡ e.alt) × StackPrecedes d.stack e.stack) → (c.alt < e.alt) ⊎ ((c.alt ≡ e.alt) × StackPrecedes c.stack e.stack)
+alternatives_transitive : (c d e : Config) → (c.alt < d.alt) ⊎ ((c.alt ≡ d.alt) × StackPrecedes c.stack d.stack)
+    → (d.alt < e.alt) ⊎ ((d.alt ≡ e.alt) × StackPrecedes d.stack e.stack)
+    → (c.alt < e.alt) ⊎ ((c.alt ≡ e.alt) × StackPrecedes c.stack e.stack)
 alternatives_transitive c d e (inl h) (inl k) = inl (omega arith)
 alternatives_transitive c d e (inl h) (inr k) = inl (omega (arith, k.0))
 alternatives_transitive c d e (inr h) (inl k) = inl (omega (arith, h.0))
@@ -91,12 +95,14 @@ transitive c d e (inr h) (inr k) = inr (h.0 ∙ k.0, alternatives_transitive c d
 
 -- a configuration by its parts
 by_parts : (c d : Config) → c.state ≡ d.state → c.alt ≡ d.alt → c.stack ≡ d.stack → c ≡ d
-by_parts c d p i s = ap (λ (q : ℕ). config q c.alt c.stack) p ∙ ap (λ (a : ℕ). config d.state a c.stack) i ∙ ap (λ (z : Stack). config d.state d.alt z) s
+by_parts c d p i s = ap (λ (q : ℕ). config q c.alt c.stack) p ∙ ap (λ (a : ℕ). config d.state a c.stack) i
+    ∙ ap (λ (z : Stack). config d.state d.alt z) s
 
 order : (c d : Config) → Precedes c d ⊎ ((c ≡ d) ⊎ Precedes d c)
 order c d = by_states (number_order c.state d.state)
   where
-    by_stacks : c.state ≡ d.state → c.alt ≡ d.alt → StackPrecedes c.stack d.stack ⊎ ((c.stack ≡ d.stack) ⊎ StackPrecedes d.stack c.stack) → Precedes c d ⊎ ((c ≡ d) ⊎ Precedes d c)
+    by_stacks : c.state ≡ d.state → c.alt ≡ d.alt
+        → StackPrecedes c.stack d.stack ⊎ ((c.stack ≡ d.stack) ⊎ StackPrecedes d.stack c.stack) → Precedes c d ⊎ ((c ≡ d) ⊎ Precedes d c)
     by_stacks p i (inl h) = inl (inr (p, inr (i, h)))
     by_stacks p i (inr (inl s)) = inr (inl (by_parts c d p i s))
     by_stacks p i (inr (inr h)) = inr (inr (inr (sym p, inr (sym i, h))))
@@ -132,27 +138,31 @@ first_rising c (d ∷ ds) before rising = (before d (inl refl), rising)
 same_first : (c d : Config) (cs ds : List Config) → IsRising (c ∷ cs) → IsRising (d ∷ ds) → In c (d ∷ ds) → In d (c ∷ cs) → c ≡ d
 same_first c d cs ds up up' (inl is) j = is
 same_first c d cs ds up up' (inr i) (inl is) = sym is
-same_first c d cs ds up up' (inr i) (inr j) = absurd (irreflexive c (transitive c d c (first_precedes c d cs up j) (first_precedes d c ds up' i)))
+same_first c d cs ds up up' (inr i) (inr j) =
+    absurd (irreflexive c (transitive c d c (first_precedes c d cs up j) (first_precedes d c ds up' i)))
 
 -- what comes after the first is not the first
 after_first : (c d : Config) (cs ds : List Config) → IsRising (c ∷ cs) → c ≡ d → (x : Config) → In x cs → In x (d ∷ ds) → In x ds
 after_first c d cs ds up same x i (inl is) = absurd (irreflexive c (subst (Precedes c) (is ∙ sym same) (first_precedes c x cs up i)))
 after_first c d cs ds up same x i (inr j) = j
 
-same_lists : (cs ds : List Config) → IsRising cs → IsRising ds → ((x : Config) → In x cs → In x ds) → ((x : Config) → In x ds → In x cs) → cs ≡ ds
+same_lists : (cs ds : List Config) → IsRising cs → IsRising ds → ((x : Config) → In x cs → In x ds)
+    → ((x : Config) → In x ds → In x cs) → cs ≡ ds
 same_lists [] [] up up' to from = refl
 same_lists [] (d ∷ ds) up up' to from = absurd (from d (inl refl))
 same_lists (c ∷ cs) [] up up' to from = absurd (to c (inl refl))
 same_lists (c ∷ cs) (d ∷ ds) up up' to from =
     let same = same_first c d cs ds up up' (to c (inl refl)) (from d (inl refl)) in
     let rest : cs ≡ ds =
-    same_lists cs ds (tail_rising c cs up) (tail_rising d ds up') (λ x i. after_first c d cs ds up same x i (to x (inr i))) (λ x i. after_first d c ds cs up' (sym same) x i (from x (inr i))) in
+    same_lists cs ds (tail_rising c cs up) (tail_rising d ds up') (λ x i. after_first c d cs ds up same x i (to x (inr i)))
+    (λ x i. after_first d c ds cs up' (sym same) x i (from x (inr i))) in
     cc
 
 -- a set has at most one row
 pub one_row : (C : Config → Type 0) (row other : List Config) → IsRow row C → IsRow other C → row ≡ other
 one_row C row other is is' =
-    same_lists row other is.rising is'.rising (λ x i. let k = (is'.exactly x).1 ((is.exactly x).0 (In-to row x i)) in In-from other x k.0 k.1 k.2) (λ x i. let k = (is.exactly x).1 ((is'.exactly x).0 (In-to other x i)) in In-from row x k.0 k.1 k.2)
+    same_lists row other is.rising is'.rising (λ x i. let k = (is'.exactly x).1 ((is.exactly x).0 (In-to row x i)) in
+    In-from other x k.0 k.1 k.2) (λ x i. let k = (is.exactly x).1 ((is'.exactly x).0 (In-to other x i)) in In-from row x k.0 k.1 k.2)
 
 -- a list in order is a row of its members
 pub row_of_itself : (row : List Config) → IsRising row → IsRow row (Contains row)
@@ -169,7 +179,8 @@ inserted : Config → List Config → List Config
 inserted c [] = c ∷ []
 inserted c (d ∷ ds) = placed c d ds (inserted c ds) (order c d)
 
-placed_to : (c d : Config) (ds more : List Config) (o : Precedes c d ⊎ ((c ≡ d) ⊎ Precedes d c)) (x : Config) → (In x more → (x ≡ c) ⊎ In x ds) → In x (placed c d ds more o) → (x ≡ c) ⊎ In x (d ∷ ds)
+placed_to : (c d : Config) (ds more : List Config) (o : Precedes c d ⊎ ((c ≡ d) ⊎ Precedes d c)) (x : Config)
+    → (In x more → (x ≡ c) ⊎ In x ds) → In x (placed c d ds more o) → (x ≡ c) ⊎ In x (d ∷ ds)
 unfolding placed
 placed_to c d ds more (inl before) x rest (inl is) = inl is
 placed_to c d ds more (inl before) x rest (inr i) = inr i
@@ -177,7 +188,8 @@ placed_to c d ds more (inr (inl same)) x rest i = inr i
 placed_to c d ds more (inr (inr after)) x rest (inl is) = inr (inl is)
 placed_to c d ds more (inr (inr after)) x rest (inr i) = elim (rest i) [ inl is ↦ inl is | inr j ↦ inr (inr j) ]
 
-placed_from : (c d : Config) (ds more : List Config) (o : Precedes c d ⊎ ((c ≡ d) ⊎ Precedes d c)) (x : Config) → ((x ≡ c) ⊎ In x ds → In x more) → (x ≡ c) ⊎ In x (d ∷ ds) → In x (placed c d ds more o)
+placed_from : (c d : Config) (ds more : List Config) (o : Precedes c d ⊎ ((c ≡ d) ⊎ Precedes d c)) (x : Config)
+    → ((x ≡ c) ⊎ In x ds → In x more) → (x ≡ c) ⊎ In x (d ∷ ds) → In x (placed c d ds more o)
 unfolding placed
 placed_from c d ds more (inl before) x rest (inl is) = inl is
 placed_from c d ds more (inl before) x rest (inr i) = inr i
@@ -199,16 +211,19 @@ inserted_from c [] x (inl is) = inl is
 inserted_from c [] x (inr i) = absurd i
 inserted_from c (d ∷ ds) x i = placed_from c d ds (inserted c ds) (order c d) x (inserted_from c ds x) i
 
-placed_rising : (c d : Config) (ds more : List Config) (o : Precedes c d ⊎ ((c ≡ d) ⊎ Precedes d c)) → IsRising (d ∷ ds) → IsRising more → ((x : Config) → In x more → (x ≡ c) ⊎ In x ds) → IsRising (placed c d ds more o)
+placed_rising : (c d : Config) (ds more : List Config) (o : Precedes c d ⊎ ((c ≡ d) ⊎ Precedes d c)) → IsRising (d ∷ ds)
+    → IsRising more → ((x : Config) → In x more → (x ≡ c) ⊎ In x ds) → IsRising (placed c d ds more o)
 unfolding placed
 placed_rising c d ds more (inl before) up rising to = (before, up)
 placed_rising c d ds more (inr (inl same)) up rising to = up
-placed_rising c d ds more (inr (inr after)) up rising to = first_rising d more (λ x i. elim (to x i) [ inl is ↦ subst (Precedes d) (sym is) after | inr j ↦ first_precedes d x ds up j ]) rising
+placed_rising c d ds more (inr (inr after)) up rising to =
+    first_rising d more (λ x i. elim (to x i) [ inl is ↦ subst (Precedes d) (sym is) after | inr j ↦ first_precedes d x ds up j ]) rising
 
 inserted_rising : (c : Config) (ds : List Config) → IsRising ds → IsRising (inserted c ds)
 unfolding inserted
 inserted_rising c [] up = tt
-inserted_rising c (d ∷ ds) up = placed_rising c d ds (inserted c ds) (order c d) up (inserted_rising c ds (tail_rising d ds up)) (inserted_to c ds)
+inserted_rising c (d ∷ ds) up = placed_rising c d ds (inserted c ds) (order c d) up (inserted_rising c ds (tail_rising d ds up))
+    (inserted_to c ds)
 
 -- the members of a list, in order and each once
 pub row_of : List Config → List Config

@@ -15,7 +15,8 @@ use Rattle.g4_net_check.specs.Clauses.{NeedsOf, HasClause, AddsClauses, AreClaus
 use Rattle.g4_net_check.proofs.Lists.{in_nothing, in_pushed, cons_cases}
 
 -- a clause that is pushed, or one from before
-pub has_pushed : (before after : List Clause) (clause : Clause) → after ≡ before ++ clause ∷ [] → AddsClauses clause.head (λ needs. clause.needs.items ≡ needs) before after
+pub has_pushed : (before after : List Clause) (clause : Clause) → after ≡ before ++ clause ∷ []
+    → AddsClauses clause.head (λ needs. clause.needs.items ≡ needs) before after
 has_pushed before after clause pushed h needs = (to, from)
   where
     to : HasClause after h needs → HasClause before h needs ⊎ ((h ≡ clause.head) × (clause.needs.items ≡ needs))
@@ -30,7 +31,8 @@ has_pushed before after clause pushed h needs = (to, from)
 
 module _ {L : Type 0} (net : Network L) where
   -- a state is nullable where the needs of one of its clauses are
-  null_by : (p : ℕ) (s : State L) (needs : List ℕ) → state_at net p ≡ Some s → NeedsOf s needs → ((n : ℕ) → Contains needs n → IsNullable net n) → IsNullable net p
+  null_by : (p : ℕ) (s : State L) (needs : List ℕ) → state_at net p ≡ Some s → NeedsOf s needs
+      → ((n : ℕ) → Contains needs n → IsNullable net n) → IsNullable net p
   null_by p s needs at need all = go s at need
     where
       start : (first : ℕ) (rest : List ℕ) → needs ≡ first ∷ rest → IsNullable net first
@@ -44,7 +46,8 @@ module _ {L : Type 0} (net : Network L) where
 
       go : (s : State L) → state_at net p ≡ Some s → NeedsOf s needs → IsNullable net p
       go (End rule) at need = ends p rule at
-      go (Call rule level back) at need = by_call p rule level back at (start (start_of rule) (back ∷ []) need) (second (start_of rule) back need)
+      go (Call rule level back) at need = by_call p rule level back at (start (start_of rule) (back ∷ []) need)
+          (second (start_of rule) back need)
       go (Decision ts) at need = edge (Decision ts) at need
       go (Edge label t) at need = edge (Edge label t) at need
       go (Predicate k t) at need = edge (Predicate k t) at need
@@ -78,7 +81,8 @@ module _ {L : Type 0} (net : Network L) where
       ]
 
     -- of a clause with these needs the head follows
-    by_needs : (n : ℕ) (needs : List ℕ) (s : State L) → state_at net n ≡ Some s → NeedsOf s needs → AllFollow clauses needs → Follows clauses n
+    by_needs : (n : ℕ) (needs : List ℕ) (s : State L) → state_at net n ≡ Some s → NeedsOf s needs → AllFollow clauses needs
+        → Follows clauses n
     by_needs n needs s at need all =
         let (clause, has, head, is) = (are n needs).1 (s, at, need) in
         by_clause n clause has head (subst (AllFollow clauses) (sym is) all)
@@ -87,14 +91,16 @@ module _ {L : Type 0} (net : Network L) where
     follows_null _ (ends p rule at) = by_needs p [] (End rule) at refl nothing
     follows_null _ (by_edge p t (s, at, has) m) = by_needs p (t ∷ []) s at (edge_needs s t has) (one_more t [] (follows_null t m) nothing)
     follows_null _ (by_call p rule level back at m k) =
-        by_needs p (start_of rule ∷ back ∷ []) (Call rule level back) at refl (one_more (start_of rule) (back ∷ []) (follows_null (start_of rule) m) (one_more back [] (follows_null back k) nothing))
+        by_needs p (start_of rule ∷ back ∷ []) (Call rule level back) at refl
+        (one_more (start_of rule) (back ∷ []) (follows_null (start_of rule) m) (one_more back [] (follows_null back k) nothing))
 
     -- a state is nullable exactly where that follows
     pub nullability : (n : ℕ) → Follows clauses n ↔ IsNullable net n
     nullability n = (λ f. null_follows f, λ m. follows_null n m)
 
 -- the clause pushed has these needs
-pub adds_this : (head : ℕ) (these : List ℕ) (before after : List Clause) (clause : Clause) → after ≡ before ++ clause ∷ [] → clause.head ≡ head → clause.needs.items ≡ these → AddsClauses head (λ needs. needs ≡ these) before after
+pub adds_this : (head : ℕ) (these : List ℕ) (before after : List Clause) (clause : Clause) → after ≡ before ++ clause ∷ []
+    → clause.head ≡ head → clause.needs.items ≡ these → AddsClauses head (λ needs. needs ≡ these) before after
 adds_this head these before after clause pushed same is h needs =
     let cases = has_pushed before after clause pushed h needs in (
       λ has. elim (cases.0 has) [ inl old ↦ inl old | inr new ↦ inr (new.0 ∙ same, sym new.1 ∙ is) ],
@@ -106,7 +112,9 @@ abbrev pub EdgeNeeds : List ℕ → List ℕ → Type 0
 EdgeNeeds targets needs = (t : ℕ) × Contains targets t × (needs ≡ t ∷ [])
 
 -- one more edge
-pub adds_edge : (head t : ℕ) (some more : List ℕ) (before mid after : List Clause) (clause : Clause) → more ≡ some ++ t ∷ [] → after ≡ mid ++ clause ∷ [] → clause.head ≡ head → clause.needs.items ≡ t ∷ [] → AddsClauses head (EdgeNeeds some) before mid → AddsClauses head (EdgeNeeds more) before after
+pub adds_edge : (head t : ℕ) (some more : List ℕ) (before mid after : List Clause) (clause : Clause) → more ≡ some ++ t ∷ []
+    → after ≡ mid ++ clause ∷ [] → clause.head ≡ head → clause.needs.items ≡ t ∷ [] → AddsClauses head (EdgeNeeds some) before mid
+    → AddsClauses head (EdgeNeeds more) before after
 adds_edge head t some more before mid after clause longer pushed same is adds h needs = (to, from)
   where
     cases : HasClause after h needs ↔ (HasClause mid h needs ⊎ ((h ≡ head) × (needs ≡ t ∷ [])))
@@ -114,7 +122,11 @@ adds_edge head t some more before mid after clause longer pushed same is adds h 
 
     to : HasClause after h needs → HasClause before h needs ⊎ ((h ≡ head) × EdgeNeeds more needs)
     to has = elim (cases.0 has) [
-      | inl old ↦ elim ((adds h needs).0 old) [ inl first ↦ inl first | inr (at, (u, among, one)) ↦ inr (at, (u, (in_pushed some more t longer u).1 (inl among), one)) ]
+      | inl old ↦ elim ((adds h needs).0 old) [
+        | inl first ↦ inl first
+        | inr (at, (u, among, one)) ↦ inr
+            (at, (u, (in_pushed some more t longer u).1 (inl among), one))
+      ]
       | inr new ↦ inr (new.0, (t, (in_pushed some more t longer t).1 (inr refl), new.1))
     ]
 
@@ -127,7 +139,8 @@ adds_edge head t some more before mid after clause longer pushed same is adds h 
 
 module _ {L : Type 0} where
   -- where a state ends and calls nothing, its needs are those of its edges
-  pub other_needs : (s : State L) → ((rule : ℕ) → s ≡ End rule → ⊥) → ((rule level back : ℕ) → s ≡ Call rule level back → ⊥) → (needs : List ℕ) → EdgeNeeds (epsilon_targets s) needs ↔ NeedsOf s needs
+  pub other_needs : (s : State L) → ((rule : ℕ) → s ≡ End rule → ⊥) → ((rule level back : ℕ) → s ≡ Call rule level back → ⊥)
+      → (needs : List ℕ) → EdgeNeeds (epsilon_targets s) needs ↔ NeedsOf s needs
   other_needs (End rule) no_end no_call needs = absurd (no_end rule refl)
   other_needs (Call rule level back) no_end no_call needs = absurd (no_call rule level back refl)
   other_needs (Decision ts) no_end no_call needs = (λ h. h, λ h. h)
@@ -139,10 +152,12 @@ module _ {L : Type 0} where
 
   -- the clauses are those of the first states
   abbrev pub ClausesBefore : List (State L) → ℕ → List Clause → Type 0
-  ClausesBefore states i clauses = (h : ℕ) (needs : List ℕ) → HasClause clauses h needs ↔ ((h < i) × (s : State L) × (slice_get states h ≡ Some s) × NeedsOf s needs)
+  ClausesBefore states i clauses = (h : ℕ) (needs : List ℕ)
+      → HasClause clauses h needs ↔ ((h < i) × (s : State L) × (slice_get states h ≡ Some s) × NeedsOf s needs)
 
   -- one more state
-  pub clauses_more : (states : List (State L)) (i : ℕ) (s : State L) (before after : List Clause) → slice_get states i ≡ Some s → AddsClauses i (NeedsOf s) before after → ClausesBefore states i before → ClausesBefore states (i + 1) after
+  pub clauses_more : (states : List (State L)) (i : ℕ) (s : State L) (before after : List Clause) → slice_get states i ≡ Some s
+      → AddsClauses i (NeedsOf s) before after → ClausesBefore states i before → ClausesBefore states (i + 1) after
   clauses_more states i s before after here adds are h needs = (to, from)
     where
       to : HasClause after h needs → (h < i + 1) × (x : State L) × (slice_get states h ≡ Some x) × NeedsOf x needs
@@ -161,7 +176,8 @@ module _ {L : Type 0} where
       ])
 
   -- all states
-  pub clauses_end : (states : List (State L)) (i : ℕ) (clauses : List Clause) → length states ≤ i → ClausesBefore states i clauses → AreClauses states clauses
+  pub clauses_end : (states : List (State L)) (i : ℕ) (clauses : List Clause) → length states ≤ i → ClausesBefore states i clauses
+      → AreClauses states clauses
   clauses_end states i clauses past are h needs = (
     λ has. let (less, s, at, need) = (are h needs).0 has in (s, at, need),
     λ (s, at, need). (are h needs).1 (omega (arith, slice_get_within states h s at, past), s, at, need),
@@ -175,9 +191,12 @@ module _ {L : Type 0} where
       slice_get_within states clause.head s at
 
   -- the clauses of the edges are those of a state that ends and calls nothing
-  pub adds_other : (head : ℕ) (s : State L) (targets : List ℕ) (before after : List Clause) → ((rule : ℕ) → s ≡ End rule → ⊥) → ((rule level back : ℕ) → s ≡ Call rule level back → ⊥) → targets ≡ epsilon_targets s → AddsClauses head (EdgeNeeds targets) before after → AddsClauses head (NeedsOf s) before after
+  pub adds_other : (head : ℕ) (s : State L) (targets : List ℕ) (before after : List Clause) → ((rule : ℕ) → s ≡ End rule → ⊥)
+      → ((rule level back : ℕ) → s ≡ Call rule level back → ⊥) → targets ≡ epsilon_targets s
+      → AddsClauses head (EdgeNeeds targets) before after → AddsClauses head (NeedsOf s) before after
   adds_other head s targets before after no_end no_call is adds h needs =
-      let these : EdgeNeeds targets needs ↔ NeedsOf s needs = subst (λ (l : List ℕ). EdgeNeeds l needs ↔ NeedsOf s needs) (sym is) (other_needs s no_end no_call needs) in (
+      let these : EdgeNeeds targets needs ↔ NeedsOf s needs =
+      subst (λ (l : List ℕ). EdgeNeeds l needs ↔ NeedsOf s needs) (sym is) (other_needs s no_end no_call needs) in (
         λ has. elim ((adds h needs).0 has) [ inl old ↦ inl old | inr new ↦ inr (new.0, these.0 new.1) ],
         λ some. (adds h needs).1 (elim some [ inl old ↦ inl old | inr new ↦ inr (new.0, these.1 new.1) ]),
       )

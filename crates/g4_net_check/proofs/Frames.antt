@@ -17,7 +17,8 @@ use Rattle.g4_net_check.specs.Steps.{IsEpsilon, IsNullable, ends, by_edge, by_ca
 data Stays {L : Type 0} (net : Network L) (p : ℕ) : ℕ → Type 0 where
   here : Stays net p p
   edge : (q t : ℕ) → Stays net p q → IsEpsilon net q t → Stays net p t
-  over : (q rule level back : ℕ) → Stays net p q → state_at net q ≡ Some (Call rule level back) → IsNullable net (start_of rule) → Stays net p back
+  over : (q rule level back : ℕ) → Stays net p q → state_at net q ≡ Some (Call rule level back) → IsNullable net (start_of rule)
+      → Stays net p back
 
 module _ {L : Type 0} (net : Network L) where
   -- a state from which a nullable one is reached is nullable
@@ -30,7 +31,8 @@ module _ {L : Type 0} (net : Network L) where
   -- the next one up to a call, and so on up to d.
   abbrev IsOpen : ℕ → List ℕ → ℕ → Type 0
   IsOpen p [] d = Stays net p d
-  IsOpen p (back ∷ rest) d = (q rule level : ℕ) × (state_at net q ≡ Some (Call rule level back)) × IsOpen p rest q × Stays net (start_of rule) d
+  IsOpen p (back ∷ rest) d = (q rule level : ℕ) × (state_at net q ≡ Some (Call rule level back)) × IsOpen p rest q
+      × Stays net (start_of rule) d
 
   -- more in the newest frame
   open_on : (p : ℕ) (rs : List ℕ) (d t : ℕ) → ((x : ℕ) → Stays net x d → Stays net x t) → IsOpen p rs d → IsOpen p rs t
@@ -52,7 +54,8 @@ module _ {L : Type 0} (net : Network L) where
 
   open_comes : (p : ℕ) (rs : List ℕ) (d : ℕ) → IsOpen p rs d → Comes p d
   open_comes p [] d s = stays_comes p p d (inl refl) s
-  open_comes p (back ∷ rest) d (q, rule, level, is, o, s) = stays_comes p (start_of rule) d (inr (comes_on p q (start_of rule) (open_comes p rest q o) (into rule level back is))) s
+  open_comes p (back ∷ rest) d (q, rule, level, is, o, s) =
+      stays_comes p (start_of rule) d (inr (comes_on p q (start_of rule) (open_comes p rest q o) (into rule level back is))) s
 
   module _ (p : ℕ) where
     -- p led to the configuration, and steps lead to its state
@@ -67,7 +70,8 @@ module _ {L : Type 0} (net : Network L) where
     )
 
     -- from the end of a rule
-    led_back : (rule : ℕ) (c d : Config) (returns : List ℕ) (wild : Bool) → state_at net c.state ≡ Some (End rule) → wild ≡ false → IsOpen p returns c.state → Returns net rule c returns wild d → Led d
+    led_back : (rule : ℕ) (c d : Config) (returns : List ℕ) (wild : Bool) → state_at net c.state ≡ Some (End rule) → wild ≡ false
+        → IsOpen p returns c.state → Returns net rule c returns wild d → Led d
     led_back rule c d (back ∷ rest) wild at_end w (q, called, level, is, o, s) l =
         let n : IsNullable net (start_of called) = stays_null (start_of called) c.state s (ends c.state rule at_end) in
         subst Led (sym l) (
@@ -81,7 +85,8 @@ module _ {L : Type 0} (net : Network L) where
     one_target t = (0, lit< tt, refl)
 
     -- a step
-    led : (c d : Config) (o : Option (State L)) → state_at net c.state ≡ o → c.stack.wild ≡ false → IsOpen p c.stack.returns c.state → LeadsBy net o c d → Led d
+    led : (c d : Config) (o : Option (State L)) → state_at net c.state ≡ o → c.stack.wild ≡ false → IsOpen p c.stack.returns c.state
+        → LeadsBy net o c d → Led d
     led c d None is w o l = absurd l
     led c d (Some (Decision ts)) is w o l = led_along c d l.0 (Decision ts, is, l.1) o l.2
     led c d (Some (End rule)) is w o l = led_back rule c d c.stack.returns c.stack.wild is w o l
@@ -97,7 +102,10 @@ module _ {L : Type 0} (net : Network L) where
 
     -- one step or more
     led_on : (i : ℕ) (d : Config) → LeadsOn net (bottomed p i []) d → Led d × (d.stack.wild ≡ false)
-    led_on i _ (once d l) = (led (bottomed p i []) d (state_at net p) refl refl here l, sym (keeps net (bottomed p i []) d (state_at net p) l).1)
+    led_on i _ (once d l) = (
+      led (bottomed p i []) d (state_at net p) refl refl here l,
+      sym (keeps net (bottomed p i []) d (state_at net p) l).1,
+    )
     led_on i _ (again e d on l) = let before = led_on i e on in
         (led e d (state_at net e.state) refl before.1 before.0.0 l, sym (keeps net e d (state_at net e.state) l).1 ∙ before.1)
 

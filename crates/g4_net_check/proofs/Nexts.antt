@@ -15,7 +15,8 @@ use Rattle.g4_net_check.proofs.Lists.{in_nothing, pushed_cases}
 module _ {L : Type 0} (net : Network L) (nullable : List Bool) (tells : Tells nullable (IsNullable net)) (p : ℕ) where
   to_step : (t : ℕ) (s : State L) → state_at net p ≡ Some s → IsNext nullable s t → StepsTo net p t
   to_step t (Call rule level back) at (inl is) = subst (StepsTo net p) (sym is) (into rule level back at)
-  to_step t (Call rule level back) at (inr (said, is)) = subst (StepsTo net p) (sym is) (past rule level back at ((tells (start_of rule)).0 said))
+  to_step t (Call rule level back) at (inr (said, is)) =
+      subst (StepsTo net p) (sym is) (past rule level back at ((tells (start_of rule)).0 said))
   to_step t (Decision ts) at has = along t (Decision ts, at, has)
   to_step t (End rule) at has = along t (End rule, at, has)
   to_step t (Edge label u) at has = along t (Edge label u, at, has)
@@ -36,16 +37,21 @@ module _ {L : Type 0} (net : Network L) (nullable : List Bool) (tells : Tells nu
   next_edge t (Empty u) has = has
 
   from_step : (t : ℕ) (s : State L) → state_at net p ≡ Some s → StepsTo net p t → IsNext nullable s t
-  from_step _ s at (along t (q, is, has)) = next_edge t s (subst (λ (x : State L). Contains (epsilon_targets x) t) (same_Some q s (sym is ∙ at)) has)
-  from_step _ s at (into rule level back is) = subst (λ (x : State L). IsNext nullable x (start_of rule)) (same_Some (Call rule level back) s (sym is ∙ at)) (inl refl)
-  from_step _ s at (past rule level back is n) = subst (λ (x : State L). IsNext nullable x back) (same_Some (Call rule level back) s (sym is ∙ at)) (inr ((tells (start_of rule)).1 n, refl))
+  from_step _ s at (along t (q, is, has)) = next_edge t s
+      (subst (λ (x : State L). Contains (epsilon_targets x) t) (same_Some q s (sym is ∙ at)) has)
+  from_step _ s at (into rule level back is) =
+      subst (λ (x : State L). IsNext nullable x (start_of rule)) (same_Some (Call rule level back) s (sym is ∙ at)) (inl refl)
+  from_step _ s at (past rule level back is n) =
+      subst (λ (x : State L). IsNext nullable x back) (same_Some (Call rule level back) s (sym is ∙ at))
+      (inr ((tells (start_of rule)).1 n, refl))
 
   -- what comes next is what a step leads to
   pub next_steps : (s : State L) → state_at net p ≡ Some s → (t : ℕ) → IsNext nullable s t ↔ StepsTo net p t
   next_steps s at t = (to_step t s at, from_step t s at)
 
 -- where a state calls nothing, what comes next is along its edges
-pub next_is_edge : {L : Type 0} (nullable : List Bool) (s : State L) → ((rule level back : ℕ) → s ≡ Call rule level back → ⊥) → (t : ℕ) → Contains (epsilon_targets s) t ↔ IsNext nullable s t
+pub next_is_edge : {L : Type 0} (nullable : List Bool) (s : State L) → ((rule level back : ℕ) → s ≡ Call rule level back → ⊥)
+    → (t : ℕ) → Contains (epsilon_targets s) t ↔ IsNext nullable s t
 next_is_edge nullable (Call rule level back) other t = absurd (other rule level back refl)
 next_is_edge nullable (Decision ts) other t = (λ h. h, λ h. h)
 next_is_edge nullable (End rule) other t = (λ h. h, λ h. h)
@@ -61,13 +67,16 @@ module _ {L : Type 0} (net : Network L) where
   AreSteps graph = (p : ℕ) (v : Vec ℕ Global) → slice_get graph p ≡ Some v → (t : ℕ) → Contains v.items t ↔ StepsTo net p t
 
   -- one more state
-  pub steps_more : (nullable : List Bool) → Tells nullable (IsNullable net) → (graph : Graph) (i : ℕ) (s : State L) (v : Vec ℕ Global) → length graph ≡ i → state_at net i ≡ Some s → ((t : ℕ) → Contains v.items t ↔ IsNext nullable s t) → AreSteps graph → AreSteps (graph ++ v ∷ [])
+  pub steps_more : (nullable : List Bool) → Tells nullable (IsNullable net) → (graph : Graph) (i : ℕ) (s : State L) (v : Vec ℕ Global)
+      → length graph ≡ i → state_at net i ≡ Some s → ((t : ℕ) → Contains v.items t ↔ IsNext nullable s t) → AreSteps graph
+      → AreSteps (graph ++ v ∷ [])
   steps_more nullable tells graph i s v size here next before p w at t = elim (pushed_cases graph v p w at) [
     | inl old ↦ before p w old t
     | inr (last, same) ↦ (
         let at_p : state_at net p ≡ Some s = ap (state_at net) (last ∙ size) ∙ here in
         let steps = next_steps net nullable tells p s at_p t in
-        let this : Contains w.items t ↔ IsNext nullable s t = subst (λ (x : Vec ℕ Global). Contains x.items t ↔ IsNext nullable s t) same (next t) in
+        let this : Contains w.items t ↔ IsNext nullable s t =
+        subst (λ (x : Vec ℕ Global). Contains x.items t ↔ IsNext nullable s t) same (next t) in
         (λ h. steps.0 (this.0 h), λ h. this.1 (steps.1 h))
         )
   ]
@@ -84,7 +93,8 @@ module _ {L : Type 0} (net : Network L) where
     | inr none_there ↦ none_there.0
   ]
 
-  edges_of : (graph : Graph) (p t : ℕ) → length graph ≡ length net.states → AreSteps graph → (o : Option (Vec ℕ Global)) → slice_get graph p ≡ o → Contains (listed_by o) t ↔ StepsTo net p t
+  edges_of : (graph : Graph) (p t : ℕ) → length graph ≡ length net.states → AreSteps graph → (o : Option (Vec ℕ Global))
+      → slice_get graph p ≡ o → Contains (listed_by o) t ↔ StepsTo net p t
   edges_of graph p t size are (Some v) at = are p v at t
   edges_of graph p t size are None at = (
     λ h. absurd (in_nothing t h),

@@ -23,7 +23,8 @@ pub record AreReturns {L : Type 0} (states : List (State L)) (rules i : ℕ) (li
 
 module _ {L : Type 0} (states : List (State L)) (rules : ℕ) where
   -- a state that calls nothing
-  pub returns_other : (i : ℕ) (s : State L) (lists : Graph) → slice_get states i ≡ Some s → ((rule level back : ℕ) → s ≡ Call rule level back → ⊥) → AreReturns states rules i lists → AreReturns states rules (i + 1) lists
+  pub returns_other : (i : ℕ) (s : State L) (lists : Graph) → slice_get states i ≡ Some s
+      → ((rule level back : ℕ) → s ≡ Call rule level back → ⊥) → AreReturns states rules i lists → AreReturns states rules (i + 1) lists
   returns_other i s lists here other are = record {
     size = are.size;
     returns = λ rule t. (
@@ -39,7 +40,9 @@ module _ {L : Type 0} (states : List (State L)) (rules : ℕ) where
   }
 
   -- a call
-  pub returns_call : (i rule level back : ℕ) (lists : Graph) (v : Vec ℕ Global) → slice_get states i ≡ Some (Call rule level back) → rule < length lists → v.items ≡ successors_of lists rule ++ back ∷ [] → AreReturns states rules i lists → AreReturns states rules (i + 1) (set lists rule v)
+  pub returns_call : (i rule level back : ℕ) (lists : Graph) (v : Vec ℕ Global) → slice_get states i ≡ Some (Call rule level back)
+      → rule < length lists → v.items ≡ successors_of lists rule ++ back ∷ [] → AreReturns states rules i lists
+      → AreReturns states rules (i + 1) (set lists rule v)
   returns_call i rule level back lists v here less pushed are = record {
     size = length-set lists rule v ∙ are.size;
     returns = λ k t. (to k t, from k t);
@@ -48,7 +51,13 @@ module _ {L : Type 0} (states : List (State L)) (rules : ℕ) where
       to : (k t : ℕ) → EdgeOf (set lists rule v) k t → ReturnsBefore states (i + 1) k t
       to k t e = elim ((added_to lists rule back v less pushed k t).0 e) [
         | inl old ↦ (let (p, l, before, at) = (are.returns k t).0 old in (p, l, omega (arith, before), at))
-        | inr new ↦ (i, level, omega arith, here ∙ (ap (λ (r : ℕ). Some (Call r level back)) (sym new.0) ∙ ap (λ (b : ℕ). Some (Call k level b)) new.1))
+        | inr new ↦ (
+          i,
+          level,
+          omega arith,
+          here ∙ (ap (λ (r : ℕ). Some (Call r level back)) (sym new.0)
+              ∙ ap (λ (b : ℕ). Some (Call k level b)) new.1),
+        )
       ]
 
       from : (k t : ℕ) → ReturnsBefore states (i + 1) k t → EdgeOf (set lists rule v) k t
@@ -56,24 +65,31 @@ module _ {L : Type 0} (states : List (State L)) (rules : ℕ) where
         | inl early ↦ inl ((are.returns k t).1 (p, l, early, at))
         | inr late ↦ (
             let same : p ≡ i = omega (arith, before, late) in
-            let call : Call rule level back ≡ Call k l t = same_Some (Call rule level back) (Call k l t) (sym here ∙ (sym (ap (slice_get states) same) ∙ at)) in
+            let call : Call rule level back ≡ Call k l t =
+            same_Some (Call rule level back) (Call k l t) (sym here ∙ (sym (ap (slice_get states) same) ∙ at)) in
             inr (cc, cc)
             )
       ])
 
   -- all states
-  pub returns_end : (i : ℕ) (lists : Graph) → length states ≤ i → AreReturns states rules i lists → (rule t : ℕ) → EdgeOf lists rule t ↔ HasReturn states rule t
+  pub returns_end : (i : ℕ) (lists : Graph) → length states ≤ i → AreReturns states rules i lists → (rule t : ℕ)
+      → EdgeOf lists rule t ↔ HasReturn states rule t
   returns_end i lists past are rule t = (
     λ e. let (p, level, less, at) = (are.returns rule t).0 e in (p, level, at),
     λ (p, level, at). (are.returns rule t).1 (p, level, omega (arith, slice_get_within states p (Call rule level t) at, past), at),
   )
 
 -- what a comparison of callers with return states answers
-pub compared : {L : Type 0} (net : Network L) (lists : Graph) → ((rule t : ℕ) → EdgeOf lists rule t ↔ HasReturn net.states rule t) → (rule : ℕ) (listed found : List ℕ) (same : Bool) → found ≡ successors_of lists rule → (IsTrue same ↔ ((t : ℕ) → Contains listed t ↔ Contains found t)) → IsTrue same ↔ ((t : ℕ) → Contains listed t ↔ IsReturn net rule t)
+pub compared : {L : Type 0} (net : Network L) (lists : Graph) → ((rule t : ℕ) → EdgeOf lists rule t ↔ HasReturn net.states rule t)
+    → (rule : ℕ) (listed found : List ℕ) (same : Bool) → found ≡ successors_of lists rule
+    → (IsTrue same ↔ ((t : ℕ) → Contains listed t ↔ Contains found t)) → IsTrue same ↔ ((t : ℕ) → Contains listed t ↔ IsReturn net rule t)
 compared net lists returns rule listed found same is answer = (
   λ t. λ x. (λ has. (to x).0 ((answer.0 t x).0 has), λ back. (answer.0 t x).1 ((to x).1 back)),
   λ all. answer.1 (λ x. (λ has. (to x).1 ((all x).0 has), λ has. (all x).1 ((to x).0 has))),
 )
   where
     to : (x : ℕ) → Contains found x ↔ IsReturn net rule x
-    to x = (λ has. (returns rule x).0 (subst (λ (l : List ℕ). Contains l x) is has), λ back. subst (λ (l : List ℕ). Contains l x) (sym is) ((returns rule x).1 back))
+    to x = (
+      λ has. (returns rule x).0 (subst (λ (l : List ℕ). Contains l x) is has),
+      λ back. subst (λ (l : List ℕ). Contains l x) (sym is) ((returns rule x).1 back),
+    )

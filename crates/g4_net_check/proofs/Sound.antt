@@ -53,7 +53,10 @@ module _ {L : Type 0} (net : Network L) where
 
   module _ (well : WellFormed net) where
     fits_of : (p : ℕ) (s : State L) → state_at net p ≡ Some s → StateFits (length net.states) (length net.callers) s
-    fits_of p (Decision ts) at = (well.decisions p ts at, λ k d within. well.targets p (get_or ts k d) (Decision ts) at (Contains-get_or ts k d within))
+    fits_of p (Decision ts) at = (
+      well.decisions p ts at,
+      λ k d within. well.targets p (get_or ts k d) (Decision ts) at (Contains-get_or ts k d within),
+    )
     fits_of p (End rule) at = well.ends p rule at
     fits_of p (Edge label t) at = well.targets p t (Edge label t) at refl
     fits_of p (Call rule level back) at = (well.calls p rule level back at, well.targets p back (Call rule level back) at refl)
@@ -79,12 +82,18 @@ module _ {L : Type 0} (net : Network L) where
 
   -- where both are
   pub both_right : (answer : Bool) → NumbersFit net → CallersFit net → (IsTrue answer ↔ NeverAgain net) → IsTrue answer ↔ WellFormed net
-  both_right answer numbers callers is = (λ t. well_formed numbers callers (is.0 t), λ well. is.1 (λ p i returns on. well.never_again p i returns on))
+  both_right answer numbers callers is = (
+    λ t. well_formed numbers callers (is.0 t),
+    λ well. is.1 (λ p i returns on. well.never_again p i returns on),
+  )
 
   -- whether there is a cycle of steps
   pub cycle_answer : (found : Option (List ℕ)) → Answers (StepsTo net) found → IsTrue (is_none found) ↔ NeverAgain net
   cycle_answer None none = (λ t. never_again net none, λ never. refl)
-  cycle_answer (Some cycle) f = (λ t. absurd (cc), λ never. absurd (no_cycle net never f.first (reaches_first (StepsTo net) f.first cycle f.shortest.begins f.shortest.is_cycle)))
+  cycle_answer (Some cycle) f = (
+    λ t. absurd (cc),
+    λ never. absurd (no_cycle net never f.first (reaches_first (StepsTo net) f.first cycle f.shortest.begins f.shortest.is_cycle)),
+  )
 
 -- whether a mapped option is none
 pub none_told : {X Y : Type 0} (f : X → Y) (o : Option X) (b : Bool) → is_some o ≡ not b → is_none (option_map f o) ≡ b

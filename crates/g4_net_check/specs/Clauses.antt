@@ -18,8 +18,10 @@ HasClause clauses head needs = (clause : Clause) × Contains clauses clause × (
 
 -- the clauses after are those before and, for each list of such needs, one with this head
 abbrev pub AddsClauses : ℕ → (List ℕ → Type 0) → List Clause → List Clause → Type 0
-AddsClauses head Needs before after = (h : ℕ) (needs : List ℕ) → HasClause after h needs ↔ (HasClause before h needs ⊎ ((h ≡ head) × Needs needs))
+AddsClauses head Needs before after = (h : ℕ) (needs : List ℕ)
+    → HasClause after h needs ↔ (HasClause before h needs ⊎ ((h ≡ head) × Needs needs))
 
 -- the clauses are those of the states, by their numbers
 abbrev pub AreClauses : {L : Type 0} → List (State L) → List Clause → Type 0
-AreClauses {L} states clauses = (h : ℕ) (needs : List ℕ) → HasClause clauses h needs ↔ ((s : State L) × (slice_get states h ≡ Some s) × NeedsOf s needs)
+AreClauses {L} states clauses = (h : ℕ) (needs : List ℕ)
+    → HasClause clauses h needs ↔ ((s : State L) × (slice_get states h ≡ Some s) × NeedsOf s needs)

@@ -1,4 +1,5 @@
-pub mod Numbers
+-- Only this crate cites these.
 pub mod Callers
-pub mod Steps
 pub mod Clauses
+pub mod Numbers
+pub mod Steps

@@ -26,7 +26,8 @@ IsEpsilon {L} net p t = (s : State L) × (state_at net p ≡ Some s) × Contains
 pub data IsNullable {L : Type 0} (net : Network L) : ℕ → Type 0 where
   ends : (p rule : ℕ) → state_at net p ≡ Some (End rule) → IsNullable net p
   by_edge : (p t : ℕ) → IsEpsilon net p t → IsNullable net t → IsNullable net p
-  by_call : (p rule level back : ℕ) → state_at net p ≡ Some (Call rule level back) → IsNullable net (start_of rule) → IsNullable net back → IsNullable net p
+  by_call : (p rule level back : ℕ) → state_at net p ≡ Some (Call rule level back) → IsNullable net (start_of rule)
+      → IsNullable net back → IsNullable net p
 
 -- The state leads to t at once: by such an edge, into a rule that it calls, or past a call of a rule that can read nothing.
 pub data StepsTo {L : Type 0} (net : Network L) (p : ℕ) : ℕ → Type 0 where

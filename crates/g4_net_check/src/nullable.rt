@@ -18,7 +18,8 @@ fn add_edges(
     targets: &[u32],
     clauses: &mut Vec<Clause>,
 ) -> Result<(), AllocError>
-    ensures { OnOk result (AddsClauses head (λ needs. (t : ℕ) × Contains targets.now t × (needs ≡ t ∷ [])) clauses.old.items clauses.new.items) }
+    ensures { OnOk result (AddsClauses head (λ needs. (t : ℕ) × Contains targets.now t × (needs ≡ t ∷ [])) clauses.old.items
+        clauses.new.items) }
 {
     for target in targets {
         let needs = vec![in alloc; *target]?;

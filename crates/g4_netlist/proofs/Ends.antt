@@ -13,7 +13,8 @@ use Rattle.g4_netlist.proofs.Marking.{found_within}
 none_found : (n p : ℕ) → IsFound (replicate n false) p → ⊥
 none_found n p is =
     let less : p < length (replicate n false) = found_within (replicate n false) p is in
-    let no : get_or (replicate n false) p false ≡ false = get_or-replicate n p false false (omega (arith, less, length-replicate n false)) in
+    let no : get_or (replicate n false) p false ≡ false =
+    get_or-replicate n p false false (omega (arith, less, length-replicate n false)) in
     true≢false (sym is ∙ no)
 
 module _ (net : ParserNetwork) (rule : ℕ) where
@@ -30,12 +31,14 @@ module _ (net : ParserNetwork) (rule : ℕ) where
     ];
     are_found = λ p has. absurd (Contains-nil p has);
     start = λ within. inr (Contains-first (start_of rule) (end_of rule ∷ []) (start_of rule) refl);
-    end = λ within. inr (Contains-rest (start_of rule) (end_of rule ∷ []) (end_of rule) (Contains-first (end_of rule) [] (end_of rule) refl));
+    end = λ within. inr (Contains-rest (start_of rule) (end_of rule ∷ []) (end_of rule)
+        (Contains-first (end_of rule) [] (end_of rule) refl));
     followed = λ p q is follows within. absurd (none_found n p is);
   }
 
   -- at first the start and the end are left to be marked
-  pub search_begins : (n : ℕ) (found : List Bool) (waiting : List ℕ) → n ≡ length net.states → found ≡ replicate n false → waiting ≡ [] → Known net rule (start_of rule ∷ end_of rule ∷ []) found waiting
+  pub search_begins : (n : ℕ) (found : List Bool) (waiting : List ℕ) → n ≡ length net.states → found ≡ replicate n false
+      → waiting ≡ [] → Known net rule (start_of rule ∷ end_of rule ∷ []) found waiting
   search_begins n found waiting many none none_waits =
       subst (λ (fs : List Bool). Known net rule (start_of rule ∷ end_of rule ∷ []) fs waiting) (sym none)
       (subst (λ (ws : List ℕ). Known net rule (start_of rule ∷ end_of rule ∷ []) (replicate n false) ws) (sym none_waits) (begins n many))

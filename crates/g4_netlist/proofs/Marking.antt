@@ -25,12 +25,14 @@ mark_cases false = inr refl
 
 -- a state that is not new is marked
 pub found_if_not_new : (found : List Bool) (p : ℕ) → (IsNew found p → ⊥) → p < length found → IsFound found p
-found_if_not_new found p not_new within = elim (mark_cases (get_or found p false)) [ inl is ↦ is | inr unset ↦ absurd (not_new (within, unset)) ]
+found_if_not_new found p not_new within = elim (mark_cases (get_or found p false))
+    [ inl is ↦ is | inr unset ↦ absurd (not_new (within, unset)) ]
 
 -- one more mark
 pub marks_more : (found : List Bool) (x : ℕ) → IsNew found x → count_by not (set found x true) + 1 ≡ count_by not found
 marks_more found x (within, unset) =
-    let sums : count_by not (set found x true) + cond (not (get_or found x false)) 1 0 ≡ count_by not found + 0 = sum_by-set (λ (b : Bool). cond (not b) 1 0) found x true false within in
+    let sums : count_by not (set found x true) + cond (not (get_or found x false)) 1 0 ≡ count_by not found + 0 =
+    sum_by-set (λ (b : Bool). cond (not b) 1 0) found x true false within in
     let was : ◌≡◌ {A = ℕ} (cond (not (get_or found x false)) 1 0) 1 = ap (λ (b : Bool). cond (not b) 1 0) unset in
     omega (arith, sums, was)
 
@@ -86,14 +88,16 @@ follows_from net p q has = by_state (state_at net p) refl has
 
 module _ (net : ParserNetwork) (rule : ℕ) where
   -- a state that is marked already, or past the last one, is passed over
-  covered_passed : (x : ℕ) (left : List ℕ) (found : List Bool) (q : ℕ) → (IsNew found x → ⊥) → q < length found → IsCovered (x ∷ left) found q → IsCovered left found q
+  covered_passed : (x : ℕ) (left : List ℕ) (found : List Bool) (q : ℕ) → (IsNew found x → ⊥) → q < length found
+      → IsCovered (x ∷ left) found q → IsCovered left found q
   covered_passed x left found q not_new within (inl is) = inl is
   covered_passed x left found q not_new within (inr has) = elim (Contains-cons_cases x left q has) [
     | inl same ↦ inl (found_if_not_new found q (λ new. not_new (subst (IsNew found) (sym same) new)) within)
     | inr later ↦ inr later
   ]
 
-  pub passed_over : (x : ℕ) (left : List ℕ) (found : List Bool) (waiting : List ℕ) → (IsNew found x → ⊥) → Known net rule (x ∷ left) found waiting → Known net rule left found waiting
+  pub passed_over : (x : ℕ) (left : List ℕ) (found : List Bool) (waiting : List ℕ) → (IsNew found x → ⊥)
+      → Known net rule (x ∷ left) found waiting → Known net rule left found waiting
   passed_over x left found waiting not_new k = record {
     count = k.count;
     sound = k.sound;
@@ -108,7 +112,8 @@ module _ (net : ParserNetwork) (rule : ℕ) where
   }
 
   -- a new state is marked and waits
-  pub newly_marked : (x : ℕ) (left : List ℕ) (found : List Bool) (waiting : List ℕ) → IsNew found x → Known net rule (x ∷ left) found waiting → Known net rule left (set found x true) (waiting ++ x ∷ [])
+  pub newly_marked : (x : ℕ) (left : List ℕ) (found : List Bool) (waiting : List ℕ) → IsNew found x
+      → Known net rule (x ∷ left) found waiting → Known net rule left (set found x true) (waiting ++ x ∷ [])
   newly_marked x left found waiting (inside, unset) k = record {
     count = length-set found x true ∙ k.count;
     sound = λ p is. elim (found_then found x p is) [
@@ -142,7 +147,8 @@ module _ (net : ParserNetwork) (rule : ℕ) where
       ]
 
   -- a state no longer waits: the states that follow from it are left to be marked
-  pub taken_up : (x : ℕ) (found : List Bool) (waiting : List ℕ) → Known net rule [] found (waiting ++ x ∷ []) → Known net rule (targets_by (state_at net x)) found waiting
+  pub taken_up : (x : ℕ) (found : List Bool) (waiting : List ℕ) → Known net rule [] found (waiting ++ x ∷ [])
+      → Known net rule (targets_by (state_at net x)) found waiting
   taken_up x found waiting k = record {
     count = k.count;
     sound = k.sound;

@@ -40,7 +40,8 @@ after_first x y z xs ys up same has has' = elim (Contains-cons_cases y ys z has'
   | inr later ↦ later
 ]
 
-same_members : (xs ys : List ℕ) → Rises xs → Rises ys → ((z : ℕ) → Contains xs z → Contains ys z) → ((z : ℕ) → Contains ys z → Contains xs z) → xs ≡ ys
+same_members : (xs ys : List ℕ) → Rises xs → Rises ys → ((z : ℕ) → Contains xs z → Contains ys z)
+    → ((z : ℕ) → Contains ys z → Contains xs z) → xs ≡ ys
 same_members [] [] up up' to from = refl
 same_members [] (y ∷ ys) up up' to from = absurd (Contains-nil y (from y (Contains-first y ys y refl)))
 same_members (x ∷ xs) [] up up' to from = absurd (Contains-nil x (to x (Contains-first x xs x refl)))
@@ -53,10 +54,12 @@ same_members (x ∷ xs) (y ∷ ys) up up' to from =
 
 -- a rule has one list of states
 pub same_states : (net : ParserNetwork) (rule : ℕ) (xs ys : List ℕ) → AreStatesOf net rule xs → AreStatesOf net rule ys → xs ≡ ys
-same_states net rule xs ys a b = same_members xs ys (AllPairs-from_increasing xs a.rising) (AllPairs-from_increasing ys b.rising) (λ z has. (b.exactly z).1 ((a.exactly z).0 has)) (λ z has. (a.exactly z).1 ((b.exactly z).0 has))
+same_states net rule xs ys a b = same_members xs ys (AllPairs-from_increasing xs a.rising) (AllPairs-from_increasing ys b.rising)
+    (λ z has. (b.exactly z).1 ((a.exactly z).0 has)) (λ z has. (a.exactly z).1 ((b.exactly z).0 has))
 
 -- and so one listing
-pub one_listing : (names shown : List (List ℕ)) (net : ParserNetwork) (rule : ℕ) (one other : List ℕ) → IsListing names shown net rule one → IsListing names shown net rule other → one ≡ other
+pub one_listing : (names shown : List (List ℕ)) (net : ParserNetwork) (rule : ℕ) (one other : List ℕ)
+    → IsListing names shown net rule one → IsListing names shown net rule other → one ≡ other
 one_listing names shown net rule one other a b =
     let same : a.states ≡ b.states = same_states net rule a.states b.states a.are_states b.are_states in
     let alike : lines_of names shown net a.states ≡ lines_of names shown net b.states = ap (lines_of names shown net) same in

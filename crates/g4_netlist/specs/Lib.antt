@@ -1,3 +1,4 @@
+-- Other crates cite Listing, Shown; only this crate cites OfRule, Searching.
 pub mod Listing
 pub mod OfRule
 pub mod Searching

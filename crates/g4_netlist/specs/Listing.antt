@@ -22,7 +22,8 @@ abbrev pub state_text : List (List ℕ) → List (List ℕ) → State (List ℕ)
 state_text names shown (Decision targets) = codes "decision" ++ spaced targets
 state_text names shown (End rule) = codes "end"
 state_text names shown (Edge set t) = codes "token " ++ (shown_set shown set ++ (codes " " ++ decimal t))
-state_text names shown (Call rule level back) = codes "call " ++ (name_of names rule ++ (codes " " ++ (decimal level ++ (codes " " ++ decimal back))))
+state_text names shown (Call rule level back) =
+    codes "call " ++ (name_of names rule ++ (codes " " ++ (decimal level ++ (codes " " ++ decimal back))))
 state_text names shown (Predicate k t) = codes "pred " ++ (decimal k ++ (codes " " ++ decimal t))
 state_text names shown (Level q t) = codes "level " ++ (decimal q ++ (codes " " ++ decimal t))
 state_text names shown (Action t) = codes "action " ++ decimal t

@@ -65,7 +65,8 @@ impl Search {
 
     /// Marks a state, if it is new, and lets it wait.
     fn reach(&mut self, state: usize) -> Result<(), AllocError>
-        ensures under_way { (net : Net) (rule : ℕ) (left : List ℕ) → IsUnderWay net rule (state ∷ left) self.old → OnOk result (IsUnderWay net rule left self.new) }
+        ensures under_way { (net : Net) (rule : ℕ) (left : List ℕ) → IsUnderWay net rule (state ∷ left) self.old
+            → OnOk result (IsUnderWay net rule left self.new) }
         ensures work { OnOk result (work_left self.new ≡ work_left self.old) }
     {
         if self.is_new(state) {
@@ -77,7 +78,8 @@ impl Search {
 
     /// Marks each of the states that is new.
     fn reach_all(&mut self, states: &[u32]) -> Result<(), AllocError>
-        ensures under_way { (net : Net) (rule : ℕ) → IsUnderWay net rule states.now self.old → OnOk result (IsUnderWay net rule [] self.new) }
+        ensures under_way { (net : Net) (rule : ℕ) → IsUnderWay net rule states.now self.old
+            → OnOk result (IsUnderWay net rule [] self.new) }
         ensures work { OnOk result (work_left self.new ≡ work_left self.old) }
     {
         for state in states {
@@ -88,7 +90,8 @@ impl Search {
 
     /// A state whose edges are to be followed now, if one waits.
     fn next(&mut self) -> Option<usize>
-        ensures under_way { IfSome result (λ p. (net : Net) (rule : ℕ) → IsUnderWay net rule [] self.old → IsUnderWay net rule (targets_by (state_at net p)) self.new) }
+        ensures under_way { IfSome result (λ p. (net : Net) (rule : ℕ) → IsUnderWay net rule [] self.old
+            → IsUnderWay net rule (targets_by (state_at net p)) self.new) }
         ensures work { OnSome result (work_left self.new + 1 ≡ work_left self.old) }
         ensures done { IfNone result (self.old.waiting.items ≡ []) }
         ensures same { IfNone result (self.new.found.items ≡ self.old.found.items) }

@@ -1,7 +1,7 @@
 // Trees of small rules, worked out by hand, and large trees.
 use g4_base::{Place, Sequence, Text};
-use g4_source::{Alternative, Element, Elements, Repeat, RuleAlternative, Suffix};
 use g4_grammar::{Step, StepRule};
+use g4_source::{Alternative, Element, Elements, Repeat, RuleAlternative, Suffix};
 use g4_tokens::{Symbols, Token};
 use g4_tree_check::check_tree;
 use g4_trees::{Item, Tree};

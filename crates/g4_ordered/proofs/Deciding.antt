@@ -64,7 +64,8 @@ same_numbers : (xs ys : List ℕ) → Either (xs ≡ ys)
 same_numbers [] [] = inl refl
 same_numbers [] (y ∷ ys) = inr (λ e. let n = ap length e in absurd (omega arith))
 same_numbers (x ∷ xs) [] = inr (λ e. let n = ap length e in absurd (omega arith))
-same_numbers (x ∷ xs) (y ∷ ys) = elim (both (x ≡ y) (xs ≡ ys) (same_number x y) (same_numbers xs ys)) [ inl h ↦ inl (joined h) | inr differ ↦ inr (λ e. differ (parts e)) ]
+same_numbers (x ∷ xs) (y ∷ ys) = elim (both (x ≡ y) (xs ≡ ys) (same_number x y) (same_numbers xs ys))
+    [ inl h ↦ inl (joined h) | inr differ ↦ inr (λ e. differ (parts e)) ]
   where
     joined : (x ≡ y) × (xs ≡ ys) → x ∷ xs ≡ y ∷ ys
     joined h = cc
@@ -80,15 +81,27 @@ same_numbers (x ∷ xs) (y ∷ ys) = elim (both (x ≡ y) (xs ≡ ys) (same_numb
 
 -- two configurations are the same
 same_config : (c d : LexerConfig) → Either (c ≡ d)
-same_config c d = go (both _ _ (same_number c.rule d.rule) (both _ _ (same_number c.alternative d.alternative) (both _ _ (same_number c.state d.state) (both _ _ (same_numbers c.returns d.returns) (same_bool c.passed d.passed)))))
+same_config c d = go (both _ _ (same_number c.rule d.rule)
+    (both _ _ (same_number c.alternative d.alternative)
+    (both _ _ (same_number c.state d.state) (both _ _ (same_numbers c.returns d.returns) (same_bool c.passed d.passed)))))
   where
     make : ℕ → ℕ → ℕ → List ℕ → Bool → LexerConfig
-    make rule alternative state returns passed = record { rule = rule; alternative = alternative; state = state; returns = returns; passed = passed }
+    make rule alternative state returns passed =
+        record { rule = rule; alternative = alternative; state = state; returns = returns; passed = passed }
 
-    go : Either ((c.rule ≡ d.rule) × ((c.alternative ≡ d.alternative) × ((c.state ≡ d.state) × ((c.returns ≡ d.returns) × (c.passed ≡ d.passed))))) → Either (c ≡ d)
-    go (inl h) = inl (ap (λ x. make x c.alternative c.state c.returns c.passed) h.0 ∙ ap (λ x. make d.rule x c.state c.returns c.passed) h.1.0 ∙ ap (λ x. make d.rule d.alternative x c.returns c.passed) h.1.1.0
-        ∙ ap (λ x. make d.rule d.alternative d.state x c.passed) h.1.1.1.0 ∙ ap (λ x. make d.rule d.alternative d.state d.returns x) h.1.1.1.1)
-    go (inr differ) = inr (λ e. differ (ap (λ (x : LexerConfig). x.rule) e, (ap (λ (x : LexerConfig). x.alternative) e, (ap (λ (x : LexerConfig). x.state) e, (ap (λ (x : LexerConfig). x.returns) e, ap (λ (x : LexerConfig). x.passed) e)))))
+    go : Either ((c.rule ≡ d.rule) × ((c.alternative ≡ d.alternative)
+        × ((c.state ≡ d.state) × ((c.returns ≡ d.returns) × (c.passed ≡ d.passed))))) → Either (c ≡ d)
+    go (inl h) = inl (ap (λ x. make x c.alternative c.state c.returns c.passed) h.0
+        ∙ ap (λ x. make d.rule x c.state c.returns c.passed) h.1.0 ∙ ap (λ x. make d.rule d.alternative x c.returns c.passed) h.1.1.0
+        ∙ ap (λ x. make d.rule d.alternative d.state x c.passed) h.1.1.1.0
+        ∙ ap (λ x. make d.rule d.alternative d.state d.returns x) h.1.1.1.1)
+    go (inr differ) = inr (λ e. differ (
+      ap (λ (x : LexerConfig). x.rule) e,
+      (
+        ap (λ (x : LexerConfig). x.alternative) e,
+        (ap (λ (x : LexerConfig). x.state) e, (ap (λ (x : LexerConfig). x.returns) e, ap (λ (x : LexerConfig). x.passed) e)),
+      ),
+    ))
 
 -- a configuration is in a list
 is_in_list : (c : LexerConfig) (xs : List LexerConfig) → Either (In c xs)
@@ -137,7 +150,8 @@ is_late net false xs c = inr (λ h. h)
 is_late net true xs c = both _ _ (same_bool c.passed true) (has_end net xs c.rule)
 
 -- a configuration is dropped from a list
-pub is_dropped : (net : LexerNetwork) (in_step : Bool) (xs : List LexerConfig) (c : LexerConfig) → Either (IsDropped (late_in net in_step) xs c)
+pub is_dropped : (net : LexerNetwork) (in_step : Bool) (xs : List LexerConfig) (c : LexerConfig)
+    → Either (IsDropped (late_in net in_step) xs c)
 is_dropped net in_step xs c = either _ _ (is_in_list c xs) (is_late net in_step xs c)
 
 -- a set has a character
@@ -156,7 +170,8 @@ character_is (Some (Edge EndOfText t)) h = absurd h
 character_is _ h = absurd h
 
 -- which of them is decided by the set of its edge
-read_by_set : (net : LexerNetwork) (a : ℕ) (c : LexerConfig) (set : List Range) (t : ℕ) → state_at net c.state ≡ Some (Edge (Characters set) t) → Either (Has set a) → ReadsOrNot net a c
+read_by_set : (net : LexerNetwork) (a : ℕ) (c : LexerConfig) (set : List Range) (t : ℕ)
+    → state_at net c.state ≡ Some (Edge (Characters set) t) → Either (Has set a) → ReadsOrNot net a c
 read_by_set net a c set t is (inl h) = inl (at c t, (set, t, is, h, refl))
 read_by_set net a c set t is (inr lacks) = inr (λ d h. lacks (subst (λ (s : List Range). Has s a) (same h.0 h.1 h.2) h.3))
   where

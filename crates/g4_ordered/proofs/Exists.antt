@@ -7,7 +7,8 @@ use Rattle.g4_ordered.proofs.Deciding.{is_dropped, is_kept, read_somewhere}
 use Rattle.g4_ordered.proofs.Ending.{expansion}
 
 -- appending makes a list
-appending : (net : LexerNetwork) (in_step : Bool) (more old : List LexerConfig) → (new : List LexerConfig) × Appends (late_in net in_step) new more old
+appending : (net : LexerNetwork) (in_step : Bool) (more old : List LexerConfig)
+    → (new : List LexerConfig) × Appends (late_in net in_step) new more old
 appending net in_step [] old = (old, done)
 appending net in_step (c ∷ more) old = elim (is_dropped net in_step old c) [
   | inl d ↦ (let r = appending net in_step more old in (r.0, dropped c more old d r.1))
@@ -31,7 +32,8 @@ reading_all net a (c ∷ cs) = let r = reading_all net a cs in elim (read_somewh
 ]
 
 -- there is a list of some starts
-a_list_of : (net : LexerNetwork) (last in_step : Bool) (starts : List LexerConfig) → IsLexable net → (list : List LexerConfig) × ListOf net last (late_in net in_step) starts list
+a_list_of : (net : LexerNetwork) (last in_step : Bool) (starts : List LexerConfig) → IsLexable net
+    → (list : List LexerConfig) × ListOf net last (late_in net in_step) starts list
 a_list_of net last in_step starts well =
     let e = expansion net last well starts in
     let a = appending net in_step e.0 [] in
@@ -39,10 +41,12 @@ a_list_of net last in_step starts well =
     (k.0, record { expansion = e.0; all = a.0; expands = e.1; appends = a.1; keeps = k.1 })
 
 -- there is a list before every rest of the text
-pub a_list : (net : LexerNetwork) (starts : List LexerConfig) (w u v : List ℕ) → IsLexable net → w ≡ u ++ v → (list : List LexerConfig) × ListAt net starts w v list
+pub a_list : (net : LexerNetwork) (starts : List LexerConfig) (w u v : List ℕ) → IsLexable net → w ≡ u ++ v
+    → (list : List LexerConfig) × ListAt net starts w v list
 a_list net starts w u v well e = onward u w v (let h = a_list_of net (is_last w) false starts well in (h.0, first h.0 h.1)) e
   where
-    onward : (u x v : List ℕ) → ((list : List LexerConfig) × ListAt net starts w x list) → x ≡ u ++ v → (list : List LexerConfig) × ListAt net starts w v list
+    onward : (u x v : List ℕ) → ((list : List LexerConfig) × ListAt net starts w x list) → x ≡ u ++ v
+        → (list : List LexerConfig) × ListAt net starts w v list
     onward [] x v h e = subst (λ y. (list : List LexerConfig) × ListAt net starts w y list) e h
     onward (a ∷ u) x v h e =
         let k = subst (λ y. (list : List LexerConfig) × ListAt net starts w y list) e h in

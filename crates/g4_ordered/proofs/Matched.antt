@@ -16,14 +16,17 @@ walk_alike net c w d v (leading e _ _ k i) = alike_on c e d (walk_alike net c w 
 walk_alike net c w d v (reading a e _ _ k i) = alike_on c e d (walk_alike net c w e (a ∷ v) k) (read_follows net a e d i)
 
 -- what the list ends is spelled, of any rule
-pub ends_spelled : (net : LexerNetwork) (starts : List LexerConfig) (w v : List ℕ) (list : List LexerConfig) (rule alternative : ℕ) → ListAt net starts w v list → AreFresh starts → HasEndOf net list rule alternative → Spelled net starts rule alternative w v
+pub ends_spelled : (net : LexerNetwork) (starts : List LexerConfig) (w v : List ℕ) (list : List LexerConfig) (rule alternative : ℕ)
+    → ListAt net starts w v list → AreFresh starts → HasEndOf net list rule alternative → Spelled net starts rule alternative w v
 ends_spelled net starts w v list rule alternative at fresh (e, i, r, alt, end) =
     let h = walked net starts w v list at e i in
     let a = walk_alike net h.1.0 w e v h.1.2 in
     (h.1.0, h.1.1, sym a.rule ∙ r, sym a.alternative ∙ alt, walk_spells net h.1.0 w e v (fresh h.1.0 h.1.1).0 end h.1.2)
 
 -- and what is spelled without non-greedy parts is ended
-pub spelled_ends : (net : LexerNetwork) (starts : List LexerConfig) (w v : List ℕ) (list : List LexerConfig) (rule alternative : ℕ) → ListAt net starts w v list → AreFresh starts → IsGreedyRule net starts rule → Spelled net starts rule alternative w v → HasEndOf net list rule alternative
+pub spelled_ends : (net : LexerNetwork) (starts : List LexerConfig) (w v : List ℕ) (list : List LexerConfig) (rule alternative : ℕ)
+    → ListAt net starts w v list → AreFresh starts → IsGreedyRule net starts rule → Spelled net starts rule alternative w v
+    → HasEndOf net list rule alternative
 spelled_ends net starts w v list rule alternative at fresh greedy (s, i, r, alt, spells) =
     let h = spells_walk net s.state w v spells (greedy s i r) s refl in
     let end : IsAtEnd net h.d = (subst IsEndBy (sym h.end) tt, h.returns ∙ (fresh s i).0) in

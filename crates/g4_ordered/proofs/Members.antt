@@ -34,7 +34,8 @@ module _ (net : LexerNetwork) (last : Bool) where
   expanded cs zs e c d i (further b _ r j) = closed cs zs e b d (expanded cs zs e c b i r) j
 
   -- and nothing else
-  pub led : (cs zs : List LexerConfig) → Expands net last cs zs → (d : LexerConfig) → In d zs → (c : LexerConfig) × In c cs × Reaches net last c d
+  pub led : (cs zs : List LexerConfig) → Expands net last cs zs → (d : LexerConfig) → In d zs
+      → (c : LexerConfig) × In c cs × Reaches net last c d
   led cs zs nothing d h = absurd h
   led cs zs (each b more xs ys e f) d (inl is) = (b, inl refl, subst (Reaches net last b) (sym is) here)
   led cs zs (each b more xs ys e f) d (inr i) = elim (In-cases xs ys d i) [
@@ -59,7 +60,8 @@ module _ (Late : List LexerConfig → LexerConfig → Type 0) (new : List LexerC
   ]
 
   -- what is never late is in the new list
-  in_time : (more old : List LexerConfig) → Appends Late new more old → (d : LexerConfig) → ((list : List LexerConfig) → Late list d → ⊥) → In d more → In d new
+  in_time : (more old : List LexerConfig) → Appends Late new more old → (d : LexerConfig)
+      → ((list : List LexerConfig) → Late list d → ⊥) → In d more → In d new
   in_time more old done d never i = absurd i
   in_time more old (dropped c cs _ h a) d never (inl is) = elim h [
     | inl j ↦ stays cs old a d (subst (λ x. In x old) (sym is) j)
@@ -85,7 +87,9 @@ in_kept net cs ds (leaves c more _ q h) d k (inl is) = absurd (q (subst (IsKept 
 in_kept net cs ds (leaves c more _ q h) d k (inr i) = in_kept net more ds h d k i
 
 -- a list has only what is kept and led to
-pub list_sound : (net : LexerNetwork) (last : Bool) (Late : List LexerConfig → LexerConfig → Type 0) (starts list : List LexerConfig) → ListOf net last Late starts list → (d : LexerConfig) → In d list → IsKept net d × ((c : LexerConfig) × In c starts × Reaches net last c d)
+pub list_sound : (net : LexerNetwork) (last : Bool) (Late : List LexerConfig → LexerConfig → Type 0) (starts list : List LexerConfig)
+    → ListOf net last Late starts list → (d : LexerConfig) → In d list
+    → IsKept net d × ((c : LexerConfig) × In c starts × Reaches net last c d)
 list_sound net last Late starts list h d i =
     let k = kept_in net h.all list h.keeps d i in
     elim (from_either Late h.all h.expansion [] h.appends d k.0) [
@@ -94,13 +98,17 @@ list_sound net last Late starts list h d i =
     ]
 
 -- and all of that which is never late
-pub list_complete : (net : LexerNetwork) (last : Bool) (Late : List LexerConfig → LexerConfig → Type 0) (starts list : List LexerConfig) → ListOf net last Late starts list → (c d : LexerConfig) → ((l : List LexerConfig) → Late l d → ⊥) → IsKept net d → In c starts → Reaches net last c d → In d list
+pub list_complete : (net : LexerNetwork) (last : Bool) (Late : List LexerConfig → LexerConfig → Type 0)
+    (starts list : List LexerConfig) → ListOf net last Late starts list → (c d : LexerConfig)
+    → ((l : List LexerConfig) → Late l d → ⊥) → IsKept net d → In c starts → Reaches net last c d → In d list
 list_complete net last Late starts list h c d never k i r =
-    in_kept net h.all list h.keeps d k (in_time Late h.all h.expansion [] h.appends d never (expanded net last starts h.expansion h.expands c d i r))
+    in_kept net h.all list h.keeps d k (in_time Late h.all h.expansion [] h.appends d never
+    (expanded net last starts h.expansion h.expands c d i r))
 
 module _ (net : LexerNetwork) (a : ℕ) where
   -- what a list reads to is what a member reads to
-  pub read_by : (list read : List LexerConfig) → ReadAll net a list read → (d : LexerConfig) → In d read → (c : LexerConfig) × In c list × ReadsTo net a c d
+  pub read_by : (list read : List LexerConfig) → ReadAll net a list read → (d : LexerConfig) → In d read
+      → (c : LexerConfig) × In c list × ReadsTo net a c d
   read_by list read all_read d i = absurd i
   read_by list read (taken c e cs ds h more) d (inl is) = (c, inl refl, subst (ReadsTo net a c) (sym is) h)
   read_by list read (taken c e cs ds h more) d (inr i) = let r = read_by cs ds more d i in (r.0, inr r.1, r.2)

@@ -62,38 +62,46 @@ module _ (net : LexerNetwork) where
   passed p t ts w z m h = (h.0, passes p t w h.0 m h.1, h.2)
 
   -- an edge with a label spells what it takes, and then what its target does
-  took : (p t : ℕ) (label : Reads) (ts w v z : List ℕ) → state_at net p ≡ Some (Edge label t) → TakesText label w v → SpellsThrough (t ∷ ts) v z → SpellsThrough (p ∷ ts) w z
+  took : (p t : ℕ) (label : Reads) (ts w v z : List ℕ) → state_at net p ≡ Some (Edge label t) → TakesText label w v
+      → SpellsThrough (t ∷ ts) v z → SpellsThrough (p ∷ ts) w z
   took p t label ts w v z is m h = (h.0, takes p t label w v h.0 is m h.1, h.2)
 
   -- what is spelled after a return is spelled before it
-  back_returned : (rule : ℕ) (c e : LexerConfig) (ts w z : List ℕ) → c.returns ≡ ts → state_at net c.state ≡ Some (End rule) → In e (returned c ts) → Onward e w z → Onward c w z
+  back_returned : (rule : ℕ) (c e : LexerConfig) (ts w z : List ℕ) → c.returns ≡ ts → state_at net c.state ≡ Some (End rule)
+      → In e (returned c ts) → Onward e w z → Onward c w z
   back_returned rule c e [] w z is end i h = absurd i
   back_returned rule c e (t ∷ rest) w z is end i h =
       subst (λ ts. SpellsThrough (c.state ∷ ts) w z) (sym is) (w, ends c.state rule w end, subst (λ x. Onward x w z) (only _ e i) h)
 
   -- what is spelled after a pass to a state is spelled before it
-  back_passed : (o : Option (State Reads)) (c e : LexerConfig) (t : ℕ) (w z : List ℕ) → state_at net c.state ≡ o → PassesBy o t → e.state ≡ t → e.returns ≡ c.returns → Onward e w z → Onward c w z
+  back_passed : (o : Option (State Reads)) (c e : LexerConfig) (t : ℕ) (w z : List ℕ) → state_at net c.state ≡ o → PassesBy o t
+      → e.state ≡ t → e.returns ≡ c.returns → Onward e w z → Onward c w z
   back_passed o c e t w z is m there same h =
       passed c.state t c.returns w z (subst (λ o. PassesBy o t) (sym is) m)
       (subst (λ (ts : List ℕ). SpellsThrough (t ∷ ts) w z) same (subst (λ (p : ℕ). SpellsThrough (p ∷ e.returns) w z) there h))
 
   -- and so it is where the step is to the configuration at that state
-  back_at : (o : Option (State Reads)) (c e : LexerConfig) (t : ℕ) (w z : List ℕ) → state_at net c.state ≡ o → PassesBy o t → e ≡ at c t → Onward e w z → Onward c w z
-  back_at o c e t w z is m there h = back_passed o c e t w z is m (ap (λ (x : LexerConfig). x.state) there) (ap (λ (x : LexerConfig). x.returns) there) h
+  back_at : (o : Option (State Reads)) (c e : LexerConfig) (t : ℕ) (w z : List ℕ) → state_at net c.state ≡ o → PassesBy o t
+      → e ≡ at c t → Onward e w z → Onward c w z
+  back_at o c e t w z is m there h = back_passed o c e t w z is m (ap (λ (x : LexerConfig). x.state) there)
+      (ap (λ (x : LexerConfig). x.returns) there) h
 
   -- what is spelled after an edge that asks that no character is left is spelled before it
-  back_past : (label : Reads) (c e : LexerConfig) (t : ℕ) (w z : List ℕ) → state_at net c.state ≡ Some (Edge label t) → In e (leads_past (is_last w) label c t) → Onward e w z → Onward c w z
+  back_past : (label : Reads) (c e : LexerConfig) (t : ℕ) (w z : List ℕ) → state_at net c.state ≡ Some (Edge label t)
+      → In e (leads_past (is_last w) label c t) → Onward e w z → Onward c w z
   back_past (Characters set) c e t w z is i h = absurd i
   back_past EndOfText c e t w z is i h =
       let r = only_where (is_last w) (at c t) e i in
       took c.state t EndOfText c.returns w w z is (last_is w r.0, last_is w r.0) (subst (λ x. Onward x w z) r.1 h)
 
   -- what is spelled after a step is spelled before it
-  back_by : (o : Option (State Reads)) (c e : LexerConfig) (w z : List ℕ) → state_at net c.state ≡ o → In e (leads_by (is_last w) o c) → Onward e w z → Onward c w z
+  back_by : (o : Option (State Reads)) (c e : LexerConfig) (w z : List ℕ) → state_at net c.state ≡ o → In e (leads_by (is_last w) o c)
+      → Onward e w z → Onward c w z
   back_by None c e w z is i h = absurd i
   back_by (Some (Decision ts)) c e w z is i h =
       let r = In-map (through (is_reluctant ts) c) ts e i in
-      back_passed (Some (Decision ts)) c e r.0 w z is (In-to ts r.0 r.1) (ap (λ (x : LexerConfig). x.state) r.2) (ap (λ (x : LexerConfig). x.returns) r.2) h
+      back_passed (Some (Decision ts)) c e r.0 w z is (In-to ts r.0 r.1) (ap (λ (x : LexerConfig). x.state) r.2)
+      (ap (λ (x : LexerConfig). x.returns) r.2) h
   back_by (Some (End rule)) c e w z is i h = back_returned rule c e c.returns w z refl is i h
   back_by (Some (Edge label t)) c e w z is i h = back_past label c e t w z is i h
   back_by (Some (Call rule level back)) c e w z is i h =
@@ -106,7 +114,8 @@ module _ (net : LexerNetwork) where
 
   -- what is spelled after a character is spelled before it, with the character in front
   back_read : (a : ℕ) (c e : LexerConfig) (w z : List ℕ) → ReadsTo net a c e → Onward e w z → Onward c (a ∷ w) z
-  back_read a c e w z (set, t, is, has, there) h = took c.state t (Characters set) c.returns (a ∷ w) w z is (a, refl, has) (subst (λ x. Onward x w z) there h)
+  back_read a c e w z (set, t, is, has, there) h =
+      took c.state t (Characters set) c.returns (a ∷ w) w z is (a, refl, has) (subst (λ x. Onward x w z) there h)
 
   -- what is spelled where a walk arrives is spelled where it sets out, with what it reads in front
   walk_back : (c : LexerConfig) (w : List ℕ) (d : LexerConfig) (v z : List ℕ) → Walks net c w d v → Onward d v z → Onward c w z
@@ -115,7 +124,8 @@ module _ (net : LexerNetwork) where
   walk_back c w d v z (reading a e _ _ k i) h = walk_back c w e (a ∷ v) z k (back_read a e d v z i h)
 
   -- a walk from a start to the rule's end spells what it reads
-  pub walk_spells : (c : LexerConfig) (w : List ℕ) (d : LexerConfig) (v : List ℕ) → c.returns ≡ [] → IsAtEnd net d → Walks net c w d v → SpellsText net c.state w v
+  pub walk_spells : (c : LexerConfig) (w : List ℕ) (d : LexerConfig) (v : List ℕ) → c.returns ≡ [] → IsAtEnd net d → Walks net c w d v
+      → SpellsText net c.state w v
   walk_spells c w d v unopened end k =
       let r = end_is (state_at net d.state) end.0 in
       let there : Onward d v v = (v, ends d.state r.0 v r.1, subst (λ ts. SpellsThrough ts v v) (sym end.1) refl) in
@@ -123,7 +133,8 @@ module _ (net : LexerNetwork) where
       subst (SpellsText net c.state w) h.2 h.1
 
   -- a walk and then a walk are a walk
-  walks_on : (c : LexerConfig) (w : List ℕ) (d : LexerConfig) (v : List ℕ) (e : LexerConfig) (u : List ℕ) → Walks net c w d v → Walks net d v e u → Walks net c w e u
+  walks_on : (c : LexerConfig) (w : List ℕ) (d : LexerConfig) (v : List ℕ) (e : LexerConfig) (u : List ℕ) → Walks net c w d v
+      → Walks net d v e u → Walks net c w e u
   walks_on c w d v e u k here = k
   walks_on c w d v e u k (leading f _ _ h i) = leading f e u (walks_on c w d v f u k h) i
   walks_on c w d v e u k (reading a f _ _ h i) = reading a f e u (walks_on c w d v f (a ∷ u) k h) i
@@ -150,7 +161,8 @@ module _ (net : LexerNetwork) where
     pub passed : d.passed ≡ c.passed
 
   -- a walk to the same but the state, and then one that arrives
-  then_arrives : (c e : LexerConfig) (w u v : List ℕ) → Walks net c w e u → e.returns ≡ c.returns → e.rule ≡ c.rule → e.alternative ≡ c.alternative → e.passed ≡ c.passed → Arrives e u v → Arrives c w v
+  then_arrives : (c e : LexerConfig) (w u v : List ℕ) → Walks net c w e u → e.returns ≡ c.returns → e.rule ≡ c.rule
+      → e.alternative ≡ c.alternative → e.passed ≡ c.passed → Arrives e u v → Arrives c w v
   then_arrives c e w u v k r rule alt p h = record {
     d = h.d;
     walk = walks_on c w e u h.d v k h.walk;
@@ -163,23 +175,31 @@ module _ (net : LexerNetwork) where
   }
 
   -- one step is a walk
-  one : (c e : LexerConfig) (w : List ℕ) (o : Option (State Reads)) → state_at net c.state ≡ o → In e (leads_by (is_last w) o c) → Walks net c w e w
+  one : (c e : LexerConfig) (w : List ℕ) (o : Option (State Reads)) → state_at net c.state ≡ o → In e (leads_by (is_last w) o c)
+      → Walks net c w e w
   one c e w o is i = leading c e w here (subst (λ x. In e (leads_by (is_last w) x c)) (sym is) i)
 
   -- a return is a walk
-  return_walks : (d : LexerConfig) (rule t : ℕ) (ts w : List ℕ) → state_at net d.state ≡ Some (End rule) → d.returns ≡ t ∷ ts → Walks net d w (at_with d t ts) w
-  return_walks d rule t ts w is top = one d (at_with d t ts) w (Some (End rule)) is (subst (λ rs. In (at_with d t ts) (returned d rs)) (sym top) (inl refl))
+  return_walks : (d : LexerConfig) (rule t : ℕ) (ts w : List ℕ) → state_at net d.state ≡ Some (End rule) → d.returns ≡ t ∷ ts
+      → Walks net d w (at_with d t ts) w
+  return_walks d rule t ts w is top = one d (at_with d t ts) w (Some (End rule)) is
+      (subst (λ rs. In (at_with d t ts) (returned d rs)) (sym top) (inl refl))
 
   -- what a label takes is walked
-  take_walks : (label : Reads) (c : LexerConfig) (t : ℕ) (w v : List ℕ) → state_at net c.state ≡ Some (Edge label t) → TakesText label w v → Walks net c w (at c t) v
-  take_walks (Characters set) c t w v is (a, begins, has) = reading a c (at c t) v (subst (Walks net c w c) begins here) (set, t, is, has, refl)
-  take_walks EndOfText c t w v is (empty, rest) = subst (Walks net c w (at c t)) (empty ∙ sym rest) (one c (at c t) w _ is (where_true (is_last w) (at c t) (ap is_last empty)))
+  take_walks : (label : Reads) (c : LexerConfig) (t : ℕ) (w v : List ℕ) → state_at net c.state ≡ Some (Edge label t)
+      → TakesText label w v → Walks net c w (at c t) v
+  take_walks (Characters set) c t w v is (a, begins, has) =
+      reading a c (at c t) v (subst (Walks net c w c) begins here) (set, t, is, has, refl)
+  take_walks EndOfText c t w v is (empty, rest) =
+      subst (Walks net c w (at c t)) (empty ∙ sym rest) (one c (at c t) w _ is (where_true (is_last w) (at c t) (ap is_last empty)))
 
   -- a pass that is not reluctant is walked
-  pass_walks : (o : Option (State Reads)) (c : LexerConfig) (t : ℕ) (w : List ℕ) → state_at net c.state ≡ o → ((targets : List ℕ) → o ≡ Some (Decision targets) → IsReluctant targets → ⊥) → PassesBy o t → Walks net c w (at c t) w
+  pass_walks : (o : Option (State Reads)) (c : LexerConfig) (t : ℕ) (w : List ℕ) → state_at net c.state ≡ o
+      → ((targets : List ℕ) → o ≡ Some (Decision targets) → IsReluctant targets → ⊥) → PassesBy o t → Walks net c w (at c t) w
   pass_walks (Some (Decision ts)) c t w is g m =
       let greedy : is_reluctant ts ≡ false = untrue (is_reluctant ts) (g ts refl) in
-      subst (λ (b : Bool). Walks net c w (through b c t) w) greedy (one c (through (is_reluctant ts) c t) w _ is (map-In (through (is_reluctant ts) c) ts t (In-from ts t m)))
+      subst (λ (b : Bool). Walks net c w (through b c t) w) greedy
+      (one c (through (is_reluctant ts) c t) w _ is (map-In (through (is_reluctant ts) c) ts t (In-from ts t m)))
   pass_walks (Some (Predicate k u)) c t w is g m = one c (at c t) w _ is (inl (ap (at c) m))
   pass_walks (Some (Level q u)) c t w is g m = one c (at c t) w _ is (inl (ap (at c) m))
   pass_walks (Some (Action u)) c t w is g m = one c (at c t) w _ is (inl (ap (at c) m))

@@ -29,7 +29,8 @@ still_passed false passed p = p
 
 -- and so it does after a decision
 follows_through : (reluctant : Bool) (c d : LexerConfig) (t : ℕ) → d ≡ through reluctant c t → Follows c d
-follows_through reluctant c d t is = subst (Follows c) (sym is) (record { rule = refl; alternative = refl; passed = still_passed reluctant c.passed })
+follows_through reluctant c d t is = subst (Follows c) (sym is)
+    (record { rule = refl; alternative = refl; passed = still_passed reluctant c.passed })
 
 -- and with other return states
 follows_with : (c d : LexerConfig) (t : ℕ) (ts : List ℕ) → d ≡ at_with c t ts → Follows c d
@@ -53,7 +54,8 @@ follows_past last EndOfText c d t i = follows_at c d t (only_where last (at c t)
 -- a step keeps them, by cases on the state
 follows_by : (last : Bool) (o : Option (State Reads)) (c d : LexerConfig) → In d (leads_by last o c) → Follows c d
 follows_by last None c d i = absurd i
-follows_by last (Some (Decision ts)) c d i = let r = In-map (through (is_reluctant ts) c) ts d i in follows_through (is_reluctant ts) c d r.0 r.2
+follows_by last (Some (Decision ts)) c d i = let r = In-map (through (is_reluctant ts) c) ts d i in
+    follows_through (is_reluctant ts) c d r.0 r.2
 follows_by last (Some (End rule)) c d i = follows_returned c d c.returns i
 follows_by last (Some (Edge label t)) c d i = follows_past last label c d t i
 follows_by last (Some (Call rule level back)) c d i = follows_with c d (start_of rule) (back ∷ c.returns) (only _ d i)

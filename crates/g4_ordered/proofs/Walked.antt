@@ -32,15 +32,19 @@ module _ (net : LexerNetwork) where
   walk_rest c w d v (reading a e _ _ k i) = let r = walk_rest c w e (a ∷ v) k in (r.0 ++ a ∷ [], r.1 ∙ sym (append_assoc r.0 (a ∷ []) v))
 
   -- the text after a list ends the whole text
-  pub at_rest : (starts : List LexerConfig) (w v : List ℕ) (list : List LexerConfig) → ListAt net starts w v list → (u : List ℕ) × (w ≡ u ++ v)
+  pub at_rest : (starts : List LexerConfig) (w v : List ℕ) (list : List LexerConfig) → ListAt net starts w v list
+      → (u : List ℕ) × (w ≡ u ++ v)
   at_rest starts w v list (first _ h) = ([], refl)
-  at_rest starts w v list (step a _ l _ _ k read h) = let r = at_rest starts w (a ∷ v) l k in (r.0 ++ a ∷ [], r.1 ∙ sym (append_assoc r.0 (a ∷ []) v))
+  at_rest starts w v list (step a _ l _ _ k read h) = let r = at_rest starts w (a ∷ v) l k in
+      (r.0 ++ a ∷ [], r.1 ∙ sym (append_assoc r.0 (a ∷ []) v))
 
   -- a walk that reads nothing only leads
-  still : (c : LexerConfig) (w : List ℕ) (d : LexerConfig) (v : List ℕ) → Walks net c w d v → length w ≤ length v → Reaches net (is_last v) c d
+  still : (c : LexerConfig) (w : List ℕ) (d : LexerConfig) (v : List ℕ) → Walks net c w d v → length w ≤ length v
+      → Reaches net (is_last v) c d
   still c w d v stands le = here
   still c w d v (leading e _ _ k i) le = further e d (still c w e v k le) i
-  still c w d v (reading a e _ _ k i) le = let r = walk_rest c w e (a ∷ v) k in let n = ap length r.1 ∙ length-append r.0 (a ∷ v) in absurd (omega arith)
+  still c w d v (reading a e _ _ k i) le = let r = walk_rest c w e (a ∷ v) k in let n = ap length r.1 ∙ length-append r.0 (a ∷ v) in
+      absurd (omega arith)
 
   -- the last character that a walk reads
   record LastRead (c : LexerConfig) (w : List ℕ) (d : LexerConfig) (v : List ℕ) : Type 0 where
@@ -54,7 +58,8 @@ module _ (net : LexerNetwork) where
   -- a walk that reads has one
   last_read : (c : LexerConfig) (w : List ℕ) (d : LexerConfig) (v : List ℕ) → Walks net c w d v → length v < length w → LastRead c w d v
   last_read c w d v stands lt = absurd (omega arith)
-  last_read c w d v (leading e _ _ k i) lt = let r = last_read c w e v k lt in record { a = r.a; from = r.from; to = r.to; before = r.before; reads_it = r.reads_it; after = further e d r.after i }
+  last_read c w d v (leading e _ _ k i) lt = let r = last_read c w e v k lt in
+      record { a = r.a; from = r.from; to = r.to; before = r.before; reads_it = r.reads_it; after = further e d r.after i }
   last_read c w d v (reading a e _ _ k i) lt = record { a = a; from = e; to = d; before = k; reads_it = i; after = here }
 
   -- what has not passed has not passed before
@@ -68,7 +73,8 @@ module _ (net : LexerNetwork) where
   walk_on c w v d e k (further f _ r i) = leading f e v (walk_on c w v d f k r) i
 
   -- what is in the list is kept, and walked to from a start
-  pub walked : (starts : List LexerConfig) (w v : List ℕ) (list : List LexerConfig) → ListAt net starts w v list → (d : LexerConfig) → In d list → IsKept net d × ((s : LexerConfig) × In s starts × Walks net s w d v)
+  pub walked : (starts : List LexerConfig) (w v : List ℕ) (list : List LexerConfig) → ListAt net starts w v list → (d : LexerConfig)
+      → In d list → IsKept net d × ((s : LexerConfig) × In s starts × Walks net s w d v)
   walked starts w v list (first _ h) d i =
       let r = list_sound net (is_last w) Never starts list h d i in
       (r.0, (r.1.0, r.1.1, walk_on r.1.0 w w r.1.0 d stands r.1.2))
@@ -79,11 +85,13 @@ module _ (net : LexerNetwork) where
       (r.0, (s.1.0, s.1.1, walk_on s.1.0 w v r.1.0 d (reading a b.0 r.1.0 v s.1.2 b.2) r.1.2))
 
   -- a step lists what is walked to and has not passed, where the list before it does
-  then_listed : (starts : List LexerConfig) (w v : List ℕ) (a : ℕ) (l read list : List LexerConfig) (s d : LexerConfig) → ListAt net starts w (a ∷ v) l → ReadAll net a l read → ListOf net (is_last v) (BehindEnd net) read list
+  then_listed : (starts : List LexerConfig) (w v : List ℕ) (a : ℕ) (l read list : List LexerConfig) (s d : LexerConfig)
+      → ListAt net starts w (a ∷ v) l → ReadAll net a l read → ListOf net (is_last v) (BehindEnd net) read list
       → ((c : LexerConfig) → c.passed ≡ false → IsKept net c → Walks net s w c (a ∷ v) → In c l)
       → d.passed ≡ false → IsKept net d → Walks net s w d v → In d list
   then_listed starts w v a l read list s d at q h before not_yet k walk =
-      list_complete net (is_last v) (BehindEnd net) read list h r.to d (λ l n. false≢true (sym not_yet ∙ n.0)) k (in_read net a l read q r.from r.to here_before (subst (λ b. ReadsTo net b r.from r.to) same r.reads_it)) r.after
+      list_complete net (is_last v) (BehindEnd net) read list h r.to d (λ l n. false≢true (sym not_yet ∙ n.0)) k
+      (in_read net a l read q r.from r.to here_before (subst (λ b. ReadsTo net b r.from r.to) same r.reads_it)) r.after
     where
       left : (u : List ℕ) × (w ≡ u ++ (a ∷ v))
       left = at_rest starts w (a ∷ v) l at
@@ -101,13 +109,16 @@ module _ (net : LexerNetwork) where
       same = heads r.a a v v same_text
 
       not_earlier : r.from.passed ≡ false
-      not_earlier = not_before r.from r.to (read_follows net r.a r.from r.to r.reads_it) (reach_not_before (is_last v) r.to d r.after not_yet)
+      not_earlier = not_before r.from r.to (read_follows net r.a r.from r.to r.reads_it)
+          (reach_not_before (is_last v) r.to d r.after not_yet)
 
       here_before : In r.from l
-      here_before = before r.from not_earlier (read_kept net r.a r.from r.to r.reads_it) (subst (λ x. Walks net s w r.from x) same_text r.before)
+      here_before = before r.from not_earlier (read_kept net r.a r.from r.to r.reads_it)
+          (subst (λ x. Walks net s w r.from x) same_text r.before)
 
   -- what is walked to, kept, and has not passed is in the list
-  pub listed : (starts : List LexerConfig) (w v : List ℕ) (list : List LexerConfig) → ListAt net starts w v list → (s d : LexerConfig) → d.passed ≡ false → IsKept net d → In s starts → Walks net s w d v → In d list
+  pub listed : (starts : List LexerConfig) (w v : List ℕ) (list : List LexerConfig) → ListAt net starts w v list → (s d : LexerConfig)
+      → d.passed ≡ false → IsKept net d → In s starts → Walks net s w d v → In d list
   listed starts w v list (first _ h) s d not_yet k i walk =
       list_complete net (is_last w) Never starts list h s d (λ l n. n) k i (still s w d w walk (omega arith))
   listed starts w v list (step a _ l read _ at q h) s d not_yet k i walk =

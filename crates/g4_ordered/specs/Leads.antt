@@ -49,7 +49,8 @@ ReadsTo net a c d = (set : List Range) × (t : ℕ) × (state_at net c.state ≡
 -- them itself, then what its edges lead to, then what the others lead to.
 pub data Expands (net : LexerNetwork) (last : Bool) : List LexerConfig → List LexerConfig → Type 0 where
   nothing : Expands net last [] []
-  each : (c : LexerConfig) (cs xs ys : List LexerConfig) → Expands net last (leads net last c) xs → Expands net last cs ys → Expands net last (c ∷ cs) (c ∷ xs ++ ys)
+  each : (c : LexerConfig) (cs xs ys : List LexerConfig) → Expands net last (leads net last c) xs → Expands net last cs ys
+      → Expands net last (c ∷ cs) (c ∷ xs ++ ys)
 
 -- c leads to d without a character, in any number of steps
 pub data Reaches (net : LexerNetwork) (last : Bool) (c : LexerConfig) : LexerConfig → Type 0 where

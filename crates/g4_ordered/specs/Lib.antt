@@ -1,5 +1,6 @@
+-- Other crates cite Configurations, Greedy, Leads, Lists, Matching, Network, Spelling, Starts; only this crate cites Single,
+-- Walks.
 pub mod Configurations
-pub mod Starts
 pub mod Greedy
 pub mod Leads
 pub mod Lists
@@ -7,4 +8,5 @@ pub mod Matching
 pub mod Network
 pub mod Single
 pub mod Spelling
+pub mod Starts
 pub mod Walks

@@ -65,10 +65,13 @@ abbrev pub IsDropped : Lateness → List LexerConfig → LexerConfig → Type 0
 IsDropped Late list c = In c list ⊎ Late list c
 
 -- old becomes new as the configurations are appended in their order, but those that are dropped
-pub data Appends (Late : List LexerConfig → LexerConfig → Type 0) (new : List LexerConfig) : List LexerConfig → List LexerConfig → Type 0 where
+pub data Appends (Late : List LexerConfig → LexerConfig → Type 0) (new : List LexerConfig) : List LexerConfig → List LexerConfig
+    → Type 0 where
   done : Appends Late new [] new
-  dropped : (c : LexerConfig) (more old : List LexerConfig) → IsDropped Late old c → Appends Late new more old → Appends Late new (c ∷ more) old
-  appended : (c : LexerConfig) (more old : List LexerConfig) → (IsDropped Late old c → ⊥) → Appends Late new more (old ++ c ∷ []) → Appends Late new (c ∷ more) old
+  dropped : (c : LexerConfig) (more old : List LexerConfig) → IsDropped Late old c → Appends Late new more old
+      → Appends Late new (c ∷ more) old
+  appended : (c : LexerConfig) (more old : List LexerConfig) → (IsDropped Late old c → ⊥) → Appends Late new more (old ++ c ∷ [])
+      → Appends Late new (c ∷ more) old
 
 -- the members of a list that are kept, in their order
 pub data Keeps (net : LexerNetwork) : List LexerConfig → List LexerConfig → Type 0 where
@@ -78,7 +81,8 @@ pub data Keeps (net : LexerNetwork) : List LexerConfig → List LexerConfig → 
 
 -- The list of what some configurations lead to: depth first in order of edges, each at its first place, the late ones
 -- left out; then of those the kept.
-pub record ListOf (net : LexerNetwork) (last : Bool) (Late : List LexerConfig → LexerConfig → Type 0) (starts list : List LexerConfig) : Type 0 where
+pub record ListOf (net : LexerNetwork) (last : Bool) (Late : List LexerConfig → LexerConfig → Type 0)
+    (starts list : List LexerConfig) : Type 0 where
   pub expansion : List LexerConfig
   pub all : List LexerConfig
   pub expands : Expands net last starts expansion
@@ -94,10 +98,12 @@ is_last (a ∷ v) = false
 pub data ReadAll (net : LexerNetwork) (a : ℕ) : List LexerConfig → List LexerConfig → Type 0 where
   all_read : ReadAll net a [] []
   taken : (c d : LexerConfig) (cs ds : List LexerConfig) → ReadsTo net a c d → ReadAll net a cs ds → ReadAll net a (c ∷ cs) (d ∷ ds)
-  refused : (c : LexerConfig) (cs ds : List LexerConfig) → ((d : LexerConfig) → ReadsTo net a c d → ⊥) → ReadAll net a cs ds → ReadAll net a (c ∷ cs) ds
+  refused : (c : LexerConfig) (cs ds : List LexerConfig) → ((d : LexerConfig) → ReadsTo net a c d → ⊥) → ReadAll net a cs ds
+      → ReadAll net a (c ∷ cs) ds
 
 -- The list is that before the text v, which ends the text w: at first that of the starts; after a character, that of what the
 -- list before it reads to.
 pub data ListAt (net : LexerNetwork) (starts : List LexerConfig) (w : List ℕ) : List ℕ → List LexerConfig → Type 0 where
   first : (list : List LexerConfig) → ListOf net (is_last w) Never starts list → ListAt net starts w w list
-  step : (a : ℕ) (v : List ℕ) (list read next : List LexerConfig) → ListAt net starts w (a ∷ v) list → ReadAll net a list read → ListOf net (is_last v) (BehindEnd net) read next → ListAt net starts w v next
+  step : (a : ℕ) (v : List ℕ) (list read next : List LexerConfig) → ListAt net starts w (a ∷ v) list → ReadAll net a list read
+      → ListOf net (is_last v) (BehindEnd net) read next → ListAt net starts w v next

@@ -44,7 +44,8 @@ HasEndOf net list rule alternative = (e : LexerConfig) × In e list × (e.rule �
 
 -- this rule's alternative spells what is in w before v
 abbrev pub Spelled : LexerNetwork → List LexerConfig → ℕ → ℕ → List ℕ → List ℕ → Type 0
-Spelled net starts rule alternative w v = (s : LexerConfig) × In s starts × (s.rule ≡ rule) × (s.alternative ≡ alternative) × SpellsText net s.state w v
+Spelled net starts rule alternative w v = (s : LexerConfig) × In s starts × (s.rule ≡ rule) × (s.alternative ≡ alternative)
+    × SpellsText net s.state w v
 
 -- this rule's alternative spells the first n characters
 abbrev pub SpellsFront : LexerNetwork → List LexerConfig → List ℕ → ℕ → ℕ → ℕ → Type 0
@@ -69,7 +70,8 @@ IsGreedyRule net starts rule = (s : LexerConfig) → In s starts → s.rule ≡ 
 -- of two configurations of one rule, the first has the lesser alternative, or the same
 pub data InOrder : List LexerConfig → Type 0 where
   no_more : InOrder []
-  more : (c : LexerConfig) (cs : List LexerConfig) → ((d : LexerConfig) → In d cs → d.rule ≡ c.rule → c.alternative ≤ d.alternative) → InOrder cs → InOrder (c ∷ cs)
+  more : (c : LexerConfig) (cs : List LexerConfig) → ((d : LexerConfig) → In d cs → d.rule ≡ c.rule → c.alternative ≤ d.alternative)
+      → InOrder cs → InOrder (c ∷ cs)
 
 -- By what rules' alternatives match: none matches more characters; of the rules that match as many it is the least; of
 -- its alternatives that do, the first.

@@ -31,12 +31,14 @@ opened_child r [] t = refl
 opened_child r (f ∷ fs) t = refl
 
 -- the child is one of the newest open node's
-pub grown_child : (r : Run) (fs : List Frame) (t : Tree) → grown (with_child r fs t).frames (with_child r fs t).tree ≡ with_tree t (grown fs r.tree)
+pub grown_child : (r : Run) (fs : List Frame) (t : Tree)
+    → grown (with_child r fs t).frames (with_child r fs t).tree ≡ with_tree t (grown fs r.tree)
 grown_child r [] t = refl
 grown_child r (f ∷ fs) t = refl
 
 -- a closed node
-pub grown_close : (r : Run) (f : Frame) (fs : List Frame) → grown (with_child r fs (node_of f)).frames (with_child r fs (node_of f)).tree ≡ with_close (grown (f ∷ fs) r.tree)
+pub grown_close : (r : Run) (f : Frame) (fs : List Frame)
+    → grown (with_child r fs (node_of f)).frames (with_child r fs (node_of f)).tree ≡ with_close (grown (f ∷ fs) r.tree)
 grown_close r f [] = refl
 grown_close r f (g ∷ fs) = refl
 
@@ -49,9 +51,11 @@ pub opened_alt : (i : ℕ) (fs : List Frame) → opened_of (with_alt i fs) ≡ o
 opened_alt i [] = refl
 opened_alt i (f ∷ fs) = refl
 
-pub grown_alt : (i : ℕ) (fs : List Frame) (r : Run) → ((alt : ℕ) → cond (i == 0) alt i ≡ i) → grown (with_alt i fs) r.tree ≡ with_alternative i (grown fs r.tree)
+pub grown_alt : (i : ℕ) (fs : List Frame) (r : Run) → ((alt : ℕ) → cond (i == 0) alt i ≡ i)
+    → grown (with_alt i fs) r.tree ≡ with_alternative i (grown fs r.tree)
 grown_alt i [] r e = refl
-grown_alt i (f ∷ fs) r e = ap (λ (j : ℕ). record { nodes = record { rule = f.rule; alt = j; at = f.at; children = f.children } ∷ map open_node fs; trees = r.tree }) (e f.alt)
+grown_alt i (f ∷ fs) r e = ap (λ (j : ℕ). record
+    { nodes = record { rule = f.rule; alt = j; at = f.at; children = f.children } ∷ map open_node fs; trees = r.tree }) (e f.alt)
 
 -- a level opens no rule, and makes the newest open node a first child
 pub returns_wrapped : (i : ℕ) (fs : List Frame) → returns_of (wrapped i fs) ≡ returns_of fs

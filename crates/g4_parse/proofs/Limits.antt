@@ -9,7 +9,8 @@ use Rattle.g4_parse.specs.Standing.{farthest}
 
 module _ (net : ParserNetwork) (word : List ℕ) where
   -- a step of a run with the limit is one of a run that goes on
-  pub goes_far : (o : Option (State (List ℕ))) (r s : Run) → GoesBy net no_predicates word deepest o r s → GoesBy net no_predicates word farthest o r s
+  pub goes_far : (o : Option (State (List ℕ))) (r s : Run) → GoesBy net no_predicates word deepest o r s
+      → GoesBy net no_predicates word farthest o r s
   goes_far None r s g = g
   goes_far (Some (Decision targets)) r s g = g
   goes_far (Some (End rule)) r s g = g
@@ -20,7 +21,8 @@ module _ (net : ParserNetwork) (word : List ℕ) where
   goes_far (Some (Action t)) r s g = g
   goes_far (Some (Empty t)) r s g = g
 
-  near_by : (o : Option (State (List ℕ))) (r s : Run) → state_at net r.state ≡ o → (IsAtLimit net r → ⊥) → GoesBy net no_predicates word farthest o r s → GoesBy net no_predicates word deepest o r s
+  near_by : (o : Option (State (List ℕ))) (r s : Run) → state_at net r.state ≡ o → (IsAtLimit net r → ⊥)
+      → GoesBy net no_predicates word farthest o r s → GoesBy net no_predicates word deepest o r s
   near_by None r s is room g = g
   near_by (Some (Decision targets)) r s is room g = g
   near_by (Some (End rule)) r s is room g = g
@@ -39,7 +41,8 @@ module _ (net : ParserNetwork) (word : List ℕ) where
   goes_near r s room g = near_by (state_at net r.state) r s refl room g
 
   -- where a run that goes on stops, a run with the limit does
-  pub stops_near : (o : Option (State (List ℕ))) (r : Run) (e : Ending) → StopsBy net no_predicates word farthest o r e → StopsBy net no_predicates word deepest o r e
+  pub stops_near : (o : Option (State (List ℕ))) (r : Run) (e : Ending) → StopsBy net no_predicates word farthest o r e
+      → StopsBy net no_predicates word deepest o r e
   stops_near None r e h = h
   stops_near (Some (Decision targets)) r e h = h
   stops_near (Some (End rule)) r e h = h
@@ -52,4 +55,6 @@ module _ (net : ParserNetwork) (word : List ℕ) where
 
   -- at a call at the limit a run with the limit stops
   pub stops_at_limit : (r : Run) → IsAtLimit net r → Runs net no_predicates word deepest r (too_deep r.place)
-  stops_at_limit r (rule, level, back, is, many) = stops r (too_deep r.place) (subst (λ (o : Option (State (List ℕ))). StopsBy net no_predicates word deepest o r (too_deep r.place)) (sym is) (many, refl))
+  stops_at_limit r (rule, level, back, is, many) =
+      stops r (too_deep r.place) (subst (λ (o : Option (State (List ℕ))).
+      StopsBy net no_predicates word deepest o r (too_deep r.place)) (sym is) (many, refl))

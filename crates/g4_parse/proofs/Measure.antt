@@ -28,7 +28,8 @@ outweighs : (k m s a b : ℕ) → m ≡ suc k → a < s → k * s + a < m * s + 
 outweighs k m s a b e less = let more : m * s ≡ k * s + s = ap (λ (j : ℕ). j * s) e ∙ suc-mul k s in omega arith
 
 -- a moment of a run is within bounds
-is_short : (net : ParserNetwork) (loop n : ℕ) (r : Run) → WellFormed net → Stage net loop n r → IsShort net farthest (config_at r.state (backs r.frames))
+is_short : (net : ParserNetwork) (loop n : ℕ) (r : Run) → WellFormed net → Stage net loop n r
+    → IsShort net farthest (config_at r.state (backs r.frames))
 is_short net loop n r well h = record {
   within = (h.state_in, proper_within net r.state (backs r.frames) well h.proper);
   first = refl;
@@ -36,25 +37,34 @@ is_short net loop n r well h = record {
   short = let few = h.short in omega (arith, length-map r.frames (λ (f : Frame). f.back));
 }
 
-module _ {looped : List ℕ} (net : ParserNetwork) (rule loop : ℕ) (ready : IsRunnable net rule loop looped) (word : List ℕ) (ends : EndsInEnd word) where
+module _ {looped : List ℕ} (net : ParserNetwork) (rule loop : ℕ) (ready : IsRunnable net rule loop looped) (word : List ℕ)
+    (ends : EndsInEnd word) where
   -- a step without a token
-  falls_along : (r s : Run) → Stage net loop (length word) r → TakesNone net r s → measure_at net (length word) s.place s.state (backs s.frames) < measure_at net (length word) r.place r.state (backs r.frames)
+  falls_along : (r s : Run) → Stage net loop (length word) r → TakesNone net r s
+      → measure_at net (length word) s.place s.state (backs s.frames) < measure_at net (length word) r.place r.state (backs r.frames)
   unfolding measure_at
   falls_along r s h step =
-      let less = rank_falls net farthest (config_at r.state (backs r.frames)) (config_at s.state (backs s.frames)) ready.well_formed (is_short net loop (length word) r ready.well_formed h) (step.leads 0) in
-      let left : (length word - s.place) * size net farthest ≡ (length word - r.place) * size net farthest = ap (λ (k : ℕ). (length word - k) * size net farthest) step.place in
+      let less = rank_falls net farthest (config_at r.state (backs r.frames)) (config_at s.state (backs s.frames)) ready.well_formed
+      (is_short net loop (length word) r ready.well_formed h) (step.leads 0) in
+      let left : (length word - s.place) * size net farthest ≡ (length word - r.place) * size net farthest =
+      ap (λ (k : ℕ). (length word - k) * size net farthest) step.place in
       omega arith
 
   -- one with a token
-  falls_taking : (r s : Run) → Stage net loop (length word) s → TakesToken net word r s → measure_at net (length word) s.place s.state (backs s.frames) < measure_at net (length word) r.place r.state (backs r.frames)
+  falls_taking : (r s : Run) → Stage net loop (length word) s → TakesToken net word r s
+      → measure_at net (length word) s.place s.state (backs s.frames) < measure_at net (length word) r.place r.state (backs r.frames)
   unfolding measure_at
   falls_taking r s k step =
       let within = slice_get_within word r.place step.symbol step.next in
-      let small = rank_small net farthest (config_at s.state (backs s.frames)) ready.well_formed (is_short net loop (length word) s ready.well_formed k) in
-      outweighs (length word - s.place) (length word - r.place) (size net farthest) (rank net farthest (config_at s.state (backs s.frames))) (rank net farthest (config_at r.state (backs r.frames))) (omega (arith, step.place)) small
+      let small = rank_small net farthest (config_at s.state (backs s.frames)) ready.well_formed
+      (is_short net loop (length word) s ready.well_formed k) in
+      outweighs (length word - s.place) (length word - r.place) (size net farthest)
+      (rank net farthest (config_at s.state (backs s.frames))) (rank net farthest (config_at r.state (backs r.frames)))
+      (omega (arith, step.place)) small
 
   -- each step makes it fall
-  pub falls : (r s : Run) → Stage net loop (length word) r → Proceeds net word r s → measure_at net (length word) s.place s.state (backs s.frames) < measure_at net (length word) r.place r.state (backs r.frames)
+  pub falls : (r s : Run) → Stage net loop (length word) r → Proceeds net word r s
+      → measure_at net (length word) s.place s.state (backs s.frames) < measure_at net (length word) r.place r.state (backs r.frames)
   falls r s h g = elim (token_or_none net word r s (state_at net r.state) refl g) [
     | inl step ↦ falls_along r s h step
     | inr step ↦ falls_taking r s (advances net rule loop ready word ends r s h g) step

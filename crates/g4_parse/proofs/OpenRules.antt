@@ -52,12 +52,14 @@ module _ (rules : List StepRule) (net : ParserNetwork) (word : List ℕ) where
     as_many = length-map (enumerate_from 1 rules) formed ∙ length-enumerate_from 1 rules
 
     -- a rule that is called is one of the rules
-    called_rule : (p callee level back : ℕ) → state_at net p ≡ Some (Call callee level back) → (j : ℕ) × (r : StepRule) × (callee ≡ j + 1) × (slice_get rules j ≡ Some r)
+    called_rule : (p callee level back : ℕ) → state_at net p ≡ Some (Call callee level back)
+        → (j : ℕ) × (r : StepRule) × (callee ≡ j + 1) × (slice_get rules j ≡ Some r)
     called_rule p callee level back is =
         let apart = built.runnable.apart in
         let outside = calls_outside net _ _ p callee level back apart (split _ p apart.loop_from) is in
         let below = built.runnable.well_formed.calls p callee level back is in
-        let count : length net.callers ≡ length (rewritten rules) + 1 = ap length built.callers ∙ length-map-range_with_len (returns_of net.states) 0 (length (rewritten rules) + 1) in
+        let count : length net.callers ≡ length (rewritten rules) + 1 =
+        ap length built.callers ∙ length-map-range_with_len (returns_of net.states) 0 (length (rewritten rules) + 1) in
         let number : callee ≡ callee - 1 + 1 = omega (arith, outside.0) in
         elim (slice_get_cases rules (callee - 1)).1 [
           | inl found ↦ (callee - 1, found.0, number, found.2)
@@ -65,21 +67,38 @@ module _ (rules : List StepRule) (net : ParserNetwork) (word : List ℕ) where
         ]
 
     -- a decision
-    pub open_decided : (p i t : ℕ) (targets : List ℕ) (fs : List Frame) → state_at net p ≡ Some (Decision targets) → IsFirst net p i t → AreOpen p fs → AreOpen t (with_alt (begun net t (state_at net t)) fs)
+    pub open_decided : (p i t : ℕ) (targets : List ℕ) (fs : List Frame) → state_at net p ≡ Some (Decision targets) → IsFirst net p i t
+        → AreOpen p fs → AreOpen t (with_alt (begun net t (state_at net t)) fs)
     open_decided p i t targets [] is first h = tt
-    open_decided p i t targets (f ∷ fs) is first (inl begun_here, fit, waiting) = (inl (decides_inside rules net word set start can built p t targets f is (first_in net p i t targets is first) begun_here), fit, waiting)
-    open_decided p i t targets (f ∷ fs) is first (inr choice, fit, waiting) = (inl (chosen_begins rules net word set start can built p t targets f is (first_in net p i t targets is first) choice), fit, waiting)
+    open_decided p i t targets (f ∷ fs) is first (inl begun_here, fit, waiting) = (
+      inl (decides_inside rules net word set start can built p t targets f is (first_in net p i t targets is first) begun_here),
+      fit,
+      waiting,
+    )
+    open_decided p i t targets (f ∷ fs) is first (inr choice, fit, waiting) =
+        (inl (chosen_begins rules net word set start can built p t targets f is (first_in net p i t targets is first) choice), fit, waiting)
 
     -- a step that reads nothing
-    pub open_silently : (p t : ℕ) (s : State (List ℕ)) (fs : List Frame) → state_at net p ≡ Some s → ((targets : List ℕ) → s ≡ Decision targets → ⊥) → IsTarget s t → MovesBy (TakesToken word) EntersRule NoLevel (Some s) t [] → AreOpen p fs → AreOpen t fs
+    pub open_silently : (p t : ℕ) (s : State (List ℕ)) (fs : List Frame) → state_at net p ≡ Some s
+        → ((targets : List ℕ) → s ≡ Decision targets → ⊥) → IsTarget s t → MovesBy (TakesToken word) EntersRule NoLevel (Some s) t []
+        → AreOpen p fs → AreOpen t fs
     open_silently p t s [] is other target moves h = tt
-    open_silently p t s (f ∷ fs) is other target moves (newest, fit, waiting) = (inl (begun_silently rules net word set start can built p t f s is target moves (has_begun rules net word set start can built p f s is other newest)), fit, waiting)
+    open_silently p t s (f ∷ fs) is other target moves (newest, fit, waiting) = (
+      inl (begun_silently rules net word set start can built p t f s is target moves
+          (has_begun rules net word set start can built p f s is other newest)),
+      fit,
+      waiting,
+    )
 
     -- a token
-    pub open_token : (r : Run) (t a : ℕ) (taken : List ℕ) (fs : List Frame) → r.frames ≡ fs → state_at net r.state ≡ Some (Edge taken t) → slice_get word r.place ≡ Some a → Contains taken a → AreOpen r.state fs → AreOpen t (with_token r fs).frames
+    pub open_token : (r : Run) (t a : ℕ) (taken : List ℕ) (fs : List Frame) → r.frames ≡ fs
+        → state_at net r.state ≡ Some (Edge taken t) → slice_get word r.place ≡ Some a → Contains taken a → AreOpen r.state fs
+        → AreOpen t (with_token r fs).frames
     open_token r t a taken [] same is next has h = subst (AreOpen t) (sym same) tt
     open_token r t a taken (f ∷ fs) same is next has (newest, fit, waiting) = (
-      inl (begun_on rules net word set start can built r.state t f (items.Token r.place ∷ []) (and_then f.children (only (leaf r.place))) (Edge taken t) is refl (refl, (items.Token r.place, (a, next, has), refl)) (heads_and_then f.children (only (leaf r.place)))
+      inl (begun_on rules net word set start can built r.state t f (items.Token r.place ∷ [])
+          (and_then f.children (only (leaf r.place))) (Edge taken t) is refl (refl, (items.Token r.place, (a, next, has), refl))
+          (heads_and_then f.children (only (leaf r.place)))
           (has_begun rules net word set start can built r.state f (Edge taken t) is (λ targets e. cc) newest)),
       fit_and_then rules word f.children (only (leaf r.place)) fit (tt, tt),
       waiting,
@@ -87,7 +106,14 @@ module _ (rules : List StepRule) (net : ParserNetwork) (word : List ℕ) where
 
     -- a call
     pub open_call : (p callee level back at : ℕ) (fs : List Frame) → state_at net p ≡ Some (Call callee level back) → AreOpen p fs →
-        AreOpen (start_of callee) (record { back = back; level = level; rule = callee; alt = written_at net (start_of callee); at = at; children = no_tree } ∷ fs)
+        AreOpen (start_of callee) (record {
+          back = back;
+          level = level;
+          rule = callee;
+          alt = written_at net (start_of callee);
+          at = at;
+          children = no_tree;
+        } ∷ fs)
     open_call p callee level back at fs is h =
         let c = called_rule p callee level back is in
         (called_begins rules net word set start can built callee level back at c.0 c.1 c.2 c.3, tt, all_wait fs h)
@@ -96,35 +122,46 @@ module _ (rules : List StepRule) (net : ParserNetwork) (word : List ℕ) where
         s = Call callee level back
 
         no_level : IsNoLevel net back
-        no_level q t level_at = let before = before_level (TakesToken word) EntersRule set rules start net can built p back q t (Call callee level back) is refl level_at in let same = before.0.1 in let n : ⊥ = cc in n
+        no_level q t level_at = let before = before_level (TakesToken word) EntersRule set rules start net can built p back q t
+            (Call callee level back) is refl level_at in let same = before.0.1 in let n : ⊥ = cc in n
 
         all_wait : (fs : List Frame) → AreOpen p fs → AreWaiting callee back fs
         all_wait [] h = tt
         all_wait (f ∷ fs) (newest, fit, waiting) =
             let here = has_begun rules net word set start can built p f (Call callee level back) is (λ targets e. cc) newest in (
               record {
-                no_start = never_to_outer_start (TakesToken word) EntersRule set rules start net can built p back (Call callee level back) is refl;
+                no_start = never_to_outer_start (TakesToken word) EntersRule set rules start net can built p back
+                    (Call callee level back) is refl;
                 of_rule = proper.further p back (Call callee level back) here.of_rule is refl;
                 no_level = no_level;
-                part = λ alt begun_at. part_on rules net word f.rule f.alt p back (heads_of f.children) (items.Enter callee alt begun_at ∷ []) (Some (Call callee level back)) is (refl, (items.Enter callee alt begun_at, refl, refl)) here.part;
+                part = λ alt begun_at. part_on rules net word f.rule f.alt p back (heads_of f.children)
+                    (items.Enter callee alt begun_at ∷ []) (Some (Call callee level back)) is
+                    (refl, (items.Enter callee alt begun_at, refl, refl)) here.part;
               },
               fit,
               waiting,
             )
 
     -- the node of a rule at its end fits
-    pub node_fits : (p ended : ℕ) (f : Frame) (fs : List Frame) → state_at net p ≡ Some (End ended) → AreOpen p (f ∷ fs) → Conforms rules word (node_of f)
-    node_fits p ended f fs is (newest, fit, waiting) = (part_ends rules net word f.rule f.alt p ended (heads_of f.children) is (has_begun rules net word set start can built p f (End ended) is (λ targets e. cc) newest).part, fit)
+    pub node_fits : (p ended : ℕ) (f : Frame) (fs : List Frame) → state_at net p ≡ Some (End ended) → AreOpen p (f ∷ fs)
+        → Conforms rules word (node_of f)
+    node_fits p ended f fs is (newest, fit, waiting) = (
+      part_ends rules net word f.rule f.alt p ended (heads_of f.children) is
+          (has_begun rules net word set start can built p f (End ended) is (λ targets e. cc) newest).part,
+      fit,
+    )
 
     -- closing a rule
-    pub open_closed : (r : Run) (ended : ℕ) (f : Frame) (fs : List Frame) → state_at net r.state ≡ Some (End ended) → AreOpen r.state (f ∷ fs) → AreOpen f.back (with_child (record r { state = f.back; frames = fs }) fs (node_of f)).frames
+    pub open_closed : (r : Run) (ended : ℕ) (f : Frame) (fs : List Frame) → state_at net r.state ≡ Some (End ended)
+        → AreOpen r.state (f ∷ fs) → AreOpen f.back (with_child (record r { state = f.back; frames = fs }) fs (node_of f)).frames
     open_closed r ended f [] is h = tt
     open_closed r ended f (g ∷ gs) is h =
         let w = h.2.0 in (
           inl (record {
             no_start = w.no_start;
             of_rule = w.of_rule;
-            part = subst (λ (v : List Item). IsPart rules net word g.rule g.alt v f.back) (sym (heads_and_then g.children (only (node_of f)))) (w.part f.alt f.at);
+            part = subst (λ (v : List Item). IsPart rules net word g.rule g.alt v f.back)
+                (sym (heads_and_then g.children (only (node_of f)))) (w.part f.alt f.at);
             whole = λ q t level. absurd (w.no_level q t level);
           }),
           fit_and_then rules word g.children (only (node_of f)) h.2.1 (node_fits r.state ended f (g ∷ gs) is h, tt),
@@ -132,7 +169,8 @@ module _ (rules : List StepRule) (net : ParserNetwork) (word : List ℕ) where
         )
 
     -- passing a level
-    pub open_wrapped : (p q t : ℕ) (fs : List Frame) → state_at net p ≡ Some (Level q t) → AreOpen p fs → AreOpen t (wrapped (written_at net p) fs)
+    pub open_wrapped : (p q t : ℕ) (fs : List Frame) → state_at net p ≡ Some (Level q t) → AreOpen p fs
+        → AreOpen t (wrapped (written_at net p) fs)
     open_wrapped p q t [] is h = tt
     open_wrapped p q t (f ∷ fs) is (newest, fit, waiting) =
         let here = has_begun rules net word set start can built p f (Level q t) is (λ targets e. cc) newest in

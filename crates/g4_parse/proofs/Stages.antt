@@ -69,7 +69,8 @@ module _ {looped : List ℕ} (net : ParserNetwork) (rule loop : ℕ) (ready : Is
   inside_end p ended (after_end e at) is = cc
 
   -- a symbol that is taken is not END, but where the run goes on after END
-  takes_end : (p t a : ℕ) (set returns : List ℕ) → state_at net p ≡ Some (Edge set t) → IsStackFor loop p returns → Contains set a → (t ≡ loop + 4 → ⊥) → a ≡ end_of_list → ⊥
+  takes_end : (p t a : ℕ) (set returns : List ℕ) → state_at net p ≡ Some (Edge set t) → IsStackFor loop p returns → Contains set a
+      → (t ≡ loop + 4 → ⊥) → a ≡ end_of_list → ⊥
   takes_end p t a set (u ∷ rest) is h has other e = ready.apart.leaves_end p t set h.0 is (subst (Contains set) e has)
   takes_end p t a set [] is h has other e = of_inside (inside_cases net rule loop ready.apart p h)
     where
@@ -77,7 +78,8 @@ module _ {looped : List ℕ} (net : ParserNetwork) (rule loop : ℕ) (ready : Is
       of_inside (at_call f at) = cc
       of_inside (at_last f at) = cc
       of_inside (at_loop f at) = cc
-      of_inside (at_turn f at) = let same : set ≡ looped = cc in ready.apart.loops_without_end (subst (λ (xs : List ℕ). Contains xs end_of_list) same (subst (Contains set) e has))
+      of_inside (at_turn f at) = let same : set ≡ looped = cc in
+          ready.apart.loops_without_end (subst (λ (xs : List ℕ). Contains xs end_of_list) same (subst (Contains set) e has))
       of_inside (after_turn f at) = cc
       of_inside (at_end f at) = other cc
       of_inside (after_end f at) = cc
@@ -91,7 +93,8 @@ module _ {looped : List ℕ} (net : ParserNetwork) (rule loop : ℕ) (ready : Is
 
   -- where a called rule starts is a state
   starts_within : (p callee level back : ℕ) → state_at net p ≡ Some (Call callee level back) → start_of callee < length net.states
-  starts_within p callee level back is = let listed = ready.well_formed.calls p callee level back is in omega (arith, ready.well_formed.rules)
+  starts_within p callee level back is = let listed = ready.well_formed.calls p callee level back is in
+      omega (arith, ready.well_formed.rules)
 
   module _ (word : List ℕ) (ends : EndsInEnd word) where
     -- the beginning
@@ -104,26 +107,32 @@ module _ {looped : List ℕ} (net : ParserNetwork) (rule loop : ℕ) (ready : Is
     }
 
     -- a token is left at a state that is none of the last two
-    left : (r : Run) (s : State (List ℕ)) → Stage net loop (length word) r → state_at net r.state ≡ Some s → (s ≡ Empty 1 → ⊥) → (s ≡ End 0 → ⊥) → r.place < length word
+    left : (r : Run) (s : State (List ℕ)) → Stage net loop (length word) r → state_at net r.state ≡ Some s → (s ≡ Empty 1 → ⊥)
+        → (s ≡ End 0 → ⊥) → r.place < length word
     left r s h is a b = h.more (λ e. a (let at = at_last_edge r.state e in cc)) (λ e. b (let at = at_end_of_all r.state e in cc))
 
     -- going along an edge that takes no token
-    moves : (r : Run) (s : State (List ℕ)) (t : ℕ) (frames : List Frame) (after : Run) → Stage net loop (length word) r → state_at net r.state ≡ Some s → IsTarget s t → after.state ≡ t → after.place ≡ r.place → backs after.frames ≡ backs r.frames → length after.frames ≡ length r.frames → ((t ≡ 1 → ⊥) → r.place < length word) → Stage net loop (length word) after
+    moves : (r : Run) (s : State (List ℕ)) (t : ℕ) (frames : List Frame) (after : Run) → Stage net loop (length word) r
+        → state_at net r.state ≡ Some s → IsTarget s t → after.state ≡ t → after.place ≡ r.place → backs after.frames ≡ backs r.frames
+        → length after.frames ≡ length r.frames → ((t ≡ 1 → ⊥) → r.place < length word) → Stage net loop (length word) after
     moves r s t frames after h is to a b c d more = record {
       state_in = let less = ready.well_formed.targets r.state t s is to in omega (arith, a);
-      proper = subst (λ (bs : List ℕ). IsProper net after.state bs) (sym c) (subst (λ (p : ℕ). IsProper net p (backs r.frames)) (sym a) (proper_target r.state t s (backs r.frames) is to h.proper));
+      proper = subst (λ (bs : List ℕ). IsProper net after.state bs) (sym c)
+          (subst (λ (p : ℕ). IsProper net p (backs r.frames)) (sym a) (proper_target r.state t s (backs r.frames) is to h.proper));
       short = let few = h.short in omega (arith, d);
       more = λ x y. let less = more (λ e. y (a ∙ e)) in omega (arith, b);
     }
 
     -- closing a rule
-    closes : (r : Run) (ended : ℕ) (fs : List Frame) (s : Run) → r.frames ≡ fs → Stage net loop (length word) r → state_at net r.state ≡ Some (End ended) → ClosesBy net no_predicates word r fs s → Stage net loop (length word) s
+    closes : (r : Run) (ended : ℕ) (fs : List Frame) (s : Run) → r.frames ≡ fs → Stage net loop (length word) r
+        → state_at net r.state ≡ Some (End ended) → ClosesBy net no_predicates word r fs s → Stage net loop (length word) s
     closes r ended [] s e h is g = absurd g
     closes r ended (f ∷ fs) s e h is g =
         let open_backs : backs r.frames ≡ f.back ∷ backs fs = ap backs e in
         let proper : IsProper net r.state (f.back ∷ backs fs) = subst (λ (bs : List ℕ). IsProper net r.state bs) open_backs h.proper in
         let stack : IsStackFor loop r.state (f.back ∷ backs fs) = stack_for net rule loop ready.apart r.state (f.back ∷ backs fs) proper in
-        let all : All (λ t. t < length net.states) (f.back ∷ backs fs) = proper_within net r.state (f.back ∷ backs fs) ready.well_formed proper in
+        let all : All (λ t. t < length net.states) (f.back ∷ backs fs) =
+        proper_within net r.state (f.back ∷ backs fs) ready.well_formed proper in
         let after : Run = record { state = f.back; place = r.place; frames = fs; tree = r.tree } in
         let state : s.state ≡ f.back = ap (λ (x : Run). x.state) g ∙ state_child after fs (node_of f) in
         let place : s.place ≡ r.place = ap (λ (x : Run). x.place) g ∙ place_child after fs (node_of f) in
@@ -131,57 +140,75 @@ module _ {looped : List ℕ} (net : ParserNetwork) (rule loop : ℕ) (ready : Is
         let count : length s.frames ≡ length fs = ap (λ (x : Run). length x.frames) g ∙ length_child after fs (node_of f) in
         record {
           state_in = let less = All-head (λ t. t < length net.states) f.back (backs fs) all in omega (arith, state);
-          proper = subst (λ (bs : List ℕ). IsProper net s.state bs) (sym returns) (subst (λ (p : ℕ). IsProper net p (backs fs)) (sym state) (proper_return net r.state f.back (backs fs) proper));
+          proper = subst (λ (bs : List ℕ). IsProper net s.state bs) (sym returns)
+              (subst (λ (p : ℕ). IsProper net p (backs fs)) (sym state) (proper_return net r.state f.back (backs fs) proper));
           short = let few = h.short in omega (arith, count, ap length e);
-          more = λ x y. let less = h.more (λ e. absurd (let at = at_last_edge r.state e in cc)) (λ e. absurd (let two = stack.0.0 in omega arith)) in omega (arith, place);
+          more = λ x y. let less = h.more (λ e. absurd (let at = at_last_edge r.state e in cc))
+              (λ e. absurd (let two = stack.0.0 in omega arith)) in omega (arith, place);
         }
 
     -- a step
-    advances_by : (r s : Run) (o : Option (State (List ℕ))) → state_at net r.state ≡ o → Stage net loop (length word) r → ProceedsBy net word o r s → Stage net loop (length word) s
+    advances_by : (r s : Run) (o : Option (State (List ℕ))) → state_at net r.state ≡ o → Stage net loop (length word) r
+        → ProceedsBy net word o r s → Stage net loop (length word) s
     advances_by r s None is h g = absurd g
     advances_by r s (Some (Decision targets)) is h (i, t, first, e) =
-        moves r (Decision targets) t r.frames s h is (first_in net r.state i t targets is first) (ap (λ (x : Run). x.state) e) (ap (λ (x : Run). x.place) e)
-        (ap (λ (x : Run). backs x.frames) e ∙ backs_alt (begun net t (state_at net t)) r.frames) (ap (λ (x : Run). length x.frames) e ∙ length_alt (begun net t (state_at net t)) r.frames)
+        moves r (Decision targets) t r.frames s h is (first_in net r.state i t targets is first) (ap (λ (x : Run). x.state) e)
+        (ap (λ (x : Run). x.place) e)
+        (ap (λ (x : Run). backs x.frames) e ∙ backs_alt (begun net t (state_at net t)) r.frames)
+        (ap (λ (x : Run). length x.frames) e ∙ length_alt (begun net t (state_at net t)) r.frames)
         (λ x. left r (Decision targets) h is (λ e. cc) (λ e. cc))
     advances_by r s (Some (End ended)) is h g = closes r ended r.frames s refl h is g
     advances_by r s (Some (Edge set t)) is h (a, next, has, e) = record {
       state_in = let less = ready.well_formed.targets r.state t (Edge set t) is refl in omega (arith, ap (λ (x : Run). x.state) e);
-      proper = subst (λ (bs : List ℕ). IsProper net s.state bs) (sym returns) (subst (λ (p : ℕ). IsProper net p (backs r.frames)) (sym (ap (λ (x : Run). x.state) e)) (proper_target r.state t (Edge set t) (backs r.frames) is refl h.proper));
+      proper = subst (λ (bs : List ℕ). IsProper net s.state bs) (sym returns)
+          (subst (λ (p : ℕ). IsProper net p (backs r.frames)) (sym (ap (λ (x : Run). x.state) e))
+          (proper_target r.state t (Edge set t) (backs r.frames) is refl h.proper));
       short = let few = h.short in omega (arith, ap (λ (x : Run). length x.frames) e, length_token r r.frames refl);
-      more = λ x y. let less = before_end word r.place a ends next (takes_end r.state t a set (backs r.frames) is (stack_for net rule loop ready.apart r.state (backs r.frames) h.proper) has (λ u. x (ap (λ (z : Run). z.state) e ∙ u))) in omega (arith, ap (λ (x : Run). x.place) e);
+      more = λ x y. let less = before_end word r.place a ends next
+          (takes_end r.state t a set (backs r.frames) is (stack_for net rule loop ready.apart r.state (backs r.frames) h.proper) has
+          (λ u. x (ap (λ (z : Run). z.state) e ∙ u))) in omega (arith, ap (λ (x : Run). x.place) e);
     }
       where
         returns : backs s.frames ≡ backs r.frames
         returns = ap (λ (x : Run). backs x.frames) e ∙ backs_token r r.frames refl
     advances_by r s (Some (Call callee level back)) is h (room, e) = record {
       state_in = let less = starts_within r.state callee level back is in omega (arith, ap (λ (x : Run). x.state) e);
-      proper = subst (λ (x : Run). IsProper net x.state (backs x.frames)) (sym e) (proper_call net r.state callee level back (backs r.frames) is h.proper);
+      proper = subst (λ (x : Run). IsProper net x.state (backs x.frames)) (sym e)
+          (proper_call net r.state callee level back (backs r.frames) is h.proper);
       short = omega (arith, ap (λ (x : Run). length x.frames) e);
       more = λ x y. let less = left r (Call callee level back) h is (λ e. cc) (λ e. cc) in omega (arith, ap (λ (x : Run). x.place) e);
     }
     advances_by r s (Some (Predicate k t)) is h g = absurd (ready.unpredicated r.state (Predicate k t) is)
     advances_by r s (Some (Level q t)) is h (below, e) =
         moves r (Level q t) t r.frames s h is refl (ap (λ (x : Run). x.state) e) (ap (λ (x : Run). x.place) e)
-        (ap (λ (x : Run). backs x.frames) e ∙ backs_wrapped (written_at net r.state) r.frames) (ap (λ (x : Run). length x.frames) e ∙ length_wrapped (written_at net r.state) r.frames)
+        (ap (λ (x : Run). backs x.frames) e ∙ backs_wrapped (written_at net r.state) r.frames)
+        (ap (λ (x : Run). length x.frames) e ∙ length_wrapped (written_at net r.state) r.frames)
         (λ x. left r (Level q t) h is (λ u. cc) (λ u. cc))
     advances_by r s (Some (Action t)) is h e =
-        moves r (Action t) t r.frames s h is refl (ap (λ (x : Run). x.state) e) (ap (λ (x : Run). x.place) e) (ap (λ (x : Run). backs x.frames) e) (ap (λ (x : Run). length x.frames) e)
+        moves r (Action t) t r.frames s h is refl (ap (λ (x : Run). x.state) e) (ap (λ (x : Run). x.place) e)
+        (ap (λ (x : Run). backs x.frames) e) (ap (λ (x : Run). length x.frames) e)
         (λ x. left r (Action t) h is (λ u. cc) (λ u. cc))
     advances_by r s (Some (Empty t)) is h e =
-        moves r (Empty t) t r.frames s h is refl (ap (λ (x : Run). x.state) e) (ap (λ (x : Run). x.place) e) (ap (λ (x : Run). backs x.frames) e) (ap (λ (x : Run). length x.frames) e)
+        moves r (Empty t) t r.frames s h is refl (ap (λ (x : Run). x.state) e) (ap (λ (x : Run). x.place) e)
+        (ap (λ (x : Run). backs x.frames) e) (ap (λ (x : Run). length x.frames) e)
         (λ x. left r (Empty t) h is (λ u. x cc) (λ u. cc))
 
     pub advances : (r s : Run) → Stage net loop (length word) r → Proceeds net word r s → Stage net loop (length word) s
     advances r s h g = advances_by r s (state_at net r.state) refl h g
 
     -- what each state asks
-    fits_by : (r : Run) (o : Option (State (List ℕ))) → state_at net r.state ≡ o → Stage net loop (length word) r → IsFitBy net (length word) o r
+    fits_by : (r : Run) (o : Option (State (List ℕ))) → state_at net r.state ≡ o → Stage net loop (length word) r
+        → IsFitBy net (length word) o r
     fits_by r None is h = let within = h.state_in in absurd (past within)
       where
         past : r.state < length net.states → ⊥
         past less = let at = slice_get-get_or net.states r.state (Empty 0) less in cc
-    fits_by r (Some (Decision targets)) is h = record { ready = (rule, loop, looped, ready); proper = h.proper; more = left r (Decision targets) h is (λ e. cc) (λ e. cc) }
-    fits_by r (Some (End ended)) is h = λ e. inside_end r.state ended (inside_cases net rule loop ready.apart r.state (subst (λ (fs : List Frame). IsStackFor loop r.state (backs fs)) e (stack_for net rule loop ready.apart r.state (backs r.frames) h.proper))) is
+    fits_by r (Some (Decision targets)) is h = record
+        { ready = (rule, loop, looped, ready); proper = h.proper; more = left r (Decision targets) h is (λ e. cc) (λ e. cc) }
+    fits_by r (Some (End ended)) is h = λ e. inside_end r.state ended
+        (inside_cases net rule loop ready.apart r.state
+        (subst (λ (fs : List Frame). IsStackFor loop r.state (backs fs)) e
+        (stack_for net rule loop ready.apart r.state (backs r.frames) h.proper))) is
     fits_by r (Some (Edge set t)) is h = left r (Edge set t) h is (λ e. cc) (λ e. cc)
     fits_by r (Some (Call callee level back)) is h =
         let less = starts_within r.state callee level back is in

@@ -53,16 +53,22 @@ none_opened [] e = refl
 none_opened (f ∷ fs) e = absurd (omega (arith, ap length e, length-append (returns_of fs) (f.back ∷ [])))
 
 -- Popping the newest open rule and closing its node is a step of the run.
-pub closes : (net : ParserNetwork) (word : List ℕ) (r : Run) (fs : List Frame) (p q : Parser) (back : ℕ) (rest : List ℕ) → r.frames ≡ fs → StandsFor p r → p.returns.items ≡ rest ++ back ∷ [] → q.state ≡ back → q.place ≡ p.place → q.returns.items ≡ rest → q.opened.items ≡ take (length p.opened.items - 1) p.opened.items → ((g : Growing) → HasGrown p.tree g → HasGrown q.tree (with_close g)) → (s : Run) × ClosesBy net no_predicates word r fs s × StandsFor q s
+pub closes : (net : ParserNetwork) (word : List ℕ) (r : Run) (fs : List Frame) (p q : Parser) (back : ℕ) (rest : List ℕ)
+    → r.frames ≡ fs → StandsFor p r → p.returns.items ≡ rest ++ back ∷ [] → q.state ≡ back → q.place ≡ p.place
+    → q.returns.items ≡ rest → q.opened.items ≡ take (length p.opened.items - 1) p.opened.items
+    → ((g : Growing) → HasGrown p.tree g → HasGrown q.tree (with_close g))
+    → (s : Run) × ClosesBy net no_predicates word r fs s × StandsFor q s
 closes net word r [] p q back rest same h popped a b d o e =
     let none : rest ++ back ∷ [] ≡ [] = sym popped ∙ h.returns ∙ ap returns_of same in
     absurd (omega (arith, ap length none, length-append rest (back ∷ [])))
 closes net word r (f ∷ fs) p q back rest same h popped a b d o e =
     let after : Run = record { state = f.back; place = r.place; frames = fs; tree = r.tree } in
-    let last : (returns_of fs ≡ rest) × (f.back ≡ back) = same_last (returns_of fs) rest f.back back (sym (ap returns_of same) ∙ sym h.returns ∙ popped) in
+    let last : (returns_of fs ≡ rest) × (f.back ≡ back) =
+    same_last (returns_of fs) rest f.back back (sym (ap returns_of same) ∙ sym h.returns ∙ popped) in
     let tree : HasGrown p.tree (grown (f ∷ fs) r.tree) = subst (λ (gs : List Frame). HasGrown p.tree (grown gs r.tree)) same h.tree in
     let newest : Opened = record { rule = f.rule; level = f.level } in
-    let rest_open : take (length p.opened.items - 1) p.opened.items ≡ opened_of fs = ap (λ (xs : List Opened). take (length xs - 1) xs) (h.opened ∙ ap opened_of same) ∙ all_but_last (opened_of fs) newest in (
+    let rest_open : take (length p.opened.items - 1) p.opened.items ≡ opened_of fs =
+    ap (λ (xs : List Opened). take (length xs - 1) xs) (h.opened ∙ ap opened_of same) ∙ all_but_last (opened_of fs) newest in (
       with_child after fs (node_of f),
       refl,
       record {
@@ -79,7 +85,9 @@ pub alt_is : (i alt : ℕ) → (i ≡ 0 → ⊥) → cond (i == 0) alt i ≡ i
 alt_is i alt n = let other : (i == 0) ≡ false = false_from_ne_true (i == 0) (λ e. n (grind (arith, nat_tests))) in rw other refl
 
 -- Writing the alternative of the newest open rule's node.
-pub begins_alt : (r : Run) (p q : Parser) (i : ℕ) → (i ≡ 0 → ⊥) → StandsFor p r → q.state ≡ p.state → q.place ≡ p.place → q.returns.items ≡ p.returns.items → q.opened.items ≡ p.opened.items → ((g : Growing) → HasGrown p.tree g → HasGrown q.tree (with_alternative i g)) → StandsFor q (with_begun i r)
+pub begins_alt : (r : Run) (p q : Parser) (i : ℕ) → (i ≡ 0 → ⊥) → StandsFor p r → q.state ≡ p.state → q.place ≡ p.place
+    → q.returns.items ≡ p.returns.items → q.opened.items ≡ p.opened.items
+    → ((g : Growing) → HasGrown p.tree g → HasGrown q.tree (with_alternative i g)) → StandsFor q (with_begun i r)
 begins_alt r p q i n h a b c o e = record {
   state = a ∙ h.state;
   place = b ∙ h.place;
@@ -89,7 +97,10 @@ begins_alt r p q i n h a b c o e = record {
 }
 
 -- Passing a level makes the node so far a first child.
-pub passes_level : (r : Run) (p q : Parser) (t i : ℕ) → StandsFor p r → q.state ≡ t → q.place ≡ p.place → q.returns.items ≡ p.returns.items → q.opened.items ≡ p.opened.items → ((g : Growing) → HasGrown p.tree g → HasGrown q.tree (with_wrap i g)) → StandsFor q (record r { state = t; frames = wrapped i r.frames })
+pub passes_level : (r : Run) (p q : Parser) (t i : ℕ) → StandsFor p r → q.state ≡ t → q.place ≡ p.place
+    → q.returns.items ≡ p.returns.items → q.opened.items ≡ p.opened.items
+    → ((g : Growing) → HasGrown p.tree g → HasGrown q.tree (with_wrap i g))
+    → StandsFor q (record r { state = t; frames = wrapped i r.frames })
 passes_level r p q t i h a b c o e = record {
   state = a;
   place = b ∙ h.place;
@@ -99,48 +110,71 @@ passes_level r p q t i h a b c o e = record {
 }
 
 -- Keeping a token makes it a child of the newest open rule.
-pub keeps_token : (r : Run) (fs : List Frame) (p q : Parser) → r.frames ≡ fs → (returns_of fs ≡ [] → ⊥) → StandsFor p r → q.state ≡ p.state → q.place ≡ p.place → q.returns.items ≡ p.returns.items → q.opened.items ≡ p.opened.items → ((g : Growing) → HasGrown p.tree g → HasGrown q.tree (with_tree (leaf p.place) g)) → StandsFor q (with_token r fs)
+pub keeps_token : (r : Run) (fs : List Frame) (p q : Parser) → r.frames ≡ fs → (returns_of fs ≡ [] → ⊥) → StandsFor p r
+    → q.state ≡ p.state → q.place ≡ p.place → q.returns.items ≡ p.returns.items → q.opened.items ≡ p.opened.items
+    → ((g : Growing) → HasGrown p.tree g → HasGrown q.tree (with_tree (leaf p.place) g)) → StandsFor q (with_token r fs)
 keeps_token r [] p q same some h a b c o e = absurd (some refl)
 keeps_token r (f ∷ fs) p q same some h a b c o e = record {
   state = a ∙ h.state;
   place = b ∙ h.place;
   returns = c ∙ h.returns ∙ ap returns_of same;
   opened = o ∙ h.opened ∙ ap opened_of same;
-  tree = subst (λ (k : ℕ). HasGrown q.tree (with_tree (leaf k) (grown (f ∷ fs) r.tree))) h.place (e (grown (f ∷ fs) r.tree) (subst (λ (gs : List Frame). HasGrown p.tree (grown gs r.tree)) same h.tree));
+  tree = subst (λ (k : ℕ). HasGrown q.tree (with_tree (leaf k) (grown (f ∷ fs) r.tree))) h.place
+      (e (grown (f ∷ fs) r.tree) (subst (λ (gs : List Frame). HasGrown p.tree (grown gs r.tree)) same h.tree));
 }
 
 -- the first states of alternatives that are allowed lead to the same where as much is allowed
-starts_same : (net : ParserNetwork) (d : ℕ) (A B : ℕ → Type 0) (z : Stack) → ((i : ℕ) → A i → B i) → Within (Start net d A z) (Start net d B z)
-starts_same net d A B z more c (first, (allowed, is_first, stack), reaches, kept) = (first, (more first.alt allowed, is_first, stack), reaches, kept)
+starts_same : (net : ParserNetwork) (d : ℕ) (A B : ℕ → Type 0) (z : Stack) → ((i : ℕ) → A i → B i)
+    → Within (Start net d A z) (Start net d B z)
+starts_same net d A B z more c (first, (allowed, is_first, stack), reaches, kept) =
+    (first, (more first.alt allowed, is_first, stack), reaches, kept)
 
 -- where as much is allowed at a decision with tests, the choice is the same
-pub as_allowed : (net : ParserNetwork) (d : ℕ) (A B : ℕ → Type 0) (z : Stack) (w : List ℕ) (c : Choice) → (HasTests net d → (i : ℕ) → A i ↔ B i) → Decides net d A z w c → Decides net d B z w c
+pub as_allowed : (net : ParserNetwork) (d : ℕ) (A B : ℕ → Type 0) (z : Stack) (w : List ℕ) (c : Choice)
+    → (HasTests net d → (i : ℕ) → A i ↔ B i) → Decides net d A z w c → Decides net d B z w c
 as_allowed net d A B z w c same (by_answer i path n sll) = by_answer i path n sll
 as_allowed net d A B z w c same (by_error k path n sll) = by_error k path n sll
 as_allowed net d A B z w c same (by_full k path _ n sll full) = by_full k path c n sll full
-as_allowed net d A B z w c same (by_tests _ some full) = by_tests c some (full_same net (Start net d A z) (Start net d B z) (starts_same net d A B z (λ i. (same some i).0)) (starts_same net d B A z (λ i. (same some i).1)) w 0 c full)
+as_allowed net d A B z w c same (by_tests _ some full) =
+    by_tests c some (full_same net (Start net d A z) (Start net d B z) (starts_same net d A B z (λ i. (same some i).0))
+    (starts_same net d B A z (λ i. (same some i).1)) w 0 c full)
 
 -- what is chosen at the parser's state is what prediction says in the run
-predicted : (net : ParserNetwork) (word : List ℕ) (r : Run) (p : Parser) (allowed : Allowed) (choice : Choice) → IsAllowed net p allowed → StandsFor p r → Decides net p.state (Allows allowed) (above_bottom (reverse p.returns.items)) (drop p.place word) choice → Predicts net no_predicates word r choice
+predicted : (net : ParserNetwork) (word : List ℕ) (r : Run) (p : Parser) (allowed : Allowed) (choice : Choice)
+    → IsAllowed net p allowed → StandsFor p r → Decides net p.state (Allows allowed) (above_bottom (reverse p.returns.items))
+    (drop p.place word) choice → Predicts net no_predicates word r choice
 predicted net word r p allowed choice allows h says =
     let stack : reverse p.returns.items ≡ backs r.frames = ap reverse h.returns ∙ reverse_returns r.frames in
-    let said : Decides net r.state (Allows allowed) (above_bottom (backs r.frames)) (drop r.place word) choice = rw (← h.state, ← h.place, ← stack) says in
-    as_allowed net r.state (Allows allowed) (AllowsAt net no_predicates word r) (stack_of r) (drop r.place word) choice (allows word r h) said
+    let said : Decides net r.state (Allows allowed) (above_bottom (backs r.frames)) (drop r.place word) choice =
+    rw (← h.state, ← h.place, ← stack) says in
+    as_allowed net r.state (Allows allowed) (AllowsAt net no_predicates word r) (stack_of r) (drop r.place word) choice
+    (allows word r h) said
 
 -- what full stacks say where the parser is, they say in the run
-full_at : (net : ParserNetwork) (word : List ℕ) (r : Run) (p : Parser) (B : ℕ → Type 0) (choice : Choice) → StandsFor p r → Full net p.state B (above_bottom (reverse p.returns.items)) (drop p.place word) choice → Full net r.state B (stack_of r) (drop r.place word) choice
+full_at : (net : ParserNetwork) (word : List ℕ) (r : Run) (p : Parser) (B : ℕ → Type 0) (choice : Choice) → StandsFor p r
+    → Full net p.state B (above_bottom (reverse p.returns.items)) (drop p.place word) choice
+    → Full net r.state B (stack_of r) (drop r.place word) choice
 full_at net word r p B choice h full =
     let stack : reverse p.returns.items ≡ backs r.frames = ap reverse h.returns ∙ reverse_returns r.frames in
     subst (λ (d : ℕ). Full net d B (stack_of r) (drop r.place word) choice) h.state
-    (subst (λ (at : ℕ). Full net p.state B (stack_of r) (drop at word) choice) h.place (subst (λ (bs : List ℕ). Full net p.state B (above_bottom bs) (drop p.place word) choice) stack full))
+    (subst (λ (at : ℕ). Full net p.state B (stack_of r) (drop at word) choice) h.place
+    (subst (λ (bs : List ℕ). Full net p.state B (above_bottom bs) (drop p.place word) choice) stack full))
 
 -- so what full stacks confirm where the parser is, they confirm in the run
-right_at : (net : ParserNetwork) (word : List ℕ) (r : Run) (p : Parser) (allowed : Allowed) (B : ℕ → Type 0) (i : ℕ) → IsAllowed net p allowed → StandsFor p r → IsRightOver B net p.state (Allows allowed) (above_bottom (reverse p.returns.items)) (drop p.place word) i →
+right_at : (net : ParserNetwork) (word : List ℕ) (r : Run) (p : Parser) (allowed : Allowed) (B : ℕ → Type 0) (i : ℕ)
+    → IsAllowed net p allowed → StandsFor p r → IsRightOver B net p.state (Allows allowed) (above_bottom (reverse p.returns.items))
+    (drop p.place word) i →
     IsRightOver B net r.state (AllowsAt net no_predicates word r) (stack_of r) (drop r.place word) i
-right_at net word r p allowed B i allows h (has, right) = (has, λ some. predicted net word r p allowed (chosen i) allows h (right (λ k none. some k (full_at net word r p B (no_viable k) h none))))
+right_at net word r p allowed B i allows h (has, right) = (
+  has,
+  λ some. predicted net word r p allowed (chosen i) allows h
+      (right (λ k none. some k (full_at net word r p B (no_viable k) h none))),
+)
 
 -- what is foreseen at the parser's state is foreseen in the run
-foreseen_at : (net : ParserNetwork) (word : List ℕ) (r : Run) (p : Parser) (allowed : Allowed) (f : Foresight) (presumed : Bool) → f.presumed ≡ presumed → IsAllowed net p allowed → StandsFor p r → IsForeseen net p.state (Allows allowed) (above_bottom (reverse p.returns.items)) (drop p.place word) f →
+foreseen_at : (net : ParserNetwork) (word : List ℕ) (r : Run) (p : Parser) (allowed : Allowed) (f : Foresight) (presumed : Bool)
+    → f.presumed ≡ presumed → IsAllowed net p allowed → StandsFor p r
+    → IsForeseen net p.state (Allows allowed) (above_bottom (reverse p.returns.items)) (drop p.place word) f →
     IsForeseenAt net word r presumed f.alternative
 foreseen_at net word r p allowed f false is allows h says = predicted net word r p allowed (chosen f.alternative) allows h (says.exact is)
 foreseen_at net word r p allowed f true is allows h says = elim (says.presumed is) [
@@ -149,26 +183,41 @@ foreseen_at net word r p allowed f true is allows h says = elim (says.presumed i
 ]
 
 -- Going to the alternative that is foreseen is a turn of the parser.
-pub chooses : (net : ParserNetwork) (word : List ℕ) (r : Run) (p q : Parser) (allowed : Allowed) (targets : List ℕ) (f : Foresight) (t : ℕ) → IsAllowed net p allowed → StandsFor p r → IsForeseen net p.state (Allows allowed) (above_bottom (reverse p.returns.items)) (drop p.place word) f → IsFirst net p.state f.alternative t →
-    StandsFor q (record (with_begun (begun net t (state_at net t)) r) { state = t }) → IsForeseenTurnBy net word (Some (Decision targets)) r q (Ok f.presumed)
+pub chooses : (net : ParserNetwork) (word : List ℕ) (r : Run) (p q : Parser) (allowed : Allowed) (targets : List ℕ) (f : Foresight)
+    (t : ℕ) → IsAllowed net p allowed → StandsFor p r
+    → IsForeseen net p.state (Allows allowed) (above_bottom (reverse p.returns.items)) (drop p.place word) f
+    → IsFirst net p.state f.alternative t →
+    StandsFor q (record (with_begun (begun net t (state_at net t)) r) { state = t })
+    → IsForeseenTurnBy net word (Some (Decision targets)) r q (Ok f.presumed)
 chooses net word r p q allowed targets f t allows h says first after = (
   record (with_begun (begun net t (state_at net t)) r) { state = t },
-  (f.alternative, t, foreseen_at net word r p allowed f f.presumed refl allows h says, subst (λ (n : ℕ). IsFirst net n f.alternative t) h.state first, refl),
+  (
+    f.alternative,
+    t,
+    foreseen_at net word r p allowed f f.presumed refl allows h says,
+    subst (λ (n : ℕ). IsFirst net n f.alternative t) h.state first,
+    refl,
+  ),
   after,
 )
 
 -- the stack of a parser at a decision is proper
-pub proper_stack : (net : ParserNetwork) (n : ℕ) (p : Parser) (returns : List ℕ) → returns ≡ p.returns.items → IsDeciding net n p → IsProper net p.state (reverse returns)
+pub proper_stack : (net : ParserNetwork) (n : ℕ) (p : Parser) (returns : List ℕ) → returns ≡ p.returns.items → IsDeciding net n p
+    → IsProper net p.state (reverse returns)
 proper_stack net n p returns are (r, stands, fit) =
     let stack : reverse returns ≡ backs r.frames = ap reverse (are ∙ stands.returns) ∙ reverse_returns r.frames in
-    subst (λ (bs : List ℕ). IsProper net p.state bs) (sym stack) (subst (λ (at : ℕ). IsProper net at (backs r.frames)) (sym stands.state) fit.proper)
+    subst (λ (bs : List ℕ). IsProper net p.state bs) (sym stack)
+    (subst (λ (at : ℕ). IsProper net at (backs r.frames)) (sym stands.state) fit.proper)
 
 -- a turn by the parser's state is one by the state of the moment
-pub turned : (net : ParserNetwork) (word : List ℕ) (r : Run) (p q : Parser) (s : State (List ℕ)) (x : Result ⊤ ParseFault) → StandsFor p r → state_at net p.state ≡ Some s → IsTurnBy net word (Some s) r q x → IsTurnBy net word (state_at net r.state) r q x
-turned net word r p q s x h at_s = subst (λ (o : Option (State (List ℕ))). IsTurnBy net word o r q x) (sym at_s ∙ ap (λ (n : ℕ). state_at net n) h.state)
+pub turned : (net : ParserNetwork) (word : List ℕ) (r : Run) (p q : Parser) (s : State (List ℕ)) (x : Result ⊤ ParseFault)
+    → StandsFor p r → state_at net p.state ≡ Some s → IsTurnBy net word (Some s) r q x → IsTurnBy net word (state_at net r.state) r q x
+turned net word r p q s x h at_s = subst (λ (o : Option (State (List ℕ))). IsTurnBy net word o r q x)
+    (sym at_s ∙ ap (λ (n : ℕ). state_at net n) h.state)
 
 -- an alternative of a decision is one of its targets
-pub first_of : (net : ParserNetwork) (d i t : ℕ) (targets : List ℕ) → state_at net d ≡ Some (Decision targets) → IsFirst net d i t → (i - 1 < length targets) × (get_or targets (i - 1) 0 ≡ t) × (1 ≤ i)
+pub first_of : (net : ParserNetwork) (d i t : ℕ) (targets : List ℕ) → state_at net d ≡ Some (Decision targets) → IsFirst net d i t
+    → (i - 1 < length targets) × (get_or targets (i - 1) 0 ≡ t) × (1 ≤ i)
 first_of net d i t targets at_d (us, k, at_u, has, is) =
     let same : us ≡ targets = cc in
     let got : slice_get targets k ≡ Some t = subst (λ (xs : List ℕ). slice_get xs k ≡ Some t) same has in
@@ -177,17 +226,22 @@ first_of net d i t targets at_d (us, k, at_u, has, is) =
     (omega arith, ap (λ (n : ℕ). get_or targets n 0) place ∙ get_or_from_slice_get targets k t 0 got, omega arith)
 
 -- a target of a decision is a state
-pub state_within : (net : ParserNetwork) (d : ℕ) (targets : List ℕ) (k : ℕ) → WellFormed net → state_at net d ≡ Some (Decision targets) → k < length targets → get_or targets k 0 < length net.states
+pub state_within : (net : ParserNetwork) (d : ℕ) (targets : List ℕ) (k : ℕ) → WellFormed net
+    → state_at net d ≡ Some (Decision targets) → k < length targets → get_or targets k 0 < length net.states
 state_within net d targets k well at_d less = well.targets d (get_or targets k 0) (Decision targets) at_d (Contains-get_or targets k 0 less)
 
 -- where prediction finds no alternative the run stops
-pub decides_fault : (net : ParserNetwork) (word : List ℕ) (r : Run) (p : Parser) (allowed : Allowed) (targets : List ℕ) (fault : DecideFault) → IsAllowed net p allowed → StandsFor p r → IsDecideFault net p.state (Allows allowed) (reverse p.returns.items) (drop p.place word) p.place fault → IsFaultBy net word (Some (Decision targets)) r (of_decide fault)
+pub decides_fault : (net : ParserNetwork) (word : List ℕ) (r : Run) (p : Parser) (allowed : Allowed) (targets : List ℕ)
+    (fault : DecideFault) → IsAllowed net p allowed → StandsFor p r
+    → IsDecideFault net p.state (Allows allowed) (reverse p.returns.items) (drop p.place word) p.place fault
+    → IsFaultBy net word (Some (Decision targets)) r (of_decide fault)
 decides_fault net word r p allowed targets (deciding.NoViable at) allows h (k, says, is) =
     (k, predicted net word r p allowed (no_viable k) allows h says, ap not_viable (is ∙ ap (λ (n : ℕ). n + k) h.place))
 decides_fault net word r p allowed targets deciding.NoMemory allows h is = tt
 
 -- a turn that answers with this fault
-pub fails_with : (net : ParserNetwork) (word : List ℕ) (o : Option (State (List ℕ))) (r : Run) (q : Parser) (fault : ParseFault) (x : Result Bool ParseFault) → IsErrAnd x (λ e. e ≡ fault) → IsFaultBy net word o r fault → IsForeseenTurnBy net word o r q x
+pub fails_with : (net : ParserNetwork) (word : List ℕ) (o : Option (State (List ℕ))) (r : Run) (q : Parser) (fault : ParseFault)
+    (x : Result Bool ParseFault) → IsErrAnd x (λ e. e ≡ fault) → IsFaultBy net word o r fault → IsForeseenTurnBy net word o r q x
 fails_with net word o r q fault (Ok presumed) is h = absurd is
 fails_with net word o r q fault (Err e) is h = subst (IsFaultBy net word o r) (sym is) h
 

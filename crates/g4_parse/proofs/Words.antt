@@ -16,13 +16,15 @@ pub symbol_at : (tokens : List Token) (i : ℕ) (d : Token) → i < length token
 symbol_at tokens i d within = get_or-map (λ (t : Token). t.symbol) tokens i d 0 within
 
 -- what remains at a place begins with that symbol
-pub word_from : (tokens : List Token) (i : ℕ) (d : Token) → i < length tokens → drop i (word_of tokens) ≡ (get_or tokens i d).symbol ∷ drop (suc i) (word_of tokens)
+pub word_from : (tokens : List Token) (i : ℕ) (d : Token) → i < length tokens
+    → drop i (word_of tokens) ≡ (get_or tokens i d).symbol ∷ drop (suc i) (word_of tokens)
 word_from tokens i d within =
     let enough : i < length (word_of tokens) = omega (arith, length_word tokens) in
     drop-cons (word_of tokens) i 0 enough ∙ ap (λ (a : ℕ). a ∷ drop (suc i) (word_of tokens)) (symbol_at tokens i d within)
 
 -- the symbol at a place of the word
-pub word_get : (tokens : List Token) (i : ℕ) (d : Token) → i < length tokens → slice_get (word_of tokens) i ≡ Some (get_or tokens i d).symbol
+pub word_get : (tokens : List Token) (i : ℕ) (d : Token) → i < length tokens
+    → slice_get (word_of tokens) i ≡ Some (get_or tokens i d).symbol
 word_get tokens i d within =
     let enough : i < length (word_of tokens) = omega (arith, length_word tokens) in
     slice_get-get_or (word_of tokens) i 0 enough ∙ ap (λ (a : ℕ). Some a) (symbol_at tokens i d within)

@@ -22,4 +22,5 @@ ArePassing net targets n found word r = (i : ℕ) → Contains found i ↔ Passe
 
 -- where an alternative of the decision begins with a test, exactly those are allowed that the moment allows
 abbrev pub IsAllowed : ParserNetwork → Parser → Allowed → Type 0
-IsAllowed net p allowed = (word : List ℕ) (r : Run) → StandsFor p r → HasTests net r.state → (i : ℕ) → Allows allowed i ↔ AllowsAt net no_predicates word r i
+IsAllowed net p allowed = (word : List ℕ) (r : Run) → StandsFor p r → HasTests net r.state → (i : ℕ)
+    → Allows allowed i ↔ AllowsAt net no_predicates word r i

@@ -21,11 +21,13 @@ use Rattle.g4_parse.specs.Standing.{StandsFor, farthest, IsFaultBy}
 -- which this is one, say that none is viable.
 abbrev pub IsForeseenAt : ParserNetwork → List ℕ → Run → Bool → ℕ → Type 0
 IsForeseenAt net word r false i = Predicts net no_predicates word r (chosen i)
-IsForeseenAt net word r true i = (allowed : Allowed) × IsRightOver (Allows allowed) net r.state (AllowsAt net no_predicates word r) (stack_of r) (drop r.place word) i
+IsForeseenAt net word r true i = (allowed : Allowed)
+    × IsRightOver (Allows allowed) net r.state (AllowsAt net no_predicates word r) (stack_of r) (drop r.place word) i
 
 -- one step of the run by the state, at a decision along an alternative that is foreseen
 abbrev pub ForeseesBy : ParserNetwork → List ℕ → Bool → Option (State (List ℕ)) → Run → Run → Type 0
-ForeseesBy net word presumed (Some (Decision targets)) r s = (i t : ℕ) × IsForeseenAt net word r presumed i × IsFirst net r.state i t × (s ≡ record r { state = t; frames = with_alt (begun net t (state_at net t)) r.frames })
+ForeseesBy net word presumed (Some (Decision targets)) r s = (i t : ℕ) × IsForeseenAt net word r presumed i × IsFirst net r.state i t
+    × (s ≡ record r { state = t; frames = with_alt (begun net t (state_at net t)) r.frames })
 ForeseesBy net word presumed (Some (End rule)) r s = GoesBy net no_predicates word farthest (Some (End rule)) r s
 ForeseesBy net word presumed (Some (Edge set t)) r s = GoesBy net no_predicates word farthest (Some (Edge set t)) r s
 ForeseesBy net word presumed (Some (Call rule level back)) r s = GoesBy net no_predicates word farthest (Some (Call rule level back)) r s
@@ -45,4 +47,5 @@ IsForeseenTurnBy net word state r p (Err fault) = IsFaultBy net word state r fau
 -- and it presumes none where choices are exact.
 abbrev pub IsRun : ParserNetwork → List ℕ → Choosing → Result (List Item) Stopped → Type 0
 IsRun net word choosing (Ok tree) = IsParse net word (Ok tree)
-IsRun net word choosing (Err stopped) = (stopped.presumed ≡ false → IsParseFault net word stopped.fault) × (choosing ≡ Exact → stopped.presumed ≡ false)
+IsRun net word choosing (Err stopped) = (stopped.presumed ≡ false → IsParseFault net word stopped.fault)
+    × (choosing ≡ Exact → stopped.presumed ≡ false)

@@ -1,3 +1,4 @@
+-- Other crates cite Parsing; only this crate cites Allowing, Deciding, Depth, Foreseen, Standing.
 pub mod Allowing
 pub mod Deciding
 pub mod Depth

@@ -122,7 +122,8 @@ impl Parser {
     fn call(&mut self, net: &ParserNetwork, opened: Opened, back: u32) -> Result<(), ParseFault>
         requires starts { 2 * opened.rule < length net.now.written }
         requires fits { 2 * opened.rule < 2 ^ 32 }
-        ensures { (word : List ℕ) (r : Run) → StandsFor self.old r → IsTurnBy net.now word (Some (Call opened.rule opened.level back)) r self.new result }
+        ensures { (word : List ℕ) (r : Run) → StandsFor self.old r
+            → IsTurnBy net.now word (Some (Call opened.rule opened.level back)) r self.new result }
     {
         if self.returns.len() >= FARTHEST {
             return Err(ParseFault::TooDeep { at: self.place });
@@ -151,7 +152,8 @@ impl Parser {
     fn take(&mut self, set: &Symbols, target: u32, tokens: &[Token]) -> Result<(), ParseFault>
         requires more { self.old.place < length tokens.now }
         requires few { length tokens.now < 2 ^ 32 }
-        ensures { (net : Net) (r : Run) → StandsFor self.old r → IsTurnBy net (word_of tokens.now) (Some (Edge set.now target)) r self.new result }
+        ensures { (net : Net) (r : Run) → StandsFor self.old r
+            → IsTurnBy net (word_of tokens.now) (Some (Edge set.now target)) r self.new result }
     {
         let symbol = tokens[self.place as usize].symbol;
         if !set.contains(symbol) {
@@ -207,7 +209,8 @@ impl Parser {
         requires decides { (targets : List ℕ) × (state_at net.now self.now.state ≡ Some (Decision targets)) }
         requires ends { EndsInEnd (word_of tokens.now) }
         requires few { length tokens.now < 2 ^ 32 }
-        ensures foreseen { IsForesight net.now self.now.state (Allows allowed.now) (reverse self.now.returns.items) (drop self.now.place (word_of tokens.now)) self.now.place result }
+        ensures foreseen { IsForesight net.now self.now.state (Allows allowed.now) (reverse self.now.returns.items)
+            (drop self.now.place (word_of tokens.now)) self.now.place result }
         ensures exact { choosing ≡ Exact → IfOk result (λ foresight. foresight.presumed ≡ false) }
     {
         let returns = self.returns.as_slice();
@@ -240,7 +243,8 @@ impl Parser {
         requires decides { state_at net.now self.old.state ≡ Some (Decision targets.now) }
         requires ends { EndsInEnd (word_of tokens.now) }
         requires few { length tokens.now < 2 ^ 32 }
-        ensures turns { (r : Run) → StandsFor self.old r → IsForeseenTurnBy net.now (word_of tokens.now) (Some (Decision targets.now)) r self.new result }
+        ensures turns { (r : Run) → StandsFor self.old r
+            → IsForeseenTurnBy net.now (word_of tokens.now) (Some (Decision targets.now)) r self.new result }
         ensures exact { choosing ≡ Exact → IfOk result (λ presumed. presumed ≡ false) }
     {
         let allowed = self.allowed(alloc, net, targets)?;
@@ -254,7 +258,8 @@ impl Parser {
     /// Closes the newest open rule.
     fn close(&mut self) -> Result<(), ParseFault>
         requires { 0 < length self.old.returns.items }
-        ensures { (net : Net) (word : List ℕ) (rule : ℕ) (r : Run) → StandsFor self.old r → IsTurnBy net word (Some (End rule)) r self.new result }
+        ensures { (net : Net) (word : List ℕ) (rule : ℕ) (r : Run) → StandsFor self.old r
+            → IsTurnBy net word (Some (End rule)) r self.new result }
     {
         let Some(back) = self.returns.pop() else {
             unreachable!()
@@ -324,7 +329,8 @@ impl Parser {
         requires goes_on { HasEnded net.now self.old → ⊥ }
         requires ends { EndsInEnd (word_of tokens.now) }
         requires few { length tokens.now < 2 ^ 32 }
-        ensures turns { (r : Run) → StandsFor self.old r → IsForeseenTurnBy net.now (word_of tokens.now) (state_at net.now r.state) r self.new result }
+        ensures turns { (r : Run) → StandsFor self.old r
+            → IsForeseenTurnBy net.now (word_of tokens.now) (state_at net.now r.state) r self.new result }
         ensures exact { choosing ≡ Exact → IfOk result (λ presumed. presumed ≡ false) }
     {
         if let State::Decision(targets) = state_of(net, self.state) {
@@ -336,7 +342,8 @@ impl Parser {
 
     /// The tree of a run that has ended.
     pub fn finish(self, alloc: Global) -> Result<Tree, AllocError>
-        ensures { IfOk result (λ items. (trees : Forest) → HasGrown self.tree (record { nodes = []; trees = trees }) → items ≡ items_of_all trees) }
+        ensures { IfOk result (λ items. (trees : Forest) → HasGrown self.tree (record { nodes = []; trees = trees })
+            → items ≡ items_of_all trees) }
     {
         self.tree.finish(alloc)
     }

@@ -45,33 +45,41 @@ listed_alike [] kind other same = refl
 listed_alike (first ∷ listed) kind other same = ap₂ ◌||◌ (ap (λ n. number_of first == n) same) (listed_alike listed kind other same)
 
 -- no kind is in two lists that are apart
-not_in_both : (listed others : List Kind) (kind : Kind) → are_apart listed others ≡ true → is_one_of listed kind ≡ true → is_one_of others kind ≡ true → ⊥
+not_in_both : (listed others : List Kind) (kind : Kind) → are_apart listed others ≡ true → is_one_of listed kind ≡ true
+    → is_one_of others kind ≡ true → ⊥
 not_in_both [] others kind are one_is also = true≢false (sym one_is)
 not_in_both (first ∷ listed) others kind are one_is also =
     elim (or_cases (is_kind first kind) (is_one_of listed kind) one_is) [
       | inl same ↦
           apart (is_one_of others kind) also
-          (sym (listed_alike others first kind (eqb-true (number_of first) (number_of kind) same)) ∙ not_true (is_one_of others first) (and_first_true _ (are_apart listed others) are))
+          (sym (listed_alike others first kind (eqb-true (number_of first) (number_of kind) same))
+          ∙ not_true (is_one_of others first) (and_first_true _ (are_apart listed others) are))
       | inr later ↦ not_in_both listed others kind (and_second_true (not (is_one_of others first)) _ are) later also
     ]
 
 -- no token is of the kinds of two terminals whose kinds are apart
-not_of_both : (t other : Terminal) (token : Spelled) → are_apart (kinds_of t) (kinds_of other) ≡ true → fits t token ≡ true → fits other token ≡ true → ⊥
-not_of_both t other token are fit also = not_in_both (kinds_of t) (kinds_of other) token.kind are (of_its_kinds t token fit) (of_its_kinds other token also)
+not_of_both : (t other : Terminal) (token : Spelled) → are_apart (kinds_of t) (kinds_of other) ≡ true → fits t token ≡ true
+    → fits other token ≡ true → ⊥
+not_of_both t other token are fit also = not_in_both (kinds_of t) (kinds_of other) token.kind are (of_its_kinds t token fit)
+    (of_its_kinds other token also)
 
 -- a keyword is spelled so
 bytes_are : (word : List ℕ) (token : Spelled) → fits (keyword word) token ≡ true → token.bytes ≡ word
 bytes_are word token fit = (bytes_eq-Decides token.bytes word).0 (and_second_true (is_kind kinds.Lower token.kind) _ fit)
 
 -- no token is both terminals, if it is plain at the second
-pub not_both : (t other : Terminal) (token : Spelled) → excludes t other ≡ true → fits other token ≡ true → IsPlain other token → fits t token ≡ true → ⊥
+pub not_both : (t other : Terminal) (token : Spelled) → excludes t other ≡ true → fits other token ≡ true → IsPlain other token
+    → fits t token ≡ true → ⊥
 not_both (keyword word) (keyword other) token excluded_is also plain fit =
-    apart (bytes_eq word other) ((bytes_eq-Decides word other).1 (sym (bytes_are word token fit) ∙ bytes_are other token also)) (not_true (bytes_eq word other) excluded_is)
+    apart (bytes_eq word other) ((bytes_eq-Decides word other).1 (sym (bytes_are word token fit) ∙ bytes_are other token also))
+    (not_true (bytes_eq word other) excluded_is)
 not_both (keyword word) (of_kind kind) token excluded_is also plain fit =
     elim (or_cases (list_any (bytes_eq word) contested) (are_apart (kinds.Lower ∷ []) (kind ∷ [])) excluded_is) [
       | inl known ↦
-          let uncontested = and_second_false (is_kind kinds.Lower token.kind) _ (and_first_true (is_kind kinds.Lower token.kind) _ fit) plain in
-          apart (list_any (bytes_eq word) contested) known (ap (λ bytes. list_any (bytes_eq bytes) contested) (sym (bytes_are word token fit)) ∙ uncontested)
+          let uncontested = and_second_false (is_kind kinds.Lower token.kind) _
+          (and_first_true (is_kind kinds.Lower token.kind) _ fit) plain in
+          apart (list_any (bytes_eq word) contested) known
+          (ap (λ bytes. list_any (bytes_eq bytes) contested) (sym (bytes_are word token fit)) ∙ uncontested)
       | inr are ↦ not_of_both (keyword word) (of_kind kind) token are fit also
     ]
 not_both t other token excluded_is also plain fit = not_of_both t other token excluded_is fit also

@@ -58,11 +58,14 @@ guarded true p q pass fail = fail pass
 guarded false p q pass fail = refl
 
 -- the token does not begin an expression of which this is known for parts
-not_first : (parts : Nonterminal → Bool) (test : Test) (token : Spelled) → Fails test token → ((n : Nonterminal) → parts n ≡ true → begins (part n) token ≡ false) → (x : Expression) → first_pass parts test x ≡ true → begins x token ≡ false
+not_first : (parts : Nonterminal → Bool) (test : Test) (token : Spelled) → Fails test token
+    → ((n : Nonterminal) → parts n ≡ true → begins (part n) token ≡ false) → (x : Expression) → first_pass parts test x ≡ true
+    → begins x token ≡ false
 not_first parts test token fails known (one t) pass = false_from_ne_true (fits t token) (fails t pass)
 not_first parts test token fails known (x ▸ y) pass =
     or_false (begins x token) _ (not_first parts test token fails known x (and_first_true (first_pass parts test x) _ pass))
-    (guarded (can_be_empty x) (first_pass parts test y) (begins y token) (and_second_true (first_pass parts test x) _ pass) (λ also. not_first parts test token fails known y also))
+    (guarded (can_be_empty x) (first_pass parts test y) (begins y token) (and_second_true (first_pass parts test x) _ pass)
+    (λ also. not_first parts test token fails known y also))
 not_first parts test token fails known (x ∣ y) pass =
     or_false (begins x token) (begins y token) (not_first parts test token fails known x (and_first_true (first_pass parts test x) _ pass))
     (not_first parts test token fails known y (and_second_true (first_pass parts test x) _ pass))
@@ -73,27 +76,36 @@ not_first parts test token fails known (part n) pass = known n pass
 -- a token that is none of the terminals with which the expression begins does not begin it
 pub not_begun : (test : Test) (token : Spelled) → Fails test token → (x : Expression) → firsts test x ≡ true → begins x token ≡ false
 not_begun test token fails x pass =
-    not_first (part_pass test) test token fails (λ n known. begins_part n token ∙ not_first (λ _. false) test token fails (λ _ never. absurd (true≢false (sym never))) (production n) known) x pass
+    not_first (part_pass test) test token fails
+    (λ n known. begins_part n token ∙ not_first (λ _. false) test token fails (λ _ never. absurd (true≢false (sym never)))
+    (production n) known) x pass
 
 -- a token that is of none of these kinds is not one of them
-not_listed : (test : Test) (token : Spelled) → Fails test token → (listed : List Kind) → list_all (λ kind. test (of_kind kind)) listed ≡ true → is_one_of listed token.kind ≡ false
+not_listed : (test : Test) (token : Spelled) → Fails test token → (listed : List Kind)
+    → list_all (λ kind. test (of_kind kind)) listed ≡ true → is_one_of listed token.kind ≡ false
 not_listed test token fails [] pass = refl
 not_listed test token fails (kind ∷ listed) pass =
-    or_false (is_kind kind token.kind) _ (false_from_ne_true (is_kind kind token.kind) (fails (of_kind kind) (and_first_true (test (of_kind kind)) _ pass))) (not_listed test token fails listed (and_second_true (test (of_kind kind)) _ pass))
+    or_false (is_kind kind token.kind) _ (false_from_ne_true (is_kind kind token.kind)
+    (fails (of_kind kind) (and_first_true (test (of_kind kind)) _ pass)))
+    (not_listed test token fails listed (and_second_true (test (of_kind kind)) _ pass))
 
 -- a token that is none of the terminals with which the expression can go on does not extend it
 pub not_extended : (test : Test) (token : Spelled) → Fails test token → (x : Expression) → lasts test x ≡ true → extends x token ≡ false
 not_extended test token fails (one t) pass = refl
 not_extended test token fails (x ▸ y) pass =
     or_false (extends y token) _ (not_extended test token fails y (and_first_true (lasts test y) _ pass))
-    (guarded (can_be_empty y) (lasts test x) (extends x token) (and_second_true (lasts test y) _ pass) (λ also. not_extended test token fails x also))
+    (guarded (can_be_empty y) (lasts test x) (extends x token) (and_second_true (lasts test y) _ pass)
+    (λ also. not_extended test token fails x also))
 not_extended test token fails (x ∣ y) pass =
     let second = and_second_true (lasts test x) _ pass in
-    let before = guarded (can_be_empty y) (firsts test x) (begins x token) (and_second_true (lasts test y) _ second) (λ also. not_begun test token fails x also) in
+    let before = guarded (can_be_empty y) (firsts test x) (begins x token) (and_second_true (lasts test y) _ second)
+    (λ also. not_begun test token fails x also) in
     or_false (extends x token) _ (not_extended test token fails x (and_first_true (lasts test x) _ pass))
     (or_false (extends y token) _ (not_extended test token fails y (and_first_true (lasts test y) _ second)) before)
 not_extended test token fails (optional x) pass =
-    or_false (begins x token) (extends x token) (not_begun test token fails x (and_first_true (firsts test x) _ pass)) (not_extended test token fails x (and_second_true (firsts test x) _ pass))
+    or_false (begins x token) (extends x token) (not_begun test token fails x (and_first_true (firsts test x) _ pass))
+    (not_extended test token fails x (and_second_true (firsts test x) _ pass))
 not_extended test token fails (repeated x) pass =
-    or_false (begins x token) (extends x token) (not_begun test token fails x (and_first_true (firsts test x) _ pass)) (not_extended test token fails x (and_second_true (firsts test x) _ pass))
+    or_false (begins x token) (extends x token) (not_begun test token fails x (and_first_true (firsts test x) _ pass))
+    (not_extended test token fails x (and_second_true (firsts test x) _ pass))
 not_extended test token fails (part n) pass = not_listed test token fails (last_kinds n) pass

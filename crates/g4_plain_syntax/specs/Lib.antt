@@ -1,1 +1,2 @@
+-- Only this crate cites it.
 pub mod Plain

@@ -12,7 +12,8 @@ pub fn derivation_read()
 
 /// So tokens have at most one derivation with plain names.
 pub fn one_derivation()
-    ensures { (tokens : List Spelled) (a b : Tree grammar) → NamesArePlain a → NamesArePlain b → Derives a tokens [] → Derives b tokens [] → a ≡ b }
+    ensures { (tokens : List Spelled) (a b : Tree grammar) → NamesArePlain a → NamesArePlain b → Derives a tokens []
+        → Derives b tokens [] → a ≡ b }
 {}
 
 /// A text that is read is derived, with the same tree.

@@ -25,7 +25,14 @@ impl Model for MemSink {
 
     ghost Value = { Sunk };
 
-    ghost view = { λ s. record { bytes = s.bytes.items; room = s.room; failing = s.failing.items; most = s.most; calls = s.calls; faults = s.faults } };
+    ghost view = { λ s. record {
+      bytes = s.bytes.items;
+      room = s.room;
+      failing = s.failing.items;
+      most = s.most;
+      calls = s.calls;
+      faults = s.faults;
+    } };
 
     ghost invariant = { λ s. (vec_len s.bytes ≤ s.room) × (s.room ≤ vec_capacity s.bytes) };
 }

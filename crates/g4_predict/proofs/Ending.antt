@@ -23,26 +23,34 @@ abbrev pub last_entry : ℕ → Verdict → Looked
 last_entry a v = record { symbol = a; led = ended v }
 
 -- SLL from a set, where it ends at the next set
-pub sll_ends : (net : ParserNetwork) (C : Config → Type 0) (a : ℕ) (w : List ℕ) (k : ℕ) (v : said.Verdict) → EndsWith (Next net C a) k v → SllFrom net C (a ∷ w) k (verdict_of v) (last_entry a (verdict_of v) ∷ [])
+pub sll_ends : (net : ParserNetwork) (C : Config → Type 0) (a : ℕ) (w : List ℕ) (k : ℕ) (v : said.Verdict)
+    → EndsWith (Next net C a) k v → SllFrom net C (a ∷ w) k (verdict_of v) (last_entry a (verdict_of v) ∷ [])
 sll_ends net C a w k (Answer i) h = prediction.one_left i h
 sll_ends net C a w k (ErrorAt j) (is, e) =
-    subst (λ (m : ℕ). Judges (Next net C a) k a (SllFrom net (Next net C a) w (suc k)) (error_at m) (last_entry a (error_at m) ∷ [])) (sym is) (prediction.nothing_left e)
+    subst (λ (m : ℕ). Judges (Next net C a) k a (SllFrom net (Next net C a) w (suc k)) (error_at m) (last_entry a (error_at m) ∷ []))
+    (sym is) (prediction.nothing_left e)
 sll_ends net C a w k (Sensitive j) (is, n, m) =
-    subst (λ (m : ℕ). Judges (Next net C a) k a (SllFrom net (Next net C a) w (suc k)) (sensitive m) (last_entry a (sensitive m) ∷ [])) (sym is) (prediction.gives_up n m.conflict m.none_lone)
+    subst (λ (m : ℕ). Judges (Next net C a) k a (SllFrom net (Next net C a) w (suc k)) (sensitive m)
+    (last_entry a (sensitive m) ∷ [])) (sym is) (prediction.gives_up n m.conflict m.none_lone)
 
 -- the entry of a symbol after which SLL goes on from the set of this row
 abbrev pub next_entry : ℕ → List Config → Looked
 next_entry a row = record { symbol = a; led = led_to row }
 
 -- and where it goes on from there
-pub sll_goes_on : (net : ParserNetwork) (C D : Config → Type 0) (a : ℕ) (w : List ℕ) (k : ℕ) (v : Verdict) (looked : List Looked) (row : List Config) → AreSame D (Next net C a) → IsRow row D → GoesOn D → SllFrom net D w (suc k) v looked → SllFrom net C (a ∷ w) k v (next_entry a row ∷ looked)
+pub sll_goes_on : (net : ParserNetwork) (C D : Config → Type 0) (a : ℕ) (w : List ℕ) (k : ℕ) (v : Verdict) (looked : List Looked)
+    (row : List Config) → AreSame D (Next net C a) → IsRow row D → GoesOn D → SllFrom net D w (suc k) v looked
+    → SllFrom net C (a ∷ w) k v (next_entry a row ∷ looked)
 sll_goes_on net C D a w k v looked row has is g h =
     let to : Within D (Next net C a) = λ d. (has d).0 in
     let from : Within (Next net C a) D = λ d. (has d).1 in
     prediction.goes_on v looked row
     (λ e. g.some (empty_same (Next net C a) D from to e))
     (λ i x. g.several i (only_same (Next net C a) D from to i x))
-    (λ c x. g.clear (record { conflict = conflict_same (Next net C a) D from to c; none_lone = λ y. x (lone_same D (Next net C a) to from y) }))
+    (λ c x. g.clear (record {
+      conflict = conflict_same (Next net C a) D from to c;
+      none_lone = λ y. x (lone_same D (Next net C a) to from y);
+    }))
     (row_of_set row D (Next net C a) has is)
     (sll_same net D (Next net C a) to from w (suc k) v looked h)
 
@@ -57,13 +65,16 @@ several_matter net D H k several m =
     )
 
 -- what is seen, where SLL ends
-pub seen_ended : (net : ParserNetwork) (D : Config → Type 0) (k : ℕ) (seen : Seen) (v : said.Verdict) → seen ≡ Ended v → IsSeen net D k seen → EndsWith D k v
+pub seen_ended : (net : ParserNetwork) (D : Config → Type 0) (k : ℕ) (seen : Seen) (v : said.Verdict) → seen ≡ Ended v
+    → IsSeen net D k seen → EndsWith D k v
 seen_ended net D k seen v is h = let e : IsSeen net D k (Ended v) = subst (IsSeen net D k) is h in e
 
 -- and where it goes on
-pub seen_onward : (net : ParserNetwork) (D : Config → Type 0) (k : ℕ) (seen : Seen) (set : View) → seen ≡ Onward set → IsSeen net D k seen → IsOnward net D (Holds set)
+pub seen_onward : (net : ParserNetwork) (D : Config → Type 0) (k : ℕ) (seen : Seen) (set : View) → seen ≡ Onward set
+    → IsSeen net D k seen → IsOnward net D (Holds set)
 seen_onward net D k seen set is h = let e : IsSeen net D k (Onward set) = subst (IsSeen net D k) is h in e
 
 -- what is left, where it is several alternatives
-pub left_several : (net : ParserNetwork) (D : Config → Type 0) (left : Left) (set : View) → left ≡ Several set → IsLeft net D left → AreSeveral net D (Holds set)
+pub left_several : (net : ParserNetwork) (D : Config → Type 0) (left : Left) (set : View) → left ≡ Several set → IsLeft net D left
+    → AreSeveral net D (Holds set)
 left_several net D left set is h = let e : IsLeft net D (Several set) = subst (IsLeft net D) is h in e

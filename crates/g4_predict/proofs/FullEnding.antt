@@ -12,7 +12,8 @@ use Rattle.g4_predict.specs.declared.full.Settled.TheVariants.{Chosen, NoViable}
 use Rattle.g4_predict.specs.FullVerdicts.{choice_of, SettlesWith}
 
 -- full stacks from a set, where they settle at the next set
-pub full_settles : (net : ParserNetwork) (C D : Config → Type 0) (a : ℕ) (w : List ℕ) (k : ℕ) (s : Settled) → AreSame D (Next net C a) → SettlesWith D k s → FullFrom net C (a ∷ w) k (choice_of s)
+pub full_settles : (net : ParserNetwork) (C D : Config → Type 0) (a : ℕ) (w : List ℕ) (k : ℕ) (s : Settled) → AreSame D (Next net C a)
+    → SettlesWith D k s → FullFrom net C (a ∷ w) k (choice_of s)
 full_settles net C D a w k (Chosen i) has (inl h) = prediction.one_left i (only_same D (Next net C a) (λ d. (has d).0) (λ d. (has d).1) i h)
 full_settles net C D a w k (Chosen i) has (inr (h, l)) =
     let to : Within D (Next net C a) = λ d. (has d).0 in
@@ -23,7 +24,8 @@ full_settles net C D a w k (NoViable j) has (is, e) =
     (prediction.none_left (empty_same D (Next net C a) (λ d. (has d).0) (λ d. (has d).1) e))
 
 -- and where they go on from there
-pub full_goes_on : (net : ParserNetwork) (C D : Config → Type 0) (a : ℕ) (w : List ℕ) (k : ℕ) (c : Choice) → AreSame D (Next net C a) → GoesOnFull D → FullFrom net D w (suc k) c → FullFrom net C (a ∷ w) k c
+pub full_goes_on : (net : ParserNetwork) (C D : Config → Type 0) (a : ℕ) (w : List ℕ) (k : ℕ) (c : Choice) → AreSame D (Next net C a)
+    → GoesOnFull D → FullFrom net D w (suc k) c → FullFrom net C (a ∷ w) k c
 full_goes_on net C D a w k c has g h =
     let to : Within D (Next net C a) = λ d. (has d).0 in
     let from : Within (Next net C a) D = λ d. (has d).1 in

@@ -15,7 +15,11 @@ pub some_append : (g : List Content) (xs ys : List Group) (c : Config) → InSom
 some_append g [] ys c = ((λ h. inr h), (λ h. elim h [ inl k ↦ absurd k | inr k ↦ k ]))
 some_append g (x ∷ xs) ys c = (
   (λ h. elim h [ inl i ↦ inl (inl i) | inr i ↦ elim ((some_append g xs ys c).0 i) [ inl k ↦ inl (inr k) | inr k ↦ inr k ] ]),
-  (λ h. elim h [ inl i ↦ elim i [ inl k ↦ inl k | inr k ↦ inr ((some_append g xs ys c).1 (inl k)) ] | inr k ↦ inr ((some_append g xs ys c).1 (inr k)) ]),
+  (λ h. elim h [
+    | inl i ↦ elim i [ inl k ↦ inl k | inr k ↦ inr ((some_append g xs ys c).1 (inl k)) ]
+    | inr k ↦ inr
+        ((some_append g xs ys c).1 (inr k))
+  ]),
 )
 
 -- in a list with one group more is what was in it, or is in that group
@@ -47,7 +51,8 @@ known_at g (x ∷ xs) zero d known lt = known.0
 known_at g (x ∷ xs) (suc k) d known lt = known_at g xs k d known.1 (omega (arith, lt))
 
 -- what is in a group of the list is in the list
-pub some_at : (g : List Content) (xs : List Group) (k : ℕ) (d : Group) (c : Config) → k < length xs → InGroup g (get_or xs k d) c → InSome g xs c
+pub some_at : (g : List Content) (xs : List Group) (k : ℕ) (d : Group) (c : Config) → k < length xs → InGroup g (get_or xs k d) c
+    → InSome g xs c
 some_at g [] k d c less i = absurd (omega (arith, less))
 some_at g (x ∷ xs) zero d c less i = inl i
 some_at g (x ∷ xs) (suc k) d c less i = inr (some_at g xs k d c (omega (arith, less)) i)
@@ -91,7 +96,8 @@ pub some_filter : (g : List Content) (test : Group → Bool) (xs : List Group) (
 some_filter g test [] c i = i
 some_filter g test (x ∷ xs) c i = by (some_filter g test xs c) (test x) i
   where
-    by : (InSome g (filter test xs) c → InSome g xs c) → (b : Bool) → InSome g (cond b (x ∷ filter test xs) (filter test xs)) c → InSome g (x ∷ xs) c
+    by : (InSome g (filter test xs) c → InSome g xs c) → (b : Bool) → InSome g (cond b (x ∷ filter test xs) (filter test xs)) c
+        → InSome g (x ∷ xs) c
     by more true (inl k) = inl k
     by more true (inr k) = inr (more k)
     by more false k = inr (more k)

@@ -22,7 +22,8 @@ use Rattle.g4_predict.specs.Frames.{IsLoweredTo, IsPlace, IsTakenDown, ends_by}
 use Rattle.g4_predict.specs.FullVerdicts.{SettlesWith}
 
 -- with nothing at the hole a set is taken down
-pub clear_down : (net : ParserNetwork) (F : Config → Type 0) (below : List ℕ) → ((c : Config) → F c → IsAtHole net c → ⊥) → IsDown net F below
+pub clear_down : (net : ParserNetwork) (F : Config → Type 0) (below : List ℕ) → ((c : Config) → F c → IsAtHole net c → ⊥)
+    → IsDown net F below
 clear_down net F [] clear = tt
 clear_down net F (t ∷ more) clear = clear
 
@@ -45,12 +46,17 @@ framed_same net F G h g = record {
 
 module _ (net : ParserNetwork) where
   -- a lowering by the newest of the return states
-  pub lowers_to : (F H : Config → Type 0) (returns older newest : List ℕ) (left : ℕ) → older ≡ take left returns → newest ≡ drop left returns → IsFramed net F → AreSame H (Lowered net F (reverse newest)) → AreSame (Meant net F (reverse returns)) (Meant net H (reverse older))
+  pub lowers_to : (F H : Config → Type 0) (returns older newest : List ℕ) (left : ℕ) → older ≡ take left returns
+      → newest ≡ drop left returns → IsFramed net F → AreSame H (Lowered net F (reverse newest))
+      → AreSame (Meant net F (reverse returns)) (Meant net H (reverse older))
   lowers_to F H returns older newest left front back f same =
-      let both : older ++ newest ≡ returns = ap (λ (rs : List ℕ). rs ++ newest) front ∙ (ap (λ (rs : List ℕ). take left returns ++ rs) back ∙ take-append-drop left returns) in
-      let turned : reverse returns ≡ reverse newest ++ reverse older = ap (λ (rs : List ℕ). reverse rs) (sym both) ∙ reverse-append older newest in
+      let both : older ++ newest ≡ returns = ap (λ (rs : List ℕ). rs ++ newest) front
+      ∙ (ap (λ (rs : List ℕ). take left returns ++ rs) back ∙ take-append-drop left returns) in
+      let turned : reverse returns ≡ reverse newest ++ reverse older =
+      ap (λ (rs : List ℕ). reverse rs) (sym both) ∙ reverse-append older newest in
       subst (λ (rs : List ℕ). AreSame (Meant net F rs) (Meant net H (reverse older))) (sym turned)
-      (same_then (Meant net F (reverse newest ++ reverse older)) (Meant net (Lowered net F (reverse newest)) (reverse older)) (Meant net H (reverse older))
+      (same_then (Meant net F (reverse newest ++ reverse older)) (Meant net (Lowered net F (reverse newest)) (reverse older))
+      (Meant net H (reverse older))
       (lowered_means net F (reverse newest) (reverse older) f.bottomed)
       (meant_same net (Lowered net F (reverse newest)) H (reverse older) (same_back H (Lowered net F (reverse newest)) same)))
 
@@ -58,10 +64,12 @@ module _ (net : ParserNetwork) where
   lowers_framed G H above g same = framed_same net H (Lowered net G above) same (lowered_framed net G above g.bottomed)
 
   pub advances_framed : (G H : Config → Type 0) (a : ℕ) → AreBottomed G → AreSame H (FramedNext net G a) → IsFramed net H
-  advances_framed G H a bottomed same = framed_same net H (FramedNext net G a) same (framed net (Targets net G a) (targets_bottomed net G a bottomed))
+  advances_framed G H a bottomed same = framed_same net H (FramedNext net G a) same
+      (framed net (Targets net G a) (targets_bottomed net G a bottomed))
 
   -- a set that is taken down means what is kept of it
-  pub taken_down : (F G : Config → Type 0) (v : View) (returns below : List ℕ) → IsLoweredTo net F returns G below → ((c : Config) → Holds v c ↔ (G c × IsKept net c)) → IsTakenDown net F returns (Holds v) below
+  pub taken_down : (F G : Config → Type 0) (v : View) (returns below : List ℕ) → IsLoweredTo net F returns G below
+      → ((c : Config) → Holds v c ↔ (G c × IsKept net c)) → IsTakenDown net F returns (Holds v) below
   taken_down F G v returns below low keep = record {
     place = record {
       bottomed = λ c i. low.framed.bottomed c ((keep c).0 i).0;
@@ -72,20 +80,25 @@ module _ (net : ParserNetwork) where
     };
     same =
         same_then (Meant net F returns) (Meant net G (reverse below)) (Over (reverse below) (Holds v)) low.same
-        (same_then (Meant net G (reverse below)) (Over (reverse below) (Kept net G)) (Over (reverse below) (Holds v)) (down_means net G (reverse below) low.framed low.down)
+        (same_then (Meant net G (reverse below)) (Over (reverse below) (Kept net G)) (Over (reverse below) (Holds v))
+        (down_means net G (reverse below) low.framed low.down)
         (λ d. ((λ (c, i, is). (c, (keep c).1 i, is)), (λ (c, i, is). (c, (keep c).0 i, is)))));
   }
 
   -- so the start set, taken down, is the start set over the return states
-  pub start_taken : (d : ℕ) (A : ℕ → Type 0) (F H : Config → Type 0) (returns below : List ℕ) → AreSame F (FramedStart net d A) → IsTakenDown net F returns H below → AreSame (Over (reverse below) H) (Start net d A (above_bottom returns))
+  pub start_taken : (d : ℕ) (A : ℕ → Type 0) (F H : Config → Type 0) (returns below : List ℕ) → AreSame F (FramedStart net d A)
+      → IsTakenDown net F returns H below → AreSame (Over (reverse below) H) (Start net d A (above_bottom returns))
   start_taken d A F H returns below starts taken =
       same_back (Start net d A (above_bottom returns)) (Over (reverse below) H)
-      (same_then (Start net d A (above_bottom returns)) (Meant net (FramedStart net d A) returns) (Over (reverse below) H) (start_means net d A returns)
+      (same_then (Start net d A (above_bottom returns)) (Meant net (FramedStart net d A) returns) (Over (reverse below) H)
+      (start_means net d A returns)
       (same_then (Meant net (FramedStart net d A) returns) (Meant net F returns) (Over (reverse below) H)
       (meant_same net (FramedStart net d A) F returns (same_back F (FramedStart net d A) starts)) taken.same))
 
   -- and the next set, taken down, is the next set
-  pub next_taken : (T F H : Config → Type 0) (a : ℕ) (below rest : List ℕ) → AreBottomed T → ((c : Config) → T c → IsKept net c) → AreSame F (FramedNext net T a) → IsTakenDown net F (reverse below) H rest → AreSame (Over (reverse rest) H) (Next net (Over (reverse below) T) a)
+  pub next_taken : (T F H : Config → Type 0) (a : ℕ) (below rest : List ℕ) → AreBottomed T → ((c : Config) → T c → IsKept net c)
+      → AreSame F (FramedNext net T a) → IsTakenDown net F (reverse below) H rest
+      → AreSame (Over (reverse rest) H) (Next net (Over (reverse below) T) a)
   next_taken T F H a below rest bottomed kept next taken =
       let C : Config → Type 0 = Over (reverse below) T in
       same_back (Next net C a) (Over (reverse rest) H)
@@ -98,7 +111,11 @@ module _ (net : ParserNetwork) where
   pub over_within : (H : Config → Type 0) (below : List ℕ) → IsPlace net H below → (d : Config) → Over (reverse below) H d → IsWithin net d
   over_within H below place d (c, i, is) =
       let w = place.within c i in
-      subst (IsWithin net) (sym is) (w.0, All-append (λ t. t < length net.states) c.stack.returns (reverse below) w.1 (all_reversed (λ t. t < length net.states) below place.states))
+      subst (IsWithin net) (sym is) (
+        w.0,
+        All-append (λ t. t < length net.states) c.stack.returns (reverse below) w.1
+            (all_reversed (λ t. t < length net.states) below place.states),
+      )
 
 -- the members of a list over return states
 in_over : (below : List ℕ) (cs : List Config) (d : Config) → In d (map (over below) cs) ↔ ((c : Config) × In c cs × (d ≡ over below c))
@@ -116,8 +133,10 @@ over_row below H (row, is_row) = (
   record {
     rising = own.rising;
     exactly = λ d. (
-      (λ x. let k = (own.exactly d).0 x in let (c, i, is) = (in_over below row d).0 (In-from cs d k.0 k.1 k.2) in (c, (is_row.exactly c).0 (In-to row c i), is)),
-      (λ (c, h, is). (own.exactly d).1 (In-to cs d ((in_over below row d).1 (c, (let k = (is_row.exactly c).1 h in In-from row c k.0 k.1 k.2), is)))),
+      (λ x. let k = (own.exactly d).0 x in let (c, i, is) = (in_over below row d).0 (In-from cs d k.0 k.1 k.2) in
+          (c, (is_row.exactly c).0 (In-to row c i), is)),
+      (λ (c, h, is). (own.exactly d).1 (In-to cs d
+          ((in_over below row d).1 (c, (let k = (is_row.exactly c).1 h in In-from row c k.0 k.1 k.2), is)))),
     );
   },
 )
@@ -177,5 +196,6 @@ module _ (net : ParserNetwork) (below : List ℕ) (H : Config → Type 0) (a : �
       let (c, taker, is) = (takers_over d).0 taken in
       let (longer, has, extends) = covers c taker in
       let other : Config = config c.state i (record { returns = longer; wild = c.stack.wild }) in
-      let there : HasExtended net (Takers net (Over below H) a) i (over below c) = (longer ++ below, (takers_over (over below other)).1 (other, has, refl), extends_over longer c.stack.returns extends) in
+      let there : HasExtended net (Takers net (Over below H) a) i (over below c) =
+      (longer ++ below, (takers_over (over below other)).1 (other, has, refl), extends_over longer c.stack.returns extends) in
       subst (HasExtended net (Takers net (Over below H) a) i) (sym is) there

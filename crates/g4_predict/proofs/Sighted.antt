@@ -47,22 +47,26 @@ module _ (g : List Content) where
   in_some x (y ∷ ys) c (inr at) i = inr (in_some x ys c at i)
 
   -- what is in a group of the list, which passes the test, is in those that do
-  in_filter : (test : Group → Bool) (xs : List Group) (c : Config) → ((x : Group) → InGroup g x c → test x ≡ true) → InSome g xs c → InSome g (filter test xs) c
+  in_filter : (test : Group → Bool) (xs : List Group) (c : Config) → ((x : Group) → InGroup g x c → test x ≡ true) → InSome g xs c
+      → InSome g (filter test xs) c
   in_filter test [] c passes i = absurd i
   in_filter test (x ∷ xs) c passes i = by (in_filter test xs c passes) (test x) refl i
     where
-      by : (InSome g xs c → InSome g (filter test xs) c) → (b : Bool) → test x ≡ b → InSome g (x ∷ xs) c → InSome g (cond b (x ∷ filter test xs) (filter test xs)) c
+      by : (InSome g xs c → InSome g (filter test xs) c) → (b : Bool) → test x ≡ b → InSome g (x ∷ xs) c
+          → InSome g (cond b (x ∷ filter test xs) (filter test xs)) c
       by more true is (inl k) = inl k
       by more true is (inr k) = inr (more k)
       by more false is (inl k) = absurd (true≢false (sym (passes x k) ∙ is))
       by more false is (inr k) = more k
 
   -- and each of those that do passes it
-  filter_in : (test : Group → Bool) (xs : List Group) (c : Config) → InSome g (filter test xs) c → (x : Group) × InGroup g x c × (test x ≡ true)
+  filter_in : (test : Group → Bool) (xs : List Group) (c : Config) → InSome g (filter test xs) c
+      → (x : Group) × InGroup g x c × (test x ≡ true)
   filter_in test [] c i = absurd i
   filter_in test (x ∷ xs) c i = by (filter_in test xs c) (test x) refl i
     where
-      by : (InSome g (filter test xs) c → (y : Group) × InGroup g y c × (test y ≡ true)) → (b : Bool) → test x ≡ b → InSome g (cond b (x ∷ filter test xs) (filter test xs)) c → (y : Group) × InGroup g y c × (test y ≡ true)
+      by : (InSome g (filter test xs) c → (y : Group) × InGroup g y c × (test y ≡ true)) → (b : Bool) → test x ≡ b
+          → InSome g (cond b (x ∷ filter test xs) (filter test xs)) c → (y : Group) × InGroup g y c × (test y ≡ true)
       by more true is (inl k) = (x, k, is)
       by more true is (inr k) = more k
       by more false is k = more k
@@ -99,14 +103,17 @@ module _ (g : List Content) where
             some_filter g (λ (x : Group). (x.state == end_of 0) || takes_by a (state_at net x.state)) xs c i,
             elim (either (x.state == end_of 0) (takes_by a (state_at net x.state)) is) [
               | inl at ↦ inr (k.state ∙ passes_same x.state (end_of 0) at)
-              | inr takes ↦ inl (let r = takes_true a (state_at net x.state) takes in (r.0, subst (λ (p : ℕ). TakesBy (state_at net p) a r.0) (sym k.state) r.1))
+              | inr takes ↦ inl (let r = takes_true a (state_at net x.state) takes in
+                  (r.0, subst (λ (p : ℕ). TakesBy (state_at net p) a r.0) (sym k.state) r.1))
             ],
           )
 
       from : Shown net (InSome g xs) a c → InSome g (shown_of net a xs) c
       from (i, shows) = in_filter g (λ (x : Group). (x.state == end_of 0) || takes_by a (state_at net x.state)) xs c (λ x k. elim shows [
-        | inl r ↦ second_of_two (x.state == end_of 0) (takes_by a (state_at net x.state)) (true_takes a r.0 (state_at net x.state) (subst (λ (p : ℕ). TakesBy (state_at net p) a r.0) k.state r.1))
-        | inr at ↦ first_of_two (x.state == end_of 0) (takes_by a (state_at net x.state)) (same_passes x.state (end_of 0) (sym k.state ∙ at))
+        | inl r ↦ second_of_two (x.state == end_of 0) (takes_by a (state_at net x.state))
+            (true_takes a r.0 (state_at net x.state) (subst (λ (p : ℕ). TakesBy (state_at net p) a r.0) k.state r.1))
+        | inr at ↦ first_of_two (x.state == end_of 0) (takes_by a (state_at net x.state))
+            (same_passes x.state (end_of 0) (sym k.state ∙ at))
       ]) i
 
   -- what is in the groups is of the alternative, or in those of others
@@ -115,20 +122,24 @@ module _ (g : List Content) where
     where
       by : Dec (c.alt ≡ i) → (c.alt ≡ i) ⊎ InSome g (others_of i xs) c
       by (yes is) = inl is
-      by (no other) = inr (in_filter g (λ (x : Group). not (x.alternative == i)) xs c (λ x h. elim (let b : ((x.alternative == i) ≡ true) ⊎ ((x.alternative == i) ≡ false) = cases_Bool (x.alternative == i) in b) [
-        | inl same ↦ absurd (other (h.alt ∙ passes_same x.alternative i same))
-        | inr no' ↦ rw no' refl
-      ]) k)
+      by (no other) = inr (in_filter g (λ (x : Group). not (x.alternative == i)) xs c
+          (λ x h. elim (let b : ((x.alternative == i) ≡ true) ⊎ ((x.alternative == i) ≡ false) = cases_Bool (x.alternative == i) in b) [
+            | inl same ↦ absurd (other (h.alt ∙ passes_same x.alternative i same))
+            | inr no' ↦ rw no' refl
+          ]) k)
 
   -- and at the end of the added rule it is in those that left the return states
   of_left : (xs : List Group) (c : Config) → c.state ≡ end_of 0 → InSome g xs c → InSome g (left_of xs) c
   of_left xs c at k = in_filter g (λ (x : Group). x.state == end_of 0) xs c (λ x h. same_passes x.state (end_of 0) (sym h.state ∙ at)) k
 
 -- The groups that show before a symbol, of those of a set, with a set of stacks that is the end of the added rule alone.
-module _ (net : ParserNetwork) (v : View) (a bare : ℕ) (groups shown : List Group) (of : AreGroups v groups) (is : shown ≡ shown_of net a groups) (means : (s : Stack) → HasStack v bare s ↔ (s ≡ above_bottom (end_of 0 ∷ []))) where
+module _ (net : ParserNetwork) (v : View) (a bare : ℕ) (groups shown : List Group) (of : AreGroups v groups)
+    (is : shown ≡ shown_of net a groups) (means : (s : Stack) → HasStack v bare s ↔ (s ≡ above_bottom (end_of 0 ∷ []))) where
   -- they are known in a graph that keeps the set's
   pub shown_known : (h : List Content) → Keeps v.graph h → AreKnown h shown
-  shown_known h kept = known_kept v.graph h shown kept (subst (AreKnown v.graph) (sym is) (known_filter v.graph (λ (x : Group). (x.state == end_of 0) || takes_by a (state_at net x.state)) groups (groups_known v groups of)))
+  shown_known h kept = known_kept v.graph h shown kept
+      (subst (AreKnown v.graph) (sym is) (known_filter v.graph
+      (λ (x : Group). (x.state == end_of 0) || takes_by a (state_at net x.state)) groups (groups_known v groups of)))
 
   -- and have there what shows
   pub shown_in : (h : List Content) → Keeps v.graph h → Same (InSome h shown) (Shown net (Holds v) a)
@@ -148,22 +159,30 @@ module _ (net : ParserNetwork) (v : View) (a bare : ℕ) (groups shown : List Gr
   nothing_shown t states none c s = subst (λ (xs : List Group). InSome v.graph xs c) none (in_shown c s)
 
   -- what is in groups that left the return states or are at one of the states with this set of stacks
-  among : (states : List ℕ) (xs : List Group) → All (IsAmong bare states) xs → (c : Config) → InSome v.graph xs c → (c.state ≡ end_of 0) ⊎ ((c.stack ≡ above_bottom (end_of 0 ∷ [])) × Contains states c.state)
+  among : (states : List ℕ) (xs : List Group) → All (IsAmong bare states) xs → (c : Config) → InSome v.graph xs c
+      → (c.state ≡ end_of 0) ⊎ ((c.stack ≡ above_bottom (end_of 0 ∷ [])) × Contains states c.state)
   among states xs all c i =
       let (x, one, k) = some_all v.graph (IsAmong bare states) xs c all i in
       elim one [
         | inl at ↦ inl (k.state ∙ at)
-        | inr (stacks, has) ↦ inr ((means c.stack).0 (subst (λ (n : ℕ). HasOf v.graph n c.stack.returns c.stack.wild) stacks k.stack), subst (Contains states) (sym k.state) has)
+        | inr (stacks, has) ↦ inr (
+          (means c.stack).0 (subst (λ (n : ℕ). HasOf v.graph n c.stack.returns c.stack.wild) stacks k.stack),
+          subst (Contains states) (sym k.state) has,
+        )
       ]
 
   -- where all are of that kind, the return state is passed if the rule can end at once there
   pub all_passed : (t : ℕ) (states : List ℕ) → EndsAtOnce net t → All (IsAmong bare states) shown → IsAfter net (Holds v) a states t Passed
   all_passed t states ends all = (ends, λ c s. among states shown all c (in_shown c s))
 
-  module _ (d i : ℕ) (returns states : List ℕ) (h : List Content) (only : View) (kept : Keeps v.graph h) (same : Same (Holds only) (InSome h shown)) (least : IsLeast (Holds only) i) (at : AreStatesOf shown i bare states) (others left : List Group) (others_is : others ≡ others_of i shown) (all : All (IsAmong bare states) others) (left_is : left ≡ left_of others) where
+  module _ (d i : ℕ) (returns states : List ℕ) (h : List Content) (only : View) (kept : Keeps v.graph h)
+      (same : Same (Holds only) (InSome h shown)) (least : IsLeast (Holds only) i) (at : AreStatesOf shown i bare states)
+      (others left : List Group) (others_is : others ≡ others_of i shown) (all : All (IsAmong bare states) others)
+      (left_is : left ≡ left_of others) where
     -- a configuration that shows is of the alternative or in a group of another
     in_others : (c : Config) → Shown net (Holds v) a c → (c.alt ≡ i) ⊎ InSome v.graph others c
-    in_others c s = subst (λ (xs : List Group). (c.alt ≡ i) ⊎ InSome v.graph xs c) (sym others_is) (of_others v.graph i shown c (in_shown c s))
+    in_others c s = subst (λ (xs : List Group). (c.alt ≡ i) ⊎ InSome v.graph xs c) (sym others_is)
+        (of_others v.graph i shown c (in_shown c s))
 
     -- The least alternative that shows, with the states at which it is bare, is a sight.
     pub sighted : ((c : Config) → InSome v.graph left c → AreTold net d a states c.alt returns) → IsSight net d returns a i states (Holds v)
@@ -174,17 +193,25 @@ module _ (net : ParserNetwork) (v : View) (a bare : ℕ) (groups shown : List Gr
           let (k, less, e) = at p has in
           let group : Group = record { state = p; alternative = i; stacks = bare } in
           let c : Config = config p i (above_bottom (end_of 0 ∷ [])) in
-          ((shown_in v.graph (keeps_itself v.graph) c).0 (in_some v.graph group shown c (In-from shown group k less e) (record { state = refl; alt = refl; stack = (means c.stack).1 refl }))).0;
+          ((shown_in v.graph (keeps_itself v.graph) c).0
+          (in_some v.graph group shown c (In-from shown group k less e)
+          (record { state = refl; alt = refl; stack = (means c.stack).1 refl }))).0;
       others = λ c s. elim (in_others c s) [ inl own ↦ inl own | inr k ↦ inr (among states others all c k) ];
-      leaving = λ c s at_end. elim (in_others c s) [ inl own ↦ inl own | inr k ↦ inr (told c (subst (λ (xs : List Group). InSome v.graph xs c) (sym left_is) (of_left v.graph others c at_end k))) ];
+      leaving = λ c s at_end. elim (in_others c s) [
+        | inl own ↦ inl own
+        | inr k ↦ inr (told c
+            (subst (λ (xs : List Group). InSome v.graph xs c) (sym left_is) (of_left v.graph others c at_end k)))
+      ];
     }
 
 -- no groups that left: there is nothing to show
-pub none_left : (net : ParserNetwork) (d a : ℕ) (states returns : List ℕ) (g : List Content) (left : List Group) → left ≡ [] → (c : Config) → InSome g left c → AreTold net d a states c.alt returns
+pub none_left : (net : ParserNetwork) (d a : ℕ) (states returns : List ℕ) (g : List Content) (left : List Group) → left ≡ []
+    → (c : Config) → InSome g left c → AreTold net d a states c.alt returns
 none_left net d a states returns g left none c i = absurd (subst (λ (xs : List Group). InSome g xs c) none i)
 
 -- one group that left, for whose alternative the return states are near
-pub one_left : (net : ParserNetwork) (d a : ℕ) (states returns : List ℕ) (g : List Content) (left : List Group) (x : Group) → left ≡ x ∷ [] → AreTold net d a states x.alternative returns → (c : Config) → InSome g left c → AreTold net d a states c.alt returns
+pub one_left : (net : ParserNetwork) (d a : ℕ) (states returns : List ℕ) (g : List Content) (left : List Group) (x : Group)
+    → left ≡ x ∷ [] → AreTold net d a states x.alternative returns → (c : Config) → InSome g left c → AreTold net d a states c.alt returns
 one_left net d a states returns g left x one told c i = elim (subst (λ (xs : List Group). InSome g xs c) one i) [
   | inl k ↦ subst (λ (j : ℕ). AreTold net d a states j returns) (sym k.alt) told
   | inr k ↦ absurd k

@@ -40,7 +40,8 @@ same_test false false to from = refl
 
 -- what a test of the members answers
 pub contains_says : (b : Bool) (set : List ℕ) (a : ℕ) → IsTrue b ↔ Contains set a → b ≡ has_symbol set a
-contains_says b set a h = same_test b (has_symbol set a) (λ t. let r = h.0 t in in_has set a (In-from set a r.0 r.1 r.2)) (λ t. h.1 (In-to set a (has_in set a t)))
+contains_says b set a h = same_test b (has_symbol set a) (λ t. let r = h.0 t in in_has set a (In-from set a r.0 r.1 r.2))
+    (λ t. h.1 (In-to set a (has_in set a t)))
 
 -- where the test holds an edge takes the symbol
 pub takes_true : (a : ℕ) (o : Option (State (List ℕ))) → takes_by a o ≡ true → (t : ℕ) × TakesBy o a t
@@ -67,14 +68,20 @@ true_takes a u (Some (Empty t)) h = absurd h
 true_takes a u None h = absurd h
 
 -- what is in the groups that take the symbol takes it
-pub takers_exact : (net : ParserNetwork) (g : List Content) (a : ℕ) (xs : List Group) → Same (InSome g (takers_of net a xs)) (Takers net (InSome g xs) a)
+pub takers_exact : (net : ParserNetwork) (g : List Content) (a : ℕ) (xs : List Group)
+    → Same (InSome g (takers_of net a xs)) (Takers net (InSome g xs) a)
 takers_exact net g a [] c = ((λ i. absurd i), (λ r. absurd r.0))
 takers_exact net g a (x ∷ xs) c = by (takers_exact net g a xs c) (takes_by a (state_at net x.state)) refl
   where
-    by : InSome g (takers_of net a xs) c ↔ Takers net (InSome g xs) a c → (b : Bool) → takes_by a (state_at net x.state) ≡ b → InSome g (cond b (x ∷ takers_of net a xs) (takers_of net a xs)) c ↔ Takers net (InSome g (x ∷ xs)) a c
+    by : InSome g (takers_of net a xs) c ↔ Takers net (InSome g xs) a c → (b : Bool) → takes_by a (state_at net x.state) ≡ b
+        → InSome g (cond b (x ∷ takers_of net a xs) (takers_of net a xs)) c ↔ Takers net (InSome g (x ∷ xs)) a c
     by rest true is = (
       (λ h. elim h [
-        | inl k ↦ (inl k, let r = takes_true a (state_at net x.state) is in (r.0, subst (λ (p : ℕ). TakesBy (state_at net p) a r.0) (sym k.state) r.1))
+        | inl k ↦ (
+          inl k,
+          let r = takes_true a (state_at net x.state) is in
+              (r.0, subst (λ (p : ℕ). TakesBy (state_at net p) a r.0) (sym k.state) r.1),
+        )
         | inr k ↦ (let r = rest.0 k in (inr r.0, r.1))
       ]),
       (λ r. elim r.0 [ inl k ↦ inl k | inr k ↦ inr (rest.1 (k, r.1)) ]),
@@ -82,7 +89,8 @@ takers_exact net g a (x ∷ xs) c = by (takers_exact net g a xs c) (takes_by a (
     by rest false is = (
       (λ k. let r = rest.0 k in (inr r.0, r.1)),
       (λ r. elim r.0 [
-        | inl k ↦ absurd (true≢false (sym (true_takes a r.1.0 (state_at net x.state) (subst (λ (p : ℕ). TakesBy (state_at net p) a r.1.0) k.state r.1.1)) ∙ is))
+        | inl k ↦ absurd (true≢false (sym (true_takes a r.1.0 (state_at net x.state)
+            (subst (λ (p : ℕ). TakesBy (state_at net p) a r.1.0) k.state r.1.1)) ∙ is))
         | inr k ↦ rest.1 (k, r.1)
       ]),
     )

@@ -13,7 +13,9 @@ use Rattle.g4_net.specs.Network.{ParserNetwork, state_at}
 use Rattle.g4_net.specs.Prediction.{HasTests, IsTestBy}
 
 -- what `any` answers of a test of P
-any_answer : (P : ℕ → Type 0) (r : Bool) (xs : List ℕ) → MatchBool r ((k : ℕ) × (k < length xs) × HoldsAt P xs k) (AllWithin (λ (x : ℕ). P x → ⊥) xs 0 (length xs)) → IsTrue r ↔ ((x : ℕ) × Contains xs x × P x)
+any_answer : (P : ℕ → Type 0) (r : Bool) (xs : List ℕ)
+    → MatchBool r ((k : ℕ) × (k < length xs) × HoldsAt P xs k) (AllWithin (λ (x : ℕ). P x → ⊥) xs 0 (length xs))
+    → IsTrue r ↔ ((x : ℕ) × Contains xs x × P x)
 any_answer P r xs cases = (
   λ t. let w = MatchBool-at_true _ _ t cases in (get_or xs w.0 0, Contains-get_or xs w.0 0 w.1, w.2 0),
   λ h. true_from_Any P (λ x. P x → ⊥) r xs (λ x p n. n p) cases h.0 h.1 h.2,
@@ -36,7 +38,8 @@ is_decision (Some (Empty u)) k t is = absurd (none_there k t is)
 is_decision None k t is = absurd (none_there k t is)
 
 -- a decision has tests exactly where one of its first states is one
-tests_by : (net : ParserNetwork) (d : ℕ) → ((t : ℕ) × Contains (alternatives_by (state_at net d)) t × IsTestBy (state_at net t)) ↔ HasTests net d
+tests_by : (net : ParserNetwork) (d : ℕ) → ((t : ℕ) × Contains (alternatives_by (state_at net d)) t × IsTestBy (state_at net t))
+    ↔ HasTests net d
 tests_by net d = (to, from)
   where
     firsts : List ℕ
@@ -53,7 +56,9 @@ tests_by net d = (to, from)
         (t, (k, slice_get_within firsts k t read, get_or_from_slice_get firsts k t t read), test)
 
 -- so what `any` answers of the first states
-pub any_test : (net : ParserNetwork) (d : ℕ) (r : Bool) (firsts : List ℕ) → firsts ≡ alternatives_by (state_at net d) → MatchBool r ((k : ℕ) × (k < length firsts) × HoldsAt (λ (t : ℕ). IsTestBy (state_at net t)) firsts k) (AllWithin (λ (t : ℕ). IsTestBy (state_at net t) → ⊥) firsts 0 (length firsts)) → IsTrue r ↔ HasTests net d
+pub any_test : (net : ParserNetwork) (d : ℕ) (r : Bool) (firsts : List ℕ) → firsts ≡ alternatives_by (state_at net d)
+    → MatchBool r ((k : ℕ) × (k < length firsts) × HoldsAt (λ (t : ℕ). IsTestBy (state_at net t)) firsts k)
+    (AllWithin (λ (t : ℕ). IsTestBy (state_at net t) → ⊥) firsts 0 (length firsts)) → IsTrue r ↔ HasTests net d
 any_test net d r firsts is cases =
     let any = any_answer (λ (t : ℕ). IsTestBy (state_at net t)) r firsts cases in
     let by = subst (λ (xs : List ℕ). ((t : ℕ) × Contains xs t × IsTestBy (state_at net t)) ↔ HasTests net d) (sym is) (tests_by net d) in

@@ -28,7 +28,8 @@ IsForesight net d A returns w from (Err fault) = IsDecideFault net d A returns w
 pub record IsFullyForeseen (net : ParserNetwork) (d : ℕ) (A : ℕ → Type 0) (z : Stack) (w : List ℕ) (f : Foresight) : Type 0 where
   pub first : (t : ℕ) × IsFirst net d f.alternative t
   pub exact : f.presumed ≡ false → Full net d A z w (chosen f.alternative)
-  pub presumed : f.presumed ≡ true → A f.alternative × (((k : ℕ) → Full net d A z w (no_viable k) → ⊥) → Full net d A z w (chosen f.alternative))
+  pub presumed : f.presumed ≡ true → A f.alternative
+      × (((k : ℕ) → Full net d A z w (no_viable k) → ⊥) → Full net d A z w (chosen f.alternative))
 
 -- the call foresees their choice, or answers with their fault, unless memory runs out
 abbrev pub IsFullForesight : ParserNetwork → ℕ → (ℕ → Type 0) → List ℕ → List ℕ → ℕ → Result Foresight DecideFault → Type 0

@@ -1,3 +1,5 @@
+-- Other crates cite Deciding, Foreseeing; only this crate cites Frames, FullForeseeing, FullVerdicts, Looks, Paths, Telling,
+-- Verdicts.
 pub mod Deciding
 pub mod Foreseeing
 pub mod Frames

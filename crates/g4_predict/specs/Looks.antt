@@ -43,7 +43,8 @@ IsBelow net v x c = (t : ℕ) × EndsAtOnce net t × IsOfGroup v x (record c { s
 
 -- the same of one of the set, where any number of them are popped
 abbrev pub IsLeft : ParserNetwork → (Config → Type 0) → Config → Type 0
-IsLeft net C c = (more : List ℕ) × All (EndsAtOnce net) more × C (record c { stack = record { returns = more ++ c.stack.returns; wild = c.stack.wild } })
+IsLeft net C c = (more : List ℕ) × All (EndsAtOnce net) more
+    × C (record c { stack = record { returns = more ++ c.stack.returns; wild = c.stack.wild } })
 
 -- What is popped from a group's stacks was added to the list.
 pub record ArePopped (net : ParserNetwork) (v : View) (x : Group) (found more : List Group) : Type 0 where

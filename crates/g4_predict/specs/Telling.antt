@@ -47,7 +47,8 @@ IsBareAt states c = (c.stack ≡ above_bottom []) × Contains states c.state
 -- What a start set above a return state t says of it: all that shows leaves t or is at one of the states with no return state above
 -- the end, and the rule can end at once at t; or nothing shows.
 abbrev pub IsAfter : ParserNetwork → (Config → Type 0) → ℕ → List ℕ → ℕ → After → Type 0
-IsAfter net C a states t Passed = EndsAtOnce net t × ((c : Config) → Shown net C a c → (c.state ≡ end_of 0) ⊎ ((c.stack ≡ above_bottom (end_of 0 ∷ [])) × Contains states c.state))
+IsAfter net C a states t Passed = EndsAtOnce net t
+    × ((c : Config) → Shown net C a c → (c.state ≡ end_of 0) ⊎ ((c.stack ≡ above_bottom (end_of 0 ∷ [])) × Contains states c.state))
 IsAfter net C a states t Stopped = IsEmpty (Shown net C a)
 IsAfter net C a states t Unclear = Unit {0}
 

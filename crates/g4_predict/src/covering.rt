@@ -8,9 +8,9 @@ ghost use Rattle.g4_net.specs.Network.{state_at};
 ghost use Rattle.g4_predict.specs.Looks.{AreLeft, ArePopped, IsLeft, IsLook, own_of, takers_of, takes_by};
 
 use g4_configs::{Configs, Group};
+use g4_lookahead::ends_at_once;
 use g4_net::{ParserNetwork, State};
 use g4_tokens::Symbols;
-use g4_lookahead::ends_at_once;
 use std::alloc::{AllocError, Global};
 use std::collections::BTreeSet;
 
@@ -158,7 +158,8 @@ fn spread(
 fn has_all(cover: &mut Configs, groups: &[Group], alternative: u32) -> Result<bool, AllocError>
     requires { AreKnown cover.old.graph groups.now }
     ensures keeps { OnOk result (KeepsStacks cover.old cover.new) }
-    ensures means { IfOk result (λ all. IsTrue all → (c : Config) → InSome cover.old.graph groups.now c → Holds cover.old (config c.state alternative c.stack)) }
+    ensures means { IfOk result (λ all. IsTrue all → (c : Config) → InSome cover.old.graph groups.now c
+        → Holds cover.old (config c.state alternative c.stack)) }
 {
     for group in groups {
         let wanted = Group {

@@ -11,9 +11,8 @@ ghost use Rattle.g4_tokens.specs.TokenList.{EndsInEnd, word_of};
 ghost use Rattle.g4_predict.specs.Deciding.{IsDecided, IsFullyDecided, IsLeastChosen};
 
 use crate::first_tests::has_test;
-use crate::{Settled, decide_full};
+use crate::{Settled, Verdict, decide_full, sll_verdict};
 use g4_net::{Allowed, ParserNetwork};
-use crate::{Verdict, sll_verdict};
 use g4_tokens::Token;
 use std::alloc::{AllocError, Global};
 

@@ -43,7 +43,8 @@ pub fn foresee_full(
     requires proper { IsProper net.now decision (reverse returns.now) }
     requires ends { Contains (word_of tokens.now) end_of_list }
     requires few { length tokens.now < 2 ^ 32 }
-    ensures { IfOk result (λ foreseen. IsForeseen net.now decision (Allows allowed.now) (above_bottom (reverse returns.now)) (word_of tokens.now) foreseen) }
+    ensures { IfOk result (λ foreseen. IsForeseen net.now decision (Allows allowed.now) (above_bottom (reverse returns.now))
+        (word_of tokens.now) foreseen) }
 {
     if let Some(token) = tokens.first() {
         if let Some(near) = look_near(alloc, net, decision, allowed, returns, token.symbol)? {

@@ -11,9 +11,8 @@ ghost use Rattle.g4_predict.specs.Foreseeing.{IsForesight, IsFullForesight};
 
 use crate::decision::DecideFault;
 use crate::first_tests::has_test;
-use crate::{Foreseen, Settled, foresee_full};
+use crate::{Foreseen, Settled, Verdict, foresee_full, sll_verdict};
 use g4_net::{Allowed, ParserNetwork};
-use crate::{Verdict, sll_verdict};
 use g4_tokens::Token;
 use std::alloc::Global;
 

@@ -60,7 +60,8 @@ pub fn decide_full(
     requires proper { IsProper net.now decision (reverse returns.now) }
     requires ends { Contains (word_of tokens.now) end_of_list }
     requires few { length tokens.now < 2 ^ 32 }
-    ensures { IfOk result (λ settled. Full net.now decision (Allows allowed.now) (above_bottom (reverse returns.now)) (word_of tokens.now) (choice_of settled)) }
+    ensures { IfOk result (λ settled. Full net.now decision (Allows allowed.now) (above_bottom (reverse returns.now))
+        (word_of tokens.now) (choice_of settled)) }
 {
     let first = framed_start(alloc, net, decision, allowed)?;
     let mut place = take_down(alloc, net, first, returns)?;

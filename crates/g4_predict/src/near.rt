@@ -11,8 +11,8 @@ use crate::covering::{filled, takes_at};
 use g4_base::Sequence;
 use g4_closure::start;
 use g4_configs::{Configs, Group};
-use g4_net::{Allowed, ParserNetwork};
 use g4_lookahead::ends_at_once;
+use g4_net::{Allowed, ParserNetwork};
 use std::alloc::{AllocError, Global};
 
 /// The end of the added rule. As a return state it shows what leaves all that is above it.

@@ -13,11 +13,11 @@ ghost use Rattle.g4_lookahead.specs.EndOfList.{Matters};
 ghost use Rattle.g4_predict.specs.Paths.{path_of, verdict_of};
 ghost use Rattle.g4_predict.specs.Verdicts.{IsSeen, IsStartSet};
 
+use crate::{Led, Looked, Path, Verdict};
 use g4_base::Sequence;
 use g4_closure::{Left, left_after, start};
 use g4_configs::Configs;
 use g4_net::{Allowed, ParserNetwork};
-use crate::{Led, Looked, Path, Verdict};
 use g4_tokens::Token;
 use std::alloc::{AllocError, Global};
 

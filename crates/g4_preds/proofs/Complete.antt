@@ -67,7 +67,8 @@ joined_pending-outer (Disjunction ∷ pending) outer = absurd outer
 joined_pending-outer (Parenthesis ∷ pending) outer = refl
 
 -- a test is read as such
-test_reads : (u : List Token) (t : Test) → IsTest u t → (v : List Token) (nodes : List Node) (pending : List Operator) → nodes_from 0 (want nodes pending) (u ++ v) ≡ nodes_from 0 (completed (nodes ++ Operand t ∷ []) pending) v
+test_reads : (u : List Token) (t : Test) → IsTest u t → (v : List Token) (nodes : List Node) (pending : List Operator)
+    → nodes_from 0 (want nodes pending) (u ++ v) ≡ nodes_from 0 (completed (nodes ++ Operand t ∷ []) pending) v
 test_reads _ _ always v nodes pending = refl
 test_reads _ _ never v nodes pending = refl
 test_reads _ _ (flag name) v nodes pending = refl
@@ -75,15 +76,20 @@ test_reads _ _ (inside rule) v nodes pending = refl
 test_reads _ _ (text_is nth text) v nodes pending = refl
 
 -- a `)` where what waits is joined
-right_reads : (last nodes : List Node) (waits pending : List Operator) (v : List Token) → joined_nodes last waits ≡ nodes → joined_pending waits ≡ Parenthesis ∷ pending → nodes_from 0 (have last waits) (RightParenthesis ∷ v) ≡ nodes_from 0 (completed nodes pending) v
+right_reads : (last nodes : List Node) (waits pending : List Operator) (v : List Token) → joined_nodes last waits ≡ nodes
+    → joined_pending waits ≡ Parenthesis ∷ pending
+    → nodes_from 0 (have last waits) (RightParenthesis ∷ v) ≡ nodes_from 0 (completed nodes pending) v
 right_reads last nodes waits pending v nodes_are pending_are =
-    let step : past_right (have last waits) ≡ Some (completed nodes pending) = ap (λ ns. closed ns (joined_pending waits)) nodes_are ∙ ap (closed nodes) pending_are in
+    let step : past_right (have last waits) ≡ Some (completed nodes pending) =
+    ap (λ ns. closed ns (joined_pending waits)) nodes_are ∙ ap (closed nodes) pending_are in
     rw (step, nodes_from) refl
 
 -- a `||` where what waits is joined
-bar_reads : (last nodes : List Node) (waits pending : List Operator) (v : List Token) → joined_nodes last waits ≡ nodes → joined_pending waits ≡ pending → nodes_from 0 (have last waits) (DoubleBar ∷ v) ≡ nodes_from 0 (want nodes (Disjunction ∷ pending)) v
+bar_reads : (last nodes : List Node) (waits pending : List Operator) (v : List Token) → joined_nodes last waits ≡ nodes
+    → joined_pending waits ≡ pending → nodes_from 0 (have last waits) (DoubleBar ∷ v) ≡ nodes_from 0 (want nodes (Disjunction ∷ pending)) v
 bar_reads last nodes waits pending v nodes_are pending_are =
-    ap (λ ns. nodes_from 0 (want ns (Disjunction ∷ joined_pending waits)) v) nodes_are ∙ ap (λ ps. nodes_from 0 (want nodes (Disjunction ∷ ps)) v) pending_are
+    ap (λ ns. nodes_from 0 (want ns (Disjunction ∷ joined_pending waits)) v) nodes_are
+    ∙ ap (λ ps. nodes_from 0 (want nodes (Disjunction ∷ ps)) v) pending_are
 
 -- the state after a whole predicate: one more operand of `||`, and perhaps the `||` that waits for it
 pub record OrRead (nodes : List Node) (pending : List Operator) (u v : List Token) (a : Tree) : Type 0 where
@@ -94,7 +100,8 @@ pub record OrRead (nodes : List Node) (pending : List Operator) (u v : List Toke
   pub pending_are : joined_pending waits ≡ pending
 
 mutual
-  or_reads : (u : List Token) (a : Tree) → IsOr u a → (v : List Token) (nodes : List Node) (pending : List Operator) → IsOuter pending → OrRead nodes pending u v a
+  or_reads : (u : List Token) (a : Tree) → IsOr u a → (v : List Token) (nodes : List Node) (pending : List Operator) → IsOuter pending
+      → OrRead nodes pending u v a
   or_reads _ _ (one_and u a reads) v nodes pending outer = record {
     last = nodes ++ postfix a;
     waits = pending;
@@ -108,34 +115,47 @@ mutual
       record {
         last = (nodes ++ postfix a) ++ postfix b;
         waits = Disjunction ∷ pending;
-        same = ap (nodes_from 0 (want nodes pending)) (append_assoc u (DoubleBar ∷ w) v) ∙ before.same ∙ bar_reads before.last (nodes ++ postfix a) before.waits pending (w ++ v) before.nodes_are before.pending_are ∙ after;
-        nodes_are = ap (λ ns. ns ++ Or ∷ []) (append_assoc nodes (postfix a) (postfix b)) ∙ append_assoc nodes (postfix a ++ postfix b) (Or ∷ []);
+        same = ap (nodes_from 0 (want nodes pending)) (append_assoc u (DoubleBar ∷ w) v) ∙ before.same
+            ∙ bar_reads before.last (nodes ++ postfix a) before.waits pending (w ++ v) before.nodes_are before.pending_are ∙ after;
+        nodes_are = ap (λ ns. ns ++ Or ∷ []) (append_assoc nodes (postfix a) (postfix b))
+            ∙ append_assoc nodes (postfix a ++ postfix b) (Or ∷ []);
         pending_are = refl;
       }
 
-  and_reads : (u : List Token) (a : Tree) → IsAnd u a → (v : List Token) (nodes : List Node) (pending : List Operator) → IsBase pending → nodes_from 0 (want nodes pending) (u ++ v) ≡ nodes_from 0 (have (nodes ++ postfix a) pending) v
+  and_reads : (u : List Token) (a : Tree) → IsAnd u a → (v : List Token) (nodes : List Node) (pending : List Operator)
+      → IsBase pending → nodes_from 0 (want nodes pending) (u ++ v) ≡ nodes_from 0 (have (nodes ++ postfix a) pending) v
   and_reads _ _ (one_not u a reads) v nodes pending base =
       not_reads u a reads v nodes pending ∙ ap (λ s. nodes_from 0 s v) (completed-base (nodes ++ postfix a) pending base)
   and_reads _ _ (and_more u w a b first second) v nodes pending base =
-      let taken : ((nodes ++ postfix a) ++ postfix b) ++ And ∷ [] ≡ nodes ++ ((postfix a ++ postfix b) ++ And ∷ []) = ap (λ ns. ns ++ And ∷ []) (append_assoc nodes (postfix a) (postfix b)) ∙ append_assoc nodes (postfix a ++ postfix b) (And ∷ []) in
-      ap (nodes_from 0 (want nodes pending)) (append_assoc u (DoubleAmpersand ∷ w) v) ∙ and_reads u a first (DoubleAmpersand ∷ (w ++ v)) nodes pending base ∙ not_reads w b second v (nodes ++ postfix a) (Conjunction ∷ pending) ∙ ap (λ ns. nodes_from 0 (completed ns pending) v) taken ∙ ap (λ s. nodes_from 0 s v) (completed-base (nodes ++ ((postfix a ++ postfix b) ++ And ∷ [])) pending base)
+      let taken : ((nodes ++ postfix a) ++ postfix b) ++ And ∷ [] ≡ nodes ++ ((postfix a ++ postfix b) ++ And ∷ []) =
+      ap (λ ns. ns ++ And ∷ []) (append_assoc nodes (postfix a) (postfix b)) ∙ append_assoc nodes (postfix a ++ postfix b) (And ∷ []) in
+      ap (nodes_from 0 (want nodes pending)) (append_assoc u (DoubleAmpersand ∷ w) v)
+      ∙ and_reads u a first (DoubleAmpersand ∷ (w ++ v)) nodes pending base
+      ∙ not_reads w b second v (nodes ++ postfix a) (Conjunction ∷ pending)
+      ∙ ap (λ ns. nodes_from 0 (completed ns pending) v) taken
+      ∙ ap (λ s. nodes_from 0 s v) (completed-base (nodes ++ ((postfix a ++ postfix b) ++ And ∷ [])) pending base)
 
-  not_reads : (u : List Token) (a : Tree) → IsNot u a → (v : List Token) (nodes : List Node) (pending : List Operator) → nodes_from 0 (want nodes pending) (u ++ v) ≡ nodes_from 0 (completed (nodes ++ postfix a) pending) v
+  not_reads : (u : List Token) (a : Tree) → IsNot u a → (v : List Token) (nodes : List Node) (pending : List Operator)
+      → nodes_from 0 (want nodes pending) (u ++ v) ≡ nodes_from 0 (completed (nodes ++ postfix a) pending) v
   not_reads _ _ (denied u a reads) v nodes pending =
-      not_reads u a reads v nodes (Negation ∷ pending) ∙ ap (λ ns. nodes_from 0 (completed ns pending) v) (append_assoc nodes (postfix a) (Not ∷ []))
+      not_reads u a reads v nodes (Negation ∷ pending)
+      ∙ ap (λ ns. nodes_from 0 (completed ns pending) v) (append_assoc nodes (postfix a) (Not ∷ []))
   not_reads _ _ (as_is u a reads) v nodes pending = primary_reads u a reads v nodes pending
 
-  primary_reads : (u : List Token) (a : Tree) → IsPrimary u a → (v : List Token) (nodes : List Node) (pending : List Operator) → nodes_from 0 (want nodes pending) (u ++ v) ≡ nodes_from 0 (completed (nodes ++ postfix a) pending) v
+  primary_reads : (u : List Token) (a : Tree) → IsPrimary u a → (v : List Token) (nodes : List Node) (pending : List Operator)
+      → nodes_from 0 (want nodes pending) (u ++ v) ≡ nodes_from 0 (completed (nodes ++ postfix a) pending) v
   primary_reads _ _ (one_test u t reads) v nodes pending = test_reads u t reads v nodes pending
   primary_reads _ _ (enclosed u a reads) v nodes pending =
       let inner = or_reads u a reads (RightParenthesis ∷ v) nodes (Parenthesis ∷ pending) tt in
-      ap (nodes_from 0 (want nodes (Parenthesis ∷ pending))) (append_assoc u (RightParenthesis ∷ []) v) ∙ inner.same ∙ right_reads inner.last (nodes ++ postfix a) inner.waits pending v inner.nodes_are inner.pending_are
+      ap (nodes_from 0 (want nodes (Parenthesis ∷ pending))) (append_assoc u (RightParenthesis ∷ []) v) ∙ inner.same
+      ∙ right_reads inner.last (nodes ++ postfix a) inner.waits pending v inner.nodes_are inner.pending_are
 
 -- what the grammar gives is read, with its postfix form
 pub complete : (tokens : List Token) (a : Tree) → IsOr tokens a → nodes_from 0 start tokens ≡ Some (postfix a)
 complete tokens a reads =
     let whole = or_reads tokens a reads [] [] [] tt in
-    ap (nodes_from 0 start) (sym (append-nil tokens)) ∙ whole.same ∙ ap (λ ns. nodes_if_none ns (joined_pending whole.waits)) whole.nodes_are ∙ ap (nodes_if_none (postfix a)) whole.pending_are
+    ap (nodes_from 0 start) (sym (append-nil tokens)) ∙ whole.same
+    ∙ ap (λ ns. nodes_if_none ns (joined_pending whole.waits)) whole.nodes_are ∙ ap (nodes_if_none (postfix a)) whole.pending_are
 
 somes : {A : Type 0} (x y : A) → Some x ≡ Some y → x ≡ y
 somes x y is = cc

@@ -18,7 +18,8 @@ one_less n = omega arith
 pub newest-last : {A : Type 0} (xs : List A) → slice_get xs (length xs - 1) ≡ newest (newest_first xs)
 newest-last [] = refl
 newest-last (x ∷ []) = refl
-newest-last (x ∷ y ∷ zs) = ap (slice_get (x ∷ y ∷ zs)) (one_less (length zs)) ∙ newest-last (y ∷ zs) ∙ sym (newest-append (newest_first zs) y x)
+newest-last (x ∷ y ∷ zs) = ap (slice_get (x ∷ y ∷ zs)) (one_less (length zs)) ∙ newest-last (y ∷ zs)
+    ∙ sym (newest-append (newest_first zs) y x)
 
 drop-append : {A : Type 0} (xs : List A) (y x : A) → drop 1 ((xs ++ y ∷ []) ++ x ∷ []) ≡ drop 1 (xs ++ y ∷ []) ++ x ∷ []
 drop-append [] y x = refl
@@ -28,4 +29,5 @@ drop-append (z ∷ zs) y x = refl
 pub newest_first-take : {A : Type 0} (xs : List A) → newest_first (take (length xs - 1) xs) ≡ drop 1 (newest_first xs)
 newest_first-take [] = refl
 newest_first-take (x ∷ []) = refl
-newest_first-take (x ∷ y ∷ zs) = ap (λ n. newest_first (take n (x ∷ y ∷ zs))) (one_less (length zs)) ∙ ap (λ us. us ++ x ∷ []) (newest_first-take (y ∷ zs)) ∙ sym (drop-append (newest_first zs) y x)
+newest_first-take (x ∷ y ∷ zs) = ap (λ n. newest_first (take n (x ∷ y ∷ zs))) (one_less (length zs))
+    ∙ ap (λ us. us ++ x ∷ []) (newest_first-take (y ∷ zs)) ∙ sym (drop-append (newest_first zs) y x)

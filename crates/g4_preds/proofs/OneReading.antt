@@ -20,4 +20,5 @@ one_cut _ _ b (with_token c more cs token a formed first) second =
 -- a text is at most one predicate
 pub one_reading : (text : List ℕ) (a b : Tree) → IsPredicate text a → IsPredicate text b → a ≡ b
 one_reading text a b first second =
-    one_tree first.tokens a b first.reads (subst (λ (ts : List Token). IsOr ts b) (sym (one_cut text first.tokens second.tokens first.cut second.cut)) second.reads)
+    one_tree first.tokens a b first.reads (subst (λ (ts : List Token). IsOr ts b)
+    (sym (one_cut text first.tokens second.tokens first.cut second.cut)) second.reads)

@@ -23,7 +23,8 @@ pub are_postfix : (tokens : List Token) (nodes : List Node) → AreNodesOf token
 are_postfix tokens nodes are = are.are ∙ ap postfix (sym (tree_is tokens nodes are))
 
 -- the predicate that is read
-pub predicate_is : (text : List ℕ) (tokens : List Token) (nodes : List Node) → AreTokens text tokens → AreNodesOf tokens nodes → IsPredicate text (tree_of nodes)
+pub predicate_is : (text : List ℕ) (tokens : List Token) (nodes : List Node) → AreTokens text tokens → AreNodesOf tokens nodes
+    → IsPredicate text (tree_of nodes)
 predicate_is text tokens nodes cut are = record {
   tokens = tokens;
   cut = cut;
@@ -36,7 +37,8 @@ not_cut text Unknown none = λ tree is. none is.tokens is.cut
 not_cut text NoMemory none = tt
 
 -- tokens that are no predicate
-pub not_parsed : (text : List ℕ) (tokens : List Token) (e : Fault) → AreTokens text tokens → Answers (AreNodesOf tokens) (Err e) → Answers (IsPredicate text) (Err e)
+pub not_parsed : (text : List ℕ) (tokens : List Token) (e : Fault) → AreTokens text tokens → Answers (AreNodesOf tokens) (Err e)
+    → Answers (IsPredicate text) (Err e)
 not_parsed text tokens Unknown cut none = λ tree is.
     let reads : IsOr tokens tree = subst (λ (ts : List Token). IsOr ts tree) (one_cut text is.tokens tokens is.cut cut) is.reads in
     none (postfix tree) (record { tree = tree; reads = reads; are = refl })

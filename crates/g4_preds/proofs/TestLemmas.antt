@@ -27,7 +27,8 @@ word_of keywords.Inside = codes "inside"
 word_of keywords.Text = codes "text"
 
 -- one keyword, or one of those after it
-one_keyword : (name : List ℕ) (k found : Keyword) (rest : Option Keyword) (b : Bool) → bytes_eq name (word_of found) ≡ b → (rest ≡ Some k → name ≡ word_of k) → cond b (Some found) rest ≡ Some k → name ≡ word_of k
+one_keyword : (name : List ℕ) (k found : Keyword) (rest : Option Keyword) (b : Bool) → bytes_eq name (word_of found) ≡ b
+    → (rest ≡ Some k → name ≡ word_of k) → cond b (Some found) rest ≡ Some k → name ≡ word_of k
 one_keyword name k found rest true same onward is = (bytes_eq-Decides name (word_of found)).0 same ∙ ap word_of (some_is found k is)
 one_keyword name k found rest false other onward is = onward is
 
@@ -41,8 +42,10 @@ keyword_is name k is =
     (one_keyword name k keywords.Text None (bytes_eq name (codes "text")) refl
     (λ none. absurd (none_some k none)))))) is
 
-argument_is : (rest : List Token) (name : List ℕ) → argument rest ≡ Some name → rest ≡ LeftParenthesis ∷ Name name ∷ RightParenthesis ∷ drop 3 rest
-argument_is (LeftParenthesis ∷ Name n ∷ RightParenthesis ∷ rest) name is = ap (λ m. LeftParenthesis ∷ Name m ∷ RightParenthesis ∷ rest) (some_is n name is)
+argument_is : (rest : List Token) (name : List ℕ) → argument rest ≡ Some name
+    → rest ≡ LeftParenthesis ∷ Name name ∷ RightParenthesis ∷ drop 3 rest
+argument_is (LeftParenthesis ∷ Name n ∷ RightParenthesis ∷ rest) name is =
+    ap (λ m. LeftParenthesis ∷ Name m ∷ RightParenthesis ∷ rest) (some_is n name is)
 argument_is rest name is = absurd (none_some name is)
 
 -- a comparison that is found
@@ -53,7 +56,8 @@ record Compared (rest : List Token) (t : Test) : Type 0 where
   are : rest ≡ LeftParenthesis ∷ Digit nth ∷ RightParenthesis ∷ DoubleEquals ∷ Literal text ∷ drop 5 rest
 
 comparison_is : (rest : List Token) (t : Test) → comparison rest ≡ Some t → Compared rest t
-comparison_is (LeftParenthesis ∷ Digit n ∷ RightParenthesis ∷ DoubleEquals ∷ Literal cs ∷ rest) t is = record { nth = n; text = cs; is = sym (some_is (TextIs n cs) t is); are = refl }
+comparison_is (LeftParenthesis ∷ Digit n ∷ RightParenthesis ∷ DoubleEquals ∷ Literal cs ∷ rest) t is =
+    record { nth = n; text = cs; is = sym (some_is (TextIs n cs) t is); are = refl }
 comparison_is rest t is = absurd (none_some t is)
 
 -- a test that the tokens begin with
@@ -62,7 +66,8 @@ pub record Tested (token : Token) (rest : List Token) (found : Found) : Type 0 w
   pub are : token ∷ rest ≡ front ++ drop found.more rest
   pub is : IsTest front found.test
 
-by_flag : (rest : List Token) (f : Found) (o : Option (List ℕ)) → argument rest ≡ o → option_map {U = Found} (λ name. record { test = Flag name; more = 3 }) o ≡ Some f → Tested (Name (codes "flag")) rest f
+by_flag : (rest : List Token) (f : Found) (o : Option (List ℕ)) → argument rest ≡ o
+    → option_map {U = Found} (λ name. record { test = Flag name; more = 3 }) o ≡ Some f → Tested (Name (codes "flag")) rest f
 by_flag rest f None found is = absurd (none_some f is)
 by_flag rest f (Some name) found is =
     let here : Found = record { test = Flag name; more = 3 } in
@@ -72,7 +77,8 @@ by_flag rest f (Some name) found is =
       is = flag name;
     })
 
-by_inside : (rest : List Token) (f : Found) (o : Option (List ℕ)) → argument rest ≡ o → option_map {U = Found} (λ rule. record { test = Inside rule; more = 3 }) o ≡ Some f → Tested (Name (codes "inside")) rest f
+by_inside : (rest : List Token) (f : Found) (o : Option (List ℕ)) → argument rest ≡ o
+    → option_map {U = Found} (λ rule. record { test = Inside rule; more = 3 }) o ≡ Some f → Tested (Name (codes "inside")) rest f
 by_inside rest f None found is = absurd (none_some f is)
 by_inside rest f (Some rule) found is =
     let here : Found = record { test = Inside rule; more = 3 } in
@@ -86,10 +92,12 @@ compared_test : (rest : List Token) (t : Test) → Compared rest t → Tested (N
 compared_test rest t c = record {
   front = Name (codes "text") ∷ LeftParenthesis ∷ Digit c.nth ∷ RightParenthesis ∷ DoubleEquals ∷ Literal c.text ∷ [];
   are = ap (λ ts. Name (codes "text") ∷ ts) c.are;
-  is = subst (IsTest (Name (codes "text") ∷ LeftParenthesis ∷ Digit c.nth ∷ RightParenthesis ∷ DoubleEquals ∷ Literal c.text ∷ [])) (sym c.is) (text_is c.nth c.text);
+  is = subst (IsTest (Name (codes "text") ∷ LeftParenthesis ∷ Digit c.nth ∷ RightParenthesis ∷ DoubleEquals ∷ Literal c.text ∷ []))
+      (sym c.is) (text_is c.nth c.text);
 }
 
-by_text : (rest : List Token) (f : Found) (o : Option Test) → comparison rest ≡ o → option_map {U = Found} (λ t. record { test = t; more = 5 }) o ≡ Some f → Tested (Name (codes "text")) rest f
+by_text : (rest : List Token) (f : Found) (o : Option Test) → comparison rest ≡ o
+    → option_map {U = Found} (λ t. record { test = t; more = 5 }) o ≡ Some f → Tested (Name (codes "text")) rest f
 by_text rest f None found is = absurd (none_some f is)
 by_text rest f (Some t) found is =
     let here : Found = record { test = t; more = 5 } in
@@ -106,7 +114,8 @@ by_word keywords.Flag rest f is = by_flag rest f (argument rest) refl is
 by_word keywords.Inside rest f is = by_inside rest f (argument rest) refl is
 by_word keywords.Text rest f is = by_text rest f (comparison rest) refl is
 
-by_keyword : (name : List ℕ) (rest : List Token) (f : Found) (o : Option Keyword) → keyword name ≡ o → ◌≡◌ {A = Option Found} (elim o [ Some k ↦ test_after k rest | None ↦ None ]) (Some f) → Tested (Name name) rest f
+by_keyword : (name : List ℕ) (rest : List Token) (f : Found) (o : Option Keyword) → keyword name ≡ o
+    → ◌≡◌ {A = Option Found} (elim o [ Some k ↦ test_after k rest | None ↦ None ]) (Some f) → Tested (Name name) rest f
 by_keyword name rest f None key is = absurd (none_some f is)
 by_keyword name rest f (Some k) key is = subst (λ (n : List ℕ). Tested (Name n) rest f) (sym (keyword_is name k key)) (by_word k rest f is)
 

@@ -1,3 +1,5 @@
+-- Other crates cite Readings, Trees; only this crate cites Answers, Grammar, Newest, Parsing, Postfix, Steps, Tests, Tokens,
+-- TreeCode.
 pub mod Answers
 pub mod Grammar
 pub mod Newest

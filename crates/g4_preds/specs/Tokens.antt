@@ -56,7 +56,8 @@ opening c after =
 -- what begins so is this piece: a literal has a character or more between its quotes, on one line
 pub data IsOpened (c : ℕ) (after : List ℕ) : Opening → Piece → Type 0 where
   at_once : (piece : Piece) → IsOpened c after (known (Some piece)) piece
-  with_end : (more : ℕ) → Encloses contexts.Literal 39 after more → 1 < more → IsOpened c after a_literal (Formed (Literal (literal_spelling (c ∷ take more after))) more)
+  with_end : (more : ℕ) → Encloses contexts.Literal 39 after more → 1 < more
+      → IsOpened c after a_literal (Formed (Literal (literal_spelling (c ∷ take more after))) more)
 
 -- the text begins with this piece
 abbrev pub IsPiece : List ℕ → Piece → Type 0
@@ -72,7 +73,8 @@ IsLiteralPiece (c ∷ after) piece = IsOpened c after a_literal piece
 pub data AreTokens : List ℕ → List Token → Type 0 where
   at_end : AreTokens [] []
   past_blank : (c : ℕ) (cs : List ℕ) (tokens : List Token) → IsPiece (c ∷ cs) Blank → AreTokens cs tokens → AreTokens (c ∷ cs) tokens
-  with_token : (c more : ℕ) (cs : List ℕ) (token : Token) (tokens : List Token) → IsPiece (c ∷ cs) (Formed token more) → AreTokens (drop more cs) tokens →
+  with_token : (c more : ℕ) (cs : List ℕ) (token : Token) (tokens : List Token) → IsPiece (c ∷ cs) (Formed token more)
+      → AreTokens (drop more cs) tokens →
       AreTokens (c ∷ cs) (token ∷ tokens)
 
 -- the piece has at most this many characters

@@ -13,14 +13,17 @@ joined_parts : (a b : List Node) (n : Node) (rest : List Node) → ((a ++ b) ++ 
 joined_parts a b n rest = append_assoc (a ++ b) (n ∷ []) rest ∙ append_assoc a b (n ∷ rest)
 
 -- the postfix form makes the tree
-pub trees_from-postfix : (t : Tree) (rest : List Node) (trees : List Tree) → trees_from (postfix t ++ rest) trees ≡ trees_from rest (t ∷ trees)
+pub trees_from-postfix : (t : Tree) (rest : List Node) (trees : List Tree)
+    → trees_from (postfix t ++ rest) trees ≡ trees_from rest (t ∷ trees)
 trees_from-postfix (test t) rest trees = refl
 trees_from-postfix (negation t) rest trees =
     ap (λ ns. trees_from ns trees) (append_assoc (postfix t) (Not ∷ []) rest) ∙ trees_from-postfix t (Not ∷ rest) trees
 trees_from-postfix (conjunction a b) rest trees =
-    ap (λ ns. trees_from ns trees) (joined_parts (postfix a) (postfix b) And rest) ∙ trees_from-postfix a (postfix b ++ And ∷ rest) trees ∙ trees_from-postfix b (And ∷ rest) (a ∷ trees)
+    ap (λ ns. trees_from ns trees) (joined_parts (postfix a) (postfix b) And rest)
+    ∙ trees_from-postfix a (postfix b ++ And ∷ rest) trees ∙ trees_from-postfix b (And ∷ rest) (a ∷ trees)
 trees_from-postfix (disjunction a b) rest trees =
-    ap (λ ns. trees_from ns trees) (joined_parts (postfix a) (postfix b) Or rest) ∙ trees_from-postfix a (postfix b ++ Or ∷ rest) trees ∙ trees_from-postfix b (Or ∷ rest) (a ∷ trees)
+    ap (λ ns. trees_from ns trees) (joined_parts (postfix a) (postfix b) Or rest)
+    ∙ trees_from-postfix a (postfix b ++ Or ∷ rest) trees ∙ trees_from-postfix b (Or ∷ rest) (a ∷ trees)
 
 -- the tree of a postfix form
 pub tree_of-postfix : (t : Tree) → tree_of (postfix t) ≡ t

@@ -57,7 +57,8 @@ mutual
   unnamed_full l (left (both literal options)) = tt
   unnamed_full l (right (left (both dot options))) = tt
   unnamed_full l (right (right (left (both tilde s)))) = tt
-  unnamed_full l (right (right (right (both opening (both prequel (both (both x xs) closing)))))) = (tt, (alternative_full x, after_full xs))
+  unnamed_full l (right (right (right (both opening (both prequel (both (both x xs) closing)))))) =
+      (tt, (alternative_full x, after_full xs))
 
   -- the elements of an alternative
   parser_elements_full : (xs : Tree (repeated (part element))) → AreFull (in_order (parser_elements xs))
@@ -94,7 +95,8 @@ mutual
   unnamed_lexer_full l (right (left set)) = tt
   unnamed_lexer_full l (right (right (left dot))) = tt
   unnamed_lexer_full l (right (right (right (left (both tilde s))))) = tt
-  unnamed_lexer_full l (right (right (right (right (both opening (both (both x xs) closing)))))) = (tt, (lexer_elements_full x, lexer_after_full xs))
+  unnamed_lexer_full l (right (right (right (right (both opening (both (both x xs) closing)))))) =
+      (tt, (lexer_elements_full x, lexer_after_full xs))
 
   -- the elements of an alternative
   lexer_elements_full : (xs : Tree (repeated (part lexer_element))) → AreFull (in_order (lexer_elements xs))
@@ -102,27 +104,32 @@ mutual
   lexer_elements_full (more x xs) = (lexer_full x, lexer_elements_full xs)
 
   -- the alternatives after bars
-  lexer_after_full : (xs : Tree (repeated (sign kinds.Bar ▸ repeated (part lexer_element)))) → EachIsFull (either (lexer_alternatives_after xs))
+  lexer_after_full : (xs : Tree (repeated (sign kinds.Bar ▸ repeated (part lexer_element))))
+      → EachIsFull (either (lexer_alternatives_after xs))
   lexer_after_full end = tt
   lexer_after_full (more (both bar x) xs) = (lexer_elements_full x, lexer_after_full xs)
 
 -- the alternatives of a parser rule after bars
-rule_after_full : (xs : Tree (repeated (sign kinds.Bar ▸ rule_alternative))) → EachIsFull (either (map (λ a. a.elements) (rule_alternatives_after xs)))
+rule_after_full : (xs : Tree (repeated (sign kinds.Bar ▸ rule_alternative)))
+    → EachIsFull (either (map (λ a. a.elements) (rule_alternatives_after xs)))
 rule_after_full end = tt
 rule_after_full (more (both bar (both x l)) xs) = (alternative_full x, rule_after_full xs)
 
 -- a parser rule
 parser_rule_full : (r : Tree parser_rule) → AreFullAlternatives (map (λ a. a.elements) (parser_rule_of r).alternatives)
-parser_rule_full (both modifier (both n (both prequels (both colon (both (both (both x l) xs) (both semicolon handlers)))))) = (tt, (alternative_full x, rule_after_full xs))
+parser_rule_full (both modifier (both n (both prequels (both colon (both (both (both x l) xs) (both semicolon handlers)))))) =
+    (tt, (alternative_full x, rule_after_full xs))
 
 -- the alternatives of a lexer rule after bars
-rule_lexer_after_full : (xs : Tree (repeated (sign kinds.Bar ▸ lexer_alternative))) → EachIsFull (either (map (λ a. a.elements) (rule_lexer_alternatives_after xs)))
+rule_lexer_after_full : (xs : Tree (repeated (sign kinds.Bar ▸ lexer_alternative)))
+    → EachIsFull (either (map (λ a. a.elements) (rule_lexer_alternatives_after xs)))
 rule_lexer_after_full end = tt
 rule_lexer_after_full (more (both bar (both x cs)) xs) = (lexer_elements_full x, rule_lexer_after_full xs)
 
 -- a lexer rule
 lexer_rule_full : (r : Tree lexer_rule) → LexerRuleIsFull (lexer_rule_of r)
-lexer_rule_full (both fragment (both n (both options (both colon (both (both (both x cs) xs) semicolon))))) = (tt, (lexer_elements_full x, rule_lexer_after_full xs))
+lexer_rule_full (both fragment (both n (both options (both colon (both (both (both x cs) xs) semicolon))))) =
+    (tt, (lexer_elements_full x, rule_lexer_after_full xs))
 
 -- rules of each kind
 combined_full : (rs : Tree (repeated (lexer_rule ∣ parser_rule))) → RulesAreFull (combined_rules rs)

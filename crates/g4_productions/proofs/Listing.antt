@@ -9,7 +9,8 @@ use Rattle.g4_cursor.specs.Progress.{Progress, reading, stopped, is_next}
 use Rattle.g4_cursor.proofs.Moving.{or_assoc}
 
 -- an item that is read after those that are listed is listed at their end
-pub listed_more : {N T : Type 0} (value : N → T) (items : List N) (more : List N) (x : N) (y : T) (others : List T) → more ≡ items ++ x ∷ [] → value x ≡ y → map value items ++ y ∷ others ≡ map value more ++ others
+pub listed_more : {N T : Type 0} (value : N → T) (items : List N) (more : List N) (x : N) (y : T) (others : List T)
+    → more ≡ items ++ x ∷ [] → value x ≡ y → map value items ++ y ∷ others ≡ map value more ++ others
 listed_more value items more x y others longer same = in_place items ∙ ap (λ l. map value l ++ others) (sym longer)
   where
     in_place : (l : List _) → map value l ++ y ∷ others ≡ map value (l ++ x ∷ []) ++ others
@@ -31,14 +32,16 @@ signs_next [] s = []
 signs_next (kind ∷ kinds) s = is_next (sign kind) s ∷ signs_next kinds s
 
 -- the tests say what the list says
-same_test : (p : Bool) (kinds : List Kind) (token : Spelled) (rest : List Spelled) → one_of p (signs_next kinds (reading (token ∷ rest))) ≡ (p || is_one_of kinds token.kind)
+same_test : (p : Bool) (kinds : List Kind) (token : Spelled) (rest : List Spelled)
+    → one_of p (signs_next kinds (reading (token ∷ rest))) ≡ (p || is_one_of kinds token.kind)
 unfolding is_next
 same_test p [] token rest = or_none p
   where
     or_none : (p : Bool) → p ≡ (p || false)
     or_none true = refl
     or_none false = refl
-same_test p (kind ∷ kinds) token rest = same_test (p || is_kind kind token.kind) kinds token rest ∙ or_assoc p (is_kind kind token.kind) (is_one_of kinds token.kind)
+same_test p (kind ∷ kinds) token rest = same_test (p || is_kind kind token.kind) kinds token rest
+    ∙ or_assoc p (is_kind kind token.kind) (is_one_of kinds token.kind)
 
 -- where no token is next, no test holds
 no_test : (kinds : List Kind) (s : Progress) → ((kind : Kind) → is_next (sign kind) s ≡ false) → one_of false (signs_next kinds s) ≡ false

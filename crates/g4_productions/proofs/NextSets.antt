@@ -17,15 +17,20 @@ use Rattle.g4_productions.specs.Members.{set_of}
 use Rattle.g4_productions.proofs.SetText.{bad_set, none_bad}
 
 -- the first token, which is of the kind, has these bytes
-first_bytes : (k : Kind) (from to : List Spelled) (token : Spelled) (bytes : List ℕ) → from ≡ token ∷ to → is_kind k token.kind ≡ true → bytes_at 0 k from ≡ Some bytes → token.bytes ≡ bytes
-first_bytes k from to token bytes is of_kind next = same (sym (ap (λ (b : Bool). if b then Some token.bytes else None) of_kind) ∙ sym (ap (bytes_at 0 k) is) ∙ next)
+first_bytes : (k : Kind) (from to : List Spelled) (token : Spelled) (bytes : List ℕ) → from ≡ token ∷ to → is_kind k token.kind ≡ true
+    → bytes_at 0 k from ≡ Some bytes → token.bytes ≡ bytes
+first_bytes k from to token bytes is of_kind next =
+    same (sym (ap (λ (b : Bool). if b then Some token.bytes else None) of_kind) ∙ sym (ap (bytes_at 0 k) is) ∙ next)
   where
     same : Some token.bytes ≡ Some bytes → token.bytes ≡ bytes
     same e = cc
 
 -- the token that was taken is the one that was seen
-pub seen : (k : Kind) {t : Terminal} {P : Tree (one t) → Type 0} (s u : Progress) (bytes : List ℕ) → ((token : Spelled) → fits t token ≡ is_kind k token.kind) → bytes_ahead 0 k s ≡ Some bytes → Moves P s u → Moves {x = one t} (λ tree. text_of tree ≡ bytes) s u
-seen k {t} s u bytes same next (reads from to (leaf token) read good says) = reads from to (leaf token) read good (first_bytes k from to token bytes read.0 (sym (same token) ∙ read.1) next)
+pub seen : (k : Kind) {t : Terminal} {P : Tree (one t) → Type 0} (s u : Progress) (bytes : List ℕ)
+    → ((token : Spelled) → fits t token ≡ is_kind k token.kind) → bytes_ahead 0 k s ≡ Some bytes → Moves P s u
+    → Moves {x = one t} (λ tree. text_of tree ≡ bytes) s u
+seen k {t} s u bytes same next (reads from to (leaf token) read good says) =
+    reads from to (leaf token) read good (first_bytes k from to token bytes read.0 (sym (same token) ∙ read.1) next)
 seen k s u bytes same next (stops from rest halt halts) = stops from rest halt halts
 seen k s u bytes same next (stays halt rest) = stays halt rest
 
@@ -34,9 +39,11 @@ some_are : (bytes : List ℕ) → Some bytes ≡ None → ⊥
 some_are bytes is = cc
 
 -- where no token of the kind was seen, none was taken
-pub unseen : (k : Kind) {t : Terminal} {P Q : Tree (one t) → Type 0} (s u : Progress) → ((token : Spelled) → fits t token ≡ is_kind k token.kind) → bytes_ahead 0 k s ≡ None → Moves P s u → Moves Q s u
+pub unseen : (k : Kind) {t : Terminal} {P Q : Tree (one t) → Type 0} (s u : Progress)
+    → ((token : Spelled) → fits t token ≡ is_kind k token.kind) → bytes_ahead 0 k s ≡ None → Moves P s u → Moves Q s u
 unseen k s u same none (reads from to (leaf token) read good says) =
-    absurd (some_are token.bytes (sym (ap (λ (b : Bool). if b then Some token.bytes else None) (sym (same token) ∙ read.1)) ∙ sym (ap (bytes_at 0 k) read.0) ∙ none))
+    absurd (some_are token.bytes (sym (ap (λ (b : Bool). if b then Some token.bytes else None) (sym (same token) ∙ read.1))
+    ∙ sym (ap (bytes_at 0 k) read.0) ∙ none))
 unseen k s u same none (stops from rest halt halts) = stops from rest halt halts
 unseen k s u same none (stays halt rest) = stays halt rest
 
@@ -63,8 +70,10 @@ no_set_next (reading rest) none bad = subst IsBadSet none bad
 no_set_next (stopped halt rest) none bad = bad
 
 -- the set that was listed is that of the leaf
-pub set_taken : (set : List Span) (s : Progress) (tree : Tree (one a_set)) → (has : HasNext (Some set) s) → text_of tree ≡ has.bytes → set ≡ set_of_leaf tree
-set_taken set s tree has is = ap (λ (o : Option (List Span)). unwrap_or o []) (has.is ∙ ap (λ (b : List ℕ). set_of (content (chars b))) (sym is))
+pub set_taken : (set : List Span) (s : Progress) (tree : Tree (one a_set)) → (has : HasNext (Some set) s) → text_of tree ≡ has.bytes
+    → set ≡ set_of_leaf tree
+set_taken set s tree has is = ap (λ (o : Option (List Span)). unwrap_or o [])
+    (has.is ∙ ap (λ (b : List ℕ). set_of (content (chars b))) (sym is))
 
 -- a literal of a lexer rule is a literal
 pub literal_fits : (under : Bool) (token : Spelled) → fits (literal_terminal under) token ≡ is_kind kinds.Literal token.kind

@@ -56,9 +56,11 @@ holds_from (sets.Class complement (Some property)) c e =
 
 -- what is in a part passes its test
 holds_passes : (p : Part) (c : ℕ) → Holds p c → holds p c ≡ true
-holds_passes (sets.Span first last) c (from, to, scalar) = both_pass _ _ (both_pass _ _ (le-leb first c from) (le-leb c last to)) (scalar_passes c scalar)
+holds_passes (sets.Span first last) c (from, to, scalar) =
+    both_pass _ _ (both_pass _ _ (le-leb first c from) (le-leb c last to)) (scalar_passes c scalar)
 holds_passes (sets.Class complement None) c h = absurd h
-holds_passes (sets.Class complement (Some property)) c (is, scalar) = both_pass _ _ (complement_passes complement (in_set property c) is) (scalar_passes c scalar)
+holds_passes (sets.Class complement (Some property)) c (is, scalar) =
+    both_pass _ _ (complement_passes complement (in_set property c) is) (scalar_passes c scalar)
 
 -- what passes the test of parts is in one of them
 holds_in_from : (ps : List Part) (c : ℕ) → holds_in ps c ≡ true → HoldsIn ps c
@@ -107,8 +109,18 @@ ranges_canonical : (ps : List Part) → IsCanonical (ranges_in ps)
 ranges_canonical ps = ranges_rise (holds_in ps) 0 0x110000 (of_scalars ps)
 
 -- sound parts that hold a character are the ranges of a set
-sound_spells : (text : List ℕ) (is : List Item) → items text ≡ Some is → are_sound (parts is) ≡ true → HoldSome (parts is) → Spells text (ranges_in (parts is))
-sound_spells text is e sound some = (is, parts is, items_are 0 text is e, parts_are 0 is, sound, some, ranges_canonical (parts is), ranges_hold (parts is))
+sound_spells : (text : List ℕ) (is : List Item) → items text ≡ Some is → are_sound (parts is) ≡ true → HoldSome (parts is)
+    → Spells text (ranges_in (parts is))
+sound_spells text is e sound some = (
+  is,
+  parts is,
+  items_are 0 text is e,
+  parts_are 0 is,
+  sound,
+  some,
+  ranges_canonical (parts is),
+  ranges_hold (parts is),
+)
 
 -- ranges with a character are some
 kept : (spans : List Span) (c : ℕ) → Has spans c → unless_empty spans ≡ Some spans
@@ -131,7 +143,8 @@ no_ranges ps none = none_kept (ranges_in ps) (ranges_canonical ps) (λ c h. none
 -- a set that is spelled is listed
 pub spelled_set : (text : List ℕ) (set : List Span) → Spells text set → set_of text ≡ Some set
 spelled_set text set (is, ps, are, made, sound, some, canonical, have) =
-    let same : ranges_in ps ≡ set = one_form (ranges_in ps) set (ranges_canonical ps) canonical (λ c. (λ h. (have c).1 ((ranges_hold ps c).0 h), λ h. (ranges_hold ps c).1 ((have c).0 h))) in
+    let same : ranges_in ps ≡ set = one_form (ranges_in ps) set (ranges_canonical ps) canonical
+    (λ c. (λ h. (have c).1 ((ranges_hold ps c).0 h), λ h. (ranges_hold ps c).1 ((have c).0 h))) in
     ap set_of_items (items_listed text is are)
     ∙ ap set_of_parts (parts_listed is ps made)
     ∙ ap (λ (b : Bool). if b then unless_empty (ranges_in ps) else None) sound
@@ -140,9 +153,11 @@ spelled_set text set (is, ps, are, made, sound, some, canonical, have) =
 
 -- a bad set is not listed
 pub bad_set : (text : List ℕ) → IsBadContent text → set_of text ≡ None
-bad_set text (inl (is, ps, are, made, bad)) = ap set_of_items (items_listed text is are) ∙ ap set_of_parts (parts_listed is ps made) ∙ by_cause bad (are_sound ps) refl
+bad_set text (inl (is, ps, are, made, bad)) =
+    ap set_of_items (items_listed text is are) ∙ ap set_of_parts (parts_listed is ps made) ∙ by_cause bad (are_sound ps) refl
   where
-    by_cause : (are_sound ps ≡ false) ⊎ (HoldSome ps → ⊥) → (b : Bool) → are_sound ps ≡ b → (if b then unless_empty (ranges_in ps) else None) ≡ None
+    by_cause : (are_sound ps ≡ false) ⊎ (HoldSome ps → ⊥) → (b : Bool) → are_sound ps ≡ b
+        → (if b then unless_empty (ranges_in ps) else None) ≡ None
     by_cause (inl unsound) true sound = absurd (true≢false (sym sound ∙ unsound))
     by_cause (inr none) true sound = no_ranges ps none
     by_cause cause false unsound = refl
@@ -157,13 +172,23 @@ IsListed text (Some set) = Spells text set
 listed : (text : List ℕ) → IsListed text (set_of text)
 listed text = by_items (items text) refl
   where
-    by_ranges : (is : List Item) → items text ≡ Some is → are_sound (parts is) ≡ true → (spans : List Span) → ranges_in (parts is) ≡ spans → IsListed text (unless_empty spans)
-    by_ranges is e sound [] none = inl (is, parts is, items_are 0 text is e, parts_are 0 is, inr (λ some. subst (λ (l : List Span). Has l some.0) none ((ranges_hold (parts is) some.0).1 some.1)))
+    by_ranges : (is : List Item) → items text ≡ Some is → are_sound (parts is) ≡ true → (spans : List Span)
+        → ranges_in (parts is) ≡ spans → IsListed text (unless_empty spans)
+    by_ranges is e sound [] none = inl (
+      is,
+      parts is,
+      items_are 0 text is e,
+      parts_are 0 is,
+      inr (λ some. subst (λ (l : List Span). Has l some.0) none ((ranges_hold (parts is) some.0).1 some.1)),
+    )
     by_ranges is e sound (span ∷ spans) are =
-        let first : Has (ranges_in (parts is)) span.first = subst (λ (l : List Span). Has l span.first) (sym are) (inl (omega arith, (subst IsCanonical are (ranges_canonical (parts is))).1.0)) in
+        let first : Has (ranges_in (parts is)) span.first =
+        subst (λ (l : List Span). Has l span.first) (sym are)
+        (inl (omega arith, (subst IsCanonical are (ranges_canonical (parts is))).1.0)) in
         subst (Spells text) are (sound_spells text is e sound (span.first, (ranges_hold (parts is) span.first).0 first))
 
-    by_sound : (is : List Item) → items text ≡ Some is → (b : Bool) → are_sound (parts is) ≡ b → IsListed text (if b then unless_empty (ranges_in (parts is)) else None)
+    by_sound : (is : List Item) → items text ≡ Some is → (b : Bool) → are_sound (parts is) ≡ b
+        → IsListed text (if b then unless_empty (ranges_in (parts is)) else None)
     by_sound is e true sound = by_ranges is e sound (ranges_in (parts is)) refl
     by_sound is e false unsound = inl (is, parts is, items_are 0 text is e, parts_are 0 is, inl unsound)
 
@@ -189,13 +214,17 @@ holds_append (p ∷ ps) qs c =
     )
 
 -- the set with the characters in the ranges is the one listed
-pub ranges_listed : (spans set : List Span) → IsCanonical set → ((c : ℕ) → Has set c ↔ HoldsIn (map part_of spans) c) → set ≡ set_of_ranges spans
+pub ranges_listed : (spans set : List Span) → IsCanonical set → ((c : ℕ) → Has set c ↔ HoldsIn (map part_of spans) c)
+    → set ≡ set_of_ranges spans
 ranges_listed spans set canonical have =
     let ps : List Part = map part_of spans in
-    one_form set (ranges_in ps) canonical (ranges_canonical ps) (λ c. (λ h. (ranges_hold ps c).1 ((have c).0 h), λ h. (have c).1 ((ranges_hold ps c).0 h)))
+    one_form set (ranges_in ps) canonical (ranges_canonical ps)
+    (λ c. (λ h. (ranges_hold ps c).1 ((have c).0 h), λ h. (have c).1 ((ranges_hold ps c).0 h)))
 
 -- the characters of both sets are those in the ranges of both
-pub halves_joined : (front after all first second whole : List Span) → front ++ after ≡ all → ((c : ℕ) → Has first c ↔ HoldsIn (map part_of front) c) → ((c : ℕ) → Has second c ↔ HoldsIn (map part_of after) c) → ((c : ℕ) → Has whole c ↔ (Has first c ⊎ Has second c)) →
+pub halves_joined : (front after all first second whole : List Span) → front ++ after ≡ all
+    → ((c : ℕ) → Has first c ↔ HoldsIn (map part_of front) c) → ((c : ℕ) → Has second c ↔ HoldsIn (map part_of after) c)
+    → ((c : ℕ) → Has whole c ↔ (Has first c ⊎ Has second c)) →
     (c : ℕ) → Has whole c ↔ HoldsIn (map part_of all) c
 halves_joined front after all first second whole is one other both c =
     let P : List Part → Type 0 = λ ps. Has whole c ↔ HoldsIn ps c in

@@ -27,17 +27,38 @@ heading_prequels (both n (both semicolon ps)) = prequels_of ps
 -- a combined grammar
 abbrev pub combined_of : Tree combined_grammar → Source
 combined_of (both keyword (both h rs)) =
-    record { place = (token_of keyword).place; kind = grammar_kinds.Combined; name = heading_name h; prequels = heading_prequels h; rules = combined_rules rs; modes = [] }
+    record {
+      place = (token_of keyword).place;
+      kind = grammar_kinds.Combined;
+      name = heading_name h;
+      prequels = heading_prequels h;
+      rules = combined_rules rs;
+      modes = [];
+    }
 
 -- a lexer grammar
 abbrev pub lexer_grammar_of : Tree lexer_grammar → Source
 lexer_grammar_of (both keyword (both other (both h (both rs ms)))) =
-    record { place = (token_of keyword).place; kind = grammar_kinds.Lexer; name = heading_name h; prequels = heading_prequels h; rules = default_rules rs; modes = modes_of ms }
+    record {
+      place = (token_of keyword).place;
+      kind = grammar_kinds.Lexer;
+      name = heading_name h;
+      prequels = heading_prequels h;
+      rules = default_rules rs;
+      modes = modes_of ms;
+    }
 
 -- a parser grammar
 abbrev pub parser_grammar_of : Tree parser_grammar → Source
 parser_grammar_of (both keyword (both other (both h rs))) =
-    record { place = (token_of keyword).place; kind = grammar_kinds.Parser; name = heading_name h; prequels = heading_prequels h; rules = parser_rules rs; modes = [] }
+    record {
+      place = (token_of keyword).place;
+      kind = grammar_kinds.Parser;
+      name = heading_name h;
+      prequels = heading_prequels h;
+      rules = parser_rules rs;
+      modes = [];
+    }
 
 -- a grammar
 abbrev pub source_of : Tree grammar → Source
@@ -57,6 +78,7 @@ HasBadSetAt tokens place = (rest : List Spelled) × HasFirstBad grammar tokens r
 -- set before; or the place of the first bad set; unless memory runs out
 abbrev pub ReadsText : List ℕ → List Token → Result Source Stop → Type 0
 ReadsText text tokens (Ok source) = IsGrammarText (spelled text tokens) source × HasNoBad grammar (spelled text tokens)
-ReadsText text tokens (Err (stops.At index)) = TextStops (spelled text tokens) (from text tokens index) × HasNoBad grammar (spelled text tokens)
+ReadsText text tokens (Err (stops.At index)) = TextStops (spelled text tokens) (from text tokens index)
+    × HasNoBad grammar (spelled text tokens)
 ReadsText text tokens (Err (stops.BadSet place)) = HasBadSetAt (spelled text tokens) place
 ReadsText text tokens (Err stops.NoMemory) = Unit {0}

@@ -1,3 +1,4 @@
+-- Other crates cite Grammars, Members; only this crate cites Answering, Elements, LexerElements, ParserElements, Rules.
 pub mod Answering
 pub mod Elements
 pub mod Grammars

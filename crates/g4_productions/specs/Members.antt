@@ -23,12 +23,14 @@ holds_in (p ∷ ps) c = holds p c || holds_in ps c
 -- the ranges with one character more, which is before them
 abbrev pub with_first : ℕ → List Span → List Span
 with_first c [] = record { first = c; last = c } ∷ []
-with_first c (span ∷ spans) = if span.first == c + 1 then record { first = c; last = span.last } ∷ spans else record { first = c; last = c } ∷ span ∷ spans
+with_first c (span ∷ spans) = if span.first == c + 1 then record { first = c; last = span.last } ∷ spans
+    else record { first = c; last = c } ∷ span ∷ spans
 
 -- of so many code points from the start on, the ranges of those that pass the test
 unfoldable pub ranges_from : (ℕ → Bool) → ℕ → ℕ → List Span
 ranges_from test start zero = []
-ranges_from test start (suc count) = if test start then with_first start (ranges_from test (start + 1) count) else ranges_from test (start + 1) count
+ranges_from test start (suc count) = if test start then with_first start (ranges_from test (start + 1) count)
+    else ranges_from test (start + 1) count
 
 -- the ranges of the characters that are in one of the parts
 abbrev pub ranges_in : List Part → List Span

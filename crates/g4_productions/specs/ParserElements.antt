@@ -28,7 +28,8 @@ abbrev mutual
   references_of (inner (right (right b))) = bracket_references b
 
   -- the tokens in brackets
-  pub bracket_references : Tree (sign kinds.LeftParenthesis ▸ with_bars (part token_set) ▸ sign kinds.RightParenthesis) → List TokenReference
+  pub bracket_references : Tree (sign kinds.LeftParenthesis ▸ with_bars (part token_set) ▸ sign kinds.RightParenthesis)
+      → List TokenReference
   bracket_references (both opening (both ss closing)) = references_between ss
 
   -- the tokens between bars
@@ -79,9 +80,12 @@ abbrev mutual
 
   -- an item that begins with no name, with this label
   pub unnamed : Option Label → Tree unnamed_item → Labelled
-  unnamed l (left (both literal options)) = single (right_of_optional options) (record { label = l; kind = atoms.Literal (literal_of literal) })
-  unnamed l (right (left (both dot options))) = single (right_of_optional options) (record { label = l; kind = atoms.Any (token_of dot).place })
-  unnamed l (right (right (left (both tilde s)))) = single false (record { label = l; kind = atoms.NotTokens (token_of tilde).place (references_of s) })
+  unnamed l (left (both literal options)) = single (right_of_optional options)
+      (record { label = l; kind = atoms.Literal (literal_of literal) })
+  unnamed l (right (left (both dot options))) =
+      single (right_of_optional options) (record { label = l; kind = atoms.Any (token_of dot).place })
+  unnamed l (right (right (left (both tilde s)))) =
+      single false (record { label = l; kind = atoms.NotTokens (token_of tilde).place (references_of s) })
   unnamed l (right (right (right b))) = brackets l (either (block_of b))
 
   -- the alternatives of a block

@@ -42,7 +42,8 @@ rule_alternatives_of (both x xs) = rule_alternative_of x ∷ rule_alternatives_a
 
 -- a parser rule
 abbrev pub parser_rule_of : Tree parser_rule → ParserRule Atom
-parser_rule_of (both modifier (both n (both prequels (both colon (both xs (both semicolon handlers)))))) = record { name = text_of n; alternatives = rule_alternatives_of xs }
+parser_rule_of (both modifier (both n (both prequels (both colon (both xs (both semicolon handlers)))))) =
+    record { name = text_of n; alternatives = rule_alternatives_of xs }
 
 -- the name or the number that the argument of a command is
 abbrev pub argument_text_of : Tree (name ∣ sign kinds.Number) → Argument
@@ -50,7 +51,8 @@ argument_text_of (left n) = arguments.Name (text_of n)
 argument_text_of (right n) = arguments.Number (text_of n)
 
 -- the argument of a command
-abbrev pub argument_of : Tree (optional (sign kinds.LeftParenthesis ▸ (name ∣ sign kinds.Number) ▸ sign kinds.RightParenthesis)) → Option Argument
+abbrev pub argument_of : Tree (optional (sign kinds.LeftParenthesis ▸ (name ∣ sign kinds.Number) ▸ sign kinds.RightParenthesis))
+    → Option Argument
 argument_of absent = None
 argument_of (present (both opening (both a closing))) = Some (argument_text_of a)
 
@@ -92,7 +94,8 @@ fragment_place (present keyword) = Some (token_of keyword).place
 
 -- a lexer rule
 abbrev pub lexer_rule_of : Tree lexer_rule → LexerRule
-lexer_rule_of (both fragment (both n (both options (both colon (both xs semicolon))))) = record { fragment = fragment_place fragment; name = text_of n; alternatives = rule_lexer_alternatives xs }
+lexer_rule_of (both fragment (both n (both options (both colon (both xs semicolon))))) =
+    record { fragment = fragment_place fragment; name = text_of n; alternatives = rule_lexer_alternatives xs }
 
 -- lexer rules in order
 abbrev pub lexer_rules : Tree (repeated lexer_rule) → List LexerRule

@@ -8,8 +8,8 @@ use crate::lexer_rule::{is_at_lexer_rule, lexer_rule, modes};
 use crate::parser_rule::parser_rule;
 use g4_base::{Sequence, Text};
 use g4_cursor::{Cursor, prequels};
-use g4_source::{GrammarKind, Prequel, Rule, Source};
 use g4_grammar_tokens::Kind;
+use g4_source::{GrammarKind, Prequel, Rule, Source};
 use std::alloc::AllocError;
 
 /// The words that a grammar text begins with.

@@ -10,9 +10,9 @@ use crate::excluded::excluded_set;
 use crate::literal::take_literal;
 use crate::set::set;
 use crate::suffix::{Labelled, action, is_at_label_sign, label_sign, optional_suffix, with_suffix};
-use g4_source::{Alternative, Atom, AtomKind, Element, Label, Name};
 use g4_cursor::{Cursor, literal, optional_element_options};
 use g4_grammar_tokens::Kind;
+use g4_source::{Alternative, Atom, AtomKind, Element, Label, Name};
 use std::alloc::AllocError;
 
 /// Whether an element of a lexer rule is next.

@@ -7,9 +7,9 @@ ghost use Rattle.g4_productions.specs.Rules.{argument_text_of, argument_of, comm
 
 use crate::lexer_element::elements;
 use g4_base::{Place, Sequence};
-use g4_source::{Argument, Command, Elements, LexerAlternative, LexerRule, Mode};
 use g4_cursor::{Cursor, pass_optional_options};
 use g4_grammar_tokens::Kind;
+use g4_source::{Argument, Command, Elements, LexerAlternative, LexerRule, Mode};
 use std::alloc::AllocError;
 
 /// The name that says that a lexer rule is no token.

@@ -47,7 +47,8 @@ fn is_backward(first: Option<char>, last: Option<char>) -> bool
 
 /// Whether a bad range begins with the literal that is next and stands for this character, if for just one.
 fn begins_bad_range(cursor: &Cursor<'_>, first: Option<char>) -> Result<bool, AllocError>
-    ensures { IfOk result (λ bad. bad ≡ goes_on_bad first (bytes_ahead 1 kinds.DoubleDot cursor.now) (bytes_ahead 2 kinds.Literal cursor.now)) }
+    ensures { IfOk result (λ bad. bad ≡ goes_on_bad first (bytes_ahead 1 kinds.DoubleDot cursor.now)
+        (bytes_ahead 2 kinds.Literal cursor.now)) }
 {
     let Some(_) = cursor.text_ahead(1, Kind::DoubleDot) else {
         return Ok(false);

@@ -11,9 +11,9 @@ use crate::suffix::{
     with_suffix,
 };
 use crate::token_set::excluded_tokens;
-use g4_source::{Alternative, Atom, AtomKind, Element, Label, Name};
 use g4_cursor::{Cursor, literal, optional_element_options, pass_block_prequel};
 use g4_grammar_tokens::Kind;
+use g4_source::{Alternative, Atom, AtomKind, Element, Label, Name};
 use std::alloc::AllocError;
 
 /// Whether a reference to a rule associates to the right, by what follows the rule's name.

@@ -4,11 +4,11 @@ ghost use Rattle.g4_productions.specs.Rules.{alternative_label as label_of, rule
 
 use crate::parser_element::elements;
 use g4_base::Sequence;
-use g4_source::{AlternativeLabel, Atom, Elements, ParserRule, RuleAlternative};
 use g4_cursor::{
     Cursor, optional_element_options, pass_handlers, pass_modifier, pass_rule_prequels,
 };
 use g4_grammar_tokens::Kind;
+use g4_source::{AlternativeLabel, Atom, Elements, ParserRule, RuleAlternative};
 use std::alloc::AllocError;
 
 /// The label of an alternative, if it has one.

@@ -7,8 +7,8 @@ ghost use Rattle.g4_productions.specs.Grammars.{ReadsText};
 use crate::grammar::grammar;
 use g4_base::Place;
 use g4_cursor::{Cursor, Halt};
-use g4_source::Source;
 use g4_grammar_tokens::Token;
+use g4_source::Source;
 use std::alloc::{AllocError, Global};
 
 /// Why no grammar is read.

@@ -10,9 +10,9 @@ ghost use Rattle.g4_productions.specs.Elements.{signed_atom, unlabelled, is_gree
 ghost use Rattle.g4_productions.specs.Elements.{labelled_of};
 
 use g4_base::Place;
-use g4_source::{Alternative, Atom, AtomKind, Element, Label, Repeat, Suffix};
 use g4_cursor::{Cursor, optional_element_options};
 use g4_grammar_tokens::Kind;
+use g4_source::{Alternative, Atom, AtomKind, Element, Label, Repeat, Suffix};
 use std::alloc::{AllocError, Global};
 
 /// An element, and whether `<assoc=right>` follows it: what is in brackets does not count.
@@ -92,7 +92,8 @@ pub(crate) fn with_suffix(
 
 /// The sign at this place, which is greedy unless `?` follows.
 fn suffix(cursor: &mut Cursor<'_>, place: Place) -> Suffix
-    ensures { Moves {x = optional (sign kinds.Question)} (λ tree. result ≡ record { place = place; greedy = is_greedy tree }) cursor.old cursor.new }
+    ensures { Moves {x = optional (sign kinds.Question)} (λ tree. result ≡ record { place = place; greedy = is_greedy tree })
+        cursor.old cursor.new }
 {
     let greedy = !cursor.take_if(Kind::Question);
     Suffix { place, greedy }

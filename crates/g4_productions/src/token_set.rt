@@ -5,8 +5,8 @@ ghost use Rattle.g4_productions.specs.ParserElements.{references_of, bracket_ref
 
 use g4_base::Sequence;
 use g4_cursor::{Cursor, literal, optional_element_options};
-use g4_source::TokenReference;
 use g4_grammar_tokens::Kind;
+use g4_source::TokenReference;
 use std::alloc::AllocError;
 
 /// Adds the references of a set of tokens.

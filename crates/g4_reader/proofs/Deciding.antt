@@ -55,21 +55,25 @@ CanMove x from = (t : Progress) × Passes x (reading from) t
 
 -- over a terminal
 over_terminal : (t : Terminal) (from : List Spelled) → ((BeginsBad t from → ⊥) → CanMove (one t) from) → CanMove (one t) from
-over_terminal t from otherwise = elim (bad_decided t from) [ inl bad ↦ (stopped BadSet from, moving.refuses (reading from) (stopped BadSet from) bad refl) | inr good ↦ otherwise good ]
+over_terminal t from otherwise = elim (bad_decided t from)
+    [ inl bad ↦ (stopped BadSet from, moving.refuses (reading from) (stopped BadSet from) bad refl) | inr good ↦ otherwise good ]
 
 -- over two, where a cursor stops in the first
-stopped_first : (x y : Expression) (from rest : List Spelled) (halt : Halt) → Passes x (reading from) (stopped halt rest) → CanMove (x ▸ y) from
+stopped_first : (x y : Expression) (from rest : List Spelled) (halt : Halt) → Passes x (reading from) (stopped halt rest)
+    → CanMove (x ▸ y) from
 stopped_first x y from rest halt first = (stopped halt rest, moving.after first (stays halt rest))
 
 -- over turns, where a cursor stops in the first
-stopped_turn : (x : Expression) (from rest : List Spelled) (halt : Halt) → begins_there x from ≡ true → Passes x (reading from) (stopped halt rest) → CanMove (repeated x) from
+stopped_turn : (x : Expression) (from rest : List Spelled) (halt : Halt) → begins_there x from ≡ true
+    → Passes x (reading from) (stopped halt rest) → CanMove (repeated x) from
 unfolding is_next
 stopped_turn x from rest halt is first =
     let none : Passes (repeated x) (stopped halt rest) (stopped halt rest) = stays halt rest in
     (stopped halt rest, moving.one_more is first none (λ c others p q. tt))
 
 -- over two, of which the first is read
-over_both : {x y : Expression} (from between : List Spelled) (a : Tree x) → Reads a from between → CanMove x from → CanMove y between → CanMove (x ▸ y) from
+over_both : {x y : Expression} (from between : List Spelled) (a : Tree x) → Reads a from between → CanMove x from → CanMove y between
+    → CanMove (x ▸ y) from
 over_both {x} {y} from between a read (_, reads _ other b again good tt) (v, second) =
     let first : Passes x (reading from) (reading other) = reads from other b again good tt in
     (v, moving.after first (subst (λ (l : List Spelled). Passes y (reading l) v) (one_reading a b from between other read again).1 second))
@@ -110,42 +114,53 @@ unfolding is_next
 over_end from none = (reading from, moving.no_turn (reading from) none tt)
 
 -- over turns, of which the first is read
-over_more : {x : Expression} (from between : List Spelled) (a : Tree x) → begins_there x from ≡ true → Reads a from between → CanMove x from → CanMove (repeated x) between → CanMove (repeated x) from
+over_more : {x : Expression} (from between : List Spelled) (a : Tree x) → begins_there x from ≡ true → Reads a from between
+    → CanMove x from → CanMove (repeated x) between → CanMove (repeated x) from
 unfolding is_next
 over_more {x} from between a is read (_, reads _ other b again good tt) (v, later) =
     let first : Passes x (reading from) (reading other) = reads from other b again good tt in
-    let others : Passes (repeated x) (reading other) v = subst (λ (l : List Spelled). Passes (repeated x) (reading l) v) (one_reading a b from between other read again).1 later in
+    let others : Passes (repeated x) (reading other) v =
+    subst (λ (l : List Spelled). Passes (repeated x) (reading l) v) (one_reading a b from between other read again).1 later in
     (v, moving.one_more is first others (λ c rest p q. tt))
 over_more {x} from between a is read (_, stops _ rest halt halts) later = stopped_turn x from rest halt is (stops from rest halt halts)
 
 -- over turns, where reading stops in the first
-over_turn : {x : Expression} (from rest : List Spelled) → begins_there x from ≡ true → Stops x from rest → CanMove x from → CanMove (repeated x) from
+over_turn : {x : Expression} (from rest : List Spelled) → begins_there x from ≡ true → Stops x from rest → CanMove x from
+    → CanMove (repeated x) from
 over_turn from rest is stop (_, reads _ other b again good tt) = absurd (never_both from other rest b again stop)
 over_turn {x} from rest is stop (_, stops _ other halt halts) = stopped_turn x from other halt is (stops from other halt halts)
 
 -- a cursor can move over what is read
 over_tree : {x : Expression} (a : Tree x) (from to : List Spelled) → Reads a from to → CanMove x from
-over_tree (leaf {t} token) from to read = over_terminal t from (λ good. (reading to, reads from to (leaf token) read (moving.good_terminal t from good) tt))
+over_tree (leaf {t} token) from to read = over_terminal t from
+    (λ good. (reading to, reads from to (leaf token) read (moving.good_terminal t from good) tt))
 over_tree (both a b) from to read = over_both from read.0 a read.1 (over_tree a from read.0 read.1) (over_tree b read.0 to read.2)
 over_tree (left a) from to read = over_left from read.0 (over_tree a from to read.1)
 over_tree (right b) from to read = over_right from read.0 (over_tree b from to read.1)
 over_tree absent from to read = over_absent from read.0
 over_tree (present a) from to read = over_optional from read.0 (over_tree a from to read.1)
 over_tree end from to read = over_end from read.0
-over_tree (more a later) from to read = over_more from read.1 a read.0 read.2 (over_tree a from read.1 read.2) (over_tree later read.1 to read.3)
+over_tree (more a later) from to read = over_more from read.1 a read.0 read.2 (over_tree a from read.1 read.2)
+    (over_tree later read.1 to read.3)
 over_tree (inner a) from to read = over_part from (over_tree a from to read)
 
 -- a cursor can move over what reading stops in
-over_stop : {t : Terminal} {x : Expression} {from rest : List Spelled} → Comes t x from rest → begins_there (one t) rest ≡ false → CanMove x from
+over_stop : {t : Terminal} {x : Expression} {from rest : List Spelled} → Comes t x from rest → begins_there (one t) rest ≡ false
+    → CanMove x from
 unfolding is_next
-over_stop {t} (here rest) none = over_terminal t rest (λ good. (stopped Fault rest, moving.stops_at (reading rest) (stopped Fault rest) none good refl))
-over_stop {t} (in_first from rest comes) none = over_first from rest (record { terminal = t; comes = comes; none = none }) (over_stop comes none)
-over_stop (in_second from between rest a read comes) none = over_both from between a read (over_tree a from between read) (over_stop comes none)
+over_stop {t} (here rest) none = over_terminal t rest
+    (λ good. (stopped Fault rest, moving.stops_at (reading rest) (stopped Fault rest) none good refl))
+over_stop {t} (in_first from rest comes) none =
+    over_first from rest (record { terminal = t; comes = comes; none = none }) (over_stop comes none)
+over_stop (in_second from between rest a read comes) none =
+    over_both from between a read (over_tree a from between read) (over_stop comes none)
 over_stop (in_left from rest is comes) none = over_left from is (over_stop comes none)
 over_stop (in_right from rest is comes) none = over_right from is (over_stop comes none)
 over_stop (in_optional from rest is comes) none = over_optional from is (over_stop comes none)
-over_stop {t} (in_turn from rest is comes) none = over_turn from rest is (record { terminal = t; comes = comes; none = none }) (over_stop comes none)
-over_stop (in_later_turn from between rest a is read comes) none = over_more from between a is read (over_tree a from between read) (over_stop comes none)
+over_stop {t} (in_turn from rest is comes) none =
+    over_turn from rest is (record { terminal = t; comes = comes; none = none }) (over_stop comes none)
+over_stop (in_later_turn from between rest a is read comes) none =
+    over_more from between a is read (over_tree a from between read) (over_stop comes none)
 over_stop (in_part from rest comes) none = over_part from (over_stop comes none)
 
 -- reading comes to no bad set, or to a first one

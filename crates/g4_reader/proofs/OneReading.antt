@@ -26,12 +26,14 @@ one_grammar tokens a b (x, has, is) (y, also, too) = is ∙ ap source_of (trees.
 
 -- a grammar text begins with the first of the tokens with which one begins
 begins_before : (first after : List Spelled) → BeginsText (first ++ after) → BeginsText first
-begins_before first after (others, tree, has) = (after ++ others, tree, subst (λ (l : List Spelled). HasTree l tree) (append_assoc first after others) has)
+begins_before first after (others, tree, has) =
+    (after ++ others, tree, subst (λ (l : List Spelled). HasTree l tree) (append_assoc first after others) has)
 
 -- a grammar text is not cut
 not_cut : (tokens front rest : List Spelled) (tree : Tree grammar) → HasTree tokens tree → IsCut tokens front rest → ⊥
 not_cut tokens front [] tree has cut = cut.ends tree (subst (λ (l : List Spelled). HasTree l tree) (cut.parts ∙ append-nil front) has)
-not_cut tokens front (t ∷ ts) tree has cut = cut.ends (ts, tree, subst (λ (l : List Spelled). HasTree l tree) (cut.parts ∙ sym (append_assoc front (t ∷ []) ts)) has)
+not_cut tokens front (t ∷ ts) tree has cut =
+    cut.ends (ts, tree, subst (λ (l : List Spelled). HasTree l tree) (cut.parts ∙ sym (append_assoc front (t ∷ []) ts)) has)
 
 -- the same lists have the same first token
 same_first : (t s : Spelled) (ts ss : List Spelled) → t ∷ ts ≡ s ∷ ss → t ≡ s
@@ -46,13 +48,18 @@ abbrev EndsBy : (List Spelled → Type 0) → List Spelled → List Spelled → 
 EndsBy Begins front rest = (t : Spelled) (ts : List Spelled) → rest ≡ t ∷ ts → ¬ (Begins (front ++ t ∷ []))
 
 -- a list is cut in one way where what is so of it is so of all that it begins with
-same_cut : (Begins : List Spelled → Type 0) → ((first after : List Spelled) → Begins (first ++ after) → Begins first) → (front rest other after : List Spelled) → front ++ rest ≡ other ++ after → Begins front → Begins other → EndsBy Begins front rest → EndsBy Begins other after → (front ≡ other) × (rest ≡ after)
+same_cut : (Begins : List Spelled → Type 0) → ((first after : List Spelled) → Begins (first ++ after) → Begins first)
+    → (front rest other after : List Spelled) → front ++ rest ≡ other ++ after → Begins front → Begins other
+    → EndsBy Begins front rest → EndsBy Begins other after → (front ≡ other) × (rest ≡ after)
 same_cut Begins before [] rest [] after is begins also ends too = (refl, is)
 same_cut Begins before [] rest (s ∷ other) after is begins also ends too = absurd (ends s (other ++ after) is (before (s ∷ []) other also))
-same_cut Begins before (t ∷ front) rest [] after is begins also ends too = absurd (too t (front ++ rest) (sym is) (before (t ∷ []) front begins))
+same_cut Begins before (t ∷ front) rest [] after is begins also ends too =
+    absurd (too t (front ++ rest) (sym is) (before (t ∷ []) front begins))
 same_cut Begins before (t ∷ front) rest (s ∷ other) after is begins also ends too =
     let first : t ≡ s = same_first t s (front ++ rest) (other ++ after) is in
-    let later = same_cut (λ l. Begins (t ∷ l)) (λ u v. before (t ∷ u) v) front rest other after (same_others t s (front ++ rest) (other ++ after) is) begins (subst (λ (u : Spelled). Begins (u ∷ other)) (sym first) also) ends (λ u us stands bad. too u us stands (subst (λ (x : Spelled). Begins (x ∷ other ++ u ∷ [])) first bad)) in
+    let later = same_cut (λ l. Begins (t ∷ l)) (λ u v. before (t ∷ u) v) front rest other after
+    (same_others t s (front ++ rest) (other ++ after) is) begins (subst (λ (u : Spelled). Begins (u ∷ other)) (sym first) also)
+    ends (λ u us stands bad. too u us stands (subst (λ (x : Spelled). Begins (x ∷ other ++ u ∷ [])) first bad)) in
     (ap₂ (λ (x : Spelled) (l : List Spelled). x ∷ l) first later.0, later.1)
 
 -- where no grammar text goes on
@@ -60,22 +67,27 @@ ends_by : (front rest : List Spelled) → Ends front rest → EndsBy BeginsText 
 ends_by front rest ends t ts is = subst (Ends front) is ends
 
 -- tokens are cut in one way
-one_cut : (tokens front rest other after : List Spelled) → IsCut tokens front rest → IsCut tokens other after → (front ≡ other) × (rest ≡ after)
+one_cut : (tokens front rest other after : List Spelled) → IsCut tokens front rest → IsCut tokens other after
+    → (front ≡ other) × (rest ≡ after)
 one_cut tokens front rest other after cut also =
-    same_cut BeginsText begins_before front rest other after (sym cut.parts ∙ also.parts) cut.begins also.begins (ends_by front rest cut.ends) (ends_by other after also.ends)
+    same_cut BeginsText begins_before front rest other after (sym cut.parts ∙ also.parts) cut.begins also.begins
+    (ends_by front rest cut.ends) (ends_by other after also.ends)
 
 -- what follows some first tokens and what follows others is the same, if neither is longer
 same_length : (first rest other after : List Spelled) → first ++ rest ≡ other ++ after → length rest ≡ length after → rest ≡ after
 same_length [] rest [] after is long = is
-same_length (t ∷ first) rest (s ∷ other) after is long = same_length first rest other after (same_others t s (first ++ rest) (other ++ after) is) long
+same_length (t ∷ first) rest (s ∷ other) after is long =
+    same_length first rest other after (same_others t s (first ++ rest) (other ++ after) is) long
 same_length [] rest (s ∷ other) after is long = absurd (omega (arith, long, ap length is, length-append other after))
 same_length (t ∷ first) rest [] after is long = absurd (omega (arith, long, ap length is, length-append first rest))
 
 -- tokens have one first bad set
 one_first_bad : (tokens : List Spelled) (p q : Place) → HasBadSetAt tokens p → HasBadSetAt tokens q → p ≡ q
 one_first_bad tokens p q (rest, first, is) (other, later, also) =
-    let long : length rest ≡ length other = omega (arith, first.first later.terminal other later.comes later.bad, later.first first.terminal rest first.comes first.bad) in
-    let parts : read_before first.comes ++ rest ≡ read_before later.comes ++ other = sym (comes_after first.comes) ∙ comes_after later.comes in
+    let long : length rest ≡ length other = omega
+    (arith, first.first later.terminal other later.comes later.bad, later.first first.terminal rest first.comes first.bad) in
+    let parts : read_before first.comes ++ rest ≡ read_before later.comes ++ other =
+    sym (comes_after first.comes) ∙ comes_after later.comes in
     is ∙ ap place_of (same_length (read_before first.comes) rest (read_before later.comes) other parts long) ∙ sym also
 
 -- tokens with no bad set have no first one
@@ -84,14 +96,16 @@ no_bad tokens place good (rest, first, is) = good first.terminal rest first.come
 
 -- the first fault of tokens is one
 one_fault : (bytes : List ℕ) (tokens : List Spelled) (a b : Fault) → IsFirstFault bytes tokens a → IsFirstFault bytes tokens b → a ≡ b
-one_fault bytes tokens a b is also = is.is ∙ ap (fault_at bytes) (one_cut tokens is.front is.rest also.front also.rest is.cut also.cut).1 ∙ sym also.is
+one_fault bytes tokens a b is also = is.is ∙ ap (fault_at bytes)
+    (one_cut tokens is.front is.rest also.front also.rest is.cut also.cut).1 ∙ sym also.is
 
 -- the answer that reports a fault
 unfoldable pub reported : Fault → Result Source ReadFault
 reported fault = Err (Syntax fault.place fault.characters)
 
 -- tokens have one reading
-one_reading_of : (bytes : List ℕ) (tokens : List Spelled) (a b : Result Source ReadFault) → IsReadingOf bytes tokens a → IsReadingOf bytes tokens b → a ≢ Err NoMemory → b ≢ Err NoMemory → a ≡ b
+one_reading_of : (bytes : List ℕ) (tokens : List Spelled) (a b : Result Source ReadFault) → IsReadingOf bytes tokens a
+    → IsReadingOf bytes tokens b → a ≢ Err NoMemory → b ≢ Err NoMemory → a ≡ b
 unfolding reported
 one_reading_of bytes tokens (Ok x) (Ok y) is also n m = ap (λ s. Ok s) (one_grammar tokens x y is.0 also.0)
 one_reading_of bytes tokens (Ok x) (Err (Syntax p c)) is also n m = absurd (not_cut tokens also.front also.rest is.0.0 is.0.1 also.cut)
@@ -114,11 +128,14 @@ ReadingAt bytes (inr at) result = result ≡ reported (opened_fault bytes at)
 
 -- what a reading is, of bytes that are a text or not
 abbrev ReadingBy : List ℕ → Result Source ReadFault → Type 0
-ReadingBy bytes result = ((at : ℕ) × IsValidUpTo bytes at × (result ≡ Err (NotUtf8 at))) ⊎ ((x : List Token ⊎ Position) × scans.IsCut bytes x × ReadingAt bytes x result)
+ReadingBy bytes result = ((at : ℕ) × IsValidUpTo bytes at × (result ≡ Err (NotUtf8 at)))
+    ⊎ ((x : List Token ⊎ Position) × scans.IsCut bytes x × ReadingAt bytes x result)
 
 -- what is read of the tokens with their bytes is read of the tokens
-reading_spelled : (bytes : List ℕ) (tokens : List Spelled) (result : Result Source ReadFault) → HasSpelled bytes tokens → IsReadingOf bytes tokens result → ReadingBy bytes result
-reading_spelled bytes tokens result has is = inr (inl has.scanned, has.has, subst (λ (l : List Spelled). IsReadingOf bytes l result) has.are is)
+reading_spelled : (bytes : List ℕ) (tokens : List Spelled) (result : Result Source ReadFault) → HasSpelled bytes tokens
+    → IsReadingOf bytes tokens result → ReadingBy bytes result
+reading_spelled bytes tokens result has is =
+    inr (inl has.scanned, has.has, subst (λ (l : List Spelled). IsReadingOf bytes l result) has.are is)
 
 -- a reading that memory sufficed for
 reading_by : (bytes : List ℕ) (result : Result Source ReadFault) → IsReading bytes result → result ≢ Err NoMemory → ReadingBy bytes result
@@ -126,12 +143,14 @@ unfolding reported
 reading_by bytes (Ok source) is n = reading_spelled bytes is.tokens (Ok source) is.has (is.is, is.good)
 reading_by bytes (Err (NotUtf8 at)) valid n = inl (at, valid, refl)
 reading_by bytes (Err (Syntax place characters)) (inl (opened, s, is)) n = inr (inr opened, s, ap reported is)
-reading_by bytes (Err (Syntax place characters)) (inr (tokens, has, first)) n = reading_spelled bytes tokens (Err (Syntax place characters)) has first
+reading_by bytes (Err (Syntax place characters)) (inr (tokens, has, first)) n =
+    reading_spelled bytes tokens (Err (Syntax place characters)) has first
 reading_by bytes (Err (BadSet place)) (tokens, has, first) n = reading_spelled bytes tokens (Err (BadSet place)) has first
 reading_by bytes (Err NoMemory) h n = absurd (n refl)
 
 -- bytes have one reading
-pub one_reading : (bytes : List ℕ) (a b : Result Source ReadFault) → IsReading bytes a → IsReading bytes b → a ≢ Err NoMemory → b ≢ Err NoMemory → a ≡ b
+pub one_reading : (bytes : List ℕ) (a b : Result Source ReadFault) → IsReading bytes a → IsReading bytes b → a ≢ Err NoMemory
+    → b ≢ Err NoMemory → a ≡ b
 one_reading bytes a b is also n m = by_both (reading_by bytes a is n) (reading_by bytes b also m)
   where
     by_cut : (x : List Token ⊎ Position) → ReadingAt bytes x a → ReadingAt bytes x b → a ≡ b
@@ -139,7 +158,9 @@ one_reading bytes a b is also n m = by_both (reading_by bytes a is n) (reading_b
     by_cut (inr at) is also = is ∙ sym also
 
     by_both : ReadingBy bytes a → ReadingBy bytes b → a ≡ b
-    by_both (inl (at, valid, is)) (inl (other, alike, also)) = is ∙ ap (λ (k : ℕ). Err (NotUtf8 k)) (one_point bytes at other valid alike) ∙ sym also
+    by_both (inl (at, valid, is)) (inl (other, alike, also)) =
+        is ∙ ap (λ (k : ℕ). Err (NotUtf8 k)) (one_point bytes at other valid alike) ∙ sym also
     by_both (inl (at, valid, is)) (inr (y, cut, also)) = absurd (not_both bytes at (scans.cut_utf8 bytes y cut) valid)
     by_both (inr (x, cut, is)) (inl (other, valid, also)) = absurd (not_both bytes other (scans.cut_utf8 bytes x cut) valid)
-    by_both (inr (x, cut, is)) (inr (y, alike, also)) = by_cut y (subst (λ (z : List Token ⊎ Position). ReadingAt bytes z a) (scans.one_cut bytes x y cut alike) is) also
+    by_both (inr (x, cut, is)) (inr (y, alike, also)) =
+        by_cut y (subst (λ (z : List Token ⊎ Position). ReadingAt bytes z a) (scans.one_cut bytes x y cut alike) is) also

@@ -16,11 +16,14 @@ use Rattle.g4_reader.specs.declared.reader.ReadFault.TheVariants.{NotUtf8, Synta
 
 -- where reading stops, the tokens are cut
 pub cut_from : (tokens front rest : List Spelled) → tokens ≡ front ++ rest → TextStops tokens rest → IsCut tokens front rest
-cut_from tokens front rest parts stop = record { parts = parts; begins = begins_text tokens front rest parts stop; ends = ends_text tokens front rest parts stop }
+cut_from tokens front rest parts stop = record
+    { parts = parts; begins = begins_text tokens front rest parts stop; ends = ends_text tokens front rest parts stop }
 
 -- the fault before which reading the tokens stops, unless memory runs out, is a reading
-pub stopped_is : (bytes : List ℕ) (tokens front rest : List Spelled) (fault : ReadFault) → IsCut tokens front rest → HasNoBad grammar tokens → IsFault (fault_at bytes rest) fault → IsReadingOf bytes tokens (Err fault)
-stopped_is bytes tokens front rest (Syntax place characters) cut good is = record { front = front; rest = rest; cut = cut; good = good; is = sym is }
+pub stopped_is : (bytes : List ℕ) (tokens front rest : List Spelled) (fault : ReadFault) → IsCut tokens front rest
+    → HasNoBad grammar tokens → IsFault (fault_at bytes rest) fault → IsReadingOf bytes tokens (Err fault)
+stopped_is bytes tokens front rest (Syntax place characters) cut good is =
+    record { front = front; rest = rest; cut = cut; good = good; is = sym is }
 stopped_is bytes tokens front rest (BadSet place) cut good none = absurd none
 stopped_is bytes tokens front rest (NotUtf8 at) cut good none = absurd none
 stopped_is bytes tokens front rest NoMemory cut good reported = tt
@@ -30,8 +33,10 @@ pub spelled_is : (bytes : List ℕ) (tokens : List Token) → HasTokens bytes to
 spelled_is bytes tokens has = record { scanned = tokens; has = has; are = refl }
 
 -- a reading of the tokens of a text is a reading of the text
-pub IsReading-from : (bytes : List ℕ) (tokens : List Token) (result : Result Source ReadFault) → HasTokens bytes tokens → IsReadingOf bytes (spelled bytes tokens) result → IsReading bytes result
-IsReading-from bytes tokens (Ok source) has (is, good) = record { tokens = spelled bytes tokens; has = spelled_is bytes tokens has; is = is; good = good }
+pub IsReading-from : (bytes : List ℕ) (tokens : List Token) (result : Result Source ReadFault) → HasTokens bytes tokens
+    → IsReadingOf bytes (spelled bytes tokens) result → IsReading bytes result
+IsReading-from bytes tokens (Ok source) has (is, good) =
+    record { tokens = spelled bytes tokens; has = spelled_is bytes tokens has; is = is; good = good }
 IsReading-from bytes tokens (Err (Syntax place characters)) has first = inr (spelled bytes tokens, spelled_is bytes tokens has, first)
 IsReading-from bytes tokens (Err (BadSet place)) has first = (spelled bytes tokens, spelled_is bytes tokens has, first)
 IsReading-from bytes tokens (Err (NotUtf8 at)) has none = absurd none

@@ -39,7 +39,8 @@ literal_ends : (after : List ℕ) → SomeEnd literal after
 literal_ends after = by_end (enclosed Context.Literal 39 after) (find_enclosed Context.Literal 39 after _ refl)
   where
     by_end : (o : Option ℕ) → Finds (Encloses Context.Literal 39 after) o → SomeEnd literal after
-    by_end (Some taken) is = elim (cases_lt taken 2) [ inl less ↦ inr (λ more end. no_literal after taken more is less end) | inr enough ↦ inl (taken, (is, enough)) ]
+    by_end (Some taken) is = elim (cases_lt taken 2)
+        [ inl less ↦ inr (λ more end. no_literal after taken more is less end) | inr enough ↦ inl (taken, (is, enough)) ]
     by_end None never = inr (λ more end. never more end.0)
 
 -- a piece ends or doesn't, as what is found says
@@ -58,7 +59,8 @@ some_end action after = ends_as (Nests 123 125 after) _ (find_nesting 123 125 af
 -- a piece begins at a character
 some_piece : (opening : Opening) (after : List ℕ) → (piece : Piece) × IsPiece opening after piece
 some_piece (decided piece) after = (piece, at_once piece after)
-some_piece (up_to closing) after = elim (some_end closing after) [ inl end ↦ (closed_piece closing end.0, with_end closing after end.0 end.1) | inr never ↦ (Faulty, endless closing after never) ]
+some_piece (up_to closing) after = elim (some_end closing after)
+    [ inl end ↦ (closed_piece closing end.0, with_end closing after end.0 end.1) | inr never ↦ (Faulty, endless closing after never) ]
 
 -- what the rest of a text is: these tokens, or one whose first fault is here
 abbrev IsRest : List Word → Position → List ℕ → List Token ⊎ Position → Type 0
@@ -70,16 +72,19 @@ abbrev SomeRest : List Word → Position → List ℕ → Type 0
 SomeRest words p text = (x : List Token ⊎ Position) × IsRest words p text x
 
 -- a piece before the rest of a text
-rest_more : (words : List Word) (p : Position) (c : ℕ) (cs : List ℕ) (found : Piece) → PieceAt words c cs found → ((later : List Word) (q : Position) (more : ℕ) → SomeRest later q (drop more cs)) → SomeRest words p (c ∷ cs)
+rest_more : (words : List Word) (p : Position) (c : ℕ) (cs : List ℕ) (found : Piece) → PieceAt words c cs found
+    → ((later : List Word) (q : Position) (more : ℕ) → SomeRest later q (drop more cs)) → SomeRest words p (c ∷ cs)
 rest_more words p c cs Faulty is further = (inr p, right_here words p c cs is)
 rest_more words p c cs (Gap more) is further = by_rest (further words (position_past p (c ∷ take more cs)) more)
   where
     by_rest : SomeRest words (position_past p (c ∷ take more cs)) (drop more cs) → SomeRest words p (c ∷ cs)
     by_rest (inl tokens, are) = (inl tokens, after_gap words p c more cs tokens is are)
     by_rest (inr at, opens) = (inr at, past_gap words p at c more cs is opens)
-rest_more words p c cs (Formed kind more) is further = by_rest (further (record { kind = kind; characters = c ∷ take more cs } ∷ words) (position_past p (c ∷ take more cs)) more)
+rest_more words p c cs (Formed kind more) is further =
+    by_rest (further (record { kind = kind; characters = c ∷ take more cs } ∷ words) (position_past p (c ∷ take more cs)) more)
   where
-    by_rest : SomeRest (record { kind = kind; characters = c ∷ take more cs } ∷ words) (position_past p (c ∷ take more cs)) (drop more cs) → SomeRest words p (c ∷ cs)
+    by_rest : SomeRest (record { kind = kind; characters = c ∷ take more cs } ∷ words) (position_past p (c ∷ take more cs))
+        (drop more cs) → SomeRest words p (c ∷ cs)
     by_rest (inl tokens, are) = (inl (token_at kind p (c ∷ take more cs) ∷ tokens), with_token words p c more kind cs tokens is are)
     by_rest (inr at, opens) = (inr at, past_token words p at c more kind cs is opens)
 
@@ -89,7 +94,8 @@ some_rest fuel words p [] h = (inl [], at_end words p)
 some_rest zero words p (c ∷ cs) h = absurd (omega (arith, h))
 some_rest (suc fuel) words p (c ∷ cs) h =
     let found = some_piece _ cs in
-    rest_more words p c cs found.0 found.1 (λ later q more. some_rest fuel later q (drop more cs) (omega (arith, h, length-drop {A = ℕ} more cs)))
+    rest_more words p c cs found.0 found.1 (λ later q more.
+    some_rest fuel later q (drop more cs) (omega (arith, h, length-drop {A = ℕ} more cs)))
 
 -- the bytes are a text that has these tokens, or whose first fault is here
 abbrev pub IsCut : List ℕ → List Token ⊎ Position → Type 0
@@ -133,7 +139,8 @@ one_cut bytes a b is also = same a b (one_scan bytes (answer a) (answer b) (scan
 
 -- a text is cut in some way
 pub some_cut : (bytes : List ℕ) → IsUtf8 bytes → (x : List Token ⊎ Position) × IsCut bytes x
-some_cut bytes utf8 = let rest = some_rest (length (unmarked (chars bytes))) [] (start_of (chars bytes)) (unmarked (chars bytes)) (omega arith) in (rest.0, cut rest.0 rest.1)
+some_cut bytes utf8 = let rest = some_rest (length (unmarked (chars bytes))) [] (start_of (chars bytes)) (unmarked (chars bytes))
+    (omega arith) in (rest.0, cut rest.0 rest.1)
   where
     cut : (x : List Token ⊎ Position) → IsRest [] (start_of (chars bytes)) (unmarked (chars bytes)) x → IsCut bytes x
     cut (inl tokens) are = record { utf8 = utf8; tokens_are = are }

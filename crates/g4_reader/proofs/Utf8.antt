@@ -6,7 +6,8 @@ use Rattle.std.specs.Str.{IsValidUpTo, is_utf8}
 use Rattle.std.specs.Str.Lossy.{valid_len_up_to, utf8_valid_len}
 
 -- up to a number of bytes, the longest front that is UTF-8
-longest_front : (bytes : List ℕ) (most : ℕ) → IsUtf8 (take (valid_len_up_to bytes most) bytes) × ((k : ℕ) → valid_len_up_to bytes most < k → k ≤ most → ¬ (IsUtf8 (take k bytes)))
+longest_front : (bytes : List ℕ) (most : ℕ) → IsUtf8 (take (valid_len_up_to bytes most) bytes)
+    × ((k : ℕ) → valid_len_up_to bytes most < k → k ≤ most → ¬ (IsUtf8 (take k bytes)))
 longest_front bytes zero = (([], (refl, refl)), λ k above within. absurd (omega arith))
 longest_front bytes (suc m) =
     let rest = longest_front bytes m in
@@ -40,7 +41,8 @@ utf8_or_not bytes =
         front = front.0;
         longest = λ m above u. ⊎_elim
             (λ (past : length bytes < m).
-            front.1 (length bytes) short (omega arith) (subst IsUtf8 (take_all m bytes (omega arith) ∙ sym (take_all (length bytes) bytes (omega arith))) u))
+            front.1 (length bytes) short (omega arith)
+            (subst IsUtf8 (take_all m bytes (omega arith) ∙ sym (take_all (length bytes) bytes (omega arith))) u))
             (λ (within : m ≤ length bytes). front.1 m above within u)
             (cases_lt (length bytes) m);
       },
@@ -50,7 +52,8 @@ utf8_or_not bytes =
 
 -- not both
 pub not_both : (bytes : List ℕ) (at : ℕ) → IsUtf8 bytes → IsValidUpTo bytes at → ⊥
-not_both bytes at utf8 valid = valid.longest (length bytes) valid.short (subst IsUtf8 (sym (take_all (length bytes) bytes (omega arith))) utf8)
+not_both bytes at utf8 valid = valid.longest (length bytes) valid.short
+    (subst IsUtf8 (sym (take_all (length bytes) bytes (omega arith))) utf8)
 
 -- the point is one
 pub one_point : (bytes : List ℕ) (at other : ℕ) → IsValidUpTo bytes at → IsValidUpTo bytes other → at ≡ other

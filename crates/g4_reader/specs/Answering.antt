@@ -20,7 +20,8 @@ IsFault fault faults.NoMemory = Unit {0}
 -- first, unless memory runs out
 abbrev pub IsReadingOf : List ℕ → List Spelled → Result Source ReadFault → Type 0
 IsReadingOf bytes tokens (Ok source) = IsGrammarText tokens source × HasNoBad grammar tokens
-IsReadingOf bytes tokens (Err (faults.Syntax place characters)) = IsFirstFault bytes tokens (record { place = place; characters = characters })
+IsReadingOf bytes tokens (Err (faults.Syntax place characters)) =
+    IsFirstFault bytes tokens (record { place = place; characters = characters })
 IsReadingOf bytes tokens (Err (faults.BadSet place)) = HasBadSetAt tokens place
 IsReadingOf bytes tokens (Err (faults.NotUtf8 at)) = ⊥
 IsReadingOf bytes tokens (Err faults.NoMemory) = Unit {0}

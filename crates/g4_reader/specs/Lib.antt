@@ -1,2 +1,3 @@
+-- Other crates cite Reading; only this crate cites Answering.
 pub mod Answering
 pub mod Reading

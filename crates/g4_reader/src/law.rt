@@ -7,7 +7,8 @@ ghost use Rattle.g4_reader.specs.declared.reader.ReadFault.TheVariants.{NoMemory
 
 /// A text has one reading, where memory suffices.
 pub fn one_reading()
-    ensures { (text : List ℕ) (a b : Result Source ReadFault) → IsReading text a → IsReading text b → a ≢ Err NoMemory → b ≢ Err NoMemory → a ≡ b }
+    ensures { (text : List ℕ) (a b : Result Source ReadFault) → IsReading text a → IsReading text b → a ≢ Err NoMemory
+        → b ≢ Err NoMemory → a ≡ b }
 {}
 
 /// Each text has a reading: it is a grammar or it has a first fault.

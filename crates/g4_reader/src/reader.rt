@@ -9,9 +9,9 @@ ghost use Rattle.g4_base.specs.declared.limits.TheConstants.{MOST_BYTES};
 
 use crate::fault::{fault_at, opened_fault};
 use g4_base::{Place, Sequence};
+use g4_grammar_tokens::{ScanFault, Token, scan};
 use g4_productions::{Stop, read_tokens};
 use g4_source::Source;
-use g4_grammar_tokens::{ScanFault, Token, scan};
 use std::alloc::Global;
 use std::str;
 

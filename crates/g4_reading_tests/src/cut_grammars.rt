@@ -1,6 +1,6 @@
 // Whole grammars in the style of published ones, and each of them cut at every token.
-use g4_reader::{ReadFault, read_grammar};
 use g4_grammar_tokens::scan;
+use g4_reader::{ReadFault, read_grammar};
 use std::alloc::{AllocError, Global};
 use std::fmt::Write;
 use std::test::Fail;

@@ -1,6 +1,6 @@
 // What predicates name, and what is named in modes, which no run shows yet: texts of grammars and the first fault.
-use g4_reader::read_grammar;
 use g4_checks::{ReferenceFault, check_references};
+use g4_reader::read_grammar;
 use std::alloc::{AllocError, Global};
 use std::fmt::Write;
 use std::test::Fail;

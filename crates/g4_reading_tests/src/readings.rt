@@ -1,8 +1,11 @@
 // Texts and what they are, worked out by hand.
 use g4_base::{Sequence, Text};
 use g4_chars::CharSet;
-use g4_source::{Alternative, Argument, Atom, AtomKind, Command, Element, GrammarKind, Label, LexerRule, OptionValue, ParserRule, Prequel, Repeat, Rule, Source, TokenReference};
 use g4_reader::{ReadFault, read_grammar};
+use g4_source::{
+    Alternative, Argument, Atom, AtomKind, Command, Element, GrammarKind, Label, LexerRule,
+    OptionValue, ParserRule, Prequel, Repeat, Rule, Source, TokenReference,
+};
 use std::alloc::{AllocError, Global};
 use std::fmt::Write;
 use std::test::Fail;

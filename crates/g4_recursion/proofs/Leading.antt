@@ -55,7 +55,10 @@ text_reads (c ∷ cs) = (λ e. absurd (let n : ⊥ = cc in n), λ h. absurd (sym
 -- the end of the file reads the empty word, and any other upper-case name of a lexer rule does not
 token_reads : (b : Bool) (o : Option ℕ) → (⊥ ⊎ ((b ≡ true) × (◌≡◌ {A = List ℕ} [] []))) ↔ ReadsLead (cond b Empty (reference_lead o)) []
 token_reads true o = (λ h. refl, λ h. inr (refl, refl))
-token_reads false o = (λ h. elim h [ inl n ↦ absurd n | inr e ↦ absurd (let wrong : false ≡ true = e.0 in let n : ⊥ = cc in n) ], λ h. absurd (reference_reads o h))
+token_reads false o = (
+  λ h. elim h [ inl n ↦ absurd n | inr e ↦ absurd (let wrong : false ≡ true = e.0 in let n : ⊥ = cc in n) ],
+  λ h. absurd (reference_reads o h),
+)
 
 -- the end of the file calls no rule
 token_calls : (b : Bool) (o : Option ℕ) (k : ℕ) → ((b ≡ false) × (o ≡ Some k)) ↔ CallsLead (cond b Empty (reference_lead o)) k
@@ -64,7 +67,10 @@ token_calls false o k = (λ h. (reference_calls o k).0 h.1, λ h. (refl, (refere
 
 -- what reads a character does not read the empty word
 one_character : {P : ℕ → Type 0} {Q : Type 0} → (((c : ℕ) × ([] ≡ c ∷ []) × P c) ⊎ (⊥ × Q)) ↔ ReadsLead Symbol []
-one_character = (λ h. elim h [ inl m ↦ absurd (let e : [] ≡ m.0 ∷ [] = m.1 in let n : ⊥ = cc in n) | inr n ↦ absurd n.0 ], λ h. absurd (symbol_reads h))
+one_character = (
+  λ h. elim h [ inl m ↦ absurd (let e : [] ≡ m.0 ∷ [] = m.1 in let n : ⊥ = cc in n) | inr n ↦ absurd n.0 ],
+  λ h. absurd (symbol_reads h),
+)
 
 -- what reads nothing at all
 no_word : {Q : Type 0} → (⊥ ⊎ (⊥ × Q)) ↔ ReadsLead Symbol []
@@ -93,7 +99,10 @@ module _ (rules : List Rule) where
   reads_kind Parser (atoms.Predicate name) = (λ h. h, λ h. h)
   reads_kind Lexer (atoms.Rule name) = no_word
   reads_kind Lexer (atoms.Token name) = token_reads (bytes_eq name.text (codes "EOF")) (rule_number rules Lexer name.text)
-  reads_kind Lexer (atoms.Literal literal) = (λ h. elim h [ inl e ↦ (text_reads literal.characters).0 e | inr n ↦ absurd n.0 ], λ h. inl ((text_reads literal.characters).1 h))
+  reads_kind Lexer (atoms.Literal literal) = (
+    λ h. elim h [ inl e ↦ (text_reads literal.characters).0 e | inr n ↦ absurd n.0 ],
+    λ h. inl ((text_reads literal.characters).1 h),
+  )
   reads_kind Lexer (atoms.Range place first last) = (λ h. elim h [ inl m ↦ (m.0, m.1) | inr n ↦ absurd n.0 ], λ h. absurd (symbol_reads h))
   reads_kind Lexer (atoms.Set set) = (λ h. elim h [ inl m ↦ (m.0, m.1) | inr n ↦ absurd n.0 ], λ h. absurd (symbol_reads h))
   reads_kind Lexer (atoms.Any place) = (λ h. elim h [ inl m ↦ (m.0, m.1) | inr n ↦ absurd n.0 ], λ h. absurd (symbol_reads h))
@@ -152,7 +161,8 @@ found_item p (x ∷ xs) k is = elim (cases_Bool (p x)) [
 ]
 
 -- a rule of a kind may have operators where this is the kind of parser rules
-kinds_agree : (kind : RuleKind) (name : List ℕ) (rule : Rule) → is_rule_of kind name rule ≡ true → (kind ≡ Parser) ↔ (may_have_operators rule ≡ true)
+kinds_agree : (kind : RuleKind) (name : List ℕ) (rule : Rule) → is_rule_of kind name rule ≡ true
+    → (kind ≡ Parser) ↔ (may_have_operators rule ≡ true)
 kinds_agree Parser name (rule_variants.Parser rule) is = (λ h. refl, λ h. refl)
 kinds_agree Parser name (rule_variants.Lexer rule) is = absurd (let n : ⊥ = cc in n)
 kinds_agree Lexer name (rule_variants.Parser rule) is = absurd (let n : ⊥ = cc in n)
@@ -160,7 +170,8 @@ kinds_agree Lexer name (rule_variants.Lexer rule) is = (λ h. absurd (let n : �
 
 module _ (rules : List Rule) where
   -- a rule that an atom calls has the kind and the name that the atom says
-  called : (kind : RuleKind) (a : AtomKind) (k : ℕ) → KindCalls rules kind a k → (name : List ℕ) × (position (is_rule_of kind name) rules ≡ Some k)
+  called : (kind : RuleKind) (a : AtomKind) (k : ℕ) → KindCalls rules kind a k
+      → (name : List ℕ) × (position (is_rule_of kind name) rules ≡ Some k)
   called Parser (atoms.Rule name) k h = (name.text, h)
   called Parser (atoms.Token name) k h = absurd h
   called Parser (atoms.Literal literal) k h = absurd h
@@ -199,27 +210,32 @@ module _ (rules : List Rule) where
   )
 
 -- what becomes of items in two steps
-map_twice : {X Y Z : Type 0} (whole : X → Z) (first : X → Y) (second : Y → Z) → ((x : X) → whole x ≡ second (first x)) → (xs : List X) → map whole xs ≡ map second (map first xs)
+map_twice : {X Y Z : Type 0} (whole : X → Z) (first : X → Y) (second : Y → Z) → ((x : X) → whole x ≡ second (first x)) → (xs : List X)
+    → map whole xs ≡ map second (map first xs)
 map_twice whole first second same [] = refl
 map_twice whole first second same (x ∷ xs) = let e = same x in let es = map_twice whole first second same xs in cc
 
 module _ (rules : List Rule) where
   -- the alternatives of a parser rule over leads
   pub parser_leads : (alternatives : List (RuleAlternative Atom)) →
-      map (λ a. in_order_over (λ b. lead_by (rule_number rules) Parser b.kind) a.elements) alternatives ≡ map (in_order_over (lead_in rules)) (map (λ a. in_order_over (atom_in Parser) a.elements) alternatives)
+      map (λ a. in_order_over (λ b. lead_by (rule_number rules) Parser b.kind) a.elements) alternatives
+      ≡ map (in_order_over (lead_in rules)) (map (λ a. in_order_over (atom_in Parser) a.elements) alternatives)
   parser_leads alternatives =
-      map_twice (λ (a : RuleAlternative Atom). in_order_over (λ b. lead_by (rule_number rules) Parser b.kind) a.elements) (λ a. in_order_over (atom_in Parser) a.elements) (in_order_over (lead_in rules))
+      map_twice (λ (a : RuleAlternative Atom). in_order_over (λ b. lead_by (rule_number rules) Parser b.kind) a.elements)
+      (λ a. in_order_over (atom_in Parser) a.elements) (in_order_over (lead_in rules))
       (λ a. sym (in_order_over_twice (lead_in rules) (atom_in Parser) a.elements)) alternatives
 
   -- as trees
   parser_trees : (alternatives : List (RuleAlternative Atom)) →
-      either (map (λ a. in_order_over (λ b. lead_by (rule_number rules) Parser b.kind) a.elements) alternatives) ≡ either_over (lead_in rules) (either_over (atom_in Parser) (either (map (λ a. a.elements) alternatives)))
+      either (map (λ a. in_order_over (λ b. lead_by (rule_number rules) Parser b.kind) a.elements) alternatives)
+      ≡ either_over (lead_in rules) (either_over (atom_in Parser) (either (map (λ a. a.elements) alternatives)))
   parser_trees [] = refl
   parser_trees (a ∷ more) = let e = in_order_over_twice (lead_in rules) (atom_in Parser) a.elements in let es = parser_trees more in cc
 
   -- those of a lexer rule
   lexer_trees : (alternatives : List LexerAlternative) →
-      either (map (λ a. in_order_over (λ b. lead_by (rule_number rules) Lexer b.kind) a.elements) alternatives) ≡ either_over (lead_in rules) (either_over (atom_in Lexer) (either (map (λ a. a.elements) alternatives)))
+      either (map (λ a. in_order_over (λ b. lead_by (rule_number rules) Lexer b.kind) a.elements) alternatives)
+      ≡ either_over (lead_in rules) (either_over (atom_in Lexer) (either (map (λ a. a.elements) alternatives)))
   lexer_trees [] = refl
   lexer_trees (a ∷ more) = let e = in_order_over_twice (lead_in rules) (atom_in Lexer) a.elements in let es = lexer_trees more in cc
 
@@ -229,17 +245,21 @@ module _ (rules : List Rule) where
   rule_tree (rule_variants.Lexer rule) = lexer_trees rule.alternatives
 
   -- the trees of some of the rules
-  some_trees : (some : List Rule) → map either (map (leads_by (rule_number rules)) some) ≡ map (either_over (lead_in rules)) (map body_of some)
+  some_trees : (some : List Rule) → map either (map (leads_by (rule_number rules)) some)
+      ≡ map (either_over (lead_in rules)) (map body_of some)
   some_trees [] = refl
   some_trees (rule ∷ more) = let e = rule_tree rule in let es = some_trees more in cc
 
   -- the trees of all rules over leads are their trees
-  pub trees_over : (leads : List LeadRule) → map (λ lead. lead.alternatives) leads ≡ leads_in rules → trees_of leads ≡ map (either_over (lead_in rules)) (bodies_of rules)
+  pub trees_over : (leads : List LeadRule) → map (λ lead. lead.alternatives) leads ≡ leads_in rules
+      → trees_of leads ≡ map (either_over (lead_in rules)) (bodies_of rules)
   trees_over leads is = sym (map-map either (λ (lead : LeadRule). lead.alternatives) leads) ∙ (ap (map either) is ∙ some_trees rules)
 
 -- the leads that are made by the numbers of rules are theirs
 pub all_leads : (views : List RuleView) (numbers : Numbers) (made : List (List (Elements Lead))) →
-    AreNumbers (map rule_view views) numbers → made ≡ map (λ view. leads_by (number_in numbers) (rule_view view)) views → made ≡ leads_in (map rule_view views)
+    AreNumbers (map rule_view views) numbers → made ≡ map (λ view. leads_by (number_in numbers) (rule_view view)) views
+    → made ≡ leads_in (map rule_view views)
 all_leads views numbers made are is =
     let same : number_in numbers ≡ rule_number (map rule_view views) = fun_ext (λ kind. fun_ext (λ name. are kind name)) in
-    is ∙ (ap (λ (find : RuleKind → List ℕ → Option ℕ). map (λ view. leads_by find (rule_view view)) views) same ∙ sym (map-map (leads_by (rule_number (map rule_view views))) rule_view views))
+    is ∙ (ap (λ (find : RuleKind → List ℕ → Option ℕ). map (λ view. leads_by find (rule_view view)) views) same
+    ∙ sym (map-map (leads_by (rule_number (map rule_view views))) rule_view views))

@@ -18,18 +18,27 @@ pub atom_tree : (node : Node Lead) (a : Lead) → node ≡ nodes.Atom a → atom
 atom_tree node a is = sym (ap element_of is ∙ of_atom a)
 
 -- a block
-pub block_tree : (node : Node Lead) (label : Option Label) (repeat : Repeat) (alternatives : Vec (Side Lead) Global) (slice : List (Side Lead)) → node ≡ nodes.Block label repeat alternatives → slice ≡ alternatives.items → block label repeat (either (map alternative_of slice)) ≡ element_of node
-block_tree node label repeat alternatives slice is whole = ap (λ (xs : List (Side Lead)). block label repeat (either (map alternative_of xs))) whole ∙ sym (ap element_of is ∙ of_block label repeat alternatives)
+pub block_tree : (node : Node Lead) (label : Option Label) (repeat : Repeat) (alternatives : Vec (Side Lead) Global)
+    (slice : List (Side Lead)) → node ≡ nodes.Block label repeat alternatives → slice ≡ alternatives.items
+    → block label repeat (either (map alternative_of slice)) ≡ element_of node
+block_tree node label repeat alternatives slice is whole =
+    ap (λ (xs : List (Side Lead)). block label repeat (either (map alternative_of xs))) whole
+    ∙ sym (ap element_of is ∙ of_block label repeat alternatives)
 
 -- an alternative of a list
-pub side_at : (sides : List (Side Lead)) (i : ℕ) (side : Side Lead) (elements : List (Node Lead)) → i < length sides → side ≡ get_or sides i side → elements ≡ (out-Alternative Lead side).elements.items → slice_get (map alternative_of sides) i ≡ Some (in_order (map element_of elements))
+pub side_at : (sides : List (Side Lead)) (i : ℕ) (side : Side Lead) (elements : List (Node Lead)) → i < length sides
+    → side ≡ get_or sides i side → elements ≡ (out-Alternative Lead side).elements.items
+    → slice_get (map alternative_of sides) i ≡ Some (in_order (map element_of elements))
 side_at sides i side elements within item whole =
-    mapped_at alternative_of sides i side (slice_get_read sides (length sides) i side refl within item) ∙ ap Some (of_alternative side ∙ ap (λ (xs : List (Node Lead)). in_order (map element_of xs)) (sym whole))
+    mapped_at alternative_of sides i side (slice_get_read sides (length sides) i side refl within item)
+    ∙ ap Some (of_alternative side ∙ ap (λ (xs : List (Node Lead)). in_order (map element_of xs)) (sym whole))
 
 -- an element of a list
-pub node_at : (all : List (Node Lead)) (i : ℕ) (node : Node Lead) → i < length all → node ≡ get_or all i node → slice_get (map element_of all) i ≡ Some (element_of node)
+pub node_at : (all : List (Node Lead)) (i : ℕ) (node : Node Lead) → i < length all → node ≡ get_or all i node
+    → slice_get (map element_of all) i ≡ Some (element_of node)
 node_at all i node within item = mapped_at element_of all i node (slice_get_read all (length all) i node refl within item)
 
 -- the elements of an alternative of a rule
-pub elements_at : (all : List (Elements Lead)) (i : ℕ) (x : Elements Lead) (elements : List (Node Lead)) → i < length all → x ≡ get_or all i x → in_order (map element_of elements) ≡ x → slice_get all i ≡ Some (in_order (map element_of elements))
+pub elements_at : (all : List (Elements Lead)) (i : ℕ) (x : Elements Lead) (elements : List (Node Lead)) → i < length all
+    → x ≡ get_or all i x → in_order (map element_of elements) ≡ x → slice_get all i ≡ Some (in_order (map element_of elements))
 elements_at all i x elements within item tree = slice_get_read all (length all) i x refl within item ∙ ap Some (sym tree)

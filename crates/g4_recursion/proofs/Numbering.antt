@@ -16,12 +16,15 @@ abbrev pub AreNumbered : List RuleView → ℕ → Numbers → Type 0
 AreNumbered rules i numbers = AreNumbers (map rule_view (take i rules)) numbers
 
 -- and with the next rule
-pub one_numbered : (rules : List RuleView) (i : ℕ) (rule : RuleView) (old new : Numbers) → i < length rules → rule ≡ get_or rules i rule → AreNumbered rules i old →
-    ((kind : RuleKind) (name : List ℕ) → number_in new kind name ≡ option_or (number_in old kind name) (cond (is_rule_of kind name (rule_view rule)) (Some i) None)) → AreNumbered rules (i + 1) new
+pub one_numbered : (rules : List RuleView) (i : ℕ) (rule : RuleView) (old new : Numbers) → i < length rules
+    → rule ≡ get_or rules i rule → AreNumbered rules i old →
+    ((kind : RuleKind) (name : List ℕ) → number_in new kind name
+    ≡ option_or (number_in old kind name) (cond (is_rule_of kind name (rule_view rule)) (Some i) None)) → AreNumbered rules (i + 1) new
 one_numbered rules i rule old new within item before added kind name =
     let front : List _ = map rule_view (take i rules) in
     let next : map rule_view (take (i + 1) rules) ≡ front ++ rule_view rule ∷ [] =
-    ap (map rule_view) (take_more rules i rule within ∙ ap (λ (r : RuleView). take i rules ++ r ∷ []) (sym item)) ∙ map-append rule_view (take i rules) (rule ∷ []) in
+    ap (map rule_view) (take_more rules i rule within ∙ ap (λ (r : RuleView). take i rules ++ r ∷ []) (sym item))
+    ∙ map-append rule_view (take i rules) (rule ∷ []) in
     let long : length front ≡ i = omega (arith, length-map (take i rules) rule_view, length-take i rules) in
     added kind name
     ∙ (ap (λ (o : Option ℕ). option_or o (cond (is_rule_of kind name (rule_view rule)) (Some i) None)) (before kind name)

@@ -37,10 +37,13 @@ module _ (rules : List Rule) where
   one_rule P name other (j, least, named) (k, least', named') = one_name j k name other (one_least P j k least least') named named'
 
   -- the first empty operator is one
-  one_operator : (name other : List ℕ) (i i' : ℕ) → IsFirstOperator rules name i → IsFirstOperator rules other i' → (name ≡ other) × (i ≡ i')
+  one_operator : (name other : List ℕ) (i i' : ℕ) → IsFirstOperator rules name i → IsFirstOperator rules other i'
+      → (name ≡ other) × (i ≡ i')
   one_operator name other i i' (j, least, place, named) (k, least', place', named') =
-      let same : j ≡ k = one_least (HasEmptyOperator rules) j k least least' in
-      (one_name j k name other same named named', one_least (IsEmptyOperator rules k) i i' (subst (λ (n : ℕ). IsLeast (IsEmptyOperator rules n) i) same place) place')
+      let same : j ≡ k = one_least (HasEmptyOperator rules) j k least least' in (
+        one_name j k name other same named named',
+        one_least (IsEmptyOperator rules k) i i' (subst (λ (n : ℕ). IsLeast (IsEmptyOperator rules n) i) same place) place',
+      )
 
   -- the names of the first cycle are one list
   one_cycle : (names others : List (List ℕ)) → AreCycle rules names → AreCycle rules others → names ≡ others
@@ -50,7 +53,9 @@ module _ (rules : List Rule) where
 
   -- where no rule reaches itself, there is no cycle
   no_cycle : (names : List (List ℕ)) → HaveNoLeftCycle rules → AreCycle rules names → ⊥
-  no_cycle names none (cycle, first, named) = none first.first (reaches_left rules first.first first.first (reaches_first (RuleLeftCalls rules) first.first cycle first.shortest.begins first.shortest.is_cycle))
+  no_cycle names none (cycle, first, named) = none first.first
+      (reaches_left rules first.first first.first
+      (reaches_first (RuleLeftCalls rules) first.first cycle first.shortest.begins first.shortest.is_cycle))
 
   -- no rule has the property, or one is the first
   not_first : (P : ℕ → Type 0) (name : List ℕ) → ((k : ℕ) → P k → ⊥) → IsFirstRule rules P name → ⊥
@@ -78,19 +83,22 @@ module _ (rules : List Rule) where
   one_recursion (Ok _) (Err (EmptyLoop name)) h k n m = absurd (not_loop name h.0.1 k.1)
   one_recursion (Ok _) (Err (LeftCycle names)) h k n m = absurd (no_cycle names h.1 k.1)
   one_recursion (Err (NoPrimary name)) (Ok _) h k n m = absurd (not_first (LacksPrimary rules) name k.0.0.0 h)
-  one_recursion (Err (NoPrimary name)) (Err (NoPrimary other)) h k n m = ap (λ x. Err (NoPrimary x)) (one_rule (LacksPrimary rules) name other h k)
+  one_recursion (Err (NoPrimary name)) (Err (NoPrimary other)) h k n m =
+      ap (λ x. Err (NoPrimary x)) (one_rule (LacksPrimary rules) name other h k)
   one_recursion (Err (NoPrimary name)) (Err (EmptyOperator other i)) h k n m = absurd (not_first (LacksPrimary rules) name k.0 h)
   one_recursion (Err (NoPrimary name)) (Err (EmptyLoop other)) h k n m = absurd (not_first (LacksPrimary rules) name k.0.0 h)
   one_recursion (Err (NoPrimary name)) (Err (LeftCycle others)) h k n m = absurd (not_first (LacksPrimary rules) name k.0.0.0 h)
   one_recursion (Err (EmptyOperator name i)) (Ok _) h k n m = absurd (not_operator name i k.0.0.1 h.1)
   one_recursion (Err (EmptyOperator name i)) (Err (NoPrimary other)) h k n m = absurd (not_first (LacksPrimary rules) other h.0 k)
-  one_recursion (Err (EmptyOperator name i)) (Err (EmptyOperator other j)) h k n m = let (same, place) = one_operator name other i j h.1 k.1 in cc
+  one_recursion (Err (EmptyOperator name i)) (Err (EmptyOperator other j)) h k n m = let (same, place) =
+      one_operator name other i j h.1 k.1 in cc
   one_recursion (Err (EmptyOperator name i)) (Err (EmptyLoop other)) h k n m = absurd (not_operator name i k.0.1 h.1)
   one_recursion (Err (EmptyOperator name i)) (Err (LeftCycle others)) h k n m = absurd (not_operator name i k.0.0.1 h.1)
   one_recursion (Err (EmptyLoop name)) (Ok _) h k n m = absurd (not_loop name k.0.1 h.1)
   one_recursion (Err (EmptyLoop name)) (Err (NoPrimary other)) h k n m = absurd (not_first (LacksPrimary rules) other h.0.0 k)
   one_recursion (Err (EmptyLoop name)) (Err (EmptyOperator other j)) h k n m = absurd (not_operator other j h.0.1 k.1)
-  one_recursion (Err (EmptyLoop name)) (Err (EmptyLoop other)) h k n m = ap (λ x. Err (EmptyLoop x)) (one_rule (HasEmptyLoop rules) name other h.1 k.1)
+  one_recursion (Err (EmptyLoop name)) (Err (EmptyLoop other)) h k n m =
+      ap (λ x. Err (EmptyLoop x)) (one_rule (HasEmptyLoop rules) name other h.1 k.1)
   one_recursion (Err (EmptyLoop name)) (Err (LeftCycle others)) h k n m = absurd (not_loop name k.0.1 h.1)
   one_recursion (Err (LeftCycle names)) (Ok _) h k n m = absurd (no_cycle names k.1 h.1)
   one_recursion (Err (LeftCycle names)) (Err (NoPrimary other)) h k n m = absurd (not_first (LacksPrimary rules) other h.0.0.0 k)

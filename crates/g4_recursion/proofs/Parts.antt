@@ -14,10 +14,13 @@ use Rattle.g4_recursion.specs.Leads.{ReadsLead, CallsLead, IsNullableRule}
 
 module _ (rules : List (Alternatives Lead)) where
   -- alternatives
-  pub one_parts : (x : Elements Lead) (xs : Alternatives Lead) → OneNullable ReadsLead CallsLead rules (or x xs) ↔ (AllNullable ReadsLead CallsLead rules x ⊎ OneNullable ReadsLead CallsLead rules xs)
+  pub one_parts : (x : Elements Lead) (xs : Alternatives Lead)
+      → OneNullable ReadsLead CallsLead rules (or x xs)
+      ↔ (AllNullable ReadsLead CallsLead rules x ⊎ OneNullable ReadsLead CallsLead rules xs)
   one_parts x xs = (to, λ h. elim h [ inl a ↦ this x xs a | inr o ↦ another x xs o ])
     where
-      to : OneNullable ReadsLead CallsLead rules (or x xs) → AllNullable ReadsLead CallsLead rules x ⊎ OneNullable ReadsLead CallsLead rules xs
+      to : OneNullable ReadsLead CallsLead rules (or x xs)
+          → AllNullable ReadsLead CallsLead rules x ⊎ OneNullable ReadsLead CallsLead rules xs
       to (this y ys a) = inl a
       to (another y ys o) = inr o
 
@@ -25,21 +28,26 @@ module _ (rules : List (Alternatives Lead)) where
   not_one_of_none h = elim h [ ]
 
   -- elements
-  pub all_parts : (x : Element Lead) (xs : Elements Lead) → AllNullable ReadsLead CallsLead rules (then x xs) ↔ (Nullable ReadsLead CallsLead rules x × AllNullable ReadsLead CallsLead rules xs)
+  pub all_parts : (x : Element Lead) (xs : Elements Lead)
+      → AllNullable ReadsLead CallsLead rules (then x xs)
+      ↔ (Nullable ReadsLead CallsLead rules x × AllNullable ReadsLead CallsLead rules xs)
   all_parts x xs = (to, λ h. one_more x xs h.0 h.1)
     where
-      to : AllNullable ReadsLead CallsLead rules (then x xs) → Nullable ReadsLead CallsLead rules x × AllNullable ReadsLead CallsLead rules xs
+      to : AllNullable ReadsLead CallsLead rules (then x xs)
+          → Nullable ReadsLead CallsLead rules x × AllNullable ReadsLead CallsLead rules xs
       to (one_more y ys h hs) = (h, hs)
 
   -- a block that is taken once
-  pub once_parts : (label : Option Label) (xs : Alternatives Lead) → OneNullable ReadsLead CallsLead rules xs ↔ Nullable ReadsLead CallsLead rules (block label Once xs)
+  pub once_parts : (label : Option Label) (xs : Alternatives Lead)
+      → OneNullable ReadsLead CallsLead rules xs ↔ Nullable ReadsLead CallsLead rules (block label Once xs)
   once_parts label xs = (λ h. a_block label xs h, from)
     where
       from : Nullable ReadsLead CallsLead rules (block label Once xs) → OneNullable ReadsLead CallsLead rules xs
       from (a_block name ys one) = one
 
   -- a plus
-  pub plus_parts : (label : Option Label) (sign : Suffix) (xs : Alternatives Lead) → OneNullable ReadsLead CallsLead rules xs ↔ Nullable ReadsLead CallsLead rules (block label (Plus sign) xs)
+  pub plus_parts : (label : Option Label) (sign : Suffix) (xs : Alternatives Lead)
+      → OneNullable ReadsLead CallsLead rules xs ↔ Nullable ReadsLead CallsLead rules (block label (Plus sign) xs)
   plus_parts label sign xs = (λ h. a_plus label sign xs h, from)
     where
       from : Nullable ReadsLead CallsLead rules (block label (Plus sign) xs) → OneNullable ReadsLead CallsLead rules xs

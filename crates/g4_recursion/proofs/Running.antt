@@ -16,14 +16,16 @@ use Rattle.g4_recursion.proofs.Over.{mapped_back}
 
 module _ (rules : List Rule) where
   -- an operator that can be passed without reading is an empty operator by its number
-  numbered : (k : ℕ) (rule : Rule) → slice_get rules k ≡ Some rule → (x rest : Elements AtomIn) → IsOneOf (body_of rule) x → IsOperator (OwnIn rules) k x rest → AllNullable ReadsIn (CallsIn rules) (bodies_of rules) rest → checking.HasEmptyOperator rules k
+  numbered : (k : ℕ) (rule : Rule) → slice_get rules k ≡ Some rule → (x rest : Elements AtomIn) → IsOneOf (body_of rule) x
+      → IsOperator (OwnIn rules) k x rest → AllNullable ReadsIn (CallsIn rules) (bodies_of rules) rest → checking.HasEmptyOperator rules k
   numbered k (Parser rule) at x rest one begins null =
       let (place, among) = one_place rule.alternatives x one in
       (place + 1, (rest, (x, record { rule = rule; at = at; place = place; number = refl; among = among }, begins), null))
   numbered k (Lexer rule) at x rest one begins null = absurd (no_lexer_operator rules k (lexer_alternatives_of rule) x rest one begins)
 
   -- a rule with such an operator has an empty operator by its number
-  empty_operator : (k : ℕ) (xs : Alternatives AtomIn) → slice_get (bodies_of rules) k ≡ Some xs → HasEmptyOperator ReadsIn (CallsIn rules) (OwnIn rules) (bodies_of rules) k xs → checking.HasEmptyOperator rules k
+  empty_operator : (k : ℕ) (xs : Alternatives AtomIn) → slice_get (bodies_of rules) k ≡ Some xs
+      → HasEmptyOperator ReadsIn (CallsIn rules) (OwnIn rules) (bodies_of rules) k xs → checking.HasEmptyOperator rules k
   empty_operator k xs at (x, rest, one, begins, null) =
       let (rule, there, is) = mapped_back body_of rules k xs at in
       numbered k rule there x rest (subst (λ (ys : Alternatives AtomIn). IsOneOf ys x) is one) begins null

@@ -9,7 +9,8 @@ abbrev pub NoneBelow : (ℕ → Type 0) → ℕ → Type 0
 NoneBelow P n = (k : ℕ) → k < n → P k → ⊥
 
 -- the images of items up to the next one
-pub image_more : {X Y : Type 0} (F : X → Y) (xs : List X) (i : ℕ) (x : X) (y : Y) (old new : List Y) → i < length xs → x ≡ get_or xs i x → y ≡ F x → new ≡ old ++ y ∷ [] → old ≡ map F (take i xs) → new ≡ map F (take (i + 1) xs)
+pub image_more : {X Y : Type 0} (F : X → Y) (xs : List X) (i : ℕ) (x : X) (y : Y) (old new : List Y) → i < length xs
+    → x ≡ get_or xs i x → y ≡ F x → new ≡ old ++ y ∷ [] → old ≡ map F (take i xs) → new ≡ map F (take (i + 1) xs)
 image_more F xs i x y old new within item image pushed before =
     let next : map F (take (i + 1) xs) ≡ map F (take i xs) ++ F x ∷ [] =
     ap (map F) (take_more xs i x within ∙ ap (λ (z : _). take i xs ++ z ∷ []) (sym item)) ∙ map-append F (take i xs) (x ∷ []) in

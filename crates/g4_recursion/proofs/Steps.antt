@@ -13,7 +13,8 @@ pub in_nothing : {X : Type 0} (x : X) → Contains [] x → ⊥
 in_nothing x h = omega (arith, h.1)
 
 -- the item that is pushed, or one from before
-pub pushed_cases : {X : Type 0} (xs : List X) (y : X) (k : ℕ) (x : X) → slice_get (xs ++ y ∷ []) k ≡ Some x → (slice_get xs k ≡ Some x) ⊎ ((k ≡ length xs) × (y ≡ x))
+pub pushed_cases : {X : Type 0} (xs : List X) (y : X) (k : ℕ) (x : X) → slice_get (xs ++ y ∷ []) k ≡ Some x
+    → (slice_get xs k ≡ Some x) ⊎ ((k ≡ length xs) × (y ≡ x))
 pushed_cases [] y zero x at = inr (refl, same_Some y x at)
 pushed_cases [] y (suc k) x at = absurd (let n : ⊥ = cc in n)
 pushed_cases (z ∷ xs) y zero x at = inl at
@@ -37,7 +38,8 @@ or_tells X Y c a b is x y = (
 )
 
 -- one more item of which one must do
-pub or_more : (X S R A : Type 0) (new old next : Bool) → new ≡ (old || next) → (IsTrue next ↔ X) → (S ↔ (X ⊎ R)) → ((IsTrue old ⊎ S) ↔ A) → (IsTrue new ⊎ R) ↔ A
+pub or_more : (X S R A : Type 0) (new old next : Bool) → new ≡ (old || next) → (IsTrue next ↔ X) → (S ↔ (X ⊎ R))
+    → ((IsTrue old ⊎ S) ↔ A) → (IsTrue new ⊎ R) ↔ A
 or_more X S R A new old next is x s all = (λ h. all.0 (to h), λ a. from (all.1 a))
   where
     to : IsTrue new ⊎ R → IsTrue old ⊎ S
@@ -49,7 +51,8 @@ or_more X S R A new old next is x s all = (λ h. all.0 (to h), λ a. from (all.1
     from (inr t) = elim (s.0 t) [ inl p ↦ inl ((true_or new old next is).1 (inr (x.1 p))) | inr r ↦ inr r ]
 
 -- one more item of which each must do
-pub and_more : (X S R A : Type 0) (new old next : Bool) → new ≡ (old && next) → (IsTrue next ↔ X) → (S ↔ (X × R)) → ((IsTrue old × S) ↔ A) → (IsTrue new × R) ↔ A
+pub and_more : (X S R A : Type 0) (new old next : Bool) → new ≡ (old && next) → (IsTrue next ↔ X) → (S ↔ (X × R))
+    → ((IsTrue old × S) ↔ A) → (IsTrue new × R) ↔ A
 and_more X S R A new old next is x s all = (
   λ h. let both = (true_and new old next is).0 h.0 in all.0 (both.0, s.1 (x.0 both.1, h.1)),
   λ a. let before = all.1 a in let parts = s.0 before.1 in ((true_and new old next is).1 (before.0, x.1 parts.0), parts.1),

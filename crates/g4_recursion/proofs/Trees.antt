@@ -34,20 +34,23 @@ alternative_at (y ∷ xs) zero x at = inl (same_Some y x at)
 alternative_at (y ∷ xs) (suc i) x at = inr (alternative_at xs i x at)
 
 -- an alternative is one of the first or the last one
-pub alternative_cases : (xs : List (Elements Lead)) (y x : Elements Lead) → IsAlternative (either (xs ++ y ∷ [])) x → IsAlternative (either xs) x ⊎ (y ≡ x)
+pub alternative_cases : (xs : List (Elements Lead)) (y x : Elements Lead) → IsAlternative (either (xs ++ y ∷ [])) x
+    → IsAlternative (either xs) x ⊎ (y ≡ x)
 alternative_cases [] y x (inl e) = inr e
 alternative_cases [] y x (inr h) = absurd h
 alternative_cases (z ∷ xs) y x (inl e) = inl (inl e)
 alternative_cases (z ∷ xs) y x (inr h) = elim (alternative_cases xs y x h) [ inl early ↦ inl (inr early) | inr last ↦ inr last ]
 
 -- each element derives the empty word where all do
-pub nullable_at : (rules : List (Alternatives Lead)) (xs : List (Element Lead)) (i : ℕ) (x : Element Lead) → slice_get xs i ≡ Some x → AllNullable ReadsLead CallsLead rules (in_order xs) → Nullable ReadsLead CallsLead rules x
+pub nullable_at : (rules : List (Alternatives Lead)) (xs : List (Element Lead)) (i : ℕ) (x : Element Lead) → slice_get xs i ≡ Some x
+    → AllNullable ReadsLead CallsLead rules (in_order xs) → Nullable ReadsLead CallsLead rules x
 nullable_at rules [] i x at all = absurd (let n : ⊥ = cc in n)
 nullable_at rules (y ∷ xs) zero x at (one_more z zs h hs) = subst (Nullable ReadsLead CallsLead rules) (same_Some y x at) h
 nullable_at rules (y ∷ xs) (suc i) x at (one_more z zs h hs) = nullable_at rules xs i x at hs
 
 -- alternatives derive the empty word where one of them does
-pub one_of : (rules : List (Alternatives Lead)) (xs : Alternatives Lead) (x : Elements Lead) → IsAlternative xs x → AllNullable ReadsLead CallsLead rules x → OneNullable ReadsLead CallsLead rules xs
+pub one_of : (rules : List (Alternatives Lead)) (xs : Alternatives Lead) (x : Elements Lead) → IsAlternative xs x
+    → AllNullable ReadsLead CallsLead rules x → OneNullable ReadsLead CallsLead rules xs
 one_of rules none x h all = absurd h
 one_of rules (or y ys) x (inl e) all = this y ys (subst (AllNullable ReadsLead CallsLead rules) (sym e) all)
 one_of rules (or y ys) x (inr h) all = another y ys (one_of rules ys x h all)

@@ -41,8 +41,10 @@ module _ (number_of : RuleKind → List ℕ → Option ℕ) where
 
   -- the alternatives of a rule
   abbrev pub leads_by : Rule → List (Elements Lead)
-  leads_by (rule_variants.Parser rule) = map (λ alternative. in_order_over (λ a. lead_by Parser a.kind) alternative.elements) rule.alternatives
-  leads_by (rule_variants.Lexer rule) = map (λ alternative. in_order_over (λ a. lead_by Lexer a.kind) alternative.elements) rule.alternatives
+  leads_by (rule_variants.Parser rule) = map (λ alternative. in_order_over (λ a. lead_by Parser a.kind) alternative.elements)
+      rule.alternatives
+  leads_by (rule_variants.Lexer rule) = map (λ alternative. in_order_over (λ a. lead_by Lexer a.kind) alternative.elements)
+      rule.alternatives
 
 -- an atom of one of the rules
 abbrev pub lead_in : List Rule → AtomIn → Lead
@@ -64,7 +66,8 @@ operators_in rules = map may_have_operators rules
 -- there are alternatives, and each begins with a call of rule k
 pub record AllBegin (k : ℕ) (alternatives : List (Elements Lead)) : Type 0 where
   pub some : 0 < length alternatives
-  pub each : (place : ℕ) (elements : Elements Lead) → slice_get alternatives place ≡ Some elements → (rest : Elements Lead) × FollowsCall k elements rest
+  pub each : (place : ℕ) (elements : Elements Lead) → slice_get alternatives place ≡ Some elements
+      → (rest : Elements Lead) × FollowsCall k elements rest
 
 -- the elements begin with a call of rule k, and what follows derives the empty word
 abbrev pub IsEmptyAfterCall : List (Alternatives Lead) → ℕ → Elements Lead → Type 0
@@ -72,4 +75,5 @@ IsEmptyAfterCall rules k elements = (rest : Elements Lead) × FollowsCall k elem
 
 -- the alternative at this place does
 abbrev pub IsEmptyAt : List (Alternatives Lead) → ℕ → List (Elements Lead) → ℕ → Type 0
-IsEmptyAt rules k alternatives place = (elements : Elements Lead) × (slice_get alternatives place ≡ Some elements) × IsEmptyAfterCall rules k elements
+IsEmptyAt rules k alternatives place = (elements : Elements Lead) × (slice_get alternatives place ≡ Some elements)
+    × IsEmptyAfterCall rules k elements

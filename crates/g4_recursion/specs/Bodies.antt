@@ -48,7 +48,8 @@ module _ (rules bodies : List (Alternatives Lead)) where
 
   -- each alternative that may derive the empty word has a clause
   abbrev pub IsCovered : List Clause → ℕ → Alternatives Lead → Type 0
-  IsCovered clauses number xs = (x : Elements Lead) → IsAlternative xs x → AllNullable ReadsLead CallsLead rules x → HasClause clauses number x
+  IsCovered clauses number xs = (x : Elements Lead) → IsAlternative xs x → AllNullable ReadsLead CallsLead rules x
+      → HasClause clauses number x
 
   -- the same of each body
   abbrev pub AreCovered : List Clause → Type 0
@@ -72,4 +73,5 @@ pub record Grows (rules bodies later : List (Alternatives Lead)) (before after :
   pub are_bodies : AreBodies rules later after
   pub bodies_kept : (k : ℕ) (xs : Alternatives Lead) → slice_get bodies k ≡ Some xs → slice_get later k ≡ Some xs
   pub clauses_kept : (clause : Clause) → Contains before.clauses.items clause → Contains after.clauses.items clause
-  pub covered : (k : ℕ) (xs : Alternatives Lead) → slice_get later k ≡ Some xs → length bodies ≤ k → IsCovered rules later after.clauses.items k xs
+  pub covered : (k : ℕ) (xs : Alternatives Lead) → slice_get later k ≡ Some xs → length bodies ≤ k
+      → IsCovered rules later after.clauses.items k xs

@@ -59,7 +59,8 @@ module _ (rules : List Rule) where
 
   -- rule k has a loop whose body derives the empty word
   abbrev pub HasEmptyLoop : ℕ → Type 0
-  HasEmptyLoop k = (body : Alternatives AtomIn) × (slice_get (bodies_of rules) k ≡ Some body) × SomeHasEmptyLoop ReadsIn (CallsIn rules) (bodies_of rules) body
+  HasEmptyLoop k = (body : Alternatives AtomIn) × (slice_get (bodies_of rules) k ≡ Some body)
+      × SomeHasEmptyLoop ReadsIn (CallsIn rules) (bodies_of rules) body
 
   -- no parser rule lacks a primary
   abbrev pub HavePrimaries : Type 0

@@ -1,3 +1,4 @@
+-- Other crates cite Checking; only this crate cites AtomLeads, Bodies, Finds, Grammars, Leads, Least, Numbers.
 pub mod AtomLeads
 pub mod Bodies
 pub mod Checking

@@ -19,7 +19,9 @@ use std::alloc::{AllocError, Global};
 
 /// Adds the call of an atom, and says whether the atom derives the empty word.
 fn of_lead(nullable: &[bool], lead: Lead, calls: &mut Vec<u32>) -> Result<bool, AllocError>
-    ensures { IfOk result (λ answer. (rules : List (Alternatives Atom)) → Tells nullable.now (IsNullableRule rules) → TellsCalls answer calls.old.items calls.new.items (Nullable ReadsLead CallsLead rules (lone lead)) (IsLeftOf ReadsLead CallsLead rules (lone lead))) }
+    ensures { IfOk result (λ answer. (rules : List (Alternatives Atom)) → Tells nullable.now (IsNullableRule rules)
+        → TellsCalls answer calls.old.items calls.new.items (Nullable ReadsLead CallsLead rules (lone lead))
+        (IsLeftOf ReadsLead CallsLead rules (lone lead))) }
 {
     if let Lead::Call(rule) = lead {
         calls.push(rule)?;
@@ -34,7 +36,9 @@ fn of_element(
     element: &Element<Lead>,
     calls: &mut Vec<u32>,
 ) -> Result<bool, AllocError>
-    ensures { IfOk result (λ answer. (rules : List (Alternatives Atom)) → Tells nullable.now (IsNullableRule rules) → TellsCalls answer calls.old.items calls.new.items (Nullable ReadsLead CallsLead rules (element_of element.now)) (IsLeftOf ReadsLead CallsLead rules (element_of element.now))) }
+    ensures { IfOk result (λ answer. (rules : List (Alternatives Atom)) → Tells nullable.now (IsNullableRule rules)
+        → TellsCalls answer calls.old.items calls.new.items (Nullable ReadsLead CallsLead rules (element_of element.now))
+        (IsLeftOf ReadsLead CallsLead rules (element_of element.now))) }
 {
     match element {
         Element::Atom(lead) => {
@@ -50,7 +54,9 @@ fn of_element(
 
 /// Whether a block derives the empty word, by whether one of its alternatives does.
 fn is_nullable_block(repeat: Repeat, body: bool) -> bool
-    ensures { (rules : List (Alternatives Atom)) (label : Option Named) (xs : Alternatives Atom) → (IsTrue body ↔ OneNullable ReadsLead CallsLead rules xs) → IsTrue result ↔ Nullable ReadsLead CallsLead rules (block label repeat xs) }
+    ensures { (rules : List (Alternatives Atom)) (label : Option Named) (xs : Alternatives Atom)
+        → (IsTrue body ↔ OneNullable ReadsLead CallsLead rules xs)
+        → IsTrue result ↔ Nullable ReadsLead CallsLead rules (block label repeat xs) }
 {
     match repeat {
         Repeat::Once => body,
@@ -74,7 +80,10 @@ fn of_either(
     alternatives: &[Alternative<Lead>],
     calls: &mut Vec<u32>,
 ) -> Result<bool, AllocError>
-    ensures { IfOk result (λ answer. (rules : List (Alternatives Atom)) → Tells nullable.now (IsNullableRule rules) → TellsCalls answer calls.old.items calls.new.items (OneNullable ReadsLead CallsLead rules (either (map alternative_of alternatives.now))) (IsLeftOfOne ReadsLead CallsLead rules (either (map alternative_of alternatives.now)))) }
+    ensures { IfOk result (λ answer. (rules : List (Alternatives Atom)) → Tells nullable.now (IsNullableRule rules)
+        → TellsCalls answer calls.old.items calls.new.items
+        (OneNullable ReadsLead CallsLead rules (either (map alternative_of alternatives.now)))
+        (IsLeftOfOne ReadsLead CallsLead rules (either (map alternative_of alternatives.now)))) }
 {
     let mut found = false;
     for alternative in alternatives {
@@ -91,7 +100,10 @@ fn of_elements(
     elements: &[Element<Lead>],
     calls: &mut Vec<u32>,
 ) -> Result<bool, AllocError>
-    ensures { IfOk result (λ answer. (rules : List (Alternatives Atom)) → Tells nullable.now (IsNullableRule rules) → TellsCalls answer calls.old.items calls.new.items (AllNullable ReadsLead CallsLead rules (in_order (map element_of elements.now))) (IsLeftOfAll ReadsLead CallsLead rules (in_order (map element_of elements.now)))) }
+    ensures { IfOk result (λ answer. (rules : List (Alternatives Atom)) → Tells nullable.now (IsNullableRule rules)
+        → TellsCalls answer calls.old.items calls.new.items
+        (AllNullable ReadsLead CallsLead rules (in_order (map element_of elements.now)))
+        (IsLeftOfAll ReadsLead CallsLead rules (in_order (map element_of elements.now)))) }
 {
     for element in elements {
         let answer = of_element(nullable, element, calls)?;
@@ -110,7 +122,10 @@ fn of_alternative(
     elements: &[Element<Lead>],
     calls: &mut Vec<u32>,
 ) -> Result<(), AllocError>
-    ensures { OnOk result ((rules : List (Alternatives Atom)) (operators : List Bool) → Tells nullable.now (IsNullableRule rules) → slice_get operators number ≡ Some may_have_operators → (j : ℕ) → Contains calls.new.items j ↔ (Contains calls.old.items j ⊎ IsLeftAsRun ReadsLead CallsLead (OwnLead operators) rules number (in_order (map element_of elements.now)) j)) }
+    ensures { OnOk result ((rules : List (Alternatives Atom)) (operators : List Bool) → Tells nullable.now (IsNullableRule rules)
+        → slice_get operators number ≡ Some may_have_operators → (j : ℕ)
+        → Contains calls.new.items j ↔ (Contains calls.old.items j
+        ⊎ IsLeftAsRun ReadsLead CallsLead (OwnLead operators) rules number (in_order (map element_of elements.now)) j)) }
 {
     match after_own_call(may_have_operators, number, elements) {
         Some(rest) => {
@@ -132,7 +147,9 @@ fn of_rule(
     number: usize,
     rule: &LeadRule,
 ) -> Result<Vec<u32>, AllocError>
-    ensures { IfOk result (λ calls. (rules : List (Alternatives Atom)) (operators : List Bool) → Tells nullable.now (IsNullableRule rules) → slice_get operators number ≡ Some rule.now.may_have_operators → (j : ℕ) → Contains calls.items j ↔ IsLeftOfOneAsRun ReadsLead CallsLead (OwnLead operators) rules number (alternatives_of rule.now) j) }
+    ensures { IfOk result (λ calls. (rules : List (Alternatives Atom)) (operators : List Bool)
+        → Tells nullable.now (IsNullableRule rules) → slice_get operators number ≡ Some rule.now.may_have_operators → (j : ℕ)
+        → Contains calls.items j ↔ IsLeftOfOneAsRun ReadsLead CallsLead (OwnLead operators) rules number (alternatives_of rule.now) j) }
 {
     let mut calls = Vec::new(alloc);
     let operators = rule.may_have_operators;
@@ -154,7 +171,8 @@ pub fn left_calls(
 ) -> Result<Vec<Vec<u32>>, AllocError>
     requires { Tells nullable.now (IsNullableRule (trees_of rules.now)) }
     ensures count { IfOk result (λ all. vec_len all ≡ length rules.now) }
-    ensures calls { IfOk result (λ all. (k : ℕ) (calls : Vec ℕ TheGlobal) → slice_get all.items k ≡ Some calls → (j : ℕ) → Contains calls.items j ↔ LeftCallsAsRun ReadsLead CallsLead (OwnLead (operators_of rules.now)) (trees_of rules.now) k j) }
+    ensures calls { IfOk result (λ all. (k : ℕ) (calls : Vec ℕ TheGlobal) → slice_get all.items k ≡ Some calls → (j : ℕ)
+        → Contains calls.items j ↔ LeftCallsAsRun ReadsLead CallsLead (OwnLead (operators_of rules.now)) (trees_of rules.now) k j) }
 {
     let mut all = Vec::with_capacity(alloc, rules.len())?;
     for (number, rule) in rules.iter().enumerate() {

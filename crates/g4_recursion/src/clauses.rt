@@ -10,8 +10,8 @@ ghost use Rattle.g4_recursion.specs.Leads.{ReadsLead, CallsLead, trees_of};
 ghost use Rattle.g4_recursion.specs.Bodies.{AddsNeeds, AreBodies, AreCovered, Grows, HasClause, IsAlternative, IsCovered};
 
 use crate::{Lead, LeadRule};
-use g4_source::{Alternative, Element, Elements, Repeat};
 use g4_horn::Clause;
+use g4_source::{Alternative, Element, Elements, Repeat};
 use std::alloc::{AllocError, Global};
 
 /// The bodies so far.
@@ -41,7 +41,8 @@ impl Bodies {
 
 /// Adds the need of an atom, and says whether the atom may derive the empty word.
 fn add_need_of_lead(rules: u32, lead: Lead, needs: &mut Vec<u32>) -> Result<bool, AllocError>
-    ensures { IfOk result (λ can. (all bodies : List (Alternatives Atom)) → rules ≡ length all → AddsNeeds all bodies (lone lead) needs.old.items needs.new.items can) }
+    ensures { IfOk result (λ can. (all bodies : List (Alternatives Atom)) → rules ≡ length all
+        → AddsNeeds all bodies (lone lead) needs.old.items needs.new.items can) }
 {
     match lead {
         Lead::Empty => Ok(true),
@@ -65,7 +66,9 @@ fn add_needs(
     element: &Element<Lead>,
     needs: &mut Vec<u32>,
 ) -> Result<bool, AllocError>
-    ensures { IfOk result (λ can. (rules bodies : List (Alternatives Atom)) → AreBodies rules bodies made.old → (later : List (Alternatives Atom)) × Grows rules bodies later made.old made.new × AddsNeeds rules later (element_of element.now) needs.old.items needs.new.items can) }
+    ensures { IfOk result (λ can. (rules bodies : List (Alternatives Atom)) → AreBodies rules bodies made.old
+        → (later : List (Alternatives Atom)) × Grows rules bodies later made.old made.new
+        × AddsNeeds rules later (element_of element.now) needs.old.items needs.new.items can) }
 {
     match element {
         Element::Atom(lead) => {
@@ -88,7 +91,10 @@ fn add_needs_of_block(
     alternatives: &[Alternative<Lead>],
     needs: &mut Vec<u32>,
 ) -> Result<bool, AllocError>
-    ensures { IfOk result (λ can. (rules bodies : List (Alternatives Atom)) → AreBodies rules bodies made.old → (later : List (Alternatives Atom)) × Grows rules bodies later made.old made.new × ((label : Option Named) → AddsNeeds rules later (block label repeat (either (map alternative_of alternatives.now))) needs.old.items needs.new.items can)) }
+    ensures { IfOk result (λ can. (rules bodies : List (Alternatives Atom)) → AreBodies rules bodies made.old
+        → (later : List (Alternatives Atom)) × Grows rules bodies later made.old made.new
+        × ((label : Option Named) → AddsNeeds rules later (block label repeat (either (map alternative_of alternatives.now)))
+        needs.old.items needs.new.items can)) }
 {
     match repeat {
         Repeat::Optional(_) => Ok(true),
@@ -113,7 +119,9 @@ fn add_block(
     made: &mut Bodies,
     alternatives: &[Alternative<Lead>],
 ) -> Result<u32, AllocError>
-    ensures { IfOk result (λ n. (rules bodies : List (Alternatives Atom)) → AreBodies rules bodies made.old → (later : List (Alternatives Atom)) × Grows rules bodies later made.old made.new × (slice_get later n ≡ Some (either (map alternative_of alternatives.now)))) }
+    ensures { IfOk result (λ n. (rules bodies : List (Alternatives Atom)) → AreBodies rules bodies made.old
+        → (later : List (Alternatives Atom)) × Grows rules bodies later made.old made.new
+        × (slice_get later n ≡ Some (either (map alternative_of alternatives.now)))) }
 {
     let number = made.add()?;
     add_alternatives(alloc, made, number, alternatives)?;
@@ -128,7 +136,10 @@ fn add_alternatives(
     number: u32,
     alternatives: &[Alternative<Lead>],
 ) -> Result<(), AllocError>
-    ensures { OnOk result ((rules bodies : List (Alternatives Atom)) → AreBodies rules bodies made.old → slice_get bodies number ≡ Some (either (map alternative_of alternatives.now)) → (later : List (Alternatives Atom)) × Grows rules bodies later made.old made.new × IsCovered rules later made.new.clauses.items number (either (map alternative_of alternatives.now))) }
+    ensures { OnOk result ((rules bodies : List (Alternatives Atom)) → AreBodies rules bodies made.old
+        → slice_get bodies number ≡ Some (either (map alternative_of alternatives.now))
+        → (later : List (Alternatives Atom)) × Grows rules bodies later made.old made.new
+        × IsCovered rules later made.new.clauses.items number (either (map alternative_of alternatives.now))) }
 {
     for alternative in alternatives {
         add_alternative(alloc, made, number, alternative.elements.as_slice())?;
@@ -144,7 +155,11 @@ fn add_alternative(
     number: u32,
     elements: &[Element<Lead>],
 ) -> Result<(), AllocError>
-    ensures { OnOk result ((rules bodies : List (Alternatives Atom)) (body : Alternatives Atom) → AreBodies rules bodies made.old → slice_get bodies number ≡ Some body → IsAlternative body (in_order (map element_of elements.now)) → (later : List (Alternatives Atom)) × Grows rules bodies later made.old made.new × (AllNullable ReadsLead CallsLead rules (in_order (map element_of elements.now)) → HasClause rules later made.new.clauses.items number (in_order (map element_of elements.now)))) }
+    ensures { OnOk result ((rules bodies : List (Alternatives Atom)) (body : Alternatives Atom) → AreBodies rules bodies made.old
+        → slice_get bodies number ≡ Some body → IsAlternative body (in_order (map element_of elements.now))
+        → (later : List (Alternatives Atom)) × Grows rules bodies later made.old made.new
+        × (AllNullable ReadsLead CallsLead rules (in_order (map element_of elements.now))
+        → HasClause rules later made.new.clauses.items number (in_order (map element_of elements.now)))) }
 {
     let mut needs = Vec::new(alloc);
     for element in elements {
@@ -167,7 +182,10 @@ fn add_rule(
     number: u32,
     alternatives: &[Elements<Lead>],
 ) -> Result<(), AllocError>
-    ensures { OnOk result ((rules bodies : List (Alternatives Atom)) → AreBodies rules bodies made.old → slice_get bodies number ≡ Some (either alternatives.now) → (later : List (Alternatives Atom)) × Grows rules bodies later made.old made.new × IsCovered rules later made.new.clauses.items number (either alternatives.now)) }
+    ensures { OnOk result ((rules bodies : List (Alternatives Atom)) → AreBodies rules bodies made.old
+        → slice_get bodies number ≡ Some (either alternatives.now)
+        → (later : List (Alternatives Atom)) × Grows rules bodies later made.old made.new
+        × IsCovered rules later made.new.clauses.items number (either alternatives.now)) }
 {
     for elements in alternatives {
         add_alternative(alloc, made, number, elements.as_slice())?;
@@ -180,7 +198,8 @@ fn add_rule(
 /// # Errors
 /// No memory, also where there are more bodies than numbers of 32 bits.
 pub fn bodies_of(alloc: Global, rules: &[LeadRule]) -> Result<Bodies, AllocError>
-    ensures { IfOk result (λ made. (bodies : List (Alternatives Atom)) × AreBodies (trees_of rules.now) bodies made × AreCovered (trees_of rules.now) bodies made.clauses.items) }
+    ensures { IfOk result (λ made. (bodies : List (Alternatives Atom)) × AreBodies (trees_of rules.now) bodies made
+        × AreCovered (trees_of rules.now) bodies made.clauses.items) }
 {
     if rules.len() > u32::MAX as usize {
         return Err(AllocError);

@@ -7,8 +7,8 @@ ghost use Rattle.g4_recursion.specs.Leads.{IsNullableRule};
 ghost use Rattle.g4_recursion.specs.AtomLeads.{AllBegin, IsEmptyAfterCall, IsEmptyAt};
 ghost use Rattle.g4_recursion.specs.Least.{FindsLeast};
 
-use g4_source::Elements;
 use crate::{Lead, after_call, are_nullable};
+use g4_source::Elements;
 
 /// Whether there are alternatives, and each begins with a plain call of the rule of this number.
 pub fn all_begin(number: usize, alternatives: &[Elements<Lead>]) -> bool
@@ -24,7 +24,8 @@ pub fn all_begin(number: usize, alternatives: &[Elements<Lead>]) -> bool
 
 /// Whether the elements begin with a plain call of the rule of this number, and what follows derives the empty word.
 fn is_empty_after_call(nullable: &[bool], number: usize, elements: &Elements<Lead>) -> bool
-    ensures { (rules : List (Alternatives Atom)) → Tells nullable.now (IsNullableRule rules) → IsTrue result ↔ IsEmptyAfterCall rules number elements.now }
+    ensures { (rules : List (Alternatives Atom)) → Tells nullable.now (IsNullableRule rules)
+        → IsTrue result ↔ IsEmptyAfterCall rules number elements.now }
 {
     match after_call(number, elements.as_slice()) {
         Some(rest) => are_nullable(nullable, rest),
@@ -39,7 +40,8 @@ pub fn first_empty(
     number: usize,
     alternatives: &[Elements<Lead>],
 ) -> Option<usize>
-    ensures { (rules : List (Alternatives Atom)) → Tells nullable.now (IsNullableRule rules) → FindsLeast (IsEmptyAt rules number alternatives.now) result }
+    ensures { (rules : List (Alternatives Atom)) → Tells nullable.now (IsNullableRule rules)
+        → FindsLeast (IsEmptyAt rules number alternatives.now) result }
 {
     for (place, elements) in alternatives.iter().enumerate() {
         if is_empty_after_call(nullable, number, elements) {

@@ -11,9 +11,9 @@ ghost use Rattle.g4_recursion.specs.Least.{FindsLeast, IsLeast};
 
 use crate::direct::{all_begin, first_empty};
 use crate::leads::lead_rules;
+use crate::{LeadRule, has_empty_loop, left_calls, nullable};
 use g4_base::{Sequence, Text};
 use g4_cycles::first_cycle;
-use crate::{LeadRule, has_empty_loop, left_calls, nullable};
 use g4_source::{RuleView, Source, rules_of};
 use std::alloc::{AllocError, Global};
 
@@ -92,7 +92,9 @@ impl Grammar<'_> {
     /// and the place of its first one.
     pub fn first_empty_operator(&self) -> Option<(usize, usize)>
         requires { AreLeads self.now }
-        ensures first { MatchOption result ((k : ℕ) → HasEmptyOperator (rules_in self.now) k → ⊥) (λ found. IsLeast (HasEmptyOperator (rules_in self.now)) found.0 × IsLeast (IsEmptyOperator (rules_in self.now) found.0) (found.1 + 1)) }
+        ensures first { MatchOption result ((k : ℕ) → HasEmptyOperator (rules_in self.now) k → ⊥)
+            (λ found. IsLeast (HasEmptyOperator (rules_in self.now)) found.0
+            × IsLeast (IsEmptyOperator (rules_in self.now) found.0) (found.1 + 1)) }
         ensures within { IfSome result (λ found. found.0 < length (rules_in self.now)) }
     {
         for rule in 0..self.rules.len() {

@@ -7,5 +7,6 @@ ghost use Rattle.g4_recursion.specs.declared.checking.RecursionFault.TheVariants
 
 /// What is reported of rules is one answer, where memory suffices.
 pub fn one_recursion()
-    ensures { (rules : List Rule) (a b : Result ⊤ RecursionFault) → IsChecked rules a → IsChecked rules b → a ≢ Err NoMemory → b ≢ Err NoMemory → a ≡ b }
+    ensures { (rules : List Rule) (a b : Result ⊤ RecursionFault) → IsChecked rules a → IsChecked rules b → a ≢ Err NoMemory
+        → b ≢ Err NoMemory → a ≡ b }
 {}

@@ -39,7 +39,8 @@ pub(crate) fn says(answers: &[bool], rule: usize) -> bool
 
 /// Whether the atom derives the empty word, by which rules do.
 pub(crate) fn is_nullable(nullable: &[bool], lead: Lead) -> bool
-    ensures { (rules : List (Alternatives Atom)) → Tells nullable.now (IsNullableRule rules) → IsTrue result ↔ Nullable ReadsLead CallsLead rules (lone lead) }
+    ensures { (rules : List (Alternatives Atom)) → Tells nullable.now (IsNullableRule rules)
+        → IsTrue result ↔ Nullable ReadsLead CallsLead rules (lone lead) }
 {
     match lead {
         Lead::Empty => true,

@@ -8,9 +8,12 @@ ghost use Rattle.g4_recursion.specs.AtomLeads.{lead_by, leads_by, leads_in, may_
 ghost use Rattle.g4_recursion.specs.Numbers.{number_in};
 
 use crate::numbers::{Numbers, numbers_of};
-use g4_base::Sequence;
-use g4_source::{Atom, AtomKind, Element, Elements, LexerRule, ParserRule, RuleKind, RuleView, Substitution, substituted};
 use crate::{Lead, LeadRule};
+use g4_base::Sequence;
+use g4_source::{
+    Atom, AtomKind, Element, Elements, LexerRule, ParserRule, RuleKind, RuleView, Substitution,
+    substituted,
+};
 use std::alloc::{AllocError, Global};
 
 /// What the atoms of rules of one kind become, where rules have these numbers.
@@ -107,7 +110,8 @@ fn parser_leads(
     stage: &Leading<'_, '_>,
     rule: &ParserRule<Atom>,
 ) -> Result<Sequence<Elements<Lead>>, AllocError>
-    ensures { IfOk result (λ made. made ≡ map (λ alternative. in_order_over (λ a. lead_by (number_in stage.now.numbers.now) stage.now.kind a.kind) alternative.elements) rule.now.alternatives) }
+    ensures { IfOk result (λ made. made ≡ map (λ alternative.
+        in_order_over (λ a. lead_by (number_in stage.now.numbers.now) stage.now.kind a.kind) alternative.elements) rule.now.alternatives) }
 {
     let mut all = Vec::new(alloc);
     for alternative in rule.alternatives.as_slice() {
@@ -122,7 +126,8 @@ fn lexer_leads(
     stage: &Leading<'_, '_>,
     rule: &LexerRule,
 ) -> Result<Sequence<Elements<Lead>>, AllocError>
-    ensures { IfOk result (λ made. made ≡ map (λ alternative. in_order_over (λ a. lead_by (number_in stage.now.numbers.now) stage.now.kind a.kind) alternative.elements) rule.now.alternatives) }
+    ensures { IfOk result (λ made. made ≡ map (λ alternative.
+        in_order_over (λ a. lead_by (number_in stage.now.numbers.now) stage.now.kind a.kind) alternative.elements) rule.now.alternatives) }
 {
     let mut all = Vec::new(alloc);
     for alternative in rule.alternatives.as_slice() {

@@ -56,7 +56,9 @@ impl Found {
 /// What is found of an element.
 #[cycle(loops)]
 fn of_element(nullable: &[bool], element: &Element<Lead>) -> Found
-    ensures { (rules : List (Alternatives Atom)) → Tells nullable.now (IsNullableRule rules) → TellsLoops result (Nullable ReadsLead CallsLead rules (element_of element.now)) (HasEmptyLoop ReadsLead CallsLead rules (element_of element.now)) }
+    ensures { (rules : List (Alternatives Atom)) → Tells nullable.now (IsNullableRule rules)
+        → TellsLoops result (Nullable ReadsLead CallsLead rules (element_of element.now))
+        (HasEmptyLoop ReadsLead CallsLead rules (element_of element.now)) }
 {
     match element {
         Element::Atom(lead) => Found {
@@ -72,7 +74,9 @@ fn of_element(nullable: &[bool], element: &Element<Lead>) -> Found
 /// What is found of a block.
 #[cycle(loops)]
 fn of_block(nullable: &[bool], repeat: Repeat, alternatives: &[Alternative<Lead>]) -> Found
-    ensures { (rules : List (Alternatives Atom)) → Tells nullable.now (IsNullableRule rules) → (label : Option Named) → TellsLoops result (Nullable ReadsLead CallsLead rules (block label repeat (either (map alternative_of alternatives.now)))) (HasEmptyLoop ReadsLead CallsLead rules (block label repeat (either (map alternative_of alternatives.now)))) }
+    ensures { (rules : List (Alternatives Atom)) → Tells nullable.now (IsNullableRule rules) → (label : Option Named)
+        → TellsLoops result (Nullable ReadsLead CallsLead rules (block label repeat (either (map alternative_of alternatives.now))))
+        (HasEmptyLoop ReadsLead CallsLead rules (block label repeat (either (map alternative_of alternatives.now)))) }
 {
     let body = of_either(nullable, alternatives);
     match repeat {
@@ -95,7 +99,9 @@ fn of_block(nullable: &[bool], repeat: Repeat, alternatives: &[Alternative<Lead>
 /// What is found of alternatives.
 #[cycle(loops)]
 fn of_either(nullable: &[bool], alternatives: &[Alternative<Lead>]) -> Found
-    ensures { (rules : List (Alternatives Atom)) → Tells nullable.now (IsNullableRule rules) → TellsLoops result (OneNullable ReadsLead CallsLead rules (either (map alternative_of alternatives.now))) (SomeHasEmptyLoop ReadsLead CallsLead rules (either (map alternative_of alternatives.now))) }
+    ensures { (rules : List (Alternatives Atom)) → Tells nullable.now (IsNullableRule rules)
+        → TellsLoops result (OneNullable ReadsLead CallsLead rules (either (map alternative_of alternatives.now)))
+        (SomeHasEmptyLoop ReadsLead CallsLead rules (either (map alternative_of alternatives.now))) }
 {
     let mut found = Found {
         nullable: false,
@@ -110,7 +116,9 @@ fn of_either(nullable: &[bool], alternatives: &[Alternative<Lead>]) -> Found
 /// What is found of elements one after another.
 #[cycle(loops)]
 fn of_elements(nullable: &[bool], elements: &[Element<Lead>]) -> Found
-    ensures { (rules : List (Alternatives Atom)) → Tells nullable.now (IsNullableRule rules) → TellsLoops result (AllNullable ReadsLead CallsLead rules (in_order (map element_of elements.now))) (OneHasEmptyLoop ReadsLead CallsLead rules (in_order (map element_of elements.now))) }
+    ensures { (rules : List (Alternatives Atom)) → Tells nullable.now (IsNullableRule rules)
+        → TellsLoops result (AllNullable ReadsLead CallsLead rules (in_order (map element_of elements.now)))
+        (OneHasEmptyLoop ReadsLead CallsLead rules (in_order (map element_of elements.now))) }
 {
     let mut found = Found {
         nullable: true,
@@ -124,14 +132,16 @@ fn of_elements(nullable: &[bool], elements: &[Element<Lead>]) -> Found
 
 /// Whether the elements, one after another, derive the empty word, where it is given which rules do.
 pub fn are_nullable(nullable: &[bool], elements: &[Element<Lead>]) -> bool
-    ensures { (rules : List (Alternatives Atom)) → Tells nullable.now (IsNullableRule rules) → IsTrue result ↔ AllNullable ReadsLead CallsLead rules (in_order (map element_of elements.now)) }
+    ensures { (rules : List (Alternatives Atom)) → Tells nullable.now (IsNullableRule rules)
+        → IsTrue result ↔ AllNullable ReadsLead CallsLead rules (in_order (map element_of elements.now)) }
 {
     of_elements(nullable, elements).nullable
 }
 
 /// Whether the rule has a `*` or `+` whose body derives the empty word, where it is given which rules do.
 pub fn has_empty_loop(nullable: &[bool], rule: &LeadRule) -> bool
-    ensures { (rules : List (Alternatives Atom)) → Tells nullable.now (IsNullableRule rules) → IsTrue result ↔ SomeHasEmptyLoop ReadsLead CallsLead rules (alternatives_of rule.now) }
+    ensures { (rules : List (Alternatives Atom)) → Tells nullable.now (IsNullableRule rules)
+        → IsTrue result ↔ SomeHasEmptyLoop ReadsLead CallsLead rules (alternatives_of rule.now) }
 {
     for elements in rule.alternatives.as_slice() {
         if of_elements(nullable, elements.as_slice()).looped {

@@ -30,7 +30,9 @@ impl<'a> Numbers<'a> {
 
     /// Gives the rule this number, unless there is a rule of its kind and name.
     fn add(&mut self, rule: RuleView<'a>, number: u32) -> Result<(), AllocError>
-        ensures { OnOk result ((kind : Kind) (name : List ℕ) → number_in self.new kind name ≡ option_or (number_in self.old kind name) (if is_rule_of kind name (rule_view rule.entry) then Some number else None)) }
+        ensures { OnOk result ((kind : Kind) (name : List ℕ)
+            → number_in self.new kind name ≡ option_or (number_in self.old kind name)
+            (if is_rule_of kind name (rule_view rule.entry) then Some number else None)) }
     {
         match rule {
             RuleView::Parser(rule) => {

@@ -32,7 +32,8 @@ fn is_plain_call(element: &Element<Lead>, number: usize) -> bool
 
 /// The elements after the first one, where that is a plain call of the rule of this number.
 pub fn after_call(number: usize, elements: &[Element<Lead>]) -> Option<&[Element<Lead>]>
-    ensures { MatchOption result ((rest : Tree Atom) → FollowsCall number (in_order (map element_of elements.now)) rest → ⊥) (λ rest. FollowsCall number (in_order (map element_of elements.now)) (in_order (map element_of rest.now))) }
+    ensures { MatchOption result ((rest : Tree Atom) → FollowsCall number (in_order (map element_of elements.now)) rest → ⊥)
+        (λ rest. FollowsCall number (in_order (map element_of elements.now)) (in_order (map element_of rest.now))) }
 {
     match elements {
         [first, rest @ ..] => {
@@ -52,7 +53,9 @@ pub(crate) fn after_own_call(
     number: usize,
     elements: &[Element<Lead>],
 ) -> Option<&[Element<Lead>]>
-    ensures { (operators : List Bool) → slice_get operators number ≡ Some may_have_operators → MatchOption result ((rest : Tree Atom) → IsOperator (OwnLead operators) number (in_order (map element_of elements.now)) rest → ⊥) (λ rest. IsOperator (OwnLead operators) number (in_order (map element_of elements.now)) (in_order (map element_of rest.now))) }
+    ensures { (operators : List Bool) → slice_get operators number ≡ Some may_have_operators
+        → MatchOption result ((rest : Tree Atom) → IsOperator (OwnLead operators) number (in_order (map element_of elements.now)) rest
+        → ⊥) (λ rest. IsOperator (OwnLead operators) number (in_order (map element_of elements.now)) (in_order (map element_of rest.now))) }
 {
     if may_have_operators {
         after_call(number, elements)

@@ -37,12 +37,15 @@ module _ {A B : Type 0} (f : A → B) where
 
     atoms_all_over : (xs : Elements A) → atoms_in_order (in_order_over f xs) ≡ map f (atoms_in_order xs)
     atoms_all_over empty = refl
-    atoms_all_over (then x xs) = ap (λ (ys : List B). ys ++ atoms_in_order (in_order_over f xs)) (atoms_over x) ∙ (ap (λ (ys : List B). map f (atoms x) ++ ys) (atoms_all_over xs) ∙ sym (map-append f (atoms x) (atoms_in_order xs)))
+    atoms_all_over (then x xs) = ap (λ (ys : List B). ys ++ atoms_in_order (in_order_over f xs)) (atoms_over x)
+        ∙ (ap (λ (ys : List B). map f (atoms x) ++ ys) (atoms_all_over xs) ∙ sym (map-append f (atoms x) (atoms_in_order xs)))
 
     atoms_either_over : (xs : Alternatives A) → atoms_of_either (either_over f xs) ≡ map f (atoms_of_either xs)
     atoms_either_over none = refl
     atoms_either_over (or x xs) =
-        ap (λ (ys : List B). ys ++ atoms_of_either (either_over f xs)) (atoms_all_over x) ∙ (ap (λ (ys : List B). map f (atoms_in_order x) ++ ys) (atoms_either_over xs) ∙ sym (map-append f (atoms_in_order x) (atoms_of_either xs)))
+        ap (λ (ys : List B). ys ++ atoms_of_either (either_over f xs)) (atoms_all_over x)
+        ∙ (ap (λ (ys : List B). map f (atoms_in_order x) ++ ys) (atoms_either_over xs)
+        ∙ sym (map-append f (atoms_in_order x) (atoms_of_either xs)))
 
   some_over : (xs : Alternatives A) → IsSome xs → IsSome (either_over f xs)
   some_over none h = h
@@ -91,18 +94,24 @@ module _ (names : List (List ℕ)) (predicates : List Place) where
   becomes a = step_of names predicates a.kind
 
   -- the alternatives of a rule over steps
-  alternatives_over : (rule : ParserRule NumberedAtom) → alternatives_of (resolved_rule names predicates rule) ≡ either_over becomes (alternatives_of rule)
+  alternatives_over : (rule : ParserRule NumberedAtom)
+      → alternatives_of (resolved_rule names predicates rule) ≡ either_over becomes (alternatives_of rule)
   alternatives_over rule = go rule.alternatives
     where
-      go : (xs : List (RuleAlternative NumberedAtom)) → either (map (λ a. a.elements) (map (resolved_alternative names predicates) xs)) ≡ either_over becomes (either (map (λ a. a.elements) xs))
+      go : (xs : List (RuleAlternative NumberedAtom))
+          → either (map (λ a. a.elements) (map (resolved_alternative names predicates) xs))
+          ≡ either_over becomes (either (map (λ a. a.elements) xs))
       go [] = refl
       go (x ∷ xs) = ap (or (in_order_over becomes x.elements)) (go xs)
 
   -- what holds of the steps of all atoms of a rule, holds of the atoms of the rule over steps
-  each_step : (P : Step (List ℕ) → Type 0) (rule : ParserRule NumberedAtom) → All (λ a. P (becomes a)) (atoms_of_either (alternatives_of rule)) → All P (atoms_of_either (alternatives_of (resolved_rule names predicates rule)))
+  each_step : (P : Step (List ℕ) → Type 0) (rule : ParserRule NumberedAtom)
+      → All (λ a. P (becomes a)) (atoms_of_either (alternatives_of rule))
+      → All P (atoms_of_either (alternatives_of (resolved_rule names predicates rule)))
   each_step P rule all =
       subst (λ (xs : Alternatives (Step (List ℕ))). All P (atoms_of_either xs)) (sym (alternatives_over rule))
-      (subst (All P) (sym (atoms_either_over becomes (alternatives_of rule))) (All-map P becomes (atoms_of_either (alternatives_of rule)) all))
+      (subst (All P) (sym (atoms_either_over becomes (alternatives_of rule)))
+      (All-map P becomes (atoms_of_either (alternatives_of rule)) all))
 
   -- an atom that tests nothing and does not take END is a plain step
   plain_step : (kind : NumberedKind) → NumberedKindIsUntested kind → KindLeavesEnd kind → IsPlain (step_of names predicates kind)
@@ -111,26 +120,32 @@ module _ (names : List (List ℕ)) (predicates : List Place) where
   plain_step (Predicate name) q e = absurd q
   plain_step Action q e = tt
 
-  both : (xs : List NumberedAtom) → All (λ a. NumberedKindIsUntested a.kind) xs → All (λ a. KindLeavesEnd a.kind) xs → All (λ a. IsPlain (becomes a)) xs
+  both : (xs : List NumberedAtom) → All (λ a. NumberedKindIsUntested a.kind) xs → All (λ a. KindLeavesEnd a.kind) xs
+      → All (λ a. IsPlain (becomes a)) xs
   both [] q e = All-nil (λ a. IsPlain (becomes a))
   both (x ∷ xs) q e =
       let Q : NumberedAtom → Type 0 = λ a. NumberedKindIsUntested a.kind in
       let E : NumberedAtom → Type 0 = λ a. KindLeavesEnd a.kind in
-      All-cons (λ a. IsPlain (becomes a)) x xs (plain_step x.kind (All-head Q x xs q) (All-head E x xs e)) (both xs (All-tail Q x xs q) (All-tail E x xs e))
+      All-cons (λ a. IsPlain (becomes a)) x xs (plain_step x.kind (All-head Q x xs q) (All-head E x xs e))
+      (both xs (All-tail Q x xs q) (All-tail E x xs e))
 
-  plain_rules : (rules : List (ParserRule NumberedAtom)) → All NumberedRuleIsUntested rules → All RuleLeavesEnd rules → All RuleIsPlain (map (resolved_rule names predicates) rules)
+  plain_rules : (rules : List (ParserRule NumberedAtom)) → All NumberedRuleIsUntested rules → All RuleLeavesEnd rules
+      → All RuleIsPlain (map (resolved_rule names predicates) rules)
   plain_rules [] q e = All-nil RuleIsPlain
   plain_rules (rule ∷ rules) q e =
       All-cons RuleIsPlain (resolved_rule names predicates rule) (map (resolved_rule names predicates) rules)
-      (each_step IsPlain rule (both (atoms_of_either (alternatives_of rule)) (All-head NumberedRuleIsUntested rule rules q) (All-head RuleLeavesEnd rule rules e)))
+      (each_step IsPlain rule (both (atoms_of_either (alternatives_of rule)) (All-head NumberedRuleIsUntested rule rules q)
+      (All-head RuleLeavesEnd rule rules e)))
       (plain_rules rules (All-tail NumberedRuleIsUntested rule rules q) (All-tail RuleLeavesEnd rule rules e))
 
   -- a rule keeps its alternatives
   full_rule : (rule : ParserRule NumberedAtom) → ParserRuleIsFull rule → ParserRuleIsFull (resolved_rule names predicates rule)
   full_rule rule full =
-      subst (λ (xs : Alternatives (Step (List ℕ))). IsSome xs × EachIsFull xs) (sym (alternatives_over rule)) (some_over becomes (alternatives_of rule) full.0, each_full_over becomes (alternatives_of rule) full.1)
+      subst (λ (xs : Alternatives (Step (List ℕ))). IsSome xs × EachIsFull xs) (sym (alternatives_over rule))
+      (some_over becomes (alternatives_of rule) full.0, each_full_over becomes (alternatives_of rule) full.1)
 
-  full_rules : (rules : List (ParserRule NumberedAtom)) → ParserRulesAreFull rules → ParserRulesAreFull (map (resolved_rule names predicates) rules)
+  full_rules : (rules : List (ParserRule NumberedAtom)) → ParserRulesAreFull rules
+      → ParserRulesAreFull (map (resolved_rule names predicates) rules)
   full_rules [] h = tt
   full_rules (rule ∷ rules) h = (full_rule rule h.0, full_rules rules h.1)
 
@@ -139,7 +154,8 @@ module _ (names : List (List ℕ)) (predicates : List Place) where
   IsNumber j = (1 ≤ j) × (j ≤ length names)
 
   -- the step of a reference that is defined calls one of them
-  number_called : (kind : NumberedKind) → NumberedKindIsDefined names kind → (j : ℕ) → CallsRule (step_of names predicates kind) j → IsNumber j
+  number_called : (kind : NumberedKind) → NumberedKindIsDefined names kind → (j : ℕ) → CallsRule (step_of names predicates kind) j
+      → IsNumber j
   number_called (Set set) d j c = absurd c
   number_called (Rule name) d j c =
       let found : position (λ other. bytes_eq other name.text) names ≡ Some d.1.0 = d.1.1 in
@@ -149,12 +165,16 @@ module _ (names : List (List ℕ)) (predicates : List Place) where
   number_called (Predicate name) d j c = absurd c
   number_called Action d j c = absurd c
 
-  within_rules : (rules : List (ParserRule NumberedAtom)) → All (NumberedRuleIsDefined names) rules → All (CallsWithin (length names)) (map (resolved_rule names predicates) rules)
+  within_rules : (rules : List (ParserRule NumberedAtom)) → All (NumberedRuleIsDefined names) rules
+      → All (CallsWithin (length names)) (map (resolved_rule names predicates) rules)
   within_rules rules all =
       All-map (CallsWithin (length names)) (resolved_rule names predicates) rules
-      (All-weaker (NumberedRuleIsDefined names) (λ (rule : ParserRule NumberedAtom). CallsWithin (length names) (resolved_rule names predicates rule))
+      (All-weaker (NumberedRuleIsDefined names) (λ (rule : ParserRule NumberedAtom).
+      CallsWithin (length names) (resolved_rule names predicates rule))
       (λ rule defined. one_call_has CallsRule IsNumber (alternatives_of (resolved_rule names predicates rule))
-      (each_step (CallsHave CallsRule IsNumber) rule (All-weaker (λ (a : NumberedAtom). NumberedKindIsDefined names a.kind) (λ a. CallsHave CallsRule IsNumber (becomes a)) (λ a d. number_called a.kind d) (atoms_of_either (alternatives_of rule)) defined)))
+      (each_step (CallsHave CallsRule IsNumber) rule
+      (All-weaker (λ (a : NumberedAtom). NumberedKindIsDefined names a.kind) (λ a. CallsHave CallsRule IsNumber (becomes a))
+      (λ a d. number_called a.kind d) (atoms_of_either (alternatives_of rule)) defined)))
       rules all)
 
   -- what a step reads of the empty word, its atom reads
@@ -178,39 +198,60 @@ module _ (predicates : List Place) (rules : List (ParserRule NumberedAtom)) wher
 
   -- a body of them is that of a rule
   body_back : (k : ℕ) (ys : Alternatives (Step (List ℕ))) → slice_get (map alternatives_of made) k ≡ Some ys →
-      (xs : Alternatives NumberedAtom) × (slice_get (map alternatives_of rules) k ≡ Some xs) × (ys ≡ either_over (becomes names predicates) xs)
+      (xs : Alternatives NumberedAtom) × (slice_get (map alternatives_of rules) k ≡ Some xs)
+      × (ys ≡ either_over (becomes names predicates) xs)
   body_back k ys is = by (slice_get rules k) refl
     where
-      twice : slice_get (map alternatives_of made) k ≡ option_map alternatives_of (option_map (resolved_rule names predicates) (slice_get rules k))
-      twice = slice_get-map alternatives_of made k ∙ ap (option_map alternatives_of) (slice_get-map (resolved_rule names predicates) rules k)
+      twice : slice_get (map alternatives_of made) k
+          ≡ option_map alternatives_of (option_map (resolved_rule names predicates) (slice_get rules k))
+      twice = slice_get-map alternatives_of made k
+          ∙ ap (option_map alternatives_of) (slice_get-map (resolved_rule names predicates) rules k)
 
-      by : (o : Option (ParserRule NumberedAtom)) → slice_get rules k ≡ o → (xs : Alternatives NumberedAtom) × (slice_get (map alternatives_of rules) k ≡ Some xs) × (ys ≡ either_over (becomes names predicates) xs)
-      by None e = absurd (let wrong : None ≡ Some ys = sym (twice ∙ ap (λ (o : Option (ParserRule NumberedAtom)). option_map alternatives_of (option_map (resolved_rule names predicates) o)) e) ∙ is in let k : ⊥ = cc in k)
+      by : (o : Option (ParserRule NumberedAtom)) → slice_get rules k ≡ o
+          → (xs : Alternatives NumberedAtom) × (slice_get (map alternatives_of rules) k ≡ Some xs)
+          × (ys ≡ either_over (becomes names predicates) xs)
+      by None e = absurd (let wrong : None ≡ Some ys =
+          sym (twice ∙ ap (λ (o : Option (ParserRule NumberedAtom)).
+          option_map alternatives_of (option_map (resolved_rule names predicates) o)) e) ∙ is in let k : ⊥ = cc in k)
       by (Some rule) e =
-          let same : Some (alternatives_of (resolved_rule names predicates rule)) ≡ Some ys = sym (twice ∙ ap (λ (o : Option (ParserRule NumberedAtom)). option_map alternatives_of (option_map (resolved_rule names predicates) o)) e) ∙ is in
-          let here : ys ≡ alternatives_of (resolved_rule names predicates rule) = cc in
-          (alternatives_of rule, slice_get-map alternatives_of rules k ∙ ap (option_map alternatives_of) e, here ∙ alternatives_over names predicates rule)
+          let same : Some (alternatives_of (resolved_rule names predicates rule)) ≡ Some ys =
+          sym (twice ∙ ap (λ (o : Option (ParserRule NumberedAtom)).
+          option_map alternatives_of (option_map (resolved_rule names predicates) o)) e) ∙ is in
+          let here : ys ≡ alternatives_of (resolved_rule names predicates rule) = cc in (
+            alternatives_of rule,
+            slice_get-map alternatives_of rules k ∙ ap (option_map alternatives_of) e,
+            here
+                ∙ alternatives_over names predicates rule,
+          )
 
   -- the same by number
   bodies : (k : ℕ) (ys : Alternatives (Step (List ℕ))) → slice_get (by_number made) k ≡ Some ys →
-      (ys ≡ none) ⊎ ((xs : Alternatives NumberedAtom) × (slice_get (numbered_alternatives rules) k ≡ Some xs) × (ys ≡ either_over (becomes names predicates) xs))
+      (ys ≡ none) ⊎ ((xs : Alternatives NumberedAtom) × (slice_get (numbered_alternatives rules) k ≡ Some xs)
+      × (ys ≡ either_over (becomes names predicates) xs))
   bodies zero ys is = inl (let same : Some none ≡ Some ys = is in let e : ys ≡ none = cc in e)
   bodies (suc k) ys is = inr (body_back k ys is)
 
   -- the rule of this name, where there is one
-  called_by : (name : List ℕ) (k : ℕ) (ys : Alternatives (Step (List ℕ))) → k ≡ place_named names name + 1 → slice_get (by_number made) k ≡ Some ys →
-      ((place : ℕ) × (position (λ other. bytes_eq other name) names ≡ Some place) × (k ≡ place + 1)) × ((xs : Alternatives NumberedAtom) × (slice_get (numbered_alternatives rules) k ≡ Some xs) × (ys ≡ either_over (becomes names predicates) xs))
+  called_by : (name : List ℕ) (k : ℕ) (ys : Alternatives (Step (List ℕ))) → k ≡ place_named names name + 1
+      → slice_get (by_number made) k ≡ Some ys →
+      ((place : ℕ) × (position (λ other. bytes_eq other name) names ≡ Some place) × (k ≡ place + 1))
+      × ((xs : Alternatives NumberedAtom) × (slice_get (numbered_alternatives rules) k ≡ Some xs)
+      × (ys ≡ either_over (becomes names predicates) xs))
   called_by name zero ys same is = absurd (omega (arith, same))
   called_by name (suc k) ys same is =
       let body = body_back k ys is in
-      let less : k < length names = subst (λ (n : ℕ). k < n) (length-map rules alternatives_of ∙ sym (length-map rules (λ rule. rule.name))) (slice_get_within (map alternatives_of rules) k body.0 body.1) in
+      let less : k < length names = subst (λ (n : ℕ). k < n)
+      (length-map rules alternatives_of ∙ sym (length-map rules (λ rule. rule.name)))
+      (slice_get_within (map alternatives_of rules) k body.0 body.1) in
       let here : place_named names name ≡ k = omega (arith, same) in
       let found = within_found (λ other. bytes_eq other name) names (omega (arith, here, less)) in
       ((place_named names name, found, same), body)
 
   -- the rule that a step calls is the one that the atom calls
-  called_back : (kind : NumberedKind) (k : ℕ) (ys : Alternatives (Step (List ℕ))) → CallsRule (step_of names predicates kind) k → slice_get (by_number made) k ≡ Some ys →
-      KindCalls names kind k × ((xs : Alternatives NumberedAtom) × (slice_get (numbered_alternatives rules) k ≡ Some xs) × (ys ≡ either_over (becomes names predicates) xs))
+  called_back : (kind : NumberedKind) (k : ℕ) (ys : Alternatives (Step (List ℕ))) → CallsRule (step_of names predicates kind) k
+      → slice_get (by_number made) k ≡ Some ys →
+      KindCalls names kind k × ((xs : Alternatives NumberedAtom) × (slice_get (numbered_alternatives rules) k ≡ Some xs)
+      × (ys ≡ either_over (becomes names predicates) xs))
   called_back (Set set) k ys c is = absurd c
   called_back (Rule name) k ys c is = called_by name.text k ys c is
   called_back (Predicate name) k ys c is = absurd c
@@ -221,28 +262,34 @@ module _ (predicates : List Place) (rules : List (ParserRule NumberedAtom)) wher
   calls_on (Set set) k c = absurd c
   calls_on (Rule name) k (place, found, same) =
       let test : List ℕ → Bool = λ other. bytes_eq other name.text in
-      let twice : Some place ≡ Some (place_named names name.text) = sym found ∙ within_found test names (found_within test names place found) in
+      let twice : Some place ≡ Some (place_named names name.text) =
+      sym found ∙ within_found test names (found_within test names place found) in
       let here : place ≡ place_named names name.text = cc in
       same ∙ ap (λ (n : ℕ). n + 1) here
   calls_on (Predicate name) k c = absurd c
   calls_on Action k c = absurd c
 
   -- so both call the same rules
-  same_calls : (kind : NumberedKind) (k : ℕ) (ys : Alternatives (Step (List ℕ))) → slice_get (by_number made) k ≡ Some ys → CallsRule (step_of names predicates kind) k ↔ KindCalls names kind k
+  same_calls : (kind : NumberedKind) (k : ℕ) (ys : Alternatives (Step (List ℕ))) → slice_get (by_number made) k ≡ Some ys
+      → CallsRule (step_of names predicates kind) k ↔ KindCalls names kind k
   same_calls kind k ys is = (λ c. (called_back kind k ys c is).0, calls_on kind k)
 
   -- the rules over steps can be run
   steps_run : NumberedRulesCanRun rules → CanRun ReadsSymbols CallsRule CallsRule (by_number made)
   steps_run can =
-      can_run_over (becomes names predicates) ReadsNumbered ReadsSymbols (CallsNumbered rules) CallsRule (numbered_alternatives rules) (by_number made) (λ k. k) (reads_back names predicates)
+      can_run_over (becomes names predicates) ReadsNumbered ReadsSymbols (CallsNumbered rules) CallsRule (numbered_alternatives rules)
+      (by_number made) (λ k. k) (reads_back names predicates)
       (λ a k ys c is. called_back a.kind k ys c is) bodies (CallsNumbered rules) CallsRule (λ a k ys is. same_calls a.kind k ys is) can
 
   -- they can be rewritten
-  pub can_be_rewritten : ParserRulesAreFull rules → All RuleLeavesEnd rules → All NumberedRuleIsUntested rules → NumberedRulesAreDefined rules → NumberedRulesCanRun rules → CanBeRewritten made
+  pub can_be_rewritten : ParserRulesAreFull rules → All RuleLeavesEnd rules → All NumberedRuleIsUntested rules
+      → NumberedRulesAreDefined rules → NumberedRulesCanRun rules → CanBeRewritten made
   can_be_rewritten full ends untested defined can = record {
     plain = plain_rules names predicates rules untested ends;
     full = full_rules names predicates rules full;
     within =
-        subst (λ (n : ℕ). All (CallsWithin n) made) (length-map rules (λ rule. rule.name) ∙ sym (length-map rules (resolved_rule names predicates))) (within_rules names predicates rules defined);
+        subst (λ (n : ℕ). All (CallsWithin n) made)
+        (length-map rules (λ rule. rule.name) ∙ sym (length-map rules (resolved_rule names predicates)))
+        (within_rules names predicates rules defined);
     run = steps_run can;
   }

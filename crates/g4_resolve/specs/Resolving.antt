@@ -30,8 +30,10 @@ step_of names predicates Action = steps.Action
 
 -- an alternative over steps
 abbrev pub resolved_alternative : List (List ℕ) → List Place → RuleAlternative NumberedAtom → RuleAlternative (Step (List ℕ))
-resolved_alternative names predicates a = record { right = a.right; elements = in_order_over (λ b. step_of names predicates b.kind) a.elements; label = a.label }
+resolved_alternative names predicates a = record
+    { right = a.right; elements = in_order_over (λ b. step_of names predicates b.kind) a.elements; label = a.label }
 
 -- a rule over steps
 abbrev pub resolved_rule : List (List ℕ) → List Place → ParserRule NumberedAtom → StepRule
-resolved_rule names predicates rule = record { name = rule.name; alternatives = map (resolved_alternative names predicates) rule.alternatives }
+resolved_rule names predicates rule = record
+    { name = rule.name; alternatives = map (resolved_alternative names predicates) rule.alternatives }

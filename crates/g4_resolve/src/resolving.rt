@@ -7,9 +7,9 @@ ghost use Rattle.g4_names.specs.Places.{ArePlaces};
 ghost use Rattle.g4_resolve.specs.Resolving.{place_named, place_of_predicate, resolved_alternative, resolved_rule, step_of};
 
 use g4_base::{Place, Sequence, Text};
-use g4_source::{Element, ParserRule, RuleAlternative, Substitution, substituted};
 use g4_grammar::{NumberedAtom, NumberedKind, Step, StepRule};
 use g4_names::{Places, places_of};
+use g4_source::{Element, ParserRule, RuleAlternative, Substitution, substituted};
 use g4_tokens::Symbols;
 use std::alloc::{AllocError, Global};
 
@@ -160,8 +160,10 @@ pub fn resolve(
     rules: Vec<ParserRule<NumberedAtom>>,
 ) -> Result<Vec<StepRule>, AllocError>
     ensures steps { IfOk result (λ made. made.items ≡ map (resolved_rule stage.now.names stage.now.predicates) rules.items) }
-    ensures rewritten { stage.now.names ≡ map (λ rule. rule.name) rules.items → ParserRulesAreFull rules.items → All RuleLeavesEnd rules.items →
-        All NumberedRuleIsUntested rules.items → NumberedRulesAreDefined rules.items → NumberedRulesCanRun rules.items → IfOk result (λ made. CanBeRewritten made.items) }
+    ensures rewritten { stage.now.names ≡ map (λ rule. rule.name) rules.items → ParserRulesAreFull rules.items
+        → All RuleLeavesEnd rules.items →
+        All NumberedRuleIsUntested rules.items → NumberedRulesAreDefined rules.items → NumberedRulesCanRun rules.items
+        → IfOk result (λ made. CanBeRewritten made.items) }
 {
     let places = places_of(alloc, stage.names.as_slice())?;
     let stage = Stage {

@@ -1,1 +1,2 @@
+-- Other crates cite it.
 pub mod Running

@@ -144,7 +144,8 @@ module _ (net : ParserNetwork) (values : Values) (word : List ℕ) where
         × (s ≡ record r {
           state = start_of rule;
           frames = record
-              { back = back; level = level; rule = rule; alt = written_at net (start_of rule); at = r.place; children = no_tree } ∷ r.frames;
+              { back = back; level = level; rule = rule; alt = written_at net (start_of rule); at = r.place; children = no_tree }
+              ∷ r.frames;
         })
     GoesBy (Some (Predicate k t)) r s = (values k (open_rules r) r.place ≡ true) × (s ≡ record r { state = t })
     GoesBy (Some (Level q t)) r s = (level_of r.frames ≤ q) ×

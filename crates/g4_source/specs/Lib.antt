@@ -1,3 +1,4 @@
+-- Other crates cite each of these.
 pub mod Atoms
 pub mod Bind
 pub mod Blocks

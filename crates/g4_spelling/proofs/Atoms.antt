@@ -75,53 +75,70 @@ module _ (names : List (List ℕ)) where
     IsDerived k w = (xs : Alternatives Atom) × (slice_get given k ≡ Some xs) × DerivesOne ReadsMarks (CallsNamed names) given xs w
 
     -- a set
-    set_back : (a : Atom) (set : List Range) (us : List (List Mark)) → SetIsCanonical a.kind → element_of_kind names a.kind ≡ atom (Set set) → Spells IsDerived (atom (steps.Edge (Characters set))) us → DerivesHere (atom a) (joined us)
+    set_back : (a : Atom) (set : List Range) (us : List (List Mark)) → SetIsCanonical a.kind
+        → element_of_kind names a.kind ≡ atom (Set set) → Spells IsDerived (atom (steps.Edge (Characters set))) us
+        → DerivesHere (atom a) (joined us)
     set_back a set us canonical is (a_call _ k xs _ c at d) = absurd c
     set_back a set us canonical is (an_atom _ _ (c, (x, has, one), alone)) =
         let m = (sets_match names a.kind set canonical is x).0 has in
         an_atom a (joined us) (inl (x ∷ [], one_character us c x alone one, All-cons IsScalar x [] m.0 (All-nil IsScalar), m.1))
 
     -- an empty step
-    empty_back : (a : Atom) (us : List (List Mark)) → MatchesKind a.kind [] → Spells IsDerived (atom steps.Empty) us → DerivesHere (atom a) (joined us)
+    empty_back : (a : Atom) (us : List (List Mark)) → MatchesKind a.kind [] → Spells IsDerived (atom steps.Empty) us
+        → DerivesHere (atom a) (joined us)
     empty_back a us m (a_call _ k xs _ c at d) = absurd c
     empty_back a us m (an_atom _ _ e) = an_atom a (joined us) (inl ([], ap joined e, All-nil IsScalar, m))
 
     -- the characters of a literal
-    chain_back : (cs : List ℕ) (us : List (List Mark)) → SpellsAll IsDerived (chain cs) us → (joined us ≡ map character cs) × All IsScalar cs
+    chain_back : (cs : List ℕ) (us : List (List Mark)) → SpellsAll IsDerived (chain cs) us
+        → (joined us ≡ map character cs) × All IsScalar cs
     chain_back [] _ nothing = (refl, All-nil IsScalar)
     chain_back (c ∷ cs) us (one_more _ _ u v _ (a_call _ k xs _ n at d) ds parts) = absurd n
     chain_back (c ∷ cs) us (one_more _ _ u v _ (an_atom _ _ (w, (x, has, one), alone)) ds parts) =
         let h = chain_back cs v ds in
         let own = own_character c x has in
-        let first : joined us ≡ character x ∷ joined v = ap joined parts ∙ (ap (λ (y : List (List Mark)). joined (y ++ v)) alone ∙ ap (λ (y : List Mark). y ++ joined v) one) in
-        (first ∙ (ap (λ (y : ℕ). character y ∷ joined v) (sym own.0) ∙ ap (λ (y : List Mark). character c ∷ y) h.0), All-cons IsScalar c cs (subst IsScalar (sym own.0) own.1) h.1)
+        let first : joined us ≡ character x ∷ joined v =
+        ap joined parts ∙ (ap (λ (y : List (List Mark)). joined (y ++ v)) alone ∙ ap (λ (y : List Mark). y ++ joined v) one) in (
+          first ∙ (ap (λ (y : ℕ). character y ∷ joined v) (sym own.0) ∙ ap (λ (y : List Mark). character c ∷ y) h.0),
+          All-cons IsScalar c cs (subst IsScalar (sym own.0) own.1) h.1,
+        )
 
-    literal_back : (a : Atom) (cs : List ℕ) (us : List (List Mark)) → MatchesKind a.kind cs → Spells IsDerived (block None Once (only (chain cs))) us → DerivesHere (atom a) (joined us)
+    literal_back : (a : Atom) (cs : List ℕ) (us : List (List Mark)) → MatchesKind a.kind cs
+        → Spells IsDerived (block None Once (only (chain cs))) us → DerivesHere (atom a) (joined us)
     literal_back a cs us m (a_block _ _ _ (another _ _ _ d)) = absurd (elim d [ ])
     literal_back a cs us m (a_block _ _ _ (this _ _ _ d)) = let h = chain_back cs us d in an_atom a (joined us) (inl (cs, h.0, h.1, m))
 
     -- a reference, which is the end of the file or not
-    token_back : (a : Atom) (t is_end : Bool) (k : ℕ) (us : List (List Mark)) → is_end ≡ t → (is_end ≡ true → (w : List Mark) → w ≡ end_of_file ∷ [] → ReadsMarks a w) → (is_end ≡ false → CallsNamed names a k) →
+    token_back : (a : Atom) (t is_end : Bool) (k : ℕ) (us : List (List Mark)) → is_end ≡ t
+        → (is_end ≡ true → (w : List Mark) → w ≡ end_of_file ∷ [] → ReadsMarks a w) → (is_end ≡ false → CallsNamed names a k) →
         Spells IsDerived (over step_of (atom (cond t AtEnd (Call k)))) us → DerivesHere (atom a) (joined us)
     token_back a true is_end k us is ended called (a_call _ j xs _ c at d) = absurd c
-    token_back a true is_end k us is ended called (an_atom _ _ (c, one, alone)) = an_atom a (joined us) (ended is (joined us) (ap joined alone ∙ (append-nil c ∙ one)))
+    token_back a true is_end k us is ended called (an_atom _ _ (c, one, alone)) =
+        an_atom a (joined us) (ended is (joined us) (ap joined alone ∙ (append-nil c ∙ one)))
     token_back a false is_end k us is ended called (a_call _ j xs _ c at d) = absurd c
     token_back a false is_end k us is ended called (an_atom _ _ (c, (xs, at, d), alone)) =
         subst (DerivesHere (atom a)) (sym (ap joined alone ∙ append-nil c)) (a_call a k xs c (called is) at d)
 
     -- what an atom spells of letters it derives
-    kind_back : (a : Atom) (kind : AtomKind) (us : List (List Mark)) → a.kind ≡ kind → SetIsCanonical kind → Spells IsDerived (over step_of (element_of_kind names kind)) us → DerivesHere (atom a) (joined us)
-    kind_back a (kinds.Rule name) us e canonical d = set_back a [] us (subst SetIsCanonical (sym e) canonical) (ap (element_of_kind names) e) d
+    kind_back : (a : Atom) (kind : AtomKind) (us : List (List Mark)) → a.kind ≡ kind → SetIsCanonical kind
+        → Spells IsDerived (over step_of (element_of_kind names kind)) us → DerivesHere (atom a) (joined us)
+    kind_back a (kinds.Rule name) us e canonical d =
+        set_back a [] us (subst SetIsCanonical (sym e) canonical) (ap (element_of_kind names) e) d
     kind_back a (kinds.Token name) us e canonical d =
         token_back a (bytes_eq name.text (codes "EOF")) (bytes_eq name.text (codes "EOF")) _ us refl
         (λ is w one. inr (rw e (is), one))
         (λ is. rw e ((is, refl))) d
     kind_back a (kinds.Literal literal) us e canonical d = literal_back a literal.characters us (rw e refl) d
-    kind_back a (kinds.Range place first last) us e canonical d = set_back a (spanned first.characters last.characters) us (subst SetIsCanonical (sym e) canonical) (ap (element_of_kind names) e) d
-    kind_back a (kinds.Set set) us e canonical d = set_back a set us (subst SetIsCanonical (sym e) canonical) (ap (element_of_kind names) e) d
-    kind_back a (kinds.Any place) us e canonical d = set_back a (scalars 0 0x110000) us (subst SetIsCanonical (sym e) canonical) (ap (element_of_kind names) e) d
-    kind_back a (kinds.NotTokens place tokens) us e canonical d = set_back a [] us (subst SetIsCanonical (sym e) canonical) (ap (element_of_kind names) e) d
-    kind_back a (kinds.NotCharacters place set) us e canonical d = set_back a (gaps 0 set) us (subst SetIsCanonical (sym e) canonical) (ap (element_of_kind names) e) d
+    kind_back a (kinds.Range place first last) us e canonical d =
+        set_back a (spanned first.characters last.characters) us (subst SetIsCanonical (sym e) canonical) (ap (element_of_kind names) e) d
+    kind_back a (kinds.Set set) us e canonical d =
+        set_back a set us (subst SetIsCanonical (sym e) canonical) (ap (element_of_kind names) e) d
+    kind_back a (kinds.Any place) us e canonical d =
+        set_back a (scalars 0 0x110000) us (subst SetIsCanonical (sym e) canonical) (ap (element_of_kind names) e) d
+    kind_back a (kinds.NotTokens place tokens) us e canonical d =
+        set_back a [] us (subst SetIsCanonical (sym e) canonical) (ap (element_of_kind names) e) d
+    kind_back a (kinds.NotCharacters place set) us e canonical d =
+        set_back a (gaps 0 set) us (subst SetIsCanonical (sym e) canonical) (ap (element_of_kind names) e) d
     kind_back a kinds.Action us e canonical d = empty_back a us (rw e refl) d
     kind_back a (kinds.Predicate name) us e canonical d = empty_back a us (rw e refl) d
 
@@ -134,11 +151,19 @@ module _ (names : List (List ℕ)) where
     Parts kind w = (us : List (List Mark)) × Spells Names (over step_of (element_of_kind names kind)) us × (w ≡ joined us)
 
     -- a set
-    set_on : (kind : AtomKind) (set : List Range) (text : List ℕ) (x : ℕ) → SetIsCanonical kind → element_of_kind names kind ≡ atom (Set set) → text ≡ x ∷ [] → All IsScalar text → MatchesKind kind text → Parts kind (map character text)
+    set_on : (kind : AtomKind) (set : List Range) (text : List ℕ) (x : ℕ) → SetIsCanonical kind
+        → element_of_kind names kind ≡ atom (Set set) → text ≡ x ∷ [] → All IsScalar text → MatchesKind kind text
+        → Parts kind (map character text)
     set_on kind set text x canonical is one scalar m =
-        let has = (sets_match names kind set canonical is x).1 (All-head IsScalar x [] (subst (All IsScalar) one scalar), subst (MatchesKind kind) one m) in
-        let d : Spells Names (atom (steps.Edge (Characters set))) ((character x ∷ []) ∷ []) = an_atom (steps.Edge (Characters set)) ((character x ∷ []) ∷ []) (character x ∷ [], (x, has, refl), refl) in
-        ((character x ∷ []) ∷ [], subst (λ (y : Element LexerStep). Spells Names (over step_of y) ((character x ∷ []) ∷ [])) (sym is) d, ap (map character) one)
+        let has = (sets_match names kind set canonical is x).1
+        (All-head IsScalar x [] (subst (All IsScalar) one scalar), subst (MatchesKind kind) one m) in
+        let d : Spells Names (atom (steps.Edge (Characters set))) ((character x ∷ []) ∷ []) =
+        an_atom (steps.Edge (Characters set)) ((character x ∷ []) ∷ []) (character x ∷ [], (x, has, refl), refl) in (
+          (character x ∷ []) ∷ [],
+          subst (λ (y : Element LexerStep). Spells Names (over step_of y) ((character x ∷ []) ∷ [])) (sym is)
+              d,
+          ap (map character) one,
+        )
 
     -- the characters of a literal
     chain_on : (cs : List ℕ) → All IsScalar cs → (us : List (List Mark)) × SpellsAll Names (chain cs) us × (map character cs ≡ joined us)
@@ -146,33 +171,44 @@ module _ (names : List (List ℕ)) where
     chain_on (c ∷ cs) scalar =
         let h = chain_on cs (All-tail IsScalar c cs scalar) in
         let has = (scalars_has c (c + 1) c).1 (omega arith, omega arith, All-head IsScalar c cs scalar) in
-        let d : Spells Names (atom (steps.Edge (Characters (scalars c (c + 1))))) ((character c ∷ []) ∷ []) = an_atom (steps.Edge (Characters (scalars c (c + 1)))) ((character c ∷ []) ∷ []) (character c ∷ [], (c, has, refl), refl) in
-        ((character c ∷ []) ∷ h.0, one_more (atom (steps.Edge (Characters (scalars c (c + 1))))) (chain cs) ((character c ∷ []) ∷ []) h.0 ((character c ∷ []) ∷ h.0) d h.1 refl, ap (λ (y : List Mark). character c ∷ y) h.2)
+        let d : Spells Names (atom (steps.Edge (Characters (scalars c (c + 1))))) ((character c ∷ []) ∷ []) =
+        an_atom (steps.Edge (Characters (scalars c (c + 1)))) ((character c ∷ []) ∷ []) (character c ∷ [], (c, has, refl), refl) in (
+          (character c ∷ []) ∷ h.0,
+          one_more (atom (steps.Edge (Characters (scalars c (c + 1))))) (chain cs) ((character c ∷ []) ∷ [])
+              h.0 ((character c ∷ []) ∷ h.0) d h.1 refl,
+          ap (λ (y : List Mark). character c ∷ y) h.2,
+        )
 
-    literal_on : (cs : List ℕ) → All IsScalar cs → (us : List (List Mark)) × Spells Names (block None Once (only (chain cs))) us × (map character cs ≡ joined us)
+    literal_on : (cs : List ℕ) → All IsScalar cs
+        → (us : List (List Mark)) × Spells Names (block None Once (only (chain cs))) us × (map character cs ≡ joined us)
     literal_on cs scalar = let h = chain_on cs scalar in (h.0, a_block None (only (chain cs)) h.0 (this (chain cs) none h.0 h.1), h.2)
 
     -- the end of the file
-    end_on : (is_end : Bool) (k : ℕ) → is_end ≡ true → Spells Names (over step_of (atom (cond is_end AtEnd (Call k)))) ((end_of_file ∷ []) ∷ [])
+    end_on : (is_end : Bool) (k : ℕ) → is_end ≡ true
+        → Spells Names (over step_of (atom (cond is_end AtEnd (Call k)))) ((end_of_file ∷ []) ∷ [])
     end_on true k e = an_atom (steps.Edge EndOfText) ((end_of_file ∷ []) ∷ []) (end_of_file ∷ [], refl, refl)
     end_on false k e = absurd (let n : ⊥ = cc in n)
 
     -- a call
-    call_on : (is_end : Bool) (j k : ℕ) (w : List Mark) → is_end ≡ false → j ≡ k → Names j w → Spells Names (over step_of (atom (cond is_end AtEnd (Call k)))) (w ∷ [])
+    call_on : (is_end : Bool) (j k : ℕ) (w : List Mark) → is_end ≡ false → j ≡ k → Names j w
+        → Spells Names (over step_of (atom (cond is_end AtEnd (Call k)))) (w ∷ [])
     call_on true j k w e same n = absurd (let x : ⊥ = cc in x)
     call_on false j k w e same n = an_atom (steps.Call k 0) (w ∷ []) (w, subst (λ (q : ℕ). Names q w) same n, refl)
 
     -- what an atom matches is spelled of letters
-    match_on : (kind : AtomKind) (text : List ℕ) → SetIsCanonical kind → All IsScalar text → MatchesKind kind text → Parts kind (map character text)
+    match_on : (kind : AtomKind) (text : List ℕ) → SetIsCanonical kind → All IsScalar text → MatchesKind kind text
+        → Parts kind (map character text)
     match_on (kinds.Rule name) text canonical scalar m = absurd m
     match_on (kinds.Token name) text canonical scalar m = absurd m
     match_on (kinds.Literal literal) text canonical scalar m =
         let h = literal_on literal.characters (subst (All IsScalar) m scalar) in (h.0, h.1, ap (map character) m ∙ h.2)
-    match_on (kinds.Range place first last) text canonical scalar m = set_on (kinds.Range place first last) (spanned first.characters last.characters) text m.0 canonical refl m.1 scalar m
+    match_on (kinds.Range place first last) text canonical scalar m =
+        set_on (kinds.Range place first last) (spanned first.characters last.characters) text m.0 canonical refl m.1 scalar m
     match_on (kinds.Set set) text canonical scalar m = set_on (kinds.Set set) set text m.0 canonical refl m.1 scalar m
     match_on (kinds.Any place) text canonical scalar m = set_on (kinds.Any place) (scalars 0 0x110000) text m.0 canonical refl m.1 scalar m
     match_on (kinds.NotTokens place tokens) text canonical scalar m = absurd m
-    match_on (kinds.NotCharacters place set) text canonical scalar m = set_on (kinds.NotCharacters place set) (gaps 0 set) text m.0 canonical refl m.1 scalar m
+    match_on (kinds.NotCharacters place set) text canonical scalar m =
+        set_on (kinds.NotCharacters place set) (gaps 0 set) text m.0 canonical refl m.1 scalar m
     match_on kinds.Action text canonical scalar m = ([], an_atom steps.Empty [] refl, ap (map character) m)
     match_on (kinds.Predicate name) text canonical scalar m = ([], an_atom steps.Empty [] refl, ap (map character) m)
 
@@ -189,12 +225,14 @@ module _ (names : List (List ℕ)) where
     ends_on (kinds.Predicate name) is w e = absurd is
 
     -- what an atom reads is spelled of letters
-    pub atom_on : (a : Atom) (w : List Mark) → HasCanonical a → ReadsMarks a w → (us : List (List Mark)) × Spells Names (image a) us × (w ≡ joined us)
+    pub atom_on : (a : Atom) (w : List Mark) → HasCanonical a → ReadsMarks a w
+        → (us : List (List Mark)) × Spells Names (image a) us × (w ≡ joined us)
     atom_on a w canonical (inl (text, is, scalar, m)) = let h = match_on a.kind text canonical scalar m in (h.0, h.1, is ∙ h.2)
     atom_on a w canonical (inr (ended, is)) = ends_on a.kind ended w is
 
     -- what it calls is one letter
-    kind_calls : (kind : AtomKind) (k : ℕ) (w : List Mark) → KindCallsNamed names kind k → Names k w → Spells Names (over step_of (element_of_kind names kind)) (w ∷ [])
+    kind_calls : (kind : AtomKind) (k : ℕ) (w : List Mark) → KindCallsNamed names kind k → Names k w
+        → Spells Names (over step_of (element_of_kind names kind)) (w ∷ [])
     kind_calls (kinds.Rule name) k w c n = absurd c
     kind_calls (kinds.Token name) k w c n = call_on (bytes_eq name.text (codes "EOF")) k _ w c.0 c.1 n
     kind_calls (kinds.Literal literal) k w c n = absurd c

@@ -27,7 +27,8 @@ chain_greedy [] = tt
 chain_greedy (c ∷ cs) = (tt, chain_greedy cs)
 
 -- a reference that is not the end of the file calls
-reference_calls : (is_end : Bool) (k j : ℕ) → HasCall CallsRule (over step_of (atom (cond is_end AtEnd (Call k)))) j → (is_end ≡ false) × (j ≡ k)
+reference_calls : (is_end : Bool) (k j : ℕ) → HasCall CallsRule (over step_of (atom (cond is_end AtEnd (Call k)))) j
+    → (is_end ≡ false) × (j ≡ k)
 reference_calls true k j h = absurd h
 reference_calls false k j h = (refl, h)
 
@@ -53,7 +54,8 @@ module _ (names : List (List ℕ)) where
   -- it has no sign
   kind_greedy : (kind : AtomKind) → IsGreedyElement (over step_of (element_of_kind names kind))
   kind_greedy (kinds.Rule name) = tt
-  kind_greedy (kinds.Token name) = reference_greedy (bytes_eq name.text (codes "EOF")) (position_or_len (λ other. bytes_eq other name.text) names)
+  kind_greedy (kinds.Token name) = reference_greedy (bytes_eq name.text (codes "EOF"))
+      (position_or_len (λ other. bytes_eq other name.text) names)
   kind_greedy (kinds.Literal literal) = (tt, (chain_greedy literal.characters, tt))
   kind_greedy (kinds.Range place first last) = tt
   kind_greedy (kinds.Set set) = tt
@@ -65,18 +67,21 @@ module _ (names : List (List ℕ)) where
 
   mutual
     -- an element
-    element_calls : (x : Element Atom) (j : ℕ) → HasCall CallsRule (over step_of (bind (kind_of names) x)) j → HasCall (CallsNamed names) x j
+    element_calls : (x : Element Atom) (j : ℕ) → HasCall CallsRule (over step_of (bind (kind_of names) x)) j
+        → HasCall (CallsNamed names) x j
     element_calls (atom a) j h = kind_calls a.kind j h
     element_calls (block label repeat xs) j h = either_calls xs j h
 
     -- elements one after another
-    in_order_calls : (xs : Elements Atom) (j : ℕ) → OneHasCall CallsRule (in_order_over step_of (in_order_bind (kind_of names) xs)) j → OneHasCall (CallsNamed names) xs j
+    in_order_calls : (xs : Elements Atom) (j : ℕ) → OneHasCall CallsRule (in_order_over step_of (in_order_bind (kind_of names) xs)) j
+        → OneHasCall (CallsNamed names) xs j
     in_order_calls empty j h = h
     in_order_calls (then x xs) j (inl h) = inl (element_calls x j h)
     in_order_calls (then x xs) j (inr h) = inr (in_order_calls xs j h)
 
     -- alternatives
-    pub either_calls : (xs : Alternatives Atom) (j : ℕ) → SomeHasCall CallsRule (either_over step_of (either_bind (kind_of names) xs)) j → SomeHasCall (CallsNamed names) xs j
+    pub either_calls : (xs : Alternatives Atom) (j : ℕ)
+        → SomeHasCall CallsRule (either_over step_of (either_bind (kind_of names) xs)) j → SomeHasCall (CallsNamed names) xs j
     either_calls none j h = h
     either_calls (or x xs) j (inl h) = inl (in_order_calls x j h)
     either_calls (or x xs) j (inr h) = inr (either_calls xs j h)

@@ -37,8 +37,10 @@ taken_marks EndOfText w v (e, h) = (end_of_file ∷ [], refl, (e, e ∙ sym h))
 
 -- and the other way round
 pub taken_text : (label : Reads) (c : List Mark) (w v : List ℕ) → TakesMarks label c → Covers c w v → TakesText label w v
-taken_text (Characters set) c w v (a, has, is) h = let k : Covers (character a ∷ []) w v = subst (λ (ms : List Mark). Covers ms w v) is h in (a, k.1 ∙ ap (λ (x : List ℕ). a ∷ x) k.2, has)
-taken_text EndOfText c w v is h = let k : Covers (end_of_file ∷ []) w v = subst (λ (ms : List Mark). Covers ms w v) is h in (k.0, sym k.1 ∙ k.0)
+taken_text (Characters set) c w v (a, has, is) h = let k : Covers (character a ∷ []) w v =
+    subst (λ (ms : List Mark). Covers ms w v) is h in (a, k.1 ∙ ap (λ (x : List ℕ). a ∷ x) k.2, has)
+taken_text EndOfText c w v is h = let k : Covers (end_of_file ∷ []) w v = subst (λ (ms : List Mark). Covers ms w v) is h in
+    (k.0, sym k.1 ∙ k.0)
 
 -- the characters of a text
 covers_text : (p z : List ℕ) → Covers (map character p) (p ++ z) z
@@ -51,7 +53,8 @@ covers_ends zero z at_end = refl
 covers_ends (suc k) z at_end = (at_end (omega arith), covers_ends k z (λ more. at_end (omega arith)))
 
 -- characters and then ends of the file
-pub covers_front : (p : List ℕ) (k : ℕ) (w z : List ℕ) → w ≡ p ++ z → (1 ≤ k → z ≡ []) → Covers (map character p ++ repeat k (end_of_file ∷ [])) w z
+pub covers_front : (p : List ℕ) (k : ℕ) (w z : List ℕ) → w ≡ p ++ z → (1 ≤ k → z ≡ [])
+    → Covers (map character p ++ repeat k (end_of_file ∷ [])) w z
 covers_front p k w z parts at_end =
     subst (λ (x : List ℕ). Covers (map character p ++ repeat k (end_of_file ∷ [])) x z) (sym parts)
     (covers_both (map character p) (repeat k (end_of_file ∷ [])) (p ++ z) z z (covers_text p z) (covers_ends k z at_end))
@@ -78,12 +81,19 @@ ended ms w z e h =
       ends = suc h.ends;
       parts = e ∙ sym none.1;
       at_end = λ some. none.1;
-      marks = ap (λ (ns : List Mark). end_of_file ∷ ns) (h.marks ∙ ap (λ (p : List ℕ). map character p ++ repeat h.ends (end_of_file ∷ [])) none.0);
+      marks = ap (λ (ns : List Mark). end_of_file ∷ ns)
+          (h.marks ∙ ap (λ (p : List ℕ). map character p ++ repeat h.ends (end_of_file ∷ [])) none.0);
     }
 
 pub covers_is_front : (ms : List Mark) (w z : List ℕ) → Covers ms w z → IsFront ms w z
 covers_is_front [] w z e = record { text = []; ends = 0; parts = e; at_end = λ some. absurd (omega (arith, some)); marks = refl }
 covers_is_front (character a ∷ ms) w z (v, e, c) =
     let h = covers_is_front ms v z c in
-    record { text = a ∷ h.text; ends = h.ends; parts = e ∙ ap (λ (x : List ℕ). a ∷ x) h.parts; at_end = h.at_end; marks = ap (λ (ns : List Mark). character a ∷ ns) h.marks }
+    record {
+      text = a ∷ h.text;
+      ends = h.ends;
+      parts = e ∙ ap (λ (x : List ℕ). a ∷ x) h.parts;
+      at_end = h.at_end;
+      marks = ap (λ (ns : List Mark). character a ∷ ns) h.marks;
+    }
 covers_is_front (end_of_file ∷ ms) w z (e, c) = ended ms w z e (covers_is_front ms w z c)

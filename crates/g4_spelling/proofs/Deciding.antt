@@ -89,7 +89,8 @@ module _ (names : List (List ℕ)) (list : List ℕ) where
   -- an atom
   kind_other : (kind : AtomKind) → AllOrOther (KindCallsNamed names kind) list
   kind_other (kinds.Rule name) = inl (λ j h. absurd h)
-  kind_other (kinds.Token name) = reference_other (bytes_eq name.text (codes "EOF")) (position_or_len (λ other. bytes_eq other name.text) names)
+  kind_other (kinds.Token name) = reference_other (bytes_eq name.text (codes "EOF"))
+      (position_or_len (λ other. bytes_eq other name.text) names)
   kind_other (kinds.Literal literal) = inl (λ j h. absurd h)
   kind_other (kinds.Range place first last) = inl (λ j h. absurd h)
   kind_other (kinds.Set set) = inl (λ j h. absurd h)
@@ -108,12 +109,14 @@ module _ (names : List (List ℕ)) (list : List ℕ) where
     -- elements
     elements_other : (xs : Elements Atom) → AllOrOther (OneHasCall (CallsNamed names) xs) list
     elements_other empty = inl (λ j h. absurd h)
-    elements_other (then x xs) = either_other (HasCall (CallsNamed names) x) (OneHasCall (CallsNamed names) xs) list (element_other x) (elements_other xs)
+    elements_other (then x xs) = either_other (HasCall (CallsNamed names) x) (OneHasCall (CallsNamed names) xs) list (element_other x)
+        (elements_other xs)
 
     -- alternatives
     alternatives_other : (xs : Alternatives Atom) → AllOrOther (SomeHasCall (CallsNamed names) xs) list
     alternatives_other none = inl (λ j h. absurd h)
-    alternatives_other (or x xs) = either_other (OneHasCall (CallsNamed names) x) (SomeHasCall (CallsNamed names) xs) list (elements_other x) (alternatives_other xs)
+    alternatives_other (or x xs) = either_other (OneHasCall (CallsNamed names) x) (SomeHasCall (CallsNamed names) xs) list
+        (elements_other x) (alternatives_other xs)
 
 -- n numbers are below n
 count_below : (n : ℕ) → length (below n) ≡ n
@@ -126,12 +129,14 @@ module _ (rules : List LexerRule) where
   rule_other : (list : List ℕ) (k : ℕ) (o : Option LexerRule) → slice_get rules k ≡ o → AllOrOther (RuleCalls rules k) list
   rule_other list k None is = inl (λ j c. absurd (let e = c.1 in let n : ⊥ = cc in n))
   rule_other list k (Some rule) is = elim (alternatives_other (names_of rules) list (lexer_alternatives_of rule)) [
-    | inl all ↦ inl (λ j c. let same : c.0 ≡ rule = (let e : Some c.0 ≡ Some rule = sym c.1 ∙ is in cc) in all j (subst (λ (r : LexerRule). SomeHasCall (CallsNamed (names_of rules)) (lexer_alternatives_of r) j) same c.2))
+    | inl all ↦ inl (λ j c. let same : c.0 ≡ rule = (let e : Some c.0 ≡ Some rule = sym c.1 ∙ is in cc) in
+        all j (subst (λ (r : LexerRule). SomeHasCall (CallsNamed (names_of rules)) (lexer_alternatives_of r) j) same c.2))
     | inr h ↦ inr (h.0, (rule, is, h.1), h.2)
   ]
 
   -- the rules of a list call those of another, or one that is not there
-  list_other : (list some : List ℕ) → ((k j : ℕ) → In k some → RuleCalls rules k j → In j list) ⊎ ((k j : ℕ) × In k some × RuleCalls rules k j × (In j list → ⊥))
+  list_other : (list some : List ℕ) → ((k j : ℕ) → In k some → RuleCalls rules k j → In j list)
+      ⊎ ((k j : ℕ) × In k some × RuleCalls rules k j × (In j list → ⊥))
   list_other list [] = inl (λ k j i c. absurd i)
   list_other list (x ∷ some) = elim (rule_other list x (slice_get rules x) refl) [
     | inr h ↦ inr (x, h.0, inl refl, h.1, h.2)
@@ -148,7 +153,8 @@ module _ (rules : List LexerRule) where
   decide_rule : (k : ℕ) (o : Option LexerRule) → slice_get rules k ≡ o → Either (IsOwnGreedy k)
   decide_rule k None is = inl (λ rule e. absurd (let n : ⊥ = cc in n))
   decide_rule k (Some rule) is = elim (decide_either (lexer_alternatives_of rule)) [
-    | inl g ↦ inl (λ other e. let same : rule ≡ other = (let f : Some rule ≡ Some other = sym is ∙ e in cc) in subst (λ (r : LexerRule). EachIsGreedy (lexer_alternatives_of r)) same g)
+    | inl g ↦ inl (λ other e. let same : rule ≡ other = (let f : Some rule ≡ Some other = sym is ∙ e in cc) in
+        subst (λ (r : LexerRule). EachIsGreedy (lexer_alternatives_of r)) same g)
     | inr not ↦ inr (λ h. not (h rule is))
   ]
 
@@ -171,7 +177,8 @@ module _ (rules : List LexerRule) where
         subst (λ (n : ℕ). j < n) (length-map rules lexer_alternatives_of) less
 
     -- what a closed list reaches is in it
-    closed : (list : List ℕ) → ((k j : ℕ) → In k list → RuleCalls rules k j → In j list) → In r list → (k : ℕ) → ReachesBy (RuleCalls rules) r k → In k list
+    closed : (list : List ℕ) → ((k j : ℕ) → In k list → RuleCalls rules k j → In j list) → In r list → (k : ℕ)
+        → ReachesBy (RuleCalls rules) r k → In k list
     closed list on first _ (one_call j c) = on r j first c
     closed list on first _ (more_calls i j h c) = on i j (closed list on first i h) c
 
@@ -197,16 +204,25 @@ module _ (rules : List LexerRule) where
     one_more : (list : List ℕ) (k j : ℕ) → AreParts list → In k list → RuleCalls rules k j → (In j list → ⊥) → AreParts (j ∷ list)
     one_more list k j h i c out = record {
       apart = (out, h.apart);
-      below_all = λ q at. elim at [ inl e ↦ subst (λ (n : ℕ). n < length rules) (sym e) (called_below k j c) | inr more ↦ h.below_all q more ];
+      below_all = λ q at. elim at [
+        | inl e ↦ subst (λ (n : ℕ). n < length rules) (sym e) (called_below k j c)
+        | inr more ↦ h.below_all
+            q more
+      ];
       parts = λ q at. elim at [ inl e ↦ subst (IsPartOf rules r) (sym e) (next_part k j (h.parts k i) c) | inr more ↦ h.parts q more ];
       first = inr h.first;
     }
 
     -- with all parts it is known
-    all_known : (list : List ℕ) → AreParts list → ((k j : ℕ) → In k list → RuleCalls rules k j → In j list) → Either (IsWrittenGreedy rules r)
+    all_known : (list : List ℕ) → AreParts list → ((k j : ℕ) → In k list → RuleCalls rules k j → In j list)
+        → Either (IsWrittenGreedy rules r)
     all_known list h on = elim (decide_list list) [
       | inr not ↦ inr (λ g. not (λ k i rule is. g k rule (h.parts k i) is))
-      | inl every ↦ inl (λ k rule part is. elim part [ inl same ↦ every k (subst (λ (q : ℕ). In q list) (sym same) h.first) rule is | inr reach ↦ every k (closed list on h.first k reach) rule is ])
+      | inl every ↦ inl (λ k rule part is. elim part [
+        | inl same ↦ every k (subst (λ (q : ℕ). In q list) (sym same) h.first) rule is
+        | inr reach ↦ every k
+            (closed list on h.first k reach) rule is
+      ])
     ]
 
     -- with some parts, and at most this many more
@@ -223,10 +239,19 @@ module _ (rules : List LexerRule) where
     no_reach is _ (more_calls i j h c) = no_reach is i h
 
     by_rule : (o : Option LexerRule) → slice_get rules r ≡ o → Either (IsWrittenGreedy rules r)
-    by_rule None is = inl (λ k rule part at. absurd (elim part [ inl same ↦ (let e : slice_get rules r ≡ Some rule = subst (λ (q : ℕ). slice_get rules q ≡ Some rule) same at in let n : ⊥ = cc in n) | inr reach ↦ no_reach is k reach ]))
+    by_rule None is = inl (λ k rule part at. absurd
+        (elim part [
+          | inl same ↦ (let e : slice_get rules r ≡ Some rule = subst (λ (q : ℕ). slice_get rules q ≡ Some rule) same at in
+              let n : ⊥ = cc in n)
+          | inr reach ↦ no_reach is k reach
+        ]))
     by_rule (Some rule) is = by_parts (length rules) (r ∷ []) (record {
       apart = ((λ i. i), tt);
-      below_all = λ k i. elim i [ inl e ↦ subst (λ (n : ℕ). n < length rules) (sym e) (slice_get_within rules r rule is) | inr none_left ↦ absurd none_left ];
+      below_all = λ k i. elim i [
+        | inl e ↦ subst (λ (n : ℕ). n < length rules) (sym e) (slice_get_within rules r rule is)
+        | inr
+            none_left ↦ absurd none_left
+      ];
       parts = λ k i. elim i [ inl e ↦ inl e | inr none_left ↦ absurd none_left ];
       first = inl refl;
     }) (omega arith)

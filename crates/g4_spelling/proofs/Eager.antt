@@ -51,27 +51,34 @@ any_all [] = All-nil Any
 any_all (x ∷ xs) = All-cons Any x xs tt (any_all xs)
 
 -- the blocks of one of several rules
-full_at : (trees : List (Alternatives (Step Reads))) → AreFullTrees trees → (k : ℕ) (xs : Alternatives (Step Reads)) → slice_get trees k ≡ Some xs → EachIsFull xs
+full_at : (trees : List (Alternatives (Step Reads))) → AreFullTrees trees → (k : ℕ) (xs : Alternatives (Step Reads))
+    → slice_get trees k ≡ Some xs → EachIsFull xs
 full_at [] full k xs is = absurd (let n : ⊥ = cc in n)
 full_at (x ∷ trees) full zero xs is = let same : x ≡ xs = cc in subst EachIsFull same full.0.1
 full_at (x ∷ trees) full (suc k) xs is = full_at trees full.1 k xs is
 
 -- a rule's start leads to where its alternatives begin
-begins_within : (net : LexerNetwork) (r i a : ℕ) (xs : List LexerAlternative) → Contains (rule_starts net.states r xs) (record { rule = r; alternative = i; state = a }) → Within net (start_of r) a
+begins_within : (net : LexerNetwork) (r i a : ℕ) (xs : List LexerAlternative)
+    → Contains (rule_starts net.states r xs) (record { rule = r; alternative = i; state = a }) → Within net (start_of r) a
 begins_within net r i a xs c = by xs c
   where
-    decided : Contains (decided_starts r (slice_get net.states (start_of r))) (record { rule = r; alternative = i; state = a }) → Within net (start_of r) a
-    decided c = let h = decided_at r (slice_get net.states (start_of r)) i a c in onward (start_of r) a (Decision h.0) greedy.start h.2 (at_is_member h.0 h.1 a h.3)
+    decided : Contains (decided_starts r (slice_get net.states (start_of r))) (record { rule = r; alternative = i; state = a })
+        → Within net (start_of r) a
+    decided c = let h = decided_at r (slice_get net.states (start_of r)) i a c in
+        onward (start_of r) a (Decision h.0) greedy.start h.2 (at_is_member h.0 h.1 a h.3)
 
-    by : (xs : List LexerAlternative) → Contains (rule_starts net.states r xs) (record { rule = r; alternative = i; state = a }) → Within net (start_of r) a
+    by : (xs : List LexerAlternative) → Contains (rule_starts net.states r xs) (record { rule = r; alternative = i; state = a })
+        → Within net (start_of r) a
     by [] c = decided c
-    by (x ∷ []) c = elim (member_at (record { rule = r; alternative = 1; state = start_of r }) (record { rule = r; alternative = i; state = a }) [] c) [
-      | inl same ↦ subst (Within net (start_of r)) (ap (λ (s : Start). s.state) same) greedy.start
-      | inr more ↦ absurd (omega (arith, more.1))
-    ]
+    by (x ∷ []) c = elim (member_at (record { rule = r; alternative = 1; state = start_of r })
+        (record { rule = r; alternative = i; state = a }) [] c) [
+          | inl same ↦ subst (Within net (start_of r)) (ap (λ (s : Start). s.state) same) greedy.start
+          | inr more ↦ absurd (omega (arith, more.1))
+        ]
     by (x ∷ y ∷ more) c = decided c
 
-module _ (literals : List LexerRule) (modes : List Mode) (made : LexNet) (lex : IsLexNet literals modes made) (can : CanBeLexed (all_rules literals modes)) where
+module _ (literals : List LexerRule) (modes : List Mode) (made : LexNet) (lex : IsLexNet literals modes made)
+    (can : CanBeLexed (all_rules literals modes)) where
   -- all rules, their trees and the network
   abbrev rules : List LexerRule
   rules = all_rules literals modes
@@ -90,7 +97,8 @@ module _ (literals : List LexerRule) (modes : List Mode) (made : LexNet) (lex : 
   LaidHere k = LaidRule trees net network k
 
   laid_here : (k : ℕ) (rule : LexerRule) → slice_get rules k ≡ Some rule → LaidHere k
-  laid_here k rule is = rule_laid trees net network k (slice_get_within trees k (all_laid rules (lexer_alternatives_of rule)) (tree_of rules k rule is))
+  laid_here k rule is = rule_laid trees net network k
+      (slice_get_within trees k (all_laid rules (lexer_alternatives_of rule)) (tree_of rules k rule is))
 
   -- the state is one of this rule
   abbrev IsHere : (k : ℕ) → LaidHere k → ℕ → Type 0
@@ -113,19 +121,26 @@ module _ (literals : List LexerRule) (modes : List Mode) (made : LexNet) (lex : 
     own_sound =
         let full = full_at trees (trees_full rules can.full) k r.alternatives r.is in
         subst (EachIsSound Good) (sym own_tree)
-        (each_sound Any CallsRule (RuleCalls rules k) (all_laid rules (lexer_alternatives_of rule)) (subst EachIsFull own_tree full) (any_all (atoms_of_either (all_laid rules (lexer_alternatives_of rule))))
+        (each_sound Any CallsRule (RuleCalls rules k) (all_laid rules (lexer_alternatives_of rule)) (subst EachIsFull own_tree full)
+        (any_all (atoms_of_either (all_laid rules (lexer_alternatives_of rule))))
         (λ j c. (rule, is, either_calls (names_of rules) (lexer_alternatives_of rule) j c)))
 
     -- each state of the rule leads to its states
     state_sound : (q : ℕ) → IsHere k r q → SoundAt net Good Ended (IsHere k r) q
-    state_sound q (inl at) = subst (SoundAt net Good Ended (IsHere k r)) (sym at) (heads_sound net Good Ended (IsHere k r) trees (2 * length trees) k r own_sound (inr (inl refl)) (λ p from below. inr (inr (from, below))) tt).0
-    state_sound q (inr (inl at)) = subst (SoundAt net Good Ended (IsHere k r)) (sym at) (heads_sound net Good Ended (IsHere k r) trees (2 * length trees) k r own_sound (inr (inl refl)) (λ p from below. inr (inr (from, below))) tt).1
-    state_sound q (inr (inr at)) = others_sound net Good Ended (IsHere k r) trees (2 * length trees) k r own_sound (inr (inl refl)) (λ p from below. inr (inr (from, below))) (inl refl) q at.0 at.1
+    state_sound q (inl at) = subst (SoundAt net Good Ended (IsHere k r)) (sym at)
+        (heads_sound net Good Ended (IsHere k r) trees (2 * length trees) k r own_sound (inr (inl refl))
+        (λ p from below. inr (inr (from, below))) tt).0
+    state_sound q (inr (inl at)) = subst (SoundAt net Good Ended (IsHere k r)) (sym at)
+        (heads_sound net Good Ended (IsHere k r) trees (2 * length trees) k r own_sound (inr (inl refl))
+        (λ p from below. inr (inr (from, below))) tt).1
+    state_sound q (inr (inr at)) = others_sound net Good Ended (IsHere k r) trees (2 * length trees) k r own_sound (inr (inl refl))
+        (λ p from below. inr (inr (from, below))) (inl refl) q at.0 at.1
 
     -- and is no reluctant decision, where the rule's signs are greedy
     state_eager : EachIsGreedy (lexer_alternatives_of rule) → (q : ℕ) → IsHere k r q → IsEager net q
     state_eager g q here =
-        let all = rule_eager net r.lies (subst EachIsGreedy (sym own_tree) (either_greedy (names_of rules) (lexer_alternatives_of rule) g)) in
+        let all = rule_eager net r.lies (subst EachIsGreedy (sym own_tree)
+        (either_greedy (names_of rules) (lexer_alternatives_of rule) g)) in
         elim here [
           | inl at ↦ subst (IsEager net) (sym at) all.0
           | inr (inl at) ↦ subst (IsEager net) (sym at) (end_eager net (end_of k) k r.last)
@@ -159,26 +174,39 @@ module _ (literals : List LexerRule) (modes : List Mode) (made : LexNet) (lex : 
         part = i.part;
         laid = i.laid;
         here = target_allowed (Good i.number i.rule i.is i.laid) (Ended i.number i.rule i.is i.laid) (IsHere i.number i.laid) s t
-            (subst (IsSoundState (Good i.number i.rule i.is i.laid) (Ended i.number i.rule i.is i.laid) (IsHere i.number i.laid)) is sound) target;
+            (subst (IsSoundState (Good i.number i.rule i.is i.laid) (Ended i.number i.rule i.is i.laid) (IsHere i.number i.laid)) is
+            sound) target;
       }
   within_part r p _ (called q rule level back w is) h =
       let i = within_part r p q w h in
-      let sound = subst (IsSoundState (Good i.number i.rule i.is i.laid) (Ended i.number i.rule i.is i.laid) (IsHere i.number i.laid)) is (state_sound i.number i.rule i.is i.laid q i.here) in
+      let sound = subst (IsSoundState (Good i.number i.rule i.is i.laid) (Ended i.number i.rule i.is i.laid) (IsHere i.number i.laid))
+      is (state_sound i.number i.rule i.is i.laid q i.here) in
       let known = call_known literals modes made lex can q rule level back is in
-      record { number = rule; rule = known.0; is = known.1; part = calls_part r i.number rule i.part (sound.0.1 rule refl); laid = laid_here rule known.0 known.1; here = inl refl }
+      record {
+        number = rule;
+        rule = known.0;
+        is = known.1;
+        part = calls_part r i.number rule i.part (sound.0.1 rule refl);
+        laid = laid_here rule known.0 known.1;
+        here = inl refl;
+      }
 
   -- from where an alternative of the rule begins there is no reluctant decision
   begun_greedy : (r i a : ℕ) → IsLexStart net.states rules r i a → IsWrittenGreedy rules r → IsGreedy net a
   begun_greedy r i a (rule, is, c) written q targets w at reluctant =
-      let first : IsPartState r (start_of r) = record { number = r; rule = rule; is = is; part = inl refl; laid = laid_here r rule is; here = inl refl } in
+      let first : IsPartState r (start_of r) = record
+      { number = r; rule = rule; is = is; part = inl refl; laid = laid_here r rule is; here = inl refl } in
       let h = within_part r a q w (within_part r (start_of r) a (begins_within net r i a rule.alternatives c) first) in
-      let eager : is_reluctant targets ≡ false = state_eager h.number h.rule h.is h.laid (written h.number h.rule h.part h.is) q h.here targets at in
+      let eager : is_reluctant targets ≡ false =
+      state_eager h.number h.rule h.is h.laid (written h.number h.rule h.part h.is) q h.here targets at in
       let n : ⊥ = (let e : true ≡ false = sym reluctant ∙ eager in cc) in n
 
   -- a rule that is written without non-greedy parts has none
-  pub greedy_rule : (starts : List Start) → Contains made.modes starts → (r : ℕ) → IsWrittenGreedy rules r → IsGreedyRule net (starts_of starts) r
+  pub greedy_rule : (starts : List Start) → Contains made.modes starts → (r : ℕ) → IsWrittenGreedy rules r
+      → IsGreedyRule net (starts_of starts) r
   greedy_rule starts c r written s i same =
       let h = start_at starts s i in
       let begins = (mode_is literals modes made lex starts c).begin h.0 h.1 in
       let number : h.0.rule ≡ r = sym (ap (λ (d : LexerConfig). d.rule) h.2) ∙ same in
-      subst (IsGreedy net) (sym (ap (λ (d : LexerConfig). d.state) h.2)) (begun_greedy h.0.rule h.0.alternative h.0.state begins (subst (IsWrittenGreedy rules) (sym number) written))
+      subst (IsGreedy net) (sym (ap (λ (d : LexerConfig). d.state) h.2))
+      (begun_greedy h.0.rule h.0.alternative h.0.state begins (subst (IsWrittenGreedy rules) (sym number) written))

@@ -42,7 +42,8 @@ no_call names (kinds.Predicate name) is k c = is
 
 module _ (rules : List LexerRule) (a : Atom) (is : IsEndOfFile a.kind) where
   -- it derives the one mark
-  one_mark : (u : List Mark) → Derives ReadsMarks (CallsNamed (names_of rules)) (map lexer_alternatives_of rules) (atom a) u → u ≡ end_of_file ∷ []
+  one_mark : (u : List Mark) → Derives ReadsMarks (CallsNamed (names_of rules)) (map lexer_alternatives_of rules) (atom a) u
+      → u ≡ end_of_file ∷ []
   one_mark u (an_atom _ _ (inl (text, e, scalar, m))) = absurd (no_text a.kind is text m)
   one_mark u (an_atom _ _ (inr (ended, e))) = e
   one_mark u (a_call _ k xs _ c at d) = absurd (no_call (names_of rules) a.kind is k c)
@@ -54,7 +55,8 @@ module _ (rules : List LexerRule) (a : Atom) (is : IsEndOfFile a.kind) where
   pub takes_nothing : (w z : List ℕ) → DerivesFront rules (then (atom a) empty) w z → (w ≡ []) × (z ≡ [])
   takes_nothing w z m =
       let marks = map character m.text ++ repeat m.ends (end_of_file ∷ []) in
-      let covers : Covers (end_of_file ∷ []) w z = subst (λ (ms : List Mark). Covers ms w z) (alone marks m.derives) (covers_front m.text m.ends w z m.parts m.at_end) in
+      let covers : Covers (end_of_file ∷ []) w z =
+      subst (λ (ms : List Mark). Covers ms w z) (alone marks m.derives) (covers_front m.text m.ends w z m.parts m.at_end) in
       (covers.0, sym covers.1 ∙ covers.0)
 
   pub matches_at_end : (w z : List ℕ) → (w ≡ []) × (z ≡ []) → DerivesFront rules (then (atom a) empty) w z

@@ -39,13 +39,15 @@ use Rattle.g4_derivation.proofs.Items.{map_item}
 use Rattle.g4_spelling.proofs.Placed.{all_laid, begins_laid, item_below, tree_is, tree_of}
 
 -- one of several rules has an alternative
-full_rule : (rules : List LexerRule) → LexerRulesAreFull rules → (k : ℕ) (rule : LexerRule) → slice_get rules k ≡ Some rule → LexerRuleIsFull rule
+full_rule : (rules : List LexerRule) → LexerRulesAreFull rules → (k : ℕ) (rule : LexerRule) → slice_get rules k ≡ Some rule
+    → LexerRuleIsFull rule
 full_rule [] full k rule is = absurd (let n : ⊥ = cc in n)
 full_rule (x ∷ rules) full zero rule is = let same : x ≡ rule = cc in subst LexerRuleIsFull same full.0
 full_rule (x ∷ rules) full (suc k) rule is = full_rule rules full.1 k rule is
 
 -- two ways to match by which the same is matched have the same best
-same_best : {P Q : ℕ → ℕ → ℕ → Type 0} → ((r i n : ℕ) → P r i n → Q r i n) → ((r i n : ℕ) → Q r i n → P r i n) → (n r i : ℕ) → IsBest P n r i → IsBest Q n r i
+same_best : {P Q : ℕ → ℕ → ℕ → Type 0} → ((r i n : ℕ) → P r i n → Q r i n) → ((r i n : ℕ) → Q r i n → P r i n) → (n r i : ℕ)
+    → IsBest P n r i → IsBest Q n r i
 same_best to back n r i b = record {
   some = b.some;
   matches = to r i n b.matches;
@@ -54,22 +56,27 @@ same_best to back n r i b = record {
   first_alternative = λ j h. b.first_alternative j (back r j n h);
 }
 
-module _ (literals : List LexerRule) (modes : List Mode) (made : LexNet) (lex : IsLexNet literals modes made) (can : CanBeLexed (all_rules literals modes)) where
+module _ (literals : List LexerRule) (modes : List Mode) (made : LexNet) (lex : IsLexNet literals modes made)
+    (can : CanBeLexed (all_rules literals modes)) where
   -- where something begins, an alternative begins
-  pub alternative_there : (r i a : ℕ) → IsLexStart made.net.states (all_rules literals modes) r i a → (x : LexerAlternative) × IsAlternativeOf (all_rules literals modes) r i x
+  pub alternative_there : (r i a : ℕ) → IsLexStart made.net.states (all_rules literals modes) r i a
+      → (x : LexerAlternative) × IsAlternativeOf (all_rules literals modes) r i x
   alternative_there r i a (rule, is, c) =
       let rules = all_rules literals modes in
       let net = made.net in
       let many = some_alternative rule.alternatives (full_rule rules can.full r rule is).0 in
       let first = item_below rule.alternatives 0 many in
       let own = all_laid rules (lexer_alternatives_of rule) in
-      let b = begins (trees_of rules) net lex.network.network r own (tree_of rules r rule is) i a (begins_laid rules net r i a rule.alternatives c 0 first.0 first.1) in
-      let h = item_of_alternative (map (in_order_over step_of) (lowered rules rule)) i b.alternative (subst (λ (ys : Alternatives (Step Reads)). walks.IsAlternative ys i b.alternative) (sym (tree_is rules rule)) b.is) in
+      let b = begins (trees_of rules) net lex.network.network r own (tree_of rules r rule is) i a
+      (begins_laid rules net r i a rule.alternatives c 0 first.0 first.1) in
+      let h = item_of_alternative (map (in_order_over step_of) (lowered rules rule)) i b.alternative
+      (subst (λ (ys : Alternatives (Step Reads)). walks.IsAlternative ys i b.alternative) (sym (tree_is rules rule)) b.is) in
       let low = map_item (in_order_over step_of) (lowered rules rule) h.0 b.alternative h.1 in
       let x = map_item (λ (y : LexerAlternative). in_order_bind (kind_of (names_of rules)) y.elements) rule.alternatives h.0 low.0 low.1 in
       (x.0, (rule, h.0, is, x.1, h.2))
 
-module _ (literals : List LexerRule) (modes : List Mode) (made : LexNet) (lex : IsLexNet literals modes made) (can : CanBeLexed (all_rules literals modes)) (canonical : SetsAreCanonical (all_rules literals modes)) where
+module _ (literals : List LexerRule) (modes : List Mode) (made : LexNet) (lex : IsLexNet literals modes made)
+    (can : CanBeLexed (all_rules literals modes)) (canonical : SetsAreCanonical (all_rules literals modes)) where
   -- all rules and the network
   abbrev rules : List LexerRule
   rules = all_rules literals modes
@@ -90,27 +97,49 @@ module _ (literals : List LexerRule) (modes : List Mode) (made : LexNet) (lex : 
         let rule : s.rule ≡ r = sym (ap (λ (d : LexerConfig). d.rule) h.2) ∙ rule_is in
         let alternative : s.alternative ≡ i = sym (ap (λ (d : LexerConfig). d.alternative) h.2) ∙ alternative_is in
         let there : Contains starts s = In-to starts s h.1 in
-        let same : s ≡ record { rule = r; alternative = i; state = s.state } = ap (λ (q : ℕ). record { rule = q; alternative = s.alternative; state = s.state }) rule ∙ ap (λ (q : ℕ). record { rule = r; alternative = q; state = s.state }) alternative in
+        let same : s ≡ record { rule = r; alternative = i; state = s.state } =
+        ap (λ (q : ℕ). record { rule = q; alternative = s.alternative; state = s.state }) rule
+        ∙ ap (λ (q : ℕ). record { rule = r; alternative = q; state = s.state }) alternative in
         let here : Contains starts (record { rule = r; alternative = i; state = s.state }) = subst (Contains starts) same there in
         let begun = begins_at (record { rule = r; alternative = i; state = s.state }) here in
-        let x = alternative_there literals modes made lex can r i s.state begun in
-        (room, (s.state, here), (x.0, x.1, spelled_derives literals modes made lex can canonical r i s.state x.0 x.1 begun text (drop n text) (subst (λ (q : ℕ). SpellsText net q text (drop n text)) (ap (λ (d : LexerConfig). d.state) h.2) spells)))
+        let x = alternative_there literals modes made lex can r i s.state begun in (
+          room,
+          (s.state, here),
+          (
+            x.0,
+            x.1,
+            spelled_derives literals modes made lex can canonical r i s.state x.0 x.1 begun text
+                (drop n text) (subst (λ (q : ℕ). SpellsText net q text (drop n text)) (ap (λ (d : LexerConfig). d.state) h.2) spells),
+          ),
+        )
 
     -- and the other way round
     derived_spelled : (r i n : ℕ) → MatchesDerived rules starts text r i n → SpellsFront net (starts_of starts) text r i n
     derived_spelled r i n (room, (a, here), (x, alternative, front)) =
-        let s : Start = record { rule = r; alternative = i; state = a } in
-        (room, (start r i a, at_start starts s here, refl, refl, derived_spells literals modes made lex can canonical r i a x alternative (begins_at s here) text (drop n text) front))
+        let s : Start = record { rule = r; alternative = i; state = a } in (
+          room,
+          (
+            start r i a,
+            at_start starts s here,
+            refl,
+            refl,
+            derived_spells literals modes made lex can canonical r i a x alternative (begins_at s here) text (drop n text) front,
+          ),
+        )
 
     -- a rule without non-greedy parts matches alone what it derives
-    pub alone_derives : (r i n : ℕ) → IsWrittenGreedy rules r → MatchesAlone net (starts_of starts) text r i n → MatchesDerived rules starts text r i n
+    pub alone_derives : (r i n : ℕ) → IsWrittenGreedy rules r → MatchesAlone net (starts_of starts) text r i n
+        → MatchesDerived rules starts text r i n
     alone_derives r i n written m =
-        spelled_derived r i n (alone_spells net (starts_of starts) text r i n (is_lexable literals modes made lex can) (fresh starts) (greedy_rule literals modes made lex can starts among r written) m)
+        spelled_derived r i n (alone_spells net (starts_of starts) text r i n (is_lexable literals modes made lex can) (fresh starts)
+        (greedy_rule literals modes made lex can starts among r written) m)
 
     -- and the other way round
-    pub derived_alone : (r i n : ℕ) → IsWrittenGreedy rules r → MatchesDerived rules starts text r i n → MatchesAlone net (starts_of starts) text r i n
+    pub derived_alone : (r i n : ℕ) → IsWrittenGreedy rules r → MatchesDerived rules starts text r i n
+        → MatchesAlone net (starts_of starts) text r i n
     derived_alone r i n written d =
-        spells_alone net (starts_of starts) text r i n (is_lexable literals modes made lex can) (fresh starts) (greedy_rule literals modes made lex can starts among r written) (derived_spelled r i n d)
+        spells_alone net (starts_of starts) text r i n (is_lexable literals modes made lex can) (fresh starts)
+        (greedy_rule literals modes made lex can starts among r written) (derived_spelled r i n d)
 
     -- what a rule matches alone, it matches
     alone_matches : (r i n : ℕ) → MatchesAlone net (starts_of starts) text r i n → Matches rules net starts text r i n
@@ -128,10 +157,12 @@ module _ (literals : List LexerRule) (modes : List Mode) (made : LexNet) (lex : 
     pub match_best : (n r i : ℕ) → IsMatch net (starts_of starts) text n r i → IsBest (Matches rules net starts text) n r i
     match_best n r i m =
         same_best {P = MatchesAlone net (starts_of starts) text} {Q = Matches rules net starts text} alone_matches matches_alone n r i
-        (match_is_best net (starts_of starts) text n r i (is_lexable literals modes made lex can) (mode_is literals modes made lex starts among).in_order m)
+        (match_is_best net (starts_of starts) text n r i (is_lexable literals modes made lex can)
+        (mode_is literals modes made lex starts among).in_order m)
 
     -- and the best is the match
     pub best_match : (n r i : ℕ) → IsBest (Matches rules net starts text) n r i → IsMatch net (starts_of starts) text n r i
     best_match n r i b =
-        best_is_match net (starts_of starts) text n r i (is_lexable literals modes made lex can) (mode_is literals modes made lex starts among).in_order
+        best_is_match net (starts_of starts) text n r i (is_lexable literals modes made lex can)
+        (mode_is literals modes made lex starts among).in_order
         (same_best {P = Matches rules net starts text} {Q = MatchesAlone net (starts_of starts) text} matches_alone alone_matches n r i b)

@@ -52,7 +52,8 @@ unfragmented None starts s i = i
 unfragmented (Some place) starts s i = absurd i
 
 -- two lists of starts, of different rules
-both : (xs ys : List Start) → InOrder (starts_of xs) → InOrder (starts_of ys) → ((s t : Start) → In s xs → In t ys → t.rule ≡ s.rule → ⊥) → InOrder (starts_of (xs ++ ys))
+both : (xs ys : List Start) → InOrder (starts_of xs) → InOrder (starts_of ys)
+    → ((s t : Start) → In s xs → In t ys → t.rule ≡ s.rule → ⊥) → InOrder (starts_of (xs ++ ys))
 both [] ys a b apart = b
 both (x ∷ xs) ys (more _ _ f g) b apart = more (begun x) (starts_of (xs ++ ys)) later (both xs ys g b (λ s t i j. apart s t (inr i) j))
   where
@@ -90,7 +91,8 @@ own_order states r [] = decided_order r (slice_get states (start_of r))
 own_order states r (x ∷ []) = more (start r 1 (start_of r)) [] (λ d i e. absurd i) no_more
 own_order states r (x ∷ y ∷ others) = decided_order r (slice_get states (start_of r))
 
-unfragmented_order : (place : Option Place) (starts : List Start) → InOrder (starts_of starts) → InOrder (starts_of (unless_fragment place starts))
+unfragmented_order : (place : Option Place) (starts : List Start) → InOrder (starts_of starts)
+    → InOrder (starts_of (unless_fragment place starts))
 unfragmented_order None starts h = h
 unfragmented_order (Some place) starts h = no_more
 
@@ -102,7 +104,8 @@ item_front (y ∷ xs) ys (suc k) x is = item_front xs ys k x is
 
 pub item_after : {X : Type 0} (xs ys : List X) (k : ℕ) → slice_get (xs ++ ys) (length xs + k) ≡ slice_get ys k
 item_after {X} [] ys k = let e : length {A = X} [] + k ≡ k = omega arith in ap (slice_get ys) e
-item_after (x ∷ xs) ys k = let e : length (x ∷ xs) + k ≡ suc (length xs + k) = omega arith in ap (slice_get (x ∷ xs ++ ys)) e ∙ item_after xs ys k
+item_after (x ∷ xs) ys k = let e : length (x ∷ xs) + k ≡ suc (length xs + k) = omega arith in
+    ap (slice_get (x ∷ xs ++ ys)) e ∙ item_after xs ys k
 
 module _ (states : List (State Reads)) (all : List LexerRule) where
   -- an alternative of a rule with a number from n up to m begins there
@@ -115,23 +118,35 @@ module _ (states : List (State Reads)) (all : List LexerRule) where
 
   -- the others are those from the next on
   next_from : (n : ℕ) (rule : LexerRule) (rules : List LexerRule) → AreFrom n (rule ∷ rules) → AreFrom (n + 1) rules
-  next_from n rule rules are k x is = let e : n + suc k ≡ n + 1 + k = omega arith in subst (λ (q : ℕ). slice_get all q ≡ Some x) e (are (suc k) x is)
+  next_from n rule rules are k x is = let e : n + suc k ≡ n + 1 + k = omega arith in
+      subst (λ (q : ℕ). slice_get all q ≡ Some x) e (are (suc k) x is)
 
-  places : (n : ℕ) (rules : List LexerRule) → AreFrom n rules → (s : Start) → In s (starts_from states n rules) → IsPlace n (n + length rules) s
+  places : (n : ℕ) (rules : List LexerRule) → AreFrom n rules → (s : Start) → In s (starts_from states n rules)
+      → IsPlace n (n + length rules) s
   places n [] are s i = absurd i
   places n (rule ∷ rules) are s i = elim (In-cases (matched_starts states n rule) (starts_from states (n + 1) rules) s i) [
     | inl own ↦ (
         let here = unfragmented rule.fragment (rule_starts states n rule.alternatives) s own in
         let same : s.rule ≡ n = own_rule states n rule.alternatives s here in
-        let first : n + 0 ≡ s.rule = omega (arith, same) in
-        (omega (arith, same), omega (arith, same), (rule, subst (λ (q : ℕ). slice_get all q ≡ Some rule) first (are 0 rule refl), In-to (rule_starts states s.rule rule.alternatives) s (subst (λ (q : ℕ). In s (rule_starts states q rule.alternatives)) (sym same) here))))
+        let first : n + 0 ≡ s.rule = omega (arith, same) in (
+          omega (arith, same),
+          omega (arith, same),
+          (
+            rule,
+            subst (λ (q : ℕ). slice_get all q ≡ Some rule) first (are 0 rule refl),
+            In-to (rule_starts states s.rule rule.alternatives) s
+                (subst (λ (q : ℕ). In s (rule_starts states q rule.alternatives)) (sym same) here),
+          ),
+        ))
     | inr later ↦ (let h = places (n + 1) rules (next_from n rule rules are) s later in (omega (arith, h.0), omega (arith, h.1), h.2))
   ]
 
   order : (n : ℕ) (rules : List LexerRule) → AreFrom n rules → InOrder (starts_of (starts_from states n rules))
   order n [] are = no_more
   order n (rule ∷ rules) are =
-      both (matched_starts states n rule) (starts_from states (n + 1) rules) (unfragmented_order rule.fragment (rule_starts states n rule.alternatives) (own_order states n rule.alternatives)) (order (n + 1) rules (next_from n rule rules are))
+      both (matched_starts states n rule) (starts_from states (n + 1) rules)
+      (unfragmented_order rule.fragment (rule_starts states n rule.alternatives) (own_order states n rule.alternatives))
+      (order (n + 1) rules (next_from n rule rules are))
       (λ s t i j e.
       let same = own_rule states n rule.alternatives s (unfragmented rule.fragment (rule_starts states n rule.alternatives) s i) in
       let h = places (n + 1) rules (next_from n rule rules are) t j in
@@ -142,17 +157,20 @@ module _ (states : List (State Reads)) (all : List LexerRule) where
     pub begin : (s : Start) → In s starts → IsLexStart states all s.rule s.alternative s.state
     pub in_order : InOrder (starts_of starts)
 
-  module _ (front : List Start) (low : ℕ) (front_places : (s : Start) → In s front → IsPlace 0 low s) (front_order : InOrder (starts_of front)) where
+  module _ (front : List Start) (low : ℕ) (front_places : (s : Start) → In s front → IsPlace 0 low s)
+      (front_order : InOrder (starts_of front)) where
     -- those that come before, and those of some rules
     one_mode : (n : ℕ) (rules : List LexerRule) → low ≤ n → AreFrom n rules → AreStarts (front ++ starts_from states n rules)
     one_mode n rules up are = record {
-      begin = λ s i. elim (In-cases front (starts_from states n rules) s i) [ inl j ↦ (front_places s j).2 | inr j ↦ (places n rules are s j).2 ];
+      begin = λ s i. elim (In-cases front (starts_from states n rules) s i)
+          [ inl j ↦ (front_places s j).2 | inr j ↦ (places n rules are s j).2 ];
       in_order = both front (starts_from states n rules) front_order (order n rules are)
           (λ s t i j e. let a = front_places s i in let b = places n rules are t j in omega (arith, a.1, b.0, up, e));
     }
 
     -- of each mode
-    each_mode : (n : ℕ) (modes : List Mode) → low ≤ n → AreFrom n (rules_of_modes modes) → (starts : List Start) → In starts (starts_of_modes states front n modes) → AreStarts starts
+    each_mode : (n : ℕ) (modes : List Mode) → low ≤ n → AreFrom n (rules_of_modes modes) → (starts : List Start)
+        → In starts (starts_of_modes states front n modes) → AreStarts starts
     each_mode n [] up are starts i = absurd i
     each_mode n (mode ∷ modes) up are starts (inl is) =
         subst AreStarts (sym is) (one_mode n mode.rules up (λ k rule e. are k rule (item_front mode.rules (rules_of_modes modes) k rule e)))
@@ -160,17 +178,22 @@ module _ (states : List (State Reads)) (all : List LexerRule) where
         each_mode (n + length mode.rules) modes (omega (arith, up))
         (λ k rule e.
         let there : n + (length mode.rules + k) ≡ n + length mode.rules + k = omega arith in
-        subst (λ (q : ℕ). slice_get all q ≡ Some rule) there (are (length mode.rules + k) rule (item_after mode.rules (rules_of_modes modes) k ∙ e))) starts i
+        subst (λ (q : ℕ). slice_get all q ≡ Some rule) there
+        (are (length mode.rules + k) rule (item_after mode.rules (rules_of_modes modes) k ∙ e))) starts i
 
 -- the starts of a mode of a lexer's network
-pub mode_is : (literals : List LexerRule) (modes : List Mode) (made : LexNet) → IsLexNet literals modes made → (starts : List Start) → Contains made.modes starts → AreStarts made.net.states (all_rules literals modes) starts
+pub mode_is : (literals : List LexerRule) (modes : List Mode) (made : LexNet) → IsLexNet literals modes made → (starts : List Start)
+    → Contains made.modes starts → AreStarts made.net.states (all_rules literals modes) starts
 mode_is literals modes made lex starts c =
     let states = made.net.states in
     let all = all_rules literals modes in
-    let are : AreFrom states all 0 literals = λ k rule is. let e : k ≡ 0 + k = omega arith in subst (λ (q : ℕ). slice_get all q ≡ Some rule) e (item_front literals (rules_of_modes modes) k rule is) in
-    let others : AreFrom states all (length literals) (rules_of_modes modes) = λ k rule is. item_after literals (rules_of_modes modes) k ∙ is in
+    let are : AreFrom states all 0 literals = λ k rule is. let e : k ≡ 0 + k = omega arith in
+    subst (λ (q : ℕ). slice_get all q ≡ Some rule) e (item_front literals (rules_of_modes modes) k rule is) in
+    let others : AreFrom states all (length literals) (rules_of_modes modes) =
+    λ k rule is. item_after literals (rules_of_modes modes) k ∙ is in
     each_mode states all (starts_from states 0 literals) (length literals)
-    (λ s i. let h = places states all 0 literals are s i in (h.0, omega (arith, h.1), h.2)) (order states all 0 literals are) (length literals) modes (omega arith) others starts
+    (λ s i. let h = places states all 0 literals are s i in (h.0, omega (arith, h.1), h.2)) (order states all 0 literals are)
+    (length literals) modes (omega arith) others starts
     (In-from (mode_starts states literals modes) starts (subst (λ (m : List (List Start)). Contains m starts) lex.starts c))
 
 -- a match begins with no open call, and with no reluctant decision passed
@@ -178,7 +201,8 @@ pub fresh : (starts : List Start) → AreFresh (starts_of starts)
 fresh starts c i = let h = In-map begun starts c i in (ap (λ (d : LexerConfig). d.returns) h.2, ap (λ (d : LexerConfig). d.passed) h.2)
 
 -- of which start a configuration is
-pub start_at : (starts : List Start) (c : LexerConfig) → In c (starts_of starts) → (s : Start) × In s starts × (c ≡ start s.rule s.alternative s.state)
+pub start_at : (starts : List Start) (c : LexerConfig) → In c (starts_of starts)
+    → (s : Start) × In s starts × (c ≡ start s.rule s.alternative s.state)
 start_at starts c i = In-map begun starts c i
 
 -- the configuration of a start

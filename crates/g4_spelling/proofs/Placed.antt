@@ -45,15 +45,19 @@ member_at x y xs (zero, below, is) = inl is
 member_at x y xs (suc k, below, is) = inr (k, omega (arith, below), is)
 
 -- alternatives that are numbered begin where their list says
-pub numbered_at : (r n : ℕ) (ps : List ℕ) (i a : ℕ) → Contains (numbered_starts r n ps) (record { rule = r; alternative = i; state = a }) → (k : ℕ) × (slice_get ps k ≡ Some a) × (i ≡ n + k)
+pub numbered_at : (r n : ℕ) (ps : List ℕ) (i a : ℕ)
+    → Contains (numbered_starts r n ps) (record { rule = r; alternative = i; state = a })
+    → (k : ℕ) × (slice_get ps k ≡ Some a) × (i ≡ n + k)
 numbered_at r n [] i a c = absurd (omega (arith, c.1))
-numbered_at r n (p ∷ ps) i a c = elim (member_at (record { rule = r; alternative = n; state = p }) (record { rule = r; alternative = i; state = a }) (numbered_starts r (n + 1) ps) c) [
-  | inl same ↦ (0, ap (λ (s : Start). Some s.state) same, let e = ap (λ (s : Start). s.alternative) same in omega (arith, e))
-  | inr more ↦ (let h = numbered_at r (n + 1) ps i a more in (suc h.0, h.1, omega (arith, h.2)))
-]
+numbered_at r n (p ∷ ps) i a c = elim (member_at (record { rule = r; alternative = n; state = p })
+    (record { rule = r; alternative = i; state = a }) (numbered_starts r (n + 1) ps) c) [
+      | inl same ↦ (0, ap (λ (s : Start). Some s.state) same, let e = ap (λ (s : Start). s.alternative) same in omega (arith, e))
+      | inr more ↦ (let h = numbered_at r (n + 1) ps i a more in (suc h.0, h.1, omega (arith, h.2)))
+    ]
 
 -- and those of a decision do
-pub decided_at : (r : ℕ) (o : Option (State Reads)) (i a : ℕ) → Contains (decided_starts r o) (record { rule = r; alternative = i; state = a }) →
+pub decided_at : (r : ℕ) (o : Option (State Reads)) (i a : ℕ)
+    → Contains (decided_starts r o) (record { rule = r; alternative = i; state = a }) →
     (targets : List ℕ) × (k : ℕ) × (o ≡ Some (Decision targets)) × (slice_get targets k ≡ Some a) × (i ≡ k + 1)
 decided_at r None i a c = absurd (omega (arith, c.1))
 decided_at r (Some (Decision targets)) i a c = let h = numbered_at r 1 targets i a c in (targets, h.0, refl, h.1, omega (arith, h.2))
@@ -79,11 +83,13 @@ module _ (all : List LexerRule) where
   tree_is rule = one_by_one (names_of all) rule.alternatives
 
   -- of which rule a tree is
-  pub tree_at : (k : ℕ) (ys : Alternatives (Step Reads)) → slice_get (trees_of all) k ≡ Some ys → (rule : LexerRule) × (slice_get all k ≡ Some rule) × (ys ≡ all_laid (lexer_alternatives_of rule))
+  pub tree_at : (k : ℕ) (ys : Alternatives (Step Reads)) → slice_get (trees_of all) k ≡ Some ys
+      → (rule : LexerRule) × (slice_get all k ≡ Some rule) × (ys ≡ all_laid (lexer_alternatives_of rule))
   tree_at k ys is = let h = map_item (tree all) all k ys is in (h.0, h.1, h.2 ∙ tree_is h.0)
 
   -- the tree of a rule
-  pub tree_of : (k : ℕ) (rule : LexerRule) → slice_get all k ≡ Some rule → slice_get (trees_of all) k ≡ Some (all_laid (lexer_alternatives_of rule))
+  pub tree_of : (k : ℕ) (rule : LexerRule) → slice_get all k ≡ Some rule
+      → slice_get (trees_of all) k ≡ Some (all_laid (lexer_alternatives_of rule))
   tree_of k rule is = item_map (tree all) all k rule is ∙ ap (λ (ys : Alternatives (Step Reads)). Some ys) (tree_is rule)
 
   -- the rules' own alternatives
@@ -91,13 +97,15 @@ module _ (all : List LexerRule) where
   given = map lexer_alternatives_of all
 
   -- their sets
-  pub good_at : SetsAreCanonical all → (k : ℕ) (xs : Alternatives Atom) → slice_get given k ≡ Some xs → All (HasCanonical (names_of all)) (atoms_of_either xs)
+  pub good_at : SetsAreCanonical all → (k : ℕ) (xs : Alternatives Atom) → slice_get given k ≡ Some xs
+      → All (HasCanonical (names_of all)) (atoms_of_either xs)
   good_at canonical k xs is =
       let h = map_item lexer_alternatives_of all k xs is in
       subst (λ (ys : Alternatives Atom). All (HasCanonical (names_of all)) (atoms_of_either ys)) (sym h.2) (canonical k h.0 h.1)
 
   -- an alternative of a rule is one of its tree
-  pub alternative_laid : (rule : LexerRule) (j : ℕ) (x : LexerAlternative) → slice_get rule.alternatives j ≡ Some x → IsAlternative (all_laid (lexer_alternatives_of rule)) (j + 1) (laid x.elements)
+  pub alternative_laid : (rule : LexerRule) (j : ℕ) (x : LexerAlternative) → slice_get rule.alternatives j ≡ Some x
+      → IsAlternative (all_laid (lexer_alternatives_of rule)) (j + 1) (laid x.elements)
   alternative_laid rule j x is =
       subst (λ (ys : Alternatives (Step Reads)). IsAlternative ys (j + 1) (laid x.elements)) (tree_is rule)
       (alternative_of_list (map (in_order_over step_of) (lowered all rule)) j (laid x.elements)
@@ -105,13 +113,16 @@ module _ (all : List LexerRule) where
       (item_map (λ (y : LexerAlternative). in_order_bind (kind_of (names_of all)) y.elements) rule.alternatives j x is)))
 
   -- it begins where the starts say
-  pub begins_laid : (net : Network Reads) (r i a : ℕ) (xs : List LexerAlternative) → Contains (rule_starts net.states r xs) (record { rule = r; alternative = i; state = a }) → (j : ℕ) (x : LexerAlternative) → slice_get xs j ≡ Some x →
+  pub begins_laid : (net : Network Reads) (r i a : ℕ) (xs : List LexerAlternative)
+      → Contains (rule_starts net.states r xs) (record { rule = r; alternative = i; state = a }) → (j : ℕ) (x : LexerAlternative)
+      → slice_get xs j ≡ Some x →
       walks.BeginsAt net r (all_laid (either (map (λ y. y.elements) xs))) i a
   begins_laid net r i a [] c j x is = absurd (let n : ⊥ = cc in n)
-  begins_laid net r i a (y ∷ []) c j x is = elim (member_at (record { rule = r; alternative = 1; state = start_of r }) (record { rule = r; alternative = i; state = a }) [] c) [
-    | inl same ↦ (sym (ap (λ (s : Start). s.alternative) same), sym (ap (λ (s : Start). s.state) same))
-    | inr more ↦ absurd (omega (arith, more.1))
-  ]
+  begins_laid net r i a (y ∷ []) c j x is = elim
+      (member_at (record { rule = r; alternative = 1; state = start_of r }) (record { rule = r; alternative = i; state = a }) [] c) [
+        | inl same ↦ (sym (ap (λ (s : Start). s.alternative) same), sym (ap (λ (s : Start). s.state) same))
+        | inr more ↦ absurd (omega (arith, more.1))
+      ]
   begins_laid net r i a (y ∷ z ∷ more) c j x is = decided_at r (slice_get net.states (start_of r)) i a c
 
 -- as many callers are listed as there are rules
@@ -119,11 +130,15 @@ callers_counted : (states : List (State Reads)) (count : ℕ) → length (caller
 callers_counted states count = length-map-range_with_len (returns_of states) 0 count
 
 -- each call in a network that can be lexed with is of one of the rules
-pub call_known : (literals : List LexerRule) (modes : List Mode) (made : LexNet) → IsLexNet literals modes made → CanBeLexed (all_rules literals modes) →
-    (p rule level back : ℕ) → state_at made.net p ≡ Some (Call rule level back) → (xs : LexerRule) × (slice_get (all_rules literals modes) rule ≡ Some xs)
+pub call_known : (literals : List LexerRule) (modes : List Mode) (made : LexNet) → IsLexNet literals modes made
+    → CanBeLexed (all_rules literals modes) →
+    (p rule level back : ℕ) → state_at made.net p ≡ Some (Call rule level back)
+    → (xs : LexerRule) × (slice_get (all_rules literals modes) rule ≡ Some xs)
 call_known literals modes made x can p rule level back is =
     let rules = all_rules literals modes in
     let well = is_lexable literals modes made x can in
-    let below : rule < length made.net.callers = well.calls p rule level back (item_map emptied made.net.states p (Call rule level back) is) in
-    let many : length made.net.callers ≡ length (trees_of rules) = ap length x.network.callers ∙ callers_counted made.net.states (length (trees_of rules)) in
+    let below : rule < length made.net.callers =
+    well.calls p rule level back (item_map emptied made.net.states p (Call rule level back) is) in
+    let many : length made.net.callers ≡ length (trees_of rules) =
+    ap length x.network.callers ∙ callers_counted made.net.states (length (trees_of rules)) in
     item_below rules rule (omega (arith, below, many, length-map rules (tree rules)))

@@ -25,7 +25,8 @@ module _ {L : Type 0} (net : Network L) where
 
   -- the state is a decision that is not
   decision_eager : (p : ℕ) (targets : List ℕ) → state_at net p ≡ Some (Decision targets) → is_reluctant targets ≡ false → IsEager p
-  decision_eager p targets is eager others at = let same : targets ≡ others = cc in subst (λ (ts : List ℕ). is_reluctant ts ≡ false) same eager
+  decision_eager p targets is eager others at = let same : targets ≡ others = cc in
+      subst (λ (ts : List ℕ). is_reluctant ts ≡ false) same eager
 
   -- the state is no decision
   other_eager : (p : ℕ) (s : State L) → state_at net p ≡ Some s → ((targets : List ℕ) → s ≡ Decision targets → ⊥) → IsEager p
@@ -36,15 +37,20 @@ module _ {L : Type 0} (net : Network L) where
   empty_eager p t is = other_eager p (Empty t) is (λ targets e. let n : ⊥ = cc in n)
 
   -- the first states of bodies rise, and a later exit branch comes last
-  rising : {xs : Alternatives (Step L)} {firsts lasts : List ℕ} {n m : ℕ} → LieSideBySide net xs firsts lasts n m → (is_reluctant firsts ≡ false) × ((exit : ℕ) → m ≤ exit → is_reluctant (with_exit true firsts exit) ≡ false)
+  rising : {xs : Alternatives (Step L)} {firsts lasts : List ℕ} {n m : ℕ} → LieSideBySide net xs firsts lasts n m
+      → (is_reluctant firsts ≡ false) × ((exit : ℕ) → m ≤ exit → is_reluctant (with_exit true firsts exit) ≡ false)
   rising (no_other n) = (refl, λ exit up. refl)
-  rising (another x xs last n k m _ _ l (no_other _)) = let up = in_order_spans l in (refl, λ exit high. not_below exit n (omega (arith, up.up, high)))
-  rising (another x xs last n k m _ _ l (another y ys other _ i _ _ _ h ls)) = let up = in_order_spans l in (not_below k n (omega (arith, up.up)), λ exit high. not_below k n (omega (arith, up.up)))
+  rising (another x xs last n k m _ _ l (no_other _)) = let up = in_order_spans l in
+      (refl, λ exit high. not_below exit n (omega (arith, up.up, high)))
+  rising (another x xs last n k m _ _ l (another y ys other _ i _ _ _ h ls)) = let up = in_order_spans l in
+      (not_below k n (omega (arith, up.up)), λ exit high. not_below k n (omega (arith, up.up)))
 
   -- a decision with an exit branch, where the sign is greedy
-  exit_eager : {xs : Alternatives (Step L)} {firsts lasts : List ℕ} {n m : ℕ} (p : ℕ) (greedy : Bool) (exit : ℕ) → greedy ≡ true → state_at net p ≡ Some (Decision (with_exit greedy firsts exit)) → LieSideBySide net xs firsts lasts n m → m ≤ exit → IsEager p
+  exit_eager : {xs : Alternatives (Step L)} {firsts lasts : List ℕ} {n m : ℕ} (p : ℕ) (greedy : Bool) (exit : ℕ) → greedy ≡ true
+      → state_at net p ≡ Some (Decision (with_exit greedy firsts exit)) → LieSideBySide net xs firsts lasts n m → m ≤ exit → IsEager p
   exit_eager {firsts = firsts} p greedy exit g is l up =
-      decision_eager p (with_exit greedy firsts exit) is (subst (λ (b : Bool). is_reluctant (with_exit b firsts exit) ≡ false) (sym g) ((rising l).1 exit up))
+      decision_eager p (with_exit greedy firsts exit) is
+      (subst (λ (b : Bool). is_reluctant (with_exit b firsts exit) ≡ false) (sym g) ((rising l).1 exit up))
 
   -- the states from n up to m are eager
   abbrev AreEager : ℕ → ℕ → Type 0
@@ -58,25 +64,36 @@ module _ {L : Type 0} (net : Network L) where
     -- the states of a greedy element are eager, if its last is
     pub element_eager : {x : Element (Step L)} {s t n m : ℕ} → Lies net x s t n m → IsGreedyElement x → IsEager t → IsEager s × AreEager n m
     element_eager (an_edge label s n is) g h = (other_eager s (Edge label n) is (λ targets e. let k : ⊥ = cc in k), alone_eager n h)
-    element_eager (a_call rule level s n is) g h = (other_eager s (Call rule level n) is (λ targets e. let k : ⊥ = cc in k), alone_eager n h)
-    element_eager (a_predicate number s n is) g h = (other_eager s (Predicate number n) is (λ targets e. let k : ⊥ = cc in k), alone_eager n h)
+    element_eager (a_call rule level s n is) g h =
+        (other_eager s (Call rule level n) is (λ targets e. let k : ⊥ = cc in k), alone_eager n h)
+    element_eager (a_predicate number s n is) g h =
+        (other_eager s (Predicate number n) is (λ targets e. let k : ⊥ = cc in k), alone_eager n h)
     element_eager (a_level q s n is) g h = (other_eager s (Level q n) is (λ targets e. let k : ⊥ = cc in k), alone_eager n h)
     element_eager (an_action s n is) g h = (other_eager s (Action n) is (λ targets e. let k : ⊥ = cc in k), alone_eager n h)
     element_eager (an_empty s n is) g h = (empty_eager s n is, alone_eager n h)
     element_eager (one_alternative name x s t n m l) g h = in_order_eager l g.1.0 h
     element_eager (a_block name xs firsts lasts s n m two is l a) g h =
         (decision_eager s firsts is (rising l).0, at_or_below {P = IsEager} m (bodies_eager l m a g.1) h)
-    element_eager (an_optional name sign xs firsts lasts s n m is l a exit) g h =
-        (exit_eager s sign.greedy m g.0 is l (omega arith), at_two {P = IsEager} m (bodies_eager l (m + 1) a g.1) (empty_eager m (m + 1) exit) h)
+    element_eager (an_optional name sign xs firsts lasts s n m is l a exit) g h = (
+      exit_eager s sign.greedy m g.0 is l (omega arith),
+      at_two {P = IsEager} m (bodies_eager l (m + 1) a g.1) (empty_eager m (m + 1) exit) h,
+    )
     element_eager (a_star name sign xs firsts lasts s n m is l a) g h =
         (exit_eager s sign.greedy m g.0 is l (omega arith), at_or_below {P = IsEager} m (bodies_eager l s a g.1) h)
-    element_eager (a_plus_of_one name sign xs first lasts s n m is l a again) g h =
-        (empty_eager s first is, at_two {P = IsEager} m (bodies_eager l m a g.1) (exit_eager m sign.greedy (m + 1) g.0 again l (omega arith)) h)
-    element_eager (a_plus name sign xs firsts lasts s n m two is l a again) g h =
-        (decision_eager s firsts is (rising l).0, at_two {P = IsEager} m (bodies_eager l m a g.1) (exit_eager m sign.greedy (m + 1) g.0 again l (omega arith)) h)
+    element_eager (a_plus_of_one name sign xs first lasts s n m is l a again) g h = (
+      empty_eager s first is,
+      at_two {P = IsEager} m (bodies_eager l m a g.1)
+          (exit_eager m sign.greedy (m + 1) g.0 again l (omega arith)) h,
+    )
+    element_eager (a_plus name sign xs firsts lasts s n m two is l a again) g h = (
+      decision_eager s firsts is (rising l).0,
+      at_two {P = IsEager} m (bodies_eager l m a g.1)
+          (exit_eager m sign.greedy (m + 1) g.0 again l (omega arith)) h,
+    )
 
     -- the same of elements one after another
-    pub in_order_eager : {xs : Elements (Step L)} {s t n m : ℕ} → LieInOrder net xs s t n m → AreGreedy xs → IsEager t → IsEager s × AreEager n m
+    pub in_order_eager : {xs : Elements (Step L)} {s t n m : ℕ} → LieInOrder net xs s t n m → AreGreedy xs → IsEager t
+        → IsEager s × AreEager n m
     in_order_eager (no_more s n) g h = (h, λ p from below. absurd (omega (arith, from, below)))
     in_order_eager (one_more x xs s mid t n k m l ls) g h =
         let rest = in_order_eager ls g.1 h in
@@ -89,7 +106,8 @@ module _ {L : Type 0} (net : Network L) where
         )
 
     -- and of bodies that lead on
-    pub bodies_eager : {xs : Alternatives (Step L)} {firsts lasts : List ℕ} {n m : ℕ} → LieSideBySide net xs firsts lasts n m → (u : ℕ) → AllLeadTo net lasts u → EachIsGreedy xs → AreEager n m
+    pub bodies_eager : {xs : Alternatives (Step L)} {firsts lasts : List ℕ} {n m : ℕ} → LieSideBySide net xs firsts lasts n m
+        → (u : ℕ) → AllLeadTo net lasts u → EachIsGreedy xs → AreEager n m
     bodies_eager (no_other n) u a g p from below = absurd (omega (arith, from, below))
     bodies_eager (another x xs last n k m firsts lasts l ls) u a g p from below =
         let own = in_order_eager l g.0 (empty_eager last u a.0) in
@@ -102,9 +120,11 @@ module _ {L : Type 0} (net : Network L) where
         ]
 
   -- the states of a rule but its end
-  pub rule_eager : {rule n m : ℕ} {xs : Alternatives (Step L)} → LiesAsRule net rule xs n m → EachIsGreedy xs → IsEager (start_of rule) × AreEager n m
+  pub rule_eager : {rule n m : ℕ} {xs : Alternatives (Step L)} → LiesAsRule net rule xs n m → EachIsGreedy xs
+      → IsEager (start_of rule) × AreEager n m
   rule_eager (of_one rule last n m x l leads) g = in_order_eager l g.0 (empty_eager last (end_of rule) leads)
-  rule_eager (of_several rule n m xs firsts lasts two is l a) g = (decision_eager (start_of rule) firsts is (rising l).0, bodies_eager l (end_of rule) a g)
+  rule_eager (of_several rule n m xs firsts lasts two is l a) g =
+      (decision_eager (start_of rule) firsts is (rising l).0, bodies_eager l (end_of rule) a g)
 
   -- its end
   pub end_eager : (p rule : ℕ) → state_at net p ≡ Some (End rule) → IsEager p

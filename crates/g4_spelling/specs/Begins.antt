@@ -14,9 +14,11 @@ first_of_mode n (mode ∷ modes) (suc m) = first_of_mode (n + length mode.rules)
 
 -- rule r is one of mode m; the rules of the literals have the first numbers
 abbrev pub IsRuleOfMode : List LexerRule → List Mode → ℕ → ℕ → Type 0
-IsRuleOfMode literals modes m r = (mode : Mode) × (slice_get modes m ≡ Some mode) × (first_of_mode (length literals) modes m ≤ r) × (r < first_of_mode (length literals) modes m + length mode.rules)
+IsRuleOfMode literals modes m r = (mode : Mode) × (slice_get modes m ≡ Some mode) × (first_of_mode (length literals) modes m ≤ r)
+    × (r < first_of_mode (length literals) modes m + length mode.rules)
 
 -- a match in mode m may begin with alternative i of rule r: the rule is that of a literal or one of the mode, and no fragment
 abbrev pub MayBegin : List LexerRule → List Mode → ℕ → ℕ → ℕ → Type 0
 MayBegin literals modes m r i = ((r < length literals) ⊎ IsRuleOfMode literals modes m r) ×
-    ((rule : LexerRule) × (slice_get (all_rules literals modes) r ≡ Some rule) × (rule.fragment ≡ None) × ((x : LexerAlternative) × IsAlternativeOf (all_rules literals modes) r i x))
+    ((rule : LexerRule) × (slice_get (all_rules literals modes) r ≡ Some rule) × (rule.fragment ≡ None)
+    × ((x : LexerAlternative) × IsAlternativeOf (all_rules literals modes) r i x))

@@ -7,4 +7,5 @@ use Rattle.g4_lexer_rules.specs.Steps.{SetIsCanonical}
 
 -- each set of each of the rules is in its one form
 abbrev pub SetsAreCanonical : List LexerRule → Type 0
-SetsAreCanonical rules = (r : ℕ) (rule : LexerRule) → slice_get rules r ≡ Some rule → All (λ a. SetIsCanonical a.kind) (atoms_of_either (lexer_alternatives_of rule))
+SetsAreCanonical rules = (r : ℕ) (rule : LexerRule) → slice_get rules r ≡ Some rule
+    → All (λ a. SetIsCanonical a.kind) (atoms_of_either (lexer_alternatives_of rule))

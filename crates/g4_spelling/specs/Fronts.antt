@@ -30,8 +30,10 @@ pub record DerivesFront (rules : List LexerRule) (x : Elements Atom) (w z : List
 
 -- x is alternative i of rule r; rules count from 0, alternatives from 1
 abbrev pub IsAlternativeOf : List LexerRule → ℕ → ℕ → LexerAlternative → Type 0
-IsAlternativeOf rules r i x = (rule : LexerRule) × (j : ℕ) × (slice_get rules r ≡ Some rule) × (slice_get rule.alternatives j ≡ Some x) × (i ≡ j + 1)
+IsAlternativeOf rules r i x = (rule : LexerRule) × (j : ℕ) × (slice_get rules r ≡ Some rule)
+    × (slice_get rule.alternatives j ≡ Some x) × (i ≡ j + 1)
 
 -- in a network with these states a match of alternative i of rule r begins at state a
 abbrev pub IsLexStart : List (State Reads) → List LexerRule → ℕ → ℕ → ℕ → Type 0
-IsLexStart states rules r i a = (rule : LexerRule) × (slice_get rules r ≡ Some rule) × Contains (rule_starts states r rule.alternatives) (record { rule = r; alternative = i; state = a })
+IsLexStart states rules r i a = (rule : LexerRule) × (slice_get rules r ≡ Some rule)
+    × Contains (rule_starts states r rule.alternatives) (record { rule = r; alternative = i; state = a })

@@ -34,7 +34,8 @@ abbrev mutual
 
 -- rule k calls rule j
 abbrev pub RuleCalls : List LexerRule → ℕ → ℕ → Type 0
-RuleCalls rules k j = (rule : LexerRule) × (slice_get rules k ≡ Some rule) × SomeHasCall (CallsNamed (names_of rules)) (lexer_alternatives_of rule) j
+RuleCalls rules k j = (rule : LexerRule) × (slice_get rules k ≡ Some rule)
+    × SomeHasCall (CallsNamed (names_of rules)) (lexer_alternatives_of rule) j
 
 -- rule k is rule r, or one that r reaches by calls
 abbrev pub IsPartOf : List LexerRule → ℕ → ℕ → Type 0
@@ -42,4 +43,5 @@ IsPartOf rules r k = (k ≡ r) ⊎ ReachesBy (RuleCalls rules) r k
 
 -- rule r has no non-greedy part: no sign in it, or in a rule that it reaches by calls, is non-greedy
 abbrev pub IsWrittenGreedy : List LexerRule → ℕ → Type 0
-IsWrittenGreedy rules r = (k : ℕ) (rule : LexerRule) → IsPartOf rules r k → slice_get rules k ≡ Some rule → EachIsGreedy (lexer_alternatives_of rule)
+IsWrittenGreedy rules r = (k : ℕ) (rule : LexerRule) → IsPartOf rules r k → slice_get rules k ≡ Some rule
+    → EachIsGreedy (lexer_alternatives_of rule)

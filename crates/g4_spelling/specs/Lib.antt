@@ -1,3 +1,4 @@
+-- Only this crate cites these.
 pub mod Begins
 pub mod Canonical
 pub mod Fronts

@@ -11,4 +11,5 @@ pub data Mark : Type 0 where
 
 -- the marks that an atom of a lexer rule reads: the characters that it matches, all Unicode scalar values; `EOF` reads the end of the file
 abbrev pub ReadsMarks : Atom → List Mark → Type 0
-ReadsMarks a w = ((text : List ℕ) × (w ≡ map character text) × All IsScalar text × MatchesKind a.kind text) ⊎ (IsEndOfFile a.kind × (w ≡ end_of_file ∷ []))
+ReadsMarks a w = ((text : List ℕ) × (w ≡ map character text) × All IsScalar text × MatchesKind a.kind text)
+    ⊎ (IsEndOfFile a.kind × (w ≡ end_of_file ∷ []))

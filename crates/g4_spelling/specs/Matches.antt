@@ -15,7 +15,8 @@ IsStarted starts r i = (a : ℕ) × Contains starts (record { rule = r; alternat
 
 -- by derivation alternative i of rule r, which is one of the starts, matches the first n characters
 abbrev pub MatchesDerived : List LexerRule → List Start → List ℕ → ℕ → ℕ → ℕ → Type 0
-MatchesDerived rules starts text r i n = (n ≤ length text) × IsStarted starts r i × ((x : LexerAlternative) × IsAlternativeOf rules r i x × DerivesFront rules x.elements text (drop n text))
+MatchesDerived rules starts text r i n = (n ≤ length text) × IsStarted starts r i
+    × ((x : LexerAlternative) × IsAlternativeOf rules r i x × DerivesFront rules x.elements text (drop n text))
 
 -- What alternative i of rule r matches: of a rule without non-greedy parts the first n characters that it derives; of any other
 -- those after which the ordered list of this rule alone has the end of this alternative.

@@ -22,35 +22,44 @@ ghost use Rattle.g4_spelling.specs.Matches.{IsStarted, Matches, MatchesDerived};
 
 /// From where an alternative begins the network spells exactly what the alternative, as it is written, matches by derivation.
 pub fn spelled_where_derived()
-    ensures { (literals : List Rule) (modes : List ModeOf) (made : Made) → IsLexNet literals modes made → CanBeLexed (all_rules literals modes) → SetsAreCanonical (all_rules literals modes) →
-        (r i a : ℕ) (x : LexerAlternative) → IsAlternativeOf (all_rules literals modes) r i x → IsLexStart made.net.states (all_rules literals modes) r i a →
+    ensures { (literals : List Rule) (modes : List ModeOf) (made : Made) → IsLexNet literals modes made
+        → CanBeLexed (all_rules literals modes) → SetsAreCanonical (all_rules literals modes) →
+        (r i a : ℕ) (x : LexerAlternative) → IsAlternativeOf (all_rules literals modes) r i x
+        → IsLexStart made.net.states (all_rules literals modes) r i a →
         (w z : List ℕ) → SpellsText made.net a w z ↔ DerivesFront (all_rules literals modes) x.elements w z }
 {}
 
 /// A rule that is written without non-greedy parts has none in the network.
 pub fn greedy_where_written()
-    ensures { (literals : List Rule) (modes : List ModeOf) (made : Made) → IsLexNet literals modes made → CanBeLexed (all_rules literals modes) →
-        (starts : List Start) → Contains made.modes starts → (r : ℕ) → IsWrittenGreedy (all_rules literals modes) r → IsGreedyRule made.net (starts_of starts) r }
+    ensures { (literals : List Rule) (modes : List ModeOf) (made : Made) → IsLexNet literals modes made
+        → CanBeLexed (all_rules literals modes) →
+        (starts : List Start) → Contains made.modes starts → (r : ℕ) → IsWrittenGreedy (all_rules literals modes) r
+        → IsGreedyRule made.net (starts_of starts) r }
 {}
 
 /// The starts of a mode are those of the alternatives with which a match in the mode may begin, as the rules are written.
 pub fn started_where_written()
-    ensures { (literals : List Rule) (modes : List ModeOf) (made : Made) → IsLexNet literals modes made → CanBeLexed (all_rules literals modes) →
-        (m : ℕ) (starts : List Start) → slice_get made.modes m ≡ Some starts → (r i : ℕ) → IsStarted starts r i ↔ MayBegin literals modes m r i }
+    ensures { (literals : List Rule) (modes : List ModeOf) (made : Made) → IsLexNet literals modes made
+        → CanBeLexed (all_rules literals modes) →
+        (m : ℕ) (starts : List Start) → slice_get made.modes m ≡ Some starts → (r i : ℕ)
+        → IsStarted starts r i ↔ MayBegin literals modes m r i }
 {}
 
 /// A rule without non-greedy parts matches alone exactly what its alternatives match by derivation.
 pub fn matches_where_derived()
-    ensures { (literals : List Rule) (modes : List ModeOf) (made : Made) → IsLexNet literals modes made → CanBeLexed (all_rules literals modes) → SetsAreCanonical (all_rules literals modes) →
+    ensures { (literals : List Rule) (modes : List ModeOf) (made : Made) → IsLexNet literals modes made
+        → CanBeLexed (all_rules literals modes) → SetsAreCanonical (all_rules literals modes) →
         (starts : List Start) → Contains made.modes starts → (text : List ℕ) (r i n : ℕ) → IsWrittenGreedy (all_rules literals modes) r →
         MatchesAlone made.net (starts_of starts) text r i n ↔ MatchesDerived (all_rules literals modes) starts text r i n }
 {}
 
 /// The match by the ordered list is the best of what the alternatives match: by derivation, of rules without non-greedy parts.
 pub fn match_by_derivation()
-    ensures { (literals : List Rule) (modes : List ModeOf) (made : Made) → IsLexNet literals modes made → CanBeLexed (all_rules literals modes) → SetsAreCanonical (all_rules literals modes) →
+    ensures { (literals : List Rule) (modes : List ModeOf) (made : Made) → IsLexNet literals modes made
+        → CanBeLexed (all_rules literals modes) → SetsAreCanonical (all_rules literals modes) →
         (starts : List Start) → Contains made.modes starts → (text : List ℕ) (n rule alternative : ℕ) →
-        IsMatch made.net (starts_of starts) text n rule alternative ↔ IsBest (Matches (all_rules literals modes) made.net starts text) n rule alternative }
+        IsMatch made.net (starts_of starts) text n rule alternative
+        ↔ IsBest (Matches (all_rules literals modes) made.net starts text) n rule alternative }
 {}
 
 /// A rule either has no non-greedy part or has one, so `Matches` says of every rule what it matches.
@@ -60,5 +69,6 @@ pub fn greedy_or_not()
 
 /// `EOF` takes no character, and matches only where nothing is left.
 pub fn end_of_file_takes_nothing()
-    ensures { (rules : List Rule) (a : Atom) → IsEndOfFile a.kind → (w z : List ℕ) → DerivesFront rules (then (atom a) empty) w z ↔ ((w ≡ []) × (z ≡ [])) }
+    ensures { (rules : List Rule) (a : Atom) → IsEndOfFile a.kind → (w z : List ℕ)
+        → DerivesFront rules (then (atom a) empty) w z ↔ ((w ≡ []) × (z ≡ [])) }
 {}

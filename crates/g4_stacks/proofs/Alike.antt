@@ -18,13 +18,22 @@ abbrev pub TopsAlike : List Content → List (ℕ × ℕ) → List Content → L
 TopsAlike g es h fs = (t : ℕ) (s : Stack) → ByTop g es t s ↔ ByTop h fs t s
 
 -- a content added to the same graph gives the same number
-added_once : (mid new new' : List Content) (c : Content) (r r' : ℕ) → IsCanonical mid → IsAdded mid c new → IsAdded mid c new' → slice_get new r ≡ Some c → slice_get new' r' ≡ Some c → (new ≡ new') × (r ≡ r')
-added_once mid new new' c r r' canon (inl same) (inl same') at at' =
-    (same ∙ sym same', canon.once r r' c (ap (λ (x : List Content). slice_get x r) (sym same) ∙ at) (ap (λ (x : List Content). slice_get x r') (sym same') ∙ at'))
-added_once mid new new' c r r' canon (inl same) (inr more) at at' = absurd (more.0 r (ap (λ (x : List Content). slice_get x r) (sym same) ∙ at))
-added_once mid new new' c r r' canon (inr more) (inl same) at at' = absurd (more.0 r' (ap (λ (x : List Content). slice_get x r') (sym same) ∙ at'))
-added_once mid new new' c r r' canon (inr more) (inr more') at at' =
-    (more.1 ∙ sym more'.1, last r (ap (λ (x : List Content). slice_get x r) (sym more.1) ∙ at) ∙ sym (last r' (ap (λ (x : List Content). slice_get x r') (sym more'.1) ∙ at')))
+added_once : (mid new new' : List Content) (c : Content) (r r' : ℕ) → IsCanonical mid → IsAdded mid c new → IsAdded mid c new'
+    → slice_get new r ≡ Some c → slice_get new' r' ≡ Some c → (new ≡ new') × (r ≡ r')
+added_once mid new new' c r r' canon (inl same) (inl same') at at' = (
+  same ∙ sym same',
+  canon.once r r' c (ap (λ (x : List Content). slice_get x r) (sym same) ∙ at)
+      (ap (λ (x : List Content). slice_get x r') (sym same') ∙ at'),
+)
+added_once mid new new' c r r' canon (inl same) (inr more) at at' =
+    absurd (more.0 r (ap (λ (x : List Content). slice_get x r) (sym same) ∙ at))
+added_once mid new new' c r r' canon (inr more) (inl same) at at' =
+    absurd (more.0 r' (ap (λ (x : List Content). slice_get x r') (sym same) ∙ at'))
+added_once mid new new' c r r' canon (inr more) (inr more') at at' = (
+  more.1 ∙ sym more'.1,
+  last r (ap (λ (x : List Content). slice_get x r) (sym more.1) ∙ at)
+      ∙ sym (last r' (ap (λ (x : List Content). slice_get x r') (sym more'.1) ∙ at')),
+)
   where
     last : (n : ℕ) → slice_get (mid ++ c ∷ []) n ≡ Some c → n ≡ length mid
     last n is = elim (split_new mid c c n is) [ inl old ↦ absurd (more.0 n old) | inr new ↦ new.0 ]
@@ -32,17 +41,20 @@ added_once mid new new' c r r' canon (inr more) (inr more') at at' =
 module _ (g h : List Content) (canon_g : IsCanonical g) (canon_h : IsCanonical h) where
   -- a top of the one list is in the other
   there : (es fs : List (ℕ × ℕ)) (t m : ℕ) → TopsAlike g es h fs → 0 < m → m < length g → In (t, m) es → (n : ℕ) × In (t, n) fs
-  there es fs t m alike pos m_in i = let w = witness g canon_g (suc m) m (omega arith) pos m_in in let r = (alike t w.0).0 (m, i, w.1) in (r.0, r.1)
+  there es fs t m alike pos m_in i = let w = witness g canon_g (suc m) m (omega arith) pos m_in in
+      let r = (alike t w.0).0 (m, i, w.1) in (r.0, r.1)
 
   back : (es fs : List (ℕ × ℕ)) (t m : ℕ) → TopsAlike g es h fs → 0 < m → m < length h → In (t, m) fs → (n : ℕ) × In (t, n) es
-  back es fs t m alike pos m_in i = let w = witness h canon_h (suc m) m (omega arith) pos m_in in let r = (alike t w.0).1 (m, i, w.1) in (r.0, r.1)
+  back es fs t m alike pos m_in i = let w = witness h canon_h (suc m) m (omega arith) pos m_in in
+      let r = (alike t w.0).1 (m, i, w.1) in (r.0, r.1)
 
   record Heads (t m u n : ℕ) (es fs : List (ℕ × ℕ)) : Type 0 where
     states : t ≡ u
     nodes : Alike g m h n
     rests : TopsAlike g es h fs
 
-  heads : (low low' t m u n : ℕ) (es fs : List (ℕ × ℕ)) → Ascends low ((t, m) ∷ es) → Ascends low' ((u, n) ∷ fs) → LeadBelow (length g) ((t, m) ∷ es) → LeadBelow (length h) ((u, n) ∷ fs)
+  heads : (low low' t m u n : ℕ) (es fs : List (ℕ × ℕ)) → Ascends low ((t, m) ∷ es) → Ascends low' ((u, n) ∷ fs)
+      → LeadBelow (length g) ((t, m) ∷ es) → LeadBelow (length h) ((u, n) ∷ fs)
       → TopsAlike g ((t, m) ∷ es) h ((u, n) ∷ fs) → Heads t m u n es fs
   heads low low' t m u n es fs asc asc' lead lead' alike = record { states = states; nodes = nodes; rests = rests }
     where
@@ -89,8 +101,10 @@ module _ (g h : List Content) (canon_g : IsCanonical g) (canon_h : IsCanonical h
 
   mutual
     -- the same set gives the same graph and the same number
-    pub same_taken : (n m r r' : ℕ) (old new new' : List Content) → IsCanonical old → Alike g n h m → Takes g n old new r → Takes h m old new' r' → (new ≡ new') × (r ≡ r')
-    same_taken n m r r' old new new' canon alike (takes _ _ c _ mid _ tops at_n below added at_r) (takes _ _ d _ mid' _ tops' at_m below' added' at_r') =
+    pub same_taken : (n m r r' : ℕ) (old new new' : List Content) → IsCanonical old → Alike g n h m → Takes g n old new r
+        → Takes h m old new' r' → (new ≡ new') × (r ≡ r')
+    same_taken n m r r' old new new' canon alike (takes _ _ c _ mid _ tops at_n below added at_r)
+        (takes _ _ d _ mid' _ tops' at_m below' added' at_r') =
         let ends = tests_equal c.end d.end (
           (λ x. (has_end h m d at_m).0 ((alike bottom).0 ((has_end g n c at_n).1 x))),
           (λ x. (has_end g n c at_n).0 ((alike bottom).1 ((has_end h m d at_m).1 x))),
@@ -110,27 +124,35 @@ module _ (g h : List Content) (canon_g : IsCanonical g) (canon_h : IsCanonical h
         let lead = LeadBelow-more n (length g) c.tops (omega arith) plain.lower in
         let lead' = LeadBelow-more m (length h) d.tops (omega arith) plain'.lower in
         let ih = same_tops 0 0 c.tops d.tops tops tops' old mid mid' canon plain.sorted plain'.sorted lead lead' below_alike below below' in
-        let is : with_tops d tops' ≡ with_tops c tops = content_equal (with_tops d tops') (with_tops c tops) (sym ends) (sym wilds) (sym ih.1) in
+        let is : with_tops d tops' ≡ with_tops c tops =
+        content_equal (with_tops d tops') (with_tops c tops) (sym ends) (sym wilds) (sym ih.1) in
         let canon_mid = (sound_tops g canon_g 0 c.tops tops old mid canon plain.sorted lead below).canonical in
         added_once mid new new' (with_tops c tops) r r' canon_mid added
-        (subst (λ (x : List Content). IsAdded x (with_tops c tops) new') (sym ih.0) (subst (λ (x : Content). IsAdded mid' x new') is added'))
+        (subst (λ (x : List Content). IsAdded x (with_tops c tops) new') (sym ih.0)
+        (subst (λ (x : Content). IsAdded mid' x new') is added'))
         at_r (at_r' ∙ ap Some is)
 
-    pub same_tops : (low low' : ℕ) (es fs rs rs' : List (ℕ × ℕ)) (old new new' : List Content) → IsCanonical old → Ascends low es → Ascends low' fs → LeadBelow (length g) es → LeadBelow (length h) fs → TopsAlike g es h fs
+    pub same_tops : (low low' : ℕ) (es fs rs rs' : List (ℕ × ℕ)) (old new new' : List Content) → IsCanonical old → Ascends low es
+        → Ascends low' fs → LeadBelow (length g) es → LeadBelow (length h) fs → TopsAlike g es h fs
         → TakesTops g es old new rs → TakesTops h fs old new' rs' → (new ≡ new') × (rs ≡ rs')
     same_tops low low' [] [] [] [] old new new' canon asc asc' lead lead' alike (no_top _) (no_top _) = (refl, refl)
-    same_tops low low' _ [] _ [] old new new' canon asc asc' lead lead' alike (a_top t m r es rs _ mid _ first rest) (no_top _) = absurd (there ((t, m) ∷ es) [] t m alike lead.0 lead.1 (inl refl)).1
-    same_tops low low' [] _ [] _ old new new' canon asc asc' lead lead' alike (no_top _) (a_top u n q fs qs _ mid' _ first' rest') = absurd (back [] ((u, n) ∷ fs) u n alike lead'.0 lead'.1 (inl refl)).1
-    same_tops low low' _ _ _ _ old new new' canon asc asc' lead lead' alike (a_top t m r es rs _ mid _ first rest) (a_top u n q fs qs _ mid' _ first' rest') =
+    same_tops low low' _ [] _ [] old new new' canon asc asc' lead lead' alike (a_top t m r es rs _ mid _ first rest) (no_top _) =
+        absurd (there ((t, m) ∷ es) [] t m alike lead.0 lead.1 (inl refl)).1
+    same_tops low low' [] _ [] _ old new new' canon asc asc' lead lead' alike (no_top _) (a_top u n q fs qs _ mid' _ first' rest') =
+        absurd (back [] ((u, n) ∷ fs) u n alike lead'.0 lead'.1 (inl refl)).1
+    same_tops low low' _ _ _ _ old new new' canon asc asc' lead lead' alike (a_top t m r es rs _ mid _ first rest)
+        (a_top u n q fs qs _ mid' _ first' rest') =
         let k = heads low low' t m u n es fs asc asc' lead lead' alike in
         let f = same_taken m n r q old mid mid' canon k.nodes first first' in
         let canon_mid = (sound g canon_g m r old mid canon first).canonical in
         let moved : TakesTops h fs mid new' qs = subst (λ (x : List Content). TakesTops h fs x new' qs) (sym f.0) rest' in
         let ih = same_tops (suc t) (suc u) es fs rs qs mid new new' canon_mid asc.1 asc'.1 lead.2 lead'.2 k.rests rest moved in
-        let pairs : (t, r) ≡ (u, q) = ap (λ (x : ℕ). let y : ℕ × ℕ = (x, r) in y) k.states ∙ ap (λ (x : ℕ). let y : ℕ × ℕ = (u, x) in y) f.1 in
+        let pairs : (t, r) ≡ (u, q) = ap (λ (x : ℕ). let y : ℕ × ℕ = (x, r) in y) k.states
+        ∙ ap (λ (x : ℕ). let y : ℕ × ℕ = (u, x) in y) f.1 in
         (ih.0, ap (λ (x : ℕ × ℕ). x ∷ rs) pairs ∙ ap (λ (x : List (ℕ × ℕ)). (u, q) ∷ x) ih.1)
 
-  pub same_each : (ns ms rs rs' : List ℕ) (old new new' : List Content) → IsCanonical old → EachAlike g ns h ms → TakesEach g ns old new rs → TakesEach h ms old new' rs' → (new ≡ new') × (rs ≡ rs')
+  pub same_each : (ns ms rs rs' : List ℕ) (old new new' : List Content) → IsCanonical old → EachAlike g ns h ms
+      → TakesEach g ns old new rs → TakesEach h ms old new' rs' → (new ≡ new') × (rs ≡ rs')
   same_each [] [] [] [] old new new' canon alike (no_root _) (no_root _) = (refl, refl)
   same_each _ [] _ [] old new new' canon alike (a_root n r ns rs _ mid _ first rest) (no_root _) = absurd alike
   same_each [] _ [] _ old new new' canon alike (no_root _) (a_root m q ms qs _ mid' _ first' rest') = absurd alike

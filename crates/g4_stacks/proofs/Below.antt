@@ -43,20 +43,28 @@ pub lowered_alone : (g : List Content) (n under : ℕ) → Has g n bottom → (s
 lowered_alone g n under has s = ((λ x. (has, x)), (λ x. x.1))
 
 -- and where it is not, there is none
-pub lowered_none : (g : List Content) (n under r : ℕ) → (Has g n bottom → ⊥) → ((s : Stack) → Has g r s → ⊥) → (s : Stack) → Has g r s ↔ IsAlone g n under s
+pub lowered_none : (g : List Content) (n under r : ℕ) → (Has g n bottom → ⊥) → ((s : Stack) → Has g r s → ⊥) → (s : Stack)
+    → Has g r s ↔ IsAlone g n under s
 lowered_none g n under r lacks none s = ((λ x. absurd (none s x)), (λ (has, _). absurd (lacks has)))
 
 module _ (old : List Content) (n under : ℕ) (tops : List (ℕ × ℕ)) where
   -- no top yet
-  pub lowering_start : (new : List Content) (r : ℕ) → Keeps old new → IsNode new r → ((s : Stack) → Has new r s ↔ IsAlone old n under s) → IsLowering old new n under tops 0 r
+  pub lowering_start : (new : List Content) (r : ℕ) → Keeps old new → IsNode new r
+      → ((s : Stack) → Has new r s ↔ IsAlone old n under s) → IsLowering old new n under tops 0 r
   lowering_start new r keeps known means = record {
     keeps = keeps;
     known = known;
-    means = λ s. ((λ x. inl ((means s).0 x)), (λ h. elim h [ inl x ↦ (means s).1 x | inr (k, u, m, less, _, _) ↦ absurd (omega (arith, less)) ]));
+    means = λ s. (
+      (λ x. inl ((means s).0 x)),
+      (λ h.
+          elim h [ inl x ↦ (means s).1 x | inr (k, u, m, less, _, _) ↦ absurd (omega (arith, less)) ]),
+    );
   }
 
-  module _ (cur mid new : List Content) (images : List ℕ) (j result u m i p next : ℕ) (h : IsLowering old cur n under tops j result) (at : slice_get tops j ≡ Some (u, m)) (are : AreLowered old under images) (image : slice_get images m ≡ Some i)
-      (keeps_mid : Keeps cur mid) (known : IsNode mid p) (is_pushed : (s : Stack) → Has mid p s ↔ IsPushed cur i u s) (keeps_new : Keeps mid new) (known_new : IsNode new next) (union : IsUnion mid result p new next) where
+  module _ (cur mid new : List Content) (images : List ℕ) (j result u m i p next : ℕ) (h : IsLowering old cur n under tops j result)
+      (at : slice_get tops j ≡ Some (u, m)) (are : AreLowered old under images) (image : slice_get images m ≡ Some i)
+      (keeps_mid : Keeps cur mid) (known : IsNode mid p) (is_pushed : (s : Stack) → Has mid p s ↔ IsPushed cur i u s)
+      (keeps_new : Keeps mid new) (known_new : IsNode new next) (union : IsUnion mid result p new next) where
     -- the stacks of this top
     abbrev OfTop : Stack → Type 0
     OfTop s = (r : Stack) × IsLowered old m under r × (s ≡ pushed u r)
@@ -102,7 +110,11 @@ module _ (old : List Content) (n under : ℕ) (tops : List (ℕ × ℕ)) where
       known = known_new;
       means = λ s. (
         (λ x. elim ((union s).0 x) [
-          | inl l ↦ elim ((before s).0 l) [ inl a ↦ inl a | inr (k, v, w, less, at_k, stack) ↦ inr (k, v, w, omega (arith, less), at_k, stack) ]
+          | inl l ↦ elim ((before s).0 l) [
+            | inl a ↦ inl a
+            | inr (k, v, w, less, at_k, stack) ↦ inr
+                (k, v, w, omega (arith, less), at_k, stack)
+          ]
           | inr r ↦ inr (of_top s r)
         ]),
         (λ x. (union s).1 (elim x [
@@ -113,16 +125,19 @@ module _ (old : List Content) (n under : ℕ) (tops : List (ℕ × ℕ)) where
     }
 
   -- all tops
-  pub lowering_all : (new : List Content) (j r : ℕ) → HasTops old n tops → IsLowering old new n under tops j r → length tops ≤ j → (s : Stack) → Has new r s ↔ IsLowered old n under s
+  pub lowering_all : (new : List Content) (j r : ℕ) → HasTops old n tops → IsLowering old new n under tops j r → length tops ≤ j
+      → (s : Stack) → Has new r s ↔ IsLowered old n under s
   lowering_all new j r has h all s = (
     (λ x. elim ((h.means s).0 x) [
       | inl (alone, q) ↦ ([], s, alone, q, refl)
-      | inr (k, u, m, less, at, (q, (rs, z, above, in_z, is_q), is)) ↦ (u ∷ rs, z, (has.rests u m (In-at tops k (u, m) at) (above_bottom rs)).0 above, in_z, is ∙ ap (pushed u) is_q)
+      | inr (k, u, m, less, at, (q, (rs, z, above, in_z, is_q), is)) ↦
+          (u ∷ rs, z, (has.rests u m (In-at tops k (u, m) at) (above_bottom rs)).0 above, in_z, is ∙ ap (pushed u) is_q)
     ]),
     (λ (rs, z, above, in_z, is). (h.means s).1 (by rs z above in_z is)),
   )
     where
-      by : (rs : List ℕ) (z : Stack) → HasOf old n rs false → Has old under z → s ≡ stacked rs z → IsAlone old n under s ⊎ IsOfTops old tops j under s
+      by : (rs : List ℕ) (z : Stack) → HasOf old n rs false → Has old under z → s ≡ stacked rs z
+          → IsAlone old n under s ⊎ IsOfTops old tops j under s
       by [] z above in_z is = inl (above, subst (Has old under) (sym is) in_z)
       by (u ∷ rs) z above in_z is =
           let (m, i) = has.all u (above_bottom rs) above in
@@ -138,34 +153,47 @@ split_last (x ∷ xs) c d zero is = inl is
 split_last (x ∷ xs) c d (suc n) is = elim (split_last xs c d n is) [ inl old ↦ inl old | inr new ↦ inr (ap suc new.0, new.1) ]
 
 -- images stay images in a graph that grows
-lowered_kept : (g h : List Content) (under a b : ℕ) → Keeps g h → IsNode g under → IsNode g a → ((s : Stack) → Has h b s ↔ IsLowered g a under s) → (s : Stack) → Has h b s ↔ IsLowered h a under s
+lowered_kept : (g h : List Content) (under a b : ℕ) → Keeps g h → IsNode g under → IsNode g a
+    → ((s : Stack) → Has h b s ↔ IsLowered g a under s) → (s : Stack) → Has h b s ↔ IsLowered h a under s
 lowered_kept g h under a b keeps known_under known_a is s = (
-  (λ x. let (rs, z, above, in_z, e) = (is s).0 x in (rs, z, ((keeps a known_a).1 (above_bottom rs)).0 above, ((keeps under known_under).1 z).0 in_z, e)),
+  (λ x. let (rs, z, above, in_z, e) = (is s).0 x in
+      (rs, z, ((keeps a known_a).1 (above_bottom rs)).0 above, ((keeps under known_under).1 z).0 in_z, e)),
   (λ (rs, z, above, in_z, e). (is s).1 (rs, z, ((keeps a known_a).1 (above_bottom rs)).1 above, ((keeps under known_under).1 z).1 in_z, e)),
 )
 
 -- and the next one joins them
-pub images_more : (g h : List Content) (under : ℕ) (images : List ℕ) (n r : ℕ) → Keeps g h → IsNode g under → AreLowered g under images → length images ≡ n → IsNode g n → IsNode h r → ((s : Stack) → Has h r s ↔ IsLowered g n under s) → AreLowered h under (images ++ r ∷ [])
+pub images_more : (g h : List Content) (under : ℕ) (images : List ℕ) (n r : ℕ) → Keeps g h → IsNode g under
+    → AreLowered g under images → length images ≡ n → IsNode g n → IsNode h r → ((s : Stack) → Has h r s ↔ IsLowered g n under s)
+    → AreLowered h under (images ++ r ∷ [])
 images_more g h under images n r keeps known_under are long known known_r means k q at = elim (split_last images r q k at) [
   | inl old ↦
-      (let (in_k, in_q, is) = are k q old in
-      ((keeps k in_k).0, (keeps q in_q).0, lowered_kept g h under k q keeps known_under in_k (λ s. ((λ x. (is s).0 (((keeps q in_q).1 s).1 x)), (λ x. ((keeps q in_q).1 s).0 ((is s).1 x))))))
+      (let (in_k, in_q, is) = are k q old in (
+        (keeps k in_k).0,
+        (keeps q in_q).0,
+        lowered_kept g h under k q keeps known_under in_k
+            (λ s. ((λ x. (is s).0 (((keeps q in_q).1 s).1 x)), (λ x. ((keeps q in_q).1 s).0 ((is s).1 x)))),
+      ))
   | inr e ↦
       (let at_n : k ≡ n = e.0 ∙ long in
       subst (λ (x : ℕ). IsNode h x × IsNode h q × ((s : Stack) → Has h q s ↔ IsLowered h x under s)) (sym at_n)
-      (subst (λ (x : ℕ). IsNode h n × IsNode h x × ((s : Stack) → Has h x s ↔ IsLowered h n under s)) e.1 ((keeps n known).0, known_r, lowered_kept g h under n r keeps known_under known means)))
+      (subst (λ (x : ℕ). IsNode h n × IsNode h x × ((s : Stack) → Has h x s ↔ IsLowered h n under s)) e.1
+      ((keeps n known).0, known_r, lowered_kept g h under n r keeps known_under known means)))
 ]
 
 -- the node below a top has an image
-pub image_bound : (g : List Content) (n j : ℕ) (items : List (ℕ × ℕ)) (images : List ℕ) → IsCanonical g → items ≡ tops_of g n → j < length items → n ≤ length images → (get_or items j (0, 0)).1 < length images
+pub image_bound : (g : List Content) (n j : ℕ) (items : List (ℕ × ℕ)) (images : List ℕ) → IsCanonical g → items ≡ tops_of g n
+    → j < length items → n ≤ length images → (get_or items j (0, 0)).1 < length images
 image_bound g n j items images canon are less before =
     let at : slice_get items j ≡ Some (get_or items j (0, 0)) = slice_get-get_or items j (0, 0) less in
-    let first = top_before g n j (get_or items j (0, 0)).0 (get_or items j (0, 0)).1 canon (subst (λ (xs : List (ℕ × ℕ)). slice_get xs j ≡ Some (get_or items j (0, 0))) are at) in
+    let first = top_before g n j (get_or items j (0, 0)).0 (get_or items j (0, 0)).1 canon
+    (subst (λ (xs : List (ℕ × ℕ)). slice_get xs j ≡ Some (get_or items j (0, 0))) are at) in
     omega (arith, first, before)
 
 -- and this is a node
-pub image_node : (old cur : List Content) (under m : ℕ) (images : List ℕ) → Keeps old cur → AreLowered old under images → m < length images → IsNode cur (get_or images m 0)
-image_node old cur under m images keeps are less = (keeps (get_or images m 0) (are m (get_or images m 0) (slice_get-get_or images m 0 less)).1).0
+pub image_node : (old cur : List Content) (under m : ℕ) (images : List ℕ) → Keeps old cur → AreLowered old under images
+    → m < length images → IsNode cur (get_or images m 0)
+image_node old cur under m images keeps are less =
+    (keeps (get_or images m 0) (are m (get_or images m 0) (slice_get-get_or images m 0 less)).1).0
 
 -- no image yet
 pub images_none : (g : List Content) (under : ℕ) → AreLowered g under []
@@ -177,5 +205,6 @@ nodes_in g [] are = tt
 nodes_in g (n ∷ ns) are = (All-head (IsNode g) n ns are, nodes_in g ns (All-tail (IsNode g) n ns are))
 
 -- nodes in a graph of their own have the same stacks in turn
-pub part_alike : (g h : List Content) (ns ms : List ℕ) → IsCanonical g → IsCanonical h → All (IsNode h) ms → map (stacks_of h) ms ≡ map (stacks_of g) ns → EachAlike g ns h ms
+pub part_alike : (g h : List Content) (ns ms : List ℕ) → IsCanonical g → IsCanonical h → All (IsNode h) ms
+    → map (stacks_of h) ms ≡ map (stacks_of g) ns → EachAlike g ns h ms
 part_alike g h ns ms canon canon' are same = sets_alike g h canon canon' ns ms (nodes_in h ms are) (sym same)

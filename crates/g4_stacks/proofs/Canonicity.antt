@@ -22,12 +22,14 @@ has_end g n c is = subst (λ o. IsMarked o false ↔ IsTrue c.end) (sym is) ((λ
 pub has_wild : (g : List Content) (n : ℕ) (c : Content) → slice_get g n ≡ Some c → Has g n wildcard ↔ IsTrue c.wild
 has_wild g n c is = subst (λ o. IsMarked o true ↔ IsTrue c.wild) (sym is) ((λ h. h), (λ h. h))
 
-pub has_pushed : (g : List Content) (n : ℕ) (c : Content) (t : ℕ) (s : Stack) → slice_get g n ≡ Some c → Has g n (pushed t s) ↔ ByTop g c.tops t s
+pub has_pushed : (g : List Content) (n : ℕ) (c : Content) (t : ℕ) (s : Stack) → slice_get g n ≡ Some c
+    → Has g n (pushed t s) ↔ ByTop g c.tops t s
 has_pushed g n c t s is = subst (λ o. ((m : ℕ) × LeadsTo o t m × Has g m s) ↔ ByTop g c.tops t s) (sym is) ((λ h. h), (λ h. h))
 
 -- contents with equal parts are equal
 pub content_equal : (c d : Content) → c.end ≡ d.end → c.wild ≡ d.wild → c.tops ≡ d.tops → c ≡ d
-content_equal c d e f h = ap (λ (x : Bool). holding x c.wild c.tops) e ∙ (ap (λ (y : Bool). holding d.end y c.tops) f ∙ ap (λ (es : List (ℕ × ℕ)). holding d.end d.wild es) h)
+content_equal c d e f h = ap (λ (x : Bool). holding x c.wild c.tops) e
+    ∙ (ap (λ (y : Bool). holding d.end y c.tops) f ∙ ap (λ (es : List (ℕ × ℕ)). holding d.end d.wild es) h)
   where
     holding : Bool → Bool → List (ℕ × ℕ) → Content
     holding x y es = record { end = x; wild = y; tops = es }
@@ -43,7 +45,8 @@ tests_equal false false h = refl
 filled : (c : Content) → (c ≡ nothing) ⊎ (IsTrue c.end ⊎ (IsTrue c.wild ⊎ ((e : ℕ × ℕ) × In e c.tops)))
 filled c = by c.end c.wild c.tops refl refl refl
   where
-    by : (x y : Bool) (es : List (ℕ × ℕ)) → c.end ≡ x → c.wild ≡ y → c.tops ≡ es → (c ≡ nothing) ⊎ (IsTrue c.end ⊎ (IsTrue c.wild ⊎ ((e : ℕ × ℕ) × In e c.tops)))
+    by : (x y : Bool) (es : List (ℕ × ℕ)) → c.end ≡ x → c.wild ≡ y → c.tops ≡ es
+        → (c ≡ nothing) ⊎ (IsTrue c.end ⊎ (IsTrue c.wild ⊎ ((e : ℕ × ℕ) × In e c.tops)))
     by true y es a b d = inr (inl a)
     by false true es a b d = inr (inr (inl b))
     by false false (e ∷ es) a b d = inr (inr (inr (e, subst (In e) (sym d) (inl refl))))
@@ -72,7 +75,8 @@ module _ (g : List Content) (canon : IsCanonical g) where
   abbrev UniqueBelow : ℕ → ℕ → Type 0
   UniqueBelow a b = (x y : ℕ) → x < a → y < b → Alike x y → x ≡ y
 
-  tops_within : (a b : ℕ) (c d : Content) → UniqueBelow a b → a < length g → b < length g → slice_get g a ≡ Some c → slice_get g b ≡ Some d → Alike a b → (e : ℕ × ℕ) → In e c.tops → In e d.tops
+  tops_within : (a b : ℕ) (c d : Content) → UniqueBelow a b → a < length g → b < length g → slice_get g a ≡ Some c
+      → slice_get g b ≡ Some d → Alike a b → (e : ℕ × ℕ) → In e c.tops → In e d.tops
   tops_within a b c d ih a_in b_in at_a at_b same e i =
       let low = lead_below a e.0 e.1 c.tops (canon.plain a c at_a).lower i in
       let s = witness (suc e.1) e.1 (omega arith) low.0 (let q = low.1 in omega arith) in

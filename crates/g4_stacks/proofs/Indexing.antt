@@ -98,7 +98,8 @@ indexed_more g m m' k n is_n indexed absent updates q i several = by (is_eq (key
     by true e =
         let same = (key_Decides k q).0 e in
         let found : get key_cmp m' q ≡ Some n = updates q ∙ ap (λ (b : Bool). cond b (Some n) (get key_cmp m q)) e in (
-          (λ h. let at : i ≡ n = cc in subst (λ (j : ℕ). slice_get (g ++ content_by k ∷ []) j ≡ Some (content_by q)) (sym is_n ∙ sym at) (slice_get_new g (content_by k) ∙ ap Some same)),
+          (λ h. let at : i ≡ n = cc in subst (λ (j : ℕ). slice_get (g ++ content_by k ∷ []) j ≡ Some (content_by q))
+              (sym is_n ∙ sym at) (slice_get_new g (content_by k) ∙ ap Some same)),
           (λ h. elim (split_new g (content_by k) (content_by q) i h) [
             | inl old ↦ absurd (absent i (old ∙ ap Some (sym same)))
             | inr new ↦ found ∙ ap Some (is_n ∙ sym new.0)
@@ -106,7 +107,8 @@ indexed_more g m m' k n is_n indexed absent updates q i several = by (is_eq (key
         )
     by false e =
         let kept : get key_cmp m' q ≡ get key_cmp m q = updates q ∙ ap (λ (b : Bool). cond b (Some n) (get key_cmp m q)) e in (
-          (λ h. let old = (indexed q i several).0 (sym kept ∙ h) in slice_get_left g (content_by k ∷ []) i (slice_get_within g i _ old) ∙ old),
+          (λ h. let old = (indexed q i several).0 (sym kept ∙ h) in
+              slice_get_left g (content_by k ∷ []) i (slice_get_within g i _ old) ∙ old),
           (λ h. elim (split_new g (content_by k) (content_by q) i h) [
             | inl old ↦ kept ∙ (indexed q i several).1 old
             | inr new ↦ (let yes = (key_Decides k q).1 new.1 in absurd (cc))
@@ -117,18 +119,21 @@ pub ones_more : (g : List Content) (m m' : BTreeMap (ℕ × ℕ) ℕ) (a b n : �
     → ((q : ℕ × ℕ) → get pair_cmp m' q ≡ cond (is_at (pair_cmp (a, b)) q) (Some n) (get pair_cmp m q)) → HasOnes (g ++ one_of a b ∷ []) m'
 ones_more g m m' a b n is_n ones absent updates x y i = by (is_eq (pair_cmp (a, b) (x, y))) refl
   where
-    by : (t : Bool) → is_eq (pair_cmp (a, b) (x, y)) ≡ t → (get pair_cmp m' (x, y) ≡ Some i) ↔ (slice_get (g ++ one_of a b ∷ []) i ≡ Some (one_of x y))
+    by : (t : Bool) → is_eq (pair_cmp (a, b) (x, y)) ≡ t
+        → (get pair_cmp m' (x, y) ≡ Some i) ↔ (slice_get (g ++ one_of a b ∷ []) i ≡ Some (one_of x y))
     by true e =
         let same = one_equal a b x y ((pair_Decides a b x y).0 e) in
         let found : get pair_cmp m' (x, y) ≡ Some n = updates (x, y) ∙ ap (λ (t : Bool). cond t (Some n) (get pair_cmp m (x, y))) e in (
-          (λ h. let at : i ≡ n = cc in subst (λ (j : ℕ). slice_get (g ++ one_of a b ∷ []) j ≡ Some (one_of x y)) (sym is_n ∙ sym at) (slice_get_new g (one_of a b) ∙ ap Some same)),
+          (λ h. let at : i ≡ n = cc in subst (λ (j : ℕ). slice_get (g ++ one_of a b ∷ []) j ≡ Some (one_of x y)) (sym is_n ∙ sym at)
+              (slice_get_new g (one_of a b) ∙ ap Some same)),
           (λ h. elim (split_new g (one_of a b) (one_of x y) i h) [
             | inl old ↦ absurd (absent i (old ∙ ap Some (sym same)))
             | inr new ↦ found ∙ ap Some (is_n ∙ sym new.0)
           ]),
         )
     by false e =
-        let kept : get pair_cmp m' (x, y) ≡ get pair_cmp m (x, y) = updates (x, y) ∙ ap (λ (t : Bool). cond t (Some n) (get pair_cmp m (x, y))) e in (
+        let kept : get pair_cmp m' (x, y) ≡ get pair_cmp m (x, y) =
+        updates (x, y) ∙ ap (λ (t : Bool). cond t (Some n) (get pair_cmp m (x, y))) e in (
           (λ h. let old = (ones x y i).0 (sym kept ∙ h) in slice_get_left g (one_of a b ∷ []) i (slice_get_within g i _ old) ∙ old),
           (λ h. elim (split_new g (one_of a b) (one_of x y) i h) [
             | inl old ↦ kept ∙ (ones x y i).1 old
@@ -156,25 +161,33 @@ ones_still g m c several ones x y i = (
 )
 
 -- a content that its map has not is absent
-pub absent_by : (g : List Content) (m : BTreeMap Key ℕ) (k : Key) → (IsOne (content_by k) → ⊥) → IsIndexed g m → get key_cmp m k ≡ None → IsAbsent g (content_by k)
+pub absent_by : (g : List Content) (m : BTreeMap Key ℕ) (k : Key) → (IsOne (content_by k) → ⊥) → IsIndexed g m
+    → get key_cmp m k ≡ None → IsAbsent g (content_by k)
 absent_by g m k several indexed none n is = let some = (indexed k n several).1 is in absurd (cc)
 
-pub absent_one : (g : List Content) (m : BTreeMap (ℕ × ℕ) ℕ) (a b : ℕ) → HasOnes g m → get pair_cmp m (a, b) ≡ None → IsAbsent g (one_of a b)
+pub absent_one : (g : List Content) (m : BTreeMap (ℕ × ℕ) ℕ) (a b : ℕ) → HasOnes g m → get pair_cmp m (a, b) ≡ None
+    → IsAbsent g (one_of a b)
 absent_one g m a b ones none n is = let some = (ones a b n).1 is in absurd (cc)
 
 -- a table with one content more
-pub other_more : (g new : List Content) (ones : BTreeMap (ℕ × ℕ) ℕ) (m m' : BTreeMap Key ℕ) (k : Key) (n : ℕ) → IsTable g ones m → n ≡ length g → (IsOne (content_by k) → ⊥) → get key_cmp m k ≡ None
-    → ((q : Key) → get key_cmp m' q ≡ cond (is_at (key_cmp k) q) (Some n) (get key_cmp m q)) → new ≡ g ++ content_by k ∷ [] → length new < 2 ^ 32 → IsTable new ones m'
+pub other_more : (g new : List Content) (ones : BTreeMap (ℕ × ℕ) ℕ) (m m' : BTreeMap Key ℕ) (k : Key) (n : ℕ) → IsTable g ones m
+    → n ≡ length g → (IsOne (content_by k) → ⊥) → get key_cmp m k ≡ None
+    → ((q : Key) → get key_cmp m' q ≡ cond (is_at (key_cmp k) q) (Some n) (get key_cmp m q)) → new ≡ g ++ content_by k ∷ []
+    → length new < 2 ^ 32 → IsTable new ones m'
 other_more g new ones m m' k n table is_n several none updates grown small = record {
   has_ones = subst (λ (x : List Content). HasOnes x ones) (sym grown) (ones_still g ones (content_by k) several table.has_ones);
-  indexed = subst (λ (x : List Content). IsIndexed x m') (sym grown) (indexed_more g m m' k n is_n table.indexed (absent_by g m k several table.indexed none) updates);
+  indexed = subst (λ (x : List Content). IsIndexed x m') (sym grown)
+      (indexed_more g m m' k n is_n table.indexed (absent_by g m k several table.indexed none) updates);
   small = small;
 }
 
-pub one_more : (g new : List Content) (ones ones' : BTreeMap (ℕ × ℕ) ℕ) (m : BTreeMap Key ℕ) (a b n : ℕ) → IsTable g ones m → n ≡ length g → get pair_cmp ones (a, b) ≡ None
-    → ((q : ℕ × ℕ) → get pair_cmp ones' q ≡ cond (is_at (pair_cmp (a, b)) q) (Some n) (get pair_cmp ones q)) → new ≡ g ++ one_of a b ∷ [] → length new < 2 ^ 32 → IsTable new ones' m
+pub one_more : (g new : List Content) (ones ones' : BTreeMap (ℕ × ℕ) ℕ) (m : BTreeMap Key ℕ) (a b n : ℕ) → IsTable g ones m
+    → n ≡ length g → get pair_cmp ones (a, b) ≡ None
+    → ((q : ℕ × ℕ) → get pair_cmp ones' q ≡ cond (is_at (pair_cmp (a, b)) q) (Some n) (get pair_cmp ones q))
+    → new ≡ g ++ one_of a b ∷ [] → length new < 2 ^ 32 → IsTable new ones' m
 one_more g new ones ones' m a b n table is_n none updates grown small = record {
-  has_ones = subst (λ (x : List Content). HasOnes x ones') (sym grown) (ones_more g ones ones' a b n is_n table.has_ones (absent_one g ones a b table.has_ones none) updates);
+  has_ones = subst (λ (x : List Content). HasOnes x ones') (sym grown)
+      (ones_more g ones ones' a b n is_n table.has_ones (absent_one g ones a b table.has_ones none) updates);
   indexed = subst (λ (x : List Content). IsIndexed x m) (sym grown) (indexed_still g m a b table.indexed);
   small = small;
 }

@@ -72,7 +72,11 @@ In-listed rests c s =
     let end = In-marked c.end bottom s in
     let wild = In-marked c.wild wildcard s in
     let tops = In-above rests c.tops s in (
-      (λ h. elim (one.0 h) [ inl i ↦ inl (end.0 i) | inr i ↦ elim (two.0 i) [ inl j ↦ inr (inl (wild.0 j)) | inr j ↦ inr (inr (tops.0 j)) ] ]),
+      (λ h. elim (one.0 h) [
+        | inl i ↦ inl (end.0 i)
+        | inr i ↦ elim (two.0 i)
+            [ inl j ↦ inr (inl (wild.0 j)) | inr j ↦ inr (inr (tops.0 j)) ]
+      ]),
       (λ h. elim h [
         | inl p ↦ one.1 (inl (end.1 p))
         | inr q ↦ one.1 (inr (elim q [ inl p ↦ two.1 (inl (wild.1 p)) | inr b ↦ two.1 (inr (tops.1 b)) ]))
@@ -85,7 +89,8 @@ abbrev Lists : List Content → (ℕ → List Stack) → ℕ → Type 0
 Lists g rests k = (m : ℕ) → m < k → (s : Stack) → In s (rests m) ↔ Has g m s
 
 module _ (g : List Content) (canon : IsCanonical g) where
-  held_to : (rests : ℕ → List Stack) (n : ℕ) (c : Content) → slice_get g n ≡ Some c → Lists g rests n → (s : Stack) → IsHeld rests c s → Has g n s
+  held_to : (rests : ℕ → List Stack) (n : ℕ) (c : Content) → slice_get g n ≡ Some c → Lists g rests n → (s : Stack) → IsHeld rests c s
+      → Has g n s
   held_to rests n c at lists s (inl p) = subst (Has g n) (sym p.1) ((has_end g n c at).1 p.0)
   held_to rests n c at lists s (inr (inl p)) = subst (Has g n) (sym p.1) ((has_wild g n c at).1 p.0)
   held_to rests n c at lists s (inr (inr b)) =
@@ -93,10 +98,12 @@ module _ (g : List Content) (canon : IsCanonical g) where
       let r = b.2 in
       subst (Has g n) (sym r.2) ((has_pushed g n c b.0.0 r.0 at).1 (b.0.1, b.1, (lists b.0.1 low r.0).0 r.1))
 
-  held_from : (rests : ℕ → List Stack) (n : ℕ) (c : Content) → slice_get g n ≡ Some c → Lists g rests n → (s : Stack) → Has g n s → IsHeld rests c s
+  held_from : (rests : ℕ → List Stack) (n : ℕ) (c : Content) → slice_get g n ≡ Some c → Lists g rests n → (s : Stack) → Has g n s
+      → IsHeld rests c s
   held_from rests n c at lists s h = by s.returns s.wild refl refl h
     where
-      by : (returns : List ℕ) (wild : Bool) → s.returns ≡ returns → s.wild ≡ wild → Has g n (record { returns = returns; wild = wild }) → IsHeld rests c s
+      by : (returns : List ℕ) (wild : Bool) → s.returns ≡ returns → s.wild ≡ wild
+          → Has g n (record { returns = returns; wild = wild }) → IsHeld rests c s
       by [] false e m x = inl ((has_end g n c at).0 x, by_parts s bottom e m)
       by [] true e m x = inr (inl ((has_wild g n c at).0 x, by_parts s wildcard e m))
       by (t ∷ rest) wild e m x =
@@ -113,7 +120,8 @@ module _ (g : List Content) (canon : IsCanonical g) where
       by [] true x = subst (λ o. IsMarked o true) at x
       by (t ∷ rest) wild (m, lead, x) = subst (λ o. LeadsTo o t m) at lead
 
-  lists_by : (rests : ℕ → List Stack) (n : ℕ) (o : Option Content) → slice_get g n ≡ o → Lists g rests n → (s : Stack) → In s (listed rests (slice_get g n)) ↔ Has g n s
+  lists_by : (rests : ℕ → List Stack) (n : ℕ) (o : Option Content) → slice_get g n ≡ o → Lists g rests n → (s : Stack)
+      → In s (listed rests (slice_get g n)) ↔ Has g n s
   lists_by rests n None at lists s = ((λ i. absurd (subst (λ o. In s (listed rests o)) at i)), (λ h. absurd (none_held n at s h)))
   lists_by rests n (Some c) at lists s = (
     (λ i. held_to rests n c at lists s ((In-listed rests c s).0 (subst (λ o. In s (listed rests o)) at i))),
@@ -136,7 +144,8 @@ module _ (g : List Content) (canon : IsCanonical g) where
 
 -- the list is in order
 
-rise_append : (xs ys : List Stack) → StacksRise xs → StacksRise ys → ((x y : Stack) → In x xs → In y ys → StackPrecedes x y) → StacksRise (xs ++ ys)
+rise_append : (xs ys : List Stack) → StacksRise xs → StacksRise ys → ((x y : Stack) → In x xs → In y ys → StackPrecedes x y)
+    → StacksRise (xs ++ ys)
 rise_append [] ys up up' before = up'
 rise_append (x ∷ []) [] up up' before = tt
 rise_append (x ∷ []) (y ∷ ys) up up' before = (before x y (inl refl) (inl refl), up')
@@ -158,7 +167,8 @@ rise_marked false s = tt
 module _ (rests : ℕ → List Stack) (up : (m : ℕ) → StacksRise (rests m)) where
   rise_above : (low : ℕ) (es : List (ℕ × ℕ)) → Ascends low es → StacksRise (above rests es)
   rise_above low [] asc = tt
-  rise_above low (e ∷ es) asc = rise_append (map (pushed e.0) (rests e.1)) (above rests es) (rise_map e.0 (rests e.1) (up e.1)) (rise_above (suc e.0) es asc.1) before
+  rise_above low (e ∷ es) asc = rise_append (map (pushed e.0) (rests e.1)) (above rests es) (rise_map e.0 (rests e.1) (up e.1))
+      (rise_above (suc e.0) es asc.1) before
     where
       before : (x y : Stack) → In x (map (pushed e.0) (rests e.1)) → In y (above rests es) → StackPrecedes x y
       before x y i j =
@@ -173,14 +183,18 @@ module _ (rests : ℕ → List Stack) (up : (m : ℕ) → StacksRise (rests m)) 
   marks_precede m none es y j =
       let q = (In-above rests es y).0 j in
       let r = q.2 in
-      let less : StackPrecedes m (pushed q.0.0 r.0) = inl (subst (λ (xs : List ℕ). ReturnsPrecede xs (q.0.0 ∷ r.0.returns)) (sym none) tt) in
+      let less : StackPrecedes m (pushed q.0.0 r.0) =
+      inl (subst (λ (xs : List ℕ). ReturnsPrecede xs (q.0.0 ∷ r.0.returns)) (sym none) tt) in
       subst (StackPrecedes m) (sym r.2) less
 
   rise_listed : (c : Content) → Ascends 0 c.tops → StacksRise (listed rests (Some c))
-  rise_listed c asc = rise_append (marked c.end bottom) _ (rise_marked c.end bottom) (rise_append (marked c.wild wildcard) (above rests c.tops) (rise_marked c.wild wildcard) (rise_above 0 c.tops asc) wild_first) end_first
+  rise_listed c asc = rise_append (marked c.end bottom) _ (rise_marked c.end bottom)
+      (rise_append (marked c.wild wildcard) (above rests c.tops) (rise_marked c.wild wildcard) (rise_above 0 c.tops asc) wild_first)
+      end_first
     where
       wild_first : (x y : Stack) → In x (marked c.wild wildcard) → In y (above rests c.tops) → StackPrecedes x y
-      wild_first x y i j = subst (λ (a : Stack). StackPrecedes a y) (sym ((In-marked c.wild wildcard x).0 i).1) (marks_precede wildcard refl c.tops y j)
+      wild_first x y i j = subst (λ (a : Stack). StackPrecedes a y) (sym ((In-marked c.wild wildcard x).0 i).1)
+          (marks_precede wildcard refl c.tops y j)
 
       bottom_first : (y : Stack) → In y (marked c.wild wildcard ++ above rests c.tops) → StackPrecedes bottom y
       bottom_first y j = elim ((In-append (marked c.wild wildcard) (above rests c.tops) y).0 j) [
@@ -192,7 +206,8 @@ module _ (rests : ℕ → List Stack) (up : (m : ℕ) → StacksRise (rests m)) 
       end_first x y i j = subst (λ (a : Stack). StackPrecedes a y) (sym ((In-marked c.end bottom x).0 i).1) (bottom_first y j)
 
 module _ (g : List Content) (canon : IsCanonical g) where
-  rise_by : (rests : ℕ → List Stack) → ((m : ℕ) → StacksRise (rests m)) → (n : ℕ) (o : Option Content) → slice_get g n ≡ o → StacksRise (listed rests (slice_get g n))
+  rise_by : (rests : ℕ → List Stack) → ((m : ℕ) → StacksRise (rests m)) → (n : ℕ) (o : Option Content) → slice_get g n ≡ o
+      → StacksRise (listed rests (slice_get g n))
   rise_by rests up n None at = subst (λ o. StacksRise (listed rests o)) (sym at) tt
   rise_by rests up n (Some c) at = subst (λ o. StacksRise (listed rests o)) (sym at) (rise_listed rests up c (canon.plain n c at).sorted)
 
@@ -225,12 +240,14 @@ configs_stacks : (xs : List Stack) → map (λ (d : Config). d.stack) (map with_
 configs_stacks [] = refl
 configs_stacks (x ∷ xs) = ap (λ ys. x ∷ ys) (configs_stacks xs)
 
-configs_within : (xs ys : List Stack) → ((s : Stack) → In s xs → In s ys) → (d : Config) → Contains (map with_stack xs) d → Contains (map with_stack ys) d
+configs_within : (xs ys : List Stack) → ((s : Stack) → In s xs → In s ys) → (d : Config) → Contains (map with_stack xs) d
+    → Contains (map with_stack ys) d
 configs_within xs ys to d i =
     let p = (In-configs xs d).0 (In-from (map with_stack xs) d i.0 i.1 i.2) in
     In-to (map with_stack ys) d ((In-configs ys d).1 (p.0, to p.0 p.1, p.2))
 
-one_list : (xs ys : List Stack) → StacksRise xs → StacksRise ys → ((s : Stack) → In s xs → In s ys) → ((s : Stack) → In s ys → In s xs) → xs ≡ ys
+one_list : (xs ys : List Stack) → StacksRise xs → StacksRise ys → ((s : Stack) → In s xs → In s ys)
+    → ((s : Stack) → In s ys → In s xs) → xs ≡ ys
 one_list xs ys up up' to from =
     let rows : map with_stack xs ≡ map with_stack ys = one_row (Contains (map with_stack ys)) (map with_stack xs) (map with_stack ys)
     (record { rising = configs_rise xs up; exactly = λ d. (configs_within xs ys to d, configs_within ys xs from d) })
@@ -238,7 +255,8 @@ one_list xs ys up up' to from =
     sym (configs_stacks xs) ∙ ap (map (λ (d : Config). d.stack)) rows ∙ configs_stacks ys
 
 -- nodes have equal lists exactly where they have the same stacks
-pub lists_canonical : (g h : List Content) (n m : ℕ) → IsCanonical g → IsCanonical h → (stacks_of g n ≡ stacks_of h m) ↔ ((s : Stack) → Has g n s ↔ Has h m s)
+pub lists_canonical : (g h : List Content) (n m : ℕ) → IsCanonical g → IsCanonical h
+    → (stacks_of g n ≡ stacks_of h m) ↔ ((s : Stack) → Has g n s ↔ Has h m s)
 lists_canonical g h n m canon canon' = (
   (λ e s. (
     (λ x. (listed_exactly h canon' m s).0 (subst (In s) e ((listed_exactly g canon n s).1 x))),

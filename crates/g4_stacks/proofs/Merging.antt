@@ -29,9 +29,11 @@ LeadBelow-push : (n t m : ℕ) (es : List (ℕ × ℕ)) → 0 < m → m < n → 
 LeadBelow-push n t m [] pos lt b = (pos, lt, tt)
 LeadBelow-push n t m (e ∷ es) pos lt b = (b.0, b.1, LeadBelow-push n t m es pos lt b.2)
 
-Ascends-push : (low t m : ℕ) (es : List (ℕ × ℕ)) → low ≤ t → ((u n : ℕ) → In (u, n) es → u < t) → Ascends low es → Ascends low (es ++ (t, m) ∷ [])
+Ascends-push : (low t m : ℕ) (es : List (ℕ × ℕ)) → low ≤ t → ((u n : ℕ) → In (u, n) es → u < t) → Ascends low es
+    → Ascends low (es ++ (t, m) ∷ [])
 Ascends-push low t m [] le past a = (le, tt)
-Ascends-push low t m (e ∷ es) le past a = let q = past e.0 e.1 (inl refl) in (a.0, Ascends-push (suc e.0) t m es (omega arith) (λ u n i. past u n (inr i)) a.1)
+Ascends-push low t m (e ∷ es) le past a = let q = past e.0 e.1 (inl refl) in
+    (a.0, Ascends-push (suc e.0) t m es (omega arith) (λ u n i. past u n (inr i)) a.1)
 
 In-push : (x d : ℕ × ℕ) (es : List (ℕ × ℕ)) → In d (es ++ x ∷ []) ↔ (In d es ⊎ (d ≡ x))
 In-push x d [] = ((λ h. elim h [ inl e ↦ inr e | inr never ↦ absurd never ]), (λ h. elim h [ inl never ↦ absurd never | inr e ↦ inl e ]))
@@ -44,7 +46,8 @@ In-push x d (e ∷ es) = let r = In-push x d es in (
 abbrev pub Through : List Content → ℕ → ℕ → ℕ → Stack → Type 0
 Through g t r u s = (u ≡ t) × Has g r s
 
-ByTop-push : (g : List Content) (t r u : ℕ) (s : Stack) (es : List (ℕ × ℕ)) → ByTop g (es ++ (t, r) ∷ []) u s ↔ (ByTop g es u s ⊎ Through g t r u s)
+ByTop-push : (g : List Content) (t r u : ℕ) (s : Stack) (es : List (ℕ × ℕ))
+    → ByTop g (es ++ (t, r) ∷ []) u s ↔ (ByTop g es u s ⊎ Through g t r u s)
 ByTop-push g t r u s es = (
   (λ h. elim ((In-push (t, r) (u, h.0) es).0 h.1) [
     | inl i ↦ inl (h.0, i, h.2)
@@ -56,7 +59,8 @@ ByTop-push g t r u s es = (
   ]),
 )
 
-pub ByTop-cons : (g : List Content) (t r u : ℕ) (s : Stack) (es : List (ℕ × ℕ)) → ByTop g ((t, r) ∷ es) u s ↔ (Through g t r u s ⊎ ByTop g es u s)
+pub ByTop-cons : (g : List Content) (t r u : ℕ) (s : Stack) (es : List (ℕ × ℕ))
+    → ByTop g ((t, r) ∷ es) u s ↔ (Through g t r u s ⊎ ByTop g es u s)
 ByTop-cons g t r u s es = (
   (λ h. elim h.1 [
     | inl e ↦ inl (ap (λ (x : ℕ × ℕ). x.0) e, subst (λ (m : ℕ). Has g m s) (ap (λ (x : ℕ × ℕ). x.1) e) h.2)
@@ -69,14 +73,16 @@ ByTop-cons g t r u s es = (
 )
 
 -- a grown graph means the same
-pub ByTop-grown : (g h : List Content) (es : List (ℕ × ℕ)) (t : ℕ) (s : Stack) → IsCanonical g → Grows g h → LeadBelow (length g) es → ByTop g es t s ↔ ByTop h es t s
+pub ByTop-grown : (g h : List Content) (es : List (ℕ × ℕ)) (t : ℕ) (s : Stack) → IsCanonical g → Grows g h → LeadBelow (length g) es
+    → ByTop g es t s ↔ ByTop h es t s
 ByTop-grown g h es t s canon grows lead = (
   (λ b. (b.0, b.1, ((keeps g h canon grows b.0 (lead_below (length g) t b.0 es lead b.1).1).1 s).0 b.2)),
   (λ b. (b.0, b.1, ((keeps g h canon grows b.0 (lead_below (length g) t b.0 es lead b.1).1).1 s).1 b.2)),
 )
 
 -- the merge in a grown graph
-pub Joins-grown : (g h : List Content) (a b : ℕ) (xs ys tops : List (ℕ × ℕ)) → IsCanonical g → Grows g h → Joins g a b xs ys tops → Joins h a b xs ys tops
+pub Joins-grown : (g h : List Content) (a b : ℕ) (xs ys tops : List (ℕ × ℕ)) → IsCanonical g → Grows g h → Joins g a b xs ys tops
+    → Joins h a b xs ys tops
 Joins-grown g h a b xs ys tops canon grows k = record {
   left_in = (keeps g h canon grows a k.left_in).0;
   right_in = (keeps g h canon grows b k.right_in).0;
@@ -89,8 +95,16 @@ Joins-grown g h a b xs ys tops canon grows k = record {
   sorted = k.sorted;
   lead = LeadBelow-more (length g) (length h) tops (Grows-length g h grows) k.lead;
   means = λ t s. (
-    (λ x. there t s ((k.means t s).0 (elim x [ inl y ↦ inl (((keeps g h canon grows a k.left_in).1 (pushed t s)).1 y) | inr y ↦ inr (((keeps g h canon grows b k.right_in).1 (pushed t s)).1 y) ]))),
-    (λ x. elim ((k.means t s).1 (back t s x)) [ inl y ↦ inl (((keeps g h canon grows a k.left_in).1 (pushed t s)).0 y) | inr y ↦ inr (((keeps g h canon grows b k.right_in).1 (pushed t s)).0 y) ]),
+    (λ x. there t s ((k.means t s).0 (elim x [
+      | inl y ↦ inl (((keeps g h canon grows a k.left_in).1 (pushed t s)).1 y)
+      | inr y ↦ inr
+          (((keeps g h canon grows b k.right_in).1 (pushed t s)).1 y)
+    ]))),
+    (λ x. elim ((k.means t s).1 (back t s x)) [
+      | inl y ↦ inl (((keeps g h canon grows a k.left_in).1 (pushed t s)).0 y)
+      | inr y ↦ inr
+          (((keeps g h canon grows b k.right_in).1 (pushed t s)).0 y)
+    ]),
   );
 }
   where
@@ -103,12 +117,14 @@ Joins-grown g h a b xs ys tops canon grows k = record {
     at_tops : (t : ℕ) (s : Stack) → ByTop g tops t s ↔ ByTop h tops t s
     at_tops t s = ByTop-grown g h tops t s canon grows k.lead
 
-    there : (t : ℕ) (s : Stack) → (ByTop g tops t s ⊎ (ByTop g xs t s ⊎ ByTop g ys t s)) → ByTop h tops t s ⊎ (ByTop h xs t s ⊎ ByTop h ys t s)
+    there : (t : ℕ) (s : Stack) → (ByTop g tops t s ⊎ (ByTop g xs t s ⊎ ByTop g ys t s))
+        → ByTop h tops t s ⊎ (ByTop h xs t s ⊎ ByTop h ys t s)
     there t s (inl x) = inl ((at_tops t s).0 x)
     there t s (inr (inl x)) = inr (inl ((at_xs t s).0 x))
     there t s (inr (inr x)) = inr (inr ((at_ys t s).0 x))
 
-    back : (t : ℕ) (s : Stack) → (ByTop h tops t s ⊎ (ByTop h xs t s ⊎ ByTop h ys t s)) → ByTop g tops t s ⊎ (ByTop g xs t s ⊎ ByTop g ys t s)
+    back : (t : ℕ) (s : Stack) → (ByTop h tops t s ⊎ (ByTop h xs t s ⊎ ByTop h ys t s))
+        → ByTop g tops t s ⊎ (ByTop g xs t s ⊎ ByTop g ys t s)
     back t s (inl x) = inl ((at_tops t s).1 x)
     back t s (inr (inl x)) = inr (inl ((at_xs t s).1 x))
     back t s (inr (inr x)) = inr (inr ((at_ys t s).1 x))
@@ -136,11 +152,13 @@ step g a b xs ys xs' ys' tops t r k le pos lt left right left_lead right_lead sa
   means = λ u s. ((λ x. there u s ((k.means u s).0 x)), (λ x. (k.means u s).1 (back u s x)));
 }
   where
-    there : (u : ℕ) (s : Stack) → (ByTop g tops u s ⊎ (ByTop g xs u s ⊎ ByTop g ys u s)) → ByTop g (tops ++ (t, r) ∷ []) u s ⊎ (ByTop g xs' u s ⊎ ByTop g ys' u s)
+    there : (u : ℕ) (s : Stack) → (ByTop g tops u s ⊎ (ByTop g xs u s ⊎ ByTop g ys u s))
+        → ByTop g (tops ++ (t, r) ∷ []) u s ⊎ (ByTop g xs' u s ⊎ ByTop g ys' u s)
     there u s (inl x) = inl ((ByTop-push g t r u s tops).1 (inl x))
     there u s (inr x) = elim ((same u s).0 x) [ inl p ↦ inl ((ByTop-push g t r u s tops).1 (inr p)) | inr q ↦ inr q ]
 
-    back : (u : ℕ) (s : Stack) → (ByTop g (tops ++ (t, r) ∷ []) u s ⊎ (ByTop g xs' u s ⊎ ByTop g ys' u s)) → ByTop g tops u s ⊎ (ByTop g xs u s ⊎ ByTop g ys u s)
+    back : (u : ℕ) (s : Stack) → (ByTop g (tops ++ (t, r) ∷ []) u s ⊎ (ByTop g xs' u s ⊎ ByTop g ys' u s))
+        → ByTop g tops u s ⊎ (ByTop g xs u s ⊎ ByTop g ys u s)
     back u s (inl x) = elim ((ByTop-push g t r u s tops).0 x) [ inl c ↦ inl c | inr p ↦ inr ((same u s).1 (inl p)) ]
     back u s (inr x) = inr ((same u s).1 (inr x))
 
@@ -173,7 +191,8 @@ swapped g a b xs ys tops k = record {
     turn A B C (inr x) = inr (flip B C x)
 
 -- the first list's state alone
-pub step_left : (g : List Content) (a b : ℕ) (xs ys tops : List (ℕ × ℕ)) (t m : ℕ) → Joins g a b ((t, m) ∷ xs) ys tops → StartsAbove t ys → Joins g a b xs ys (tops ++ (t, m) ∷ [])
+pub step_left : (g : List Content) (a b : ℕ) (xs ys tops : List (ℕ × ℕ)) (t m : ℕ) → Joins g a b ((t, m) ∷ xs) ys tops
+    → StartsAbove t ys → Joins g a b xs ys (tops ++ (t, m) ∷ [])
 step_left g a b xs ys tops t m k st =
     step g a b ((t, m) ∷ xs) ys xs ys tops t m k k.left.0 k.left_lead.0 (let p = k.left_lead.1 in let q = k.left_in in omega arith)
     k.left.1 (above k.low t ys k.right st) k.left_lead.2 k.right_lead same
@@ -191,11 +210,13 @@ step_left g a b xs ys tops t m k st =
     )
 
 -- the second list's state alone
-pub step_right : (g : List Content) (a b : ℕ) (xs ys tops : List (ℕ × ℕ)) (t n : ℕ) → Joins g a b xs ((t, n) ∷ ys) tops → StartsAbove t xs → Joins g a b xs ys (tops ++ (t, n) ∷ [])
+pub step_right : (g : List Content) (a b : ℕ) (xs ys tops : List (ℕ × ℕ)) (t n : ℕ) → Joins g a b xs ((t, n) ∷ ys) tops
+    → StartsAbove t xs → Joins g a b xs ys (tops ++ (t, n) ∷ [])
 step_right g a b xs ys tops t n k st = swapped g b a ys xs _ (step_left g b a ys xs tops t n (swapped g a b xs _ tops k) st)
 
 -- the state of both, with the merged node
-pub step_both : (g : List Content) (a b : ℕ) (xs ys tops : List (ℕ × ℕ)) (t m n r : ℕ) → IsCanonical g → Joins g a b ((t, m) ∷ xs) ((t, n) ∷ ys) tops
+pub step_both : (g : List Content) (a b : ℕ) (xs ys tops : List (ℕ × ℕ)) (t m n r : ℕ) → IsCanonical g
+    → Joins g a b ((t, m) ∷ xs) ((t, n) ∷ ys) tops
     → IsNode g r → IsUnion g m n g r → Joins g a b xs ys (tops ++ (t, r) ∷ [])
 step_both g a b xs ys tops t m n r canon k known union =
     step g a b ((t, m) ∷ xs) ((t, n) ∷ ys) xs ys tops t r k k.left.0 positive known k.left.1 k.right.1 k.left_lead.2 k.right_lead.2 same
@@ -208,7 +229,8 @@ step_both g a b xs ys tops t m n r canon k known union =
     positive : 0 < r
     positive = omega (arith, not_none)
 
-    same : (u : ℕ) (s : Stack) → (ByTop g ((t, m) ∷ xs) u s ⊎ ByTop g ((t, n) ∷ ys) u s) ↔ (Through g t r u s ⊎ (ByTop g xs u s ⊎ ByTop g ys u s))
+    same : (u : ℕ) (s : Stack) → (ByTop g ((t, m) ∷ xs) u s ⊎ ByTop g ((t, n) ∷ ys) u s)
+        ↔ (Through g t r u s ⊎ (ByTop g xs u s ⊎ ByTop g ys u s))
     same u s = (
       (λ q. elim q [
         | inl x ↦ elim ((ByTop-cons g t m u s xs).0 x) [ inl p ↦ inl (p.0, (union s).1 (inl p.1)) | inr c ↦ inr (inl c) ]

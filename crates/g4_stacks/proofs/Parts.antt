@@ -44,10 +44,12 @@ split_last (z ∷ xs) x y zero is = inl is
 split_last (z ∷ xs) x y (suc n) is = elim (split_last xs x y n is) [ inl old ↦ inl old | inr new ↦ inr (ap suc new.0, new.1) ]
 
 -- one part more
-parts_more : (g : List Content) (parts : List ℕ) (part : ℕ) → AreParts g parts → IsNode g (length parts) → IsNode g part → IsPart g (length parts) part → AreParts g (parts ++ part ∷ [])
+parts_more : (g : List Content) (parts : List ℕ) (part : ℕ) → AreParts g parts → IsNode g (length parts) → IsNode g part
+    → IsPart g (length parts) part → AreParts g (parts ++ part ∷ [])
 parts_more g parts part are node_in part_in has n m is = elim (split_last parts part m n is) [
   | inl old ↦ are n m old
-  | inr new ↦ subst (λ (k : ℕ). IsNode g k × IsNode g m × IsPart g k m) (sym new.0) (subst (λ (p : ℕ). IsNode g (length parts) × IsNode g p × IsPart g (length parts) p) new.1 (node_in, part_in, has))
+  | inr new ↦ subst (λ (k : ℕ). IsNode g k × IsNode g m × IsPart g k m) (sym new.0)
+      (subst (λ (p : ℕ). IsNode g (length parts) × IsNode g p × IsPart g (length parts) p) new.1 (node_in, part_in, has))
 ]
 
 -- the empty set, as many times
@@ -55,7 +57,8 @@ abbrev pub zeros : ℕ → List ℕ
 zeros k = replicate k 0
 
 -- the empty set as the part of as many nodes more
-parts_filled : (g : List Content) (parts : List ℕ) (k : ℕ) → IsCanonical g → length parts + k ≤ length g → AreParts g parts → AreParts g (parts ++ zeros k)
+parts_filled : (g : List Content) (parts : List ℕ) (k : ℕ) → IsCanonical g → length parts + k ≤ length g → AreParts g parts
+    → AreParts g (parts ++ zeros k)
 parts_filled g parts zero canon le are = subst (AreParts g) (sym (append-nil parts)) are
 parts_filled g parts (suc k) canon le are =
     let l = length-append parts (0 ∷ []) in
@@ -78,7 +81,8 @@ length_zeros (suc k) = ap suc (length_zeros k)
 pub parts_before : (g : List Content) (parts filled : List ℕ) (node : ℕ) → IsCanonical g → length parts ≤ node → IsNode g node
     → filled ≡ take node parts ++ zeros (node - length parts) → AreParts g parts → AreParts g filled × (length filled ≡ node)
 parts_before g parts filled node canon le node_in is are =
-    let whole : filled ≡ parts ++ zeros (node - length parts) = is ∙ ap (λ (xs : List ℕ). xs ++ zeros (node - length parts)) (take_all parts node le) in
+    let whole : filled ≡ parts ++ zeros (node - length parts) =
+    is ∙ ap (λ (xs : List ℕ). xs ++ zeros (node - length parts)) (take_all parts node le) in
     let added = length-append parts (zeros (node - length parts)) in
     let count : length (zeros (node - length parts)) ≡ node - length parts = length_zeros (node - length parts) in
     let same = ap length whole in
@@ -89,4 +93,5 @@ pub parts_noted : (g : List Content) (filled parts' : List ℕ) (node part : ℕ
     → AreParts g filled × (length filled ≡ node) → parts' ≡ filled ++ part ∷ [] → AreParts g parts'
 parts_noted g filled parts' node part node_in part_in has before more =
     subst (AreParts g) (sym more)
-    (parts_more g filled part before.0 (subst (IsNode g) (sym before.1) node_in) part_in (subst (λ (n : ℕ). IsPart g n part) (sym before.1) has))
+    (parts_more g filled part before.0 (subst (IsNode g) (sym before.1) node_in) part_in
+    (subst (λ (n : ℕ). IsPart g n part) (sym before.1) has))

@@ -38,8 +38,14 @@ has_one : (g : List Content) (r t n : ℕ) → slice_get g r ≡ Some (one_of t 
 has_one g r t n is s = by s.returns s.wild
   where
     by : (returns : List ℕ) (wild : Bool) → let s : Stack = record { returns = returns; wild = wild } in Has g r s ↔ IsPushed g n t s
-    by [] true = ((λ h. let e : false ≡ true = (has_wild g r (one_of t n) is).0 h in absurd (cc)), (λ p. let f : [] ≡ t ∷ p.0.returns = ap (λ (s : Stack). s.returns) p.2 in absurd (cc)))
-    by [] false = ((λ h. let e : false ≡ true = (has_end g r (one_of t n) is).0 h in absurd (cc)), (λ p. let f : [] ≡ t ∷ p.0.returns = ap (λ (s : Stack). s.returns) p.2 in absurd (cc)))
+    by [] true = (
+      (λ h. let e : false ≡ true = (has_wild g r (one_of t n) is).0 h in absurd (cc)),
+      (λ p. let f : [] ≡ t ∷ p.0.returns = ap (λ (s : Stack). s.returns) p.2 in absurd (cc)),
+    )
+    by [] false = (
+      (λ h. let e : false ≡ true = (has_end g r (one_of t n) is).0 h in absurd (cc)),
+      (λ p. let f : [] ≡ t ∷ p.0.returns = ap (λ (s : Stack). s.returns) p.2 in absurd (cc)),
+    )
     by (u ∷ rest) wild = let s : Stack = record { returns = rest; wild = wild } in (
       (λ h. let p = (has_pushed g r (one_of t n) u s is).0 h in elim p.1 [
         | inl e ↦ (s, subst (λ (m : ℕ). Has g m s) (ap (λ (x : ℕ × ℕ). x.1) e) p.2, ap (λ (x : ℕ). pushed x s) (ap (λ (x : ℕ × ℕ). x.0) e))
@@ -49,12 +55,18 @@ has_one g r t n is s = by s.returns s.wild
           let first : u ≡ t = cc in
           let rests : p.0.returns ≡ rest = cc in
           let marks : p.0.wild ≡ wild = sym (ap (λ (s : Stack). s.wild) p.2) in
-          let same : p.0 ≡ s = ap (λ (x : List ℕ). let y : Stack = record { returns = x; wild = p.0.wild } in y) rests ∙ ap (λ (x : Bool). let y : Stack = record { returns = rest; wild = x } in y) marks in
-          (has_pushed g r (one_of t n) u s is).1 (n, inl (ap (λ (x : ℕ). let y : ℕ × ℕ = (x, n) in y) first), subst (λ (x : Stack). Has g n x) same p.1)),
+          let same : p.0 ≡ s = ap (λ (x : List ℕ). let y : Stack = record { returns = x; wild = p.0.wild } in y) rests
+          ∙ ap (λ (x : Bool). let y : Stack = record { returns = rest; wild = x } in y) marks in
+          (has_pushed g r (one_of t n) u s is).1 (
+            n,
+            inl (ap (λ (x : ℕ). let y : ℕ × ℕ = (x, n) in y) first),
+            subst (λ (x : Stack). Has g n x) same p.1,
+          )),
     )
 
 -- the node that holds the state on another means the stacks with it pushed
-pub pushes : (old new : List Content) (r t n : ℕ) → n < length old → Keeps old new → slice_get new r ≡ Some (one_of t n) → (s : Stack) → Has new r s ↔ IsPushed old n t s
+pub pushes : (old new : List Content) (r t n : ℕ) → n < length old → Keeps old new → slice_get new r ≡ Some (one_of t n) → (s : Stack)
+    → Has new r s ↔ IsPushed old n t s
 pushes old new r t n lt keeps is s =
     let h = has_one new r t n is s in (
       (λ x. let p = h.0 x in (p.0, ((keeps n lt).1 p.0).1 p.1, p.2)),

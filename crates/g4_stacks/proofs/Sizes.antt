@@ -26,7 +26,8 @@ pub left_in : List Content → List Frame → ℕ
 left_in other [] = 0
 left_in other (f ∷ fs) = left_at other f.node (suc (length f.tops.items)) + left_in other fs
 
-left_push : (other : List Content) (fs : List Frame) (f : Frame) → left_in other (fs ++ f ∷ []) ≡ left_in other fs + left_at other f.node (suc (length f.tops.items))
+left_push : (other : List Content) (fs : List Frame) (f : Frame)
+    → left_in other (fs ++ f ∷ []) ≡ left_in other fs + left_at other f.node (suc (length f.tops.items))
 unfolding left_in
 left_push other [] f = omega arith
 left_push other (e ∷ fs) f = let h = left_push other fs f in omega arith
@@ -54,14 +55,18 @@ module _ (other : List Content) (canon : IsCanonical other) where
   unfolding size_below
   steady zero j n less less' = absurd (omega arith)
   steady (suc k) zero n less less' = absurd (omega arith)
-  steady (suc k) (suc j) n less less' = ap (λ (s : ℕ). 2 + s) (same_sizes (size_below other k) (size_below other j) n (tops_of other n) (leads n) (λ m lower. steady k j m (omega arith) (omega arith)))
+  steady (suc k) (suc j) n less less' = ap (λ (s : ℕ). 2 + s)
+      (same_sizes (size_below other k) (size_below other j) n (tops_of other n) (leads n)
+      (λ m lower. steady k j m (omega arith) (omega arith)))
 
   size_is : (n : ℕ) → size_of other n ≡ suc (left_at other n 0)
   unfolding size_of size_below left_at
-  size_is n = let e = same_sizes (size_below other n) (size_of other) n (tops_of other n) (leads n) (λ m lower. steady n (suc m) m lower (omega arith)) in omega arith
+  size_is n = let e = same_sizes (size_below other n) (size_of other) n (tops_of other n) (leads n)
+      (λ m lower. steady n (suc m) m lower (omega arith)) in omega arith
 
   -- one top is done, or waited for
-  pub one_less : (node done t m : ℕ) → slice_get (tops_of other node) done ≡ Some (t, m) → left_at other node done ≡ left_at other node (suc done) + suc (left_at other m 0)
+  pub one_less : (node done t m : ℕ) → slice_get (tops_of other node) done ≡ Some (t, m)
+      → left_at other node done ≡ left_at other node (suc done) + suc (left_at other m 0)
   unfolding left_at
   one_less node done t m is =
       let e = ap (sizes (size_of other)) (drop_at (tops_of other node) done (t, m) is) in
@@ -73,7 +78,8 @@ module _ (other : List Content) (canon : IsCanonical other) where
   some_left node done = omega arith
 
   -- the sums that the loop counts down
-  pub less_known : (waiting : List Frame) (node t m : ℕ) (tops tops' : List (ℕ × ℕ)) (r : ℕ) → slice_get (tops_of other node) (length tops) ≡ Some (t, m) → tops' ≡ tops ++ (t, r) ∷ []
+  pub less_known : (waiting : List Frame) (node t m : ℕ) (tops tops' : List (ℕ × ℕ)) (r : ℕ)
+      → slice_get (tops_of other node) (length tops) ≡ Some (t, m) → tops' ≡ tops ++ (t, r) ∷ []
       → left_in other waiting + left_at other node (length tops') < left_in other waiting + left_at other node (length tops)
   less_known waiting node t m tops tops' r is made =
       let long : length tops' ≡ suc (length tops) = (let l = length-append tops ((t, r) ∷ []) in let e = ap length made in omega arith) in
@@ -81,7 +87,8 @@ module _ (other : List Content) (canon : IsCanonical other) where
       let now = ap (left_at other node) long in
       omega arith
 
-  pub less_down : (waiting waiting' : List Frame) (f : Frame) (m : ℕ) (tops : List (ℕ × ℕ)) → slice_get (tops_of other f.node) (length f.tops.items) ≡ Some (f.state, m) → waiting' ≡ waiting ++ f ∷ [] → tops ≡ []
+  pub less_down : (waiting waiting' : List Frame) (f : Frame) (m : ℕ) (tops : List (ℕ × ℕ))
+      → slice_get (tops_of other f.node) (length f.tops.items) ≡ Some (f.state, m) → waiting' ≡ waiting ++ f ∷ [] → tops ≡ []
       → left_in other waiting' + left_at other m (length tops) < left_in other waiting + left_at other f.node (length f.tops.items)
   less_down waiting waiting' f m tops is made none =
       let l = one_less f.node (length f.tops.items) f.state m is in
@@ -89,10 +96,12 @@ module _ (other : List Content) (canon : IsCanonical other) where
       let now = ap (λ (xs : List (ℕ × ℕ)). left_at other m (length xs)) none in
       omega arith
 
-  pub less_up : (waiting waiting' : List Frame) (f : Frame) (node r : ℕ) (tops tops' : List (ℕ × ℕ)) → waiting ≡ waiting' ++ f ∷ [] → tops' ≡ f.tops.items ++ (f.state, r) ∷ []
+  pub less_up : (waiting waiting' : List Frame) (f : Frame) (node r : ℕ) (tops tops' : List (ℕ × ℕ)) → waiting ≡ waiting' ++ f ∷ []
+      → tops' ≡ f.tops.items ++ (f.state, r) ∷ []
       → left_in other waiting' + left_at other f.node (length tops') < left_in other waiting + left_at other node (length tops)
   less_up waiting waiting' f node r tops tops' is made =
-      let long : length tops' ≡ suc (length f.tops.items) = (let l = length-append f.tops.items ((f.state, r) ∷ []) in let e = ap length made in omega arith) in
+      let long : length tops' ≡ suc (length f.tops.items) =
+      (let l = length-append f.tops.items ((f.state, r) ∷ []) in let e = ap length made in omega arith) in
       let p = ap (left_in other) is ∙ left_push other waiting' f in
       let now = ap (left_at other f.node) long in
       let pos = some_left node (length tops) in

@@ -26,15 +26,18 @@ tops_sorted g n canon lt = let c = content_of g n lt in subst (Ascends 0) (sym (
 
 -- the stacks of a node with a state on top, by its tops
 through : (g : List Content) (n : ℕ) → n < length g → (t : ℕ) (s : Stack) → Has g n (pushed t s) ↔ ByTop g (tops_of g n) t s
-through g n lt t s = let c = content_of g n lt in subst (λ v. Has g n (pushed t s) ↔ ByTop g v t s) (sym (ap tops_by c.1)) (has_pushed g n c.0 t s c.1)
+through g n lt t s = let c = content_of g n lt in
+    subst (λ v. Has g n (pushed t s) ↔ ByTop g v t s) (sym (ap tops_by c.1)) (has_pushed g n c.0 t s c.1)
 
 -- a merge of the nodes a and b at the places i and j
 abbrev pub At : List Content → ℕ → ℕ → ℕ → ℕ → List (ℕ × ℕ) → Type 0
 At g a b i j tops = Joins g a b (drop i (tops_of g a)) (drop j (tops_of g b)) tops
 
-pub begins : (g : List Content) (a b i j : ℕ) (tops : List (ℕ × ℕ)) → IsCanonical g → IsNode g a → IsNode g b → i ≡ 0 → j ≡ 0 → tops ≡ [] → At g a b i j tops
+pub begins : (g : List Content) (a b i j : ℕ) (tops : List (ℕ × ℕ)) → IsCanonical g → IsNode g a → IsNode g b → i ≡ 0 → j ≡ 0
+    → tops ≡ [] → At g a b i j tops
 begins g a b i j tops canon a_in b_in first first' none =
-    subst (λ (n : ℕ). At g a b n j tops) (sym first) (subst (λ (n : ℕ). At g a b 0 n tops) (sym first') (subst (λ (es : List (ℕ × ℕ)). At g a b 0 0 es) (sym none) start))
+    subst (λ (n : ℕ). At g a b n j tops) (sym first)
+    (subst (λ (n : ℕ). At g a b 0 n tops) (sym first') (subst (λ (es : List (ℕ × ℕ)). At g a b 0 0 es) (sym none) start))
   where
     start : Joins g a b (tops_of g a) (tops_of g b) []
     start = record {
@@ -50,7 +53,11 @@ begins g a b i j tops canon a_in b_in first first' none =
       lead = tt;
       means = λ t s. (
         (λ x. inr (elim x [ inl y ↦ inl ((through g a a_in t s).0 y) | inr y ↦ inr ((through g b b_in t s).0 y) ])),
-        (λ x. elim x [ inl never ↦ absurd never.1 | inr z ↦ elim z [ inl y ↦ inl ((through g a a_in t s).1 y) | inr y ↦ inr ((through g b b_in t s).1 y) ] ]),
+        (λ x. elim x [
+          | inl never ↦ absurd never.1
+          | inr z ↦ elim z
+              [ inl y ↦ inl ((through g a a_in t s).1 y) | inr y ↦ inr ((through g b b_in t s).1 y) ]
+        ]),
       );
     }
 
@@ -74,10 +81,12 @@ module _ (g : List Content) (a b i j : ℕ) (xs ys tops : List (ℕ × ℕ)) (at
   moved P p = subst (λ (v : List (ℕ × ℕ)). P v (tops_of g b)) at_a (subst (λ (v : List (ℕ × ℕ)). P xs v) at_b p)
 
   pub left_smaller : (t m : ℕ) → IsNext xs i ys j (Left t m) → steps_left g a b (i + 1) j < steps_left g a b i j
-  left_smaller t m is = let n = moved (λ v w. IsNext v i w j (Left t m)) is in let lt = some_left (t, m) (tops_of g a) _ i n.0 in omega arith
+  left_smaller t m is = let n = moved (λ v w. IsNext v i w j (Left t m)) is in let lt = some_left (t, m) (tops_of g a) _ i n.0 in
+      omega arith
 
   pub right_smaller : (t n : ℕ) → IsNext xs i ys j (Right t n) → steps_left g a b i (j + 1) < steps_left g a b i j
-  right_smaller t n is = let n' = moved (λ v w. IsNext v i w j (Right t n)) is in let lt = some_left (t, n) (tops_of g b) _ j n'.0 in omega arith
+  right_smaller t n is = let n' = moved (λ v w. IsNext v i w j (Right t n)) is in let lt = some_left (t, n) (tops_of g b) _ j n'.0 in
+      omega arith
 
   pub both_smaller : (t m n : ℕ) → IsNext xs i ys j (Both t m n) → steps_left g a b (i + 1) (j + 1) < steps_left g a b i j
   both_smaller t m n is =
@@ -88,16 +97,20 @@ module _ (g : List Content) (a b i j : ℕ) (xs ys tops : List (ℕ × ℕ)) (at
 
   pub left_at : At g a b i j tops → (t m : ℕ) → IsNext xs i ys j (Left t m) → At g a b (i + 1) j (tops ++ (t, m) ∷ [])
   left_at k t m is = let n = moved (λ v w. IsNext v i w j (Left t m)) is in
-      step_left g a b (drop (i + 1) (tops_of g a)) (drop j (tops_of g b)) tops t m (subst (λ v. Joins g a b v (drop j (tops_of g b)) tops) n.0 k) n.1
+      step_left g a b (drop (i + 1) (tops_of g a)) (drop j (tops_of g b)) tops t m
+      (subst (λ v. Joins g a b v (drop j (tops_of g b)) tops) n.0 k) n.1
 
   pub right_at : At g a b i j tops → (t n : ℕ) → IsNext xs i ys j (Right t n) → At g a b i (j + 1) (tops ++ (t, n) ∷ [])
   right_at k t n is = let n' = moved (λ v w. IsNext v i w j (Right t n)) is in
-      step_right g a b (drop i (tops_of g a)) (drop (j + 1) (tops_of g b)) tops t n (subst (λ v. Joins g a b (drop i (tops_of g a)) v tops) n'.0 k) n'.1
+      step_right g a b (drop i (tops_of g a)) (drop (j + 1) (tops_of g b)) tops t n
+      (subst (λ v. Joins g a b (drop i (tops_of g a)) v tops) n'.0 k) n'.1
 
   -- both lists have the state next
-  pub both_now : At g a b i j tops → (t m n : ℕ) → IsNext xs i ys j (Both t m n) → Joins g a b ((t, m) ∷ drop (i + 1) (tops_of g a)) ((t, n) ∷ drop (j + 1) (tops_of g b)) tops
+  pub both_now : At g a b i j tops → (t m n : ℕ) → IsNext xs i ys j (Both t m n)
+      → Joins g a b ((t, m) ∷ drop (i + 1) (tops_of g a)) ((t, n) ∷ drop (j + 1) (tops_of g b)) tops
   both_now k t m n is = let n' = moved (λ v w. IsNext v i w j (Both t m n)) is in
-      subst (λ v. Joins g a b v ((t, n) ∷ drop (j + 1) (tops_of g b)) tops) n'.0 (subst (λ v. Joins g a b (drop i (tops_of g a)) v tops) n'.1 k)
+      subst (λ v. Joins g a b v ((t, n) ∷ drop (j + 1) (tops_of g b)) tops) n'.0
+      (subst (λ v. Joins g a b (drop i (tops_of g a)) v tops) n'.1 k)
 
   pub both_is : (t m n : ℕ) → IsNext xs i ys j (Both t m n) → drop i (tops_of g a) ≡ (t, m) ∷ drop (i + 1) (tops_of g a)
   both_is t m n is = (moved (λ v w. IsNext v i w j (Both t m n)) is).0
@@ -107,7 +120,8 @@ module _ (g : List Content) (a b i j : ℕ) (xs ys tops : List (ℕ × ℕ)) (at
       subst (λ v. Joins g a b v [] tops) n.0 (subst (λ v. Joins g a b (drop i (tops_of g a)) v tops) n.1 k)
 
 -- the nodes that are waited for are lower
-pub wants_lower : (g : List Content) (a b t m n : ℕ) (xs ys tops : List (ℕ × ℕ)) → Joins g a b ((t, m) ∷ xs) ((t, n) ∷ ys) tops → (m < a) × IsNode g m × IsNode g n
+pub wants_lower : (g : List Content) (a b t m n : ℕ) (xs ys tops : List (ℕ × ℕ)) → Joins g a b ((t, m) ∷ xs) ((t, n) ∷ ys) tops
+    → (m < a) × IsNode g m × IsNode g n
 wants_lower g a b t m n xs ys tops k = (
   k.left_lead.1,
   (let p = k.left_lead.1 in let q = k.left_in in omega arith),
@@ -132,7 +146,10 @@ joined g h a b r m canon k ends wilds grows is s = by s.returns s.wild
     only t s (inr (inr x)) = absurd x.1
 
     by : (returns : List ℕ) (wild : Bool) → let s : Stack = record { returns = returns; wild = wild } in Has h r s ↔ (Has h a s ⊎ Has h b s)
-    by [] true = ((λ x. (both wildcard).0 (wilds.0 ((has_wild h r m is).0 x))), (λ x. (has_wild h r m is).1 (wilds.1 ((both wildcard).1 x))))
+    by [] true = (
+      (λ x. (both wildcard).0 (wilds.0 ((has_wild h r m is).0 x))),
+      (λ x. (has_wild h r m is).1 (wilds.1 ((both wildcard).1 x))),
+    )
     by [] false = ((λ x. (both bottom).0 (ends.0 ((has_end h r m is).0 x))), (λ x. (has_end h r m is).1 (ends.1 ((both bottom).1 x))))
     by (t ∷ rest) wild = let s : Stack = record { returns = rest; wild = wild } in
         let grown = ByTop-grown g h m.tops t s canon grows k.lead in (

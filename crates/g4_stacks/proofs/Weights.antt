@@ -24,7 +24,8 @@ size_same : (g : List Content) → IsCanonical g → (k l n : ℕ) → n < k →
 size_same g canon zero l n lt lt' n_in = absurd (omega arith)
 size_same g canon (suc k) zero n lt lt' n_in = absurd (omega arith)
 size_same g canon (suc k) (suc l) n lt lt' n_in =
-    ap (λ (x : ℕ). suc (suc x)) (total_same (size g k) (size g l) n (tops_of g n) (tops_lead g n canon n_in) (λ m below. size_same g canon k l m (omega arith) (omega arith) (omega arith)))
+    ap (λ (x : ℕ). suc (suc x)) (total_same (size g k) (size g l) n (tops_of g n) (tops_lead g n canon n_in)
+    (λ m below. size_same g canon k l m (omega arith) (omega arith) (omega arith)))
 
 unfoldable pub weight : List Content → ℕ → ℕ
 weight g n = size g (suc n) n
@@ -37,9 +38,11 @@ weight_of g es = total (weight g) es
 weight_is : (g : List Content) (n : ℕ) → IsCanonical g → n < length g → weight g n ≡ suc (suc (weight_of g (tops_of g n)))
 unfolding weight weight_of
 weight_is g n canon n_in =
-    ap (λ (x : ℕ). suc (suc x)) (total_same (size g n) (λ m. size g (suc m) m) n (tops_of g n) (tops_lead g n canon n_in) (λ m below. size_same g canon n (suc m) m (omega arith) (omega arith) (omega arith)))
+    ap (λ (x : ℕ). suc (suc x)) (total_same (size g n) (λ m. size g (suc m) m) n (tops_of g n) (tops_lead g n canon n_in)
+    (λ m below. size_same g canon n (suc m) m (omega arith) (omega arith) (omega arith)))
 
-pub weight_cons : (g : List Content) (t m : ℕ) (es : List (ℕ × ℕ)) → IsCanonical g → m < length g → weight_of g ((t, m) ∷ es) ≡ suc (suc (weight_of g (tops_of g m))) + weight_of g es
+pub weight_cons : (g : List Content) (t m : ℕ) (es : List (ℕ × ℕ)) → IsCanonical g → m < length g
+    → weight_of g ((t, m) ∷ es) ≡ suc (suc (weight_of g (tops_of g m))) + weight_of g es
 unfolding weight_of
 weight_cons g t m es canon m_in = ap (λ (x : ℕ). x + weight_of g es) (weight_is g m canon m_in)
 

@@ -19,7 +19,8 @@ pub record Joins (graph : List Content) (a b : ℕ) (xs ys tops : List (ℕ × �
   pub right_lead : LeadBelow b ys
   pub sorted : Ascends 0 tops
   pub lead : LeadBelow (length graph) tops
-  pub means : (t : ℕ) (s : Stack) → (Has graph a (pushed t s) ⊎ Has graph b (pushed t s)) ↔ (ByTop graph tops t s ⊎ (ByTop graph xs t s ⊎ ByTop graph ys t s))
+  pub means : (t : ℕ) (s : Stack) → (Has graph a (pushed t s) ⊎ Has graph b (pushed t s))
+      ↔ (ByTop graph tops t s ⊎ (ByTop graph xs t s ⊎ ByTop graph ys t s))
 
 -- the merge has to go on from its places
 abbrev pub IsJoining : List Content → Joining → Type 0
@@ -31,7 +32,8 @@ IsJoined graph d = Joins graph d.left d.right [] [] d.tops.items
 
 -- the merge needs the stacks of m and n above its state first
 abbrev pub IsWaiting : List Content → Joining → ℕ → ℕ → Type 0
-IsWaiting graph d m n = Joins graph d.left d.right ((d.state, m) ∷ drop d.i (tops_of graph d.left)) ((d.state, n) ∷ drop d.j (tops_of graph d.right)) d.tops.items
+IsWaiting graph d m n = Joins graph d.left d.right ((d.state, m) ∷ drop d.i (tops_of graph d.left))
+    ((d.state, n) ∷ drop d.j (tops_of graph d.right)) d.tops.items
 
 -- the merge went on from place i, and needs the stacks of m and n first
 pub record Awaits (graph : List Content) (i : ℕ) (d : Joining) (m n : ℕ) : Type 0 where

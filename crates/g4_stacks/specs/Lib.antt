@@ -1,9 +1,10 @@
-pub mod Stack
-pub mod Graph
-pub mod Table
+-- Other crates cite Canonical, Graph, Listing, Lowering, Merge, Stack, Table, Taking; only this crate cites Joining.
 pub mod Canonical
-pub mod Merge
+pub mod Graph
 pub mod Joining
-pub mod Taking
 pub mod Listing
 pub mod Lowering
+pub mod Merge
+pub mod Stack
+pub mod Table
+pub mod Taking

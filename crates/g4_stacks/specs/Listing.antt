@@ -45,4 +45,5 @@ ListsAreInOrder = (graph : List Content) (n : ℕ) → IsCanonical graph → Sta
 
 -- nodes have equal lists exactly where they have the same stacks
 abbrev pub ListsAreCanonical : Type 0
-ListsAreCanonical = (g h : List Content) (n m : ℕ) → IsCanonical g → IsCanonical h → (stacks_of g n ≡ stacks_of h m) ↔ ((s : Stack) → Has g n s ↔ Has h m s)
+ListsAreCanonical = (g h : List Content) (n m : ℕ) → IsCanonical g → IsCanonical h
+    → (stacks_of g n ≡ stacks_of h m) ↔ ((s : Stack) → Has g n s ↔ Has h m s)

@@ -18,11 +18,13 @@ IsAlone graph n under s = Has graph n bottom × Has graph under s
 
 -- the numbers are those of nodes that have these stacks of the nodes in turn
 abbrev pub AreLowered : List Content → ℕ → List ℕ → Type 0
-AreLowered graph under images = (n r : ℕ) → slice_get images n ≡ Some r → IsNode graph n × IsNode graph r × ((s : Stack) → Has graph r s ↔ IsLowered graph n under s)
+AreLowered graph under images = (n r : ℕ) → slice_get images n ≡ Some r
+    → IsNode graph n × IsNode graph r × ((s : Stack) → Has graph r s ↔ IsLowered graph n under s)
 
 -- the stack has one of the first tops on one of these stacks of the node below that top
 abbrev pub IsOfTops : List Content → List (ℕ × ℕ) → ℕ → ℕ → Stack → Type 0
-IsOfTops graph tops j under s = (k u m : ℕ) × (k < j) × (slice_get tops k ≡ Some (u, m)) × ((r : Stack) × IsLowered graph m under r × (s ≡ pushed u r))
+IsOfTops graph tops j under s = (k u m : ℕ) × (k < j) × (slice_get tops k ≡ Some (u, m))
+    × ((r : Stack) × IsLowered graph m under r × (s ≡ pushed u r))
 
 -- The node has, of those of another, the stacks in the place of the bottom alone and those with the first tops.
 pub record IsLowering (old new : List Content) (n under : ℕ) (tops : List (ℕ × ℕ)) (j result : ℕ) : Type 0 where

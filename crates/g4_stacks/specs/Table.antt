@@ -35,7 +35,8 @@ HasOnes contents ones = (t m n : ℕ) → (get pair_cmp ones (t, m) ≡ Some n) 
 
 -- the map has the number of each other content of the list
 abbrev pub IsIndexed : List Content → BTreeMap Key ℕ → Type 0
-IsIndexed contents index = (q : Key) (n : ℕ) → (IsOne (content_by q) → ⊥) → (get key_cmp index q ≡ Some n) ↔ (slice_get contents n ≡ Some (content_by q))
+IsIndexed contents index = (q : Key) (n : ℕ) → (IsOne (content_by q) → ⊥)
+    → (get key_cmp index q ≡ Some n) ↔ (slice_get contents n ≡ Some (content_by q))
 
 pub record IsTable (contents : List Content) (ones : BTreeMap (ℕ × ℕ) ℕ) (index : BTreeMap Key ℕ) : Type 0 where
   pub has_ones : HasOnes contents ones

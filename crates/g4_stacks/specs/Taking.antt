@@ -18,7 +18,8 @@ with_tops c tops = record { end = c.end; wild = c.wild; tops = tops }
 mutual
   -- the other graph's node n becomes the node r, and the graph old becomes new
   pub data Takes (other : List Content) : ℕ → List Content → List Content → ℕ → Type 0 where
-    takes : (n r : ℕ) (c : Content) (old mid new : List Content) (tops : List (ℕ × ℕ)) → slice_get other n ≡ Some c → TakesTops other c.tops old mid tops
+    takes : (n r : ℕ) (c : Content) (old mid new : List Content) (tops : List (ℕ × ℕ)) → slice_get other n ≡ Some c
+        → TakesTops other c.tops old mid tops
         → IsAdded mid (with_tops c tops) new → slice_get new r ≡ Some (with_tops c tops) → Takes other n old new r
 
   -- the nodes below, in the order of the states
@@ -30,7 +31,8 @@ mutual
 -- one node after another
 pub data TakesEach (other : List Content) : List ℕ → List Content → List Content → List ℕ → Type 0 where
   no_root : (g : List Content) → TakesEach other [] g g []
-  a_root : (m r : ℕ) (es rs : List ℕ) (old mid new : List Content) → Takes other m old mid r → TakesEach other es mid new rs → TakesEach other (m ∷ es) old new (r ∷ rs)
+  a_root : (m r : ℕ) (es rs : List ℕ) (old mid new : List Content) → Takes other m old mid r → TakesEach other es mid new rs
+      → TakesEach other (m ∷ es) old new (r ∷ rs)
 
 -- both nodes have the same stacks
 abbrev pub Alike : List Content → ℕ → List Content → ℕ → Type 0

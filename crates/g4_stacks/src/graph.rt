@@ -208,7 +208,8 @@ impl Graph {
         requires { IsJoining self.now current.old }
         ensures left { current.new.left ≡ current.old.left }
         ensures right { current.new.right ≡ current.old.right }
-        ensures found { IfOk result (λ o. MatchOption o (IsJoined self.now current.new) (λ p. Awaits self.now current.old.i current.new p.0 p.1)) }
+        ensures found { IfOk result (λ o. MatchOption o (IsJoined self.now current.new)
+            (λ p. Awaits self.now current.old.i current.new p.0 p.1)) }
     {
         let _ = &self.table;
         'steps: loop {

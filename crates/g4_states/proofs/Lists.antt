@@ -39,7 +39,8 @@ module _ {X : Type 0} where
   get_right (x ∷ xs) ys (suc q) j is = get_right xs ys q j (omega arith)
 
   -- what is in two joined lists is in one of them
-  pub append_cases : (xs ys : List X) (q : ℕ) (x : X) → slice_get (xs ++ ys) q ≡ Some x → (slice_get xs q ≡ Some x) ⊎ ((j : ℕ) × (slice_get ys j ≡ Some x))
+  pub append_cases : (xs ys : List X) (q : ℕ) (x : X) → slice_get (xs ++ ys) q ≡ Some x
+      → (slice_get xs q ≡ Some x) ⊎ ((j : ℕ) × (slice_get ys j ≡ Some x))
   append_cases [] ys q x e = inr (q, e)
   append_cases (y ∷ xs) ys zero x e = inl e
   append_cases (y ∷ xs) ys (suc q) x e = append_cases xs ys q x e

@@ -27,7 +27,8 @@ module _ {L : Type 0} where
     pub within : t < length now
     pub longer : length old ≤ length now
     pub grown : Grows old now s
-    pub lie : (net : Network L) → Shares net now s (length old) t → (u m : ℕ) → LieInOrder net rest t u (length now) m → LieInOrder net all s u (length old) m
+    pub lie : (net : Network L) → Shares net now s (length old) t → (u m : ℕ) → LieInOrder net rest t u (length now) m
+        → LieInOrder net all s u (length old) m
 
   -- none is laid
   pub none_laid : (old : List (State L)) (s : ℕ) (all : Elements (Step L)) → s < length old → HasLaid old old s s all all
@@ -42,7 +43,8 @@ module _ {L : Type 0} where
       }
 
   -- one more is laid
-  pub more_laid : (old now new : List (State L)) (s t u : ℕ) (all : Elements (Step L)) (x : Element (Step L)) (xs : Elements (Step L)) → s < length old →
+  pub more_laid : (old now new : List (State L)) (s t u : ℕ) (all : Elements (Step L)) (x : Element (Step L)) (xs : Elements (Step L))
+      → s < length old →
       HasLaid old now s t all (then x xs) → IsLaid now new t u x → HasLaid old new s u all xs
   more_laid old now new s t u all x xs below so_far one =
       let longer : length old ≤ length now = so_far.longer in
@@ -56,7 +58,8 @@ module _ {L : Type 0} where
         grown = λ p less ne. one.grown p (omega arith) (λ e. apart p e less ne) ∙ so_far.grown p less ne;
         lie = λ net shares v m lie.
             so_far.lie net (λ p place less ne. shares p place (omega arith) (λ e. ne (stays p less e)) ∙ one.grown p less ne) v m
-            (lay.one_more x xs t u v (length now) (length new) m (one.lies net (λ p place less ne. shares p (reached p place) less ne)) lie);
+            (lay.one_more x xs t u v (length now) (length new) m
+            (one.lies net (λ p place less ne. shares p (reached p place) less ne)) lie);
       }
     where
       apart : (p : ℕ) → p ≡ t → p < length old → p ≢ s → ⊥
@@ -82,7 +85,8 @@ module _ {L : Type 0} where
       }
 
   -- a block of one alternative is laid out as that alternative
-  pub lone_laid : (old new : List (State L)) (s t : ℕ) (x : Elements (Step L)) → AreLaid old new s t x → BlockIsLaid old new s t Once (only x)
+  pub lone_laid : (old new : List (State L)) (s t : ℕ) (x : Elements (Step L)) → AreLaid old new s t x
+      → BlockIsLaid old new s t Once (only x)
   lone_laid old new s t x laid label =
       let size : length new ≡ length old + states_in_order x = laid.size in
       record {
@@ -100,7 +104,8 @@ module _ {L : Type 0} where
     pub rising : IsRising (length old) firsts (length now)
     pub inside : (p : ℕ) → Among lasts p → (length old ≤ p) × (p < length now)
     pub grown : Grows old now (length old)
-    pub lie : (net : Network L) → SharesBut net now (length old) lasts → (fs ls : List ℕ) (m : ℕ) → LieSideBySide net rest fs ls (length now) m → LieSideBySide net all (firsts ++ fs) (lasts ++ ls) (length old) m
+    pub lie : (net : Network L) → SharesBut net now (length old) lasts → (fs ls : List ℕ) (m : ℕ)
+        → LieSideBySide net rest fs ls (length now) m → LieSideBySide net all (firsts ++ fs) (lasts ++ ls) (length old) m
 
   -- none is laid
   pub no_sides : (old : List (State L)) (all : Alternatives (Step L)) → HasSides old old [] [] all all
@@ -115,8 +120,10 @@ module _ {L : Type 0} where
       }
 
   -- one more is laid, from a new state on
-  pub more_sides : (old now new : List (State L)) (firsts lasts : List ℕ) (u : ℕ) (all : Alternatives (Step L)) (x : Elements (Step L)) (xs : Alternatives (Step L)) →
-      HasSides old now firsts lasts all (or x xs) → AreLaid (now ++ Empty 0 ∷ []) new (length now) u x → HasSides old new (firsts ++ length now ∷ []) (lasts ++ u ∷ []) all xs
+  pub more_sides : (old now new : List (State L)) (firsts lasts : List ℕ) (u : ℕ) (all : Alternatives (Step L))
+      (x : Elements (Step L)) (xs : Alternatives (Step L)) →
+      HasSides old now firsts lasts all (or x xs) → AreLaid (now ++ Empty 0 ∷ []) new (length now) u x
+      → HasSides old new (firsts ++ length now ∷ []) (lasts ++ u ∷ []) all xs
   more_sides old now new firsts lasts u all x xs so_far one =
       let mid : List (State L) = now ++ Empty 0 ∷ [] in
       let longer : length old ≤ length now = so_far.longer in
@@ -137,8 +144,11 @@ module _ {L : Type 0} where
             let before = λ (p : ℕ) (from : length old ≤ p) (less : p < length now) (non : Among lasts p → ⊥).
             shares p from (omega arith) (λ h. elim (among_more lasts u p h) [ inl k ↦ non k | inr e ↦ omega (arith, low) ]) ∙ kept p less in
             let inner : LieInOrder net x (length now) u (length now + 1) (length new) =
-            subst (λ (k : ℕ). LieInOrder net x (length now) u k (length new)) pushed (one.lie net (λ p place less ne. shares p (omega (arith, from_now p place)) less (λ h. later p place ne (among_more lasts u p h)))) in
-            let both : LieSideBySide net (or x xs) (length now ∷ fs) (u ∷ ls) (length now) m = lay.another x xs u (length now) (length new) m fs ls inner lie in
+            subst (λ (k : ℕ). LieInOrder net x (length now) u k (length new)) pushed
+            (one.lie net (λ p place less ne. shares p (omega (arith, from_now p place)) less
+            (λ h. later p place ne (among_more lasts u p h)))) in
+            let both : LieSideBySide net (or x xs) (length now ∷ fs) (u ∷ ls) (length now) m =
+            lay.another x xs u (length now) (length new) m fs ls inner lie in
             rw (append_assoc, append_assoc) (so_far.lie net before (length now ∷ fs) (u ∷ ls) m both);
       }
     where
@@ -146,7 +156,8 @@ module _ {L : Type 0} where
       low = let pushed = length-append now (Empty 0 ∷ []) in elim one.after [ inl e ↦ omega arith | inr h ↦ omega arith ]
 
       kept : (p : ℕ) → p < length now → slice_get new p ≡ slice_get now p
-      kept p less = let pushed = length-append now (Empty 0 ∷ []) in one.grown p (omega arith) (λ e. omega arith) ∙ get_left now (Empty 0 ∷ []) p less
+      kept p less = let pushed = length-append now (Empty 0 ∷ []) in
+          one.grown p (omega arith) (λ e. omega arith) ∙ get_left now (Empty 0 ∷ []) p less
 
       from_now : (p : ℕ) → (p ≡ length now) ⊎ (length (now ++ Empty 0 ∷ []) ≤ p) → length now ≤ p
       from_now p (inl e) = omega arith
@@ -157,7 +168,8 @@ module _ {L : Type 0} where
       later p place ne (inr e) = ne e
 
   -- all are laid
-  pub all_sides : (old new : List (State L)) (firsts lasts : List ℕ) (all : Alternatives (Step L)) → HasSides old new firsts lasts all none → AreBeside old new firsts lasts all
+  pub all_sides : (old new : List (State L)) (firsts lasts : List ℕ) (all : Alternatives (Step L))
+      → HasSides old new firsts lasts all none → AreBeside old new firsts lasts all
   all_sides old new firsts lasts all so_far =
       let total : length new + 0 ≡ length old + states_of_bodies all = so_far.size in
       record {
@@ -169,7 +181,8 @@ module _ {L : Type 0} where
       }
 
   -- one more is laid where the code pushes
-  pub more_sides_at : (old now mid new : List (State L)) (firsts firsts_on lasts lasts_on : List ℕ) (first u : ℕ) (all : Alternatives (Step L)) (x : Elements (Step L)) (xs : Alternatives (Step L)) →
+  pub more_sides_at : (old now mid new : List (State L)) (firsts firsts_on lasts lasts_on : List ℕ) (first u : ℕ)
+      (all : Alternatives (Step L)) (x : Elements (Step L)) (xs : Alternatives (Step L)) →
       mid ≡ now ++ Empty 0 ∷ [] → first ≡ length now → firsts_on ≡ firsts ++ first ∷ [] → lasts_on ≡ lasts ++ u ∷ [] →
       HasSides old now firsts lasts all (or x xs) → AreLaid mid new first u x → HasSides old new firsts_on lasts_on all xs
   more_sides_at old now mid new firsts firsts_on lasts lasts_on first u all x xs pushed at made ended so_far one =

@@ -15,15 +15,18 @@ use Rattle.g4_states.specs.Trees.{tree_of, side_of, run_of, sides_of, bodies_ove
 
 module _ {X B : Type 0} (tree : X → Elements B) where
   -- one alternative
-  pub lone_of : (xs : List X) (d : X) (run : Elements B) → 1 ≤ length xs → length xs < 2 → d ≡ get_or xs 0 d → run ≡ tree d → either (map tree xs) ≡ only run
+  pub lone_of : (xs : List X) (d : X) (run : Elements B) → 1 ≤ length xs → length xs < 2 → d ≡ get_or xs 0 d → run ≡ tree d
+      → either (map tree xs) ≡ only run
   lone_of [] d run low high at is = absurd (omega arith)
   lone_of (x ∷ []) d run low high at is = ap only (ap tree (sym at) ∙ sym is)
   lone_of (x ∷ y ∷ more) d run low high at is = absurd (omega arith)
 
   -- the next alternative
-  pub next_of : (xs : List X) (i : ℕ) (d : X) (run : Elements B) → i < length xs → d ≡ get_or xs i d → run ≡ tree d → either (map tree (drop i xs)) ≡ or run (either (map tree (drop (i + 1) xs)))
+  pub next_of : (xs : List X) (i : ℕ) (d : X) (run : Elements B) → i < length xs → d ≡ get_or xs i d → run ≡ tree d
+      → either (map tree (drop i xs)) ≡ or run (either (map tree (drop (i + 1) xs)))
   next_of xs i d run less at is =
-      at_drop_more (λ (zs : List X). either (map tree zs)) xs i d less ∙ ap (λ (z : Elements B). or z (either (map tree (drop (i + 1) xs)))) (ap tree (sym at) ∙ sym is)
+      at_drop_more (λ (zs : List X). either (map tree zs)) xs i d less
+      ∙ ap (λ (z : Elements B). or z (either (map tree (drop (i + 1) xs)))) (ap tree (sym at) ∙ sym is)
 
   -- no alternative is left
   pub none_of : (xs : List X) (i : ℕ) → length xs ≤ i → either (map tree (drop i xs)) ≡ none
@@ -36,8 +39,10 @@ module _ {X B : Type 0} (tree : X → Elements B) where
 
 module _ {X B : Type 0} (tree : X → Element B) where
   -- the next element
-  pub next_item : (xs : List X) (i : ℕ) (d : X) → i < length xs → d ≡ get_or xs i d → in_order (map tree (drop i xs)) ≡ then (tree d) (in_order (map tree (drop (i + 1) xs)))
-  next_item xs i d less at = at_drop_more (λ (zs : List X). in_order (map tree zs)) xs i d less ∙ ap (λ (z : X). then (tree z) (in_order (map tree (drop (i + 1) xs)))) (sym at)
+  pub next_item : (xs : List X) (i : ℕ) (d : X) → i < length xs → d ≡ get_or xs i d
+      → in_order (map tree (drop i xs)) ≡ then (tree d) (in_order (map tree (drop (i + 1) xs)))
+  next_item xs i d less at = at_drop_more (λ (zs : List X). in_order (map tree zs)) xs i d less
+      ∙ ap (λ (z : X). then (tree z) (in_order (map tree (drop (i + 1) xs)))) (sym at)
 
   -- no element is left
   pub no_item : (xs : List X) (i : ℕ) → length xs ≤ i → in_order (map tree (drop i xs)) ≡ empty
@@ -48,13 +53,16 @@ pub plain_atom : {A : Type 0} (x : Node A) (a : A) → x ≡ nodes.Atom a → el
 plain_atom x a is = ap element_of is ∙ of_atom a
 
 -- an element that is a block
-pub plain_block : {A : Type 0} (x : Node A) (label : Option Label) (repeat : Repeat) (alternatives : Vec (Side A) Global) (xs : List (Side A)) → x ≡ nodes.Block label repeat alternatives → xs ≡ alternatives.items →
+pub plain_block : {A : Type 0} (x : Node A) (label : Option Label) (repeat : Repeat) (alternatives : Vec (Side A) Global)
+    (xs : List (Side A)) → x ≡ nodes.Block label repeat alternatives → xs ≡ alternatives.items →
     element_of x ≡ block label repeat (either (map alternative_of xs))
 plain_block {A} x label repeat alternatives xs is items =
-    ap element_of is ∙ (of_block label repeat alternatives ∙ ap (λ (zs : List (Side A)). block label repeat (either (map alternative_of zs))) (sym items))
+    ap element_of is ∙ (of_block label repeat alternatives
+    ∙ ap (λ (zs : List (Side A)). block label repeat (either (map alternative_of zs))) (sym items))
 
 -- an alternative of a block is its elements
-pub plain_side : {A : Type 0} (d : Side A) (ys : List (Node A)) → ys ≡ (out-Alternative A d).elements.items → in_order (map element_of ys) ≡ alternative_of d
+pub plain_side : {A : Type 0} (d : Side A) (ys : List (Node A)) → ys ≡ (out-Alternative A d).elements.items
+    → in_order (map element_of ys) ≡ alternative_of d
 plain_side {A} d ys is = ap (λ (zs : List (Node A)). in_order (map element_of zs)) is ∙ sym (of_alternative d)
 
 module _ {A B : Type 0} (f : A → B) where
@@ -76,10 +84,12 @@ module _ {A B : Type 0} (f : A → B) where
   tree_atom x a is = ap (over f) (plain_atom x a is)
 
   -- an element that is a block
-  pub tree_block : (x : Node A) (label : Option Label) (repeat : Repeat) (alternatives : Vec (Side A) Global) (xs : List (Side A)) → x ≡ nodes.Block label repeat alternatives → xs ≡ alternatives.items →
+  pub tree_block : (x : Node A) (label : Option Label) (repeat : Repeat) (alternatives : Vec (Side A) Global) (xs : List (Side A))
+      → x ≡ nodes.Block label repeat alternatives → xs ≡ alternatives.items →
       tree_of f x ≡ block label repeat (sides_of f xs)
   unfolding tree_of
-  tree_block x label repeat alternatives xs is items = ap (over f) (plain_block x label repeat alternatives xs is items) ∙ ap (block label repeat) (over_sides xs)
+  tree_block x label repeat alternatives xs is items =
+      ap (over f) (plain_block x label repeat alternatives xs is items) ∙ ap (block label repeat) (over_sides xs)
 
   -- an alternative of a block is its elements
   pub side_run : (d : Side A) (ys : List (Node A)) → ys ≡ (out-Alternative A d).elements.items → run_of f ys ≡ side_of f d
@@ -113,10 +123,12 @@ module _ {X A : Type 0} (tree : X → Elements A) where
   same_bodies (x ∷ xs) = ap (λ y. or y (bodies_over (λ a. a) tree xs)) (same_in_order (tree x)) ∙ ap (or (tree x)) (same_bodies xs)
 
   -- rules over their own atoms
-  pub same_rules : {R : Type 0} (bodies : R → List X) (rules : List R) → rules_over (λ a. a) tree bodies rules ≡ map (tree_of_rule tree bodies) rules
+  pub same_rules : {R : Type 0} (bodies : R → List X) (rules : List R)
+      → rules_over (λ a. a) tree bodies rules ≡ map (tree_of_rule tree bodies) rules
   same_rules bodies [] = refl
   same_rules bodies (rule ∷ rules) =
-      ap (λ y. y ∷ rules_over (λ a. a) tree bodies rules) (same_bodies (bodies rule)) ∙ ap (λ ys. tree_of_rule tree bodies rule ∷ ys) (same_rules bodies rules)
+      ap (λ y. y ∷ rules_over (λ a. a) tree bodies rules) (same_bodies (bodies rule))
+      ∙ ap (λ ys. tree_of_rule tree bodies rule ∷ ys) (same_rules bodies rules)
 
 module _ {R X A B : Type 0} (f : A → B) (tree : X → Elements A) (bodies : R → List X) where
   -- the next of the rules

@@ -20,14 +20,16 @@ abbrev mutual
   weight_of_sides (or x xs) = weight_of_run x + weight_of_sides xs
 
 -- a part of the elements weighs no more
-pub weight_drop : {X B : Type 0} (tree : X → Element B) (xs : List X) (i : ℕ) → weight_of_run (in_order (map tree (drop i xs))) ≤ weight_of_run (in_order (map tree xs))
+pub weight_drop : {X B : Type 0} (tree : X → Element B) (xs : List X) (i : ℕ)
+    → weight_of_run (in_order (map tree (drop i xs))) ≤ weight_of_run (in_order (map tree xs))
 weight_drop tree [] zero = omega arith
 weight_drop tree [] (suc i) = omega arith
 weight_drop tree (x ∷ xs) zero = omega arith
 weight_drop tree (x ∷ xs) (suc i) = let h = weight_drop tree xs i in omega arith
 
 -- a part of the alternatives weighs no more
-pub sides_drop : {X B : Type 0} (tree : X → Elements B) (xs : List X) (i : ℕ) → weight_of_sides (either (map tree (drop i xs))) ≤ weight_of_sides (either (map tree xs))
+pub sides_drop : {X B : Type 0} (tree : X → Elements B) (xs : List X) (i : ℕ)
+    → weight_of_sides (either (map tree (drop i xs))) ≤ weight_of_sides (either (map tree xs))
 sides_drop tree [] zero = omega arith
 sides_drop tree [] (suc i) = omega arith
 sides_drop tree (x ∷ xs) zero = omega arith

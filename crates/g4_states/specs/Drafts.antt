@@ -88,11 +88,13 @@ joined s firsts lasts states = linked (length states) lasts (slice_set states s 
 -- the states after the bodies of `?`
 abbrev pub passed_by : {L : Type 0} → Bool → ℕ → List ℕ → List ℕ → List (State L) → List (State L)
 passed_by greedy s firsts lasts states =
-    linked (length states + 1) lasts (slice_set states s (Decision (with_exit greedy firsts (length states)))) ++ Empty (length states + 1) ∷ Empty 0 ∷ []
+    linked (length states + 1) lasts (slice_set states s (Decision (with_exit greedy firsts (length states))))
+    ++ Empty (length states + 1) ∷ Empty 0 ∷ []
 
 -- the states after the bodies of `*`
 abbrev pub starred : {L : Type 0} → Bool → ℕ → List ℕ → List ℕ → List (State L) → List (State L)
-starred greedy s firsts lasts states = linked s lasts (slice_set states s (Decision (with_exit greedy firsts (length states)))) ++ Empty 0 ∷ []
+starred greedy s firsts lasts states = linked s lasts (slice_set states s (Decision (with_exit greedy firsts (length states))))
+    ++ Empty 0 ∷ []
 
 -- the state from which a choice of bodies begins, where some choice is
 abbrev pub choice_of : {L : Type 0} → List ℕ → State L
@@ -103,7 +105,8 @@ choice_of (first ∷ second ∷ more) = Decision (first ∷ second ∷ more)
 -- the states after the bodies of `+`
 abbrev pub repeated_once : {L : Type 0} → Bool → ℕ → List ℕ → List ℕ → List (State L) → List (State L)
 repeated_once greedy s firsts lasts states =
-    linked (length states) lasts (slice_set states s (choice_of firsts)) ++ Decision (with_exit greedy firsts (length states + 1)) ∷ Empty 0 ∷ []
+    linked (length states) lasts (slice_set states s (choice_of firsts)) ++ Decision (with_exit greedy firsts (length states + 1))
+    ∷ Empty 0 ∷ []
 
 -- the states after the bodies of a block with this repeat
 abbrev pub closed : {L : Type 0} → Repeat → ℕ → List ℕ → List ℕ → List (State L) → List (State L)

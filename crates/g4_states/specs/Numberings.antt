@@ -20,7 +20,8 @@ marked (p ∷ places) (i ∷ numbers) written = marked places numbers (slice_set
 abbrev pub StartsAreLaid : {L : Type 0} → List (State L) → ℕ → List ℕ → ℕ → ℕ → Type 0
 StartsAreLaid states rule [] n m = ⊥
 StartsAreLaid states rule (i ∷ []) n m = Unit {0}
-StartsAreLaid states rule (i ∷ j ∷ more) n m = (firsts : List ℕ) × (slice_get states (start_of rule) ≡ Some (Decision firsts)) × (length firsts ≡ length (i ∷ j ∷ more)) × IsRising n firsts m
+StartsAreLaid states rule (i ∷ j ∷ more) n m = (firsts : List ℕ) × (slice_get states (start_of rule) ≡ Some (Decision firsts))
+    × (length firsts ≡ length (i ∷ j ∷ more)) × IsRising n firsts m
 
 -- the numbers of a rule can be written, its states other than its start and end being those from n up to m
 pub record CanBeNumbered {L : Type 0} (states : List (State L)) (rule : ℕ) (numbering : Numbering) (n m : ℕ) : Type 0 where
@@ -34,17 +35,20 @@ abbrev pub CanAllBeNumbered : {L : Type 0} → List (State L) → ℕ → ℕ �
 CanAllBeNumbered states rule n [] [] = n ≡ length states
 CanAllBeNumbered states rule n [] (numbering ∷ others) = ⊥
 CanAllBeNumbered states rule n (m ∷ ends) [] = ⊥
-CanAllBeNumbered states rule n (m ∷ ends) (numbering ∷ others) = CanBeNumbered states rule numbering n m × CanAllBeNumbered states (rule + 1) m ends others
+CanAllBeNumbered states rule n (m ∷ ends) (numbering ∷ others) = CanBeNumbered states rule numbering n m
+    × CanAllBeNumbered states (rule + 1) m ends others
 
 -- the network has the numbers of the rules before this one
 abbrev pub SharesNumbers : {L : Type 0} → Network L → List ℕ → ℕ → ℕ → Type 0
 SharesNumbers net written rule n = (p : ℕ) → IsBefore rule n p → p < length written → written_at net p ≡ slice_index written p
 
 -- the numbers of a rule are written, its states other than its start and end being those after the old ones up to m
-pub record RuleIsNumbered {L : Type 0} (states : List (State L)) (old new : List ℕ) (rule : ℕ) (numbering : Numbering) (m : ℕ) : Type 0 where
+pub record RuleIsNumbered {L : Type 0} (states : List (State L)) (old new : List ℕ) (rule : ℕ) (numbering : Numbering) (m : ℕ) :
+    Type 0 where
   pub size : length new ≡ m
   pub kept : (p : ℕ) → p < length old → p ≢ start_of rule → slice_index new p ≡ slice_index old p
-  pub numbered : (net : Network L) → net.states ≡ states → SharesNumbers net new (rule + 1) (length old) → IsNumbered net rule numbering (length old) m
+  pub numbered : (net : Network L) → net.states ≡ states → SharesNumbers net new (rule + 1) (length old)
+      → IsNumbered net rule numbering (length old) m
 
 -- the numbers of the rules from this number on, whose states are those from n on and end at these places
 abbrev pub HaveNumbers : {L : Type 0} → Network L → ℕ → ℕ → List ℕ → List Numbering → Type 0
@@ -54,14 +58,18 @@ HaveNumbers net rule n (m ∷ ends) [] = ⊥
 HaveNumbers net rule n (m ∷ ends) (numbering ∷ others) = IsNumbered net rule numbering n m × HaveNumbers net (rule + 1) m ends others
 
 -- The numbers of the rules from the first up to this one are written, the rest being the last of all; what else was written is kept.
-pub record AreWrittenBefore {L : Type 0} (states : List (State L)) (old now : List ℕ) (first rule : ℕ) (ends rest_ends : List ℕ) (numberings rest : List Numbering) : Type 0 where
+pub record AreWrittenBefore {L : Type 0} (states : List (State L)) (old now : List ℕ) (first rule : ℕ) (ends rest_ends : List ℕ)
+    (numberings rest : List Numbering) : Type 0 where
   pub longer : length old ≤ length now
   pub kept : (p : ℕ) → p < length old → (p < start_of first) ⊎ (start_of rule ≤ p) → slice_index now p ≡ slice_index old p
-  pub numbered : (net : Network L) → net.states ≡ states → SharesNumbers net now rule (length old) → HaveNumbers net rule (length now) rest_ends rest → HaveNumbers net first (length old) ends numberings
+  pub numbered : (net : Network L) → net.states ≡ states → SharesNumbers net now rule (length old)
+      → HaveNumbers net rule (length now) rest_ends rest → HaveNumbers net first (length old) ends numberings
 
 -- The numbers of the rules from the first on are written, whose states are those after the old numbers and end at these places, all
 -- numbers being written then; what else was written is kept.
-pub record RulesAreNumbered {L : Type 0} (states : List (State L)) (old new : List ℕ) (first : ℕ) (ends : List ℕ) (numberings : List Numbering) : Type 0 where
+pub record RulesAreNumbered {L : Type 0} (states : List (State L)) (old new : List ℕ) (first : ℕ) (ends : List ℕ)
+    (numberings : List Numbering) : Type 0 where
   pub size : length new ≡ length states
-  pub kept : (p : ℕ) → p < length old → (p < start_of first) ⊎ (start_of (first + length numberings) ≤ p) → slice_index new p ≡ slice_index old p
+  pub kept : (p : ℕ) → p < length old → (p < start_of first) ⊎ (start_of (first + length numberings) ≤ p)
+      → slice_index new p ≡ slice_index old p
   pub numbered : (net : Network L) → net.states ≡ states → net.written ≡ new → HaveNumbers net first (length old) ends numberings

@@ -51,7 +51,8 @@ pub record HaveLaid {L : Type 0} (first : ℕ) (old now : List (State L)) (rule 
   pub size : length now + sum_by states_of_rule rest ≡ length old + sum_by states_of_rule all
   pub longer : length old ≤ length now
   pub kept : (p : ℕ) → p < length old → StartsNone first rule p → slice_get now p ≡ slice_get old p
-  pub lie : (net : Network L) → SharesRules net now rule (length old) → HaveEnds net first (length all) → (m : ℕ) → RulesLie net rule rest (length now) m → RulesLie net first all (length old) m
+  pub lie : (net : Network L) → SharesRules net now rule (length old) → HaveEnds net first (length all) → (m : ℕ)
+      → RulesLie net rule rest (length now) m → RulesLie net first all (length old) m
 
 -- where the states of each rule end, those of the first being the states from n on
 abbrev pub ends_from : {A : Type 0} → ℕ → List (Alternatives A) → List ℕ

@@ -1,7 +1,9 @@
 // What the states of a network are made of: the atoms, the alternatives and the rules of parsers and of lexers alike.
 use g4_base::Sequence;
-use g4_source::{Atom, AtomKind, Element, Elements, LexerAlternative, LexerRule, ParserRule, RuleAlternative};
 use g4_grammar::{Step, TokenRule};
+use g4_source::{
+    Atom, AtomKind, Element, Elements, LexerAlternative, LexerRule, ParserRule, RuleAlternative,
+};
 
 /// An atom of a rule, which makes some states.
 pub trait Atomic {

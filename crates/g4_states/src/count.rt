@@ -13,7 +13,8 @@ use g4_source::{Alternative, Element, Repeat};
 /// How many of the spare states are left beyond those of an element, where they suffice.
 #[cycle(count)]
 fn past_element<A: Atomic>(spare: usize, element: &Element<A>) -> Option<usize>
-    ensures { MatchOption result (spare < states_by A.states (element_of element.now)) (λ left. left + states_by A.states (element_of element.now) ≡ spare) }
+    ensures { MatchOption result (spare < states_by A.states (element_of element.now))
+        (λ left. left + states_by A.states (element_of element.now) ≡ spare) }
 {
     match element {
         Element::Atom(atom) => spare.checked_sub(atom.states()),
@@ -30,7 +31,8 @@ fn past_block<A: Atomic>(
     repeat: Repeat,
     alternatives: &[Alternative<A>],
 ) -> Option<usize>
-    ensures { MatchOption result (spare < states_of_block_by A.states repeat (either (map alternative_of alternatives.now))) (λ left. left + states_of_block_by A.states repeat (either (map alternative_of alternatives.now)) ≡ spare) }
+    ensures { MatchOption result (spare < states_of_block_by A.states repeat (either (map alternative_of alternatives.now)))
+        (λ left. left + states_of_block_by A.states repeat (either (map alternative_of alternatives.now)) ≡ spare) }
 {
     match repeat {
         Repeat::Once => past_once(spare, alternatives),
@@ -43,7 +45,8 @@ fn past_block<A: Atomic>(
 /// The same beyond a block of these alternatives, which are taken once.
 #[cycle(count)]
 fn past_once<A: Atomic>(spare: usize, alternatives: &[Alternative<A>]) -> Option<usize>
-    ensures { MatchOption result (spare < states_of_block_by A.states Once (either (map alternative_of alternatives.now))) (λ left. left + states_of_block_by A.states Once (either (map alternative_of alternatives.now)) ≡ spare) }
+    ensures { MatchOption result (spare < states_of_block_by A.states Once (either (map alternative_of alternatives.now)))
+        (λ left. left + states_of_block_by A.states Once (either (map alternative_of alternatives.now)) ≡ spare) }
 {
     match alternatives {
         [] => Some(spare),
@@ -55,7 +58,8 @@ fn past_once<A: Atomic>(spare: usize, alternatives: &[Alternative<A>]) -> Option
 /// The same beyond alternatives side by side.
 #[cycle(count)]
 fn past_sides<A: Atomic>(spare: usize, alternatives: &[Alternative<A>]) -> Option<usize>
-    ensures { MatchOption result (spare < states_of_bodies_by A.states (either (map alternative_of alternatives.now))) (λ left. left + states_of_bodies_by A.states (either (map alternative_of alternatives.now)) ≡ spare) }
+    ensures { MatchOption result (spare < states_of_bodies_by A.states (either (map alternative_of alternatives.now)))
+        (λ left. left + states_of_bodies_by A.states (either (map alternative_of alternatives.now)) ≡ spare) }
 {
     let mut left = spare;
     for alternative in alternatives {
@@ -67,7 +71,8 @@ fn past_sides<A: Atomic>(spare: usize, alternatives: &[Alternative<A>]) -> Optio
 /// The same beyond elements one after another.
 #[cycle(count)]
 fn past_run<A: Atomic>(spare: usize, elements: &[Element<A>]) -> Option<usize>
-    ensures { MatchOption result (spare < states_in_order_by A.states (in_order (map element_of elements.now))) (λ left. left + states_in_order_by A.states (in_order (map element_of elements.now)) ≡ spare) }
+    ensures { MatchOption result (spare < states_in_order_by A.states (in_order (map element_of elements.now)))
+        (λ left. left + states_in_order_by A.states (in_order (map element_of elements.now)) ≡ spare) }
 {
     let mut left = spare;
     for element in elements {
@@ -78,7 +83,8 @@ fn past_run<A: Atomic>(spare: usize, elements: &[Element<A>]) -> Option<usize>
 
 /// The same beyond the alternatives of a rule.
 fn past_rule<A: Atomic, B: Body<A>>(spare: usize, alternatives: &[B]) -> Option<usize>
-    ensures { MatchOption result (spare < states_of_rule_by A.states (either (map B.tree alternatives.now))) (λ left. left + states_of_rule_by A.states (either (map B.tree alternatives.now)) ≡ spare) }
+    ensures { MatchOption result (spare < states_of_rule_by A.states (either (map B.tree alternatives.now)))
+        (λ left. left + states_of_rule_by A.states (either (map B.tree alternatives.now)) ≡ spare) }
 {
     match alternatives {
         [one] => past_run(spare, one.elements()),
@@ -88,7 +94,8 @@ fn past_rule<A: Atomic, B: Body<A>>(spare: usize, alternatives: &[B]) -> Option<
 
 /// The same beyond alternatives of a rule side by side.
 fn past_bodies<A: Atomic, B: Body<A>>(spare: usize, alternatives: &[B]) -> Option<usize>
-    ensures { MatchOption result (spare < states_of_bodies_by A.states (either (map B.tree alternatives.now))) (λ left. left + states_of_bodies_by A.states (either (map B.tree alternatives.now)) ≡ spare) }
+    ensures { MatchOption result (spare < states_of_bodies_by A.states (either (map B.tree alternatives.now)))
+        (λ left. left + states_of_bodies_by A.states (either (map B.tree alternatives.now)) ≡ spare) }
 {
     let mut left = spare;
     for alternative in alternatives {
@@ -99,7 +106,8 @@ fn past_bodies<A: Atomic, B: Body<A>>(spare: usize, alternatives: &[B]) -> Optio
 
 /// The same beyond the alternatives of all rules.
 pub fn past_rules<A: Atomic, B: Body<A>, R: LaidRule<B>>(spare: usize, rules: &[R]) -> Option<usize>
-    ensures { MatchOption result (spare < sum_by (λ rule. states_of_rule_by A.states (tree_of_rule B.tree R.bodies rule)) rules.now) (λ left. left + sum_by (λ rule. states_of_rule_by A.states (tree_of_rule B.tree R.bodies rule)) rules.now ≡ spare) }
+    ensures { MatchOption result (spare < sum_by (λ rule. states_of_rule_by A.states (tree_of_rule B.tree R.bodies rule)) rules.now)
+        (λ left. left + sum_by (λ rule. states_of_rule_by A.states (tree_of_rule B.tree R.bodies rule)) rules.now ≡ spare) }
 {
     let mut left = spare;
     for rule in rules {

@@ -11,9 +11,9 @@ ghost use Rattle.g4_net.specs.declared.network.TheConstants.{MOST_STATES};
 use crate::atom::Atom;
 use crate::atomic::Body;
 use g4_base::Sequence;
-use g4_source::{Alternative, Element, Repeat};
 use g4_grammar::Step;
 use g4_net::State;
+use g4_source::{Alternative, Element, Repeat};
 use std::alloc::{AllocError, Global};
 
 /// Where alternatives side by side begin, and where they end.
@@ -69,7 +69,8 @@ fn join<L: Drop>(states: &mut Vec<State<L>>, bodies: Bodies, from: u32) -> Resul
     requires from { from < length states.old.items }
     requires lasts { (p : ℕ) → Among bodies.lasts.items p → p < length states.old.items }
     requires room { length states.old.items < MOST_STATES }
-    ensures { IfOk result (λ t. (t ≡ length states.old.items) × (states.new.items ≡ joined from bodies.firsts.items bodies.lasts.items states.old.items)) }
+    ensures { IfOk result (λ t. (t ≡ length states.old.items)
+        × (states.new.items ≡ joined from bodies.firsts.items bodies.lasts.items states.old.items)) }
 {
     let Bodies { firsts, lasts } = bodies;
     let last = states.len() as u32;
@@ -90,7 +91,8 @@ fn optional<L: Drop>(
     requires from { from < length states.old.items }
     requires lasts { (p : ℕ) → Among bodies.lasts.items p → p < length states.old.items }
     requires room { length states.old.items < 65535 }
-    ensures { IfOk result (λ t. (t ≡ length states.old.items + 1) × (states.new.items ≡ passed_by greedy from bodies.firsts.items bodies.lasts.items states.old.items)) }
+    ensures { IfOk result (λ t. (t ≡ length states.old.items + 1)
+        × (states.new.items ≡ passed_by greedy from bodies.firsts.items bodies.lasts.items states.old.items)) }
 {
     let Bodies { firsts, lasts } = bodies;
     let exit = states.len() as u32;
@@ -113,7 +115,8 @@ fn star<L: Drop>(
     requires from { from < length states.old.items }
     requires lasts { (p : ℕ) → Among bodies.lasts.items p → p < length states.old.items }
     requires room { length states.old.items < MOST_STATES }
-    ensures { IfOk result (λ t. (t ≡ length states.old.items) × (states.new.items ≡ starred greedy from bodies.firsts.items bodies.lasts.items states.old.items)) }
+    ensures { IfOk result (λ t. (t ≡ length states.old.items)
+        × (states.new.items ≡ starred greedy from bodies.firsts.items bodies.lasts.items states.old.items)) }
 {
     let Bodies { firsts, lasts } = bodies;
     let exit = states.len() as u32;
@@ -135,7 +138,8 @@ fn plus<L: Drop>(
     requires from { from < length states.old.items }
     requires lasts { (p : ℕ) → Among bodies.lasts.items p → p < length states.old.items }
     requires room { length states.old.items < 65535 }
-    ensures { IfOk result (λ t. (t ≡ length states.old.items + 1) × (states.new.items ≡ repeated_once greedy from bodies.firsts.items bodies.lasts.items states.old.items)) }
+    ensures { IfOk result (λ t. (t ≡ length states.old.items + 1)
+        × (states.new.items ≡ repeated_once greedy from bodies.firsts.items bodies.lasts.items states.old.items)) }
 {
     let Bodies { firsts, lasts } = bodies;
     let again = states.len() as u32;
@@ -298,7 +302,8 @@ fn lay_sides<A: Atom>(
     requires full { EachIsFull (sides_of A.step alternatives.now) }
     requires room { length states.old.items + states_of_bodies (sides_of A.step alternatives.now) ≤ MOST_STATES }
     ensures many { IfOk result (λ bodies. length bodies.firsts.items ≡ length alternatives.now) }
-    ensures laid { IfOk result (λ bodies. AreBeside states.old.items states.new.items bodies.firsts.items bodies.lasts.items (sides_of A.step alternatives.now)) }
+    ensures laid { IfOk result (λ bodies. AreBeside states.old.items states.new.items bodies.firsts.items bodies.lasts.items
+        (sides_of A.step alternatives.now)) }
 {
     let mut firsts = Vec::new(alloc);
     let mut lasts = Vec::new(alloc);
@@ -341,7 +346,8 @@ pub fn lay_bodies<A: Atom, B: Body<A>>(
     requires full { EachIsFull (bodies_over A.step B.tree alternatives.now) }
     requires room { length states.old.items + states_of_bodies (bodies_over A.step B.tree alternatives.now) ≤ MOST_STATES }
     ensures many { IfOk result (λ bodies. length bodies.firsts.items ≡ length alternatives.now) }
-    ensures laid { IfOk result (λ bodies. AreBeside states.old.items states.new.items bodies.firsts.items bodies.lasts.items (bodies_over A.step B.tree alternatives.now)) }
+    ensures laid { IfOk result (λ bodies. AreBeside states.old.items states.new.items bodies.firsts.items bodies.lasts.items
+        (bodies_over A.step B.tree alternatives.now)) }
 {
     let mut firsts = Vec::new(alloc);
     let mut lasts = Vec::new(alloc);

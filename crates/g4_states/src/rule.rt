@@ -99,7 +99,8 @@ pub fn lay_rules<A: Atom, B: Body<A>, R: LaidRule<B>>(
     requires full { AreFullTrees (rules_over A.step B.tree R.bodies rules.now) }
     requires heads { start_of (first + length rules.now) ≤ length states.old.items }
     requires room { length states.old.items + sum_by states_of_rule (rules_over A.step B.tree R.bodies rules.now) ≤ MOST_STATES }
-    ensures laid { OnOk result (HaveLaid first states.old.items states.new.items (first + length rules.now) (rules_over A.step B.tree R.bodies rules.now) []) }
+    ensures laid { OnOk result (HaveLaid first states.old.items states.new.items (first + length rules.now)
+        (rules_over A.step B.tree R.bodies rules.now) []) }
     ensures ends { IfOk result (λ ends. ends.items ≡ ends_from (length states.old.items) (rules_over A.step B.tree R.bodies rules.now)) }
 {
     let mut ends = Vec::new(alloc);

@@ -26,11 +26,15 @@ module _ {C : Type 0} where
   told_of n (Row y mark) told t = (t.0, t.3)
   told_of n (End code) told t = t.1
 
-  pub grown_bench : (rows rows' : List C) (v w : View C) (y : C) → w ≡ grown y v → IsBookOf rows v → rows' ≡ rows ++ y ∷ [] → IsBookOf rows' w
+  pub grown_bench : (rows rows' : List C) (v w : View C) (y : C) → w ≡ grown y v → IsBookOf rows v → rows' ≡ rows ++ y ∷ []
+      → IsBookOf rows' w
   grown_bench rows rows' v w y e k longer =
-      subst (λ (u : View C). IsBookOf rows' u) (sym e) (ap (λ (u : View C). grown y u) k ∙ ap (λ (l : List C). book_view l (y ∷ []) v.facts v.seen v.taught v.known v.holds v.count v.looks) (sym longer))
+      subst (λ (u : View C). IsBookOf rows' u) (sym e)
+      (ap (λ (u : View C). grown y u) k ∙ ap (λ (l : List C).
+      book_view l (y ∷ []) v.facts v.seen v.taught v.known v.holds v.count v.looks) (sym longer))
 
-  pub filled_bench : (rows : List C) (v w : View C) (f : Fact C) (told : List (ℕ × C)) → w ≡ filled f told v → IsBookOf rows v → IsBookOf rows w
+  pub filled_bench : (rows : List C) (v w : View C) (f : Fact C) (told : List (ℕ × C)) → w ≡ filled f told v → IsBookOf rows v
+      → IsBookOf rows w
   filled_bench rows v w f told e k = subst (λ (u : View C). IsBookOf rows u) (sym e) (ap (λ (u : View C). filled f told u) k)
 
 module _ {N C : Type 0} (starts : N → ℕ → C → Type 0) (leads : N → C → ℕ → Led C → Type 0) where
@@ -38,14 +42,16 @@ module _ {N C : Type 0} (starts : N → ℕ → C → Type 0) (leads : N → C �
   abbrev StartTold : Plan N → ℕ → ℕ → View C → View C → Type 0
   StartTold p i n v w =
       (n ≡ 0 → (w ≡ v) × NoStart i v.facts)
-      × (n ≢ 0 → (y : C) × starts p.net i y × (get_elem? v.rows (n - 1) ≡ some y) × Among (Start i y) v.facts × (w ≡ saw (Start i y) ((n - 1, y) ∷ []) v))
+      × (n ≢ 0 → (y : C) × starts p.net i y × (get_elem? v.rows (n - 1) ≡ some y) × Among (Start i y) v.facts
+      × (w ≡ saw (Start i y) ((n - 1, y) ∷ []) v))
 
   pub start_bench : (p : Plan N) (i n : ℕ) (rows : List C) (v w : View C) → StartTold p i n v w → IsBookOf rows v → IsBookOf rows w
   start_bench p i n rows v w t k = dite (ℕ_discrete n 0)
       (λ (z : n ≡ 0). same_bench rows v w (t.0 z).0 k)
       (λ (z : n ≢ 0). let a = t.1 z in saw_bench rows v w (Start i a.0) ((n - 1, a.0) ∷ []) a.4 k)
 
-  pub start_reread : (p : Plan N) (i n : ℕ) (v w : View C) (r : Bool) → IsFilledAt n r → StartTold p i n v w → StartReread starts leads p i v w r
+  pub start_reread : (p : Plan N) (i n : ℕ) (v w : View C) (r : Bool) → IsFilledAt n r → StartTold p i n v w
+      → StartReread starts leads p i v w r
   start_reread p i n v w true d t = let a = t.1 d in (n - 1, a.0, a.1, a.2, a.3, a.4)
   start_reread p i n v w false d t = t.0 d
 
@@ -61,6 +67,7 @@ module _ {N C : Type 0} (starts : N → ℕ → C → Type 0) (leads : N → C �
       (λ (z : n ≡ 0). same_bench rows v w (t.0 z).0 k)
       (λ (z : n ≢ 0). let a = t.1 z in saw_bench rows v w (Cell x s a.0) a.1 a.6 k)
 
-  pub cell_reread : (p : Plan N) (x : C) (s n : ℕ) (v w : View C) (r : Bool) → IsFilledAt n r → CellTold p x s n v w → CellReread starts leads p x s v w r
+  pub cell_reread : (p : Plan N) (x : C) (s n : ℕ) (v w : View C) (r : Bool) → IsFilledAt n r → CellTold p x s n v w
+      → CellReread starts leads p x s v w r
   cell_reread p x s n v w true d t = let a = t.1 d in (a.0, a.1, a.2, told_of n a.0 a.1 a.3, a.4, a.5, a.6)
   cell_reread p x s n v w false d t = t.0 d

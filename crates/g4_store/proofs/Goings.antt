@@ -22,43 +22,60 @@ module _ {N C : Type 0} (starts : N → ℕ → C → Type 0) (leads : N → C �
   Onto : Plan N → List (Looked C) → C → Type 0
   Onto p ls x = LeadsOn starts leads p x ls
 
-  pub begins_going : (p : Plan N) (path : Path C) (b b' : View C) (full : Bool) (r : Option ℕ) → b.loose ≡ [] → full ≡ is_none r → TakesOr p.rows (Start path.start path.content) path.content b b' r → LeadsOn starts leads p path.content path.looked.items
+  pub begins_going : (p : Plan N) (path : Path C) (b b' : View C) (full : Bool) (r : Option ℕ) → b.loose ≡ [] → full ≡ is_none r
+      → TakesOr p.rows (Start path.start path.content) path.content b b' r → LeadsOn starts leads p path.content path.looked.items
       → Going p.rows path b b' full r path.looked.items (λ x. LeadsOn starts leads p x path.looked.items)
   begins_going p path b b' full (Some t) tight is k on =
       let r = begin_row p.rows b b' path.start t path.content tight k in
-      goes path.content (Start path.start path.content ∷ []) (subst (λ (f : Bool). Followed p.rows (Start path.start path.content ∷ []) b b' f) (sym is) r.0) (r.1.0, λ _. r.1.1 refl) on refl
+      goes path.content (Start path.start path.content ∷ [])
+      (subst (λ (f : Bool). Followed p.rows (Start path.start path.content ∷ []) b b' f) (sym is) r.0) (r.1.0, λ _. r.1.1 refl) on refl
   begins_going p path b b' full None tight is k on =
       let r = begin_refused p.rows b b' path.start path.content tight k in
-      goes path.content (Start path.start path.content ∷ []) (subst (λ (f : Bool). Followed p.rows (Start path.start path.content ∷ []) b b' f) (sym is) r.0) (is, r.1.1) on refl
+      goes path.content (Start path.start path.content ∷ [])
+      (subst (λ (f : Bool). Followed p.rows (Start path.start path.content ∷ []) b b' f) (sym is) r.0) (is, r.1.1) on refl
 
   -- where the next step begins
-  pub going_at : (p : Plan N) (path : Path C) (b b' : View C) (full : Bool) (r : Option ℕ) (l : Looked C) (ls : List (Looked C)) → Going p.rows path b b' full r (l ∷ ls) (λ x. LeadsOn starts leads p x (l ∷ ls))
+  pub going_at : (p : Plan N) (path : Path C) (b b' : View C) (full : Bool) (r : Option ℕ) (l : Looked C) (ls : List (Looked C))
+      → Going p.rows path b b' full r (l ∷ ls) (λ x. LeadsOn starts leads p x (l ∷ ls))
       → (l.column < p.columns) × ((x : C) × IsAt b' full x r × leads p.net x l.column l.led)
   going_at p path b b' full r l ls (goes x done f at on is) = (on.0, (x, at, on.1))
   going_at p path b b' full r l ls (ended f e) = absurd (let n = ap length e in omega arith)
 
-  pub goes_on : (p : Plan N) (path : Path C) (b b' b'' : View C) (full full' : Bool) (r r' : Option ℕ) (l : Looked C) (ls : List (Looked C)) → Going p.rows path b b' full r (l ∷ ls) (λ x. LeadsOn starts leads p x (l ∷ ls))
-      → ((x : C) → IsAt b' full x r → (b0 : View C) (done : List (Fact C)) → Followed p.rows done b0 b' full → Followed p.rows (done ++ Cell x l.column l.led ∷ []) b0 b'' full' × Onward l.led (λ y. IsAt b'' full' y r'))
+  pub goes_on : (p : Plan N) (path : Path C) (b b' b'' : View C) (full full' : Bool) (r r' : Option ℕ) (l : Looked C)
+      (ls : List (Looked C)) → Going p.rows path b b' full r (l ∷ ls) (λ x. LeadsOn starts leads p x (l ∷ ls))
+      → ((x : C) → IsAt b' full x r → (b0 : View C) (done : List (Fact C)) → Followed p.rows done b0 b' full
+      → Followed p.rows (done ++ Cell x l.column l.led ∷ []) b0 b'' full' × Onward l.led (λ y. IsAt b'' full' y r'))
       → Going p.rows path b b'' full' r' ls (λ x. LeadsOn starts leads p x ls)
   goes_on p path b b' b'' full full' r r' l ls (ended f e) step = absurd (let n = ap length e in omega arith)
-  goes_on p path b b' b'' full full' r r' l ls (goes x done f at on is) step = go l.led on.2 (step x at b done f) (is ∙ sym (append_assoc done (Cell x l.column l.led ∷ []) (next_facts l.led (λ y. cells_of y ls))))
+  goes_on p path b b' b'' full full' r r' l ls (goes x done f at on is) step =
+      go l.led on.2 (step x at b done f) (is ∙ sym (append_assoc done (Cell x l.column l.led ∷ []) (next_facts l.led (λ y. cells_of y ls))))
     where
-      go : (led : Led C) → Rattle.g4_store.specs.Paths.Next starts leads led (λ y. LeadsOn starts leads p y ls) (ls ≡ []) → Followed p.rows (done ++ Cell x l.column l.led ∷ []) b b'' full' × Onward led (λ y. IsAt b'' full' y r')
-          → facts_of path ≡ (done ++ Cell x l.column l.led ∷ []) ++ next_facts led (λ y. cells_of y ls) → Going p.rows path b b'' full' r' ls (λ x. LeadsOn starts leads p x ls)
+      go : (led : Led C) → Rattle.g4_store.specs.Paths.Next starts leads led (λ y. LeadsOn starts leads p y ls) (ls ≡ [])
+          → Followed p.rows (done ++ Cell x l.column l.led ∷ []) b b'' full' × Onward led (λ y. IsAt b'' full' y r')
+          → facts_of path ≡ (done ++ Cell x l.column l.led ∷ []) ++ next_facts led (λ y. cells_of y ls)
+          → Going p.rows path b b'' full' r' ls (λ x. LeadsOn starts leads p x ls)
       go (Row y mark) n k e = goes y (done ++ Cell x l.column l.led ∷ []) k.0 k.1 n e
-      go (End code) n k e = ended (subst (λ (fs : List (Fact C)). Followed p.rows fs b b'' full') (sym (e ∙ append-nil (done ++ Cell x l.column l.led ∷ []))) k.0) n
+      go (End code) n k e = ended (subst (λ (fs : List (Fact C)). Followed p.rows fs b b'' full')
+          (sym (e ∙ append-nil (done ++ Cell x l.column l.led ∷ []))) k.0) n
 
-  pub going_ends : (p : Plan N) (path : Path C) (b b' : View C) (full : Bool) (r : Option ℕ) (ls : List (Looked C)) → ls ≡ [] → Going p.rows path b b' full r ls (λ x. LeadsOn starts leads p x ls) → Followed p.rows (facts_of path) b b' full
+  pub going_ends : (p : Plan N) (path : Path C) (b b' : View C) (full : Bool) (r : Option ℕ) (ls : List (Looked C)) → ls ≡ []
+      → Going p.rows path b b' full r ls (λ x. LeadsOn starts leads p x ls) → Followed p.rows (facts_of path) b b' full
   going_ends p path b b' full r ls none (ended f e) = f
-  going_ends p path b b' full r ls none (goes x done f at on is) = subst (λ (fs : List (Fact C)). Followed p.rows fs b b' full) (sym (is ∙ ap (λ (l : List (Looked C)). done ++ cells_of x l) none ∙ append-nil done)) f
+  going_ends p path b b' full r ls none (goes x done f at on is) =
+      subst (λ (fs : List (Fact C)). Followed p.rows fs b b' full)
+      (sym (is ∙ ap (λ (l : List (Looked C)). done ++ cells_of x l) none ∙ append-nil done)) f
 
 module _ {C : Type 0} where
-  pub going_kept : (most : ℕ) (path : Path C) (b b' : View C) (full : Bool) (r : Option ℕ) (ls : List (Looked C)) (on : C → Type 0) → Going most path b b' full r ls on → (b'.loose ≡ []) × (b'.holds ≡ b.holds)
+  pub going_kept : (most : ℕ) (path : Path C) (b b' : View C) (full : Bool) (r : Option ℕ) (ls : List (Looked C)) (on : C → Type 0)
+      → Going most path b b' full r ls on → (b'.loose ≡ []) × (b'.holds ≡ b.holds)
   going_kept most path b b' full r ls on (ended f e) = (f.loose, f.holds)
   going_kept most path b b' full r ls on (goes x done f at o is) = (f.loose, f.holds)
 
-  learned : (most : ℕ) (path : Path C) (old b0 b v : View C) (full : Bool) → b0.seen ≡ old.seen → b0.known ≡ old.known → b0.holds ≡ old.holds → b0.count ≡ old.count → b0.taught ≡ old.taught → b0.looks ≡ old.looks → ((f : Fact C) → Among f old.seen → Among f b0.facts) → Followed most (facts_of path) b0 b full
-      → v.seen ≡ b.seen → v.holds ≡ b.holds → v.count ≡ b.count → v.taught ≡ b.taught → v.looks ≡ b.looks → ((t : ℕ) (y : C) → Among (t, y) b.known → Among (t, y) v.known)
+  learned : (most : ℕ) (path : Path C) (old b0 b v : View C) (full : Bool) → b0.seen ≡ old.seen → b0.known ≡ old.known
+      → b0.holds ≡ old.holds → b0.count ≡ old.count → b0.taught ≡ old.taught → b0.looks ≡ old.looks
+      → ((f : Fact C) → Among f old.seen → Among f b0.facts) → Followed most (facts_of path) b0 b full
+      → v.seen ≡ b.seen → v.holds ≡ b.holds → v.count ≡ b.count → v.taught ≡ b.taught → v.looks ≡ b.looks
+      → ((t : ℕ) (y : C) → Among (t, y) b.known → Among (t, y) v.known)
       → ((f : Fact C) → Among f (facts_of path) → Within (InRows b.rows) f → Within (InKnown v.known) f)
       → ((f : Fact C) → Among f (facts_of path) → Within (InKnown v.known) f → Among f b.seen)
       → Learns path old v
@@ -82,14 +99,19 @@ module _ {C : Type 0} where
     known_kept = λ t y m. more t y (h.known_kept t y (subst (λ (l : List (ℕ × C)). Among (t, y) l) (sym known) m));
   }
 
-  pub learned_by : (most : ℕ) (path : Path C) (old b0 b v : View C) (full : Bool) → b0.seen ≡ old.seen → b0.known ≡ old.known → b0.holds ≡ old.holds → b0.count ≡ old.count → b0.taught ≡ old.taught → b0.looks ≡ old.looks → ((f : Fact C) → Among f old.seen → Among f b0.facts) → Followed most (facts_of path) b0 b full
-      → ((t : ℕ) (y : C) → Among (t, y) b.known → get_elem? b.rows t ≡ maybe.some y) → ((r q : ℕ) (x : C) → get_elem? b.rows r ≡ maybe.some x → get_elem? b.rows q ≡ maybe.some x → r ≡ q)
+  pub learned_by : (most : ℕ) (path : Path C) (old b0 b v : View C) (full : Bool) → b0.seen ≡ old.seen → b0.known ≡ old.known
+      → b0.holds ≡ old.holds → b0.count ≡ old.count → b0.taught ≡ old.taught → b0.looks ≡ old.looks
+      → ((f : Fact C) → Among f old.seen → Among f b0.facts) → Followed most (facts_of path) b0 b full
+      → ((t : ℕ) (y : C) → Among (t, y) b.known → get_elem? b.rows t ≡ maybe.some y)
+      → ((r q : ℕ) (x : C) → get_elem? b.rows r ≡ maybe.some x → get_elem? b.rows q ≡ maybe.some x → r ≡ q)
       → Sent full b v → LearnedBy most path old v full
   learned_by most path old b0 b v false seen known holds count taught looks stood h rows differ sent =
       let vk : v.known ≡ b.known = ap (λ (u : View C). u.known) sent in
-      let told : (f : Fact C) → Among f (facts_of path) → Within (InKnown v.known) f = λ f m. subst (λ (l : List (ℕ × C)). Within (InKnown l) f) (sym vk) (h.whole refl f m).1 in
+      let told : (f : Fact C) → Among f (facts_of path)
+      → Within (InKnown v.known) f = λ f m. subst (λ (l : List (ℕ × C)). Within (InKnown l) f) (sym vk) (h.whole refl f m).1 in
       record {
-        learns = learned most path old b0 b v false seen known holds count taught looks stood h (ap (λ (u : View C). u.seen) sent) (ap (λ (u : View C). u.holds) sent) (ap (λ (u : View C). u.count) sent)
+        learns = learned most path old b0 b v false seen known holds count taught looks stood h (ap (λ (u : View C). u.seen) sent)
+            (ap (λ (u : View C). u.holds) sent) (ap (λ (u : View C). u.count) sent)
             (ap (λ (u : View C). u.taught) sent) (ap (λ (u : View C). u.looks) sent)
             (λ t y m. subst (λ (l : List (ℕ × C)). Among (t, y) l) (sym vk) m) (λ f m _. told f m) (λ f m _. (h.whole refl f m).0);
         whole = told;
@@ -104,9 +126,13 @@ module _ {C : Type 0} where
       (λ (x : Among (k.0, y) (numbered 0 b.rows)). let r = at_numbered 0 b.rows k.0 y x in (r.0, r.2))
       (λ (x : Among (k.0, y) b.known). (k.0, rows k.0 y x))
       (at_append (k.0, y) (numbered 0 b.rows) b.known (subst (λ (l : List (ℕ × C)). Among (k.0, y) l) vk k.1)) in
-      let in_known : (t : ℕ) (y : C) → get_elem? b.rows t ≡ maybe.some y → Among (t, y) v.known = λ t y e. subst (λ (l : List (ℕ × C)). Among (t, y) l) (sym vk) (among_left (t, y) (numbered 0 b.rows) b.known (subst (λ (k : ℕ). Among (k, y) (numbered 0 b.rows)) (let z : 0 + t ≡ t = omega arith in z) (numbered_at 0 b.rows t y e))) in
+      let in_known : (t : ℕ) (y : C) → get_elem? b.rows t ≡ maybe.some y
+      → Among (t, y) v.known = λ t y e. subst (λ (l : List (ℕ × C)). Among (t, y) l) (sym vk)
+      (among_left (t, y) (numbered 0 b.rows) b.known
+      (subst (λ (k : ℕ). Among (k, y) (numbered 0 b.rows)) (let z : 0 + t ≡ t = omega arith in z) (numbered_at 0 b.rows t y e))) in
       record {
-        learns = learned most path old b0 b v true seen known holds count taught looks stood h (ap (λ (u : View C). u.seen) sent) (ap (λ (u : View C). u.holds) sent) (ap (λ (u : View C). u.count) sent)
+        learns = learned most path old b0 b v true seen known holds count taught looks stood h (ap (λ (u : View C). u.seen) sent)
+            (ap (λ (u : View C). u.holds) sent) (ap (λ (u : View C). u.count) sent)
             (ap (λ (u : View C). u.taught) sent) (ap (λ (u : View C). u.looks) sent)
             (λ t y m. subst (λ (l : List (ℕ × C)). Among (t, y) l) (sym vk) (among_right (t, y) (numbered 0 b.rows) b.known m))
             (λ f m w. within_more (InRows b.rows) (InKnown v.known) (λ z r. (r.0, in_known r.0 z r.1)) f w)
@@ -127,14 +153,20 @@ module _ {C : Type 0} where
   sent_taught false b v e = ap (λ (u : View C). u.taught) e
 
   -- what the book filled is what the pass has taught then
-  pub fills : (most : ℕ) (path : Path C) (old b0 b v book book' : View C) (full : Bool) → b0.taught ≡ old.taught → b0.facts ≡ book.facts → Followed most (facts_of path) b0 b full → ((f : Fact C) → Among f b.seen → Among f b.facts)
+  pub fills : (most : ℕ) (path : Path C) (old b0 b v book book' : View C) (full : Bool) → b0.taught ≡ old.taught
+      → b0.facts ≡ book.facts → Followed most (facts_of path) b0 b full → ((f : Fact C) → Among f b.seen → Among f b.facts)
       → v.taught ≡ b.taught → book'.facts ≡ b.facts → book'.rows ≡ b.rows → Fills path old v book book'
   fills most path old b0 b v book book' full taught facts h stand vt bf br = record {
     stored = h.stored;
     taught = vt ∙ h.taught ∙ ap (λ (l : List (Fact C)). h.stored ++ l) taught;
     facts = bf ∙ h.facts ∙ ap (λ (l : List (Fact C)). h.stored ++ l) facts;
-    stores = λ f m. let a = h.stores f m in (a.0, subst (λ (l : List C). Within (InRows l) f) (sym br) a.1, (λ x. a.2 (subst (λ (l : List (Fact C)). Among f l) (sym facts) x)));
-    filled = λ f m w. subst (λ (l : List (Fact C)). Among f l) (sym bf) (stand f (go full refl f m (subst (λ (l : List C). Within (InRows l) f) br w)));
+    stores = λ f m. let a = h.stores f m in (
+      a.0,
+      subst (λ (l : List C). Within (InRows l) f) (sym br) a.1,
+      (λ x. a.2 (subst (λ (l : List (Fact C)). Among f l) (sym facts) x)),
+    );
+    filled = λ f m w. subst (λ (l : List (Fact C)). Among f l) (sym bf)
+        (stand f (go full refl f m (subst (λ (l : List C). Within (InRows l) f) br w)));
   }
     where
       go : (c : Bool) → full ≡ c → (f : Fact C) → Among f (facts_of path) → Within (InRows b.rows) f → Among f b.seen

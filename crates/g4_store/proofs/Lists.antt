@@ -19,9 +19,11 @@ pub has-insert : (j i : ℕ) (xs : List ℕ) → has j (insert i xs) ≡ (j == i
 has-insert j i [] = refl
 has-insert j i (x ∷ xs) = go (has-insert j i xs) (nat_lt i x) (i == x) refl
   where
-    go : has j (insert i xs) ≡ (j == i) || has j xs → (b c : Bool) → (i == x) ≡ c → has j (if b then i ∷ x ∷ xs else if c then x ∷ xs else x ∷ insert i xs) ≡ (j == i) || ((j == x) || has j xs)
+    go : has j (insert i xs) ≡ (j == i) || has j xs → (b c : Bool) → (i == x) ≡ c
+        → has j (if b then i ∷ x ∷ xs else if c then x ∷ xs else x ∷ insert i xs) ≡ (j == i) || ((j == x) || has j xs)
     go ih true c e = refl
-    go ih false true e = let same : i ≡ x = grind (arith, nat_tests) in subst (λ (k : ℕ). (j == x) || has j xs ≡ (j == k) || ((j == x) || has j xs)) (sym same) (same_or (j == x) (has j xs))
+    go ih false true e = let same : i ≡ x = grind (arith, nat_tests) in
+        subst (λ (k : ℕ). (j == x) || has j xs ≡ (j == k) || ((j == x) || has j xs)) (sym same) (same_or (j == x) (has j xs))
     go ih false false e = ap (λ t. (j == x) || t) ih ∙ swap_or (j == x) (j == i) (has j xs)
 
 pub at_insert : (j i : ℕ) (xs : List ℕ) → has j (insert i xs) ≡ true → (j ≡ i) ⊎ (has j xs ≡ true)
@@ -56,7 +58,8 @@ at_union j (x ∷ xs) ys e = first (at_union j xs ys) (at_insert j x (union xs y
     rest (inl h) = inl (tail (j == x) h)
     rest (inr h) = inr h
 
-    first : (has j (union xs ys) ≡ true → (has j xs ≡ true) ⊎ (has j ys ≡ true)) → (j ≡ x) ⊎ (has j (union xs ys) ≡ true) → (has j (x ∷ xs) ≡ true) ⊎ (has j ys ≡ true)
+    first : (has j (union xs ys) ≡ true → (has j xs ≡ true) ⊎ (has j ys ≡ true)) → (j ≡ x) ⊎ (has j (union xs ys) ≡ true)
+        → (has j (x ∷ xs) ≡ true) ⊎ (has j ys ≡ true)
     first ih (inl is) = inl (head is)
     first ih (inr h) = rest (ih h)
 

@@ -44,8 +44,10 @@ length_take (x ∷ xs) (suc k) le = ap suc (length_take xs k (omega arith))
 
 snoc_one : (xs ys : List ℕ) (s t : ℕ) → xs ++ s ∷ [] ≡ ys ++ t ∷ [] → (xs ≡ ys) × (s ≡ t)
 snoc_one xs ys s t e =
-    let n : length xs ≡ length ys = let a = ap length e in let b = length-append xs (s ∷ []) in let c = length-append ys (t ∷ []) in omega arith in (
-      sym (take_all xs) ∙ sym (take_front xs (s ∷ []) (length xs) (omega arith)) ∙ (λ i. take (n i) (e i)) ∙ take_front ys (t ∷ []) (length ys) (omega arith) ∙ take_all ys,
+    let n : length xs ≡ length ys = let a = ap length e in let b = length-append xs (s ∷ []) in let c = length-append ys (t ∷ []) in
+    omega arith in (
+      sym (take_all xs) ∙ sym (take_front xs (s ∷ []) (length xs) (omega arith)) ∙ (λ i. take (n i) (e i))
+          ∙ take_front ys (t ∷ []) (length ys) (omega arith) ∙ take_all ys,
       sym (get_end xs s) ∙ (λ i. get_or (e i) (n i) 0) ∙ get_end ys t,
     )
 
@@ -70,39 +72,63 @@ row_of {C} y z m n e = ap content e
 module _ {N C : Type 0} (leads : N → C → ℕ → Led C → Type 0) where
   -- at each column on the way a cell leads on
   along_cut : (net : N) (x : C) (ss : List ℕ) (fs : List (Fact C)) (y : C) → Along leads net x ss fs y → (j : ℕ) → j < length ss
-      → (z w : C) × (m : ℕ) × (gs : List (Fact C)) × Along leads net x (take j ss) gs z × leads net z (get_or ss j 0) (Row w m) × Among (Cell z (get_or ss j 0) (Row w m)) fs
+      → (z w : C) × (m : ℕ) × (gs : List (Fact C)) × Along leads net x (take j ss) gs z × leads net z (get_or ss j 0) (Row w m)
+      × Among (Cell z (get_or ss j 0) (Row w m)) fs
   along_cut net x _ _ _ here j lt = absurd (omega arith)
   along_cut net x _ _ _ (onward ss fs y s z m a l) j lt = dite (dec_le (suc j) (length ss))
       (λ (le : suc j ≤ length ss).
       let r = along_cut net x ss fs y a j (omega arith) in
       let g : get_or ss j 0 ≡ get_or (ss ++ s ∷ []) j 0 = sym (get_front ss (s ∷ []) j (omega arith)) in
-      let t : take j ss ≡ take j (ss ++ s ∷ []) = sym (take_front ss (s ∷ []) j (omega arith)) in
-      (r.0, r.1, r.2, r.3, subst (λ (q : List ℕ). Along leads net x q r.3 r.0) t r.4, subst (λ (q : ℕ). leads net r.0 q (Row r.1 r.2)) g r.5, among_left _ fs (Cell y s (Row z m) ∷ []) (subst (λ (q : ℕ). Among (Cell r.0 q (Row r.1 r.2)) fs) g r.6)))
+      let t : take j ss ≡ take j (ss ++ s ∷ []) = sym (take_front ss (s ∷ []) j (omega arith)) in (
+        r.0,
+        r.1,
+        r.2,
+        r.3,
+        subst (λ (q : List ℕ). Along leads net x q r.3 r.0) t r.4,
+        subst (λ (q : ℕ). leads net r.0 q (Row r.1 r.2)) g r.5,
+        among_left _ fs (Cell y s (Row z m) ∷ []) (subst (λ (q : ℕ). Among (Cell r.0 q (Row r.1 r.2)) fs) g r.6),
+      ))
       (λ (ge : ¬ (suc j ≤ length ss)).
       let is : j ≡ length ss = let n = length-append ss (s ∷ []) in omega arith in
       let g : s ≡ get_or (ss ++ s ∷ []) j 0 = sym (ap (λ (k : ℕ). get_or (ss ++ s ∷ []) k 0) is ∙ get_end ss s) in
-      let t : ss ≡ take j (ss ++ s ∷ []) = sym (ap (λ (k : ℕ). take k (ss ++ s ∷ [])) is ∙ take_front ss (s ∷ []) (length ss) (omega arith) ∙ take_all ss) in
-      (y, z, m, fs, subst (λ (q : List ℕ). Along leads net x q fs y) t a, subst (λ (q : ℕ). leads net y q (Row z m)) g l, among_right _ fs (Cell y s (Row z m) ∷ []) (inl (ap (λ (q : ℕ). Cell y q (Row z m)) (sym g)))))
+      let t : ss ≡ take j (ss ++ s ∷ []) = sym (ap (λ (k : ℕ). take k (ss ++ s ∷ [])) is
+      ∙ take_front ss (s ∷ []) (length ss) (omega arith) ∙ take_all ss) in (
+        y,
+        z,
+        m,
+        fs,
+        subst (λ (q : List ℕ). Along leads net x q fs y) t a,
+        subst (λ (q : ℕ). leads net y q (Row z m)) g l,
+        among_right _ fs (Cell y s (Row z m) ∷ []) (inl (ap (λ (q : ℕ). Cell y q (Row z m)) (sym g))),
+      ))
 
 module _ {N C : Type 0} (starts : N → ℕ → C → Type 0) (leads : N → C → ℕ → Led C → Type 0)
     (one_start : (net : N) (i : ℕ) (x y : C) → starts net i x → starts net i y → x ≡ y)
     (one_led : (net : N) (x : C) (s : ℕ) (a b : Led C) → leads net x s a → leads net x s b → a ≡ b) where
   -- the same columns lead to one content
-  along_one : (net : N) (x : C) (ss : List ℕ) (fs : List (Fact C)) (y : C) (ts : List ℕ) (gs : List (Fact C)) (z : C) → Along leads net x ss fs y → Along leads net x ts gs z → ss ≡ ts → y ≡ z
+  along_one : (net : N) (x : C) (ss : List ℕ) (fs : List (Fact C)) (y : C) (ts : List ℕ) (gs : List (Fact C)) (z : C)
+      → Along leads net x ss fs y → Along leads net x ts gs z → ss ≡ ts → y ≡ z
   along_one net x _ _ _ _ _ _ here here e = refl
-  along_one net x _ _ _ _ _ _ here (onward ts gs z t w n b m) e = absurd (let a = ap length e in let c = length-append ts (t ∷ []) in omega arith)
-  along_one net x _ _ _ _ _ _ (onward ss fs y s v m a l) here e = absurd (let b = ap length e in let c = length-append ss (s ∷ []) in omega arith)
+  along_one net x _ _ _ _ _ _ here (onward ts gs z t w n b m) e =
+      absurd (let a = ap length e in let c = length-append ts (t ∷ []) in omega arith)
+  along_one net x _ _ _ _ _ _ (onward ss fs y s v m a l) here e =
+      absurd (let b = ap length e in let c = length-append ss (s ∷ []) in omega arith)
   along_one net x _ _ _ _ _ _ (onward ss fs y s v m a l) (onward ts gs z t w n b k) e =
       let one = snoc_one ss ts s t e in
       let same = along_one net x ss fs y ts gs z a b one.0 in
       row_of v w m n (one_led net z t (Row v m) (Row w n) (subst (λ (q : C × ℕ). leads net q.0 q.1 (Row v m)) (λ i. (same i, one.1 i)) l) k)
 
-  came_one : (p : Plan N) (i : ℕ) (cs : List ℕ) (k : ℕ) (old : View C) (y z : C) (fs gs : List (Fact C)) → Came starts leads p i cs k old y fs → Came starts leads p i cs k old z gs → y ≡ z
-  came_one p i cs k old y z fs gs a b = along_one p.net b.first (take k cs) a.on y (take k cs) b.on z (subst (λ (q : C). Along leads p.net q (take k cs) a.on y) (one_start p.net i a.first b.first a.starts_so b.starts_so) a.along) b.along refl
+  came_one : (p : Plan N) (i : ℕ) (cs : List ℕ) (k : ℕ) (old : View C) (y z : C) (fs gs : List (Fact C))
+      → Came starts leads p i cs k old y fs → Came starts leads p i cs k old z gs → y ≡ z
+  came_one p i cs k old y z fs gs a b = along_one p.net b.first (take k cs) a.on y (take k cs) b.on z
+      (subst (λ (q : C). Along leads p.net q (take k cs) a.on y) (one_start p.net i a.first b.first a.starts_so b.starts_so) a.along)
+      b.along refl
 
   -- where the walk was before
-  came_cut : (p : Plan N) (i : ℕ) (cs : List ℕ) (k j : ℕ) (old : View C) (y : C) (fs : List (Fact C)) → k ≤ length cs → j < k → Came starts leads p i cs k old y fs
-      → (z w : C) × (m : ℕ) × (gs : List (Fact C)) × Came starts leads p i cs j old z gs × leads p.net z (get_or cs j 0) (Row w m) × Among (Cell z (get_or cs j 0) (Row w m)) fs
+  came_cut : (p : Plan N) (i : ℕ) (cs : List ℕ) (k j : ℕ) (old : View C) (y : C) (fs : List (Fact C)) → k ≤ length cs → j < k
+      → Came starts leads p i cs k old y fs
+      → (z w : C) × (m : ℕ) × (gs : List (Fact C)) × Came starts leads p i cs j old z gs × leads p.net z (get_or cs j 0) (Row w m)
+      × Among (Cell z (get_or cs j 0) (Row w m)) fs
   came_cut p i cs k j old y fs le lt a =
       let r = along_cut leads p.net a.first (take k cs) a.on y a.along j (let n = length_take cs k le in omega arith) in
       let g = get_take cs j k lt in (
@@ -110,19 +136,30 @@ module _ {N C : Type 0} (starts : N → ℕ → C → Type 0) (leads : N → C �
         r.1,
         r.2,
         Start i a.first ∷ r.3,
-        record { first = a.first; starts_so = a.starts_so; on = r.3; along = subst (λ (q : List ℕ). Along leads p.net a.first q r.3 r.0) (take_take cs j k (omega arith)) r.4; facts = refl },
+        record {
+          first = a.first;
+          starts_so = a.starts_so;
+          on = r.3;
+          along = subst (λ (q : List ℕ). Along leads p.net a.first q r.3 r.0) (take_take cs j k (omega arith)) r.4;
+          facts = refl;
+        },
         subst (λ (q : ℕ). leads p.net r.0 q (Row r.1 r.2)) g r.5,
-        subst (λ (l : List (Fact C)). Among (Cell r.0 (get_or cs j 0) (Row r.1 r.2)) l) (sym a.facts) (inr (subst (λ (q : ℕ). Among (Cell r.0 q (Row r.1 r.2)) a.on) g r.6)),
+        subst (λ (l : List (Fact C)). Among (Cell r.0 (get_or cs j 0) (Row r.1 r.2)) l) (sym a.facts)
+            (inr (subst (λ (q : ℕ). Among (Cell r.0 q (Row r.1 r.2)) a.on) g r.6)),
       )
 
   -- the walk can't go on past an end
-  no_end : (p : Plan N) (i : ℕ) (cs : List ℕ) (k j code : ℕ) (old : View C) (y z : C) (fs gs : List (Fact C)) {A : Type 0} → k ≤ length cs → j < k → Came starts leads p i cs k old y fs → Came starts leads p i cs j old z gs → leads p.net z (get_or cs j 0) (ends code) → A
+  no_end : (p : Plan N) (i : ℕ) (cs : List ℕ) (k j code : ℕ) (old : View C) (y z : C) (fs gs : List (Fact C)) {A : Type 0}
+      → k ≤ length cs → j < k → Came starts leads p i cs k old y fs → Came starts leads p i cs j old z gs
+      → leads p.net z (get_or cs j 0) (ends code) → A
   no_end p i cs k j code old y z fs gs {A} le lt a b l =
       let r = came_cut p i cs k j old y fs le lt a in
       let same = came_one p i cs j old r.0 z r.3 gs r.4 b in
-      not_row r.1 r.2 code (one_led p.net z (get_or cs j 0) (Row r.1 r.2) (ends code) (subst (λ (q : C). leads p.net q (get_or cs j 0) (Row r.1 r.2)) same r.5) l)
+      not_row r.1 r.2 code (one_led p.net z (get_or cs j 0) (Row r.1 r.2) (ends code)
+      (subst (λ (q : C). leads p.net q (get_or cs j 0) (Row r.1 r.2)) same r.5) l)
 
-  pub walked_seen : (p : Plan N) (i : ℕ) (cs : List ℕ) (old new : View C) (r : Walk) (k code : ℕ) → SeenTo starts leads p i cs k code old → Walked starts leads p i cs old new r → r ≡ End code k
+  pub walked_seen : (p : Plan N) (i : ℕ) (cs : List ℕ) (old new : View C) (r : Walk) (k code : ℕ)
+      → SeenTo starts leads p i cs k code old → Walked starts leads p i cs old new r → r ≡ End code k
   unfolding code_of
   walked_seen p i cs old new (End d j) k code s (z, gs, lt, came, l, also) = go (dec_le (suc k) j) (dec_le (suc j) k)
     where
@@ -132,10 +169,15 @@ module _ {N C : Type 0} (starts : N → ℕ → C → Type 0) (leads : N → C �
       go (no a) (no b) =
           let is : j ≡ k = omega arith in
           let same = came_one p i cs k old z s.y gs s.facts (subst (λ (q : ℕ). Came starts leads p i cs q old z gs) is came) s.came in
-          let codes : d ≡ code = ap code_of (one_led p.net s.y (get_or cs k 0) (ends d) (ends code) (subst (λ (q : C × ℕ). leads p.net q.0 (get_or cs q.1 0) (ends d)) (λ i. (same i, is i)) l) s.leads_so) in
+          let codes : d ≡ code = ap code_of (one_led p.net s.y (get_or cs k 0) (ends d) (ends code)
+          (subst (λ (q : C × ℕ). leads p.net q.0 (get_or cs q.1 0) (ends d)) (λ i. (same i, is i)) l) s.leads_so) in
           λ i. End (codes i) (is i)
-  walked_seen p i cs old new Open k code s (z, gs, came, also) = let t = s.within in no_end p i cs (length cs) k code old z s.y gs s.facts (omega arith) t came s.came s.leads_so
-  walked_seen p i cs old new (NotLearned zero) k code s (none, also, last) = absurd (none s.came.first (s.seen (Start i s.came.first) (among_left (Start i s.came.first) s.facts (Cell s.y (get_or cs k 0) (ends code) ∷ []) (subst (λ (l : List (Fact C)). Among (Start i s.came.first) l) (sym s.came.facts) (inl refl)))))
+  walked_seen p i cs old new Open k code s (z, gs, came, also) = let t = s.within in
+      no_end p i cs (length cs) k code old z s.y gs s.facts (omega arith) t came s.came s.leads_so
+  walked_seen p i cs old new (NotLearned zero) k code s (none, also, last) =
+      absurd (none s.came.first (s.seen (Start i s.came.first)
+      (among_left (Start i s.came.first) s.facts (Cell s.y (get_or cs k 0) (ends code) ∷ [])
+      (subst (λ (l : List (Fact C)). Among (Start i s.came.first) l) (sym s.came.facts) (inl refl)))))
   walked_seen p i cs old new (NotLearned (suc j)) k code s (z, gs, lt, came, none, also, last) = go (dec_le (suc k) j) (dec_le (suc j) k)
     where
       go : Dec (suc k ≤ j) → Dec (suc j ≤ k) → NotLearned (suc j) ≡ End code k
@@ -144,8 +186,14 @@ module _ {N C : Type 0} (starts : N → ℕ → C → Type 0) (leads : N → C �
           let t = s.within in
           let r = came_cut p i cs k j old s.y s.facts (omega arith) (omega arith) s.came in
           let same = came_one p i cs j old r.0 z r.3 gs r.4 came in
-          absurd (none (Row r.1 r.2) ((also (Cell z (get_or cs j 0) (Row r.1 r.2))).1 (inl (s.seen (Cell z (get_or cs j 0) (Row r.1 r.2)) (among_left (Cell z (get_or cs j 0) (Row r.1 r.2)) s.facts (Cell s.y (get_or cs k 0) (ends code) ∷ []) (subst (λ (q : C). Among (Cell q (get_or cs j 0) (Row r.1 r.2)) s.facts) same r.6))))))
+          absurd (none (Row r.1 r.2) ((also (Cell z (get_or cs j 0) (Row r.1 r.2))).1
+          (inl (s.seen (Cell z (get_or cs j 0) (Row r.1 r.2))
+          (among_left (Cell z (get_or cs j 0) (Row r.1 r.2)) s.facts (Cell s.y (get_or cs k 0) (ends code) ∷ [])
+          (subst (λ (q : C). Among (Cell q (get_or cs j 0) (Row r.1 r.2)) s.facts) same r.6))))))
       go (no a) (no b) =
           let is : j ≡ k = omega arith in
           let same = came_one p i cs k old z s.y gs s.facts (subst (λ (q : ℕ). Came starts leads p i cs q old z gs) is came) s.came in
-          absurd (none (ends code) ((also (Cell z (get_or cs j 0) (ends code))).1 (inl (s.seen (Cell z (get_or cs j 0) (ends code)) (among_right (Cell z (get_or cs j 0) (ends code)) s.facts (Cell s.y (get_or cs k 0) (ends code) ∷ []) (inl (λ i. Cell (same i) (get_or cs (is i) 0) (ends code))))))))
+          absurd (none (ends code) ((also (Cell z (get_or cs j 0) (ends code))).1
+          (inl (s.seen (Cell z (get_or cs j 0) (ends code))
+          (among_right (Cell z (get_or cs j 0) (ends code)) s.facts (Cell s.y (get_or cs k 0) (ends code) ∷ [])
+          (inl (λ i. Cell (same i) (get_or cs (is i) 0) (ends code))))))))

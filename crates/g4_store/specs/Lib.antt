@@ -1,9 +1,10 @@
-pub mod Numbers
-pub mod Words
+-- Other crates cite Paths, Views; only this crate cites Buckets, Closing, Found, Learned, Numbers, Walks, Words.
 pub mod Buckets
-pub mod Views
-pub mod Found
-pub mod Paths
-pub mod Learned
-pub mod Walks
 pub mod Closing
+pub mod Found
+pub mod Learned
+pub mod Numbers
+pub mod Paths
+pub mod Views
+pub mod Walks
+pub mod Words

@@ -96,7 +96,8 @@ module _ {C : Type 0} where
 
   abbrev pub hosting : View C → View C → View C
   hosting b v =
-      book_view b.rows b.loose b.facts (b.seen ++ v.seen) (b.taught ++ v.taught) (b.known ++ v.known) (union b.holds v.holds) (count_of b v) v.looks
+      book_view b.rows b.loose b.facts (b.seen ++ v.seen) (b.taught ++ v.taught) (b.known ++ v.known) (union b.holds v.holds)
+      (count_of b v) v.looks
 
   abbrev pub without_guest : View C → View C
   without_guest b = book_view b.rows b.loose b.facts [] [] [] [] 0 no_looks

@@ -56,7 +56,8 @@ module _ {N C : Type 0} (starts : N → ℕ → C → Type 0) (leads : N → C �
   abbrev pub Follows : Plan N → List C → ℕ → C → ℕ → Type 0
   Follows p rows r x w =
       ((i : ℕ) × (i < p.starts) × (w ≡ 1 + i) × starts p.net i x)
-      ⊎ ((q s mark : ℕ) × (y : C) × (q < r) × (get_elem? rows q ≡ some y) × (s < p.columns) × (w ≡ 1 + (p.starts + (q * p.columns + s))) × leads p.net y s (Row x mark))
+      ⊎ ((q s mark : ℕ) × (y : C) × (q < r) × (get_elem? rows q ≡ some y) × (s < p.columns)
+      × (w ≡ 1 + (p.starts + (q * p.columns + s))) × leads p.net y s (Row x mark))
 
   -- The words show these rows: the automaton is sound.
   pub record Shows (p : Plan N) (words : List ℕ) (rows : List C) : Type 0 where
@@ -67,7 +68,9 @@ module _ {N C : Type 0} (starts : N → ℕ → C → Type 0) (leads : N → C �
     pub parents : (r : ℕ) (x : C) → get_elem? rows r ≡ some x → Follows p rows r x (slice_index words r)
     pub no_row : (r : ℕ) → length rows ≤ r → r < p.rows → slice_index words r ≡ 0
     pub cells : (r s : ℕ) (x : C) → get_elem? rows r ≡ some x → s < p.columns
-        → (slice_index words (cell_at p r s) ≡ 0) ⊎ ((led : Led C) × leads p.net x s led × Names rows led (slice_index words (cell_at p r s)))
+        → (slice_index words (cell_at p r s) ≡ 0) ⊎ ((led : Led C) × leads p.net x s led
+        × Names rows led (slice_index words (cell_at p r s)))
     pub no_cell : (r s : ℕ) → length rows ≤ r → r < p.rows → s < p.columns → slice_index words (cell_at p r s) ≡ 0
     pub begun : (i : ℕ) → i < p.starts
-        → (slice_index words (start_at p i) ≡ 0) ⊎ ((t : ℕ) × (y : C) × starts p.net i y × (get_elem? rows t ≡ some y) × (slice_index words (start_at p i) ≡ t + 1))
+        → (slice_index words (start_at p i) ≡ 0) ⊎ ((t : ℕ) × (y : C) × starts p.net i y × (get_elem? rows t ≡ some y)
+        × (slice_index words (start_at p i) ≡ t + 1))

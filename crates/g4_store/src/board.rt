@@ -64,7 +64,8 @@ impl<N: Drop, C, A: Automaton<N, C>, B: Home<N>> Model for Board<N, C, A, B> {
     ghost view = { λ b. b.plan };
 
     ghost invariant = { λ b. (b.table.shared.table_id ≡ B.table) × (b.table.shared.key ≡ b.plan) × (b.plan ≡ B.plan)
-        × (size_of b.plan ≡ B.table.words) × (b.table.shared.table_id.slots ≡ 0) × (size_of b.plan < 2 ^ 32) × (0 < size_of b.plan) × (b.plan.rows ≤ 65536) };
+        × (size_of b.plan ≡ B.table.words) × (b.table.shared.table_id.slots ≡ 0) × (size_of b.plan < 2 ^ 32) × (0 < size_of b.plan)
+        × (b.plan.rows ≤ 65536) };
 }
 
 impl<N: Drop, C, A: Automaton<N, C>, B: Home<N>> Board<N, C, A, B> {

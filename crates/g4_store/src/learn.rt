@@ -96,7 +96,8 @@ impl<N: Drop, C: Content + Drop, B: Home<N>> Bench<N, C, B> {
         requires empty { (x : C) → get_elem? self.old.rows row ≡ some x → NoCell x column self.old.facts }
         requires room { (length self.old.rows < B.plan.rows) × (B.plan.rows ≤ 65536) }
         requires guest { (self.old.loose ≡ []) × ((n : ℕ) × (has n self.old.holds ≡ true)) }
-        ensures { (x : C) → get_elem? self.old.rows row ≡ some x → Takes B.plan.rows (Cell x column (Row content mark)) content result self.old self.new }
+        ensures { (x : C) → get_elem? self.old.rows row ≡ some x
+            → Takes B.plan.rows (Cell x column (Row content mark)) content result self.old self.new }
     {
         let target = self.len();
         self.grow_row(board, row, column, mark, content);
@@ -117,7 +118,8 @@ impl<N: Drop, C: Content + Drop, B: Home<N>> Bench<N, C, B> {
         requires row { (x : C) × (get_elem? self.old.rows row ≡ some x) × A.leads B.plan.net x column (Row content mark) }
         requires empty { (x : C) → get_elem? self.old.rows row ≡ some x → NoCell x column self.old.facts }
         requires guest { (self.old.loose ≡ []) × ((n : ℕ) × (has n self.old.holds ≡ true)) }
-        ensures { (x : C) → get_elem? self.old.rows row ≡ some x → TakesOr B.plan.rows (Cell x column (Row content mark)) content self.old self.new result }
+        ensures { (x : C) → get_elem? self.old.rows row ≡ some x
+            → TakesOr B.plan.rows (Cell x column (Row content mark)) content self.old self.new result }
     {
         let most = board.rows();
         match self.find(&content) {
@@ -146,7 +148,8 @@ impl<N: Drop, C: Content + Drop, B: Home<N>> Bench<N, C, B> {
         requires place { column < B.plan.columns }
         requires row { (x : C) × (get_elem? self.old.rows row ≡ some x) × A.leads B.plan.net x column (Row content mark) }
         requires guest { (self.old.loose ≡ []) × ((n : ℕ) × (has n self.old.holds ≡ true)) }
-        ensures { (x : C) → get_elem? self.old.rows row ≡ some x → TakesOr B.plan.rows (Cell x column (Row content mark)) content self.old self.new result }
+        ensures { (x : C) → get_elem? self.old.rows row ≡ some x
+            → TakesOr B.plan.rows (Cell x column (Row content mark)) content self.old self.new result }
     {
         self.has_row(row);
         if self.reread_cell(board, row, column) {
@@ -184,7 +187,8 @@ impl<N: Drop, C: Content + Drop, B: Home<N>> Bench<N, C, B> {
         requires column { looked.column < B.plan.columns }
         requires guest { (self.old.loose ≡ []) × ((n : ℕ) × (has n self.old.holds ≡ true)) }
         requires at { (x : C) × IsAt self.old progress.full x progress.at × A.leads B.plan.net x looked.column looked.led }
-        ensures { (x : C) → IsAt self.old progress.full x progress.at → (b0 : View C) (done : List (Fact C)) → Followed B.plan.rows done b0 self.old progress.full
+        ensures { (x : C) → IsAt self.old progress.full x progress.at → (b0 : View C) (done : List (Fact C))
+            → Followed B.plan.rows done b0 self.old progress.full
             → Followed B.plan.rows (done ++ Cell x looked.column looked.led ∷ []) b0 self.new result.full
             × Onward looked.led (λ y. IsAt self.new result.full y result.at) }
     {
@@ -258,7 +262,8 @@ impl<N: Drop, C: Content + Drop, B: Home<N>> Bench<N, C, B> {
         path: Path<C>,
     ) -> (Place<C>, bool)
         requires idle { IsIdle self.old }
-        requires guest { (guest.table_id ≡ B.table) × (guest.me.1 ≡ []) × (guest.me.0.spent ≡ false) × ((n : ℕ) × (has n guest.me.0.holds ≡ true)) }
+        requires guest { (guest.table_id ≡ B.table) × (guest.me.1 ≡ []) × (guest.me.0.spent ≡ false)
+            × ((n : ℕ) × (has n guest.me.0.holds ≡ true)) }
         requires path { IsPath A.starts A.leads B.plan path }
         ensures idle { IsIdle self.new }
         ensures seat { (result.0.table_id ≡ B.table) × (result.0.me.1 ≡ []) × (IsPassView result.0.me.0) }

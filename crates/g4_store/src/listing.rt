@@ -24,7 +24,8 @@ pub struct Listing<N: Drop, C: Drop> {
 /// There is room.
 fn push_word(words: &mut Vec<u64>, word: u64)
     requires { vec_len words.old < vec_capacity words.old }
-    ensures { (words.new.items ≡ words.old.items ++ word ∷ []) × (vec_capacity words.old ≤ vec_capacity words.new) × (vec_len words.new ≡ vec_len words.old + 1) }
+    ensures { (words.new.items ≡ words.old.items ++ word ∷ []) × (vec_capacity words.old ≤ vec_capacity words.new)
+        × (vec_len words.new ≡ vec_len words.old + 1) }
 {
     let Ok(()) = words.push(word) else {
         unreachable!()

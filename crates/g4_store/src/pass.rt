@@ -26,7 +26,8 @@ impl<N, C, B: Home<N>> Model for Pass<N, C, B> {
 
     ghost view = { λ p. (p.seat.me.0, p.full) };
 
-    ghost invariant = { λ p. (p.seat.table_id ≡ B.table) × (p.seat.me.1 ≡ []) × IsPassView p.seat.me.0 × ((n : ℕ) × (has n p.seat.me.0.holds ≡ true)) };
+    ghost invariant = { λ p. (p.seat.table_id ≡ B.table) × (p.seat.me.1 ≡ []) × IsPassView p.seat.me.0
+        × ((n : ℕ) × (has n p.seat.me.0.holds ≡ true)) };
 }
 
 impl<N: Drop, C, B: Home<N>> Pass<N, C, B> {
@@ -63,7 +64,8 @@ impl<N: Drop, C, B: Home<N>> Pass<N, C, B> {
     ) -> Found
         requires row { (x : C) × Among (row, x) self.old.0.known }
         requires place { (row < B.plan.rows) × (column < B.plan.columns) }
-        ensures found { (x : C) → Among (row, x) self.old.0.known → CellFound A.starts A.leads B.plan row x column self.old.0 self.new.0 result }
+        ensures found { (x : C) → Among (row, x) self.old.0.known
+            → CellFound A.starts A.leads B.plan row x column self.old.0 self.new.0 result }
         ensures full { self.new.1 ≡ self.old.1 }
     {
         let word = board.cell_word(row, column);

@@ -33,7 +33,8 @@ pub struct Opened<N: Drop, C: Content + Drop, A: Automaton<N, C>> {
     seat: Place<C>,
     rows: Rows<C>,
     ghost fits: { (seat.table_id ≡ table.shared.table_id) × (seat.me ≡ (opening_view, [])) × (table.shared.key ≡ plan)
-        × (size_of plan ≡ table.shared.table_id.words) × (table.shared.table_id.slots ≡ 0) × (size_of plan < 2 ^ 32) × (0 < size_of plan) × (plan.rows ≤ 65536) },
+        × (size_of plan ≡ table.shared.table_id.words) × (table.shared.table_id.slots ≡ 0) × (size_of plan < 2 ^ 32)
+        × (0 < size_of plan) × (plan.rows ≤ 65536) },
     ghost room: { rows ≡ ([], plan.rows) },
 }
 
@@ -126,7 +127,8 @@ impl<N: Drop, C: Content + Drop, A: Automaton<N, C>, B: Home<N>> Store<N, C, A, 
     pub fn read_cell(&self, pass: &mut Pass<N, C, B>, row: usize, column: usize) -> Found
         requires row { (x : C) × Among (row, x) pass.old.0.known }
         requires place { (row < B.plan.rows) × (column < B.plan.columns) }
-        ensures found { (x : C) → Among (row, x) pass.old.0.known → CellFound A.starts A.leads B.plan row x column pass.old.0 pass.new.0 result }
+        ensures found { (x : C) → Among (row, x) pass.old.0.known
+            → CellFound A.starts A.leads B.plan row x column pass.old.0 pass.new.0 result }
         ensures full { pass.new.1 ≡ pass.old.1 }
     {
         pass.read_cell(&self.board, row, column)

@@ -9,10 +9,21 @@ use Rattle.g4_store.specs.declared.automaton.Plan.{Plan}
 use Rattle.g4_store.specs.declared.path.Looked.{Looked}
 use Rattle.g4_store.specs.Paths.{LeadsOn, Next}
 
-pub leads_more : (net : Salt) (n : ℕ) (x y : Number) (ls : List (Looked Number)) (l : Looked Number) → Leads net n x ls y → l.column < n → l.led ≡ Row (after net y l.column) 0 → Leads net n x (ls ++ l ∷ []) (after net y l.column)
-leads_more net n x y [] l h lt e = (lt, e ∙ ap (λ (z : Number). Row (after net z l.column) 0) (sym h), ap (λ (z : Number). after net z l.column) h)
+pub leads_more : (net : Salt) (n : ℕ) (x y : Number) (ls : List (Looked Number)) (l : Looked Number) → Leads net n x ls y
+    → l.column < n → l.led ≡ Row (after net y l.column) 0 → Leads net n x (ls ++ l ∷ []) (after net y l.column)
+leads_more net n x y [] l h lt e = (
+  lt,
+  e ∙ ap (λ (z : Number). Row (after net z l.column) 0) (sym h),
+  ap (λ (z : Number). after net z l.column) h,
+)
 leads_more net n x y (k ∷ ks) l h lt e = (h.0, h.1, leads_more net n (after net x k.column) y ks l h.2 lt e)
 
 pub leads_on : (p : Plan Salt) (x y : Number) (ls : List (Looked Number)) → Leads p.net p.columns x ls y → LeadsOn StartsAt LeadsTo p x ls
 leads_on p x y [] h = tt
-leads_on p x y (l ∷ ls) h = (h.0, h.1, subst (λ (led : Led Number). Next StartsAt LeadsTo led (λ z. LeadsOn StartsAt LeadsTo p z ls) (ls ≡ [])) (sym h.1) (leads_on p (after p.net x l.column) y ls h.2))
+leads_on p x y (l ∷ ls) h = (
+  h.0,
+  h.1,
+  subst
+      (λ (led : Led Number). Next StartsAt LeadsTo led (λ z. LeadsOn StartsAt LeadsTo p z ls) (ls ≡ [])) (sym h.1)
+      (leads_on p (after p.net x l.column) y ls h.2),
+)

@@ -66,7 +66,8 @@ pub fn path_along(
     columns: &[u32],
 ) -> Result<Path<Number>, AllocError>
     requires { All (λ s. s < count) columns.now }
-    ensures { IfOk result (λ path. (p : PlanOf Salt) → p.net ≡ net.now → p.columns ≡ count → start < p.starts → IsPath StartsAt LeadsTo p path) }
+    ensures { IfOk result (λ path. (p : PlanOf Salt) → p.net ≡ net.now → p.columns ≡ count → start < p.starts
+        → IsPath StartsAt LeadsTo p path) }
 {
     let mut value = start as u64 % 1_000_003;
     let content = Number { value };

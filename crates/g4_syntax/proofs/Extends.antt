@@ -52,7 +52,8 @@ pub covers_left : (x y : Expression) → Covers (x ∣ y) x
 covers_left x y token none = or_first_false (extends x token) (extends y token || (can_be_empty y && begins x token)) none
 
 -- what does not extend two alternatives neither extends the second nor, where this can be empty, begins the first
-right_end : (x y : Expression) (token : Spelled) → extends (x ∣ y) token ≡ false → (extends y token || (can_be_empty y && begins x token)) ≡ false
+right_end : (x y : Expression) (token : Spelled) → extends (x ∣ y) token ≡ false
+    → (extends y token || (can_be_empty y && begins x token)) ≡ false
 right_end x y token none = or_second_false (extends x token) (extends y token || (can_be_empty y && begins x token)) none
 
 -- what extends the second alternative extends both
@@ -62,7 +63,8 @@ covers_right x y token none = or_first_false (extends y token) (can_be_empty y &
 -- where the second alternative can be empty, what begins the first extends both
 pub bars_left : (x y : Expression) → can_be_empty y ≡ true → Bars (x ∣ y) x
 bars_left x y can token none =
-    and_second_false (can_be_empty y) (begins x token) can (or_second_false (extends y token) (can_be_empty y && begins x token) (right_end x y token none))
+    and_second_false (can_be_empty y) (begins x token) can
+    (or_second_false (extends y token) (can_be_empty y && begins x token) (right_end x y token none))
 
 -- what extends an expression extends it where it is optional
 pub covers_optional : (x : Expression) → Covers (optional x) x
@@ -81,7 +83,9 @@ pub bars_repeated : (x : Expression) → Bars (repeated x) x
 bars_repeated x token none = or_first_false (begins x token) (extends x token) none
 
 -- the table says for each kind of token what the productions say
-same_end : (n : Nonterminal) (kind : Kind) (place : Place) (bytes : List ℕ) → extends (part n) (record { kind = kind; place = place; bytes = bytes }) ≡ extends (production n) (record { kind = kind; place = place; bytes = bytes })
+same_end : (n : Nonterminal) (kind : Kind) (place : Place) (bytes : List ℕ)
+    → extends (part n) (record { kind = kind; place = place; bytes = bytes })
+    ≡ extends (production n) (record { kind = kind; place = place; bytes = bytes })
 same_end element kinds.Lower place bytes = refl
 same_end token_set kinds.Lower place bytes = refl
 same_end lexer_element kinds.Lower place bytes = refl

@@ -8,7 +8,9 @@ use Rattle.g4_syntax.specs.Productions.{production}
 use Rattle.g4_syntax.specs.Trees.{begins}
 
 -- the table says for each kind of token what the productions say
-same_first : (n : Nonterminal) (kind : Kind) (place : Place) (bytes : List ℕ) → begins (part n) (record { kind = kind; place = place; bytes = bytes }) ≡ begins (production n) (record { kind = kind; place = place; bytes = bytes })
+same_first : (n : Nonterminal) (kind : Kind) (place : Place) (bytes : List ℕ)
+    → begins (part n) (record { kind = kind; place = place; bytes = bytes })
+    ≡ begins (production n) (record { kind = kind; place = place; bytes = bytes })
 same_first element kinds.Lower place bytes = refl
 same_first token_set kinds.Lower place bytes = refl
 same_first lexer_element kinds.Lower place bytes = refl

@@ -20,7 +20,8 @@ abbrev pub Read : Expression → List Spelled → List Spelled → Type 0
 Read x w rest = (a : Tree x) × Reads a (w ++ rest) rest
 
 -- of two alternatives the one whose short text is taken is read
-read_either : (x y : Expression) (rest : List Spelled) (b : Bool) → can_be_empty y ≡ b → (b || begins_there x (sample x)) ≡ true → Allowed (x ∣ y) rest → Read x (sample x) rest → Read y (sample y) rest → Read (x ∣ y) (if b then sample y else sample x) rest
+read_either : (x y : Expression) (rest : List Spelled) (b : Bool) → can_be_empty y ≡ b → (b || begins_there x (sample x)) ≡ true
+    → Allowed (x ∣ y) rest → Read x (sample x) rest → Read y (sample y) rest → Read (x ∣ y) (if b then sample y else sample x) rest
 read_either x y rest true can begun allowed first second =
     let not_begun : begins_there x (sample y ++ rest) ≡ false =
     ap (λ (w : List Spelled). begins_there x (w ++ rest)) (empty_sample y can) ∙ barred (x ∣ y) x rest (bars_left x y can) allowed in
@@ -28,15 +29,19 @@ read_either x y rest true can begun allowed first second =
 read_either x y rest false can begun allowed first second = (left first.0, (begins_before x (sample x) rest begun, first.1))
 
 -- a terminal before what is left out
-read_terminal : (t : Terminal) (z : Expression) (rest : List Spelled) → Allowed (one t ▸ optional z) rest → Read (one t ▸ optional z) (sample_token t ∷ []) rest
+read_terminal : (t : Terminal) (z : Expression) (rest : List Spelled) → Allowed (one t ▸ optional z) rest
+    → Read (one t ▸ optional z) (sample_token t ∷ []) rest
 read_terminal t z rest allowed =
-    let none : begins_there z rest ≡ false = barred (optional z) z rest (bars_optional z) (allowed_of (one t ▸ optional z) (optional z) rest (covers_second (one t) (optional z)) allowed) in
+    let none : begins_there z rest ≡ false = barred (optional z) z rest (bars_optional z)
+    (allowed_of (one t ▸ optional z) (optional z) rest (covers_second (one t) (optional z)) allowed) in
     (both (leaf (sample_token t)) absent, (rest, (refl, sample_fits t), (none, refl)))
 
 -- a terminal before what is left out, as the first of two alternatives
-read_first_terminal : (t : Terminal) (z y : Expression) (rest : List Spelled) → Allowed (one t ▸ optional z ∣ y) rest → Read (one t ▸ optional z ∣ y) (sample_token t ∷ []) rest
+read_first_terminal : (t : Terminal) (z y : Expression) (rest : List Spelled) → Allowed (one t ▸ optional z ∣ y) rest
+    → Read (one t ▸ optional z ∣ y) (sample_token t ∷ []) rest
 read_first_terminal t z y rest allowed =
-    let first = read_terminal t z rest (allowed_of (one t ▸ optional z ∣ y) (one t ▸ optional z) rest (covers_left (one t ▸ optional z) y) allowed) in
+    let first = read_terminal t z rest (allowed_of (one t ▸ optional z ∣ y) (one t ▸ optional z) rest
+    (covers_left (one t ▸ optional z) y) allowed) in
     (left first.0, (or_first_true (fits t (sample_token t)) false (sample_fits t), first.1))
 
 -- what is read as the production is read as the part
@@ -46,13 +51,17 @@ in_the_part n w rest whole = (inner whole.0, whole.1)
 -- the one token of a short text of a part is read as its production
 read_production : (n : Nonterminal) (rest : List Spelled) → Allowed (production n) rest → Read (production n) (sample (part n)) rest
 read_production element rest allowed =
-    read_first_terminal (of_kind kinds.Action) (sign kinds.Question ▸ optional element_options) (labelled_item ▸ optional suffix) rest allowed
+    read_first_terminal (of_kind kinds.Action) (sign kinds.Question ▸ optional element_options) (labelled_item ▸ optional suffix) rest
+    allowed
 read_production token_set rest allowed =
-    read_first_terminal (of_kind kinds.Upper) element_options (sign kinds.Literal ∣ sign kinds.LeftParenthesis ▸ with_bars (part token_set) ▸ sign kinds.RightParenthesis) rest allowed
+    read_first_terminal (of_kind kinds.Upper) element_options
+    (sign kinds.Literal ∣ sign kinds.LeftParenthesis ▸ with_bars (part token_set) ▸ sign kinds.RightParenthesis) rest allowed
 read_production lexer_element rest allowed =
-    read_first_terminal (of_kind kinds.Action) (sign kinds.Question ▸ optional element_options) (labelled_lexer_item ▸ optional suffix) rest allowed
+    read_first_terminal (of_kind kinds.Action) (sign kinds.Question ▸ optional element_options)
+    (labelled_lexer_item ▸ optional suffix) rest allowed
 read_production character_set rest allowed =
-    read_first_terminal excluded (sign kinds.DoubleDot ▸ sign kinds.Literal) (one a_set ∣ sign kinds.LeftParenthesis ▸ with_bars (part character_set) ▸ sign kinds.RightParenthesis) rest allowed
+    read_first_terminal excluded (sign kinds.DoubleDot ▸ sign kinds.Literal)
+    (one a_set ∣ sign kinds.LeftParenthesis ▸ with_bars (part character_set) ▸ sign kinds.RightParenthesis) rest allowed
 read_production more_names rest allowed = read_terminal (of_kind kinds.Comma) (name ▸ optional (part more_names)) rest allowed
 
 -- a short text is read where it is
@@ -60,8 +69,11 @@ pub read_sample : (x : Expression) (rest : List Spelled) → is_well_formed x �
 read_sample (one t) rest well allowed = (leaf (sample_token t), (refl, sample_fits t))
 read_sample (x ▸ y) rest well allowed =
     let first = read_sample x (sample y ++ rest) (first_well_formed x y well) (after_sample x y rest well allowed) in
-    let second = read_sample y rest (second_well_formed x y well) (allowed_of (x ▸ y) y rest (covers_second x y) allowed) in
-    (both first.0 second.0, subst (λ (l : List Spelled). Reads (both first.0 second.0) l rest) (sym (append_assoc (sample x) (sample y) rest)) (sample y ++ rest, first.1, second.1))
+    let second = read_sample y rest (second_well_formed x y well) (allowed_of (x ▸ y) y rest (covers_second x y) allowed) in (
+      both first.0 second.0,
+      subst (λ (l : List Spelled). Reads (both first.0 second.0) l rest)
+          (sym (append_assoc (sample x) (sample y) rest)) (sample y ++ rest, first.1, second.1),
+    )
 read_sample (x ∣ y) rest well allowed =
     let first = read_sample x rest (left_well_formed x y well) (allowed_of (x ∣ y) x rest (covers_left x y) allowed) in
     let second = read_sample y rest (right_well_formed x y well) (allowed_of (x ∣ y) y rest (covers_right x y) allowed) in

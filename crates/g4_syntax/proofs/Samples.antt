@@ -67,9 +67,11 @@ other_can false q one_can none = absurd (apart q one_can none)
 pub empty_sample : (x : Expression) → can_be_empty x ≡ true → sample x ≡ []
 empty_sample (one t) can = absurd (true≢false (sym can))
 empty_sample (x ▸ y) can =
-    ap (λ (w : List Spelled). w ++ sample y) (empty_sample x (and_first_true (can_be_empty x) (can_be_empty y) can)) ∙ empty_sample y (and_second_true (can_be_empty x) (can_be_empty y) can)
+    ap (λ (w : List Spelled). w ++ sample y) (empty_sample x (and_first_true (can_be_empty x) (can_be_empty y) can))
+    ∙ empty_sample y (and_second_true (can_be_empty x) (can_be_empty y) can)
 empty_sample (x ∣ y) can =
-    chosen_empty (can_be_empty y) (sample x) (sample y) (λ second. empty_sample y second) (λ none. empty_sample x (other_can (can_be_empty x) (can_be_empty y) can none))
+    chosen_empty (can_be_empty y) (sample x) (sample y) (λ second. empty_sample y second)
+    (λ none. empty_sample x (other_can (can_be_empty x) (can_be_empty y) can none))
 empty_sample (optional x) can = refl
 empty_sample (repeated x) can = refl
 empty_sample (part n) can = absurd (true≢false (sym can))
@@ -84,7 +86,8 @@ one_can false false v w none first = first none
 pub sample_empty : (x : Expression) → sample x ≡ [] → can_be_empty x ≡ true
 sample_empty (one t) none = cc
 sample_empty (x ▸ y) none =
-    and_true (can_be_empty x) (can_be_empty y) (sample_empty x (first_empty (sample x) (sample y) none)) (sample_empty y (second_empty (sample x) (sample y) none))
+    and_true (can_be_empty x) (can_be_empty y) (sample_empty x (first_empty (sample x) (sample y) none))
+    (sample_empty y (second_empty (sample x) (sample y) none))
 sample_empty (x ∣ y) none = one_can (can_be_empty x) (can_be_empty y) (sample x) (sample y) none (λ first. sample_empty x first)
 sample_empty (optional x) none = refl
 sample_empty (repeated x) none = refl

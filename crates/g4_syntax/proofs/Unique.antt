@@ -14,7 +14,8 @@ same_rest : (t s : Spelled) (ts ss : List Spelled) → t ∷ ts ≡ s ∷ ss →
 same_rest t s ts ss is = cc
 
 -- from some tokens on an expression is read in one way
-pub one_reading : {x : Expression} (a b : Tree x) (from to other : List Spelled) → Reads a from to → Reads b from other → (a ≡ b) × (to ≡ other)
+pub one_reading : {x : Expression} (a b : Tree x) (from to other : List Spelled) → Reads a from to → Reads b from other
+    → (a ≡ b) × (to ≡ other)
 one_reading (leaf t) (leaf s) from to other first second =
     let same : t ∷ to ≡ s ∷ other = sym first.0 ∙ second.0 in
     (ap leaf (same_first t s to other same), same_rest t s to other same)
@@ -48,7 +49,8 @@ one_reading (inner a) (inner b) from to other first second =
     (ap inner inside.0, inside.1)
 
 -- a token that is the terminal is not one where reading it stops
-unfit : (t : Terminal) (from to : List Spelled) (token : Spelled) → from ≡ token ∷ to → fits t token ≡ true → begins_there (one t) from ≡ false → ⊥
+unfit : (t : Terminal) (from to : List Spelled) (token : Spelled) → from ≡ token ∷ to → fits t token ≡ true
+    → begins_there (one t) from ≡ false → ⊥
 unfit t from to token is fit stops = apart (fits t token) fit (subst (λ (l : List Spelled). begins_there (one t) l ≡ false) is stops)
 
 -- a token that the terminal is comes first of these, and at most the others after it are left
@@ -61,16 +63,20 @@ pub record Stands (t : Terminal) (rest to : List Spelled) : Type 0 where
 
 -- so where fewer are left
 with_fewer : {t : Terminal} (rest between to : List Spelled) → Stands t rest between → length to ≤ length between → Stands t rest to
-with_fewer rest between to stands fewer = record { token = stands.token; others = stands.others; is = stands.is; fit = stands.fit; after = omega (arith, stands.after, fewer) }
+with_fewer rest between to stands fewer = record
+    { token = stands.token; others = stands.others; is = stands.is; fit = stands.fit; after = omega (arith, stands.after, fewer) }
 
 -- what is read leaves no more tokens
 pub no_longer : {x : Expression} (a : Tree x) (from to : List Spelled) → Reads a from to → length to ≤ length from
 no_longer a from to reads = omega (arith, ap length (reads_text a from to reads), length-append (text a) to)
 
 -- a terminal to which reading comes is at a token of what is read
-pub comes_read : {t : Terminal} {x : Expression} (from to rest : List Spelled) (a : Tree x) → Reads a from to → Comes t x from rest → Stands t rest to
-comes_read from to rest (leaf {t} token) reads (here _) = record { token = token; others = to; is = reads.0; fit = reads.1; after = omega arith }
-comes_read from to rest (both a b) reads (in_first _ _ comes) = with_fewer rest reads.0 to (comes_read from reads.0 rest a reads.1 comes) (no_longer b reads.0 to reads.2)
+pub comes_read : {t : Terminal} {x : Expression} (from to rest : List Spelled) (a : Tree x) → Reads a from to → Comes t x from rest
+    → Stands t rest to
+comes_read from to rest (leaf {t} token) reads (here _) =
+    record { token = token; others = to; is = reads.0; fit = reads.1; after = omega arith }
+comes_read from to rest (both a b) reads (in_first _ _ comes) =
+    with_fewer rest reads.0 to (comes_read from reads.0 rest a reads.1 comes) (no_longer b reads.0 to reads.2)
 comes_read from to rest (both a b) reads (in_second _ between _ other read comes) =
     let same = one_reading other a from between reads.0 read reads.1 in
     comes_read between to rest b (subst (λ (l : List Spelled). Reads b l to) (sym same.1) reads.2) comes
@@ -81,7 +87,8 @@ comes_read from to rest (right a) reads (in_right _ _ _ comes) = comes_read from
 comes_read from to rest (absent {x}) reads (in_optional _ _ begun _) = absurd (apart (begins_there x from) begun reads.0)
 comes_read from to rest (present a) reads (in_optional _ _ _ comes) = comes_read from to rest a reads.1 comes
 comes_read from to rest (end {x}) reads (in_turn _ _ begun _) = absurd (apart (begins_there x from) begun reads.0)
-comes_read from to rest (more a tail) reads (in_turn _ _ _ comes) = with_fewer rest reads.1 to (comes_read from reads.1 rest a reads.2 comes) (no_longer tail reads.1 to reads.3)
+comes_read from to rest (more a tail) reads (in_turn _ _ _ comes) =
+    with_fewer rest reads.1 to (comes_read from reads.1 rest a reads.2 comes) (no_longer tail reads.1 to reads.3)
 comes_read from to rest (end {x}) reads (in_later_turn _ _ _ _ begun _ _) = absurd (apart (begins_there x from) begun reads.0)
 comes_read from to rest (more a tail) reads (in_later_turn _ between _ other _ read comes) =
     let same = one_reading other a from between reads.1 read reads.2 in

@@ -86,7 +86,8 @@ block = sign kinds.LeftParenthesis ▸ optional block_prequel ▸ with_bars alte
 
 -- an item of a parser rule that begins with no name: `'a'`, `.`, `~A`, `('a' | B)`
 abbrev pub unnamed_item : Expression
-unnamed_item = sign kinds.Literal ▸ optional element_options ∣ sign kinds.Dot ▸ optional element_options ∣ sign kinds.Tilde ▸ part token_set ∣ block
+unnamed_item = sign kinds.Literal ▸ optional element_options ∣ sign kinds.Dot ▸ optional element_options ∣ sign kinds.Tilde ▸ part
+    token_set ∣ block
 
 -- an item of a parser rule: a reference to a rule, a token, or one that begins with no name
 abbrev pub item : Expression
@@ -94,7 +95,8 @@ item = sign kinds.Lower ▸ reference_end ∣ sign kinds.Upper ▸ optional elem
 
 -- an item of a parser rule, perhaps with a label: `e`, `x = e`, `ids += ID`
 abbrev pub labelled_item : Expression
-labelled_item = sign kinds.Lower ▸ (assign ▸ item ∣ reference_end) ∣ sign kinds.Upper ▸ (assign ▸ item ∣ optional element_options) ∣ unnamed_item
+labelled_item = sign kinds.Lower ▸ (assign ▸ item ∣ reference_end) ∣ sign kinds.Upper ▸ (assign ▸ item ∣ optional element_options) ∣
+    unnamed_item
 
 -- an alternative of a parser rule, perhaps with a label: `e '+' e # Sum`
 abbrev pub rule_alternative : Expression
@@ -115,11 +117,13 @@ rule_prequels =
 
 -- what may follow a parser rule
 abbrev pub handlers : Expression
-handlers = repeated (word (codes "catch") ▸ sign kinds.Arguments ▸ sign kinds.Action) ▸ optional (word (codes "finally") ▸ sign kinds.Action)
+handlers = repeated (word (codes "catch") ▸ sign kinds.Arguments ▸ sign kinds.Action) ▸ optional
+    (word (codes "finally") ▸ sign kinds.Action)
 
 -- a parser rule
 abbrev pub parser_rule : Expression
-parser_rule = optional modifier ▸ sign kinds.Lower ▸ rule_prequels ▸ sign kinds.Colon ▸ with_bars rule_alternative ▸ sign kinds.Semicolon ▸ handlers
+parser_rule = optional modifier ▸ sign kinds.Lower ▸ rule_prequels ▸ sign kinds.Colon ▸ with_bars rule_alternative ▸ sign
+    kinds.Semicolon ▸ handlers
 
 -- alternatives of a lexer rule in brackets: `('a'..'z' | [0-9])`
 abbrev pub lexer_block : Expression
@@ -140,7 +144,8 @@ lexer_item = sign kinds.Upper ▸ optional element_options ∣ unnamed_lexer_ite
 
 -- an item of a lexer rule, perhaps with a label
 abbrev pub labelled_lexer_item : Expression
-labelled_lexer_item = sign kinds.Lower ▸ assign ▸ lexer_item ∣ sign kinds.Upper ▸ (assign ▸ lexer_item ∣ optional element_options) ∣ unnamed_lexer_item
+labelled_lexer_item = sign kinds.Lower ▸ assign ▸ lexer_item ∣ sign kinds.Upper ▸ (assign ▸ lexer_item ∣ optional element_options) ∣
+    unnamed_lexer_item
 
 -- a command of a lexer rule, perhaps with an argument: `skip`, `channel(HIDDEN)`
 abbrev pub command : Expression
@@ -152,7 +157,8 @@ lexer_alternative = repeated (part lexer_element) ▸ optional (sign kinds.Arrow
 
 -- a lexer rule
 abbrev pub lexer_rule : Expression
-lexer_rule = optional (word (codes "fragment")) ▸ sign kinds.Upper ▸ optional options ▸ sign kinds.Colon ▸ with_bars lexer_alternative ▸ sign kinds.Semicolon
+lexer_rule = optional (word (codes "fragment")) ▸ sign kinds.Upper ▸ optional options ▸ sign kinds.Colon ▸ with_bars lexer_alternative
+    ▸ sign kinds.Semicolon
 
 -- a mode and its rules: `mode Text ; ..`
 abbrev pub mode : Expression
@@ -181,7 +187,9 @@ grammar = combined_grammar ∣ lexer_grammar ∣ parser_grammar
 -- what the parts that can be nested in themselves are
 abbrev pub production : Nonterminal → Expression
 production element = action ∣ labelled_item ▸ optional suffix
-production token_set = sign kinds.Upper ▸ optional element_options ∣ sign kinds.Literal ∣ sign kinds.LeftParenthesis ▸ with_bars (part token_set) ▸ sign kinds.RightParenthesis
+production token_set = sign kinds.Upper ▸ optional element_options ∣ sign kinds.Literal ∣ sign kinds.LeftParenthesis ▸ with_bars
+    (part token_set) ▸ sign kinds.RightParenthesis
 production lexer_element = action ∣ labelled_lexer_item ▸ optional suffix
-production character_set = one excluded ▸ optional (sign kinds.DoubleDot ▸ sign kinds.Literal) ∣ one a_set ∣ sign kinds.LeftParenthesis ▸ with_bars (part character_set) ▸ sign kinds.RightParenthesis
+production character_set = one excluded ▸ optional (sign kinds.DoubleDot ▸ sign kinds.Literal) ∣ one a_set ∣ sign
+    kinds.LeftParenthesis ▸ with_bars (part character_set) ▸ sign kinds.RightParenthesis
 production more_names = sign kinds.Comma ▸ optional (name ▸ optional (part more_names))

@@ -35,7 +35,8 @@ is_one_of (k ∷ ks) kind = is_kind k kind || is_one_of ks kind
 abbrev pub first_kinds : Nonterminal → List Kind
 first_kinds element = kinds.Lower ∷ kinds.Upper ∷ kinds.Literal ∷ kinds.Dot ∷ kinds.Tilde ∷ kinds.LeftParenthesis ∷ kinds.Action ∷ []
 first_kinds token_set = kinds.Upper ∷ kinds.Literal ∷ kinds.LeftParenthesis ∷ []
-first_kinds lexer_element = kinds.Lower ∷ kinds.Upper ∷ kinds.Literal ∷ kinds.Set ∷ kinds.Dot ∷ kinds.Tilde ∷ kinds.LeftParenthesis ∷ kinds.Action ∷ []
+first_kinds lexer_element = kinds.Lower ∷ kinds.Upper ∷ kinds.Literal ∷ kinds.Set ∷ kinds.Dot ∷ kinds.Tilde ∷ kinds.LeftParenthesis
+    ∷ kinds.Action ∷ []
 first_kinds character_set = kinds.Literal ∷ kinds.Set ∷ kinds.LeftParenthesis ∷ []
 first_kinds more_names = kinds.Comma ∷ []
 
@@ -65,19 +66,23 @@ Reads (right {x} {y} b) from to = (begins_there x from ≡ false) × Reads b fro
 Reads (absent {x}) from to = (begins_there x from ≡ false) × (from ≡ to)
 Reads (present {x} a) from to = (begins_there x from ≡ true) × Reads a from to
 Reads (end {x}) from to = (begins_there x from ≡ false) × (from ≡ to)
-Reads (more {x} a as_before) from to = (begins_there x from ≡ true) × (between : List Spelled) × Reads a from between × Reads as_before between to
+Reads (more {x} a as_before) from to = (begins_there x from ≡ true) × (between : List Spelled) × Reads a from between
+    × Reads as_before between to
 Reads (inner a) from to = Reads a from to
 
 -- reading the expression from the tokens `from` on asks for the terminal `t` when the tokens `rest` are left
 pub data Comes (t : Terminal) : Expression → List Spelled → List Spelled → Type 0 where
   here : (rest : List Spelled) → Comes t (one t) rest rest
   in_first : {x y : Expression} (from rest : List Spelled) → Comes t x from rest → Comes t (x ▸ y) from rest
-  in_second : {x y : Expression} (from between rest : List Spelled) (a : Tree x) → Reads a from between → Comes t y between rest → Comes t (x ▸ y) from rest
+  in_second : {x y : Expression} (from between rest : List Spelled) (a : Tree x) → Reads a from between → Comes t y between rest
+      → Comes t (x ▸ y) from rest
   in_left : {x y : Expression} (from rest : List Spelled) → begins_there x from ≡ true → Comes t x from rest → Comes t (x ∣ y) from rest
   in_right : {x y : Expression} (from rest : List Spelled) → begins_there x from ≡ false → Comes t y from rest → Comes t (x ∣ y) from rest
-  in_optional : {x : Expression} (from rest : List Spelled) → begins_there x from ≡ true → Comes t x from rest → Comes t (optional x) from rest
+  in_optional : {x : Expression} (from rest : List Spelled) → begins_there x from ≡ true → Comes t x from rest
+      → Comes t (optional x) from rest
   in_turn : {x : Expression} (from rest : List Spelled) → begins_there x from ≡ true → Comes t x from rest → Comes t (repeated x) from rest
-  in_later_turn : {x : Expression} (from between rest : List Spelled) (a : Tree x) → begins_there x from ≡ true → Reads a from between → Comes t (repeated x) between rest → Comes t (repeated x) from rest
+  in_later_turn : {x : Expression} (from between rest : List Spelled) (a : Tree x) → begins_there x from ≡ true → Reads a from between
+      → Comes t (repeated x) between rest → Comes t (repeated x) from rest
   in_part : {n : Nonterminal} (from rest : List Spelled) → Comes t (production n) from rest → Comes t (part n) from rest
 
 -- reading the expression from the tokens `from` on stops when `rest` is left: it asks for a terminal that the next token is not,

@@ -16,7 +16,8 @@ pub fn first_stop()
 
 /// Some tokens are a grammar text, or reading stops at some of them.
 pub fn text_or_stop()
-    ensures { (tokens : List Spelled) → ((tree : Tree grammar) × HasTree tokens tree) ⊎ ((before : List Spelled) × (rest : List Spelled) × (tokens ≡ before ++ rest) × TextStops tokens rest) }
+    ensures { (tokens : List Spelled) → ((tree : Tree grammar) × HasTree tokens tree)
+        ⊎ ((before : List Spelled) × (rest : List Spelled) × (tokens ≡ before ++ rest) × TextStops tokens rest) }
 {}
 
 /// A part can begin with just the tokens with which its production can.

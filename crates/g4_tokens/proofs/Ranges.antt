@@ -32,7 +32,8 @@ run_has a n c = (to, from)
 
 -- the members of a range are the symbols that it has
 range_has : (r : Range) (c : ℕ) → Contains (range_members r) c ↔ IsWithin r c
-range_has r c = let run = run_has r.first (r.last + 1 - r.first) c in ((λ i. let w = run.0 i in (w.0, omega (arith, w.0, w.1))), λ w. run.1 (w.0, omega (arith, w.0, w.1)))
+range_has r c = let run = run_has r.first (r.last + 1 - r.first) c in
+    ((λ i. let w = run.0 i in (w.0, omega (arith, w.0, w.1))), λ w. run.1 (w.0, omega (arith, w.0, w.1)))
 
 -- and those of ranges the symbols that one of them has
 pub members_has : (rs : List Range) (c : ℕ) → Contains (members rs) c ↔ Has rs c
@@ -41,7 +42,11 @@ members_has (r ∷ rs) c =
     let one = range_has r c in
     let more = members_has rs c in (
       λ i. elim (Contains-append_cases (range_members r) (members rs) c i) [ inl a ↦ inl (one.0 a) | inr b ↦ inr (more.0 b) ],
-      λ h. elim h [ inl w ↦ Contains-append_left (range_members r) (members rs) c (one.1 w) | inr k ↦ Contains-append_right (range_members r) (members rs) c (more.1 k) ],
+      λ h. elim h [
+        | inl w ↦ Contains-append_left (range_members r) (members rs) c (one.1 w)
+        | inr k ↦ Contains-append_right
+            (range_members r) (members rs) c (more.1 k)
+      ],
     )
 
 -- what the range at an index has

@@ -27,17 +27,20 @@ rise_past n (r ∷ rs) c rise (inl w) = omega (arith, rise.0, w.0)
 rise_past n (r ∷ rs) c rise (inr h) = omega (arith, rise.0, rise.1, rise_past (r.last + 2) rs c rise.2 h)
 
 -- the ranges that end before a symbol are the first ones
-at_least : (n : ℕ) (rs : List Range) (j : ℕ) (d : Range) → RiseFrom n rs → j < length rs → (n ≤ (get_or rs j d).first) × ((get_or rs j d).first ≤ (get_or rs j d).last)
+at_least : (n : ℕ) (rs : List Range) (j : ℕ) (d : Range) → RiseFrom n rs → j < length rs
+    → (n ≤ (get_or rs j d).first) × ((get_or rs j d).first ≤ (get_or rs j d).last)
 at_least n [] j d rise h = absurd (omega arith)
 at_least n (r ∷ rs) zero d rise h = (rise.0, rise.1)
 at_least n (r ∷ rs) (suc j) d rise h =
     let more = at_least (r.last + 2) rs j d rise.2 (omega arith) in
     (omega (arith, more.0, rise.0, rise.1), more.1)
 
-ends_rise : (n : ℕ) (rs : List Range) (i j : ℕ) (d : Range) → RiseFrom n rs → i ≤ j → j < length rs → (get_or rs i d).last ≤ (get_or rs j d).last
+ends_rise : (n : ℕ) (rs : List Range) (i j : ℕ) (d : Range) → RiseFrom n rs → i ≤ j → j < length rs
+    → (get_or rs i d).last ≤ (get_or rs j d).last
 ends_rise n [] i j d rise le h = absurd (omega arith)
 ends_rise n (r ∷ rs) zero zero d rise le h = omega arith
-ends_rise n (r ∷ rs) zero (suc j) d rise le h = let more = at_least (r.last + 2) rs j d rise.2 (omega arith) in omega (arith, more.0, more.1)
+ends_rise n (r ∷ rs) zero (suc j) d rise le h = let more = at_least (r.last + 2) rs j d rise.2 (omega arith) in
+    omega (arith, more.0, more.1)
 ends_rise n (r ∷ rs) (suc i) zero d rise le h = absurd (omega arith)
 ends_rise n (r ∷ rs) (suc i) (suc j) d rise le h = ends_rise (r.last + 2) rs i j d rise.2 (omega arith) (omega arith)
 
@@ -45,12 +48,14 @@ pub parted : (rs : List Range) (c : ℕ) → IsApart rs → IsPartitionedBy (λ 
 parted rs c apart i j d le h before = let ends = ends_rise 0 rs i j d (rise rs apart) le h in grind (arith, nat_tests)
 
 -- what the range at the first index whose range ends at the symbol or past it decides
-pub has_at_point : (n : ℕ) (rs : List Range) (at c : ℕ) (d : Range) → RiseFrom n rs → at < length rs → ((k : ℕ) → k < at → (get_or rs k d).last < c) → c ≤ (get_or rs at d).last → Has rs c → (get_or rs at d).first ≤ c
+pub has_at_point : (n : ℕ) (rs : List Range) (at c : ℕ) (d : Range) → RiseFrom n rs → at < length rs
+    → ((k : ℕ) → k < at → (get_or rs k d).last < c) → c ≤ (get_or rs at d).last → Has rs c → (get_or rs at d).first ≤ c
 has_at_point n [] at c d rise h before after has = absurd has
 has_at_point n (r ∷ rs) zero c d rise h before after (inl w) = w.0
 has_at_point n (r ∷ rs) zero c d rise h before after (inr later) = absurd (omega (arith, after, rise_past (r.last + 2) rs c rise.2 later))
 has_at_point n (r ∷ rs) (suc at) c d rise h before after (inl w) = absurd (omega (arith, w.1, before 0 (omega arith)))
-has_at_point n (r ∷ rs) (suc at) c d rise h before after (inr later) = has_at_point (r.last + 2) rs at c d rise.2 (omega arith) (λ k less. before (suc k) (omega (arith, less))) after later
+has_at_point n (r ∷ rs) (suc at) c d rise h before after (inr later) =
+    has_at_point (r.last + 2) rs at c d rise.2 (omega arith) (λ k less. before (suc k) (omega (arith, less))) after later
 
 -- a symbol past the end of each range is in none
 pub has_none : (rs : List Range) (c : ℕ) (d : Range) → ((k : ℕ) → k < length rs → (get_or rs k d).last < c) → Has rs c → ⊥

@@ -34,14 +34,16 @@ apart_other (s ∷ []) a b c d h low up = (h.0, omega (arith, h.1), up)
 apart_other (s ∷ t ∷ more) a b c d h low up = (h.0, h.1, apart_other (t ∷ more) a b c d h.2 low up)
 
 -- one more range
-apart_more : (rs : List Range) (a b c d : ℕ) → IsApart (rs ++ span a b ∷ []) → b + 1 < c → c ≤ d → IsApart ((rs ++ span a b ∷ []) ++ span c d ∷ [])
+apart_more : (rs : List Range) (a b c d : ℕ) → IsApart (rs ++ span a b ∷ []) → b + 1 < c → c ≤ d
+    → IsApart ((rs ++ span a b ∷ []) ++ span c d ∷ [])
 apart_more [] a b c d h low up = (h, low, up)
 apart_more (s ∷ []) a b c d h low up = (h.0, h.1, (h.2, low, up))
 apart_more (s ∷ t ∷ more) a b c d h low up = (h.0, h.1, apart_more (t ∷ more) a b c d h.2 low up)
 
 -- the members with one more range
 members_more : (rs : List Range) (a b : ℕ) → members (rs ++ span a b ∷ []) ≡ members rs ++ range_with_len a (b + 1 - a)
-members_more rs a b = flat_map-append range_members rs (span a b ∷ []) ∙ ap (λ (xs : List ℕ). members rs ++ xs) (append-nil (range_members (span a b)))
+members_more rs a b = flat_map-append range_members rs (span a b ∷ [])
+    ∙ ap (λ (xs : List ℕ). members rs ++ xs) (append-nil (range_members (span a b)))
 
 -- What is known of the symbols before one: the ranges and the symbols from the first on are those that the set leaves.
 pub record IsLeft (set : BTreeSet ℕ) (rs : List Range) (first symbol : ℕ) : Type 0 where
@@ -56,7 +58,8 @@ left_none set rs e = rw e (record { some = omega arith; order = omega arith; apa
 
 module _ (set : BTreeSet ℕ) (rs : List Range) (first symbol : ℕ) (h : IsLeft set rs first symbol) where
   -- what the set leaves of one symbol more
-  left_more : (b : Bool) → contains nat_cmp set symbol ≡ b → left_over set (range_with_len 1 symbol) ≡ left_over set (range_with_len 1 (symbol - 1)) ++ cond (not b) (symbol ∷ []) []
+  left_more : (b : Bool) → contains nat_cmp set symbol ≡ b
+      → left_over set (range_with_len 1 symbol) ≡ left_over set (range_with_len 1 (symbol - 1)) ++ cond (not b) (symbol ∷ []) []
   left_more b is =
       let n : symbol ≡ symbol - 1 + 1 = omega (arith, h.some, h.order) in
       let m : 1 + (symbol - 1) ≡ symbol = omega (arith, h.some, h.order) in
@@ -73,13 +76,16 @@ module _ (set : BTreeSet ℕ) (rs : List Range) (first symbol : ℕ) (h : IsLeft
       let k : symbol + 1 - 1 ≡ symbol = omega arith in
       let e : members rs ++ range_with_len first (symbol + 1 - first) ≡ left_over set (range_with_len 1 (symbol + 1 - 1)) =
       ap (λ (j : ℕ). members rs ++ range_with_len first j) n
-      ∙ (ap (λ (xs : List ℕ). members rs ++ xs) (range_more first (symbol - first) ∙ ap (λ (x : ℕ). range_with_len first (symbol - first) ++ x ∷ []) m)
+      ∙ (ap (λ (xs : List ℕ). members rs ++ xs) (range_more first (symbol - first)
+      ∙ ap (λ (x : ℕ). range_with_len first (symbol - first) ++ x ∷ []) m)
       ∙ (sym (append_assoc (members rs) (range_with_len first (symbol - first)) (symbol ∷ []))
-      ∙ (ap (λ (xs : List ℕ). xs ++ symbol ∷ []) h.left ∙ (sym (left_more false is) ∙ ap (λ (j : ℕ). left_over set (range_with_len 1 j)) (sym k))))) in
+      ∙ (ap (λ (xs : List ℕ). xs ++ symbol ∷ []) h.left
+      ∙ (sym (left_more false is) ∙ ap (λ (j : ℕ). left_over set (range_with_len 1 j)) (sym k))))) in
       record { some = h.some; order = omega (arith, h.order); apart = h.apart; left = e }
 
   -- the symbol is left out, and those before it end a range
-  pub left_out : (new : List Range) → contains nat_cmp set symbol ≡ true → first < symbol → new ≡ rs ++ span first (symbol - 1) ∷ [] → IsLeft set new (symbol + 1) (symbol + 1)
+  pub left_out : (new : List Range) → contains nat_cmp set symbol ≡ true → first < symbol → new ≡ rs ++ span first (symbol - 1) ∷ []
+      → IsLeft set new (symbol + 1) (symbol + 1)
   left_out new is less e =
       let n : symbol + 1 - (symbol + 1) ≡ 0 = omega arith in
       let k : symbol + 1 - 1 ≡ symbol = omega arith in
@@ -89,11 +95,14 @@ module _ (set : BTreeSet ℕ) (rs : List Range) (first symbol : ℕ) (h : IsLeft
       (record {
         some = omega arith;
         order = omega arith;
-        apart = apart_more rs first (symbol - 1) (symbol + 1) (symbol + 1) (apart_other rs first first first (symbol - 1) h.apart (omega arith) (omega (arith, less))) (omega (arith, less)) (omega arith);
+        apart = apart_more rs first (symbol - 1) (symbol + 1) (symbol + 1)
+            (apart_other rs first first first (symbol - 1) h.apart (omega arith) (omega (arith, less))) (omega (arith, less)) (omega arith);
         left =
             ap (λ (j : ℕ). members (rs ++ span first (symbol - 1) ∷ []) ++ range_with_len (symbol + 1) j) n
-            ∙ (append-nil (members (rs ++ span first (symbol - 1) ∷ [])) ∙ (members_more rs first (symbol - 1) ∙ (ap (λ (j : ℕ). members rs ++ range_with_len first j) m
-            ∙ (h.left ∙ (sym (append-nil (left_over set (range_with_len 1 (symbol - 1)))) ∙ (sym (left_more true is) ∙ ap (λ (j : ℕ). left_over set (range_with_len 1 j)) (sym k)))))));
+            ∙ (append-nil (members (rs ++ span first (symbol - 1) ∷ []))
+            ∙ (members_more rs first (symbol - 1) ∙ (ap (λ (j : ℕ). members rs ++ range_with_len first j) m
+            ∙ (h.left ∙ (sym (append-nil (left_over set (range_with_len 1 (symbol - 1))))
+            ∙ (sym (left_more true is) ∙ ap (λ (j : ℕ). left_over set (range_with_len 1 j)) (sym k)))))));
       })
 
   -- the symbol is left out, and so is the one before it
@@ -108,7 +117,8 @@ module _ (set : BTreeSet ℕ) (rs : List Range) (first symbol : ℕ) (h : IsLeft
         apart = apart_other rs first first (symbol + 1) (symbol + 1) h.apart (omega (arith, h.order)) (omega arith);
         left =
             ap (λ (j : ℕ). members rs ++ range_with_len (symbol + 1) j) n ∙ (ap (λ (j : ℕ). members rs ++ range_with_len first j) (sym m)
-            ∙ (h.left ∙ (sym (append-nil (left_over set (range_with_len 1 (symbol - 1)))) ∙ (sym (left_more true is) ∙ ap (λ (j : ℕ). left_over set (range_with_len 1 j)) (sym k)))));
+            ∙ (h.left ∙ (sym (append-nil (left_over set (range_with_len 1 (symbol - 1))))
+            ∙ (sym (left_more true is) ∙ ap (λ (j : ℕ). left_over set (range_with_len 1 j)) (sym k)))));
       }
 
   -- the ranges before the end are apart
@@ -124,11 +134,14 @@ module _ (set : BTreeSet ℕ) (rs : List Range) (first symbol : ℕ) (h : IsLeft
   ended_left greatest end less =
       let n : symbol - first ≡ 0 = omega (arith, end, less) in
       let m : symbol - 1 ≡ greatest = omega (arith, end) in
-      sym (append-nil (members rs)) ∙ (ap (λ (j : ℕ). members rs ++ range_with_len first j) (sym n) ∙ (h.left ∙ ap (λ (j : ℕ). left_over set (range_with_len 1 j)) m))
+      sym (append-nil (members rs)) ∙ (ap (λ (j : ℕ). members rs ++ range_with_len first j) (sym n)
+      ∙ (h.left ∙ ap (λ (j : ℕ). left_over set (range_with_len 1 j)) m))
 
   -- or the last range has them
-  pub last_left : (new : List Range) (greatest : ℕ) → symbol ≡ greatest + 1 → new ≡ rs ++ span first greatest ∷ [] → members new ≡ left_over set (range_with_len 1 greatest)
+  pub last_left : (new : List Range) (greatest : ℕ) → symbol ≡ greatest + 1 → new ≡ rs ++ span first greatest ∷ []
+      → members new ≡ left_over set (range_with_len 1 greatest)
   last_left new greatest end e =
       let n : greatest + 1 - first ≡ symbol - first = omega (arith, end) in
       let m : symbol - 1 ≡ greatest = omega (arith, end) in
-      ap members e ∙ (members_more rs first greatest ∙ (ap (λ (j : ℕ). members rs ++ range_with_len first j) n ∙ (h.left ∙ ap (λ (j : ℕ). left_over set (range_with_len 1 j)) m)))
+      ap members e ∙ (members_more rs first greatest
+      ∙ (ap (λ (j : ℕ). members rs ++ range_with_len first j) n ∙ (h.left ∙ ap (λ (j : ℕ). left_over set (range_with_len 1 j)) m)))

@@ -1,3 +1,4 @@
+-- Other crates cite Symbols, TokenList; only this crate cites Members.
 pub mod Members
 pub mod Symbols
 pub mod TokenList

@@ -25,7 +25,8 @@ as_many interpreter (i ∷ is) [] h = absurd h
 as_many interpreter (i ∷ is) (o ∷ os) h = ap suc (as_many interpreter is os h.1)
 
 -- one more outcome
-more_outcomes : (interpreter : Interpreter) (is : List Input) (os : List Outcome) (input : Input) (outcome : Outcome) → AreOutcomes interpreter is os → IsOutcome interpreter input outcome →
+more_outcomes : (interpreter : Interpreter) (is : List Input) (os : List Outcome) (input : Input) (outcome : Outcome)
+    → AreOutcomes interpreter is os → IsOutcome interpreter input outcome →
     AreOutcomes interpreter (is ++ input ∷ []) (os ++ outcome ∷ [])
 more_outcomes interpreter [] [] input outcome h k = (k, tt)
 more_outcomes interpreter [] (o ∷ os) input outcome h k = absurd h
@@ -33,8 +34,10 @@ more_outcomes interpreter (i ∷ is) [] input outcome h k = absurd h
 more_outcomes interpreter (i ∷ is) (o ∷ os) input outcome h k = (h.0, more_outcomes interpreter is os input outcome h.1 k)
 
 -- and its lines
-more_lines : (output : Output) (interpreter : Interpreter) (names : List (List ℕ)) (os : List Outcome) (name : List ℕ) (outcome : Outcome) → length names ≡ length os →
-    lines_of_files output interpreter (names ++ name ∷ []) (os ++ outcome ∷ []) ≡ lines_of_files output interpreter names os ++ outcome_lines output interpreter name outcome
+more_lines : (output : Output) (interpreter : Interpreter) (names : List (List ℕ)) (os : List Outcome) (name : List ℕ)
+    (outcome : Outcome) → length names ≡ length os →
+    lines_of_files output interpreter (names ++ name ∷ []) (os ++ outcome ∷ [])
+    ≡ lines_of_files output interpreter names os ++ outcome_lines output interpreter name outcome
 more_lines output interpreter [] [] name outcome same = append_nothing (outcome_lines output interpreter name outcome)
   where
     append_nothing : (ls : List Line) → ls ++ [] ≡ ls
@@ -44,22 +47,29 @@ more_lines output interpreter [] (o ∷ os) name outcome same = absurd (omega (a
 more_lines output interpreter (n ∷ names) [] name outcome same = absurd (omega (arith, same))
 more_lines output interpreter (n ∷ names) (o ∷ os) name outcome same =
     ap (λ ls. outcome_lines output interpreter n o ++ ls) (more_lines output interpreter names os name outcome (omega (arith, same)))
-    ∙ sym (append_assoc (outcome_lines output interpreter n o) (lines_of_files output interpreter names os) (outcome_lines output interpreter name outcome))
+    ∙ sym (append_assoc (outcome_lines output interpreter n o) (lines_of_files output interpreter names os)
+    (outcome_lines output interpreter name outcome))
 
 -- one more file, by its outcome
-pub one_more : (output : Output) (interpreter : Interpreter) (name : List ℕ) (input : Input) (before now : Parsed) (outcome : Outcome) → IsOutcome interpreter input outcome →
+pub one_more : (output : Output) (interpreter : Interpreter) (name : List ℕ) (input : Input) (before now : Parsed) (outcome : Outcome)
+    → IsOutcome interpreter input outcome →
     IsMeantAnywhere interpreter outcome → now.lines.items ≡ before.lines.items ++ outcome_lines output interpreter name outcome →
     now.accepted ≡ before.accepted + count_by is_accepted (outcome ∷ []) → IsOneMore output interpreter name input before now
-one_more output interpreter name input before now outcome is meant lines accepted = record { outcome = outcome; is = is; lines = lines; accepted = accepted; meant = meant }
+one_more output interpreter name input before now outcome is meant lines accepted =
+    record { outcome = outcome; is = is; lines = lines; accepted = accepted; meant = meant }
 
 -- the files so far, and one more
-pub one_more_file : (output : Output) (interpreter : Interpreter) (names : List (List ℕ)) (is : List Input) (name : List ℕ) (input : Input) (before now : Parsed) → length names ≡ length is →
-    AreParsed output interpreter names is before → IsOneMore output interpreter name input before now → AreParsed output interpreter (names ++ name ∷ []) (is ++ input ∷ []) now
+pub one_more_file : (output : Output) (interpreter : Interpreter) (names : List (List ℕ)) (is : List Input) (name : List ℕ)
+    (input : Input) (before now : Parsed) → length names ≡ length is →
+    AreParsed output interpreter names is before → IsOneMore output interpreter name input before now
+    → AreParsed output interpreter (names ++ name ∷ []) (is ++ input ∷ []) now
 one_more_file output interpreter names is name input before now same h k = record {
   outcomes = h.outcomes ++ k.outcome ∷ [];
   are = more_outcomes interpreter is h.outcomes input k.outcome h.are k.is;
-  lines = k.lines ∙ ap (λ ls. ls ++ outcome_lines output interpreter name k.outcome) h.lines ∙ sym (more_lines output interpreter names h.outcomes name k.outcome (same ∙ sym (as_many interpreter is h.outcomes h.are)));
-  accepted = k.accepted ∙ ap (λ n. n + count_by is_accepted (k.outcome ∷ [])) h.accepted ∙ sym (sum_by-append (λ o. cond (is_accepted o) 1 0) h.outcomes (k.outcome ∷ []));
+  lines = k.lines ∙ ap (λ ls. ls ++ outcome_lines output interpreter name k.outcome) h.lines
+      ∙ sym (more_lines output interpreter names h.outcomes name k.outcome (same ∙ sym (as_many interpreter is h.outcomes h.are)));
+  accepted = k.accepted ∙ ap (λ n. n + count_by is_accepted (k.outcome ∷ [])) h.accepted
+      ∙ sym (sum_by-append (λ o. cond (is_accepted o) 1 0) h.outcomes (k.outcome ∷ []));
   meant = one_more_meant interpreter h.outcomes k.outcome h.meant k.meant;
 }
 
@@ -72,10 +82,12 @@ pub all_counted : (os : List Outcome) → (count_by is_accepted os == length os)
 all_counted [] = refl
 all_counted (o ∷ os) =
     ap (λ n. n == suc (length os)) (sum_by-cons (λ x. cond (is_accepted x) 1 0) o os)
-    ∙ one_counted (is_accepted o) (list_all is_accepted os) (count_by is_accepted os) (length os) (count_by-le-length is_accepted os) (all_counted os)
+    ∙ one_counted (is_accepted o) (list_all is_accepted os) (count_by is_accepted os) (length os) (count_by-le-length is_accepted os)
+    (all_counted os)
 
 -- the names up to a place, and the next
-pub names_then : (names : List (List ℕ)) (k : ℕ) (next name : List ℕ) → k < length names → next ≡ get_or names k next → name ≡ next → take (k + 1) names ≡ take k names ++ name ∷ []
+pub names_then : (names : List (List ℕ)) (k : ℕ) (next name : List ℕ) → k < length names → next ≡ get_or names k next → name ≡ next
+    → take (k + 1) names ≡ take k names ++ name ∷ []
 names_then names k next name within is same = take_more names k next within ∙ ap (λ (x : List ℕ). take k names ++ x ∷ []) (sym (same ∙ is))
 
 -- a fault for which memory was not refused
@@ -86,7 +98,8 @@ pub parsed_apart : (fault : ParseFault) → parsing_refused fault ≡ false → 
 parsed_apart fault not is = let refused : parsing_refused fault ≡ true = ap parsing_refused is in cc
 
 -- one file more is at most one more accepted
-pub one_more_accepted : (before now k : ℕ) (outcome : Outcome) → before ≤ k → now ≡ before + count_by is_accepted (outcome ∷ []) → now ≤ k + 1
+pub one_more_accepted : (before now k : ℕ) (outcome : Outcome) → before ≤ k → now ≡ before + count_by is_accepted (outcome ∷ [])
+    → now ≤ k + 1
 one_more_accepted before now k outcome few is = omega (arith, few, is, count_by-le-length is_accepted (outcome ∷ []))
 
 -- so many names are taken

@@ -22,42 +22,61 @@ use Rattle.g4_tool.proofs.OneOutcome.{one_outcome_each}
 module _ (files : Files) where
   -- `check` has at most one end
   one_check : (check : Check) (a b : End) → EndsCheck files check a → EndsCheck files check b → a ≡ b
-  one_check check _ _ (not_checked f s h) (not_checked g t k) = let same = one_loaded files check.grammar f g (Err s) (Err t) h k in let stop : s ≡ t = cc in ap stopped stop
-  one_check check _ _ (not_checked f s h) (grammar_checked g made k) = let same = one_loaded files check.grammar f g (Err s) (Ok made) h k in absurd (let no_way : ⊥ = cc in no_way)
-  one_check check _ _ (grammar_checked f made h) (not_checked g t k) = let same = one_loaded files check.grammar f g (Ok made) (Err t) h k in absurd (let no_way : ⊥ = cc in no_way)
-  one_check check _ _ (grammar_checked f made h) (grammar_checked g other k) = let same = one_loaded files check.grammar f g (Ok made) (Ok other) h k in let grammar : made ≡ other = cc in ap checked grammar
+  one_check check _ _ (not_checked f s h) (not_checked g t k) = let same = one_loaded files check.grammar f g (Err s) (Err t) h k in
+      let stop : s ≡ t = cc in ap stopped stop
+  one_check check _ _ (not_checked f s h) (grammar_checked g made k) = let same =
+      one_loaded files check.grammar f g (Err s) (Ok made) h k in absurd (let no_way : ⊥ = cc in no_way)
+  one_check check _ _ (grammar_checked f made h) (not_checked g t k) = let same =
+      one_loaded files check.grammar f g (Ok made) (Err t) h k in absurd (let no_way : ⊥ = cc in no_way)
+  one_check check _ _ (grammar_checked f made h) (grammar_checked g other k) = let same =
+      one_loaded files check.grammar f g (Ok made) (Ok other) h k in let grammar : made ≡ other = cc in ap checked grammar
 
   -- `atn` has
   one_atn : (atn : Atn) (a b : End) → EndsAtn files atn a → EndsAtn files atn b → a ≡ b
-  one_atn atn _ _ (not_listed f s h) (not_listed g t k) = let same = one_listed files atn.grammar atn.rule f g (Err s) (Err t) h k in let stop : s ≡ t = cc in ap stopped stop
-  one_atn atn _ _ (not_listed f s h) (rule_listed g made k) = let same = one_listed files atn.grammar atn.rule f g (Err s) (Ok made) h k in absurd (let no_way : ⊥ = cc in no_way)
-  one_atn atn _ _ (rule_listed f made h) (not_listed g t k) = let same = one_listed files atn.grammar atn.rule f g (Ok made) (Err t) h k in absurd (let no_way : ⊥ = cc in no_way)
-  one_atn atn _ _ (rule_listed f made h) (rule_listed g other k) = let same = one_listed files atn.grammar atn.rule f g (Ok made) (Ok other) h k in let listing : made ≡ other = cc in ap listed listing
+  one_atn atn _ _ (not_listed f s h) (not_listed g t k) = let same = one_listed files atn.grammar atn.rule f g (Err s) (Err t) h k in
+      let stop : s ≡ t = cc in ap stopped stop
+  one_atn atn _ _ (not_listed f s h) (rule_listed g made k) = let same =
+      one_listed files atn.grammar atn.rule f g (Err s) (Ok made) h k in absurd (let no_way : ⊥ = cc in no_way)
+  one_atn atn _ _ (rule_listed f made h) (not_listed g t k) = let same =
+      one_listed files atn.grammar atn.rule f g (Ok made) (Err t) h k in absurd (let no_way : ⊥ = cc in no_way)
+  one_atn atn _ _ (rule_listed f made h) (rule_listed g other k) = let same =
+      one_listed files atn.grammar atn.rule f g (Ok made) (Ok other) h k in let listing : made ≡ other = cc in ap listed listing
 
   module _ (parse : Parse) where
     -- the same interpreter, and the same files
-    pub same_built : (f g : List (List ℕ)) (r s : Result Interpreter Stop) → Builds files parse.grammar parse.start f r → Builds files parse.grammar parse.start g s → r ≡ s
+    pub same_built : (f g : List (List ℕ)) (r s : Result Interpreter Stop) → Builds files parse.grammar parse.start f r
+        → Builds files parse.grammar parse.start g s → r ≡ s
     same_built f g r s h k = one_built files parse.grammar parse.start f g r s h k
 
     pub same_inputs : (r s : Result (List Input) (List ℕ)) → inputs_of files parse.files ≡ r → inputs_of files parse.files ≡ s → r ≡ s
     same_inputs r s h k = sym h ∙ k
 
     -- files that are all parsed
-    one_parsed : (i j : Interpreter) (is js : List Input) (os ps : List Outcome) → j ≡ i → js ≡ is → AreOutcomes i is os → AreOutcomes j js ps → all_parsed parse.output i parse.files os ≡ all_parsed parse.output j parse.files ps
+    one_parsed : (i j : Interpreter) (is js : List Input) (os ps : List Outcome) → j ≡ i → js ≡ is → AreOutcomes i is os
+        → AreOutcomes j js ps → all_parsed parse.output i parse.files os ≡ all_parsed parse.output j parse.files ps
     one_parsed i j is js os ps interpreter inputs h k =
         let also : AreOutcomes i is ps = subst (λ xs. AreOutcomes i xs ps) inputs (subst (λ x. AreOutcomes x js ps) interpreter k) in
-        ap (λ x. all_parsed parse.output x parse.files os) (sym interpreter) ∙ ap (λ xs. all_parsed parse.output j parse.files xs) (one_outcome_each i is os ps h also)
+        ap (λ x. all_parsed parse.output x parse.files os) (sym interpreter)
+        ∙ ap (λ xs. all_parsed parse.output j parse.files xs) (one_outcome_each i is os ps h also)
 
     -- `parse` has at most one end
     one_parse : (a b : End) → EndsParse files parse a → EndsParse files parse b → a ≡ b
-    one_parse _ _ (not_built f s h) (not_built g t k) = let same = same_built f g (Err s) (Err t) h k in let stop : s ≡ t = cc in ap stopped stop
-    one_parse _ _ (not_built f s h) (file_absent g j m k r) = let same = same_built f g (Err s) (Ok j) h k in absurd (let no_way : ⊥ = cc in no_way)
-    one_parse _ _ (not_built f s h) (files_parsed g j js ps k r w) = let same = same_built f g (Err s) (Ok j) h k in absurd (let no_way : ⊥ = cc in no_way)
-    one_parse _ _ (file_absent f i n h l) (not_built g t k) = let same = same_built f g (Ok i) (Err t) h k in absurd (let no_way : ⊥ = cc in no_way)
-    one_parse _ _ (file_absent f i n h l) (file_absent g j m k r) = let same = same_inputs (Err n) (Err m) l r in let names : n ≡ m = cc in ap (λ x. stopped (stops.Absent x)) names
-    one_parse _ _ (file_absent f i n h l) (files_parsed g j js ps k r w) = let same = same_inputs (Err n) (Ok js) l r in absurd (let no_way : ⊥ = cc in no_way)
-    one_parse _ _ (files_parsed f i is os h l u) (not_built g t k) = let same = same_built f g (Ok i) (Err t) h k in absurd (let no_way : ⊥ = cc in no_way)
-    one_parse _ _ (files_parsed f i is os h l u) (file_absent g j m k r) = let same = same_inputs (Ok is) (Err m) l r in absurd (let no_way : ⊥ = cc in no_way)
+    one_parse _ _ (not_built f s h) (not_built g t k) = let same = same_built f g (Err s) (Err t) h k in let stop : s ≡ t = cc in
+        ap stopped stop
+    one_parse _ _ (not_built f s h) (file_absent g j m k r) = let same = same_built f g (Err s) (Ok j) h k in
+        absurd (let no_way : ⊥ = cc in no_way)
+    one_parse _ _ (not_built f s h) (files_parsed g j js ps k r w) = let same = same_built f g (Err s) (Ok j) h k in
+        absurd (let no_way : ⊥ = cc in no_way)
+    one_parse _ _ (file_absent f i n h l) (not_built g t k) = let same = same_built f g (Ok i) (Err t) h k in
+        absurd (let no_way : ⊥ = cc in no_way)
+    one_parse _ _ (file_absent f i n h l) (file_absent g j m k r) = let same = same_inputs (Err n) (Err m) l r in
+        let names : n ≡ m = cc in ap (λ x. stopped (stops.Absent x)) names
+    one_parse _ _ (file_absent f i n h l) (files_parsed g j js ps k r w) = let same = same_inputs (Err n) (Ok js) l r in
+        absurd (let no_way : ⊥ = cc in no_way)
+    one_parse _ _ (files_parsed f i is os h l u) (not_built g t k) = let same = same_built f g (Ok i) (Err t) h k in
+        absurd (let no_way : ⊥ = cc in no_way)
+    one_parse _ _ (files_parsed f i is os h l u) (file_absent g j m k r) = let same = same_inputs (Ok is) (Err m) l r in
+        absurd (let no_way : ⊥ = cc in no_way)
     one_parse _ _ (files_parsed f i is os h l u) (files_parsed g j js ps k r w) =
         let built = same_built f g (Ok i) (Ok j) h k in
         let fetched = same_inputs (Ok is) (Ok js) l r in
@@ -76,4 +95,5 @@ module _ (files : Files) where
   one_end words _ _ (no_command n) (no_command o) = refl
   one_end words _ _ (no_command n) (of_command command b is k) = absurd (n command is)
   one_end words _ _ (of_command command a is h) (no_command o) = absurd (o command is)
-  one_end words _ _ (of_command command a is h) (of_command other b was k) = one_of_command command a b h (subst (λ (c : Command). Ends files c b) (one_command words other command was is) k)
+  one_end words _ _ (of_command command a is h) (of_command other b was k) =
+      one_of_command command a b h (subst (λ (c : Command). Ends files c b) (one_command words other command was is) k)

@@ -31,7 +31,8 @@ result_of (failed_predicate at rule) = Err (parsing.FailedPredicate at rule)
 result_of (too_deep at) = Err (parsing.TooDeep at)
 
 -- a result is that of an ending, want of memory aside
-from_ending : (net : ParserNetwork) (word : List ℕ) (r : Result (List Item) ParseFault) → IsParse net word r → r ≢ Err parsing.NoMemory → (e : Ending) × Ends net word e × (result_of e ≡ r)
+from_ending : (net : ParserNetwork) (word : List ℕ) (r : Result (List Item) ParseFault) → IsParse net word r
+    → r ≢ Err parsing.NoMemory → (e : Ending) × Ends net word e × (result_of e ≡ r)
 from_ending net word (Ok tree) (t, p, e) n = (parsed t, p, ap Ok (sym e))
 from_ending net word (Err (parsing.NoViable at)) p n = (not_viable at, p, refl)
 from_ending net word (Err (parsing.Mismatch at state)) p n = (mismatch at state, p, refl)
@@ -48,10 +49,14 @@ one_parse net word a b p q n m =
 
 module _ (interpreter : Interpreter) where
   -- one lexing of the bytes, and one run over the tokens
-  one_lexing : (a b : List ℕ) (r s : Result Tokens LexFault) → a ≡ b → IsLexing interpreter.lexer a r → IsLexing interpreter.lexer b s → r ≢ Err lexing.NoMemory → s ≢ Err lexing.NoMemory → r ≡ s
-  one_lexing a b r s same h k n m = one_answer interpreter.lexer MOST_TOKENS b r s (subst (λ bs. IsLexing interpreter.lexer bs r) same h) k n m
+  one_lexing : (a b : List ℕ) (r s : Result Tokens LexFault) → a ≡ b → IsLexing interpreter.lexer a r → IsLexing interpreter.lexer b s
+      → r ≢ Err lexing.NoMemory → s ≢ Err lexing.NoMemory → r ≡ s
+  one_lexing a b r s same h k n m = one_answer interpreter.lexer MOST_TOKENS b r s
+      (subst (λ bs. IsLexing interpreter.lexer bs r) same h) k n m
 
-  one_run : (a b : Tokens) (r s : Result (List Item) ParseFault) → ◌≡◌ {A = Result Tokens LexFault} (Ok a) (Ok b) → IsParse interpreter.net (word_of a.list) r → IsParse interpreter.net (word_of b.list) s → r ≢ Err parsing.NoMemory → s ≢ Err parsing.NoMemory → r ≡ s
+  one_run : (a b : Tokens) (r s : Result (List Item) ParseFault) → ◌≡◌ {A = Result Tokens LexFault} (Ok a) (Ok b)
+      → IsParse interpreter.net (word_of a.list) r → IsParse interpreter.net (word_of b.list) s → r ≢ Err parsing.NoMemory
+      → s ≢ Err parsing.NoMemory → r ≡ s
   one_run a b r s ok h k n m =
       let same : a ≡ b = cc in
       one_parse interpreter.net (word_of b.list) r s (subst (λ (t : Tokens). IsParse interpreter.net (word_of t.list) r) same h) k n m
@@ -65,57 +70,72 @@ module _ (interpreter : Interpreter) where
   one_outcome input a b (not_lexed bytes fault p l f) (too_large n q) = absurd (let no_way : ⊥ = cc in no_way)
   one_outcome input a b (not_lexed bytes fault p l f) (not_lexed others error q m g) =
       let bytes_same : bytes ≡ others = cc in
-      let same : ◌≡◌ {A = Result Tokens LexFault} (Err fault) (Err error) = one_lexing bytes others (Err fault) (Err error) bytes_same l m (λ e. f cc) (λ e. g cc) in
+      let same : ◌≡◌ {A = Result Tokens LexFault} (Err fault) (Err error) =
+      one_lexing bytes others (Err fault) (Err error) bytes_same l m (λ e. f cc) (λ e. g cc) in
       let faults : fault ≡ error = cc in
       ap (λ k. outcomes.Lex k) faults
   one_outcome input a b (not_lexed bytes fault p l f) (not_parsed others tokens error q m r g) =
       let bytes_same : bytes ≡ others = cc in
-      let same : ◌≡◌ {A = Result Tokens LexFault} (Err fault) (Ok tokens) = one_lexing bytes others (Err fault) (Ok tokens) bytes_same l m (λ e. f cc) (λ e. cc) in
+      let same : ◌≡◌ {A = Result Tokens LexFault} (Err fault) (Ok tokens) =
+      one_lexing bytes others (Err fault) (Ok tokens) bytes_same l m (λ e. f cc) (λ e. cc) in
       absurd (let no_way : ⊥ = cc in no_way)
   one_outcome input a b (not_lexed bytes fault p l f) (has_tree others tokens tree q m r) =
       let bytes_same : bytes ≡ others = cc in
-      let same : ◌≡◌ {A = Result Tokens LexFault} (Err fault) (Ok tokens) = one_lexing bytes others (Err fault) (Ok tokens) bytes_same l m (λ e. f cc) (λ e. cc) in
+      let same : ◌≡◌ {A = Result Tokens LexFault} (Err fault) (Ok tokens) =
+      one_lexing bytes others (Err fault) (Ok tokens) bytes_same l m (λ e. f cc) (λ e. cc) in
       absurd (let no_way : ⊥ = cc in no_way)
   one_outcome input a b (not_parsed bytes tokens fault p l r f) (too_large n q) = absurd (let no_way : ⊥ = cc in no_way)
   one_outcome input a b (not_parsed bytes tokens fault p l r f) (not_lexed others error q m g) =
       let bytes_same : bytes ≡ others = cc in
-      let same : ◌≡◌ {A = Result Tokens LexFault} (Ok tokens) (Err error) = one_lexing bytes others (Ok tokens) (Err error) bytes_same l m (λ e. cc) (λ e. g cc) in
+      let same : ◌≡◌ {A = Result Tokens LexFault} (Ok tokens) (Err error) =
+      one_lexing bytes others (Ok tokens) (Err error) bytes_same l m (λ e. cc) (λ e. g cc) in
       absurd (let no_way : ⊥ = cc in no_way)
   one_outcome input a b (not_parsed bytes tokens fault p l r f) (not_parsed others also error q m s g) =
       let bytes_same : bytes ≡ others = cc in
-      let lexed : ◌≡◌ {A = Result Tokens LexFault} (Ok tokens) (Ok also) = one_lexing bytes others (Ok tokens) (Ok also) bytes_same l m (λ e. cc) (λ e. cc) in
-      let same : ◌≡◌ {A = Result (List Item) ParseFault} (Err fault) (Err error) = one_run tokens also (Err fault) (Err error) lexed r s (λ e. f cc) (λ e. g cc) in
+      let lexed : ◌≡◌ {A = Result Tokens LexFault} (Ok tokens) (Ok also) =
+      one_lexing bytes others (Ok tokens) (Ok also) bytes_same l m (λ e. cc) (λ e. cc) in
+      let same : ◌≡◌ {A = Result (List Item) ParseFault} (Err fault) (Err error) =
+      one_run tokens also (Err fault) (Err error) lexed r s (λ e. f cc) (λ e. g cc) in
       let tokens_same : tokens ≡ also = cc in
       let faults : fault ≡ error = cc in
       ap (λ t. outcomes.Parse t fault) tokens_same ∙ ap (λ k. outcomes.Parse also k) faults
   one_outcome input a b (not_parsed bytes tokens fault p l r f) (has_tree others also tree q m s) =
       let bytes_same : bytes ≡ others = cc in
-      let lexed : ◌≡◌ {A = Result Tokens LexFault} (Ok tokens) (Ok also) = one_lexing bytes others (Ok tokens) (Ok also) bytes_same l m (λ e. cc) (λ e. cc) in
-      let same : ◌≡◌ {A = Result (List Item) ParseFault} (Err fault) (Ok tree) = one_run tokens also (Err fault) (Ok tree) lexed r s (λ e. f cc) (λ e. cc) in
+      let lexed : ◌≡◌ {A = Result Tokens LexFault} (Ok tokens) (Ok also) =
+      one_lexing bytes others (Ok tokens) (Ok also) bytes_same l m (λ e. cc) (λ e. cc) in
+      let same : ◌≡◌ {A = Result (List Item) ParseFault} (Err fault) (Ok tree) =
+      one_run tokens also (Err fault) (Ok tree) lexed r s (λ e. f cc) (λ e. cc) in
       absurd (let no_way : ⊥ = cc in no_way)
   one_outcome input a b (has_tree bytes tokens tree p l r) (too_large n q) = absurd (let no_way : ⊥ = cc in no_way)
   one_outcome input a b (has_tree bytes tokens tree p l r) (not_lexed others error q m g) =
       let bytes_same : bytes ≡ others = cc in
-      let same : ◌≡◌ {A = Result Tokens LexFault} (Ok tokens) (Err error) = one_lexing bytes others (Ok tokens) (Err error) bytes_same l m (λ e. cc) (λ e. g cc) in
+      let same : ◌≡◌ {A = Result Tokens LexFault} (Ok tokens) (Err error) =
+      one_lexing bytes others (Ok tokens) (Err error) bytes_same l m (λ e. cc) (λ e. g cc) in
       absurd (let no_way : ⊥ = cc in no_way)
   one_outcome input a b (has_tree bytes tokens tree p l r) (not_parsed others also error q m s g) =
       let bytes_same : bytes ≡ others = cc in
-      let lexed : ◌≡◌ {A = Result Tokens LexFault} (Ok tokens) (Ok also) = one_lexing bytes others (Ok tokens) (Ok also) bytes_same l m (λ e. cc) (λ e. cc) in
-      let same : ◌≡◌ {A = Result (List Item) ParseFault} (Ok tree) (Err error) = one_run tokens also (Ok tree) (Err error) lexed r s (λ e. cc) (λ e. g cc) in
+      let lexed : ◌≡◌ {A = Result Tokens LexFault} (Ok tokens) (Ok also) =
+      one_lexing bytes others (Ok tokens) (Ok also) bytes_same l m (λ e. cc) (λ e. cc) in
+      let same : ◌≡◌ {A = Result (List Item) ParseFault} (Ok tree) (Err error) =
+      one_run tokens also (Ok tree) (Err error) lexed r s (λ e. cc) (λ e. g cc) in
       absurd (let no_way : ⊥ = cc in no_way)
   one_outcome input a b (has_tree bytes tokens tree p l r) (has_tree others also more q m s) =
       let bytes_same : bytes ≡ others = cc in
-      let lexed : ◌≡◌ {A = Result Tokens LexFault} (Ok tokens) (Ok also) = one_lexing bytes others (Ok tokens) (Ok also) bytes_same l m (λ e. cc) (λ e. cc) in
-      let same : ◌≡◌ {A = Result (List Item) ParseFault} (Ok tree) (Ok more) = one_run tokens also (Ok tree) (Ok more) lexed r s (λ e. cc) (λ e. cc) in
+      let lexed : ◌≡◌ {A = Result Tokens LexFault} (Ok tokens) (Ok also) =
+      one_lexing bytes others (Ok tokens) (Ok also) bytes_same l m (λ e. cc) (λ e. cc) in
+      let same : ◌≡◌ {A = Result (List Item) ParseFault} (Ok tree) (Ok more) =
+      one_run tokens also (Ok tree) (Ok more) lexed r s (λ e. cc) (λ e. cc) in
       let tokens_same : tokens ≡ also = cc in
       let trees : tree ≡ more = cc in
       ap (λ t. outcomes.Tree t tree) tokens_same ∙ ap (λ k. outcomes.Tree also k) trees
 
   -- inputs have at most one list of outcomes
-  pub one_outcome_each : (inputs : List Input) (a b : List Outcome) → AreOutcomes interpreter inputs a → AreOutcomes interpreter inputs b → a ≡ b
+  pub one_outcome_each : (inputs : List Input) (a b : List Outcome) → AreOutcomes interpreter inputs a
+      → AreOutcomes interpreter inputs b → a ≡ b
   one_outcome_each [] [] [] p q = refl
   one_outcome_each [] [] (y ∷ ys) p q = absurd q
   one_outcome_each [] (x ∷ xs) b p q = absurd p
   one_outcome_each (i ∷ is) [] b p q = absurd p
   one_outcome_each (i ∷ is) (x ∷ xs) [] p q = absurd q
-  one_outcome_each (i ∷ is) (x ∷ xs) (y ∷ ys) p q = ap (λ z. z ∷ xs) (one_outcome i x y p.0 q.0) ∙ ap (λ zs. y ∷ zs) (one_outcome_each is xs ys p.1 q.1)
+  one_outcome_each (i ∷ is) (x ∷ xs) (y ∷ ys) p q =
+      ap (λ z. z ∷ xs) (one_outcome i x y p.0 q.0) ∙ ap (λ zs. y ∷ zs) (one_outcome_each is xs ys p.1 q.1)

@@ -39,19 +39,24 @@ use Rattle.g4_tool.proofs.OneEnd.{one_end, same_built, same_inputs}
 use Rattle.g4_words.proofs.OneCommand.{one_command}
 
 -- the lines that are lent are written
-pub wrote_lent : {ob on eb en : Option (List ℕ)} (slice lines : List Line) → slice ≡ lines → Wrote slice ob on eb en → Wrote lines ob on eb en
+pub wrote_lent : {ob on eb en : Option (List ℕ)} (slice lines : List Line) → slice ≡ lines → Wrote slice ob on eb en
+    → Wrote lines ob on eb en
 wrote_lent {ob} {on} {eb} {en} slice lines same h = subst (λ (ls : List Line). Wrote ls ob on eb en) same h
 
 -- a front part of the lines that are lent is written
-pub reported_front : {ob on eb en : Option (List ℕ)} (files : Files) (words : List (List ℕ)) (slice : List Line) (report : Report) → slice ≡ report.lines → IsReport files words report → WroteFront slice ob on eb en →
+pub reported_front : {ob on eb en : Option (List ℕ)} (files : Files) (words : List (List ℕ)) (slice : List Line) (report : Report)
+    → slice ≡ report.lines → IsReport files words report → WroteFront slice ob on eb en →
     HasReportedFront files words ob on eb en
-reported_front {ob} {on} {eb} {en} files words slice report same is h = inr (record { report = report; is = is; lines = subst (λ (ls : List Line). WroteFront ls ob on eb en) same h })
+reported_front {ob} {on} {eb} {en} files words slice report same is h =
+    inr (record { report = report; is = is; lines = subst (λ (ls : List Line). WroteFront ls ob on eb en) same h })
 
 -- a command line that stops before any file is parsed
-pub reports_stop : (files : Files) (words : List (List ℕ)) (stop : Stop) (report : Report) → HasEnd files words (stopped stop) → IsReportOf (stopped stop) report → IsReport files words report
+pub reports_stop : (files : Files) (words : List (List ℕ)) (stop : Stop) (report : Report) → HasEnd files words (stopped stop)
+    → IsReportOf (stopped stop) report → IsReport files words report
 reports_stop files words stop report has is = record { end = stopped stop; has = has; is = is; meant = λ parse is_parse. tt }
 
-module _ (files : Files) (words : List (List ℕ)) (check : Check) (fetched : List (List ℕ)) (command : IsCommand words (commands.Check check)) where
+module _ (files : Files) (words : List (List ℕ)) (check : Check) (fetched : List (List ℕ))
+    (command : IsCommand words (commands.Check check)) where
   -- a grammar that is not checked
   pub stops_unchecked : (halt : Halt) → IsHaltOf (Loads files check.grammar fetched) halt → ReportsOrHalts files words (Err halt)
   stops_unchecked (halts.Stop stop) h = of_command (commands.Check check) (stopped stop) command (not_checked fetched stop h)
@@ -59,8 +64,15 @@ module _ (files : Files) (words : List (List ℕ)) (check : Check) (fetched : Li
   stops_unchecked halts.NoMemory h = tt
 
   -- a grammar that is checked
-  pub reports_checked : (grammar : Loaded) (report : Report) → Loads files check.grammar fetched (Ok grammar) → IsReportOf (checked grammar) report → IsReport files words report
-  reports_checked grammar report loads is = record { end = checked grammar; has = of_command (commands.Check check) (checked grammar) command (grammar_checked fetched grammar loads); is = is; meant = λ parse is_parse. tt }
+  pub reports_checked : (grammar : Loaded) (report : Report) → Loads files check.grammar fetched (Ok grammar)
+      → IsReportOf (checked grammar) report → IsReport files words report
+  reports_checked grammar report loads is = record {
+    end = checked grammar;
+    has = of_command (commands.Check check) (checked grammar) command
+        (grammar_checked fetched grammar loads);
+    is = is;
+    meant = λ parse is_parse. tt;
+  }
 
 module _ (files : Files) (words : List (List ℕ)) (atn : Atn) (fetched : List (List ℕ)) (command : IsCommand words (commands.Atn atn)) where
   -- a rule that is not listed
@@ -70,10 +82,17 @@ module _ (files : Files) (words : List (List ℕ)) (atn : Atn) (fetched : List (
   stops_unlisted halts.NoMemory h = tt
 
   -- a rule that is listed
-  pub reports_listed : (listing : List ℕ) (report : Report) → Lists files atn.grammar atn.rule fetched (Ok listing) → IsReportOf (listed listing) report → IsReport files words report
-  reports_listed listing report lists is = record { end = listed listing; has = of_command (commands.Atn atn) (listed listing) command (rule_listed fetched listing lists); is = is; meant = λ parse is_parse. tt }
+  pub reports_listed : (listing : List ℕ) (report : Report) → Lists files atn.grammar atn.rule fetched (Ok listing)
+      → IsReportOf (listed listing) report → IsReport files words report
+  reports_listed listing report lists is = record {
+    end = listed listing;
+    has = of_command (commands.Atn atn) (listed listing) command (rule_listed fetched listing lists);
+    is = is;
+    meant = λ parse is_parse. tt;
+  }
 
-module _ (files : Files) (words : List (List ℕ)) (parse : Parse) (fetched : List (List ℕ)) (command : IsCommand words (commands.Parse parse)) where
+module _ (files : Files) (words : List (List ℕ)) (parse : Parse) (fetched : List (List ℕ))
+    (command : IsCommand words (commands.Parse parse)) where
   -- a command without an interpreter
   pub stops_unbuilt : (halt : Halt) → IsHaltOf (Builds files parse.grammar parse.start fetched) halt → ReportsOrHalts files words (Err halt)
   stops_unbuilt (halts.Stop stop) h = of_command (commands.Parse parse) (stopped stop) command (not_built fetched stop h)
@@ -82,35 +101,45 @@ module _ (files : Files) (words : List (List ℕ)) (parse : Parse) (fetched : Li
 
   module _ (interpreter : Interpreter) (built : Builds files parse.grammar parse.start fetched (Ok interpreter)) where
     -- a command without one of its files
-    pub stops_absent : {X : Type 0} (view : X → List Input) (halt : Halt) → GivesInputs view (inputs_of files parse.files) (Err halt) → ReportsOrHalts files words (Err halt)
+    pub stops_absent : {X : Type 0} (view : X → List Input) (halt : Halt) → GivesInputs view (inputs_of files parse.files) (Err halt)
+        → ReportsOrHalts files words (Err halt)
     stops_absent view (halts.Stop stops.Usage) h = absurd h
-    stops_absent view (halts.Stop (stops.Absent name)) h = of_command (commands.Parse parse) (stopped (stops.Absent name)) command (file_absent fetched interpreter name built h)
+    stops_absent view (halts.Stop (stops.Absent name)) h =
+        of_command (commands.Parse parse) (stopped (stops.Absent name)) command (file_absent fetched interpreter name built h)
     stops_absent view (halts.Stop (stops.TooLarge name size)) h = absurd h
     stops_absent view (halts.Stop (stops.Fault name fault)) h = absurd h
     stops_absent view halts.Failed h = tt
     stops_absent view halts.NoMemory h = tt
 
     -- a command whose files are parsed
-    pub reports_files : (inputs : List Input) (made : Parsed) (count : ℕ) (report : Report) → inputs_of files parse.files ≡ Ok inputs → length parse.files ≡ length inputs → count ≡ length parse.files →
+    pub reports_files : (inputs : List Input) (made : Parsed) (count : ℕ) (report : Report) → inputs_of files parse.files ≡ Ok inputs
+        → length parse.files ≡ length inputs → count ≡ length parse.files →
         AreParsed parse.output interpreter parse.files inputs made → IsReportOfFiles made count report → IsReport files words report
     reports_files inputs made count report there paired counted are is =
         let all : count ≡ length are.outcomes = counted ∙ paired ∙ sym (as_many interpreter inputs are.outcomes are.are) in record {
           end = all_parsed parse.output interpreter parse.files are.outcomes;
-          has = of_command (commands.Parse parse) (all_parsed parse.output interpreter parse.files are.outcomes) command (files_parsed fetched interpreter inputs are.outcomes built there are.are);
+          has = of_command (commands.Parse parse) (all_parsed parse.output interpreter parse.files are.outcomes) command
+              (files_parsed fetched interpreter inputs are.outcomes built there are.are);
           is = record {
             lines = is.lines ∙ ap (λ ls. ls ++ closing_line count made.accepted ∷ []) are.lines
                 ∙ ap (λ n. lines_of_files parse.output interpreter parse.files are.outcomes ++ closing_line n made.accepted ∷ []) all
-                ∙ ap (λ n. lines_of_files parse.output interpreter parse.files are.outcomes ++ closing_line (length are.outcomes) n ∷ []) are.accepted;
-            status = is.status ∙ ap (λ (n : ℕ). if made.accepted == n then Done else Refused) all ∙ ap (λ (n : ℕ). if n == length are.outcomes then Done else Refused) are.accepted
+                ∙ ap (λ n. lines_of_files parse.output interpreter parse.files are.outcomes ++ closing_line (length are.outcomes) n
+                ∷ []) are.accepted;
+            status = is.status ∙ ap (λ (n : ℕ). if made.accepted == n then Done else Refused) all
+                ∙ ap (λ (n : ℕ). if n == length are.outcomes then Done else Refused) are.accepted
                 ∙ ap (λ (b : Bool). if b then Done else Refused) (all_counted are.outcomes);
           };
           meant = λ other is_other. (
-              let one : commands.Parse parse ≡ commands.Parse other = one_command words (commands.Parse parse) (commands.Parse other) command is_other in
+              let one : commands.Parse parse ≡ commands.Parse other =
+              one_command words (commands.Parse parse) (commands.Parse other) command is_other in
               let same : parse ≡ other = cc in
-              meant_from interpreter other.start are.outcomes (subst (λ (q : Parse). IsNetworkFrom interpreter q.start) same (network_from files parse.grammar parse.start fetched interpreter built)) are.meant);
+              meant_from interpreter other.start are.outcomes
+              (subst (λ (q : Parse). IsNetworkFrom interpreter q.start) same
+              (network_from files parse.grammar parse.start fetched interpreter built)) are.meant);
         }
 
-module _ (files : Files) (words : List (List ℕ)) (answer : Status) (report : Report) (is : IsReport files words report) (same : answer ≡ report.status) where
+module _ (files : Files) (words : List (List ℕ)) (answer : Status) (report : Report) (is : IsReport files words report)
+    (same : answer ≡ report.status) where
   -- each status comes exactly where the words have an end with it
   pub comes_exactly : ComesExactly files words answer
   comes_exactly status = (
@@ -134,8 +163,10 @@ module _ (files : Files) (words : List (List ℕ)) (answer : Status) (report : R
 
   done_or_refused : (end : End) → HasEnd files words end → CanBeRun files words → (status_of end ≡ Done) ⊎ (status_of end ≡ Refused)
   done_or_refused _ (no_command none) can = absurd (none (commands.Parse can.parse) can.command)
-  done_or_refused _ (of_command command end is h) can = parse_done can end (subst (λ (c : Command). Ends files c end) (one_command words command (commands.Parse can.parse) is can.command) h)
+  done_or_refused _ (of_command command end is h) can =
+      parse_done can end (subst (λ (c : Command). Ends files c end) (one_command words command (commands.Parse can.parse) is can.command) h)
 
   -- a command that can be run is Done or Refused
   pub is_complete : IsComplete files words answer
-  is_complete can = elim (done_or_refused is.end is.has can) [ inl done ↦ inl (same ∙ is.is.status ∙ done) | inr refused ↦ inr (same ∙ is.is.status ∙ refused) ]
+  is_complete can = elim (done_or_refused is.end is.has can)
+      [ inl done ↦ inl (same ∙ is.is.status ∙ done) | inr refused ↦ inr (same ∙ is.is.status ∙ refused) ]

@@ -19,6 +19,9 @@ StatusCounts usage misses_before misses_now NoMemory = ⊥
 
 -- the counts where a report is made, or where a fetch failed or memory ran out
 abbrev pub ReportCounts : Type 0 → ℕ → ℕ → ℕ → ℕ → Result Report Stopped → Type 0
-ReportCounts usage faults_before faults_now misses_before misses_now (Ok report) = (faults_now ≡ faults_before) × StatusCounts usage misses_before misses_now report.status
-ReportCounts usage faults_before faults_now misses_before misses_now (Err stopped.Failed) = Rose faults_before faults_now × (misses_before ≤ misses_now)
-ReportCounts usage faults_before faults_now misses_before misses_now (Err stopped.NoMemory) = (faults_now ≡ faults_before) × (misses_before ≤ misses_now)
+ReportCounts usage faults_before faults_now misses_before misses_now (Ok report) = (faults_now ≡ faults_before)
+    × StatusCounts usage misses_before misses_now report.status
+ReportCounts usage faults_before faults_now misses_before misses_now (Err stopped.Failed) = Rose faults_before faults_now
+    × (misses_before ≤ misses_now)
+ReportCounts usage faults_before faults_now misses_before misses_now (Err stopped.NoMemory) = (faults_now ≡ faults_before)
+    × (misses_before ≤ misses_now)

@@ -38,19 +38,28 @@ pub data End : Type 0 where
 
 -- The end of `check`: its grammar is loaded, or not.
 pub data EndsCheck (files : Files) (check : Check) : End → Type 0 where
-  not_checked : (fetched : List (List ℕ)) (stop : Stop) → Loads files check.grammar fetched (Err stop) → EndsCheck files check (stopped stop)
-  grammar_checked : (fetched : List (List ℕ)) (grammar : Loaded) → Loads files check.grammar fetched (Ok grammar) → EndsCheck files check (checked grammar)
+  not_checked : (fetched : List (List ℕ)) (stop : Stop) → Loads files check.grammar fetched (Err stop)
+      → EndsCheck files check (stopped stop)
+  grammar_checked : (fetched : List (List ℕ)) (grammar : Loaded) → Loads files check.grammar fetched (Ok grammar)
+      → EndsCheck files check (checked grammar)
 
 -- The end of `atn`: its rule is listed, or not.
 pub data EndsAtn (files : Files) (atn : Atn) : End → Type 0 where
-  not_listed : (fetched : List (List ℕ)) (stop : Stop) → Lists files atn.grammar atn.rule fetched (Err stop) → EndsAtn files atn (stopped stop)
-  rule_listed : (fetched : List (List ℕ)) (listing : List ℕ) → Lists files atn.grammar atn.rule fetched (Ok listing) → EndsAtn files atn (listed listing)
+  not_listed : (fetched : List (List ℕ)) (stop : Stop) → Lists files atn.grammar atn.rule fetched (Err stop)
+      → EndsAtn files atn (stopped stop)
+  rule_listed : (fetched : List (List ℕ)) (listing : List ℕ) → Lists files atn.grammar atn.rule fetched (Ok listing)
+      → EndsAtn files atn (listed listing)
 
 -- The end of `parse`: its grammar is not built, or one of its files is absent, or each has an outcome.
 pub data EndsParse (files : Files) (parse : Parse) : End → Type 0 where
-  not_built : (fetched : List (List ℕ)) (stop : Stop) → Builds files parse.grammar parse.start fetched (Err stop) → EndsParse files parse (stopped stop)
-  file_absent : (fetched : List (List ℕ)) (interpreter : Interpreter) (name : List ℕ) → Builds files parse.grammar parse.start fetched (Ok interpreter) → inputs_of files parse.files ≡ Err name → EndsParse files parse (stopped (stops.Absent name))
-  files_parsed : (fetched : List (List ℕ)) (interpreter : Interpreter) (inputs : List Input) (outcomes : List Outcome) → Builds files parse.grammar parse.start fetched (Ok interpreter) → inputs_of files parse.files ≡ Ok inputs → AreOutcomes interpreter inputs outcomes →
+  not_built : (fetched : List (List ℕ)) (stop : Stop) → Builds files parse.grammar parse.start fetched (Err stop)
+      → EndsParse files parse (stopped stop)
+  file_absent : (fetched : List (List ℕ)) (interpreter : Interpreter) (name : List ℕ)
+      → Builds files parse.grammar parse.start fetched (Ok interpreter) → inputs_of files parse.files ≡ Err name
+      → EndsParse files parse (stopped (stops.Absent name))
+  files_parsed : (fetched : List (List ℕ)) (interpreter : Interpreter) (inputs : List Input) (outcomes : List Outcome)
+      → Builds files parse.grammar parse.start fetched (Ok interpreter) → inputs_of files parse.files ≡ Ok inputs
+      → AreOutcomes interpreter inputs outcomes →
       EndsParse files parse (all_parsed parse.output interpreter parse.files outcomes)
 
 -- the end of a command
@@ -110,7 +119,8 @@ abbrev pub lines_of : End → List Line
 lines_of (stopped stop) = stop_line stop ∷ []
 lines_of (listed listing) = ToOut listing ∷ []
 lines_of (checked grammar) = checked_line (length grammar.rules) (length grammar.shown) ∷ []
-lines_of (all_parsed output interpreter names outcomes) = lines_of_files output interpreter names outcomes ++ closing_line (length outcomes) (count_by is_accepted outcomes) ∷ []
+lines_of (all_parsed output interpreter names outcomes) =
+    lines_of_files output interpreter names outcomes ++ closing_line (length outcomes) (count_by is_accepted outcomes) ∷ []
 
 -- the status of an end
 abbrev pub status_of : End → Status

@@ -1,9 +1,10 @@
-pub mod Texts
+-- Only this crate cites these.
+pub mod Counting
+pub mod Ends
 pub mod Inputs
 pub mod Meaning
 pub mod Outcomes
-pub mod Ends
 pub mod Report
-pub mod Counting
 pub mod Running
+pub mod Texts
 pub mod Writing

@@ -27,9 +27,14 @@ use Rattle.g4_tool.specs.declared.write.Line.{Line}
 -- The outcome of an input: its size past the limit, the fault of its lexing, or the tree or the fault of the run over its tokens.
 pub data IsOutcome (interpreter : Interpreter) (input : Input) : Outcome → Type 0 where
   too_large : (size : ℕ) → input ≡ inputs.TooLarge size → IsOutcome interpreter input (outcomes.TooLarge size)
-  not_lexed : (bytes : List ℕ) (fault : LexFault) → input ≡ inputs.Bytes bytes → IsLexing interpreter.lexer bytes (Err fault) → fault ≢ lexing.NoMemory → IsOutcome interpreter input (outcomes.Lex fault)
-  not_parsed : (bytes : List ℕ) (tokens : Tokens) (fault : ParseFault) → input ≡ inputs.Bytes bytes → IsLexing interpreter.lexer bytes (Ok tokens) → IsParse interpreter.net (word_of tokens.list) (Err fault) → fault ≢ parsing.NoMemory → IsOutcome interpreter input (outcomes.Parse tokens fault)
-  parsed : (bytes : List ℕ) (tokens : Tokens) (tree : List Item) → input ≡ inputs.Bytes bytes → IsLexing interpreter.lexer bytes (Ok tokens) → IsParse interpreter.net (word_of tokens.list) (Ok tree) → IsOutcome interpreter input (outcomes.Tree tokens tree)
+  not_lexed : (bytes : List ℕ) (fault : LexFault) → input ≡ inputs.Bytes bytes → IsLexing interpreter.lexer bytes (Err fault)
+      → fault ≢ lexing.NoMemory → IsOutcome interpreter input (outcomes.Lex fault)
+  not_parsed : (bytes : List ℕ) (tokens : Tokens) (fault : ParseFault) → input ≡ inputs.Bytes bytes
+      → IsLexing interpreter.lexer bytes (Ok tokens) → IsParse interpreter.net (word_of tokens.list) (Err fault)
+      → fault ≢ parsing.NoMemory → IsOutcome interpreter input (outcomes.Parse tokens fault)
+  parsed : (bytes : List ℕ) (tokens : Tokens) (tree : List Item) → input ≡ inputs.Bytes bytes
+      → IsLexing interpreter.lexer bytes (Ok tokens) → IsParse interpreter.net (word_of tokens.list) (Ok tree)
+      → IsOutcome interpreter input (outcomes.Tree tokens tree)
 
 -- an outcome for each input, in order
 abbrev pub AreOutcomes : Interpreter → List Input → List Outcome → Type 0
@@ -105,10 +110,12 @@ outcome_lines output interpreter name (outcomes.TooLarge size) = large_line name
 abbrev pub lines_of_files : Output → Interpreter → List (List ℕ) → List Outcome → List Line
 lines_of_files output interpreter [] os = []
 lines_of_files output interpreter (name ∷ names) [] = []
-lines_of_files output interpreter (name ∷ names) (outcome ∷ os) = outcome_lines output interpreter name outcome ++ lines_of_files output interpreter names os
+lines_of_files output interpreter (name ∷ names) (outcome ∷ os) =
+    outcome_lines output interpreter name outcome ++ lines_of_files output interpreter names os
 
 -- the lines of files and how many are accepted, from an outcome for each, which says what it is to mean
-pub record AreParsed (output : Output) (interpreter : Interpreter) (names : List (List ℕ)) (inputs : List Input) (parsed : Parsed) : Type 0 where
+pub record AreParsed (output : Output) (interpreter : Interpreter) (names : List (List ℕ)) (inputs : List Input) (parsed : Parsed) :
+    Type 0 where
   pub outcomes : List Outcome
   pub are : AreOutcomes interpreter inputs outcomes
   pub lines : parsed.lines.items ≡ lines_of_files output interpreter names outcomes

@@ -9,7 +9,8 @@ use Rattle.g4_tool.specs.declared.status.Status.{Status}
 use Rattle.g4_tool.specs.declared.status.Status.TheVariants.{Done, Refused, Usage, GrammarRefused, Unread, Unwritten, NoMemory}
 
 -- the outputs have taken the whole report of the words, and the status is its own
-pub record HasReported (files : Files) (words : List (List ℕ)) (answer : Status) (out_before out_now err_before err_now : Option (List ℕ)) : Type 0 where
+pub record HasReported (files : Files) (words : List (List ℕ)) (answer : Status)
+    (out_before out_now err_before err_now : Option (List ℕ)) : Type 0 where
   pub report : Report
   pub is : IsReport files words report
   pub status : answer ≡ report.status
@@ -27,7 +28,8 @@ HasReportedFront files words out_before out_now err_before err_now =
     ((out_now ≡ out_before) × (err_now ≡ err_before)) ⊎ HasFront files words out_before out_now err_before err_now
 
 -- In this call the source has these files, no fetch and no put failed, and memory was not refused.
-pub record NothingFails (files : Files) (told : Option Files) (fetches_before fetches_now out_before out_now err_before err_now : ℕ) (answer : Status) : Type 0 where
+pub record NothingFails (files : Files) (told : Option Files) (fetches_before fetches_now out_before out_now err_before err_now : ℕ)
+    (answer : Status) : Type 0 where
   pub tells : told ≡ Some files
   pub fetches : ¬ Rose fetches_before fetches_now
   pub out : ¬ Rose out_before out_now
@@ -36,7 +38,8 @@ pub record NothingFails (files : Files) (told : Option Files) (fetches_before fe
 
 -- The outputs have taken the whole report, each status comes exactly where the words have an end with it, and a command that
 -- can be run is Done or Refused.
-pub record IsWhole (files : Files) (words : List (List ℕ)) (answer : Status) (out_before out_now err_before err_now : Option (List ℕ)) : Type 0 where
+pub record IsWhole (files : Files) (words : List (List ℕ)) (answer : Status)
+    (out_before out_now err_before err_now : Option (List ℕ)) : Type 0 where
   pub reported : HasReported files words answer out_before out_now err_before err_now
   pub exactly : ComesExactly files words answer
   pub complete : IsComplete files words answer

@@ -60,15 +60,18 @@ line_of_tokens types name tokens = ToOut (token_lines types name tokens)
 -- the line of a token that a state does not take
 abbrev pub mismatch_line : List (List ℕ) → ParserNetwork → List ℕ → Tokens → ℕ → ℕ → Line
 mismatch_line types net name tokens at state =
-    ToErr (((((at_place name (place_of_token tokens.list at) ++ codes "mismatched input '") ++ text_at tokens at) ++ codes "' expecting ") ++ shown_set types (taken_by (state_at net state))) ++ codes "\n")
+    ToErr (((((at_place name (place_of_token tokens.list at) ++ codes "mismatched input '") ++ text_at tokens at)
+    ++ codes "' expecting ") ++ shown_set types (taken_by (state_at net state))) ++ codes "\n")
 
 -- the line of a token with which no alternative continues
 abbrev pub no_viable_line : List ℕ → Tokens → ℕ → Line
-no_viable_line name tokens at = ToErr (((at_place name (place_of_token tokens.list at) ++ codes "no viable alternative at input '") ++ text_at tokens at) ++ codes "'\n")
+no_viable_line name tokens at = ToErr (((at_place name (place_of_token tokens.list at) ++ codes "no viable alternative at input '")
+    ++ text_at tokens at) ++ codes "'\n")
 
 -- the line of a predicate or level that is false in an open rule
 abbrev pub failed_predicate_line : List (List ℕ) → List ℕ → Tokens → ℕ → ℕ → Line
-failed_predicate_line names name tokens at rule = ToErr (((at_place name (place_of_token tokens.list at) ++ codes "rule ") ++ name_of names rule) ++ codes " failed predicate\n")
+failed_predicate_line names name tokens at rule =
+    ToErr (((at_place name (place_of_token tokens.list at) ++ codes "rule ") ++ name_of names rule) ++ codes " failed predicate\n")
 
 -- the line of a call with too many rules open
 abbrev pub too_deep_line : List ℕ → Tokens → ℕ → Line
@@ -81,7 +84,8 @@ character_text None = codes "<EOF>"
 
 -- the line of a character at which no token begins, or of the end of the file in a token that has begun
 abbrev pub no_token_line : List ℕ → Place → Option ℕ → Line
-no_token_line name place character = ToErr (((at_place name place ++ codes "token recognition error at: '") ++ character_text character) ++ codes "'\n")
+no_token_line name place character = ToErr (((at_place name place ++ codes "token recognition error at: '")
+    ++ character_text character) ++ codes "'\n")
 
 -- the line of a match whose command goes back to a mode, where none is pushed
 abbrev pub empty_mode_stack_line : List ℕ → Place → Line
@@ -145,7 +149,8 @@ no_primary_line name rule = ToErr (name ++ (codes ": rule " ++ (rule ++ codes " 
 
 -- the line of a rule and the number of its alternative that begins with the rule itself and goes on with the empty word
 abbrev pub empty_operator_line : List ℕ → List ℕ → ℕ → Line
-empty_operator_line name rule i = ToErr (name ++ (codes ": rule " ++ (rule ++ (codes " alternative " ++ (decimal i ++ codes " is an empty operator\n")))))
+empty_operator_line name rule i = ToErr (name
+    ++ (codes ": rule " ++ (rule ++ (codes " alternative " ++ (decimal i ++ codes " is an empty operator\n")))))
 
 -- names, with `, ` between them
 abbrev pub more_names : List (List ℕ) → List ℕ

@@ -39,7 +39,8 @@ pub record WroteFront (lines : List Line) (out_before out_now err_before err_now
 
 -- the count of faults of one output has risen, and the other's is the same
 abbrev pub OneRose : ℕ → ℕ → ℕ → ℕ → Type 0
-OneRose out_before out_now err_before err_now = (Rose out_before out_now × (err_now ≡ err_before)) ⊎ ((out_now ≡ out_before) × Rose err_before err_now)
+OneRose out_before out_now err_before err_now = (Rose out_before out_now × (err_now ≡ err_before))
+    ⊎ ((out_now ≡ out_before) × Rose err_before err_now)
 
 -- the counts of faults of both outputs are the same
 abbrev pub NoneRose : ℕ → ℕ → ℕ → ℕ → Type 0

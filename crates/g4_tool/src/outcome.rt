@@ -19,8 +19,8 @@ use g4_base::{MOST_BYTES, Octets, Sequence};
 use g4_lexer::{LexFault, tokens};
 use g4_load::Interpreter;
 use g4_parse::{ParseFault, parse};
-use g4_trees::{Tree, push_token_lines};
 use g4_tokens::Tokens;
+use g4_trees::{Tree, push_token_lines};
 use g4_words::Output;
 use std::alloc::{AllocError, Global};
 

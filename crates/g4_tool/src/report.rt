@@ -190,7 +190,8 @@ pub fn make_report<S: Shelf, G: Gate>(
 ) -> Result<Report, Stopped>
     ensures keeps { S.told shelf.new ≡ S.told shelf.old }
     ensures content { (files : Files) → S.told shelf.old ≡ Some files → IfOk result (IsReport files (map string_bytes words.now)) }
-    ensures usage { IsNoCommand (map string_bytes words.now) → MatchResult result (λ report. report.status ≡ Status.Usage) (λ stopped. stopped ≡ Stopped.NoMemory) }
+    ensures usage { IsNoCommand (map string_bytes words.now)
+        → MatchResult result (λ report. report.status ≡ Status.Usage) (λ stopped. stopped ≡ Stopped.NoMemory) }
     ensures counts { ReportCounts (IsNoCommand (map string_bytes words.now))
         (S.faults shelf.old) (S.faults shelf.new) (S.misses shelf.old) (S.misses shelf.new) result }
 {

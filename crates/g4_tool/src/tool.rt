@@ -26,7 +26,8 @@ pub fn run<R: Threads + Sync, S: Shelf, O: Sink, E: Sink, G: Gate>(
 ) -> Status
     // Where nothing fails, both outputs have taken the whole report, and the status is its own.
     ensures whole { (files : Files)
-        → NothingFails files (S.told shelf.old) (S.faults shelf.old) (S.faults shelf.new) (O.faults out.old) (O.faults out.new) (E.faults err.old) (E.faults err.new) result
+        → NothingFails files (S.told shelf.old) (S.faults shelf.old) (S.faults shelf.new) (O.faults out.old) (O.faults out.new)
+        (E.faults err.old) (E.faults err.new) result
         → IsWhole files (map string_bytes words.now) result (O.taken out.old) (O.taken out.new) (E.taken err.old) (E.taken err.new) }
     // Whatever fails, the outputs have taken nothing, or lines of the report up to some place and nothing after it.
     ensures part { (files : Files) → S.told shelf.old ≡ Some files
@@ -35,7 +36,8 @@ pub fn run<R: Threads + Sync, S: Shelf, O: Sink, E: Sink, G: Gate>(
     ensures silent { (result ≡ Status.NoMemory) ⊎ (S.faults shelf.new ≢ S.faults shelf.old)
         → (O.taken out.new ≡ O.taken out.old) × (E.taken err.new ≡ E.taken err.old) }
     // Usage comes exactly where the words are no command, whether the files are known or not.
-    ensures usage { ¬ (Rose (O.faults out.old) (O.faults out.new)) → ¬ (Rose (E.faults err.old) (E.faults err.new)) → result ≢ Status.NoMemory
+    ensures usage { ¬ (Rose (O.faults out.old) (O.faults out.new)) → ¬ (Rose (E.faults err.old) (E.faults err.new))
+        → result ≢ Status.NoMemory
         → ((result ≡ Status.Usage) ↔ (IsNoCommand (map string_bytes words.now))) }
     // Each status has its cause, whether the files are known or not.
     ensures causes { HasCauses (IsNoCommand (map string_bytes words.now))

@@ -11,11 +11,14 @@ use Rattle.g4_grammar.specs.StepRules.{StepRule}
 use Rattle.g4_tree_check.specs.TreesOf.{IsBody}
 
 -- an alternative that is looked up
-pub body_at : (r : StepRule) (i : ℕ) (a : RuleAlternative (Step (List ℕ))) → slice_get r.alternatives i ≡ Some a → slice_get (bodies_of r) i ≡ Some a.elements
-body_at r i a at = slice_get-map (λ (b : RuleAlternative (Step (List ℕ))). b.elements) r.alternatives i ∙ ap (option_map (λ (b : RuleAlternative (Step (List ℕ))). b.elements)) at
+pub body_at : (r : StepRule) (i : ℕ) (a : RuleAlternative (Step (List ℕ))) → slice_get r.alternatives i ≡ Some a
+    → slice_get (bodies_of r) i ≡ Some a.elements
+body_at r i a at = slice_get-map (λ (b : RuleAlternative (Step (List ℕ))). b.elements) r.alternatives i
+    ∙ ap (option_map (λ (b : RuleAlternative (Step (List ℕ))). b.elements)) at
 
 -- there is one alternative of these numbers at most
-pub one_body : (rules : List StepRule) (rule alt : ℕ) (x y : Elements (Step (List ℕ))) → IsBody rules rule alt x → IsBody rules rule alt y → x ≡ y
+pub one_body : (rules : List StepRule) (rule alt : ℕ) (x y : Elements (Step (List ℕ))) → IsBody rules rule alt x
+    → IsBody rules rule alt y → x ≡ y
 one_body rules rule alt x y (k, i, r, rule_is, alt_is, at, body) (l, j, s, rule_same, alt_same, there, other) =
     let same_rule : l ≡ k = omega arith in
     let same_alt : j ≡ i = omega arith in

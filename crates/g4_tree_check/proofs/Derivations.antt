@@ -40,19 +40,23 @@ module _ {A W : Type 0} (Reads : A → List W → Type 0) where
   pub once_parts : (label : Option Label) (xs : Alternatives A) (w : List W) → Gives (block label Once xs) w → GivesOne xs w
   once_parts label xs w (a_block name ys z h) = h
 
-  pub optional_parts : (label : Option Label) (sign : Suffix) (xs : Alternatives A) (w : List W) → Gives (block label (Optional sign) xs) w → (w ≡ []) ⊎ GivesOne xs w
+  pub optional_parts : (label : Option Label) (sign : Suffix) (xs : Alternatives A) (w : List W)
+      → Gives (block label (Optional sign) xs) w → (w ≡ []) ⊎ GivesOne xs w
   optional_parts label sign xs w (left_out name s ys) = inl refl
   optional_parts label sign xs w (taken name s ys z h) = inr h
 
-  pub star_parts : (label : Option Label) (sign : Suffix) (xs : Alternatives A) (w : List W) → Gives (block label (Star sign) xs) w → (w ≡ []) ⊎ Joined (GivesOne xs) (Gives (block label (Star sign) xs)) w
+  pub star_parts : (label : Option Label) (sign : Suffix) (xs : Alternatives A) (w : List W) → Gives (block label (Star sign) xs) w
+      → (w ≡ []) ⊎ Joined (GivesOne xs) (Gives (block label (Star sign) xs)) w
   star_parts label sign xs w (no_turn name s ys) = inl refl
   star_parts label sign xs w (a_turn name s ys u v z h hs is) = inr (u, v, is, h, hs)
 
-  pub plus_parts : (label : Option Label) (sign : Suffix) (xs : Alternatives A) (w : List W) → Gives (block label (Plus sign) xs) w → Joined (GivesOne xs) (Gives (block label (Star sign) xs)) w
+  pub plus_parts : (label : Option Label) (sign : Suffix) (xs : Alternatives A) (w : List W) → Gives (block label (Plus sign) xs) w
+      → Joined (GivesOne xs) (Gives (block label (Star sign) xs)) w
   plus_parts label sign xs w (turns name s ys u v z h hs is) = (u, v, is, h, hs)
 
   -- a star that derives a word that is not empty has a turn that is not
-  pub star_turn : (label : Option Label) (sign : Suffix) (xs : Alternatives A) (c : W) (w z : List W) → Gives (block label (Star sign) xs) z → z ≡ c ∷ w → Joined (λ u. GivesOne xs (c ∷ u)) (Gives (block label (Star sign) xs)) w
+  pub star_turn : (label : Option Label) (sign : Suffix) (xs : Alternatives A) (c : W) (w z : List W)
+      → Gives (block label (Star sign) xs) z → z ≡ c ∷ w → Joined (λ u. GivesOne xs (c ∷ u)) (Gives (block label (Star sign) xs)) w
   star_turn label sign xs c w z (no_turn name s ys) e = absurd (let n : ⊥ = cc in n)
   star_turn label sign xs c w z (a_turn name s ys [] v y h hs is) e = star_turn label sign xs c w v hs (sym is ∙ e)
   star_turn label sign xs c w z (a_turn name s ys (d ∷ u) v y h hs is) e =

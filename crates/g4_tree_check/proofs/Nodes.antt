@@ -23,17 +23,20 @@ module _ {A : Type 0} where
   abbrev pub sides_from : List (Side A) → ℕ → Alternatives A
   sides_from all i = either (map alternative_of (drop i all))
 
-  pub elements_more : (all : List (Node A)) (i : ℕ) (node : Node A) → i < length all → node ≡ get_or all i node → elements_from all i ≡ then (element_of node) (elements_from all (i + 1))
+  pub elements_more : (all : List (Node A)) (i : ℕ) (node : Node A) → i < length all → node ≡ get_or all i node
+      → elements_from all i ≡ then (element_of node) (elements_from all (i + 1))
   elements_more all i node within item = ap (λ (xs : List (Node A)). in_order (map element_of xs)) (from all i node within item)
 
   pub elements_none : (all : List (Node A)) (i : ℕ) → length all ≤ i → elements_from all i ≡ empty
   elements_none all i past = ap (λ (xs : List (Node A)). in_order (map element_of xs)) (drop_all i all past)
 
-  pub sides_more : (all : List (Side A)) (i : ℕ) (side : Side A) (elements : List (Node A)) → i < length all → side ≡ get_or all i side → elements ≡ (out-Alternative A side).elements.items →
+  pub sides_more : (all : List (Side A)) (i : ℕ) (side : Side A) (elements : List (Node A)) → i < length all
+      → side ≡ get_or all i side → elements ≡ (out-Alternative A side).elements.items →
       sides_from all i ≡ or (in_order (map element_of elements)) (sides_from all (i + 1))
   sides_more all i side elements within item whole =
       ap (λ (xs : List (Side A)). either (map alternative_of xs)) (from all i side within item)
-      ∙ ap (λ (x : Elements A). or x (sides_from all (i + 1))) (of_alternative side ∙ ap (λ (xs : List (Node A)). in_order (map element_of xs)) (sym whole))
+      ∙ ap (λ (x : Elements A). or x (sides_from all (i + 1)))
+      (of_alternative side ∙ ap (λ (xs : List (Node A)). in_order (map element_of xs)) (sym whole))
 
   pub sides_none : (all : List (Side A)) (i : ℕ) → length all ≤ i → sides_from all i ≡ none
   sides_none all i past = ap (λ (xs : List (Side A)). either (map alternative_of xs)) (drop_all i all past)
@@ -43,5 +46,9 @@ module _ {A : Type 0} where
   atom_tree node a is = sym (ap element_of is ∙ of_atom a)
 
   -- a block
-  pub block_tree : (node : Node A) (label : Option Label) (repeat : Repeat) (alternatives : Vec (Side A) Global) (slice : List (Side A)) → node ≡ nodes.Block label repeat alternatives → slice ≡ alternatives.items → block label repeat (either (map alternative_of slice)) ≡ element_of node
-  block_tree node label repeat alternatives slice is whole = ap (λ (xs : List (Side A)). block label repeat (either (map alternative_of xs))) whole ∙ sym (ap element_of is ∙ of_block label repeat alternatives)
+  pub block_tree : (node : Node A) (label : Option Label) (repeat : Repeat) (alternatives : Vec (Side A) Global)
+      (slice : List (Side A)) → node ≡ nodes.Block label repeat alternatives → slice ≡ alternatives.items
+      → block label repeat (either (map alternative_of slice)) ≡ element_of node
+  block_tree node label repeat alternatives slice is whole =
+      ap (λ (xs : List (Side A)). block label repeat (either (map alternative_of xs))) whole
+      ∙ sym (ap element_of is ∙ of_block label repeat alternatives)

@@ -24,17 +24,24 @@ module _ (word : List ℕ) (x : Elements (Step (List ℕ))) where
   no_child heads = (λ d. inr (refl, d), λ g. elim g [ inl l ↦ absurd (no_lead_all (ReadsChildren word) x heads l) | inr d ↦ d.1 ])
 
   -- one more child
-  one_more : (first : Bool) (marks next : List Bool) (c : Item) (w : List Item) → next ≡ shift_all is_quiet (takes (child_of word c)) first x marks → Goes first marks (c ∷ w) ↔ Goes false next w
+  one_more : (first : Bool) (marks next : List Bool) (c : Item) (w : List Item)
+      → next ≡ shift_all is_quiet (takes (child_of word c)) first x marks → Goes first marks (c ∷ w) ↔ Goes false next w
   one_more first marks next c w is =
-      let made : next ≡ shift_all is_quiet (takes (child_of word c)) first x marks ++ [] = is ∙ sym (append-nil (shift_all is_quiet (takes (child_of word c)) first x marks)) in (
-        λ g. inl (subst (λ (m : List Bool). LeadsAll (ReadsChildren word) x m w) (sym made) (shift_all_from (ReadsChildren word) is_quiet (quiet_child word) (takes (child_of word c)) c (taken_child word c) (λ a v. one_child word a c v) first x marks [] w g)),
+      let made : next ≡ shift_all is_quiet (takes (child_of word c)) first x marks ++ [] =
+      is ∙ sym (append-nil (shift_all is_quiet (takes (child_of word c)) first x marks)) in (
+        λ g. inl (subst (λ (m : List Bool). LeadsAll (ReadsChildren word) x m w) (sym made)
+            (shift_all_from (ReadsChildren word) is_quiet (quiet_child word) (takes (child_of word c)) c (taken_child word c)
+            (λ a v. one_child word a c v) first x marks [] w g)),
         λ g. elim g [
-          | inl l ↦ shift_all_to (ReadsChildren word) is_quiet (quiet_child word) (takes (child_of word c)) c (taken_child word c) (λ a v. one_child word a c v) first x marks [] w (subst (λ (m : List Bool). LeadsAll (ReadsChildren word) x m w) made l)
+          | inl l ↦ shift_all_to (ReadsChildren word) is_quiet (quiet_child word) (takes (child_of word c)) c (taken_child word c)
+              (λ a v. one_child word a c v) first x marks [] w (subst (λ (m : List Bool). LeadsAll (ReadsChildren word) x m w) made l)
           | inr d ↦ absurd (cc (d.0))
         ],
       )
 
-  pub more_children : (heads : List Item) (i : ℕ) (other : Item) (first : Bool) (marks next : List Bool) → i < length heads → next ≡ shift_all is_quiet (takes (child_of word (get_or heads i other))) first x marks → Stands heads first marks i → Stands heads false next (i + 1)
+  pub more_children : (heads : List Item) (i : ℕ) (other : Item) (first : Bool) (marks next : List Bool) → i < length heads
+      → next ≡ shift_all is_quiet (takes (child_of word (get_or heads i other))) first x marks → Stands heads first marks i
+      → Stands heads false next (i + 1)
   more_children heads i other first marks next within is stands =
       let c = get_or heads i other in
       let split : drop i heads ≡ c ∷ drop (i + 1) heads = drop_more heads i other within in
@@ -44,9 +51,11 @@ module _ (word : List ℕ) (x : Elements (Step (List ℕ))) where
       )
 
   -- all children
-  pub all_children : (heads : List Item) (i : ℕ) (first reached : Bool) (marks : List Bool) → length heads ≤ i → reached ≡ ends_all is_quiet first x marks → Stands heads first marks i → IsTrue reached ↔ DerivesChildren word x heads
+  pub all_children : (heads : List Item) (i : ℕ) (first reached : Bool) (marks : List Bool) → length heads ≤ i
+      → reached ≡ ends_all is_quiet first x marks → Stands heads first marks i → IsTrue reached ↔ DerivesChildren word x heads
   all_children heads i first reached marks past is stands =
       let last : drop i heads ≡ [] = drop_all i heads past in (
-        λ h. stands.1 (subst (Goes first marks) (sym last) (ends_all_to (ReadsChildren word) is_quiet (quiet_child word) first x marks (sym is ∙ h))),
+        λ h. stands.1 (subst (Goes first marks) (sym last)
+            (ends_all_to (ReadsChildren word) is_quiet (quiet_child word) first x marks (sym is ∙ h))),
         λ d. is ∙ ends_all_from (ReadsChildren word) is_quiet (quiet_child word) first x marks (subst (Goes first marks) last (stands.0 d)),
       )

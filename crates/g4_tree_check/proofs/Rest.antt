@@ -64,30 +64,44 @@ module _ {A W : Type 0} (Reads : A → List W → Type 0) where
   module _ (quiet : A → Bool) (is_quiet : (a : A) → IsTrue (quiet a) ↔ Reads a []) where
     mutual
       -- what was read may end where an element ends exactly where the empty word leads there
-      pub ends_to : (before : Bool) (x : Element A) (m : List Bool) → IsTrue (ends quiet before x m) → Leads x m [] ⊎ (IsTrue before × Gives Reads x [])
+      pub ends_to : (before : Bool) (x : Element A) (m : List Bool) → IsTrue (ends quiet before x m)
+          → Leads x m [] ⊎ (IsTrue before × Gives Reads x [])
       ends_to before (atom a) m h = elim ((true_or (first_mark m) (before && quiet a)).0 h) [
         | inl marked ↦ inl (marked, refl)
         | inr both ↦ let p = (true_and before (quiet a)).0 both in inr (p.0, an_atom a [] ((is_quiet a).0 p.1))
       ]
-      ends_to before (block label Once xs) m h = elim (ends_one_to before xs m h) [ inl l ↦ inl l | inr g ↦ inr (g.0, a_block label xs [] g.1) ]
+      ends_to before (block label Once xs) m h =
+          elim (ends_one_to before xs m h) [ inl l ↦ inl l | inr g ↦ inr (g.0, a_block label xs [] g.1) ]
       ends_to before (block label (Optional sign) xs) m h = elim ((true_or before (ends_either quiet before xs m)).0 h) [
         | inl b ↦ inr (b, left_out label sign xs)
         | inr e ↦ elim (ends_one_to before xs m e) [ inl l ↦ inl l | inr g ↦ inr (g.0, taken label sign xs [] g.1) ]
       ]
       ends_to before (block label (Star sign) xs) m h = elim ((true_or before (ends_either quiet before xs m)).0 h) [
         | inl b ↦ inr (b, no_turn label sign xs)
-        | inr e ↦ elim (ends_one_to before xs m e) [ inl l ↦ inl ([], [], refl, l, no_turn label sign xs) | inr g ↦ inr (g.0, no_turn label sign xs) ]
+        | inr e ↦ elim (ends_one_to before xs m e)
+            [ inl l ↦ inl ([], [], refl, l, no_turn label sign xs) | inr g ↦ inr (g.0, no_turn label sign xs) ]
       ]
-      ends_to before (block label (Plus sign) xs) m h = elim (ends_one_to before xs m h) [ inl l ↦ inl ([], [], refl, l, no_turn label sign xs) | inr g ↦ inr (g.0, turns label sign xs [] [] [] g.1 (no_turn label sign xs) refl) ]
+      ends_to before (block label (Plus sign) xs) m h =
+          elim (ends_one_to before xs m h) [
+            | inl l ↦ inl ([], [], refl, l, no_turn label sign xs)
+            | inr g ↦ inr
+                (g.0, turns label sign xs [] [] [] g.1 (no_turn label sign xs) refl)
+          ]
 
-      pub ends_all_to : (before : Bool) (xs : Elements A) (m : List Bool) → IsTrue (ends_all quiet before xs m) → LeadsAll xs m [] ⊎ (IsTrue before × GivesAll Reads xs [])
+      pub ends_all_to : (before : Bool) (xs : Elements A) (m : List Bool) → IsTrue (ends_all quiet before xs m)
+          → LeadsAll xs m [] ⊎ (IsTrue before × GivesAll Reads xs [])
       ends_all_to before empty m h = inr (h, nothing)
       ends_all_to before (then x xs) m h = elim (ends_all_to (ends quiet before x m) xs (past x m) h) [
         | inl l ↦ inl (inr l)
-        | inr g ↦ elim (ends_to before x m g.0) [ inl l ↦ inl (inl ([], [], refl, l, g.1)) | inr f ↦ inr (f.0, one_more x xs [] [] [] f.1 g.1 refl) ]
+        | inr g ↦ elim (ends_to before x m g.0) [
+          | inl l ↦ inl (inl ([], [], refl, l, g.1))
+          | inr f ↦ inr
+              (f.0, one_more x xs [] [] [] f.1 g.1 refl)
+        ]
       ]
 
-      pub ends_one_to : (before : Bool) (xs : Alternatives A) (m : List Bool) → IsTrue (ends_either quiet before xs m) → LeadsOne xs m [] ⊎ (IsTrue before × GivesOne Reads xs [])
+      pub ends_one_to : (before : Bool) (xs : Alternatives A) (m : List Bool) → IsTrue (ends_either quiet before xs m)
+          → LeadsOne xs m [] ⊎ (IsTrue before × GivesOne Reads xs [])
       ends_one_to before none m h = absurd (cc)
       ends_one_to before (or x xs) m h = elim ((true_or (ends_all quiet before x m) (ends_either quiet before xs (past_all x m))).0 h) [
         | inl e ↦ elim (ends_all_to before x m e) [ inl l ↦ inl (inl l) | inr g ↦ inr (g.0, this x xs [] g.1) ]
@@ -96,33 +110,52 @@ module _ {A W : Type 0} (Reads : A → List W → Type 0) where
 
     mutual
       -- and back
-      pub ends_from : (before : Bool) (x : Element A) (m : List Bool) → Leads x m [] ⊎ (IsTrue before × Gives Reads x []) → IsTrue (ends quiet before x m)
+      pub ends_from : (before : Bool) (x : Element A) (m : List Bool) → Leads x m [] ⊎ (IsTrue before × Gives Reads x [])
+          → IsTrue (ends quiet before x m)
       ends_from before (atom a) m (inl h) = (true_or (first_mark m) (before && quiet a)).1 (inl h.0)
-      ends_from before (atom a) m (inr h) = (true_or (first_mark m) (before && quiet a)).1 (inr ((true_and before (quiet a)).1 (h.0, (is_quiet a).1 (atom_parts Reads a [] h.1))))
+      ends_from before (atom a) m (inr h) = (true_or (first_mark m) (before && quiet a)).1
+          (inr ((true_and before (quiet a)).1 (h.0, (is_quiet a).1 (atom_parts Reads a [] h.1))))
       ends_from before (block label Once xs) m (inl h) = ends_one_from before xs m (inl h)
       ends_from before (block label Once xs) m (inr h) = ends_one_from before xs m (inr (h.0, once_parts Reads label xs [] h.1))
-      ends_from before (block label (Optional sign) xs) m (inl h) = (true_or before (ends_either quiet before xs m)).1 (inr (ends_one_from before xs m (inl h)))
+      ends_from before (block label (Optional sign) xs) m (inl h) =
+          (true_or before (ends_either quiet before xs m)).1 (inr (ends_one_from before xs m (inl h)))
       ends_from before (block label (Optional sign) xs) m (inr h) = (true_or before (ends_either quiet before xs m)).1 (inl h.0)
-      ends_from before (block label (Star sign) xs) m (inl h) = (true_or before (ends_either quiet before xs m)).1 (inr (ends_one_from before xs m (inl (both_empty (LeadsOne xs m) (Gives Reads (block label (Star sign) xs)) h).0)))
+      ends_from before (block label (Star sign) xs) m (inl h) =
+          (true_or before (ends_either quiet before xs m)).1
+          (inr (ends_one_from before xs m (inl (both_empty (LeadsOne xs m) (Gives Reads (block label (Star sign) xs)) h).0)))
       ends_from before (block label (Star sign) xs) m (inr h) = (true_or before (ends_either quiet before xs m)).1 (inl h.0)
-      ends_from before (block label (Plus sign) xs) m (inl h) = ends_one_from before xs m (inl (both_empty (LeadsOne xs m) (Gives Reads (block label (Star sign) xs)) h).0)
-      ends_from before (block label (Plus sign) xs) m (inr h) = ends_one_from before xs m (inr (h.0, (both_empty (GivesOne Reads xs) (Gives Reads (block label (Star sign) xs)) (plus_parts Reads label sign xs [] h.1)).0))
+      ends_from before (block label (Plus sign) xs) m (inl h) =
+          ends_one_from before xs m (inl (both_empty (LeadsOne xs m) (Gives Reads (block label (Star sign) xs)) h).0)
+      ends_from before (block label (Plus sign) xs) m (inr h) =
+          ends_one_from before xs m (inr (
+            h.0,
+            (both_empty (GivesOne Reads xs) (Gives Reads (block label (Star sign) xs))
+                (plus_parts Reads label sign xs [] h.1)).0,
+          ))
 
-      pub ends_all_from : (before : Bool) (xs : Elements A) (m : List Bool) → LeadsAll xs m [] ⊎ (IsTrue before × GivesAll Reads xs []) → IsTrue (ends_all quiet before xs m)
+      pub ends_all_from : (before : Bool) (xs : Elements A) (m : List Bool)
+          → LeadsAll xs m [] ⊎ (IsTrue before × GivesAll Reads xs []) → IsTrue (ends_all quiet before xs m)
       ends_all_from before empty m (inl h) = absurd h
       ends_all_from before empty m (inr h) = h.0
       ends_all_from before (then x xs) m (inl (inl h)) =
-          let both = both_empty (Leads x m) (GivesAll Reads xs) h in ends_all_from (ends quiet before x m) xs (past x m) (inr (ends_from before x m (inl both.0), both.1))
+          let both = both_empty (Leads x m) (GivesAll Reads xs) h in
+          ends_all_from (ends quiet before x m) xs (past x m) (inr (ends_from before x m (inl both.0), both.1))
       ends_all_from before (then x xs) m (inl (inr h)) = ends_all_from (ends quiet before x m) xs (past x m) (inl h)
       ends_all_from before (then x xs) m (inr h) =
-          let both = both_empty (Gives Reads x) (GivesAll Reads xs) (then_parts Reads x xs [] h.1) in ends_all_from (ends quiet before x m) xs (past x m) (inr (ends_from before x m (inr (h.0, both.0)), both.1))
+          let both = both_empty (Gives Reads x) (GivesAll Reads xs) (then_parts Reads x xs [] h.1) in
+          ends_all_from (ends quiet before x m) xs (past x m) (inr (ends_from before x m (inr (h.0, both.0)), both.1))
 
-      pub ends_one_from : (before : Bool) (xs : Alternatives A) (m : List Bool) → LeadsOne xs m [] ⊎ (IsTrue before × GivesOne Reads xs []) → IsTrue (ends_either quiet before xs m)
+      pub ends_one_from : (before : Bool) (xs : Alternatives A) (m : List Bool)
+          → LeadsOne xs m [] ⊎ (IsTrue before × GivesOne Reads xs []) → IsTrue (ends_either quiet before xs m)
       ends_one_from before none m (inl h) = absurd h
       ends_one_from before none m (inr h) = absurd (none_parts Reads [] h.1)
-      ends_one_from before (or x xs) m (inl (inl h)) = (true_or (ends_all quiet before x m) (ends_either quiet before xs (past_all x m))).1 (inl (ends_all_from before x m (inl h)))
-      ends_one_from before (or x xs) m (inl (inr h)) = (true_or (ends_all quiet before x m) (ends_either quiet before xs (past_all x m))).1 (inr (ends_one_from before xs (past_all x m) (inl h)))
-      ends_one_from before (or x xs) m (inr h) = (true_or (ends_all quiet before x m) (ends_either quiet before xs (past_all x m))).1 (elim (or_parts Reads x xs [] h.1) [
-        | inl g ↦ inl (ends_all_from before x m (inr (h.0, g)))
-        | inr g ↦ inr (ends_one_from before xs (past_all x m) (inr (h.0, g)))
-      ])
+      ends_one_from before (or x xs) m (inl (inl h)) =
+          (true_or (ends_all quiet before x m) (ends_either quiet before xs (past_all x m))).1 (inl (ends_all_from before x m (inl h)))
+      ends_one_from before (or x xs) m (inl (inr h)) =
+          (true_or (ends_all quiet before x m) (ends_either quiet before xs (past_all x m))).1
+          (inr (ends_one_from before xs (past_all x m) (inl h)))
+      ends_one_from before (or x xs) m (inr h) =
+          (true_or (ends_all quiet before x m) (ends_either quiet before xs (past_all x m))).1 (elim (or_parts Reads x xs [] h.1) [
+            | inl g ↦ inl (ends_all_from before x m (inr (h.0, g)))
+            | inr g ↦ inr (ends_one_from before xs (past_all x m) (inr (h.0, g)))
+          ])

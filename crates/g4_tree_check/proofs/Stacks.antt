@@ -25,7 +25,8 @@ pub vec_of_none : {X : Type 0} (v : Vec X Global) → v.items ≡ [] → vec_len
 vec_of_none v none = omega (arith, v.ok, ap length none)
 
 -- nothing completes a tree while a node is open and no item is left
-pub open_not_complete : (rules : List StepRule) (word : List ℕ) (nodes : List OpenNode) (heads : List Item) (next : ℕ) → Completes rules word (reverse nodes) heads next [] → nodes ≡ []
+pub open_not_complete : (rules : List StepRule) (word : List ℕ) (nodes : List OpenNode) (heads : List Item) (next : ℕ)
+    → Completes rules word (reverse nodes) heads next [] → nodes ≡ []
 open_not_complete rules word nodes heads next h = shown (reverse nodes) refl h
   where
     shown : (newest : List OpenNode) → reverse nodes ≡ newest → Completes rules word newest heads next [] → nodes ≡ []

@@ -22,14 +22,16 @@ module _ (rules : List StepRule) (word : List ℕ) where
   -- The items are trees that conform, with the tokens from this one on, and then something that may come after all these children.
   abbrev pub Grows : (List Item → ℕ → List Item → Type 0) → List Item → ℕ → List Item → Type 0
   Grows MayFollow heads next rest =
-      (later : Forest) × (after : List Item) × (rest ≡ items_of_all later ++ after) × ArePlaced next later × AllConform rules word later × MayFollow (heads ++ heads_of later) (next + length (tokens_of_all later)) after
+      (later : Forest) × (after : List Item) × (rest ≡ items_of_all later ++ after) × ArePlaced next later
+      × AllConform rules word later × MayFollow (heads ++ heads_of later) (next + length (tokens_of_all later)) after
 
   -- The items after the last child of the newest open node: its end, more children of the node around it, and so on. Where no
   -- node is open, there was one tree, a node, and nothing comes after it.
   abbrev pub Closes : List OpenNode → List Item → ℕ → List Item → Type 0
   Closes [] heads next rest = (rest ≡ []) × IsOneNode heads
   Closes (node ∷ more) heads next rest =
-      (after : List Item) × (rest ≡ items.Exit ∷ after) × FitsBody node.rule node.alt heads × Grows (Closes more) (node.before.items ++ items.Enter node.rule node.alt node.at ∷ []) next after
+      (after : List Item) × (rest ≡ items.Exit ∷ after) × FitsBody node.rule node.alt heads
+      × Grows (Closes more) (node.before.items ++ items.Enter node.rule node.alt node.at ∷ []) next after
 
   -- The items complete a tree that conforms: these nodes are open, the newest first, these are the children of the newest one so
   -- far, and this is the place of the next token.

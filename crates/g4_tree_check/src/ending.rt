@@ -6,8 +6,8 @@ ghost use Rattle.g4_tree_check.specs.Children.{is_quiet};
 ghost use Rattle.g4_tree_check.specs.Marks.{block_ends, ends, ends_all, ends_either, first_mark, more_marks, past, past_all, past_either};
 
 use crate::child::is_quiet;
-use g4_source::{Alternative, Element, Repeat};
 use g4_grammar::Step;
+use g4_source::{Alternative, Element, Repeat};
 use g4_tokens::Symbols;
 
 /// What is found at the end of an element: whether what was read may end there, and the marks of the atoms after it.

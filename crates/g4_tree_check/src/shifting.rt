@@ -8,8 +8,8 @@ ghost use Rattle.g4_tree_check.specs.Marks.{body_begins, ends, ends_all, ends_ei
 
 use crate::child::{Child, takes};
 use crate::ending::{End, block_ends, either_of, end_of_atom, end_of_either};
-use g4_source::{Alternative, Element, Repeat};
 use g4_grammar::Step;
+use g4_source::{Alternative, Element, Repeat};
 use g4_tokens::Symbols;
 use std::alloc::AllocError;
 
@@ -55,7 +55,8 @@ fn shift_element<'a>(
     marks: &'a [bool],
     before: bool,
 ) -> Result<End<'a>, AllocError>
-    ensures marks { OnOk result (next.new.items ≡ next.old.items ++ shift is_quiet (takes child) before (element_of element.now) marks.now) }
+    ensures marks { OnOk result (next.new.items
+        ≡ next.old.items ++ shift is_quiet (takes child) before (element_of element.now) marks.now) }
     ensures reached { IfOk result (λ end. end.reached ≡ ends is_quiet before (element_of element.now) marks.now) }
     ensures rest { IfOk result (λ end. end.marks.now ≡ past (element_of element.now) marks.now) }
 {
@@ -81,8 +82,11 @@ fn shift_block<'a>(
     marks: &'a [bool],
     before: bool,
 ) -> Result<End<'a>, AllocError>
-    ensures marks { OnOk result ((label : Option Named) → next.new.items ≡ next.old.items ++ shift is_quiet (takes child) before (block label repeat (either (map alternative_of alternatives.now))) marks.now) }
-    ensures reached { IfOk result (λ end. (label : Option Named) → end.reached ≡ ends is_quiet before (block label repeat (either (map alternative_of alternatives.now))) marks.now) }
+    ensures marks { OnOk result ((label : Option Named)
+        → next.new.items ≡ next.old.items ++ shift is_quiet (takes child) before
+        (block label repeat (either (map alternative_of alternatives.now))) marks.now) }
+    ensures reached { IfOk result (λ end. (label : Option Named)
+        → end.reached ≡ ends is_quiet before (block label repeat (either (map alternative_of alternatives.now))) marks.now) }
     ensures rest { IfOk result (λ end. end.marks.now ≡ past_either (either (map alternative_of alternatives.now)) marks.now) }
 {
     let begins = body_begins(repeat, alternatives, marks, before);
@@ -102,8 +106,10 @@ fn shift_either<'a>(
     marks: &'a [bool],
     before: bool,
 ) -> Result<End<'a>, AllocError>
-    ensures marks { OnOk result (next.new.items ≡ next.old.items ++ shift_either is_quiet (takes child) before (either (map alternative_of alternatives.now)) marks.now) }
-    ensures reached { IfOk result (λ end. end.reached ≡ ends_either is_quiet before (either (map alternative_of alternatives.now)) marks.now) }
+    ensures marks { OnOk result (next.new.items
+        ≡ next.old.items ++ shift_either is_quiet (takes child) before (either (map alternative_of alternatives.now)) marks.now) }
+    ensures reached { IfOk result (λ end. end.reached
+        ≡ ends_either is_quiet before (either (map alternative_of alternatives.now)) marks.now) }
     ensures rest { IfOk result (λ end. end.marks.now ≡ past_either (either (map alternative_of alternatives.now)) marks.now) }
 {
     let mut reached = false;
@@ -128,7 +134,8 @@ pub(crate) fn shift_elements<'a>(
     marks: &'a [bool],
     before: bool,
 ) -> Result<End<'a>, AllocError>
-    ensures marks { OnOk result (next.new.items ≡ next.old.items ++ shift_all is_quiet (takes child) before (in_order (map element_of elements.now)) marks.now) }
+    ensures marks { OnOk result (next.new.items
+        ≡ next.old.items ++ shift_all is_quiet (takes child) before (in_order (map element_of elements.now)) marks.now) }
     ensures reached { IfOk result (λ end. end.reached ≡ ends_all is_quiet before (in_order (map element_of elements.now)) marks.now) }
     ensures rest { IfOk result (λ end. end.marks.now ≡ past_all (in_order (map element_of elements.now)) marks.now) }
 {

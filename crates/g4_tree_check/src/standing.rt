@@ -10,8 +10,8 @@ ghost use Rattle.g4_tree_check.specs.Standing.{CanEnd, FitsBody, IsOneNode};
 ghost use Rattle.g4_tree_check.specs.TreesOf.{IsBody};
 
 use crate::matching::derives;
-use g4_source::Elements;
 use g4_grammar::{Step, StepRule};
+use g4_source::Elements;
 use g4_tokens::{Symbols, Token};
 use g4_trees::Item;
 use std::alloc::{AllocError, Global};
@@ -94,7 +94,8 @@ impl Standing {
 
     /// Reads the beginning of a node, and says whether it is at the place of the next token.
     fn enter(&mut self, alloc: Global, rule: u32, alt: u32, at: u32) -> Result<bool, AllocError>
-        ensures { IfOk result (λ yes. (rules : List Rule) (word : List ℕ) (rest : List TreeItem) → CanEnd rules word self.old (enter rule alt at ∷ rest) ↔ (IsTrue yes × CanEnd rules word self.new rest)) }
+        ensures { IfOk result (λ yes. (rules : List Rule) (word : List ℕ) (rest : List TreeItem)
+            → CanEnd rules word self.old (enter rule alt at ∷ rest) ↔ (IsTrue yes × CanEnd rules word self.new rest)) }
     {
         if at as usize != self.next {
             return Ok(false);
@@ -111,7 +112,8 @@ impl Standing {
 
     /// Reads a token, and says whether it is the next one.
     fn token(&mut self, at: u32) -> Result<bool, AllocError>
-        ensures { IfOk result (λ yes. (rules : List Rule) (word : List ℕ) (rest : List TreeItem) → CanEnd rules word self.old (token at ∷ rest) ↔ (IsTrue yes × CanEnd rules word self.new rest)) }
+        ensures { IfOk result (λ yes. (rules : List Rule) (word : List ℕ) (rest : List TreeItem)
+            → CanEnd rules word self.old (token at ∷ rest) ↔ (IsTrue yes × CanEnd rules word self.new rest)) }
     {
         if at as usize != self.next {
             return Ok(false);
@@ -128,7 +130,9 @@ impl Standing {
         rules: &[StepRule],
         tokens: &[Token],
     ) -> Result<bool, AllocError>
-        ensures { IfOk result (λ yes. (rest : List TreeItem) → CanEnd rules.now (word_of tokens.now) self.old (exit ∷ rest) ↔ (IsTrue yes × CanEnd rules.now (word_of tokens.now) self.new rest)) }
+        ensures { IfOk result (λ yes. (rest : List TreeItem)
+            → CanEnd rules.now (word_of tokens.now) self.old (exit ∷ rest)
+            ↔ (IsTrue yes × CanEnd rules.now (word_of tokens.now) self.new rest)) }
     {
         let Some(node) = self.nodes.pop() else {
             return Ok(false);
@@ -155,7 +159,9 @@ impl Standing {
         item: &Item,
         tokens: &[Token],
     ) -> Result<bool, AllocError>
-        ensures { IfOk result (λ yes. (rest : List TreeItem) → CanEnd rules.now (word_of tokens.now) self.old (item.now ∷ rest) ↔ (IsTrue yes × CanEnd rules.now (word_of tokens.now) self.new rest)) }
+        ensures { IfOk result (λ yes. (rest : List TreeItem)
+            → CanEnd rules.now (word_of tokens.now) self.old (item.now ∷ rest)
+            ↔ (IsTrue yes × CanEnd rules.now (word_of tokens.now) self.new rest)) }
     {
         match item {
             Item::Enter { rule, alt, at } => {

@@ -30,13 +30,15 @@ mutual
   forests_of_tree (leaf at) rest = refl
   forests_of_tree (node rule alt at children) rest =
       ap (λ (xs : List Item). as_children rule alt at (forests_of xs)) (append_assoc (items_of_all children) (items.Exit ∷ []) rest)
-      ∙ ap (as_children rule alt at) (forests_of_trees children (items.Exit ∷ rest) ∙ before_all_first children no_tree (forests_of rest) ∙ ap (λ (ts : Forest). ts ∷ forests_of rest) (and_then_none children))
+      ∙ ap (as_children rule alt at) (forests_of_trees children (items.Exit ∷ rest)
+      ∙ before_all_first children no_tree (forests_of rest) ∙ ap (λ (ts : Forest). ts ∷ forests_of rest) (and_then_none children))
 
   -- what the items of trees before others represent
   pub forests_of_trees : (ts : Forest) (rest : List Item) → forests_of (items_of_all ts ++ rest) ≡ before_all ts (forests_of rest)
   forests_of_trees no_tree rest = refl
   forests_of_trees (a_tree t ts) rest =
-      ap forests_of (append_assoc (items_of t) (items_of_all ts) rest) ∙ forests_of_tree t (items_of_all ts ++ rest) ∙ ap (before_first t) (forests_of_trees ts rest)
+      ap forests_of (append_assoc (items_of t) (items_of_all ts) rest) ∙ forests_of_tree t (items_of_all ts ++ rest)
+      ∙ ap (before_first t) (forests_of_trees ts rest)
 
 -- the tree of a tree's items
 pub tree_of_items : (t : Tree) → tree_of (items_of t) ≡ Some t
@@ -47,7 +49,8 @@ pub same_tree : (t u : Tree) → items_of t ≡ items_of u → t ≡ u
 same_tree t u same = let both : Some t ≡ Some u = sym (tree_of_items t) ∙ ap tree_of same ∙ tree_of_items u in cc
 
 -- the text of a tree is that of its items
-pub text_of_items : {A : Type 0} (rules : List (ParserRule A)) (tokens : Tokens) (t : Tree) → tree_text rules tokens (items_of t) ≡ text_of rules tokens t
+pub text_of_items : {A : Type 0} (rules : List (ParserRule A)) (tokens : Tokens) (t : Tree)
+    → tree_text rules tokens (items_of t) ≡ text_of rules tokens t
 text_of_items rules tokens t = ap (text_of_some rules tokens) (tree_of_items t)
 
 -- the events of a tree are those of its items

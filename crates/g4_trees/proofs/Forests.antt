@@ -16,4 +16,5 @@ and_assoc (a_tree t ts) us vs = ap (a_tree t) (and_assoc ts us vs)
 -- the items of two forests
 pub items_and : (ts us : Forest) → items_of_all (and_then ts us) ≡ items_of_all ts ++ items_of_all us
 items_and no_tree us = refl
-items_and (a_tree t ts) us = ap (λ (xs : List Item). items_of t ++ xs) (items_and ts us) ∙ sym (append_assoc (items_of t) (items_of_all ts) (items_of_all us))
+items_and (a_tree t ts) us = ap (λ (xs : List Item). items_of t ++ xs) (items_and ts us)
+    ∙ sym (append_assoc (items_of t) (items_of_all ts) (items_of_all us))

@@ -15,7 +15,8 @@ line_tail channel = codes "'" ++ (channel_text channel ++ codes "\n")
 
 -- the line of a token
 pub line_parts : (shown : List (List ℕ)) (name bytes : List ℕ) (token : Token)
-    → line_start name token.place (symbol_text shown token.symbol) ++ (token_text bytes token ++ line_tail token.channel) ≡ token_line shown name bytes token
+    → line_start name token.place (symbol_text shown token.symbol) ++ (token_text bytes token ++ line_tail token.channel)
+    ≡ token_line shown name bytes token
 line_parts shown name bytes token = simp append_assoc
 
 -- the line of the end of a file

@@ -16,7 +16,8 @@ use Rattle.g4_trees.specs.Trees.{Tree, leaf, node, Forest, no_tree, a_tree, item
 
 mutual
   -- a tree before other items
-  pub tree_events_first : (ends : List Event) (t : Tree) (rest : List Item) → events_from ends (items_of t ++ rest) ≡ events_of t ++ events_from ends rest
+  pub tree_events_first : (ends : List Event) (t : Tree) (rest : List Item)
+      → events_from ends (items_of t ++ rest) ≡ events_of t ++ events_from ends rest
   tree_events_first ends (leaf at) rest = refl
   tree_events_first ends (node rule alt at children) rest =
       ap (λ (es : List Event). events.Enter rule alt ∷ es)
@@ -25,7 +26,8 @@ mutual
       ∙ sym (append_assoc (events_of_all children) (events.Exit rule alt ∷ []) (events_from ends rest)))
 
   -- trees before other items
-  pub trees_events_first : (ends : List Event) (ts : Forest) (rest : List Item) → events_from ends (items_of_all ts ++ rest) ≡ events_of_all ts ++ events_from ends rest
+  pub trees_events_first : (ends : List Event) (ts : Forest) (rest : List Item)
+      → events_from ends (items_of_all ts ++ rest) ≡ events_of_all ts ++ events_from ends rest
   trees_events_first ends no_tree rest = refl
   trees_events_first ends (a_tree t ts) rest =
       ap (events_from ends) (append_assoc (items_of t) (items_of_all ts) rest)
@@ -38,7 +40,8 @@ pub events_from_tree : (t : Tree) → events_from [] (items_of t) ≡ events_of 
 events_from_tree t = ap (events_from []) (sym (append-nil (items_of t))) ∙ tree_events_first [] t [] ∙ append-nil (events_of t)
 
 -- the parts of a line
-pub line_parts : (name word rest : List ℕ) → (name ++ (codes ": " ++ word)) ++ (rest ++ codes "\n") ≡ name ++ (codes ": " ++ ((word ++ rest) ++ codes "\n"))
+pub line_parts : (name word rest : List ℕ) → (name ++ (codes ": " ++ word)) ++ (rest ++ codes "\n")
+    ≡ name ++ (codes ": " ++ ((word ++ rest) ++ codes "\n"))
 line_parts name word rest = simp append_assoc
 
 module _ {A : Type 0} (rules : List (ParserRule A)) (tokens : Tokens) (name : List ℕ) where
@@ -48,7 +51,8 @@ module _ {A : Type 0} (rules : List (ParserRule A)) (tokens : Tokens) (name : Li
   line_of (Some event) = event_line rules tokens name event
 
   -- it comes before the lines of later events
-  pub lines_next : (event : Option Event) (more : List Event) → event_lines rules tokens name (option_to_list event ++ more) ≡ line_of event ++ event_lines rules tokens name more
+  pub lines_next : (event : Option Event) (more : List Event)
+      → event_lines rules tokens name (option_to_list event ++ more) ≡ line_of event ++ event_lines rules tokens name more
   lines_next None more = refl
   lines_next (Some event) more = refl
 
@@ -57,14 +61,21 @@ module _ {A : Type 0} (rules : List (ParserRule A)) (tokens : Tokens) (name : Li
   module _ (ends later : List Event) (xs : List Item) (i : ℕ) (d : Item) (event : Option Event) (within : i < length xs)
       (next : (rest : List Item) → events_from ends (get_or xs i d ∷ rest) ≡ option_to_list event ++ events_from later rest) where
     -- the line of the item's event comes before those of later items
-    lines_left : event_lines rules tokens name (events_from ends (drop i xs)) ≡ line_of event ++ event_lines rules tokens name (events_from later (drop (i + 1) xs))
-    lines_left = ap (event_lines rules tokens name) (ap (events_from ends) (drop_more xs i d within) ∙ next (drop (i + 1) xs)) ∙ lines_next event (events_from later (drop (i + 1) xs))
+    lines_left : event_lines rules tokens name (events_from ends (drop i xs))
+        ≡ line_of event ++ event_lines rules tokens name (events_from later (drop (i + 1) xs))
+    lines_left = ap (event_lines rules tokens name) (ap (events_from ends) (drop_more xs i d within) ∙ next (drop (i + 1) xs))
+        ∙ lines_next event (events_from later (drop (i + 1) xs))
 
     -- it is added
-    pub line_added : (all old mid now : List ℕ) → Leaves all (event_lines rules tokens name (events_from ends (drop i xs))) old mid → now ≡ mid ++ line_of event →
+    pub line_added : (all old mid now : List ℕ) → Leaves all (event_lines rules tokens name (events_from ends (drop i xs))) old mid
+        → now ≡ mid ++ line_of event →
         Leaves all (event_lines rules tokens name (events_from later (drop (i + 1) xs))) old now
-    line_added all old mid now so_far is = leaves_less all (line_of event) (event_lines rules tokens name (events_from later (drop (i + 1) xs))) old mid now (leaves_same all _ _ old mid lines_left so_far) is
+    line_added all old mid now so_far is = leaves_less all (line_of event)
+        (event_lines rules tokens name (events_from later (drop (i + 1) xs))) old mid now (leaves_same all _ _ old mid lines_left so_far) is
 
     -- a front part of it is added
-    pub line_begun : (all old mid now : List ℕ) → Leaves all (event_lines rules tokens name (events_from ends (drop i xs))) old mid → AddsFront (line_of event) mid now → AddsFront all old now
-    line_begun all old mid now so_far front = front_of_next all (line_of event) (event_lines rules tokens name (events_from later (drop (i + 1) xs))) old mid now (leaves_same all _ _ old mid lines_left so_far) front
+    pub line_begun : (all old mid now : List ℕ) → Leaves all (event_lines rules tokens name (events_from ends (drop i xs))) old mid
+        → AddsFront (line_of event) mid now → AddsFront all old now
+    line_begun all old mid now so_far front = front_of_next all (line_of event)
+        (event_lines rules tokens name (events_from later (drop (i + 1) xs))) old mid now
+        (leaves_same all _ _ old mid lines_left so_far) front

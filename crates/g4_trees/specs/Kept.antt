@@ -28,18 +28,24 @@ mutual
   -- the entries are those of whole trees
   pub data AreTrees : List Entry → Forest → Type 0 where
     none : AreTrees [] no_tree
-    a_token : (es all : List Entry) (ts us : Forest) (at : ℕ) → AreTrees es ts → all ≡ es ++ kept (items.Token at) ∷ [] → us ≡ and_then ts (only (leaf at)) → AreTrees all us
-    a_node : (es xs all : List Entry) (ts children us : Forest) (rule alt at : ℕ) → AreTrees es ts → AreChildren rule at xs children → all ≡ es ++ (kept (items.Enter rule alt at) ∷ (xs ++ kept items.Exit ∷ [])) → us ≡ and_then ts (only (node rule alt at children)) → AreTrees all us
+    a_token : (es all : List Entry) (ts us : Forest) (at : ℕ) → AreTrees es ts → all ≡ es ++ kept (items.Token at) ∷ []
+        → us ≡ and_then ts (only (leaf at)) → AreTrees all us
+    a_node : (es xs all : List Entry) (ts children us : Forest) (rule alt at : ℕ) → AreTrees es ts → AreChildren rule at xs children
+        → all ≡ es ++ (kept (items.Enter rule alt at) ∷ (xs ++ kept items.Exit ∷ []))
+        → us ≡ and_then ts (only (node rule alt at children)) → AreTrees all us
 
   -- the entries after the beginning of a node of this rule and place are those of its children
   pub data AreChildren : ℕ → ℕ → List Entry → Forest → Type 0 where
     as_they_are : (rule at : ℕ) (es : List Entry) (ts : Forest) → AreTrees es ts → AreChildren rule at es ts
-    after_wrap : (rule alt at : ℕ) (xs es all : List Entry) (children ts us : Forest) → AreChildren rule at xs children → AreTrees es ts → all ≡ xs ++ wrap alt ∷ es → us ≡ a_tree (node rule alt at children) ts → AreChildren rule at all us
+    after_wrap : (rule alt at : ℕ) (xs es all : List Entry) (children ts us : Forest) → AreChildren rule at xs children
+        → AreTrees es ts → all ≡ xs ++ wrap alt ∷ es → us ≡ a_tree (node rule alt at children) ts → AreChildren rule at all us
 
 -- the entries are those of these open nodes, newest first, which begin at these places, newest last, and of the trees outside
 abbrev pub StandFor : List Entry → List ℕ → List OpenNode → Forest → Type 0
 StandFor es enters [] trees = (enters ≡ []) × AreTrees es trees
-StandFor es enters (n ∷ ns) trees = (before xs : List Entry) × (more : List ℕ) × (es ≡ before ++ kept (items.Enter n.rule n.alt n.at) ∷ xs) × (enters ≡ more ++ length before ∷ []) × AreChildren n.rule n.at xs n.children × StandFor before more ns trees
+StandFor es enters (n ∷ ns) trees = (before xs : List Entry) × (more : List ℕ)
+    × (es ≡ before ++ kept (items.Enter n.rule n.alt n.at) ∷ xs) × (enters ≡ more ++ length before ∷ [])
+    × AreChildren n.rule n.at xs n.children × StandFor before more ns trees
 
 -- the builder has grown this
 pub record HasGrown (b : TreeBuilder) (g : Growing) : Type 0 where

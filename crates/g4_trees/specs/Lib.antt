@@ -1,3 +1,5 @@
+-- Other crates cite Events, Growing, Kept, TokenLines, TreeText, Trees; only this crate cites Appending, Ends, Nodes, Pieces,
+-- Steps, Unwinding.
 pub mod Appending
 pub mod Ends
 pub mod Events

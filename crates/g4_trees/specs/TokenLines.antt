@@ -28,7 +28,8 @@ channel_text channel = cond (channel == 0) [] (codes " channel " ++ decimal chan
 -- a token of a file of these bytes: `1:0 ID 'a'`, and its channel after it
 abbrev pub token_shown : List (List ℕ) → List ℕ → Token → List ℕ
 token_shown shown bytes token =
-    place_text token.place ++ (codes " " ++ (symbol_text shown token.symbol ++ (codes " '" ++ (token_text bytes token ++ (codes "'" ++ channel_text token.channel)))))
+    place_text token.place ++ (codes " " ++ (symbol_text shown token.symbol
+    ++ (codes " '" ++ (token_text bytes token ++ (codes "'" ++ channel_text token.channel)))))
 
 -- a line of a file of this name: `NAME: TEXT`
 abbrev pub line_of : List ℕ → List ℕ → List ℕ
@@ -50,4 +51,5 @@ end_line_by name (Some token) = end_line name token.place
 -- the lines of the tokens of all channels in order, and that of the end of the file, which is at the place of the last token that
 -- the parser sees
 abbrev pub token_lines : List (List ℕ) → List ℕ → Tokens → List ℕ
-token_lines shown name tokens = flat_map (token_line shown name tokens.bytes) tokens.all ++ end_line_by name (slice_get tokens.list (length tokens.list - 1))
+token_lines shown name tokens = flat_map (token_line shown name tokens.bytes) tokens.all
+    ++ end_line_by name (slice_get tokens.list (length tokens.list - 1))

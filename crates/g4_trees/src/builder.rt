@@ -129,7 +129,8 @@ impl TreeBuilder {
     /// # Errors
     /// No memory.
     pub fn finish(self, alloc: Global) -> Result<Tree, AllocError>
-        ensures { IfOk result (λ tree. (trees : Forest) → HasGrown self (record { nodes = []; trees = trees }) → tree ≡ items_of_all trees) }
+        ensures { IfOk result (λ tree. (trees : Forest) → HasGrown self (record { nodes = []; trees = trees })
+            → tree ≡ items_of_all trees) }
     {
         let TreeBuilder { items, wraps, .. } = self;
         if wraps.is_empty() {

@@ -28,7 +28,8 @@ pub enum Event {
 /// The event of an item, where `ends` are the events at which the open nodes end, the innermost last. There is none at the
 /// end of a node that has not begun.
 fn next_event(ends: &mut Vec<Event>, item: Item) -> Result<Option<Event>, AllocError>
-    ensures { (rest : List TreeItem) → IfOk result (λ event. events_from (reverse ends.old.items) (item ∷ rest) ≡ option_to_list event ++ events_from (reverse ends.new.items) rest) }
+    ensures { (rest : List TreeItem) → IfOk result
+        (λ event. events_from (reverse ends.old.items) (item ∷ rest) ≡ option_to_list event ++ events_from (reverse ends.new.items) rest) }
 {
     match item {
         Item::Enter { rule, alt, .. } => {
@@ -99,7 +100,8 @@ fn push_node<A>(
     rule: u32,
     alt: u32,
 ) -> Result<(), AllocError>
-    ensures { Adds (name.now ++ (codes ": " ++ ((word.now ++ (called_of rules.now rule alt ++ (codes " " ++ decimal alt))) ++ codes "\n"))) out.old.items out.new.items result }
+    ensures { Adds (name.now ++ (codes ": " ++ ((word.now ++ (called_of rules.now rule alt ++ (codes " " ++ decimal alt)))
+        ++ codes "\n"))) out.old.items out.new.items result }
 {
     let mut digits = Buffer::new();
     push_three(out, name, ": ", word)?;
@@ -175,7 +177,8 @@ impl Tree {
         rules: &[ParserRule<A>],
         tokens: &Tokens,
     ) -> Result<(), AllocError>
-        ensures { (t : Nested) → self.now ≡ items_of t → Adds (event_lines rules.now tokens.now name.now (events_of t)) out.old.items out.new.items result }
+        ensures { (t : Nested) → self.now ≡ items_of t
+            → Adds (event_lines rules.now tokens.now name.now (events_of t)) out.old.items out.new.items result }
     {
         push_events(alloc, out, name, rules, tokens, self.items())
     }

@@ -3,10 +3,10 @@ ghost use Rattle.std.specs.Prelude.{◌≡◌, ◌++◌, codes};
 ghost use Rattle.g4_trees.specs.Appending.{Adds};
 ghost use Rattle.g4_trees.specs.TokenLines.{channel_text, end_line, place_text, symbol_text, token_line};
 
+use crate::push_token_text;
 use crate::texts::push_all;
 use g4_base::{Place, Text};
 use g4_tokens::{END, EOF, Token};
-use crate::push_token_text;
 use itoa::Buffer;
 use std::alloc::AllocError;
 
@@ -25,7 +25,8 @@ fn symbol_shown(shown: &[Text], symbol: u32) -> &str
 
 /// Adds the beginning of a line: `NAME: L:C SHOWN '`.
 fn push_start(out: &mut Vec<u8>, name: &str, place: Place, shown: &str) -> Result<(), AllocError>
-    ensures { Adds (name.now ++ (codes ": " ++ (place_text place ++ (codes " " ++ (shown.now ++ codes " '"))))) out.old.items out.new.items result }
+    ensures { Adds (name.now ++ (codes ": " ++ (place_text place ++ (codes " " ++ (shown.now ++ codes " '"))))) out.old.items
+        out.new.items result }
 {
     let mut line = Buffer::new();
     let mut column = Buffer::new();

@@ -4,8 +4,8 @@ ghost use Rattle.g4_trees.specs.Kept.{AreOrdered, entries_from, kept, wrap};
 ghost use Rattle.g4_trees.specs.Unwinding.{Known, known, known_before, enters, HasUnwound};
 ghost use Rattle.g4_trees.specs.Ends.{IsWrapAt};
 
-use crate::builder::Wrap;
 use crate::Item;
+use crate::builder::Wrap;
 use std::alloc::{AllocError, Global};
 
 /// What is known of a grown tree from some place on, when it is read from its last entry back to there.

@@ -16,4 +16,5 @@ rule_commanded (Lexer rule) = flat_map commanded_by rule.alternatives
 pub rules_commanded : (rules : List Rule) → all_commanded (lexer_rules rules) ≡ flat_map rule_commanded rules
 rules_commanded [] = refl
 rules_commanded (Parser rule ∷ rules) = rules_commanded rules
-rules_commanded (Lexer rule ∷ rules) = ap (λ (zs : List TokenReference). flat_map commanded_by rule.alternatives ++ zs) (rules_commanded rules)
+rules_commanded (Lexer rule ∷ rules) = ap (λ (zs : List TokenReference). flat_map commanded_by rule.alternatives ++ zs)
+    (rules_commanded rules)

@@ -37,8 +37,10 @@ bytes_eq-sym a b = at (bytes_eq a b) (bytes_eq b a) refl refl
     at : (x y : Bool) → bytes_eq a b ≡ x → bytes_eq b a ≡ y → x ≡ y
     at true true p q = refl
     at false false p q = refl
-    at true false p q = let e = bytes_same a b p in let r : bytes_eq b a ≡ true = ap (λ (z : List ℕ). bytes_eq z a) (sym e) ∙ bytes_refl a in cc
-    at false true p q = let e = bytes_same b a q in let r : bytes_eq a b ≡ true = ap (λ (z : List ℕ). bytes_eq z b) (sym e) ∙ bytes_refl b in cc
+    at true false p q = let e = bytes_same a b p in
+        let r : bytes_eq b a ≡ true = ap (λ (z : List ℕ). bytes_eq z a) (sym e) ∙ bytes_refl a in cc
+    at false true p q = let e = bytes_same b a q in
+        let r : bytes_eq a b ≡ true = ap (λ (z : List ℕ). bytes_eq z b) (sym e) ∙ bytes_refl b in cc
 
 -- keys that are equal are one
 pub key_same : (a b : Key) → is_key a b ≡ true → a ≡ b
@@ -53,18 +55,23 @@ key_refl (Name a) = bytes_refl a
 key_refl (Literal a) = bytes_refl a
 
 -- the number of a key with one entry more, whose key is new
-pub number_of-push : (table : List Entry) (entry : Entry) (key : Key) → number_of table entry.key ≡ None → number_of (table ++ entry ∷ []) key ≡ cond (is_key entry.key key) (Some entry.number) (number_of table key)
+pub number_of-push : (table : List Entry) (entry : Entry) (key : Key) → number_of table entry.key ≡ None
+    → number_of (table ++ entry ∷ []) key ≡ cond (is_key entry.key key) (Some entry.number) (number_of table key)
 number_of-push [] entry key fresh = refl
 number_of-push (first ∷ table) entry key fresh = by (is_key first.key entry.key) refl fresh (number_of-push table entry key)
   where
-    by : (b : Bool) → is_key first.key entry.key ≡ b → cond b (Some first.number) (number_of table entry.key) ≡ None → (number_of table entry.key ≡ None → number_of (table ++ entry ∷ []) key ≡ cond (is_key entry.key key) (Some entry.number) (number_of table key)) →
+    by : (b : Bool) → is_key first.key entry.key ≡ b → cond b (Some first.number) (number_of table entry.key) ≡ None
+        → (number_of table entry.key ≡ None → number_of (table ++ entry ∷ []) key
+        ≡ cond (is_key entry.key key) (Some entry.number) (number_of table key)) →
         number_of ((first ∷ table) ++ entry ∷ []) key ≡ cond (is_key entry.key key) (Some entry.number) (number_of (first ∷ table) key)
     by true is none more = cc
     by false is none more =
         ap (λ (o : Option ℕ). cond (is_key first.key key) (Some first.number) o) (more none)
         ∙ swap (is_key first.key key) (is_key entry.key key) refl refl
       where
-        swap : (b c : Bool) → is_key first.key key ≡ b → is_key entry.key key ≡ c → cond b (Some first.number) (cond c (Some entry.number) (number_of table key)) ≡ cond c (Some entry.number) (cond b (Some first.number) (number_of table key))
+        swap : (b c : Bool) → is_key first.key key ≡ b → is_key entry.key key ≡ c
+            → cond b (Some first.number) (cond c (Some entry.number) (number_of table key))
+            ≡ cond c (Some entry.number) (cond b (Some first.number) (number_of table key))
         swap true true p q =
             let e : first.key ≡ entry.key = key_same first.key key p ∙ sym (key_same entry.key key q) in
             let r : is_key first.key entry.key ≡ true = ap (λ (k : Key). is_key k entry.key) e ∙ key_refl entry.key in cc
@@ -75,10 +82,12 @@ number_of-push (first ∷ table) entry key fresh = by (is_key first.key entry.ke
 -- the greatest type with one entry more
 pub greatest_type-push : (table : List Entry) (entry : Entry) → greatest_type (table ++ entry ∷ []) ≡ max (greatest_type table) entry.number
 greatest_type-push [] entry = omega arith
-greatest_type-push (first ∷ table) entry = let h : greatest_type (table ++ entry ∷ []) ≡ max (greatest_type table) entry.number = greatest_type-push table entry in omega arith
+greatest_type-push (first ∷ table) entry = let h : greatest_type (table ++ entry ∷ []) ≡ max (greatest_type table) entry.number =
+    greatest_type-push table entry in omega arith
 
 -- the table with a new key
-pub with_key-new : (table : List Entry) (wanted : Wanted) → number_of table wanted.key ≡ None → with_key table wanted ≡ table ++ next_entry table wanted ∷ []
+pub with_key-new : (table : List Entry) (wanted : Wanted) → number_of table wanted.key ≡ None
+    → with_key table wanted ≡ table ++ next_entry table wanted ∷ []
 with_key-new table wanted none = ap (λ (o : Option ℕ). cond (is_some o) table (table ++ next_entry table wanted ∷ [])) none
 
 -- the table with a key that it has
@@ -98,25 +107,33 @@ with_keys_grows table [] = omega arith
 with_keys_grows table (wanted ∷ more) = omega (arith, with_key_grows table wanted, with_keys_grows (with_key table wanted) more)
 
 -- keys in two lists
-pub with_keys-append : (table : List Entry) (keys more : List Wanted) → with_keys table (keys ++ more) ≡ with_keys (with_keys table keys) more
+pub with_keys-append : (table : List Entry) (keys more : List Wanted)
+    → with_keys table (keys ++ more) ≡ with_keys (with_keys table keys) more
 with_keys-append table [] more = refl
 with_keys-append table (wanted ∷ keys) more = with_keys-append (with_key table wanted) keys more
 
 -- one new key is past the limit
-pub is_full : (table : List Entry) (wanted : Wanted) → is_some (number_of table wanted.key) ≡ false → MOST_TYPES ≤ greatest_type table → MOST_TYPES < greatest_type (with_keys table (wanted ∷ []))
+pub is_full : (table : List Entry) (wanted : Wanted) → is_some (number_of table wanted.key) ≡ false → MOST_TYPES ≤ greatest_type table
+    → MOST_TYPES < greatest_type (with_keys table (wanted ∷ []))
 is_full table wanted none full =
     let h = greatest_type-push table (next_entry table wanted) in
     let P : Bool → Type 0 = λ b. MOST_TYPES < greatest_type (cond b table (table ++ next_entry table wanted ∷ [])) in
     subst P (sym none) (omega (arith, h, full))
 
 -- a new name is in the table
-pub name_pushed : (old new : Table) (name : List ℕ) (entry : Entry) → IsTable old → old.greatest < MOST_TYPES → number_of old.entries.items (Name name) ≡ None → entry.key ≡ Name name → entry.number ≡ old.greatest + 1 → new.entries.items ≡ old.entries.items ++ entry ∷ [] →
-    ((q : List ℕ) → at new.names q ≡ cond (bytes_eq name q) (Some entry.number) (at old.names q)) → new.literals ≡ old.literals → new.greatest ≡ entry.number → IsTable new
+pub name_pushed : (old new : Table) (name : List ℕ) (entry : Entry) → IsTable old → old.greatest < MOST_TYPES
+    → number_of old.entries.items (Name name) ≡ None → entry.key ≡ Name name → entry.number ≡ old.greatest + 1
+    → new.entries.items ≡ old.entries.items ++ entry ∷ [] →
+    ((q : List ℕ) → at new.names q ≡ cond (bytes_eq name q) (Some entry.number) (at old.names q)) → new.literals ≡ old.literals
+    → new.greatest ≡ entry.number → IsTable new
 name_pushed old new name entry h room fresh key number items names literals greatest =
     let none : number_of old.entries.items entry.key ≡ None = ap (number_of old.entries.items) key ∙ fresh in
     let more : (k : Key) → number_of new.entries.items k ≡ cond (is_key (Name name) k) (Some entry.number) (number_of old.entries.items k) =
-    λ k. ap (λ (es : List Entry). number_of es k) items ∙ (number_of-push old.entries.items entry k none ∙ ap (λ (j : Key). cond (is_key j k) (Some entry.number) (number_of old.entries.items k)) key) in
-    let top : greatest_type new.entries.items ≡ max (greatest_type old.entries.items) entry.number = ap greatest_type items ∙ greatest_type-push old.entries.items entry in
+    λ k. ap (λ (es : List Entry). number_of es k) items
+    ∙ (number_of-push old.entries.items entry k none
+    ∙ ap (λ (j : Key). cond (is_key j k) (Some entry.number) (number_of old.entries.items k)) key) in
+    let top : greatest_type new.entries.items ≡ max (greatest_type old.entries.items) entry.number =
+    ap greatest_type items ∙ greatest_type-push old.entries.items entry in
     let same = h.greatest in
     record {
       names = λ q. names q ∙ (ap (λ (o : Option ℕ). cond (bytes_eq name q) (Some entry.number) o) (h.names q) ∙ sym (more (Name q)));
@@ -126,17 +143,25 @@ name_pushed old new name entry h room fresh key number items names literals grea
     }
 
 -- a new literal is in the table
-pub literal_pushed : (old new : Table) (characters : List ℕ) (entry : Entry) → IsTable old → old.greatest < MOST_TYPES → number_of old.entries.items (Literal characters) ≡ None → entry.key ≡ Literal characters → entry.number ≡ old.greatest + 1 → new.entries.items ≡ old.entries.items ++ entry ∷ [] →
-    ((q : List ℕ) → at new.literals q ≡ cond (bytes_eq characters q) (Some entry.number) (at old.literals q)) → new.names ≡ old.names → new.greatest ≡ entry.number → IsTable new
+pub literal_pushed : (old new : Table) (characters : List ℕ) (entry : Entry) → IsTable old → old.greatest < MOST_TYPES
+    → number_of old.entries.items (Literal characters) ≡ None → entry.key ≡ Literal characters → entry.number ≡ old.greatest + 1
+    → new.entries.items ≡ old.entries.items ++ entry ∷ [] →
+    ((q : List ℕ) → at new.literals q ≡ cond (bytes_eq characters q) (Some entry.number) (at old.literals q)) → new.names ≡ old.names
+    → new.greatest ≡ entry.number → IsTable new
 literal_pushed old new characters entry h room fresh key number items literals names greatest =
     let none : number_of old.entries.items entry.key ≡ None = ap (number_of old.entries.items) key ∙ fresh in
-    let more : (k : Key) → number_of new.entries.items k ≡ cond (is_key (Literal characters) k) (Some entry.number) (number_of old.entries.items k) =
-    λ k. ap (λ (es : List Entry). number_of es k) items ∙ (number_of-push old.entries.items entry k none ∙ ap (λ (j : Key). cond (is_key j k) (Some entry.number) (number_of old.entries.items k)) key) in
-    let top : greatest_type new.entries.items ≡ max (greatest_type old.entries.items) entry.number = ap greatest_type items ∙ greatest_type-push old.entries.items entry in
+    let more : (k : Key) → number_of new.entries.items k
+    ≡ cond (is_key (Literal characters) k) (Some entry.number) (number_of old.entries.items k) =
+    λ k. ap (λ (es : List Entry). number_of es k) items
+    ∙ (number_of-push old.entries.items entry k none
+    ∙ ap (λ (j : Key). cond (is_key j k) (Some entry.number) (number_of old.entries.items k)) key) in
+    let top : greatest_type new.entries.items ≡ max (greatest_type old.entries.items) entry.number =
+    ap greatest_type items ∙ greatest_type-push old.entries.items entry in
     let same = h.greatest in
     record {
       names = λ q. ap (λ m. at m q) names ∙ (h.names q ∙ sym (more (Name q)));
-      literals = λ q. literals q ∙ (ap (λ (o : Option ℕ). cond (bytes_eq characters q) (Some entry.number) o) (h.literals q) ∙ sym (more (Literal q)));
+      literals = λ q. literals q ∙ (ap (λ (o : Option ℕ). cond (bytes_eq characters q) (Some entry.number) o) (h.literals q)
+          ∙ sym (more (Literal q)));
       greatest = omega (arith, top, same, greatest, number);
       within = omega (arith, greatest, number, room);
     }
@@ -147,56 +172,73 @@ pub record Adding (start : List Entry) (all : List Wanted) (table : Table) (rest
   pub end : with_keys table.entries.items rest ≡ with_keys start all
 
 -- a fault at some keys is the fault of all
-pub adds_err : (start : List Entry) (all : List Wanted) (table : Table) (keys more : List Wanted) (new other : List Entry) (fault : NumberFault) → with_keys table.entries.items (keys ++ more) ≡ with_keys start all → Adds table.entries.items keys new (Err fault) → Adds start all other (Err fault)
+pub adds_err : (start : List Entry) (all : List Wanted) (table : Table) (keys more : List Wanted) (new other : List Entry)
+    (fault : NumberFault) → with_keys table.entries.items (keys ++ more) ≡ with_keys start all
+    → Adds table.entries.items keys new (Err fault) → Adds start all other (Err fault)
 adds_err start all table keys more new other Rules end h = h
 adds_err start all table keys more new other Types end h =
-    let e : greatest_type (with_keys (with_keys table.entries.items keys) more) ≡ greatest_type (with_keys start all) = ap greatest_type (sym (with_keys-append table.entries.items keys more) ∙ end) in
+    let e : greatest_type (with_keys (with_keys table.entries.items keys) more) ≡ greatest_type (with_keys start all) =
+    ap greatest_type (sym (with_keys-append table.entries.items keys more) ∙ end) in
     omega (arith, h, e, with_keys_grows (with_keys table.entries.items keys) more)
 adds_err start all table keys more new other NoMemory end h = tt
 
 -- keys that are added
-pub adding_more : (start : List Entry) (all : List Wanted) (old new : Table) (before keys more : List Wanted) → before ≡ keys ++ more → Adding start all old before → IsTable new → new.entries.items ≡ with_keys old.entries.items keys → Adding start all new more
+pub adding_more : (start : List Entry) (all : List Wanted) (old new : Table) (before keys more : List Wanted) → before ≡ keys ++ more
+    → Adding start all old before → IsTable new → new.entries.items ≡ with_keys old.entries.items keys → Adding start all new more
 adding_more start all old new before keys more split h right added = record {
   right = right;
-  end = ap (λ (es : List Entry). with_keys es more) added ∙ (sym (with_keys-append old.entries.items keys more) ∙ (ap (with_keys old.entries.items) (sym split) ∙ h.end));
+  end = ap (λ (es : List Entry). with_keys es more) added
+      ∙ (sym (with_keys-append old.entries.items keys more) ∙ (ap (with_keys old.entries.items) (sym split) ∙ h.end));
 }
 
 -- the keys of one more item
-pub wanted_more : {X Y : Type 0} (F : Y → Option Wanted) (view : X → Y) (xs : List X) (i : ℕ) (x : X) → i < length xs → x ≡ get_or xs i x → filter_map F (map view (drop i xs)) ≡ filter_map F (view x ∷ []) ++ filter_map F (map view (drop (i + 1) xs))
+pub wanted_more : {X Y : Type 0} (F : Y → Option Wanted) (view : X → Y) (xs : List X) (i : ℕ) (x : X) → i < length xs
+    → x ≡ get_or xs i x → filter_map F (map view (drop i xs)) ≡ filter_map F (view x ∷ []) ++ filter_map F (map view (drop (i + 1) xs))
 wanted_more F view xs i x within item =
     ap (λ (ys : List _). filter_map F (map view ys)) (drop_more xs i x within ∙ ap (λ (z : _). z ∷ drop (i + 1) xs) (sym item))
     ∙ filter_map-append F (view x ∷ []) (map view (drop (i + 1) xs))
 
 -- and of one more rule
-pub rule_more : {X Y : Type 0} (F : Y → Wanted) (view : X → Y) (xs : List X) (i : ℕ) (x : X) → i < length xs → x ≡ get_or xs i x → map F (map view (drop i xs)) ≡ F (view x) ∷ map F (map view (drop (i + 1) xs))
-rule_more F view xs i x within item = ap (λ (ys : List _). map F (map view ys)) (drop_more xs i x within ∙ ap (λ (z : _). z ∷ drop (i + 1) xs) (sym item))
+pub rule_more : {X Y : Type 0} (F : Y → Wanted) (view : X → Y) (xs : List X) (i : ℕ) (x : X) → i < length xs → x ≡ get_or xs i x
+    → map F (map view (drop i xs)) ≡ F (view x) ∷ map F (map view (drop (i + 1) xs))
+rule_more F view xs i x within item = ap (λ (ys : List _). map F (map view ys))
+    (drop_more xs i x within ∙ ap (λ (z : _). z ∷ drop (i + 1) xs) (sym item))
 
 -- a token name that is given a type
-pub name_wanted : (item : Reference) (name : Bor (List ℕ)) → item ≡ lent.Token name → bytes_eq name.now (codes "EOF") ≡ false → filter_map token_name (reference_of item ∷ []) ≡ record { key = Name name.now; shown = name.now } ∷ []
+pub name_wanted : (item : Reference) (name : Bor (List ℕ)) → item ≡ lent.Token name → bytes_eq name.now (codes "EOF") ≡ false
+    → filter_map token_name (reference_of item ∷ []) ≡ record { key = Name name.now; shown = name.now } ∷ []
 name_wanted item name is other = rw (is, other) refl
 
 -- a literal that is given a type
-pub literal_wanted : (lexers : List LexerRule) (item : Reference) (literal : Bor Written) → item ≡ lent.Literal literal → is_some (named_rule lexers literal.now.characters) ≡ false →
-    filter_map (own_literal lexers) (reference_of item ∷ []) ≡ record { key = Literal literal.now.characters; shown = literal.now.written } ∷ []
+pub literal_wanted : (lexers : List LexerRule) (item : Reference) (literal : Bor Written) → item ≡ lent.Literal literal
+    → is_some (named_rule lexers literal.now.characters) ≡ false →
+    filter_map (own_literal lexers) (reference_of item ∷ [])
+    ≡ record { key = Literal literal.now.characters; shown = literal.now.written } ∷ []
 literal_wanted lexers item literal is own = rw (is, own) refl
 
 -- no name that is lent is no name
-pub unnamed : (found : Option (Bor (List ℕ))) (name : Option (List ℕ)) → option_map (λ n. n.now) found ≡ name → not (is_some found) ≡ true → is_some name ≡ false
+pub unnamed : (found : Option (Bor (List ℕ))) (name : Option (List ℕ)) → option_map (λ n. n.now) found ≡ name
+    → not (is_some found) ≡ true → is_some name ≡ false
 unnamed None name e h = sym (ap is_some e)
 unnamed (Some x) name e h = cc
 
 -- three lists of keys
-pub with_three : (start one two : List Entry) (a b c : List Wanted) → one ≡ with_keys start a → two ≡ with_keys one b → with_keys two c ≡ with_keys start (a ++ (b ++ c))
+pub with_three : (start one two : List Entry) (a b c : List Wanted) → one ≡ with_keys start a → two ≡ with_keys one b
+    → with_keys two c ≡ with_keys start (a ++ (b ++ c))
 with_three start one two a b c first second =
-    ap (λ (es : List Entry). with_keys es c) second ∙ (sym (with_keys-append one b c) ∙ (ap (λ (es : List Entry). with_keys es (b ++ c)) first ∙ sym (with_keys-append start a (b ++ c))))
+    ap (λ (es : List Entry). with_keys es c) second
+    ∙ (sym (with_keys-append one b c) ∙ (ap (λ (es : List Entry). with_keys es (b ++ c)) first
+    ∙ sym (with_keys-append start a (b ++ c))))
 
 -- four lists of keys
-pub with_four : (start one two three : List Entry) (a b c d : List Wanted) → one ≡ with_keys start a → two ≡ with_keys one b → three ≡ with_keys two c → with_keys three d ≡ with_keys start (a ++ (b ++ (c ++ d)))
+pub with_four : (start one two three : List Entry) (a b c d : List Wanted) → one ≡ with_keys start a → two ≡ with_keys one b
+    → three ≡ with_keys two c → with_keys three d ≡ with_keys start (a ++ (b ++ (c ++ d)))
 with_four start one two three a b c d first second third =
     ap (λ (es : List Entry). with_keys es d) third ∙ (sym (with_keys-append two c d) ∙ with_three start one two a b (c ++ d) first second)
 
 -- a fault from the empty table
-pub starts_err : (start : List Entry) (keys : List Wanted) (new : List Entry) (fault : NumberFault) → start ≡ [] → Adds start keys new (Err fault) → Starts keys (Err fault)
+pub starts_err : (start : List Entry) (keys : List Wanted) (new : List Entry) (fault : NumberFault) → start ≡ []
+    → Adds start keys new (Err fault) → Starts keys (Err fault)
 starts_err start keys new Rules none h = h
 starts_err start keys new Types none h = subst (λ (es : List Entry). MOST_TYPES < greatest_type (with_keys es keys)) none h
 starts_err start keys new NoMemory none h = tt

@@ -72,26 +72,31 @@ module _ {A B : Type 0} (f : A → B) where
     in_order_atoms : (xs : Elements A) → atoms_in_order (in_order_over f xs) ≡ map f (atoms_in_order xs)
     in_order_atoms empty = refl
     in_order_atoms (then x xs) =
-        ap (λ (ys : List B). ys ++ atoms_in_order (in_order_over f xs)) (atoms_over x) ∙ (ap (λ (ys : List B). map f (atoms x) ++ ys) (in_order_atoms xs) ∙ sym (map-append f (atoms x) (atoms_in_order xs)))
+        ap (λ (ys : List B). ys ++ atoms_in_order (in_order_over f xs)) (atoms_over x)
+        ∙ (ap (λ (ys : List B). map f (atoms x) ++ ys) (in_order_atoms xs) ∙ sym (map-append f (atoms x) (atoms_in_order xs)))
 
     either_atoms : (xs : Alternatives A) → atoms_of_either (either_over f xs) ≡ map f (atoms_of_either xs)
     either_atoms none = refl
     either_atoms (or x xs) =
-        ap (λ (ys : List B). ys ++ atoms_of_either (either_over f xs)) (in_order_atoms x) ∙ (ap (λ (ys : List B). map f (atoms_in_order x) ++ ys) (either_atoms xs) ∙ sym (map-append f (atoms_in_order x) (atoms_of_either xs)))
+        ap (λ (ys : List B). ys ++ atoms_of_either (either_over f xs)) (in_order_atoms x)
+        ∙ (ap (λ (ys : List B). map f (atoms_in_order x) ++ ys) (either_atoms xs)
+        ∙ sym (map-append f (atoms_in_order x) (atoms_of_either xs)))
 
 -- types are at most the greatest
 pub type_low : (table : List Entry) (key : Key) → type_of table key ≤ greatest_type table
 type_low [] key = omega arith
 type_low (entry ∷ table) key = by (is_key entry.key key) (type_low table key)
   where
-    by : (b : Bool) → type_of table key ≤ greatest_type table → unwrap_or (cond b (Some entry.number) (number_of table key)) 0 ≤ max entry.number (greatest_type table)
+    by : (b : Bool) → type_of table key ≤ greatest_type table
+        → unwrap_or (cond b (Some entry.number) (number_of table key)) 0 ≤ max entry.number (greatest_type table)
     by true h = omega arith
     by false h = omega (arith, h)
 
 -- numbers from one on are below the end
 range_low : (a n most : ℕ) → a + n ≤ most → All (λ s. s < most) (range_with_len a n)
 range_low a zero most le = all_none (λ s. s < most)
-range_low a (suc n) most le = All-cons (λ s. s < most) a (range_with_len (a + 1) n) (omega (arith, le)) (range_low (a + 1) n most (omega (arith, le)))
+range_low a (suc n) most le = All-cons (λ s. s < most) a (range_with_len (a + 1) n) (omega (arith, le))
+    (range_low (a + 1) n most (omega (arith, le)))
 
 -- END is not among symbols below it
 no_end : (set : List ℕ) → All (λ s. s < end_of_list) set → Contains set end_of_list → ⊥
@@ -99,22 +104,28 @@ no_end set low (k, less, is) = omega (arith, low k end_of_list less, is)
 
 module _ (lexers : List LexerRule) (types : List Entry) where
   -- the tree of a numbered rule
-  pub tree_of : (rule : ParserRule Atom) → alternatives_of (numbered_rule lexers types rule) ≡ either_over (numbered_atom lexers types) (alternatives_of rule)
+  pub tree_of : (rule : ParserRule Atom) → alternatives_of (numbered_rule lexers types rule)
+      ≡ either_over (numbered_atom lexers types) (alternatives_of rule)
   tree_of rule = by rule.alternatives
     where
-      by : (xs : List (RuleAlternative Atom)) → either (map (λ a. a.elements) (map (numbered_alternative lexers types) xs)) ≡ either_over (numbered_atom lexers types) (either (map (λ a. a.elements) xs))
+      by : (xs : List (RuleAlternative Atom)) → either (map (λ a. a.elements) (map (numbered_alternative lexers types) xs))
+          ≡ either_over (numbered_atom lexers types) (either (map (λ a. a.elements) xs))
       by [] = refl
       by (x ∷ xs) = ap (or (in_order_over (numbered_atom lexers types) x.elements)) (by xs)
 
   -- the atoms of a numbered rule
-  pub atoms_are : (rule : ParserRule Atom) → atoms_of_either (alternatives_of (numbered_rule lexers types rule)) ≡ map (numbered_atom lexers types) (atoms_of_either (alternatives_of rule))
+  pub atoms_are : (rule : ParserRule Atom) → atoms_of_either (alternatives_of (numbered_rule lexers types rule))
+      ≡ map (numbered_atom lexers types) (atoms_of_either (alternatives_of rule))
   atoms_are rule = ap atoms_of_either (tree_of rule) ∙ either_atoms (numbered_atom lexers types) (alternatives_of rule)
 
   -- each block of a numbered rule has an alternative
   rule_full : (rule : ParserRule Atom) → ParserRuleIsFull rule → ParserRuleIsFull (numbered_rule lexers types rule)
   rule_full rule h =
       let P : Alternatives NumberedAtom → Type 0 = λ xs. IsSome xs × EachIsFull xs in
-      subst P (sym (tree_of rule)) (some_over (numbered_atom lexers types) (alternatives_of rule) h.0, each_over (numbered_atom lexers types) (alternatives_of rule) h.1)
+      subst P (sym (tree_of rule)) (
+        some_over (numbered_atom lexers types) (alternatives_of rule) h.0,
+        each_over (numbered_atom lexers types) (alternatives_of rule) h.1,
+      )
 
   -- and so of numbered rules
   pub rules_full : (rules : List Rule) → RulesAreFull rules → ParserRulesAreFull (map (numbered_rule lexers types) (parser_rules rules))
@@ -138,13 +149,16 @@ module _ (lexers : List LexerRule) (types : List Entry) where
   rule_untested : (rule : ParserRule Atom) → ParserRuleIsUntested rule → NumberedRuleIsUntested (numbered_rule lexers types rule)
   rule_untested rule h =
       let Q : NumberedAtom → Type 0 = λ a. NumberedKindIsUntested a.kind in
-      let all : All (λ (a : Atom). Q (numbered_atom lexers types a)) (atoms_of_either (alternatives_of rule)) = λ k d less. kind_untested _ (h k d less) in
+      let all : All (λ (a : Atom). Q (numbered_atom lexers types a)) (atoms_of_either (alternatives_of rule)) =
+      λ k d less. kind_untested _ (h k d less) in
       let P : List NumberedAtom → Type 0 = λ xs. All Q xs in
       subst P (sym (atoms_are rule)) (All-map Q (numbered_atom lexers types) (atoms_of_either (alternatives_of rule)) all)
 
   -- numbered rules of rules that test nothing
-  pub rules_untested : (rules : List (ParserRule Atom)) → All ParserRuleIsUntested rules → All NumberedRuleIsUntested (map (numbered_rule lexers types) rules)
-  rules_untested rules h = All-map NumberedRuleIsUntested (numbered_rule lexers types) rules (λ k d less. rule_untested (slice_index_or rules k d) (h k d less))
+  pub rules_untested : (rules : List (ParserRule Atom)) → All ParserRuleIsUntested rules
+      → All NumberedRuleIsUntested (map (numbered_rule lexers types) rules)
+  rules_untested rules h = All-map NumberedRuleIsUntested (numbered_rule lexers types) rules
+      (λ k d less. rule_untested (slice_index_or rules k d) (h k d less))
 
   -- symbols of tokens are below END
   symbol_low : (token : TokenReference) → greatest_type types ≤ MOST_TYPES → symbol_of lexers types token < end_of_list
@@ -169,7 +183,9 @@ module _ (lexers : List LexerRule) (types : List Entry) where
   kind_ends few (kinds.Set set) = no_end [] (all_none (λ (x : ℕ). x < end_of_list))
   kind_ends few (kinds.Any place) = no_end (all_types types) (types_low few)
   kind_ends few (kinds.NotTokens place tokens) =
-      no_end (types_without lexers types tokens) (All-filter (λ (type : ℕ). not (list_any (λ token. symbol_of lexers types token == type) tokens)) (λ (x : ℕ). x < end_of_list) (all_types types) (types_low few))
+      no_end (types_without lexers types tokens)
+      (All-filter (λ (type : ℕ). not (list_any (λ token. symbol_of lexers types token == type) tokens))
+      (λ (x : ℕ). x < end_of_list) (all_types types) (types_low few))
   kind_ends few (kinds.NotCharacters place set) = no_end [] (all_none (λ (x : ℕ). x < end_of_list))
   kind_ends few kinds.Action = tt
   kind_ends few (kinds.Predicate name) = tt
@@ -178,21 +194,27 @@ module _ (lexers : List LexerRule) (types : List Entry) where
   rule_ends : greatest_type types ≤ MOST_TYPES → (rule : ParserRule Atom) → RuleLeavesEnd (numbered_rule lexers types rule)
   rule_ends few rule =
       let Q : NumberedAtom → Type 0 = λ a. KindLeavesEnd a.kind in
-      let all : All (λ (a : Atom). Q (numbered_atom lexers types a)) (atoms_of_either (alternatives_of rule)) = λ k d less. kind_ends few _ in
+      let all : All (λ (a : Atom). Q (numbered_atom lexers types a)) (atoms_of_either (alternatives_of rule)) =
+      λ k d less. kind_ends few _ in
       let P : List NumberedAtom → Type 0 = λ xs. All Q xs in
       subst P (sym (atoms_are rule)) (All-map Q (numbered_atom lexers types) (atoms_of_either (alternatives_of rule)) all)
 
-  pub rules_ends : greatest_type types ≤ MOST_TYPES → (rules : List (ParserRule Atom)) → All RuleLeavesEnd (map (numbered_rule lexers types) rules)
+  pub rules_ends : greatest_type types ≤ MOST_TYPES → (rules : List (ParserRule Atom))
+      → All RuleLeavesEnd (map (numbered_rule lexers types) rules)
   rules_ends few [] = all_none RuleLeavesEnd
-  rules_ends few (rule ∷ rules) = All-cons RuleLeavesEnd (numbered_rule lexers types rule) (map (numbered_rule lexers types) rules) (rule_ends few rule) (rules_ends few rules)
+  rules_ends few (rule ∷ rules) = All-cons RuleLeavesEnd (numbered_rule lexers types rule) (map (numbered_rule lexers types) rules)
+      (rule_ends few rule) (rules_ends few rules)
 
 -- what holds of each parser rule among rules
-pub each_parser_rule : (P : ParserRule Atom → Type 0) (rules : List Rule) → ((rule : ParserRule Atom) → Contains rules (Parser rule) → P rule) → All P (parser_rules rules)
+pub each_parser_rule : (P : ParserRule Atom → Type 0) (rules : List Rule)
+    → ((rule : ParserRule Atom) → Contains rules (Parser rule) → P rule) → All P (parser_rules rules)
 each_parser_rule P [] h = all_none P
 each_parser_rule P (Parser rule ∷ rules) h =
-    All-cons P rule (parser_rules rules) (h rule (all_head (Contains (Parser rule ∷ rules)) (Parser rule) rules (All-contains_itself (Parser rule ∷ rules))))
+    All-cons P rule (parser_rules rules) (h rule
+    (all_head (Contains (Parser rule ∷ rules)) (Parser rule) rules (All-contains_itself (Parser rule ∷ rules))))
     (each_parser_rule P rules (λ other has. h other (Contains-append_right (Parser rule ∷ []) rules (Parser other) has)))
-each_parser_rule P (Lexer rule ∷ rules) h = each_parser_rule P rules (λ other has. h other (Contains-append_right (Lexer rule ∷ []) rules (Parser other) has))
+each_parser_rule P (Lexer rule ∷ rules) h = each_parser_rule P rules
+    (λ other has. h other (Contains-append_right (Lexer rule ∷ []) rules (Parser other) has))
 
 -- there are no more parser rules than rules
 pub parsers_few : (rules : List Rule) → length (parser_rules rules) ≤ length rules
@@ -201,27 +223,34 @@ parsers_few (Parser rule ∷ rules) = omega (arith, parsers_few rules)
 parsers_few (Lexer rule ∷ rules) = omega (arith, parsers_few rules)
 
 -- the symbols of the token rules are types
-pub symbols_low : (types : List Entry) (lexers : List LexerRule) → greatest_type types ≤ MOST_TYPES → All (λ rule. rule.symbol ≤ MOST_TYPES) (token_rules types lexers)
+pub symbols_low : (types : List Entry) (lexers : List LexerRule) → greatest_type types ≤ MOST_TYPES
+    → All (λ rule. rule.symbol ≤ MOST_TYPES) (token_rules types lexers)
 symbols_low types lexers few =
-    All-append (λ (rule : TokenRule). rule.symbol ≤ MOST_TYPES) (filter_map literal_rule types) (map (token_rule types) lexers) (literals types few)
+    All-append (λ (rule : TokenRule). rule.symbol ≤ MOST_TYPES) (filter_map literal_rule types) (map (token_rule types) lexers)
+    (literals types few)
     (All-map (λ (rule : TokenRule). rule.symbol ≤ MOST_TYPES) (token_rule types) lexers (λ k d less. low (slice_index_or lexers k d)))
   where
     low : (rule : LexerRule) → type_of types (keys.Name rule.name) ≤ MOST_TYPES
     low rule = omega (arith, few, type_low types (keys.Name rule.name))
 
-    literals : (entries : List Entry) → greatest_type entries ≤ MOST_TYPES → All (λ rule. rule.symbol ≤ MOST_TYPES) (filter_map literal_rule entries)
+    literals : (entries : List Entry) → greatest_type entries ≤ MOST_TYPES
+        → All (λ rule. rule.symbol ≤ MOST_TYPES) (filter_map literal_rule entries)
     literals [] few = all_none (λ (rule : TokenRule). rule.symbol ≤ MOST_TYPES)
     literals (entry ∷ entries) few = by entry.key (literals entries (omega (arith, few)))
       where
-        by : (key : Key) → All (λ rule. rule.symbol ≤ MOST_TYPES) (filter_map literal_rule entries) → All (λ rule. rule.symbol ≤ MOST_TYPES) (filter_map literal_rule (record { key = key; number = entry.number; shown = entry.shown } ∷ entries))
+        by : (key : Key) → All (λ rule. rule.symbol ≤ MOST_TYPES) (filter_map literal_rule entries)
+            → All (λ rule. rule.symbol ≤ MOST_TYPES)
+            (filter_map literal_rule (record { key = key; number = entry.number; shown = entry.shown } ∷ entries))
         by (keys.Name name) rest = rest
-        by (keys.Literal characters) rest = All-cons (λ (rule : TokenRule). rule.symbol ≤ MOST_TYPES) _ (filter_map literal_rule entries) (omega (arith, few)) rest
+        by (keys.Literal characters) rest = All-cons (λ (rule : TokenRule). rule.symbol ≤ MOST_TYPES) _
+            (filter_map literal_rule entries) (omega (arith, few)) rest
 
 -- so are those of the types that have names
 pub names_low : (types : List Entry) → greatest_type types ≤ MOST_TYPES → All (λ name. name.symbol ≤ MOST_TYPES) (names_of types)
 names_low [] few = all_none (λ (name : TokenName). name.symbol ≤ MOST_TYPES)
 names_low (entry ∷ types) few = by entry.key (names_low types (omega (arith, few)))
   where
-    by : (key : Key) → All (λ name. name.symbol ≤ MOST_TYPES) (names_of types) → All (λ name. name.symbol ≤ MOST_TYPES) (names_of (record { key = key; number = entry.number; shown = entry.shown } ∷ types))
+    by : (key : Key) → All (λ name. name.symbol ≤ MOST_TYPES) (names_of types)
+        → All (λ name. name.symbol ≤ MOST_TYPES) (names_of (record { key = key; number = entry.number; shown = entry.shown } ∷ types))
     by (keys.Name name) rest = All-cons (λ (name : TokenName). name.symbol ≤ MOST_TYPES) _ (names_of types) (omega (arith, few)) rest
     by (keys.Literal characters) rest = rest

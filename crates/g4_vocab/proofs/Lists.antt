@@ -6,33 +6,41 @@ use Rattle.std.proofs.lemmas.List.{drop_all, drop_more, take_more, append-nil}
 use Rattle.std.proofs.lemmas.List.Elements.{filter_map-append}
 
 -- one more part of a list in order
-pub parts_more : {X Y : Type 0} (F : X → List Y) (xs : List X) (i : ℕ) (x : X) (old new all : List Y) → i < length xs → x ≡ get_or xs i x → new ≡ old ++ F x → old ++ flat_map F (drop i xs) ≡ all → new ++ flat_map F (drop (i + 1) xs) ≡ all
+pub parts_more : {X Y : Type 0} (F : X → List Y) (xs : List X) (i : ℕ) (x : X) (old new all : List Y) → i < length xs
+    → x ≡ get_or xs i x → new ≡ old ++ F x → old ++ flat_map F (drop i xs) ≡ all → new ++ flat_map F (drop (i + 1) xs) ≡ all
 parts_more F xs i x old new all within item made before =
     let rest : List _ = flat_map F (drop (i + 1) xs) in
     let next : drop i xs ≡ x ∷ drop (i + 1) xs = drop_more xs i x within ∙ ap (λ (z : _). z ∷ drop (i + 1) xs) (sym item) in
     ap (λ (ys : List _). ys ++ rest) made ∙ (append_assoc old (F x) rest ∙ (ap (λ (zs : List _). old ++ flat_map F zs) (sym next) ∙ before))
 
 -- all parts are in the list
-pub parts_all : {X Y : Type 0} (F : X → List Y) (xs : List X) (i : ℕ) (made all : List Y) → length xs ≤ i → made ++ flat_map F (drop i xs) ≡ all → made ≡ all
-parts_all F xs i made all past before = sym (append-nil made) ∙ (ap (λ (ys : List _). made ++ flat_map F ys) (sym (drop_all i xs past)) ∙ before)
+pub parts_all : {X Y : Type 0} (F : X → List Y) (xs : List X) (i : ℕ) (made all : List Y) → length xs ≤ i
+    → made ++ flat_map F (drop i xs) ≡ all → made ≡ all
+parts_all F xs i made all past before = sym (append-nil made)
+    ∙ (ap (λ (ys : List _). made ++ flat_map F ys) (sym (drop_all i xs past)) ∙ before)
 
 -- one more item that is picked
-pub picks_more : {X Y : Type 0} (F : X → Option Y) (xs : List X) (i : ℕ) (x : X) (y : Y) (start old new : List Y) → i < length xs → x ≡ get_or xs i x → F x ≡ Some y → new ≡ old ++ y ∷ [] → old ≡ start ++ filter_map F (take i xs) → new ≡ start ++ filter_map F (take (i + 1) xs)
+pub picks_more : {X Y : Type 0} (F : X → Option Y) (xs : List X) (i : ℕ) (x : X) (y : Y) (start old new : List Y) → i < length xs
+    → x ≡ get_or xs i x → F x ≡ Some y → new ≡ old ++ y ∷ [] → old ≡ start ++ filter_map F (take i xs)
+    → new ≡ start ++ filter_map F (take (i + 1) xs)
 picks_more F xs i x y start old new within item is pushed before =
     let next : take (i + 1) xs ≡ take i xs ++ x ∷ [] = take_more xs i x within ∙ ap (λ (z : _). take i xs ++ z ∷ []) (sym item) in
     let one : filter_map F (x ∷ []) ≡ y ∷ [] = rw is refl in
     pushed ∙ (ap (λ (zs : List _). zs ++ y ∷ []) before ∙ (append_assoc start (filter_map F (take i xs)) (y ∷ [])
     ∙ (ap (λ (zs : List _). start ++ (filter_map F (take i xs) ++ zs)) (sym one)
-    ∙ (ap (λ (zs : List _). start ++ zs) (sym (filter_map-append F (take i xs) (x ∷ []))) ∙ ap (λ (ys : List _). start ++ filter_map F ys) (sym next)))))
+    ∙ (ap (λ (zs : List _). start ++ zs) (sym (filter_map-append F (take i xs) (x ∷ [])))
+    ∙ ap (λ (ys : List _). start ++ filter_map F ys) (sym next)))))
 
 -- one more item that is not
-pub picks_same : {X Y : Type 0} (F : X → Option Y) (xs : List X) (i : ℕ) (x : X) (start old : List Y) → i < length xs → x ≡ get_or xs i x → F x ≡ None → old ≡ start ++ filter_map F (take i xs) → old ≡ start ++ filter_map F (take (i + 1) xs)
+pub picks_same : {X Y : Type 0} (F : X → Option Y) (xs : List X) (i : ℕ) (x : X) (start old : List Y) → i < length xs
+    → x ≡ get_or xs i x → F x ≡ None → old ≡ start ++ filter_map F (take i xs) → old ≡ start ++ filter_map F (take (i + 1) xs)
 picks_same F xs i x start old within item is before =
     let next : take (i + 1) xs ≡ take i xs ++ x ∷ [] = take_more xs i x within ∙ ap (λ (z : _). take i xs ++ z ∷ []) (sym item) in
     let one : filter_map F (x ∷ []) ≡ [] = rw is refl in
     before ∙ (ap (λ (zs : List _). start ++ zs) (sym (append-nil (filter_map F (take i xs))))
     ∙ (ap (λ (zs : List _). start ++ (filter_map F (take i xs) ++ zs)) (sym one)
-    ∙ (ap (λ (zs : List _). start ++ zs) (sym (filter_map-append F (take i xs) (x ∷ []))) ∙ ap (λ (ys : List _). start ++ filter_map F ys) (sym next))))
+    ∙ (ap (λ (zs : List _). start ++ zs) (sym (filter_map-append F (take i xs) (x ∷ [])))
+    ∙ ap (λ (ys : List _). start ++ filter_map F ys) (sym next))))
 
 -- there is no value where the test says so
 pub is_none-by : {X : Type 0} (o : Option X) (r b : Bool) → is_some o ≡ not r → r ≡ b → is_none o ≡ b

@@ -7,7 +7,8 @@ use Rattle.g4_vocab.specs.declared.twice.NameFault.{NameFault}
 use Rattle.g4_vocab.specs.declared.twice.NameFault.TheVariants.{RuleTwice, NoMemory}
 
 -- a name that is reported is one name
-same_name : (rules : List Rule) (name other : List ℕ) → first_repeated [] rules ≡ Some name → first_repeated [] rules ≡ Some other → name ≡ other
+same_name : (rules : List Rule) (name other : List ℕ) → first_repeated [] rules ≡ Some name → first_repeated [] rules ≡ Some other
+    → name ≡ other
 same_name rules name other p q = cc
 
 -- no name, and a name, are not both reported
@@ -15,7 +16,8 @@ not_both : (rules : List Rule) (name : List ℕ) → first_repeated [] rules ≡
 not_both rules name p q = cc
 
 -- the answer is one
-pub one_naming : (rules : List Rule) (a b : Result ⊤ NameFault) → HasOwnNames rules a → HasOwnNames rules b → a ≢ Err NoMemory → b ≢ Err NoMemory → a ≡ b
+pub one_naming : (rules : List Rule) (a b : Result ⊤ NameFault) → HasOwnNames rules a → HasOwnNames rules b → a ≢ Err NoMemory
+    → b ≢ Err NoMemory → a ≡ b
 one_naming rules (Ok _) (Ok _) h k n m = refl
 one_naming rules (Ok _) (Err (RuleTwice name)) h k n m = absurd (not_both rules name h k)
 one_naming rules (Ok _) (Err NoMemory) h k n m = absurd (m refl)

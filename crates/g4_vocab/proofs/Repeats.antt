@@ -30,9 +30,15 @@ names_before rules at = map rule_name (take at rules)
 
 -- before the first rule
 pub none_passed : (rules : List Rule) (set : BTreeSet (Bor (List ℕ))) → set.keys ≡ [] → Passed rules set 0 (names_before rules 0)
-none_passed rules set empty = record { has = λ name. ap (λ (keys : List (Bor (List ℕ))). list_any (λ k. is_eq (text_cmp name k)) keys) empty; rest = refl }
+none_passed rules set empty = record {
+  has =
+      λ name. ap (λ (keys : List (Bor (List ℕ))). list_any (λ k. is_eq (text_cmp name k)) keys) empty;
+  rest = refl;
+}
 
-module _ (rules : List Rule) (old new : BTreeSet (Bor (List ℕ))) (at : ℕ) (rule : Rule) (key : Bor (List ℕ)) (h : Passed rules old at (names_before rules at)) (within : at < length rules) (item : rule ≡ get_or rules at rule) (named : key.now ≡ rule_name rule) where
+module _ (rules : List Rule) (old new : BTreeSet (Bor (List ℕ))) (at : ℕ) (rule : Rule) (key : Bor (List ℕ))
+    (h : Passed rules old at (names_before rules at)) (within : at < length rules) (item : rule ≡ get_or rules at rule)
+    (named : key.now ≡ rule_name rule) where
   -- the rules from this one on
   split : drop at rules ≡ rule ∷ drop (at + 1) rules
   split = drop_more rules at rule within ∙ ap (λ (r : Rule). r ∷ drop (at + 1) rules) (sym item)
@@ -45,15 +51,18 @@ module _ (rules : List Rule) (old new : BTreeSet (Bor (List ℕ))) (at : ℕ) (r
   pub repeated : contains text_cmp old key ≡ true → Some key.now ≡ first_repeated [] rules
   repeated is =
       ap (λ (n : List ℕ). Some n) named
-      ∙ (sym (ap (λ (b : Bool). cond b (Some (rule_name rule)) (first_repeated (names_before rules at ++ rule_name rule ∷ []) (drop (at + 1) rules))) (used true is))
+      ∙ (sym (ap (λ (b : Bool). cond b (Some (rule_name rule))
+      (first_repeated (names_before rules at ++ rule_name rule ∷ []) (drop (at + 1) rules))) (used true is))
       ∙ (ap (first_repeated (names_before rules at)) (sym split) ∙ h.rest))
 
   -- the names up to this rule
   names_more : names_before rules (at + 1) ≡ names_before rules at ++ rule_name rule ∷ []
-  names_more = ap (map rule_name) (take_more rules at rule within ∙ ap (λ (r : Rule). take at rules ++ r ∷ []) (sym item)) ∙ map-append rule_name (take at rules) (rule ∷ [])
+  names_more = ap (map rule_name) (take_more rules at rule within ∙ ap (λ (r : Rule). take at rules ++ r ∷ []) (sym item))
+      ∙ map-append rule_name (take at rules) (rule ∷ [])
 
   -- the name is new
-  pub passed : contains text_cmp old key ≡ false → Updates text_cmp old new key true → Passed rules new (at + 1) (names_before rules (at + 1))
+  pub passed : contains text_cmp old key ≡ false → Updates text_cmp old new key true
+      → Passed rules new (at + 1) (names_before rules (at + 1))
   passed is updates = record {
     has = λ name.
         updates.0 name
@@ -61,10 +70,12 @@ module _ (rules : List Rule) (old new : BTreeSet (Bor (List ℕ))) (at : ℕ) (r
         ∙ (ap (λ (b : Bool). cond (bytes_eq name.now key.now) true b) (h.has name)
         ∙ (as_or (list_any (bytes_eq name.now) (names_before rules at)) (bytes_eq name.now key.now)
         ∙ (ap (λ (n : List ℕ). list_any (bytes_eq name.now) (names_before rules at) || (bytes_eq name.now n || false)) named
-        ∙ (sym (list_any-append (bytes_eq name.now) (names_before rules at) (rule_name rule ∷ [])) ∙ ap (list_any (bytes_eq name.now)) (sym names_more))))));
+        ∙ (sym (list_any-append (bytes_eq name.now) (names_before rules at) (rule_name rule ∷ []))
+        ∙ ap (list_any (bytes_eq name.now)) (sym names_more))))));
     rest =
         ap (λ (ns : List (List ℕ)). first_repeated ns (drop (at + 1) rules)) names_more
-        ∙ (sym (ap (λ (b : Bool). cond b (Some (rule_name rule)) (first_repeated (names_before rules at ++ rule_name rule ∷ []) (drop (at + 1) rules))) (used false is))
+        ∙ (sym (ap (λ (b : Bool). cond b (Some (rule_name rule))
+        (first_repeated (names_before rules at ++ rule_name rule ∷ []) (drop (at + 1) rules))) (used false is))
         ∙ (ap (first_repeated (names_before rules at)) (sym split) ∙ h.rest));
   }
     where

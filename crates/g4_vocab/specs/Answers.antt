@@ -21,12 +21,14 @@ CausesNumberFault source NoMemory = Unit {0}
 
 -- numbering gives exactly the source's numbered grammar, or a fault with its cause
 abbrev pub GivesNumbered : Source → Result Numbered NumberFault → Type 0
-GivesNumbered source (Ok grammar) = (length source.rules ≤ MOST_RULES) × (greatest_type (types_of [] source.rules) ≤ MOST_TYPES) × (grammar ≡ numbered [] source.rules)
+GivesNumbered source (Ok grammar) = (length source.rules ≤ MOST_RULES) × (greatest_type (types_of [] source.rules) ≤ MOST_TYPES)
+    × (grammar ≡ numbered [] source.rules)
 GivesNumbered source (Err fault) = CausesNumberFault source fault
 
 -- the same of parser rules, lexer rules without `fragment` and tokens that commands name
 abbrev pub GivesNumberedHalves : List (ParserRule Atom) → List LexerRule → List TokenReference → Result Numbered NumberFault → Type 0
-GivesNumberedHalves parsers lexers commanded (Ok grammar) = (greatest_type (types_with [] parsers lexers commanded) ≤ MOST_TYPES) × (grammar ≡ numbered_with parsers lexers (types_with [] parsers lexers commanded))
+GivesNumberedHalves parsers lexers commanded (Ok grammar) = (greatest_type (types_with [] parsers lexers commanded) ≤ MOST_TYPES)
+    × (grammar ≡ numbered_with parsers lexers (types_with [] parsers lexers commanded))
 GivesNumberedHalves parsers lexers commanded (Err Rules) = ⊥
 GivesNumberedHalves parsers lexers commanded (Err Types) = MOST_TYPES < greatest_type (types_with [] parsers lexers commanded)
 GivesNumberedHalves parsers lexers commanded (Err NoMemory) = Unit {0}

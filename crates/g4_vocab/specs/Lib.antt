@@ -1,3 +1,4 @@
+-- Other crates cite Answers, Names, Numbering, Types; only this crate cites Halves, Tables.
 pub mod Answers
 pub mod Halves
 pub mod Names

@@ -10,7 +10,8 @@ use Rattle.g4_vocab.specs.declared.twice.NameFault.TheVariants.{RuleTwice, NoMem
 -- the first name among the rules that one of these names or an earlier rule has
 abbrev pub first_repeated : List (List ℕ) → List Rule → Option (List ℕ)
 first_repeated earlier [] = None
-first_repeated earlier (rule ∷ rules) = cond (list_any (bytes_eq (rule_name rule)) earlier) (Some (rule_name rule)) (first_repeated (earlier ++ rule_name rule ∷ []) rules)
+first_repeated earlier (rule ∷ rules) = cond (list_any (bytes_eq (rule_name rule)) earlier) (Some (rule_name rule))
+    (first_repeated (earlier ++ rule_name rule ∷ []) rules)
 
 -- the call answers that no name is used twice, or with the name of the first repetition, unless memory runs out
 abbrev pub HasOwnNames : List Rule → Result ⊤ NameFault → Type 0

@@ -120,7 +120,8 @@ all_references atoms = flat_map (λ a. references a.kind) atoms
 abbrev pub own_literal : List LexerRule → TokenReference → Option Wanted
 own_literal lexers (refs.Token name) = None
 own_literal lexers (refs.Literal literal) =
-    cond (is_some (named_rule lexers literal.characters)) None (Some (record { key = keys.Literal literal.characters; shown = literal.written }))
+    cond (is_some (named_rule lexers literal.characters)) None
+    (Some (record { key = keys.Literal literal.characters; shown = literal.written }))
 
 -- a literal as the rule writes it, where it names the rule's token, else the rule's name
 abbrev pub shown_literal : List LexerRule → List ℕ → Option Literal → List ℕ
@@ -160,7 +161,8 @@ token_name (refs.Literal literal) = None
 
 -- what types are given to, in order
 abbrev pub wanted : List LexerRule → List TokenReference → List TokenReference → List Wanted
-wanted lexers tokens commanded = filter_map (own_literal lexers) tokens ++ (map (rule_token lexers) lexers ++ (filter_map token_name tokens ++ filter_map token_name commanded))
+wanted lexers tokens commanded = filter_map (own_literal lexers) tokens
+    ++ (map (rule_token lexers) lexers ++ (filter_map token_name tokens ++ filter_map token_name commanded))
 
 -- the types of parser rules, lexer rules without `fragment` and tokens that commands name, which a table of types begins
 abbrev pub types_with : List Entry → List (ParserRule Atom) → List LexerRule → List TokenReference → List Entry
@@ -197,7 +199,8 @@ numbered_atom lexers types a = record { kind = numbered_kind lexers types a.kind
 
 -- an alternative of a parser rule over symbols
 abbrev pub numbered_alternative : List LexerRule → List Entry → RuleAlternative Atom → RuleAlternative NumberedAtom
-numbered_alternative lexers types a = record { right = a.right; elements = in_order_over (numbered_atom lexers types) a.elements; label = a.label }
+numbered_alternative lexers types a = record
+    { right = a.right; elements = in_order_over (numbered_atom lexers types) a.elements; label = a.label }
 
 -- a parser rule over symbols
 abbrev pub numbered_rule : List LexerRule → List Entry → ParserRule Atom → ParserRule NumberedAtom
@@ -211,7 +214,11 @@ literal_alternative literal = record { elements = then (atom (record { label = N
 abbrev pub literal_rule_by : ℕ → List ℕ → Key → Option TokenRule
 literal_rule_by type shown (keys.Name name) = None
 literal_rule_by type shown (keys.Literal characters) =
-    Some (record { name = shown; symbol = type; alternatives = literal_alternative (record { characters = characters; written = shown }) ∷ [] })
+    Some (record {
+      name = shown;
+      symbol = type;
+      alternatives = literal_alternative (record { characters = characters; written = shown }) ∷ [];
+    })
 
 abbrev pub literal_rule : Entry → Option TokenRule
 literal_rule entry = literal_rule_by entry.number entry.shown entry.key

@@ -54,7 +54,8 @@ kept_more (Some only) name = Some None
 
 -- the new map has the rule too, which is kept where it is a literal
 abbrev pub AddsRule : LexerRule → TextMap (Option (Bor (List ℕ))) → TextMap (Option (Bor (List ℕ))) → Type 0
-AddsRule rule old new = (characters : List ℕ) → kept new characters ≡ cond (is_whole characters rule) (kept_more (kept old characters) rule.name) (kept old characters)
+AddsRule rule old new = (characters : List ℕ)
+    → kept new characters ≡ cond (is_whole characters rule) (kept_more (kept old characters) rule.name) (kept old characters)
 
 -- the token that is named
 abbrev pub reference_of : Reference → TokenReference

@@ -39,7 +39,8 @@ fn push_alternative<'a>(
 
 /// Adds the tokens that commands of a rule name.
 fn push_rule<'a>(found: &mut Vec<Reference<'a>>, rule: &'a LexerRule) -> Result<(), AllocError>
-    ensures { OnOk result (map reference_of found.new.items ≡ map reference_of found.old.items ++ flat_map commanded_by rule.now.alternatives) }
+    ensures { OnOk result (map reference_of found.new.items
+        ≡ map reference_of found.old.items ++ flat_map commanded_by rule.now.alternatives) }
 {
     for alternative in rule.alternatives.as_slice() {
         push_alternative(found, alternative)?;

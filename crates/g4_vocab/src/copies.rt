@@ -4,7 +4,10 @@ ghost use Rattle.g4_source.specs.Elements.{atom};
 
 use g4_base::{Sequence, Text};
 use g4_chars::CharSet;
-use g4_source::{AlternativeLabel, Argument, Atom, AtomKind, Command, Element, Label, LexerAlternative, Literal, Substitution, TokenReference, substituted};
+use g4_source::{
+    AlternativeLabel, Argument, Atom, AtomKind, Command, Element, Label, LexerAlternative, Literal,
+    Substitution, TokenReference, substituted,
+};
 use std::alloc::{AllocError, Global};
 
 /// A copy of the literal.

@@ -17,7 +17,8 @@ fn literal_kind(kind: &AtomKind) -> Option<&Literal>
 
 /// The literal that the element is.
 fn literal_element(element: &Element<Atom>) -> Option<&Literal>
-    ensures { MatchOption result (literal_element (element_of element.now) ≡ None) (λ l. literal_element (element_of element.now) ≡ Some l.now) }
+    ensures { MatchOption result (literal_element (element_of element.now) ≡ None)
+        (λ l. literal_element (element_of element.now) ≡ Some l.now) }
 {
     match element {
         Element::Atom(atom) => literal_kind(&atom.kind),
@@ -27,7 +28,8 @@ fn literal_element(element: &Element<Atom>) -> Option<&Literal>
 
 /// The literal that is the whole of these elements.
 fn whole_elements(elements: &[Element<Atom>]) -> Option<&Literal>
-    ensures { MatchOption result (whole_elements (in_order (map element_of elements.now)) ≡ None) (λ l. whole_elements (in_order (map element_of elements.now)) ≡ Some l.now) }
+    ensures { MatchOption result (whole_elements (in_order (map element_of elements.now)) ≡ None)
+        (λ l. whole_elements (in_order (map element_of elements.now)) ≡ Some l.now) }
 {
     match elements {
         [element] => literal_element(element),

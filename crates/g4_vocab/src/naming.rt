@@ -20,7 +20,8 @@ fn add_own_literals<'a>(
 ) -> Result<(), NumberFault>
     requires { IsTable types.old }
     ensures table { OnOk result (IsTable types.new) }
-    ensures added { Adds types.old.entries.items (filter_map (own_literal (map (λ r. r.now) wholes.now.rules.now)) (map reference_of tokens.now)) types.new.entries.items result }
+    ensures added { Adds types.old.entries.items
+        (filter_map (own_literal (map (λ r. r.now) wholes.now.rules.now)) (map reference_of tokens.now)) types.new.entries.items result }
 {
     for token in tokens {
         if let Reference::Literal(literal) = token {
@@ -41,7 +42,8 @@ fn add_rules<'a>(
 ) -> Result<(), NumberFault>
     requires { IsTable types.old }
     ensures table { OnOk result (IsTable types.new) }
-    ensures added { Adds types.old.entries.items (map (rule_token (map (λ r. r.now) wholes.now.rules.now)) (map (λ r. r.now) rules.now)) types.new.entries.items result }
+    ensures added { Adds types.old.entries.items
+        (map (rule_token (map (λ r. r.now) wholes.now.rules.now)) (map (λ r. r.now) rules.now)) types.new.entries.items result }
 {
     for rule in rules {
         types.add_name(alloc, rule.name.as_str(), wholes.shown_rule(rule))?;
@@ -79,7 +81,9 @@ fn add_all<'a>(
 ) -> Result<(), NumberFault>
     requires { IsTable types.old }
     ensures table { OnOk result (IsTable types.new) }
-    ensures added { Adds types.old.entries.items (wanted (map (λ r. r.now) wholes.now.rules.now) (map reference_of tokens.now) (map reference_of commanded.now)) types.new.entries.items result }
+    ensures added { Adds types.old.entries.items
+        (wanted (map (λ r. r.now) wholes.now.rules.now) (map reference_of tokens.now) (map reference_of commanded.now))
+        types.new.entries.items result }
 {
     add_own_literals(alloc, types, wholes, tokens)?;
     add_rules(alloc, types, wholes, wholes.rules)?;
@@ -95,7 +99,8 @@ pub fn types_of<'a>(
     tokens: &[Reference<'a>],
     commanded: &[Reference<'a>],
 ) -> Result<Types<'a>, NumberFault>
-    ensures { Starts (wanted (map (λ r. r.now) wholes.now.rules.now) (map reference_of tokens.now) (map reference_of commanded.now)) result }
+    ensures { Starts (wanted (map (λ r. r.now) wholes.now.rules.now) (map reference_of tokens.now) (map reference_of commanded.now))
+        result }
 {
     let mut types = Types::new(alloc);
     add_all(alloc, &mut types, wholes, tokens, commanded)?;

@@ -24,8 +24,8 @@ use crate::token_rule::token_rules;
 use crate::types::Entry;
 use crate::wholes::Wholes;
 use g4_base::{Sequence, Text};
-use g4_source::{Atom, LexerRule, ParserRule, RuleAlternative, Source, substituted};
 use g4_grammar::{Numbered, NumberedAtom};
+use g4_source::{Atom, LexerRule, ParserRule, RuleAlternative, Source, substituted};
 use g4_tokens::MOST_TYPES;
 use std::alloc::{AllocError, Global};
 
@@ -35,7 +35,8 @@ fn numbered_alternative(
     numbering: &Numbering,
     alternative: &RuleAlternative<Atom>,
 ) -> Result<RuleAlternative<NumberedAtom>, AllocError>
-    ensures { IfOk result (λ made. made ≡ numbered_alternative (map (λ r. r.now) numbering.now.wholes.now.rules.now) numbering.now.types.now.entries.items alternative.now) }
+    ensures { IfOk result (λ made. made ≡ numbered_alternative (map (λ r. r.now) numbering.now.wholes.now.rules.now)
+        numbering.now.types.now.entries.items alternative.now) }
 {
     let elements = substituted(alloc, numbering, &alternative.elements)?;
     let label = copies::alternative_label(alloc, &alternative.label)?;
@@ -52,7 +53,8 @@ fn numbered_rule(
     numbering: &Numbering,
     rule: &ParserRule<Atom>,
 ) -> Result<ParserRule<NumberedAtom>, AllocError>
-    ensures { IfOk result (λ made. made ≡ numbered_rule (map (λ r. r.now) numbering.now.wholes.now.rules.now) numbering.now.types.now.entries.items rule.now) }
+    ensures { IfOk result (λ made. made ≡ numbered_rule (map (λ r. r.now) numbering.now.wholes.now.rules.now)
+        numbering.now.types.now.entries.items rule.now) }
 {
     let name = Text::copy_of(alloc, rule.name.as_str())?;
     let mut alternatives = Vec::new(alloc);
@@ -71,7 +73,9 @@ fn numbered_rules(
     numbering: &Numbering,
     parsers: &[&ParserRule<Atom>],
 ) -> Result<Sequence<ParserRule<NumberedAtom>>, AllocError>
-    ensures { IfOk result (λ rules. rules ≡ map (numbered_rule (map (λ r. r.now) numbering.now.wholes.now.rules.now) numbering.now.types.now.entries.items) (map (λ r. r.now) parsers.now)) }
+    ensures { IfOk result (λ rules. rules ≡ map
+        (numbered_rule (map (λ r. r.now) numbering.now.wholes.now.rules.now) numbering.now.types.now.entries.items)
+        (map (λ r. r.now) parsers.now)) }
 {
     let mut rules = Vec::new(alloc);
     for rule in parsers {
@@ -97,7 +101,8 @@ fn numbered(
     numbering: &Numbering,
     parsers: &[&ParserRule<Atom>],
 ) -> Result<Numbered, AllocError>
-    ensures { IfOk result (λ grammar. grammar ≡ numbered_with (map (λ r. r.now) parsers.now) (map (λ r. r.now) numbering.now.wholes.now.rules.now) numbering.now.types.now.entries.items) }
+    ensures { IfOk result (λ grammar. grammar ≡ numbered_with (map (λ r. r.now) parsers.now)
+        (map (λ r. r.now) numbering.now.wholes.now.rules.now) numbering.now.types.now.entries.items) }
 {
     let rules = numbered_rules(alloc, numbering, parsers)?;
     let shown = shown_types(alloc, numbering.types.entries.as_slice())?;
@@ -120,7 +125,8 @@ fn number_tokens<'a>(
     commanded: &[Reference<'a>],
 ) -> Result<Numbered, NumberFault>
     requires { map reference_of tokens.now ≡ all_references (all_atoms (map (λ r. r.now) parsers.now)) }
-    ensures { GivesNumberedHalves (map (λ r. r.now) parsers.now) (map (λ r. r.now) wholes.now.rules.now) (map reference_of commanded.now) result }
+    ensures { GivesNumberedHalves (map (λ r. r.now) parsers.now) (map (λ r. r.now) wholes.now.rules.now)
+        (map reference_of commanded.now) result }
 {
     let types = types_of(alloc, wholes, tokens, commanded)?;
     let numbering = Numbering {
@@ -173,7 +179,8 @@ pub fn number(alloc: Global, source: &Source) -> Result<Numbered, NumberFault>
     ensures full { HaveAlternatives source.now → IfOk result (λ grammar. ParserRulesAreFull grammar.rules) }
     ensures few { IfOk result (λ grammar. length grammar.rules ≤ MOST_RULES) }
     ensures ends { IfOk result (λ grammar. All RuleLeavesEnd grammar.rules) }
-    ensures untested { ((rule : ParserRule Atom) → Contains source.now.rules (Parser rule) → ParserRuleIsUntested rule) → IfOk result (λ grammar. All NumberedRuleIsUntested grammar.rules) }
+    ensures untested { ((rule : ParserRule Atom) → Contains source.now.rules (Parser rule) → ParserRuleIsUntested rule)
+        → IfOk result (λ grammar. All NumberedRuleIsUntested grammar.rules) }
     ensures defined { RulesAreDefined (rules_of source.now) → IfOk result (λ grammar. NumberedRulesAreDefined grammar.rules) }
     ensures run { RulesCanRun (rules_of source.now) → IfOk result (λ grammar. NumberedRulesCanRun grammar.rules) }
 {

@@ -65,7 +65,8 @@ fn push_element<'a>(
     found: &mut Vec<Reference<'a>>,
     element: &'a Element<Atom>,
 ) -> Result<(), AllocError>
-    ensures { OnOk result (map reference_of found.new.items ≡ map reference_of found.old.items ++ all_references (atoms (element_of element.now))) }
+    ensures { OnOk result (map reference_of found.new.items
+        ≡ map reference_of found.old.items ++ all_references (atoms (element_of element.now))) }
 {
     match element {
         Element::Atom(atom) => {
@@ -86,7 +87,8 @@ fn push_elements<'a>(
     found: &mut Vec<Reference<'a>>,
     elements: &'a [Element<Atom>],
 ) -> Result<(), AllocError>
-    ensures { OnOk result (map reference_of found.new.items ≡ map reference_of found.old.items ++ all_references (atoms_in_order (in_order (map element_of elements.now)))) }
+    ensures { OnOk result (map reference_of found.new.items
+        ≡ map reference_of found.old.items ++ all_references (atoms_in_order (in_order (map element_of elements.now)))) }
 {
     for element in elements {
         push_element(found, element)?;
@@ -99,7 +101,8 @@ fn push_rule<'a>(
     found: &mut Vec<Reference<'a>>,
     rule: &'a ParserRule<Atom>,
 ) -> Result<(), AllocError>
-    ensures { OnOk result (map reference_of found.new.items ≡ map reference_of found.old.items ++ all_references (atoms_of_either (alternatives_of rule.now))) }
+    ensures { OnOk result (map reference_of found.new.items
+        ≡ map reference_of found.old.items ++ all_references (atoms_of_either (alternatives_of rule.now))) }
 {
     for alternative in rule.alternatives.as_slice() {
         push_elements(found, alternative.elements.as_slice())?;

@@ -11,8 +11,8 @@ ghost use Rattle.g4_vocab.specs.Tables.{IsTable, reference_of};
 use crate::references::{Reference, reference_to};
 use crate::types::Types;
 use crate::wholes::Wholes;
-use g4_source::{Atom, AtomKind, Element, Literal, Substitution, TokenReference};
 use g4_grammar::{NumberedAtom, NumberedKind};
+use g4_source::{Atom, AtomKind, Element, Literal, Substitution, TokenReference};
 use g4_tokens::{EOF, Symbols};
 use std::alloc::{AllocError, Global};
 use std::collections::BTreeSet;
@@ -35,7 +35,8 @@ impl Numbering<'_, '_, '_, '_> {
 
     /// The symbol of a literal.
     fn symbol_of_literal(&self, characters: &[char]) -> u32
-        ensures { result ≡ type_of self.now.types.now.entries.items (literal_key (map (λ r. r.now) self.now.wholes.now.rules.now) characters.now) }
+        ensures { result ≡ type_of self.now.types.now.entries.items
+            (literal_key (map (λ r. r.now) self.now.wholes.now.rules.now) characters.now) }
     {
         match self.wholes.named_rule(characters) {
             Some(name) => self.symbol_of_name(name),
@@ -45,7 +46,8 @@ impl Numbering<'_, '_, '_, '_> {
 
     /// The symbol of a token.
     fn symbol_of(&self, token: Reference) -> u32
-        ensures { result ≡ symbol_of (map (λ r. r.now) self.now.wholes.now.rules.now) self.now.types.now.entries.items (reference_of token.entry) }
+        ensures { result ≡ symbol_of (map (λ r. r.now) self.now.wholes.now.rules.now) self.now.types.now.entries.items
+            (reference_of token.entry) }
     {
         match token {
             Reference::Token(name) => {
@@ -65,7 +67,9 @@ impl Numbering<'_, '_, '_, '_> {
         alloc: Global,
         tokens: &[TokenReference],
     ) -> Result<BTreeSet<u32>, AllocError>
-        ensures { IfOk result (λ set. (s : ℕ) → contains nat_cmp set s ≡ list_any (λ token. symbol_of (map (λ r. r.now) self.now.wholes.now.rules.now) self.now.types.now.entries.items token == s) tokens.now) }
+        ensures { IfOk result (λ set. (s : ℕ) → contains nat_cmp set s
+            ≡ list_any (λ token. symbol_of (map (λ r. r.now) self.now.wholes.now.rules.now) self.now.types.now.entries.items token ==
+            s) tokens.now) }
     {
         let mut symbols = BTreeSet::new(alloc);
         for token in tokens {
@@ -76,7 +80,8 @@ impl Numbering<'_, '_, '_, '_> {
 
     /// All types but those of these tokens.
     fn types_without(&self, alloc: Global, tokens: &[TokenReference]) -> Result<Symbols, AllocError>
-        ensures { IfOk result (λ set. set ≡ types_without (map (λ r. r.now) self.now.wholes.now.rules.now) self.now.types.now.entries.items tokens.now) }
+        ensures { IfOk result (λ set. set ≡ types_without (map (λ r. r.now) self.now.wholes.now.rules.now)
+            self.now.types.now.entries.items tokens.now) }
     {
         let left_out = self.symbols_of(alloc, tokens)?;
         let types = Symbols::up_to_without(alloc, self.types.greatest, &left_out)?;
@@ -85,7 +90,8 @@ impl Numbering<'_, '_, '_, '_> {
 
     /// What an atom of a parser rule becomes.
     fn kind_of(&self, alloc: Global, kind: &AtomKind) -> Result<NumberedKind, AllocError>
-        ensures { IfOk result (λ made. made ≡ numbered_kind (map (λ r. r.now) self.now.wholes.now.rules.now) self.now.types.now.entries.items kind.now) }
+        ensures { IfOk result (λ made. made ≡ numbered_kind (map (λ r. r.now) self.now.wholes.now.rules.now)
+            self.now.types.now.entries.items kind.now) }
     {
         let symbols = match kind {
             AtomKind::Rule(name) => return Ok(NumberedKind::Rule(name.copy_of(alloc)?)),

@@ -7,8 +7,8 @@ use crate::copies;
 use crate::symbol::Numbering;
 use crate::types::{Entry, Key};
 use g4_base::{Sequence, Text};
-use g4_source::{Atom, AtomKind, Element, Elements, LexerAlternative, LexerRule, Literal};
 use g4_grammar::TokenRule;
+use g4_source::{Atom, AtomKind, Element, Elements, LexerAlternative, LexerRule, Literal};
 use std::alloc::{AllocError, Global};
 
 /// An alternative that is a literal.
@@ -91,7 +91,8 @@ fn push_lexer_rules(
     numbering: &Numbering,
     lexers: &[&LexerRule],
 ) -> Result<(), AllocError>
-    ensures { OnOk result (rules.new.items ≡ rules.old.items ++ map (token_rule numbering.now.types.now.entries.items) (map (λ r. r.now) lexers.now)) }
+    ensures { OnOk result (rules.new.items ≡ rules.old.items
+        ++ map (token_rule numbering.now.types.now.entries.items) (map (λ r. r.now) lexers.now)) }
 {
     for rule in lexers {
         rules.push(token_rule(alloc, numbering, rule)?)?;

@@ -72,7 +72,8 @@ impl<'a> Types<'a> {
         requires room { self.old.greatest < MOST_TYPES }
         requires fresh { number_of self.old.entries.items (Key.Name name.now) ≡ None }
         ensures table { OnOk result (IsTable self.new) }
-        ensures pushed { OnOk result (self.new.entries.items ≡ self.old.entries.items ++ next_entry self.old.entries.items (record { key = Key.Name name.now; shown = shown.now }) ∷ []) }
+        ensures pushed { OnOk result (self.new.entries.items
+            ≡ self.old.entries.items ++ next_entry self.old.entries.items (record { key = Key.Name name.now; shown = shown.now }) ∷ []) }
     {
         let number = self.greatest + 1;
         let entry = Entry {
@@ -92,7 +93,9 @@ impl<'a> Types<'a> {
         requires room { self.old.greatest < MOST_TYPES }
         requires fresh { number_of self.old.entries.items (Key.Literal literal.now.characters) ≡ None }
         ensures table { OnOk result (IsTable self.new) }
-        ensures pushed { OnOk result (self.new.entries.items ≡ self.old.entries.items ++ next_entry self.old.entries.items (record { key = Key.Literal literal.now.characters; shown = literal.now.written }) ∷ []) }
+        ensures pushed { OnOk result (self.new.entries.items
+            ≡ self.old.entries.items ++ next_entry self.old.entries.items
+            (record { key = Key.Literal literal.now.characters; shown = literal.now.written }) ∷ []) }
     {
         let number = self.greatest + 1;
         let characters = literal.characters.as_slice();
@@ -111,7 +114,8 @@ impl<'a> Types<'a> {
     pub fn add_name(&mut self, alloc: Global, name: &'a str, shown: &str) -> Result<(), NumberFault>
         requires { IsTable self.old }
         ensures table { OnOk result (IsTable self.new) }
-        ensures added { Adds self.old.entries.items (record { key = Key.Name name.now; shown = shown.now } ∷ []) self.new.entries.items result }
+        ensures added { Adds self.old.entries.items (record { key = Key.Name name.now; shown = shown.now } ∷ [])
+            self.new.entries.items result }
     {
         if self.of_name(name).is_some() {
             return Ok(());
@@ -127,7 +131,8 @@ impl<'a> Types<'a> {
     pub fn add_literal(&mut self, alloc: Global, literal: &'a Literal) -> Result<(), NumberFault>
         requires { IsTable self.old }
         ensures table { OnOk result (IsTable self.new) }
-        ensures added { Adds self.old.entries.items (record { key = Key.Literal literal.now.characters; shown = literal.now.written } ∷ []) self.new.entries.items result }
+        ensures added { Adds self.old.entries.items
+            (record { key = Key.Literal literal.now.characters; shown = literal.now.written } ∷ []) self.new.entries.items result }
     {
         if self.of_literal(literal.characters.as_slice()).is_some() {
             return Ok(());

@@ -1,4 +1,5 @@
--- Words that `clap` accepts for the command line of `g4` are a command, where their files are few enough and their flags ask for one output.
+-- Words that `clap` accepts for the command line of `g4` are a command, where their files are few enough and their flags ask for one
+-- output.
 use Rattle.std.proofs.Common.{◌≡◌, ◌&&◌, ◌||◌, ℕ, Bool, cond, true, false, not, List, [], ◌∷◌, Option, Some, None, is_some, refl, sym, subst, codes, slice_index_or, arith}
 use Rattle.std.specs.Prelude.{fold, option_map}
 use Rattle.std.specs.Option.{option_map_or}
@@ -51,7 +52,8 @@ module _ (rules : List Rule) (waiting : Waiting) (word : Text) where
   long_step None h = short_step (short_of word) h
   long_step (Some p) h = flag_step _ _
 
-  dashes_step : (b : Bool) (position : ℕ) (h : Held) → IsNoHelp (cond b (h, trailing position) (long_or_other rules waiting word (long_of word) h)).1
+  dashes_step : (b : Bool) (position : ℕ) (h : Held)
+      → IsNoHelp (cond b (h, trailing position) (long_or_other rules waiting word (long_of word) h)).1
   dashes_step true position h = tt
   dashes_step false position h = long_step (long_of word) h
 
@@ -60,21 +62,26 @@ disabled true is none = cc
 disabled false is none = some_fault DisplayHelp (InvalidSubcommand ∷ []) none
 
 module _ (s : Shape) (enabled : s.disable_help_subcommand ≡ false) where
-  by_name : (o : Option Text) (waiting : Waiting) (position : ℕ) (word : Text) (h : Held) → other_fault s o word h ≡ [] → IsNoHelp (subcommand_or_other s.rules o waiting position word h).1
+  by_name : (o : Option Text) (waiting : Waiting) (position : ℕ) (word : Text) (h : Held) → other_fault s o word h ≡ []
+      → IsNoHelp (subcommand_or_other s.rules o waiting position word h).1
   by_name (Some name) waiting position word h none = λ is.
       disabled s.disable_help_subcommand enabled
-      (subst (λ (n : Text). cond (bytes_eq n (codes "help") && not s.disable_help_subcommand) (DisplayHelp ∷ InvalidSubcommand ∷ []) [] ≡ []) (sym is) none)
+      (subst (λ (n : Text). cond (bytes_eq n (codes "help") && not s.disable_help_subcommand) (DisplayHelp ∷ InvalidSubcommand ∷ [])
+      [] ≡ []) (sym is) none)
   by_name None waiting position word h none = dashes_step s.rules waiting word (bytes_eq word (45 ∷ 45 ∷ [])) position h
 
-  by_word : (b : Bool) (names : Names) (waiting : Waiting) (position : ℕ) (word : Text) (h : Held) → word_fault s names b waiting word h ≡ [] → IsNoHelp (word_met s.rules names b waiting position word h).1
+  by_word : (b : Bool) (names : Names) (waiting : Waiting) (position : ℕ) (word : Text) (h : Held)
+      → word_fault s names b waiting word h ≡ [] → IsNoHelp (word_met s.rules names b waiting position word h).1
   by_word true names waiting position word h none = tt
   by_word false names waiting position word h none = by_name (subcommand_met names waiting word) waiting position word h none
 
-  in_place : (o : Option Rule) (word : Text) (w : Walk) (h : Held) → StopsElsewhere w.stopped → StopsElsewhere (to_positional s.rules o word w h).stopped
+  in_place : (o : Option Rule) (word : Text) (w : Walk) (h : Held) → StopsElsewhere w.stopped
+      → StopsElsewhere (to_positional s.rules o word w h).stopped
   in_place None word w h stop = stop
   in_place (Some a) word w h stop = tt
 
-  by_step : (word : Text) (w : Walk) (h : Held) (step : Step) → IsNoHelp step → StopsElsewhere w.stopped → StopsElsewhere (after_step s.rules word w h step).stopped
+  by_step : (word : Text) (w : Walk) (h : Held) (step : Step) → IsNoHelp step → StopsElsewhere w.stopped
+      → StopsElsewhere (after_step s.rules word w h step).stopped
   by_step word w h (next waiting) is stop = stop
   by_step word w h (trailing position) is stop = stop
   by_step word w h (subcommand name) is stop = is
@@ -82,22 +89,27 @@ module _ (s : Shape) (enabled : s.disable_help_subcommand ≡ false) where
 
   by_stop : (o : Option (Text × List Text)) (names : Names) (w : Walk) (word : Text)
       → cond (is_some o) [] (or_else (word_fault s names w.is_trailing w.waiting word w.held)
-      (step_fault s w.position (word_met s.rules names w.is_trailing w.waiting w.position word w.held).0 (word_met s.rules names w.is_trailing w.waiting w.position word w.held).1)) ≡ []
+      (step_fault s w.position (word_met s.rules names w.is_trailing w.waiting w.position word w.held).0
+      (word_met s.rules names w.is_trailing w.waiting w.position word w.held).1)) ≡ []
       → StopsElsewhere o → StopsElsewhere w.stopped → StopsElsewhere (walked_from s.rules names o w word).stopped
   by_stop (Some p) names w word none here stop = here
   by_stop None names w word none here stop =
       let met = word_met s.rules names w.is_trailing w.waiting w.position word w.held in
-      by_step word w met.0 met.1 (by_word w.is_trailing names w.waiting w.position word w.held (first_none (word_fault s names w.is_trailing w.waiting word w.held) (step_fault s w.position met.0 met.1) none)) stop
+      by_step word w met.0 met.1 (by_word w.is_trailing names w.waiting w.position word w.held
+      (first_none (word_fault s names w.is_trailing w.waiting word w.held) (step_fault s w.position met.0 met.1) none)) stop
 
-  by_turn : (names : Names) (w : Walk) (word : Text) → turn_fault s names w word ≡ [] → StopsElsewhere w.stopped → StopsElsewhere (walked s.rules names w word).stopped
+  by_turn : (names : Names) (w : Walk) (word : Text) → turn_fault s names w word ≡ [] → StopsElsewhere w.stopped
+      → StopsElsewhere (walked s.rules names w word).stopped
   unfolding walked
   by_turn names w word none stop = by_stop w.stopped names w word none stop stop
 
-  stops_elsewhere : (names : Names) (w : Walk) (words : List Text) → walk_fault s names w words ≡ [] → StopsElsewhere w.stopped → StopsElsewhere (fold (walked s.rules names) w words).stopped
+  stops_elsewhere : (names : Names) (w : Walk) (words : List Text) → walk_fault s names w words ≡ [] → StopsElsewhere w.stopped
+      → StopsElsewhere (fold (walked s.rules names) w words).stopped
   unfolding walk_fault
   stops_elsewhere names w [] none stop = stop
   stops_elsewhere names w (word ∷ rest) none stop =
-      stops_elsewhere names (walked s.rules names w word) rest (second_none (turn_fault s names w word) (walk_fault s names (walked s.rules names w word) rest) none)
+      stops_elsewhere names (walked s.rules names w word) rest
+      (second_none (turn_fault s names w word) (walk_fault s names (walked s.rules names w word) rest) none)
       (by_turn names w word (first_none (turn_fault s names w word) (walk_fault s names (walked s.rules names w word) rest) none) stop)
 
 -- ---- the commands of `g4`
@@ -115,7 +127,8 @@ abbrev IsSomeCommand : List Text → Type 0
 IsSomeCommand words = (command : Command) × IsCommand words command
 
 -- of three needed arguments, of two, or of one, none is missing
-three_given : (a b c : Bool) → cond (not a || (not b || (not c || false))) (MissingRequiredArgument ∷ []) [] ≡ [] → (a ≡ true) × (b ≡ true) × (c ≡ true)
+three_given : (a b c : Bool) → cond (not a || (not b || (not c || false))) (MissingRequiredArgument ∷ []) [] ≡ []
+    → (a ≡ true) × (b ≡ true) × (c ≡ true)
 three_given true true true none = (refl, refl, refl)
 three_given true true false none = absurd (some_fault MissingRequiredArgument [] none)
 three_given true false c none = absurd (some_fault MissingRequiredArgument [] none)
@@ -136,7 +149,13 @@ rule_of i k = slice_index_or (command_at i).rules k help_rule
 parse_fills : FillAll (command_at 0).rules
 parse_fills = (
   fills_by_values (rule_of 0 0) refl,
-  (fills_by_values (rule_of 0 1) refl, (fills_by_flag (rule_of 0 2) (omega arith), (fills_by_flag (rule_of 0 3) (omega arith), (fills_by_values (rule_of 0 4) refl, (fills_by_help (rule_of 0 5) refl, tt))))),
+  (
+    fills_by_values (rule_of 0 1) refl,
+    (
+      fills_by_flag (rule_of 0 2) (omega arith),
+      (fills_by_flag (rule_of 0 3) (omega arith), (fills_by_values (rule_of 0 4) refl, (fills_by_help (rule_of 0 5) refl, tt))),
+    ),
+  ),
 )
 
 check_fills : FillAll (command_at 1).rules
@@ -147,7 +166,8 @@ atn_fills = (fills_by_values (rule_of 2 0) refl, (fills_by_values (rule_of 2 1) 
 
 -- the first of the commands whose name is met; the last is the request for help
 abbrev met_command : Bool → Bool → Bool → Bool → Option Shape
-met_command a b c d = cond a (Some (command_at 0)) (cond b (Some (command_at 1)) (cond c (Some (command_at 2)) (cond d (Some (command_at 3)) None)))
+met_command a b c d = cond a (Some (command_at 0))
+    (cond b (Some (command_at 1)) (cond c (Some (command_at 2)) (cond d (Some (command_at 3)) None)))
 
 or_false : (b : Bool) → (b || false) ≡ true → b ≡ true
 or_false true is = refl
@@ -159,7 +179,8 @@ entered_one rows true none = refl
 entered_one rows false none = absurd (some_fault MissingSubcommand [] none)
 
 module _ (words : List Text) (accepted : fault_of g4_app words ≡ []) (few : HasFewFiles words) (one : HasOneOutput words) where
-  parse_of : (rest : List Text) → subcommand_of g4_app words ≡ Some (codes "parse", rows_after (command_at 0).rules [] rest) → level_fault (command_at 0) [] nothing_held rest false [] ≡ [] → IsSomeCommand words
+  parse_of : (rest : List Text) → subcommand_of g4_app words ≡ Some (codes "parse", rows_after (command_at 0).rules [] rest)
+      → level_fault (command_at 0) [] nothing_held rest false [] ≡ [] → IsSomeCommand words
   parse_of rest given none =
       let rows = rows_after (command_at 0).rules [] rest in
       let level = level_filled (command_at 0) parse_fills rest none in
@@ -174,11 +195,21 @@ module _ (words : List Text) (accepted : fault_of g4_app words ≡ []) (few : Ha
           name = codes "parse";
           rows = rows;
           given = given;
-          named = (refl, record { grammar = grammar.one; start = start.one; output = output.1; files = files.all; few = few (codes "parse") rows (files.first ∷ files.others) given files.all });
+          named = (
+            refl,
+            record {
+              grammar = grammar.one;
+              start = start.one;
+              output = output.1;
+              files = files.all;
+              few = few (codes "parse") rows (files.first ∷ files.others) given files.all;
+            },
+          );
         },
       )
 
-  check_of : (rest : List Text) → subcommand_of g4_app words ≡ Some (codes "check", rows_after (command_at 1).rules [] rest) → level_fault (command_at 1) [] nothing_held rest false [] ≡ [] → IsSomeCommand words
+  check_of : (rest : List Text) → subcommand_of g4_app words ≡ Some (codes "check", rows_after (command_at 1).rules [] rest)
+      → level_fault (command_at 1) [] nothing_held rest false [] ≡ [] → IsSomeCommand words
   check_of rest given none =
       let rows = rows_after (command_at 1).rules [] rest in
       let level = level_filled (command_at 1) check_fills rest none in
@@ -187,7 +218,8 @@ module _ (words : List Text) (accepted : fault_of g4_app words ≡ []) (few : Ha
         record { accepted = accepted; name = codes "check"; rows = rows; given = given; named = (refl, grammar.one) },
       )
 
-  atn_of : (rest : List Text) → subcommand_of g4_app words ≡ Some (codes "atn", rows_after (command_at 2).rules [] rest) → level_fault (command_at 2) [] nothing_held rest false [] ≡ [] → IsSomeCommand words
+  atn_of : (rest : List Text) → subcommand_of g4_app words ≡ Some (codes "atn", rows_after (command_at 2).rules [] rest)
+      → level_fault (command_at 2) [] nothing_held rest false [] ≡ [] → IsSomeCommand words
   atn_of rest given none =
       let rows = rows_after (command_at 2).rules [] rest in
       let level = level_filled (command_at 2) atn_fills rest none in
@@ -195,7 +227,13 @@ module _ (words : List Text) (accepted : fault_of g4_app words ≡ []) (few : Ha
       let grammar = given_has_value (codes "grammar") rows level.0 there.0 in
       let rule = given_has_value (codes "rule") rows level.0 there.1 in (
         commands.Atn (record { grammar = grammar.first; rule = rule.first }),
-        record { accepted = accepted; name = codes "atn"; rows = rows; given = given; named = (refl, record { grammar = grammar.one; rule = rule.one }) },
+        record {
+          accepted = accepted;
+          name = codes "atn";
+          rows = rows;
+          given = given;
+          named = (refl, record { grammar = grammar.one; rule = rule.one });
+        },
       )
 
   by_names : (a b c d : Bool) (rest : List Text) → (d ≡ true → ⊥)
@@ -209,10 +247,12 @@ module _ (words : List Text) (accepted : fault_of g4_app words ≡ []) (few : Ha
   by_names false false false true rest no_help given some none = absurd (no_help refl)
   by_names false false false false rest no_help given some none = cc
 
-  by_entry : (stop : Option (Text × List Text)) → StopsElsewhere stop → subcommand_of g4_app words ≡ entered app stop → is_some (entered app stop) ≡ true → entered_fault app stop ≡ [] → IsSomeCommand words
+  by_entry : (stop : Option (Text × List Text)) → StopsElsewhere stop → subcommand_of g4_app words ≡ entered app stop
+      → is_some (entered app stop) ≡ true → entered_fault app stop ≡ [] → IsSomeCommand words
   by_entry None elsewhere given some none = cc
   by_entry (Some p) elsewhere given some none =
-      by_names (bytes_eq (codes "parse") p.0 || false) (bytes_eq (codes "check") p.0 || false) (bytes_eq (codes "atn") p.0 || false) (bytes_eq (codes "help") p.0 || false) p.1
+      by_names (bytes_eq (codes "parse") p.0 || false) (bytes_eq (codes "check") p.0 || false) (bytes_eq (codes "atn") p.0 || false)
+      (bytes_eq (codes "help") p.0 || false) p.1
       (λ is. elsewhere ((bytes_eq-Decides (codes "help") p.0).0 (or_false (bytes_eq (codes "help") p.0) is))) given some none
 
   pub some_command : IsSomeCommand words
@@ -228,6 +268,7 @@ module _ (words : List Text) (accepted : fault_of g4_app words ≡ []) (few : Ha
       let past_walk = second_none in_walk (or_else below (or_else in_end (or_else in_defaults last))) accepted in
       let past_below = second_none below (or_else in_end (or_else in_defaults last)) past_walk in
       let past_end = second_none in_end (or_else in_defaults last) past_below in
-      let stopped = stops_elsewhere top refl names (walk_from nothing_held) words (first_none in_walk (or_else below (or_else in_end (or_else in_defaults last))) accepted) tt in
+      let stopped = stops_elsewhere top refl names (walk_from nothing_held) words
+      (first_none in_walk (or_else below (or_else in_end (or_else in_defaults last))) accepted) tt in
       let some = entered_one (finished top.rules end) (is_some (entered app stop)) (second_none in_defaults last past_end) in
       by_entry stop stopped refl some (first_none below (or_else in_end (or_else in_defaults last)) past_walk)

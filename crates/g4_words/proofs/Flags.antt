@@ -11,7 +11,8 @@ true_is_not_false : codes "true" ≡ codes "false" → ⊥
 true_is_not_false same = true≢false (ap (bytes_eq (codes "true")) same)
 
 -- the answer is `true` exactly where the text is
-pub flag_is_true : (E : Type 0) (answer : Option Bool) (text : Option Text) → (text ≡ None → answer ≡ None) → ((t : Text) → text ≡ Some t → ReadsOne {T = Bool} {E = E} ParsesBool t answer)
+pub flag_is_true : (E : Type 0) (answer : Option Bool) (text : Option Text) → (text ≡ None → answer ≡ None)
+    → ((t : Text) → text ≡ Some t → ReadsOne {T = Bool} {E = E} ParsesBool t answer)
     → (option_eq beq answer (Some true) ≡ true) ↔ (text ≡ Some (codes "true"))
 flag_is_true E (Some true) (Some t) none value = (λ yes. ap Some (value t refl), λ is. refl)
 flag_is_true E (Some true) None none value = (λ yes. cc (none refl), λ is. refl)

@@ -20,17 +20,22 @@ one_value given a b p q = cc
 -- values are those of at most one `parse`, of at most one `check`, and of at most one `atn`
 one_parse : (rows : List Row) (a b : Parse) → IsParse rows a → IsParse rows b → a ≡ b
 one_parse rows a b p q =
-    ap (λ (t : Text). record { grammar = t; start = a.start; output = a.output; files = a.files }) (one_value (first_of (codes "grammar") rows) a.grammar b.grammar p.grammar q.grammar)
-    ∙ ap (λ (t : Text). record { grammar = b.grammar; start = t; output = a.output; files = a.files }) (one_value (first_of (codes "start") rows) a.start b.start p.start q.start)
-    ∙ ap (λ (o : Output). record { grammar = b.grammar; start = b.start; output = o; files = a.files }) (one_output rows a.output b.output p.output q.output)
-    ∙ ap (λ (ts : List Text). record { grammar = b.grammar; start = b.start; output = b.output; files = ts }) (one_value (all_of (codes "files") rows) a.files b.files p.files q.files)
+    ap (λ (t : Text). record { grammar = t; start = a.start; output = a.output; files = a.files })
+    (one_value (first_of (codes "grammar") rows) a.grammar b.grammar p.grammar q.grammar)
+    ∙ ap (λ (t : Text). record { grammar = b.grammar; start = t; output = a.output; files = a.files })
+    (one_value (first_of (codes "start") rows) a.start b.start p.start q.start)
+    ∙ ap (λ (o : Output). record { grammar = b.grammar; start = b.start; output = o; files = a.files })
+    (one_output rows a.output b.output p.output q.output)
+    ∙ ap (λ (ts : List Text). record { grammar = b.grammar; start = b.start; output = b.output; files = ts })
+    (one_value (all_of (codes "files") rows) a.files b.files p.files q.files)
 
 one_check : (rows : List Row) (a b : Check) → IsCheck rows a → IsCheck rows b → a ≡ b
 one_check rows a b p q = ap (λ (t : Text). record { grammar = t }) (one_value (first_of (codes "grammar") rows) a.grammar b.grammar p q)
 
 one_atn : (rows : List Row) (a b : Atn) → IsAtn rows a → IsAtn rows b → a ≡ b
 one_atn rows a b p q =
-    ap (λ (t : Text). record { grammar = t; rule = a.rule }) (one_value (first_of (codes "grammar") rows) a.grammar b.grammar p.grammar q.grammar)
+    ap (λ (t : Text). record { grammar = t; rule = a.rule })
+    (one_value (first_of (codes "grammar") rows) a.grammar b.grammar p.grammar q.grammar)
     ∙ ap (λ (t : Text). record { grammar = b.grammar; rule = t }) (one_value (first_of (codes "rule") rows) a.rule b.rule p.rule q.rule)
 
 -- no name is that of two commands

@@ -70,14 +70,16 @@ module _ (rows : List Row) where
           by_test : (same : Bool) → bytes_eq value (codes "true") ≡ same → HasFlag name rows ⊎ (HasFlag name rows → ⊥)
           by_test true same = inl (cc ((bytes_eq-Decides value (codes "true")).0 same))
           by_test false same =
-              let is_not_true : value ≡ codes "true" → ⊥ = λ is_true. true≢false (sym ((bytes_eq-Decides value (codes "true")).1 is_true) ∙ same) in
+              let is_not_true : value ≡ codes "true" → ⊥ =
+              λ is_true. true≢false (sym ((bytes_eq-Decides value (codes "true")).1 is_true) ∙ same) in
               inr (λ has. let is_true : value ≡ codes "true" = cc in is_not_true is_true)
 
   -- flags that ask for no more than one output ask for some
   pub some_output : ((a b : Output) → IsAskedFor rows a → IsAskedFor rows b → a ≡ b) → (output : Output) × IsOutput rows output
   some_output one = by_flags (has_or_not (codes "events")) (has_or_not (codes "tokens"))
     where
-      by_flags : (HasFlag (codes "events") rows ⊎ (HasFlag (codes "events") rows → ⊥)) → (HasFlag (codes "tokens") rows ⊎ (HasFlag (codes "tokens") rows → ⊥)) → (output : Output) × IsOutput rows output
+      by_flags : (HasFlag (codes "events") rows ⊎ (HasFlag (codes "events") rows → ⊥))
+          → (HasFlag (codes "tokens") rows ⊎ (HasFlag (codes "tokens") rows → ⊥)) → (output : Output) × IsOutput rows output
       by_flags (inl events) (inl tokens) = absurd (events_are_not_tokens (one outputs.Events outputs.Tokens events tokens))
       by_flags (inl events) (inr no_tokens) = (outputs.Events, is_events events no_tokens)
       by_flags (inr no_events) (inl tokens) = (outputs.Tokens, is_tokens no_events tokens)

@@ -11,5 +11,7 @@ some_kind kinds e (inl memory) other none = other memory
 some_kind kinds e (inr among) other none = subst (IsAmong (kind_of e)) none among
 
 -- the words have a fault for the command line that the app is
-pub refused : (app : App) (words : List Text) (e : Error) → app ≡ g4_app → (is_simple_and_free app ≡ true → HasKind (fault_of app words) e) → kind_of e ≢ OutOfMemory → fault_of g4_app words ≢ []
-refused app words e is kinds other = some_kind (fault_of g4_app words) e (subst (λ (a : App). is_simple_and_free a ≡ true → HasKind (fault_of a words) e) is kinds refl) other
+pub refused : (app : App) (words : List Text) (e : Error) → app ≡ g4_app
+    → (is_simple_and_free app ≡ true → HasKind (fault_of app words) e) → kind_of e ≢ OutOfMemory → fault_of g4_app words ≢ []
+refused app words e is kinds other = some_kind (fault_of g4_app words) e
+    (subst (λ (a : App). is_simple_and_free a ≡ true → HasKind (fault_of a words) e) is kinds refl) other

@@ -23,7 +23,8 @@ Filled (row ∷ rows) = (0 < length row.values) × Filled rows
 
 -- the rows stay so after a use of the argument without a fault
 abbrev pub Fills : Rule → Type 0
-Fills rule = (again : Bool) (values : List Text) (rows : List Row) → use_fault again rule values rows ≡ [] → Filled rows → Filled (used rule values rows)
+Fills rule = (again : Bool) (values : List Text) (rows : List Row) → use_fault again rule values rows ≡ [] → Filled rows
+    → Filled (used rule values rows)
 
 abbrev pub FillAll : List Rule → Type 0
 FillAll [] = Unit {0}
@@ -57,10 +58,12 @@ either : (b : Bool) (xs ys : List Row) → Filled xs → Filled ys → Filled (c
 either true xs ys h k = h
 either false xs ys h k = k
 
-filled-at_row : (id : Text) (change : Row → List Row) (missing rows : List Row) → ((r : Row) → 0 < length r.values → Filled (change r)) → Filled missing → Filled rows → Filled (at_row id change missing rows)
+filled-at_row : (id : Text) (change : Row → List Row) (missing rows : List Row)
+    → ((r : Row) → 0 < length r.values → Filled (change r)) → Filled missing → Filled rows → Filled (at_row id change missing rows)
 filled-at_row id change missing [] made new h = new
 filled-at_row id change missing (r ∷ rs) made new h =
-    either (bytes_eq r.id id) (change r ++ rs) (r ∷ at_row id change missing rs) (filled-append (change r) rs (made r h.0) h.1) (h.0, filled-at_row id change missing rs made new h.1)
+    either (bytes_eq r.id id) (change r ++ rs) (r ∷ at_row id change missing rs) (filled-append (change r) rs (made r h.0) h.1)
+    (h.0, filled-at_row id change missing rs made new h.1)
 
 filled-without : (id : Text) (rows : List Row) → Filled rows → Filled (without id rows)
 filled-without id rows h = filled-at_row id (λ r. []) [] rows (λ r k. tt) tt h
@@ -69,18 +72,24 @@ more_than_none : (xs ys : List Text) → 0 < length ys → 0 < length (xs ++ ys)
 more_than_none [] ys h = h
 more_than_none (x ∷ xs) ys h = omega arith
 
-filled-with_values : (id : Text) (how : Reading) (source : ValueSource) (values : List Text) (rows : List Row) → 0 < length values → Filled rows → Filled (with_values id how source values rows)
+filled-with_values : (id : Text) (how : Reading) (source : ValueSource) (values : List Text) (rows : List Row) → 0 < length values
+    → Filled rows → Filled (with_values id how source values rows)
 filled-with_values id how source values rows some h =
-    filled-at_row id (more_values source values) (record { id = id; values = values; count = None; source = Some source; reading = how } ∷ []) rows (λ r k. (more_than_none r.values values some, tt)) (some, tt) h
+    filled-at_row id (more_values source values)
+    (record { id = id; values = values; count = None; source = Some source; reading = how } ∷ []) rows
+    (λ r k. (more_than_none r.values values some, tt)) (some, tt) h
 
-filled-set : (id : Text) (how : Reading) (values : List Text) (rows : List Row) → 0 < length values → Filled rows → Filled (with_values id how CommandLine values (without id rows))
+filled-set : (id : Text) (how : Reading) (values : List Text) (rows : List Row) → 0 < length values → Filled rows
+    → Filled (with_values id how CommandLine values (without id rows))
 filled-set id how values rows some h = filled-with_values id how CommandLine values (without id rows) some (filled-without id rows h)
 
-filled-counted : (id : Text) (how : Reading) (values : List Text) (rows : List Row) → 0 < length values → Filled rows → Filled (counted id how values rows)
+filled-counted : (id : Text) (how : Reading) (values : List Text) (rows : List Row) → 0 < length values → Filled rows
+    → Filled (counted id how values rows)
 filled-counted id how [] rows some h = absurd (omega arith)
 filled-counted id how (v ∷ vs) rows some h = filled-set id how (v ∷ vs) rows some h
 
-filled-used_as : (action : ArgAction) (id : Text) (how : Reading) (values : List Text) (rows : List Row) → 0 < length values → Filled rows → Filled (used_as action id how values rows)
+filled-used_as : (action : ArgAction) (id : Text) (how : Reading) (values : List Text) (rows : List Row) → 0 < length values
+    → Filled rows → Filled (used_as action id how values rows)
 filled-used_as Set id how values rows some h = filled-set id how values rows some h
 filled-used_as SetTrue id how values rows some h = filled-set id how values rows some h
 filled-used_as SetFalse id how values rows some h = filled-set id how values rows some h
@@ -96,8 +105,11 @@ filled-used_as Version id how values rows some h = h
 -- an argument whose uses have a value
 pub fills_by_values : (rule : Rule) → (unwrap_or_range rule.range).start_inclusive ≡ 1 → Fills rule
 fills_by_values rule one again [] rows none h =
-    absurd (some_fault InvalidValue [] (subst (λ n. or_else (range_kinds n (most_values rule) 0) (action_fault (action_of rule) again rule (values_or_missing rule []) rows) ≡ []) one none))
-fills_by_values rule one again (v ∷ vs) rows none h = filled-used_as (action_of rule) rule.id (reading_by rule) (v ∷ vs) rows (omega arith) h
+    absurd (some_fault InvalidValue [] (subst (λ n.
+    or_else (range_kinds n (most_values rule) 0) (action_fault (action_of rule) again rule (values_or_missing rule []) rows) ≡ [])
+    one none))
+fills_by_values rule one again (v ∷ vs) rows none h =
+    filled-used_as (action_of rule) rule.id (reading_by rule) (v ∷ vs) rows (omega arith) h
 
 -- a flag, which has a value of its own
 pub fills_by_flag : (rule : Rule) → 0 < length rule.missing → Fills rule
@@ -106,7 +118,8 @@ fills_by_flag rule some again (v ∷ vs) rows none h = filled-used_as (action_of
 
 -- an argument that asks for help
 pub fills_by_help : (rule : Rule) → action_of rule ≡ Help → Fills rule
-fills_by_help rule is again values rows none h = subst (λ (x : ArgAction). Filled (used_as x rule.id (reading_by rule) (values_or_missing rule values) rows)) (sym is) h
+fills_by_help rule is again values rows none h =
+    subst (λ (x : ArgAction). Filled (used_as x rule.id (reading_by rule) (values_or_missing rule values) rows)) (sym is) h
 
 either_rule : (b : Bool) (rule : Rule) (other : Option Rule) → Fills rule → FillsIfFound other → FillsIfFound (cond b (Some rule) other)
 either_rule true rule other h k = h
@@ -118,14 +131,17 @@ fills-find test (rule ∷ rules) all = either_rule (test rule) rule (find test r
 
 -- ---- defaults
 
-filled-default_rows : (id : Text) (how : Reading) (values : List Text) (rows : List Row) → Filled rows → Filled (default_rows id how values rows)
+filled-default_rows : (id : Text) (how : Reading) (values : List Text) (rows : List Row) → Filled rows
+    → Filled (default_rows id how values rows)
 filled-default_rows id how [] rows h = h
 filled-default_rows id how (v ∷ vs) rows h = filled-with_values id how DefaultValue (v ∷ vs) rows (omega arith) h
 
 pub filled-with_defaults : (rules : List Rule) (rows : List Row) → Filled rows → Filled (fold with_default rows rules)
 filled-with_defaults [] rows h = h
 filled-with_defaults (rule ∷ rules) rows h =
-    filled-with_defaults rules (with_default rows rule) (either (has_row rule.id rows) rows (default_rows rule.id (reading_by rule) rule.defaults rows) h (filled-default_rows rule.id (reading_by rule) rule.defaults rows h))
+    filled-with_defaults rules (with_default rows rule)
+    (either (has_row rule.id rows) rows (default_rows rule.id (reading_by rule) rule.defaults rows) h
+    (filled-default_rows rule.id (reading_by rule) rule.defaults rows h))
 
 -- ---- what is given has a value
 
@@ -133,7 +149,8 @@ abbrev HasValueIfFound : Option Row → Type 0
 HasValueIfFound None = Unit {0}
 HasValueIfFound (Some row) = 0 < length row.values
 
-either_row : (b : Bool) (row : Row) (other : Option Row) → 0 < length row.values → HasValueIfFound other → HasValueIfFound (cond b (Some row) other)
+either_row : (b : Bool) (row : Row) (other : Option Row) → 0 < length row.values → HasValueIfFound other
+    → HasValueIfFound (cond b (Some row) other)
 either_row true row other h k = h
 either_row false row other h k = k
 
@@ -150,11 +167,13 @@ pub record IsGiven (id : Text) (rows : List Row) : Type 0 where
 
 -- an option's row is one that has values
 module _ (id : Text) (rows : List Row) where
-  of_values : (values : List Text) → 0 < length values → first_of id rows ≡ slice_get values 0 → all_of id rows ≡ Some values → IsGiven id rows
+  of_values : (values : List Text) → 0 < length values → first_of id rows ≡ slice_get values 0 → all_of id rows ≡ Some values
+      → IsGiven id rows
   of_values [] some one all = absurd (omega arith)
   of_values (v ∷ vs) some one all = record { first = v; others = vs; one = one; all = all }
 
-  of_row : (o : Option Row) → o ≡ find (λ r. bytes_eq r.id id) rows → HasValueIfFound o → option_map_or (λ r. explicit_source r.source) o false ≡ true → IsGiven id rows
+  of_row : (o : Option Row) → o ≡ find (λ r. bytes_eq r.id id) rows → HasValueIfFound o
+      → option_map_or (λ r. explicit_source r.source) o false ≡ true → IsGiven id rows
   of_row None is has given = cc
   of_row (Some row) is has given = of_values row.values has
       (subst (λ (x : Option Row). option_and_then (λ r. slice_get r.values 0) x ≡ slice_get row.values 0) is refl)
@@ -162,4 +181,5 @@ module _ (id : Text) (rows : List Row) where
 
 -- where each row has a value, an argument that is given has one
 pub given_has_value : (id : Text) (rows : List Row) → Filled rows → is_given id rows ≡ true → IsGiven id rows
-given_has_value id rows h given = of_row id rows (find (λ r. bytes_eq r.id id) rows) refl (found_has_value (λ r. bytes_eq r.id id) rows h) given
+given_has_value id rows h given = of_row id rows (find (λ r. bytes_eq r.id id) rows) refl
+    (found_has_value (λ r. bytes_eq r.id id) rows h) given

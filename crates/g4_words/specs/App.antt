@@ -32,8 +32,10 @@ letter_s = 115
 
 -- `parse -g GRAMMAR -s RULE [--events] [--tokens] FILE..`
 abbrev pub parse_app : App
-parse_app = with_rule (with_rule (with_rule (with_rule (with_rule (new_app (codes "parse")) (needed_rule (option_rule (codes "grammar") letter_g)))
-    (needed_rule (option_rule (codes "start") letter_s))) (flag_rule (codes "events"))) (flag_rule (codes "tokens"))) (needed_rule (words_rule (codes "files")))
+parse_app = with_rule (with_rule (with_rule (with_rule
+    (with_rule (new_app (codes "parse")) (needed_rule (option_rule (codes "grammar") letter_g)))
+    (needed_rule (option_rule (codes "start") letter_s))) (flag_rule (codes "events"))) (flag_rule (codes "tokens")))
+    (needed_rule (words_rule (codes "files")))
 
 -- `check GRAMMAR`
 abbrev pub check_app : App

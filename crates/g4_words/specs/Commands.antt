@@ -62,11 +62,13 @@ pub record IsCommand (words : List Text) (command : Command) : Type 0 where
 
 -- the words have no more files than are allowed
 abbrev pub HasFewFiles : List Text → Type 0
-HasFewFiles words = (name : Text) (rows : List Row) (files : List Text) → subcommand_of g4_app words ≡ Some (name, rows) → all_of (codes "files") rows ≡ Some files → length files ≤ MOST_FILES
+HasFewFiles words = (name : Text) (rows : List Row) (files : List Text) → subcommand_of g4_app words ≡ Some (name, rows)
+    → all_of (codes "files") rows ≡ Some files → length files ≤ MOST_FILES
 
 -- the flags of the words ask for no more than one output
 abbrev pub HasOneOutput : List Text → Type 0
-HasOneOutput words = (name : Text) (rows : List Row) (a b : Output) → subcommand_of g4_app words ≡ Some (name, rows) → IsAskedFor rows a → IsAskedFor rows b → a ≡ b
+HasOneOutput words = (name : Text) (rows : List Row) (a b : Output) → subcommand_of g4_app words ≡ Some (name, rows)
+    → IsAskedFor rows a → IsAskedFor rows b → a ≡ b
 
 -- the answer is a thing of this kind, or Usage where there is none, unless memory runs out
 abbrev pub Finds : {T : Type 0} → (T → Type 0) → Result T WordsFault → Type 0

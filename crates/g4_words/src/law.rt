@@ -12,5 +12,6 @@ pub fn one_command()
 
 /// All words that `clap` accepts are a command, if they have no more files than are allowed and ask for one output.
 pub fn some_command()
-    ensures { (words : List Text) → fault_of g4_app words ≡ [] → HasFewFiles words → HasOneOutput words → (command : Command) × IsCommand words command }
+    ensures { (words : List Text) → fault_of g4_app words ≡ [] → HasFewFiles words → HasOneOutput words
+        → (command : Command) × IsCommand words command }
 {}

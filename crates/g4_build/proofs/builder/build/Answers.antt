@@ -27,9 +27,14 @@ returns-then-not-fits-clause-built c = (
 
 pub returns-clause-built : goal.returns-clause-built
 returns-clause-built c =
-    built (eof ∷ []) c.args.rules.now c.args.numberings.now c.args.start.now c.in-Some.place c.in_ok-net.net (narrow (map alternatives_of c.args.rules.now) _ c.some_rule_is_wide.ensures c.if-some_rule_is_wide.false)
-    (sym c.place_of.ensures ∙ c.in-Some.is) (few_enough _ _ c.if-not-fits.false c.fits.ensures) (subst (λ (set : List ℕ). IsDrawn set c.args.rules.now c.args.numberings.now (c.in-Some.place + 1) c.in_ok-net.net) c.in_ok-file_end.ensures c.in_ok-net.ensures)
-    (λ low network few callers. runnable (eof ∷ []) c.args.rules.now c.args.start.now c.in_ok-net.net c.requires.laid low eof_alone network few callers)
+    built (eof ∷ []) c.args.rules.now c.args.numberings.now c.args.start.now c.in-Some.place c.in_ok-net.net
+    (narrow (map alternatives_of c.args.rules.now) _ c.some_rule_is_wide.ensures c.if-some_rule_is_wide.false)
+    (sym c.place_of.ensures ∙ c.in-Some.is) (few_enough _ _ c.if-not-fits.false c.fits.ensures)
+    (subst (λ (set : List ℕ). IsDrawn set c.args.rules.now c.args.numberings.now (c.in-Some.place + 1) c.in_ok-net.net)
+    c.in_ok-file_end.ensures c.in_ok-net.ensures)
+    (λ low network few callers. runnable (eof ∷ []) c.args.rules.now c.args.start.now c.in_ok-net.net c.requires.laid low eof_alone
+    network few callers)
 
 pub returns-clause-spells : goal.returns-clause-spells
-returns-clause-spells c = built_spells (eof ∷ []) c.args.rules.now c.args.numberings.now c.args.start.now c.in_ok-net.net (returns-clause-built c)
+returns-clause-spells c = built_spells (eof ∷ []) c.args.rules.now c.args.numberings.now c.args.start.now c.in_ok-net.net
+    (returns-clause-built c)

@@ -5,4 +5,5 @@ use Rattle.g4_build.proofs.Widths.{NotYet}
 use Rattle.g4_build.proofs.width.some_rule_is_wide.Given as goal
 
 abbrev pub invariant-loop-rule : goal.invariant-loop-rule
-invariant-loop-rule g l = NotYet (RulesHaveDecision (map alternatives_of l.rules)) (RulesHaveDecision (map alternatives_of (drop l.rule-index l.rules)))
+invariant-loop-rule g l = NotYet (RulesHaveDecision (map alternatives_of l.rules))
+    (RulesHaveDecision (map alternatives_of (drop l.rule-index l.rules)))

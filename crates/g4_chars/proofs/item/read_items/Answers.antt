@@ -10,6 +10,7 @@ is_within {n = n} f is within = subst (λ (o : Option Found). IfSome o (λ g. g.
 pub loop-at-preserved : goal.loop-at-preserved
 loop-at-preserved c =
     let within = is_within c.in-Some.found c.in-Some.is c.in_ok-found.ensures.within in (
-      items_more c.args.text.now c.loop-at.at c.index-text-at.result c.loop-at.out.items _ c.in-Some.found c.loop-at-test.true c.index-text-at.is (sym c.in_ok-found.ensures.value ∙ c.in-Some.is) c.in_ok-push.ensures.items ∙ c.loop-at.invariant.0,
+      items_more c.args.text.now c.loop-at.at c.index-text-at.result c.loop-at.out.items _ c.in-Some.found c.loop-at-test.true
+          c.index-text-at.is (sym c.in_ok-found.ensures.value ∙ c.in-Some.is) c.in_ok-push.ensures.items ∙ c.loop-at.invariant.0,
       omega (arith, within, length-drop {A = ℕ}, length-take {A = ℕ}),
     )

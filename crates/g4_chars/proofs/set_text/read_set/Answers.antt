@@ -21,8 +21,13 @@ returns-then-not-are_sound c =
     let text = c.args.text.now in
     let is = c.in-Some.items.items in
     let listed : items text ≡ Some is = subst (Listed text) c.in-Some.is c.in_ok-items.ensures in
-    let made : c.deref-2.result.now ≡ parts is = c.deref-2.ensures.value ∙ c.in_ok-parts.ensures ∙ ap parts c.deref.ensures.value in
-    (is, parts is, items_are 0 text is listed, parts_are 0 is, inl (sym (ap are_sound made) ∙ sym c.are_sound.ensures ∙ c.if-not-are_sound.true))
+    let made : c.deref-2.result.now ≡ parts is = c.deref-2.ensures.value ∙ c.in_ok-parts.ensures ∙ ap parts c.deref.ensures.value in (
+      is,
+      parts is,
+      items_are 0 text is listed,
+      parts_are 0 is,
+      inl (sym (ap are_sound made) ∙ sym c.are_sound.ensures ∙ c.if-not-are_sound.true),
+    )
 
 pub returns-then-is_empty : goal.returns-then-is_empty
 unfolding Listed
@@ -36,7 +41,8 @@ returns-then-is_empty c =
       parts is,
       items_are 0 text is listed,
       parts_are 0 is,
-      inr (λ some. let P : List Part → Type 0 = λ ps. HoldsIn ps some.0 in none some.0 ((c.in_ok-set.ensures.members some.0).1 (subst P (sym again) some.1))),
+      inr (λ some. let P : List Part → Type 0 = λ ps. HoldsIn ps some.0 in
+          none some.0 ((c.in_ok-set.ensures.members some.0).1 (subst P (sym again) some.1))),
     )
 
 pub returns : goal.returns

@@ -6,4 +6,5 @@ use Rattle.g4_checks.specs.Views.{use_view}
 use Rattle.g4_checks.proofs.atoms.atoms_of.Given as goal
 
 abbrev pub invariant-loop-rule : goal.invariant-loop-rule
-invariant-loop-rule l = map use_view l.found.items ++ flat_map (λ x. rule_atoms (rule_view x)) (drop l.rule-index l.rules) ≡ flat_map (λ x. rule_atoms (rule_view x)) l.rules
+invariant-loop-rule l = map use_view l.found.items ++ flat_map (λ x. rule_atoms (rule_view x)) (drop l.rule-index l.rules)
+    ≡ flat_map (λ x. rule_atoms (rule_view x)) l.rules

@@ -11,5 +11,7 @@ use Rattle.g4_checks.proofs.atoms.push_parser.Goals as goal
 
 pub returns : goal.returns
 returns c =
-    parts_all (λ (a : RuleAlternative Atom). in_rule Parser (atoms_in_order a.elements)) c.as_slice-alternative-items.result.now c.loop-alternative.alternative-index _ _ c.loop-alternative-test.false c.loop-alternative.invariant
-    ∙ ap (λ (xs : List AtomIn). map use_view c.args.found.now.items ++ xs) (parser_atoms Parser c.args.rule.now c.as_slice-alternative-items.result.now c.as_slice-alternative-items.ensures)
+    parts_all (λ (a : RuleAlternative Atom). in_rule Parser (atoms_in_order a.elements)) c.as_slice-alternative-items.result.now
+    c.loop-alternative.alternative-index _ _ c.loop-alternative-test.false c.loop-alternative.invariant
+    ∙ ap (λ (xs : List AtomIn). map use_view c.args.found.now.items ++ xs)
+    (parser_atoms Parser c.args.rule.now c.as_slice-alternative-items.result.now c.as_slice-alternative-items.ensures)

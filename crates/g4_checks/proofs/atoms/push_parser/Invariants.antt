@@ -7,4 +7,6 @@ use Rattle.g4_checks.proofs.Nodes.{in_rule}
 use Rattle.g4_checks.proofs.atoms.push_parser.Given as goal
 
 abbrev pub invariant-loop-alternative : goal.invariant-loop-alternative
-invariant-loop-alternative l = map use_view l.found.items ++ flat_map (λ a. in_rule Parser (atoms_in_order a.elements)) (drop l.alternative-index l.alternative-items) ≡ map use_view l.initial.found.items ++ flat_map (λ a. in_rule Parser (atoms_in_order a.elements)) l.alternative-items
+invariant-loop-alternative l = map use_view l.found.items
+    ++ flat_map (λ a. in_rule Parser (atoms_in_order a.elements)) (drop l.alternative-index l.alternative-items)
+    ≡ map use_view l.initial.found.items ++ flat_map (λ a. in_rule Parser (atoms_in_order a.elements)) l.alternative-items

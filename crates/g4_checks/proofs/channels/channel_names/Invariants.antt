@@ -5,4 +5,5 @@ use Rattle.g4_checks.specs.Names.{declared_channels}
 use Rattle.g4_checks.proofs.channels.channel_names.Given as goal
 
 abbrev pub invariant-loop-prequel : goal.invariant-loop-prequel
-invariant-loop-prequel l = AddsAll [] (codes "HIDDEN" ∷ codes "DEFAULT_TOKEN_CHANNEL" ∷ flat_map declared_channels (take l.prequel-index l.prequel-items)) l.names
+invariant-loop-prequel l = AddsAll [] (codes "HIDDEN" ∷ codes "DEFAULT_TOKEN_CHANNEL"
+    ∷ flat_map declared_channels (take l.prequel-index l.prequel-items)) l.names

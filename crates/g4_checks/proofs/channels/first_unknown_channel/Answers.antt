@@ -10,5 +10,8 @@ use Rattle.g4_checks.proofs.channels.first_unknown_channel.Goals as goal
 
 pub returns : goal.returns
 returns c =
-    found_same IsUnknownChannel (is_one_of c.in_ok-channels.channels) (is_one_of (channel_names c.args.source.now)) (map (λ (x : Bor Command). x.now) c.as_slice.result.now) (commands_in c.args.source.now) (option_map (λ n. n.now) c.first_unknown.result) c.in_ok-found.found
-    (fun_ext c.in_ok-channels.ensures) (ap (map (λ (x : Bor Command). x.now)) c.as_slice.ensures.value ∙ c.requires.commands) c.in_ok-found.ensures c.first_unknown.ensures
+    found_same IsUnknownChannel (is_one_of c.in_ok-channels.channels) (is_one_of (channel_names c.args.source.now))
+    (map (λ (x : Bor Command). x.now) c.as_slice.result.now) (commands_in c.args.source.now)
+    (option_map (λ n. n.now) c.first_unknown.result) c.in_ok-found.found
+    (fun_ext c.in_ok-channels.ensures) (ap (map (λ (x : Bor Command). x.now)) c.as_slice.ensures.value ∙ c.requires.commands)
+    c.in_ok-found.ensures c.first_unknown.ensures

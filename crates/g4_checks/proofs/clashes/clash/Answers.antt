@@ -10,5 +10,7 @@ pub returns : goal.returns
 returns c =
     let test = clashes_in c.args.clashing.now in
     let found = option_map (λ (n : Bor (List ℕ)). n.now) c.first_clash.result in
-    clash_of_labels test c.args.rule.now found (ap are_partly_labelled (sym c.as_slice.ensures) ∙ (sym c.are_partly_labelled.ensures ∙ c.if-are_partly_labelled.false))
-    (subst (λ (labels : List (List ℕ)). FindsFirst (IsClash test) labels found) (ap (map (λ (n : Bor (List ℕ)). n.now)) c.as_slice-2.ensures.value ∙ c.in_ok-labels.ensures) c.first_clash.ensures)
+    clash_of_labels test c.args.rule.now found (ap are_partly_labelled (sym c.as_slice.ensures)
+    ∙ (sym c.are_partly_labelled.ensures ∙ c.if-are_partly_labelled.false))
+    (subst (λ (labels : List (List ℕ)). FindsFirst (IsClash test) labels found)
+    (ap (map (λ (n : Bor (List ℕ)). n.now)) c.as_slice-2.ensures.value ∙ c.in_ok-labels.ensures) c.first_clash.ensures)

@@ -7,4 +7,5 @@ use Rattle.g4_checks.proofs.commands.commands_of.Goals as goal
 
 pub returns : goal.returns
 returns c =
-    parts_all (λ (x : RuleView). rule_commands (rule_view x)) c.args.rules.now c.loop-rule.rule-index _ _ c.loop-rule-test.false c.loop-rule.invariant ∙ sym (parts-map rule_commands rule_view c.args.rules.now)
+    parts_all (λ (x : RuleView). rule_commands (rule_view x)) c.args.rules.now c.loop-rule.rule-index _ _ c.loop-rule-test.false
+    c.loop-rule.invariant ∙ sym (parts-map rule_commands rule_view c.args.rules.now)

@@ -13,9 +13,13 @@ loop-alternative-preserved c =
     elim c.match-alternative.branch [
       | in-Some+in_ok-push-in-Some w ↦
           rw w.labels-is
-          (picks_more label_of items c.loop-alternative.alternative-index c.alternative-item.result _ c.loop-alternative-test.true c.alternative-item.is c.loop-alternative.invariant w.in-Some.label.name _
-          (ap (option_map (λ (l : AlternativeLabel). l.name)) w.in-Some.is) (pushed (λ (x : Bor (List ℕ)). x.now) w.in-Some.label.name c.loop-alternative.labels.items _ w.in_ok-push-in-Some.ensures.items w.as_str.ensures))
+          (picks_more label_of items c.loop-alternative.alternative-index c.alternative-item.result _ c.loop-alternative-test.true
+          c.alternative-item.is c.loop-alternative.invariant w.in-Some.label.name _
+          (ap (option_map (λ (l : AlternativeLabel). l.name)) w.in-Some.is)
+          (pushed (λ (x : Bor (List ℕ)). x.now) w.in-Some.label.name c.loop-alternative.labels.items _
+          w.in_ok-push-in-Some.ensures.items w.as_str.ensures))
       | in-None w ↦
           rw w.labels-is
-          (picks_same label_of items c.loop-alternative.alternative-index c.alternative-item.result _ c.loop-alternative-test.true c.alternative-item.is c.loop-alternative.invariant (ap (option_map (λ (l : AlternativeLabel). l.name)) w.in-None.is))
+          (picks_same label_of items c.loop-alternative.alternative-index c.alternative-item.result _ c.loop-alternative-test.true
+          c.alternative-item.is c.loop-alternative.invariant (ap (option_map (λ (l : AlternativeLabel). l.name)) w.in-None.is))
     ]

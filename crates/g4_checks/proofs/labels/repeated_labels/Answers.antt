@@ -15,9 +15,11 @@ loop-rule-init c = counts_none c.new.result c.new-2.result c.new.ensures c.new-2
 pub loop-rule-preserved : goal.loop-rule-preserved
 loop-rule-preserved c =
     let rule = λ (r : Bor (ParserRule Atom)). r.now in
-    subst (λ (rules : List (ParserRule Atom)). Counts rules c.add_rule.new.self.once c.add_rule.new.self.again) (sym (names_more rule c.args.rules.now c.loop-rule.rule-index c.rule-item.result c.loop-rule-test.true c.rule-item.is))
+    subst (λ (rules : List (ParserRule Atom)). Counts rules c.add_rule.new.self.once c.add_rule.new.self.again)
+    (sym (names_more rule c.args.rules.now c.loop-rule.rule-index c.rule-item.result c.loop-rule-test.true c.rule-item.is))
     (c.in_ok-add_rule.ensures (map rule (take c.loop-rule.rule-index c.args.rules.now)) c.loop-rule.invariant)
 
 pub returns : goal.returns
 returns c =
-    λ n. c.loop-rule.invariant.in_two n ∙ ap (λ (rules : List (Bor (ParserRule Atom))). is_in_two (map (λ r. r.now) rules) n) (take_all c.loop-rule.rule-index c.args.rules.now c.loop-rule-test.false)
+    λ n. c.loop-rule.invariant.in_two n ∙ ap (λ (rules : List (Bor (ParserRule Atom))). is_in_two (map (λ r. r.now) rules) n)
+    (take_all c.loop-rule.rule-index c.args.rules.now c.loop-rule-test.false)

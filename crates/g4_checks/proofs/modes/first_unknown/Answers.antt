@@ -8,14 +8,20 @@ use Rattle.g4_checks.proofs.modes.first_unknown.Goals as goal
 
 pub returns-in-Some : goal.returns-in-Some
 returns-in-Some c =
-    one_reported (IsUnknownMode (is_one_of c.args.modes.now)) (λ (x : Bor Command). x.now) c.args.commands.now c.loop-command.command-index c.command-item.result c.in-Some.mode.now c.loop-command-test.true c.command-item.is
-    (subst (λ (name : List ℕ). ArgumentIsUnknownMode (is_one_of c.args.modes.now) name c.command-item.result.now.argument c.in-Some.mode.now) c.as_str.ensures c.in-Some.ensures) c.loop-command.invariant
+    one_reported (IsUnknownMode (is_one_of c.args.modes.now)) (λ (x : Bor Command). x.now) c.args.commands.now
+    c.loop-command.command-index c.command-item.result c.in-Some.mode.now c.loop-command-test.true c.command-item.is
+    (subst (λ (name : List ℕ). ArgumentIsUnknownMode (is_one_of c.args.modes.now) name c.command-item.result.now.argument
+    c.in-Some.mode.now) c.as_str.ensures c.in-Some.ensures) c.loop-command.invariant
 
 pub loop-command-preserved : goal.loop-command-preserved
 loop-command-preserved c =
-    one_passed (IsUnknownMode (is_one_of c.args.modes.now)) (λ (x : Bor Command). x.now) c.args.commands.now c.loop-command.command-index c.command-item.result c.loop-command-test.true c.command-item.is
-    (λ n told. c.in_default.ensures n (subst (λ (name : List ℕ). ArgumentIsUnknownMode (is_one_of c.args.modes.now) name c.command-item.result.now.argument n) (sym c.as_str.ensures) told)) c.loop-command.invariant
+    one_passed (IsUnknownMode (is_one_of c.args.modes.now)) (λ (x : Bor Command). x.now) c.args.commands.now
+    c.loop-command.command-index c.command-item.result c.loop-command-test.true c.command-item.is
+    (λ n told. c.in_default.ensures n (subst (λ (name : List ℕ).
+    ArgumentIsUnknownMode (is_one_of c.args.modes.now) name c.command-item.result.now.argument n) (sym c.as_str.ensures) told))
+    c.loop-command.invariant
 
 pub returns : goal.returns
 returns c =
-    all_passed (IsUnknownMode (is_one_of c.args.modes.now)) (λ (x : Bor Command). x.now) c.args.commands.now c.loop-command.command-index c.loop-command-test.false c.loop-command.invariant
+    all_passed (IsUnknownMode (is_one_of c.args.modes.now)) (λ (x : Bor Command). x.now) c.args.commands.now
+    c.loop-command.command-index c.loop-command-test.false c.loop-command.invariant

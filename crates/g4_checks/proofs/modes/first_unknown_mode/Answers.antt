@@ -10,5 +10,8 @@ use Rattle.g4_checks.proofs.modes.first_unknown_mode.Goals as goal
 
 pub returns : goal.returns
 returns c =
-    found_same IsUnknownMode (is_one_of c.in_ok-modes.modes) (is_one_of (mode_names c.args.source.now)) (map (λ (x : Bor Command). x.now) c.as_slice.result.now) (commands_in c.args.source.now) (option_map (λ n. n.now) c.first_unknown.result) c.in_ok-found.found
-    (fun_ext c.in_ok-modes.ensures) (ap (map (λ (x : Bor Command). x.now)) c.as_slice.ensures.value ∙ c.requires.commands) c.in_ok-found.ensures c.first_unknown.ensures
+    found_same IsUnknownMode (is_one_of c.in_ok-modes.modes) (is_one_of (mode_names c.args.source.now))
+    (map (λ (x : Bor Command). x.now) c.as_slice.result.now) (commands_in c.args.source.now)
+    (option_map (λ n. n.now) c.first_unknown.result) c.in_ok-found.found
+    (fun_ext c.in_ok-modes.ensures) (ap (map (λ (x : Bor Command). x.now)) c.as_slice.ensures.value ∙ c.requires.commands)
+    c.in_ok-found.ensures c.first_unknown.ensures

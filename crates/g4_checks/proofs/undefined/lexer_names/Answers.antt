@@ -8,8 +8,11 @@ use Rattle.g4_checks.proofs.undefined.lexer_names.Goals as goal
 
 pub loop-rule-preserved : goal.loop-rule-preserved
 loop-rule-preserved c =
-    adds_next (λ (r : Bor (LexerRule)). r.now.name) [] [] c.args.rules.now c.loop-rule.rule-index c.rule-item.result c.as_str.result.now c.loop-rule.names c.add.new.self c.loop-rule-test.true c.rule-item.is c.as_str.ensures c.loop-rule.invariant c.in_ok-add.ensures.added
+    adds_next (λ (r : Bor (LexerRule)). r.now.name) [] [] c.args.rules.now c.loop-rule.rule-index c.rule-item.result
+    c.as_str.result.now c.loop-rule.names c.add.new.self c.loop-rule-test.true c.rule-item.is c.as_str.ensures
+    c.loop-rule.invariant c.in_ok-add.ensures.added
 
 pub returns : goal.returns
 returns c =
-    subst (λ (xs : List (Bor (LexerRule))). AddsAll [] (map (λ r. r.now.name) xs) c.loop-rule.names) (take_all c.loop-rule.rule-index c.args.rules.now c.loop-rule-test.false) c.loop-rule.invariant
+    subst (λ (xs : List (Bor (LexerRule))). AddsAll [] (map (λ r. r.now.name) xs) c.loop-rule.names)
+    (take_all c.loop-rule.rule-index c.args.rules.now c.loop-rule-test.false) c.loop-rule.invariant

@@ -6,7 +6,8 @@ use Rattle.g4_classes.proofs.classes.partition_of.Goals as goal
 
 pub loop-state-preserved : goal.loop-state-preserved
 loop-state-preserved c =
-    one_more_state c.as_slice-state-items.result.now c.loop-state.state-index c.state-item.result c.loop-state.partition.blocks.items c.divide_by.new.self.blocks.items
+    one_more_state c.as_slice-state-items.result.now c.loop-state.state-index c.state-item.result c.loop-state.partition.blocks.items
+    c.divide_by.new.self.blocks.items
     c.loop-state-test.true c.state-item.is c.loop-state.invariant c.in_ok-divide_by.ensures
 
 pub returns : goal.returns

@@ -5,7 +5,10 @@ use Rattle.g4_classes.proofs.Ranking.{are_columns}
 use Rattle.g4_classes.proofs.columns.columns_of.Goals as goal
 
 pub ranks_of-requires-clause-least : goal.ranks_of-requires-clause-least
-ranks_of-requires-clause-least c = (c.in_ok-partition.partition.blocks.items, subst (AreLeast c.in_ok-partition.partition.blocks.items) (sym c.as_slice.ensures.value) c.in_ok-least.ensures)
+ranks_of-requires-clause-least c = (
+  c.in_ok-partition.partition.blocks.items,
+  subst (AreLeast c.in_ok-partition.partition.blocks.items) (sym c.as_slice.ensures.value) c.in_ok-least.ensures,
+)
 
 pub returns : goal.returns
 returns c =

@@ -15,9 +15,13 @@ loop-index-preserved c =
     let n = c.next_rank-next in
     let is = c.as_slice.ensures.value in
     let size : length c.as_slice.result.now ≡ k = ap length is ∙ r.length_is in
-    let known : first < k → (n.result.0 ≡ get_or ranks first 0) × (n.result.1 ≡ l.count) = λ less. let e = n.ensures.known (omega (arith, less, size)) in (e.0 ∙ ap (λ (xs : List ℕ). get_or xs first 0) is, e.1) in
-    let new : (first < k → ⊥) → (n.result.0 ≡ l.count) × (n.result.1 ≡ l.count + 1) = λ not. n.ensures.new (λ less. not (omega (arith, less, size))) in (
-      ranks_more c.requires.least.0 least c.requires.least.1 k ranks l.count first (let t = c.loop-index-test.true in omega (arith, t)) refl r n.result.0 n.result.1 c.push.new.self.items c.in_ok-push.ensures.items known new,
+    let known : first < k → (n.result.0 ≡ get_or ranks first 0) × (n.result.1 ≡ l.count) = λ less. let e =
+    n.ensures.known (omega (arith, less, size)) in (e.0 ∙ ap (λ (xs : List ℕ). get_or xs first 0) is, e.1) in
+    let new : (first < k → ⊥) → (n.result.0 ≡ l.count) × (n.result.1 ≡ l.count + 1) =
+    λ not. n.ensures.new (λ less. not (omega (arith, less, size))) in (
+      ranks_more c.requires.least.0 least c.requires.least.1 k ranks l.count first
+          (let t = c.loop-index-test.true in omega (arith, t)) refl r n.result.0 n.result.1 c.push.new.self.items
+          c.in_ok-push.ensures.items known new,
       (let few = l.invariant.1 in elim (cases_lt first k) [
         | inl less ↦ (let e = (known less).1 in omega (arith, e, few))
         | inr not ↦ (let e = (new (λ less. omega (arith, less, not))).1 in omega (arith, e, few))
@@ -31,4 +35,5 @@ invariant_of-result c =
     let e = l.auto.index-end in
     let n = c.requires.count in
     let at : l.index ≡ 4098 = omega (arith, t, e, n) in
-    ranks_fit c.args.least.now l.columns.items l.count (subst (λ (k : ℕ). AreRanks k c.args.least.now l.columns.items l.count) at l.invariant.0)
+    ranks_fit c.args.least.now l.columns.items l.count
+    (subst (λ (k : ℕ). AreRanks k c.args.least.now l.columns.items l.count) at l.invariant.0)

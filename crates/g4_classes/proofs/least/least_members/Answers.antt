@@ -17,5 +17,6 @@ loop-block-preserved c =
     let within = c.requires loop.block-index 0 c.loop-block-test.true in
     record {
       count = omega (arith, ap length is ∙ length_push loop.members.items c.index.result.now, many);
-      each = member_more c.args.blocks.now least loop.members.items c.push.new.self.items loop.block-index c.index.result.now is many c.index.ensures (omega (arith, within, c.in_ok-least.ensures.count)) loop.invariant.each;
+      each = member_more c.args.blocks.now least loop.members.items c.push.new.self.items loop.block-index c.index.result.now is many
+          c.index.ensures (omega (arith, within, c.in_ok-least.ensures.count)) loop.invariant.each;
     }

@@ -8,10 +8,12 @@ pub has_some-requires : goal.has_some-requires
 has_some-requires c = c.loop.invariant.known
 
 pub returns-in-Kept : goal.returns-in-Kept
-returns-in-Kept c = λ so. kept_ahead c.args.net.now c.args.set.now c.args.from c.loop.at c.in-Kept.ensures (c.has_some.ensures so) c.loop.invariant
+returns-in-Kept c = λ so. kept_ahead c.args.net.now c.args.set.now c.args.from c.loop.at c.in-Kept.ensures (c.has_some.ensures so)
+    c.loop.invariant
 
 pub returned_to-requires-clause-stacks : goal.returned_to-requires-clause-stacks
 returned_to-requires-clause-stacks c = c.loop.invariant.known
 
 pub loop-preserved : goal.loop-preserved
-loop-preserved c = followed_next c.args.net.now c.args.set.now c.args.from c.loop.at c.in-Some.next c.in-Ends.rule c.in-Ends.ensures c.in-Some.ensures c.loop.invariant
+loop-preserved c = followed_next c.args.net.now c.args.set.now c.args.from c.loop.at c.in-Some.next c.in-Ends.rule c.in-Ends.ensures
+    c.in-Some.ensures c.loop.invariant

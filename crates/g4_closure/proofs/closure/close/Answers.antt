@@ -8,13 +8,17 @@ use Rattle.g4_closure.proofs.Closing.{added_waits, closing_begins, closing_ends,
 use Rattle.g4_closure.proofs.closure.close.Goals as goal
 
 pub dive-requires-clause-waiting : goal.dive-requires-clause-waiting
-dive-requires-clause-waiting c = added_waits c.args.net.now c.args.group c.args.set.now c.args.work.now.items c.add_all.new.set c.add_all.new.work.items c.requires.closed c.requires.none c.in_ok-add_all.ensures
+dive-requires-clause-waiting c = added_waits c.args.net.now c.args.group c.args.set.now c.args.work.now.items c.add_all.new.set
+    c.add_all.new.work.items c.requires.closed c.requires.none c.in_ok-add_all.ensures
 
 pub loop-alloc-init : goal.loop-alloc-init
 loop-alloc-init c =
     let R : Config → Type 0 = ReachedFrom c.args.net.now (InSome c.args.set.now.graph c.args.starts.now) in
-    closing_goes_on c.args.net.now R (λ d. Holds c.args.set.now d ⊎ IsOfGroup c.args.set.now c.args.group d) c.args.set.now.graph c.add_all.new.set c.dive.new.set c.add_all.new.work.items c.dive.new.work.items (reached_on c.args.net.now (InSome c.args.set.now.graph c.args.starts.now))
-    (closing_begins c.args.net.now R c.args.group c.args.set.now c.args.work.now.items c.add_all.new.set c.add_all.new.work.items c.requires.sound c.requires.reached c.requires.closed c.requires.none c.in_ok-add_all.ensures)
+    closing_goes_on c.args.net.now R (λ d. Holds c.args.set.now d ⊎ IsOfGroup c.args.set.now c.args.group d) c.args.set.now.graph
+    c.add_all.new.set c.dive.new.set c.add_all.new.work.items c.dive.new.work.items
+    (reached_on c.args.net.now (InSome c.args.set.now.graph c.args.starts.now))
+    (closing_begins c.args.net.now R c.args.group c.args.set.now c.args.work.now.items c.add_all.new.set c.add_all.new.work.items
+    c.requires.sound c.requires.reached c.requires.closed c.requires.none c.in_ok-add_all.ensures)
     c.in_ok-dive.ensures.later c.in_ok-dive.ensures.waiting
 
 pub sweep-requires-clause-waiting : goal.sweep-requires-clause-waiting
@@ -24,22 +28,30 @@ pub loop-alloc-smaller : goal.loop-alloc-smaller
 loop-alloc-smaller c =
     let R : Config → Type 0 = ReachedFrom c.args.net.now (InSome c.args.set.now.graph c.args.starts.now) in
     let some : 0 < length c.loop-alloc.work.items = search rules in
-    closing_smaller c.args.net.now R (λ d. Holds c.args.set.now d ⊎ IsOfGroup c.args.set.now c.args.group d) c.args.set.now.graph c.loop-alloc.set c.sweep.new.set c.loop-alloc.work.items c.sweep.new.work.items some c.in_ok-sweep.ensures.spent
-    (closing_goes_on c.args.net.now R (λ d. Holds c.args.set.now d ⊎ IsOfGroup c.args.set.now c.args.group d) c.args.set.now.graph c.loop-alloc.set c.sweep.new.set c.loop-alloc.work.items c.sweep.new.work.items (reached_on c.args.net.now (InSome c.args.set.now.graph c.args.starts.now))
+    closing_smaller c.args.net.now R (λ d. Holds c.args.set.now d ⊎ IsOfGroup c.args.set.now c.args.group d) c.args.set.now.graph
+    c.loop-alloc.set c.sweep.new.set c.loop-alloc.work.items c.sweep.new.work.items some c.in_ok-sweep.ensures.spent
+    (closing_goes_on c.args.net.now R (λ d. Holds c.args.set.now d ⊎ IsOfGroup c.args.set.now c.args.group d) c.args.set.now.graph
+    c.loop-alloc.set c.sweep.new.set c.loop-alloc.work.items c.sweep.new.work.items
+    (reached_on c.args.net.now (InSome c.args.set.now.graph c.args.starts.now))
     c.loop-alloc.invariant c.in_ok-sweep.ensures.later c.in_ok-sweep.ensures.waiting)
     (universe_of (length c.args.net.now.states) c.args.starts.now)
-    (λ d r. bounded_by c.args.net.now c.requires.well_formed c.args.set.now.graph c.is_canonical.ensures c.args.starts.now r.0 d r.1 (c.requires.within r.0 r.1) r.2)
+    (λ d r. bounded_by c.args.net.now c.requires.well_formed c.args.set.now.graph c.is_canonical.ensures c.args.starts.now r.0 d r.1
+    (c.requires.within r.0 r.1) r.2)
 
 pub loop-alloc-preserved : goal.loop-alloc-preserved
 loop-alloc-preserved c =
     let R : Config → Type 0 = ReachedFrom c.args.net.now (InSome c.args.set.now.graph c.args.starts.now) in
-    closing_goes_on c.args.net.now R (λ d. Holds c.args.set.now d ⊎ IsOfGroup c.args.set.now c.args.group d) c.args.set.now.graph c.loop-alloc.set c.sweep.new.set c.loop-alloc.work.items c.sweep.new.work.items (reached_on c.args.net.now (InSome c.args.set.now.graph c.args.starts.now))
+    closing_goes_on c.args.net.now R (λ d. Holds c.args.set.now d ⊎ IsOfGroup c.args.set.now c.args.group d) c.args.set.now.graph
+    c.loop-alloc.set c.sweep.new.set c.loop-alloc.work.items c.sweep.new.work.items
+    (reached_on c.args.net.now (InSome c.args.set.now.graph c.args.starts.now))
     c.loop-alloc.invariant c.in_ok-sweep.ensures.later c.in_ok-sweep.ensures.waiting
 
 pub returns-clause-closed : goal.returns-clause-closed
 returns-clause-closed c =
     let none : length c.loop-alloc.work.items ≡ 0 = search rules in
-    closing_ends c.args.net.now (ReachedFrom c.args.net.now (InSome c.args.set.now.graph c.args.starts.now)) (λ d. Holds c.args.set.now d ⊎ IsOfGroup c.args.set.now c.args.group d) c.args.set.now.graph c.loop-alloc.set c.loop-alloc.work.items (none_left c.loop-alloc.work.items none) c.loop-alloc.invariant
+    closing_ends c.args.net.now (ReachedFrom c.args.net.now (InSome c.args.set.now.graph c.args.starts.now))
+    (λ d. Holds c.args.set.now d ⊎ IsOfGroup c.args.set.now c.args.group d) c.args.set.now.graph c.loop-alloc.set
+    c.loop-alloc.work.items (none_left c.loop-alloc.work.items none) c.loop-alloc.invariant
 
 pub returns-clause-keeps : goal.returns-clause-keeps
 returns-clause-keeps c = c.loop-alloc.invariant.keeps

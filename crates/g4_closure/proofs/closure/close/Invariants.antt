@@ -8,7 +8,8 @@ use Rattle.g4_closure.proofs.Closing.{IsClosing}
 use Rattle.g4_closure.proofs.closure.close.Given as goal
 
 abbrev pub invariant-loop-alloc : goal.invariant-loop-alloc
-invariant-loop-alloc l = IsClosing l.net (ReachedFrom l.net (InSome l.fn.set.graph l.starts)) (λ c. Holds l.fn.set c ⊎ IsOfGroup l.fn.set l.fn.group c) l.fn.set.graph l.set l.work.items
+invariant-loop-alloc l = IsClosing l.net (ReachedFrom l.net (InSome l.fn.set.graph l.starts))
+    (λ c. Holds l.fn.set c ⊎ IsOfGroup l.fn.set l.fn.group c) l.fn.set.graph l.set l.work.items
 
 abbrev pub decreases-loop-alloc : goal.decreases-loop-alloc
 decreases-loop-alloc l = lacks l.set (universe_of (length l.net.states) l.starts) + length l.work.items

@@ -11,20 +11,26 @@ loop-group-init c = record {
 }
 
 pub close-requires-clause-within : goal.close-requires-clause-within
-close-requires-clause-within c = λ d i. c.requires.within d ((some_kept c.args.set.now.graph c.loop-group.set.graph c.args.starts.now c.loop-group.invariant.opening.keeps c.requires.known d).1 i)
+close-requires-clause-within c = λ d i. c.requires.within d
+    ((some_kept c.args.set.now.graph c.loop-group.set.graph c.args.starts.now c.loop-group.invariant.opening.keeps c.requires.known d).1 i)
 
 pub close-requires-clause-sound : goal.close-requires-clause-sound
-close-requires-clause-sound c = opening_sound c.args.net.now c.args.set.now.graph c.args.starts.now c.loop-group.set c.loop-group.set c.loop-group.first.items c.pop.new.self.items c.in-Some.group c.in-Some.ensures.items c.loop-group.invariant.opening c.requires.known
+close-requires-clause-sound c = opening_sound c.args.net.now c.args.set.now.graph c.args.starts.now c.loop-group.set c.loop-group.set
+    c.loop-group.first.items c.pop.new.self.items c.in-Some.group c.in-Some.ensures.items c.loop-group.invariant.opening c.requires.known
 
 pub close-requires-clause-stacks : goal.close-requires-clause-stacks
-close-requires-clause-stacks c = opening_known c.args.net.now c.args.set.now.graph c.args.starts.now c.loop-group.set c.loop-group.set c.loop-group.first.items c.pop.new.self.items c.in-Some.group c.in-Some.ensures.items c.loop-group.invariant.opening
+close-requires-clause-stacks c = opening_known c.args.net.now c.args.set.now.graph c.args.starts.now c.loop-group.set c.loop-group.set
+    c.loop-group.first.items c.pop.new.self.items c.in-Some.group c.in-Some.ensures.items c.loop-group.invariant.opening
 
 pub close-requires-clause-reached : goal.close-requires-clause-reached
-close-requires-clause-reached c = opening_reached c.args.net.now c.args.set.now.graph c.args.starts.now c.loop-group.set c.loop-group.set c.loop-group.first.items c.pop.new.self.items c.in-Some.group c.in-Some.ensures.items c.loop-group.invariant.opening c.requires.known
+close-requires-clause-reached c = opening_reached c.args.net.now c.args.set.now.graph c.args.starts.now c.loop-group.set
+    c.loop-group.set c.loop-group.first.items c.pop.new.self.items c.in-Some.group c.in-Some.ensures.items
+    c.loop-group.invariant.opening c.requires.known
 
 pub loop-group-preserved : goal.loop-group-preserved
 loop-group-preserved c = record {
-  opening = opening_goes_on c.args.net.now c.args.set.now.graph c.args.starts.now c.loop-group.set c.close.new.set c.loop-group.first.items c.pop.new.self.items c.in-Some.group c.in-Some.ensures.items c.loop-group.invariant.opening c.requires.known
+  opening = opening_goes_on c.args.net.now c.args.set.now.graph c.args.starts.now c.loop-group.set c.close.new.set
+      c.loop-group.first.items c.pop.new.self.items c.in-Some.group c.in-Some.ensures.items c.loop-group.invariant.opening c.requires.known
       c.in_ok-close.ensures.keeps c.in_ok-close.ensures.sound c.in_ok-close.ensures.has c.in_ok-close.ensures.closed;
   none = c.in_ok-close.ensures.none;
 }
@@ -32,4 +38,5 @@ loop-group-preserved c = record {
 pub returns-clause-members : goal.returns-clause-members
 returns-clause-members c =
     let none : length c.loop-group.first.items ≡ 0 = search rules in
-    opening_ends c.args.net.now c.args.set.now.graph c.args.starts.now c.loop-group.set c.loop-group.first.items (none_left c.loop-group.first.items none) c.loop-group.invariant.opening
+    opening_ends c.args.net.now c.args.set.now.graph c.args.starts.now c.loop-group.set c.loop-group.first.items
+    (none_left c.loop-group.first.items none) c.loop-group.invariant.opening

@@ -13,16 +13,22 @@ use Rattle.g4_closure.proofs.lookahead.advance.Goals as goal
 pub rest-requires-clause-known : goal.rest-requires-clause-known
 rest-requires-clause-known c =
     let is : c.as_slice-2.result.now ≡ targets_of c.args.net.now c.args.symbol c.in_ok-groups.groups.items = search rules in
-    subst (AreKnown c.fresh.result.graph) (sym is) (known_kept c.args.set.graph c.fresh.result.graph _ c.fresh.ensures.keeps (known_targets c.args.net.now c.args.set.graph c.args.symbol c.in_ok-groups.groups.items (groups_known c.args.set _ c.in_ok-groups.ensures)))
+    subst (AreKnown c.fresh.result.graph) (sym is)
+    (known_kept c.args.set.graph c.fresh.result.graph _ c.fresh.ensures.keeps
+    (known_targets c.args.net.now c.args.set.graph c.args.symbol c.in_ok-groups.groups.items
+    (groups_known c.args.set _ c.in_ok-groups.ensures)))
 
 pub rest-requires-clause-within : goal.rest-requires-clause-within
 rest-requires-clause-within c =
     let is : c.as_slice-2.result.now ≡ targets_of c.args.net.now c.args.symbol c.in_ok-groups.groups.items = search rules in
-    subst (λ (xs : List Group). (d : Config) → InSome c.fresh.result.graph xs d → IsWithin c.args.net.now d) (sym is) (taken_within c.args.net.now c.args.set c.fresh.result c.args.symbol _ c.requires.well_formed c.fresh.ensures.keeps c.in_ok-groups.ensures c.requires.within)
+    subst (λ (xs : List Group). (d : Config) → InSome c.fresh.result.graph xs d → IsWithin c.args.net.now d) (sym is)
+    (taken_within c.args.net.now c.args.set c.fresh.result c.args.symbol _ c.requires.well_formed c.fresh.ensures.keeps
+    c.in_ok-groups.ensures c.requires.within)
 
 pub returns-clause-members : goal.returns-clause-members
 returns-clause-members c =
     let is : c.as_slice-2.result.now ≡ targets_of c.args.net.now c.args.symbol c.in_ok-groups.groups.items = search rules in
     rest_of c.args.net.now (InSome c.fresh.result.graph c.as_slice-2.result.now) (Targets c.args.net.now (Holds c.args.set) c.args.symbol) _
-    (subst (λ (xs : List Group). Same (InSome c.fresh.result.graph xs) (Targets c.args.net.now (Holds c.args.set) c.args.symbol)) (sym is) (taken_of c.args.net.now c.args.set c.fresh.result c.args.symbol _ c.fresh.ensures.keeps c.in_ok-groups.ensures))
+    (subst (λ (xs : List Group). Same (InSome c.fresh.result.graph xs) (Targets c.args.net.now (Holds c.args.set) c.args.symbol))
+    (sym is) (taken_of c.args.net.now c.args.set c.fresh.result c.args.symbol _ c.fresh.ensures.keeps c.in_ok-groups.ensures))
     c.in_ok-found.ensures.members

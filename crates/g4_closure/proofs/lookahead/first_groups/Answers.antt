@@ -24,10 +24,13 @@ loop-before-preserved c =
     let old : List Group = c.loop-before.found.items in
     let number : c.in-Ok.alternative ≡ n + 1 = search rules in
     let allows : A (n + 1) = subst A number (c.has.ensures.0 (search rules)) in
-    let pushed : c.push.new.self.items ≡ old ++ placed (n + 1) c.args.stacks t ∷ [] = c.in_ok-push.ensures.items ∙ ap (λ (i : ℕ). old ++ placed i c.args.stacks t ∷ []) number in
-    subst (λ (xs : List Group). AreExactly xs (FirstsBelow A c.args.stacks ts (n + 1))) (sym pushed) (firsts_push A c.args.stacks ts n t old at_n allows c.loop-before.invariant)
+    let pushed : c.push.new.self.items ≡ old ++ placed (n + 1) c.args.stacks t ∷ [] =
+    c.in_ok-push.ensures.items ∙ ap (λ (i : ℕ). old ++ placed i c.args.stacks t ∷ []) number in
+    subst (λ (xs : List Group). AreExactly xs (FirstsBelow A c.args.stacks ts (n + 1))) (sym pushed)
+    (firsts_push A c.args.stacks ts n t old at_n allows c.loop-before.invariant)
 
 pub returns : goal.returns
 returns c =
     let n : c.loop-before.before ≡ length c.args.targets.now = search rules in
-    subst (λ (k : ℕ). AreExactly c.loop-before.found.items (FirstsBelow (Allows c.args.allowed.now) c.args.stacks c.args.targets.now k)) n c.loop-before.invariant
+    subst (λ (k : ℕ). AreExactly c.loop-before.found.items
+    (FirstsBelow (Allows c.args.allowed.now) c.args.stacks c.args.targets.now k)) n c.loop-before.invariant

@@ -14,10 +14,13 @@ loop-next-init c =
 pub push_return-requires-clause-stacks : goal.push_return-requires-clause-stacks
 push_return-requires-clause-stacks c =
     let less : c.loop-next.next < length c.loop-next.found.items = search rules in
-    subst (λ (x : Group). IsNode c.args.set.now.graph x.stacks) (sym c.index-group.ensures) (known_at c.args.set.now.graph c.loop-next.found.items c.loop-next.next c.index-group.result.now c.loop-next.invariant.known less)
+    subst (λ (x : Group). IsNode c.args.set.now.graph x.stacks) (sym c.index-group.ensures)
+    (known_at c.args.set.now.graph c.loop-next.found.items c.loop-next.next c.index-group.result.now c.loop-next.invariant.known less)
 
 pub loop-next-preserved : goal.loop-next-preserved
 loop-next-preserved c =
     let less : c.loop-next.next < length c.loop-next.found.items = search rules in
-    reached_next c.args.net.now c.args.set.now c.args.starts.now c.loop-next.found.items c.push_return.new.found.items c.loop-next.next c.index-group.result.now less
-    (subst (λ (x : Group). AreFollowed c.args.net.now c.args.set.now x c.loop-next.found.items c.push_return.new.found.items) c.index-group.ensures c.in_ok-push_return.ensures) c.loop-next.invariant
+    reached_next c.args.net.now c.args.set.now c.args.starts.now c.loop-next.found.items c.push_return.new.found.items
+    c.loop-next.next c.index-group.result.now less
+    (subst (λ (x : Group). AreFollowed c.args.net.now c.args.set.now x c.loop-next.found.items c.push_return.new.found.items)
+    c.index-group.ensures c.in_ok-push_return.ensures) c.loop-next.invariant

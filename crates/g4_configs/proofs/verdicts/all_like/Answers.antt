@@ -8,5 +8,6 @@ use Rattle.g4_configs.proofs.verdicts.all_like.Goals as goal
 pub returns : goal.returns
 returns c =
     let P : Group → Type 0 = IsLike c.args.nodes.now.entries c.args.first c.args.others.now in
-    let cases = cases_from_all _ _ c.all.result P (λ (x : Group). P x → ⊥) c.all.ensures.ran (YieldsList-from_slice c.args.groups.now cc) (λ x q k. search (rules, tests)) (λ x q k. search (rules, tests)) in
+    let cases = cases_from_all _ _ c.all.result P (λ (x : Group). P x → ⊥) c.all.ensures.ran
+    (YieldsList-from_slice c.args.groups.now cc) (λ x q k. search (rules, tests)) (λ x q k. search (rules, tests)) in
     all_answer P c.all.result c.args.groups.now cases

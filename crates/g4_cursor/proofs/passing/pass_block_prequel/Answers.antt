@@ -6,4 +6,5 @@ pub returns-then-not-is_at_block_prequel : goal.returns-then-not-is_at_block_pre
 returns-then-not-is_at_block_prequel c = left_out _ (sym c.is_at_block_prequel.ensures ∙ c.if-not-is_at_block_prequel.true) tt
 
 pub returns : goal.returns
-returns c = there (sym c.is_at_block_prequel.ensures ∙ c.if-not-is_at_block_prequel.false) (after c.in_ok-pass_optional_options.ensures (after c.pass_rule_actions.ensures (passed c.take.ensures)))
+returns c = there (sym c.is_at_block_prequel.ensures ∙ c.if-not-is_at_block_prequel.false)
+    (after c.in_ok-pass_optional_options.ensures (after c.pass_rule_actions.ensures (passed c.take.ensures)))

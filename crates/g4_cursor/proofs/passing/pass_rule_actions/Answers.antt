@@ -7,7 +7,8 @@ pub loop-cursor-init : goal.loop-cursor-init
 loop-cursor-init c = pass_start
 
 pub loop-cursor-preserved : goal.loop-cursor-preserved
-loop-cursor-preserved c = pass_turn c.loop-cursor.invariant (led _ _ _ refl ∙ sym c.is_at.ensures ∙ c.loop-cursor-test.true) c.pass_rule_action.ensures
+loop-cursor-preserved c = pass_turn c.loop-cursor.invariant (led _ _ _ refl ∙ sym c.is_at.ensures ∙ c.loop-cursor-test.true)
+    c.pass_rule_action.ensures
 
 pub loop-cursor-smaller : goal.loop-cursor-smaller
 loop-cursor-smaller c = fewer (led _ _ _ refl ∙ sym c.is_at.ensures ∙ c.loop-cursor-test.true) c.pass_rule_action.ensures

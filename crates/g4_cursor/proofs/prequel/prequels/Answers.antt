@@ -7,13 +7,17 @@ pub loop-cursor-init : goal.loop-cursor-init
 loop-cursor-init c = begun (λ tree. rw c.new-prequels.ensures.items refl)
 
 pub loop-cursor-preserved-in-Continue-branch-3 : goal.loop-cursor-preserved-in-Continue-branch-3
-loop-cursor-preserved-in-Continue-branch-3 c = turn c.loop-cursor.invariant (sym c.is_at_prequel.ensures ∙ c.loop-cursor-test.true) c.in_ok-prequel.ensures (λ a rest p. one_item _ _ (prequels_of rest) (with_kept (prequel_of a) (prequels_of rest)) c.in-Some.prequel (rw (← p, c.in-Some.is) refl) c.in_ok-push.ensures.items)
+loop-cursor-preserved-in-Continue-branch-3 c =
+    turn c.loop-cursor.invariant (sym c.is_at_prequel.ensures ∙ c.loop-cursor-test.true) c.in_ok-prequel.ensures
+    (λ a rest p. one_item _ _ (prequels_of rest) (with_kept (prequel_of a) (prequels_of rest)) c.in-Some.prequel
+    (rw (← p, c.in-Some.is) refl) c.in_ok-push.ensures.items)
 
 pub loop-cursor-smaller-in-Continue-branch-3 : goal.loop-cursor-smaller-in-Continue-branch-3
 loop-cursor-smaller-in-Continue-branch-3 c = fewer (sym c.is_at_prequel.ensures ∙ c.loop-cursor-test.true) c.in_ok-prequel.ensures
 
 pub loop-cursor-preserved : goal.loop-cursor-preserved
-loop-cursor-preserved c = turn c.loop-cursor.invariant (sym c.is_at_prequel.ensures ∙ c.loop-cursor-test.true) c.in_ok-prequel.ensures (λ a rest p. rw (← p, c.in_default.is) refl)
+loop-cursor-preserved c = turn c.loop-cursor.invariant (sym c.is_at_prequel.ensures ∙ c.loop-cursor-test.true) c.in_ok-prequel.ensures
+    (λ a rest p. rw (← p, c.in_default.is) refl)
 
 pub loop-cursor-smaller : goal.loop-cursor-smaller
 loop-cursor-smaller c = fewer (sym c.is_at_prequel.ensures ∙ c.loop-cursor-test.true) c.in_ok-prequel.ensures

@@ -14,8 +14,10 @@ loop-next-preserved c =
     elim c.if-index-reversed.branch [
       | then-index-reversed+in_ok-push w ↦ (
           let short : x < length mid = w.if-index-reversed.true in
-          adds_one node c.args.reversed.now mid c.if-index-reversed.reversed xs i x w.push.new.self c.loop-next-test.true refl short w.reversed-is
+          adds_one node c.args.reversed.now mid c.if-index-reversed.reversed xs i x w.push.new.self c.loop-next-test.true refl short
+          w.reversed-is
           (w.in_ok-push.ensures.items ∙ ap (λ (ys : List ℕ). ys ++ node ∷ []) (sym (row_at mid x _ short))) c.loop-next.invariant
           )
-      | else-index-reversed w ↦ subst (AddsReversed node (take (i + 1) xs) c.args.reversed.now) (sym w.reversed-is) (adds_past node c.args.reversed.now mid xs i x c.loop-next-test.true refl w.if-index-reversed.false c.loop-next.invariant)
+      | else-index-reversed w ↦ subst (AddsReversed node (take (i + 1) xs) c.args.reversed.now) (sym w.reversed-is)
+          (adds_past node c.args.reversed.now mid xs i x c.loop-next-test.true refl w.if-index-reversed.false c.loop-next.invariant)
     ]

@@ -12,7 +12,8 @@ loop-at-preserved c =
     let text = c.args.text.now in
     let character = c.index-text-at.result in
     let more = c.passed-more.ensures.value ∙ ap (passed_over c.args.opening c.args.closing character) (sym (take_rest text (at + 1))) in (
-      nesting_more c.args.opening c.args.closing c.loop-at.depth at character c.depth_after-depth.result c.passed-more.result.0 text c.loop-at-test.true c.index-text-at.is (cc) c.depth_after-depth.ensures.value more ∙ c.loop-at.invariant.0,
+      nesting_more c.args.opening c.args.closing c.loop-at.depth at character c.depth_after-depth.result c.passed-more.result.0 text
+          c.loop-at-test.true c.index-text-at.is (cc) c.depth_after-depth.ensures.value more ∙ c.loop-at.invariant.0,
       omega arith,
       omega arith,
       unclosed_later text at (at + (1 + c.passed-more.result.0)) c.passed-more.result.1 (omega arith) c.passed-more.ensures.known,
@@ -21,12 +22,15 @@ loop-at-preserved c =
 pub returns-then-closes-clause-end : goal.returns-then-closes-clause-end
 returns-then-closes-clause-end c =
     let text = c.args.text.now in
-    let stop : nesting_end_from c.args.opening c.args.closing c.loop-at.depth 0 c.loop-at.at (drop c.loop-at.at text) ≡ Some (c.loop-at.at + 1) = nesting_stop c.args.opening c.args.closing c.loop-at.depth c.loop-at.at c.index-text-at.result text c.loop-at-test.true c.index-text-at.is (cc) in
+    let stop : nesting_end_from c.args.opening c.args.closing c.loop-at.depth 0 c.loop-at.at (drop c.loop-at.at text)
+    ≡ Some (c.loop-at.at + 1) = nesting_stop c.args.opening c.args.closing c.loop-at.depth c.loop-at.at c.index-text-at.result
+    text c.loop-at-test.true c.index-text-at.is (cc) in
     find_nesting c.args.opening c.args.closing text (Some (c.loop-at.at + 1)) (sym c.loop-at.invariant.0 ∙ stop)
 
 pub returns-clause-end : goal.returns-clause-end
 returns-clause-end c =
     let text = c.args.text.now in
     let done : length text ≤ c.loop-at.at = omega arith in
-    let stop : nesting_end_from c.args.opening c.args.closing c.loop-at.depth 0 c.loop-at.at (drop c.loop-at.at text) ≡ None = ap (nesting_end_from c.args.opening c.args.closing c.loop-at.depth 0 c.loop-at.at) (drop_all c.loop-at.at text done) in
+    let stop : nesting_end_from c.args.opening c.args.closing c.loop-at.depth 0 c.loop-at.at (drop c.loop-at.at text) ≡ None =
+    ap (nesting_end_from c.args.opening c.args.closing c.loop-at.depth 0 c.loop-at.at) (drop_all c.loop-at.at text done) in
     find_nesting c.args.opening c.args.closing text None (sym c.loop-at.invariant.0 ∙ stop)

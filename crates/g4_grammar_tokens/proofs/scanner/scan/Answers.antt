@@ -10,10 +10,17 @@ use Rattle.g4_grammar_tokens.proofs.Spans.{scan_in_order}
 use Rattle.g4_grammar_tokens.proofs.Texts.{scan_texts}
 use Rattle.g4_grammar_tokens.proofs.scanner.scan.Goals as goal
 
-whole_answer : (bytes text : List ℕ) (r : Result (List Token) ScanFault) → IsUtf8 bytes → text ≡ chars bytes → AnswersRest (start_of text) (unmarked text) r → IsScan bytes r
-whole_answer bytes text (Ok tokens) utf8 same are = record { utf8 = utf8; tokens_are = subst (λ (t : List ℕ). AreTokens [] (start_of t) (unmarked t) tokens) same are }
+whole_answer : (bytes text : List ℕ) (r : Result (List Token) ScanFault) → IsUtf8 bytes → text ≡ chars bytes
+    → AnswersRest (start_of text) (unmarked text) r → IsScan bytes r
+whole_answer bytes text (Ok tokens) utf8 same are =
+    record { utf8 = utf8; tokens_are = subst (λ (t : List ℕ). AreTokens [] (start_of t) (unmarked t) tokens) same are }
 whole_answer bytes text (Err (NotUtf8 at)) utf8 same never = absurd never
-whole_answer bytes text (Err (Syntax place index)) utf8 same opens = record { utf8 = utf8; opens = subst (λ (t : List ℕ). IsFaultyAt [] (start_of t) (unmarked t) (record { place = place; index = index })) same opens }
+whole_answer bytes text (Err (Syntax place index)) utf8 same opens =
+    record {
+      utf8 = utf8;
+      opens = subst (λ (t : List ℕ).
+          IsFaultyAt [] (start_of t) (unmarked t) (record { place = place; index = index })) same opens;
+    }
 whole_answer bytes text (Err NoMemory) utf8 same _ = tt
 
 pub returns-in_ok-characters-in-Ok-clause-value : goal.returns-in_ok-characters-in-Ok-clause-value
@@ -26,10 +33,12 @@ pub returns-in_ok-characters-in-Ok-clause-spans : goal.returns-in_ok-characters-
 returns-in_ok-characters-in-Ok-clause-spans c =
     let utf8 : IsUtf8 c.args.bytes.now = search rules in
     let same : c.deref.result.now ≡ chars c.args.bytes.now = search (rules, chars_from_encodes) in
-    scan_in_order c.args.bytes.now c.scan_characters.result (whole_answer c.args.bytes.now c.deref.result.now c.scan_characters.result utf8 same c.scan_characters.ensures)
+    scan_in_order c.args.bytes.now c.scan_characters.result
+    (whole_answer c.args.bytes.now c.deref.result.now c.scan_characters.result utf8 same c.scan_characters.ensures)
 
 pub returns-in_ok-characters-in-Ok-clause-texts : goal.returns-in_ok-characters-in-Ok-clause-texts
 returns-in_ok-characters-in-Ok-clause-texts c =
     let utf8 : IsUtf8 c.args.bytes.now = search rules in
     let same : c.deref.result.now ≡ chars c.args.bytes.now = search (rules, chars_from_encodes) in
-    scan_texts c.args.bytes.now c.scan_characters.result (whole_answer c.args.bytes.now c.deref.result.now c.scan_characters.result utf8 same c.scan_characters.ensures)
+    scan_texts c.args.bytes.now c.scan_characters.result
+    (whole_answer c.args.bytes.now c.deref.result.now c.scan_characters.result utf8 same c.scan_characters.ensures)

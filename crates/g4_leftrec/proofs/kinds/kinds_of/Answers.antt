@@ -21,7 +21,10 @@ loop-alternative-preserved c =
     let added = c.in_ok-add_alternative.ensures in
     record {
       number = omega (arith, more, length_push seen x);
-      primaries = added_more (primary_form k n) (primary_of (calls k)) seen x j (map alternative_of old.primaries.items) (map alternative_of new.primaries.items) more added.primaries loop.invariant.primaries;
-      operators = added_more (operator_form k n) (operator_of (calls k)) seen x j (map alternative_of old.operators.items) (map alternative_of new.operators.items) more added.operators loop.invariant.operators;
-      starts = added_more (λ (x : Part StepIn). x.number) (primary_of (calls k)) seen x j old.starts.items new.starts.items more added.starts loop.invariant.starts;
+      primaries = added_more (primary_form k n) (primary_of (calls k)) seen x j (map alternative_of old.primaries.items)
+          (map alternative_of new.primaries.items) more added.primaries loop.invariant.primaries;
+      operators = added_more (operator_form k n) (operator_of (calls k)) seen x j (map alternative_of old.operators.items)
+          (map alternative_of new.operators.items) more added.operators loop.invariant.operators;
+      starts = added_more (λ (x : Part StepIn). x.number) (primary_of (calls k)) seen x j old.starts.items new.starts.items more
+          added.starts loop.invariant.starts;
     }

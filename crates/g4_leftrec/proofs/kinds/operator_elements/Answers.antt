@@ -10,4 +10,5 @@ pub returns : goal.returns
 returns c = λ rest begins.
     let p : ℕ = c.args.precedence in
     let tree = in_order (map element_of (set c.args.elements.items 0 (nodes.Atom (Level p)))) in
-    c.with_last_at.ensures ∙ (ap (λ (level : ℕ). with_last_at c.args.rule level tree) c.operand_level-level.ensures ∙ level_first c.args.rule (operand_level p c.args.right) p c.args.elements.items rest begins)
+    c.with_last_at.ensures ∙ (ap (λ (level : ℕ). with_last_at c.args.rule level tree) c.operand_level-level.ensures
+    ∙ level_first c.args.rule (operand_level p c.args.right) p c.args.elements.items rest begins)

@@ -13,4 +13,5 @@ returns-in-Atom c =
 
 pub returns-in-Block : goal.returns-in-Block
 returns-in-Block c =
-    sym (ap (λ (x : Element StepIn). is_atom (calls c.args.rule) x) (ap element_of c.in-Block.is ∙ of_block c.in-Block.field-0 c.in-Block.field-1 c.in-Block.field-2))
+    sym (ap (λ (x : Element StepIn). is_atom (calls c.args.rule) x)
+    (ap element_of c.in-Block.is ∙ of_block c.in-Block.field-0 c.in-Block.field-1 c.in-Block.field-2))

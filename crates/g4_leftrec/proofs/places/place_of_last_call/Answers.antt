@@ -13,7 +13,8 @@ returns-then-is_plain_call-clause-last c =
     let next : c.loop-place.place ≡ c.loop-place.place - 1 + 1 = omega arith in
     let within : c.loop-place.place - 1 < length xs = omega arith in
     let own : is_atom (calls c.args.rule) (element_of x) ≡ true = sym c.is_plain_call.ensures ∙ c.if-is_plain_call.true in
-    found_at (calls c.args.rule) is_silent xs (c.loop-place.place - 1) x within c.index-elements-place.is own (call_is_not_silent c.args.rule (element_of x) own)
+    found_at (calls c.args.rule) is_silent xs (c.loop-place.place - 1) x within c.index-elements-place.is own
+    (call_is_not_silent c.args.rule (element_of x) own)
     (subst (λ (m : ℕ). IsPassed (calls c.args.rule) is_silent (in_order (map element_of (drop m xs)))) next c.loop-place.invariant)
 
 pub returns-then-not-is_silent_element-clause-last : goal.returns-then-not-is_silent_element-clause-last

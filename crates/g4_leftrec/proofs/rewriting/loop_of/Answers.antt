@@ -14,5 +14,6 @@ returns c =
     ∙ (ap (λ ys. in_order (map element_of ys)) c.in_ok-push.ensures.items
     ∙ (sym (onto_empty (in_order (map element_of _)))
     ∙ (one_at_end c.in_ok-elements.elements.items c.turns_of.result empty
-    ∙ (ap (λ (y : Elements StepIn). onto front y) c.turns_of.ensures ∙ c.in_ok-elements.ensures (turns_of (map alternative_of c.args.operators.items)))))) in
+    ∙ (ap (λ (y : Elements StepIn). onto front y) c.turns_of.ensures
+    ∙ c.in_ok-elements.ensures (turns_of (map alternative_of c.args.operators.items)))))) in
     ap plain_alternative all

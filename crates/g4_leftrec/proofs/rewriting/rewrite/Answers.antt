@@ -24,19 +24,27 @@ loop-rule-preserved c =
     let numbers : Numbering → Type 0 = λ numbering. numbering.count + 1 < 2 ^ 32 in
     record {
       number = omega (arith, more, length_push seen x);
-      rules = pushed_more formed seen x j loop.made.rules.items c.push.new.self.items laid.rule more c.in_ok-push.ensures.items c.in_ok-laid.ensures.rule loop.invariant.rules;
-      numberings = pushed_more numbering_of seen x j loop.made.numberings.items c.push-in-loop-rule.new.self.items laid.numbering more pushed c.in_ok-laid.ensures.numbering loop.invariant.numberings;
-      small = subst (All numbers) (sym pushed) (All-push numbers loop.made.numberings.items laid.numbering loop.invariant.small c.in_ok-laid.ensures.small);
+      rules = pushed_more formed seen x j loop.made.rules.items c.push.new.self.items laid.rule more c.in_ok-push.ensures.items
+          c.in_ok-laid.ensures.rule loop.invariant.rules;
+      numberings = pushed_more numbering_of seen x j loop.made.numberings.items c.push-in-loop-rule.new.self.items laid.numbering more
+          pushed c.in_ok-laid.ensures.numbering loop.invariant.numberings;
+      small = subst (All numbers) (sym pushed) (All-push numbers loop.made.numberings.items laid.numbering loop.invariant.small
+          c.in_ok-laid.ensures.small);
     }
 
 pub returns-clause-laid : goal.returns-clause-laid
 returns-clause-laid c = λ can.
-    let end = YieldsList-end (YieldsList-from_vec {s = c.into_iter-rule-iterator.result} c.args.rules.items (search rules) (search rules)) c.loop-rule.yielded c.loop-rule.rule-iterator c.loop-rule.yielded_by c.next.result c.next.new.self c.in-None.is c.next.ensures.steps in
+    let end = YieldsList-end (YieldsList-from_vec {s = c.into_iter-rule-iterator.result} c.args.rules.items (search rules)
+    (search rules)) c.loop-rule.yielded c.loop-rule.rule-iterator c.loop-rule.yielded_by c.next.result c.next.new.self
+    c.in-None.is c.next.ensures.steps in
     let all : c.loop-rule.yielded ≡ c.args.rules.items = sym (map-id c.loop-rule.yielded) ∙ end.0 in
     subst CanBeLaid (sym (c.loop-rule.invariant.rules ∙ ap rewritten all)) (rewritten_can_be_laid c.args.rules.items can)
 
 pub returns-clause-fit : goal.returns-clause-fit
 returns-clause-fit c = λ can.
-    let end = YieldsList-end (YieldsList-from_vec {s = c.into_iter-rule-iterator.result} c.args.rules.items (search rules) (search rules)) c.loop-rule.yielded c.loop-rule.rule-iterator c.loop-rule.yielded_by c.next.result c.next.new.self c.in-None.is c.next.ensures.steps in
+    let end = YieldsList-end (YieldsList-from_vec {s = c.into_iter-rule-iterator.result} c.args.rules.items (search rules)
+    (search rules)) c.loop-rule.yielded c.loop-rule.rule-iterator c.loop-rule.yielded_by c.next.result c.next.new.self
+    c.in-None.is c.next.ensures.steps in
     let all : c.loop-rule.yielded ≡ c.args.rules.items = sym (map-id c.loop-rule.yielded) ∙ end.0 in
-    made_fit c.args.rules.items c.loop-rule.made.rules.items c.loop-rule.made.numberings.items can (c.loop-rule.invariant.rules ∙ ap rewritten all) (c.loop-rule.invariant.numberings ∙ ap numberings all) c.loop-rule.invariant.small
+    made_fit c.args.rules.items c.loop-rule.made.rules.items c.loop-rule.made.numberings.items can
+    (c.loop-rule.invariant.rules ∙ ap rewritten all) (c.loop-rule.invariant.numberings ∙ ap numberings all) c.loop-rule.invariant.small

@@ -17,7 +17,8 @@ invariant-loop-start l = record {
   spans : All (EndsBy l.at.offset) l.tokens.items;
   texts : All HasText l.tokens.items;
   begins : BeginsBy l.at.offset l.begun;
-  reached : Reached l.lexer l.text l.room l.tokens.items l.start (record { at = l.at; mode = l.effects.mode; pushed = l.effects.pushed; begun = l.begun });
+  reached : Reached l.lexer l.text l.room l.tokens.items l.start
+      (record { at = l.at; mode = l.effects.mode; pushed = l.effects.pushed; begun = l.begun });
 }
 
 abbrev pub decreases-loop-start : goal.decreases-loop-start

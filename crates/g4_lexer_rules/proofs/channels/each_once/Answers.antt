@@ -20,9 +20,13 @@ loop-name-preserved c =
     let old = c.loop-name.made.items in (
       elim c.if-branch.branch [
         | then-branch+in_ok-copy_of+in_ok-push w ↦
-            new_name names i name within item old c.if-branch.made.items (fails there (sym is_new ∙ w.if-branch.true)) c.loop-name.invariant.0
-            (ap (λ (v : Vec (List ℕ) Global). v.items) w.made-is ∙ w.in_ok-push.ensures.items ∙ ap (λ (n : List ℕ). old ++ n ∷ []) w.in_ok-copy_of.ensures)
-        | else-branch w ↦ ap (λ (v : Vec (List ℕ) Global). v.items) w.made-is ∙ old_name names i name within item old (passes there (sym is_new ∙ w.if-branch.false)) c.loop-name.invariant.0
+            new_name names i name within item old c.if-branch.made.items (fails there (sym is_new ∙ w.if-branch.true))
+            c.loop-name.invariant.0
+            (ap (λ (v : Vec (List ℕ) Global). v.items) w.made-is ∙ w.in_ok-push.ensures.items
+            ∙ ap (λ (n : List ℕ). old ++ n ∷ []) w.in_ok-copy_of.ensures)
+        | else-branch w ↦ ap (λ (v : Vec (List ℕ) Global). v.items) w.made-is
+            ∙ old_name names i name within item old (passes there (sym is_new ∙ w.if-branch.false)) c.loop-name.invariant.0
       ],
-      seen_more names i name within item (names_in c.loop-name.seen) (names_in c.is_new.new.seen) c.loop-name.invariant.1 c.in_ok-is_new.ensures.added,
+      seen_more names i name within item (names_in c.loop-name.seen) (names_in c.is_new.new.seen) c.loop-name.invariant.1
+          c.in_ok-is_new.ensures.added,
     )

@@ -6,4 +6,5 @@ use Rattle.g4_lexer_rules.proofs.channels.each_once.Given as goal
 
 abbrev pub invariant-loop-name : goal.invariant-loop-name
 invariant-loop-name l =
-    (l.made.items ≡ each_once (map (λ n. n.now) (take l.name-index l.names))) × ((text : List ℕ) → is_one_of (names_in l.seen) text ≡ is_one_of (map (λ n. n.now) (take l.name-index l.names)) text)
+    (l.made.items ≡ each_once (map (λ n. n.now) (take l.name-index l.names)))
+    × ((text : List ℕ) → is_one_of (names_in l.seen) text ≡ is_one_of (map (λ n. n.now) (take l.name-index l.names)) text)

@@ -12,8 +12,11 @@ returns-in_err-checked_mul c =
     let byte = get_or text i 0 in
     let item = get_or_default text i 0 byte c.loop-byte-test.true in
     let digit = sym c.is_ascii_digit.ensures.value ∙ c.if-not-is_ascii_digit.false in
-    let above : MOST_CHANNEL < 10 * n + (byte - 48) = let large : n * 10 < 4294967296 → ⊥ = c.in_err-checked_mul.ensures in omega (arith, large) in
-    c.from_residual.ensures ∙ sym (c.loop-byte.invariant.1 ∙ (ap (λ (t : List ℕ). number_after n (drop i t)) (sym c.as_bytes-byte-items.ensures.value) ∙ too_great_with n text i byte c.loop-byte-test.true item digit above))
+    let above : MOST_CHANNEL < 10 * n + (byte - 48) = let large : n * 10 < 4294967296 → ⊥ = c.in_err-checked_mul.ensures in
+    omega (arith, large) in
+    c.from_residual.ensures ∙ sym (c.loop-byte.invariant.1
+    ∙ (ap (λ (t : List ℕ). number_after n (drop i t)) (sym c.as_bytes-byte-items.ensures.value)
+    ∙ too_great_with n text i byte c.loop-byte-test.true item digit above))
 
 pub returns-in_err-number : goal.returns-in_err-number
 returns-in_err-number c =
@@ -26,10 +29,13 @@ returns-in_err-number c =
     let large : c.in_ok-checked_mul.field-0 + c.from.result < 4294967296 → ⊥ = c.in_err-number.ensures in
     let above : MOST_CHANNEL < 10 * n + (byte - 48) = omega (arith, large, c.in_ok-checked_mul.ensures.1, c.from.ensures) in
     c.from_residual-in_err-number.ensures
-    ∙ sym (c.loop-byte.invariant.1 ∙ (ap (λ (t : List ℕ). number_after n (drop i t)) (sym c.as_bytes-byte-items.ensures.value) ∙ too_great_with n text i byte c.loop-byte-test.true item digit above))
+    ∙ sym (c.loop-byte.invariant.1 ∙ (ap (λ (t : List ℕ). number_after n (drop i t)) (sym c.as_bytes-byte-items.ensures.value)
+    ∙ too_great_with n text i byte c.loop-byte-test.true item digit above))
 
 pub returns : goal.returns
 returns c =
     let text = c.as_bytes-byte-items.result.now in
-    let past : drop c.loop-byte.byte-index c.args.text.now ≡ [] = ap (drop c.loop-byte.byte-index) (sym c.as_bytes-byte-items.ensures.value) ∙ drop_all c.loop-byte.byte-index text c.loop-byte-test.false in
+    let past : drop c.loop-byte.byte-index c.args.text.now ≡ [] =
+    ap (drop c.loop-byte.byte-index) (sym c.as_bytes-byte-items.ensures.value)
+    ∙ drop_all c.loop-byte.byte-index text c.loop-byte-test.false in
     sym (c.loop-byte.invariant.1 ∙ (ap (number_after c.loop-byte.number) past ∙ no_more c.loop-byte.number c.loop-byte.invariant.0))

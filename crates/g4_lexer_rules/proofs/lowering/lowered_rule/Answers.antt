@@ -8,5 +8,7 @@ use Rattle.g4_lexer_rules.proofs.lowering.lowered_rule.Goals as goal
 
 pub loop-alternative-preserved : goal.loop-alternative-preserved
 loop-alternative-preserved c =
-    image_more (λ (x : LexerAlternative). in_order_bind (λ (a : Atom). element_of_kind (names_of c.args.stage.now.rules.now) a.kind) x.elements) c.as_slice-alternative-items.result.now c.loop-alternative.alternative-index c.alternative-item.result
-    c.in_ok-substituted.field-0 c.loop-alternative.all.items c.push.new.self.items c.loop-alternative-test.true c.alternative-item.is c.in_ok-substituted.ensures c.in_ok-push.ensures.items c.loop-alternative.invariant
+    image_more (λ (x : LexerAlternative). in_order_bind (λ (a : Atom). element_of_kind (names_of c.args.stage.now.rules.now) a.kind)
+    x.elements) c.as_slice-alternative-items.result.now c.loop-alternative.alternative-index c.alternative-item.result
+    c.in_ok-substituted.field-0 c.loop-alternative.all.items c.push.new.self.items c.loop-alternative-test.true c.alternative-item.is
+    c.in_ok-substituted.ensures c.in_ok-push.ensures.items c.loop-alternative.invariant

@@ -11,8 +11,11 @@ loop-command-preserved c =
     let old = c.loop-command.made.items in
     let new = c.match-command_of.made.items in
     elim c.match-command_of.branch [
-      | in-Some+in_ok-push w ↦ picks_more does c.args.commands.now c.loop-command.command-index c.command-item.result old c.loop-command-test.true c.command-item.is c.loop-command.invariant w.in-Some.done new
+      | in-Some+in_ok-push w ↦ picks_more does c.args.commands.now c.loop-command.command-index c.command-item.result old
+          c.loop-command-test.true c.command-item.is c.loop-command.invariant w.in-Some.done new
           (sym c.command_of.ensures ∙ w.in-Some.is) (ap (λ (v : Vec LexerCommand Global). v.items) w.made-is ∙ w.in_ok-push.ensures.items)
-      | in_default w ↦ ap (λ (v : Vec LexerCommand Global). v.items) w.made-is ∙ picks_same does c.args.commands.now c.loop-command.command-index c.command-item.result old c.loop-command-test.true c.command-item.is c.loop-command.invariant
+      | in_default w ↦ ap (λ (v : Vec LexerCommand Global). v.items) w.made-is
+          ∙ picks_same does c.args.commands.now c.loop-command.command-index c.command-item.result old c.loop-command-test.true
+          c.command-item.is c.loop-command.invariant
           (sym c.command_of.ensures ∙ w.in_default.is)
     ]

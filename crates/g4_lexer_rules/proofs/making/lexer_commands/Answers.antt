@@ -9,5 +9,7 @@ use Rattle.g4_lexer_rules.proofs.making.lexer_commands.Goals as goal
 
 pub returns-clause-types : goal.returns-clause-types
 returns-clause-types c =
-    let made = c.in_ok-made.ensures ∙ ap (λ (tables : CommandTables). map (map (filter_map (command_of tables))) c.args.commands.now) c.in_ok-numbers.ensures in
-    λ low. subst (λ (rules : List (List (List LexerCommand))). All (All (All GivesTokenType)) rules) (sym made) (all_give c.args.tables.now low c.args.commands.now)
+    let made = c.in_ok-made.ensures ∙ ap (λ (tables : CommandTables). map (map (filter_map (command_of tables))) c.args.commands.now)
+    c.in_ok-numbers.ensures in
+    λ low. subst (λ (rules : List (List (List LexerCommand))). All (All (All GivesTokenType)) rules) (sym made)
+    (all_give c.args.tables.now low c.args.commands.now)

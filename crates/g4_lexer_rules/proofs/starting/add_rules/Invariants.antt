@@ -6,5 +6,6 @@ abbrev pub invariant-loop-rule : goal.invariant-loop-rule
 invariant-loop-rule l = record {
   counted : l.next ≡ l.number + l.rule-index;
   can : AllCanStart l.states l.next (drop l.rule-index l.rules);
-  made : l.starts.items ++ starts_from l.states l.next (drop l.rule-index l.rules) ≡ l.initial.starts.items ++ starts_from l.states l.number l.rules;
+  made : l.starts.items ++ starts_from l.states l.next (drop l.rule-index l.rules)
+      ≡ l.initial.starts.items ++ starts_from l.states l.number l.rules;
 }

@@ -10,7 +10,9 @@ add_rules-requires-clause-can c = can_take c.args.states.now 0 c.args.rules.now 
 pub add_rules-requires-in-loop-size-clause-can : goal.add_rules-requires-in-loop-size-clause-can
 add_rules-requires-in-loop-size-clause-can c =
     let at : 0 + c.loop-size.at ≡ c.loop-size.at = omega arith in
-    can_take c.args.states.now c.loop-size.at (drop c.loop-size.at c.args.rules.now) _ (subst (λ (k : ℕ). AllCanStart c.args.states.now k (drop c.loop-size.at c.args.rules.now)) at (can_drop c.args.states.now 0 c.args.rules.now c.loop-size.at c.requires.can))
+    can_take c.args.states.now c.loop-size.at (drop c.loop-size.at c.args.rules.now) _
+    (subst (λ (k : ℕ). AllCanStart c.args.states.now k (drop c.loop-size.at c.args.rules.now)) at
+    (can_drop c.args.states.now 0 c.args.rules.now c.loop-size.at c.requires.can))
 
 pub loop-size-preserved : goal.loop-size-preserved
 loop-size-preserved c =
@@ -21,10 +23,14 @@ loop-size-preserved c =
     let front = c.add_rules.new.starts.items in
     let size : at + n - at ≡ n = omega arith in
     let made : c.new.result ≡ front ++ starts_from states at (take n (drop at rules)) =
-    c.new.ensures ∙ (c.in_ok-add_rules-2.ensures ∙ (ap (λ (xs : List Start). xs ++ starts_from states at (take (at + n - at) (drop at rules))) (c.in_ok-starts.ensures.items ∙ c.as_slice.ensures.value) ∙
+    c.new.ensures ∙ (c.in_ok-add_rules-2.ensures
+    ∙ (ap (λ (xs : List Start). xs ++ starts_from states at (take (at + n - at) (drop at rules)))
+    (c.in_ok-starts.ensures.items ∙ c.as_slice.ensures.value) ∙
     ap (λ (k : ℕ). front ++ starts_from states at (take k (drop at rules))) size)) in
     record {
       room = omega (arith, c.loop-size.invariant.room, sum_left c.args.sizes.now c.loop-size.size-index c.loop-size-test.true);
-      made = added c.loop-size.all.items c.push.new.self.items ((front ++ starts_from states at (take n (drop at rules))) ∷ []) (starts_by_sizes states front (at + n) (drop (at + n) rules) (drop (c.loop-size.size-index + 1) c.args.sizes.now)) _ _
-          c.loop-size.invariant.made (rw made at c.in_ok-push.ensures.items) (next_sizes states front at rules c.args.sizes.now c.loop-size.size-index c.loop-size-test.true);
+      made = added c.loop-size.all.items c.push.new.self.items ((front ++ starts_from states at (take n (drop at rules))) ∷ [])
+          (starts_by_sizes states front (at + n) (drop (at + n) rules) (drop (c.loop-size.size-index + 1) c.args.sizes.now)) _ _
+          c.loop-size.invariant.made (rw made at c.in_ok-push.ensures.items)
+          (next_sizes states front at rules c.args.sizes.now c.loop-size.size-index c.loop-size-test.true);
     }

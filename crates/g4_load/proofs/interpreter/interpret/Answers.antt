@@ -13,7 +13,9 @@ returns-in_err-laid-clause-interpreting c =
 pub returns-in_err-lexer-clause-interpreting : goal.returns-in_err-lexer-clause-interpreting
 returns-in_err-lexer-clause-interpreting c =
     let p = err_from_is_err_and c.from_residual-in_err-lexer.result c.from_residual-in_err-lexer.ensures.1 in
-    rw (p.1, p.2) (lexer_exit c.args.start.now c.args.grammar c.in_ok-laid.laid c.in_err-lexer.field-0.0 c.in_ok-laid.ensures.laid c.in_err-lexer.ensures.lexer)
+    rw (p.1, p.2) (lexer_exit c.args.start.now c.args.grammar c.in_ok-laid.laid c.in_err-lexer.field-0.0 c.in_ok-laid.ensures.laid
+    c.in_err-lexer.ensures.lexer)
 
 pub returns-clause-interpreting : goal.returns-clause-interpreting
-returns-clause-interpreting c = goes_on c.in_ok-laid.laid _ c.in_ok-laid.ensures.laid (goes_on c.in_ok-lexer.lexer _ c.in_ok-lexer.ensures.lexer refl)
+returns-clause-interpreting c = goes_on c.in_ok-laid.laid _ c.in_ok-laid.ensures.laid
+    (goes_on c.in_ok-lexer.lexer _ c.in_ok-lexer.ensures.lexer refl)

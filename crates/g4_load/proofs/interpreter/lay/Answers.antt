@@ -18,27 +18,37 @@ build-requires-clause-fit c =
     let names = names_are c.args.grammar _ _ c.in_ok-names.ensures c.as_slice.ensures in
     let can = can_be_rewritten c.args.grammar _ _ _ c.requires names c.into_vec.ensures c.in_ok-steps.ensures.rewritten in
     subst (λ (rs : List StepRule). NumberingsFit (map alternatives_of rs) c.as_slice-4.result.now) (sym c.as_slice-3.ensures.value)
-    (subst (λ (ns : List Numbering). NumberingsFit (map alternatives_of c.in_ok-laid.laid.rules.items) ns) (sym c.as_slice-4.ensures.value) (c.in_ok-laid.ensures.fit can))
+    (subst (λ (ns : List Numbering). NumberingsFit (map alternatives_of c.in_ok-laid.laid.rules.items) ns)
+    (sym c.as_slice-4.ensures.value) (c.in_ok-laid.ensures.fit can))
 
 pub returns-in-Err-clause-laid : goal.returns-in-Err-clause-laid
 returns-in-Err-clause-laid c =
     let names = names_are c.args.grammar _ _ c.in_ok-names.ensures c.as_slice.ensures in
-    let steps = steps_are c.args.grammar _ _ _ _ names (c.new-2.ensures ∙ c.new.ensures.items) c.into_vec.ensures c.in_ok-steps.ensures.steps in
+    let steps = steps_are c.args.grammar _ _ _ _ names (c.new-2.ensures ∙ c.new.ensures.items) c.into_vec.ensures
+    c.in_ok-steps.ensures.steps in
     reported (Lays c.args.start.now c.args.grammar) _ _ c.in_ok-not_built-in-Err.ensures
-    (build_exit c.args.start.now c.args.grammar _ (gives_rewritten c.args.start.now c.args.grammar c.in_ok-steps.steps.items c.as_slice-3.result.now c.as_slice-4.result.now (Err c.in-Err.fault) steps
-    (c.as_slice-3.ensures.value ∙ c.in_ok-laid.ensures.rules) (c.as_slice-4.ensures.value ∙ c.in_ok-laid.ensures.numberings) c.in-Err.ensures.built))
+    (build_exit c.args.start.now c.args.grammar _
+    (gives_rewritten c.args.start.now c.args.grammar c.in_ok-steps.steps.items c.as_slice-3.result.now c.as_slice-4.result.now
+    (Err c.in-Err.fault) steps
+    (c.as_slice-3.ensures.value ∙ c.in_ok-laid.ensures.rules) (c.as_slice-4.ensures.value ∙ c.in_ok-laid.ensures.numberings)
+    c.in-Err.ensures.built))
 
 pub returns-clause-laid : goal.returns-clause-laid
 returns-clause-laid c =
     let names = names_are c.args.grammar _ _ c.in_ok-names.ensures c.as_slice.ensures in
-    let steps = steps_are c.args.grammar _ _ _ _ names (c.new-2.ensures ∙ c.new.ensures.items) c.into_vec.ensures c.in_ok-steps.ensures.steps in
+    let steps = steps_are c.args.grammar _ _ _ _ names (c.new-2.ensures ∙ c.new.ensures.items) c.into_vec.ensures
+    c.in_ok-steps.ensures.steps in
     laid c.args.start.now c.args.grammar _ c.in-Ok.net _ (c.new-3.ensures ∙ (c.in_ok-kept.ensures ∙ (c.as_slice-2.ensures.value ∙ steps)))
-    (gives_rewritten c.args.start.now c.args.grammar c.in_ok-steps.steps.items c.as_slice-3.result.now c.as_slice-4.result.now (Ok c.in-Ok.net) steps
-    (c.as_slice-3.ensures.value ∙ c.in_ok-laid.ensures.rules) (c.as_slice-4.ensures.value ∙ c.in_ok-laid.ensures.numberings) c.in-Ok.ensures.built) names
+    (gives_rewritten c.args.start.now c.args.grammar c.in_ok-steps.steps.items c.as_slice-3.result.now c.as_slice-4.result.now
+    (Ok c.in-Ok.net) steps
+    (c.as_slice-3.ensures.value ∙ c.in_ok-laid.ensures.rules) (c.as_slice-4.ensures.value ∙ c.in_ok-laid.ensures.numberings)
+    c.in-Ok.ensures.built) names
 
 pub returns-clause-sound : goal.returns-clause-sound
 returns-clause-sound c =
     let names = names_are c.args.grammar _ _ c.in_ok-names.ensures c.as_slice.ensures in
     let can = can_be_rewritten c.args.grammar _ _ _ c.requires names c.into_vec.ensures c.in_ok-steps.ensures.rewritten in
-    sound c.args.start.now c.args.grammar c.requires c.in_ok-steps.steps.items _ c.as_slice-3.result.now c.as_slice-4.result.now c.in-Ok.net _ (c.new-3.ensures ∙ (c.in_ok-kept.ensures ∙ c.as_slice-2.ensures.value)) can
-    (c.as_slice-3.ensures.value ∙ c.in_ok-laid.ensures.rules) (c.as_slice-4.ensures.value ∙ c.in_ok-laid.ensures.numberings) c.in-Ok.ensures.built
+    sound c.args.start.now c.args.grammar c.requires c.in_ok-steps.steps.items _ c.as_slice-3.result.now c.as_slice-4.result.now
+    c.in-Ok.net _ (c.new-3.ensures ∙ (c.in_ok-kept.ensures ∙ c.as_slice-2.ensures.value)) can
+    (c.as_slice-3.ensures.value ∙ c.in_ok-laid.ensures.rules) (c.as_slice-4.ensures.value ∙ c.in_ok-laid.ensures.numberings)
+    c.in-Ok.ensures.built

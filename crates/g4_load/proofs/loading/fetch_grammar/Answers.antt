@@ -5,11 +5,13 @@ use Rattle.g4_load.proofs.loading.fetch_grammar.Goals as goal
 
 pub returns-in-Bytes-clause-content : goal.returns-in-Bytes-clause-content
 returns-in-Bytes-clause-content g c = λ files told.
-    there c.in-Bytes.bytes (told_file _ files c.args.name.now (Bytes c.in-Bytes.bytes) told c.in-Bytes.ensures.content) c.in-Bytes.ensures.sized
+    there c.in-Bytes.bytes (told_file _ files c.args.name.now (Bytes c.in-Bytes.bytes) told c.in-Bytes.ensures.content)
+    c.in-Bytes.ensures.sized
 
 pub returns-in_ok-copy_of-in-Absent-clause-content : goal.returns-in_ok-copy_of-in-Absent-clause-content
 returns-in_ok-copy_of-in-Absent-clause-content g c = λ files told.
-    absent_file files c.args.name.now c.in_ok-copy_of-in-Absent.field-0 c.in_ok-copy_of-in-Absent.ensures (told_file _ files c.args.name.now Absent told c.in-Absent.ensures.content)
+    absent_file files c.args.name.now c.in_ok-copy_of-in-Absent.field-0 c.in_ok-copy_of-in-Absent.ensures
+    (told_file _ files c.args.name.now Absent told c.in-Absent.ensures.content)
 
 pub returns-in_ok-copy_of-in-TooLarge-clause-content : goal.returns-in_ok-copy_of-in-TooLarge-clause-content
 returns-in_ok-copy_of-in-TooLarge-clause-content g c = λ files told.

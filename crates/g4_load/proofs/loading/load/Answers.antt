@@ -20,4 +20,5 @@ returns-in-Err-Fault-clause-content g c = λ files told.
     let name = c.args.name.now in
     subst (λ (stop : Stop). Loads files name (name ∷ []) (Err stop)) (sym c.in_ok-fault_of-in-Err-Fault.ensures)
     (loaded files name c.in_ok-bytes.bytes (c.in_ok-bytes.ensures.content files told) (Err c.in-Err-Fault.fault)
-    (subst (λ (bs : List ℕ). IsGrammarIn bs (Err c.in-Err-Fault.fault)) c.as_slice.ensures (rw c.in-Err-Fault.field-0-is at c.in-Err-Fault.ensures.grammar)))
+    (subst (λ (bs : List ℕ). IsGrammarIn bs (Err c.in-Err-Fault.fault)) c.as_slice.ensures
+    (rw c.in-Err-Fault.field-0-is at c.in-Err-Fault.ensures.grammar)))

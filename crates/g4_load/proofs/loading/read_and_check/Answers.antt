@@ -15,23 +15,27 @@ returns-in_err-check_forms-clause-grammar c =
 pub returns-in_err-check_names-clause-grammar : goal.returns-in_err-check_names-clause-grammar
 returns-in_err-check_names-clause-grammar c =
     let p = err_from_is_err_and c.from_residual-in_err-check_names.result c.from_residual-in_err-check_names.ensures.1 in
-    rw (p.1, p.2) (name_exit _ c.in_ok-source.source c.in_ok-source.ensures.reading c.in_ok-check_forms.ensures.forms _ c.in_err-check_names.ensures)
+    rw (p.1, p.2) (name_exit _ c.in_ok-source.source c.in_ok-source.ensures.reading c.in_ok-check_forms.ensures.forms _
+    c.in_err-check_names.ensures)
 
 pub returns-in_err-grammar-clause-grammar : goal.returns-in_err-grammar-clause-grammar
 returns-in_err-grammar-clause-grammar c =
     let p = err_from_is_err_and c.from_residual-in_err-grammar.result c.from_residual-in_err-grammar.ensures.1 in
-    rw (p.1, p.2) (number_exit _ c.in_ok-source.source c.in_ok-source.ensures.reading c.in_ok-check_forms.ensures.forms c.in_ok-check_names.ensures _ c.in_err-grammar.ensures.numbered)
+    rw (p.1, p.2) (number_exit _ c.in_ok-source.source c.in_ok-source.ensures.reading c.in_ok-check_forms.ensures.forms
+    c.in_ok-check_names.ensures _ c.in_err-grammar.ensures.numbered)
 
 pub returns-in_err-check-clause-grammar : goal.returns-in_err-check-clause-grammar
 returns-in_err-check-clause-grammar c =
     let p = err_from_is_err_and c.from_residual-in_err-check.result c.from_residual-in_err-check.ensures.1 in
     rw (p.1, p.2)
-    (check_exit _ c.in_ok-source.source c.in_ok-source.ensures.reading c.in_ok-check_forms.ensures.forms c.in_ok-check_names.ensures c.in_ok-grammar.grammar c.in_ok-grammar.ensures.numbered
+    (check_exit _ c.in_ok-source.source c.in_ok-source.ensures.reading c.in_ok-check_forms.ensures.forms c.in_ok-check_names.ensures
+    c.in_ok-grammar.grammar c.in_ok-grammar.ensures.numbered
     _ c.in_err-check.ensures.checked)
 
 pub returns-clause-grammar : goal.returns-clause-grammar
 returns-clause-grammar c =
-    checked _ c.in_ok-source.source c.in_ok-source.ensures.reading c.in_ok-check_forms.ensures.forms c.in_ok-check_names.ensures c.in_ok-grammar.grammar c.in_ok-grammar.ensures.numbered
+    checked _ c.in_ok-source.source c.in_ok-source.ensures.reading c.in_ok-check_forms.ensures.forms c.in_ok-check_names.ensures
+    c.in_ok-grammar.grammar c.in_ok-grammar.ensures.numbered
     c.in_ok-check.ensures.checked c.in_ok-tables.tables c.in_ok-tables.ensures c.in_ok-lexer.lexer c.in_ok-lexer.ensures.rules
 
 pub returns-clause-checked : goal.returns-clause-checked
@@ -43,7 +47,9 @@ returns-clause-checked c =
       untested = c.in_ok-grammar.ensures.untested c.in_ok-check_forms.ensures.untested;
       defined = c.in_ok-grammar.ensures.defined c.in_ok-check.ensures.defined;
       run = c.in_ok-grammar.ensures.run c.in_ok-check.ensures.run;
-      lexer = can_be_made c.in_ok-source.source c.in_ok-lexer.lexer c.in_ok-lexer.ensures.rules c.in_ok-source.ensures.full c.in_ok-check.ensures.defined c.in_ok-check.ensures.run
+      lexer = can_be_made c.in_ok-source.source c.in_ok-lexer.lexer c.in_ok-lexer.ensures.rules c.in_ok-source.ensures.full
+          c.in_ok-check.ensures.defined c.in_ok-check.ensures.run
           (c.in_ok-lexer.ensures.full c.in_ok-source.ensures.full) (c.in_ok-lexer.ensures.low c.in_ok-grammar.ensures.types)
-          c.in_ok-tables.tables (named_low c.in_ok-source.source c.in_ok-grammar.grammar.names c.in_ok-tables.tables c.in_ok-tables.ensures c.in_ok-grammar.ensures.names);
+          c.in_ok-tables.tables (named_low c.in_ok-source.source c.in_ok-grammar.grammar.names c.in_ok-tables.tables
+          c.in_ok-tables.ensures c.in_ok-grammar.ensures.names);
     }

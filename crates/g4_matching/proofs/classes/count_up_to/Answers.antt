@@ -8,5 +8,7 @@ pub returns : goal.returns
 returns c =
     let xs = c.args.bounds.now in
     let rising = non_decreasing_from_sorted xs (sorted_from_strictly_increasing xs c.requires) in
-    let point = IsPartitionPoint-from_clause (λ (b : ℕ). nat_le b c.args.character) xs c.partition_point.result c.partition_point.ensures.partitioned (IsPartitionedBy-leb (λ (b : ℕ). b) xs c.args.character rising) (λ a r q k. search rules) in
-    counted (λ (b : ℕ). nat_le b c.args.character) xs c.partition_point.result c.partition_point.ensures.bound (λ k lt. point.0 k 0 (omega arith) lt) (λ k le lt. point.1 k 0 le lt)
+    let point = IsPartitionPoint-from_clause (λ (b : ℕ). nat_le b c.args.character) xs c.partition_point.result
+    c.partition_point.ensures.partitioned (IsPartitionedBy-leb (λ (b : ℕ). b) xs c.args.character rising) (λ a r q k. search rules) in
+    counted (λ (b : ℕ). nat_le b c.args.character) xs c.partition_point.result c.partition_point.ensures.bound
+    (λ k lt. point.0 k 0 (omega arith) lt) (λ k le lt. point.1 k 0 le lt)

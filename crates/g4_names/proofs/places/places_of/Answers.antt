@@ -9,9 +9,11 @@ loop-place-init c = c.new-places.ensures
 
 pub loop-place-preserved : goal.loop-place-preserved
 loop-place-preserved c =
-    one_more c.args.names.now c.loop-place.place c.index-names-place.result c.as_str.result.now c.loop-place.places c.add.new.self c.loop-place-test.true c.index-names-place.is c.as_str.ensures c.loop-place.invariant
+    one_more c.args.names.now c.loop-place.place c.index-names-place.result c.as_str.result.now c.loop-place.places c.add.new.self
+    c.loop-place-test.true c.index-names-place.is c.as_str.ensures c.loop-place.invariant
     c.in_ok-add.ensures.added
 
 pub returns-clause-places : goal.returns-clause-places
 returns-clause-places c =
-    λ name. c.loop-place.invariant name ∙ ap (λ (names : List (List ℕ)). first_place names name) (take_all c.loop-place.place c.args.names.now c.loop-place-test.false)
+    λ name. c.loop-place.invariant name ∙ ap (λ (names : List (List ℕ)). first_place names name)
+    (take_all c.loop-place.place c.args.names.now c.loop-place-test.false)

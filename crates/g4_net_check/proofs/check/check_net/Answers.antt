@@ -5,10 +5,12 @@ use Rattle.g4_net_check.specs.Callers.{CallersFit}
 use Rattle.g4_net_check.proofs.check.check_net.Goals as goal
 
 pub returns-then-not-numbers_fit : goal.returns-then-not-numbers_fit
-returns-then-not-numbers_fit g c = no_numbers c.args.net.now (λ has. let t : IsTrue c.numbers_fit.result = c.numbers_fit.ensures.1 has in let n : ⊥ = cc in n)
+returns-then-not-numbers_fit g c = no_numbers c.args.net.now
+    (λ has. let t : IsTrue c.numbers_fit.result = c.numbers_fit.ensures.1 has in let n : ⊥ = cc in n)
 
 pub returns-then-not-branch : goal.returns-then-not-branch
-returns-then-not-branch g c = no_callers c.args.net.now (λ has. let t : IsTrue c.in_ok-callers_fit.field-0 = c.in_ok-callers_fit.ensures.1 has in let n : ⊥ = cc in n)
+returns-then-not-branch g c = no_callers c.args.net.now
+    (λ has. let t : IsTrue c.in_ok-callers_fit.field-0 = c.in_ok-callers_fit.ensures.1 has in let n : ⊥ = cc in n)
 
 pub returns : goal.returns
 returns g c =

@@ -7,5 +7,6 @@ use Rattle.g4_net_check.proofs.members.are_among.Goals as goal
 pub returns : goal.returns
 returns c =
     let P : ℕ → Type 0 = Contains c.args.sorted.now in
-    let cases = cases_from_all _ _ c.all.result P (λ (x : ℕ). P x → ⊥) c.all.ensures.ran (YieldsList-from_slice c.args.numbers.now cc) (λ x q k. search (rules, tests)) (λ x q k. search (rules, tests)) in
+    let cases = cases_from_all _ _ c.all.result P (λ (x : ℕ). P x → ⊥) c.all.ensures.ran (YieldsList-from_slice c.args.numbers.now cc)
+    (λ x q k. search (rules, tests)) (λ x q k. search (rules, tests)) in
     all_answer P c.all.result c.args.numbers.now cases

@@ -10,7 +10,8 @@ loop-number-preserved g c =
     let i = c.loop-number.number in
     let item = c.index-states-number.result in
     let here : slice_get states i ≡ Some item = slice_get_read states (length states) i item refl (omega arith) c.index-states-number.is in
-    clauses_more states i item c.loop-number.clauses.items c.add_clauses.new.clauses.items here c.in_ok-add_clauses.ensures c.loop-number.invariant
+    clauses_more states i item c.loop-number.clauses.items c.add_clauses.new.clauses.items here c.in_ok-add_clauses.ensures
+    c.loop-number.invariant
 
 pub returns : goal.returns
 returns g c = clauses_end c.args.states.now c.loop-number.number c.loop-number.clauses.items (omega arith) c.loop-number.invariant

@@ -9,7 +9,8 @@ pub loop-number-preserved-then-not-found-number : goal.loop-number-preserved-the
 loop-number-preserved-then-not-found-number c =
     let i = c.loop-number.number in
     let unset : slice_index_or c.args.found.now i false ≡ false = search rules in
-    c.loop-number.invariant ∙ ap (λ (xs : List ℕ). c.args.out.now.items ++ xs) (sym (lines_same c.args.names.now c.args.shown.now c.args.net.now c.args.found.now i unset))
+    c.loop-number.invariant ∙ ap (λ (xs : List ℕ). c.args.out.now.items ++ xs)
+    (sym (lines_same c.args.names.now c.args.shown.now c.args.net.now c.args.found.now i unset))
 
 pub loop-number-preserved : goal.loop-number-preserved
 loop-number-preserved c =
@@ -18,4 +19,5 @@ loop-number-preserved c =
     let line = line_by c.args.names.now c.args.shown.now i (state_at c.args.net.now i) in
     c.in_ok-push_state.ensures ∙ ap (λ (xs : List ℕ). xs ++ line) c.loop-number.invariant
     ∙ append_assoc c.args.out.now.items (lines_of c.args.names.now c.args.shown.now c.args.net.now (marked c.args.found.now i)) line
-    ∙ ap (λ (xs : List ℕ). c.args.out.now.items ++ xs) (sym (lines_more c.args.names.now c.args.shown.now c.args.net.now c.args.found.now i is_set))
+    ∙ ap (λ (xs : List ℕ). c.args.out.now.items ++ xs)
+    (sym (lines_more c.args.names.now c.args.shown.now c.args.net.now c.args.found.now i is_set))

@@ -6,4 +6,5 @@ use Rattle.g4_plain_syntax.proofs.law.one_derivation.Goals as goal
 
 pub returns : goal.returns
 returns c = λ tokens a b plain also derives other.
-    (one_reading a b tokens [] [] (reads a tokens [] grammar_decided plain refl derives) (reads b tokens [] grammar_decided also refl other)).0
+    (one_reading a b tokens [] [] (reads a tokens [] grammar_decided plain refl derives)
+    (reads b tokens [] grammar_decided also refl other)).0

@@ -20,11 +20,14 @@ lower-requires-clause-bottomed c = c.requires.framed.bottomed
 pub returns-then-branch-2 : goal.returns-then-branch-2
 returns-then-branch-2 c = record {
   same =
-      lowers_to c.args.net.now (Holds c.args.from) (Holds c.in_ok-set.set) c.args.returns.now c.split_at.result.0.now c.split_at.result.1.now c.left_below-left.result c.split_at.ensures.front c.split_at.ensures.back c.requires.framed
+      lowers_to c.args.net.now (Holds c.args.from) (Holds c.in_ok-set.set) c.args.returns.now c.split_at.result.0.now
+      c.split_at.result.1.now c.left_below-left.result c.split_at.ensures.front c.split_at.ensures.back c.requires.framed
       c.in_ok-set.ensures.members;
   down = c.in_ok-is_down-2.ensures.down c.if-branch-2.true;
-  framed = lowers_framed c.args.net.now (Holds c.args.from) (Holds c.in_ok-set.set) (reverse c.split_at.result.1.now) c.requires.framed c.in_ok-set.ensures.members;
+  framed = lowers_framed c.args.net.now (Holds c.args.from) (Holds c.in_ok-set.set) (reverse c.split_at.result.1.now)
+      c.requires.framed c.in_ok-set.ensures.members;
   within = c.in_ok-set.ensures.within;
   row = c.in_ok-set.ensures.row;
-  states = subst (All (λ t. t < length c.args.net.now.states)) (sym c.split_at.ensures.front) (All-take (λ t. t < length c.args.net.now.states) c.left_below-left.result c.args.returns.now c.requires.states);
+  states = subst (All (λ t. t < length c.args.net.now.states)) (sym c.split_at.ensures.front)
+      (All-take (λ t. t < length c.args.net.now.states) c.left_below-left.result c.args.returns.now c.requires.states);
 }

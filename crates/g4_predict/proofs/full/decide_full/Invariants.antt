@@ -6,4 +6,5 @@ use Rattle.g4_predict.proofs.FullLooking.{IsPlaced}
 use Rattle.g4_predict.proofs.full.decide_full.Given as goal
 
 abbrev pub invariant-loop-k : goal.invariant-loop-k
-invariant-loop-k l = IsPlaced l.net l.decision (Allows l.allowed) (above_bottom (reverse l.returns)) l.tokens l.k (Holds l.place.set) l.place.below.now
+invariant-loop-k l = IsPlaced l.net l.decision (Allows l.allowed) (above_bottom (reverse l.returns)) l.tokens l.k (Holds l.place.set)
+    l.place.below.now

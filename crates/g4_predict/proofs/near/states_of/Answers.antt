@@ -10,6 +10,8 @@ loop-group-preserved c =
     let less : c.loop-group.group-index < length c.args.groups.now = search rules in
     let alternative : (get_or c.args.groups.now c.loop-group.group-index blank).alternative ≡ c.args.alternative = search rules in
     let stacks : (get_or c.args.groups.now c.loop-group.group-index blank).stacks ≡ c.args.stacks = search rules in
-    let more : c.push.new.self.items ≡ c.loop-group.found.items ++ (get_or c.args.groups.now c.loop-group.group-index blank).state ∷ [] = search rules in
+    let more : c.push.new.self.items ≡ c.loop-group.found.items ++ (get_or c.args.groups.now c.loop-group.group-index blank).state
+    ∷ [] = search rules in
     subst (AreStatesOf c.args.groups.now c.args.alternative c.args.stacks) (sym more)
-    (states_next c.args.groups.now c.args.alternative c.args.stacks c.loop-group.group-index blank c.loop-group.found.items less alternative stacks c.loop-group.invariant)
+    (states_next c.args.groups.now c.args.alternative c.args.stacks c.loop-group.group-index blank c.loop-group.found.items less
+    alternative stacks c.loop-group.invariant)

@@ -8,7 +8,8 @@ use Rattle.g4_preds.proofs.predicate.read_characters.Goals as goal
 pub returns-in_err-nodes : goal.returns-in_err-nodes
 returns-in_err-nodes c =
     let p = err_from_is_err_and c.from_residual-in_err-nodes.result c.from_residual-in_err-nodes.ensures.1 in
-    let cut : AreTokens c.args.text.now c.as_slice.result.now = subst (AreTokens c.args.text.now) (sym c.as_slice.ensures) c.in_ok-tokens.ensures in
+    let cut : AreTokens c.args.text.now c.as_slice.result.now =
+    subst (AreTokens c.args.text.now) (sym c.as_slice.ensures) c.in_ok-tokens.ensures in
     rw (p.1, p.2) (not_parsed c.args.text.now c.as_slice.result.now c.in_err-nodes.field-0.0 cut c.in_err-nodes.ensures)
 
 pub invariant_of-result : goal.invariant_of-result
@@ -16,5 +17,6 @@ invariant_of-result c = are_postfix c.as_slice.result.now c.in_ok-nodes.nodes c.
 
 pub returns : goal.returns
 returns c =
-    let cut : AreTokens c.args.text.now c.as_slice.result.now = subst (AreTokens c.args.text.now) (sym c.as_slice.ensures) c.in_ok-tokens.ensures in
+    let cut : AreTokens c.args.text.now c.as_slice.result.now =
+    subst (AreTokens c.args.text.now) (sym c.as_slice.ensures) c.in_ok-tokens.ensures in
     predicate_is c.args.text.now c.as_slice.result.now c.in_ok-nodes.nodes cut c.in_ok-nodes.ensures

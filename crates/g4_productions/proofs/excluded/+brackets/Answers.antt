@@ -10,28 +10,47 @@ pub add_brackets-returns-then-not-branch : goal.add_brackets-returns-then-not-br
 add_brackets-returns-then-not-branch t c = ends (sym c.in_ok-open.ensures.opened ∙ c.if-not-branch.true) c.in_ok-open.ensures.moves
 
 pub add_brackets-add_excluded-requires : goal.add_brackets-add_excluded-requires
-add_brackets-add_excluded-requires t c = omega (arith, fewer (sym c.in_ok-open.ensures.opened ∙ c.if-not-branch.false) c.in_ok-open.ensures.moves)
+add_brackets-add_excluded-requires t c = omega
+    (arith, fewer (sym c.in_ok-open.ensures.opened ∙ c.if-not-branch.false) c.in_ok-open.ensures.moves)
 
 pub add_brackets-add_excluded-requires-in-loop-cursor : goal.add_brackets-add_excluded-requires-in-loop-cursor
-add_brackets-add_excluded-requires-in-loop-cursor t c = omega (arith, fewer (sym c.in_ok-open.ensures.opened ∙ c.if-not-branch.false) c.in_ok-open.ensures.moves, no_more c.in_ok-add_excluded.ensures, c.loop-cursor.invariant.less, no_more c.take.ensures)
+add_brackets-add_excluded-requires-in-loop-cursor t c =
+    omega (
+      arith,
+      fewer (sym c.in_ok-open.ensures.opened ∙ c.if-not-branch.false) c.in_ok-open.ensures.moves,
+      no_more c.in_ok-add_excluded.ensures,
+      c.loop-cursor.invariant.less,
+      no_more c.take.ensures,
+    )
 
 pub add_brackets-loop-cursor-init : goal.add_brackets-loop-cursor-init
 add_brackets-loop-cursor-init t c = start
 
 pub add_brackets-loop-cursor-preserved : goal.add_brackets-loop-cursor-preserved
-add_brackets-loop-cursor-preserved t c = sign_over c.loop-cursor.invariant (sym c.is_at.ensures ∙ c.loop-cursor-test.true) c.take.ensures c.in_ok-add_excluded-2.ensures (λ bar s rest p. all_more _ (excluded_ranges s) _ (excluded_after rest) p)
+add_brackets-loop-cursor-preserved t c = sign_over c.loop-cursor.invariant (sym c.is_at.ensures ∙ c.loop-cursor-test.true)
+    c.take.ensures c.in_ok-add_excluded-2.ensures (λ bar s rest p. all_more _ (excluded_ranges s) _ (excluded_after rest) p)
 
 pub add_brackets-loop-cursor-smaller : goal.add_brackets-loop-cursor-smaller
-add_brackets-loop-cursor-smaller t c = fewer_then (sym c.is_at.ensures ∙ c.loop-cursor-test.true) c.take.ensures c.in_ok-add_excluded-2.ensures
+add_brackets-loop-cursor-smaller t c = fewer_then (sym c.is_at.ensures ∙ c.loop-cursor-test.true) c.take.ensures
+    c.in_ok-add_excluded-2.ensures
 
 pub add_brackets-returns : goal.add_brackets-returns
-add_brackets-returns t c = upon c.in_ok-open.ensures.moves (upon (two {R = λ tree. c.loop-cursor.ranges.items ≡ c.args.ranges.now.items ++ ranges_between tree} c.in_ok-add_excluded.ensures (end_turns c.loop-cursor.invariant (led _ _ _ refl ∙ sym c.is_at.ensures ∙ c.loop-cursor-test.false) (sym (append-nil _))) (λ s ss p q. q ∙ rw p (append_assoc _ (excluded_ranges s) (excluded_after ss)))) (so c.close.ensures (λ closing r sets q opening p. q)))
+add_brackets-returns t c = upon c.in_ok-open.ensures.moves
+    (upon (two {R = λ tree. c.loop-cursor.ranges.items ≡ c.args.ranges.now.items ++ ranges_between tree} c.in_ok-add_excluded.ensures
+    (end_turns c.loop-cursor.invariant (led _ _ _ refl ∙ sym c.is_at.ensures ∙ c.loop-cursor-test.false) (sym (append-nil _)))
+    (λ s ss p q. q ∙ rw p (append_assoc _ (excluded_ranges s) (excluded_after ss)))) (so c.close.ensures (λ closing r sets q opening p. q)))
 
 pub add_excluded-returns-then-is_at : goal.add_excluded-returns-then-is_at
-add_excluded-returns-then-is_at t c = inside (first (led _ _ _ refl ∙ asks_same _ excluded _ (λ token. refl) ∙ sym c.is_at.ensures ∙ c.if-is_at.true) c.in_ok-add_characters.ensures)
+add_excluded-returns-then-is_at t c = inside
+    (first (led _ _ _ refl ∙ asks_same _ excluded _ (λ token. refl) ∙ sym c.is_at.ensures ∙ c.if-is_at.true) c.in_ok-add_characters.ensures)
 
 pub add_excluded-returns-then-is_at-2 : goal.add_excluded-returns-then-is_at-2
-add_excluded-returns-then-is_at-2 t c = inside (second (led _ _ _ refl ∙ asks_same _ excluded _ (λ token. refl) ∙ sym c.is_at.ensures ∙ c.if-is_at.false) (first (asks_same _ a_set _ (λ token. refl) ∙ sym c.is_at-2.ensures ∙ c.if-is_at-2.true) (so c.in_ok-set.ensures (λ tree p. c.in_ok-extend_from_slice.ensures.items ∙ rw (c.ranges-then-is_at-2.ensures.value, p) refl))))
+add_excluded-returns-then-is_at-2 t c = inside
+    (second (led _ _ _ refl ∙ asks_same _ excluded _ (λ token. refl) ∙ sym c.is_at.ensures ∙ c.if-is_at.false)
+    (first (asks_same _ a_set _ (λ token. refl) ∙ sym c.is_at-2.ensures ∙ c.if-is_at-2.true)
+    (so c.in_ok-set.ensures (λ tree p. c.in_ok-extend_from_slice.ensures.items ∙ rw (c.ranges-then-is_at-2.ensures.value, p) refl))))
 
 pub add_excluded-returns : goal.add_excluded-returns
-add_excluded-returns t c = inside (second (led _ _ _ refl ∙ asks_same _ excluded _ (λ token. refl) ∙ sym c.is_at.ensures ∙ c.if-is_at.false) (second (asks_same _ a_set _ (λ token. refl) ∙ sym c.is_at-2.ensures ∙ c.if-is_at-2.false) c.in_ok-add_brackets.ensures))
+add_excluded-returns t c = inside (second (led _ _ _ refl ∙ asks_same _ excluded _ (λ token. refl) ∙ sym c.is_at.ensures
+    ∙ c.if-is_at.false) (second (asks_same _ a_set _ (λ token. refl) ∙ sym c.is_at-2.ensures ∙ c.if-is_at-2.false)
+    c.in_ok-add_brackets.ensures))

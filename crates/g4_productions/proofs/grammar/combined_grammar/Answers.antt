@@ -3,4 +3,5 @@ use Rattle.g4_cursor.proofs.Moving.{so, upon}
 use Rattle.g4_productions.proofs.grammar.combined_grammar.Goals as goal
 
 pub returns : goal.returns
-returns c = upon c.take_word.ensures (upon c.in_ok-name.ensures (so c.in_ok-rules.ensures (λ rs q h r keyword p. rw (q, r.0, r.1, p.place, c.new-2.ensures, c.new.ensures.items) refl)))
+returns c = upon c.take_word.ensures (upon c.in_ok-name.ensures
+    (so c.in_ok-rules.ensures (λ rs q h r keyword p. rw (q, r.0, r.1, p.place, c.new-2.ensures, c.new.ensures.items) refl)))

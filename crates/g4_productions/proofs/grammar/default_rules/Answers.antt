@@ -7,10 +7,12 @@ pub loop-cursor-init : goal.loop-cursor-init
 loop-cursor-init c = start_list
 
 pub loop-cursor-preserved : goal.loop-cursor-preserved
-loop-cursor-preserved c = list_turn default_rules c.loop-cursor.invariant (sym c.is_at_lexer_rule.ensures ∙ c.loop-cursor-test.true) c.in_ok-rule.ensures (λ a rest p. rw p refl) c.in_ok-push.ensures.items
+loop-cursor-preserved c = list_turn default_rules c.loop-cursor.invariant (sym c.is_at_lexer_rule.ensures ∙ c.loop-cursor-test.true)
+    c.in_ok-rule.ensures (λ a rest p. rw p refl) c.in_ok-push.ensures.items
 
 pub loop-cursor-smaller : goal.loop-cursor-smaller
 loop-cursor-smaller c = fewer (sym c.is_at_lexer_rule.ensures ∙ c.loop-cursor-test.true) c.in_ok-rule.ensures
 
 pub returns : goal.returns
-returns c = list_end default_rules c.loop-cursor.invariant (sym c.is_at_lexer_rule.ensures ∙ c.loop-cursor-test.false) refl c.new-rules.ensures.items c.new.ensures
+returns c = list_end default_rules c.loop-cursor.invariant (sym c.is_at_lexer_rule.ensures ∙ c.loop-cursor-test.false) refl
+    c.new-rules.ensures.items c.new.ensures

@@ -33,13 +33,16 @@ abbrev pub decreases-alternatives : goal.decreases-alternatives
 decreases-alternatives l = left l.cursor.now * 10 + 8
 
 abbrev pub invariant-elements-loop-cursor : goal.invariant-elements-loop-cursor
-invariant-elements-loop-cursor l = Turned lexer_elements (λ rest. map element_of l.elements.items ++ lexer_elements rest) l.initial.cursor l.cursor
+invariant-elements-loop-cursor l = Turned lexer_elements (λ rest. map element_of l.elements.items ++ lexer_elements rest)
+    l.initial.cursor l.cursor
 
 abbrev pub decreases-elements-loop-cursor : goal.decreases-elements-loop-cursor
 decreases-elements-loop-cursor l = left l.cursor
 
 abbrev pub invariant-alternatives-loop-cursor : goal.invariant-alternatives-loop-cursor
-invariant-alternatives-loop-cursor l = Turned (λ tree. map alternative_of l.initial.alternatives.items ++ lexer_alternatives_after tree) (λ rest. map alternative_of l.alternatives.items ++ lexer_alternatives_after rest) l.initial.cursor l.cursor
+invariant-alternatives-loop-cursor l = Turned
+    (λ tree. map alternative_of l.initial.alternatives.items ++ lexer_alternatives_after tree)
+    (λ rest. map alternative_of l.alternatives.items ++ lexer_alternatives_after rest) l.initial.cursor l.cursor
 
 abbrev pub decreases-alternatives-loop-cursor : goal.decreases-alternatives-loop-cursor
 decreases-alternatives-loop-cursor l = left l.cursor

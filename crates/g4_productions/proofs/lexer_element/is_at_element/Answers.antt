@@ -3,4 +3,13 @@ use Rattle.g4_productions.proofs.Listing.{kinds_tell}
 use Rattle.g4_productions.proofs.lexer_element.is_at_element.Goals as goal
 
 pub returns : goal.returns
-returns c = rw (c.is_at.ensures, c.is_at-2.ensures, c.is_at-3.ensures, c.is_at-4.ensures, c.is_at-5.ensures, c.is_at-6.ensures, c.is_at-7.ensures, c.is_at-8.ensures) (kinds_tell lexer_element c.args.cursor.now)
+returns c = rw (
+  c.is_at.ensures,
+  c.is_at-2.ensures,
+  c.is_at-3.ensures,
+  c.is_at-4.ensures,
+  c.is_at-5.ensures,
+  c.is_at-6.ensures,
+  c.is_at-7.ensures,
+  c.is_at-8.ensures,
+) (kinds_tell lexer_element c.args.cursor.now)

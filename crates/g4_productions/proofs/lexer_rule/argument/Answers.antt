@@ -6,4 +6,5 @@ pub returns-then-not-is_at : goal.returns-then-not-is_at
 returns-then-not-is_at c = left_out _ (led _ _ _ refl ∙ sym c.is_at.ensures ∙ c.if-not-is_at.true) refl
 
 pub returns : goal.returns
-returns c = there (led _ _ _ refl ∙ sym c.is_at.ensures ∙ c.if-not-is_at.false) (upon c.take.ensures (upon c.in_ok-argument.ensures (so c.take-2.ensures (λ closing r a q opening p. rw q refl))))
+returns c = there (led _ _ _ refl ∙ sym c.is_at.ensures ∙ c.if-not-is_at.false)
+    (upon c.take.ensures (upon c.in_ok-argument.ensures (so c.take-2.ensures (λ closing r a q opening p. rw q refl))))

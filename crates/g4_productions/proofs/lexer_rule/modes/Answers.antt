@@ -8,10 +8,13 @@ pub loop-cursor-init : goal.loop-cursor-init
 loop-cursor-init c = start_list
 
 pub loop-cursor-preserved : goal.loop-cursor-preserved
-loop-cursor-preserved c = list_turn modes_of c.loop-cursor.invariant (led _ _ _ refl ∙ sym c.is_at_word.ensures ∙ c.loop-cursor-test.true) c.in_ok-mode.ensures (λ a rest p. rw p refl) c.in_ok-push.ensures.items
+loop-cursor-preserved c = list_turn modes_of c.loop-cursor.invariant
+    (led _ _ _ refl ∙ sym c.is_at_word.ensures ∙ c.loop-cursor-test.true) c.in_ok-mode.ensures (λ a rest p. rw p refl)
+    c.in_ok-push.ensures.items
 
 pub loop-cursor-smaller : goal.loop-cursor-smaller
 loop-cursor-smaller c = fewer (led _ _ _ refl ∙ sym c.is_at_word.ensures ∙ c.loop-cursor-test.true) c.in_ok-mode.ensures
 
 pub returns : goal.returns
-returns c = list_end modes_of c.loop-cursor.invariant (led _ _ _ refl ∙ sym c.is_at_word.ensures ∙ c.loop-cursor-test.false) refl c.new-modes.ensures.items c.new.ensures
+returns c = list_end modes_of c.loop-cursor.invariant (led _ _ _ refl ∙ sym c.is_at_word.ensures ∙ c.loop-cursor-test.false) refl
+    c.new-modes.ensures.items c.new.ensures

@@ -7,4 +7,5 @@ pub returns-then-branch : goal.returns-then-branch
 returns-then-branch c = refuses _ _ (literal_bad c.args.excluded _ (sym c.in_ok-literal_is_bad.ensures ∙ c.if-branch.true)) c.refuse.ensures
 
 pub returns : goal.returns
-returns c = taken_as _ _ (literal_fits c.args.excluded) (literal_good c.args.excluded _ (sym c.in_ok-literal_is_bad.ensures ∙ c.if-branch.false)) c.take.ensures
+returns c = taken_as _ _ (literal_fits c.args.excluded)
+    (literal_good c.args.excluded _ (sym c.in_ok-literal_is_bad.ensures ∙ c.if-branch.false)) c.take.ensures

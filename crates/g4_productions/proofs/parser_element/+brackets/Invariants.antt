@@ -39,13 +39,15 @@ abbrev pub decreases-alternatives : goal.decreases-alternatives
 decreases-alternatives l = left l.cursor.now * 11 + 10
 
 abbrev pub invariant-elements-loop-cursor : goal.invariant-elements-loop-cursor
-invariant-elements-loop-cursor l = Turned parser_items (λ rest. (map element_of l.elements.items ++ parser_elements rest, l.right || elements_right rest)) l.initial.cursor l.cursor
+invariant-elements-loop-cursor l = Turned parser_items
+    (λ rest. (map element_of l.elements.items ++ parser_elements rest, l.right || elements_right rest)) l.initial.cursor l.cursor
 
 abbrev pub decreases-elements-loop-cursor : goal.decreases-elements-loop-cursor
 decreases-elements-loop-cursor l = left l.cursor
 
 abbrev pub invariant-alternatives-loop-cursor : goal.invariant-alternatives-loop-cursor
-invariant-alternatives-loop-cursor l = Turned (λ tree. map alternative_of l.initial.alternatives.items ++ alternatives_after tree) (λ rest. map alternative_of l.alternatives.items ++ alternatives_after rest) l.initial.cursor l.cursor
+invariant-alternatives-loop-cursor l = Turned (λ tree. map alternative_of l.initial.alternatives.items ++ alternatives_after tree)
+    (λ rest. map alternative_of l.alternatives.items ++ alternatives_after rest) l.initial.cursor l.cursor
 
 abbrev pub decreases-alternatives-loop-cursor : goal.decreases-alternatives-loop-cursor
 decreases-alternatives-loop-cursor l = left l.cursor

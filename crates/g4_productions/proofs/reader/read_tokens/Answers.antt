@@ -10,25 +10,34 @@ returns-in_err-source-clause-reads c =
     rw (p.1, p.2) tt
 
 pub overflow_sub-at : goal.overflow_sub-at
-overflow_sub-at c = rw c.left.ensures (not_longer c.args.text.now c.args.tokens.now c.in_ok-source.source _ (rw c.new-cursor.ensures at c.in_ok-source.ensures))
+overflow_sub-at c = rw c.left.ensures (not_longer c.args.text.now c.args.tokens.now c.in_ok-source.source _
+    (rw c.new-cursor.ensures at c.in_ok-source.ensures))
 
 pub returns-in-Some-BadSet-clause-reads : goal.returns-in-Some-BadSet-clause-reads
-returns-in-Some-BadSet-clause-reads c =
-    (_, at_bad (spelled c.args.text.now c.args.tokens.now) c.in_ok-source.source _ (rw c.new-cursor.ensures at c.in_ok-source.ensures) (sym c.halt.ensures ∙ c.in-Some-BadSet.is ∙ ap Some c.in-Some-BadSet.field-0-is), c.place.ensures)
+returns-in-Some-BadSet-clause-reads c = (
+  _,
+  at_bad (spelled c.args.text.now c.args.tokens.now) c.in_ok-source.source _ (rw c.new-cursor.ensures at c.in_ok-source.ensures)
+      (sym c.halt.ensures ∙ c.in-Some-BadSet.is ∙ ap Some c.in-Some-BadSet.field-0-is),
+  c.place.ensures,
+)
 
 pub returns-in-Some-Fault-clause-reads : goal.returns-in-Some-Fault-clause-reads
 returns-in-Some-Fault-clause-reads c =
-    rw c.left.ensures (text_stops c.args.text.now c.args.tokens.now c.in_ok-source.source _ (rw c.new-cursor.ensures at c.in_ok-source.ensures) (sym c.halt.ensures ∙ c.in-Some-Fault.is ∙ ap Some c.in-Some-Fault.field-0-is))
+    rw c.left.ensures (text_stops c.args.text.now c.args.tokens.now c.in_ok-source.source _
+    (rw c.new-cursor.ensures at c.in_ok-source.ensures) (sym c.halt.ensures ∙ c.in-Some-Fault.is ∙ ap Some c.in-Some-Fault.field-0-is))
 
 pub returns-then-at-tokens-clause-reads : goal.returns-then-at-tokens-clause-reads
 returns-then-at-tokens-clause-reads c =
-    rw c.left.ensures (text_left c.args.text.now c.args.tokens.now c.in_ok-source.source _ (rw c.new-cursor.ensures at c.in_ok-source.ensures) (sym c.halt.ensures ∙ c.in-None.is) (omega (arith, c.left.ensures)))
+    rw c.left.ensures (text_left c.args.text.now c.args.tokens.now c.in_ok-source.source _
+    (rw c.new-cursor.ensures at c.in_ok-source.ensures) (sym c.halt.ensures ∙ c.in-None.is) (omega (arith, c.left.ensures)))
 
 pub returns-clause-reads : goal.returns-clause-reads
 returns-clause-reads c =
     let read = rw c.new-cursor.ensures at c.in_ok-source.ensures in
     let fits = not_longer c.args.text.now c.args.tokens.now c.in_ok-source.source _ read in
-    text_read (spelled c.args.text.now c.args.tokens.now) c.in_ok-source.source _ read (sym c.halt.ensures ∙ c.in-None.is) (omega (arith, c.left.ensures, fits))
+    text_read (spelled c.args.text.now c.args.tokens.now) c.in_ok-source.source _ read (sym c.halt.ensures ∙ c.in-None.is)
+    (omega (arith, c.left.ensures, fits))
 
 pub returns-clause-full : goal.returns-clause-full
-returns-clause-full c = read_full (spelled c.args.text.now c.args.tokens.now) c.in_ok-source.source _ (rw c.new-cursor.ensures at c.in_ok-source.ensures) (sym c.halt.ensures ∙ c.in-None.is)
+returns-clause-full c = read_full (spelled c.args.text.now c.args.tokens.now) c.in_ok-source.source _
+    (rw c.new-cursor.ensures at c.in_ok-source.ensures) (sym c.halt.ensures ∙ c.in-None.is)

@@ -9,4 +9,6 @@ use Rattle.g4_productions.proofs.set.set.Goals as goal
 pub returns-in-None : goal.returns-in-None
 returns-in-None c =
     let none = sym c.text_ahead.ensures ∙ ap (option_map (λ text. text.now)) c.in-None.is in
-    unseen kinds.Set c.args.cursor.now _ (λ token. refl) none (taken_as {t = a_set} {taken = c.take.result} c.args.cursor.now _ (λ token. refl) (no_set_next c.args.cursor.now none) c.take.ensures)
+    unseen kinds.Set c.args.cursor.now _ (λ token. refl) none
+    (taken_as {t = a_set} {taken = c.take.result} c.args.cursor.now _ (λ token. refl) (no_set_next c.args.cursor.now none)
+    c.take.ensures)

@@ -5,4 +5,5 @@ use Rattle.g4_productions.specs.Elements.{labelled_of, with_suffix}
 use Rattle.g4_productions.proofs.suffix.with_suffix.Goals as goal
 
 pub returns-in-Brackets : goal.returns-in-Brackets
-returns-in-Brackets c = of_block c.in-Brackets.label c.args.repeat c.in-Brackets.alternatives ∙ sym (ap (λ (x : Labelled). with_suffix (labelled_of x) c.args.repeat) c.in-Brackets.is)
+returns-in-Brackets c = of_block c.in-Brackets.label c.args.repeat c.in-Brackets.alternatives
+    ∙ sym (ap (λ (x : Labelled). with_suffix (labelled_of x) c.args.repeat) c.in-Brackets.is)

@@ -9,28 +9,47 @@ pub add_brackets-returns-then-not-branch : goal.add_brackets-returns-then-not-br
 add_brackets-returns-then-not-branch t c = ends (sym c.in_ok-open.ensures.opened ∙ c.if-not-branch.true) c.in_ok-open.ensures.moves
 
 pub add_brackets-add_set-requires : goal.add_brackets-add_set-requires
-add_brackets-add_set-requires t c = omega (arith, fewer (sym c.in_ok-open.ensures.opened ∙ c.if-not-branch.false) c.in_ok-open.ensures.moves)
+add_brackets-add_set-requires t c = omega (
+  arith,
+  fewer (sym c.in_ok-open.ensures.opened ∙ c.if-not-branch.false) c.in_ok-open.ensures.moves,
+)
 
 pub add_brackets-add_set-requires-in-loop-cursor : goal.add_brackets-add_set-requires-in-loop-cursor
-add_brackets-add_set-requires-in-loop-cursor t c = omega (arith, fewer (sym c.in_ok-open.ensures.opened ∙ c.if-not-branch.false) c.in_ok-open.ensures.moves, no_more c.in_ok-add_set.ensures, c.loop-cursor.invariant.less, no_more c.take.ensures)
+add_brackets-add_set-requires-in-loop-cursor t c =
+    omega (
+      arith,
+      fewer (sym c.in_ok-open.ensures.opened ∙ c.if-not-branch.false) c.in_ok-open.ensures.moves,
+      no_more c.in_ok-add_set.ensures,
+      c.loop-cursor.invariant.less,
+      no_more c.take.ensures,
+    )
 
 pub add_brackets-loop-cursor-init : goal.add_brackets-loop-cursor-init
 add_brackets-loop-cursor-init t c = start
 
 pub add_brackets-loop-cursor-preserved : goal.add_brackets-loop-cursor-preserved
-add_brackets-loop-cursor-preserved t c = sign_over c.loop-cursor.invariant (sym c.is_at.ensures ∙ c.loop-cursor-test.true) c.take.ensures c.in_ok-add_set-2.ensures (λ bar s rest p. all_more _ (references_of s) _ (references_after rest) p)
+add_brackets-loop-cursor-preserved t c = sign_over c.loop-cursor.invariant (sym c.is_at.ensures ∙ c.loop-cursor-test.true)
+    c.take.ensures c.in_ok-add_set-2.ensures (λ bar s rest p. all_more _ (references_of s) _ (references_after rest) p)
 
 pub add_brackets-loop-cursor-smaller : goal.add_brackets-loop-cursor-smaller
 add_brackets-loop-cursor-smaller t c = fewer_then (sym c.is_at.ensures ∙ c.loop-cursor-test.true) c.take.ensures c.in_ok-add_set-2.ensures
 
 pub add_brackets-returns : goal.add_brackets-returns
-add_brackets-returns t c = upon c.in_ok-open.ensures.moves (upon (two {R = λ tree. c.loop-cursor.references.items ≡ c.args.references.now.items ++ references_between tree} c.in_ok-add_set.ensures (end_turns c.loop-cursor.invariant (led _ _ _ refl ∙ sym c.is_at.ensures ∙ c.loop-cursor-test.false) (sym (append-nil _))) (λ s ss p q. q ∙ rw p (append_assoc _ (references_of s) (references_after ss)))) (so c.close.ensures (λ closing r sets q opening p. q)))
+add_brackets-returns t c = upon c.in_ok-open.ensures.moves
+    (upon (two {R = λ tree. c.loop-cursor.references.items ≡ c.args.references.now.items ++ references_between tree}
+    c.in_ok-add_set.ensures (end_turns c.loop-cursor.invariant (led _ _ _ refl ∙ sym c.is_at.ensures ∙ c.loop-cursor-test.false)
+    (sym (append-nil _))) (λ s ss p q. q ∙ rw p (append_assoc _ (references_of s) (references_after ss))))
+    (so c.close.ensures (λ closing r sets q opening p. q)))
 
 pub add_set-returns-then-is_at : goal.add_set-returns-then-is_at
-add_set-returns-then-is_at t c = inside (first (led _ _ _ refl ∙ sym c.is_at.ensures ∙ c.if-is_at.true) (upon c.in_ok-name.ensures (so c.in_ok-optional_element_options.ensures (λ options r n p. rw (← p) c.in_ok-push.ensures.items))))
+add_set-returns-then-is_at t c = inside (first (led _ _ _ refl ∙ sym c.is_at.ensures ∙ c.if-is_at.true)
+    (upon c.in_ok-name.ensures (so c.in_ok-optional_element_options.ensures (λ options r n p. rw (← p) c.in_ok-push.ensures.items))))
 
 pub add_set-returns-then-is_at-2 : goal.add_set-returns-then-is_at-2
-add_set-returns-then-is_at-2 t c = inside (second (led _ _ _ refl ∙ sym c.is_at.ensures ∙ c.if-is_at.false) (first (sym c.is_at-2.ensures ∙ c.if-is_at-2.true) (so c.take-taken.ensures (λ tree p. c.in_ok-push-2.ensures.items ∙ rw (c.in_ok-literal.ensures, p.text) refl))))
+add_set-returns-then-is_at-2 t c = inside (second (led _ _ _ refl ∙ sym c.is_at.ensures ∙ c.if-is_at.false)
+    (first (sym c.is_at-2.ensures ∙ c.if-is_at-2.true)
+    (so c.take-taken.ensures (λ tree p. c.in_ok-push-2.ensures.items ∙ rw (c.in_ok-literal.ensures, p.text) refl))))
 
 pub add_set-returns : goal.add_set-returns
-add_set-returns t c = inside (second (led _ _ _ refl ∙ sym c.is_at.ensures ∙ c.if-is_at.false) (second (sym c.is_at-2.ensures ∙ c.if-is_at-2.false) c.in_ok-add_brackets.ensures))
+add_set-returns t c = inside (second (led _ _ _ refl ∙ sym c.is_at.ensures ∙ c.if-is_at.false)
+    (second (sym c.is_at-2.ensures ∙ c.if-is_at-2.false) c.in_ok-add_brackets.ensures))

@@ -11,7 +11,8 @@ abbrev pub decreases-add_set : goal.decreases-add_set
 decreases-add_set l = left l.cursor.now * 2 + 1
 
 abbrev pub invariant-add_brackets-loop-cursor : goal.invariant-add_brackets-loop-cursor
-invariant-add_brackets-loop-cursor l = Turned (λ tree. l.initial.references.items ++ references_after tree) (λ rest. l.references.items ++ references_after rest) l.initial.cursor l.cursor
+invariant-add_brackets-loop-cursor l = Turned (λ tree. l.initial.references.items ++ references_after tree)
+    (λ rest. l.references.items ++ references_after rest) l.initial.cursor l.cursor
 
 abbrev pub decreases-add_brackets-loop-cursor : goal.decreases-add_brackets-loop-cursor
 decreases-add_brackets-loop-cursor l = left l.cursor

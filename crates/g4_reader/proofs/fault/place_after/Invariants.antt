@@ -4,4 +4,5 @@ use Rattle.g4_reader.proofs.fault.place_after.Given as goal
 
 abbrev pub invariant-loop-character : goal.invariant-loop-character
 invariant-loop-character l =
-    (place_after l.place (drop l.character-index l.characters) ≡ place_after first_place l.characters) × (l.place.line ≤ l.character-index + 1) × (l.place.column ≤ l.character-index)
+    (place_after l.place (drop l.character-index l.characters) ≡ place_after first_place l.characters)
+    × (l.place.line ≤ l.character-index + 1) × (l.place.column ≤ l.character-index)

@@ -8,7 +8,9 @@ use Rattle.g4_recursion.proofs.Calling.{CallsLeft, CallsPassed}
 use Rattle.g4_recursion.proofs.calls.+calls.Given as goal
 
 abbrev pub invariant-of_either-loop-alternative : goal.invariant-of_either-loop-alternative
-invariant-of_either-loop-alternative l = (rules : List (Alternatives Lead)) → Tells l.nullable (IsNullableRule rules) → CallsLeft rules (map alternative_of l.alternatives) l.found l.initial.calls.items l.calls.items l.alternative-index
+invariant-of_either-loop-alternative l = (rules : List (Alternatives Lead)) → Tells l.nullable (IsNullableRule rules)
+    → CallsLeft rules (map alternative_of l.alternatives) l.found l.initial.calls.items l.calls.items l.alternative-index
 
 abbrev pub invariant-of_elements-loop-element : goal.invariant-of_elements-loop-element
-invariant-of_elements-loop-element l = (rules : List (Alternatives Lead)) → Tells l.nullable (IsNullableRule rules) → CallsPassed rules (map element_of l.elements) l.initial.calls.items l.calls.items l.element-index
+invariant-of_elements-loop-element l = (rules : List (Alternatives Lead)) → Tells l.nullable (IsNullableRule rules)
+    → CallsPassed rules (map element_of l.elements) l.initial.calls.items l.calls.items l.element-index

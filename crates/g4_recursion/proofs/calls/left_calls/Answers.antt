@@ -14,12 +14,16 @@ loop-number-preserved c =
     let rules = c.args.rules.now in
     let i = c.loop-number.number in
     let rule = c.index-rules-number.result in
-    let item : slice_get rules i ≡ Some rule = slice_get_read rules (length rules) i rule refl c.loop-number-test.true c.index-rules-number.is in
+    let item : slice_get rules i ≡ Some rule = slice_get_read rules (length rules) i rule refl c.loop-number-test.true
+    c.index-rules-number.is in
     let here : slice_get (trees_of rules) i ≡ Some (alternatives_of rule) = mapped_at alternatives_of rules i rule item in
-    let may : slice_get (operators_of rules) i ≡ Some rule.may_have_operators = mapped_at (λ (r : LeadRule). r.may_have_operators) rules i rule item in
+    let may : slice_get (operators_of rules) i ≡ Some rule.may_have_operators =
+    mapped_at (λ (r : LeadRule). r.may_have_operators) rules i rule item in
     let one = c.in_ok-of_rule.ensures (trees_of rules) (operators_of rules) c.requires may in
-    let longer : length c.push.new.self.items ≡ i + 1 = omega (arith, ap length c.in_ok-push.ensures.items, length-append {A = Vec ℕ Global}, c.loop-number.invariant.0) in (
+    let longer : length c.push.new.self.items ≡ i + 1 =
+    omega (arith, ap length c.in_ok-push.ensures.items, length-append {A = Vec ℕ Global}, c.loop-number.invariant.0) in (
       longer,
       subst (AreLeftCalls (trees_of rules) (operators_of rules)) (sym {A = List (Vec ℕ Global)} c.in_ok-push.ensures.items)
-          (left_calls_more (trees_of rules) (operators_of rules) c.loop-number.all.items c.in_ok-of_rule.field-0 i (alternatives_of rule) c.loop-number.invariant.0 here one c.loop-number.invariant.1),
+          (left_calls_more (trees_of rules) (operators_of rules) c.loop-number.all.items c.in_ok-of_rule.field-0 i
+          (alternatives_of rule) c.loop-number.invariant.0 here one c.loop-number.invariant.1),
     )

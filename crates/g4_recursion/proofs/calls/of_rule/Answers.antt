@@ -14,12 +14,15 @@ loop-elements-preserved c =
     let x = in_order (map element_of c.as_slice.result.now) in
     let lent = c.as_slice-elements-items.result.now in
     let whole : lent ≡ xs = c.as_slice-elements-items.ensures in
-    let here : slice_get xs i ≡ Some x = subst (λ (ys : List (Elements Lead)). slice_get ys i ≡ Some x) whole (elements_at lent i c.elements-item.result c.as_slice.result.now (omega arith) c.elements-item.is c.as_slice.ensures) in
+    let here : slice_get xs i ≡ Some x = subst (λ (ys : List (Elements Lead)). slice_get ys i ≡ Some x) whole
+    (elements_at lent i c.elements-item.result c.as_slice.result.now (omega arith) c.elements-item.is c.as_slice.ensures) in
     λ rules operators told may.
-    runs_step rules operators c.args.number xs i x c.loop-elements.calls.items c.of_alternative.new.calls.items here (c.in_ok-of_alternative.ensures rules operators told may) (c.loop-elements.invariant rules operators told may)
+    runs_step rules operators c.args.number xs i x c.loop-elements.calls.items c.of_alternative.new.calls.items here
+    (c.in_ok-of_alternative.ensures rules operators told may) (c.loop-elements.invariant rules operators told may)
 
 pub returns : goal.returns
 returns c =
     let xs = c.args.rule.now.alternatives in
     let past : length xs ≤ c.loop-elements.elements-index = omega (arith, ap length c.as_slice-elements-items.ensures) in
-    λ rules operators told may. runs_end rules operators c.args.number xs c.loop-elements.elements-index c.loop-elements.calls.items past (c.loop-elements.invariant rules operators told may)
+    λ rules operators told may. runs_end rules operators c.args.number xs c.loop-elements.elements-index c.loop-elements.calls.items
+    past (c.loop-elements.invariant rules operators told may)

@@ -9,4 +9,6 @@ use Rattle.g4_recursion.proofs.calls.of_rule.Given as goal
 
 abbrev pub invariant-loop-elements : goal.invariant-loop-elements
 invariant-loop-elements l =
-    (rules : List (Alternatives Lead)) (operators : List Bool) → Tells l.nullable (IsNullableRule rules) → slice_get operators l.number ≡ Some l.rule.may_have_operators → RunsLeft rules operators l.number l.rule.alternatives l.calls.items l.elements-index
+    (rules : List (Alternatives Lead)) (operators : List Bool) → Tells l.nullable (IsNullableRule rules)
+    → slice_get operators l.number ≡ Some l.rule.may_have_operators
+    → RunsLeft rules operators l.number l.rule.alternatives l.calls.items l.elements-index

@@ -12,8 +12,11 @@ use Rattle.g4_recursion.proofs.clauses.bodies_of.Goals as goal
 pub loop-number-init : goal.loop-number-init
 loop-number-init c =
     let rules = trees_of c.args.rules.now in
-    let count = length-map c.args.rules.now alternatives_of in
-    (rules, grows_none rules rules _ (rules_are_bodies rules _ (sym count) (sym count) c.new.ensures.items), λ k xs less at. absurd (omega (arith, less)))
+    let count = length-map c.args.rules.now alternatives_of in (
+      rules,
+      grows_none rules rules _ (rules_are_bodies rules _ (sym count) (sym count) c.new.ensures.items),
+      λ k xs less at. absurd (omega (arith, less)),
+    )
 
 pub loop-number-preserved : goal.loop-number-preserved
 loop-number-preserved c =
@@ -21,10 +24,15 @@ loop-number-preserved c =
     let i = c.loop-number.number in
     let xs = either c.as_slice.result.now in
     let here : slice_get rules i ≡ Some xs =
-    mapped_at alternatives_of c.args.rules.now i c.index-rules-number.result (slice_get_read c.args.rules.now (length c.args.rules.now) i c.index-rules-number.result refl (omega arith) c.index-rules-number.is) ∙ ap (λ (ys : List (Elements Lead)). Some (either ys)) (sym c.as_slice.ensures) in
+    mapped_at alternatives_of c.args.rules.now i c.index-rules-number.result
+    (slice_get_read c.args.rules.now (length c.args.rules.now) i c.index-rules-number.result refl (omega arith)
+    c.index-rules-number.is) ∙ ap (λ (ys : List (Elements Lead)). Some (either ys)) (sym c.as_slice.ensures) in
     let (mid, g, before) = c.loop-number.invariant in
-    let (later, h, covered) = c.in_ok-add_rule.ensures rules mid g.are_bodies (g.bodies_kept i xs here) in
-    (later, grows_more rules rules mid later _ c.loop-number.made c.add_rule.new.made g h, rule_covered rules mid later c.loop-number.made c.add_rule.new.made i xs h here before covered)
+    let (later, h, covered) = c.in_ok-add_rule.ensures rules mid g.are_bodies (g.bodies_kept i xs here) in (
+      later,
+      grows_more rules rules mid later _ c.loop-number.made c.add_rule.new.made g h,
+      rule_covered rules mid later c.loop-number.made c.add_rule.new.made i xs h here before covered,
+    )
 
 pub returns : goal.returns
 returns c =

@@ -9,4 +9,5 @@ use Rattle.g4_recursion.proofs.clauses.bodies_of.Given as goal
 abbrev pub invariant-loop-number : goal.invariant-loop-number
 invariant-loop-number l =
     (later : List (Alternatives Lead)) × Grows (trees_of l.rules) (trees_of l.rules) later l.initial.made l.made ×
-    ((k : ℕ) (xs : Alternatives Lead) → k < l.number → slice_get (trees_of l.rules) k ≡ Some xs → IsCovered (trees_of l.rules) later l.made.clauses.items k xs)
+    ((k : ℕ) (xs : Alternatives Lead) → k < l.number → slice_get (trees_of l.rules) k ≡ Some xs
+    → IsCovered (trees_of l.rules) later l.made.clauses.items k xs)

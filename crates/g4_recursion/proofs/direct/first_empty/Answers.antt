@@ -11,19 +11,24 @@ pub returns-then-is_empty_after_call : goal.returns-then-is_empty_after_call
 returns-then-is_empty_after_call c =
     let xs = c.args.alternatives.now in
     let x = c.index-alternatives-place.result in
-    let here : slice_get xs c.loop-place.place ≡ Some x = slice_get_read xs (length xs) c.loop-place.place x refl c.loop-place-test.true c.index-alternatives-place.is in
-    λ rules told. least_found (IsEmptyAt rules c.args.number xs) c.loop-place.place (c.loop-place.invariant rules told) (x, here, (c.is_empty_after_call.ensures rules told).0 c.if-is_empty_after_call.true)
+    let here : slice_get xs c.loop-place.place ≡ Some x =
+    slice_get_read xs (length xs) c.loop-place.place x refl c.loop-place-test.true c.index-alternatives-place.is in
+    λ rules told. least_found (IsEmptyAt rules c.args.number xs) c.loop-place.place (c.loop-place.invariant rules told)
+    (x, here, (c.is_empty_after_call.ensures rules told).0 c.if-is_empty_after_call.true)
 
 pub loop-place-preserved : goal.loop-place-preserved
 loop-place-preserved c =
     let xs = c.args.alternatives.now in
     let x = c.index-alternatives-place.result in
-    let here : slice_get xs c.loop-place.place ≡ Some x = slice_get_read xs (length xs) c.loop-place.place x refl c.loop-place-test.true c.index-alternatives-place.is in
+    let here : slice_get xs c.loop-place.place ≡ Some x =
+    slice_get_read xs (length xs) c.loop-place.place x refl c.loop-place-test.true c.index-alternatives-place.is in
     λ rules told. one_passed (IsEmptyAt rules c.args.number xs) c.loop-place.place (c.loop-place.invariant rules told)
     (λ (elements, at, empty).
-    let yes = (c.is_empty_after_call.ensures rules told).1 (subst (λ (ys : Elements Lead). IsEmptyAfterCall rules c.args.number ys) (same_Some elements x (sym at ∙ here)) empty) in cc)
+    let yes = (c.is_empty_after_call.ensures rules told).1
+    (subst (λ (ys : Elements Lead). IsEmptyAfterCall rules c.args.number ys) (same_Some elements x (sym at ∙ here)) empty) in cc)
 
 pub returns : goal.returns
 returns c =
     let xs = c.args.alternatives.now in
-    λ rules told. all_passed (IsEmptyAt rules c.args.number xs) c.loop-place.place (length xs) c.loop-place-test.false (λ k (elements, at, empty). slice_get_within xs k elements at) (c.loop-place.invariant rules told)
+    λ rules told. all_passed (IsEmptyAt rules c.args.number xs) c.loop-place.place (length xs) c.loop-place-test.false
+    (λ k (elements, at, empty). slice_get_within xs k elements at) (c.loop-place.invariant rules told)

@@ -8,4 +8,5 @@ use Rattle.g4_recursion.proofs.Searching.{NoneBelow}
 use Rattle.g4_recursion.proofs.direct.first_empty.Given as goal
 
 abbrev pub invariant-loop-place : goal.invariant-loop-place
-invariant-loop-place l = (rules : List (Alternatives Lead)) → Tells l.nullable (IsNullableRule rules) → NoneBelow (IsEmptyAt rules l.number l.alternatives) l.place
+invariant-loop-place l = (rules : List (Alternatives Lead)) → Tells l.nullable (IsNullableRule rules)
+    → NoneBelow (IsEmptyAt rules l.number l.alternatives) l.place

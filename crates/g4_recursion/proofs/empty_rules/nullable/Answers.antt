@@ -14,13 +14,22 @@ pub consequences-requires : goal.consequences-requires
 consequences-requires c =
     let (bodies, are, covered) = c.in_ok-bodies.ensures in
     let heads : All (λ (k : Clause). k.head < c.in_ok-bodies.bodies.count) c.in_ok-bodies.bodies.clauses.items =
-    All-weaker (IsOfBody (trees_of c.args.rules.now) bodies) (λ (k : Clause). k.head < c.in_ok-bodies.bodies.count) (λ k b. omega (arith, slice_get_within bodies k.head b.body b.at, are.body_count)) c.in_ok-bodies.bodies.clauses.items are.of_bodies in
+    All-weaker (IsOfBody (trees_of c.args.rules.now) bodies) (λ (k : Clause). k.head < c.in_ok-bodies.bodies.count)
+    (λ k b. omega (arith, slice_get_within bodies k.head b.body b.at, are.body_count)) c.in_ok-bodies.bodies.clauses.items
+    are.of_bodies in
     subst (All (λ (k : Clause). k.head < c.in_ok-bodies.bodies.count)) (sym c.as_slice.ensures.value) heads
 
 pub returns-clause-count : goal.returns-clause-count
 returns-clause-count c =
     let (bodies, are, covered) = c.in_ok-bodies.ensures in
-    omega (arith, c.truncate.ensures.len, c.in_ok-answers.ensures.count, are.body_count, are.no_fewer, length-map c.args.rules.now alternatives_of)
+    omega (
+      arith,
+      c.truncate.ensures.len,
+      c.in_ok-answers.ensures.count,
+      are.body_count,
+      are.no_fewer,
+      length-map c.args.rules.now alternatives_of,
+    )
 
 pub returns-clause-nullable : goal.returns-clause-nullable
 returns-clause-nullable c =
@@ -28,6 +37,9 @@ returns-clause-nullable c =
     let clauses = c.in_ok-bodies.bodies.clauses.items in
     let (bodies, are, covered) = c.in_ok-bodies.ensures in
     let answers = c.in_ok-answers.answers.items in
-    let told : Tells answers (Follows clauses) = subst (λ (cs : List Clause). Tells answers (Follows cs)) c.as_slice.ensures.value c.in_ok-answers.ensures.follows in
-    let first : take (length rules) answers ≡ c.truncate.new.self.items = ap (λ (n : ℕ). take n answers) (length-map c.args.rules.now alternatives_of) ∙ sym c.truncate.ensures.items in
-    subst (λ (l : List Bool). Tells l (IsNullableRule rules)) first (rules_told rules clauses answers (rule_follows rules bodies clauses are.rules_first are.of_bodies covered) told)
+    let told : Tells answers (Follows clauses) =
+    subst (λ (cs : List Clause). Tells answers (Follows cs)) c.as_slice.ensures.value c.in_ok-answers.ensures.follows in
+    let first : take (length rules) answers ≡ c.truncate.new.self.items =
+    ap (λ (n : ℕ). take n answers) (length-map c.args.rules.now alternatives_of) ∙ sym c.truncate.ensures.items in
+    subst (λ (l : List Bool). Tells l (IsNullableRule rules)) first
+    (rules_told rules clauses answers (rule_follows rules bodies clauses are.rules_first are.of_bodies covered) told)

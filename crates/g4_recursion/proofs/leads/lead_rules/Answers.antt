@@ -11,9 +11,13 @@ use Rattle.g4_recursion.proofs.leads.lead_rules.Goals as goal
 
 pub returns-clause-leads : goal.returns-clause-leads
 returns-clause-leads c =
-    all_leads c.args.rules.now c.in_ok-numbers.numbers (map (λ (lead : LeadRule). lead.alternatives) c.loop-rule.all.items) c.in_ok-numbers.ensures.numbers
-    (c.loop-rule.invariant.0 ∙ ap (map (λ (view : RuleView). leads_by (number_in c.in_ok-numbers.numbers) (rule_view view))) (take_all c.loop-rule.rule-index c.args.rules.now c.loop-rule-test.false))
+    all_leads c.args.rules.now c.in_ok-numbers.numbers (map (λ (lead : LeadRule). lead.alternatives) c.loop-rule.all.items)
+    c.in_ok-numbers.ensures.numbers
+    (c.loop-rule.invariant.0 ∙ ap (map (λ (view : RuleView). leads_by (number_in c.in_ok-numbers.numbers) (rule_view view)))
+    (take_all c.loop-rule.rule-index c.args.rules.now c.loop-rule-test.false))
 
 pub returns-clause-operators : goal.returns-clause-operators
 returns-clause-operators c =
-    c.loop-rule.invariant.1 ∙ (ap (map (λ (view : RuleView). may_have_operators (rule_view view))) (take_all c.loop-rule.rule-index c.args.rules.now c.loop-rule-test.false) ∙ sym (map-map may_have_operators rule_view c.args.rules.now))
+    c.loop-rule.invariant.1 ∙ (ap (map (λ (view : RuleView). may_have_operators (rule_view view)))
+    (take_all c.loop-rule.rule-index c.args.rules.now c.loop-rule-test.false)
+    ∙ sym (map-map may_have_operators rule_view c.args.rules.now))

@@ -7,5 +7,6 @@ use Rattle.g4_recursion.proofs.leads.lead_rules.Given as goal
 
 abbrev pub invariant-loop-rule : goal.invariant-loop-rule
 invariant-loop-rule l =
-    (map (λ lead. lead.alternatives) l.all.items ≡ map (λ rule. leads_by (number_in l.numbers) (rule_view rule)) (take l.rule-index l.rules)) ×
+    (map (λ lead. lead.alternatives) l.all.items
+    ≡ map (λ rule. leads_by (number_in l.numbers) (rule_view rule)) (take l.rule-index l.rules)) ×
     (operators_of l.all.items ≡ map (λ rule. may_have_operators (rule_view rule)) (take l.rule-index l.rules))

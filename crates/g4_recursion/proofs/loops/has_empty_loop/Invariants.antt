@@ -7,4 +7,5 @@ use Rattle.g4_recursion.proofs.Looping.{NoneBefore}
 use Rattle.g4_recursion.proofs.loops.has_empty_loop.Given as goal
 
 abbrev pub invariant-loop-elements : goal.invariant-loop-elements
-invariant-loop-elements l = (rules : List (Alternatives Lead)) → Tells l.nullable (IsNullableRule rules) → NoneBefore rules l.elements-items l.elements-index
+invariant-loop-elements l = (rules : List (Alternatives Lead)) → Tells l.nullable (IsNullableRule rules)
+    → NoneBefore rules l.elements-items l.elements-index

@@ -10,4 +10,5 @@ returns-in-None-clause-place c =
     let names : List (List ℕ) = c.args.stage.now.given.now.names in
     let name : List ℕ = c.args.name.now in
     let none : None ≡ first_place names name = sym c.in-None.is ∙ (c.place_of.ensures ∙ c.args.stage.now.named name) in
-    c.len.ensures ∙ (ap (λ (o : Option ℕ). unwrap_or o (length names)) none ∙ unwrap_or-position (λ (other : List ℕ). bytes_eq other name) names)
+    c.len.ensures ∙ (ap (λ (o : Option ℕ). unwrap_or o (length names)) none
+    ∙ unwrap_or-position (λ (other : List ℕ). bytes_eq other name) names)

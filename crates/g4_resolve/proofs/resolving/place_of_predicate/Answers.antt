@@ -9,6 +9,9 @@ use Rattle.g4_resolve.proofs.resolving.place_of_predicate.Goals as goal
 
 pub returns-clause-place : goal.returns-clause-place
 returns-clause-place c =
-    let is : c.position-found.result ≡ position (λ (other : Place). (other.line == c.args.place.line) && (other.column == c.args.place.column)) c.args.predicates.now =
-    position_from_yields_List (λ (other : Place). (other.line == c.args.place.line) && (other.column == c.args.place.column)) _ _ _ c.position-found.ensures.ran (YieldsList-from_slice c.args.predicates.now cc) (λ x b q k. search (rules, tests)) in
-    c.unwrap_or.ensures ∙ (ap (λ (o : Option ℕ). unwrap_or o (length c.args.predicates.now)) is ∙ unwrap_or-position _ c.args.predicates.now)
+    let is : c.position-found.result ≡ position
+    (λ (other : Place). (other.line == c.args.place.line) && (other.column == c.args.place.column)) c.args.predicates.now =
+    position_from_yields_List (λ (other : Place). (other.line == c.args.place.line) && (other.column == c.args.place.column)) _ _ _
+    c.position-found.ensures.ran (YieldsList-from_slice c.args.predicates.now cc) (λ x b q k. search (rules, tests)) in
+    c.unwrap_or.ensures ∙ (ap (λ (o : Option ℕ). unwrap_or o (length c.args.predicates.now)) is
+    ∙ unwrap_or-position _ c.args.predicates.now)

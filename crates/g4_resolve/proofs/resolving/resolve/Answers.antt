@@ -8,4 +8,6 @@ pub returns-clause-rewritten : goal.returns-clause-rewritten
 returns-clause-rewritten c = λ named full ends untested defined can.
     let predicates = c.args.stage.now.predicates in
     let rules = c.args.rules.items in
-    subst (λ (made : List StepRule). CanBeRewritten made) (sym (c.in_ok-made.ensures ∙ ap (λ (names : List (List ℕ)). map (resolved_rule names predicates) rules) named)) (can_be_rewritten predicates rules full ends untested defined can)
+    subst (λ (made : List StepRule). CanBeRewritten made)
+    (sym (c.in_ok-made.ensures ∙ ap (λ (names : List (List ℕ)). map (resolved_rule names predicates) rules) named))
+    (can_be_rewritten predicates rules full ends untested defined can)

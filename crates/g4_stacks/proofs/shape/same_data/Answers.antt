@@ -13,5 +13,6 @@ returns c =
     let view' : right ≡ c.args.right.now = search rules in
     let ends : left.end ≡ right.end = search rules in
     let wilds : left.wild ≡ right.wild = search rules in
-    let tops : Decides c.eq.result (left.tops ≡ right.tops) = slice_eq-Decides pairs_Decides left.tops right.tops c.eq.result c.eq.ensures in
+    let tops : Decides c.eq.result (left.tops ≡ right.tops) =
+    slice_eq-Decides pairs_Decides left.tops right.tops c.eq.result c.eq.ensures in
     same_by_tops left right c.args.left.now c.args.right.now view view' ends wilds c.eq.result tops

@@ -6,4 +6,5 @@ use Rattle.g4_states.proofs.count.past_rules.Given as goal
 abbrev pub invariant-loop-rule : goal.invariant-loop-rule
 invariant-loop-rule g l =
     l.left + sum_by (λ rule. states_of_rule_by g.A.Atomic.states (tree_of_rule g.B.Body.tree g.R.LaidRule.bodies rule)) l.rules ≡
-    l.spare + sum_by (λ rule. states_of_rule_by g.A.Atomic.states (tree_of_rule g.B.Body.tree g.R.LaidRule.bodies rule)) (drop l.rule-index l.rules)
+    l.spare + sum_by (λ rule. states_of_rule_by g.A.Atomic.states (tree_of_rule g.B.Body.tree g.R.LaidRule.bodies rule))
+    (drop l.rule-index l.rules)

@@ -18,27 +18,38 @@ lay_element-lay_step-requires-clause-room g t c =
 
 pub lay_element-lay_block-requires : goal.lay_element-lay_block-requires
 lay_element-lay_block-requires g t c =
-    let e = tree_block g.A.Atom.step c.args.element.now c.in-Block.field-0 c.in-Block.repeat c.in-Block.alternatives c.as_slice.result.now c.in-Block.is c.as_slice.ensures.value in
+    let e = tree_block g.A.Atom.step c.args.element.now c.in-Block.field-0 c.in-Block.repeat c.in-Block.alternatives
+    c.as_slice.result.now c.in-Block.is c.as_slice.ensures.value in
     let full = rw e at c.requires.full in
-    let count = ap states_of e ∙ count_block one_state c.in-Block.field-0 c.in-Block.repeat (sides_of g.A.Atom.step c.as_slice.result.now) in
-    λ _ h. (omega (arith, c.decreases, ap weight e), (h.0, (h.1, (full.0, (full.1, (c.requires.from, omega (arith, count, c.requires.room)))))))
+    let count = ap states_of e ∙ count_block one_state c.in-Block.field-0 c.in-Block.repeat
+    (sides_of g.A.Atom.step c.as_slice.result.now) in
+    λ _ h. (
+      omega (arith, c.decreases, ap weight e),
+      (h.0, (h.1, (full.0, (full.1, (c.requires.from, omega (arith, count, c.requires.room)))))),
+    )
 
 pub lay_element-returns-in_ok-next-in-Atom : goal.lay_element-returns-in_ok-next-in-Atom
 lay_element-returns-in_ok-next-in-Atom g t c =
     let e = tree_atom g.A.Atom.step c.args.element.now c.in-Atom.atom c.in-Atom.is in
-    rw (e, ← c.in_ok-step-in-Atom.ensures) (step_laid _ _ _ _ _ c.requires.from c.in_ok-next-in-Atom.ensures.0 c.in_ok-next-in-Atom.ensures.1)
+    rw (e, ← c.in_ok-step-in-Atom.ensures) (step_laid _ _ _ _ _ c.requires.from c.in_ok-next-in-Atom.ensures.0
+    c.in_ok-next-in-Atom.ensures.1)
 
 pub lay_element-returns-in_ok-last-in-Block : goal.lay_element-returns-in_ok-last-in-Block
 lay_element-returns-in_ok-last-in-Block g t c =
-    let e = tree_block g.A.Atom.step c.args.element.now c.in-Block.field-0 c.in-Block.repeat c.in-Block.alternatives c.as_slice.result.now c.in-Block.is c.as_slice.ensures.value in
+    let e = tree_block g.A.Atom.step c.args.element.now c.in-Block.field-0 c.in-Block.repeat c.in-Block.alternatives
+    c.as_slice.result.now c.in-Block.is c.as_slice.ensures.value in
     rw e (c.in_ok-last-in-Block.ensures c.in-Block.field-0)
 
 pub lay_block-lay_once-requires : goal.lay_block-lay_once-requires
-lay_block-lay_once-requires g t c = λ _ h. (omega (arith, c.decreases), (h.0, (h.1, (c.requires.some, (c.requires.full, (c.requires.from, rw c.in-Once.is at c.requires.room))))))
+lay_block-lay_once-requires g t c = λ _ h. (
+  omega (arith, c.decreases),
+  (h.0, (h.1, (c.requires.some, (c.requires.full, (c.requires.from, rw c.in-Once.is at c.requires.room))))),
+)
 
 pub lay_block-lay_apart-requires : goal.lay_block-lay_apart-requires
 lay_block-lay_apart-requires g t c =
-    let apart = apart_with_sign c.args.repeat (length c.args.alternatives.now) c.in_default.not-Once (some_of (side_of g.A.Atom.step) c.args.alternatives.now c.requires.some) in
+    let apart = apart_with_sign c.args.repeat (length c.args.alternatives.now) c.in_default.not-Once
+    (some_of (side_of g.A.Atom.step) c.args.alternatives.now c.requires.some) in
     λ _ h. (omega (arith, c.decreases), (h.0, (h.1, (apart, (c.requires.full, (c.requires.from, c.requires.room))))))
 
 pub lay_block-returns-in-Once : goal.lay_block-returns-in-Once
@@ -47,10 +58,21 @@ lay_block-returns-in-Once g t c = rw c.in-Once.is c.lay_once.ensures
 pub lay_once-lay_run-requires : goal.lay_once-lay_run-requires
 lay_once-lay_run-requires g t c =
     let run = side_run g.A.Atom.step c.one-item.result c.as_slice.result.now c.as_slice.ensures.value in
-    let e = lone_of (side_of g.A.Atom.step) c.args.alternatives.now c.one-item.result _ c.in-len1.len_at_least c.in-len1.len_below c.one-item.is run in
-    let count = count_lone one_state (side_of g.A.Atom.step) c.args.alternatives.now c.one-item.result _ c.in-len1.len_at_least c.in-len1.len_below c.one-item.is run in
+    let e = lone_of (side_of g.A.Atom.step) c.args.alternatives.now c.one-item.result _ c.in-len1.len_at_least c.in-len1.len_below
+    c.one-item.is run in
+    let count = count_lone one_state (side_of g.A.Atom.step) c.args.alternatives.now c.one-item.result _ c.in-len1.len_at_least
+    c.in-len1.len_below c.one-item.is run in
     let w = ap weight_of_sides e in
-    λ _ h. (omega (arith, c.decreases), (h.0, (h.1, ((rw e at c.requires.full).0, (c.requires.from, omega (arith, count, c.requires.room))))))
+    λ _ h. (
+      omega (arith, c.decreases),
+      (
+        h.0,
+        (
+          h.1,
+          ((rw e at c.requires.full).0, (c.requires.from, omega (arith, count, c.requires.room))),
+        ),
+      ),
+    )
 
 pub lay_once-lay_apart-requires : goal.lay_once-lay_apart-requires
 lay_once-lay_apart-requires g t c =
@@ -60,7 +82,8 @@ lay_once-lay_apart-requires g t c =
 pub lay_once-returns-in_ok-last-in-len1 : goal.lay_once-returns-in_ok-last-in-len1
 lay_once-returns-in_ok-last-in-len1 g t c =
     let run = side_run g.A.Atom.step c.one-item.result c.as_slice.result.now c.as_slice.ensures.value in
-    let e = lone_of (side_of g.A.Atom.step) c.args.alternatives.now c.one-item.result _ c.in-len1.len_at_least c.in-len1.len_below c.one-item.is run in
+    let e = lone_of (side_of g.A.Atom.step) c.args.alternatives.now c.one-item.result _ c.in-len1.len_at_least c.in-len1.len_below
+    c.one-item.is run in
     rw e (lone_laid _ _ _ _ _ c.in_ok-last-in-len1.ensures)
 
 pub lay_apart-lay_sides-requires : goal.lay_apart-lay_sides-requires
@@ -76,11 +99,13 @@ lay_apart-close-requires-clause-room g t c =
 pub lay_apart-returns : goal.lay_apart-returns
 lay_apart-returns g t c =
     let count = count_apart one_state (side_of g.A.Atom.step) c.args.alternatives.now c.args.repeat c.requires.apart in
-    block_laid _ _ _ _ _ _ _ _ _ c.requires.from c.in_ok-bodies.ensures.laid (rw c.in_ok-bodies.ensures.many c.requires.apart) count c.in_ok-last.ensures.last c.in_ok-last.ensures.states
+    block_laid _ _ _ _ _ _ _ _ _ c.requires.from c.in_ok-bodies.ensures.laid (rw c.in_ok-bodies.ensures.many c.requires.apart) count
+    c.in_ok-last.ensures.last c.in_ok-last.ensures.states
 
 pub lay_run-lay_element-requires : goal.lay_run-lay_element-requires
 lay_run-lay_element-requires g t c =
-    let e = next_item (tree_of g.A.Atom.step) c.args.elements.now c.loop-element.element-index c.element-item.result c.loop-element-test.true c.element-item.is in
+    let e = next_item (tree_of g.A.Atom.step) c.args.elements.now c.loop-element.element-index c.element-item.result
+    c.loop-element-test.true c.element-item.is in
     let full = rw e at c.loop-element.invariant.full in
     let size = c.loop-element.invariant.laid.size in
     let within = c.loop-element.invariant.laid.within in
@@ -91,7 +116,8 @@ lay_run-lay_element-requires g t c =
 
 pub lay_run-loop-element-preserved : goal.lay_run-loop-element-preserved
 lay_run-loop-element-preserved g t c =
-    let e = next_item (tree_of g.A.Atom.step) c.args.elements.now c.loop-element.element-index c.element-item.result c.loop-element-test.true c.element-item.is in
+    let e = next_item (tree_of g.A.Atom.step) c.args.elements.now c.loop-element.element-index c.element-item.result
+    c.loop-element-test.true c.element-item.is in
     record {
       full = (rw e at c.loop-element.invariant.full).1;
       laid = more_laid _ _ _ _ _ _ _ _ _ c.requires.from (rw e at c.loop-element.invariant.laid) c.in_ok-last.ensures;
@@ -110,23 +136,36 @@ lay_sides-overflow_cast-first g t c =
 pub lay_sides-lay_run-requires : goal.lay_sides-lay_run-requires
 lay_sides-lay_run-requires g t c =
     let run = side_run g.A.Atom.step c.alternative-item.result c.as_slice.result.now c.as_slice.ensures.value in
-    let e = next_of (side_of g.A.Atom.step) c.args.alternatives.now c.loop-alternative.alternative-index c.alternative-item.result _ c.loop-alternative-test.true c.alternative-item.is run in
+    let e = next_of (side_of g.A.Atom.step) c.args.alternatives.now c.loop-alternative.alternative-index c.alternative-item.result _
+    c.loop-alternative-test.true c.alternative-item.is run in
     let full = rw e at c.loop-alternative.invariant.full in
     let size = c.loop-alternative.invariant.laid.size in
     let count = ap states_of_bodies e in
     let w = sides_drop (side_of g.A.Atom.step) c.args.alternatives.now c.loop-alternative.alternative-index in
     let v = ap weight_of_sides e in
     let pushed = length_pushed _ _ _ c.in_ok-push.ensures.items in
-    λ _ h. (omega (arith, c.decreases), (h.0, (h.1, (full.0, (omega (arith, pushed, c.len-first.ensures, c.loop-alternative.states.ok.0), omega (arith, c.requires.room, pushed))))))
+    λ _ h. (
+      omega (arith, c.decreases),
+      (
+        h.0,
+        (
+          h.1,
+          (full.0, (omega (arith, pushed, c.len-first.ensures, c.loop-alternative.states.ok.0), omega (arith, c.requires.room, pushed))),
+        ),
+      ),
+    )
 
 pub lay_sides-loop-alternative-preserved : goal.lay_sides-loop-alternative-preserved
 lay_sides-loop-alternative-preserved g t c =
     let run = side_run g.A.Atom.step c.alternative-item.result c.as_slice.result.now c.as_slice.ensures.value in
-    let e = next_of (side_of g.A.Atom.step) c.args.alternatives.now c.loop-alternative.alternative-index c.alternative-item.result _ c.loop-alternative-test.true c.alternative-item.is run in
+    let e = next_of (side_of g.A.Atom.step) c.args.alternatives.now c.loop-alternative.alternative-index c.alternative-item.result _
+    c.loop-alternative-test.true c.alternative-item.is run in
     record {
       full = (rw e at c.loop-alternative.invariant.full).1;
       many = omega (arith, length_pushed _ _ _ c.in_ok-push-2.ensures.items, c.loop-alternative.invariant.many);
-      laid = more_sides_at _ _ _ _ _ _ _ _ _ _ _ _ _ c.in_ok-push.ensures.items (omega (arith, c.len-first.ensures, c.loop-alternative.states.ok.0)) c.in_ok-push-2.ensures.items c.in_ok-push-3.ensures.items (rw e at c.loop-alternative.invariant.laid) c.in_ok-last.ensures;
+      laid = more_sides_at _ _ _ _ _ _ _ _ _ _ _ _ _ c.in_ok-push.ensures.items
+          (omega (arith, c.len-first.ensures, c.loop-alternative.states.ok.0)) c.in_ok-push-2.ensures.items
+          c.in_ok-push-3.ensures.items (rw e at c.loop-alternative.invariant.laid) c.in_ok-last.ensures;
     }
 
 pub lay_sides-returns-clause-laid : goal.lay_sides-returns-clause-laid

@@ -8,14 +8,16 @@ use Rattle.g4_states.proofs.draft.+lay.Given as goal
 abbrev pub invariant-lay_run-loop-element : goal.invariant-lay_run-loop-element
 invariant-lay_run-loop-element g l = record {
   full : AreFull (run_of g.A.Atom.step (drop l.element-index l.elements));
-  laid : HasLaid l.initial.states.items l.states.items l.from l.last (run_of g.A.Atom.step l.elements) (run_of g.A.Atom.step (drop l.element-index l.elements));
+  laid : HasLaid l.initial.states.items l.states.items l.from l.last (run_of g.A.Atom.step l.elements)
+      (run_of g.A.Atom.step (drop l.element-index l.elements));
 }
 
 abbrev pub invariant-lay_sides-loop-alternative : goal.invariant-lay_sides-loop-alternative
 invariant-lay_sides-loop-alternative g l = record {
   full : EachIsFull (sides_of g.A.Atom.step (drop l.alternative-index l.alternatives));
   many : length l.firsts.items ≡ l.alternative-index;
-  laid : HasSides l.initial.states.items l.states.items l.firsts.items l.lasts.items (sides_of g.A.Atom.step l.alternatives) (sides_of g.A.Atom.step (drop l.alternative-index l.alternatives));
+  laid : HasSides l.initial.states.items l.states.items l.firsts.items l.lasts.items (sides_of g.A.Atom.step l.alternatives)
+      (sides_of g.A.Atom.step (drop l.alternative-index l.alternatives));
 }
 
 abbrev pub decreases-lay_element : goal.decreases-lay_element

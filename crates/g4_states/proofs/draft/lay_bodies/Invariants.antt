@@ -8,5 +8,7 @@ abbrev pub invariant-loop-alternative : goal.invariant-loop-alternative
 invariant-loop-alternative g l = record {
   full : EachIsFull (bodies_over g.A.Atom.step g.B.Body.tree (drop l.alternative-index l.alternatives));
   many : length l.firsts.items ≡ l.alternative-index;
-  laid : HasSides l.initial.states.items l.states.items l.firsts.items l.lasts.items (bodies_over g.A.Atom.step g.B.Body.tree l.alternatives) (bodies_over g.A.Atom.step g.B.Body.tree (drop l.alternative-index l.alternatives));
+  laid : HasSides l.initial.states.items l.states.items l.firsts.items l.lasts.items
+      (bodies_over g.A.Atom.step g.B.Body.tree l.alternatives)
+      (bodies_over g.A.Atom.step g.B.Body.tree (drop l.alternative-index l.alternatives));
 }

@@ -18,4 +18,5 @@ lay_run-requires-clause-room g c =
 pub returns : goal.returns
 returns g c =
     let e = body_run g.A.Atom.step (g.B.Body.tree c.args.alternative.now) c.elements.result.now c.elements.ensures in
-    rw (← e) (lone_rule _ c.lay_run.new.states.items _ _ _ (run_of g.A.Atom.step c.elements.result.now) c.requires.rule c.in_ok-last.ensures refl)
+    rw (← e) (lone_rule _ c.lay_run.new.states.items _ _ _ (run_of g.A.Atom.step c.elements.result.now) c.requires.rule
+    c.in_ok-last.ensures refl)

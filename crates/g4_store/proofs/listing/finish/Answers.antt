@@ -14,9 +14,12 @@ returns-clause-closes g c =
     let idle = c.requires.idle in
     let v = c.args.guest.me.0 in
     let is : c.bench.inside.seat.me.0 ≡ hosting c.args.bench v = c.bench.view_is ∙ c.host.ensures in
-    subst (λ rows. Closes g.A.Automaton.starts g.A.Automaton.leads g.B.Home.plan v c.words_of-words.result.items rows) (sym c.into_contents.ensures)
-    (subst (λ (ws : List ℕ). Closes g.A.Automaton.starts g.A.Automaton.leads g.B.Home.plan v ws c.bench.inside.rows.0) (f.2 ∙ sym c.words_of-words.ensures)
-    (closes g.A.Automaton.starts g.A.Automaton.leads g.B.Home.plan f.0.words f.0.views c.bench.inside.seat.id c.bench.inside.seat.me.0 v c.bench.inside.rows.0
+    subst (λ rows. Closes g.A.Automaton.starts g.A.Automaton.leads g.B.Home.plan v c.words_of-words.result.items rows)
+    (sym c.into_contents.ensures)
+    (subst (λ (ws : List ℕ). Closes g.A.Automaton.starts g.A.Automaton.leads g.B.Home.plan v ws c.bench.inside.rows.0)
+    (f.2 ∙ sym c.words_of-words.ensures)
+    (closes g.A.Automaton.starts g.A.Automaton.leads g.B.Home.plan f.0.words f.0.views c.bench.inside.seat.id c.bench.inside.seat.me.0
+    v c.bench.inside.rows.0
     (subst (λ (q : _). Kept g.A.Automaton.starts g.A.Automaton.leads q f.0.words f.0.views) (b.1 ∙ b.2) f.1.0)
     f.1.1 (ap (λ (u : View _). u.spent) p.2) (ap (λ (u : View _). u.is_book) p.2)
     (ap (λ (u : View _). u.loose) is ∙ ap (λ (u : View _). u.loose) idle)

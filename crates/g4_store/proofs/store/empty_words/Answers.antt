@@ -8,4 +8,5 @@ use Rattle.g4_store.proofs.store.empty_words.Goals as goal
 pub of_words-requires : goal.of_words-requires
 of_words-requires g c =
     let is = c.as_slice.ensures.value ∙ c.in_ok-words.ensures.items_if_clones_equal (λ y e. e) in
-    begins g.A.Automaton.starts g.A.Automaton.leads c.args.plan.now _ (ap length is ∙ length-replicate _ _) c.requires.1 (λ i. ap (λ (l : List ℕ). get_or l i 0) is ∙ all_zero (size_of c.args.plan.now) i)
+    begins g.A.Automaton.starts g.A.Automaton.leads c.args.plan.now _ (ap length is ∙ length-replicate _ _) c.requires.1
+    (λ i. ap (λ (l : List ℕ). get_or l i 0) is ∙ all_zero (size_of c.args.plan.now) i)

@@ -12,13 +12,17 @@ loop-input-preserved g c =
     let k = c.loop-input.file in
     let done = c.loop-input.yielded in
     let more = c.in_ok-pushed.ensures in
-    let turn = YieldsList-turn (YieldsList-from_vec {s = c.into_iter-input-iterator.result} c.args.inputs.items (search rules) (search rules))
-    done c.loop-input.input-iterator c.loop-input.yielded_by c.next.result c.next.new.self c.in-Some.input c.in-Some.is c.next.ensures.steps in
+    let turn = YieldsList-turn (YieldsList-from_vec {s = c.into_iter-input-iterator.result} c.args.inputs.items (search rules)
+    (search rules))
+    done c.loop-input.input-iterator c.loop-input.yielded_by c.next.result c.next.new.self c.in-Some.input c.in-Some.is
+    c.next.ensures.steps in
     let within : k < length names = omega (arith, turn.0, c.requires.paired, c.loop-input.invariant.0) in (
       omega (arith, c.loop-input.invariant.0, length-append {A = Input}),
       one_more_accepted _ _ k more.outcome c.loop-input.invariant.1 more.accepted,
-      subst (λ (ns : List (List ℕ)). AreParsed c.args.output c.args.interpreter.now ns (done ++ c.in-Some.input ∷ []) c.push_file-pushed.new.parsed)
+      subst (λ (ns : List (List ℕ)). AreParsed c.args.output c.args.interpreter.now ns (done ++ c.in-Some.input ∷ [])
+          c.push_file-pushed.new.parsed)
           (sym (names_then names k c.index-names-file.result c.as_str-name.result.now within c.index-names-file.is c.as_str-name.ensures))
-          (one_more_file c.args.output c.args.interpreter.now (take k names) done c.as_str-name.result.now c.in-Some.input _ c.push_file-pushed.new.parsed
+          (one_more_file c.args.output c.args.interpreter.now (take k names) done c.as_str-name.result.now c.in-Some.input _
+          c.push_file-pushed.new.parsed
           (taken_names names k (length done) within c.loop-input.invariant.0) c.loop-input.invariant.2 more),
     )

@@ -10,5 +10,8 @@ pub returns : goal.returns
 returns c =
     let t = c.requires.0 in
     let events : events_of t ≡ tree_events c.args.tree.now = sym (events_of_items t) ∙ ap tree_events (sym c.requires.1) in
-    ap ToOut (c.new.ensures ∙ c.in_ok-print_events.ensures t c.requires.1 ∙ ap (λ (xs : List ℕ). xs ++ event_lines c.as_slice-rules.result.now c.args.tokens.now c.args.name.now (events_of t)) c.new-lines.ensures.items
-    ∙ ap (λ (rs : List StepRule). event_lines rs c.args.tokens.now c.args.name.now (events_of t)) c.as_slice-rules.ensures ∙ ap (λ (es : List Event). event_lines c.args.interpreter.now.rules c.args.tokens.now c.args.name.now es) events)
+    ap ToOut (c.new.ensures ∙ c.in_ok-print_events.ensures t c.requires.1
+    ∙ ap (λ (xs : List ℕ). xs ++ event_lines c.as_slice-rules.result.now c.args.tokens.now c.args.name.now (events_of t))
+    c.new-lines.ensures.items
+    ∙ ap (λ (rs : List StepRule). event_lines rs c.args.tokens.now c.args.name.now (events_of t)) c.as_slice-rules.ensures
+    ∙ ap (λ (es : List Event). event_lines c.args.interpreter.now.rules c.args.tokens.now c.args.name.now es) events)

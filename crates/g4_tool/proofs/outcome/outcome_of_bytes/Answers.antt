@@ -17,13 +17,15 @@ pub returns-in-Ok-parse-clause-outcome : goal.returns-in-Ok-parse-clause-outcome
 returns-in-Ok-parse-clause-outcome c =
     parsed c.args.bytes c.in-Ok.tokens c.in-Ok-parse.tree refl
     c.in-Ok.ensures.lexing
-    (subst (λ (ts : List Token). IsParse c.args.interpreter.now.net (word_of ts) (Ok c.in-Ok-parse.tree)) c.as_slice.ensures c.in-Ok-parse.ensures.parse)
+    (subst (λ (ts : List Token). IsParse c.args.interpreter.now.net (word_of ts) (Ok c.in-Ok-parse.tree)) c.as_slice.ensures
+    c.in-Ok-parse.ensures.parse)
 
 pub returns-else-parsing_refused-clause-outcome : goal.returns-else-parsing_refused-clause-outcome
 returns-else-parsing_refused-clause-outcome c =
     not_parsed c.args.bytes c.in-Ok.tokens c.in-Err-parse.fault refl
     c.in-Ok.ensures.lexing
-    (subst (λ (ts : List Token). IsParse c.args.interpreter.now.net (word_of ts) (Err c.in-Err-parse.fault)) c.as_slice.ensures c.in-Err-parse.ensures.parse)
+    (subst (λ (ts : List Token). IsParse c.args.interpreter.now.net (word_of ts) (Err c.in-Err-parse.fault)) c.as_slice.ensures
+    c.in-Err-parse.ensures.parse)
     (parsed_apart _ (sym c.parsing_refused.ensures ∙ c.if-parsing_refused.false))
 
 pub returns-in-Ok-parse-clause-nested : goal.returns-in-Ok-parse-clause-nested
@@ -31,8 +33,10 @@ returns-in-Ok-parse-clause-nested c = (c.in-Ok-parse.ensures.parse.0, c.in-Ok-pa
 
 pub returns-in-Ok-parse-clause-meant : goal.returns-in-Ok-parse-clause-meant
 returns-in-Ok-parse-clause-meant c =
-    tree_meant c.args.interpreter.now c.requires.usable c.in-Ok.tokens c.as_slice.result.now c.as_slice.ensures c.in-Ok-parse.tree c.in-Ok-parse.ensures.accepts c.in-Ok-parse.ensures.tree c.in-Ok-parse.ensures.whole
+    tree_meant c.args.interpreter.now c.requires.usable c.in-Ok.tokens c.as_slice.result.now c.as_slice.ensures c.in-Ok-parse.tree
+    c.in-Ok-parse.ensures.accepts c.in-Ok-parse.ensures.tree c.in-Ok-parse.ensures.whole
 
 pub returns-else-parsing_refused-clause-meant : goal.returns-else-parsing_refused-clause-meant
 returns-else-parsing_refused-clause-meant c =
-    fault_meant c.args.interpreter.now c.requires.usable c.in-Ok.tokens c.as_slice.result.now c.as_slice.ensures c.in-Err-parse.fault c.in-Err-parse.ensures.accepts
+    fault_meant c.args.interpreter.now c.requires.usable c.in-Ok.tokens c.as_slice.result.now c.as_slice.ensures c.in-Err-parse.fault
+    c.in-Err-parse.ensures.accepts

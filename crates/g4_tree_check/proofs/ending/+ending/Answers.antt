@@ -9,7 +9,8 @@ use Rattle.g4_tree_check.proofs.ending.+ending.Goals as goal
 
 pub end_of_element-returns-in-Atom-clause-reached : goal.end_of_element-returns-in-Atom-clause-reached
 end_of_element-returns-in-Atom-clause-reached t c =
-    c.end_of_atom.ensures.reached ∙ ap (λ (x : Element _). ends is_quiet c.args.before x c.args.marks.now) (atom_tree c.args.element.now c.in-Atom.step c.in-Atom.is)
+    c.end_of_atom.ensures.reached ∙ ap (λ (x : Element _). ends is_quiet c.args.before x c.args.marks.now)
+    (atom_tree c.args.element.now c.in-Atom.step c.in-Atom.is)
 
 pub end_of_element-returns-in-Atom-clause-marks : goal.end_of_element-returns-in-Atom-clause-marks
 end_of_element-returns-in-Atom-clause-marks t c =
@@ -17,12 +18,15 @@ end_of_element-returns-in-Atom-clause-marks t c =
 
 pub end_of_element-returns-in-Block-clause-reached : goal.end_of_element-returns-in-Block-clause-reached
 end_of_element-returns-in-Block-clause-reached t c =
-    let tree = block_tree c.args.element.now c.in-Block.field-0 c.in-Block.repeat c.in-Block.alternatives c.as_slice.result.now c.in-Block.is c.as_slice.ensures.value in
-    c.block_ends.ensures ∙ ap (block_ends c.in-Block.repeat c.args.before) c.end_of_either-body.ensures.reached ∙ ap (λ (x : Element _). ends is_quiet c.args.before x c.args.marks.now) tree
+    let tree = block_tree c.args.element.now c.in-Block.field-0 c.in-Block.repeat c.in-Block.alternatives c.as_slice.result.now
+    c.in-Block.is c.as_slice.ensures.value in
+    c.block_ends.ensures ∙ ap (block_ends c.in-Block.repeat c.args.before) c.end_of_either-body.ensures.reached
+    ∙ ap (λ (x : Element _). ends is_quiet c.args.before x c.args.marks.now) tree
 
 pub end_of_element-returns-in-Block-clause-marks : goal.end_of_element-returns-in-Block-clause-marks
 end_of_element-returns-in-Block-clause-marks t c =
-    let tree = block_tree c.args.element.now c.in-Block.field-0 c.in-Block.repeat c.in-Block.alternatives c.as_slice.result.now c.in-Block.is c.as_slice.ensures.value in
+    let tree = block_tree c.args.element.now c.in-Block.field-0 c.in-Block.repeat c.in-Block.alternatives c.as_slice.result.now
+    c.in-Block.is c.as_slice.ensures.value in
     c.end_of_either-body.ensures.marks ∙ ap (λ (x : Element _). past x c.args.marks.now) tree
 
 pub end_of_either-loop-alternative-preserved : goal.end_of_either-loop-alternative-preserved
@@ -31,12 +35,17 @@ end_of_either-loop-alternative-preserved t c =
     let i = c.loop-alternative.alternative-index in
     let rest = c.loop-alternative.rest.now in
     let x = in_order (map element_of c.as_slice.result.now) in
-    let more = sides_more all i c.alternative-item.result c.as_slice.result.now (omega arith) c.alternative-item.is c.as_slice.ensures.value in
+    let more = sides_more all i c.alternative-item.result c.as_slice.result.now (omega arith) c.alternative-item.is
+    c.as_slice.ensures.value in
     let end = c.end_of_elements-end.ensures in (
-      ap (λ b. b || ends_either is_quiet c.args.before (sides_from all (i + 1)) c.end_of_elements-end.result.marks.now) (c.either_of-reached.ensures ∙ ap (λ b. c.loop-alternative.reached || b) end.reached)
-          ∙ ap (λ (marks : List _). (c.loop-alternative.reached || ends_all is_quiet c.args.before x rest) || ends_either is_quiet c.args.before (sides_from all (i + 1)) marks) end.marks
-          ∙ or-assoc c.loop-alternative.reached (ends_all is_quiet c.args.before x rest) (ends_either is_quiet c.args.before (sides_from all (i + 1)) (past_all x rest))
+      ap (λ b. b || ends_either is_quiet c.args.before (sides_from all (i + 1)) c.end_of_elements-end.result.marks.now)
+          (c.either_of-reached.ensures ∙ ap (λ b. c.loop-alternative.reached || b) end.reached)
+          ∙ ap (λ (marks : List _). (c.loop-alternative.reached || ends_all is_quiet c.args.before x rest)
+          || ends_either is_quiet c.args.before (sides_from all (i + 1)) marks) end.marks
+          ∙ or-assoc c.loop-alternative.reached (ends_all is_quiet c.args.before x rest)
+          (ends_either is_quiet c.args.before (sides_from all (i + 1)) (past_all x rest))
           ∙ ap (λ (xs : Alternatives _). c.loop-alternative.reached || ends_either is_quiet c.args.before xs rest) (sym more)
           ∙ c.loop-alternative.invariant.0,
-      ap (past_either (sides_from all (i + 1))) end.marks ∙ ap (λ (xs : Alternatives _). past_either xs rest) (sym more) ∙ c.loop-alternative.invariant.1,
+      ap (past_either (sides_from all (i + 1))) end.marks ∙ ap (λ (xs : Alternatives _). past_either xs rest) (sym more)
+          ∙ c.loop-alternative.invariant.1,
     )

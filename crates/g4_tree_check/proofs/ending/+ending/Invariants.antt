@@ -8,10 +8,13 @@ use Rattle.g4_tree_check.proofs.ending.+ending.Given as goal
 
 abbrev pub invariant-end_of_either-loop-alternative : goal.invariant-end_of_either-loop-alternative
 invariant-end_of_either-loop-alternative l =
-    ((l.reached || ends_either is_quiet l.before (sides_from l.alternatives l.alternative-index) l.rest) ≡ ends_either is_quiet l.before (either (map alternative_of l.alternatives)) l.marks)
-    × (past_either (sides_from l.alternatives l.alternative-index) l.rest ≡ past_either (either (map alternative_of l.alternatives)) l.marks)
+    ((l.reached || ends_either is_quiet l.before (sides_from l.alternatives l.alternative-index) l.rest)
+    ≡ ends_either is_quiet l.before (either (map alternative_of l.alternatives)) l.marks)
+    × (past_either (sides_from l.alternatives l.alternative-index) l.rest
+    ≡ past_either (either (map alternative_of l.alternatives)) l.marks)
 
 abbrev pub invariant-end_of_elements-loop-element : goal.invariant-end_of_elements-loop-element
 invariant-end_of_elements-loop-element l =
-    (ends_all is_quiet l.reached (elements_from l.elements l.element-index) l.rest ≡ ends_all is_quiet l.before (in_order (map element_of l.elements)) l.marks)
+    (ends_all is_quiet l.reached (elements_from l.elements l.element-index) l.rest
+    ≡ ends_all is_quiet l.before (in_order (map element_of l.elements)) l.marks)
     × (past_all (elements_from l.elements l.element-index) l.rest ≡ past_all (in_order (map element_of l.elements)) l.marks)

@@ -11,7 +11,8 @@ returns-in_ok-yes-in-Some c =
     let yes = c.in_ok-yes-in-Some.ensures in
     let found = c.in-Some.ensures.found in (
       λ h. (x, found, yes.0 h),
-      λ f. yes.1 (subst (λ (y : Elements _). DerivesChildren (word_of c.args.tokens.now) y c.args.heads.now) (one_body c.args.rules.now c.args.node.now.rule c.args.node.now.alt f.0 x f.1 found) f.2),
+      λ f. yes.1 (subst (λ (y : Elements _). DerivesChildren (word_of c.args.tokens.now) y c.args.heads.now)
+          (one_body c.args.rules.now c.args.node.now.rule c.args.node.now.alt f.0 x f.1 found) f.2),
     )
 
 pub returns-in-None : goal.returns-in-None

@@ -5,4 +5,5 @@ use Rattle.g4_trees.specs.Steps.{events_from}
 use Rattle.g4_trees.proofs.events.push_events.Given as goal
 
 abbrev pub invariant-loop-item : goal.invariant-loop-item
-invariant-loop-item g l = Leaves (event_lines l.rules l.tokens l.name (events_from [] l.items)) (event_lines l.rules l.tokens l.name (events_from (reverse l.ends.items) (drop l.item-index l.items))) l.initial.out.items l.out.items
+invariant-loop-item g l = Leaves (event_lines l.rules l.tokens l.name (events_from [] l.items))
+    (event_lines l.rules l.tokens l.name (events_from (reverse l.ends.items) (drop l.item-index l.items))) l.initial.out.items l.out.items

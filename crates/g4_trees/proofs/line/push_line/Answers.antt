@@ -17,7 +17,8 @@ returns-in_err-push_token_text c =
     let start = line_start c.args.name.now token.place (symbol_text c.args.shown.now token.symbol) in
     adds_same _ _ _ _ _ (line_parts c.args.shown.now c.args.name.now c.args.bytes.now token)
     (adds_last start _ _ _ _ _ (rw c.symbol_shown.ensures at c.in_ok-push_start.ensures)
-    (stops_in_first _ (token_text c.args.bytes.now token) (line_tail token.channel) _ _ _ c.from_residual-in_err-push_token_text.ensures.1 c.in_err-push_token_text.ensures))
+    (stops_in_first _ (token_text c.args.bytes.now token) (line_tail token.channel) _ _ _
+    c.from_residual-in_err-push_token_text.ensures.1 c.in_err-push_token_text.ensures))
 
 pub returns : goal.returns
 returns c =
@@ -25,4 +26,5 @@ returns c =
     let start = line_start c.args.name.now token.place (symbol_text c.args.shown.now token.symbol) in
     adds_same _ _ _ _ _ (line_parts c.args.shown.now c.args.name.now c.args.bytes.now token)
     (adds_last start _ _ _ _ _ (rw c.symbol_shown.ensures at c.in_ok-push_start.ensures)
-    (adds_last (token_text c.args.bytes.now token) (line_tail token.channel) _ _ _ _ c.in_ok-push_token_text.ensures c.push_channel.ensures))
+    (adds_last (token_text c.args.bytes.now token) (line_tail token.channel) _ _ _ _ c.in_ok-push_token_text.ensures
+    c.push_channel.ensures))

@@ -6,4 +6,5 @@ use Rattle.g4_trees.proofs.lines.push_lines.Given as goal
 
 abbrev pub invariant-loop-token : goal.invariant-loop-token
 invariant-loop-token l =
-    Leaves (flat_map (token_line l.shown l.name l.bytes) l.tokens) (flat_map (token_line l.shown l.name l.bytes) (drop l.token-index l.tokens)) l.initial.out.items l.out.items
+    Leaves (flat_map (token_line l.shown l.name l.bytes) l.tokens)
+    (flat_map (token_line l.shown l.name l.bytes) (drop l.token-index l.tokens)) l.initial.out.items l.out.items

@@ -5,4 +5,5 @@ use Rattle.g4_vocab.proofs.Lists.{parts_all}
 use Rattle.g4_vocab.proofs.commanded.commanded_of.Goals as goal
 
 pub returns : goal.returns
-returns c = parts_all rule_commanded c.args.rules.now c.loop-rule.rule-index (map reference_of c.loop-rule.found.items) _ c.loop-rule-test.false c.loop-rule.invariant ∙ sym (rules_commanded c.args.rules.now)
+returns c = parts_all rule_commanded c.args.rules.now c.loop-rule.rule-index (map reference_of c.loop-rule.found.items) _
+    c.loop-rule-test.false c.loop-rule.invariant ∙ sym (rules_commanded c.args.rules.now)

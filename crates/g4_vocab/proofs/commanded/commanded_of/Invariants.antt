@@ -5,4 +5,5 @@ use Rattle.g4_vocab.proofs.CommandedTokens.{rule_commanded}
 use Rattle.g4_vocab.proofs.commanded.commanded_of.Given as goal
 
 abbrev pub invariant-loop-rule : goal.invariant-loop-rule
-invariant-loop-rule l = map reference_of l.found.items ++ flat_map rule_commanded (drop l.rule-index l.rules) ≡ flat_map rule_commanded l.rules
+invariant-loop-rule l = map reference_of l.found.items ++ flat_map rule_commanded (drop l.rule-index l.rules)
+    ≡ flat_map rule_commanded l.rules

@@ -5,4 +5,5 @@ use Rattle.g4_vocab.specs.Tables.{reference_of}
 use Rattle.g4_vocab.proofs.commanded.push_alternative.Given as goal
 
 abbrev pub invariant-loop-command : goal.invariant-loop-command
-invariant-loop-command l = map reference_of l.found.items ≡ map reference_of l.initial.found.items ++ filter_map commanded_token (take l.command-index l.command-items)
+invariant-loop-command l = map reference_of l.found.items
+    ≡ map reference_of l.initial.found.items ++ filter_map commanded_token (take l.command-index l.command-items)

@@ -5,4 +5,5 @@ use Rattle.g4_vocab.specs.Tables.{reference_of}
 use Rattle.g4_vocab.proofs.commanded.push_rule.Given as goal
 
 abbrev pub invariant-loop-alternative : goal.invariant-loop-alternative
-invariant-loop-alternative l = map reference_of l.found.items ++ flat_map commanded_by (drop l.alternative-index l.alternative-items) ≡ map reference_of l.initial.found.items ++ flat_map commanded_by l.rule.alternatives
+invariant-loop-alternative l = map reference_of l.found.items ++ flat_map commanded_by (drop l.alternative-index l.alternative-items)
+    ≡ map reference_of l.initial.found.items ++ flat_map commanded_by l.rule.alternatives

@@ -7,11 +7,14 @@ use Rattle.g4_vocab.proofs.halves.halves_of.Goals.{in-Parser+in_ok-push-in-Parse
 pub loop-rule-preserved : goal.loop-rule-preserved
 loop-rule-preserved c = elim c.match-rule.branch [
   | in-Parser+in_ok-push-in-Parser w ↦
-      rw (w.parsers-is, w.lexers-is) (parser_more c.args.rules.now c.loop-rule.rule-index c.rule-item.result _ _ _ _ c.loop-rule-test.true c.rule-item.is w.in_ok-push-in-Parser.ensures.items w.in-Parser.is c.loop-rule.invariant)
+      rw (w.parsers-is, w.lexers-is) (parser_more c.args.rules.now c.loop-rule.rule-index c.rule-item.result _ _ _ _
+      c.loop-rule-test.true c.rule-item.is w.in_ok-push-in-Parser.ensures.items w.in-Parser.is c.loop-rule.invariant)
   | in-Lexer+then-is_none+in_ok-push-in-Lexer w ↦
       rw (w.parsers-is, w.lexers-is)
-      (lexer_more c.args.rules.now c.loop-rule.rule-index c.rule-item.result _ _ _ _ c.loop-rule-test.true c.rule-item.is w.in_ok-push-in-Lexer.ensures.items w.in-Lexer.is (is_none-by _ _ true w.is_none.ensures w.if-is_none.true) c.loop-rule.invariant)
+      (lexer_more c.args.rules.now c.loop-rule.rule-index c.rule-item.result _ _ _ _ c.loop-rule-test.true c.rule-item.is
+      w.in_ok-push-in-Lexer.ensures.items w.in-Lexer.is (is_none-by _ _ true w.is_none.ensures w.if-is_none.true) c.loop-rule.invariant)
   | in-Lexer+else-is_none w ↦
       rw (w.parsers-is, w.lexers-is)
-      (fragment_more c.args.rules.now c.loop-rule.rule-index c.rule-item.result _ _ _ c.loop-rule-test.true c.rule-item.is w.in-Lexer.is (is_none-by _ _ false w.is_none.ensures w.if-is_none.false) c.loop-rule.invariant)
+      (fragment_more c.args.rules.now c.loop-rule.rule-index c.rule-item.result _ _ _ c.loop-rule-test.true c.rule-item.is
+      w.in-Lexer.is (is_none-by _ _ false w.is_none.ensures w.if-is_none.false) c.loop-rule.invariant)
 ]

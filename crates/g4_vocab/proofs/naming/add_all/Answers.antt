@@ -19,7 +19,10 @@ returns-in_err-add_own_literals-clause-added c =
     let tokens : List TokenReference = map reference_of c.args.tokens.now in
     let commanded : List TokenReference = map reference_of c.args.commanded.now in
     rw (p.1, p.2)
-    (adds_err c.args.types.now.entries.items (wanted lexers tokens commanded) c.args.types.now (filter_map (own_literal lexers) tokens) (map (rule_token lexers) lexers ++ (filter_map token_name tokens ++ filter_map token_name commanded)) c.add_own_literals.new.types.entries.items c.add_own_literals.new.types.entries.items fault refl c.in_err-add_own_literals.ensures.added)
+    (adds_err c.args.types.now.entries.items (wanted lexers tokens commanded) c.args.types.now
+    (filter_map (own_literal lexers) tokens) (map (rule_token lexers) lexers
+    ++ (filter_map token_name tokens ++ filter_map token_name commanded)) c.add_own_literals.new.types.entries.items
+    c.add_own_literals.new.types.entries.items fault refl c.in_err-add_own_literals.ensures.added)
 
 pub returns-in_err-add_rules-clause-added : goal.returns-in_err-add_rules-clause-added
 returns-in_err-add_rules-clause-added c =
@@ -31,8 +34,11 @@ returns-in_err-add_rules-clause-added c =
     let names : List Wanted = filter_map token_name tokens ++ filter_map token_name commanded in
     let rest : List Wanted = map (rule_token lexers) lexers ++ names in
     rw (p.1, p.2)
-    (adds_err c.args.types.now.entries.items (wanted lexers tokens commanded) c.add_own_literals.new.types (map (rule_token lexers) lexers) names c.add_rules.new.types.entries.items c.add_rules.new.types.entries.items fault
-    (ap (λ (es : List Entry). with_keys es rest) c.in_ok-add_own_literals.ensures.added ∙ sym (with_keys-append c.args.types.now.entries.items (filter_map (own_literal lexers) tokens) rest)) c.in_err-add_rules.ensures.added)
+    (adds_err c.args.types.now.entries.items (wanted lexers tokens commanded) c.add_own_literals.new.types
+    (map (rule_token lexers) lexers) names c.add_rules.new.types.entries.items c.add_rules.new.types.entries.items fault
+    (ap (λ (es : List Entry). with_keys es rest) c.in_ok-add_own_literals.ensures.added
+    ∙ sym (with_keys-append c.args.types.now.entries.items (filter_map (own_literal lexers) tokens) rest))
+    c.in_err-add_rules.ensures.added)
 
 pub returns-in_err-add_names-clause-added : goal.returns-in_err-add_names-clause-added
 returns-in_err-add_names-clause-added c =
@@ -44,8 +50,11 @@ returns-in_err-add_names-clause-added c =
     let names : List Wanted = filter_map token_name tokens in
     let more : List Wanted = filter_map token_name commanded in
     rw (p.1, p.2)
-    (adds_err c.args.types.now.entries.items (wanted lexers tokens commanded) c.add_rules.new.types names more c.add_names.new.types.entries.items c.add_names.new.types.entries.items fault
-    (with_three c.args.types.now.entries.items c.add_own_literals.new.types.entries.items c.add_rules.new.types.entries.items (filter_map (own_literal lexers) tokens) (map (rule_token lexers) lexers) (names ++ more) c.in_ok-add_own_literals.ensures.added c.in_ok-add_rules.ensures.added)
+    (adds_err c.args.types.now.entries.items (wanted lexers tokens commanded) c.add_rules.new.types names more
+    c.add_names.new.types.entries.items c.add_names.new.types.entries.items fault
+    (with_three c.args.types.now.entries.items c.add_own_literals.new.types.entries.items c.add_rules.new.types.entries.items
+    (filter_map (own_literal lexers) tokens) (map (rule_token lexers) lexers) (names ++ more)
+    c.in_ok-add_own_literals.ensures.added c.in_ok-add_rules.ensures.added)
     c.in_err-add_names.ensures.added)
 
 pub returns-in_err-add_names-2-clause-added : goal.returns-in_err-add_names-2-clause-added
@@ -57,8 +66,13 @@ returns-in_err-add_names-2-clause-added c =
     let commanded : List TokenReference = map reference_of c.args.commanded.now in
     let more : List Wanted = filter_map token_name commanded in
     rw (p.1, p.2)
-    (adds_err c.args.types.now.entries.items (wanted lexers tokens commanded) c.add_names.new.types more [] c.add_names-2.new.types.entries.items c.add_names-2.new.types.entries.items fault
-    (ap (with_keys c.add_names.new.types.entries.items) (append-nil more) ∙ with_four c.args.types.now.entries.items c.add_own_literals.new.types.entries.items c.add_rules.new.types.entries.items c.add_names.new.types.entries.items (filter_map (own_literal lexers) tokens) (map (rule_token lexers) lexers) (filter_map token_name tokens) more c.in_ok-add_own_literals.ensures.added c.in_ok-add_rules.ensures.added c.in_ok-add_names.ensures.added)
+    (adds_err c.args.types.now.entries.items (wanted lexers tokens commanded) c.add_names.new.types more []
+    c.add_names-2.new.types.entries.items c.add_names-2.new.types.entries.items fault
+    (ap (with_keys c.add_names.new.types.entries.items) (append-nil more)
+    ∙ with_four c.args.types.now.entries.items c.add_own_literals.new.types.entries.items c.add_rules.new.types.entries.items
+    c.add_names.new.types.entries.items (filter_map (own_literal lexers) tokens) (map (rule_token lexers) lexers)
+    (filter_map token_name tokens) more c.in_ok-add_own_literals.ensures.added c.in_ok-add_rules.ensures.added
+    c.in_ok-add_names.ensures.added)
     c.in_err-add_names-2.ensures.added)
 
 pub returns-clause-added : goal.returns-clause-added
@@ -67,4 +81,7 @@ returns-clause-added c =
     let tokens : List TokenReference = map reference_of c.args.tokens.now in
     let commanded : List TokenReference = map reference_of c.args.commanded.now in
     c.in_ok-add_names-2.ensures.added
-    ∙ with_four c.args.types.now.entries.items c.add_own_literals.new.types.entries.items c.add_rules.new.types.entries.items c.add_names.new.types.entries.items (filter_map (own_literal lexers) tokens) (map (rule_token lexers) lexers) (filter_map token_name tokens) (filter_map token_name commanded) c.in_ok-add_own_literals.ensures.added c.in_ok-add_rules.ensures.added c.in_ok-add_names.ensures.added
+    ∙ with_four c.args.types.now.entries.items c.add_own_literals.new.types.entries.items c.add_rules.new.types.entries.items
+    c.add_names.new.types.entries.items (filter_map (own_literal lexers) tokens) (map (rule_token lexers) lexers)
+    (filter_map token_name tokens) (filter_map token_name commanded) c.in_ok-add_own_literals.ensures.added
+    c.in_ok-add_rules.ensures.added c.in_ok-add_names.ensures.added

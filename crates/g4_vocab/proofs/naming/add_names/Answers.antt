@@ -15,7 +15,11 @@ returns-in_err-add_name-clause-added c =
     let name = c.in-Token.name.now in
     let key : Wanted = record { key = Name name; shown = name } in
     let more : List Wanted = filter_map token_name (map reference_of (drop (c.loop-token.token-index + 1) c.args.tokens.now)) in
-    let one = wanted_more token_name reference_of c.args.tokens.now c.loop-token.token-index c.token-item.result c.loop-token-test.true c.token-item.is in
+    let one = wanted_more token_name reference_of c.args.tokens.now c.loop-token.token-index c.token-item.result
+    c.loop-token-test.true c.token-item.is in
     let is = name_wanted c.token-item.result c.in-Token.name c.in-Token.is (search rules) in
     rw (p.1, p.2)
-    (adds_err c.args.types.now.entries.items (filter_map token_name (map reference_of c.args.tokens.now)) c.loop-token.types (key ∷ []) more c.add_name.new.self.entries.items c.add_name.new.self.entries.items fault (ap (with_keys c.loop-token.types.entries.items) (sym (one ∙ ap (λ (ks : List Wanted). ks ++ more) is)) ∙ c.loop-token.invariant.end) c.in_err-add_name.ensures.added)
+    (adds_err c.args.types.now.entries.items (filter_map token_name (map reference_of c.args.tokens.now)) c.loop-token.types
+    (key ∷ []) more c.add_name.new.self.entries.items c.add_name.new.self.entries.items fault
+    (ap (with_keys c.loop-token.types.entries.items) (sym (one ∙ ap (λ (ks : List Wanted). ks ++ more) is))
+    ∙ c.loop-token.invariant.end) c.in_err-add_name.ensures.added)

@@ -6,4 +6,5 @@ use Rattle.g4_vocab.proofs.Keys.{Adding}
 use Rattle.g4_vocab.proofs.naming.add_names.Given as goal
 
 abbrev pub invariant-loop-token : goal.invariant-loop-token
-invariant-loop-token l = Adding l.initial.types.entries.items (filter_map token_name (map reference_of l.tokens)) l.types (filter_map token_name (map reference_of (drop l.token-index l.tokens)))
+invariant-loop-token l = Adding l.initial.types.entries.items (filter_map token_name (map reference_of l.tokens)) l.types
+    (filter_map token_name (map reference_of (drop l.token-index l.tokens)))

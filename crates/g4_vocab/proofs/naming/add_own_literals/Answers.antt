@@ -19,8 +19,14 @@ returns-in_err-add_literal-clause-added c =
     let literal = c.in-Literal.literal.now in
     let key : Wanted = record { key = Literal literal.characters; shown = literal.written } in
     let more : List Wanted = filter_map (own_literal lexers) (map reference_of (drop (c.loop-token.token-index + 1) c.args.tokens.now)) in
-    let one = wanted_more (own_literal lexers) reference_of c.args.tokens.now c.loop-token.token-index c.token-item.result c.loop-token-test.true c.token-item.is in
-    let own : is_some (named_rule lexers literal.characters) ≡ false = unnamed c.named_rule.result (named_rule lexers literal.characters) (c.named_rule.ensures ∙ ap (named_rule lexers) c.as_slice.ensures) (is_none-by _ _ true c.is_none.ensures c.if-is_none.true) in
+    let one = wanted_more (own_literal lexers) reference_of c.args.tokens.now c.loop-token.token-index c.token-item.result
+    c.loop-token-test.true c.token-item.is in
+    let own : is_some (named_rule lexers literal.characters) ≡ false =
+    unnamed c.named_rule.result (named_rule lexers literal.characters)
+    (c.named_rule.ensures ∙ ap (named_rule lexers) c.as_slice.ensures) (is_none-by _ _ true c.is_none.ensures c.if-is_none.true) in
     let is = literal_wanted lexers c.token-item.result c.in-Literal.literal c.in-Literal.is own in
     rw (p.1, p.2)
-    (adds_err c.args.types.now.entries.items (filter_map (own_literal lexers) (map reference_of c.args.tokens.now)) c.loop-token.types (key ∷ []) more c.add_literal.new.self.entries.items c.add_literal.new.self.entries.items fault (ap (with_keys c.loop-token.types.entries.items) (sym (one ∙ ap (λ (ks : List Wanted). ks ++ more) is)) ∙ c.loop-token.invariant.end) c.in_err-add_literal.ensures.added)
+    (adds_err c.args.types.now.entries.items (filter_map (own_literal lexers) (map reference_of c.args.tokens.now)) c.loop-token.types
+    (key ∷ []) more c.add_literal.new.self.entries.items c.add_literal.new.self.entries.items fault
+    (ap (with_keys c.loop-token.types.entries.items) (sym (one ∙ ap (λ (ks : List Wanted). ks ++ more) is))
+    ∙ c.loop-token.invariant.end) c.in_err-add_literal.ensures.added)

@@ -13,11 +13,15 @@ returns-in_err-add_name-clause-added c =
     let fault = c.in_err-add_name.field-0.0 in
     let lexers : List LexerRule = map (λ r. r.now) c.args.wholes.now.rules.now in
     let more : List Wanted = map (rule_token lexers) (map (λ r. r.now) (drop (c.loop-rule.rule-index + 1) c.args.rules.now)) in
-    let one = rule_more (rule_token lexers) (λ r. r.now) c.args.rules.now c.loop-rule.rule-index c.rule-item.result c.loop-rule-test.true c.rule-item.is in
+    let one = rule_more (rule_token lexers) (λ r. r.now) c.args.rules.now c.loop-rule.rule-index c.rule-item.result
+    c.loop-rule-test.true c.rule-item.is in
     let rule = c.rule-item.result.now in
     let key : Wanted = record { key = Name c.as_str.result.now; shown = c.shown_rule.result.now } in
     let same : key ≡ rule_token lexers rule =
-    ap (λ (n : List ℕ). let w : Wanted = record { key = Name n; shown = c.shown_rule.result.now } in w) c.as_str.ensures ∙ ap (λ (s : List ℕ). let w : Wanted = record { key = Name rule.name; shown = s } in w) c.shown_rule.ensures in
+    ap (λ (n : List ℕ). let w : Wanted = record { key = Name n; shown = c.shown_rule.result.now } in w) c.as_str.ensures
+    ∙ ap (λ (s : List ℕ). let w : Wanted = record { key = Name rule.name; shown = s } in w) c.shown_rule.ensures in
     rw (p.1, p.2)
-    (adds_err c.args.types.now.entries.items (map (rule_token lexers) (map (λ r. r.now) c.args.rules.now)) c.loop-rule.types (key ∷ []) more c.add_name.new.self.entries.items c.add_name.new.self.entries.items fault
-    (ap (with_keys c.loop-rule.types.entries.items) (ap (λ (k : Wanted). k ∷ more) same ∙ sym one) ∙ c.loop-rule.invariant.end) c.in_err-add_name.ensures.added)
+    (adds_err c.args.types.now.entries.items (map (rule_token lexers) (map (λ r. r.now) c.args.rules.now)) c.loop-rule.types
+    (key ∷ []) more c.add_name.new.self.entries.items c.add_name.new.self.entries.items fault
+    (ap (with_keys c.loop-rule.types.entries.items) (ap (λ (k : Wanted). k ∷ more) same ∙ sym one) ∙ c.loop-rule.invariant.end)
+    c.in_err-add_name.ensures.added)

@@ -5,4 +5,5 @@ use Rattle.g4_vocab.proofs.Nodes.{rule_tokens}
 use Rattle.g4_vocab.proofs.references.references_of.Given as goal
 
 abbrev pub invariant-loop-rule : goal.invariant-loop-rule
-invariant-loop-rule l = map reference_of l.found.items ++ flat_map rule_tokens (map (λ r. r.now) (drop l.rule-index l.rules)) ≡ flat_map rule_tokens (map (λ r. r.now) l.rules)
+invariant-loop-rule l = map reference_of l.found.items ++ flat_map rule_tokens (map (λ r. r.now) (drop l.rule-index l.rules))
+    ≡ flat_map rule_tokens (map (λ r. r.now) l.rules)

@@ -12,6 +12,8 @@ pub returns : goal.returns
 returns c =
     let a : Atom = record { label = None; kind = kinds.Literal c.args.literal } in
     let elements : c.new.result ≡ then (atom a) empty =
-    c.new.ensures ∙ (ap (λ (xs : List (Node Atom)). in_order (map element_of xs)) (c.in_ok-push.ensures.items ∙ ap (λ (xs : List (Node Atom)). xs ++ nodes.Atom a ∷ []) c.new-elements.ensures.items) ∙ ap (λ (x : Element Atom). then x empty) (of_atom a)) in
+    c.new.ensures ∙ (ap (λ (xs : List (Node Atom)). in_order (map element_of xs))
+    (c.in_ok-push.ensures.items ∙ ap (λ (xs : List (Node Atom)). xs ++ nodes.Atom a ∷ []) c.new-elements.ensures.items)
+    ∙ ap (λ (x : Element Atom). then x empty) (of_atom a)) in
     let commands : c.new-3.result ≡ [] = c.new-3.ensures ∙ c.new-2.ensures.items in
     rw (elements, commands) refl

@@ -16,7 +16,8 @@ returns-in_ok-insert c =
     let chars : c.as_slice-characters.result.now ≡ literal.characters = c.as_slice-characters.ensures in
     let there : c.contains_key.result ≡ is_some (at old literal.characters) = rw chars at c.contains_key.ensures in
     rule_kept c.args.rule.now literal old c.insert.new.self only (rw c.as_slice.ensures at c.in-Some.ensures)
-    (λ q. btree_map_updates_str c.as_slice-characters.result.now old c.insert.new.self (Some only) c.in_ok-insert.ensures.updates q ∙ ap (λ (cs : List ℕ). cond (bytes_eq cs q) (Some only) (at old q)) chars)
+    (λ q. btree_map_updates_str c.as_slice-characters.result.now old c.insert.new.self (Some only) c.in_ok-insert.ensures.updates q
+    ∙ ap (λ (cs : List ℕ). cond (bytes_eq cs q) (Some only) (at old q)) chars)
     (elim c.if-contains_key.branch [
       | then-contains_key w ↦ rw w.only-is (several old literal.characters name (sym there ∙ w.if-contains_key.true))
       | else-contains_key w ↦ rw (w.only-is, w.as_str.ensures) (alone old literal.characters name (sym there ∙ w.if-contains_key.false))

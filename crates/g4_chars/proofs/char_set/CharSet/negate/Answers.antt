@@ -7,7 +7,8 @@ use Rattle.g4_chars.proofs.Ranges.{all_from_ranges, gaps_ranges, gaps_has}
 use Rattle.g4_chars.proofs.char_set.CharSet.negate.Goals as goal
 
 pub of_ranges-requires : goal.of_ranges-requires
-of_ranges-requires c = subst (All IsRange) (sym c.in_ok-ranges.ensures) (all_from_ranges (gaps 0 c.ranges-2.result.now) (gaps_ranges 0 c.ranges-2.result.now))
+of_ranges-requires c = subst (All IsRange) (sym c.in_ok-ranges.ensures)
+    (all_from_ranges (gaps 0 c.ranges-2.result.now) (gaps_ranges 0 c.ranges-2.result.now))
 
 pub returns : goal.returns
 returns c = λ x.

@@ -10,7 +10,9 @@ of_ranges-requires c =
     let one = c.ranges-2.result.now in
     let two = c.ranges-3.result.now in
     let both : c.extend_from_slice.new.self.items ≡ one ++ two = search rules in
-    subst (All IsRange) (sym both) (all_from_ranges (one ++ two) (ranges_append one two (ranges_from_rising 0 one c.ranges-2.ensures.canonical) (ranges_from_rising 0 two c.ranges-3.ensures.canonical)))
+    subst (All IsRange) (sym both) (all_from_ranges (one ++ two)
+    (ranges_append one two (ranges_from_rising 0 one c.ranges-2.ensures.canonical)
+    (ranges_from_rising 0 two c.ranges-3.ensures.canonical)))
 
 pub returns : goal.returns
 returns c = λ x.
@@ -19,6 +21,11 @@ returns c = λ x.
     let P : List Range → Type 0 = λ rs. Has rs x in
     let both : c.extend_from_slice.new.self.items ≡ one ++ two = search rules in
     let all = c.in_ok-set.ensures.members x in (
-      λ h. elim (has_append_cases one two x (subst P both (all.0 h))) [ inl a ↦ inl (subst P c.ranges-2.ensures.value a) | inr b ↦ inr (subst P c.ranges-3.ensures.value b) ],
-      λ h. all.1 (subst P (sym both) (elim h [ inl a ↦ has_append_left one two x (subst P (sym c.ranges-2.ensures.value) a) | inr b ↦ has_append_right one two x (subst P (sym c.ranges-3.ensures.value) b) ])),
+      λ h. elim (has_append_cases one two x (subst P both (all.0 h)))
+          [ inl a ↦ inl (subst P c.ranges-2.ensures.value a) | inr b ↦ inr (subst P c.ranges-3.ensures.value b) ],
+      λ h. all.1 (subst P (sym both) (elim h [
+        | inl a ↦ has_append_left one two x (subst P (sym c.ranges-2.ensures.value) a)
+        | inr b ↦
+            has_append_right one two x (subst P (sym c.ranges-3.ensures.value) b)
+      ])),
     )

@@ -6,7 +6,8 @@ use Rattle.g4_checks.proofs.names.Names.add.Goals as goal
 
 pub returns-clause-new : goal.returns-clause-new
 returns-clause-new c =
-    c.in_ok-is_new.ensures.added ∙ ap not (set_has c.args.name.now c.self.inside.set ∙ ap (λ (names : List (List ℕ)). is_one_of names c.args.name.now) c.self.view_is)
+    c.in_ok-is_new.ensures.added ∙ ap not (set_has c.args.name.now c.self.inside.set
+    ∙ ap (λ (names : List (List ℕ)). is_one_of names c.args.name.now) c.self.view_is)
 
 pub returns-clause-added : goal.returns-clause-added
 returns-clause-added c =

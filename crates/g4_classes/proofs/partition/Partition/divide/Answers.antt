@@ -8,11 +8,13 @@ pub loop-symbol-preserved : goal.loop-symbol-preserved
 loop-symbol-preserved c =
     let loop = c.loop-symbol in
     let now = c.move_symbol.new.self in
-    subst (λ (seen : List ℕ). IsDividing seen c.args.self.now.blocks.items c.len-first_new.result now.blocks.items now.moved.items) (sym (take_more c.args.set.now loop.symbol-index 0 c.loop-symbol-test.true))
+    subst (λ (seen : List ℕ). IsDividing seen c.args.self.now.blocks.items c.len-first_new.result now.blocks.items now.moved.items)
+    (sym (take_more c.args.set.now loop.symbol-index 0 c.loop-symbol-test.true))
     (c.in_ok-move_symbol.ensures.moves (take loop.symbol-index c.args.set.now) c.args.self.now.blocks.items loop.invariant)
 
 pub returns : goal.returns
 returns c =
     let loop = c.loop-symbol in
     divided c.args.set.now c.args.self.now.blocks.items c.len-first_new.result loop.self.blocks.items loop.self.moved.items
-    (subst (λ (seen : List ℕ). IsDividing seen c.args.self.now.blocks.items c.len-first_new.result loop.self.blocks.items loop.self.moved.items) (take_all loop.symbol-index c.args.set.now c.loop-symbol-test.false) loop.invariant)
+    (subst (λ (seen : List ℕ). IsDividing seen c.args.self.now.blocks.items c.len-first_new.result loop.self.blocks.items
+    loop.self.moved.items) (take_all loop.symbol-index c.args.set.now c.loop-symbol-test.false) loop.invariant)

@@ -12,8 +12,10 @@ invariant_of-self c =
     let some : 0 < length c.in_ok-moved.moved.items = omega (arith, moved.len, long) in
     record {
       count = omega (arith, least.count, many);
-      blocks_within = least_within c.args.self.now.blocks.items c.in_ok-blocks.blocks.items (length c.in_ok-moved.moved.items) (omega (arith, moved.len, long, many)) least;
-      moved_within = zeros_within 4098 (length c.in_ok-moved.moved.items) c.in_ok-moved.moved.items (moved.items_if_clones_equal (λ y e. e)) some;
+      blocks_within = least_within c.args.self.now.blocks.items c.in_ok-blocks.blocks.items (length c.in_ok-moved.moved.items)
+          (omega (arith, moved.len, long, many)) least;
+      moved_within = zeros_within 4098 (length c.in_ok-moved.moved.items) c.in_ok-moved.moved.items
+          (moved.items_if_clones_equal (λ y e. e)) some;
     }
 
 pub returns : goal.returns

@@ -11,6 +11,8 @@ invariant_of-result c =
     let some : 0 < length c.in_ok-vec-2.field-0.items = omega (arith, moved.len, one) in
     record {
       count = omega (arith, blocks.len, long);
-      blocks_within = zeros_within 4098 (length c.in_ok-vec-2.field-0.items) c.in_ok-vec.field-0.items (blocks.items_if_clones_equal (λ y e. e)) some;
-      moved_within = zeros_within 1 (length c.in_ok-vec-2.field-0.items) c.in_ok-vec-2.field-0.items (moved.items_if_clones_equal (λ y e. e)) some;
+      blocks_within = zeros_within 4098 (length c.in_ok-vec-2.field-0.items) c.in_ok-vec.field-0.items
+          (blocks.items_if_clones_equal (λ y e. e)) some;
+      moved_within = zeros_within 1 (length c.in_ok-vec-2.field-0.items) c.in_ok-vec-2.field-0.items
+          (moved.items_if_clones_equal (λ y e. e)) some;
     }

@@ -10,6 +10,7 @@ pub returns : goal.returns
 returns c =
     let canon = subst (λ (v : View). IsCanonical v.graph) c.self.view_is c.is_canonical.ensures in
     let nodes = subst (λ (v : View). AreNodes v.graph v.nodes) c.self.view_is c.self.invariant in
-    let pairs : c.in_ok-pairs.pairs.items ≡ map pair_of c.in_ok-groups.groups.items = c.in_ok-pairs.ensures ∙ ap (map pair_of) c.deref.ensures.value in
+    let pairs : c.in_ok-pairs.pairs.items ≡ map pair_of c.in_ok-groups.groups.items =
+    c.in_ok-pairs.ensures ∙ ap (map pair_of) c.deref.ensures.value in
     let answer = subst (λ (ps : List (ℕ × ℕ)). IsTrue c.has_twice-answer.result ↔ HasTwice ps) pairs c.has_twice-answer.ensures in
     conflict_verdict c.args.self.now canon nodes c.in_ok-groups.groups.items c.has_twice-answer.result c.in_ok-groups.ensures answer

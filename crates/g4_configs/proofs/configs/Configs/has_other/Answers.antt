@@ -9,5 +9,8 @@ use Rattle.g4_configs.proofs.configs.Configs.has_other.Goals as goal
 
 pub returns : goal.returns
 returns c =
-    let cases = cases_from_any _ _ c.any.result (λ (q : ℕ × ℕ). q.1 ≢ c.args.alternative) (λ (q : ℕ × ℕ). q.1 ≡ c.args.alternative) c.any.ensures.ran (YieldsList-from_rest (keys c.self.inside.nodes) c.keys.ensures.rest) (λ y b k. search (rules, tests)) (λ y b k. search (rules, tests)) in
-    subst (λ (v : View). IsTrue c.any.result ↔ ((x : Config) × Holds v x × (x.alt ≢ c.args.alternative))) c.self.view_is (other_exact c.self.inside.graph c.self.inside.nodes c.is_canonical.ensures c.self.invariant c.args.alternative c.any.result cases)
+    let cases = cases_from_any _ _ c.any.result (λ (q : ℕ × ℕ). q.1 ≢ c.args.alternative) (λ (q : ℕ × ℕ). q.1 ≡ c.args.alternative)
+    c.any.ensures.ran (YieldsList-from_rest (keys c.self.inside.nodes) c.keys.ensures.rest) (λ y b k. search (rules, tests))
+    (λ y b k. search (rules, tests)) in
+    subst (λ (v : View). IsTrue c.any.result ↔ ((x : Config) × Holds v x × (x.alt ≢ c.args.alternative))) c.self.view_is
+    (other_exact c.self.inside.graph c.self.inside.nodes c.is_canonical.ensures c.self.invariant c.args.alternative c.any.result cases)

@@ -11,5 +11,10 @@ use Rattle.g4_configs.proofs.configs.Configs.least_alternative.Goals as goal
 
 pub returns : goal.returns
 returns c =
-    let is : c.min.result ≡ reduce min (alternatives (keys c.self.inside.nodes)) = sym (option_map_id c.min.result) ∙ min_from_yields_List c.map.result c.min.result c.min.ensures.ran (YieldsList-from_map _ (λ (q : ℕ × ℕ). q.1) (YieldsList-at c.map.ensures.source (YieldsList-from_rest (keys c.self.inside.nodes) c.keys.ensures.rest)) c.map.ensures.closure (λ x r q k. search (rules, tests))) in
-    subst (λ (v : View). MatchOption c.min.result (IsEmpty (Holds v)) (IsLeast (Holds v))) c.self.view_is (least_exact c.self.inside.graph c.self.inside.nodes c.is_canonical.ensures c.self.invariant c.min.result is)
+    let is : c.min.result ≡ reduce min (alternatives (keys c.self.inside.nodes)) =
+    sym (option_map_id c.min.result) ∙ min_from_yields_List c.map.result c.min.result c.min.ensures.ran
+    (YieldsList-from_map _ (λ (q : ℕ × ℕ). q.1)
+    (YieldsList-at c.map.ensures.source (YieldsList-from_rest (keys c.self.inside.nodes) c.keys.ensures.rest))
+    c.map.ensures.closure (λ x r q k. search (rules, tests))) in
+    subst (λ (v : View). MatchOption c.min.result (IsEmpty (Holds v)) (IsLeast (Holds v))) c.self.view_is
+    (least_exact c.self.inside.graph c.self.inside.nodes c.is_canonical.ensures c.self.invariant c.min.result is)

@@ -11,5 +11,6 @@ pub returns : goal.returns
 returns c =
     let canon = subst (λ (v : View). IsCanonical v.graph) c.self.view_is c.is_canonical.ensures in
     let nodes = subst (λ (v : View). AreNodes v.graph v.nodes) c.self.view_is c.self.invariant in
-    let answer = subst (λ (xs : List Group). IsTrue c.has_lone-answer.result ↔ ((i : ℕ) × (i < length xs) × IsLone xs i)) c.deref.ensures.value c.has_lone-answer.ensures in
+    let answer = subst (λ (xs : List Group). IsTrue c.has_lone-answer.result ↔ ((i : ℕ) × (i < length xs) × IsLone xs i))
+    c.deref.ensures.value c.has_lone-answer.ensures in
     lone_verdict c.args.self.now canon nodes c.in_ok-groups.groups.items c.has_lone-answer.result c.in_ok-groups.ensures answer

@@ -8,10 +8,12 @@ pub returns-in_err-result-clause-keeps : goal.returns-in_err-result-clause-keeps
 returns-in_err-result-clause-keeps c = subst (λ (v : View). Keeps v.graph c.push.new.self) c.self.view_is c.in_err-result.ensures.keeps
 
 pub returns-in_err-result-clause-same : goal.returns-in_err-result-clause-same
-returns-in_err-result-clause-same c = grown_holds c.self.inside.graph c.push.new.self c.self.inside.nodes.entries c.args.self.now c.self.view_is c.self.invariant c.in_err-result.ensures.keeps
+returns-in_err-result-clause-same c = grown_holds c.self.inside.graph c.push.new.self c.self.inside.nodes.entries c.args.self.now
+    c.self.view_is c.self.invariant c.in_err-result.ensures.keeps
 
 pub returns-clause-keeps : goal.returns-clause-keeps
 returns-clause-keeps c = subst (λ (v : View). Keeps v.graph c.push.new.self) c.self.view_is c.in_ok-result.ensures.keeps
 
 pub returns-clause-same : goal.returns-clause-same
-returns-clause-same c = grown_holds c.self.inside.graph c.push.new.self c.self.inside.nodes.entries c.args.self.now c.self.view_is c.self.invariant c.in_ok-result.ensures.keeps
+returns-clause-same c = grown_holds c.self.inside.graph c.push.new.self c.self.inside.nodes.entries c.args.self.now c.self.view_is
+    c.self.invariant c.in_ok-result.ensures.keeps

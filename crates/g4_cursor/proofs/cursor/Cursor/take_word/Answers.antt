@@ -6,4 +6,5 @@ pub returns-then-is_at_word : goal.returns-then-is_at_word
 returns-then-is_at_word c = takes _ _ (sym c.is_at_word.ensures ∙ c.if-is_at_word.true) (never_word c.args.spelling.now _) c.advance.ensures
 
 pub returns-else-is_at_word : goal.returns-else-is_at_word
-returns-else-is_at_word c = stops_at _ _ (sym c.is_at_word.ensures ∙ c.if-is_at_word.false) (never_word c.args.spelling.now _) c.stop.ensures
+returns-else-is_at_word c = stops_at _ _ (sym c.is_at_word.ensures ∙ c.if-is_at_word.false) (never_word c.args.spelling.now _)
+    c.stop.ensures

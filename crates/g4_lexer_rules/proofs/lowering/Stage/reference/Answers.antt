@@ -14,7 +14,8 @@ returns c =
     let name : List ℕ = c.args.name.now in
     let many : length c.args.self.now.rules.now ≡ length names = sym (length-map c.args.self.now.rules.now (λ rule. rule.name)) in
     let place : c.unwrap_or.result ≡ position_or_len (λ (other : List ℕ). bytes_eq other name) names =
-    c.unwrap_or.ensures ∙ (ap (λ (n : ℕ). unwrap_or c.place_of-place.result n) many ∙ (ap (λ (o : Option ℕ). unwrap_or o (length names)) (c.place_of-place.ensures ∙ c.args.self.now.named name) ∙
+    c.unwrap_or.ensures ∙ (ap (λ (n : ℕ). unwrap_or c.place_of-place.result n) many
+    ∙ (ap (λ (o : Option ℕ). unwrap_or o (length names)) (c.place_of-place.ensures ∙ c.args.self.now.named name) ∙
     unwrap_or-position (λ (other : List ℕ). bytes_eq other name) names)) in
     let other : bytes_eq name (codes "EOF") ≡ false = sym c.eq.ensures ∙ c.if-eq.false in
     ap Call place ∙ ap (λ (b : Bool). cond b AtEnd (Call (position_or_len (λ (n : List ℕ). bytes_eq n name) names))) (sym other)

@@ -8,4 +8,5 @@ pub add-requires-clause-ready : goal.add-requires-clause-ready
 add-requires-clause-ready c = subst IsReady (sym c.forget.ensures.listing) c.requires.ready
 
 pub returns-clause-learned : goal.returns-clause-learned
-returns-clause-learned c = subst (λ (m : Listing). HasEntries c.add.new.self c.in_ok-number.number m.list.items) c.forget.ensures.listing c.in_ok-number.ensures.added
+returns-clause-learned c = subst (λ (m : Listing). HasEntries c.add.new.self c.in_ok-number.number m.list.items)
+    c.forget.ensures.listing c.in_ok-number.ensures.added

@@ -24,12 +24,14 @@ returns-in-Some-clause-next c =
     let new = c.learn_beside.new.self in
     let made = c.in_ok-make_next.ensures.made in
     let learned : HasEntries new c.in-Some.number mid.listing.list.items = rw c.in-Some.is at c.in_ok-number.ensures.learned in
-    let after : Has new c.in-Some.number (listed mid.listing) = has_listed new mid.listing c.in-Some.number c.in_ok-number.ensures.listing learned in
+    let after : Has new c.in-Some.number (listed mid.listing) =
+    has_listed new mid.listing c.in-Some.number c.in_ok-number.ensures.listing learned in
     record {
       list = made.list;
       next = listed mid.listing;
       before = made.before;
-      after = same_lists new c.note_next.new.self c.in-Some.number (listed mid.listing) c.note_next.ensures.listing c.note_next.ensures.lists after;
+      after = same_lists new c.note_next.new.self c.in-Some.number (listed mid.listing) c.note_next.ensures.listing
+          c.note_next.ensures.lists after;
       is_next = made.is_next;
     }
 
@@ -45,6 +47,7 @@ returns-clause-next c =
       list = made.list;
       next = listed mid.listing;
       before = made.before;
-      after = has_listed c.learn_alone.new.self mid.listing c.in_ok-number-2.number (c.in_ok-number-2.ensures.listing ∙ same) (subst (λ m. HasEntries c.learn_alone.new.self c.in_ok-number-2.number m.list.items) same c.in_ok-number-2.ensures.learned);
+      after = has_listed c.learn_alone.new.self mid.listing c.in_ok-number-2.number (c.in_ok-number-2.ensures.listing ∙ same)
+          (subst (λ m. HasEntries c.learn_alone.new.self c.in_ok-number-2.number m.list.items) same c.in_ok-number-2.ensures.learned);
       is_next = made.is_next;
     }

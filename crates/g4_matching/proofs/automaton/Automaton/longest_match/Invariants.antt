@@ -8,7 +8,8 @@ abbrev pub invariant-loop-at : goal.invariant-loop-at
 invariant-loop-at l = record {
   within : l.at < length l.text;
   sound : IsSound l.modes l.self;
-  listed : (list : List LexerConfig) × Has l.self l.list list × SoFar l.modes.net.now (starts_in l.modes.starts.now l.mode) l.text l.at list l.best;
+  listed : (list : List LexerConfig) × Has l.self l.list list
+      × SoFar l.modes.net.now (starts_in l.modes.starts.now l.mode) l.text l.at list l.best;
 }
 
 abbrev pub decreases-loop-at : goal.decreases-loop-at

@@ -9,7 +9,10 @@ returns-in-Some-clause-within c =
     let a = c.args.character in
     let class = c.in-Some.class.now in
     let bounds = c.self.inside.bounds.items in
-    let there : slice_get c.self.inside.table.items a ≡ Some class = ap (λ l. slice_get l a) (sym c.deref.ensures.value) ∙ slice_get_read c.deref.result.now (length c.deref.result.now) a class refl c.in-Some.ensures.lookup.3.0 c.in-Some.ensures.lookup.1 in
+    let there : slice_get c.self.inside.table.items a ≡ Some class =
+    ap (λ l. slice_get l a) (sym c.deref.ensures.value)
+    ∙ slice_get_read c.deref.result.now (length c.deref.result.now) a class refl c.in-Some.ensures.lookup.3.0
+    c.in-Some.ensures.lookup.1 in
     let is : class ≡ class_in bounds a = c.self.invariant.1 a class there in
     let few : class_in bounds a ≤ length bounds = count_by-le-length (λ b. nat_le b a) bounds in
     let same : length bounds ≡ length c.args.self.now = ap length c.self.view_is in

@@ -13,13 +13,16 @@ returns-in-Some-clause-holds c =
     list_at _ _ _ _ _ _ c.self.view_is c.self.invariant at.1 at.2
 
 pub invariant_of-self-in_err-insert : goal.invariant_of-self-in_err-insert
-invariant_of-self-in_err-insert c = unchanged c.self.inside.nodes.items _ c.self.inside.numbers _ c.in_ok-reserve.ensures.items (λ q. ap (lookup (is_at (node_cmp q))) c.in_err-insert.ensures.err) c.self.invariant
+invariant_of-self-in_err-insert c = unchanged c.self.inside.nodes.items _ c.self.inside.numbers _ c.in_ok-reserve.ensures.items
+    (λ q. ap (lookup (is_at (node_cmp q))) c.in_err-insert.ensures.err) c.self.invariant
 
 pub invariant_of-self-2 : goal.invariant_of-self-2
 invariant_of-self-2 c =
     let none : get node_cmp c.self.inside.numbers (c.args.state, c.args.below) ≡ None = search rules in
     let grown : c.push_reserved.new.self.items ≡ c.self.inside.nodes.items ++ (c.args.state, c.args.below) ∷ [] = search rules in
-    one_node_more c.self.inside.nodes.items c.push_reserved.new.self.items c.self.inside.numbers c.insert.new.self (c.args.state, c.args.below) (c.len-n.result + 1) (search rules) (number_low _ _ _ c.self.view_is c.requires) (search rules) c.self.invariant none c.in_ok-insert.ensures.updates.0 grown
+    one_node_more c.self.inside.nodes.items c.push_reserved.new.self.items c.self.inside.numbers c.insert.new.self
+    (c.args.state, c.args.below) (c.len-n.result + 1) (search rules) (number_low _ _ _ c.self.view_is c.requires) (search rules)
+    c.self.invariant none c.in_ok-insert.ensures.updates.0 grown
 
 pub returns-clause-grows : goal.returns-clause-grows
 returns-clause-grows c =

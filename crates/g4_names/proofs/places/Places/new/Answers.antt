@@ -8,4 +8,5 @@ use Rattle.g4_names.proofs.places.Places.new.Goals as goal
 
 pub returns : goal.returns
 unfolding place_in
-returns c = λ name. ap (λ (entries : List (Bor (List ℕ) × ℕ)). lookup (is_at (λ (other : Bor (List ℕ)). slice_cmp nat_cmp name other.now)) entries) c.new.ensures.empty
+returns c = λ name. ap (λ (entries : List (Bor (List ℕ) × ℕ)).
+    lookup (is_at (λ (other : Bor (List ℕ)). slice_cmp nat_cmp name other.now)) entries) c.new.ensures.empty

@@ -6,7 +6,9 @@ use Rattle.g4_netlist.proofs.search.Search.reach.Goals as goal
 pub returns-in_ok-push-clause-under_way : goal.returns-in_ok-push-clause-under_way
 returns-in_ok-push-clause-under_way c =
     let new : IsNew c.args.self.now.found.items c.args.state = search rules in
-    λ net rule left known. subst (λ (ws : List ℕ). Known net rule left (set c.args.self.now.found.items c.args.state true) ws) (sym c.in_ok-push.ensures.items) (newly_marked net rule c.args.state left c.args.self.now.found.items c.args.self.now.waiting.items new known)
+    λ net rule left known. subst (λ (ws : List ℕ). Known net rule left (set c.args.self.now.found.items c.args.state true) ws)
+    (sym c.in_ok-push.ensures.items) (newly_marked net rule c.args.state left c.args.self.now.found.items
+    c.args.self.now.waiting.items new known)
 
 pub returns-in_ok-push-clause-work : goal.returns-in_ok-push-clause-work
 returns-in_ok-push-clause-work c =
@@ -17,4 +19,5 @@ returns-in_ok-push-clause-work c =
 pub returns-else-is_new-clause-under_way : goal.returns-else-is_new-clause-under_way
 returns-else-is_new-clause-under_way c =
     let no : c.is_new.result ≡ false = search rules in
-    λ net rule left known. passed_over net rule c.args.state left c.args.self.now.found.items c.args.self.now.waiting.items (λ new. true≢false (sym (c.is_new.ensures.1 new) ∙ no)) known
+    λ net rule left known. passed_over net rule c.args.state left c.args.self.now.found.items c.args.self.now.waiting.items
+    (λ new. true≢false (sym (c.is_new.ensures.1 new) ∙ no)) known

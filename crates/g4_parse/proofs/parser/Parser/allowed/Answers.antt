@@ -13,4 +13,6 @@ pub passing-requires-clause-within : goal.passing-requires-clause-within
 passing-requires-clause-within c = firsts_within c.args.net.now c.args.self.now.state c.args.targets.now c.requires.ready c.requires.decides
 
 pub returns : goal.returns
-returns c = subst (λ (xs : List ℕ). IsAllowed c.args.net.now c.args.self.now (Listed xs)) (sym c.new.ensures) (passing_allowed c.args.net.now c.args.self.now c.newest.result c.args.targets.now c.in_ok-found.found.items c.requires.decides c.newest.ensures c.in_ok-found.ensures)
+returns c = subst (λ (xs : List ℕ). IsAllowed c.args.net.now c.args.self.now (Listed xs)) (sym c.new.ensures)
+    (passing_allowed c.args.net.now c.args.self.now c.newest.result c.args.targets.now c.in_ok-found.found.items c.requires.decides
+    c.newest.ensures c.in_ok-found.ensures)

@@ -11,7 +11,25 @@ returns-then-len-ge-FARTHEST c = λ word r h. (omega (arith, length_returns r.fr
 pub returns : goal.returns
 returns c = λ word r h.
     let deep : length r.frames < farthest = omega (arith, length_returns r.frames, ap length h.returns) in (
-      record { state = start_of c.args.opened.rule; place = r.place; frames = record { back = c.args.back; level = c.args.opened.level; rule = c.args.opened.rule; alt = written_at c.args.net.now (start_of c.args.opened.rule); at = r.place; children = no_tree } ∷ r.frames; tree = r.tree },
+      record {
+        state = start_of c.args.opened.rule;
+        place = r.place;
+        frames = record {
+          back = c.args.back;
+          level = c.args.opened.level;
+          rule = c.args.opened.rule;
+          alt = written_at c.args.net.now (start_of c.args.opened.rule);
+          at = r.place;
+          children = no_tree;
+        } ∷ r.frames;
+        tree = r.tree;
+      },
       (deep, refl),
-      record { state = refl; place = h.place; returns = cc (h.returns, c.in_ok-push.ensures.items); opened = cc (h.opened, c.in_ok-push-2.ensures.items); tree = rw (← h.place, ← c.as_slice.ensures) (c.in_ok-open.ensures (grown r.frames r.tree) h.tree) },
+      record {
+        state = refl;
+        place = h.place;
+        returns = cc (h.returns, c.in_ok-push.ensures.items);
+        opened = cc (h.opened, c.in_ok-push-2.ensures.items);
+        tree = rw (← h.place, ← c.as_slice.ensures) (c.in_ok-open.ensures (grown r.frames r.tree) h.tree);
+      },
     )

@@ -9,7 +9,8 @@ use Rattle.g4_parse.proofs.parser.Parser.take.Goals as goal
 pub returns-then-not-contains : goal.returns-then-not-contains
 returns-then-not-contains c = λ net r h.
     let blank : Token = record { symbol = 0; channel = 0; place = record { line = 0; column = 0 }; start = 0; end = 0 } in
-    let next : slice_get (word_of c.args.tokens.now) r.place ≡ Some (get_or c.args.tokens.now c.args.self.now.place blank).symbol = rw (← h.place) (word_get c.args.tokens.now c.args.self.now.place blank c.requires.more) in (
+    let next : slice_get (word_of c.args.tokens.now) r.place ≡ Some (get_or c.args.tokens.now c.args.self.now.place blank).symbol =
+    rw (← h.place) (word_get c.args.tokens.now c.args.self.now.place blank c.requires.more) in (
       (get_or c.args.tokens.now c.args.self.now.place blank).symbol,
       next,
       (λ has. let yes : IsTrue c.contains.result = c.contains.ensures.1 has in cc),
@@ -19,7 +20,8 @@ returns-then-not-contains c = λ net r h.
 pub returns : goal.returns
 returns c = λ net r h.
     let blank : Token = record { symbol = 0; channel = 0; place = record { line = 0; column = 0 }; start = 0; end = 0 } in
-    let next : slice_get (word_of c.args.tokens.now) r.place ≡ Some (get_or c.args.tokens.now c.args.self.now.place blank).symbol = rw (← h.place) (word_get c.args.tokens.now c.args.self.now.place blank c.requires.more) in
+    let next : slice_get (word_of c.args.tokens.now) r.place ≡ Some (get_or c.args.tokens.now c.args.self.now.place blank).symbol =
+    rw (← h.place) (word_get c.args.tokens.now c.args.self.now.place blank c.requires.more) in
     let yes : IsTrue c.contains.result = cc in
     let kept = c.in_ok-keep.ensures.kept r h in (
       record { state = c.args.target; place = r.place + 1; frames = (with_token r r.frames).frames; tree = (with_token r r.frames).tree },

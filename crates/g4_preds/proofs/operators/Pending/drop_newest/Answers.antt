@@ -6,4 +6,5 @@ use Rattle.g4_preds.proofs.operators.Pending.drop_newest.Goals as goal
 pub returns : goal.returns
 returns c =
     let items = c.self.inside.operators.items in
-    ap newest_first (c.pop.ensures.rest ∙ ap (λ n. take (n - 1) items) c.self.inside.operators.ok.0) ∙ newest_first-take items ∙ ap (drop 1) c.self.view_is
+    ap newest_first (c.pop.ensures.rest ∙ ap (λ n. take (n - 1) items) c.self.inside.operators.ok.0) ∙ newest_first-take items
+    ∙ ap (drop 1) c.self.view_is

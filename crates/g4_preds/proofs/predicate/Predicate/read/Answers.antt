@@ -12,5 +12,8 @@ returns-in-Ok c =
 
 pub returns-in-Err-Unknown : goal.returns-in-Err-Unknown
 returns-in-Err-Unknown c =
-    let same : c.deref.result.now ≡ chars c.args.text.now = search (rules, chars_from_encodes) in
-    (refl, subst (λ (cs : List ℕ). (tree : Tree) → IsPredicate cs tree → ⊥) same (rw c.in-Err-Unknown.field-0-is at c.in-Err-Unknown.ensures))
+    let same : c.deref.result.now ≡ chars c.args.text.now = search (rules, chars_from_encodes) in (
+      refl,
+      subst (λ (cs : List ℕ). (tree : Tree) → IsPredicate cs tree → ⊥) same
+          (rw c.in-Err-Unknown.field-0-is at c.in-Err-Unknown.ensures),
+    )

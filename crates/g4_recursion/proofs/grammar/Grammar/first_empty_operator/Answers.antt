@@ -19,10 +19,13 @@ pub loop-rule-preserved : goal.loop-rule-preserved
 loop-rule-preserved c =
     let rules = rules_in c.args.self.now in
     let k = c.loop-rule.rule in
-    one_passed (HasEmptyOperator rules) k c.loop-rule.invariant (λ (i, empty). let (place, is) = operator_place rules k i empty in c.in_default.ensures place (subst (IsEmptyOperator rules k) is empty))
+    one_passed (HasEmptyOperator rules) k c.loop-rule.invariant
+    (λ (i, empty). let (place, is) = operator_place rules k i empty in
+    c.in_default.ensures place (subst (IsEmptyOperator rules k) is empty))
 
 pub returns-clause-first : goal.returns-clause-first
 returns-clause-first c =
     let items = c.args.self.now.rules.items in
     let rules = rules_in c.args.self.now in
-    all_passed (HasEmptyOperator rules) c.loop-rule.rule (length rules) (omega (arith, length-map items rule_view)) (operator_within rules) c.loop-rule.invariant
+    all_passed (HasEmptyOperator rules) c.loop-rule.rule (length rules) (omega (arith, length-map items rule_view))
+    (operator_within rules) c.loop-rule.invariant

@@ -9,8 +9,10 @@ steps-preserved-in-Left c = record {
   left = c.steps.invariant.left;
   right = c.steps.invariant.right;
   after = (let q = c.steps.invariant.after in omega arith);
-  at = subst (λ (es : List (ℕ × ℕ)). At c.args.self.now c.steps.current.left c.steps.current.right (c.steps.current.i + 1) c.steps.current.j es) (sym c.in_ok-push-in-Left.ensures.items)
-      (left_at c.args.self.now c.steps.current.left c.steps.current.right c.steps.current.i c.steps.current.j c.tops.result.now c.tops-in-steps.result.now c.steps.current.tops.items
+  at = subst (λ (es : List (ℕ × ℕ)). At c.args.self.now c.steps.current.left c.steps.current.right (c.steps.current.i + 1)
+      c.steps.current.j es) (sym c.in_ok-push-in-Left.ensures.items)
+      (left_at c.args.self.now c.steps.current.left c.steps.current.right c.steps.current.i c.steps.current.j c.tops.result.now
+      c.tops-in-steps.result.now c.steps.current.tops.items
       c.tops.ensures.read c.tops-in-steps.ensures.read c.steps.invariant.at c.in-Left.t c.in-Left.m c.in-Left.ensures);
 }
 
@@ -19,8 +21,10 @@ steps-preserved-in-Right c = record {
   left = c.steps.invariant.left;
   right = c.steps.invariant.right;
   after = c.steps.invariant.after;
-  at = subst (λ (es : List (ℕ × ℕ)). At c.args.self.now c.steps.current.left c.steps.current.right c.steps.current.i (c.steps.current.j + 1) es) (sym c.in_ok-push-in-Right.ensures.items)
-      (right_at c.args.self.now c.steps.current.left c.steps.current.right c.steps.current.i c.steps.current.j c.tops.result.now c.tops-in-steps.result.now c.steps.current.tops.items
+  at = subst (λ (es : List (ℕ × ℕ)). At c.args.self.now c.steps.current.left c.steps.current.right c.steps.current.i
+      (c.steps.current.j + 1) es) (sym c.in_ok-push-in-Right.ensures.items)
+      (right_at c.args.self.now c.steps.current.left c.steps.current.right c.steps.current.i c.steps.current.j c.tops.result.now
+      c.tops-in-steps.result.now c.steps.current.tops.items
       c.tops.ensures.read c.tops-in-steps.ensures.read c.steps.invariant.at c.in-Right.t c.in-Right.n c.in-Right.ensures);
 }
 
@@ -29,10 +33,13 @@ steps-preserved c = record {
   left = c.steps.invariant.left;
   right = c.steps.invariant.right;
   after = (let q = c.steps.invariant.after in omega arith);
-  at = subst (λ (es : List (ℕ × ℕ)). At c.args.self.now c.steps.current.left c.steps.current.right (c.steps.current.i + 1) (c.steps.current.j + 1) es) (sym c.in_ok-push-in-Both.ensures.items)
-      (step_both c.args.self.now c.steps.current.left c.steps.current.right _ _ c.steps.current.tops.items c.in-Both.t c.in-Both.m c.in-Both.n c.in-Some.both
+  at = subst (λ (es : List (ℕ × ℕ)). At c.args.self.now c.steps.current.left c.steps.current.right (c.steps.current.i + 1)
+      (c.steps.current.j + 1) es) (sym c.in_ok-push-in-Both.ensures.items)
+      (step_both c.args.self.now c.steps.current.left c.steps.current.right _ _ c.steps.current.tops.items c.in-Both.t c.in-Both.m
+      c.in-Both.n c.in-Some.both
       (subst IsCanonical c.self.view_is c.self.invariant.canonical)
-      (both_now c.args.self.now c.steps.current.left c.steps.current.right c.steps.current.i c.steps.current.j c.tops.result.now c.tops-in-steps.result.now c.steps.current.tops.items
+      (both_now c.args.self.now c.steps.current.left c.steps.current.right c.steps.current.i c.steps.current.j c.tops.result.now
+      c.tops-in-steps.result.now c.steps.current.tops.items
       c.tops.ensures.read c.tops-in-steps.ensures.read c.steps.invariant.at c.in-Both.t c.in-Both.m c.in-Both.n c.in-Both.ensures)
       c.in-Some.ensures.known c.in-Some.ensures.means);
 }

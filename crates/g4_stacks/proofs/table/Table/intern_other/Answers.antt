@@ -11,7 +11,8 @@ returns-in-Some-clause-holds c =
     let k : Key = (c.wanted.inside.end, c.wanted.inside.wild, c.wanted.inside.tops) in
     let several = subst (λ (d : Content). IsOne d → ⊥) (sym c.wanted.view_is) c.requires in
     let found : get key_cmp c.self.inside.index k ≡ Some c.in-Some.n = search rules in
-    let at : slice_get c.self.inside.nodes.items c.in-Some.n ≡ Some (content_by k) = (c.self.invariant.indexed k c.in-Some.n several).0 found in
+    let at : slice_get c.self.inside.nodes.items c.in-Some.n ≡ Some (content_by k) =
+    (c.self.invariant.indexed k c.in-Some.n several).0 found in
     held_at _ _ _ _ _ c.self.view_is c.wanted.view_is at
 
 pub invariant_of-self-2 : goal.invariant_of-self-2
@@ -22,7 +23,8 @@ invariant_of-self-2 c =
     let same : c.in_ok-tops.tops.items ≡ c.as_slice.result.now = search rules in
     let grown : c.push_reserved.new.self.items ≡ c.self.inside.nodes.items ++ content_by k ∷ [] = search rules in
     let l : c.len-n.result ≡ length c.self.inside.nodes.items = search rules in
-    other_more c.self.inside.nodes.items c.push_reserved.new.self.items c.self.inside.ones c.self.inside.index c.insert.new.self k c.len-n.result c.self.invariant l several none c.in_ok-insert.ensures.updates.0 grown (search rules)
+    other_more c.self.inside.nodes.items c.push_reserved.new.self.items c.self.inside.ones c.self.inside.index c.insert.new.self k
+    c.len-n.result c.self.invariant l several none c.in_ok-insert.ensures.updates.0 grown (search rules)
 
 pub returns-clause-added : goal.returns-clause-added
 returns-clause-added c =
@@ -31,7 +33,8 @@ returns-clause-added c =
     let none : get key_cmp c.self.inside.index k ≡ None = search rules in
     let same : c.in_ok-tops.tops.items ≡ c.as_slice.result.now = search rules in
     let grown : c.push_reserved.new.self.items ≡ c.self.inside.nodes.items ++ content_by k ∷ [] = search rules in
-    added_to _ _ _ _ _ c.self.view_is c.wanted.view_is (absent_by c.self.inside.nodes.items c.self.inside.index k several c.self.invariant.indexed none) grown
+    added_to _ _ _ _ _ c.self.view_is c.wanted.view_is
+    (absent_by c.self.inside.nodes.items c.self.inside.index k several c.self.invariant.indexed none) grown
 
 pub returns-clause-holds : goal.returns-clause-holds
 returns-clause-holds c =

@@ -22,9 +22,13 @@ store-requires g c =
     let there = ap (λ (v : View _). get_elem? v.rows c.args.row) c.self.view_is ∙ r.row.1 in (
       p.0 ∙ sym d.0,
       subst (λ (t : _). c.cell_word-word.result < t.words) (sym d.0) w.1,
-      rw d.1 (fills_cell g.A.Automaton.starts g.A.Automaton.leads g.B.Home.plan _ _ c.cell_word-word.result new r.guest.1.0 c.args.row c.args.column r.row.0 (End c.args.code) _ (step c.desk.result.now.table_id.slots c.cell_word-word.result new 0 none) refl refl
-          (ap (λ (v : View _). v.spent) p.2) (ap (λ (v : View _). v.is_book) p.2) (ap (λ (v : View _). has r.guest.1.0 v.holds) c.self.view_is ∙ r.guest.1.1)
-          w.0 r.place.1 there r.row.2 refl (λ led m. r.empty r.row.0 r.row.1 led (subst (λ (v : View _). Among (Cell r.row.0 c.args.column led) v.facts) c.self.view_is m)) (λ z m. subst (λ (l : List _). Among z l) tight m)),
+      rw d.1 (fills_cell g.A.Automaton.starts g.A.Automaton.leads g.B.Home.plan _ _ c.cell_word-word.result new r.guest.1.0 c.args.row
+          c.args.column r.row.0 (End c.args.code) _ (step c.desk.result.now.table_id.slots c.cell_word-word.result new 0 none) refl refl
+          (ap (λ (v : View _). v.spent) p.2) (ap (λ (v : View _). v.is_book) p.2)
+          (ap (λ (v : View _). has r.guest.1.0 v.holds) c.self.view_is ∙ r.guest.1.1)
+          w.0 r.place.1 there r.row.2 refl (λ led m.
+          r.empty r.row.0 r.row.1 led (subst (λ (v : View _). Among (Cell r.row.0 c.args.column led) v.facts) c.self.view_is m))
+          (λ z m. subst (λ (l : List _). Among z l) tight m)),
     )
 
 pub invariant_of-self : goal.invariant_of-self
@@ -40,4 +44,5 @@ pub returns : goal.returns
 returns g c = λ x row.
     let there = ap (λ (v : View _). get_elem? v.rows c.args.row) c.self.view_is ∙ row in
     subst (λ (q : View _). c.store.new.seat.me.0 ≡ filled (Cell x c.args.column (End c.args.code)) [] q) c.self.view_is
-    ((c.store.ensures.2.1 c.args.row c.args.column x (End c.args.code) [] there c.requires.place.1 c.cell_word-word.ensures.0 refl (refl, refl)).1)
+    ((c.store.ensures.2.1 c.args.row c.args.column x (End c.args.code) [] there c.requires.place.1 c.cell_word-word.ensures.0 refl
+    (refl, refl)).1)

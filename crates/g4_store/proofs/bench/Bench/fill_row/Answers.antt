@@ -22,9 +22,14 @@ store-requires g c =
     let target = ap (λ (v : View _). get_elem? v.rows c.args.target) c.self.view_is ∙ r.row.3 in (
       p.0 ∙ sym d.0,
       subst (λ (t : _). c.cell_word-word.result < t.words) (sym d.0) w.1,
-      rw d.1 (fills_cell g.A.Automaton.starts g.A.Automaton.leads g.B.Home.plan _ _ c.cell_word-word.result new r.guest.0 c.args.row c.args.column r.row.0 (Row r.row.1 c.args.mark) _ (step c.desk.result.now.table_id.slots c.cell_word-word.result new 0 none) refl refl
-          (ap (λ (v : View _). v.spent) p.2) (ap (λ (v : View _). v.is_book) p.2) (ap (λ (v : View _). has r.guest.0 v.holds) c.self.view_is ∙ r.guest.1)
-          w.0 r.place.1 there r.row.4 (c.args.target, target, refl) (λ led m. r.empty r.row.0 r.row.2 led (subst (λ (v : View _). Among (Cell r.row.0 c.args.column led) v.facts) c.self.view_is m)) (λ z m. r.row.5 z (subst (λ (v : View _). Among z v.loose) c.self.view_is m))),
+      rw d.1 (fills_cell g.A.Automaton.starts g.A.Automaton.leads g.B.Home.plan _ _ c.cell_word-word.result new r.guest.0 c.args.row
+          c.args.column r.row.0 (Row r.row.1 c.args.mark) _ (step c.desk.result.now.table_id.slots c.cell_word-word.result new 0 none)
+          refl refl
+          (ap (λ (v : View _). v.spent) p.2) (ap (λ (v : View _). v.is_book) p.2)
+          (ap (λ (v : View _). has r.guest.0 v.holds) c.self.view_is ∙ r.guest.1)
+          w.0 r.place.1 there r.row.4 (c.args.target, target, refl)
+          (λ led m. r.empty r.row.0 r.row.2 led (subst (λ (v : View _). Among (Cell r.row.0 c.args.column led) v.facts)
+          c.self.view_is m)) (λ z m. r.row.5 z (subst (λ (v : View _). Among z v.loose) c.self.view_is m))),
     )
 
 pub invariant_of-self : goal.invariant_of-self
@@ -34,12 +39,15 @@ invariant_of-self g c =
     let e = c.store.ensures in
     let there = ap (λ (v : View _). get_elem? v.rows c.args.row) c.self.view_is ∙ r.row.2 in
     let target = ap (λ (v : View _). get_elem? v.rows c.args.target) c.self.view_is ∙ r.row.3 in
-    let is = (e.2.1 c.args.row c.args.column r.row.0 (Row r.row.1 c.args.mark) ((c.args.target, r.row.1) ∷ []) there r.place.1 c.cell_word-word.ensures.0 (c.args.target, target, refl) (c.args.target, r.place.2, refl, refl)).1 in
+    let is = (e.2.1 c.args.row c.args.column r.row.0 (Row r.row.1 c.args.mark) ((c.args.target, r.row.1) ∷ []) there r.place.1
+    c.cell_word-word.ensures.0 (c.args.target, target, refl) (c.args.target, r.place.2, refl, refl)).1 in
     (e.0 ∙ p.0, e.2.0 ∙ p.1, filled_bench c.self.inside.rows.0 _ _ _ ((c.args.target, r.row.1) ∷ []) is p.2, p.3)
 
 pub returns : goal.returns
 returns g c = λ x y row row_y.
     let there = ap (λ (v : View _). get_elem? v.rows c.args.row) c.self.view_is ∙ row in
     let target = ap (λ (v : View _). get_elem? v.rows c.args.target) c.self.view_is ∙ row_y in
-    subst (λ (q : View _). c.store.new.seat.me.0 ≡ filled (Cell x c.args.column (Row y c.args.mark)) ((c.args.target, y) ∷ []) q) c.self.view_is
-    ((c.store.ensures.2.1 c.args.row c.args.column x (Row y c.args.mark) ((c.args.target, y) ∷ []) there c.requires.place.1 c.cell_word-word.ensures.0 (c.args.target, target, refl) (c.args.target, c.requires.place.2, refl, refl)).1)
+    subst (λ (q : View _). c.store.new.seat.me.0 ≡ filled (Cell x c.args.column (Row y c.args.mark)) ((c.args.target, y) ∷ []) q)
+    c.self.view_is
+    ((c.store.ensures.2.1 c.args.row c.args.column x (Row y c.args.mark) ((c.args.target, y) ∷ []) there c.requires.place.1
+    c.cell_word-word.ensures.0 (c.args.target, target, refl) (c.args.target, c.requires.place.2, refl, refl)).1)

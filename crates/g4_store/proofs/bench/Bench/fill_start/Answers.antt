@@ -19,9 +19,14 @@ store-requires g c =
     let there = ap (λ (v : View _). get_elem? v.rows c.args.target) c.self.view_is ∙ r.row.1 in (
       p.0 ∙ sym d.0,
       subst (λ (t : _). c.start_word-word.result < t.words) (sym d.0) w.1,
-      rw d.1 (fills_start g.A.Automaton.starts g.A.Automaton.leads g.B.Home.plan _ _ c.start_word-word.result (c.args.target + 1) r.guest.0 c.args.start c.args.target r.row.0 _ (step c.desk.result.now.table_id.slots c.start_word-word.result (c.args.target + 1) 0 none) refl refl
-          (ap (λ (v : View _). v.spent) p.2) (ap (λ (v : View _). v.is_book) p.2) (ap (λ (v : View _). has r.guest.0 v.holds) c.self.view_is ∙ r.guest.1)
-          w.0 r.place.0 there r.row.2 refl (λ y m. r.empty y (subst (λ (v : View _). Among (Start c.args.start y) v.facts) c.self.view_is m)) (λ z m. r.row.3 z (subst (λ (v : View _). Among z v.loose) c.self.view_is m))),
+      rw d.1 (fills_start g.A.Automaton.starts g.A.Automaton.leads g.B.Home.plan _ _ c.start_word-word.result (c.args.target + 1)
+          r.guest.0 c.args.start c.args.target r.row.0 _
+          (step c.desk.result.now.table_id.slots c.start_word-word.result (c.args.target + 1) 0 none) refl refl
+          (ap (λ (v : View _). v.spent) p.2) (ap (λ (v : View _). v.is_book) p.2)
+          (ap (λ (v : View _). has r.guest.0 v.holds) c.self.view_is ∙ r.guest.1)
+          w.0 r.place.0 there r.row.2 refl (λ y m. r.empty y
+          (subst (λ (v : View _). Among (Start c.args.start y) v.facts) c.self.view_is m))
+          (λ z m. r.row.3 z (subst (λ (v : View _). Among z v.loose) c.self.view_is m))),
     )
 
 pub invariant_of-self : goal.invariant_of-self
@@ -36,4 +41,5 @@ invariant_of-self g c =
 pub returns : goal.returns
 returns g c = λ y row.
     let there = ap (λ (v : View _). get_elem? v.rows c.args.target) c.self.view_is ∙ row in
-    subst (λ (q : View _). c.store.new.seat.me.0 ≡ filled (Start c.args.start y) ((c.args.target, y) ∷ []) q) c.self.view_is ((c.store.ensures.2.1 c.args.start c.args.target y c.requires.place.0 c.start_word-word.ensures.0 refl there).1)
+    subst (λ (q : View _). c.store.new.seat.me.0 ≡ filled (Start c.args.start y) ((c.args.target, y) ∷ []) q) c.self.view_is
+    ((c.store.ensures.2.1 c.args.start c.args.target y c.requires.place.0 c.start_word-word.ensures.0 refl there).1)

@@ -14,7 +14,8 @@ returns-else-not-reread_cell g c = λ x row.
     let e = c.if-not-reread_cell.ensures x row in
     let r = c.requires.row in
     let x_is : r.0 ≡ x = maybe.some-injective _ _ (sym r.1 ∙ row) in
-    let led_is : e.0 ≡ End c.args.code = g.A.Automaton.one_led g.B.Home.plan.net x c.args.column e.0 (End c.args.code) e.2 (subst (λ q. g.A.Automaton.leads g.B.Home.plan.net q c.args.column (End c.args.code)) x_is r.2) in
+    let led_is : e.0 ≡ End c.args.code = g.A.Automaton.one_led g.B.Home.plan.net x c.args.column e.0 (End c.args.code) e.2
+    (subst (λ q. g.A.Automaton.leads g.B.Home.plan.net q c.args.column (End c.args.code)) x_is r.2) in
     end_takes x c.args.column c.args.code c.args.self.now c.reread_cell.new.self e.0 e.1 c.requires.guest.0 led_is e.3 e.4 e.6
 
 pub fill_end-requires-clause-row : goal.fill_end-requires-clause-row
@@ -41,4 +42,5 @@ pub returns-then-not-reread_cell : goal.returns-then-not-reread_cell
 returns-then-not-reread_cell g c = λ x row.
     let e = c.if-not-reread_cell.ensures x row in
     fill_ends (Cell x c.args.column (End c.args.code)) c.args.self.now c.fill_end.new.self (e.1 (End c.args.code))
-    (c.fill_end.ensures x (ap (λ (v : View _). get_elem? v.rows c.args.row) e.0 ∙ row) ∙ ap (λ (v : View _). filled (Cell x c.args.column (End c.args.code)) [] v) e.0)
+    (c.fill_end.ensures x (ap (λ (v : View _). get_elem? v.rows c.args.row) e.0 ∙ row)
+    ∙ ap (λ (v : View _). filled (Cell x c.args.column (End c.args.code)) [] v) e.0)

@@ -12,7 +12,11 @@ follow-full-requires-clause-guest g c =
     let h : c.check.new.self ≡ hosting c.args.self.now c.args.guest.me.0 = c.check.ensures.same ∙ c.host.ensures in
     let r = c.requires in (
       ap (λ (v : View _). v.loose) h ∙ ap (λ (v : View _). v.loose) r.idle,
-      (r.guest.3.0, ap (λ (v : View _). has r.guest.3.0 v.holds) h ∙ ap (λ (v : View _). has r.guest.3.0 (union v.holds c.args.guest.me.0.holds)) r.idle ∙ r.guest.3.1),
+      (
+        r.guest.3.0,
+        ap (λ (v : View _). has r.guest.3.0 v.holds) h
+            ∙ ap (λ (v : View _). has r.guest.3.0 (union v.holds c.args.guest.me.0.holds)) r.idle ∙ r.guest.3.1,
+      ),
     )
 
 pub returns-clause-idle : goal.returns-clause-idle
@@ -42,7 +46,8 @@ returns-clause-learned g c =
     (ap (λ (v : View _). v.count) h ∙ ap (λ (v : View _). count_of v old) idle)
     (ap (λ (v : View _). v.taught) h ∙ ap (λ (v : View _). v.taught ++ old.taught) idle)
     (ap (λ (v : View _). v.looks) h)
-    (λ f m. subst (λ (v : View _). Among f v.facts) (sym c.check.ensures.same) (c.check.ensures.filled f (subst (λ (v : View _). Among f v.seen) c.check.ensures.same (subst (λ l. Among f l) (sym seen) m))))
+    (λ f m. subst (λ (v : View _). Among f v.facts) (sym c.check.ensures.same)
+    (c.check.ensures.filled f (subst (λ (v : View _). Among f v.seen) c.check.ensures.same (subst (λ l. Among f l) (sym seen) m))))
     c.follow-full.ensures k.known k.differ
     (subst (λ (v : View _). Sent c.follow-full.result v c.send-guest.result.me.0) k.same c.send-guest.ensures.guest)
 
@@ -53,10 +58,12 @@ returns-clause-fills g c =
     let k = c.check-2.ensures in
     let old = c.args.guest.me.0 in
     let bench = c.send-guest.ensures.bench in
-    fills g.B.Home.plan.rows c.args.path old c.check.new.self c.follow-full.new.self c.send-guest.result.me.0 c.args.self.now c.send-guest.new.self c.follow-full.result
+    fills g.B.Home.plan.rows c.args.path old c.check.new.self c.follow-full.new.self c.send-guest.result.me.0 c.args.self.now
+    c.send-guest.new.self c.follow-full.result
     (ap (λ (v : View _). v.taught) h ∙ ap (λ (v : View _). v.taught ++ old.taught) idle)
     (ap (λ (v : View _). v.facts) h)
     c.follow-full.ensures k.filled
-    (sent_taught c.follow-full.result c.check-2.new.self c.send-guest.result.me.0 c.send-guest.ensures.guest ∙ ap (λ (v : View _). v.taught) k.same)
+    (sent_taught c.follow-full.result c.check-2.new.self c.send-guest.result.me.0 c.send-guest.ensures.guest
+    ∙ ap (λ (v : View _). v.taught) k.same)
     (ap (λ (v : View _). v.facts) bench ∙ ap (λ (v : View _). v.facts) k.same)
     (ap (λ (v : View _). v.rows) bench ∙ ap (λ (v : View _). v.rows) k.same)

@@ -14,8 +14,11 @@ returns-then-reread_cell g c = λ x row.
     let e = c.if-reread_cell.ensures x row in
     let r = c.requires.row in
     let x_is : r.0 ≡ x = maybe.some-injective _ _ (sym r.1 ∙ row) in
-    let led_is : e.0 ≡ Row c.args.content c.args.mark = g.A.Automaton.one_led g.B.Home.plan.net x c.args.column e.0 (Row c.args.content c.args.mark) e.2 (subst (λ q. g.A.Automaton.leads g.B.Home.plan.net q c.args.column (Row c.args.content c.args.mark)) x_is r.2) in
-    cell_takes g.B.Home.plan.rows x c.args.column c.args.content c.args.mark c.args.self.now c.reread_cell.new.self e.0 e.1 c.find.result c.requires.guest.0 led_is e.3 e.4 e.5 e.6 c.find.ensures.some c.find.ensures.none
+    let led_is : e.0 ≡ Row c.args.content c.args.mark =
+    g.A.Automaton.one_led g.B.Home.plan.net x c.args.column e.0 (Row c.args.content c.args.mark) e.2
+    (subst (λ q. g.A.Automaton.leads g.B.Home.plan.net q c.args.column (Row c.args.content c.args.mark)) x_is r.2) in
+    cell_takes g.B.Home.plan.rows x c.args.column c.args.content c.args.mark c.args.self.now c.reread_cell.new.self e.0 e.1
+    c.find.result c.requires.guest.0 led_is e.3 e.4 e.5 e.6 c.find.ensures.some c.find.ensures.none
 
 pub place_row-requires-clause-row : goal.place_row-requires-clause-row
 place_row-requires-clause-row g c =
@@ -40,5 +43,6 @@ place_row-requires-clause-guest g c =
 pub returns : goal.returns
 returns g c = λ x row.
     let e = c.if-reread_cell.ensures x row in
-    subst (λ (v : View _). TakesOr g.B.Home.plan.rows (Cell x c.args.column (Row c.args.content c.args.mark)) c.args.content v c.place_row.new.self c.place_row.result) e.0
+    subst (λ (v : View _). TakesOr g.B.Home.plan.rows (Cell x c.args.column (Row c.args.content c.args.mark)) c.args.content v
+    c.place_row.new.self c.place_row.result) e.0
     (c.place_row.ensures x (ap (λ (v : View _). get_elem? v.rows c.args.row) e.0 ∙ row))

@@ -11,7 +11,8 @@ split_seat-requires g c =
     let r = c.requires in (
       p.0 ∙ sym d.0,
       d.3,
-      rw d.1 (sends_off g.A.Automaton.starts g.A.Automaton.leads g.B.Home.plan _ _ (ap (λ (v : View _). v.spent) p.2) (ap (λ (v : View _). v.is_book) p.2) (ap (λ (v : View _). v.loose) c.self.view_is ∙ r)),
+      rw d.1 (sends_off g.A.Automaton.starts g.A.Automaton.leads g.B.Home.plan _ _ (ap (λ (v : View _). v.spent) p.2)
+          (ap (λ (v : View _). v.is_book) p.2) (ap (λ (v : View _). v.loose) c.self.view_is ∙ r)),
     )
 
 pub invariant_of-self : goal.invariant_of-self
@@ -19,5 +20,10 @@ invariant_of-self g c =
     let p = c.self.invariant in
     let e = c.split_seat.ensures in
     let is = ap (λ m. m.0) e.2 in
-    let rows = ap (λ (v : View _). v.rows) p.2 in
-    (e.0 ∙ p.0, ap (λ m. m.1) e.2 ∙ p.1, subst (λ (u : View _). IsBookOf c.self.inside.rows.0 u) (sym is) (ap (λ (l : List _). book_view l c.self.inside.seat.me.0.loose c.self.inside.seat.me.0.facts [] [] [] [] 0 no_looks) rows), p.3)
+    let rows = ap (λ (v : View _). v.rows) p.2 in (
+      e.0 ∙ p.0,
+      ap (λ m. m.1) e.2 ∙ p.1,
+      subst (λ (u : View _). IsBookOf c.self.inside.rows.0 u) (sym is)
+          (ap (λ (l : List _). book_view l c.self.inside.seat.me.0.loose c.self.inside.seat.me.0.facts [] [] [] [] 0 no_looks) rows),
+      p.3,
+    )

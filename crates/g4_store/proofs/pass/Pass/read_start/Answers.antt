@@ -14,7 +14,8 @@ load-found-requires g c =
     let w = c.start_word-word.ensures in (
       p.0 ∙ sym d.0,
       subst (λ (t : _). c.start_word-word.result < t.words) (sym d.0) w.1,
-      rw d.1 (probes_start g.A.Automaton.starts g.A.Automaton.leads g.B.Home.plan _ _ _ c.args.start _ (step c.desk.result.now.table_id.slots c.start_word-word.result 0 0 none) refl w.0 c.requires (ap (λ v. v.spent) p.2)),
+      rw d.1 (probes_start g.A.Automaton.starts g.A.Automaton.leads g.B.Home.plan _ _ _ c.args.start _
+          (step c.desk.result.now.table_id.slots c.start_word-word.result 0 0 none) refl w.0 c.requires (ap (λ v. v.spent) p.2)),
     )
 
 pub invariant_of-self : goal.invariant_of-self
@@ -29,5 +30,7 @@ pub returns-clause-found : goal.returns-clause-found
 returns-clause-found g c =
     let e = c.load-found.ensures in
     let t = e.2.1 c.args.start c.requires c.start_word-word.ensures.0 in
-    subst (λ (q : _). StartFound g.A.Automaton.starts g.A.Automaton.leads g.B.Home.plan c.args.start q.0 c.load-found.new.seat.me.0 c.decode_start.result) c.self.view_is
-    (start_found g.A.Automaton.starts g.A.Automaton.leads g.B.Home.plan c.args.start c.load-found.result c.self.inside.seat.me.0 c.load-found.new.seat.me.0 c.decode_start.result c.decode_start.ensures t)
+    subst (λ (q : _). StartFound g.A.Automaton.starts g.A.Automaton.leads g.B.Home.plan c.args.start q.0 c.load-found.new.seat.me.0
+    c.decode_start.result) c.self.view_is
+    (start_found g.A.Automaton.starts g.A.Automaton.leads g.B.Home.plan c.args.start c.load-found.result c.self.inside.seat.me.0
+    c.load-found.new.seat.me.0 c.decode_start.result c.decode_start.ensures t)

@@ -17,8 +17,16 @@ invariant_of-self g c =
     let size : length (contents ++ c.args.content ∷ []) ≡ length contents + 1 = length-append contents (c.args.content ∷ []) in
     let room : length contents < c.self.inside.most = subst (λ q. length q.0 < q.1) (sym c.self.view_is) c.requires in (
       (
-        subst (λ (q : List g.row.C.Denot × List ℕ). AreLinked g.C.Content.code q.0 (set newest bucket (c.len-row.result + 1)) q.1) (λ j. (sym rows.0 j, sym (older.0 ∙ ap (λ (n : ℕ). c.self.inside.older.items ++ n ∷ []) (c.index.ensures ∙ get_any newest bucket c.index.result.now 0 (omega arith))) j))
-            (subst (λ (n : ℕ). AreLinked g.C.Content.code (contents ++ c.args.content ∷ []) (set newest bucket (n + 1)) (c.self.inside.older.items ++ get_or newest bucket 0 ∷ [])) (sym count) (links_more g.C.Content.code contents newest c.self.inside.older.items c.args.content bucket (c.bucket_of-bucket.ensures.0 ∙ (λ j. c.hash.ensures j % length (c.as_slice.ensures.value j))) (omega arith) i.0.0)),
+        subst (λ (q : List g.row.C.Denot × List ℕ). AreLinked g.C.Content.code q.0 (set newest bucket (c.len-row.result + 1)) q.1)
+            (λ j. (
+              sym rows.0 j,
+              sym (older.0 ∙ ap (λ (n : ℕ). c.self.inside.older.items ++ n ∷ [])
+                  (c.index.ensures ∙ get_any newest bucket c.index.result.now 0 (omega arith))) j,
+            ))
+            (subst (λ (n : ℕ). AreLinked g.C.Content.code (contents ++ c.args.content ∷ []) (set newest bucket (n + 1))
+            (c.self.inside.older.items ++ get_or newest bucket 0 ∷ [])) (sym count)
+            (links_more g.C.Content.code contents newest c.self.inside.older.items c.args.content bucket
+            (c.bucket_of-bucket.ensures.0 ∙ (λ j. c.hash.ensures j % length (c.as_slice.ensures.value j))) (omega arith) i.0.0)),
         (let a = ap length rows.0 in omega arith),
       ),
       (i.1.0, (let a = i.1.1 in let b = rows.1 in omega arith), (let a = i.1.2 in let b = older.1 in omega arith)),

@@ -14,16 +14,21 @@ loop-symbol-preserved c =
     elim c.if-contains.branch [
       | then-contains w ↦
           elim w.if-first-symbol.branch [
-            | then-first-symbol+in_ok-push v ↦ rw (w.ranges-is, w.first-is, v.ranges-is) (left_out set rs first symbol h _ (sym c.contains.ensures ∙ w.if-contains.true) v.if-first-symbol.true v.in_ok-push.ensures.items)
-            | else-first-symbol v ↦ rw (w.ranges-is, w.first-is, v.ranges-is) (left_next set rs first symbol h (sym c.contains.ensures ∙ w.if-contains.true) v.if-first-symbol.false)
+            | then-first-symbol+in_ok-push v ↦ rw (w.ranges-is, w.first-is, v.ranges-is)
+                (left_out set rs first symbol h _ (sym c.contains.ensures ∙ w.if-contains.true) v.if-first-symbol.true
+                v.in_ok-push.ensures.items)
+            | else-first-symbol v ↦ rw (w.ranges-is, w.first-is, v.ranges-is)
+                (left_next set rs first symbol h (sym c.contains.ensures ∙ w.if-contains.true) v.if-first-symbol.false)
           ]
       | else-contains w ↦ rw (w.ranges-is, w.first-is) (left_in set rs first symbol h (sym c.contains.ensures ∙ w.if-contains.false))
     ]
 
 pub invariant_of-result : goal.invariant_of-result
 invariant_of-result c =
-    let h : IsLeft c.args.left_out.now c.loop-symbol.ranges.items c.loop-symbol.first c.loop-symbol.symbol-counter = c.loop-symbol.invariant in
+    let h : IsLeft c.args.left_out.now c.loop-symbol.ranges.items c.loop-symbol.first c.loop-symbol.symbol-counter =
+    c.loop-symbol.invariant in
     elim c.if-first-greatest.branch [
-      | then-first-greatest+in_ok-push-2 w ↦ rw w.ranges-is (last_apart _ _ _ _ h _ c.args.greatest w.if-first-greatest.true w.in_ok-push-2.ensures.items)
+      | then-first-greatest+in_ok-push-2 w ↦ rw w.ranges-is
+          (last_apart _ _ _ _ h _ c.args.greatest w.if-first-greatest.true w.in_ok-push-2.ensures.items)
       | else-first-greatest w ↦ rw w.ranges-is (ended_apart _ _ _ _ h)
     ]

@@ -11,7 +11,8 @@ returns c = λ rules word rest.
     let old = c.args.self.now in
     let opened : OpenNode = record { rule = c.args.rule; alt = c.args.alt; at = c.args.at; before = c.replace-before.result } in
     let heads : c.replace-before.new.dest.items ≡ [] = ap (λ v. v.items) c.replace-before.ensures.after ∙ c.new.ensures.items in
-    let nodes : reverse c.push.new.self.items ≡ opened ∷ reverse old.nodes.items = ap reverse c.in_ok-push.ensures.items ∙ newest_first old.nodes.items opened in
+    let nodes : reverse c.push.new.self.items ≡ opened ∷ reverse old.nodes.items =
+    ap reverse c.in_ok-push.ensures.items ∙ newest_first old.nodes.items opened in
     let before : opened.before.items ≡ old.heads.items = ap (λ v. v.items) c.replace-before.ensures.value in
     let read = read_enter rules word (reverse old.nodes.items) old.heads.items old.next opened rest before in
     let same : c.args.at ≡ old.next = c.if-at-self.false in (
@@ -29,5 +30,8 @@ returns c = λ rules word rest.
 
 pub returns-then-at-self : goal.returns-then-at-self
 returns-then-at-self c = λ rules word rest.
-    let old = c.args.self.now in
-    (λ h. absurd (c.if-at-self.true (no_enter rules word (reverse old.nodes.items) old.heads.items old.next c.args.rule c.args.alt c.args.at rest h)), λ h. absurd (let n : ⊥ = cc (h.0) in n))
+    let old = c.args.self.now in (
+      λ h. absurd (c.if-at-self.true (no_enter rules word (reverse old.nodes.items) old.heads.items old.next c.args.rule c.args.alt
+          c.args.at rest h)),
+      λ h. absurd (let n : ⊥ = cc (h.0) in n),
+    )

@@ -10,13 +10,16 @@ returns-then-is_empty c = λ rules word.
     let now = c.args.self.now in
     let none : now.nodes.items ≡ [] = empty_vec now.nodes (eqb-true (vec_len now.nodes) 0 (sym c.if-is_empty.ensures)) in
     let all = read_all rules word now.heads.items now.next in (
-      λ h. subst (λ (ns : List OpenNode). Completes rules word ns now.heads.items now.next []) (sym (ap reverse none)) (all.0 (subst IsOneNode c.as_slice.ensures.value (c.is_one_node.ensures.0 h))),
-      λ h. c.is_one_node.ensures.1 (subst IsOneNode (sym c.as_slice.ensures.value) (all.1 (subst (λ (ns : List OpenNode). Completes rules word ns now.heads.items now.next []) (ap reverse none) h))),
+      λ h. subst (λ (ns : List OpenNode). Completes rules word ns now.heads.items now.next []) (sym (ap reverse none))
+          (all.0 (subst IsOneNode c.as_slice.ensures.value (c.is_one_node.ensures.0 h))),
+      λ h. c.is_one_node.ensures.1 (subst IsOneNode (sym c.as_slice.ensures.value)
+          (all.1 (subst (λ (ns : List OpenNode). Completes rules word ns now.heads.items now.next []) (ap reverse none) h))),
     )
 
 pub returns-else-is_empty : goal.returns-else-is_empty
 returns-else-is_empty c = λ rules word.
     let now = c.args.self.now in (
       λ h. absurd (let no = c.if-is_empty.false in let n : ⊥ = cc in n),
-      λ h. c.is_empty.ensures ∙ eq-eqb (vec_len now.nodes) 0 (vec_of_none now.nodes (open_not_complete rules word now.nodes.items now.heads.items now.next h)),
+      λ h. c.is_empty.ensures ∙ eq-eqb (vec_len now.nodes) 0
+          (vec_of_none now.nodes (open_not_complete rules word now.nodes.items now.heads.items now.next h)),
     )

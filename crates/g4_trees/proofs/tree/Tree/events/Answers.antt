@@ -6,4 +6,5 @@ use Rattle.g4_trees.proofs.TreeLines.{events_from_tree}
 use Rattle.g4_trees.proofs.tree.Tree.events.Goals as goal
 
 pub returns : goal.returns
-returns c = λ t is. subst (λ (all : List Event). IfOk c.events_among.result (λ v. v.items ≡ all)) (ap (events_from []) (c.items.ensures ∙ is) ∙ events_from_tree t) c.events_among.ensures
+returns c = λ t is. subst (λ (all : List Event). IfOk c.events_among.result (λ v. v.items ≡ all))
+    (ap (events_from []) (c.items.ensures ∙ is) ∙ events_from_tree t) c.events_among.ensures

@@ -13,5 +13,7 @@ returns-clause-table c =
     let characters : List ℕ = c.as_slice-characters.result.now in
     let entry : Entry = record { key = Literal c.new.result; number = old.greatest + 1; shown = c.in_ok-copy_of.field-0 } in
     let copied : c.new.result ≡ characters = first_of (search rules, grind (arith, common_steps)) in
-    literal_pushed old _ characters entry c.requires.table c.requires.room (ap (λ (cs : List ℕ). number_of old.entries.items (Literal cs)) c.as_slice-characters.ensures ∙ c.requires.fresh) (ap Literal copied) refl c.in_ok-push.ensures.items
+    literal_pushed old _ characters entry c.requires.table c.requires.room
+    (ap (λ (cs : List ℕ). number_of old.entries.items (Literal cs)) c.as_slice-characters.ensures ∙ c.requires.fresh)
+    (ap Literal copied) refl c.in_ok-push.ensures.items
     (btree_map_updates_str characters old.literals c.insert.new.self (Some (old.greatest + 1)) c.in_ok-insert.ensures.updates) refl refl
