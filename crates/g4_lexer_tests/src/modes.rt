@@ -1,0 +1,173 @@
+// Modes other than the default one, which no command line can load yet: a lexer grammar, and what texts are lexed to by it.
+ghost use Rattle.std.specs.Prelude.{IfOk};
+ghost use Rattle.g4_source.specs.Blocks.{HaveAlternatives, LexerRulesAreFull, ModesAreFull};
+ghost use Rattle.g4_lexer_rules.specs.Lexable.{CanBeLexed};
+ghost use Rattle.g4_lexer_rules.specs.NetworkRules.{all_rules};
+ghost use Rattle.g4_ordered.specs.Network.{IsLexable};
+
+use g4_base::{Place, Sequence, Text};
+use g4_checks::check;
+use g4_lexer::{LexFault, Lexer, tokens};
+use g4_lexer_rules::{
+    CommandTables, LexerRules, build_lexer, lexer_commands, lexer_rules_of, tables_of,
+};
+use g4_reader::read_grammar;
+use g4_source::Source;
+use g4_tokens::Tokens;
+use g4_vocab::number;
+use std::alloc::{AllocError, Global};
+use std::fmt::Write;
+use std::test::Fail;
+
+/// A grammar of three modes. In each of them an `x` has another type, and other characters change the mode.
+const GRAMMAR: &str = "lexer grammar X;
+A : [x] ; B : [b] ; C : [c] ;
+PUSH : [<] -> pushMode(M) ; POP : [>] -> popMode ; GO : [!] -> mode(N) ; QUOTE : [q] -> more, pushMode(N) ;
+mode M;
+M1 : [x] -> type(B) ; M2 : [<] -> type(PUSH), pushMode(N) ; M3 : [>] -> type(POP), popMode ; M4 : [!] -> type(GO), mode(N) ;
+mode N;
+N1 : [x] -> type(C) ; N2 : [>] -> type(POP), popMode ; N3 : [!] -> type(GO), mode(DEFAULT_MODE) ;";
+
+/// Texts, and their tokens or the fault, worked out by hand.
+const TABLE: &str = "x => A 0-1
+x<x>x => A 0-1 PUSH 1-2 B 2-3 POP 3-4 A 4-5
+<<x>x>x => PUSH 0-1 PUSH 1-2 C 2-3 POP 3-4 B 4-5 POP 5-6 A 6-7
+!x! => GO 0-1 C 1-2 GO 2-3
+<!x>x => PUSH 0-1 GO 1-2 C 2-3 POP 3-4 A 4-5
+<<!x>x => PUSH 0-1 PUSH 1-2 GO 2-3 A 3-4 POP 4-5 B 5-6
+qx>x => C 0-2 POP 2-3 A 3-4
+!x> => no mode at 2
+<q => no token at 1
+q<x => no token at 1";
+
+/// The rules of a lexer, what their commands name, and what is shown of its token types from 1 on.
+#[derive(Drop)]
+struct Prepared {
+    rules: LexerRules,
+    tables: CommandTables,
+    shown: Sequence<Text>,
+}
+
+/// The lexer's rules of a grammar that has no fault.
+#[tactic(auto, using(g4_lexer_rules::proofs::Checked::can_be_lexed))]
+fn checked(alloc: Global, source: Source) -> Result<Prepared, Fail>
+    requires { HaveAlternatives source }
+    ensures full { IfOk result (λ found. LexerRulesAreFull found.rules.literals × ModesAreFull found.rules.modes) }
+    ensures lexed { IfOk result (λ found. CanBeLexed (all_rules found.rules.literals found.rules.modes)) }
+{
+    let Ok(grammar) = number(alloc, &source) else {
+        return Err(Fail::from("a limit"));
+    };
+    let Ok(()) = check(alloc, &source) else {
+        return Err(Fail::from("a fault of the rules"));
+    };
+    let tables = tables_of(alloc, &source, grammar.names)?;
+    let rules = lexer_rules_of(alloc, source, grammar.token_rules)?;
+    Ok(Prepared {
+        rules,
+        tables,
+        shown: grammar.shown,
+    })
+}
+
+/// The lexer of these rules.
+#[tactic(auto, using(g4_lexer_rules::proofs::Lexed::is_lexable))]
+fn lexer_of(alloc: Global, rules: LexerRules, tables: &CommandTables) -> Result<Lexer, Fail>
+    requires full { LexerRulesAreFull rules.literals × ModesAreFull rules.modes }
+    requires lexed { CanBeLexed (all_rules rules.literals rules.modes) }
+    ensures { IfOk result (λ lexer. IsLexable lexer.net) }
+{
+    let LexerRules {
+        literals,
+        modes,
+        types,
+    } = rules;
+    let Ok(made) = build_lexer(alloc, literals.into_vec(), modes.into_vec()) else {
+        return Err(Fail::from("no network"));
+    };
+    let commands = lexer_commands(alloc, tables, made.commands.as_slice())?;
+    Ok(Lexer {
+        net: made.net,
+        modes: made.modes,
+        types,
+        commands,
+    })
+}
+
+/// What is shown of a token type.
+fn name_of(shown: &[Text], symbol: u32) -> &str {
+    match shown.get((symbol as usize).saturating_sub(1)) {
+        Some(name) => name.as_str(),
+        None => "none",
+    }
+}
+
+/// The tokens of all channels: what is shown of the type, and the span.
+fn write_tokens(out: &mut String, shown: &[Text], found: &Tokens) -> Result<(), AllocError> {
+    for token in found.all.as_slice() {
+        let name = name_of(shown, token.symbol);
+        let start = token.start;
+        let end = token.end;
+        write!(out, "{name} {start}-{end} ")?;
+    }
+    Ok(())
+}
+
+fn write_place(out: &mut String, what: &str, place: Place) -> Result<(), AllocError> {
+    let column = place.column;
+    write!(out, "{what} at {column}")
+}
+
+fn write_fault(out: &mut String, fault: &LexFault) -> Result<(), AllocError> {
+    match fault {
+        LexFault::NoToken(place, _) => write_place(out, "no token", *place),
+        LexFault::EmptyModeStack(place) => write_place(out, "no mode", *place),
+        _ => out.push_str("other"),
+    }
+}
+
+/// What a text is lexed to.
+fn lexed(alloc: Global, lexer: &Lexer, shown: &[Text], text: &str) -> Result<String, Fail>
+    requires { IsLexable lexer.now.net }
+{
+    if text.len() > 1_000_000 {
+        return Err(Fail::from("a long text"));
+    }
+    let mut out = String::new(alloc);
+    match tokens(alloc, lexer, Sequence::new(text.as_bytes().to_vec(alloc)?)) {
+        Ok(found) => write_tokens(&mut out, shown, &found)?,
+        Err(fault) => write_fault(&mut out, &fault)?,
+    }
+    Ok(out)
+}
+
+/// The rows of which something else is found.
+fn differing(alloc: Global, lexer: &Lexer, shown: &[Text]) -> Result<String, Fail>
+    requires { IsLexable lexer.now.net }
+{
+    let mut all = String::new(alloc);
+    for row in TABLE.lines() {
+        let (text, wanted) = row.split_once(" => ").unwrap_or((row, ""));
+        let found = lexed(alloc, lexer, shown, text)?;
+        if found.as_str().trim_end() != wanted {
+            write!(all, "\n{row}\n  is {found}")?;
+        }
+    }
+    Ok(all)
+}
+
+#[test]
+fn modes(rt: HostRuntime) -> Result<(), Fail> {
+    let Ok(source) = read_grammar(rt.alloc(), GRAMMAR.as_bytes()) else {
+        return Err(Fail::from("no grammar"));
+    };
+    let Prepared {
+        rules,
+        tables,
+        shown,
+    } = checked(rt.alloc(), source)?;
+    let lexer = lexer_of(rt.alloc(), rules, &tables)?;
+    let wrong = differing(rt.alloc(), &lexer, shown.as_slice())?;
+    assert_eq!(rt; wrong.as_str(), "");
+    Ok(())
+}
