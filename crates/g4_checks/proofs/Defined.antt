@@ -10,7 +10,6 @@ use Rattle.g4_source.specs.declared.rule.Rule.TheVariants as rules
 use Rattle.g4_source.specs.declared.source.Source.{Source}
 use Rattle.g4_source.specs.Rules.{lexer_rules, parser_rules}
 use Rattle.g4_source.specs.Atoms.{AtomIn}
-use Rattle.g4_source.specs.InOrder.{rules_of}
 use Rattle.g4_source.specs.declared.kind.RuleKind.{RuleKind}
 use Rattle.g4_source.specs.declared.kind.RuleKind.TheVariants.{Parser, Lexer}
 use Rattle.g4_grammar.specs.Written.{is_rule_of, KindIsDefined, RulesAreDefined}
@@ -78,7 +77,7 @@ module _ (all : List Rule) where
   defined Lexer (kinds.Predicate name) h = tt
 
 -- the references of a grammar that has the rules that it names
-pub rules_defined : (source : Source) → HasRules source → RulesAreDefined (rules_of source)
+pub rules_defined : (source : Source) → HasRules source → RulesAreDefined source.rules
 rules_defined source h =
-    All-weaker (λ (a : AtomIn). (n : List ℕ) → NamesNoRule source a n → ⊥) (λ a. KindIsDefined (rules_of source) a.kind a.atom.kind)
-    (λ a none. defined (rules_of source) a.kind a.atom.kind none) (atoms_in source) h
+    All-weaker (λ (a : AtomIn). (n : List ℕ) → NamesNoRule source a n → ⊥) (λ a. KindIsDefined source.rules a.kind a.atom.kind)
+    (λ a none. defined source.rules a.kind a.atom.kind none) (atoms_in source) h

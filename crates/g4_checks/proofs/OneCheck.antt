@@ -2,7 +2,6 @@
 use Rattle.std.proofs.Common.{◌≡◌, ◌≢◌, Result, Ok, Err, ap, refl}
 use Rattle.std.specs.Prelude.{⊤}
 use Rattle.g4_source.specs.declared.source.Source.{Source}
-use Rattle.g4_source.specs.InOrder.{rules_of}
 use Rattle.g4_checks.specs.declared.references.ReferenceFault.{ReferenceFault}
 use Rattle.g4_checks.specs.declared.references.ReferenceFault.TheVariants as references
 use Rattle.g4_checks.specs.References.{HasNoClash}
@@ -19,10 +18,10 @@ use Rattle.g4_checks.specs.Checking.{of_reference, of_recursion, IsChecked}
 
 -- An answer that is not for want of memory, by the half that gives it.
 data IsBy (source : Source) : Result ⊤ CheckFault → Type 0 where
-  no_fault : (t : ⊤) → HasNoClash source → HaveNoFault (rules_of source) → IsBy source (Ok t)
+  no_fault : (t : ⊤) → HasNoClash source → HaveNoFault source.rules → IsBy source (Ok t)
   by_reference : (fault : ReferenceFault) → naming.IsChecked source (Err fault) → fault ≢ references.NoMemory
       → IsBy source (Err (of_reference fault))
-  by_recursion : (fault : RecursionFault) → HasNoClash source → calling.IsChecked (rules_of source) (Err fault)
+  by_recursion : (fault : RecursionFault) → HasNoClash source → calling.IsChecked source.rules (Err fault)
       → fault ≢ recursions.NoMemory → IsBy source (Err (of_recursion fault))
 
 module _ (source : Source) where
@@ -47,19 +46,19 @@ module _ (source : Source) where
       one_naming.one_check source (Ok tt) (Err fault) none told (λ n. cc) (λ n. other (cc)) in cc
 
   -- nor by how they call each other
-  not_both_calls : (fault : RecursionFault) → HaveNoFault (rules_of source) → calling.IsChecked (rules_of source) (Err fault)
+  not_both_calls : (fault : RecursionFault) → HaveNoFault source.rules → calling.IsChecked source.rules (Err fault)
       → fault ≢ recursions.NoMemory → ⊥
   not_both_calls fault none told other = let e : Ok tt ≡ Err fault =
-      one_calling.one_recursion (rules_of source) (Ok tt) (Err fault) none told (λ n. cc) (λ n. other (cc)) in cc
+      one_calling.one_recursion source.rules (Ok tt) (Err fault) none told (λ n. cc) (λ n. other (cc)) in cc
 
   one_reference : (f g : ReferenceFault) → naming.IsChecked source (Err f) → naming.IsChecked source (Err g) → f ≢ references.NoMemory
       → g ≢ references.NoMemory → f ≡ g
   one_reference f g h k m n = let e : Err f ≡ Err g = one_naming.one_check source (Err f) (Err g) h k (λ e. m (cc)) (λ e. n (cc)) in cc
 
-  one_recursion : (f g : RecursionFault) → calling.IsChecked (rules_of source) (Err f) → calling.IsChecked (rules_of source) (Err g)
+  one_recursion : (f g : RecursionFault) → calling.IsChecked source.rules (Err f) → calling.IsChecked source.rules (Err g)
       → f ≢ recursions.NoMemory → g ≢ recursions.NoMemory → f ≡ g
   one_recursion f g h k m n = let e : Err f ≡ Err g =
-      one_calling.one_recursion (rules_of source) (Err f) (Err g) h k (λ e. m (cc)) (λ e. n (cc)) in cc
+      one_calling.one_recursion source.rules (Err f) (Err g) h k (λ e. m (cc)) (λ e. n (cc)) in cc
 
   one_by : (a b : Result ⊤ CheckFault) → IsBy source a → IsBy source b → a ≡ b
   one_by _ _ (no_fault t h l) (no_fault u k m) = refl

@@ -2,7 +2,6 @@
 -- other.
 use Rattle.std.specs.Prelude.{Result, Ok, Err, ⊤}
 use Rattle.g4_source.specs.declared.source.Source.{Source}
-use Rattle.g4_source.specs.InOrder.{rules_of}
 use Rattle.g4_checks.specs.declared.references.ReferenceFault.{ReferenceFault}
 use Rattle.g4_checks.specs.declared.references.ReferenceFault.TheVariants as references
 use Rattle.g4_checks.specs.References.{HasNoClash}
@@ -40,11 +39,11 @@ module _ (source : Source) where
 
   -- there is none of those, and the fault is the first of how they call each other
   abbrev pub IsRecursionFault : RecursionFault → Type 0
-  IsRecursionFault fault = HasNoClash source × calling.IsChecked (rules_of source) (Err fault)
+  IsRecursionFault fault = HasNoClash source × calling.IsChecked source.rules (Err fault)
 
   -- the call answers that there is no fault, or with the first of the first kind that has one, unless memory runs out
   abbrev pub IsChecked : Result ⊤ CheckFault → Type 0
-  IsChecked (Ok _) = HasNoClash source × HaveNoFault (rules_of source)
+  IsChecked (Ok _) = HasNoClash source × HaveNoFault source.rules
   IsChecked (Err (UndefinedRule name)) = IsReferenceFault (references.UndefinedRule name)
   IsChecked (Err (UnknownMode name)) = IsReferenceFault (references.UnknownMode name)
   IsChecked (Err (UnknownCommand name)) = IsReferenceFault (references.UnknownCommand name)

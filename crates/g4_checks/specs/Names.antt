@@ -1,5 +1,5 @@
 -- The names that are there.
-use Rattle.std.specs.Prelude.{ℕ, List, [], ◌∷◌, map, Bool, codes}
+use Rattle.std.specs.Prelude.{ℕ, List, [], ◌∷◌, Bool, codes}
 use Rattle.std.specs.List.{flat_map, list_any}
 use Rattle.std.specs.Str.{bytes_eq}
 use Rattle.g4_source.specs.declared.prequel.Prequel.{Prequel}
@@ -12,7 +12,7 @@ is_one_of names text = list_any (bytes_eq text) names
 
 -- the names of the modes: the default mode, and those of the grammar
 abbrev pub mode_names : Source → List (List ℕ)
-mode_names source = codes "DEFAULT_MODE" ∷ map (λ mode. mode.name) source.modes
+mode_names source = codes "DEFAULT_MODE" ∷ source.modes
 
 -- the channels that a prequel declares
 abbrev pub declared_channels : Prequel → List (List ℕ)

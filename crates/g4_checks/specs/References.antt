@@ -9,7 +9,6 @@ use Rattle.g4_source.specs.Rules.{lexer_rules, parser_rules}
 use Rattle.g4_checks.specs.declared.references.ReferenceFault.{ReferenceFault}
 use Rattle.g4_checks.specs.declared.references.ReferenceFault.TheVariants.{UndefinedRule, UnknownMode, UnknownCommand, UnknownChannel, LexerPredicate, UnknownPredicate, LabelClash, NoMemory}
 use Rattle.g4_source.specs.First.{IsFirst, IsNone}
-use Rattle.g4_source.specs.InOrder.{rules_of}
 use Rattle.g4_checks.specs.Names.{channel_names, is_one_of, mode_names}
 use Rattle.g4_source.specs.Atoms.{AtomIn, all_atoms}
 use Rattle.g4_checks.specs.Uses.{IsLexerPredicate, IsUndefined, IsUnknownPredicate}
@@ -19,10 +18,10 @@ use Rattle.g4_checks.specs.Labels.{HasClash, clashes}
 module _ (source : Source) where
   -- the rules of the grammar of both kinds in order
   abbrev pub parsers_in : List (ParserRule Atom)
-  parsers_in = parser_rules (rules_of source)
+  parsers_in = parser_rules source.rules
 
   abbrev pub lexers_in : List LexerRule
-  lexers_in = lexer_rules (rules_of source)
+  lexers_in = lexer_rules source.rules
 
   -- their names
   abbrev pub parser_names : List (List ℕ)
@@ -33,11 +32,11 @@ module _ (source : Source) where
 
   -- the atoms of the rules in order
   abbrev pub atoms_in : List AtomIn
-  atoms_in = all_atoms (rules_of source)
+  atoms_in = all_atoms source.rules
 
   -- the commands of the rules in order
   abbrev pub commands_in : List Command
-  commands_in = all_commands (rules_of source)
+  commands_in = all_commands source.rules
 
   -- an atom names a rule n that the grammar has not
   abbrev pub NamesNoRule : AtomIn → List ℕ → Type 0

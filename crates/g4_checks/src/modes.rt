@@ -19,9 +19,7 @@ fn mode_names(alloc: Global, source: &Source) -> Result<Names<'_>, AllocError>
 {
     let mut names = Names::new(alloc);
     names.add("DEFAULT_MODE")?;
-    for mode in source.modes.as_slice() {
-        names.add(mode.name.as_str())?;
-    }
+    names.add_all(source.modes.as_slice())?;
     Ok(names)
 }
 

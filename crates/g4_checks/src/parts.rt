@@ -5,7 +5,7 @@ ghost use Rattle.g4_checks.specs.Views.{AreParts};
 use crate::atoms::{AtomUse, atoms_of};
 use crate::commands::commands_of;
 use g4_source::{
-    Atom, Command, LexerRule, ParserRule, Source, lexer_rules, parser_rules, rules_of,
+    Atom, Command, LexerRule, ParserRule, Source, lexer_rules, parser_rules, views_of,
 };
 use std::alloc::{AllocError, Global};
 
@@ -25,7 +25,7 @@ pub struct Parts<'a> {
 pub fn parts_of(alloc: Global, source: &Source) -> Result<Parts<'_>, AllocError>
     ensures { IfOk result (AreParts source.now) }
 {
-    let rules = rules_of(alloc, source)?;
+    let rules = views_of(alloc, source.rules.as_slice())?;
     let parsers = parser_rules(alloc, rules.as_slice())?;
     let lexers = lexer_rules(alloc, rules.as_slice())?;
     let atoms = atoms_of(alloc, rules.as_slice())?;

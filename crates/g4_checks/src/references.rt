@@ -44,8 +44,8 @@ impl From<AllocError> for ReferenceFault {
     }
 }
 
-/// Looks for the first fault: of the first kind that has one, the first in order of the rules, and then of the text. The rules
-/// are those of the default mode in order of the text, and then those of each mode in order.
+/// Looks for the first fault: of the first kind that has one, the first in order of the rules, those of all modes in order of the
+/// text, and then of the text.
 ///
 /// # Errors
 /// That fault, or no memory.

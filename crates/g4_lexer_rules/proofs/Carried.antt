@@ -4,7 +4,7 @@ use Rattle.std.specs.List.{cons_option, filter_map, find, flat_map, list_any, po
 use Rattle.std.specs.Option.{is_some}
 use Rattle.std.specs.Str.{bytes_eq}
 use Rattle.std.proofs.lemmas.Iterator.Adapters.{position_from-zero}
-use Rattle.g4_grammar.specs.declared.numbered.TokenName.{TokenName}
+use Rattle.g4_grammar.specs.declared.token_types.TokenName.{TokenName}
 use Rattle.g4_lexer.specs.declared.command.LexerCommand.{LexerCommand}
 use Rattle.g4_lexer.specs.declared.command.LexerCommand.TheVariants as commands
 use Rattle.g4_names.specs.Places.{first_place}
@@ -18,7 +18,7 @@ use Rattle.g4_source.specs.declared.source.Source.{Source}
 use Rattle.g4_tokens.specs.Symbols.{eof}
 use Rattle.g4_lexer_rules.specs.Commands.{command_of, command_with, symbol_of, type_named}
 use Rattle.g4_lexer_rules.specs.Known.{ArgumentIsUnknownType, IsKnown, is_token_name}
-use Rattle.g4_lexer_rules.specs.Tables.{all_channels, channels_of, tables_of}
+use Rattle.g4_lexer_rules.specs.Tables.{all_channels, channels_of, modes_of, tables_of}
 use Rattle.g4_lexer_rules.proofs.Once.{once_have}
 
 -- what is not false
@@ -123,13 +123,14 @@ module _ (source : Source) (types : List TokenName) (name : List ℕ) where
   with_argument (Some (Name argument)) is mode channel type =
       one_of_four (bytes_eq name (codes "type")) (bytes_eq name (codes "channel")) (bytes_eq name (codes "mode"))
       (bytes_eq name (codes "pushMode")) (symbol_of types argument) (first_place (channels_of source) argument)
-      (first_place (mode_names source) argument) is
+      (first_place (modes_of source) argument) is
       (λ takes. has_symbol types argument ∙ not_false (is_token_name types argument) (λ absent. type argument (refl, takes, absent)))
       (λ takes. has_place (channels_of source) argument
       ∙ (sym (channel_known source argument) ∙ not_false (is_one_of (channel_names source) argument)
       (λ absent. channel argument (refl, takes, absent))))
-      (λ takes. has_place (mode_names source) argument
-      ∙ not_false (is_one_of (mode_names source) argument) (λ absent. mode argument (refl, takes, absent)))
+      (λ takes. has_place (modes_of source) argument
+      ∙ (once_have (mode_names source) argument
+      ∙ not_false (is_one_of (mode_names source) argument) (λ absent. mode argument (refl, takes, absent))))
   with_argument (Some (Number digits)) is mode channel type =
       by_number (bytes_eq name (codes "channel")) (is_channel_number digits) (decimal_after 0 digits) is
       (not_false (is_channel_number digits) (λ large. channel digits (refl, is, large)))

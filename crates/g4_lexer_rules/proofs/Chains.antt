@@ -5,7 +5,7 @@ use Rattle.g4_source.specs.declared.element.Repeat.TheVariants.{Once}
 use Rattle.g4_source.specs.declared.element.Alternative.{Alternative as Side, roll-Alternative}
 use Rattle.g4_source.specs.declared.element.Element.{Element as Node}
 use Rattle.g4_source.specs.declared.element.Element.TheVariants as nodes
-use Rattle.g4_source.specs.Elements.{Element, Elements, atom, block, only, either}
+use Rattle.g4_source.specs.Elements.{Element, atom, block, only, either}
 use Rattle.g4_source.specs.Elements as trees
 use Rattle.g4_source.specs.Trees.{element_of, alternative_of, in_order}
 use Rattle.g4_source.proofs.Trees.{of_atom, of_block, of_elements}

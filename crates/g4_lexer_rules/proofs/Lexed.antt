@@ -13,7 +13,6 @@ use Rattle.g4_source.specs.declared.atom.Atom.{Atom}
 use Rattle.g4_source.specs.declared.atom.AtomKind.{AtomKind}
 use Rattle.g4_source.specs.declared.atom.AtomKind.TheVariants as kinds
 use Rattle.g4_source.specs.declared.rule.LexerRule.{LexerRule}
-use Rattle.g4_source.specs.declared.source.Mode.{Mode}
 use Rattle.g4_source.specs.Rules.{lexer_alternatives_of}
 use Rattle.g4_chars.specs.declared.range.Range.{Range}
 use Rattle.g4_grammar.specs.declared.step.Step.{Step}
@@ -256,10 +255,10 @@ module _ (all : List LexerRule) where
   same_at (rule ∷ rules) (suc k) ys is = same_at rules k ys is
 
 -- the network can be lexed with
-pub is_lexable : (literals : List LexerRule) (modes : List Mode) (made : LexNet) → IsLexNet literals modes made
-    → CanBeLexed (all_rules literals modes) → IsLexable made.net
-is_lexable literals modes made x can =
-    let rules = all_rules literals modes in
+pub is_lexable : (literals others : List LexerRule) (modes : List (List ℕ)) (made : LexNet)
+    → IsLexNet literals others modes made → CanBeLexed (all_rules literals others) → IsLexable made.net
+is_lexable literals others modes made x can =
+    let rules = all_rules literals others in
     let names = names_of rules in
     let bared = map (either_over bare) (trees_of rules) in
     let given = map lexer_alternatives_of rules in

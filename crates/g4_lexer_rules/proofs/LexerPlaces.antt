@@ -1,21 +1,16 @@
 -- The places of lexer rules among all rules.
-use Rattle.std.proofs.Common.{◌≡◌, ℕ, zero, suc, List, [], ◌∷◌, ◌++◌, map, Some, None, option_map, inl, inr, refl, sym, ap, ◌∙◌, subst, slice_get}
-use Rattle.std.specs.List.{flat_map, position}
+use Rattle.std.proofs.Common.{◌≡◌, ℕ, zero, suc, List, [], ◌∷◌, ◌++◌, Some, None, option_map, inl, inr, refl, sym, ap, ◌∙◌, subst, slice_get}
+use Rattle.std.specs.List.{position}
 use Rattle.std.specs.Str.{bytes_eq}
 use Rattle.std.proofs.lemmas.Bool.{cases_Bool}
-use Rattle.std.proofs.lemmas.List.Elements.{filter_map-append}
 use Rattle.g4_source.specs.declared.rule.Rule.{Rule}
 use Rattle.g4_source.specs.declared.rule.Rule.TheVariants.{Parser, Lexer}
 use Rattle.g4_source.specs.declared.rule.LexerRule.{LexerRule}
-use Rattle.g4_source.specs.declared.source.Mode.{Mode}
-use Rattle.g4_source.specs.declared.source.Source.{Source}
-use Rattle.g4_source.specs.Rules.{lexer_rule, lexer_rules}
+use Rattle.g4_source.specs.Rules.{lexer_rules}
 use Rattle.g4_source.specs.declared.kind.RuleKind.TheVariants as rule_kinds
-use Rattle.g4_source.specs.InOrder.{mode_rules, rules_of}
 use Rattle.g4_grammar.specs.Written.{is_rule_of}
 use Rattle.g4_grammar.proofs.Positions.{at_first, at_later, from_later}
-use Rattle.g4_lexer_rules.specs.NetworkRules.{names_of, rules_of_modes}
-use Rattle.g4_lexer_rules.specs.Rules.{lexer_modes}
+use Rattle.g4_lexer_rules.specs.NetworkRules.{names_of}
 
 -- the place among all rules of lexer rule k
 abbrev pub place_of : List Rule → ℕ → ℕ
@@ -76,20 +71,3 @@ found_after (rule ∷ front) rules name k is = elim (cases_Bool (bytes_eq rule.n
       let rest = found_after front rules name k is in
       (suc rest.0, at_later (λ other. bytes_eq other name) rule.name (names_of (front ++ rules)) rest.0 e rest.1)
 ]
-
--- the rules of a mode are lexer rules
-of_mode : (rules : List LexerRule) → lexer_rules (map Lexer rules) ≡ rules
-of_mode [] = refl
-of_mode (rule ∷ rules) = ap (λ (more : List LexerRule). rule ∷ more) (of_mode rules)
-
-of_modes : (modes : List Mode) → lexer_rules (flat_map mode_rules modes) ≡ rules_of_modes modes
-of_modes [] = refl
-of_modes (mode ∷ modes) =
-    filter_map-append lexer_rule (mode_rules mode) (flat_map mode_rules modes)
-    ∙ (ap (λ (rules : List LexerRule). rules ++ lexer_rules (flat_map mode_rules modes)) (of_mode mode.rules)
-    ∙ ap (λ (rules : List LexerRule). mode.rules ++ rules) (of_modes modes))
-
--- the lexer rules of a grammar are those of all its modes
-pub lexers_are : (source : Source) → lexer_rules (rules_of source) ≡ rules_of_modes (lexer_modes source)
-lexers_are source = filter_map-append lexer_rule source.rules (flat_map mode_rules source.modes)
-    ∙ ap (λ (rules : List LexerRule). lexer_rules source.rules ++ rules) (of_modes source.modes)

@@ -22,4 +22,3 @@ mod Starts
 mod Symbols
 mod TokenTypes
 pub mod Trees
-mod TypesByName

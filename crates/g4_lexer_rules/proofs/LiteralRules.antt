@@ -1,5 +1,5 @@
 -- Rules that are a literal: they call nothing, and have a name that no reference calls.
-use Rattle.std.proofs.Common.{codes, ◌≡◌, inl, inr, ℕ, List, [], ◌∷◌, false, None, map, sym, subst}
+use Rattle.std.proofs.Common.{codes, ◌≡◌, inl, inr, ℕ, List, [], ◌∷◌, None, map, sym, subst}
 use Rattle.g4_source.specs.Elements.{Alternatives, either}
 use Rattle.g4_source.specs.declared.atom.Atom.{Atom}
 use Rattle.g4_source.specs.declared.atom.AtomKind.TheVariants as kinds
@@ -10,7 +10,7 @@ use Rattle.g4_source.specs.Blocks.{LexerRuleIsFull}
 use Rattle.g4_source.specs.Rules.{lexer_alternatives_of}
 use Rattle.g4_source.specs.Full.{AreFullAlternatives}
 use Rattle.g4_lexer_rules.specs.Lexable.{ReadsAtom, CallsNamed}
-use Rattle.g4_vocab.specs.Numbering.{literal_alternative}
+use Rattle.g4_lexer_rules.specs.Rules.{literal_alternative}
 use Rattle.g4_lexer_rules.proofs.Renumbered.{IsClosed}
 
 -- the rule is a literal, and has the name of the end of the file

@@ -1,53 +1,35 @@
 -- What holds of the rules of a lexer: they are full, and each has a type.
-use Rattle.std.proofs.Common.{◌≡◌, ◌≤◌, get_or, ℕ, List, [], ◌∷◌, ◌++◌, length, map, Bool, true, false, cond, Some, refl, sym, ap, ◌∙◌, subst, arith, All}
-use Rattle.std.specs.List.{filter_map}
+use Rattle.std.proofs.Common.{◌≡◌, ◌≤◌, get_or, slice_index_or, ℕ, List, [], ◌∷◌, ◌++◌, length, map, Bool, true, false, cond, Option, Some, option_map, refl, sym, ap, ◌∙◌, subst, arith, All}
+use Rattle.std.specs.List.{find}
 use Rattle.std.specs.Option.{is_none, unwrap_or}
 use Rattle.std.specs.Str.{bytes_eq}
 use Rattle.std.proofs.lemmas.List.{length-append, length-map}
-use Rattle.std.proofs.lemmas.List.Elements.{All-nil, All-cons, All-head, All-tail, All-append, All-map}
-use Rattle.g4_source.proofs.Parts.{All-front, All-rest}
+use Rattle.std.proofs.lemmas.List.Elements.{All-append, All-head, All-map, All-tail}
 use Rattle.g4_tokens.specs.declared.symbol.TheConstants.{MOST_TYPES}
 use Rattle.g4_source.specs.declared.rule.Rule.{Rule}
 use Rattle.g4_source.specs.declared.rule.Rule.TheVariants.{Parser, Lexer}
 use Rattle.g4_source.specs.declared.rule.LexerRule.{LexerRule}
-use Rattle.g4_source.specs.declared.source.Source.{Source}
-use Rattle.g4_source.specs.Blocks.{HaveAlternatives, LexerRuleIsFull, LexerRulesAreFull, ModesAreFull, RulesAreFull}
+use Rattle.g4_source.specs.Blocks.{LexerRuleIsFull, LexerRulesAreFull, RulesAreFull}
 use Rattle.g4_source.specs.Rules.{lexer_rules}
-use Rattle.g4_grammar.specs.declared.numbered.TokenRule.{TokenRule}
+use Rattle.g4_grammar.specs.declared.token_types.TokenLiteral.{TokenLiteral}
+use Rattle.g4_grammar.specs.declared.token_types.TokenName.{TokenName}
+use Rattle.g4_names.specs.declared.places.Places.{Places}
 use Rattle.g4_vocab.specs.declared.types.Entry.{Entry}
 use Rattle.g4_vocab.specs.declared.types.Key.{Key}
 use Rattle.g4_vocab.specs.declared.types.Key.TheVariants as keys
-use Rattle.g4_vocab.specs.Numbering.{literal_alternative, literal_rule, token_lexers, token_rules, types_of}
-use Rattle.g4_lexer_rules.specs.NetworkRules.{all_rules, rules_of_modes}
+use Rattle.g4_vocab.specs.Numbering.{literals_of, names_of, types_of}
+use Rattle.g4_vocab.specs.Types.{number_of, type_of}
+use Rattle.g4_lexer_rules.specs.Commands.{AreSymbols, type_named}
+use Rattle.g4_lexer_rules.specs.NetworkRules.{all_rules}
 use Rattle.g4_lexer_rules.specs.declared.lexer_rules.LexerRules.{LexerRules}
-use Rattle.g4_lexer_rules.specs.Rules.{lexer_modes, types_of_rules, lexer_tokens, literal_tokens, rule_of_token, IsLexerRulesOf}
-use Rattle.g4_lexer_rules.specs.Types.{type_by_name, type_of_rule}
+use Rattle.g4_lexer_rules.specs.Rules.{IsLexerRulesOf, rule_of_literal, type_of_rule, types_of_rules}
+use Rattle.g4_lexer_rules.specs.Types.{type_by_names}
 use Rattle.g4_lexer_rules.proofs.LiteralRules.{literal_full}
 
--- the rule of a literal
-abbrev pub literal_lexer : ℕ → List ℕ → List ℕ → LexerRule
-literal_lexer number shown characters = rule_of_token
-    (record {
-      name = shown;
-      symbol = number;
-      alternatives =
-          literal_alternative (record { characters = characters; written = shown }) ∷ [];
-    })
-
 -- what holds of the rule of each literal, holds of the rules of literals
-pub literals_all : (P : LexerRule → Type 0) (Q : Key → Type 0)
-    → ((number : ℕ) (shown characters : List ℕ) → Q (keys.Literal characters) → P (literal_lexer number shown characters))
-    → (entries : List Entry) → All (λ entry. Q entry.key) entries →
-    All P (map rule_of_token (filter_map literal_rule entries))
-literals_all P Q one [] h = All-nil P
-literals_all P Q one (entry ∷ entries) h = by entry.key (All-head (λ (e : Entry). Q e.key) entry entries h)
-    (literals_all P Q one entries (All-tail (λ (e : Entry). Q e.key) entry entries h))
-  where
-    by : (key : Key) → Q key → All P (map rule_of_token (filter_map literal_rule entries))
-        → All P (map rule_of_token (filter_map literal_rule (record { key = key; number = entry.number; shown = entry.shown } ∷ entries)))
-    by (keys.Name name) q rest = rest
-    by (keys.Literal characters) q rest = All-cons P (literal_lexer entry.number entry.shown characters)
-        (map rule_of_token (filter_map literal_rule entries)) (one entry.number entry.shown characters q) rest
+pub literals_all : (P : LexerRule → Type 0) → ((token : TokenLiteral) → P (rule_of_literal token)) → (tokens : List TokenLiteral)
+    → All P (map rule_of_literal tokens)
+literals_all P one tokens = All-map P rule_of_literal tokens (λ k d less. one (slice_index_or tokens k d))
 
 -- each rule is full
 all_full : (rules : List LexerRule) → All LexerRuleIsFull rules → LexerRulesAreFull rules
@@ -60,67 +42,112 @@ lexers_full [] h = tt
 lexers_full (Parser rule ∷ rules) h = lexers_full rules h.1
 lexers_full (Lexer rule ∷ rules) h = (h.0, lexers_full rules h.1)
 
--- nothing is asked of a key
-pub every_key : (entries : List Entry) → All (λ entry. Unit {0}) entries
-every_key entries = λ k d less. tt
-
--- a type of a rule is one of those of the tokens, or 0
-type_low : (tokens : List TokenRule) → All (λ token. token.symbol ≤ MOST_TYPES) tokens → (name : List ℕ)
-    → unwrap_or (type_by_name tokens name) 0 ≤ MOST_TYPES
-type_low [] low name = omega arith
-type_low (token ∷ tokens) low name =
-    by (bytes_eq token.name name) (All-head (λ (t : TokenRule). t.symbol ≤ MOST_TYPES) token tokens low)
-    (type_low tokens (All-tail (λ (t : TokenRule). t.symbol ≤ MOST_TYPES) token tokens low) name)
+-- the type of a name is that of the key
+pub named_number : (types : List Entry) (name : List ℕ) → type_named (names_of types) name ≡ number_of types (keys.Name name)
+named_number [] name = refl
+named_number (entry ∷ types) name = by entry.key (named_number types name)
   where
-    by : (b : Bool) → token.symbol ≤ MOST_TYPES → unwrap_or (type_by_name tokens name) 0 ≤ MOST_TYPES
-        → unwrap_or (cond b (Some token.symbol) (type_by_name tokens name)) 0 ≤ MOST_TYPES
+    first : (other : List ℕ) (b : Bool) → type_named (names_of types) name ≡ number_of types (keys.Name name)
+        → option_map (λ (t : TokenName). t.symbol) (cond b (Some (record { name = other; symbol = entry.number }))
+        (find (λ (t : TokenName). bytes_eq t.name name) (names_of types)))
+        ≡ cond b (Some entry.number) (number_of types (keys.Name name))
+    first other true rest = refl
+    first other false rest = rest
+
+    by : (key : Key) → type_named (names_of types) name ≡ number_of types (keys.Name name)
+        → type_named (names_of (record { key = key; number = entry.number; shown = entry.shown } ∷ types)) name
+        ≡ number_of (record { key = key; number = entry.number; shown = entry.shown } ∷ types) (keys.Name name)
+    by (keys.Name other) rest = first other (bytes_eq other name) rest
+    by (keys.Literal characters) rest = rest
+
+-- so the type of a rule by its name is its type
+pub rule_type : (types : List Entry) (places : Places) (rule : LexerRule) → AreSymbols (names_of types) places
+    → type_by_names places rule ≡ type_of_rule types rule
+rule_type types places rule are =
+    ap (λ (o : Option ℕ). cond (is_none rule.fragment) (unwrap_or o 0) 0) (are rule.name ∙ named_number types rule.name)
+
+pub rule_types : (types : List Entry) (places : Places) (rules : List LexerRule) → AreSymbols (names_of types) places
+    → map (type_by_names places) rules ≡ map (type_of_rule types) rules
+rule_types types places [] are = refl
+rule_types types places (rule ∷ rules) are =
+    ap (λ (n : ℕ). n ∷ map (type_by_names places) rules) (rule_type types places rule are)
+    ∙ ap (λ (ns : List ℕ). type_of_rule types rule ∷ ns) (rule_types types places rules are)
+
+-- a type by a name is one of those of the names, or 0
+named_low : (names : List TokenName) → All (λ token. token.symbol ≤ MOST_TYPES) names → (name : List ℕ)
+    → unwrap_or (type_named names name) 0 ≤ MOST_TYPES
+named_low [] low name = omega arith
+named_low (token ∷ names) low name =
+    by (bytes_eq token.name name) (All-head (λ (t : TokenName). t.symbol ≤ MOST_TYPES) token names low)
+    (named_low names (All-tail (λ (t : TokenName). t.symbol ≤ MOST_TYPES) token names low) name)
+  where
+    by : (b : Bool) → token.symbol ≤ MOST_TYPES → unwrap_or (type_named names name) 0 ≤ MOST_TYPES
+        → unwrap_or (option_map (λ (t : TokenName). t.symbol) (cond b (Some token) (find (λ (t : TokenName). bytes_eq t.name name) names)))
+        0 ≤ MOST_TYPES
     by true first rest = first
     by false first rest = rest
 
-rule_low : (tokens : List TokenRule) → All (λ token. token.symbol ≤ MOST_TYPES) tokens → (rule : LexerRule)
-    → type_of_rule tokens rule ≤ MOST_TYPES
-rule_low tokens low rule = by (is_none rule.fragment)
+rule_low : (types : List Entry) → All (λ token. token.symbol ≤ MOST_TYPES) (names_of types) → (rule : LexerRule)
+    → type_of_rule types rule ≤ MOST_TYPES
+rule_low types low rule = by (is_none rule.fragment)
   where
-    by : (b : Bool) → cond b (unwrap_or (type_by_name tokens rule.name) 0) 0 ≤ MOST_TYPES
-    by true = type_low tokens low rule.name
+    by : (b : Bool) → cond b (type_of types (keys.Name rule.name)) 0 ≤ MOST_TYPES
+    by true = subst (λ (o : Option ℕ). unwrap_or o 0 ≤ MOST_TYPES) (named_number types rule.name) (named_low (names_of types) low rule.name)
     by false = omega arith
 
-module _ (source : Source) (made : LexerRules) (h : IsLexerRulesOf source made) where
+module _ (rules : List Rule) (made : LexerRules) (h : IsLexerRulesOf rules made) where
+  -- the types of the grammar
+  abbrev types : List Entry
+  types = types_of [] rules
+
   -- each rule has a type
-  pub each : length made.types ≡ length (all_rules made.literals made.modes)
+  pub each : length made.types ≡ length (all_rules made.literals made.rules)
   each =
-      let front = length-append (map (λ (t : TokenRule). t.symbol) (literal_tokens source))
-      (map (type_of_rule (lexer_tokens source)) (rules_of_modes (lexer_modes source))) in
-      let a = length-map (literal_tokens source) (λ (t : TokenRule). t.symbol) in
-      let b = length-map (rules_of_modes (lexer_modes source)) (type_of_rule (lexer_tokens source)) in
-      let d = length-map (literal_tokens source) rule_of_token in
-      let e = length-append (map rule_of_token (literal_tokens source)) (rules_of_modes (lexer_modes source)) in
-      let same : length (types_of_rules source) ≡ length
-      (all_rules (map rule_of_token (literal_tokens source)) (lexer_modes source)) = omega (arith, front, a, b, d, e) in
-      ap length h.types ∙ (same ∙ (ap (λ (ls : List LexerRule). length (all_rules ls (lexer_modes source))) (sym h.literals)
-      ∙ ap (λ (ms : List _). length (all_rules made.literals ms)) (sym h.modes)))
+      let front = length-append (map (λ (t : TokenLiteral). t.symbol) (literals_of types)) (map (type_of_rule types) (lexer_rules rules)) in
+      let a = length-map (literals_of types) (λ (t : TokenLiteral). t.symbol) in
+      let b = length-map (lexer_rules rules) (type_of_rule types) in
+      let d = length-map (literals_of types) rule_of_literal in
+      let e = length-append (map rule_of_literal (literals_of types)) (lexer_rules rules) in
+      let same : length (types_of_rules types rules) ≡ length (all_rules (map rule_of_literal (literals_of types)) (lexer_rules rules)) =
+      omega (arith, front, a, b, d, e) in
+      ap length h.types ∙ (same ∙ (ap (λ (ls : List LexerRule). length (all_rules ls (lexer_rules rules))) (sym h.literals)
+      ∙ ap (λ (rs : List LexerRule). length (all_rules made.literals rs)) (sym h.rules)))
 
   -- types are low
-  pub low : (tokens : List TokenRule) → tokens ≡ token_rules (types_of [] source.rules) (token_lexers source.rules)
-      → All (λ token. token.symbol ≤ MOST_TYPES) tokens → All (λ type. type ≤ MOST_TYPES) made.types
-  low tokens are all =
-      let P : TokenRule → Type 0 = λ t. t.symbol ≤ MOST_TYPES in
-      let both : All P (literal_tokens source ++ lexer_tokens source) = subst (All P) are all in
-      let later : All P (lexer_tokens source) = All-rest P (literal_tokens source) (lexer_tokens source) both in
+  pub low : (names : List TokenName) (literals : List TokenLiteral) → names ≡ names_of types → literals ≡ literals_of types
+      → All (λ name. name.symbol ≤ MOST_TYPES) names → All (λ literal. literal.symbol ≤ MOST_TYPES) literals
+      → All (λ type. type ≤ MOST_TYPES) made.types
+  low names literals are there low_names low_literals =
       subst (λ (ts : List ℕ). All (λ type. type ≤ MOST_TYPES) ts) (sym h.types)
-      (All-append (λ (type : ℕ). type ≤ MOST_TYPES) (map (λ (t : TokenRule). t.symbol) (literal_tokens source))
-      (map (type_of_rule (lexer_tokens source)) (rules_of_modes (lexer_modes source)))
-      (All-map (λ (type : ℕ). type ≤ MOST_TYPES) (λ (t : TokenRule). t.symbol) (literal_tokens source)
-      (All-front P (literal_tokens source) (lexer_tokens source) both))
-      (All-map (λ (type : ℕ). type ≤ MOST_TYPES) (type_of_rule (lexer_tokens source)) (rules_of_modes (lexer_modes source))
-      (λ k d less. rule_low (lexer_tokens source) later (get_or (rules_of_modes (lexer_modes source)) k d))))
+      (All-append (λ (type : ℕ). type ≤ MOST_TYPES) (map (λ (t : TokenLiteral). t.symbol) (literals_of types))
+      (map (type_of_rule types) (lexer_rules rules))
+      (All-map (λ (type : ℕ). type ≤ MOST_TYPES) (λ (t : TokenLiteral). t.symbol) (literals_of types)
+      (subst (λ (ts : List TokenLiteral). All (λ literal. literal.symbol ≤ MOST_TYPES) ts) there low_literals))
+      (All-map (λ (type : ℕ). type ≤ MOST_TYPES) (type_of_rule types) (lexer_rules rules)
+      (λ k d less. rule_low types (subst (λ (ts : List TokenName). All (λ name. name.symbol ≤ MOST_TYPES) ts) are low_names)
+      (get_or (lexer_rules rules) k d))))
 
   -- the rules are full
-  pub full : HaveAlternatives source → LexerRulesAreFull made.literals × ModesAreFull made.modes
+  pub full : RulesAreFull rules → LexerRulesAreFull made.literals × LexerRulesAreFull made.rules
   full have = (
-    subst LexerRulesAreFull (sym h.literals) (all_full (map rule_of_token (literal_tokens source))
-        (literals_all LexerRuleIsFull (λ key. Unit {0})
-        (λ number shown characters q. literal_full (literal_lexer number shown characters)
-        (record { characters = characters; written = shown }) refl) (types_of [] source.rules) (every_key (types_of [] source.rules)))),
-    subst ModesAreFull (sym h.modes) (lexers_full source.rules have.0, have.1),
+    subst LexerRulesAreFull (sym h.literals) (all_full (map rule_of_literal (literals_of types))
+        (literals_all LexerRuleIsFull (λ token. literal_full (rule_of_literal token) token.literal refl) (literals_of types))),
+    subst LexerRulesAreFull (sym h.rules) (lexers_full rules have),
   )
+
+-- the rules of the lexer of rules, from the types by their names
+pub rules_gathered : (rules : List Rule) (names : List TokenName) (literals : List TokenLiteral) (places : Places) (made : LexerRules)
+    → names ≡ names_of (types_of [] rules) → literals ≡ literals_of (types_of [] rules) → AreSymbols names places
+    → made.literals ≡ map rule_of_literal literals → made.rules ≡ lexer_rules rules
+    → made.types ≡ map (λ token. token.symbol) literals ++ map (type_by_names places) made.rules → IsLexerRulesOf rules made
+rules_gathered rules names literals places made named there are literals_are rules_are types_are =
+    let types = types_of [] rules in
+    record {
+      literals = literals_are ∙ ap (map rule_of_literal) there;
+      rules = rules_are;
+      types = types_are
+          ∙ (ap (λ (ls : List TokenLiteral). map (λ (t : TokenLiteral). t.symbol) ls ++ map (type_by_names places) made.rules) there
+          ∙ ap (λ (ns : List ℕ). map (λ (t : TokenLiteral). t.symbol) (literals_of types) ++ ns)
+          (ap (map (type_by_names places)) rules_are
+          ∙ rule_types types places (lexer_rules rules) (subst (λ (ns : List TokenName). AreSymbols ns places) named are)));
+    }

@@ -5,7 +5,7 @@ use Rattle.std.specs.Option.{option_or}
 use Rattle.std.specs.Str.{bytes_eq}
 use Rattle.std.proofs.lemmas.List.{take_more}
 use Rattle.std.proofs.lemmas.List.Folds.{find-append}
-use Rattle.g4_grammar.specs.declared.numbered.TokenName.{TokenName}
+use Rattle.g4_grammar.specs.declared.token_types.TokenName.{TokenName}
 use Rattle.g4_names.specs.declared.places.Places.{Places}
 use Rattle.g4_names.specs.Places.{place_in}
 use Rattle.g4_lexer_rules.specs.Commands.{AreSymbols, type_named}

@@ -13,8 +13,7 @@ use Rattle.g4_source.specs.declared.atom.AtomKind.{AtomKind}
 use Rattle.g4_source.specs.declared.atom.AtomKind.TheVariants as kinds
 use Rattle.g4_source.specs.declared.rule.LexerAlternative.{LexerAlternative}
 use Rattle.g4_source.specs.declared.rule.LexerRule.{LexerRule}
-use Rattle.g4_source.specs.declared.source.Mode.{Mode}
-use Rattle.g4_source.specs.Blocks.{LexerRulesAreFull, ModesAreFull}
+use Rattle.g4_source.specs.Blocks.{LexerRulesAreFull}
 use Rattle.g4_source.specs.Rules.{lexer_alternatives_of}
 use Rattle.g4_grammar.specs.declared.step.Step.{Step}
 use Rattle.g4_layout.specs.Decisions.{number_of}
@@ -26,7 +25,7 @@ use Rattle.g4_states.specs.Rules.{AreFullTrees, TreeIsFull}
 use Rattle.g4_states.specs.Trees.{rules_over}
 use Rattle.g4_ordered.specs.declared.network.Reads.{Reads}
 use Rattle.g4_lexer_rules.specs.declared.step.LexerStep.{LexerStep}
-use Rattle.g4_lexer_rules.specs.NetworkRules.{lexer_states, lowered, names_of, numberings_of, rules_of_modes, trees_of}
+use Rattle.g4_lexer_rules.specs.NetworkRules.{lexer_states, lowered, names_of, numberings_of, trees_of}
 use Rattle.g4_lexer_rules.specs.Steps.{characters_in_order, element_of_kind, step_of}
 
 module _ (names : List (List ℕ)) where
@@ -255,12 +254,7 @@ full_append : (xs ys : List LexerRule) → LexerRulesAreFull xs → LexerRulesAr
 full_append [] ys a b = b
 full_append (x ∷ xs) ys a b = (a.0, full_append xs ys a.1 b)
 
--- the rules of modes
-full_modes : (modes : List Mode) → ModesAreFull modes → LexerRulesAreFull (rules_of_modes modes)
-full_modes [] full = tt
-full_modes (mode ∷ modes) full = full_append mode.rules (rules_of_modes modes) full.0 (full_modes modes full.1)
-
--- all rules
-pub full_rules : (literals : List LexerRule) (modes : List Mode) → LexerRulesAreFull literals → ModesAreFull modes
-    → LexerRulesAreFull (literals ++ rules_of_modes modes)
-full_rules literals modes a b = full_append literals (rules_of_modes modes) a (full_modes modes b)
+-- the rules of literals and the lexer rules
+pub full_rules : (literals rules : List LexerRule) → LexerRulesAreFull literals → LexerRulesAreFull rules
+    → LexerRulesAreFull (literals ++ rules)
+full_rules literals rules a b = full_append literals rules a b

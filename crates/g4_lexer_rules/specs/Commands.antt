@@ -2,7 +2,7 @@
 use Rattle.std.specs.Prelude.{◌≡◌, ℕ, List, Option, Some, None, option_map, codes, if◌then◌else◌}
 use Rattle.std.specs.List.{find}
 use Rattle.std.specs.Str.{bytes_eq}
-use Rattle.g4_grammar.specs.declared.numbered.TokenName.{TokenName}
+use Rattle.g4_grammar.specs.declared.token_types.TokenName.{TokenName}
 use Rattle.g4_lexer.specs.declared.command.LexerCommand.{LexerCommand}
 use Rattle.g4_lexer.specs.declared.command.LexerCommand.TheVariants as commands
 use Rattle.g4_names.specs.declared.places.Places.{Places}

@@ -2,7 +2,7 @@
 use Rattle.std.specs.Prelude.{◌≡◌, ℕ, List, Option, Some, None, Bool, true, false, ◌||◌, codes}
 use Rattle.std.specs.List.{list_any}
 use Rattle.std.specs.Str.{bytes_eq}
-use Rattle.g4_grammar.specs.declared.numbered.TokenName.{TokenName}
+use Rattle.g4_grammar.specs.declared.token_types.TokenName.{TokenName}
 use Rattle.g4_checks.specs.References.{TakesNoChannel, TakesNoMode}
 use Rattle.g4_checks.specs.Commands.{IsUnknownCommand}
 use Rattle.g4_source.specs.declared.rule.Argument.{Argument}

@@ -1,11 +1,10 @@
 -- The rules of a lexer's network.
-use Rattle.std.specs.Prelude.{ℕ, ◌+◌, ◌*◌, List, ◌++◌, length, map, sum_by, flat_map}
+use Rattle.std.specs.Prelude.{ℕ, ◌+◌, ◌*◌, List, ◌++◌, length, map, sum_by}
 use Rattle.std.specs.List.{range_with_len}
 use Rattle.g4_source.specs.Bind.{in_order_bind, in_order_over}
 use Rattle.g4_source.specs.Elements.{Elements, Alternatives, either}
 use Rattle.g4_source.specs.declared.rule.Command.{Command}
 use Rattle.g4_source.specs.declared.rule.LexerRule.{LexerRule}
-use Rattle.g4_source.specs.declared.source.Mode.{Mode}
 use Rattle.g4_source.specs.Rules.{lexer_alternatives_of}
 use Rattle.g4_grammar.specs.declared.step.Numbering.{Numbering}
 use Rattle.g4_grammar.specs.declared.step.Step.{Step}
@@ -15,14 +14,10 @@ use Rattle.g4_ordered.specs.declared.network.Reads.{Reads}
 use Rattle.g4_lexer_rules.specs.declared.step.LexerStep.{LexerStep}
 use Rattle.g4_lexer_rules.specs.Steps.{element_of_kind, step_of}
 
--- the rules of the modes, mode by mode
-abbrev pub rules_of_modes : List Mode → List LexerRule
-rules_of_modes modes = flat_map (λ mode. mode.rules) modes
-
--- all rules of the network: those of literals that have tokens of their own, by type, and then those of the modes; their numbers are
--- their places
-abbrev pub all_rules : List LexerRule → List Mode → List LexerRule
-all_rules literals modes = literals ++ rules_of_modes modes
+-- all rules of the network: those of literals that have tokens of their own, by type, and then the lexer rules of all modes in order
+-- of the text; their numbers are their places
+abbrev pub all_rules : List LexerRule → List LexerRule → List LexerRule
+all_rules literals rules = literals ++ rules
 
 -- the names of rules
 abbrev pub names_of : List LexerRule → List (List ℕ)

@@ -1,9 +1,11 @@
 -- Where a match may begin.
-use Rattle.std.specs.Prelude.{◌≡◌, ◌≤◌, ℕ, ◌+◌, List, [], ◌∷◌, ◌++◌, length, Option, Some, None, slice_get, take, drop}
+use Rattle.std.specs.Prelude.{◌≡◌, ◌≤◌, ◌==◌, ℕ, zero, suc, ◌+◌, List, [], ◌∷◌, ◌++◌, length, map, Bool, false, cond, codes, Option, Some, None, slice_get}
+use Rattle.std.specs.List.{range_with_len}
+use Rattle.std.specs.Option.{unwrap_or}
 use Rattle.g4_base.specs.declared.place.Place.{Place}
 use Rattle.g4_source.specs.declared.rule.LexerAlternative.{LexerAlternative}
 use Rattle.g4_source.specs.declared.rule.LexerRule.{LexerRule}
-use Rattle.g4_source.specs.declared.source.Mode.{Mode}
+use Rattle.g4_names.specs.Places.{first_place}
 use Rattle.g4_net.specs.declared.network.State.{State}
 use Rattle.g4_net.specs.declared.network.TheConstants.{MOST_STATES}
 use Rattle.g4_net.specs.declared.network.State.TheVariants.{Decision, End, Edge, Call, Predicate, Level, Action, Empty}
@@ -49,21 +51,49 @@ abbrev pub starts_from : List (State Reads) → ℕ → List LexerRule → List 
 starts_from states number [] = []
 starts_from states number (rule ∷ rules) = matched_starts states number rule ++ starts_from states (number + 1) rules
 
--- the same in each mode, where the rules of the first have the numbers from this one on, and these starts come before
-abbrev pub starts_of_modes : List (State Reads) → List Start → ℕ → List Mode → List (List Start)
-starts_of_modes states front number [] = []
-starts_of_modes states front number (mode ∷ modes) =
-    (front ++ starts_from states number mode.rules) ∷ starts_of_modes states front (number + length mode.rules) modes
+-- the name of the mode of a rule
+abbrev pub mode_name : LexerRule → List ℕ
+mode_name rule = unwrap_or rule.mode (codes "DEFAULT_MODE")
 
--- where a match may begin in each mode: with a literal, or with a rule of the mode
-abbrev pub mode_starts : List (State Reads) → List LexerRule → List Mode → List (List Start)
-mode_starts states literals modes = starts_of_modes states (starts_from states 0 literals) (length literals) modes
+-- the place is this one
+abbrev pub is_place : ℕ → Option ℕ → Bool
+is_place j None = false
+is_place j (Some k) = k == j
 
--- the same where the rules of all modes are in one list, with how many of them each mode has
-abbrev pub starts_by_sizes : List (State Reads) → List Start → ℕ → List LexerRule → List ℕ → List (List Start)
-starts_by_sizes states front number rules [] = []
-starts_by_sizes states front number rules (n ∷ sizes) =
-    (front ++ starts_from states number (take n rules)) ∷ starts_by_sizes states front (number + n) (drop n rules) sizes
+-- the rule is in mode j of these names
+abbrev pub is_in_mode : List (List ℕ) → ℕ → LexerRule → Bool
+is_in_mode modes j rule = is_place j (first_place modes (mode_name rule))
+
+-- where a match may begin in mode j with one of these rules, the first of which has this number
+abbrev pub starts_in : List (State Reads) → List (List ℕ) → ℕ → ℕ → List LexerRule → List Start
+starts_in states modes j number [] = []
+starts_in states modes j number (rule ∷ rules) =
+    cond (is_in_mode modes j rule) (matched_starts states number rule) [] ++ starts_in states modes j (number + 1) rules
+
+-- where a match may begin in each of the modes of these names: with a literal, or with a rule of the mode
+abbrev pub mode_starts : List (State Reads) → List LexerRule → List LexerRule → List (List ℕ) → List (List Start)
+mode_starts states literals rules modes =
+    map (λ j. starts_from states 0 literals ++ starts_in states modes j (length literals) rules) (range_with_len 0 (length modes))
+
+-- the lists, these starts being added to list k
+abbrev pub with_starts : ℕ → List Start → List (List Start) → List (List Start)
+with_starts k more [] = []
+with_starts zero more (starts ∷ all) = (starts ++ more) ∷ all
+with_starts (suc k) more (starts ∷ all) = starts ∷ with_starts k more all
+
+-- the lists of the modes of these names, the starts of a rule being added to that of its mode
+abbrev pub with_starts_at : Option ℕ → List Start → List (List Start) → List (List Start)
+with_starts_at None more all = all
+with_starts_at (Some k) more all = with_starts k more all
+
+abbrev pub with_rule : List (List ℕ) → LexerRule → List Start → List (List Start) → List (List Start)
+with_rule modes rule starts all = with_starts_at (first_place modes (mode_name rule)) starts all
+
+-- the same of rules, the first of which has this number
+abbrev pub with_rules : List (State Reads) → List (List ℕ) → ℕ → List LexerRule → List (List Start) → List (List Start)
+with_rules states modes number [] all = all
+with_rules states modes number (rule ∷ rules) all =
+    with_rules states modes (number + 1) rules (with_rule modes rule (matched_starts states number rule) all)
 
 -- The rule has an alternative; its decision, where it has several, has no more edges than a network has states.
 abbrev pub CanStart : List (State Reads) → ℕ → LexerRule → Type 0

@@ -2,7 +2,7 @@
 use Rattle.std.specs.Prelude.{ℕ, List, [], ◌∷◌, codes, filter, not}
 use Rattle.std.specs.List.{flat_map}
 use Rattle.std.specs.Str.{bytes_eq}
-use Rattle.g4_grammar.specs.declared.numbered.TokenName.{TokenName}
+use Rattle.g4_grammar.specs.declared.token_types.TokenName.{TokenName}
 use Rattle.g4_checks.specs.Names.{declared_channels, mode_names}
 use Rattle.g4_source.specs.declared.source.Source.{Source}
 use Rattle.g4_lexer_rules.specs.declared.tables.CommandTables.{CommandTables}
@@ -20,6 +20,10 @@ all_channels source = codes "DEFAULT_TOKEN_CHANNEL" ∷ codes "HIDDEN" ∷ flat_
 abbrev pub channels_of : Source → List (List ℕ)
 channels_of source = each_once (all_channels source)
 
+-- the modes by number: the default mode, and then the others where they are named first
+abbrev pub modes_of : Source → List (List ℕ)
+modes_of source = each_once (mode_names source)
+
 -- what the commands of a grammar can name, whose token types have these names
 abbrev pub tables_of : Source → List TokenName → CommandTables
-tables_of source types = record { types = types; channels = channels_of source; modes = mode_names source }
+tables_of source types = record { types = types; channels = channels_of source; modes = modes_of source }

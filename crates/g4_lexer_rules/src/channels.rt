@@ -1,8 +1,8 @@
-// The channels of a grammar, each once.
+// The channels and the modes of a grammar, each once.
 ghost use Rattle.std.specs.Prelude.{◌≡◌, ◌++◌, ◌||◌, ℕ, List, IfOk, OnOk, map, not};
 ghost use Rattle.std.specs.Str.{bytes_eq};
-ghost use Rattle.g4_checks.specs.Names.{declared_channels, is_one_of};
-ghost use Rattle.g4_lexer_rules.specs.Tables.{all_channels, channels_of, each_once};
+ghost use Rattle.g4_checks.specs.Names.{declared_channels, is_one_of, mode_names};
+ghost use Rattle.g4_lexer_rules.specs.Tables.{all_channels, channels_of, each_once, modes_of};
 
 use g4_base::{Sequence, Text};
 use g4_source::{Prequel, Source};
@@ -74,4 +74,23 @@ pub fn channels_of(alloc: Global, source: &Source) -> Result<Sequence<Text>, All
     let names = all_channels(alloc, source)?;
     let channels = each_once(alloc, names.as_slice())?;
     Ok(channels)
+}
+
+/// The names of the modes as often as they are there: the default mode, and those that the grammar names in order.
+fn mode_names(alloc: Global, source: &Source) -> Result<Vec<&str>, AllocError>
+    ensures { IfOk result (λ names. map (λ n. n.now) names.items ≡ mode_names source.now) }
+{
+    let mut names = Vec::new(alloc);
+    names.push("DEFAULT_MODE")?;
+    push_names(&mut names, source.modes.as_slice())?;
+    Ok(names)
+}
+
+/// The names of the modes of a grammar, by their numbers.
+pub fn modes_of(alloc: Global, source: &Source) -> Result<Sequence<Text>, AllocError>
+    ensures { IfOk result (λ modes. modes ≡ modes_of source.now) }
+{
+    let names = mode_names(alloc, source)?;
+    let modes = each_once(alloc, names.as_slice())?;
+    Ok(modes)
 }

@@ -1,62 +1,108 @@
-// The rules of a lexer from a grammar as it is written.
-ghost use Rattle.std.specs.Prelude.{◌≡◌, ◌≤◌, All, IfOk, [], length};
+// The rules of a lexer from the rules of a grammar as they are written.
+ghost use Rattle.std.specs.Prelude.{◌≡◌, ◌≤◌, ◌++◌, All, IfOk, OnOk, [], length, map};
+ghost use Rattle.g4_names.specs.declared.places.Places.{Places as Names};
 ghost use Rattle.g4_tokens.specs.declared.symbol.TheConstants.{MOST_TYPES};
-ghost use Rattle.g4_source.specs.Blocks.{HaveAlternatives, LexerRulesAreFull, ModesAreFull};
-ghost use Rattle.g4_vocab.specs.Numbering.{token_lexers, token_rules, types_of};
+ghost use Rattle.g4_source.specs.Blocks.{LexerRulesAreFull, RulesAreFull};
+ghost use Rattle.g4_source.specs.Rules.{lexer_rules};
+ghost use Rattle.g4_vocab.specs.Numbering.{literals_of, names_of, types_of};
+ghost use Rattle.g4_lexer_rules.specs.Commands.{AreSymbols, type_named};
 ghost use Rattle.g4_lexer_rules.specs.NetworkRules.{all_rules};
 ghost use Rattle.g4_lexer_rules.specs.Rules.{IsLexerRulesOf};
+ghost use Rattle.g4_lexer_rules.specs.Types.{type_by_names};
 
 use crate::lexer_rules::LexerRules;
-use crate::literals::rules_of_tokens;
-use crate::modes::{count_makers, lexer_rules, with_default};
-use crate::types::types_of;
+use crate::literals::rules_of_literals;
+use crate::numbers::symbols_of;
 use g4_base::Sequence;
-use g4_grammar::TokenRule;
-use g4_source::Source;
+use g4_grammar::{TokenLiteral, TokenName};
+use g4_names::Places;
+use g4_source::{LexerRule, Rule};
 use std::alloc::{AllocError, Global};
 
-/// The rules of the lexer of a grammar, whose token rules are these.
+/// The lexer rules among these rules, fragments too.
+fn lexer_rules(alloc: Global, rules: Vec<Rule>) -> Result<Vec<LexerRule>, AllocError>
+    ensures { IfOk result (λ found. found.items ≡ lexer_rules rules.items) }
+{
+    let mut found = Vec::new(alloc);
+    for rule in rules {
+        match rule {
+            Rule::Parser(_) => {}
+            Rule::Lexer(rule) => found.push(rule)?,
+        }
+    }
+    Ok(found)
+}
+
+/// The type of a lexer rule by its name: a fragment has none.
+fn type_of(symbols: &Places<'_>, rule: &LexerRule) -> u32
+    ensures { result ≡ type_by_names symbols.now rule.now }
+{
+    if rule.fragment.is_some() {
+        return 0;
+    }
+    symbols.place_of(rule.name.as_str()).unwrap_or(0)
+}
+
+/// The types of the literals, and then those of the lexer rules by their names.
+fn types_of(
+    alloc: Global,
+    symbols: &Places<'_>,
+    literals: &[TokenLiteral],
+    rules: &[LexerRule],
+) -> Result<Sequence<u32>, AllocError>
+    ensures { IfOk result (λ types. types ≡ map (λ token. token.symbol) literals.now ++ map (type_by_names symbols.now) rules.now) }
+{
+    let mut types = Vec::new(alloc);
+    for token in literals {
+        types.push(token.symbol)?;
+    }
+    'rules: for rule in rules {
+        types.push(type_of(symbols, rule))?;
+    }
+    Ok(Sequence::new(types))
+}
+
+/// The rules of the lexer of these rules, of whose token types these have names and literals.
 fn gathered(
     alloc: Global,
-    source: Source,
-    tokens: Sequence<TokenRule>,
+    rules: Sequence<Rule>,
+    names: &[TokenName],
+    literals: Sequence<TokenLiteral>,
 ) -> Result<LexerRules, AllocError>
-    requires { tokens ≡ token_rules (types_of [] source.rules) (token_lexers source.rules) }
-    ensures { IfOk result (IsLexerRulesOf source) }
+    requires names { names.now ≡ names_of (types_of [] rules) }
+    requires literals { literals ≡ literals_of (types_of [] rules) }
+    ensures { IfOk result (IsLexerRulesOf rules) }
 {
-    let Source { rules, modes, .. } = source;
-    let mut tokens = tokens.into_vec();
     let rules = lexer_rules(alloc, rules.into_vec())?;
-    let count = tokens.len() - count_makers(rules.as_slice());
-    let modes = with_default(alloc, rules, modes.into_vec())?;
-    let (literals, others) = tokens.as_slice().split_at(count);
-    let types = types_of(alloc, literals, others, modes.as_slice())?;
-    tokens.truncate(count);
-    let literals = rules_of_tokens(alloc, tokens)?;
+    let symbols = symbols_of(alloc, names)?;
+    let types = types_of(alloc, &symbols, literals.as_slice(), rules.as_slice())?;
+    let literals = rules_of_literals(alloc, literals.into_vec())?;
     Ok(LexerRules {
         literals: Sequence::new(literals),
-        modes: Sequence::new(modes),
-        types: Sequence::new(types),
+        rules: Sequence::new(rules),
+        types,
     })
 }
 
-/// The rules of the lexer of a grammar, whose token rules are these: first the rules of the literals that have tokens of their own,
-/// by type, then the default mode with all lexer rules of the grammar in order, and then the other modes as they are written. No
-/// token rule is of a rule of another mode yet: such a rule has the type that its name has in the default mode, or 0.
+/// The rules of the lexer of a grammar's rules, of whose token types these have names and literals: first the rules of the literals
+/// that have tokens of their own, by type, and then the lexer rules of all modes in order.
 ///
 /// # Errors
 /// No memory.
 pub fn lexer_rules_of(
     alloc: Global,
-    source: Source,
-    tokens: Sequence<TokenRule>,
+    rules: Sequence<Rule>,
+    names: &[TokenName],
+    literals: Sequence<TokenLiteral>,
 ) -> Result<LexerRules, AllocError>
-    requires { tokens ≡ token_rules (types_of [] source.rules) (token_lexers source.rules) }
-    ensures rules { IfOk result (IsLexerRulesOf source) }
-    ensures each { IfOk result (λ made. length made.types ≡ length (all_rules made.literals made.modes)) }
-    ensures low { All (λ token. token.symbol ≤ MOST_TYPES) tokens → IfOk result (λ made. All (λ type. type ≤ MOST_TYPES) made.types) }
-    ensures full { HaveAlternatives source → IfOk result (λ made. LexerRulesAreFull made.literals × ModesAreFull made.modes) }
+    requires names { names.now ≡ names_of (types_of [] rules) }
+    requires literals { literals ≡ literals_of (types_of [] rules) }
+    ensures rules { IfOk result (IsLexerRulesOf rules) }
+    ensures each { IfOk result (λ made. length made.types ≡ length (all_rules made.literals made.rules)) }
+    ensures low { All (λ name. name.symbol ≤ MOST_TYPES) names.now → All (λ literal. literal.symbol ≤ MOST_TYPES) literals
+        → IfOk result (λ made. All (λ type. type ≤ MOST_TYPES) made.types) }
+    ensures full { RulesAreFull rules → IfOk result (λ made. LexerRulesAreFull made.literals × LexerRulesAreFull made.rules) }
 {
-    let made = gathered(alloc, source, tokens)?;
+    let made = gathered(alloc, rules, names, literals)?;
     Ok(made)
 }

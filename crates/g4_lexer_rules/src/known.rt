@@ -1,7 +1,7 @@
 // What holds of the commands of all grammars.
 ghost use Rattle.std.specs.Prelude.{◌≡◌, All, IsSome, List, Some, map};
 ghost use Rattle.std.specs.List.{filter_map};
-ghost use Rattle.g4_grammar.specs.declared.numbered.TokenName.{TokenName};
+ghost use Rattle.g4_grammar.specs.declared.token_types.TokenName.{TokenName};
 ghost use Rattle.g4_source.specs.declared.rule.Command.{Command};
 ghost use Rattle.g4_source.specs.declared.source.Source.{Source};
 ghost use Rattle.g4_lexer_rules.specs.Commands.{command_of};

@@ -1,4 +1,4 @@
-// From a grammar to its lexer's network: the rules of literals that have tokens of their own and those of the modes, with their types.
+// From a grammar to its lexer's network: the rules of literals that have tokens of their own and the lexer rules, with their types.
 // The network is laid by the same table as the parser's; what the commands of the rules do is given by number.
 #![tactic(auto)]
 
@@ -9,7 +9,6 @@ mod commands;
 mod digits;
 mod drawing;
 mod gathering;
-mod joining;
 mod known;
 mod law;
 mod lex_net;
@@ -17,19 +16,17 @@ mod lexer_rules;
 mod literals;
 mod lowering;
 mod making;
-mod modes;
 mod network;
 mod numbers;
 mod sizes;
 mod starting;
 mod step;
 mod tables;
-mod types;
 
 pub use building::build_lexer;
 pub use gathering::lexer_rules_of;
 pub use known::known_commands_are_carried_out;
-pub use law::{rules_can_be_lexed, types_are_numbered};
+pub use law::rules_can_be_lexed;
 pub use lex_net::{LexFault, LexNet};
 pub use lexer_rules::LexerRules;
 pub use making::lexer_commands;

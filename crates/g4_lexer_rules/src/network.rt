@@ -5,7 +5,6 @@ ghost use Rattle.g4_chars.specs.declared.range.Range.{Range as Span};
 ghost use Rattle.g4_source.specs.Elements.{atom};
 ghost use Rattle.g4_source.specs.declared.atom.AtomKind.{AtomKind as Kind};
 ghost use Rattle.g4_source.specs.declared.rule.LexerRule.{LexerRule as Rule};
-ghost use Rattle.g4_source.specs.declared.source.Mode.{Mode as ModeOf};
 ghost use Rattle.g4_grammar.specs.Written.{MatchesKind};
 ghost use Rattle.g4_ordered.specs.Network.{IsLexable};
 ghost use Rattle.g4_lexer_rules.specs.Lexable.{CanBeLexed};
@@ -17,13 +16,14 @@ ghost use Rattle.g4_lexer_rules.specs.declared.step.LexerStep.TheVariants.{Set a
 
 /// The rules of a lexer have at most one network.
 pub fn one_lex_net()
-    ensures { (literals : List Rule) (modes : List ModeOf) (a b : Made) → IsLexNet literals modes a → IsLexNet literals modes b → a ≡ b }
+    ensures { (literals rules : List Rule) (modes : List (List ℕ)) (a b : Made) → IsLexNet literals rules modes a
+        → IsLexNet literals rules modes b → a ≡ b }
 {}
 
 /// The network has as many states as are counted for the limit.
 pub fn states_are_counted()
-    ensures { (literals : List Rule) (modes : List ModeOf) (made : Made) → IsLexNet literals modes made
-        → length made.net.states ≡ lexer_states (all_rules literals modes) }
+    ensures { (literals rules : List Rule) (modes : List (List ℕ)) (made : Made) → IsLexNet literals rules modes made
+        → length made.net.states ≡ lexer_states (all_rules literals rules) }
 {}
 
 /// The set of an atom has exactly the characters that the atom matches.
@@ -34,6 +34,6 @@ pub fn sets_match()
 
 /// The network of rules that can be lexed with can be lexed with.
 pub fn is_lexable()
-    ensures { (literals : List Rule) (modes : List ModeOf) (made : Made) → IsLexNet literals modes made
-        → CanBeLexed (all_rules literals modes) → IsLexable made.net }
+    ensures { (literals rules : List Rule) (modes : List (List ℕ)) (made : Made) → IsLexNet literals rules modes made
+        → CanBeLexed (all_rules literals rules) → IsLexable made.net }
 {}

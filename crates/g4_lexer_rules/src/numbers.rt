@@ -25,7 +25,7 @@ pub struct Numbers<'a> {
 }
 
 /// The symbol of the first of each name.
-fn symbols_of(alloc: Global, types: &[TokenName]) -> Result<Places<'_>, AllocError>
+pub(crate) fn symbols_of(alloc: Global, types: &[TokenName]) -> Result<Places<'_>, AllocError>
     ensures { IfOk result (λ symbols. AreSymbols types.now symbols) }
 {
     let mut symbols = Places::new(alloc);

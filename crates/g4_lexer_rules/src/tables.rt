@@ -1,12 +1,11 @@
 // What the arguments of commands name.
 ghost use Rattle.std.specs.Prelude.{◌≡◌, IfOk};
-ghost use Rattle.g4_checks.specs.Names.{mode_names};
 ghost use Rattle.g4_lexer_rules.specs.Tables.{tables_of};
 
-use crate::channels::channels_of;
+use crate::channels::{channels_of, modes_of};
 use g4_base::{Sequence, Text};
 use g4_grammar::TokenName;
-use g4_source::{Mode, Source};
+use g4_source::Source;
 use std::alloc::{AllocError, Global};
 
 /// What the arguments of commands name. The number of a channel or a mode is the place of its name, counted from 0.
@@ -16,20 +15,8 @@ pub struct CommandTables {
     pub types: Sequence<TokenName>,
     /// The names of the channels, each once: the two that every grammar has, and then those that it declares.
     pub channels: Sequence<Text>,
-    /// The names of the modes: the default mode, and then those of the grammar. Of two with one name, the first has it.
+    /// The names of the modes, each once: the default mode, and then those of the grammar.
     pub modes: Sequence<Text>,
-}
-
-/// The names of the modes.
-fn modes_of(alloc: Global, source: &Source) -> Result<Sequence<Text>, AllocError>
-    ensures { IfOk result (λ modes. modes ≡ mode_names source.now) }
-{
-    let mut modes = Vec::new(alloc);
-    modes.push(Text::copy_of(alloc, "DEFAULT_MODE")?)?;
-    for mode in source.modes.as_slice() {
-        modes.push(Text::copy_of(alloc, mode.name.as_str())?)?;
-    }
-    Ok(Sequence::new(modes))
 }
 
 /// What the commands of a grammar can name, whose token types have these names.

@@ -1,6 +1,6 @@
 // Modes other than the default one, which no command line can load yet: a lexer grammar, and what texts are lexed to by it.
 ghost use Rattle.std.specs.Prelude.{IfOk};
-ghost use Rattle.g4_source.specs.Blocks.{HaveAlternatives, LexerRulesAreFull, ModesAreFull};
+ghost use Rattle.g4_source.specs.Blocks.{HaveAlternatives, LexerRulesAreFull};
 ghost use Rattle.g4_lexer_rules.specs.Lexable.{CanBeLexed};
 ghost use Rattle.g4_lexer_rules.specs.NetworkRules.{all_rules};
 ghost use Rattle.g4_ordered.specs.Network.{IsLexable};
@@ -19,14 +19,19 @@ use std::alloc::{AllocError, Global};
 use std::fmt::Write;
 use std::test::Fail;
 
-/// A grammar of three modes. In each of them an `x` has another type, and other characters change the mode.
+/// A grammar of three modes, the rules of one of them in two sections and some of the default mode at the end. In each mode an `x` has
+/// another type, and other characters change the mode. `OWN` and `LATE` are types of rules of `M` and of the end.
 const GRAMMAR: &str = "lexer grammar X;
 A : [x] ; B : [b] ; C : [c] ;
 PUSH : [<] -> pushMode(M) ; POP : [>] -> popMode ; GO : [!] -> mode(N) ; QUOTE : [q] -> more, pushMode(N) ;
 mode M;
 M1 : [x] -> type(B) ; M2 : [<] -> type(PUSH), pushMode(N) ; M3 : [>] -> type(POP), popMode ; M4 : [!] -> type(GO), mode(N) ;
 mode N;
-N1 : [x] -> type(C) ; N2 : [>] -> type(POP), popMode ; N3 : [!] -> type(GO), mode(DEFAULT_MODE) ;";
+N1 : [x] -> type(C) ; N2 : [>] -> type(POP), popMode ; N3 : [!] -> type(GO), mode(DEFAULT_MODE) ;
+mode M;
+OWN : [o] ;
+mode DEFAULT_MODE;
+LATE : [o] ;";
 
 /// Texts, and their tokens or the fault, worked out by hand.
 const TABLE: &str = "x => A 0-1
@@ -37,6 +42,8 @@ x<x>x => A 0-1 PUSH 1-2 B 2-3 POP 3-4 A 4-5
 <<!x>x => PUSH 0-1 PUSH 1-2 GO 2-3 A 3-4 POP 4-5 B 5-6
 qx>x => C 0-2 POP 2-3 A 3-4
 !x> => no mode at 2
+o<o!x => LATE 0-1 PUSH 1-2 OWN 2-3 GO 3-4 C 4-5
+!o => no token at 1
 <q => no token at 1
 q<x => no token at 1";
 
@@ -52,37 +59,40 @@ struct Prepared {
 #[tactic(auto, using(g4_lexer_rules::proofs::Checked::can_be_lexed))]
 fn checked(alloc: Global, source: Source) -> Result<Prepared, Fail>
     requires { HaveAlternatives source }
-    ensures full { IfOk result (λ found. LexerRulesAreFull found.rules.literals × ModesAreFull found.rules.modes) }
-    ensures lexed { IfOk result (λ found. CanBeLexed (all_rules found.rules.literals found.rules.modes)) }
+    ensures full { IfOk result (λ found. LexerRulesAreFull found.rules.literals × LexerRulesAreFull found.rules.rules) }
+    ensures lexed { IfOk result (λ found. CanBeLexed (all_rules found.rules.literals found.rules.rules)) }
 {
-    let Ok(grammar) = number(alloc, &source) else {
+    let Ok(vocabulary) = number(alloc, source.rules.as_slice()) else {
         return Err(Fail::from("a limit"));
     };
     let Ok(()) = check(alloc, &source) else {
         return Err(Fail::from("a fault of the rules"));
     };
-    let tables = tables_of(alloc, &source, grammar.names)?;
-    let rules = lexer_rules_of(alloc, source, grammar.token_rules)?;
+    let types = vocabulary.token_types(alloc)?;
+    drop(vocabulary);
+    let tables = tables_of(alloc, &source, types.names)?;
+    let rules = lexer_rules_of(alloc, source.rules, tables.types.as_slice(), types.literals)?;
     Ok(Prepared {
         rules,
         tables,
-        shown: grammar.shown,
+        shown: types.shown,
     })
 }
 
 /// The lexer of these rules.
 #[tactic(auto, using(g4_lexer_rules::proofs::Lexed::is_lexable))]
 fn lexer_of(alloc: Global, rules: LexerRules, tables: &CommandTables) -> Result<Lexer, Fail>
-    requires full { LexerRulesAreFull rules.literals × ModesAreFull rules.modes }
-    requires lexed { CanBeLexed (all_rules rules.literals rules.modes) }
+    requires full { LexerRulesAreFull rules.literals × LexerRulesAreFull rules.rules }
+    requires lexed { CanBeLexed (all_rules rules.literals rules.rules) }
     ensures { IfOk result (λ lexer. IsLexable lexer.net) }
 {
     let LexerRules {
         literals,
-        modes,
+        rules,
         types,
     } = rules;
-    let Ok(made) = build_lexer(alloc, literals.into_vec(), modes.into_vec()) else {
+    let modes = tables.modes.as_slice();
+    let Ok(made) = build_lexer(alloc, literals.into_vec(), rules.into_vec(), modes) else {
         return Err(Fail::from("no network"));
     };
     let commands = lexer_commands(alloc, tables, made.commands.as_slice())?;

@@ -1,8 +1,7 @@
 -- The stages of loading and building a grammar, and the exits from them.
 use Rattle.std.specs.Prelude.{⊤, All}
-use Rattle.std.proofs.Common.{◌≡◌, ◌≤◌, ◌<◌, ◌↔◌, ◌⊎◌, inl, inr, ℕ, List, Result, Ok, Err, [], ◌∷◌, ◌+◌, ◌*◌, length, map, Bool, true, false, IsTrue, ap, ◌∙◌, subst, sym, refl, arith}
-use Rattle.g4_base.specs.declared.place.Place.{Place}
-use Rattle.g4_source.specs.declared.rule.ParserRule.{ParserRule}
+use Rattle.std.proofs.Common.{◌≡◌, ◌≤◌, ℕ, List, Result, Ok, Err, [], ◌∷◌, ◌+◌, ◌*◌, length, ap, ◌∙◌, subst, sym, refl}
+use Rattle.g4_source.specs.declared.rule.Rule.{Rule}
 use Rattle.g4_source.specs.declared.source.Source.{Source}
 use Rattle.g4_reader.specs.Reading.{IsReading}
 use Rattle.g4_reader.specs.declared.reader.ReadFault.{ReadFault}
@@ -11,24 +10,27 @@ use Rattle.g4_forms.specs.Forms.{forms_not_run}
 use Rattle.g4_forms.specs.declared.fault.FormFault.{FormFault}
 use Rattle.g4_vocab.specs.Names.{HasOwnNames}
 use Rattle.g4_vocab.specs.declared.twice.NameFault.{NameFault}
-use Rattle.g4_vocab.specs.Answers.{GivesNumbered}
+use Rattle.g4_vocab.specs.Answers.{CausesNumberFault, FitsLimits, IsVocabularyOf}
+use Rattle.g4_vocab.specs.Numbering.{token_types, types_of}
+use Rattle.g4_vocab.specs.Types.{greatest_type}
+use Rattle.g4_vocab.specs.Vocabularies.{types_in}
 use Rattle.g4_vocab.specs.declared.fault.NumberFault.{NumberFault}
+use Rattle.g4_vocab.specs.declared.types.Entry.{Entry}
+use Rattle.g4_vocab.specs.declared.vocabulary.Vocabulary.{Vocabulary}
 use Rattle.g4_checks.specs.Checking.{IsChecked}
 use Rattle.g4_checks.specs.declared.fault.CheckFault.{CheckFault}
-use Rattle.g4_source.specs.Blocks.{ParserRulesAreFull, HaveAlternatives, LexerRulesAreFull, ModesAreFull}
-use Rattle.g4_grammar.specs.NumberedRules.{NumberedRuleIsUntested, NumberedRulesAreDefined, NumberedRulesCanRun, RuleLeavesEnd}
+use Rattle.g4_source.specs.Blocks.{LexerRulesAreFull, RulesAreFull}
 use Rattle.g4_grammar.specs.StepRules.{StepRule, CanBeRewritten}
 use Rattle.g4_grammar.specs.declared.step.Numbering.{Numbering}
+use Rattle.g4_grammar.specs.declared.token_types.TokenName.{TokenName}
+use Rattle.g4_grammar.specs.declared.token_types.TokenTypes.{TokenTypes}
 use Rattle.g4_leftrec.specs.Rewriting.{rewritten, numberings}
-use Rattle.g4_load.specs.Usable.{CanBeBuilt, IsSound}
+use Rattle.g4_load.specs.Usable.{IsParsing}
 use Rattle.g4_layout.specs.Built.{IsBuilt}
 use Rattle.g4_layout.specs.Rules.{rule_number}
 use Rattle.g4_tokens.specs.Symbols.{eof}
-use Rattle.g4_grammar.specs.declared.numbered.Numbered.{Numbered}
-use Rattle.g4_grammar.specs.declared.numbered.NumberedAtom.{NumberedAtom}
-use Rattle.g4_grammar.specs.declared.numbered.TokenName.{TokenName}
 use Rattle.g4_net.specs.Network.{ParserNetwork}
-use Rattle.g4_resolve.specs.Resolving.{resolved_rule}
+use Rattle.g4_resolve.specs.Resolving.{resolved}
 use Rattle.g4_build.specs.Answers.{GivesNetwork}
 use Rattle.g4_build.specs.declared.builder.BuildFault.{BuildFault}
 use Rattle.g4_load.specs.declared.fault.GrammarFault.{GrammarFault}
@@ -41,7 +43,6 @@ use Rattle.g4_load.specs.declared.stop.Halt.{Halt}
 use Rattle.g4_load.specs.declared.stop.Halt.TheVariants as halts
 use Rattle.g4_load.specs.Stages.{Gives, Then, stops, goes_on, OfFile, passes, fails, IsErrorOf, IsHaltOf}
 use Rattle.g4_load.specs.Files.{Files}
-use Rattle.g4_source.specs.InOrder.{rules_of}
 use Rattle.g4_grammar.specs.Written.{RulesAreDefined, RulesCanRun}
 use Rattle.g4_tokens.specs.declared.symbol.TheConstants.{MOST_TYPES}
 use Rattle.g4_lexer_rules.specs.Tables.{tables_of}
@@ -52,8 +53,8 @@ use Rattle.g4_lexer_rules.proofs.Checked.{can_be_lexed}
 use Rattle.g4_load.specs.Lexers.{CanBeMade, GivesLexer}
 use Rattle.g4_load.specs.Loading.{Fetches, IsGrammarIn, Checks, Numbers, Loads, rules_of_lexer, loaded_of}
 use Rattle.g4_load.specs.declared.loading.Loaded.{Loaded}
-use Rattle.g4_load.specs.Building.{names_of, steps_of, laid_of, GivesRewritten, Lays, FromGrammar}
-use Rattle.g4_load.specs.declared.interpreter.Laid.{Laid}
+use Rattle.g4_load.specs.Building.{names_of, parser_of, GivesRewritten, Lays, FromGrammar}
+use Rattle.g4_load.specs.declared.interpreter.Parser.{Parser}
 
 -- a layer's fault at which a stage ends
 pub stage_exit : {X Y E : Type 0} (IsAnswer : Result X E → Type 0) (seen : E → CheckError)
@@ -76,123 +77,59 @@ error_within : {X : Type 0} (Stage Whole : Result X GrammarFault → Type 0) (wi
 error_within Stage Whole within (errors.Fault fault) h = within (Err fault) h
 error_within Stage Whole within errors.NoMemory h = tt
 
--- the names that are kept, the rules being lent
-pub names_are : (grammar : Loaded) (names : List (List ℕ)) (slice : List (ParserRule NumberedAtom))
-    → names ≡ map (λ rule. rule.name) slice → slice ≡ grammar.rules → names ≡ names_of grammar
-names_are grammar names slice made lent = made ∙ ap (map (λ rule. rule.name)) lent
-
--- the rules over steps, no predicate having a place yet
-pub steps_are : (grammar : Loaded) (names : List (List ℕ)) (predicates : List Place) (rules : List (ParserRule NumberedAtom))
-    (steps : List StepRule) →
-    names ≡ names_of grammar → predicates ≡ [] → rules ≡ grammar.rules → steps ≡ map (resolved_rule names predicates) rules
-    → steps ≡ steps_of grammar
-steps_are grammar names predicates rules steps names_is predicates_is rules_is made =
-    made
-    ∙ (ap (λ (n : List (List ℕ)). map (resolved_rule n predicates) rules) names_is
-    ∙ (ap (λ (ps : List Place). map (resolved_rule (names_of grammar) ps) rules) predicates_is
-    ∙ ap (map (resolved_rule (names_of grammar) [])) rules_is))
-
--- what resolving asks of rules, so that they can be rewritten
-abbrev pub AreRewritable : List (List ℕ) → List (ParserRule NumberedAtom) → List StepRule → Type 0
-AreRewritable names rules steps =
-    names ≡ map (λ rule. rule.name) rules → ParserRulesAreFull rules → All RuleLeavesEnd rules → All NumberedRuleIsUntested rules
-    → NumberedRulesAreDefined rules → NumberedRulesCanRun rules → CanBeRewritten steps
-
--- the rules of a grammar that can be built
-pub can_be_rewritten : (grammar : Loaded) (names : List (List ℕ)) (rules : List (ParserRule NumberedAtom)) (steps : List StepRule)
-    → CanBeBuilt grammar → names ≡ names_of grammar → rules ≡ grammar.rules →
-    AreRewritable names rules steps → CanBeRewritten steps
-can_be_rewritten grammar names rules steps can named same h =
-    let here : AreRewritable names grammar.rules steps =
-    subst (λ (rs : List (ParserRule NumberedAtom)). AreRewritable names rs steps) same h in
-    here named can.full can.ends can.untested can.defined can.run
-
-module _ (start : List ℕ) (grammar : Loaded) where
-  -- the answer of building, where the rules are those of the grammar
+module _ (start : List ℕ) (rules : List StepRule) where
+  -- the answer of building, where the rules are these, rewritten
   pub gives_rewritten : (steps made : List StepRule) (numbers : List Numbering) (r : Result ParserNetwork BuildFault)
-      → steps ≡ steps_of grammar → made ≡ rewritten steps → numbers ≡ numberings steps →
-      GivesNetwork made numbers start r → GivesRewritten start grammar r
+      → steps ≡ rules → made ≡ rewritten steps → numbers ≡ numberings steps → GivesNetwork made numbers start r
+      → GivesRewritten start rules r
   gives_rewritten steps made numbers r same laid numbered is =
       subst (λ (ss : List StepRule). GivesNetwork (rewritten ss) (numberings ss) start r) same
       (subst (λ (ns : List Numbering). GivesNetwork (rewritten steps) ns start r) numbered
       (subst (λ (ms : List StepRule). GivesNetwork ms numbers start r) laid is))
 
-  -- a numbered grammar without a network
-  pub build_exit : (e : BuildFault) → GivesRewritten start grammar (Err e) → IsErrorOf (Lays start grammar) (of_build start e)
-  build_exit e is = stage_exit (GivesRewritten start grammar) (of_build start) (λ net result. result ≡ Ok (laid_of grammar net)) e is
+  -- rules without a network
+  pub build_exit : (e : BuildFault) → GivesRewritten start rules (Err e) → IsErrorOf (Lays start rules) (of_build start e)
+  build_exit e is = stage_exit (GivesRewritten start rules) (of_build start) (λ net result. result ≡ Ok (parser_of rules net)) e is
 
-  -- the grammar and its network
-  pub laid : (kept : List StepRule) (net : ParserNetwork) (names : List (List ℕ)) → kept ≡ steps_of grammar
-      → GivesRewritten start grammar (Ok net) → names ≡ names_of grammar →
-      Lays start grammar (Ok (record {
-        names = names;
-        rules = kept;
-        shown = grammar.shown;
-        lexer = grammar.lexer;
-        tables = grammar.tables;
-        net = net;
-      }))
+  -- the rules and their network
+  pub laid : (kept : List StepRule) (net : ParserNetwork) (names : List (List ℕ)) → kept ≡ rules
+      → GivesRewritten start rules (Ok net) → names ≡ names_of rules
+      → Lays start rules (Ok (record { names = names; rules = kept; net = net }))
   laid kept net names same built named =
-      goes_on net (Ok (record {
-        names = names;
-        rules = kept;
-        shown = grammar.shown;
-        lexer = grammar.lexer;
-        tables = grammar.tables;
-        net = net;
-      })) built
-      (ap (λ (n : List (List ℕ)). Ok (record {
-        names = n;
-        rules = kept;
-        shown = grammar.shown;
-        lexer = grammar.lexer;
-        tables = grammar.tables;
-        net = net;
-      })) named
-      ∙ ap (λ (rs : List StepRule). Ok (record {
-        names = names_of grammar;
-        rules = rs;
-        shown = grammar.shown;
-        lexer = grammar.lexer;
-        tables = grammar.tables;
-        net = net;
-      })) same)
+      goes_on net (Ok (record { names = names; rules = kept; net = net })) built
+      (ap (λ (n : List (List ℕ)). Ok (record { names = n; rules = kept; net = net })) named
+      ∙ ap (λ (rs : List StepRule). Ok (record { names = names_of rules; rules = rs; net = net })) same)
 
-  -- it can be parsed with, and its lexer made
-  pub sound : CanBeBuilt grammar → (steps kept made : List StepRule) (numbers : List Numbering) (net : ParserNetwork)
-      (names : List (List ℕ)) → kept ≡ steps → CanBeRewritten steps → made ≡ rewritten steps → numbers ≡ numberings steps →
-      GivesNetwork made numbers start (Ok net) → IsSound
-      (record { names = names; rules = kept; shown = grammar.shown; lexer = grammar.lexer; tables = grammar.tables; net = net })
-  sound can steps kept made numbers net names same rewritable laid numbered built =
-      let here : IsBuilt (eof ∷ []) (rewritten steps) (numberings steps) start net =
-      subst (λ (ns : List Numbering). IsBuilt (eof ∷ []) (rewritten steps) ns start net) numbered
-      (subst (λ (ms : List StepRule). IsBuilt (eof ∷ []) ms numbers start net) laid built) in record {
-        parsing = record {
-          ready = (rule_number (rewritten steps) start, 2 * length (rewritten steps) + 2, eof ∷ [], here.runnable);
-          rewritable = subst (λ (ss : List StepRule). CanBeRewritten ss) (sym same) rewritable;
-          built = (start, subst (λ (ss : List StepRule). IsBuilt (eof ∷ []) (rewritten ss) (numberings ss) start net) (sym same) here);
-        };
-        lexer = can.lexer;
-      }
+-- rules and their network can be parsed with
+pub parsing : (start : List ℕ) (rules kept made : List StepRule) (numbers : List Numbering) (net : ParserNetwork) → kept ≡ rules
+    → CanBeRewritten rules → made ≡ rewritten rules → numbers ≡ numberings rules → GivesNetwork made numbers start (Ok net)
+    → IsParsing kept net
+parsing start rules kept made numbers net same rewritable laid numbered built =
+    let here : IsBuilt (eof ∷ []) (rewritten rules) (numberings rules) start net =
+    subst (λ (ns : List Numbering). IsBuilt (eof ∷ []) (rewritten rules) ns start net) numbered
+    (subst (λ (ms : List StepRule). IsBuilt (eof ∷ []) ms numbers start net) laid built) in record {
+      ready = (rule_number (rewritten rules) start, 2 * length (rewritten rules) + 2, eof ∷ [], here.runnable);
+      rewritable = subst (λ (ss : List StepRule). CanBeRewritten ss) (sym same) rewritable;
+      built = (start, subst (λ (ss : List StepRule). IsBuilt (eof ∷ []) (rewritten ss) (numberings ss) start net) (sym same) here);
+    }
 
 -- the rules of a source's lexer
-lexer_is : (source : Source) (made : LexerRules) → IsLexerRulesOf source made → made ≡ rules_of_lexer source
-lexer_is source made are = rw (are.literals, are.modes, are.types) refl
+lexer_is : (source : Source) (made : LexerRules) → IsLexerRulesOf source.rules made → made ≡ rules_of_lexer source
+lexer_is source made are = rw (are.literals, are.rules, are.types) refl
 
 -- so they can be made a lexer of, where the source is checked
-pub can_be_made : (source : Source) (made : LexerRules) → IsLexerRulesOf source made → HaveAlternatives source
-    → RulesAreDefined (rules_of source) → RulesCanRun (rules_of source) → LexerRulesAreFull made.literals × ModesAreFull made.modes →
-    All (λ type. type ≤ MOST_TYPES) made.types → (tables : CommandTables) → All (λ name. name.symbol ≤ MOST_TYPES) tables.types
-    → CanBeMade made tables
-can_be_made source made are have defined can full low tables named = record {
+pub can_be_made : (rules : List Rule) (made : LexerRules) → IsLexerRulesOf rules made → RulesAreFull rules → RulesAreDefined rules
+    → RulesCanRun rules → LexerRulesAreFull made.literals × LexerRulesAreFull made.rules → All (λ type. type ≤ MOST_TYPES) made.types →
+    (tables : CommandTables) → All (λ name. name.symbol ≤ MOST_TYPES) tables.types → CanBeMade made tables
+can_be_made rules made are have defined can full low tables named = record {
   literals = full.0;
-  modes = full.1;
-  lexed = can_be_lexed source made are have defined can;
+  rules = full.1;
+  lexed = can_be_lexed rules made are have defined can;
   types = low;
   named = named;
 }
 
--- the names of types that commands can take are those of the numbered grammar
+-- the names of types that commands can take are those of the grammar
 pub named_low : (source : Source) (names : List TokenName) → (tables : CommandTables) → tables ≡ tables_of source names
     → All (λ name. name.symbol ≤ MOST_TYPES) names → All (λ name. name.symbol ≤ MOST_TYPES) tables.types
 named_low source names tables are low = subst (λ (t : CommandTables). All (λ name. name.symbol ≤ MOST_TYPES) t.types) (sym are) low
@@ -204,10 +141,10 @@ stage_stops Stage Second (errors.Fault fault) h = stops fault h
 stage_stops Stage Second errors.NoMemory h = tt
 
 -- a lexer with too many states
-pub lexer_exit : (start : List ℕ) (grammar : Loaded) (laid : Laid) (e : CheckError) → Lays start grammar (Ok laid)
-    → IsErrorOf (GivesLexer laid.lexer laid.tables) e → IsErrorOf (FromGrammar start grammar) e
-lexer_exit start grammar laid (errors.Fault fault) is h = goes_on laid (Err fault) is (stops fault h)
-lexer_exit start grammar laid errors.NoMemory is h = tt
+pub lexer_exit : (start : List ℕ) (grammar : Loaded) (parser : Parser) (e : CheckError) → Lays start grammar.rules (Ok parser)
+    → IsErrorOf (GivesLexer grammar.lexer grammar.tables) e → IsErrorOf (FromGrammar start grammar) e
+lexer_exit start grammar parser (errors.Fault fault) is h = goes_on parser (Err fault) is (stops fault h)
+lexer_exit start grammar parser errors.NoMemory is h = tt
 
 module _ (bytes : List ℕ) where
   -- bytes that are no grammar
@@ -220,10 +157,10 @@ module _ (bytes : List ℕ) where
 
     -- what follows the forms, and the names
     abbrev WithForms : Result Loaded GrammarFault → Type 0
-    WithForms = Then (Gives (HasOwnNames source.rules) of_name) (λ _. Then (Gives (GivesNumbered source) of_number) (Checks source))
+    WithForms = Then (Gives (HasOwnNames source.rules) of_name) (λ _. Then (Gives (FitsLimits source.rules) of_number) (λ _. Checks source))
 
     abbrev WithNames : Result Loaded GrammarFault → Type 0
-    WithNames = Then (Gives (GivesNumbered source) of_number) (Checks source)
+    WithNames = Then (Gives (FitsLimits source.rules) of_number) (λ _. Checks source)
 
     -- a grammar with a form that is not run yet
     pub form_exit : (e : FormFault) → AreRun {A = ⊤} (forms_not_run source) (Err e) → IsErrorOf (IsGrammarIn bytes) (of_form e)
@@ -244,34 +181,32 @@ module _ (bytes : List ℕ) where
         after_names r h = after_forms r (goes_on tt r named h)
 
         -- a grammar that is not numbered
-        pub number_exit : (e : NumberFault) → GivesNumbered source (Err e) → IsErrorOf (IsGrammarIn bytes) (of_number e)
+        pub number_exit : (e : NumberFault) → CausesNumberFault source.rules e → IsErrorOf (IsGrammarIn bytes) (of_number e)
         number_exit e is = error_within WithNames (IsGrammarIn bytes) after_names (of_number e)
-            (stage_exit (GivesNumbered source) of_number (Checks source) e is)
+            (stage_exit (FitsLimits source.rules) of_number (λ _. Checks source) e is)
 
-        module _ (grammar : Numbered) (numbered : GivesNumbered source (Ok grammar)) where
-          after_numbers : (r : Result Loaded GrammarFault) → Checks source grammar r → IsGrammarIn bytes r
-          after_numbers r h = after_names r (goes_on grammar r numbered h)
+        module _ (vocabulary : Vocabulary) (numbered : IsVocabularyOf source.rules vocabulary) where
+          after_numbers : (r : Result Loaded GrammarFault) → Checks source r → IsGrammarIn bytes r
+          after_numbers r h = after_names r (goes_on tt r (numbered.few_rules, few) h)
+            where
+              few : greatest_type (types_of [] source.rules) ≤ MOST_TYPES
+              few = subst (λ (types : List Entry). greatest_type types ≤ MOST_TYPES) numbered.types numbered.few_types
 
           -- a grammar that cannot be run
           pub check_exit : (e : CheckFault) → IsChecked source (Err e) → IsErrorOf (IsGrammarIn bytes) (of_check e)
-          check_exit e is = error_within (Checks source grammar) (IsGrammarIn bytes) after_numbers (of_check e)
-              (stage_exit (IsChecked source) of_check (λ _ result. result ≡ Ok (loaded_of source grammar)) e is)
+          check_exit e is = error_within (Checks source) (IsGrammarIn bytes) after_numbers (of_check e)
+              (stage_exit (IsChecked source) of_check (λ _ result. result ≡ Ok (loaded_of source)) e is)
 
           -- a grammar without fault
-          pub checked : IsChecked source (Ok tt) → (tables : CommandTables) → tables ≡ tables_of source grammar.names
-              → (lexer : LexerRules) → IsLexerRulesOf source lexer →
-              IsGrammarIn bytes (Ok (record { rules = grammar.rules; shown = grammar.shown; lexer = lexer; tables = tables }))
-          checked is tables named lexer are =
-              after_numbers (Ok (record { rules = grammar.rules; shown = grammar.shown; lexer = lexer; tables = tables }))
-              (goes_on tt (Ok (record { rules = grammar.rules; shown = grammar.shown; lexer = lexer; tables = tables })) is
-              (ap (λ (l : LexerRules). Ok (record { rules = grammar.rules; shown = grammar.shown; lexer = l; tables = tables }))
-              (lexer_is source lexer are)
-              ∙ ap (λ (t : CommandTables). Ok (record {
-                rules = grammar.rules;
-                shown = grammar.shown;
-                lexer = rules_of_lexer source;
-                tables = t;
-              })) named))
+          pub checked : IsChecked source (Ok tt) → (rules : List StepRule) → rules ≡ resolved source.rules → (types : TokenTypes)
+              → types ≡ token_types (types_in vocabulary) → (tables : CommandTables) → tables ≡ tables_of source types.names
+              → (lexer : LexerRules) → IsLexerRulesOf source.rules lexer →
+              IsGrammarIn bytes (Ok (record { rules = rules; shown = types.shown; lexer = lexer; tables = tables }))
+          checked is rules steps types given tables named lexer are =
+              let all : types ≡ token_types (types_of [] source.rules) = given ∙ ap token_types numbered.types in
+              after_numbers (Ok (record { rules = rules; shown = types.shown; lexer = lexer; tables = tables }))
+              (goes_on tt (Ok (record { rules = rules; shown = types.shown; lexer = lexer; tables = tables })) is
+              (rw (steps, lexer_is source lexer are, named, all) refl))
 
 -- what a stage over the grammar of one file gives of a command line
 abbrev pub of_one : {X : Type 0} → List ℕ → Result X GrammarFault → Result X Stop

@@ -1,9 +1,8 @@
 -- Each command of a checked grammar is known, with what it takes.
-use Rattle.std.proofs.Common.{◌≡◌, ℕ, List, [], ◌∷◌, ◌++◌, Bool, true, false, cond, Option, Some, None, codes, All, sym, ap, ◌∙◌, subst}
+use Rattle.std.proofs.Common.{◌≡◌, ℕ, List, [], ◌∷◌, Bool, true, false, cond, Option, Some, None, codes, All}
 use Rattle.std.specs.List.{cons_option, filter_map, flat_map}
 use Rattle.std.specs.Option.{IfSome}
 use Rattle.std.specs.Str.{bytes_eq}
-use Rattle.std.proofs.lemmas.List.{append-nil}
 use Rattle.std.proofs.lemmas.List.Elements.{All-nil, All-cons, All-head, All-tail, All-append}
 use Rattle.g4_source.proofs.Parts.{All-front, All-rest}
 use Rattle.g4_source.specs.Rules.{lexer_rules}
@@ -16,7 +15,6 @@ use Rattle.g4_source.specs.declared.rule.LexerAlternative.{LexerAlternative}
 use Rattle.g4_source.specs.declared.rule.Rule.{Rule}
 use Rattle.g4_source.specs.declared.rule.Rule.TheVariants.{Parser, Lexer}
 use Rattle.g4_source.specs.declared.source.Source.{Source}
-use Rattle.g4_source.specs.InOrder.{mode_rules, rules_of}
 use Rattle.g4_checks.specs.References.{HasNoClash, commands_in}
 use Rattle.g4_checks.specs.Commands.{all_commands}
 use Rattle.g4_lexer_rules.specs.Known.{ArgumentIsUnknownType, IsKnown, TakesNoType, is_token_name}
@@ -85,18 +83,11 @@ module _ (types : List Entry) where
       (alternatives_take rule.alternatives (All-front (HasSymbol types) commanded (all_commanded (lexer_rules rules)) h))
       (rules_take rules (All-rest (HasSymbol types) commanded (all_commanded (lexer_rules rules)) h))
 
--- without modes all rules are those outside of modes
-pub rules_are : (source : Source) → source.modes ≡ [] → rules_of source ≡ source.rules
-rules_are source none = ap (λ ms. source.rules ++ flat_map mode_rules ms) none ∙ append-nil source.rules
-
--- so where the names of the rules are checked, each command is known, and its token type is that of the numbered grammar
-pub all_known : (source : Source) → source.modes ≡ [] → HasNoClash source
-    → All (IsKnown source (names_of (types_of [] source.rules))) (commands_in source)
-all_known source none checked =
+-- so where the names of the rules are checked, each command is known, and its token type is that of the grammar
+pub all_known : (source : Source) → HasNoClash source → All (IsKnown source (names_of (types_of [] source.rules))) (commands_in source)
+all_known source checked =
     let types : List Entry = types_of [] source.rules in
-    let typed : All (TakesAType types) (commands_in source) =
-    subst (λ (rules : List Rule). All (TakesAType types) (all_commands rules)) (sym (rules_are source none))
-    (rules_take types source.rules (commanded_have_symbols source.rules)) in
+    let typed : All (TakesAType types) (commands_in source) = rules_take types source.rules (commanded_have_symbols source.rules) in
     λ k d less. record {
       known = checked.0.0.0.0.1 k d less;
       mode = checked.0.0.0.0.0.1 k d less;

@@ -3,7 +3,6 @@ use Rattle.std.proofs.Common.{◌≡◌, ◌≤◌, ℕ, zero, suc, List, [], �
 use Rattle.std.proofs.lemmas.List.Elements.{All-nil, All-head, All-tail}
 use Rattle.g4_tokens.specs.declared.symbol.TheConstants.{MOST_TYPES}
 use Rattle.g4_source.specs.declared.rule.LexerRule.{LexerRule}
-use Rattle.g4_source.specs.declared.source.Mode.{Mode}
 use Rattle.g4_ordered.specs.Network.{IsLexable}
 use Rattle.g4_lexer.specs.declared.command.LexerCommand.{LexerCommand}
 use Rattle.g4_lexer.specs.declared.lexer.Lexer.{Lexer}
@@ -16,17 +15,18 @@ use Rattle.g4_lexer_rules.specs.declared.lexer_rules.LexerRules.{LexerRules}
 use Rattle.g4_load.specs.Lexers.{CanBeMade, lexer_with}
 
 -- the network is that of these rules, where it is that of equal ones
-pub network_of : (literals lits : List LexerRule) (modes ms : List Mode) (made : LexNet) → lits ≡ literals → ms ≡ modes
-    → IsLexNet lits ms made → IsLexNet literals modes made
-network_of literals lits modes ms made a b is =
-    subst (λ (xs : List LexerRule). IsLexNet xs modes made) a (subst (λ (ys : List Mode). IsLexNet lits ys made) b is)
+pub network_of : (literals lits rules rs : List LexerRule) (modes ms : List (List ℕ)) (made : LexNet) → lits ≡ literals → rs ≡ rules
+    → ms ≡ modes → IsLexNet lits rs ms made → IsLexNet literals rules modes made
+network_of literals lits rules rs modes ms made a b d is =
+    subst (λ (xs : List LexerRule). IsLexNet xs rules modes made) a
+    (subst (λ (ys : List LexerRule). IsLexNet lits ys modes made) b (subst (λ (ns : List (List ℕ)). IsLexNet lits rs ns made) d is))
 
 -- the lexer of rules that can be lexed with can be lexed with
 pub lexable : (rules : LexerRules) (made : LexNet) (lexer : Lexer) (types : List ℕ) (tables : CommandTables)
-    → IsLexNet rules.literals rules.modes made → lexer ≡ lexer_with made types tables →
+    → IsLexNet rules.literals rules.rules tables.modes made → lexer ≡ lexer_with made types tables →
     CanBeMade rules tables → IsLexable lexer.net
 lexable rules made lexer types tables is same can =
-    subst (λ (l : Lexer). IsLexable l.net) (sym same) (is_lexable rules.literals rules.modes made is can.lexed)
+    subst (λ (l : Lexer). IsLexable l.net) (sym same) (is_lexable rules.literals rules.rules tables.modes made is can.lexed)
 
 -- a number of a list that is low, or 0
 low_at : (types : List ℕ) (k : ℕ) → All (λ type. type ≤ MOST_TYPES) types → get_or types k 0 ≤ MOST_TYPES

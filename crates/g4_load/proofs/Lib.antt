@@ -5,7 +5,6 @@ mod Kept
 mod KnownCommands
 pub mod Networks
 mod Fetched
-mod NoModes
 pub mod OneBuilt
 pub mod OneStage
 mod Stages

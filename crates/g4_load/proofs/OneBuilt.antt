@@ -4,7 +4,7 @@ use Rattle.g4_tokens.specs.Symbols.{eof}
 use Rattle.g4_grammar.specs.StepRules.{StepRule}
 use Rattle.g4_grammar.specs.declared.step.Numbering.{Numbering}
 use Rattle.g4_leftrec.specs.Rewriting.{rewritten, numberings}
-use Rattle.g4_grammar.specs.declared.numbered.Numbered.{Numbered}
+use Rattle.g4_source.specs.declared.rule.Rule.{Rule}
 use Rattle.g4_net.specs.Network.{ParserNetwork}
 use Rattle.g4_net.specs.declared.network.State.TheVariants.{Call}
 use Rattle.g4_netlist.specs.Listing.{IsListing}
@@ -18,7 +18,7 @@ use Rattle.g4_forms.specs.Forms.{forms_not_run}
 use Rattle.g4_forms.specs.Answers.{AreRun}
 use Rattle.g4_forms.proofs.OneAnswer.{one_answer}
 use Rattle.g4_vocab.specs.Names.{HasOwnNames}
-use Rattle.g4_vocab.specs.Answers.{GivesNumbered}
+use Rattle.g4_vocab.specs.Answers.{FitsLimits}
 use Rattle.g4_vocab.specs.declared.twice.NameFault.TheVariants as naming
 use Rattle.g4_vocab.specs.declared.fault.NumberFault.TheVariants as numbering
 use Rattle.g4_vocab.proofs.OneNaming.{one_naming}
@@ -38,30 +38,30 @@ use Rattle.g4_load.specs.declared.interpreter.Interpreter.{Interpreter}
 use Rattle.g4_load.specs.declared.fault.GrammarFault.{GrammarFault}
 use Rattle.g4_load.specs.declared.stop.Stop.{Stop}
 use Rattle.g4_load.specs.declared.stop.Stop.TheVariants as stopping
-use Rattle.g4_load.specs.Building.{steps_of, laid_of, interpreter_of, Lays, HasLexer, FromGrammar, Builds, GivesRewritten}
+use Rattle.g4_load.specs.Building.{parser_of, interpreter_of, Lays, HasLexer, FromGrammar, Builds, GivesRewritten}
 use Rattle.g4_load.specs.Lexers.{GivesLexer, lexer_with}
-use Rattle.g4_load.specs.declared.interpreter.Laid.{Laid}
+use Rattle.g4_load.specs.declared.interpreter.Parser.{Parser}
 use Rattle.g4_load.specs.declared.loading.Loaded.{Loaded}
 use Rattle.g4_load.specs.Listing.{IsStartRule, ListsStart, FromRule, Lists}
 use Rattle.g4_load.specs.Files.{Files}
 use Rattle.g4_load.specs.Loading.{Fetches, absent, too_large, there, Checks, Numbers, Reads, Loads, loaded_of}
 use Rattle.g4_load.proofs.OneStage.{IsSingle, IsSingleBeside, one_gift, one_then, one_of_file}
 
--- a source has at most one numbering
-one_numbering : (source : Source) → IsSingleBeside numbering.NoMemory (GivesNumbered source)
-one_numbering source (Ok g) (Ok h) p q n m = ap (λ x. Ok x) (p.2 ∙ sym q.2)
-one_numbering source (Ok g) (Err numbering.Rules) p q n m = absurd (omega (arith, p.0, q))
-one_numbering source (Ok g) (Err numbering.Types) p q n m = absurd (omega (arith, p.1, q.1))
-one_numbering source (Ok g) (Err numbering.NoMemory) p q n m = absurd (m refl)
-one_numbering source (Err numbering.Rules) (Ok h) p q n m = absurd (omega (arith, p, q.0))
-one_numbering source (Err numbering.Rules) (Err numbering.Rules) p q n m = refl
-one_numbering source (Err numbering.Rules) (Err numbering.Types) p q n m = absurd (omega (arith, p, q.0))
-one_numbering source (Err numbering.Rules) (Err numbering.NoMemory) p q n m = absurd (m refl)
-one_numbering source (Err numbering.Types) (Ok h) p q n m = absurd (omega (arith, p.1, q.1))
-one_numbering source (Err numbering.Types) (Err numbering.Rules) p q n m = absurd (omega (arith, p.0, q))
-one_numbering source (Err numbering.Types) (Err numbering.Types) p q n m = refl
-one_numbering source (Err numbering.Types) (Err numbering.NoMemory) p q n m = absurd (m refl)
-one_numbering source (Err numbering.NoMemory) b p q n m = absurd (n refl)
+-- the rules of a source are few enough, or not, in at most one way
+one_numbering : (rules : List Rule) → IsSingleBeside numbering.NoMemory (FitsLimits rules)
+one_numbering rules (Ok g) (Ok h) p q n m = refl
+one_numbering rules (Ok g) (Err numbering.Rules) p q n m = absurd (omega (arith, p.0, q))
+one_numbering rules (Ok g) (Err numbering.Types) p q n m = absurd (omega (arith, p.1, q.1))
+one_numbering rules (Ok g) (Err numbering.NoMemory) p q n m = absurd (m refl)
+one_numbering rules (Err numbering.Rules) (Ok h) p q n m = absurd (omega (arith, p, q.0))
+one_numbering rules (Err numbering.Rules) (Err numbering.Rules) p q n m = refl
+one_numbering rules (Err numbering.Rules) (Err numbering.Types) p q n m = absurd (omega (arith, p, q.0))
+one_numbering rules (Err numbering.Rules) (Err numbering.NoMemory) p q n m = absurd (m refl)
+one_numbering rules (Err numbering.Types) (Ok h) p q n m = absurd (omega (arith, p.1, q.1))
+one_numbering rules (Err numbering.Types) (Err numbering.Rules) p q n m = absurd (omega (arith, p.0, q))
+one_numbering rules (Err numbering.Types) (Err numbering.Types) p q n m = refl
+one_numbering rules (Err numbering.Types) (Err numbering.NoMemory) p q n m = absurd (m refl)
+one_numbering rules (Err numbering.NoMemory) b p q n m = absurd (n refl)
 
 -- what holds and fails is not both
 not_both : (b : Bool) → b ≡ true → b ≡ false → ⊥
@@ -92,60 +92,64 @@ one_build rules numbers start (Err building.States) (Err building.States) p q n 
 one_build rules numbers start (Err building.States) (Err building.NoMemory) p q n m = absurd (m refl)
 one_build rules numbers start (Err building.NoMemory) b p q n m = absurd (n refl)
 
--- a grammar is laid in at most one way
-one_laid : (start : List ℕ) (grammar : Loaded) → IsSingle (Lays start grammar)
-one_laid start grammar =
-    one_then (Gives (GivesRewritten start grammar) (of_build start)) (λ net result. result ≡ Ok (laid_of grammar net))
-    (one_gift (GivesRewritten start grammar) (of_build start) building.NoMemory refl
-    (one_build (rewritten (steps_of grammar)) (numberings (steps_of grammar)) start)) (λ net a b p q. p ∙ sym q)
+-- rules are laid in at most one way
+one_laid : (start : List ℕ) (rules : List StepRule) → IsSingle (Lays start rules)
+one_laid start rules =
+    one_then (Gives (GivesRewritten start rules) (of_build start)) (λ net result. result ≡ Ok (parser_of rules net))
+    (one_gift (GivesRewritten start rules) (of_build start) building.NoMemory refl
+    (one_build (rewritten rules) (numberings rules) start)) (λ net a b p q. p ∙ sym q)
 
 -- the rules of a lexer give at most one lexer
 one_lexer : (rules : LexerRules) (tables : CommandTables) → IsSingle (GivesLexer rules tables)
 one_lexer rules tables (Ok a) (Ok b) p q = ap (λ x. Ok x)
-    (p.2 ∙ ap (λ (m : LexNet). lexer_with m rules.types tables) (one_lex_net rules.literals rules.modes p.0 q.0 p.1 q.1) ∙ sym q.2)
+    (p.2 ∙ ap (λ (m : LexNet). lexer_with m rules.types tables)
+    (one_lex_net rules.literals rules.rules tables.modes p.0 q.0 p.1 q.1) ∙ sym q.2)
 one_lexer rules tables (Ok a) (Err g) p q = absurd (omega (arith, p.1.fits, q.0))
 one_lexer rules tables (Err f) (Ok b) p q = absurd (omega (arith, q.1.fits, p.0))
 one_lexer rules tables (Err f) (Err g) p q = ap (λ x. Err x) (p.1 ∙ sym q.1)
 
--- a network goes with at most one lexer
-one_with_lexer : (laid : Laid) → IsSingle (HasLexer laid)
-one_with_lexer laid = one_then (GivesLexer laid.lexer laid.tables) (λ lexer result. result ≡ Ok (interpreter_of laid lexer))
-    (one_lexer laid.lexer laid.tables) (λ lexer a b p q. p ∙ sym q)
+-- a parser goes with at most one lexer
+one_with_lexer : (grammar : Loaded) (parser : Parser) → IsSingle (HasLexer grammar parser)
+one_with_lexer grammar parser =
+    one_then (GivesLexer grammar.lexer grammar.tables) (λ lexer result. result ≡ Ok (interpreter_of grammar parser lexer))
+    (one_lexer grammar.lexer grammar.tables) (λ lexer a b p q. p ∙ sym q)
 
 -- a grammar gives at most one thing to parse with
 one_from_grammar : (start : List ℕ) (grammar : Loaded) → IsSingle (FromGrammar start grammar)
-one_from_grammar start grammar = one_then (Lays start grammar) HasLexer (one_laid start grammar) one_with_lexer
+one_from_grammar start grammar =
+    one_then (Lays start grammar.rules) (HasLexer grammar) (one_laid start grammar.rules) (one_with_lexer grammar)
 
 -- a network has one start rule
 one_start : (net : ParserNetwork) (r s : ℕ) → IsStartRule net r → IsStartRule net s → r ≡ s
 one_start net r s p q = let same : Some (Call r 0 p.0) ≡ Some (Call s 0 q.0) = sym p.1 ∙ q.1 in cc
 
 -- and one listing of it
-one_start_listing : (laid : Laid) → IsSingle (ListsStart laid)
-one_start_listing laid (Ok a) (Ok b) p q =
-    let also = subst (λ (r : ℕ). IsListing laid.names laid.shown laid.net r b) (one_start laid.net q.0 p.0 q.1 p.1) q.2 in
-    ap (λ (x : List ℕ). Ok x) (one_listing laid.names laid.shown laid.net p.0 a b p.2 also)
-one_start_listing laid (Ok a) (Err g) p q = absurd q
-one_start_listing laid (Err f) b p q = absurd p
+one_start_listing : (shown : List (List ℕ)) (parser : Parser) → IsSingle (ListsStart shown parser)
+one_start_listing shown parser (Ok a) (Ok b) p q =
+    let also = subst (λ (r : ℕ). IsListing parser.names shown parser.net r b) (one_start parser.net q.0 p.0 q.1 p.1) q.2 in
+    ap (λ (x : List ℕ). Ok x) (one_listing parser.names shown parser.net p.0 a b p.2 also)
+one_start_listing shown parser (Ok a) (Err g) p q = absurd q
+one_start_listing shown parser (Err f) b p q = absurd p
 
 -- a grammar gives at most one listing of a rule
 one_from_rule : (rule : List ℕ) (grammar : Loaded) → IsSingle (FromRule rule grammar)
-one_from_rule rule grammar = one_then (Lays rule grammar) ListsStart (one_laid rule grammar) one_start_listing
+one_from_rule rule grammar = one_then (Lays rule grammar.rules) (ListsStart grammar.shown) (one_laid rule grammar.rules)
+    (one_start_listing grammar.shown)
 
--- a source has at most one checked numbering
-one_checked : (source : Source) (grammar : Numbered) → IsSingle (Checks source grammar)
-one_checked source grammar = one_then (Gives (IsChecked source) of_check) (λ _ result. result ≡ Ok (loaded_of source grammar))
+-- a source gives at most one grammar, where it is checked
+one_checked : (source : Source) → IsSingle (Checks source)
+one_checked source = one_then (Gives (IsChecked source) of_check) (λ _ result. result ≡ Ok (loaded_of source))
     (one_gift (IsChecked source) of_check checking.NoMemory refl (one_check source)) (λ _ a b p q. p ∙ sym q)
 
 one_numbers : (source : Source) → IsSingle (Numbers source)
 one_numbers source =
     one_then (Gives (AreRun (forms_not_run source)) of_form)
-    (λ _. Then (Gives (HasOwnNames source.rules) of_name) (λ _. Then (Gives (GivesNumbered source) of_number) (Checks source)))
+    (λ _. Then (Gives (HasOwnNames source.rules) of_name) (λ _. Then (Gives (FitsLimits source.rules) of_number) (λ _. Checks source)))
     (one_gift (AreRun (forms_not_run source)) of_form forming.NoMemory refl (one_answer (forms_not_run source)))
-    (λ _. one_then (Gives (HasOwnNames source.rules) of_name) (λ _. Then (Gives (GivesNumbered source) of_number) (Checks source))
+    (λ _. one_then (Gives (HasOwnNames source.rules) of_name) (λ _. Then (Gives (FitsLimits source.rules) of_number) (λ _. Checks source))
     (one_gift (HasOwnNames source.rules) of_name naming.NoMemory refl (one_naming source.rules))
-    (λ _. one_then (Gives (GivesNumbered source) of_number) (Checks source)
-    (one_gift (GivesNumbered source) of_number numbering.NoMemory refl (one_numbering source)) (one_checked source)))
+    (λ _. one_then (Gives (FitsLimits source.rules) of_number) (λ _. Checks source)
+    (one_gift (FitsLimits source.rules) of_number numbering.NoMemory refl (one_numbering source.rules)) (λ _. one_checked source)))
 
 module _ (files : Files) (name : List ℕ) where
   -- a name has at most one file

@@ -12,7 +12,7 @@ IsCarriedOut grammar command = IsSome (command_of grammar.tables command)
 
 -- the commands as they are written, for each rule of the grammar's lexer and each alternative of it
 abbrev pub written_commands : Loaded → List (List (List Command))
-written_commands grammar = commands_of (all_rules grammar.lexer.literals grammar.lexer.modes)
+written_commands grammar = commands_of (all_rules grammar.lexer.literals grammar.lexer.rules)
 
 -- the lexer has what each of these commands does, in the same order, so none is passed over
 abbrev pub CarriesOutAll : Loaded → Lexer → Type 0

@@ -2,7 +2,7 @@
 use Rattle.std.specs.Prelude.{◌≡◌, ◌<◌, ◌≤◌, ℕ, All, List, map, Result, Ok, Err}
 use Rattle.std.specs.List.{filter_map}
 use Rattle.g4_tokens.specs.declared.symbol.TheConstants.{MOST_TYPES}
-use Rattle.g4_source.specs.Blocks.{LexerRulesAreFull, ModesAreFull}
+use Rattle.g4_source.specs.Blocks.{LexerRulesAreFull}
 use Rattle.g4_lexer_rules.specs.Lexable.{CanBeLexed}
 use Rattle.g4_net.specs.declared.network.TheConstants.{MOST_STATES}
 use Rattle.g4_lexer_rules.specs.Commands.{command_of}
@@ -25,15 +25,15 @@ lexer_with made types tables = record {
 }
 
 -- The rules can be lexed with, each block of them has an alternative, and each has a token type or none; names of types have such types.
-pub record CanBeMade (rules : LexerRules) (tables : CommandTables) : Type 0 where
-  pub literals : LexerRulesAreFull rules.literals
-  pub modes : ModesAreFull rules.modes
-  pub lexed : CanBeLexed (all_rules rules.literals rules.modes)
-  pub types : All (λ type. type ≤ MOST_TYPES) rules.types
+pub record CanBeMade (made : LexerRules) (tables : CommandTables) : Type 0 where
+  pub literals : LexerRulesAreFull made.literals
+  pub rules : LexerRulesAreFull made.rules
+  pub lexed : CanBeLexed (all_rules made.literals made.rules)
+  pub types : All (λ type. type ≤ MOST_TYPES) made.types
   pub named : All (λ name. name.symbol ≤ MOST_TYPES) tables.types
 
 -- the lexer by the network of these rules, or that this would have too many states
 abbrev pub GivesLexer : LexerRules → CommandTables → Result Lexer GrammarFault → Type 0
-GivesLexer rules tables (Ok lexer) = (made : LexNet) × IsLexNet rules.literals rules.modes made
+GivesLexer rules tables (Ok lexer) = (made : LexNet) × IsLexNet rules.literals rules.rules tables.modes made
     × (lexer ≡ lexer_with made rules.types tables)
-GivesLexer rules tables (Err fault) = (MOST_STATES < lexer_states (all_rules rules.literals rules.modes)) × (fault ≡ faults.States)
+GivesLexer rules tables (Err fault) = (MOST_STATES < lexer_states (all_rules rules.literals rules.rules)) × (fault ≡ faults.States)

@@ -1,30 +1,20 @@
 -- What laying networks asks of a grammar, and parsing of an interpreter.
-use Rattle.std.specs.Prelude.{◌≤◌, ℕ, List, [], ◌∷◌, All, length}
+use Rattle.std.specs.Prelude.{ℕ, List, [], ◌∷◌}
 use Rattle.g4_tokens.specs.Symbols.{eof}
-use Rattle.g4_source.specs.Blocks.{ParserRulesAreFull}
-use Rattle.g4_grammar.specs.NumberedRules.{NumberedRuleIsUntested, NumberedRulesAreDefined, NumberedRulesCanRun, RuleLeavesEnd}
 use Rattle.g4_grammar.specs.StepRules.{StepRule, CanBeRewritten}
 use Rattle.g4_net.specs.Network.{ParserNetwork}
 use Rattle.g4_ordered.specs.Network.{IsLexable}
 use Rattle.g4_lexer.specs.Lexers.{HasTokenTypes}
-use Rattle.g4_vocab.specs.declared.fault.TheConstants.{MOST_RULES}
 use Rattle.g4_net.specs.AddedRule.{IsReady}
 use Rattle.g4_layout.specs.Built.{IsBuilt}
 use Rattle.g4_leftrec.specs.Rewriting.{rewritten, numberings}
 use Rattle.g4_load.specs.Lexers.{CanBeMade}
 use Rattle.g4_load.specs.declared.interpreter.Interpreter.{Interpreter}
-use Rattle.g4_load.specs.declared.interpreter.Laid.{Laid}
 use Rattle.g4_load.specs.declared.loading.Loaded.{Loaded}
 
--- There are few enough rules, each block has an alternative, each reference is to a rule, the rules can be run, none takes END, and
--- so far none tests anything. The lexer's rules can be lexed with, and have token types.
+-- The parser rules can be rewritten. The lexer's rules can be lexed with, and have token types.
 pub record CanBeBuilt (grammar : Loaded) : Type 0 where
-  pub few : length grammar.rules ≤ MOST_RULES
-  pub full : ParserRulesAreFull grammar.rules
-  pub ends : All RuleLeavesEnd grammar.rules
-  pub untested : All NumberedRuleIsUntested grammar.rules
-  pub defined : NumberedRulesAreDefined grammar.rules
-  pub run : NumberedRulesCanRun grammar.rules
+  pub rewritable : CanBeRewritten grammar.rules
   pub lexer : CanBeMade grammar.lexer grammar.tables
 
 -- Its rules can be rewritten, and its network is that of the rewritten rules from some start rule.
@@ -36,11 +26,6 @@ pub record IsParsing (rules : List StepRule) (net : ParserNetwork) : Type 0 wher
 -- The network is that of the rules as they are run, from this start rule.
 abbrev pub IsNetworkFrom : Interpreter → List ℕ → Type 0
 IsNetworkFrom interpreter start = IsBuilt (eof ∷ []) (rewritten interpreter.rules) (numberings interpreter.rules) start interpreter.net
-
--- A grammar with its network can be parsed with, and its lexer's rules can be lexed with.
-pub record IsSound (laid : Laid) : Type 0 where
-  pub parsing : IsParsing laid.rules laid.net
-  pub lexer : CanBeMade laid.lexer laid.tables
 
 -- Its network can be parsed with, and its lexer can be lexed with and gives token types.
 pub record IsUsable (interpreter : Interpreter) : Type 0 where

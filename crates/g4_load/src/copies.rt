@@ -53,11 +53,7 @@ fn label(
     ensures { IfOk result (λ copy. copy ≡ label.now) }
 {
     match label {
-        Some(label) => {
-            let name = Text::copy_of(alloc, label.name.as_str())?;
-            let place = label.place;
-            Ok(Some(AlternativeLabel { place, name }))
-        }
+        Some(label) => Ok(Some(label.copy_of(alloc)?)),
         None => Ok(None),
     }
 }

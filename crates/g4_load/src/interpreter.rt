@@ -1,10 +1,11 @@
-// From a numbered grammar to its network, and to what parses with it.
-ghost use Rattle.std.specs.Prelude.{◌≡◌, IfOk, Some, map, ◌∷◌, []};
-ghost use Rattle.g4_load.specs.Building.{Builds, FromGrammar, Lays};
+// From a grammar without fault to its network, and to what parses with it.
+ghost use Rattle.std.specs.Prelude.{◌≡◌, IfOk, Some, ◌∷◌, []};
+ghost use Rattle.g4_grammar.specs.StepRules.{CanBeRewritten};
+ghost use Rattle.g4_load.specs.Building.{Builds, FromGrammar, Lays, names_of};
 ghost use Rattle.g4_load.specs.Counting.{Counts};
 ghost use Rattle.g4_load.specs.Files.{Files};
 ghost use Rattle.g4_load.specs.Stages.{GivesOrHalts, IsAnswerOf};
-ghost use Rattle.g4_load.specs.Usable.{CanBeBuilt, IsSound, IsUsable};
+ghost use Rattle.g4_load.specs.Usable.{CanBeBuilt, IsParsing, IsUsable};
 
 use crate::copies;
 use crate::fault::{CheckError, not_built};
@@ -13,14 +14,11 @@ use crate::loading::{Loaded, load};
 use crate::stop::{Halt, fault_of};
 use g4_base::{Sequence, Text};
 use g4_build::build;
-use g4_grammar::{NumberedAtom, StepRule};
+use g4_grammar::StepRule;
 use g4_leftrec::rewrite;
 use g4_lexer::Lexer;
-use g4_lexer_rules::{CommandTables, LexerRules};
 use g4_net::ParserNetwork;
 use g4_ports::Shelf;
-use g4_resolve::{Resolving, resolve};
-use g4_source::ParserRule;
 use std::alloc::{AllocError, Global};
 
 /// What files are parsed with: a grammar's lexer, and the network of one of its rules.
@@ -36,22 +34,18 @@ pub struct Interpreter {
     pub net: ParserNetwork,
 }
 
-/// A grammar with the network of one of its rules.
+/// Parser rules with the network of one of them.
 #[derive(Drop)]
-pub(crate) struct Laid {
+pub(crate) struct Parser {
+    /// The names of the rules, which count from 1.
     pub names: Sequence<Text>,
     pub rules: Sequence<StepRule>,
-    pub shown: Sequence<Text>,
-    /// The rules of the lexer with their token types.
-    pub lexer: LexerRules,
-    /// What the commands of these rules name.
-    pub tables: CommandTables,
     pub net: ParserNetwork,
 }
 
 /// The names of the rules in order.
-fn names_of(alloc: Global, rules: &[ParserRule<NumberedAtom>]) -> Result<Sequence<Text>, AllocError>
-    ensures { IfOk result (λ names. names ≡ map (λ rule. rule.name) rules.now) }
+fn names_of(alloc: Global, rules: &[StepRule]) -> Result<Sequence<Text>, AllocError>
+    ensures { IfOk result (λ names. names ≡ names_of rules.now) }
 {
     let mut names = Vec::new(alloc);
     for rule in rules {
@@ -60,26 +54,19 @@ fn names_of(alloc: Global, rules: &[ParserRule<NumberedAtom>]) -> Result<Sequenc
     Ok(Sequence::new(names))
 }
 
-/// The grammar with its network from this start rule, or the first fault of that.
-pub(crate) fn lay(alloc: Global, grammar: Loaded, start: &str) -> Result<Laid, CheckError>
-    requires { CanBeBuilt grammar }
-    ensures laid { IsAnswerOf (Lays start.now grammar) result }
-    ensures sound { IfOk result IsSound }
+/// The rules with their network from this start rule, or the first fault of that.
+pub(crate) fn lay(
+    alloc: Global,
+    rules: Sequence<StepRule>,
+    start: &str,
+) -> Result<Parser, CheckError>
+    requires { CanBeRewritten rules }
+    ensures laid { IsAnswerOf (Lays start.now rules) result }
+    ensures parsing { IfOk result (λ parser. IsParsing parser.rules parser.net) }
 {
-    let Loaded {
-        rules,
-        shown,
-        lexer,
-        tables,
-    } = grammar;
     let names = names_of(alloc, rules.as_slice())?;
-    let stage = Resolving {
-        names,
-        predicates: Sequence::new(Vec::new(alloc)),
-    };
-    let steps = resolve(alloc, &stage, rules.into_vec())?;
-    let kept = copies::rules(alloc, steps.as_slice())?;
-    let laid = rewrite(alloc, steps)?;
+    let kept = copies::rules(alloc, rules.as_slice())?;
+    let laid = rewrite(alloc, rules.into_vec())?;
     let net = match build(
         alloc,
         laid.rules.as_slice(),
@@ -89,13 +76,9 @@ pub(crate) fn lay(alloc: Global, grammar: Loaded, start: &str) -> Result<Laid, C
         Ok(net) => net,
         Err(fault) => return Err(not_built(alloc, start, fault)?),
     };
-    let Resolving { names, .. } = stage;
-    Ok(Laid {
+    Ok(Parser {
         names,
         rules: Sequence::new(kept),
-        shown,
-        lexer,
-        tables,
         net,
     })
 }
@@ -106,22 +89,20 @@ fn interpret(alloc: Global, grammar: Loaded, start: &str) -> Result<Interpreter,
     ensures interpreting { IsAnswerOf (FromGrammar start.now grammar) result }
     ensures usable { IfOk result IsUsable }
 {
-    let laid = lay(alloc, grammar, start)?;
-    let Laid {
-        names,
+    let Loaded {
         rules,
         shown,
         lexer,
         tables,
-        net,
-    } = laid;
+    } = grammar;
+    let parser = lay(alloc, rules, start)?;
     let lexer = make_lexer(alloc, lexer, &tables)?;
     Ok(Interpreter {
-        names,
-        rules,
+        names: parser.names,
+        rules: parser.rules,
         shown,
         lexer,
-        net,
+        net: parser.net,
     })
 }
 

@@ -45,10 +45,15 @@ pub(crate) fn make_lexer(
 {
     let LexerRules {
         literals,
-        modes,
+        rules,
         types,
     } = rules;
-    match build_lexer(alloc, literals.into_vec(), modes.into_vec()) {
+    match build_lexer(
+        alloc,
+        literals.into_vec(),
+        rules.into_vec(),
+        tables.modes.as_slice(),
+    ) {
         Ok(made) => {
             let lexer = lexer_with(alloc, made, types, tables)?;
             Ok(lexer)

@@ -5,13 +5,13 @@ ghost use Rattle.g4_load.specs.Counting.{Counts};
 ghost use Rattle.g4_load.specs.Files.{Files};
 ghost use Rattle.g4_load.specs.Listing.{FromRule, IsStartListing, IsStartRule, Lists};
 ghost use Rattle.g4_load.specs.Stages.{GivesOrHalts, IsAnswerOf};
-ghost use Rattle.g4_load.specs.Usable.{CanBeBuilt, IsSound};
+ghost use Rattle.g4_load.specs.Usable.{CanBeBuilt};
 
 use crate::fault::CheckError;
-use crate::interpreter::{Laid, lay};
+use crate::interpreter::{Parser, lay};
 use crate::loading::{Loaded, load};
 use crate::stop::{Halt, fault_of};
-use g4_base::Octets;
+use g4_base::{Octets, Text};
 use g4_net::{ParserNetwork, State};
 use g4_netlist::list_rule;
 use g4_ports::Shelf;
@@ -28,15 +28,13 @@ fn start_rule(net: &ParserNetwork) -> u32
     }
 }
 
-/// The listing of the start rule.
-fn list_start(alloc: Global, laid: &Laid) -> Result<Octets, AllocError>
-    requires { IsSound laid.now }
-    ensures { IfOk result (IsStartListing laid.now) }
+/// The listing of the start rule, where these are shown of the token types.
+fn list_start(alloc: Global, parser: &Parser, shown: &[Text]) -> Result<Octets, AllocError>
+    requires { IsReady parser.now.net }
+    ensures { IfOk result (IsStartListing parser.now shown.now) }
 {
-    let rule = start_rule(&laid.net);
-    let names = laid.names.as_slice();
-    let shown = laid.shown.as_slice();
-    let listing = list_rule(alloc, names, shown, &laid.net, rule)?;
+    let rule = start_rule(&parser.net);
+    let listing = list_rule(alloc, parser.names.as_slice(), shown, &parser.net, rule)?;
     Ok(listing)
 }
 
@@ -45,8 +43,9 @@ fn list_from(alloc: Global, grammar: Loaded, rule: &str) -> Result<Octets, Check
     requires { CanBeBuilt grammar }
     ensures { IsAnswerOf (FromRule rule.now grammar) result }
 {
-    let laid = lay(alloc, grammar, rule)?;
-    let listing = list_start(alloc, &laid)?;
+    let Loaded { rules, shown, .. } = grammar;
+    let parser = lay(alloc, rules, rule)?;
+    let listing = list_start(alloc, &parser, shown.as_slice())?;
     Ok(listing)
 }
 

@@ -11,19 +11,19 @@ use crate::stop::{Halt, Stop, fault_of};
 use g4_base::{MOST_BYTES, Octets, Sequence, Text};
 use g4_checks::check;
 use g4_forms::check_forms;
-use g4_grammar::{Numbered, NumberedAtom};
+use g4_grammar::StepRule;
 use g4_lexer_rules::{CommandTables, LexerRules, lexer_rules_of, tables_of};
 use g4_ports::{Got, Shelf};
 use g4_reader::read_grammar;
-use g4_source::ParserRule;
+use g4_resolve::resolve;
 use g4_vocab::{check_names, number};
 use std::alloc::Global;
 
-/// A grammar whose rules are checked.
+/// A grammar without fault.
 #[derive(Drop)]
 pub struct Loaded {
-    /// The parser rules over symbols, which count from 1.
-    pub rules: Sequence<ParserRule<NumberedAtom>>,
+    /// The parser rules in order of the text, which count from 1, with what their atoms are in a network.
+    pub rules: Sequence<StepRule>,
     /// What is shown of each token type from 1 on.
     pub shown: Sequence<Text>,
     /// The rules of the lexer with their token types.
@@ -57,19 +57,16 @@ fn read_and_check(alloc: Global, bytes: &[u8]) -> Result<Loaded, CheckError>
     let source = read_grammar(alloc, bytes)?;
     check_forms(alloc, &source)?;
     check_names(alloc, &source)?;
-    let grammar = number(alloc, &source)?;
+    let vocabulary = number(alloc, source.rules.as_slice())?;
     check(alloc, &source)?;
-    let Numbered {
-        rules,
-        shown,
-        names,
-        token_rules,
-    } = grammar;
-    let tables = tables_of(alloc, &source, names)?;
-    let lexer = lexer_rules_of(alloc, source, token_rules)?;
+    let rules = resolve(alloc, source.rules.as_slice(), &vocabulary)?;
+    let types = vocabulary.token_types(alloc)?;
+    drop(vocabulary);
+    let tables = tables_of(alloc, &source, types.names)?;
+    let lexer = lexer_rules_of(alloc, source.rules, tables.types.as_slice(), types.literals)?;
     Ok(Loaded {
         rules,
-        shown,
+        shown: types.shown,
         lexer,
         tables,
     })

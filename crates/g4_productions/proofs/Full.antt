@@ -1,5 +1,6 @@
 -- Each rule and each block of a grammar text has an alternative.
-use Rattle.std.proofs.Common.{map, Option}
+use Rattle.std.proofs.Common.{ℕ, List, [], ◌∷◌, ◌++◌, map, Option}
+use Rattle.std.specs.List.{flat_map}
 use Rattle.g4_grammar_tokens.specs.declared.token.Kind.TheVariants as kinds
 use Rattle.g4_source.specs.declared.name.Label.{Label}
 use Rattle.g4_source.specs.Full.{IsSome, IsFull, AreFull, EachIsFull, AreFullAlternatives}
@@ -7,14 +8,16 @@ use Rattle.g4_source.specs.Elements.{either}
 use Rattle.g4_source.specs.Trees.{in_order}
 use Rattle.g4_source.specs.declared.element.Repeat.{Repeat}
 use Rattle.g4_source.specs.declared.element.Repeat.TheVariants as repeats
-use Rattle.g4_source.specs.Blocks.{LexerRuleIsFull, RulesAreFull, LexerRulesAreFull, ModesAreFull, HaveAlternatives}
+use Rattle.g4_source.specs.declared.rule.Rule.{Rule}
+use Rattle.g4_source.specs.Blocks.{LexerRuleIsFull, RulesAreFull, HaveAlternatives}
 use Rattle.g4_syntax.specs.Notation.{element, lexer_element, ◌▸◌, ◌∣◌, repeated, part, sign}
 use Rattle.g4_syntax.specs.Productions.{action, alternative, unnamed_item, item, labelled_item, unnamed_lexer_item, lexer_item, labelled_lexer_item, rule_alternative, parser_rule, lexer_alternative, lexer_rule, mode, grammar}
 use Rattle.g4_syntax.specs.Trees.{Tree, both, left, right, absent, present, end, more, inner}
 use Rattle.g4_productions.specs.Elements.{Labelled, single, brackets, with_suffix, optional_suffix_of, action_of}
 use Rattle.g4_productions.specs.ParserElements.{parser_element, parser_elements, labelled, named_item, unnamed, alternative_elements, alternatives_after}
 use Rattle.g4_productions.specs.LexerElements.{lexer_element_of, lexer_elements, labelled_lexer, named_lexer_item, unnamed_lexer, lexer_alternatives_after}
-use Rattle.g4_productions.specs.Rules.{rule_alternatives_after, parser_rule_of, rule_lexer_alternatives_after, lexer_rule_of, lexer_rules, combined_rules, default_rules, parser_rules, modes_of}
+use Rattle.g4_productions.specs.Rules.{rule_alternatives_after, parser_rule_of, rule_lexer_alternatives_after, lexer_rule_of, lexer_rules, combined_rules, default_rules, parser_rules, in_mode, section_rules, sections_of}
+use Rattle.g4_cursor.specs.Texts.{text_of}
 use Rattle.g4_productions.specs.Grammars.{source_of}
 
 -- an action is no block
@@ -145,17 +148,24 @@ parser_rules_full : (rs : Tree (repeated parser_rule)) → RulesAreFull (parser_
 parser_rules_full end = tt
 parser_rules_full (more r rs) = (parser_rule_full r, parser_rules_full rs)
 
-lexer_rules_full : (rs : Tree (repeated lexer_rule)) → LexerRulesAreFull (lexer_rules rs)
-lexer_rules_full end = tt
-lexer_rules_full (more r rs) = (lexer_rule_full r, lexer_rules_full rs)
+-- the rules of a section, and those of sections
+section_rules_full : (name : List ℕ) (rs : Tree (repeated lexer_rule)) → RulesAreFull (map (in_mode name) (lexer_rules rs))
+section_rules_full name end = tt
+section_rules_full name (more r rs) = (lexer_rule_full r, section_rules_full name rs)
 
--- modes
-modes_full : (ms : Tree (repeated mode)) → ModesAreFull (modes_of ms)
-modes_full end = tt
-modes_full (more (both keyword (both n (both semicolon rs))) ms) = (lexer_rules_full rs, modes_full ms)
+both_full : (xs ys : List Rule) → RulesAreFull xs → RulesAreFull ys → RulesAreFull (xs ++ ys)
+both_full [] ys first second = second
+both_full (x ∷ xs) ys first second = (first.0, both_full xs ys first.1 second)
+
+sections_full : (ms : Tree (repeated mode)) → RulesAreFull (flat_map section_rules (sections_of ms))
+sections_full end = tt
+sections_full (more (both keyword (both n (both semicolon rs))) ms) =
+    both_full (map (in_mode (text_of n)) (lexer_rules rs)) (flat_map section_rules (sections_of ms)) (section_rules_full (text_of n) rs)
+    (sections_full ms)
 
 -- each rule and each block of a grammar has an alternative
 pub source_full : (x : Tree grammar) → HaveAlternatives (source_of x)
-source_full (left (both keyword (both h rs))) = (combined_full rs, tt)
-source_full (right (left (both keyword (both other (both h (both rs ms)))))) = (default_full rs, modes_full ms)
-source_full (right (right (both keyword (both other (both h rs))))) = (parser_rules_full rs, tt)
+source_full (left (both keyword (both h rs))) = combined_full rs
+source_full (right (left (both keyword (both other (both h (both rs ms)))))) =
+    both_full (default_rules rs) (flat_map section_rules (sections_of ms)) (default_full rs) (sections_full ms)
+source_full (right (right (both keyword (both other (both h rs))))) = parser_rules_full rs

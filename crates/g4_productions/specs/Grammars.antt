@@ -1,6 +1,7 @@
 -- The grammar that a tree is: `read_grammar` rests on `IsGrammarText`, and on what `Rules`, `ParserElements`, `LexerElements` and
 -- `Elements` beside it say of parts of the tree.
-use Rattle.std.specs.Prelude.{◌≡◌, ℕ, List, [], Result, Ok, Err}
+use Rattle.std.specs.Prelude.{◌≡◌, ℕ, List, [], ◌++◌, map, Result, Ok, Err}
+use Rattle.std.specs.List.{flat_map}
 use Rattle.g4_base.specs.declared.place.Place.{Place}
 use Rattle.g4_source.specs.declared.prequel.Prequel.{Prequel}
 use Rattle.g4_source.specs.declared.source.Source.{Source}
@@ -14,7 +15,7 @@ use Rattle.g4_cursor.specs.Sets.{HasNoBad, HasFirstBad}
 use Rattle.g4_cursor.specs.Texts.{from, spelled, place_of, token_of, text_of}
 use Rattle.g4_productions.specs.declared.reader.Stop.{Stop}
 use Rattle.g4_productions.specs.declared.reader.Stop.TheVariants as stops
-use Rattle.g4_productions.specs.Rules.{combined_rules, default_rules, parser_rules, modes_of}
+use Rattle.g4_productions.specs.Rules.{combined_rules, default_rules, parser_rules, section_rules, sections_of}
 
 -- the name of a grammar text
 abbrev pub heading_name : Tree heading → List ℕ
@@ -36,7 +37,7 @@ combined_of (both keyword (both h rs)) =
       modes = [];
     }
 
--- a lexer grammar
+-- a lexer grammar: its rules in order of the text, those after `mode` with the name after it
 abbrev pub lexer_grammar_of : Tree lexer_grammar → Source
 lexer_grammar_of (both keyword (both other (both h (both rs ms)))) =
     record {
@@ -44,8 +45,8 @@ lexer_grammar_of (both keyword (both other (both h (both rs ms)))) =
       kind = grammar_kinds.Lexer;
       name = heading_name h;
       prequels = heading_prequels h;
-      rules = default_rules rs;
-      modes = modes_of ms;
+      rules = default_rules rs ++ flat_map section_rules (sections_of ms);
+      modes = map (λ section. section.name) (sections_of ms);
     }
 
 -- a parser grammar

@@ -1,5 +1,5 @@
--- Rules and modes.
-use Rattle.std.specs.Prelude.{List, [], ◌∷◌, Option, Some, None}
+-- Rules, and the sections of modes.
+use Rattle.std.specs.Prelude.{ℕ, List, [], ◌∷◌, map, Option, Some, None}
 use Rattle.g4_base.specs.declared.place.Place.{Place}
 use Rattle.g4_grammar_tokens.specs.declared.token.Kind.TheVariants as kinds
 use Rattle.g4_source.specs.declared.rule.Argument.{Argument}
@@ -12,13 +12,13 @@ use Rattle.g4_source.specs.declared.rule.ParserRule.{ParserRule}
 use Rattle.g4_source.specs.declared.rule.Rule.{Rule}
 use Rattle.g4_source.specs.declared.rule.Rule.TheVariants as rules
 use Rattle.g4_source.specs.declared.rule.RuleAlternative.{RuleAlternative}
-use Rattle.g4_source.specs.declared.source.Mode.{Mode}
 use Rattle.g4_source.specs.Trees.{in_order}
 use Rattle.g4_source.specs.declared.atom.Atom.{Atom}
 use Rattle.g4_syntax.specs.Notation.{Terminal, one, ◌▸◌, ◌∣◌, optional, repeated, sign, name, with_commas, with_bars}
 use Rattle.g4_syntax.specs.Productions.{rule_alternative, parser_rule, command, lexer_alternative, lexer_rule, mode}
 use Rattle.g4_syntax.specs.Trees.{Tree, both, left, right, absent, present, end, more}
 use Rattle.g4_cursor.specs.Texts.{token_of, text_of, name_of}
+use Rattle.g4_productions.specs.declared.lexer_rule.ModeSection.{ModeSection}
 use Rattle.g4_productions.specs.LexerElements.{lexer_elements}
 use Rattle.g4_productions.specs.ParserElements.{alternative_elements, alternative_right}
 
@@ -95,7 +95,7 @@ fragment_place (present keyword) = Some (token_of keyword).place
 -- a lexer rule
 abbrev pub lexer_rule_of : Tree lexer_rule → LexerRule
 lexer_rule_of (both fragment (both n (both options (both colon (both xs semicolon))))) =
-    record { fragment = fragment_place fragment; name = text_of n; alternatives = rule_lexer_alternatives xs }
+    record { mode = None; fragment = fragment_place fragment; name = text_of n; alternatives = rule_lexer_alternatives xs }
 
 -- lexer rules in order
 abbrev pub lexer_rules : Tree (repeated lexer_rule) → List LexerRule
@@ -108,7 +108,7 @@ combined_rules end = []
 combined_rules (more (left r) rs) = rules.Lexer (lexer_rule_of r) ∷ combined_rules rs
 combined_rules (more (right r) rs) = rules.Parser (parser_rule_of r) ∷ combined_rules rs
 
--- the rules of a lexer grammar's default mode
+-- the rules of a lexer grammar before the first `mode`
 abbrev pub default_rules : Tree (repeated lexer_rule) → List Rule
 default_rules end = []
 default_rules (more r rs) = rules.Lexer (lexer_rule_of r) ∷ default_rules rs
@@ -118,11 +118,20 @@ abbrev pub parser_rules : Tree (repeated parser_rule) → List Rule
 parser_rules end = []
 parser_rules (more r rs) = rules.Parser (parser_rule_of r) ∷ parser_rules rs
 
--- a mode and its rules
-abbrev pub mode_of : Tree mode → Mode
-mode_of (both keyword (both n (both semicolon rs))) = record { name = text_of n; rules = lexer_rules rs }
+-- `mode`, a name, and the rules after it
+abbrev pub section_of : Tree mode → ModeSection
+section_of (both keyword (both n (both semicolon rs))) = record { name = text_of n; rules = lexer_rules rs }
 
--- modes in order
-abbrev pub modes_of : Tree (repeated mode) → List Mode
-modes_of end = []
-modes_of (more m ms) = mode_of m ∷ modes_of ms
+-- the sections in order
+abbrev pub sections_of : Tree (repeated mode) → List ModeSection
+sections_of end = []
+sections_of (more m ms) = section_of m ∷ sections_of ms
+
+-- a lexer rule in the mode of this name
+abbrev pub in_mode : List ℕ → LexerRule → Rule
+in_mode mode rule =
+    rules.Lexer (record { mode = Some mode; fragment = rule.fragment; name = rule.name; alternatives = rule.alternatives })
+
+-- the rules of a section, each with its mode
+abbrev pub section_rules : ModeSection → List Rule
+section_rules section = map (in_mode section.name) section.rules

@@ -1,16 +1,17 @@
 // A whole grammar text.
-ghost use Rattle.std.specs.Prelude.{◌≡◌, IfOk};
+ghost use Rattle.std.specs.Prelude.{◌≡◌, ◌++◌, IfOk, OnOk, map};
+ghost use Rattle.std.specs.List.{flat_map};
 ghost use Rattle.g4_cursor.specs.Progress.{Gives, Moves};
 ghost use Rattle.g4_productions.specs.Grammars.{combined_of, heading_name, heading_prequels, lexer_grammar_of, parser_grammar_of, source_of};
-ghost use Rattle.g4_productions.specs.Rules.{combined_rules, default_rules, parser_rules};
+ghost use Rattle.g4_productions.specs.Rules.{combined_rules, default_rules, in_mode, parser_rules, section_rules};
 
-use crate::lexer_rule::{is_at_lexer_rule, lexer_rule, modes};
+use crate::lexer_rule::{ModeSection, is_at_lexer_rule, lexer_rule, sections};
 use crate::parser_rule::parser_rule;
 use g4_base::{Sequence, Text};
 use g4_cursor::{Cursor, prequels};
 use g4_grammar_tokens::Kind;
-use g4_source::{GrammarKind, Prequel, Rule, Source};
-use std::alloc::AllocError;
+use g4_source::{GrammarKind, LexerRule, Prequel, Rule, Source};
+use std::alloc::{AllocError, Global};
 
 /// The words that a grammar text begins with.
 const GRAMMAR: &str = "grammar";
@@ -66,7 +67,7 @@ fn parser_rules(cursor: &mut Cursor<'_>) -> Result<Sequence<Rule>, AllocError>
     Ok(Sequence::new(rules))
 }
 
-/// The rules of a lexer grammar's default mode.
+/// The rules of a lexer grammar before the first `mode`.
 fn default_rules(cursor: &mut Cursor<'_>) -> Result<Sequence<Rule>, AllocError>
     ensures { Gives default_rules cursor.old cursor.new result }
 {
@@ -76,6 +77,61 @@ fn default_rules(cursor: &mut Cursor<'_>) -> Result<Sequence<Rule>, AllocError>
         rules.push(Rule::Lexer(rule))?;
     }
     Ok(Sequence::new(rules))
+}
+
+/// Adds the rules of a mode.
+fn add_rules(
+    alloc: Global,
+    rules: &mut Vec<Rule>,
+    mode: &Text,
+    more: Sequence<LexerRule>,
+) -> Result<(), AllocError>
+    ensures { OnOk result (rules.new.items ≡ rules.old.items ++ map (in_mode mode.now) more) }
+{
+    for rule in more.into_vec() {
+        let LexerRule {
+            fragment,
+            name,
+            alternatives,
+            ..
+        } = rule;
+        rules.push(Rule::Lexer(LexerRule {
+            mode: Some(Text::copy_of(alloc, mode.as_str())?),
+            fragment,
+            name,
+            alternatives,
+        }))?;
+    }
+    Ok(())
+}
+
+/// The rules of a lexer grammar in order, and the names of its modes.
+#[derive(Drop)]
+struct AllRules {
+    rules: Sequence<Rule>,
+    modes: Sequence<Text>,
+}
+
+/// The rules before the sections, and then those of the sections, each with its mode.
+fn joined(
+    alloc: Global,
+    first: Sequence<Rule>,
+    sections: Sequence<ModeSection>,
+) -> Result<AllRules, AllocError>
+    ensures rules { IfOk result (λ all. all.rules ≡ first ++ flat_map section_rules sections) }
+    ensures modes { IfOk result (λ all. all.modes ≡ map (λ section. section.name) sections) }
+{
+    let mut rules = first.into_vec();
+    let mut modes = Vec::new(alloc);
+    for section in sections.into_vec() {
+        let ModeSection { name, rules: more } = section;
+        add_rules(alloc, &mut rules, &name, more)?;
+        modes.push(name)?;
+    }
+    Ok(AllRules {
+        rules: Sequence::new(rules),
+        modes: Sequence::new(modes),
+    })
 }
 
 /// A combined grammar.
@@ -102,15 +158,16 @@ fn lexer_grammar(cursor: &mut Cursor<'_>) -> Result<Source, AllocError>
     let place = cursor.take_word(LEXER).place;
     cursor.take_word(GRAMMAR);
     let Heading { name, prequels } = read_heading(cursor)?;
-    let rules = default_rules(cursor)?;
-    let modes = modes(cursor)?;
+    let first = default_rules(cursor)?;
+    let sections = sections(cursor)?;
+    let all = joined(cursor.alloc(), first, sections)?;
     Ok(Source {
         place,
         kind: GrammarKind::Lexer,
         name,
         prequels,
-        rules,
-        modes,
+        rules: all.rules,
+        modes: all.modes,
     })
 }
 

@@ -1,15 +1,15 @@
-// Lexer rules and modes.
+// Lexer rules and the sections of modes.
 ghost use Rattle.std.specs.Prelude.{◌≡◌, codes};
 ghost use Rattle.g4_syntax.specs.Notation.{optional, word};
 ghost use Rattle.g4_syntax.specs.Productions.{lexer_rule as a_lexer_rule};
 ghost use Rattle.g4_cursor.specs.Progress.{is_next, Gives, Moves};
-ghost use Rattle.g4_productions.specs.Rules.{argument_text_of, argument_of, command_of, commands_in_order, commands_of, lexer_alternative_of, rule_lexer_alternatives, fragment_place, lexer_rule_of, mode_of, modes_of};
+ghost use Rattle.g4_productions.specs.Rules.{argument_text_of, argument_of, command_of, commands_in_order, commands_of, lexer_alternative_of, rule_lexer_alternatives, fragment_place, lexer_rule_of, section_of, sections_of};
 
 use crate::lexer_element::elements;
-use g4_base::{Place, Sequence};
+use g4_base::{Place, Sequence, Text};
 use g4_cursor::{Cursor, pass_optional_options};
 use g4_grammar_tokens::Kind;
-use g4_source::{Argument, Command, Elements, LexerAlternative, LexerRule, Mode};
+use g4_source::{Argument, Command, Elements, LexerAlternative, LexerRule};
 use std::alloc::AllocError;
 
 /// The name that says that a lexer rule is no token.
@@ -130,15 +130,23 @@ pub(crate) fn lexer_rule(cursor: &mut Cursor<'_>) -> Result<LexerRule, AllocErro
     let alternatives = alternatives(cursor)?;
     cursor.take(Kind::Semicolon);
     Ok(LexerRule {
+        mode: None,
         fragment,
         name,
         alternatives,
     })
 }
 
-/// A mode and its rules.
-fn mode(cursor: &mut Cursor<'_>) -> Result<Mode, AllocError>
-    ensures { Gives mode_of cursor.old cursor.new result }
+/// `mode`, a name, and the rules after it.
+#[derive(Drop)]
+pub(crate) struct ModeSection {
+    pub(crate) name: Text,
+    pub(crate) rules: Sequence<LexerRule>,
+}
+
+/// A section and its rules.
+fn section(cursor: &mut Cursor<'_>) -> Result<ModeSection, AllocError>
+    ensures { Gives section_of cursor.old cursor.new result }
 {
     cursor.take_word(MODE);
     let name = cursor.name_text()?;
@@ -149,17 +157,17 @@ fn mode(cursor: &mut Cursor<'_>) -> Result<Mode, AllocError>
         rules.push(rule)?;
     }
     let rules = Sequence::new(rules);
-    Ok(Mode { name, rules })
+    Ok(ModeSection { name, rules })
 }
 
-/// Modes one after another.
-pub(crate) fn modes(cursor: &mut Cursor<'_>) -> Result<Sequence<Mode>, AllocError>
-    ensures { Gives modes_of cursor.old cursor.new result }
+/// Sections one after another.
+pub(crate) fn sections(cursor: &mut Cursor<'_>) -> Result<Sequence<ModeSection>, AllocError>
+    ensures { Gives sections_of cursor.old cursor.new result }
 {
-    let mut modes = Vec::new(cursor.alloc());
+    let mut sections = Vec::new(cursor.alloc());
     while cursor.is_at_word(MODE) {
-        let mode = mode(cursor)?;
-        modes.push(mode)?;
+        let section = section(cursor)?;
+        sections.push(section)?;
     }
-    Ok(Sequence::new(modes))
+    Ok(Sequence::new(sections))
 }

@@ -138,7 +138,7 @@ fn wrong_cuts(alloc: Global, text: &str) -> Result<String, AllocError> {
 }
 
 /// Grammars, and how many rules each has.
-const GRAMMARS: &[(&str, usize)] = &[(JSON, 14), (LANGUAGE, 10), (MARKUP, 4), (LABELLED, 6)];
+const GRAMMARS: &[(&str, usize)] = &[(JSON, 14), (LANGUAGE, 10), (MARKUP, 11), (LABELLED, 6)];
 
 #[test]
 fn reads_whole_grammars_and_their_fronts(rt: HostRuntime) -> Result<(), Fail> {

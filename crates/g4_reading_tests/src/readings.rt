@@ -200,6 +200,10 @@ fn push_commands(out: &mut String, commands: &[Command]) -> Result<(), AllocErro
 
 fn push_lexer_rule(out: &mut String, rule: &LexerRule) -> Result<(), AllocError> {
     out.push_str("; ")?;
+    if let Some(mode) = &rule.mode {
+        out.push_str(mode.as_str())?;
+        out.push('/')?;
+    }
     if rule.fragment.is_some() {
         out.push_str("fragment ")?;
     }
@@ -223,15 +227,7 @@ fn push_rule(out: &mut String, rule: &Rule) -> Result<(), AllocError> {
 fn push_modes(out: &mut String, source: &Source) -> Result<(), AllocError> {
     for mode in source.modes.as_slice() {
         out.push_str("; mode ")?;
-        out.push_str(mode.name.as_str())?;
-        push_lexer_rules(out, mode.rules.as_slice())?;
-    }
-    Ok(())
-}
-
-fn push_lexer_rules(out: &mut String, rules: &[LexerRule]) -> Result<(), AllocError> {
-    for rule in rules {
-        push_lexer_rule(out, rule)?;
+        out.push_str(mode.as_str())?;
     }
     Ok(())
 }
@@ -454,7 +450,8 @@ grammar G; A : ~'\\uD7FF'..'\\uE000' ; => G; A: | ~[\u{d7ff}\u{d7ff}\u{e000}\u{e
 grammar G; A : ('a' | 'b' ('c')?)*? ( ) ; => G; A: | (| 'a'| 'b' (| 'c')?)*? (|)
 grammar G; A : {a} {b}? {c}?<d> 'e'<f> B<g=h>+ ; => G; A: | {} {b}? {c}? 'e' (| B)+
 grammar G; A : 'a' -> skip | -> more, type(B), channel(2) | ; => G; A: | 'a' -> skip | -> more -> type(B) -> channel(2) |
-lexer grammar G; A : 'a' ; mode M; B : 'b' ; fragment C : 'c' ; mode N; mode O; D : ; => lexer G; A: | 'a'; mode M; B: | 'b'; fragment C: | 'c'; mode N; mode O; D: |
+lexer grammar G; A : 'a' ; mode M; B : 'b' ; fragment C : 'c' ; mode N; mode O; D : ; => lexer G; A: | 'a'; M/B: | 'b'; M/fragment C: | 'c'; O/D: |; mode M; mode N; mode O
+lexer grammar G; A : ; mode M; B : ; mode N; C : ; mode M; D : ; mode DEFAULT_MODE; E : ; => lexer G; A: |; M/B: |; N/C: |; M/D: |; DEFAULT_MODE/E: |; mode M; mode N; mode M; mode DEFAULT_MODE
 lexer grammar G; mode mode; => lexer G; mode mode
 grammar G; fragment : 'a' ; => 20 :
 grammar G; fragment a : 'a' ; => 20 a

@@ -1,6 +1,5 @@
 // The faults of how rules call each other.
 ghost use Rattle.std.specs.Prelude.{◌≡◌, ◌+◌, IfOk};
-ghost use Rattle.g4_source.specs.InOrder.{rules_of};
 ghost use Rattle.g4_recursion.specs.Checking.{IsChecked};
 
 use crate::grammar::grammar_of;
@@ -45,13 +44,13 @@ fn number_at(place: usize) -> Result<u32, AllocError>
     }
 }
 
-/// Looks for the first fault: of the first kind that has one, the first in order of the rules. The rules are those of the
-/// default mode in order of the text, and then those of each mode in order.
+/// Looks for the first fault: of the first kind that has one, the first in order of the rules, those of all modes in order of the
+/// text.
 ///
 /// # Errors
 /// That fault, or no memory, also where there are more rules, blocks or alternatives than numbers of 32 bits.
 pub fn check_recursion(alloc: Global, source: &Source) -> Result<(), RecursionFault>
-    ensures { IsChecked (rules_of source.now) result }
+    ensures { IsChecked source.now.rules result }
 {
     let grammar = grammar_of(alloc, source)?;
     if let Some(rule) = grammar.first_without_primary() {

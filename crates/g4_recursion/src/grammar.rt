@@ -2,7 +2,6 @@
 ghost use Rattle.std.specs.Prelude.{◌≡◌, ◌+◌, ◌<◌, ◌↔◌, ℕ, All, IfOk, IfSome, IsTrue, MatchOption, length, option_map};
 ghost use Rattle.g4_cycles.specs.Cycles.{Answers};
 ghost use Rattle.g4_grammar.specs.Written.{RuleLeftCalls};
-ghost use Rattle.g4_source.specs.InOrder.{rules_of};
 ghost use Rattle.g4_source.specs.Views.{rule_view};
 ghost use Rattle.g4_source.specs.Rules.{rule_name};
 ghost use Rattle.g4_recursion.specs.Checking.{AreNamed, HasEmptyLoop, HasEmptyOperator, IsEmptyOperator, IsNamed, LacksPrimary};
@@ -14,7 +13,7 @@ use crate::leads::lead_rules;
 use crate::{LeadRule, has_empty_loop, left_calls, nullable};
 use g4_base::{Sequence, Text};
 use g4_cycles::first_cycle;
-use g4_source::{RuleView, Source, rules_of};
+use g4_source::{RuleView, Source, views_of};
 use std::alloc::{AllocError, Global};
 
 /// The rules of a grammar, what their atoms do before anything is read, and of each rule whether it derives the empty word.
@@ -166,10 +165,10 @@ impl Grammar<'_> {
 /// # Errors
 /// No memory, also where there are more rules or blocks than numbers of 32 bits.
 pub fn grammar_of(alloc: Global, source: &Source) -> Result<Grammar<'_>, AllocError>
-    ensures rules { IfOk result (λ grammar. rules_in grammar ≡ rules_of source.now) }
+    ensures rules { IfOk result (λ grammar. rules_in grammar ≡ source.now.rules) }
     ensures leads { IfOk result AreLeads }
 {
-    let rules = rules_of(alloc, source)?;
+    let rules = views_of(alloc, source.rules.as_slice())?;
     let leads = lead_rules(alloc, rules.as_slice())?;
     let nullable = nullable(alloc, leads.as_slice())?;
     Ok(Grammar {

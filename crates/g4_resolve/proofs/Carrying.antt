@@ -1,295 +1,341 @@
--- Rules that test nothing and leave END alone, whose references are defined and which can be run, can be rewritten once they are over
--- steps.
-use Rattle.std.proofs.Common.{◌≡◌, ◌≤◌, ◌<◌, ◌⊎◌, ◌↔◌, ℕ, zero, suc, ◌+◌, inl, inr, List, [], ◌∷◌, ◌++◌, length, map, Bool, Option, Some, None, option_map, refl, sym, ap, ◌∙◌, subst, slice_get, arith}
+-- Rules that have no fault can be rewritten, once they are over steps.
+use Rattle.std.proofs.Common.{◌≡◌, ◌≤◌, ◌<◌, ◌⊎◌, ◌↔◌, ℕ, zero, suc, ◌+◌, inl, inr, List, [], ◌∷◌, length, map, Option, Some, None, option_map, refl, sym, ap, ◌∙◌, subst, slice_get, Contains, arith}
 use Rattle.std.specs.List.{All, position}
 use Rattle.std.specs.Str.{bytes_eq}
-use Rattle.std.proofs.lemmas.List.{map-append, length-map}
-use Rattle.std.proofs.lemmas.List.Elements.{All-nil, All-cons, All-head, All-tail, All-map, All-weaker}
+use Rattle.std.proofs.lemmas.List.{length-map}
+use Rattle.std.proofs.lemmas.List.Elements.{All-nil, All-cons, All-map, All-weaker, All-head, All-tail, All-contains_itself, Contains-append_right}
 use Rattle.std.proofs.lemmas.Option.{slice_get_within, slice_get-map}
-use Rattle.g4_base.specs.declared.place.Place.{Place}
-use Rattle.g4_source.specs.Elements.{Element, atom, block, Elements, empty, then, Alternatives, none, or, either, atoms, atoms_in_order, atoms_of_either}
-use Rattle.g4_source.specs.Bind.{over, in_order_over, either_over}
-use Rattle.g4_source.specs.Full.{IsFull, AreFull, EachIsFull, IsSome}
+use Rattle.g4_tokens.specs.declared.symbol.TheConstants.{MOST_TYPES}
+use Rattle.g4_source.specs.Elements.{Alternatives, none, or, either, atoms_of_either}
+use Rattle.g4_source.specs.Bind.{in_order_over, either_over}
+use Rattle.g4_source.specs.Full.{IsSome, EachIsFull}
 use Rattle.g4_source.proofs.Parts.{All-front, All-rest}
+use Rattle.g4_source.specs.declared.atom.Atom.{Atom}
+use Rattle.g4_source.specs.declared.atom.AtomKind.{AtomKind}
+use Rattle.g4_source.specs.declared.atom.AtomKind.TheVariants as kinds
+use Rattle.g4_source.specs.declared.rule.Rule.{Rule}
+use Rattle.g4_source.specs.declared.rule.Rule.TheVariants.{Parser, Lexer}
 use Rattle.g4_source.specs.declared.rule.ParserRule.{ParserRule}
 use Rattle.g4_source.specs.declared.rule.RuleAlternative.{RuleAlternative}
-use Rattle.g4_source.specs.Blocks.{ParserRuleIsFull, ParserRulesAreFull}
-use Rattle.g4_source.specs.Rules.{alternatives_of}
-use Rattle.g4_grammar.specs.declared.numbered.NumberedAtom.{NumberedAtom}
-use Rattle.g4_grammar.specs.declared.numbered.NumberedKind.{NumberedKind}
-use Rattle.g4_grammar.specs.declared.numbered.NumberedKind.TheVariants.{Set, Rule, Predicate, Action}
+use Rattle.g4_source.specs.declared.rule.LexerRule.{LexerRule}
+use Rattle.g4_source.specs.Rules.{parser_rules, alternatives_of}
+use Rattle.g4_source.specs.Blocks.{ParserRuleIsFull, RulesAreFull, ParserRulesAreFull}
+use Rattle.g4_source.specs.declared.kind.RuleKind.{RuleKind}
+use Rattle.g4_source.specs.declared.kind.RuleKind.TheVariants as rule_kinds
+use Rattle.g4_source.specs.Atoms.{AtomIn, all_atoms, atom_in, body_of, bodies_of, rule_atoms}
 use Rattle.g4_grammar.specs.declared.step.Step.{Step}
-use Rattle.g4_grammar.specs.LeftCalls.{HasCall, OneHasCall, SomeHasCall}
-use Rattle.g4_grammar.specs.OwnCalls.{CanRun}
-use Rattle.g4_grammar.specs.NumberedRules.{KindCalls, ReadsNumbered, CallsNumbered, numbered_alternatives, NumberedRulesCanRun, NumberedKindIsDefined, NumberedRuleIsDefined, NumberedRulesAreDefined, NumberedKindIsUntested, NumberedRuleIsUntested, KindLeavesEnd, RuleLeavesEnd}
-use Rattle.g4_grammar.specs.StepRules.{StepRule, by_number, IsPlain, RuleIsPlain, CallsWithin, CanBeRewritten}
+use Rattle.g4_grammar.specs.declared.step.Step.TheVariants.{Edge}
 use Rattle.g4_grammar.specs.Steps.{CallsRule, ReadsSymbols}
-use Rattle.g4_grammar.proofs.Carried.{can_run_over}
+use Rattle.g4_grammar.specs.StepRules.{StepRule, by_number, IsPlain, RuleIsPlain, CallsWithin, CanBeRewritten}
+use Rattle.g4_grammar.specs.OwnCalls.{CanRun}
+use Rattle.g4_grammar.specs.Written.{ReadsAnySymbol, ReadsIn, KindReads, CallsIn, OwnIn, is_rule_of, RulesCanRun, KindIsDefined, ParserKindIsUntested, ParserRuleIsUntested}
+use Rattle.g4_grammar.specs.Written as written
+use Rattle.g4_grammar.proofs.Carried.{either_over_twice, can_run_over}
 use Rattle.g4_grammar.proofs.Positions.{found_within, within_found}
-use Rattle.g4_resolve.specs.Resolving.{place_named, step_of, resolved_alternative, resolved_rule}
+use Rattle.g4_vocab.specs.declared.types.Entry.{Entry}
+use Rattle.g4_vocab.specs.Types.{greatest_type}
+use Rattle.g4_vocab.proofs.Laws.{leaves_end}
+use Rattle.g4_resolve.specs.Resolving.{CanBeResolved, parser_names, place_named, step_of, resolved_alternative, resolved_rule}
+use Rattle.g4_resolve.proofs.Parsers.{place_of, at_place, first_place, first_parser, found_less, first_of_place}
+use Rattle.g4_resolve.proofs.Trees.{atoms_either_over, some_over, each_full_over, CallsHave, one_call_has}
 
-module _ {A B : Type 0} (f : A → B) where
-  mutual
-    -- the atoms of a tree over other atoms
-    atoms_over : (x : Element A) → atoms (over f x) ≡ map f (atoms x)
-    atoms_over (atom a) = refl
-    atoms_over (block label repeat xs) = atoms_either_over xs
+-- the empty set has no symbol
+no_symbol : (s : ℕ) → Contains [] s → ⊥
+no_symbol s (k, less, is) = omega (arith, less)
 
-    atoms_all_over : (xs : Elements A) → atoms_in_order (in_order_over f xs) ≡ map f (atoms_in_order xs)
-    atoms_all_over empty = refl
-    atoms_all_over (then x xs) = ap (λ (ys : List B). ys ++ atoms_in_order (in_order_over f xs)) (atoms_over x)
-        ∙ (ap (λ (ys : List B). map f (atoms x) ++ ys) (atoms_all_over xs) ∙ sym (map-append f (atoms x) (atoms_in_order xs)))
+-- what holds of each item of a list over others, holds of what these become
+All-unmap : {X Y : Type 0} (P : Y → Type 0) (f : X → Y) (xs : List X) → All P (map f xs) → All (λ x. P (f x)) xs
+All-unmap P f [] h = All-nil (λ x. P (f x))
+All-unmap P f (x ∷ xs) h = All-cons (λ x. P (f x)) x xs (All-head P (f x) (map f xs) h) (All-unmap P f xs (All-tail P (f x) (map f xs) h))
 
-    atoms_either_over : (xs : Alternatives A) → atoms_of_either (either_over f xs) ≡ map f (atoms_of_either xs)
-    atoms_either_over none = refl
-    atoms_either_over (or x xs) =
-        ap (λ (ys : List B). ys ++ atoms_of_either (either_over f xs)) (atoms_all_over x)
-        ∙ (ap (λ (ys : List B). map f (atoms_in_order x) ++ ys) (atoms_either_over xs)
-        ∙ sym (map-append f (atoms_in_order x) (atoms_of_either xs)))
+-- what holds of each parser rule among rules
+each_parser_rule : (P : ParserRule Atom → Type 0) (rules : List Rule)
+    → ((rule : ParserRule Atom) → Contains rules (Parser rule) → P rule) → All P (parser_rules rules)
+each_parser_rule P [] h = All-nil P
+each_parser_rule P (Parser rule ∷ rules) h =
+    All-cons P rule (parser_rules rules) (h rule
+    (All-head (Contains (Parser rule ∷ rules)) (Parser rule) rules (All-contains_itself (Parser rule ∷ rules))))
+    (each_parser_rule P rules (λ other has. h other (Contains-append_right (Parser rule ∷ []) rules (Parser other) has)))
+each_parser_rule P (Lexer rule ∷ rules) h = each_parser_rule P rules
+    (λ other has. h other (Contains-append_right (Lexer rule ∷ []) rules (Parser other) has))
 
-  some_over : (xs : Alternatives A) → IsSome xs → IsSome (either_over f xs)
-  some_over none h = h
-  some_over (or x xs) h = tt
-
-  mutual
-    -- blocks keep their alternatives
-    full_over : (x : Element A) → IsFull x → IsFull (over f x)
-    full_over (atom a) h = tt
-    full_over (block label repeat xs) h = (some_over xs h.0, each_full_over xs h.1)
-
-    all_full_over : (xs : Elements A) → AreFull xs → AreFull (in_order_over f xs)
-    all_full_over empty h = tt
-    all_full_over (then x xs) h = (full_over x h.0, all_full_over xs h.1)
-
-    each_full_over : (xs : Alternatives A) → EachIsFull xs → EachIsFull (either_over f xs)
-    each_full_over none h = tt
-    each_full_over (or x xs) h = (all_full_over x h.0, each_full_over xs h.1)
-
-module _ {A : Type 0} (Calls : A → ℕ → Type 0) (P : ℕ → Type 0) where
-  -- what holds of each rule that the atom calls
-  abbrev CallsHave : A → Type 0
-  CallsHave a = (j : ℕ) → Calls a j → P j
-
-  mutual
-    -- holds of each that the element calls
-    call_has : (x : Element A) → All CallsHave (atoms x) → (j : ℕ) → HasCall Calls x j → P j
-    call_has (atom a) q j c = All-head CallsHave a [] q j c
-    call_has (block label repeat xs) q j c = one_call_has xs q j c
-
-    -- or the elements
-    all_calls_have : (xs : Elements A) → All CallsHave (atoms_in_order xs) → (j : ℕ) → OneHasCall Calls xs j → P j
-    all_calls_have empty q j c = absurd c
-    all_calls_have (then x xs) q j (inl c) = call_has x (All-front CallsHave (atoms x) (atoms_in_order xs) q) j c
-    all_calls_have (then x xs) q j (inr c) = all_calls_have xs (All-rest CallsHave (atoms x) (atoms_in_order xs) q) j c
-
-    -- or the alternatives
-    one_call_has : (xs : Alternatives A) → All CallsHave (atoms_of_either xs) → (j : ℕ) → SomeHasCall Calls xs j → P j
-    one_call_has none q j c = absurd c
-    one_call_has (or x xs) q j (inl c) = all_calls_have x (All-front CallsHave (atoms_in_order x) (atoms_of_either xs) q) j c
-    one_call_has (or x xs) q j (inr c) = one_call_has xs (All-rest CallsHave (atoms_in_order x) (atoms_of_either xs) q) j c
-
-module _ (names : List (List ℕ)) (predicates : List Place) where
+module _ (names : List (List ℕ)) (lexers : List LexerRule) (types : List Entry) where
   -- the step of an atom
-  abbrev becomes : NumberedAtom → Step (List ℕ)
-  becomes a = step_of names predicates a.kind
+  abbrev becomes : Atom → Step (List ℕ)
+  becomes a = step_of names lexers types a.kind
 
   -- the alternatives of a rule over steps
-  alternatives_over : (rule : ParserRule NumberedAtom)
-      → alternatives_of (resolved_rule names predicates rule) ≡ either_over becomes (alternatives_of rule)
-  alternatives_over rule = go rule.alternatives
+  tree_of : (rule : ParserRule Atom) → alternatives_of (resolved_rule names lexers types rule) ≡ either_over becomes (alternatives_of rule)
+  tree_of rule = go rule.alternatives
     where
-      go : (xs : List (RuleAlternative NumberedAtom))
-          → either (map (λ a. a.elements) (map (resolved_alternative names predicates) xs))
+      go : (xs : List (RuleAlternative Atom)) → either (map (λ a. a.elements) (map (resolved_alternative names lexers types) xs))
           ≡ either_over becomes (either (map (λ a. a.elements) xs))
       go [] = refl
       go (x ∷ xs) = ap (or (in_order_over becomes x.elements)) (go xs)
 
-  -- what holds of the steps of all atoms of a rule, holds of the atoms of the rule over steps
-  each_step : (P : Step (List ℕ) → Type 0) (rule : ParserRule NumberedAtom)
-      → All (λ a. P (becomes a)) (atoms_of_either (alternatives_of rule))
-      → All P (atoms_of_either (alternatives_of (resolved_rule names predicates rule)))
+  -- what holds of the steps of all atoms of a rule, holds of the steps of the rule
+  each_step : (P : Step (List ℕ) → Type 0) (rule : ParserRule Atom) → All (λ a. P (becomes a)) (atoms_of_either (alternatives_of rule))
+      → All P (atoms_of_either (alternatives_of (resolved_rule names lexers types rule)))
   each_step P rule all =
-      subst (λ (xs : Alternatives (Step (List ℕ))). All P (atoms_of_either xs)) (sym (alternatives_over rule))
+      subst (λ (xs : Alternatives (Step (List ℕ))). All P (atoms_of_either xs)) (sym (tree_of rule))
       (subst (All P) (sym (atoms_either_over becomes (alternatives_of rule)))
       (All-map P becomes (atoms_of_either (alternatives_of rule)) all))
 
-  -- an atom that tests nothing and does not take END is a plain step
-  plain_step : (kind : NumberedKind) → NumberedKindIsUntested kind → KindLeavesEnd kind → IsPlain (step_of names predicates kind)
-  plain_step (Set set) q e = e
-  plain_step (Rule name) q e = refl
-  plain_step (Predicate name) q e = absurd q
-  plain_step Action q e = tt
+  -- an atom that tests nothing is a plain step
+  plain_step : greatest_type types ≤ MOST_TYPES → (kind : AtomKind) → ParserKindIsUntested kind → IsPlain (step_of names lexers types kind)
+  plain_step few (kinds.Rule name) h = refl
+  plain_step few (kinds.Token name) h = leaves_end lexers types few (kinds.Token name)
+  plain_step few (kinds.Literal literal) h = leaves_end lexers types few (kinds.Literal literal)
+  plain_step few (kinds.Range place first last) h = leaves_end lexers types few (kinds.Range place first last)
+  plain_step few (kinds.Set set) h = leaves_end lexers types few (kinds.Set set)
+  plain_step few (kinds.Any place) h = leaves_end lexers types few (kinds.Any place)
+  plain_step few (kinds.NotTokens place tokens) h = leaves_end lexers types few (kinds.NotTokens place tokens)
+  plain_step few (kinds.NotCharacters place set) h = leaves_end lexers types few (kinds.NotCharacters place set)
+  plain_step few kinds.Action h = tt
+  plain_step few (kinds.Predicate name) h = absurd h
 
-  both : (xs : List NumberedAtom) → All (λ a. NumberedKindIsUntested a.kind) xs → All (λ a. KindLeavesEnd a.kind) xs
-      → All (λ a. IsPlain (becomes a)) xs
-  both [] q e = All-nil (λ a. IsPlain (becomes a))
-  both (x ∷ xs) q e =
-      let Q : NumberedAtom → Type 0 = λ a. NumberedKindIsUntested a.kind in
-      let E : NumberedAtom → Type 0 = λ a. KindLeavesEnd a.kind in
-      All-cons (λ a. IsPlain (becomes a)) x xs (plain_step x.kind (All-head Q x xs q) (All-head E x xs e))
-      (both xs (All-tail Q x xs q) (All-tail E x xs e))
-
-  plain_rules : (rules : List (ParserRule NumberedAtom)) → All NumberedRuleIsUntested rules → All RuleLeavesEnd rules
-      → All RuleIsPlain (map (resolved_rule names predicates) rules)
-  plain_rules [] q e = All-nil RuleIsPlain
-  plain_rules (rule ∷ rules) q e =
-      All-cons RuleIsPlain (resolved_rule names predicates rule) (map (resolved_rule names predicates) rules)
-      (each_step IsPlain rule (both (atoms_of_either (alternatives_of rule)) (All-head NumberedRuleIsUntested rule rules q)
-      (All-head RuleLeavesEnd rule rules e)))
-      (plain_rules rules (All-tail NumberedRuleIsUntested rule rules q) (All-tail RuleLeavesEnd rule rules e))
+  plain_rules : greatest_type types ≤ MOST_TYPES → (rules : List (ParserRule Atom)) → All ParserRuleIsUntested rules
+      → All RuleIsPlain (map (resolved_rule names lexers types) rules)
+  plain_rules few rules h =
+      All-map RuleIsPlain (resolved_rule names lexers types) rules
+      (All-weaker ParserRuleIsUntested (λ (rule : ParserRule Atom). RuleIsPlain (resolved_rule names lexers types rule))
+      (λ rule untested. each_step IsPlain rule
+      (All-weaker (λ (a : Atom). ParserKindIsUntested a.kind) (λ (a : Atom). IsPlain (becomes a)) (λ a. plain_step few a.kind)
+      (atoms_of_either (alternatives_of rule)) untested))
+      rules h)
 
   -- a rule keeps its alternatives
-  full_rule : (rule : ParserRule NumberedAtom) → ParserRuleIsFull rule → ParserRuleIsFull (resolved_rule names predicates rule)
+  full_rule : (rule : ParserRule Atom) → ParserRuleIsFull rule → ParserRuleIsFull (resolved_rule names lexers types rule)
   full_rule rule full =
-      subst (λ (xs : Alternatives (Step (List ℕ))). IsSome xs × EachIsFull xs) (sym (alternatives_over rule))
+      subst (λ (xs : Alternatives (Step (List ℕ))). IsSome xs × EachIsFull xs) (sym (tree_of rule))
       (some_over becomes (alternatives_of rule) full.0, each_full_over becomes (alternatives_of rule) full.1)
 
-  full_rules : (rules : List (ParserRule NumberedAtom)) → ParserRulesAreFull rules
-      → ParserRulesAreFull (map (resolved_rule names predicates) rules)
+  full_rules : (rules : List Rule) → RulesAreFull rules → ParserRulesAreFull (map (resolved_rule names lexers types) (parser_rules rules))
   full_rules [] h = tt
-  full_rules (rule ∷ rules) h = (full_rule rule h.0, full_rules rules h.1)
-
-  -- one of the rules of these names
-  abbrev IsNumber : ℕ → Type 0
-  IsNumber j = (1 ≤ j) × (j ≤ length names)
-
-  -- the step of a reference that is defined calls one of them
-  number_called : (kind : NumberedKind) → NumberedKindIsDefined names kind → (j : ℕ) → CallsRule (step_of names predicates kind) j
-      → IsNumber j
-  number_called (Set set) d j c = absurd c
-  number_called (Rule name) d j c =
-      let found : position (λ other. bytes_eq other name.text) names ≡ Some d.1.0 = d.1.1 in
-      let less : place_named names name.text < length names = found_within (λ other. bytes_eq other name.text) names d.1.0 found in
-      let same : j ≡ place_named names name.text + 1 = c in
-      (omega (arith, same), omega (arith, same, less))
-  number_called (Predicate name) d j c = absurd c
-  number_called Action d j c = absurd c
-
-  within_rules : (rules : List (ParserRule NumberedAtom)) → All (NumberedRuleIsDefined names) rules
-      → All (CallsWithin (length names)) (map (resolved_rule names predicates) rules)
-  within_rules rules all =
-      All-map (CallsWithin (length names)) (resolved_rule names predicates) rules
-      (All-weaker (NumberedRuleIsDefined names) (λ (rule : ParserRule NumberedAtom).
-      CallsWithin (length names) (resolved_rule names predicates rule))
-      (λ rule defined. one_call_has CallsRule IsNumber (alternatives_of (resolved_rule names predicates rule))
-      (each_step (CallsHave CallsRule IsNumber) rule
-      (All-weaker (λ (a : NumberedAtom). NumberedKindIsDefined names a.kind) (λ a. CallsHave CallsRule IsNumber (becomes a))
-      (λ a d. number_called a.kind d) (atoms_of_either (alternatives_of rule)) defined)))
-      rules all)
+  full_rules (Parser rule ∷ rules) h = (full_rule rule h.0, full_rules rules h.1)
+  full_rules (Lexer rule ∷ rules) h = full_rules rules h.1
 
   -- what a step reads of the empty word, its atom reads
-  reads_back : (a : NumberedAtom) → ReadsSymbols (becomes a) [] → ReadsNumbered a []
-  reads_back a = of_kind a.kind
-    where
-      of_kind : (kind : NumberedKind) → ReadsSymbols (step_of names predicates kind) [] → ReadsNumbered (record { kind = kind }) []
-      of_kind (Set set) h = h
-      of_kind (Rule name) h = h
-      of_kind (Predicate name) h = h
-      of_kind Action h = h
+  reads : (kind : AtomKind) → ReadsSymbols (step_of names lexers types kind) [] → ReadsAnySymbol kind []
+  reads (kinds.Rule name) r = r
+  reads (kinds.Token name) r = (r.0, r.2)
+  reads (kinds.Literal literal) r = (r.0, r.2)
+  reads (kinds.Range place first last) r = no_symbol r.0 r.1
+  reads (kinds.Set set) r = no_symbol r.0 r.1
+  reads (kinds.Any place) r = (r.0, r.2)
+  reads (kinds.NotTokens place tokens) r = (r.0, r.2)
+  reads (kinds.NotCharacters place set) r = no_symbol r.0 r.1
+  reads kinds.Action r = r
+  reads (kinds.Predicate name) r = r
 
-module _ (predicates : List Place) (rules : List (ParserRule NumberedAtom)) where
+  -- an atom of a rule of a kind as a step: one of a lexer rule reads nothing
+  abbrev step_as : RuleKind → Atom → Step (List ℕ)
+  step_as rule_kinds.Parser a = becomes a
+  step_as rule_kinds.Lexer a = Edge []
+
+  abbrev step_in : AtomIn → Step (List ℕ)
+  step_in a = step_as a.kind a.atom
+
+  -- the alternatives of a parser rule over steps
+  body_over : (rule : ParserRule Atom) → either_over becomes (alternatives_of rule) ≡ either_over step_in (body_of (Parser rule))
+  body_over rule = sym (either_over_twice step_in (atom_in rule_kinds.Parser) (alternatives_of rule))
+
+  -- a step derives the empty word only where its atom does
+  reads_in : (kind : RuleKind) (a : Atom) → ReadsSymbols (step_as kind a) [] → KindReads kind a.kind []
+  reads_in rule_kinds.Parser a r = reads a.kind r
+  reads_in rule_kinds.Lexer a r = absurd (no_symbol r.0 r.1)
+
+module _ (all : List Rule) (lexers : List LexerRule) (types : List Entry) where
   -- the names of the rules
   abbrev names : List (List ℕ)
-  names = map (λ rule. rule.name) rules
+  names = parser_names all
 
   -- the rules over steps
   abbrev made : List StepRule
-  made = map (resolved_rule names predicates) rules
+  made = map (resolved_rule names lexers types) (parser_rules all)
 
-  -- a body of them is that of a rule
-  body_back : (k : ℕ) (ys : Alternatives (Step (List ℕ))) → slice_get (map alternatives_of made) k ≡ Some ys →
-      (xs : Alternatives NumberedAtom) × (slice_get (map alternatives_of rules) k ≡ Some xs)
-      × (ys ≡ either_over (becomes names predicates) xs)
-  body_back k ys is = by (slice_get rules k) refl
+  -- the place among all rules of the rule with this number, where the numbers of parser rules count from 1, and none has number 0
+  abbrev number : ℕ → ℕ
+  number zero = length all
+  number (suc k) = place_of all k
+
+  -- this is made of the body of the rule with this number
+  abbrev IsBodyOf : ℕ → Alternatives (Step (List ℕ)) → Type 0
+  IsBodyOf k ys = (xs : Alternatives AtomIn) × (slice_get (bodies_of all) (number k) ≡ Some xs)
+      × (ys ≡ either_over (step_in names lexers types) xs)
+
+  -- a rule over steps is one of the rules
+  rule_back : (k : ℕ) (ys : Alternatives (Step (List ℕ))) → slice_get (map alternatives_of made) k ≡ Some ys →
+      (rule : ParserRule Atom) × (slice_get (parser_rules all) k ≡ Some rule)
+      × (ys ≡ either_over (becomes names lexers types) (alternatives_of rule))
+  rule_back k ys is = by (slice_get (parser_rules all) k) refl
     where
       twice : slice_get (map alternatives_of made) k
-          ≡ option_map alternatives_of (option_map (resolved_rule names predicates) (slice_get rules k))
+          ≡ option_map alternatives_of (option_map (resolved_rule names lexers types) (slice_get (parser_rules all) k))
       twice = slice_get-map alternatives_of made k
-          ∙ ap (option_map alternatives_of) (slice_get-map (resolved_rule names predicates) rules k)
+          ∙ ap (option_map alternatives_of) (slice_get-map (resolved_rule names lexers types) (parser_rules all) k)
 
-      by : (o : Option (ParserRule NumberedAtom)) → slice_get rules k ≡ o
-          → (xs : Alternatives NumberedAtom) × (slice_get (map alternatives_of rules) k ≡ Some xs)
-          × (ys ≡ either_over (becomes names predicates) xs)
+      by : (o : Option (ParserRule Atom)) → slice_get (parser_rules all) k ≡ o →
+          (rule : ParserRule Atom) × (slice_get (parser_rules all) k ≡ Some rule)
+          × (ys ≡ either_over (becomes names lexers types) (alternatives_of rule))
       by None e = absurd (let wrong : None ≡ Some ys =
-          sym (twice ∙ ap (λ (o : Option (ParserRule NumberedAtom)).
-          option_map alternatives_of (option_map (resolved_rule names predicates) o)) e) ∙ is in let k : ⊥ = cc in k)
+          sym (twice
+          ∙ ap (λ (o : Option (ParserRule Atom)). option_map alternatives_of (option_map (resolved_rule names lexers types) o)) e)
+          ∙ is in let n : ⊥ = cc in n)
       by (Some rule) e =
-          let same : Some (alternatives_of (resolved_rule names predicates rule)) ≡ Some ys =
-          sym (twice ∙ ap (λ (o : Option (ParserRule NumberedAtom)).
-          option_map alternatives_of (option_map (resolved_rule names predicates) o)) e) ∙ is in
-          let here : ys ≡ alternatives_of (resolved_rule names predicates rule) = cc in (
-            alternatives_of rule,
-            slice_get-map alternatives_of rules k ∙ ap (option_map alternatives_of) e,
-            here
-                ∙ alternatives_over names predicates rule,
-          )
+          let same : Some (alternatives_of (resolved_rule names lexers types rule)) ≡ Some ys =
+          sym (twice
+          ∙ ap (λ (o : Option (ParserRule Atom)). option_map alternatives_of (option_map (resolved_rule names lexers types) o)) e)
+          ∙ is in
+          let here : ys ≡ alternatives_of (resolved_rule names lexers types rule) = cc in (rule, e, here ∙ tree_of names lexers types rule)
 
-  -- the same by number
-  bodies : (k : ℕ) (ys : Alternatives (Step (List ℕ))) → slice_get (by_number made) k ≡ Some ys →
-      (ys ≡ none) ⊎ ((xs : Alternatives NumberedAtom) × (slice_get (numbered_alternatives rules) k ≡ Some xs)
-      × (ys ≡ either_over (becomes names predicates) xs))
+  -- the body of a rule over steps
+  body_back : (k : ℕ) (ys : Alternatives (Step (List ℕ))) → slice_get (map alternatives_of made) k ≡ Some ys → IsBodyOf (suc k) ys
+  body_back k ys is =
+      let rule = rule_back k ys is in (
+        body_of (Parser rule.0),
+        slice_get-map body_of all (place_of all k) ∙ ap (option_map body_of) (at_place all k rule.0 rule.1),
+        rule.2 ∙ body_over names lexers types rule.0,
+      )
+
+  bodies : (k : ℕ) (ys : Alternatives (Step (List ℕ))) → slice_get (by_number made) k ≡ Some ys → (ys ≡ none) ⊎ IsBodyOf k ys
   bodies zero ys is = inl (let same : Some none ≡ Some ys = is in let e : ys ≡ none = cc in e)
   bodies (suc k) ys is = inr (body_back k ys is)
 
-  -- the rule of this name, where there is one
+  -- parser rule k is one of the names
+  less_than_names : (k : ℕ) (ys : Alternatives (Step (List ℕ))) → slice_get (map alternatives_of made) k ≡ Some ys → k < length names
+  less_than_names k ys is =
+      let rule = rule_back k ys is in
+      subst (λ (n : ℕ). k < n) (sym (length-map (parser_rules all) (λ rule. rule.name)))
+      (slice_get_within (parser_rules all) k rule.0 rule.1)
+
+  -- the rule that an atom calls is the one with this number
+  abbrev IsCalled : RuleKind → AtomKind → ℕ → Alternatives (Step (List ℕ)) → Type 0
+  IsCalled kind a k ys = written.KindCalls all kind a (number k) × IsBodyOf k ys
+
+  -- a reference
   called_by : (name : List ℕ) (k : ℕ) (ys : Alternatives (Step (List ℕ))) → k ≡ place_named names name + 1
-      → slice_get (by_number made) k ≡ Some ys →
-      ((place : ℕ) × (position (λ other. bytes_eq other name) names ≡ Some place) × (k ≡ place + 1))
-      × ((xs : Alternatives NumberedAtom) × (slice_get (numbered_alternatives rules) k ≡ Some xs)
-      × (ys ≡ either_over (becomes names predicates) xs))
+      → slice_get (by_number made) k ≡ Some ys → (position (is_rule_of rule_kinds.Parser name) all ≡ Some (number k)) × IsBodyOf k ys
   called_by name zero ys same is = absurd (omega (arith, same))
   called_by name (suc k) ys same is =
-      let body = body_back k ys is in
-      let less : k < length names = subst (λ (n : ℕ). k < n)
-      (length-map rules alternatives_of ∙ sym (length-map rules (λ rule. rule.name)))
-      (slice_get_within (map alternatives_of rules) k body.0 body.1) in
       let here : place_named names name ≡ k = omega (arith, same) in
-      let found = within_found (λ other. bytes_eq other name) names (omega (arith, here, less)) in
-      ((place_named names name, found, same), body)
+      let found = within_found (λ other. bytes_eq other name) names (omega (arith, here, less_than_names k ys is)) in
+      (first_place all name k (found ∙ ap (λ (n : ℕ). Some n) here), body_back k ys is)
 
-  -- the rule that a step calls is the one that the atom calls
-  called_back : (kind : NumberedKind) (k : ℕ) (ys : Alternatives (Step (List ℕ))) → CallsRule (step_of names predicates kind) k
-      → slice_get (by_number made) k ≡ Some ys →
-      KindCalls names kind k × ((xs : Alternatives NumberedAtom) × (slice_get (numbered_alternatives rules) k ≡ Some xs)
-      × (ys ≡ either_over (becomes names predicates) xs))
-  called_back (Set set) k ys c is = absurd c
-  called_back (Rule name) k ys c is = called_by name.text k ys c is
-  called_back (Predicate name) k ys c is = absurd c
-  called_back Action k ys c is = absurd c
+  -- the rule that a step calls is made of the one that its atom calls
+  called_back : (kind : AtomKind) (k : ℕ) (ys : Alternatives (Step (List ℕ))) → CallsRule (step_of names lexers types kind) k
+      → slice_get (by_number made) k ≡ Some ys → IsCalled rule_kinds.Parser kind k ys
+  called_back (kinds.Rule name) k ys c is = called_by name.text k ys c is
+  called_back (kinds.Token name) k ys c is = absurd c
+  called_back (kinds.Literal literal) k ys c is = absurd c
+  called_back (kinds.Range place first last) k ys c is = absurd c
+  called_back (kinds.Set set) k ys c is = absurd c
+  called_back (kinds.Any place) k ys c is = absurd c
+  called_back (kinds.NotTokens place tokens) k ys c is = absurd c
+  called_back (kinds.NotCharacters place set) k ys c is = absurd c
+  called_back kinds.Action k ys c is = absurd c
+  called_back (kinds.Predicate name) k ys c is = absurd c
 
-  -- an atom that calls a rule is a step that calls it
-  calls_on : (kind : NumberedKind) (k : ℕ) → KindCalls names kind k → CallsRule (step_of names predicates kind) k
-  calls_on (Set set) k c = absurd c
-  calls_on (Rule name) k (place, found, same) =
-      let test : List ℕ → Bool = λ other. bytes_eq other name.text in
-      let twice : Some place ≡ Some (place_named names name.text) =
-      sym found ∙ within_found test names (found_within test names place found) in
-      let here : place ≡ place_named names name.text = cc in
-      same ∙ ap (λ (n : ℕ). n + 1) here
-  calls_on (Predicate name) k c = absurd c
-  calls_on Action k c = absurd c
+  called_in : (kind : RuleKind) (a : Atom) (k : ℕ) (ys : Alternatives (Step (List ℕ))) → CallsRule (step_as names lexers types kind a) k
+      → slice_get (by_number made) k ≡ Some ys → IsCalled kind a.kind k ys
+  called_in rule_kinds.Parser a k ys c is = called_back a.kind k ys c is
+  called_in rule_kinds.Lexer a k ys c is = absurd c
 
-  -- so both call the same rules
-  same_calls : (kind : NumberedKind) (k : ℕ) (ys : Alternatives (Step (List ℕ))) → slice_get (by_number made) k ≡ Some ys
-      → CallsRule (step_of names predicates kind) k ↔ KindCalls names kind k
-  same_calls kind k ys is = (λ c. (called_back kind k ys c is).0, calls_on kind k)
+  -- a reference to the rule of a number is a step that calls this number
+  called_on : (name : List ℕ) (k : ℕ) (ys : Alternatives (Step (List ℕ))) → slice_get (by_number made) k ≡ Some ys
+      → position (is_rule_of rule_kinds.Parser name) all ≡ Some (number k) → k ≡ place_named names name + 1
+  called_on name zero ys is c = absurd (omega (arith, found_less (is_rule_of rule_kinds.Parser name) all (length all) c))
+  called_on name (suc k) ys is c =
+      let rule = rule_back k ys is in
+      let less : k < length (parser_rules all) = slice_get_within (parser_rules all) k rule.0 rule.1 in
+      let test = λ (other : List ℕ). bytes_eq other name in
+      let found = first_of_place all name k less c in
+      let twice : Some k ≡ Some (place_named names name) = sym found ∙ within_found test names (found_within test names k found) in
+      let here : k ≡ place_named names name = cc in omega (arith, here)
+
+  -- so is any atom that calls this rule
+  calls_on : (kind : AtomKind) (k : ℕ) (ys : Alternatives (Step (List ℕ))) → slice_get (by_number made) k ≡ Some ys
+      → written.KindCalls all rule_kinds.Parser kind (number k) → CallsRule (step_of names lexers types kind) k
+  calls_on (kinds.Rule name) k ys is c = called_on name.text k ys is c
+  calls_on (kinds.Token name) k ys is c = absurd c
+  calls_on (kinds.Literal literal) k ys is c = absurd c
+  calls_on (kinds.Range place first last) k ys is c = absurd c
+  calls_on (kinds.Set set) k ys is c = absurd c
+  calls_on (kinds.Any place) k ys is c = absurd c
+  calls_on (kinds.NotTokens place tokens) k ys is c = absurd c
+  calls_on (kinds.NotCharacters place set) k ys is c = absurd c
+  calls_on kinds.Action k ys is c = absurd c
+  calls_on (kinds.Predicate name) k ys is c = absurd c
+
+  -- an operator of a rule may begin with an atom exactly where one of the rule over steps may begin with its step
+  own : (kind : RuleKind) (a : Atom) (k : ℕ) (ys : Alternatives (Step (List ℕ))) → slice_get (by_number made) k ≡ Some ys
+      → CallsRule (step_as names lexers types kind a) k ↔ OwnIn all (atom_in kind a) (number k)
+  own rule_kinds.Parser a k ys is = (λ c. (refl, (called_back a.kind k ys c is).0), λ o. calls_on a.kind k ys is o.1)
+  own rule_kinds.Lexer a k ys is = (
+    λ c. absurd c,
+    λ o. let wrong : rule_kinds.Lexer ≡ rule_kinds.Parser = o.0 in
+        absurd (let n : ⊥ = cc in n),
+  )
 
   -- the rules over steps can be run
-  steps_run : NumberedRulesCanRun rules → CanRun ReadsSymbols CallsRule CallsRule (by_number made)
+  steps_run : RulesCanRun all → CanRun ReadsSymbols CallsRule CallsRule (by_number made)
   steps_run can =
-      can_run_over (becomes names predicates) ReadsNumbered ReadsSymbols (CallsNumbered rules) CallsRule (numbered_alternatives rules)
-      (by_number made) (λ k. k) (reads_back names predicates)
-      (λ a k ys c is. called_back a.kind k ys c is) bodies (CallsNumbered rules) CallsRule (λ a k ys is. same_calls a.kind k ys is) can
+      can_run_over (step_in names lexers types) ReadsIn ReadsSymbols (CallsIn all) CallsRule (bodies_of all) (by_number made) number
+      (λ a r. reads_in names lexers types a.kind a.atom r)
+      (λ a k ys c is. called_in a.kind a.atom k ys c is) bodies (OwnIn all) CallsRule
+      (λ a k ys is. own a.kind a.atom k ys is) can
+
+  -- the step of a reference that is defined calls one of the rules
+  abbrev IsNumber : ℕ → Type 0
+  IsNumber j = (1 ≤ j) × (j ≤ length made)
+
+  number_called : (kind : AtomKind) → KindIsDefined all rule_kinds.Parser kind → (j : ℕ) → CallsRule (step_of names lexers types kind) j
+      → IsNumber j
+  number_called (kinds.Rule name) d j c =
+      let found = first_parser all name.text d.0 d.1 in
+      let less : place_named names name.text < length names = found_within (λ other. bytes_eq other name.text) names found.0 found.1 in
+      let many : length names ≡ length made = length-map (parser_rules all) (λ rule. rule.name)
+      ∙ sym (length-map (parser_rules all) (resolved_rule names lexers types)) in
+      let same : j ≡ place_named names name.text + 1 = c in (omega (arith, same), omega (arith, same, less, many))
+  number_called (kinds.Token name) d j c = absurd c
+  number_called (kinds.Literal literal) d j c = absurd c
+  number_called (kinds.Range place first last) d j c = absurd c
+  number_called (kinds.Set set) d j c = absurd c
+  number_called (kinds.Any place) d j c = absurd c
+  number_called (kinds.NotTokens place tokens) d j c = absurd c
+  number_called (kinds.NotCharacters place set) d j c = absurd c
+  number_called kinds.Action d j c = absurd c
+  number_called (kinds.Predicate name) d j c = absurd c
+
+  -- each reference of the atoms is defined
+  abbrev AtomIsDefined : AtomIn → Type 0
+  AtomIsDefined a = KindIsDefined all a.kind a.atom.kind
+
+  within_rule : (rule : ParserRule Atom) → All AtomIsDefined (rule_atoms (Parser rule))
+      → CallsWithin (length made) (resolved_rule names lexers types rule)
+  within_rule rule h =
+      one_call_has CallsRule IsNumber (alternatives_of (resolved_rule names lexers types rule))
+      (each_step names lexers types (CallsHave CallsRule IsNumber) rule
+      (All-weaker (λ (a : Atom). AtomIsDefined (atom_in rule_kinds.Parser a))
+      (λ (a : Atom). CallsHave CallsRule IsNumber (becomes names lexers types a))
+      (λ a d. number_called a.kind d) (atoms_of_either (alternatives_of rule))
+      (All-unmap AtomIsDefined (atom_in rule_kinds.Parser) (atoms_of_either (alternatives_of rule)) h)))
+
+  within_rules : (some : List Rule) → All AtomIsDefined (all_atoms some)
+      → All (CallsWithin (length made)) (map (resolved_rule names lexers types) (parser_rules some))
+  within_rules [] h = All-nil (CallsWithin (length made))
+  within_rules (Parser rule ∷ some) h =
+      All-cons (CallsWithin (length made)) (resolved_rule names lexers types rule)
+      (map (resolved_rule names lexers types) (parser_rules some))
+      (within_rule rule (All-front AtomIsDefined (rule_atoms (Parser rule)) (all_atoms some) h))
+      (within_rules some (All-rest AtomIsDefined (rule_atoms (Parser rule)) (all_atoms some) h))
+  within_rules (Lexer rule ∷ some) h = within_rules some (All-rest AtomIsDefined (rule_atoms (Lexer rule)) (all_atoms some) h)
 
   -- they can be rewritten
-  pub can_be_rewritten : ParserRulesAreFull rules → All RuleLeavesEnd rules → All NumberedRuleIsUntested rules
-      → NumberedRulesAreDefined rules → NumberedRulesCanRun rules → CanBeRewritten made
-  can_be_rewritten full ends untested defined can = record {
-    plain = plain_rules names predicates rules untested ends;
-    full = full_rules names predicates rules full;
-    within =
-        subst (λ (n : ℕ). All (CallsWithin n) made)
-        (length-map rules (λ rule. rule.name) ∙ sym (length-map rules (resolved_rule names predicates)))
-        (within_rules names predicates rules defined);
-    run = steps_run can;
+  pub can_be_rewritten : greatest_type types ≤ MOST_TYPES → CanBeResolved all → CanBeRewritten made
+  can_be_rewritten few can = record {
+    plain = plain_rules names lexers types few (parser_rules all) (each_parser_rule ParserRuleIsUntested all can.untested);
+    full = full_rules names lexers types all can.full;
+    within = within_rules all can.defined;
+    run = steps_run can.run;
   }

@@ -1,1 +1,3 @@
 mod Carrying
+mod Parsers
+mod Trees

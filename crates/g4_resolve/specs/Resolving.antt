@@ -1,39 +1,65 @@
--- What references and predicates become.
-use Rattle.std.specs.Prelude.{ℕ, ◌+◌, List, map, ◌==◌, ◌&&◌}
+-- What the atoms of parser rules become, and of which rules.
+use Rattle.std.specs.Prelude.{ℕ, ◌+◌, List, [], map, Contains}
 use Rattle.std.specs.List.{position_or_len}
 use Rattle.std.specs.Str.{bytes_eq}
-use Rattle.g4_base.specs.declared.place.Place.{Place}
 use Rattle.g4_source.specs.Bind.{in_order_over}
+use Rattle.g4_source.specs.Blocks.{RulesAreFull}
+use Rattle.g4_source.specs.Rules.{parser_rules}
+use Rattle.g4_source.specs.declared.atom.Atom.{Atom}
+use Rattle.g4_source.specs.declared.atom.AtomKind.{AtomKind}
+use Rattle.g4_source.specs.declared.atom.AtomKind.TheVariants as kinds
+use Rattle.g4_source.specs.declared.rule.LexerRule.{LexerRule}
 use Rattle.g4_source.specs.declared.rule.ParserRule.{ParserRule}
+use Rattle.g4_source.specs.declared.rule.Rule.{Rule}
+use Rattle.g4_source.specs.declared.rule.Rule.TheVariants.{Parser}
 use Rattle.g4_source.specs.declared.rule.RuleAlternative.{RuleAlternative}
-use Rattle.g4_grammar.specs.declared.numbered.NumberedAtom.{NumberedAtom}
-use Rattle.g4_grammar.specs.declared.numbered.NumberedKind.{NumberedKind}
-use Rattle.g4_grammar.specs.declared.numbered.NumberedKind.TheVariants.{Set, Rule, Predicate, Action}
 use Rattle.g4_grammar.specs.declared.step.Step.{Step}
 use Rattle.g4_grammar.specs.declared.step.Step.TheVariants as steps
 use Rattle.g4_grammar.specs.StepRules.{StepRule}
+use Rattle.g4_grammar.specs.Written.{ParserRuleIsUntested, RulesAreDefined, RulesCanRun}
+use Rattle.g4_vocab.specs.declared.types.Entry.{Entry}
+use Rattle.g4_vocab.specs.Numbering.{symbols_of_kind, token_lexers, types_of}
 
 -- the place of the first name that is this one, or how many there are
 abbrev pub place_named : List (List ℕ) → List ℕ → ℕ
 place_named names name = position_or_len (λ other. bytes_eq other name) names
 
--- the number of the predicate at this place, or how many there are
-abbrev pub place_of_predicate : List Place → Place → ℕ
-place_of_predicate predicates place = position_or_len (λ other. (other.line == place.line) && (other.column == place.column)) predicates
-
--- the step that an atom is: a set is an edge, a reference a call of the rule of its name, where rules count from 1
-abbrev pub step_of : List (List ℕ) → List Place → NumberedKind → Step (List ℕ)
-step_of names predicates (Set set) = steps.Edge set
-step_of names predicates (Rule name) = steps.Call (place_named names name.text + 1) 0
-step_of names predicates (Predicate name) = steps.Predicate (place_of_predicate predicates name.place)
-step_of names predicates Action = steps.Action
+-- the step that an atom is: a token is an edge, and a reference a call of the rule of its name, where rules count from 1. No
+-- predicate is run yet, and all have number 0.
+abbrev pub step_of : List (List ℕ) → List LexerRule → List Entry → AtomKind → Step (List ℕ)
+step_of names lexers types (kinds.Rule name) = steps.Call (place_named names name.text + 1) 0
+step_of names lexers types (kinds.Token name) = steps.Edge (symbols_of_kind lexers types (kinds.Token name))
+step_of names lexers types (kinds.Literal literal) = steps.Edge (symbols_of_kind lexers types (kinds.Literal literal))
+step_of names lexers types (kinds.Range place first last) = steps.Edge (symbols_of_kind lexers types (kinds.Range place first last))
+step_of names lexers types (kinds.Set set) = steps.Edge (symbols_of_kind lexers types (kinds.Set set))
+step_of names lexers types (kinds.Any place) = steps.Edge (symbols_of_kind lexers types (kinds.Any place))
+step_of names lexers types (kinds.NotTokens place tokens) = steps.Edge (symbols_of_kind lexers types (kinds.NotTokens place tokens))
+step_of names lexers types (kinds.NotCharacters place set) = steps.Edge (symbols_of_kind lexers types (kinds.NotCharacters place set))
+step_of names lexers types kinds.Action = steps.Action
+step_of names lexers types (kinds.Predicate name) = steps.Predicate 0
 
 -- an alternative over steps
-abbrev pub resolved_alternative : List (List ℕ) → List Place → RuleAlternative NumberedAtom → RuleAlternative (Step (List ℕ))
-resolved_alternative names predicates a = record
-    { right = a.right; elements = in_order_over (λ b. step_of names predicates b.kind) a.elements; label = a.label }
+abbrev pub resolved_alternative : List (List ℕ) → List LexerRule → List Entry → RuleAlternative Atom → RuleAlternative (Step (List ℕ))
+resolved_alternative names lexers types a = record
+    { right = a.right; elements = in_order_over (λ b. step_of names lexers types b.kind) a.elements; label = a.label }
 
 -- a rule over steps
-abbrev pub resolved_rule : List (List ℕ) → List Place → ParserRule NumberedAtom → StepRule
-resolved_rule names predicates rule = record
-    { name = rule.name; alternatives = map (resolved_alternative names predicates) rule.alternatives }
+abbrev pub resolved_rule : List (List ℕ) → List LexerRule → List Entry → ParserRule Atom → StepRule
+resolved_rule names lexers types rule = record
+    { name = rule.name; alternatives = map (resolved_alternative names lexers types) rule.alternatives }
+
+-- the names of the parser rules
+abbrev pub parser_names : List Rule → List (List ℕ)
+parser_names rules = map (λ rule. rule.name) (parser_rules rules)
+
+-- the parser rules over steps, their tokens being the symbols that numbering gives from the empty table
+abbrev pub resolved : List Rule → List StepRule
+resolved rules = map (resolved_rule (parser_names rules) (token_lexers rules) (types_of [] rules)) (parser_rules rules)
+
+-- What is checked of rules before: each of their blocks has an alternative, each reference is to one of them, they can be run, and so
+-- far no parser rule tests anything.
+pub record CanBeResolved (rules : List Rule) : Type 0 where
+  pub full : RulesAreFull rules
+  pub defined : RulesAreDefined rules
+  pub run : RulesCanRun rules
+  pub untested : (rule : ParserRule Atom) → Contains rules (Parser rule) → ParserRuleIsUntested rule

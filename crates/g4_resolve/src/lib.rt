@@ -1,7 +1,7 @@
-// From rules whose references are names to rules whose atoms are steps of a network: references become calls by number, and
-// predicates get their numbers.
+// From the parser rules of a checked grammar as they are written to rules whose atoms are steps of a network: tokens and literals become
+// the symbols that they name in the vocabulary, and references calls by number.
 #![tactic(auto)]
 
 mod resolving;
 
-pub use resolving::{Resolving, resolve};
+pub use resolving::resolve;

@@ -1,94 +1,75 @@
-// References to rules as calls by number, and predicates by theirs.
-ghost use Rattle.std.specs.Prelude.{◌≡◌, ◌≤◌, ◌<◌, ◌^◌, All, IfOk, length, map};
-ghost use Rattle.g4_source.specs.Blocks.{ParserRulesAreFull};
-ghost use Rattle.g4_grammar.specs.NumberedRules.{NumberedRuleIsUntested, NumberedRulesAreDefined, NumberedRulesCanRun, RuleLeavesEnd};
+// Tokens as symbols, and references to rules as calls by number.
+ghost use Rattle.std.specs.Prelude.{◌≡◌, ◌≤◌, ◌<◌, ◌^◌, IfOk, length, map};
 ghost use Rattle.g4_grammar.specs.StepRules.{CanBeRewritten};
 ghost use Rattle.g4_names.specs.Places.{ArePlaces};
-ghost use Rattle.g4_resolve.specs.Resolving.{place_named, place_of_predicate, resolved_alternative, resolved_rule, step_of};
+ghost use Rattle.g4_vocab.specs.Answers.{IsVocabularyOf};
+ghost use Rattle.g4_vocab.specs.Vocabularies.{lexers_in, types_in};
+ghost use Rattle.g4_resolve.specs.Resolving.{CanBeResolved, place_named, resolved, resolved_alternative, resolved_rule, step_of};
 
-use g4_base::{Place, Sequence, Text};
-use g4_grammar::{NumberedAtom, NumberedKind, Step, StepRule};
+use g4_base::{Sequence, Text};
+use g4_grammar::{Step, StepRule};
 use g4_names::{Places, places_of};
-use g4_source::{Element, ParserRule, RuleAlternative, Substitution, substituted};
+use g4_source::{
+    Atom, AtomKind, Element, ParserRule, Rule, RuleAlternative, Substitution, parser_rules,
+    substituted, views_of,
+};
 use g4_tokens::Symbols;
+use g4_vocab::Vocabulary;
 use std::alloc::{AllocError, Global};
 
-/// What references and predicates become: the names of the rules, which count from 1, and the places of the predicates, which
-/// count from 0, each in order of their numbers.
+/// What the atoms of parser rules become: the names of these rules, which count from 1, with their places, and the symbols of tokens.
 #[derive(Drop)]
-pub struct Resolving {
-    pub names: Sequence<Text>,
-    pub predicates: Sequence<Place>,
-    ghost few_names: { length names < 2 ^ 31 },
-    ghost few_predicates: { length predicates < 2 ^ 31 },
+struct Stage<'s, 'a> {
+    names: &'s [Text],
+    places: Places<'s>,
+    vocabulary: &'s Vocabulary<'a>,
+    ghost few: { length names.now < 2 ^ 31 },
+    ghost named: { ArePlaces names.now places },
 }
 
-/// The same, with the places of the names.
-#[derive(Drop)]
-struct Stage<'a> {
-    given: &'a Resolving,
-    places: Places<'a>,
-    ghost named: { ArePlaces given.now.names places },
-}
-
-/// The place among the names of the first that is this one, or their number.
-fn place_named(stage: &Stage<'_>, name: &str) -> usize
-    ensures place { result ≡ place_named stage.now.given.now.names name.now }
-    ensures within { result ≤ length stage.now.given.now.names }
-{
-    match stage.places.place_of(name) {
-        Some(place) => place as usize,
-        None => stage.given.names.len(),
+impl Stage<'_, '_> {
+    /// The place among the names of the first that is this one, or their number.
+    fn place_named(&self, name: &str) -> usize
+        ensures place { result ≡ place_named self.now.names.now name.now }
+        ensures within { result ≤ length self.now.names.now }
+    {
+        match self.places.place_of(name) {
+            Some(place) => place as usize,
+            None => self.names.len(),
+        }
     }
-}
 
-/// The number of the predicate at this place, or how many there are.
-fn place_of_predicate(predicates: &[Place], place: Place) -> usize
-    ensures place { result ≡ place_of_predicate predicates.now place }
-    ensures within { result ≤ length predicates.now }
-{
-    let found = predicates.iter().position(|other| other.line == place.line
-        && other.column == place.column);
-    found.unwrap_or(predicates.len())
-}
-
-impl Stage<'_> {
     /// The step that the atom is.
-    fn step_of(&self, alloc: Global, kind: &NumberedKind) -> Result<Step<Symbols>, AllocError>
-        ensures { IfOk result (λ step. step ≡ step_of self.now.given.now.names self.now.given.now.predicates kind.now) }
+    fn step_of(&self, alloc: Global, kind: &AtomKind) -> Result<Step<Symbols>, AllocError>
+        ensures { IfOk result (λ step. step ≡ step_of self.now.names.now (lexers_in self.now.vocabulary.now)
+            (types_in self.now.vocabulary.now) kind.now) }
     {
         match kind {
-            NumberedKind::Set(set) => Ok(Step::Edge(set.copy_of(alloc)?)),
-            NumberedKind::Rule(name) => {
-                let place = place_named(self, name.text.as_str());
+            AtomKind::Rule(name) => {
+                let place = self.place_named(name.text.as_str());
                 Ok(Step::Call {
                     rule: (place + 1) as u32,
                     level: 0,
                 })
             }
-            NumberedKind::Predicate(name) => {
-                let number = place_of_predicate(self.given.predicates.as_slice(), name.place);
-                Ok(Step::Predicate(number as u32))
-            }
-            NumberedKind::Action => Ok(Step::Action),
+            AtomKind::Action => Ok(Step::Action),
+            AtomKind::Predicate(_) => Ok(Step::Predicate(0)),
+            _ => Ok(Step::Edge(self.vocabulary.symbols_of_kind(alloc, kind)?)),
         }
     }
 }
 
-impl Substitution<NumberedAtom> for Stage<'_> {
+impl Substitution<Atom> for Stage<'_, '_> {
     type To = Step<Symbols>;
 
     ghost use Rattle.g4_source.specs.Elements.{atom as lone};
+    ghost use Rattle.g4_vocab.specs.Vocabularies.{lexers_in as lexers, types_in as types};
     ghost use Rattle.g4_resolve.specs.Resolving.{step_of as becomes};
 
-    ghost image = { λ stage a. lone (becomes stage.given.now.names stage.given.now.predicates a.kind) };
+    ghost image = { λ stage a. lone (becomes stage.names.now (lexers stage.vocabulary.now) (types stage.vocabulary.now) a.kind) };
 
     #[tactic(auto, using(g4_source::proofs::Trees::of_atom))]
-    fn image(
-        &self,
-        alloc: Global,
-        atom: &NumberedAtom,
-    ) -> Result<Element<Step<Symbols>>, AllocError> {
+    fn image(&self, alloc: Global, atom: &Atom) -> Result<Element<Step<Symbols>>, AllocError> {
         let step = self.step_of(alloc, &atom.kind)?;
         Ok(Element::Atom(step))
     }
@@ -97,19 +78,19 @@ impl Substitution<NumberedAtom> for Stage<'_> {
 /// The alternative over steps.
 fn resolved_alternative(
     alloc: Global,
-    stage: &Stage<'_>,
-    alternative: RuleAlternative<NumberedAtom>,
+    stage: &Stage<'_, '_>,
+    alternative: &RuleAlternative<Atom>,
 ) -> Result<RuleAlternative<Step<Symbols>>, AllocError>
-    ensures { IfOk result (λ made. made ≡ resolved_alternative stage.now.given.now.names stage.now.given.now.predicates alternative) }
+    ensures { IfOk result (λ made. made ≡ resolved_alternative stage.now.names.now (lexers_in stage.now.vocabulary.now)
+        (types_in stage.now.vocabulary.now) alternative.now) }
 {
-    let RuleAlternative {
-        right,
-        elements,
-        label,
-    } = alternative;
-    let elements = substituted(alloc, stage, &elements)?;
+    let elements = substituted(alloc, stage, &alternative.elements)?;
+    let label = match &alternative.label {
+        Some(label) => Some(label.copy_of(alloc)?),
+        None => None,
+    };
     Ok(RuleAlternative {
-        right,
+        right: alternative.right,
         elements,
         label,
     })
@@ -118,14 +99,15 @@ fn resolved_alternative(
 /// The rule over steps.
 fn resolved_rule(
     alloc: Global,
-    stage: &Stage<'_>,
-    rule: ParserRule<NumberedAtom>,
+    stage: &Stage<'_, '_>,
+    rule: &ParserRule<Atom>,
 ) -> Result<StepRule, AllocError>
-    ensures { IfOk result (λ made. made ≡ resolved_rule stage.now.given.now.names stage.now.given.now.predicates rule) }
+    ensures { IfOk result (λ made. made ≡ resolved_rule stage.now.names.now (lexers_in stage.now.vocabulary.now)
+        (types_in stage.now.vocabulary.now) rule.now) }
 {
-    let ParserRule { name, alternatives } = rule;
+    let name = Text::copy_of(alloc, rule.name.as_str())?;
     let mut all = Vec::new(alloc);
-    for alternative in alternatives.into_vec() {
+    for alternative in rule.alternatives.as_slice() {
         all.push(resolved_alternative(alloc, stage, alternative)?)?;
     }
     Ok(ParserRule {
@@ -137,39 +119,54 @@ fn resolved_rule(
 /// The rules over steps.
 fn resolved_rules(
     alloc: Global,
-    stage: &Stage<'_>,
-    rules: Vec<ParserRule<NumberedAtom>>,
-) -> Result<Vec<StepRule>, AllocError>
-    ensures { IfOk result (λ made. made.items ≡ map (resolved_rule stage.now.given.now.names stage.now.given.now.predicates) rules.items) }
+    stage: &Stage<'_, '_>,
+    rules: &[&ParserRule<Atom>],
+) -> Result<Sequence<StepRule>, AllocError>
+    ensures { IfOk result (λ made. made ≡ map
+        (resolved_rule stage.now.names.now (lexers_in stage.now.vocabulary.now) (types_in stage.now.vocabulary.now))
+        (map (λ r. r.now) rules.now)) }
 {
     let mut all = Vec::new(alloc);
     for rule in rules {
         all.push(resolved_rule(alloc, stage, rule)?)?;
     }
-    Ok(all)
+    Ok(Sequence::new(all))
 }
 
-/// The rules over steps. Where the names are those of the rules, no rule tests anything or takes END, each reference is to one of
-/// the rules, and the rules can be run, they can be rewritten.
+/// The names of the rules.
+fn names_of(alloc: Global, rules: &[&ParserRule<Atom>]) -> Result<Vec<Text>, AllocError>
+    ensures { IfOk result (λ names. names.items ≡ map (λ rule. rule.name) (map (λ r. r.now) rules.now)) }
+{
+    let mut names = Vec::new(alloc);
+    for rule in rules {
+        names.push(Text::copy_of(alloc, rule.name.as_str())?)?;
+    }
+    Ok(names)
+}
+
+/// The parser rules of a grammar without fault, over steps, its tokens as the symbols of this vocabulary. They can be rewritten.
 ///
 /// # Errors
 /// No memory.
 pub fn resolve(
     alloc: Global,
-    stage: &Resolving,
-    rules: Vec<ParserRule<NumberedAtom>>,
-) -> Result<Vec<StepRule>, AllocError>
-    ensures steps { IfOk result (λ made. made.items ≡ map (resolved_rule stage.now.names stage.now.predicates) rules.items) }
-    ensures rewritten { stage.now.names ≡ map (λ rule. rule.name) rules.items → ParserRulesAreFull rules.items
-        → All RuleLeavesEnd rules.items →
-        All NumberedRuleIsUntested rules.items → NumberedRulesAreDefined rules.items → NumberedRulesCanRun rules.items
-        → IfOk result (λ made. CanBeRewritten made.items) }
+    rules: &[Rule],
+    vocabulary: &Vocabulary<'_>,
+) -> Result<Sequence<StepRule>, AllocError>
+    requires numbered { IsVocabularyOf rules.now vocabulary.now }
+    requires checked { CanBeResolved rules.now }
+    ensures steps { IfOk result (λ made. made ≡ resolved rules.now) }
+    ensures rewritable { IfOk result CanBeRewritten }
 {
-    let places = places_of(alloc, stage.names.as_slice())?;
+    let views = views_of(alloc, rules)?;
+    let parsers = parser_rules(alloc, views.as_slice())?;
+    let names = names_of(alloc, parsers.as_slice())?;
+    let places = places_of(alloc, names.as_slice())?;
     let stage = Stage {
-        given: stage,
+        names: names.as_slice(),
         places,
+        vocabulary,
     };
-    let made = resolved_rules(alloc, &stage, rules)?;
+    let made = resolved_rules(alloc, &stage, parsers.as_slice())?;
     Ok(made)
 }

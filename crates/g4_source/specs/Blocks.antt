@@ -5,7 +5,6 @@ use Rattle.g4_source.specs.declared.rule.Rule.{Rule}
 use Rattle.g4_source.specs.declared.rule.Rule.TheVariants.{Parser, Lexer}
 use Rattle.g4_source.specs.declared.rule.ParserRule.{ParserRule}
 use Rattle.g4_source.specs.declared.rule.LexerRule.{LexerRule}
-use Rattle.g4_source.specs.declared.source.Mode.{Mode}
 use Rattle.g4_source.specs.declared.source.Source.{Source}
 use Rattle.g4_source.specs.Rules.{bodies_of, lexer_bodies_of}
 
@@ -32,16 +31,11 @@ abbrev pub ParserRulesAreFull : {A : Type 0} → List (ParserRule A) → Type 0
 ParserRulesAreFull [] = Unit {0}
 ParserRulesAreFull (rule ∷ rules) = ParserRuleIsFull rule × ParserRulesAreFull rules
 
--- the same of each rule of a mode
+-- the same of each lexer rule
 abbrev pub LexerRulesAreFull : List LexerRule → Type 0
 LexerRulesAreFull [] = Unit {0}
 LexerRulesAreFull (rule ∷ rules) = LexerRuleIsFull rule × LexerRulesAreFull rules
 
--- the same of each rule of the modes
-abbrev pub ModesAreFull : List Mode → Type 0
-ModesAreFull [] = Unit {0}
-ModesAreFull (mode ∷ modes) = LexerRulesAreFull mode.rules × ModesAreFull modes
-
--- each rule and each of its blocks has an alternative, in the default mode and in the others
+-- each rule of the grammar and each of its blocks has an alternative
 abbrev pub HaveAlternatives : Source → Type 0
-HaveAlternatives source = RulesAreFull source.rules × ModesAreFull source.modes
+HaveAlternatives source = RulesAreFull source.rules

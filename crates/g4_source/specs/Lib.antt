@@ -5,7 +5,6 @@ pub mod Blocks
 pub mod Elements
 pub mod First
 pub mod Full
-pub mod InOrder
 pub mod Marks
 pub mod Rules
 pub mod Trees

@@ -22,6 +22,6 @@ pub use rule::{
     AlternativeLabel, Argument, Command, LexerAlternative, LexerRule, ParserRule, Rule,
     RuleAlternative,
 };
-pub use rules::{RuleView, lexer_rules, parser_rules, rules_of};
-pub use source::{GrammarKind, Mode, Source};
+pub use rules::{RuleView, lexer_rules, parser_rules, views_of};
+pub use source::{GrammarKind, Source};
 pub use substitution::{Substitution, substituted};

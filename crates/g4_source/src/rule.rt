@@ -1,9 +1,10 @@
 // The rules of a grammar.
-ghost use Rattle.std.specs.Prelude.{◌≡◌};
+ghost use Rattle.std.specs.Prelude.{◌≡◌, IfOk};
 ghost use Rattle.g4_source.specs.Rules.{rule_name};
 
 use crate::{Atom, Elements, Name};
 use g4_base::{Place, Sequence, Text};
+use std::alloc::{AllocError, Global};
 
 /// A rule: a lower-case name begins a parser rule, an upper-case name a lexer rule.
 #[derive(Drop)]
@@ -47,9 +48,27 @@ pub struct AlternativeLabel {
     pub name: Text,
 }
 
+impl AlternativeLabel {
+    /// The same label.
+    ///
+    /// # Errors
+    /// No memory.
+    pub fn copy_of(&self, alloc: Global) -> Result<AlternativeLabel, AllocError>
+        ensures { IfOk result (λ copy. copy ≡ self.now) }
+    {
+        let name = Text::copy_of(alloc, self.name.as_str())?;
+        Ok(AlternativeLabel {
+            place: self.place,
+            name,
+        })
+    }
+}
+
 /// A lexer rule: its alternatives in order.
 #[derive(Drop)]
 pub struct LexerRule {
+    /// The mode that it is in, by the name after the last `mode` before it; where there is none, the default mode.
+    pub mode: Option<Text>,
     /// The place of `fragment`, where it is written.
     pub fragment: Option<Place>,
     pub name: Text,

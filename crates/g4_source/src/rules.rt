@@ -1,12 +1,9 @@
 // The rules of a grammar in order.
-ghost use Rattle.std.specs.Prelude.{◌≡◌, ◌++◌, IfOk, OnOk, map};
-ghost use Rattle.std.specs.List.{flat_map};
-ghost use Rattle.g4_source.specs.declared.rule.Rule.TheVariants.{Lexer as LexerVariant};
+ghost use Rattle.std.specs.Prelude.{◌≡◌, IfOk, map};
 ghost use Rattle.g4_source.specs.Rules.{lexer_rules, parser_rules};
-ghost use Rattle.g4_source.specs.InOrder.{mode_rules, rules_of};
 ghost use Rattle.g4_source.specs.Views.{rule_view};
 
-use crate::{Atom, LexerRule, Mode, ParserRule, Rule, Source};
+use crate::{Atom, LexerRule, ParserRule, Rule};
 use std::alloc::{AllocError, Global};
 
 /// A rule in place.
@@ -26,46 +23,17 @@ fn view_of(rule: &Rule) -> RuleView<'_>
     }
 }
 
-/// Adds the rules.
-fn push_rules<'a>(found: &mut Vec<RuleView<'a>>, rules: &'a [Rule]) -> Result<(), AllocError>
-    ensures { OnOk result (map rule_view found.new.items ≡ map rule_view found.old.items ++ rules.now) }
+/// The rules in place.
+///
+/// # Errors
+/// No memory.
+pub fn views_of(alloc: Global, rules: &[Rule]) -> Result<Vec<RuleView<'_>>, AllocError>
+    ensures { IfOk result (λ found. map rule_view found.items ≡ rules.now) }
 {
+    let mut found = Vec::new(alloc);
     for rule in rules {
         found.push(view_of(rule))?;
     }
-    Ok(())
-}
-
-/// Adds the rules of a mode.
-fn push_lexer_rules<'a>(
-    found: &mut Vec<RuleView<'a>>,
-    rules: &'a [LexerRule],
-) -> Result<(), AllocError>
-    ensures { OnOk result (map rule_view found.new.items ≡ map rule_view found.old.items ++ map LexerVariant rules.now) }
-{
-    for rule in rules {
-        found.push(RuleView::Lexer(rule))?;
-    }
-    Ok(())
-}
-
-/// Adds the rules of modes.
-fn push_modes<'a>(found: &mut Vec<RuleView<'a>>, modes: &'a [Mode]) -> Result<(), AllocError>
-    ensures { OnOk result (map rule_view found.new.items ≡ map rule_view found.old.items ++ flat_map mode_rules modes.now) }
-{
-    for mode in modes {
-        push_lexer_rules(found, mode.rules.as_slice())?;
-    }
-    Ok(())
-}
-
-/// The rules of the default mode in order of the text, and then those of each mode in order.
-pub fn rules_of(alloc: Global, source: &Source) -> Result<Vec<RuleView<'_>>, AllocError>
-    ensures { IfOk result (λ found. map rule_view found.items ≡ rules_of source.now) }
-{
-    let mut found = Vec::new(alloc);
-    push_rules(&mut found, source.rules.as_slice())?;
-    push_modes(&mut found, source.modes.as_slice())?;
     Ok(found)
 }
 

@@ -1,19 +1,18 @@
 // A grammar as its text gives it.
-use crate::{LexerRule, Prequel, Rule};
+use crate::{Prequel, Rule};
 use g4_base::{Place, Sequence, Text};
 
-/// A grammar as it is written: its first word's place, its kind and name, what comes before its rules, its rules and its
-/// modes, each in order of the text.
+/// A grammar as it is written: its first word's place, its kind and name, what comes before its rules, its rules of all modes and
+/// the names of its modes, each in order of the text.
 #[derive(Drop)]
 pub struct Source {
     pub place: Place,
     pub kind: GrammarKind,
     pub name: Text,
     pub prequels: Sequence<Prequel>,
-    /// The rules; in a lexer grammar those of the default mode.
     pub rules: Sequence<Rule>,
-    /// Only a lexer grammar has modes.
-    pub modes: Sequence<Mode>,
+    /// The names after `mode`, which only a lexer grammar has. A mode can be named more than once, and can have no rule.
+    pub modes: Sequence<Text>,
 }
 
 /// What rules a grammar can have.
@@ -25,11 +24,4 @@ pub enum GrammarKind {
     Lexer,
     /// `parser grammar`: parser rules alone.
     Parser,
-}
-
-/// A mode of a lexer grammar.
-#[derive(Drop)]
-pub struct Mode {
-    pub name: Text,
-    pub rules: Sequence<LexerRule>,
 }

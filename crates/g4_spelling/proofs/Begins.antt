@@ -1,30 +1,30 @@
 -- A mode's starts are those of the alternatives with which a match in the mode may begin, as the rules are written.
-use Rattle.std.proofs.Common.{◌≡◌, ℕ, zero, suc, ◌+◌, ◌-◌, ◌<◌, ◌⊎◌, inl, inr, List, [], ◌∷◌, ◌++◌, length, map, Option, Some, None, refl, sym, ◌∙◌, ap, subst, arith, slice_get}
+use Rattle.std.proofs.Common.{◌≡◌, ℕ, zero, suc, ◌+◌, ◌-◌, ◌<◌, ◌⊎◌, inl, inr, List, [], ◌∷◌, ◌++◌, length, map, Bool, true, false, cond, Option, Some, None, refl, sym, ◌∙◌, ap, subst, arith, slice_get}
+use Rattle.std.proofs.lemmas.Bool.{cases_lt}
+use Rattle.std.proofs.lemmas.List.{length-append}
 use Rattle.std.proofs.lemmas.Option.{slice_get_within}
 use Rattle.g4_base.specs.declared.place.Place.{Place}
 use Rattle.g4_source.specs.Elements.{either}
 use Rattle.g4_source.specs.Rules.{lexer_alternatives_of}
 use Rattle.g4_source.specs.declared.rule.LexerAlternative.{LexerAlternative}
 use Rattle.g4_source.specs.declared.rule.LexerRule.{LexerRule}
-use Rattle.g4_source.specs.declared.source.Mode.{Mode}
 use Rattle.g4_net.specs.declared.network.Network.{Network}
 use Rattle.g4_net.specs.declared.network.State.{State}
 use Rattle.g4_ordered.specs.Configurations.{In}
 use Rattle.g4_ordered.specs.declared.network.Reads.{Reads}
 use Rattle.g4_ordered.proofs.Lists.{In-cases, In-from, In-left, In-right, In-to}
-use Rattle.g4_derivation.specs.Alternatives.{each_of}
 use Rattle.g4_derivation.specs.Alternatives as walks
 use Rattle.g4_derivation.proofs.Beginnings.{laid_as}
 use Rattle.g4_lexer_rules.specs.declared.lex_net.LexNet.{LexNet}
 use Rattle.g4_ordered.specs.declared.start.Start.{Start}
 use Rattle.g4_lexer_rules.specs.Lexable.{CanBeLexed}
 use Rattle.g4_lexer_rules.specs.LexNets.{IsLexNet}
-use Rattle.g4_lexer_rules.specs.NetworkRules.{all_rules, rules_of_modes, trees_of}
-use Rattle.g4_lexer_rules.specs.Starts.{decided_starts, matched_starts, numbered_starts, rule_starts, starts_from, starts_of_modes, unless_fragment}
-use Rattle.g4_spelling.specs.Begins.{IsRuleOfMode, MayBegin, first_of_mode}
+use Rattle.g4_lexer_rules.specs.NetworkRules.{all_rules, trees_of}
+use Rattle.g4_lexer_rules.specs.Starts.{decided_starts, is_in_mode, matched_starts, numbered_starts, rule_starts, starts_from, starts_in, unless_fragment}
+use Rattle.g4_spelling.specs.Begins.{MayBegin}
 use Rattle.g4_spelling.specs.Matches.{IsStarted}
 use Rattle.g4_spelling.proofs.Matched.{alternative_there}
-use Rattle.g4_spelling.proofs.Modes.{AreFrom, item_after, item_front, mode_is, own_rule, unfragmented}
+use Rattle.g4_spelling.proofs.Modes.{AreFrom, at_range, item_after, item_front, mode_is, own_rule, unfragmented}
 use Rattle.g4_derivation.proofs.Firsts.{at_is_member, begins_at}
 use Rattle.g4_spelling.proofs.Placed.{all_laid, alternative_laid, item_below, laid, tree_of}
 
@@ -105,90 +105,119 @@ module _ (states : List (State Reads)) where
       In-right (matched_starts states n x) (starts_from states (n + 1) rules) s
       (rule_in (n + 1) rules k rule is whole r (omega (arith, number)) s i)
 
-  -- the starts of mode m
-  mode_at : (front : List Start) (n : ℕ) (modes : List Mode) (m : ℕ) (starts : List Start)
-      → slice_get (starts_of_modes states front n modes) m ≡ Some starts →
-      (mode : Mode) × (slice_get modes m ≡ Some mode) × (starts ≡ front ++ starts_from states (first_of_mode n modes m) mode.rules)
-  mode_at front n [] m starts is = absurd (let e : ⊥ = cc in e)
-  mode_at front n (mode ∷ modes) zero starts is =
-      (mode, refl, let e : Some (front ++ starts_from states n mode.rules) ≡ Some starts = is in cc)
-  mode_at front n (mode ∷ modes) (suc m) starts is = mode_at front (n + length mode.rules) modes m starts is
+  module _ (modes : List (List ℕ)) (j : ℕ) where
+    -- of which rule a start of a mode is
+    record OfMode (n : ℕ) (rules : List LexerRule) (s : Start) : Type 0 where
+      place : ℕ
+      rule : LexerRule
+      at : slice_get rules place ≡ Some rule
+      number : s.rule ≡ n + place
+      whole : rule.fragment ≡ None
+      inside : is_in_mode modes j rule ≡ true
 
-  -- the rules of mode m
-  rules_at : (all : List LexerRule) (n : ℕ) (modes : List Mode) (m : ℕ) (mode : Mode) → slice_get modes m ≡ Some mode
-      → AreFrom states all n (rules_of_modes modes) → AreFrom states all (first_of_mode n modes m) mode.rules
-  rules_at all n [] m mode is are = absurd (let e : ⊥ = cc in e)
-  rules_at all n (x ∷ modes) zero mode is are =
-      let same : mode ≡ x = (let e : Some x ≡ Some mode = is in cc) in
-      λ k rule at. are k rule (item_front x.rules (rules_of_modes modes) k rule
-      (subst (λ (y : Mode). slice_get y.rules k ≡ Some rule) same at))
-  rules_at all n (x ∷ modes) (suc m) mode is are =
-      rules_at all (n + length x.rules) modes m mode is
-      (λ k rule e.
-      let there : n + (length x.rules + k) ≡ n + length x.rules + k = omega arith in
-      subst (λ (q : ℕ). slice_get all q ≡ Some rule) there
-      (are (length x.rules + k) rule (item_after x.rules (rules_of_modes modes) k ∙ e)))
+    mode_rule : (n : ℕ) (rules : List LexerRule) (s : Start) → In s (starts_in states modes j n rules) → OfMode n rules s
+    mode_rule n [] s i = absurd i
+    mode_rule n (rule ∷ rules) s i = by (is_in_mode modes j rule) refl i (λ k. mode_rule (n + 1) rules s k)
+      where
+        later : OfMode (n + 1) rules s → OfMode n (rule ∷ rules) s
+        later h =
+            record { place = suc h.place; rule = h.rule; at = h.at; number = omega (arith, h.number); whole = h.whole; inside = h.inside }
 
-module _ (literals : List LexerRule) (modes : List Mode) (made : LexNet) (lex : IsLexNet literals modes made)
-    (can : CanBeLexed (all_rules literals modes)) (m : ℕ) (starts : List Start) (is : slice_get made.modes m ≡ Some starts) where
+        by : (b : Bool) → is_in_mode modes j rule ≡ b
+            → In s (cond b (matched_starts states n rule) [] ++ starts_in states modes j (n + 1) rules)
+            → (In s (starts_in states modes j (n + 1) rules) → OfMode (n + 1) rules s) → OfMode n (rule ∷ rules) s
+        by true is here rest = elim (In-cases (matched_starts states n rule) (starts_in states modes j (n + 1) rules) s here) [
+          | inl own ↦ (
+              let here = unfragmented rule.fragment (rule_starts states n rule.alternatives) s own in
+              let same = own_rule states n rule.alternatives s here in
+              record {
+                place = 0;
+                rule = rule;
+                at = refl;
+                number = omega (arith, same);
+                whole = no_fragment rule.fragment (rule_starts states n rule.alternatives) s own;
+                inside = is;
+              })
+          | inr k ↦ later (rest k)
+        ]
+        by false is here rest = later (rest here)
+
+    -- a start of a rule of the mode that is no fragment is one of the mode's
+    mode_in : (n : ℕ) (rules : List LexerRule) (k : ℕ) (rule : LexerRule) → slice_get rules k ≡ Some rule → rule.fragment ≡ None
+        → is_in_mode modes j rule ≡ true → (r : ℕ) → r ≡ n + k → (s : Start) → In s (rule_starts states r rule.alternatives)
+        → In s (starts_in states modes j n rules)
+    mode_in n [] k rule is whole inside r number s i = absurd (let e : ⊥ = cc in e)
+    mode_in n (x ∷ rules) zero rule is whole inside r number s i =
+        let same : rule ≡ x = (let e : Some x ≡ Some rule = is in cc) in
+        let here : r ≡ n = omega (arith, number) in
+        subst (λ (b : Bool). In s (cond b (matched_starts states n x) [] ++ starts_in states modes j (n + 1) rules))
+        (sym (subst (λ (y : LexerRule). is_in_mode modes j y ≡ true) same inside))
+        (In-left (matched_starts states n x) (starts_in states modes j (n + 1) rules) s
+        (unless_in x.fragment (rule_starts states n x.alternatives) s (subst (λ (y : LexerRule). y.fragment ≡ None) same whole)
+        (subst (λ (y : LexerRule). In s (rule_starts states n y.alternatives)) same
+        (subst (λ (q : ℕ). In s (rule_starts states q rule.alternatives)) here i))))
+    mode_in n (x ∷ rules) (suc k) rule is whole inside r number s i =
+        In-right (cond (is_in_mode modes j x) (matched_starts states n x) []) (starts_in states modes j (n + 1) rules) s
+        (mode_in (n + 1) rules k rule is whole inside r (omega (arith, number)) s i)
+
+module _ (literals others : List LexerRule) (modes : List (List ℕ)) (made : LexNet) (lex : IsLexNet literals others modes made)
+    (can : CanBeLexed (all_rules literals others)) (m : ℕ) (starts : List Start) (is : slice_get made.modes m ≡ Some starts) where
   -- all rules, and the states
   abbrev rules : List LexerRule
-  rules = all_rules literals modes
+  rules = all_rules literals others
 
   abbrev states : List (State Reads)
   states = made.net.states
 
+  -- the starts of the literals, and those of the mode
   abbrev front : List Start
   front = starts_from states 0 literals
 
-  abbrev first : ℕ
-  first = first_of_mode (length literals) modes m
+  abbrev back : List Start
+  back = starts_in states modes m (length literals) others
 
-  -- the mode and its starts
-  here : (mode : Mode) × (slice_get modes m ≡ Some mode) × (starts ≡ front ++ starts_from states first mode.rules)
-  here = mode_at states front (length literals) modes m starts
-      (subst (λ (all : List (List Start)). slice_get all m ≡ Some starts) lex.starts is)
+  here : starts ≡ front ++ back
+  here =
+      let first : 0 + m ≡ m = omega arith in
+      subst (λ (j : ℕ). starts ≡ starts_from states 0 literals ++ starts_in states modes j (length literals) others) first
+      (at_range (λ j. starts_from states 0 literals ++ starts_in states modes j (length literals) others) 0 (length modes) m starts
+      (subst (λ (all : List (List Start)). slice_get all m ≡ Some starts) lex.starts is))
 
-  -- the rules of the literals, and those of the mode
+  -- the rules of the literals, and the others
   of_literals : AreFrom states rules 0 literals
   of_literals k rule at = let e : k ≡ 0 + k = omega arith in
-      subst (λ (q : ℕ). slice_get rules q ≡ Some rule) e (item_front literals (rules_of_modes modes) k rule at)
+      subst (λ (q : ℕ). slice_get rules q ≡ Some rule) e (item_front literals others k rule at)
 
-  of_mode : (mode : Mode) → slice_get modes m ≡ Some mode → AreFrom states rules first mode.rules
-  of_mode mode at = rules_at states rules (length literals) modes m mode at (λ k rule e. item_after literals (rules_of_modes modes) k ∙ e)
+  of_others : AreFrom states rules (length literals) others
+  of_others k rule at = item_after literals others k ∙ at
 
   -- with a start a match may begin
-  pub started_may : (r i : ℕ) → IsStarted starts r i → MayBegin literals modes m r i
+  pub started_may : (r i : ℕ) → IsStarted starts r i → MayBegin literals others modes m r i
   started_may r i (a, c) =
       let s : Start = record { rule = r; alternative = i; state = a } in
-      let begins = (mode_is literals modes made lex starts (at_is_member made.modes m starts is)).begin s (In-from starts s c) in
-      let x = alternative_there literals modes made lex can r i a begins in
-      let inside = subst (In s) here.2 (In-from starts s c) in
-      elim (In-cases front (starts_from states first here.0.rules) s inside) [
+      let begins = (mode_is literals others modes made lex starts (at_is_member made.modes m starts is)).begin s (In-from starts s c) in
+      let x = alternative_there literals others modes made lex can r i a begins in
+      let inside = subst (In s) here (In-from starts s c) in
+      elim (In-cases front back s inside) [
         | inl literal ↦ (
             let h = rule_of states 0 literals s literal in
             let below = slice_get_within literals h.place h.rule h.at in
-            let number : 0 + h.place ≡ r = sym h.number in (
-              inl (omega (arith, number, below)),
-              (
-                h.rule,
-                subst (λ (q : ℕ). slice_get rules q ≡ Some h.rule) number (of_literals h.place h.rule h.at),
-                h.whole,
-                x,
-              ),
-            ))
+            let number : 0 + h.place ≡ r = sym h.number in record {
+              rule = h.rule;
+              at = subst (λ (q : ℕ). slice_get rules q ≡ Some h.rule) number (of_literals h.place h.rule h.at);
+              whole = h.whole;
+              whose = inl (omega (arith, number, below));
+              alternative = x;
+            })
         | inr own ↦ (
-            let h = rule_of states first here.0.rules s own in
-            let below = slice_get_within here.0.rules h.place h.rule h.at in
-            let number : first + h.place ≡ r = sym h.number in (
-              inr (here.0, here.1, omega (arith, number), omega (arith, number, below)),
-              (
-                h.rule,
-                subst (λ (q : ℕ). slice_get rules q ≡ Some h.rule) number (of_mode here.0 here.1 h.place h.rule h.at),
-                h.whole,
-                x,
-              ),
-            ))
+            let h = mode_rule states modes m (length literals) others s own in
+            let number : length literals + h.place ≡ r = sym h.number in record {
+              rule = h.rule;
+              at = subst (λ (q : ℕ). slice_get rules q ≡ Some h.rule) number (of_others h.place h.rule h.at);
+              whole = h.whole;
+              whose = inr h.inside;
+              alternative = x;
+            })
       ]
 
   -- rule r is the one at this place
@@ -198,29 +227,39 @@ module _ (literals : List LexerRule) (modes : List Mode) (made : LexNet) (lex : 
       let also : slice_get rules r ≡ Some other = subst (λ (q : ℕ). slice_get rules q ≡ Some other) (sym number) (are k other there) in
       let e : Some other ≡ Some rule = sym also ∙ at in cc
 
-  -- it has a start among those of the mode, or of the literals
-  among_starts : (r : ℕ) (rule : LexerRule) (s : Start) → slice_get rules r ≡ Some rule → rule.fragment ≡ None
-      → In s (rule_starts states r rule.alternatives) → (r < length literals) ⊎ IsRuleOfMode literals modes m r → In s starts
-  among_starts r rule s at whole i (inl below) =
+  -- a start of the rule of a literal is one of the literals'
+  among_front : (r : ℕ) (rule : LexerRule) (s : Start) → slice_get rules r ≡ Some rule → rule.fragment ≡ None
+      → In s (rule_starts states r rule.alternatives) → r < length literals → In s front
+  among_front r rule s at whole i below =
       let other = item_below literals r below in
       let number : r ≡ 0 + r = omega arith in
       let same = same_rule r 0 r literals rule other.0 of_literals number at other.1 in
       let literal : slice_get literals r ≡ Some rule = other.1 ∙ ap (λ (y : LexerRule). Some y) same in
-      subst (In s) (sym here.2) (In-left front (starts_from states first here.0.rules) s
-      (rule_in states 0 literals r rule literal whole r number s i))
-  among_starts r rule s at whole i (inr (mode, mode_is_there, low, high)) =
-      let same_mode : mode ≡ here.0 = (let e : Some mode ≡ Some here.0 = sym mode_is_there ∙ here.1 in cc) in
-      let number : r ≡ first + (r - first) = omega (arith, low) in
-      let other = item_below mode.rules (r - first) (omega (arith, low, high)) in
-      let same = same_rule r first (r - first) mode.rules rule other.0 (of_mode mode mode_is_there) number at other.1 in
-      let own : slice_get mode.rules (r - first) ≡ Some rule = other.1 ∙ ap (λ (y : LexerRule). Some y) same in
-      let inside : In s (starts_from states first mode.rules) = rule_in states first mode.rules (r - first) rule own whole r number s i in
-      subst (In s) (sym here.2) (In-right front (starts_from states first here.0.rules) s
-      (subst (λ (y : Mode). In s (starts_from states first y.rules)) same_mode inside))
+      rule_in states 0 literals r rule literal whole r number s i
+
+  -- it has a start among those of the literals, or of the mode
+  among_starts : (r : ℕ) (rule : LexerRule) (s : Start) → slice_get rules r ≡ Some rule → rule.fragment ≡ None
+      → In s (rule_starts states r rule.alternatives) → (r < length literals) ⊎ (is_in_mode modes m rule ≡ true) → In s starts
+  among_starts r rule s at whole i (inl below) = subst (In s) (sym here) (In-left front back s (among_front r rule s at whole i below))
+  among_starts r rule s at whole i (inr inside) = elim (cases_lt r (length literals)) [
+    | inl below ↦ subst (In s) (sym here) (In-left front back s (among_front r rule s at whole i below))
+    | inr past ↦ (
+        let number : r ≡ length literals + (r - length literals) = omega (arith, past) in
+        let high : r < length rules = slice_get_within rules r rule at in
+        let other = item_below others (r - length literals) (omega (arith, past, high, length-append literals others)) in
+        let same = same_rule r (length literals) (r - length literals) others rule other.0 of_others number at other.1 in
+        let own : slice_get others (r - length literals) ≡ Some rule = other.1 ∙ ap (λ (y : LexerRule). Some y) same in
+        subst (In s) (sym here) (In-right front back s
+        (mode_in states modes m (length literals) others (r - length literals) rule own whole inside r number s i)))
+  ]
 
   -- where a match may begin, there is a start
-  pub may_started : (r i : ℕ) → MayBegin literals modes m r i → IsStarted starts r i
-  may_started r i (whose, (rule, at, whole, (x, alternative))) =
+  pub may_started : (r i : ℕ) → MayBegin literals others modes m r i → IsStarted starts r i
+  may_started r i may =
+      let rule = may.rule in
+      let at = may.at in
+      let x = may.alternative.0 in
+      let alternative = may.alternative.1 in
       let net = made.net in
       let own = lexer_alternatives_of alternative.0 in
       let same : alternative.0 ≡ rule = (let e : Some alternative.0 ≡ Some rule = sym alternative.2 ∙ at in cc) in
@@ -233,6 +272,6 @@ module _ (literals : List LexerRule) (modes : List Mode) (made : LexNet) (lex : 
       let s : Start = record { rule = r; alternative = i; state = b.0 } in
       let i_in : In s (rule_starts states r alternative.0.alternatives) = begins_in net rules r i b.0 alternative.0.alternatives begins in (
         b.0,
-        In-to starts s (among_starts r rule s at whole
-            (subst (λ (z : LexerRule). In s (rule_starts states r z.alternatives)) same i_in) whose),
+        In-to starts s (among_starts r rule s at may.whole
+            (subst (λ (z : LexerRule). In s (rule_starts states r z.alternatives)) same i_in) may.whose),
       )

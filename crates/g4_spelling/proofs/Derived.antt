@@ -5,7 +5,6 @@ use Rattle.g4_source.specs.Elements.{Elements, Alternatives, atoms_in_order, ato
 use Rattle.g4_source.specs.declared.atom.Atom.{Atom}
 use Rattle.g4_source.specs.declared.rule.LexerAlternative.{LexerAlternative}
 use Rattle.g4_source.specs.declared.rule.LexerRule.{LexerRule}
-use Rattle.g4_source.specs.declared.source.Mode.{Mode}
 use Rattle.g4_source.specs.Rules.{lexer_alternatives_of}
 use Rattle.g4_source.proofs.Parts.{All-front, All-rest}
 use Rattle.g4_grammar.specs.declared.step.Step.{Step}
@@ -51,11 +50,11 @@ in_alternative P (y ∷ xs) (suc j) x is every =
     in_alternative P xs j x is (All-rest P (atoms_in_order y.elements)
     (atoms_of_either (either (map (λ (z : LexerAlternative). z.elements) xs))) every)
 
-module _ (literals : List LexerRule) (modes : List Mode) (made : LexNet) (lex : IsLexNet literals modes made)
-    (can : CanBeLexed (all_rules literals modes)) (canonical : SetsAreCanonical (all_rules literals modes)) where
+module _ (literals others : List LexerRule) (modes : List (List ℕ)) (made : LexNet) (lex : IsLexNet literals others modes made)
+    (can : CanBeLexed (all_rules literals others)) (canonical : SetsAreCanonical (all_rules literals others)) where
   -- all rules, their names and the network
   abbrev rules : List LexerRule
-  rules = all_rules literals modes
+  rules = all_rules literals others
 
   abbrev names : List (List ℕ)
   names = names_of rules
@@ -78,7 +77,7 @@ module _ (literals : List LexerRule) (modes : List Mode) (made : LexNet) (lex : 
       → state_at net e ≡ Some (End ended) → WalksTo TakesMarks Derived AnyLevel net (start_of rule) e us →
       Derived rule (joined us)
   called p rule level back is e ended us end walk =
-      let known = call_known literals modes made lex can p rule level back is in
+      let known = call_known literals others modes made lex can p rule level back is in
       let tree = tree_of rules rule known.0 known.1 in
       let xs = lexer_alternatives_of known.0 in
       let here = item_map lexer_alternatives_of rules rule known.0 known.1 in

@@ -7,7 +7,6 @@ use Rattle.g4_source.specs.Elements.{Alternatives, atoms_of_either}
 use Rattle.g4_source.specs.Rules.{lexer_alternatives_of}
 use Rattle.g4_source.specs.declared.rule.LexerAlternative.{LexerAlternative}
 use Rattle.g4_source.specs.declared.rule.LexerRule.{LexerRule}
-use Rattle.g4_source.specs.declared.source.Mode.{Mode}
 use Rattle.g4_grammar.specs.LeftCalls.{one_call, more_calls}
 use Rattle.g4_grammar.specs.Steps.{CallsRule}
 use Rattle.g4_grammar.specs.declared.step.Step.{Step}
@@ -77,11 +76,11 @@ begins_within net r i a xs c = by xs c
         ]
     by (x ∷ y ∷ more) c = decided c
 
-module _ (literals : List LexerRule) (modes : List Mode) (made : LexNet) (lex : IsLexNet literals modes made)
-    (can : CanBeLexed (all_rules literals modes)) where
+module _ (literals others : List LexerRule) (modes : List (List ℕ)) (made : LexNet) (lex : IsLexNet literals others modes made)
+    (can : CanBeLexed (all_rules literals others)) where
   -- all rules, their trees and the network
   abbrev rules : List LexerRule
-  rules = all_rules literals modes
+  rules = all_rules literals others
 
   abbrev trees : List (Alternatives (Step Reads))
   trees = trees_of rules
@@ -181,7 +180,7 @@ module _ (literals : List LexerRule) (modes : List Mode) (made : LexNet) (lex : 
       let i = within_part r p q w h in
       let sound = subst (IsSoundState (Good i.number i.rule i.is i.laid) (Ended i.number i.rule i.is i.laid) (IsHere i.number i.laid))
       is (state_sound i.number i.rule i.is i.laid q i.here) in
-      let known = call_known literals modes made lex can q rule level back is in
+      let known = call_known literals others modes made lex can q rule level back is in
       record {
         number = rule;
         rule = known.0;
@@ -206,7 +205,7 @@ module _ (literals : List LexerRule) (modes : List Mode) (made : LexNet) (lex : 
       → IsGreedyRule net (starts_of starts) r
   greedy_rule starts c r written s i same =
       let h = start_at starts s i in
-      let begins = (mode_is literals modes made lex starts c).begin h.0 h.1 in
+      let begins = (mode_is literals others modes made lex starts c).begin h.0 h.1 in
       let number : h.0.rule ≡ r = sym (ap (λ (d : LexerConfig). d.rule) h.2) ∙ same in
       subst (IsGreedy net) (sym (ap (λ (d : LexerConfig). d.state) h.2))
       (begun_greedy h.0.rule h.0.alternative h.0.state begins (subst (IsWrittenGreedy rules) (sym number) written))

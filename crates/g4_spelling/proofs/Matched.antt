@@ -6,7 +6,6 @@ use Rattle.g4_source.specs.Blocks.{LexerRuleIsFull, LexerRulesAreFull}
 use Rattle.g4_source.specs.Rules.{lexer_alternatives_of}
 use Rattle.g4_source.specs.declared.rule.LexerAlternative.{LexerAlternative}
 use Rattle.g4_source.specs.declared.rule.LexerRule.{LexerRule}
-use Rattle.g4_source.specs.declared.source.Mode.{Mode}
 use Rattle.g4_grammar.specs.declared.step.Step.{Step}
 use Rattle.g4_ordered.specs.Configurations.{LexerConfig, start}
 use Rattle.g4_ordered.specs.Matching.{IsBest, IsMatch, MatchesAlone, SpellsFront}
@@ -56,13 +55,13 @@ same_best to back n r i b = record {
   first_alternative = λ j h. b.first_alternative j (back r j n h);
 }
 
-module _ (literals : List LexerRule) (modes : List Mode) (made : LexNet) (lex : IsLexNet literals modes made)
-    (can : CanBeLexed (all_rules literals modes)) where
+module _ (literals others : List LexerRule) (modes : List (List ℕ)) (made : LexNet) (lex : IsLexNet literals others modes made)
+    (can : CanBeLexed (all_rules literals others)) where
   -- where something begins, an alternative begins
-  pub alternative_there : (r i a : ℕ) → IsLexStart made.net.states (all_rules literals modes) r i a
-      → (x : LexerAlternative) × IsAlternativeOf (all_rules literals modes) r i x
+  pub alternative_there : (r i a : ℕ) → IsLexStart made.net.states (all_rules literals others) r i a
+      → (x : LexerAlternative) × IsAlternativeOf (all_rules literals others) r i x
   alternative_there r i a (rule, is, c) =
-      let rules = all_rules literals modes in
+      let rules = all_rules literals others in
       let net = made.net in
       let many = some_alternative rule.alternatives (full_rule rules can.full r rule is).0 in
       let first = item_below rule.alternatives 0 many in
@@ -75,11 +74,11 @@ module _ (literals : List LexerRule) (modes : List Mode) (made : LexNet) (lex : 
       let x = map_item (λ (y : LexerAlternative). in_order_bind (kind_of (names_of rules)) y.elements) rule.alternatives h.0 low.0 low.1 in
       (x.0, (rule, h.0, is, x.1, h.2))
 
-module _ (literals : List LexerRule) (modes : List Mode) (made : LexNet) (lex : IsLexNet literals modes made)
-    (can : CanBeLexed (all_rules literals modes)) (canonical : SetsAreCanonical (all_rules literals modes)) where
+module _ (literals others : List LexerRule) (modes : List (List ℕ)) (made : LexNet) (lex : IsLexNet literals others modes made)
+    (can : CanBeLexed (all_rules literals others)) (canonical : SetsAreCanonical (all_rules literals others)) where
   -- all rules and the network
   abbrev rules : List LexerRule
-  rules = all_rules literals modes
+  rules = all_rules literals others
 
   abbrev net : LexerNetwork
   net = made.net
@@ -87,7 +86,7 @@ module _ (literals : List LexerRule) (modes : List Mode) (made : LexNet) (lex : 
   module _ (starts : List Start) (among : Contains made.modes starts) (text : List ℕ) where
     -- where a start begins
     begins_at : (s : Start) → Contains starts s → IsLexStart net.states rules s.rule s.alternative s.state
-    begins_at s c = (mode_is literals modes made lex starts among).begin s (In-from starts s c)
+    begins_at s c = (mode_is literals others modes made lex starts among).begin s (In-from starts s c)
 
     -- what is spelled at the front is derived
     spelled_derived : (r i n : ℕ) → SpellsFront net (starts_of starts) text r i n → MatchesDerived rules starts text r i n
@@ -102,13 +101,13 @@ module _ (literals : List LexerRule) (modes : List Mode) (made : LexNet) (lex : 
         ∙ ap (λ (q : ℕ). record { rule = r; alternative = q; state = s.state }) alternative in
         let here : Contains starts (record { rule = r; alternative = i; state = s.state }) = subst (Contains starts) same there in
         let begun = begins_at (record { rule = r; alternative = i; state = s.state }) here in
-        let x = alternative_there literals modes made lex can r i s.state begun in (
+        let x = alternative_there literals others modes made lex can r i s.state begun in (
           room,
           (s.state, here),
           (
             x.0,
             x.1,
-            spelled_derives literals modes made lex can canonical r i s.state x.0 x.1 begun text
+            spelled_derives literals others modes made lex can canonical r i s.state x.0 x.1 begun text
                 (drop n text) (subst (λ (q : ℕ). SpellsText net q text (drop n text)) (ap (λ (d : LexerConfig). d.state) h.2) spells),
           ),
         )
@@ -123,7 +122,7 @@ module _ (literals : List LexerRule) (modes : List Mode) (made : LexNet) (lex : 
             at_start starts s here,
             refl,
             refl,
-            derived_spells literals modes made lex can canonical r i a x alternative (begins_at s here) text (drop n text) front,
+            derived_spells literals others modes made lex can canonical r i a x alternative (begins_at s here) text (drop n text) front,
           ),
         )
 
@@ -131,15 +130,15 @@ module _ (literals : List LexerRule) (modes : List Mode) (made : LexNet) (lex : 
     pub alone_derives : (r i n : ℕ) → IsWrittenGreedy rules r → MatchesAlone net (starts_of starts) text r i n
         → MatchesDerived rules starts text r i n
     alone_derives r i n written m =
-        spelled_derived r i n (alone_spells net (starts_of starts) text r i n (is_lexable literals modes made lex can) (fresh starts)
-        (greedy_rule literals modes made lex can starts among r written) m)
+        spelled_derived r i n (alone_spells net (starts_of starts) text r i n (is_lexable literals others modes made lex can) (fresh starts)
+        (greedy_rule literals others modes made lex can starts among r written) m)
 
     -- and the other way round
     pub derived_alone : (r i n : ℕ) → IsWrittenGreedy rules r → MatchesDerived rules starts text r i n
         → MatchesAlone net (starts_of starts) text r i n
     derived_alone r i n written d =
-        spells_alone net (starts_of starts) text r i n (is_lexable literals modes made lex can) (fresh starts)
-        (greedy_rule literals modes made lex can starts among r written) (derived_spelled r i n d)
+        spells_alone net (starts_of starts) text r i n (is_lexable literals others modes made lex can) (fresh starts)
+        (greedy_rule literals others modes made lex can starts among r written) (derived_spelled r i n d)
 
     -- what a rule matches alone, it matches
     alone_matches : (r i n : ℕ) → MatchesAlone net (starts_of starts) text r i n → Matches rules net starts text r i n
@@ -157,12 +156,12 @@ module _ (literals : List LexerRule) (modes : List Mode) (made : LexNet) (lex : 
     pub match_best : (n r i : ℕ) → IsMatch net (starts_of starts) text n r i → IsBest (Matches rules net starts text) n r i
     match_best n r i m =
         same_best {P = MatchesAlone net (starts_of starts) text} {Q = Matches rules net starts text} alone_matches matches_alone n r i
-        (match_is_best net (starts_of starts) text n r i (is_lexable literals modes made lex can)
-        (mode_is literals modes made lex starts among).in_order m)
+        (match_is_best net (starts_of starts) text n r i (is_lexable literals others modes made lex can)
+        (mode_is literals others modes made lex starts among).in_order m)
 
     -- and the best is the match
     pub best_match : (n r i : ℕ) → IsBest (Matches rules net starts text) n r i → IsMatch net (starts_of starts) text n r i
     best_match n r i b =
-        best_is_match net (starts_of starts) text n r i (is_lexable literals modes made lex can)
-        (mode_is literals modes made lex starts among).in_order
+        best_is_match net (starts_of starts) text n r i (is_lexable literals others modes made lex can)
+        (mode_is literals others modes made lex starts among).in_order
         (same_best {P = Matches rules net starts text} {Q = MatchesAlone net (starts_of starts) text} matches_alone alone_matches n r i b)

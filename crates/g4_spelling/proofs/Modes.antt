@@ -1,22 +1,22 @@
 -- Where matches begin in the modes: where alternatives of rules begin, those of one rule in their order.
-use Rattle.std.proofs.Common.{◌≡◌, ℕ, zero, suc, ◌+◌, ◌<◌, ◌≤◌, inl, inr, List, [], ◌∷◌, ◌++◌, length, Option, Some, None, refl, sym, ◌∙◌, ap, subst, arith, Contains, slice_get}
+use Rattle.std.proofs.Common.{◌≡◌, ℕ, zero, suc, ◌+◌, ◌<◌, ◌≤◌, inl, inr, List, [], ◌∷◌, ◌++◌, length, map, Bool, true, false, cond, Option, Some, None, refl, sym, ◌∙◌, ap, subst, arith, Contains, slice_get}
+use Rattle.std.specs.List.{range_with_len}
 use Rattle.g4_base.specs.declared.place.Place.{Place}
 use Rattle.g4_source.specs.declared.rule.LexerAlternative.{LexerAlternative}
 use Rattle.g4_source.specs.declared.rule.LexerRule.{LexerRule}
-use Rattle.g4_source.specs.declared.source.Mode.{Mode}
 use Rattle.g4_net.specs.declared.network.State.{State}
 use Rattle.g4_net.specs.declared.network.State.TheVariants.{Decision, End, Edge, Call, Predicate, Level, Action, Empty}
 use Rattle.g4_net.specs.Network.{start_of}
 use Rattle.g4_ordered.specs.Configurations.{LexerConfig, In, start}
 use Rattle.g4_ordered.specs.Matching.{AreFresh, InOrder, no_more, more}
 use Rattle.g4_ordered.specs.declared.network.Reads.{Reads}
-use Rattle.g4_ordered.proofs.Lists.{In-cases, In-from, In-map, In-to, map-In}
+use Rattle.g4_ordered.proofs.Lists.{In-cases, In-from, In-left, In-map, In-right, In-to, map-In}
 use Rattle.g4_lexer_rules.specs.declared.lex_net.LexNet.{LexNet}
 use Rattle.g4_ordered.specs.declared.start.Start.{Start}
 use Rattle.g4_ordered.specs.Starts.{starts_of}
 use Rattle.g4_lexer_rules.specs.LexNets.{IsLexNet}
-use Rattle.g4_lexer_rules.specs.NetworkRules.{all_rules, rules_of_modes}
-use Rattle.g4_lexer_rules.specs.Starts.{decided_starts, matched_starts, mode_starts, numbered_starts, rule_starts, starts_from, starts_of_modes, unless_fragment}
+use Rattle.g4_lexer_rules.specs.NetworkRules.{all_rules}
+use Rattle.g4_lexer_rules.specs.Starts.{decided_starts, is_in_mode, matched_starts, mode_starts, numbered_starts, rule_starts, starts_from, starts_in, unless_fragment}
 use Rattle.g4_spelling.specs.Fronts.{IsLexStart}
 
 -- the configuration of a start
@@ -152,49 +152,82 @@ module _ (states : List (State Reads)) (all : List LexerRule) where
       let h = places (n + 1) rules (next_from n rule rules are) t j in
       omega (arith, same, h.0, e))
 
+  module _ (modes : List (List ℕ)) (j : ℕ) where
+    -- the starts of a mode are among those of all rules
+    in_all : (n : ℕ) (rules : List LexerRule) (s : Start) → In s (starts_in states modes j n rules) → In s (starts_from states n rules)
+    in_all n [] s i = i
+    in_all n (rule ∷ rules) s i = by (is_in_mode modes j rule) i (λ k. in_all (n + 1) rules s k)
+      where
+        by : (b : Bool) → In s (cond b (matched_starts states n rule) [] ++ starts_in states modes j (n + 1) rules)
+            → (In s (starts_in states modes j (n + 1) rules) → In s (starts_from states (n + 1) rules))
+            → In s (starts_from states n (rule ∷ rules))
+        by true here rest = elim (In-cases (matched_starts states n rule) (starts_in states modes j (n + 1) rules) s here) [
+          | inl own ↦ In-left (matched_starts states n rule) (starts_from states (n + 1) rules) s own
+          | inr later ↦ In-right (matched_starts states n rule) (starts_from states (n + 1) rules) s (rest later)
+        ]
+        by false here rest = In-right (matched_starts states n rule) (starts_from states (n + 1) rules) s (rest here)
+
+    mode_order : (n : ℕ) (rules : List LexerRule) → AreFrom n rules → InOrder (starts_of (starts_in states modes j n rules))
+    mode_order n [] are = no_more
+    mode_order n (rule ∷ rules) are = by (is_in_mode modes j rule) (mode_order (n + 1) rules (next_from n rule rules are))
+      where
+        by : (b : Bool) → InOrder (starts_of (starts_in states modes j (n + 1) rules))
+            → InOrder (starts_of (cond b (matched_starts states n rule) [] ++ starts_in states modes j (n + 1) rules))
+        by true rest =
+            both (matched_starts states n rule) (starts_in states modes j (n + 1) rules)
+            (unfragmented_order rule.fragment (rule_starts states n rule.alternatives) (own_order states n rule.alternatives))
+            rest
+            (λ s t i k e.
+            let same = own_rule states n rule.alternatives s (unfragmented rule.fragment (rule_starts states n rule.alternatives) s i) in
+            let h = places (n + 1) rules (next_from n rule rules are) t (in_all (n + 1) rules t k) in
+            omega (arith, same, h.0, e))
+        by false rest = rest
+
   -- starts of a mode: alternatives begin there, those of one rule in their order
   pub record AreStarts (starts : List Start) : Type 0 where
     pub begin : (s : Start) → In s starts → IsLexStart states all s.rule s.alternative s.state
     pub in_order : InOrder (starts_of starts)
 
-  module _ (front : List Start) (low : ℕ) (front_places : (s : Start) → In s front → IsPlace 0 low s)
-      (front_order : InOrder (starts_of front)) where
-    -- those that come before, and those of some rules
-    one_mode : (n : ℕ) (rules : List LexerRule) → low ≤ n → AreFrom n rules → AreStarts (front ++ starts_from states n rules)
-    one_mode n rules up are = record {
-      begin = λ s i. elim (In-cases front (starts_from states n rules) s i)
-          [ inl j ↦ (front_places s j).2 | inr j ↦ (places n rules are s j).2 ];
-      in_order = both front (starts_from states n rules) front_order (order n rules are)
-          (λ s t i j e. let a = front_places s i in let b = places n rules are t j in omega (arith, a.1, b.0, up, e));
-    }
+  -- those of literals, which come before, and those of the rules of a mode
+  one_mode : (modes : List (List ℕ)) (j n : ℕ) (literals rules : List LexerRule) → length literals ≤ n → AreFrom 0 literals
+      → AreFrom n rules → AreStarts (starts_from states 0 literals ++ starts_in states modes j n rules)
+  one_mode modes j n literals rules up front are = record {
+    begin = λ s i. elim (In-cases (starts_from states 0 literals) (starts_in states modes j n rules) s i)
+        [ inl k ↦ (places 0 literals front s k).2 | inr k ↦ (places n rules are s (in_all modes j n rules s k)).2 ];
+    in_order = both (starts_from states 0 literals) (starts_in states modes j n rules) (order 0 literals front)
+        (mode_order modes j n rules are)
+        (λ s t i k e.
+        let a = places 0 literals front s i in
+        let b = places n rules are t (in_all modes j n rules t k) in
+        omega (arith, a.1, b.0, up, e));
+  }
 
-    -- of each mode
-    each_mode : (n : ℕ) (modes : List Mode) → low ≤ n → AreFrom n (rules_of_modes modes) → (starts : List Start)
-        → In starts (starts_of_modes states front n modes) → AreStarts starts
-    each_mode n [] up are starts i = absurd i
-    each_mode n (mode ∷ modes) up are starts (inl is) =
-        subst AreStarts (sym is) (one_mode n mode.rules up (λ k rule e. are k rule (item_front mode.rules (rules_of_modes modes) k rule e)))
-    each_mode n (mode ∷ modes) up are starts (inr i) =
-        each_mode (n + length mode.rules) modes (omega (arith, up))
-        (λ k rule e.
-        let there : n + (length mode.rules + k) ≡ n + length mode.rules + k = omega arith in
-        subst (λ (q : ℕ). slice_get all q ≡ Some rule) there
-        (are (length mode.rules + k) rule (item_after mode.rules (rules_of_modes modes) k ∙ e))) starts i
+-- what is at a place of a list of what numbers give
+pub at_range : {X : Type 0} (f : ℕ → X) (a n m : ℕ) (x : X) → slice_get (map f (range_with_len a n)) m ≡ Some x → x ≡ f (a + m)
+at_range f a zero m x is = absurd (let e : ⊥ = cc in e)
+at_range f a (suc n) zero x is = let e : Some (f a) ≡ Some x = is in let same : x ≡ f a = cc in
+    let here : a ≡ a + zero = omega arith in same ∙ ap f here
+at_range f a (suc n) (suc m) x is = let next : a + 1 + m ≡ a + suc m = omega arith in at_range f (a + 1) n m x is ∙ ap f next
+
+in_range : {X : Type 0} (f : ℕ → X) (a n : ℕ) (x : X) → In x (map f (range_with_len a n)) → (j : ℕ) × (x ≡ f j)
+in_range f a zero x i = absurd i
+in_range f a (suc n) x (inl is) = (a, is)
+in_range f a (suc n) x (inr i) = in_range f (a + 1) n x i
 
 -- the starts of a mode of a lexer's network
-pub mode_is : (literals : List LexerRule) (modes : List Mode) (made : LexNet) → IsLexNet literals modes made → (starts : List Start)
-    → Contains made.modes starts → AreStarts made.net.states (all_rules literals modes) starts
-mode_is literals modes made lex starts c =
+pub mode_is : (literals others : List LexerRule) (modes : List (List ℕ)) (made : LexNet) → IsLexNet literals others modes made
+    → (starts : List Start) → Contains made.modes starts → AreStarts made.net.states (all_rules literals others) starts
+mode_is literals others modes made lex starts c =
     let states = made.net.states in
-    let all = all_rules literals modes in
-    let are : AreFrom states all 0 literals = λ k rule is. let e : k ≡ 0 + k = omega arith in
-    subst (λ (q : ℕ). slice_get all q ≡ Some rule) e (item_front literals (rules_of_modes modes) k rule is) in
-    let others : AreFrom states all (length literals) (rules_of_modes modes) =
-    λ k rule is. item_after literals (rules_of_modes modes) k ∙ is in
-    each_mode states all (starts_from states 0 literals) (length literals)
-    (λ s i. let h = places states all 0 literals are s i in (h.0, omega (arith, h.1), h.2)) (order states all 0 literals are)
-    (length literals) modes (omega arith) others starts
-    (In-from (mode_starts states literals modes) starts (subst (λ (m : List (List Start)). Contains m starts) lex.starts c))
+    let all = all_rules literals others in
+    let front : AreFrom states all 0 literals = λ k rule is. let e : k ≡ 0 + k = omega arith in
+    subst (λ (q : ℕ). slice_get all q ≡ Some rule) e (item_front literals others k rule is) in
+    let back : AreFrom states all (length literals) others = λ k rule is. item_after literals others k ∙ is in
+    let f : ℕ → List Start = λ j. starts_from states 0 literals ++ starts_in states modes j (length literals) others in
+    let found = in_range f 0 (length modes) starts
+    (In-from (mode_starts states literals others modes) starts (subst (λ (m : List (List Start)). Contains m starts) lex.starts c)) in
+    subst (AreStarts states all) (sym found.1)
+    (one_mode states all modes found.0 (length literals) literals others (omega arith) front back)
 
 -- a match begins with no open call, and with no reluctant decision passed
 pub fresh : (starts : List Start) → AreFresh (starts_of starts)

@@ -7,7 +7,6 @@ use Rattle.g4_source.specs.Elements.{Elements, Alternatives, either, atoms_of_ei
 use Rattle.g4_source.specs.declared.atom.Atom.{Atom}
 use Rattle.g4_source.specs.declared.rule.LexerAlternative.{LexerAlternative}
 use Rattle.g4_source.specs.declared.rule.LexerRule.{LexerRule}
-use Rattle.g4_source.specs.declared.source.Mode.{Mode}
 use Rattle.g4_source.specs.Rules.{lexer_alternatives_of}
 use Rattle.g4_grammar.specs.declared.step.Step.{Step}
 use Rattle.g4_net.specs.declared.network.Network.{Network}
@@ -130,13 +129,13 @@ callers_counted : (states : List (State Reads)) (count : ℕ) → length (caller
 callers_counted states count = length-map-range_with_len (returns_of states) 0 count
 
 -- each call in a network that can be lexed with is of one of the rules
-pub call_known : (literals : List LexerRule) (modes : List Mode) (made : LexNet) → IsLexNet literals modes made
-    → CanBeLexed (all_rules literals modes) →
+pub call_known : (literals others : List LexerRule) (modes : List (List ℕ)) (made : LexNet) → IsLexNet literals others modes made
+    → CanBeLexed (all_rules literals others) →
     (p rule level back : ℕ) → state_at made.net p ≡ Some (Call rule level back)
-    → (xs : LexerRule) × (slice_get (all_rules literals modes) rule ≡ Some xs)
-call_known literals modes made x can p rule level back is =
-    let rules = all_rules literals modes in
-    let well = is_lexable literals modes made x can in
+    → (xs : LexerRule) × (slice_get (all_rules literals others) rule ≡ Some xs)
+call_known literals others modes made x can p rule level back is =
+    let rules = all_rules literals others in
+    let well = is_lexable literals others modes made x can in
     let below : rule < length made.net.callers =
     well.calls p rule level back (item_map emptied made.net.states p (Call rule level back) is) in
     let many : length made.net.callers ≡ length (trees_of rules) =

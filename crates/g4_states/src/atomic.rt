@@ -1,6 +1,6 @@
 // What the states of a network are made of: the atoms, the alternatives and the rules of parsers and of lexers alike.
 use g4_base::Sequence;
-use g4_grammar::{Step, TokenRule};
+use g4_grammar::Step;
 use g4_source::{
     Atom, AtomKind, Element, Elements, LexerAlternative, LexerRule, ParserRule, RuleAlternative,
 };
@@ -104,14 +104,6 @@ impl<A> LaidRule<RuleAlternative<A>> for ParserRule<A> {
 }
 
 impl LaidRule<LexerAlternative> for LexerRule {
-    ghost bodies = { λ x. x.alternatives };
-
-    fn bodies(&self) -> &[LexerAlternative] {
-        self.alternatives.as_slice()
-    }
-}
-
-impl LaidRule<LexerAlternative> for TokenRule {
     ghost bodies = { λ x. x.alternatives };
 
     fn bodies(&self) -> &[LexerAlternative] {

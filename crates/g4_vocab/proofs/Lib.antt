@@ -1,7 +1,6 @@
 mod CommandedTokens
 pub mod Keys
-mod Laws
-mod Faultless
+pub mod Laws
 pub mod Lists
 pub mod Nodes
 pub mod OneNaming

@@ -6,7 +6,6 @@ use Rattle.std.specs.Option.{is_some, is_none}
 use Rattle.std.specs.Str.{bytes_eq}
 use Rattle.g4_tokens.specs.Symbols.{eof}
 use Rattle.g4_source.specs.Elements.{Element, atom, block, Elements, empty, then, atoms_of_either}
-use Rattle.g4_source.specs.Bind.{in_order_over}
 use Rattle.g4_source.specs.declared.atom.Atom.{Atom}
 use Rattle.g4_source.specs.declared.atom.AtomKind.{AtomKind}
 use Rattle.g4_source.specs.declared.atom.AtomKind.TheVariants as kinds
@@ -15,19 +14,15 @@ use Rattle.g4_source.specs.declared.atom.TokenReference.{TokenReference}
 use Rattle.g4_source.specs.declared.atom.TokenReference.TheVariants as refs
 use Rattle.g4_source.specs.declared.rule.Rule.{Rule}
 use Rattle.g4_source.specs.declared.rule.ParserRule.{ParserRule}
-use Rattle.g4_source.specs.declared.rule.RuleAlternative.{RuleAlternative}
 use Rattle.g4_source.specs.declared.rule.LexerRule.{LexerRule}
 use Rattle.g4_source.specs.declared.rule.LexerAlternative.{LexerAlternative}
 use Rattle.g4_source.specs.declared.rule.Command.{Command}
 use Rattle.g4_source.specs.declared.rule.Argument.{Argument}
 use Rattle.g4_source.specs.declared.rule.Argument.TheVariants as arguments
 use Rattle.g4_source.specs.Rules.{parser_rules, lexer_rules, alternatives_of}
-use Rattle.g4_grammar.specs.declared.numbered.Numbered.{Numbered}
-use Rattle.g4_grammar.specs.declared.numbered.NumberedAtom.{NumberedAtom}
-use Rattle.g4_grammar.specs.declared.numbered.NumberedKind.{NumberedKind}
-use Rattle.g4_grammar.specs.declared.numbered.NumberedKind.TheVariants as numbers
-use Rattle.g4_grammar.specs.declared.numbered.TokenName.{TokenName}
-use Rattle.g4_grammar.specs.declared.numbered.TokenRule.{TokenRule}
+use Rattle.g4_grammar.specs.declared.token_types.TokenLiteral.{TokenLiteral}
+use Rattle.g4_grammar.specs.declared.token_types.TokenName.{TokenName}
+use Rattle.g4_grammar.specs.declared.token_types.TokenTypes.{TokenTypes}
 use Rattle.g4_vocab.specs.declared.types.Key.{Key}
 use Rattle.g4_vocab.specs.declared.types.Key.TheVariants as keys
 use Rattle.g4_vocab.specs.declared.types.Entry.{Entry}
@@ -181,55 +176,32 @@ symbol_of lexers types (refs.Literal literal) = type_of types (literal_key lexer
 abbrev pub types_without : List LexerRule → List Entry → List TokenReference → List ℕ
 types_without lexers types tokens = filter (λ type. not (list_any (λ token. symbol_of lexers types token == type) tokens)) (all_types types)
 
--- what an atom of a parser rule becomes; the kinds that only lexer rules have become the empty set
-abbrev pub numbered_kind : List LexerRule → List Entry → AtomKind → NumberedKind
-numbered_kind lexers types (kinds.Rule name) = numbers.Rule name
-numbered_kind lexers types (kinds.Token name) = numbers.Set (symbol_of lexers types (refs.Token name.text) ∷ [])
-numbered_kind lexers types (kinds.Literal literal) = numbers.Set (symbol_of lexers types (refs.Literal literal) ∷ [])
-numbered_kind lexers types (kinds.Range place first last) = numbers.Set []
-numbered_kind lexers types (kinds.Set set) = numbers.Set []
-numbered_kind lexers types (kinds.Any place) = numbers.Set (all_types types)
-numbered_kind lexers types (kinds.NotTokens place tokens) = numbers.Set (types_without lexers types tokens)
-numbered_kind lexers types (kinds.NotCharacters place set) = numbers.Set []
-numbered_kind lexers types kinds.Action = numbers.Action
-numbered_kind lexers types (kinds.Predicate name) = numbers.Predicate name
+-- the symbols of which an atom of a parser rule reads one; an atom that only a lexer rule can have reads none
+abbrev pub symbols_of_kind : List LexerRule → List Entry → AtomKind → List ℕ
+symbols_of_kind lexers types (kinds.Rule name) = []
+symbols_of_kind lexers types (kinds.Token name) = symbol_of lexers types (refs.Token name.text) ∷ []
+symbols_of_kind lexers types (kinds.Literal literal) = symbol_of lexers types (refs.Literal literal) ∷ []
+symbols_of_kind lexers types (kinds.Range place first last) = []
+symbols_of_kind lexers types (kinds.Set set) = []
+symbols_of_kind lexers types (kinds.Any place) = all_types types
+symbols_of_kind lexers types (kinds.NotTokens place tokens) = types_without lexers types tokens
+symbols_of_kind lexers types (kinds.NotCharacters place set) = []
+symbols_of_kind lexers types kinds.Action = []
+symbols_of_kind lexers types (kinds.Predicate name) = []
 
-abbrev pub numbered_atom : List LexerRule → List Entry → Atom → NumberedAtom
-numbered_atom lexers types a = record { kind = numbered_kind lexers types a.kind }
+-- a type with its literal, where its key is a literal
+abbrev pub literal_by : ℕ → List ℕ → Key → Option TokenLiteral
+literal_by type shown (keys.Name name) = None
+literal_by type shown (keys.Literal characters) =
+    Some (record { literal = record { characters = characters; written = shown }; symbol = type })
 
--- an alternative of a parser rule over symbols
-abbrev pub numbered_alternative : List LexerRule → List Entry → RuleAlternative Atom → RuleAlternative NumberedAtom
-numbered_alternative lexers types a = record
-    { right = a.right; elements = in_order_over (numbered_atom lexers types) a.elements; label = a.label }
+-- the same of an entry of the table
+abbrev pub entry_literal : Entry → Option TokenLiteral
+entry_literal entry = literal_by entry.number entry.shown entry.key
 
--- a parser rule over symbols
-abbrev pub numbered_rule : List LexerRule → List Entry → ParserRule Atom → ParserRule NumberedAtom
-numbered_rule lexers types rule = record { name = rule.name; alternatives = map (numbered_alternative lexers types) rule.alternatives }
-
--- an alternative that is a literal
-abbrev pub literal_alternative : Literal → LexerAlternative
-literal_alternative literal = record { elements = then (atom (record { label = None; kind = kinds.Literal literal })) empty; commands = [] }
-
--- what makes the tokens of a type, where its key is a literal
-abbrev pub literal_rule_by : ℕ → List ℕ → Key → Option TokenRule
-literal_rule_by type shown (keys.Name name) = None
-literal_rule_by type shown (keys.Literal characters) =
-    Some (record {
-      name = shown;
-      symbol = type;
-      alternatives = literal_alternative (record { characters = characters; written = shown }) ∷ [];
-    })
-
-abbrev pub literal_rule : Entry → Option TokenRule
-literal_rule entry = literal_rule_by entry.number entry.shown entry.key
-
--- what makes the tokens of a lexer rule
-abbrev pub token_rule : List Entry → LexerRule → TokenRule
-token_rule types rule = record { name = rule.name; symbol = type_of types (keys.Name rule.name); alternatives = rule.alternatives }
-
--- the token rules, those that win a tie first: own literals by type, then the lexer rules
-abbrev pub token_rules : List Entry → List LexerRule → List TokenRule
-token_rules types lexers = filter_map literal_rule types ++ map (token_rule types) lexers
+-- the types that only literals have, with these, in the order of the table
+abbrev pub literals_of : List Entry → List TokenLiteral
+literals_of types = filter_map entry_literal types
 
 -- a type with its name, where its key is a name
 abbrev pub name_by : ℕ → Key → Option TokenName
@@ -244,15 +216,6 @@ entry_name entry = name_by entry.number entry.key
 abbrev pub names_of : List Entry → List TokenName
 names_of types = filter_map entry_name types
 
--- the numbered grammar of parser rules and lexer rules without `fragment`, with these types
-abbrev pub numbered_with : List (ParserRule Atom) → List LexerRule → List Entry → Numbered
-numbered_with parsers lexers types = record {
-  rules = map (numbered_rule lexers types) parsers;
-  shown = map (λ entry. entry.shown) types;
-  names = names_of types;
-  token_rules = token_rules types lexers;
-}
-
--- the numbered grammar of rules, whose types a table begins
-abbrev pub numbered : List Entry → List Rule → Numbered
-numbered table rules = numbered_with (parser_rules rules) (token_lexers rules) (types_of table rules)
+-- the token types of a table
+abbrev pub token_types : List Entry → TokenTypes
+token_types types = record { shown = map (λ entry. entry.shown) types; names = names_of types; literals = literals_of types }

@@ -15,13 +15,13 @@ use std::alloc::Global;
 fn add_own_literals<'a>(
     alloc: Global,
     types: &mut Types<'a>,
-    wholes: &Wholes,
+    wholes: &Wholes<'_>,
     tokens: &[Reference<'a>],
 ) -> Result<(), NumberFault>
     requires { IsTable types.old }
     ensures table { OnOk result (IsTable types.new) }
     ensures added { Adds types.old.entries.items
-        (filter_map (own_literal (map (λ r. r.now) wholes.now.rules.now)) (map reference_of tokens.now)) types.new.entries.items result }
+        (filter_map (own_literal (map (λ r. r.now) wholes.now.rules.items)) (map reference_of tokens.now)) types.new.entries.items result }
 {
     for token in tokens {
         if let Reference::Literal(literal) = token {
@@ -37,13 +37,13 @@ fn add_own_literals<'a>(
 fn add_rules<'a>(
     alloc: Global,
     types: &mut Types<'a>,
-    wholes: &Wholes,
+    wholes: &Wholes<'_>,
     rules: &[&'a LexerRule],
 ) -> Result<(), NumberFault>
     requires { IsTable types.old }
     ensures table { OnOk result (IsTable types.new) }
     ensures added { Adds types.old.entries.items
-        (map (rule_token (map (λ r. r.now) wholes.now.rules.now)) (map (λ r. r.now) rules.now)) types.new.entries.items result }
+        (map (rule_token (map (λ r. r.now) wholes.now.rules.items)) (map (λ r. r.now) rules.now)) types.new.entries.items result }
 {
     for rule in rules {
         types.add_name(alloc, rule.name.as_str(), wholes.shown_rule(rule))?;
@@ -75,18 +75,18 @@ fn add_names<'a>(
 fn add_all<'a>(
     alloc: Global,
     types: &mut Types<'a>,
-    wholes: &Wholes<'_, 'a>,
+    wholes: &Wholes<'a>,
     tokens: &[Reference<'a>],
     commanded: &[Reference<'a>],
 ) -> Result<(), NumberFault>
     requires { IsTable types.old }
     ensures table { OnOk result (IsTable types.new) }
     ensures added { Adds types.old.entries.items
-        (wanted (map (λ r. r.now) wholes.now.rules.now) (map reference_of tokens.now) (map reference_of commanded.now))
+        (wanted (map (λ r. r.now) wholes.now.rules.items) (map reference_of tokens.now) (map reference_of commanded.now))
         types.new.entries.items result }
 {
     add_own_literals(alloc, types, wholes, tokens)?;
-    add_rules(alloc, types, wholes, wholes.rules)?;
+    add_rules(alloc, types, wholes, wholes.rules.as_slice())?;
     add_names(alloc, types, tokens)?;
     add_names(alloc, types, commanded)?;
     Ok(())
@@ -95,11 +95,11 @@ fn add_all<'a>(
 /// The types of a grammar whose parser rules name these tokens, and whose commands name the others.
 pub fn types_of<'a>(
     alloc: Global,
-    wholes: &Wholes<'_, 'a>,
+    wholes: &Wholes<'a>,
     tokens: &[Reference<'a>],
     commanded: &[Reference<'a>],
 ) -> Result<Types<'a>, NumberFault>
-    ensures { Starts (wanted (map (λ r. r.now) wholes.now.rules.now) (map reference_of tokens.now) (map reference_of commanded.now))
+    ensures { Starts (wanted (map (λ r. r.now) wholes.now.rules.items) (map reference_of tokens.now) (map reference_of commanded.now))
         result }
 {
     let mut types = Types::new(alloc);

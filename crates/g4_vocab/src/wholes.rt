@@ -13,10 +13,10 @@ type Names<'a> = BTreeMap<&'a [char], Option<&'a str>>;
 
 /// Lexer rules, and which of them are a literal and nothing else.
 #[derive(Drop)]
-pub struct Wholes<'r, 'a> {
-    pub rules: &'r [&'a LexerRule],
+pub struct Wholes<'a> {
+    pub rules: Vec<&'a LexerRule>,
     pub names: Names<'a>,
-    pub ghost named: { AreWholes (map (λ r. r.now) rules.now) names },
+    pub ghost named: { AreWholes (map (λ r. r.now) rules.items) names },
 }
 
 /// Adds the rule, where it is a literal and nothing else.
@@ -35,21 +35,29 @@ fn add_rule<'a>(names: &mut Names<'a>, rule: &'a LexerRule) -> Result<(), AllocE
     Ok(())
 }
 
-impl<'r, 'a> Wholes<'r, 'a> {
+/// The names of the rules that are a literal, by its characters.
+fn names_of<'a>(alloc: Global, rules: &[&'a LexerRule]) -> Result<Names<'a>, AllocError>
+    ensures { IfOk result (AreWholes (map (λ r. r.now) rules.now)) }
+{
+    let mut names = BTreeMap::new(alloc);
+    for rule in rules {
+        add_rule(&mut names, *rule)?;
+    }
+    Ok(names)
+}
+
+impl<'a> Wholes<'a> {
     /// The literals that are the whole of one of these rules.
-    pub fn new(alloc: Global, rules: &'r [&'a LexerRule]) -> Result<Wholes<'r, 'a>, AllocError>
-        ensures { IfOk result (λ wholes. map (λ r. r.now) wholes.rules.now ≡ map (λ r. r.now) rules.now) }
+    pub fn new(alloc: Global, rules: Vec<&'a LexerRule>) -> Result<Wholes<'a>, AllocError>
+        ensures { IfOk result (λ wholes. map (λ r. r.now) wholes.rules.items ≡ map (λ r. r.now) rules.entry.items) }
     {
-        let mut names = BTreeMap::new(alloc);
-        for rule in rules {
-            add_rule(&mut names, rule)?;
-        }
+        let names = names_of(alloc, rules.as_slice())?;
         Ok(Wholes { rules, names })
     }
 
     /// The name of the rule whose token a literal for these characters names.
     pub fn named_rule(&self, characters: &[char]) -> Option<&'a str>
-        ensures { option_map (λ n. n.now) result ≡ named_rule (map (λ r. r.now) self.now.rules.now) characters.now }
+        ensures { option_map (λ n. n.now) result ≡ named_rule (map (λ r. r.now) self.now.rules.items) characters.now }
     {
         match self.names.get(characters) {
             Some(only) => *only,
@@ -59,7 +67,7 @@ impl<'r, 'a> Wholes<'r, 'a> {
 
     /// What is shown of a rule's token: a literal where the rule alone is it, else the name.
     pub fn shown_rule<'s>(&self, rule: &'s LexerRule) -> &'s str
-        ensures { result.now ≡ shown_rule (map (λ r. r.now) self.now.rules.now) rule.now }
+        ensures { result.now ≡ shown_rule (map (λ r. r.now) self.now.rules.items) rule.now }
     {
         match whole_literal(rule.alternatives.as_slice()) {
             Some(literal) => {

@@ -1,4 +1,3 @@
-use Rattle.g4_source.specs.InOrder.{rules_of}
 use Rattle.g4_recursion.proofs.Running.{can_run}
 use Rattle.g4_checks.proofs.Defined.{rules_defined}
 use Rattle.g4_checks.proofs.checking.check.Goals as goal
@@ -7,4 +6,4 @@ pub returns-clause-defined : goal.returns-clause-defined
 returns-clause-defined c = rules_defined c.args.source.now c.in_ok-check_references.ensures.0.0.0.0.0.0
 
 pub returns-clause-run : goal.returns-clause-run
-returns-clause-run c = can_run (rules_of c.args.source.now) c.in_ok-check_recursion.ensures
+returns-clause-run c = can_run c.args.source.now.rules c.in_ok-check_recursion.ensures

@@ -1,36 +1,35 @@
-use Rattle.std.proofs.Common.{◌≡◌, ℕ, ◌+◌, ◌-◌, ◌++◌, List, [], ◌∷◌, take, drop, get_or, arith, ap, subst, ◌∙◌}
+use Rattle.std.proofs.Common.{◌≡◌, ℕ, ◌+◌, ◌++◌, List, length, replicate, take, drop, sym, ap, subst, ◌∙◌, arith}
+use Rattle.g4_source.specs.declared.rule.LexerRule.{LexerRule}
 use Rattle.g4_ordered.specs.declared.start.Start.{Start}
-use Rattle.g4_lexer_rules.specs.Starts.{AllCanStart, starts_by_sizes, starts_from}
-use Rattle.g4_lexer_rules.proofs.Starts.{added, can_take, can_drop, next_sizes, sum_left}
+use Rattle.g4_lexer_rules.specs.Starts.{AllCanStart, mode_starts, starts_from, with_rules}
+use Rattle.g4_lexer_rules.proofs.Starts.{by_modes, can_drop, can_take}
 use Rattle.g4_lexer_rules.proofs.starting.starts_of_modes.Goals as goal
 
 pub add_rules-requires-clause-can : goal.add_rules-requires-clause-can
-add_rules-requires-clause-can c = can_take c.args.states.now 0 c.args.rules.now c.args.literals c.requires.can
+add_rules-requires-clause-can c =
+    subst (λ (rules : List LexerRule). AllCanStart c.args.states.now 0 rules) (sym c.split_at.ensures.front)
+    (can_take c.args.states.now 0 c.args.rules.now c.args.literals c.requires.can)
 
-pub add_rules-requires-in-loop-size-clause-can : goal.add_rules-requires-in-loop-size-clause-can
-add_rules-requires-in-loop-size-clause-can c =
-    let at : 0 + c.loop-size.at ≡ c.loop-size.at = omega arith in
-    can_take c.args.states.now c.loop-size.at (drop c.loop-size.at c.args.rules.now) _
-    (subst (λ (k : ℕ). AllCanStart c.args.states.now k (drop c.loop-size.at c.args.rules.now)) at
-    (can_drop c.args.states.now 0 c.args.rules.now c.loop-size.at c.requires.can))
+pub add_by_modes-requires-clause-can : goal.add_by_modes-requires-clause-can
+add_by_modes-requires-clause-can c =
+    let at : 0 + c.args.literals ≡ c.args.literals = omega arith in
+    subst (λ (rules : List LexerRule). AllCanStart c.args.states.now c.args.literals rules) (sym c.split_at.ensures.back)
+    (subst (λ (k : ℕ). AllCanStart c.args.states.now k (drop c.args.literals c.args.rules.now)) at
+    (can_drop c.args.states.now 0 c.args.rules.now c.args.literals c.requires.can))
 
-pub loop-size-preserved : goal.loop-size-preserved
-loop-size-preserved c =
+pub returns : goal.returns
+returns c =
     let states = c.args.states.now in
-    let rules = c.args.rules.now in
-    let at = c.loop-size.at in
-    let n = get_or c.args.sizes.now c.loop-size.size-index 0 in
-    let front = c.add_rules.new.starts.items in
-    let size : at + n - at ≡ n = omega arith in
-    let made : c.new.result ≡ front ++ starts_from states at (take n (drop at rules)) =
-    c.new.ensures ∙ (c.in_ok-add_rules-2.ensures
-    ∙ (ap (λ (xs : List Start). xs ++ starts_from states at (take (at + n - at) (drop at rules)))
-    (c.in_ok-starts.ensures.items ∙ c.as_slice.ensures.value) ∙
-    ap (λ (k : ℕ). front ++ starts_from states at (take k (drop at rules))) size)) in
-    record {
-      room = omega (arith, c.loop-size.invariant.room, sum_left c.args.sizes.now c.loop-size.size-index c.loop-size-test.true);
-      made = added c.loop-size.all.items c.push.new.self.items ((front ++ starts_from states at (take n (drop at rules))) ∷ [])
-          (starts_by_sizes states front (at + n) (drop (at + n) rules) (drop (c.loop-size.size-index + 1) c.args.sizes.now)) _ _
-          c.loop-size.invariant.made (rw made at c.in_ok-push.ensures.items)
-          (next_sizes states front at rules c.args.sizes.now c.loop-size.size-index c.loop-size-test.true);
-    }
+    let modes = c.args.modes.now in
+    let n = c.args.literals in
+    let front = c.split_at.result.0.now in
+    let back = c.split_at.result.1.now in
+    let starts : c.as_slice.result.now ≡ starts_from states 0 front =
+    c.as_slice.ensures.value ∙ (c.in_ok-add_rules.ensures
+    ∙ ap (λ (xs : List Start). xs ++ starts_from states 0 front) c.new-front.ensures.items) in
+    let many : n ≡ length front = omega (arith, c.split_at.ensures.front_len) in
+    c.in_ok-add_by_modes.ensures
+    ∙ (ap (with_rules states modes n back) (c.in_ok-all.ensures ∙ ap (replicate (length modes)) starts)
+    ∙ (by_modes states front back modes n many
+    ∙ (ap (λ (rules : List LexerRule). mode_starts states rules back modes) c.split_at.ensures.front
+    ∙ ap (λ (rules : List LexerRule). mode_starts states (take n c.args.rules.now) rules modes) c.split_at.ensures.back)))

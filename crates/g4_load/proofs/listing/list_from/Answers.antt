@@ -1,4 +1,4 @@
-use Rattle.std.proofs.Common.{Ok}
+use Rattle.std.proofs.Common.{ℕ, List, Ok, subst}
 use Rattle.std.proofs.lemmas.Result.{err_from_is_err_and}
 use Rattle.g4_load.specs.Building.{Lays}
 use Rattle.g4_load.specs.Listing.{ListsStart}
@@ -6,10 +6,15 @@ use Rattle.g4_load.specs.Stages.{goes_on}
 use Rattle.g4_load.proofs.Built.{stage_stops}
 use Rattle.g4_load.proofs.listing.list_from.Goals as goal
 
-pub returns-in_err-laid : goal.returns-in_err-laid
-returns-in_err-laid c =
+pub returns-in_err-parser : goal.returns-in_err-parser
+returns-in_err-parser c =
     let p = err_from_is_err_and c.from_residual.result c.from_residual.ensures.1 in
-    rw (p.1, p.2) (stage_stops (Lays c.args.rule.now c.args.grammar) ListsStart c.in_err-laid.field-0.0 c.in_err-laid.ensures.laid)
+    rw (p.1, p.2) (stage_stops (Lays c.args.rule.now c.args.grammar.rules) (ListsStart c.args.grammar.shown) c.in_err-parser.field-0.0
+    c.in_err-parser.ensures.laid)
 
 pub returns : goal.returns
-returns c = goes_on c.in_ok-laid.laid (Ok c.in_ok-listing.listing) c.in_ok-laid.ensures.laid c.in_ok-listing.ensures
+returns c =
+    let parser = c.in_ok-parser.parser in
+    let listing = c.in_ok-listing.listing in
+    goes_on parser (Ok listing) c.in_ok-parser.ensures.laid
+    (subst (λ (shown : List (List ℕ)). ListsStart shown parser (Ok listing)) c.as_slice.ensures c.in_ok-listing.ensures)

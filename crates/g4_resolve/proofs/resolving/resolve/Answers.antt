@@ -1,13 +1,76 @@
-use Rattle.std.proofs.Common.{ℕ, List, map, sym, subst, ap, ◌∙◌}
-use Rattle.g4_grammar.specs.StepRules.{StepRule, CanBeRewritten}
-use Rattle.g4_resolve.specs.Resolving.{resolved_rule}
+use Rattle.std.proofs.Common.{◌≡◌, ◌≤◌, ℕ, List, [], length, map, sym, ap, ◌∙◌, subst, arith}
+use Rattle.std.proofs.lemmas.List.{length-map}
+use Rattle.g4_tokens.specs.declared.symbol.TheConstants.{MOST_TYPES}
+use Rattle.g4_names.specs.Places.{first_place}
+use Rattle.g4_source.specs.Rules.{parser_rules}
+use Rattle.g4_source.specs.Views.{rule_view}
+use Rattle.g4_source.specs.declared.atom.Atom.{Atom}
+use Rattle.g4_source.specs.declared.rule.LexerRule.{LexerRule}
+use Rattle.g4_source.specs.declared.rule.ParserRule.{ParserRule}
+use Rattle.g4_source.specs.declared.rule.Rule.{Rule}
+use Rattle.g4_grammar.specs.StepRules.{CanBeRewritten, StepRule}
+use Rattle.g4_vocab.specs.Numbering.{token_lexers, types_of}
+use Rattle.g4_vocab.specs.Types.{greatest_type}
+use Rattle.g4_vocab.specs.Vocabularies.{lexers_in, types_in}
+use Rattle.g4_vocab.specs.declared.types.Entry.{Entry}
+use Rattle.g4_resolve.specs.Resolving.{parser_names, resolved, resolved_rule}
 use Rattle.g4_resolve.proofs.Carrying.{can_be_rewritten}
+use Rattle.g4_resolve.proofs.Parsers.{parsers_few}
 use Rattle.g4_resolve.proofs.resolving.resolve.Goals as goal
 
-pub returns-clause-rewritten : goal.returns-clause-rewritten
-returns-clause-rewritten c = λ named full ends untested defined can.
-    let predicates = c.args.stage.now.predicates in
-    let rules = c.args.rules.items in
+-- the rules over steps, of the names of the parser rules
+steps_are : (rules : List Rule) (parsers others : List (ParserRule Atom)) (names : List (List ℕ)) (lexers : List LexerRule)
+    (types : List Entry) (made : List StepRule) → parsers ≡ parser_rules rules → others ≡ parsers → names ≡ map (λ rule. rule.name) parsers
+    → lexers ≡ token_lexers rules → types ≡ types_of [] rules → made ≡ map (resolved_rule names lexers types) others → made ≡ resolved rules
+steps_are rules parsers others names lexers types made parsed same named tokens typed is =
+    is
+    ∙ (ap (λ (ns : List (List ℕ)). map (resolved_rule ns lexers types) others) (named ∙ ap (map (λ rule. rule.name)) parsed)
+    ∙ (ap (λ (ls : List LexerRule). map (resolved_rule (parser_names rules) ls types) others) tokens
+    ∙ (ap (λ (es : List Entry). map (resolved_rule (parser_names rules) (token_lexers rules) es) others) typed
+    ∙ ap (map (resolved_rule (parser_names rules) (token_lexers rules) (types_of [] rules))) (same ∙ parsed))))
+
+pub invariant_of-stage : goal.invariant_of-stage
+invariant_of-stage c =
+    let parsers : map (λ r. r.now) c.in_ok-parsers.parsers.items ≡ parser_rules c.args.rules.now =
+    c.in_ok-parsers.ensures ∙ ap parser_rules (ap (map rule_view) c.as_slice.ensures.value ∙ c.in_ok-views.ensures) in
+    let names : c.as_slice-4.result.now ≡ parser_names c.args.rules.now =
+    c.as_slice-4.ensures.value ∙ (c.in_ok-names.ensures
+    ∙ ap (map (λ rule. rule.name)) (ap (map (λ r. r.now)) c.as_slice-2.ensures.value ∙ parsers)) in
+    record {
+      few = omega (
+        arith,
+        ap length names,
+        length-map (parser_rules c.args.rules.now) (λ rule. rule.name),
+        parsers_few c.args.rules.now,
+        c.requires.numbered.few_rules,
+      );
+      named = λ name. c.in_ok-places.ensures.places name
+          ∙ ap (λ (ns : List (List ℕ)). first_place ns name) (c.as_slice-3.ensures.value ∙ sym c.as_slice-4.ensures.value);
+    }
+
+pub returns-clause-steps : goal.returns-clause-steps
+returns-clause-steps c =
+    let parsers : map (λ r. r.now) c.in_ok-parsers.parsers.items ≡ parser_rules c.args.rules.now =
+    c.in_ok-parsers.ensures ∙ ap parser_rules (ap (map rule_view) c.as_slice.ensures.value ∙ c.in_ok-views.ensures) in
+    steps_are c.args.rules.now (map (λ r. r.now) c.in_ok-parsers.parsers.items) (map (λ r. r.now) c.as_slice-5.result.now)
+    c.as_slice-4.result.now (lexers_in c.args.vocabulary.now) (types_in c.args.vocabulary.now) c.in_ok-made.made parsers
+    (ap (map (λ r. r.now)) c.as_slice-5.ensures.value)
+    (c.as_slice-4.ensures.value ∙ (c.in_ok-names.ensures
+    ∙ ap (map (λ rule. rule.name)) (ap (map (λ r. r.now)) c.as_slice-2.ensures.value)))
+    c.requires.numbered.lexers c.requires.numbered.types c.in_ok-made.ensures
+
+pub returns-clause-rewritable : goal.returns-clause-rewritable
+returns-clause-rewritable c =
+    let rules = c.args.rules.now in
+    let few : greatest_type (types_of [] rules) ≤ MOST_TYPES =
+    subst (λ (types : List Entry). greatest_type types ≤ MOST_TYPES) c.requires.numbered.types c.requires.numbered.few_types in
+    let parsers : map (λ r. r.now) c.in_ok-parsers.parsers.items ≡ parser_rules rules =
+    c.in_ok-parsers.ensures ∙ ap parser_rules (ap (map rule_view) c.as_slice.ensures.value ∙ c.in_ok-views.ensures) in
     subst (λ (made : List StepRule). CanBeRewritten made)
-    (sym (c.in_ok-made.ensures ∙ ap (λ (names : List (List ℕ)). map (resolved_rule names predicates) rules) named))
-    (can_be_rewritten predicates rules full ends untested defined can)
+    (sym (steps_are rules (map (λ r. r.now) c.in_ok-parsers.parsers.items) (map (λ r. r.now) c.as_slice-5.result.now)
+    c.as_slice-4.result.now (lexers_in c.args.vocabulary.now) (types_in c.args.vocabulary.now) c.in_ok-made.made parsers
+    (ap (map (λ r. r.now)) c.as_slice-5.ensures.value)
+    (c.as_slice-4.ensures.value ∙ (c.in_ok-names.ensures
+    ∙ ap (map (λ rule. rule.name)) (ap (map (λ r. r.now)) c.as_slice-2.ensures.value)))
+    c.requires.numbered.lexers c.requires.numbered.types c.in_ok-made.ensures))
+    (can_be_rewritten rules (token_lexers rules) (types_of [] rules) few c.requires.checked)

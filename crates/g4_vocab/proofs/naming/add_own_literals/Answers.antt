@@ -15,7 +15,7 @@ pub returns-in_err-add_literal-clause-added : goal.returns-in_err-add_literal-cl
 returns-in_err-add_literal-clause-added c =
     let p = err_from_is_err_and c.from_residual.result c.from_residual.ensures.1 in
     let fault = c.in_err-add_literal.field-0.0 in
-    let lexers : List LexerRule = map (λ r. r.now) c.args.wholes.now.rules.now in
+    let lexers : List LexerRule = map (λ r. r.now) c.args.wholes.now.rules.items in
     let literal = c.in-Literal.literal.now in
     let key : Wanted = record { key = Literal literal.characters; shown = literal.written } in
     let more : List Wanted = filter_map (own_literal lexers) (map reference_of (drop (c.loop-token.token-index + 1) c.args.tokens.now)) in

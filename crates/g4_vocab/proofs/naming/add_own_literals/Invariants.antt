@@ -7,5 +7,5 @@ use Rattle.g4_vocab.proofs.naming.add_own_literals.Given as goal
 
 abbrev pub invariant-loop-token : goal.invariant-loop-token
 invariant-loop-token l =
-    Adding l.initial.types.entries.items (filter_map (own_literal (map (λ r. r.now) l.wholes.rules.now)) (map reference_of l.tokens))
-    l.types (filter_map (own_literal (map (λ r. r.now) l.wholes.rules.now)) (map reference_of (drop l.token-index l.tokens)))
+    Adding l.initial.types.entries.items (filter_map (own_literal (map (λ r. r.now) l.wholes.rules.items)) (map reference_of l.tokens))
+    l.types (filter_map (own_literal (map (λ r. r.now) l.wholes.rules.items)) (map reference_of (drop l.token-index l.tokens)))

@@ -11,7 +11,7 @@ pub returns-in_err-add_name-clause-added : goal.returns-in_err-add_name-clause-a
 returns-in_err-add_name-clause-added c =
     let p = err_from_is_err_and c.from_residual.result c.from_residual.ensures.1 in
     let fault = c.in_err-add_name.field-0.0 in
-    let lexers : List LexerRule = map (λ r. r.now) c.args.wholes.now.rules.now in
+    let lexers : List LexerRule = map (λ r. r.now) c.args.wholes.now.rules.items in
     let more : List Wanted = map (rule_token lexers) (map (λ r. r.now) (drop (c.loop-rule.rule-index + 1) c.args.rules.now)) in
     let one = rule_more (rule_token lexers) (λ r. r.now) c.args.rules.now c.loop-rule.rule-index c.rule-item.result
     c.loop-rule-test.true c.rule-item.is in

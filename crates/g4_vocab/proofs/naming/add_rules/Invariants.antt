@@ -5,5 +5,5 @@ use Rattle.g4_vocab.proofs.naming.add_rules.Given as goal
 
 abbrev pub invariant-loop-rule : goal.invariant-loop-rule
 invariant-loop-rule l =
-    Adding l.initial.types.entries.items (map (rule_token (map (λ r. r.now) l.wholes.rules.now)) (map (λ r. r.now) l.rules)) l.types
-    (map (rule_token (map (λ r. r.now) l.wholes.rules.now)) (map (λ r. r.now) (drop l.rule-index l.rules)))
+    Adding l.initial.types.entries.items (map (rule_token (map (λ r. r.now) l.wholes.rules.items)) (map (λ r. r.now) l.rules)) l.types
+    (map (rule_token (map (λ r. r.now) l.wholes.rules.items)) (map (λ r. r.now) (drop l.rule-index l.rules)))

@@ -1,26 +1,22 @@
-use Rattle.g4_vocab.proofs.Sources.{source_types, source_names, source_full, source_few, source_ends, source_untested, source_defined, source_run}
+use Rattle.std.proofs.Common.{map, ap, ◌∙◌, arith}
+use Rattle.std.proofs.lemmas.Result.{err_from_is_err_and}
+use Rattle.g4_vocab.specs.Tables.{reference_of}
+use Rattle.g4_vocab.proofs.Sources.{rules_err, rules_ok}
 use Rattle.g4_vocab.proofs.numbering.number.Goals as goal
 
-pub returns-clause-types : goal.returns-clause-types
-returns-clause-types c = source_types c.args.source.now c.in_ok-grammar.grammar c.in_ok-grammar.ensures
+pub returns : goal.returns
+returns c =
+    rules_ok c.args.rules.now (map (λ r. r.now) c.in_ok-halves.halves.parsers.items) (map (λ r. r.now) c.in_ok-halves.halves.lexers.items)
+    (map reference_of c.as_slice.result.now) c.in_ok-halves.ensures
+    (ap (map reference_of) c.as_slice.ensures.value ∙ c.in_ok-commanded.ensures)
+    (omega (arith, c.if-rules-gt-MOST_RULES.false)) c.in_ok-vocabulary.vocabulary c.in_ok-vocabulary.ensures
 
-pub returns-clause-names : goal.returns-clause-names
-returns-clause-names c = source_names c.args.source.now c.in_ok-grammar.grammar c.in_ok-grammar.ensures
-
-pub returns-clause-full : goal.returns-clause-full
-returns-clause-full c = source_full c.args.source.now c.in_ok-grammar.grammar c.in_ok-grammar.ensures
-
-pub returns-clause-few : goal.returns-clause-few
-returns-clause-few c = source_few c.args.source.now c.in_ok-grammar.grammar c.in_ok-grammar.ensures
-
-pub returns-clause-ends : goal.returns-clause-ends
-returns-clause-ends c = source_ends c.args.source.now c.in_ok-grammar.grammar c.in_ok-grammar.ensures
-
-pub returns-clause-untested : goal.returns-clause-untested
-returns-clause-untested c = source_untested c.args.source.now c.in_ok-grammar.grammar c.in_ok-grammar.ensures
-
-pub returns-clause-defined : goal.returns-clause-defined
-returns-clause-defined c = source_defined c.args.source.now c.in_ok-grammar.grammar c.in_ok-grammar.ensures
-
-pub returns-clause-run : goal.returns-clause-run
-returns-clause-run c = source_run c.args.source.now c.in_ok-grammar.grammar c.in_ok-grammar.ensures
+pub returns-in_err-vocabulary : goal.returns-in_err-vocabulary
+returns-in_err-vocabulary c =
+    let p = err_from_is_err_and c.from_residual-in_err-vocabulary.result c.from_residual-in_err-vocabulary.ensures.1 in
+    let fault = c.in_err-vocabulary.field-0.0 in
+    rw (p.1, p.2)
+    (rules_err c.args.rules.now (map (λ r. r.now) c.in_ok-halves.halves.parsers.items)
+    (map (λ r. r.now) c.in_ok-halves.halves.lexers.items) (map reference_of c.as_slice.result.now) c.in_ok-halves.ensures
+    (ap (map reference_of) c.as_slice.ensures.value ∙ c.in_ok-commanded.ensures) (omega (arith, c.if-rules-gt-MOST_RULES.false)) fault
+    c.in_err-vocabulary.ensures)

@@ -1,6 +1,0 @@
-use Rattle.std.proofs.Common.{◌≡◌, ◌++◌, map, take}
-use Rattle.g4_source.specs.Views.{rule_view}
-use Rattle.g4_source.proofs.rules.push_rules.Given as goal
-
-abbrev pub invariant-loop-rule : goal.invariant-loop-rule
-invariant-loop-rule l = map rule_view l.found.items ≡ map rule_view l.initial.found.items ++ take l.rule-index l.rules
