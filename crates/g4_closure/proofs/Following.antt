@@ -2,7 +2,7 @@
 use Rattle.std.proofs.Common.{rules, true≢false, ◌≡◌, ◌==◌, ◌↔◌, IsTrue, not, length, ℕ, List, [], ◌∷◌, Bool, true, false, Option, Some, map, slice_get, inl, inr, refl, sym, ◌∙◌, subst, arith}
 use Rattle.std.proofs.lemmas.Bool.Decides.{nat_tests}
 use Rattle.g4_stacks.specs.Graph as graphs
-use Rattle.g4_stacks.specs.Graph.{Content, HasOf, HasTops}
+use Rattle.g4_stacks.specs.Graph.{HasTops}
 use Rattle.g4_stacks.specs.Stack.{pushed}
 use Rattle.g4_net.specs.declared.network.State.{State}
 use Rattle.g4_net.specs.Configurations.{Config, Stack, config, wildcard}

@@ -3,7 +3,7 @@ use Rattle.std.proofs.Common.{◌≡◌, ℕ, ◌<◌, ◌↔◌, ◌⊎◌, inl
 use Rattle.std.proofs.lemmas.Option.{slice_get-get_or}
 use Rattle.g4_net.specs.Configurations as stacks
 use Rattle.g4_stacks.specs.Graph as graphs
-use Rattle.g4_stacks.specs.Graph.{Content, Has, HasOf, IsNode, Keeps, HasTops, IsPushed}
+use Rattle.g4_stacks.specs.Graph.{Content, Has, HasOf, IsNode, HasTops, IsPushed}
 use Rattle.g4_net.specs.Network.{ParserNetwork}
 use Rattle.g4_net.specs.declared.network.State.{State}
 use Rattle.g4_net.specs.Network.{state_at, start_of, IsReturn}

@@ -17,6 +17,9 @@ use g4_net::{ParserNetwork, State};
 use g4_tokens::Symbols;
 use std::alloc::{AllocError, Global};
 
+/// How many groups the lists of a closure have room for at first.
+const ROOM: usize = 64;
+
 /// How many groups are followed, the newest first, however small the set is.
 const PATIENCE: usize = 256;
 
@@ -310,8 +313,8 @@ pub(crate) fn reach(
     ensures members { OnOk result (Same (Holds set.new) (ReachedFrom net.now (InSome set.old.graph starts.now))) }
 {
     let mut first = with_returns(alloc, net, set, starts)?;
-    let mut work = Vec::new(alloc);
-    let mut found = Vec::new(alloc);
+    let mut work = Vec::with_capacity(alloc, ROOM)?;
+    let mut found = Vec::with_capacity(alloc, ROOM)?;
     while let Some(group) = first.pop() {
         close(alloc, set, net, starts, group, &mut work, &mut found)?;
     }

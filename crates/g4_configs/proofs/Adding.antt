@@ -1,17 +1,11 @@
 -- A group more in a set.
 use Rattle.std.proofs.Common.{◌≡◌, ℕ, zero, suc, ◌<◌, arith, ◌↔◌, ◌⊎◌, inl, inr, List, Bool, true, false, true≢false, Option, Some, None, cond, refl, sym, ◌∙◌, ap, subst}
-use Rattle.std.specs.declared.cmp.Ordering.{Ordering}
-use Rattle.std.specs.declared.cmp.Ordering.TheVariants.{Equal}
 use Rattle.std.specs.Result.{OnErr}
 use Rattle.std.specs.declared.result.Result.{Result}
 use Rattle.std.specs.declared.result.Result.TheVariants.{Ok, Err}
-use Rattle.std.specs.Ordering.{ordering_then, nat_cmp, is_eq}
-use Rattle.std.specs.Cmp.{Equal-is, nat_cmp_is}
-use Rattle.std.specs.BTreeMap.{is_at}
-use Rattle.std.proofs.lemmas.Map.Lookups.{exact_unsigned, exact_pairs}
 use Rattle.g4_net.specs.Configurations as stacks
 use Rattle.g4_stacks.specs.Graph.{Content, Has, HasOf, IsNode, Keeps}
-use Rattle.g4_stacks.specs.Table.{pair_cmp}
+use Rattle.g4_stacks.specs.Table.{pair_eq}
 use Rattle.g4_stacks.specs.Merge.{IsUnion}
 use Rattle.g4_stacks.specs.Canonical.{IsCanonical}
 use Rattle.g4_stacks.proofs.Marks.{none_in}
@@ -19,21 +13,10 @@ use Rattle.g4_net.specs.Configurations.{Config}
 use Rattle.g4_configs.specs.declared.group.Group.{Group}
 use Rattle.g4_configs.specs.Configs.{Holds, View}
 use Rattle.g4_configs.specs.Groups.{Entries, node_at, HasAt, Within, AreNodes, InGroup, Same, Subset}
-
-same_nat : (n : ℕ) → nat_cmp n n ≡ Equal
-same_nat n = sym (nat_cmp_is n n Equal refl)
-
-then_Equal : (o p : Ordering) → o ≡ Equal → p ≡ Equal → ordering_then o p ≡ Equal
-then_Equal o p e f = subst (λ x. ordering_then x p ≡ Equal) (sym e) f
-
-same_key : (q : ℕ × ℕ) → is_eq (pair_cmp q q) ≡ true
-same_key q = (Equal-is (pair_cmp q q)).1 (then_Equal (nat_cmp q.0 q.0) (nat_cmp q.1 q.1) (same_nat q.0) (same_nat q.1))
+use Rattle.g4_configs.proofs.Keys.{pair_exact, pair_tells}
 
 pair_equal : (a b a' b' : ℕ) → a ≡ a' → b ≡ b' → Path (ℕ × ℕ) (a, b) (a', b')
 pair_equal a b a' b' e f = cc
-
-same_keys : (q r : ℕ × ℕ) → q ≡ r → is_eq (pair_cmp q r) ≡ true
-same_keys q r e = subst (λ (z : ℕ × ℕ). is_eq (pair_cmp q z) ≡ true) e (same_key q)
 
 -- no node means no stack
 pub none_means : (g : List Content) (n : ℕ) (o : Option ℕ) → o ≡ None → ((s : stacks.Stack) → Has g n s → ⊥)
@@ -126,14 +109,14 @@ module _ (g h : List Content) (m : Entries) (x : Group) (before both : ℕ) (kep
       by (suc n) e = omega (arith, e)
 
   module _ (m' : Entries) (known : IsNode h both) (filled : 0 < both)
-      (updates : (q : ℕ × ℕ) → node_at m' q ≡ cond (is_at (pair_cmp (x.state, x.alternative)) q) (Some both) (node_at m q)) where
+      (updates : (q : ℕ × ℕ) → node_at m' q ≡ cond (pair_eq (x.state, x.alternative) q) (Some both) (node_at m q)) where
     some_equal : {a b : ℕ} → Some a ≡ Some b → a ≡ b
     some_equal e = cc
 
     pub new_nodes : AreNodes h m'
-    new_nodes q n is = by (is_eq (pair_cmp (x.state, x.alternative) q)) refl
+    new_nodes q n is = by (pair_eq (x.state, x.alternative) q) refl
       where
-        by : (t : Bool) → is_eq (pair_cmp (x.state, x.alternative) q) ≡ t → IsNode h n × (0 < n)
+        by : (t : Bool) → pair_eq (x.state, x.alternative) q ≡ t → IsNode h n × (0 < n)
         by true e =
             let found : node_at m' q ≡ Some both = updates q ∙ ap (λ (t : Bool). cond t (Some both) (node_at m q)) e in
             let same : both ≡ n = some_equal (sym found ∙ is) in
@@ -143,13 +126,12 @@ module _ (g h : List Content) (m : Entries) (x : Group) (before both : ℕ) (kep
             let r = nodes q n (sym found ∙ is) in ((kept n r.0).0, r.1)
 
     pub new_members : (c : Config) → Within h m' c ↔ (Within g m c ⊎ InGroup g x c)
-    new_members c = by (is_eq (pair_cmp (x.state, x.alternative) (c.state, c.alt))) refl
+    new_members c = by (pair_eq (x.state, x.alternative) (c.state, c.alt)) refl
       where
-        by : (t : Bool) → is_eq (pair_cmp (x.state, x.alternative) (c.state, c.alt)) ≡ t → Within h m' c ↔ (Within g m c ⊎ InGroup g x c)
+        by : (t : Bool) → pair_eq (x.state, x.alternative) (c.state, c.alt) ≡ t → Within h m' c ↔ (Within g m c ⊎ InGroup g x c)
         by true e =
             let same : (x.state, x.alternative) ≡ (c.state, c.alt) =
-            exact_pairs nat_cmp nat_cmp exact_unsigned exact_unsigned (x.state, x.alternative) (c.state, c.alt)
-            ((Equal-is (pair_cmp (x.state, x.alternative) (c.state, c.alt))).0 e) in
+            pair_exact (x.state, x.alternative) (c.state, c.alt) e in
             let found : node_at m' (c.state, c.alt) ≡ Some both =
             updates (c.state, c.alt) ∙ ap (λ (t : Bool). cond t (Some both) (node_at m (c.state, c.alt))) e in
             let at_state : c.state ≡ x.state = sym (ap (λ (q : ℕ × ℕ). q.0) same) in
@@ -169,7 +151,7 @@ module _ (g h : List Content) (m : Entries) (x : Group) (before both : ℕ) (kep
             let found : node_at m' (c.state, c.alt) ≡ node_at m (c.state, c.alt) =
             updates (c.state, c.alt) ∙ ap (λ (t : Bool). cond t (Some both) (node_at m (c.state, c.alt))) e in
             let differ : InGroup g x c → ⊥ = λ i. absurd
-            (true≢false (sym (same_keys (x.state, x.alternative) (c.state, c.alt)
+            (true≢false (sym ((pair_tells (x.state, x.alternative) (c.state, c.alt)).1
             (pair_equal x.state x.alternative c.state c.alt (sym i.state) (sym i.alt))) ∙ e)) in
             let told : HasAt h (node_at m (c.state, c.alt)) c.stack.returns c.stack.wild ↔ (Within g m c ⊎ InGroup g x c) = (
               (λ w. inl ((within_kept g h m kept nodes c).1 w)),

@@ -6,7 +6,7 @@ use Rattle.g4_net.specs.Configurations.{Config}
 use Rattle.g4_net.specs.Lookahead.{Alike, Conflict, LoneState}
 use Rattle.g4_configs.specs.declared.group.Group.{Group}
 use Rattle.g4_configs.specs.Configs.{AreGroups, Holds, View}
-use Rattle.g4_configs.specs.Groups.{AreNodes, ComesBefore, Entries, node_at}
+use Rattle.g4_configs.specs.Groups.{AreApart, AreNodes, Entries, node_at}
 use Rattle.g4_configs.specs.Verdicts.{AreAlike, HasTwice, IsLone, pair_of}
 use Rattle.g4_configs.proofs.Meaning.{HasLoneNode, NodesAlike, NodesConflict, alike_exact, conflict_exact, lone_exact}
 
@@ -59,7 +59,7 @@ module _ (v : View) (canon : IsCanonical v.graph) (nodes : AreNodes v.graph v.no
           let in_y : Contains xs y = (j, omega arith, get_or_default xs j y (made 0 0 0) (omega arith)) in
           let pairs : pair_of x ≡ pair_of y = sym (get_or-map pair_of xs i (made 0 0 0) (0, 0) (omega arith)) ∙ same (0, 0)
           ∙ get_or-map pair_of xs j (made 0 0 0) (0, 0) (omega arith) in
-          let before : ComesBefore x y = groups.ascending i j (made 0 0 0) lt (omega arith) in (
+          let before : AreApart x y = groups.apart i j (made 0 0 0) lt (omega arith) in (
             x.state,
             x.alternative,
             y.alternative,
@@ -69,9 +69,8 @@ module _ (v : View) (canon : IsCanonical v.graph) (nodes : AreNodes v.graph v.no
             at_pair x y pairs ((groups.entries y).0 in_y),
           )
         where
-          apart : (x y : Group) → pair_of x ≡ pair_of y → ComesBefore x y → x.alternative ≢ y.alternative
-          apart x y pairs (inl less) e = let p : x.state ≡ y.state = ap (λ (q : ℕ × ℕ). q.0) pairs in omega arith
-          apart x y pairs (inr less) e = omega (arith, less.1)
+          apart : (x y : Group) → pair_of x ≡ pair_of y → AreApart x y → x.alternative ≢ y.alternative
+          apart x y pairs differ e = differ (ap (λ (q : ℕ × ℕ). q.0) pairs) e
 
           at_pair : (x y : Group) → pair_of x ≡ pair_of y → node_at v.nodes (y.state, y.alternative) ≡ Some y.stacks
               → node_at v.nodes (x.state, y.alternative) ≡ Some x.stacks
@@ -138,14 +137,10 @@ module _ (v : View) (canon : IsCanonical v.graph) (nodes : AreNodes v.graph v.no
           one : (j k : ℕ) (d : Group) → j < length xs → k < length xs → (get_or xs j d).state ≡ (get_or xs k d).state
               → (get_or xs j d).alternative ≡ (get_or xs k d).alternative → j ≡ k
           one j k d j_in k_in e f = elim (order j k) [
-            | inl lt ↦ absurd (apart (get_or xs j d) (get_or xs k d) (groups.ascending j k d lt k_in) e f)
+            | inl lt ↦ absurd (groups.apart j k d lt k_in e f)
             | inr (inl same) ↦ same
-            | inr (inr lt) ↦ absurd (apart (get_or xs k d) (get_or xs j d) (groups.ascending k j d lt j_in) (sym e) (sym f))
+            | inr (inr lt) ↦ absurd (groups.apart k j d lt j_in (sym e) (sym f))
           ]
-            where
-              apart : (x y : Group) → ComesBefore x y → x.state ≡ y.state → x.alternative ≡ y.alternative → ⊥
-              apart x y (inl less) e f = omega arith
-              apart x y (inr less) e f = omega (arith, less.1)
 
           by : Contains xs (made p i n) → (i : ℕ) × (i < length xs) × IsLone xs i
           by (k, k_in, e) = (k, k_in, lone)

@@ -2,12 +2,8 @@
 use Rattle.std.proofs.Common.{◌≡◌, ℕ, ◌<◌, ◌↔◌, List, Bool, true, false, true≢false, cond, Option, Some, None, filter, refl, sym, ◌∙◌, subst, arith}
 use Rattle.std.proofs.lemmas.Bool.Decides.{nat_tests}
 use Rattle.std.proofs.lemmas.Map.Entries.{lookup-filter-keys}
-use Rattle.std.proofs.lemmas.Map.Lookups.{exact_unsigned, exact_pairs}
-use Rattle.std.specs.BTreeMap.{is_at}
-use Rattle.std.specs.Cmp.{Equal-is}
-use Rattle.std.specs.Ordering.{nat_cmp}
 use Rattle.g4_stacks.specs.Graph.{Content, IsNode}
-use Rattle.g4_stacks.specs.Table.{pair_cmp}
+use Rattle.g4_stacks.specs.Table.{pair_eq}
 use Rattle.g4_net.specs.declared.network.State.{State}
 use Rattle.g4_net.specs.declared.network.State.TheVariants.{Decision, End, Edge, Call, Predicate, Level, Action, Empty}
 use Rattle.g4_net.specs.Configurations.{Config}
@@ -16,6 +12,7 @@ use Rattle.g4_net.specs.Network.{ParserNetwork, state_at}
 use Rattle.g4_configs.specs.Configs.{Holds, View}
 use Rattle.g4_configs.specs.Groups.{AreNodes, Entries, HasAt, Within, node_at}
 use Rattle.g4_configs.specs.Kept.{keeps_by, keeps_pair}
+use Rattle.g4_configs.proofs.Keys.{pair_exact}
 
 keeps_true : (o : Option (State (List ℕ))) → keeps_by o ≡ true → IsKeptBy o
 keeps_true (Some (Edge set t)) h = tt
@@ -45,11 +42,10 @@ module _ (net : ParserNetwork) (g : List Content) (m : Entries) where
   kept = filter (λ e. keeps_pair net e.0) m
 
   found_kept : (q : ℕ × ℕ) (b : Bool) → keeps_pair net q ≡ b → node_at kept q ≡ cond b (node_at m q) None
-  found_kept q b is = lookup-filter-keys (is_at (pair_cmp q)) (keeps_pair net) b at_key m
+  found_kept q b is = lookup-filter-keys (pair_eq q) (keeps_pair net) b at_key m
     where
-      at_key : (k : ℕ × ℕ) → is_at (pair_cmp q) k ≡ true → keeps_pair net k ≡ b
-      at_key k h = subst (λ (r : ℕ × ℕ). keeps_pair net r ≡ b)
-          (exact_pairs nat_cmp nat_cmp exact_unsigned exact_unsigned q k ((Equal-is (pair_cmp q k)).0 h)) is
+      at_key : (k : ℕ × ℕ) → pair_eq q k ≡ true → keeps_pair net k ≡ b
+      at_key k h = subst (λ (r : ℕ × ℕ). keeps_pair net r ≡ b) (pair_exact q k h) is
 
   pub kept_nodes : (m' : Entries) → m' ≡ kept → AreNodes g m → AreNodes g m'
   kept_nodes m' at nodes q n is = by (keeps_pair net q) refl

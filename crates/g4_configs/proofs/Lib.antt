@@ -1,3 +1,4 @@
+pub mod Keys
 pub mod Adding
 pub mod OneStack
 pub mod Listing

@@ -1,9 +1,10 @@
 -- Groups added one after another to a map of nodes.
 use Rattle.std.proofs.Common.{◌≡◌, ℕ, zero, suc, ◌+◌, ◌<◌, ◌↔◌, ◌⊎◌, inl, inr, List, [], ◌∷◌, ◌++◌, length, get_or, take, map, sym, ◌∙◌, ap, subst, arith}
 use Rattle.std.proofs.Math.Seq.{take-suc}
-use Rattle.std.specs.BTreeMap.{BTreeMap, IsOrdered}
+use Rattle.std.specs.List.{IsDistinct}
+use Rattle.std.specs.Map.{keys_of}
 use Rattle.g4_stacks.specs.Graph.{Content, IsNode, Keeps}
-use Rattle.g4_stacks.specs.Table.{pair_cmp}
+use Rattle.g4_stacks.specs.Table.{pair_eq}
 use Rattle.g4_net.specs.Configurations.{Config}
 use Rattle.g4_configs.specs.declared.group.Group.{Group}
 use Rattle.g4_configs.specs.Groups.{AreKnown, AreNodes, AreParts, Entries, InGroup, InSome, Same, Within, group_of}
@@ -72,18 +73,18 @@ merging_goes_on g m xs k d h m' h' m'' lt known i kept nodes members =
     in' = known_at g xs k d known lt
 
 -- the entries of the map as groups have the configurations of the groups
-pub merged_means : (g h : List Content) (m0 : Entries) (xs : List Group) (m : BTreeMap (ℕ × ℕ) ℕ) (found : List Group) → m0 ≡ []
-    → AreNodes h m.entries → IsOrdered pair_cmp m
-    → ((c : Config) → Within h m.entries c ↔ (Within g m0 c ⊎ InSome g xs c)) → found ≡ map group_of m.entries
+pub merged_means : (g h : List Content) (m0 : Entries) (xs : List Group) (m : Entries) (found : List Group) → m0 ≡ []
+    → AreNodes h m → IsDistinct pair_eq (keys_of m)
+    → ((c : Config) → Within h m c ↔ (Within g m0 c ⊎ InSome g xs c)) → found ≡ map group_of m
     → Same (InSome h found) (InSome g xs)
-merged_means g h m0 xs m found none nodes ordered members is c = (
-  (λ i. elim (let f : Within g m0 c ⊎ InSome g xs c = (members c).0 ((members_of h m nodes ordered found is c).0 i) in f) [
+merged_means g h m0 xs m found none nodes unique members is c = (
+  (λ i. elim (let f : Within g m0 c ⊎ InSome g xs c = (members c).0 ((members_of h m nodes unique found is c).0 i) in f) [
     | inl a ↦ absurd (let b : Within g [] c = subst (λ (e : Entries). Within g e c) none a in b)
     | inr a ↦ a
   ]),
-  (λ i. (members_of h m nodes ordered found is c).1 ((members c).1 (inr i))),
+  (λ i. (members_of h m nodes unique found is c).1 ((members c).1 (inr i))),
 )
 
-pub merged_parts : (h : List Content) (m : BTreeMap (ℕ × ℕ) ℕ) (found : List Group) → AreNodes h m.entries → IsOrdered pair_cmp m
-    → found ≡ map group_of m.entries → AreParts h found
-merged_parts h m found nodes ordered is = parts_of h m nodes ordered found is
+pub merged_parts : (h : List Content) (m : Entries) (found : List Group) → AreNodes h m → IsDistinct pair_eq (keys_of m)
+    → found ≡ map group_of m → AreParts h found
+merged_parts h m found nodes unique is = parts_of h m nodes unique found is

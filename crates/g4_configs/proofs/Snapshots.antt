@@ -1,23 +1,24 @@
 -- The row of a set, part by part, and that rows are equal only part by part.
-use Rattle.std.proofs.Common.{◌≡◌, ◌≢◌, ◌<◌, ◌↔◌, ◌⊎◌, inl, inr, ℕ, suc, All, Bool, IsTrue, List, [], ◌∷◌, ◌++◌, map, refl, sym, ◌∙◌, ap, subst, arith}
-use Rattle.std.specs.BTreeMap.{BTreeMap, IsOrdered, keys, values}
-use Rattle.std.specs.List.{AllByRecursion}
-use Rattle.std.specs.List.Sorted.{IsStrictlySortedBy}
+use Rattle.std.proofs.Common.{◌≡◌, ◌≢◌, ◌<◌, ◌↔◌, ◌⊎◌, inl, inr, ℕ, suc, All, AllPairs, Bool, IsTrue, Option, List, [], ◌∷◌, ◌++◌, map, refl, sym, ◌∙◌, ap, subst, arith}
+use Rattle.std.specs.List.{AllByRecursion, IsDistinct}
+use Rattle.std.specs.List.Sorted.{IsPermutation, IsSorted, IsStrictlySortedBy}
 use Rattle.std.specs.Map.{keys_of, values_of}
 use Rattle.std.specs.declared.cmp.Ordering.TheVariants.{Less}
 use Rattle.g4_stacks.specs.Graph.{Content, IsNode}
 use Rattle.g4_stacks.specs.Canonical.{IsCanonical}
 use Rattle.g4_stacks.specs.Listing.{StacksRise, stacks_of}
-use Rattle.g4_stacks.specs.Table.{pair_cmp}
+use Rattle.g4_stacks.specs.Table.{pair_cmp, pair_eq}
 use Rattle.g4_stacks.proofs.Canonicity.{witness}
 use Rattle.g4_stacks.proofs.Listing.{lists_exact, lists_in_order}
 use Rattle.g4_net.specs.Configurations.{Config, IsRising, IsRow, Precedes, Stack, config}
 use Rattle.g4_net.proofs.Pigeons.{In, In-from, In-to}
-use Rattle.g4_configs.specs.Configs.{Holds, View}
-use Rattle.g4_configs.specs.Groups.{AreNodes, InGroup, InSome, group_of}
-use Rattle.g4_configs.specs.Rows.{IsFilled, IsParted, PairBefore, configs_of, row_of}
+use Rattle.g4_configs.specs.declared.group.Group.{Group}
+use Rattle.g4_configs.specs.Configs.{AreGroups, Holds, View}
+use Rattle.g4_configs.specs.Groups.{AreNodes, ComesBefore, Entries, HasAt, InGroup, InSome, Within, group_of}
+use Rattle.g4_configs.specs.Rows.{entry_cmp, IsFilled, IsParted, PairBefore, configs_of, row_of}
 use Rattle.g4_configs.proofs.Alike.{each_all}
-use Rattle.g4_configs.proofs.Listing.{comes_before, groups_in, listed_to, members_of}
+use Rattle.g4_configs.proofs.Keys.{same_nodes, still_distinct, strictly}
+use Rattle.g4_configs.proofs.Listing.{ascends, comes_before, groups_in, groups_listed, listed_to, members_of}
 
 key_of : Config → ℕ × ℕ
 key_of c = (c.state, c.alt)
@@ -222,33 +223,74 @@ module _ (g : List Content) (canon : IsCanonical g) where
           let k = (lists_exact g canon n w.0).1 w.1 in
           is_filled w.0 (stacks_of g n) (In-from (stacks_of g n) w.0 k.0 k.1 k.2)
 
-  module _ (m : BTreeMap (ℕ × ℕ) ℕ) (nodes : AreNodes g m.entries) (ordered : IsOrdered pair_cmp m) where
-    entry_known : (e : (ℕ × ℕ) × ℕ) → In e m.entries → IsNode g e.1 × (0 < e.1)
-    entry_known e i = nodes e.0 e.1 (listed_to g m nodes ordered (group_of e) (groups_in m.entries e i))
+  -- of the entries of a map the same in order
+  module _ (es m : Entries) (all : AreNodes g es) (one : IsDistinct pair_eq (keys_of es)) (moved : IsPermutation es m)
+      (sorted : IsSorted entry_cmp m) where
+    unique : IsDistinct pair_eq (keys_of m)
+    unique = still_distinct es m moved one
 
-    pub parted : (qs : List (ℕ × ℕ)) (ls : List (List Stack)) → qs ≡ keys m → ls ≡ map (stacks_of g) (values m) → IsParted qs ls
+    ordered : IsStrictlySortedBy pair_cmp (keys_of m)
+    ordered = strictly m sorted unique
+
+    nodes : AreNodes g m
+    nodes q n is = all q n (same_nodes es m moved one q ∙ is)
+
+    entry_known : (e : (ℕ × ℕ) × ℕ) → In e m → IsNode g e.1 × (0 < e.1)
+    entry_known e i = nodes e.0 e.1 (listed_to g m nodes unique (group_of e) (groups_in m e i))
+
+    pub parted : (qs : List (ℕ × ℕ)) (ls : List (List Stack)) → qs ≡ keys_of m → ls ≡ map (stacks_of g) (values_of m) → IsParted qs ls
     parted qs ls e f = subst (λ (rs : List (ℕ × ℕ)). IsParted rs ls) (sym e)
-        (subst (IsParted (keys m)) (sym f) (parted_by m.entries ordered entry_known))
+        (subst (IsParted (keys_of m)) (sym f) (parted_by m ordered entry_known))
 
-    pub values_known : All (IsNode g) (values m)
-    values_known = each_all (IsNode g) (values m)
-        (λ n h. (let e = value_entry m.entries n (In-from (values m) n h.0 h.1 h.2) in subst (IsNode g) (sym e.2) (entry_known e.0 e.1).0))
+    pub values_known : All (IsNode g) (values_of m)
+    values_known = each_all (IsNode g) (values_of m)
+        (λ n h. (let e = value_entry m n (In-from (values_of m) n h.0 h.1 h.2) in subst (IsNode g) (sym e.2) (entry_known e.0 e.1).0))
       where
         value_entry : (es : List ((ℕ × ℕ) × ℕ)) (n : ℕ) → In n (values_of es) → (e : (ℕ × ℕ) × ℕ) × In e es × (n ≡ e.1)
         value_entry [] n i = absurd i
         value_entry (e ∷ es) n (inl is) = (e, inl refl, is)
         value_entry (e ∷ es) n (inr i) = let r = value_entry es n i in (r.0, inr r.1, r.2)
 
-    pub row_is : (v : View) (qs : List (ℕ × ℕ)) (ls : List (List Stack)) → Path View (record { graph = g; nodes = m.entries }) v
-        → qs ≡ keys m → ls ≡ map (stacks_of g) (values m) → IsRow (row_of qs ls) (Holds v)
+    same_members : (c : Config) → Within g m c ↔ Within g es c
+    same_members c =
+        let same = same_nodes es m moved one (c.state, c.alt) in (
+          (λ w. subst (λ (o : Option ℕ). HasAt g o c.stack.returns c.stack.wild) (sym same) w),
+          (λ w. subst (λ (o : Option ℕ). HasAt g o c.stack.returns c.stack.wild) same w),
+        )
+
+    pub row_is : (v : View) (qs : List (ℕ × ℕ)) (ls : List (List Stack)) → Path View (record { graph = g; nodes = es }) v
+        → qs ≡ keys_of m → ls ≡ map (stacks_of g) (values_of m) → IsRow (row_of qs ls) (Holds v)
     row_is v qs ls at e f = subst (λ (row : List Config). IsRow row (Holds v))
-        (sym (ap (λ (rs : List (ℕ × ℕ)). row_of rs ls) e ∙ ap (row_of (keys m)) f))
-        (subst (λ (u : View). IsRow (row_at g m.entries) (Holds u)) at (record {
-          rising = row_rises m.entries ordered;
+        (sym (ap (λ (rs : List (ℕ × ℕ)). row_of rs ls) e ∙ ap (row_of (keys_of m)) f))
+        (subst (λ (u : View). IsRow (row_at g m) (Holds u)) at (record {
+          rising = row_rises m ordered;
           exactly = λ c.
-              let row = in_row g canon m.entries c in
-              let members = members_of g m nodes ordered (map group_of m.entries) refl c in (
-                (λ h. members.0 (row.0 (In-from (row_at g m.entries) c h.0 h.1 h.2))),
-                (λ w. In-to (row_at g m.entries) c (row.1 (members.1 w))),
+              let row = in_row g canon m c in
+              let members = members_of g m nodes unique (map group_of m) refl c in
+              let same = same_members c in (
+                (λ h. same.0 (members.0 (row.0 (In-from (row_at g m) c h.0 h.1 h.2)))),
+                (λ w. In-to (row_at g m) c (row.1 (members.1 (same.1 w)))),
               );
         }))
+
+    -- the groups of the set in order
+    pub groups_sorted : (v : View) (xs : List Group) → Path View (record { graph = g; nodes = es }) v → xs ≡ map group_of m
+        → AreGroups v xs × AllPairs ComesBefore xs
+    groups_sorted v xs at is =
+        let here = groups_listed g m nodes unique (record { graph = g; nodes = m }) xs refl is in
+        let there : AreGroups (record { graph = g; nodes = es }) xs = record {
+          parts = here.parts;
+          members = λ c.
+              let a = here.members c in
+              let b = same_members c in ((λ i. b.0 (a.0 i)), (λ w. a.1 (b.1 w)));
+          entries = λ x.
+              let a = here.entries x in
+              let same = same_nodes es m moved one (x.state, x.alternative) in (
+                (λ i. same ∙ a.0 i),
+                (λ e. a.1 (sym same ∙ e)),
+              );
+          apart = here.apart;
+        } in (
+          subst (λ (u : View). AreGroups u xs) at there,
+          subst (AllPairs ComesBefore) (sym is) (ascends m ordered),
+        )

@@ -12,7 +12,7 @@ use Rattle.std.specs.declared.cmp.Ordering.TheVariants.{Less, Equal, Greater}
 use Rattle.g4_stacks.specs.Table.{pair_cmp}
 use Rattle.g4_stacks.proofs.Shapes.{pairs_Decides}
 use Rattle.g4_configs.specs.Verdicts.{HasEqualNeighbours, HasTwice}
-use Rattle.g4_configs.proofs.Listing.{pair_total}
+use Rattle.g4_configs.proofs.Keys.{pair_total}
 
 -- the test of two pairs
 abbrev pub same_pairs : ℕ × ℕ → ℕ × ℕ → Bool

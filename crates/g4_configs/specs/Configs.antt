@@ -3,7 +3,7 @@ use Rattle.std.specs.Prelude.{◌≡◌, ◌↔◌, ℕ, List, Some, AllPairs, C
 use Rattle.g4_stacks.specs.Graph.{Content, Has, IsNode, Keeps}
 use Rattle.g4_net.specs.Configurations.{Config, Stack}
 use Rattle.g4_configs.specs.declared.group.Group.{Group}
-use Rattle.g4_configs.specs.Groups.{AreParts, ComesBefore, Entries, InGroup, InSome, Same, Within, node_at}
+use Rattle.g4_configs.specs.Groups.{AreApart, AreParts, Entries, InGroup, InSome, Same, Within, node_at}
 
 -- what is kept of a set: the graph of its stacks, and the node of each state and alternative
 pub record View : Type 0 where
@@ -30,9 +30,9 @@ KeepsStacks old new = Keeps old.graph new.graph
 abbrev pub IsOfGroup : View → Group → Config → Type 0
 IsOfGroup v x c = InGroup v.graph x c
 
--- the groups are those of the set, in order
+-- the groups are those of the set, each once
 pub record AreGroups (v : View) (xs : List Group) : Type 0 where
   pub parts : AreParts v.graph xs
   pub members : Same (InSome v.graph xs) (Holds v)
   pub entries : (x : Group) → Contains xs x ↔ (node_at v.nodes (x.state, x.alternative) ≡ Some x.stacks)
-  pub ascending : AllPairs ComesBefore xs
+  pub apart : AllPairs AreApart xs

@@ -1,19 +1,17 @@
 -- Groups of configurations over a graph of stacks: for each state and alternative a node.
 use Rattle.std.specs.Prelude.{◌≡◌, ◌<◌, ◌↔◌, ◌⊎◌, Contains, ℕ, List, [], ◌∷◌, Bool, Option, Some, None}
-use Rattle.std.specs.BTreeMap.{is_at}
-use Rattle.std.specs.Map.{lookup}
 use Rattle.g4_stacks.specs.Graph.{Content, HasOf, IsNode}
-use Rattle.g4_stacks.specs.Table.{pair_cmp}
+use Rattle.g4_stacks.specs.Table.{Numbers, number_at}
 use Rattle.g4_net.specs.Configurations.{Config}
 use Rattle.g4_configs.specs.declared.group.Group.{Group}
 
--- nodes by state and alternative
+-- nodes by state and alternative, in any order
 abbrev pub Entries : Type 0
-Entries = List ((ℕ × ℕ) × ℕ)
+Entries = Numbers
 
 -- the node of a state and an alternative
 abbrev pub node_at : Entries → ℕ × ℕ → Option ℕ
-node_at es q = lookup (is_at (pair_cmp q)) es
+node_at es q = number_at es q
 
 -- the node, if there is one, has the stack of these return states above this mark
 abbrev pub HasAt : List Content → Option ℕ → List ℕ → Bool → Type 0
@@ -60,7 +58,11 @@ group_of e = record { state = e.0.0; alternative = e.0.1; stacks = e.1 }
 abbrev pub ComesBefore : Group → Group → Type 0
 ComesBefore x y = (x.state < y.state) ⊎ ((x.state ≡ y.state) × (x.alternative < y.alternative))
 
--- Groups as the parts of a set: each has stacks, each state and alternative appears once, in order.
+-- x and y are of different states or alternatives
+abbrev pub AreApart : Group → Group → Type 0
+AreApart x y = x.state ≡ y.state → x.alternative ≡ y.alternative → ⊥
+
+-- Groups as the parts of a set: each has stacks, each state and alternative appears once.
 pub record AreParts (g : List Content) (xs : List Group) : Type 0 where
   pub known : (x : Group) → Contains xs x → IsNode g x.stacks
   pub filled : (x : Group) → Contains xs x → 0 < x.stacks

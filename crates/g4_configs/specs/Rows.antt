@@ -1,6 +1,9 @@
 -- The row of a set, part by part: for each state and alternative the stacks in order.
 use Rattle.std.specs.Prelude.{◌≡◌, ◌<◌, ◌⊎◌, ℕ, List, [], ◌∷◌, ◌++◌, map}
 use Rattle.std.specs.List.{AllByRecursion}
+use Rattle.std.specs.Ordering.{nat_cmp, ordering_then}
+use Rattle.std.specs.declared.cmp.Ordering.{Ordering}
+use Rattle.g4_stacks.specs.Table.{pair_cmp}
 use Rattle.g4_net.specs.Configurations.{Config, Stack, config}
 
 -- the configurations of a state and an alternative with these stacks
@@ -16,6 +19,10 @@ row_of (q ∷ qs) (stacks ∷ lists) = configs_of q stacks ++ row_of qs lists
 -- q comes before r: by state, then by alternative
 abbrev pub PairBefore : ℕ × ℕ → ℕ × ℕ → Type 0
 PairBefore q r = (q.0 < r.0) ⊎ ((q.0 ≡ r.0) × (q.1 < r.1))
+
+-- the order of entries: by state, then by alternative, then by node
+abbrev pub entry_cmp : (ℕ × ℕ) × ℕ → (ℕ × ℕ) × ℕ → Ordering
+entry_cmp x y = ordering_then (pair_cmp x.0 y.0) (nat_cmp x.1 y.1)
 
 -- there is a stack
 abbrev pub IsFilled : List Stack → Type 0

@@ -12,15 +12,18 @@ use crate::merging::listed;
 use crate::set::add;
 use g4_stacks::Graph;
 use std::alloc::{AllocError, Global};
-use std::collections::BTreeMap;
+use std::collections::HashMap;
 use std::marker::Model;
+
+/// How many states and alternatives a new set has room for. Most sets that are made have fewer.
+const ROOM: usize = 64;
 
 /// A set of configurations: for each state and alternative a set of stacks. Sets of stacks go by numbers, which are of use
 /// with this set and with those that are made of it.
 #[derive(Drop)]
 pub struct Configs {
     pub(crate) graph: Graph,
-    pub(crate) nodes: BTreeMap<(u32, u32), u32>,
+    pub(crate) nodes: HashMap<(u32, u32), u32>,
 }
 
 impl Model for Configs {
@@ -41,7 +44,7 @@ impl Configs {
     {
         Ok(Configs {
             graph: Graph::new(alloc)?,
-            nodes: BTreeMap::new(alloc),
+            nodes: HashMap::with_capacity(alloc, ROOM)?,
         })
     }
 
@@ -129,7 +132,7 @@ impl Configs {
         Ok(grew)
     }
 
-    /// The groups of the set, by state and then by alternative.
+    /// The groups of the set, in any order.
     pub fn groups(&self, alloc: Global) -> Result<Vec<Group>, AllocError>
         ensures { IfOk result (λ found. AreGroups self.now found.items) }
     {

@@ -8,7 +8,7 @@ ghost use Rattle.g4_net.specs.Network.{state_at};
 
 use crate::configs::Configs;
 use g4_net::{ParserNetwork, State};
-use std::collections::BTreeMap;
+use std::collections::HashMap;
 
 /// Whether configurations of the state are kept: it has an edge that takes symbols, or is the end of the added rule.
 fn is_kept(net: &ParserNetwork, state: u32) -> bool
@@ -22,7 +22,7 @@ fn is_kept(net: &ParserNetwork, state: u32) -> bool
 }
 
 /// Leaves out the states that are not kept.
-fn keep_states(net: &ParserNetwork, nodes: &mut BTreeMap<(u32, u32), u32>)
+fn keep_states(net: &ParserNetwork, nodes: &mut HashMap<(u32, u32), u32>)
     ensures { nodes.new.entries ≡ filter (λ e. keeps_pair net.now e.0) nodes.old.entries }
 {
     nodes.retain(|(state, _), _| is_kept(net, *state));

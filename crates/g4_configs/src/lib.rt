@@ -7,6 +7,7 @@ mod group;
 mod kept;
 mod lowering;
 mod merging;
+mod ordered;
 mod set;
 mod snapshot;
 mod verdicts;

@@ -11,7 +11,7 @@ use crate::configs::Configs;
 use crate::group::Group;
 use g4_stacks::Graph;
 use std::alloc::{AllocError, Global};
-use std::collections::BTreeMap;
+use std::collections::HashMap;
 
 /// Groups, and an empty set that has their sets of stacks.
 #[derive(Drop)]
@@ -95,7 +95,7 @@ impl Configs {
         let groups = image_groups(alloc, own.groups.as_slice(), images.as_slice())?;
         let set = Configs {
             graph,
-            nodes: BTreeMap::new(alloc),
+            nodes: HashMap::new(alloc),
         };
         Ok(Lowered { set, groups })
     }

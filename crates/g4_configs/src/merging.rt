@@ -1,25 +1,25 @@
 // Groups merged by their states and alternatives.
 ghost use Rattle.std.specs.Prelude.{◌≡◌, ◌↔◌, ◌⊎◌, IfOk, OnOk, map};
-ghost use Rattle.std.specs.BTreeMap.{IsOrdered};
+ghost use Rattle.std.specs.HashMap.{IsUnique};
 ghost use Rattle.g4_configs.specs.Configs.{Holds, KeepsStacks};
 ghost use Rattle.g4_configs.specs.Groups.{AreKnown, AreNodes, AreParts, InSome, Same, Within, group_of};
 ghost use Rattle.g4_net.specs.Configurations.{Config};
 ghost use Rattle.g4_stacks.specs.Graph.{Keeps};
-ghost use Rattle.g4_stacks.specs.Table.{pair_cmp};
+ghost use Rattle.g4_stacks.specs.Table.{pair_eq};
 
 use crate::configs::Configs;
 use crate::group::Group;
 use crate::set::add;
 use g4_stacks::Graph;
 use std::alloc::{AllocError, Global};
-use std::collections::BTreeMap;
+use std::collections::HashMap;
 
 /// The entries of a map of nodes as groups.
 pub(crate) fn listed(
     alloc: Global,
-    nodes: &BTreeMap<(u32, u32), u32>,
+    nodes: &HashMap<(u32, u32), u32>,
 ) -> Result<Vec<Group>, AllocError>
-    ensures ordered { IsOrdered pair_cmp nodes.now }
+    ensures unique { IsUnique pair_eq nodes.now }
     ensures listed { IfOk result (λ found. found.items ≡ map group_of nodes.now.entries) }
 {
     let mut found = Vec::with_capacity(alloc, nodes.len())?;
@@ -37,7 +37,7 @@ pub(crate) fn listed(
 /// Adds groups to a map of nodes.
 fn add_each(
     graph: &mut Graph,
-    nodes: &mut BTreeMap<(u32, u32), u32>,
+    nodes: &mut HashMap<(u32, u32), u32>,
     groups: &[Group],
 ) -> Result<(), AllocError>
     requires nodes { AreNodes graph.old nodes.old.entries }
@@ -62,7 +62,7 @@ impl Configs {
         ensures parts { IfOk result (λ found. AreParts self.new.graph found.items) }
         ensures means { IfOk result (λ found. Same (InSome self.new.graph found.items) (InSome self.old.graph groups.now)) }
     {
-        let mut nodes = BTreeMap::new(alloc);
+        let mut nodes = HashMap::new(alloc);
         add_each(&mut self.graph, &mut nodes, groups)?;
         let found = listed(alloc, &nodes)?;
         Ok(found)

@@ -7,10 +7,10 @@ ghost use Rattle.g4_stacks.specs.Graph.{HasOf, IsNode, Keeps};
 use crate::group::Group;
 use g4_stacks::Graph;
 use std::alloc::AllocError;
-use std::collections::BTreeMap;
+use std::collections::HashMap;
 
 /// The node of a state and an alternative.
-fn node_of(graph: &Graph, nodes: &BTreeMap<(u32, u32), u32>, state: u32, alternative: u32) -> u32
+fn node_of(graph: &Graph, nodes: &HashMap<(u32, u32), u32>, state: u32, alternative: u32) -> u32
     requires { AreNodes graph.now nodes.now.entries }
     ensures known { IsNode graph.now result }
     ensures means { (returns : List ℕ) (wild : Bool)
@@ -25,7 +25,7 @@ fn node_of(graph: &Graph, nodes: &BTreeMap<(u32, u32), u32>, state: u32, alterna
 /// Adds a group to the set: whether the set grew.
 pub(crate) fn add(
     graph: &mut Graph,
-    nodes: &mut BTreeMap<(u32, u32), u32>,
+    nodes: &mut HashMap<(u32, u32), u32>,
     group: Group,
 ) -> Result<bool, AllocError>
     requires nodes { AreNodes graph.old nodes.old.entries }

@@ -4,6 +4,7 @@ ghost use Rattle.g4_configs.specs.Configs.{Holds};
 ghost use Rattle.g4_net.specs.Configurations.{IsRow};
 
 use crate::configs::Configs;
+use crate::ordered::{in_order, keys_in, nodes_in};
 use g4_stacks::Shape;
 use std::alloc::{AllocError, Global};
 use std::marker::Model;
@@ -45,8 +46,9 @@ impl Configs {
         ensures { IfOk result (λ row. IsRow row (Holds self.now)) }
     {
         self.graph.is_canonical();
-        let keys = self.nodes.keys().copied().collect(alloc)?;
-        let nodes: Vec<u32> = self.nodes.values().copied().collect(alloc)?;
+        let entries = in_order(alloc, &self.nodes)?;
+        let keys = keys_in(alloc, &entries)?;
+        let nodes = nodes_in(alloc, &entries)?;
         let stacks = self.graph.canon(alloc, &nodes)?;
         Ok(Snapshot { keys, stacks })
     }

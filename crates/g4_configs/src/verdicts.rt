@@ -9,8 +9,9 @@ ghost use Rattle.g4_net.specs.Lookahead.{Alike, Conflict, IsEmpty, IsLeast, IsOn
 
 use crate::configs::Configs;
 use crate::group::Group;
+use crate::ordered::{groups_in, in_order};
 use std::alloc::{AllocError, Global};
-use std::collections::BTreeMap;
+use std::collections::HashMap;
 
 impl Configs {
     /// The least alternative: none where there is no configuration.
@@ -57,7 +58,8 @@ impl Configs {
         ensures { IfOk result (λ answer. IsTrue answer ↔ LoneState (Holds self.now)) }
     {
         self.graph.is_canonical();
-        let groups = self.groups(alloc)?;
+        let entries = in_order(alloc, &self.nodes)?;
+        let groups = groups_in(alloc, &entries)?;
         let answer = has_lone(&groups);
         Ok(answer)
     }
@@ -141,7 +143,7 @@ fn follows(groups: &[Group], index: usize) -> bool
 /// Whether at the state of each group all alternatives have its stacks.
 fn are_alike(
     alloc: Global,
-    nodes: &BTreeMap<(u32, u32), u32>,
+    nodes: &HashMap<(u32, u32), u32>,
     groups: &[Group],
 ) -> Result<bool, AllocError>
     requires { (x : Group) → Contains groups.now x ↔ (node_at nodes.now.entries (x.state, x.alternative) ≡ Some x.stacks) }
@@ -161,7 +163,7 @@ fn are_alike(
 
 /// Whether each group is like the first one, as `is_like` says.
 fn all_like(
-    nodes: &BTreeMap<(u32, u32), u32>,
+    nodes: &HashMap<(u32, u32), u32>,
     groups: &[Group],
     first: Group,
     others: &[Group],
@@ -175,7 +177,7 @@ fn all_like(
 
 /// Whether the first state has the group's alternative, and the group's state the first alternative, with its stacks. Where
 /// the group is of the first alternative, its state has each alternative of the first state, with the same stacks.
-fn is_like(nodes: &BTreeMap<(u32, u32), u32>, group: Group, first: Group, others: &[Group]) -> bool
+fn is_like(nodes: &HashMap<(u32, u32), u32>, group: Group, first: Group, others: &[Group]) -> bool
     ensures { IsTrue result ↔ IsLike nodes.now.entries first others.now group }
 {
     if !has(nodes, group.state, first.alternative, group.stacks) {
@@ -188,14 +190,14 @@ fn is_like(nodes: &BTreeMap<(u32, u32), u32>, group: Group, first: Group, others
 }
 
 /// Whether the group's state has each alternative of the others, with its stacks.
-fn has_each(nodes: &BTreeMap<(u32, u32), u32>, group: Group, others: &[Group]) -> bool
+fn has_each(nodes: &HashMap<(u32, u32), u32>, group: Group, others: &[Group]) -> bool
     ensures { IsTrue result ↔ All (HasAlternative nodes.now.entries group.state group.stacks) others.now }
 {
     others.iter().all(|other| has(nodes, group.state, other.alternative, group.stacks))
 }
 
 /// Whether the state and the alternative have these stacks.
-fn has(nodes: &BTreeMap<(u32, u32), u32>, state: u32, alternative: u32, stacks: u32) -> bool
+fn has(nodes: &HashMap<(u32, u32), u32>, state: u32, alternative: u32, stacks: u32) -> bool
     ensures { IsTrue result ↔ (node_at nodes.now.entries (state, alternative) ≡ Some stacks) }
 {
     match nodes.get(&(state, alternative)).copied() {

@@ -1,5 +1,6 @@
 -- Ordered maps from contents to their numbers.
-use Rattle.std.proofs.Common.{◌≡◌, ◌<◌, ◌^◌, ℕ, ◌↔◌, inl, inr, List, [], ◌∷◌, ◌++◌, Bool, true, false, Some, None, cond, length, slice_get, refl, sym, ◌∙◌, ap, subst}
+use Rattle.std.proofs.Common.{◌≡◌, ◌<◌, ◌^◌, ℕ, ◌↔◌, inl, inr, List, [], ◌∷◌, ◌++◌, Bool, true, false, Some, None, cond, length, slice_get, refl, sym, ◌∙◌, ap, subst, arith}
+use Rattle.std.proofs.lemmas.Bool.Decides.{nat_tests}
 use Rattle.std.proofs.lemmas.Option.{slice_get_within}
 use Rattle.std.specs.Bool.{Decides}
 use Rattle.std.specs.declared.cmp.Ordering.{Ordering}
@@ -10,7 +11,7 @@ use Rattle.std.specs.Cmp.Lexicographic.{slice_cmp}
 use Rattle.std.specs.BTreeMap.{BTreeMap, get, is_at}
 use Rattle.std.proofs.lemmas.Map.Lookups.{CmpEqualImpliesEq, exact_unsigned, exact_pairs}
 use Rattle.g4_stacks.specs.Graph.{Content}
-use Rattle.g4_stacks.specs.Table.{Key, content_by, one_of, pair_cmp, key_cmp, IsOne, HasOnes, IsIndexed, IsTable, IsAbsent, IsAdded}
+use Rattle.g4_stacks.specs.Table.{Key, content_by, one_of, pair_cmp, key_cmp, Numbers, number_at, pair_eq, IsOne, HasOnes, IsIndexed, IsTable, IsAbsent, IsAdded}
 use Rattle.g4_stacks.proofs.Canonicity.{content_equal}
 use Rattle.g4_stacks.proofs.Growing.{slice_get_left, slice_get_new, split_new}
 
@@ -66,18 +67,9 @@ key_Decides x y = (to, from)
         (subst (λ (b : Bool). bool_cmp x.1 b ≡ Equal) (ap (λ (c : Content). c.wild) e) (same_bool x.1)))
         (subst (λ (es : List (ℕ × ℕ)). slice_cmp pair_cmp x.2.items es ≡ Equal) (ap (λ (c : Content). c.tops) e) (same_tops x.2.items)))
 
--- pairs compare equal where they are
-pub pair_Decides : (a b x y : ℕ) → Decides (is_eq (pair_cmp (a, b) (x, y))) ((a ≡ x) × (b ≡ y))
-pair_Decides a b x y = (to, from)
-  where
-    to : is_eq (pair_cmp (a, b) (x, y)) ≡ true → (a ≡ x) × (b ≡ y)
-    to e =
-        let p = both_Equal (nat_cmp a x) (nat_cmp b y) ((Equal-is (pair_cmp (a, b) (x, y))).0 e) in
-        (exact_unsigned a x p.0, exact_unsigned b y p.1)
-
-    from : (a ≡ x) × (b ≡ y) → is_eq (pair_cmp (a, b) (x, y)) ≡ true
-    from e = (Equal-is (pair_cmp (a, b) (x, y))).1 (then_Equal (nat_cmp a x) (nat_cmp b y)
-        (subst (λ (n : ℕ). nat_cmp a n ≡ Equal) e.0 (same_nat a)) (subst (λ (n : ℕ). nat_cmp b n ≡ Equal) e.1 (same_nat b)))
+-- pairs are told apart
+pub pair_Decides : (a b x y : ℕ) → Decides (pair_eq (a, b) (x, y)) ((a ≡ x) × (b ≡ y))
+pair_Decides a b x y = (λ e. grind (arith, nat_tests), λ e. grind (arith, nat_tests))
 
 abbrev first_of : List (ℕ × ℕ) → ℕ × ℕ
 first_of [] = (0, 0)
@@ -115,15 +107,15 @@ indexed_more g m m' k n is_n indexed absent updates q i several = by (is_eq (key
           ]),
         )
 
-pub ones_more : (g : List Content) (m m' : BTreeMap (ℕ × ℕ) ℕ) (a b n : ℕ) → n ≡ length g → HasOnes g m → IsAbsent g (one_of a b)
-    → ((q : ℕ × ℕ) → get pair_cmp m' q ≡ cond (is_at (pair_cmp (a, b)) q) (Some n) (get pair_cmp m q)) → HasOnes (g ++ one_of a b ∷ []) m'
-ones_more g m m' a b n is_n ones absent updates x y i = by (is_eq (pair_cmp (a, b) (x, y))) refl
+pub ones_more : (g : List Content) (m m' : Numbers) (a b n : ℕ) → n ≡ length g → HasOnes g m → IsAbsent g (one_of a b)
+    → ((q : ℕ × ℕ) → number_at m' q ≡ cond (pair_eq (a, b) q) (Some n) (number_at m q)) → HasOnes (g ++ one_of a b ∷ []) m'
+ones_more g m m' a b n is_n ones absent updates x y i = by (pair_eq (a, b) (x, y)) refl
   where
-    by : (t : Bool) → is_eq (pair_cmp (a, b) (x, y)) ≡ t
-        → (get pair_cmp m' (x, y) ≡ Some i) ↔ (slice_get (g ++ one_of a b ∷ []) i ≡ Some (one_of x y))
+    by : (t : Bool) → pair_eq (a, b) (x, y) ≡ t
+        → (number_at m' (x, y) ≡ Some i) ↔ (slice_get (g ++ one_of a b ∷ []) i ≡ Some (one_of x y))
     by true e =
         let same = one_equal a b x y ((pair_Decides a b x y).0 e) in
-        let found : get pair_cmp m' (x, y) ≡ Some n = updates (x, y) ∙ ap (λ (t : Bool). cond t (Some n) (get pair_cmp m (x, y))) e in (
+        let found : number_at m' (x, y) ≡ Some n = updates (x, y) ∙ ap (λ (t : Bool). cond t (Some n) (number_at m (x, y))) e in (
           (λ h. let at : i ≡ n = cc in subst (λ (j : ℕ). slice_get (g ++ one_of a b ∷ []) j ≡ Some (one_of x y)) (sym is_n ∙ sym at)
               (slice_get_new g (one_of a b) ∙ ap Some same)),
           (λ h. elim (split_new g (one_of a b) (one_of x y) i h) [
@@ -132,8 +124,8 @@ ones_more g m m' a b n is_n ones absent updates x y i = by (is_eq (pair_cmp (a, 
           ]),
         )
     by false e =
-        let kept : get pair_cmp m' (x, y) ≡ get pair_cmp m (x, y) =
-        updates (x, y) ∙ ap (λ (t : Bool). cond t (Some n) (get pair_cmp m (x, y))) e in (
+        let kept : number_at m' (x, y) ≡ number_at m (x, y) =
+        updates (x, y) ∙ ap (λ (t : Bool). cond t (Some n) (number_at m (x, y))) e in (
           (λ h. let old = (ones x y i).0 (sym kept ∙ h) in slice_get_left g (one_of a b ∷ []) i (slice_get_within g i _ old) ∙ old),
           (λ h. elim (split_new g (one_of a b) (one_of x y) i h) [
             | inl old ↦ kept ∙ (ones x y i).1 old
@@ -151,7 +143,7 @@ indexed_still g m a b indexed q i several = (
   ]),
 )
 
-pub ones_still : (g : List Content) (m : BTreeMap (ℕ × ℕ) ℕ) (c : Content) → (IsOne c → ⊥) → HasOnes g m → HasOnes (g ++ c ∷ []) m
+pub ones_still : (g : List Content) (m : Numbers) (c : Content) → (IsOne c → ⊥) → HasOnes g m → HasOnes (g ++ c ∷ []) m
 ones_still g m c several ones x y i = (
   (λ h. let old = (ones x y i).0 h in slice_get_left g (c ∷ []) i (slice_get_within g i _ old) ∙ old),
   (λ h. elim (split_new g c (one_of x y) i h) [
@@ -165,12 +157,12 @@ pub absent_by : (g : List Content) (m : BTreeMap Key ℕ) (k : Key) → (IsOne (
     → get key_cmp m k ≡ None → IsAbsent g (content_by k)
 absent_by g m k several indexed none n is = let some = (indexed k n several).1 is in absurd (cc)
 
-pub absent_one : (g : List Content) (m : BTreeMap (ℕ × ℕ) ℕ) (a b : ℕ) → HasOnes g m → get pair_cmp m (a, b) ≡ None
+pub absent_one : (g : List Content) (m : Numbers) (a b : ℕ) → HasOnes g m → number_at m (a, b) ≡ None
     → IsAbsent g (one_of a b)
 absent_one g m a b ones none n is = let some = (ones a b n).1 is in absurd (cc)
 
 -- a table with one content more
-pub other_more : (g new : List Content) (ones : BTreeMap (ℕ × ℕ) ℕ) (m m' : BTreeMap Key ℕ) (k : Key) (n : ℕ) → IsTable g ones m
+pub other_more : (g new : List Content) (ones : Numbers) (m m' : BTreeMap Key ℕ) (k : Key) (n : ℕ) → IsTable g ones m
     → n ≡ length g → (IsOne (content_by k) → ⊥) → get key_cmp m k ≡ None
     → ((q : Key) → get key_cmp m' q ≡ cond (is_at (key_cmp k) q) (Some n) (get key_cmp m q)) → new ≡ g ++ content_by k ∷ []
     → length new < 2 ^ 32 → IsTable new ones m'
@@ -181,9 +173,9 @@ other_more g new ones m m' k n table is_n several none updates grown small = rec
   small = small;
 }
 
-pub one_more : (g new : List Content) (ones ones' : BTreeMap (ℕ × ℕ) ℕ) (m : BTreeMap Key ℕ) (a b n : ℕ) → IsTable g ones m
-    → n ≡ length g → get pair_cmp ones (a, b) ≡ None
-    → ((q : ℕ × ℕ) → get pair_cmp ones' q ≡ cond (is_at (pair_cmp (a, b)) q) (Some n) (get pair_cmp ones q))
+pub one_more : (g new : List Content) (ones ones' : Numbers) (m : BTreeMap Key ℕ) (a b n : ℕ) → IsTable g ones m
+    → n ≡ length g → number_at ones (a, b) ≡ None
+    → ((q : ℕ × ℕ) → number_at ones' q ≡ cond (pair_eq (a, b) q) (Some n) (number_at ones q))
     → new ≡ g ++ one_of a b ∷ [] → length new < 2 ^ 32 → IsTable new ones' m
 one_more g new ones ones' m a b n table is_n none updates grown small = record {
   has_ones = subst (λ (x : List Content). HasOnes x ones') (sym grown)

@@ -1,8 +1,7 @@
 -- The parts of nodes that are noted.
-use Rattle.std.proofs.Common.{◌≡◌, ◌≤◌, ◌+◌, ◌-◌, ℕ, zero, suc, inl, inr, ◌⊎◌, List, [], ◌∷◌, ◌++◌, Some, None, Option, slice_get, length, take, replicate, refl, sym, ◌∙◌, ap, subst, arith, append_assoc, length-append}
+use Rattle.std.proofs.Common.{◌≡◌, ◌≤◌, ◌+◌, ◌-◌, ℕ, zero, suc, inl, inr, ◌⊎◌, List, [], ◌∷◌, ◌++◌, Some, slice_get, length, take, replicate, refl, sym, ◌∙◌, ap, subst, arith, append_assoc, length-append}
 use Rattle.std.proofs.lemmas.List.{append-nil}
-use Rattle.g4_net.specs.Configurations.{Stack}
-use Rattle.g4_stacks.specs.Graph.{Content, Has, IsNode}
+use Rattle.g4_stacks.specs.Graph.{Content, IsNode}
 use Rattle.g4_stacks.specs.Canonical.{IsCanonical, Grows}
 use Rattle.g4_stacks.specs.Merge.{AreParts, IsPart, IsUnion}
 use Rattle.g4_stacks.proofs.Growing.{keeps}

@@ -1,6 +1,6 @@
 -- Stacks put in the place of the bottom of others.
 use Rattle.std.specs.Prelude.{◌≡◌, ◌<◌, ◌↔◌, ◌⊎◌, ℕ, List, ◌++◌, Some, slice_get, false}
-use Rattle.g4_net.specs.Configurations.{Stack, above_bottom}
+use Rattle.g4_net.specs.Configurations.{Stack}
 use Rattle.g4_stacks.specs.Stack.{bottom, pushed}
 use Rattle.g4_stacks.specs.Graph.{Content, Has, HasOf, IsNode, Keeps}
 

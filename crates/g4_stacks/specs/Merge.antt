@@ -1,9 +1,8 @@
 -- What a merge gives, and its steps down two lists of tops.
 use Rattle.std.specs.Prelude.{◌≡◌, ◌<◌, ◌+◌, ◌↔◌, ◌⊎◌, ℕ, List, [], ◌∷◌, Option, Some, None, slice_get, drop}
 use Rattle.g4_net.specs.Configurations.{Stack}
-use Rattle.std.specs.BTreeMap.{BTreeMap, get}
 use Rattle.g4_stacks.specs.Graph.{Content, In, Has, IsNode}
-use Rattle.g4_stacks.specs.Table.{pair_cmp}
+use Rattle.g4_stacks.specs.Table.{Numbers, number_at}
 use Rattle.g4_stacks.specs.Canonical.{IsCanonical}
 use Rattle.g4_stacks.specs.declared.next.Next.{Next}
 use Rattle.g4_stacks.specs.declared.next.Next.TheVariants.{Done, Left, Right, Both}
@@ -36,9 +35,9 @@ IsNext xs i ys j (Left t m) = (drop i xs ≡ (t, m) ∷ drop (i + 1) xs) × Star
 IsNext xs i ys j (Right t n) = (drop j ys ≡ (t, n) ∷ drop (j + 1) ys) × StartsAbove t (drop i xs)
 IsNext xs i ys j (Both t m n) = (drop i xs ≡ (t, m) ∷ drop (i + 1) xs) × (drop j ys ≡ (t, n) ∷ drop (j + 1) ys)
 
--- the map has merges of nodes of the graph, each with the node that means both
-abbrev pub IsMemo : List Content → BTreeMap (ℕ × ℕ) ℕ → Type 0
-IsMemo graph m = (a b r : ℕ) → get pair_cmp m (a, b) ≡ Some r → IsNode graph a × IsNode graph b × IsNode graph r × IsUnion graph a b graph r
+-- these are merges of nodes of the graph, each with the node that means both
+abbrev pub IsMemo : List Content → Numbers → Type 0
+IsMemo graph m = (a b r : ℕ) → number_at m (a, b) ≡ Some r → IsNode graph a × IsNode graph b × IsNode graph r × IsUnion graph a b graph r
 
 -- the node has all stacks of the part
 abbrev pub IsPart : List Content → ℕ → ℕ → Type 0
@@ -49,7 +48,7 @@ abbrev pub AreParts : List Content → List ℕ → Type 0
 AreParts graph parts = (n part : ℕ) → slice_get parts n ≡ Some part → IsNode graph n × IsNode graph part × IsPart graph n part
 
 -- what a graph's fields keep
-pub record IsSound (graph : List Content) (m : BTreeMap (ℕ × ℕ) ℕ) (below : List ℕ) : Type 0 where
+pub record IsSound (graph : List Content) (m : Numbers) (below : List ℕ) : Type 0 where
   pub canonical : IsCanonical graph
   pub memo : IsMemo graph m
   pub parts : AreParts graph below

@@ -14,7 +14,7 @@ use crate::joining::Joining;
 use crate::next::{Next, next_of};
 use crate::table::Table;
 use std::alloc::{AllocError, Global};
-use std::collections::BTreeMap;
+use std::collections::HashMap;
 use std::marker::Model;
 
 /// How many parts of parts are looked at where a node may have all stacks of another.
@@ -31,7 +31,7 @@ const MERGES_FOR_A_NODE: usize = 4;
 #[derive(Drop)]
 pub struct Graph {
     table: Table,
-    merged: BTreeMap<(u32, u32), u32>,
+    merged: HashMap<(u32, u32), u32>,
     parts: Vec<u32>,
     pub(crate) alloc: Global,
 }
@@ -45,7 +45,7 @@ impl Model for Graph {
 
     ghost view = { λ g. g.table };
 
-    ghost invariant = { λ g. IsSound g.table g.merged g.parts.items };
+    ghost invariant = { λ g. IsSound g.table g.merged.entries g.parts.items };
 }
 
 impl Graph {
@@ -59,7 +59,7 @@ impl Graph {
         table.intern(NodeData::only_wildcard(alloc))?;
         Ok(Graph {
             table,
-            merged: BTreeMap::new(alloc),
+            merged: HashMap::new(alloc),
             parts: Vec::new(alloc),
             alloc,
         })
@@ -165,6 +165,9 @@ impl Graph {
         ensures means { IfOk result (λ n. IsUnion self.old a b self.new n) }
     {
         let _ = &self.table;
+        if let Some(known) = self.known_merge(a, b) {
+            return Ok(known);
+        }
         self.make_room();
         let result = self.join(a, b)?;
         Ok(result)
@@ -172,6 +175,7 @@ impl Graph {
 
     /// The stacks of both nodes, lower nodes first. The merges that wait for one of lower nodes are in a list, the
     /// innermost last.
+    #[inline(never)]
     fn join(&mut self, a: u32, b: u32) -> Result<u32, AllocError>
         requires left { IsNode self.old a }
         requires right { IsNode self.old b }

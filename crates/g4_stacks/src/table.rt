@@ -4,7 +4,7 @@ ghost use Rattle.g4_stacks.specs.Table.{IsAdded, IsOne, one_of};
 
 use crate::content::NodeData;
 use std::alloc::{AllocError, Global};
-use std::collections::BTreeMap;
+use std::collections::{BTreeMap, HashMap};
 use std::marker::Model;
 
 /// The contents of nodes, each once. A content with one top and no mark, as most are, is found by that top. Only of the
@@ -12,7 +12,7 @@ use std::marker::Model;
 #[derive(Drop)]
 pub struct Table {
     nodes: Vec<NodeData>,
-    ones: BTreeMap<(u32, u32), u32>,
+    ones: HashMap<(u32, u32), u32>,
     index: BTreeMap<(bool, bool, Vec<(u32, u32)>), u32>,
     alloc: Global,
 }
@@ -26,7 +26,7 @@ impl Model for Table {
 
     ghost view = { λ t. t.nodes.items };
 
-    ghost invariant = { λ t. IsTable t.nodes.items t.ones t.index };
+    ghost invariant = { λ t. IsTable t.nodes.items t.ones.entries t.index };
 }
 
 impl Table {
@@ -36,7 +36,7 @@ impl Table {
     {
         Table {
             nodes: Vec::new(alloc),
-            ones: BTreeMap::new(alloc),
+            ones: HashMap::new(alloc),
             index: BTreeMap::new(alloc),
             alloc,
         }

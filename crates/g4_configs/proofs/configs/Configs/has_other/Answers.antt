@@ -1,5 +1,5 @@
 use Rattle.std.proofs.Common.{rules, tests, ◌≡◌, ◌≢◌, ◌↔◌, ℕ, IsTrue, subst}
-use Rattle.std.specs.BTreeMap.{keys}
+use Rattle.std.specs.HashMap.{keys}
 use Rattle.std.proofs.lemmas.Iterator.{cases_from_any}
 use Rattle.std.proofs.lemmas.Iterator.Consumers.{YieldsList-from_rest}
 use Rattle.g4_net.specs.Configurations.{Config}
@@ -13,4 +13,5 @@ returns c =
     c.any.ensures.ran (YieldsList-from_rest (keys c.self.inside.nodes) c.keys.ensures.rest) (λ y b k. search (rules, tests))
     (λ y b k. search (rules, tests)) in
     subst (λ (v : View). IsTrue c.any.result ↔ ((x : Config) × Holds v x × (x.alt ≢ c.args.alternative))) c.self.view_is
-    (other_exact c.self.inside.graph c.self.inside.nodes c.is_canonical.ensures c.self.invariant c.args.alternative c.any.result cases)
+    (other_exact c.self.inside.graph c.self.inside.nodes.entries c.is_canonical.ensures c.self.invariant c.args.alternative
+    c.any.result cases)

@@ -1,5 +1,5 @@
 use Rattle.std.proofs.Common.{rules, tests, ◌≡◌, ◌∙◌, ℕ, MatchOption, min, sym, subst}
-use Rattle.std.specs.BTreeMap.{keys}
+use Rattle.std.specs.HashMap.{keys}
 use Rattle.std.specs.List.{reduce}
 use Rattle.std.proofs.lemmas.Iterator.{YieldsList-from_map}
 use Rattle.std.proofs.lemmas.Iterator.Adapters.{option_map_id}
@@ -17,4 +17,4 @@ returns c =
     (YieldsList-at c.map.ensures.source (YieldsList-from_rest (keys c.self.inside.nodes) c.keys.ensures.rest))
     c.map.ensures.closure (λ x r q k. search (rules, tests))) in
     subst (λ (v : View). MatchOption c.min.result (IsEmpty (Holds v)) (IsLeast (Holds v))) c.self.view_is
-    (least_exact c.self.inside.graph c.self.inside.nodes c.is_canonical.ensures c.self.invariant c.min.result is)
+    (least_exact c.self.inside.graph c.self.inside.nodes.entries c.is_canonical.ensures c.self.invariant c.min.result is)

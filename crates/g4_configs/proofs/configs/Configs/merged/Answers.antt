@@ -28,13 +28,13 @@ returns-clause-same c = grown_holds c.self.inside.graph c.add_each.new.graph c.s
     c.self.view_is c.self.invariant c.add_each.ensures.keeps
 
 pub returns-clause-parts : goal.returns-clause-parts
-returns-clause-parts c = merged_parts c.add_each.new.graph c.add_each.new.nodes c.in_ok-found.found.items c.add_each.ensures.nodes
-    c.in_ok-found.ensures.ordered c.in_ok-found.ensures.listed
+returns-clause-parts c = merged_parts c.add_each.new.graph c.add_each.new.nodes.entries c.in_ok-found.found.items c.add_each.ensures.nodes
+    c.in_ok-found.ensures.unique c.in_ok-found.ensures.listed
 
 pub returns-clause-means : goal.returns-clause-means
 returns-clause-means c =
     let none : c.new-nodes.result.entries ≡ [] = search rules in
     subst (λ (v : View). Same (InSome c.add_each.new.graph c.in_ok-found.found.items) (InSome v.graph c.args.groups.now)) c.self.view_is
-    (merged_means c.self.inside.graph c.add_each.new.graph c.new-nodes.result.entries c.args.groups.now c.add_each.new.nodes
-    c.in_ok-found.found.items none c.add_each.ensures.nodes c.in_ok-found.ensures.ordered c.in_ok-add_each.ensures.members
+    (merged_means c.self.inside.graph c.add_each.new.graph c.new-nodes.result.entries c.args.groups.now c.add_each.new.nodes.entries
+    c.in_ok-found.found.items none c.add_each.ensures.nodes c.in_ok-found.ensures.unique c.in_ok-add_each.ensures.members
     c.in_ok-found.ensures.listed)

@@ -1,4 +1,4 @@
-use Rattle.std.proofs.Common.{rules, ◌≡◌, All, List, map, ap, sym, subst}
+use Rattle.std.proofs.Common.{rules, ◌≡◌, ◌∙◌, All, List, map, ap, sym, subst}
 use Rattle.g4_stacks.specs.Graph.{Content, IsNode}
 use Rattle.g4_configs.specs.declared.group.Group.{Group}
 use Rattle.g4_configs.specs.Configs.{AreGroups, View}
@@ -16,7 +16,9 @@ part-requires c =
 
 pub with_nodes-requires : goal.with_nodes-requires
 with_nodes-requires c =
-    let are : c.as_slice-2.result.now ≡ map (λ (x : Group). x.stacks) c.as_slice-3.result.now = search rules in
+    let are : c.as_slice-2.result.now ≡ map (λ (x : Group). x.stacks) c.as_slice-3.result.now =
+    c.as_slice-2.ensures.value ∙ (c.in_ok-roots.ensures
+    ∙ ap (map (λ (x : Group). x.stacks)) (c.as_slice.ensures.value ∙ sym c.as_slice-3.ensures.value)) in
     as_many c.args.self.now.graph c.in_ok-part.part.graph c.as_slice-3.result.now c.as_slice-4.result.now
     (own_alike c.self.inside.graph c.args.self.now.graph c.in_ok-part.part.graph c.as_slice-2.result.now c.in_ok-part.part.nodes.items
     c.as_slice-4.result.now c.as_slice-3.result.now (ap (λ (v : View). v.graph) c.self.view_is) are c.as_slice-4.ensures.value
@@ -24,7 +26,9 @@ with_nodes-requires c =
 
 pub returns-clause-known : goal.returns-clause-known
 returns-clause-known c =
-    let are : c.as_slice-2.result.now ≡ map (λ (x : Group). x.stacks) c.as_slice-3.result.now = search rules in
+    let are : c.as_slice-2.result.now ≡ map (λ (x : Group). x.stacks) c.as_slice-3.result.now =
+    c.as_slice-2.ensures.value ∙ (c.in_ok-roots.ensures
+    ∙ ap (map (λ (x : Group). x.stacks)) (c.as_slice.ensures.value ∙ sym c.as_slice-3.ensures.value)) in
     subst (AreKnown c.in_ok-part.part.graph) (sym c.in_ok-own.ensures)
     (with_known c.args.self.now.graph c.in_ok-part.part.graph c.as_slice-3.result.now c.as_slice-4.result.now
     (own_alike c.self.inside.graph c.args.self.now.graph c.in_ok-part.part.graph c.as_slice-2.result.now c.in_ok-part.part.nodes.items
@@ -33,7 +37,9 @@ returns-clause-known c =
 
 pub returns-clause-means : goal.returns-clause-means
 returns-clause-means c =
-    let are : c.as_slice-2.result.now ≡ map (λ (x : Group). x.stacks) c.as_slice-3.result.now = search rules in
+    let are : c.as_slice-2.result.now ≡ map (λ (x : Group). x.stacks) c.as_slice-3.result.now =
+    c.as_slice-2.ensures.value ∙ (c.in_ok-roots.ensures
+    ∙ ap (map (λ (x : Group). x.stacks)) (c.as_slice.ensures.value ∙ sym c.as_slice-3.ensures.value)) in
     let groups : AreGroups c.args.self.now c.as_slice-3.result.now =
     subst (AreGroups c.args.self.now) (sym c.as_slice-3.ensures.value) c.in_ok-groups.ensures in
     let alike = own_alike c.self.inside.graph c.args.self.now.graph c.in_ok-part.part.graph c.as_slice-2.result.now

@@ -12,7 +12,7 @@ invariant_of-self-2 c =
     c.requires.means in
     record {
       canonical = c.self.invariant.canonical;
-      memo = memo_kept c.self.inside.table c.args.self.now c.self.inside.merged c.insert.new.self c.ordered.result.0
+      memo = memo_kept c.self.inside.table c.args.self.now c.self.inside.merged.entries c.insert.new.self.entries c.ordered.result.0
           c.ordered.result.1 c.args.node c.self.view_is c.self.invariant.memo
           left right c.requires.known means c.in_ok-insert.ensures.updates.0;
       parts = c.self.invariant.parts;

@@ -12,11 +12,11 @@ of_key g a b x y (Some r) key means = union_key g a b x y r key means
 
 pub returns-clause-known : goal.returns-clause-known
 returns-clause-known c =
-    known_before c.self.inside.table c.args.self.now c.self.inside.merged c.ordered.result.0 c.ordered.result.1 c.self.view_is
+    known_before c.self.inside.table c.args.self.now c.self.inside.merged.entries c.ordered.result.0 c.ordered.result.1 c.self.view_is
     c.self.invariant.memo c.copied.result (c.copied.ensures ∙ c.get.ensures.value)
 
 pub returns-clause-means : goal.returns-clause-means
 returns-clause-means c =
     of_key c.args.self.now c.args.a c.args.b c.ordered.result.0 c.ordered.result.1 c.copied.result c.ordered.ensures
-    (means_before c.self.inside.table c.args.self.now c.self.inside.merged c.ordered.result.0 c.ordered.result.1 c.self.view_is
+    (means_before c.self.inside.table c.args.self.now c.self.inside.merged.entries c.ordered.result.0 c.ordered.result.1 c.self.view_is
     c.self.invariant.memo c.copied.result (c.copied.ensures ∙ c.get.ensures.value))

@@ -1,4 +1,4 @@
-use Rattle.std.proofs.Common.{rules, ◌≡◌, ◌≤◌, ◌++◌, ◌∷◌, [], ℕ, ◌-◌, List, length, take, replicate, sym, subst}
+use Rattle.std.proofs.Common.{rules, ◌≡◌, ◌≤◌, ◌++◌, ◌∷◌, [], ◌-◌, List, length, take, replicate, sym, subst}
 use Rattle.g4_stacks.specs.Graph.{Content, IsNode}
 use Rattle.g4_stacks.specs.Merge.{IsPart}
 use Rattle.g4_stacks.proofs.Parts.{parts_before, parts_noted}

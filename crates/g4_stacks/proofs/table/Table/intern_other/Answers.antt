@@ -23,7 +23,7 @@ invariant_of-self-2 c =
     let same : c.in_ok-tops.tops.items ≡ c.as_slice.result.now = search rules in
     let grown : c.push_reserved.new.self.items ≡ c.self.inside.nodes.items ++ content_by k ∷ [] = search rules in
     let l : c.len-n.result ≡ length c.self.inside.nodes.items = search rules in
-    other_more c.self.inside.nodes.items c.push_reserved.new.self.items c.self.inside.ones c.self.inside.index c.insert.new.self k
+    other_more c.self.inside.nodes.items c.push_reserved.new.self.items c.self.inside.ones.entries c.self.inside.index c.insert.new.self k
     c.len-n.result c.self.invariant l several none c.in_ok-insert.ensures.updates.0 grown (search rules)
 
 pub returns-clause-added : goal.returns-clause-added

@@ -1,0 +1,3 @@
+mod Guarding
+mod Placing
+mod Starting

@@ -1,0 +1,3 @@
+-- Other crates cite Levels, Tables.
+pub mod Levels
+pub mod Tables
