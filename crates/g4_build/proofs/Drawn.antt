@@ -3,7 +3,6 @@ use Rattle.std.proofs.Common.{◌≡◌, ℕ, suc, ◌+◌, ◌*◌, ◌<◌, �
 use Rattle.std.proofs.Math.ListN.{set as put}
 use Rattle.std.proofs.lemmas.List.{length-append, length-set, length-map}
 use Rattle.std.proofs.lemmas.List.Sums.{sum_by-cons}
-use Rattle.g4_base.specs.Place.{first_place}
 use Rattle.g4_tokens.specs.Symbols.{end_of_list}
 use Rattle.g4_source.specs.declared.element.Suffix.{Suffix}
 use Rattle.g4_source.specs.Elements.{atom, block, Alternatives, empty, then, none, only}
@@ -19,7 +18,7 @@ use Rattle.g4_net.specs.declared.network.State.TheVariants.{Decision, End, Edge,
 use Rattle.g4_net.specs.Network.{ParserNetwork, state_at, end_of}
 use Rattle.g4_layout.specs.Callers.{callers_of}
 use Rattle.g4_layout.specs.Layout as lay
-use Rattle.g4_layout.specs.Layout.{Lies, LieInOrder, LieSideBySide, LiesAsRule, IsNetworkOf, RulesLie}
+use Rattle.g4_layout.specs.Layout.{Lies, LieInOrder, LieSideBySide, LiesAsRule, RulesLie}
 use Rattle.g4_layout.specs.Numbers.{NumberingsFit, added_numbering}
 use Rattle.g4_layout.specs.Rules.{state_count}
 use Rattle.g4_layout.specs.Size.{states_of_rule}
@@ -33,7 +32,7 @@ use Rattle.g4_build.specs.Rules.{IsDrawn, added_states}
 
 -- `*` of the added rule
 abbrev greedy : Suffix
-greedy = record { place = first_place; greedy = true }
+greedy = record { greedy = true }
 
 -- the added rule is laid out from its loop on
 added_lies : (net : ParserNetwork) (set : List ℕ) (start n : ℕ) → state_at net 0 ≡ Some (Call start 0 n)

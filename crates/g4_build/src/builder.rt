@@ -13,6 +13,7 @@ ghost use Rattle.g4_build.specs.Answers.{GivesNetwork};
 use crate::drawing::draw;
 use crate::width::some_rule_is_wide;
 use g4_grammar::{Numbering, StepRule};
+use g4_leftrec::LaidRules;
 use g4_net::{MOST_STATES, ParserNetwork};
 use g4_states::past_rules;
 use g4_tokens::{EOF, Symbols};
@@ -58,12 +59,8 @@ pub fn fits(rules: &[StepRule]) -> bool
     past_rules(MOST_STATES - 7 - 2 * rules.len(), rules).is_some()
 }
 
-/// The network of the rules with their numberings, whose added rule calls the rule of this name: from where a rule starts it spells
-/// exactly the words that the rule derives. Of the faults that the rules have, the answer is the first in their order.
-///
-/// # Errors
-/// No rule has the name, a decision has too many alternatives, there are too many states, or there is no memory.
-pub fn build(
+/// The network of the rules with these numberings, whose added rule calls the rule of this name, or the first fault of the rules.
+fn network_of(
     alloc: Global,
     rules: &[StepRule],
     numberings: &[Numbering],
@@ -71,8 +68,7 @@ pub fn build(
 ) -> Result<ParserNetwork, BuildFault>
     requires laid { CanBeLaid rules.now }
     requires fit { NumberingsFit (map alternatives_of rules.now) numberings.now }
-    ensures built { GivesNetwork rules.now numberings.now start.now result }
-    ensures spells { IfOk result (SpellsRules (rules_of (eof ∷ []) rules.now start.now)) }
+    ensures { GivesNetwork rules.now numberings.now start.now result }
 {
     let Some(place) = place_of(rules, start) else {
         return Err(BuildFault::UnknownStart);
@@ -85,5 +81,18 @@ pub fn build(
     }
     let file_end = Symbols::one(alloc, EOF)?;
     let net = draw(alloc, rules, numberings, &file_end, place as u32 + 1)?;
+    Ok(net)
+}
+
+/// The network of the rules, whose added rule calls the rule of this name: from where a rule starts it spells exactly the words that
+/// the rule derives. Of the faults that the rules have, the answer is the first in their order.
+///
+/// # Errors
+/// No rule has the name, a decision has too many alternatives, there are too many states, or there is no memory.
+pub fn build(alloc: Global, laid: &LaidRules, start: &str) -> Result<ParserNetwork, BuildFault>
+    ensures built { GivesNetwork laid.now.0 laid.now.1 start.now result }
+    ensures spells { IfOk result (SpellsRules (rules_of (eof ∷ []) laid.now.0 start.now)) }
+{
+    let net = network_of(alloc, laid.rules(), laid.numberings(), start)?;
     Ok(net)
 }

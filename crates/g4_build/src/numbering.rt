@@ -1,5 +1,5 @@
 // The numbers of alternatives that are written at the states of a parser's rules, the added one among them.
-ghost use Rattle.std.specs.Prelude.{◌≡◌, ◌<◌, ◌+◌, ◌*◌, ◌^◌, ◌∷◌, IfOk, length};
+ghost use Rattle.std.specs.Prelude.{◌<◌, ◌+◌, ◌*◌, ◌^◌, ◌∷◌, IfOk, length};
 ghost use Rattle.g4_layout.specs.Numbers.{added_numbering};
 ghost use Rattle.g4_states.specs.Numberings.{CanAllBeNumbered};
 ghost use Rattle.g4_build.specs.Numberings.{AllAreWritten};

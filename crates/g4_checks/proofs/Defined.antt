@@ -55,11 +55,11 @@ module _ (all : List Rule) where
       (holds (list_any (is_rule_of Parser name.text) all) (λ e. h name.text (refl, is_parser all name.text ∙ e)))
   defined Parser (kinds.Token name) h = tt
   defined Parser (kinds.Literal literal) h = tt
-  defined Parser (kinds.Range place first last) h = tt
+  defined Parser (kinds.Range first last) h = tt
   defined Parser (kinds.Set set) h = tt
-  defined Parser (kinds.Any place) h = tt
-  defined Parser (kinds.NotTokens place tokens) h = tt
-  defined Parser (kinds.NotCharacters place set) h = tt
+  defined Parser kinds.Any h = tt
+  defined Parser (kinds.NotTokens tokens) h = tt
+  defined Parser (kinds.NotCharacters set) h = tt
   defined Parser kinds.Action h = tt
   defined Parser (kinds.Predicate name) h = tt
   defined Lexer (kinds.Rule name) h = tt
@@ -68,11 +68,11 @@ module _ (all : List Rule) where
       (holds (list_any (is_rule_of Lexer name.text) all) (λ e. h name.text (other, (refl, is_lexer all name.text ∙ e)))) in
       (found.0, (other, found.1))
   defined Lexer (kinds.Literal literal) h = tt
-  defined Lexer (kinds.Range place first last) h = tt
+  defined Lexer (kinds.Range first last) h = tt
   defined Lexer (kinds.Set set) h = tt
-  defined Lexer (kinds.Any place) h = tt
-  defined Lexer (kinds.NotTokens place tokens) h = tt
-  defined Lexer (kinds.NotCharacters place set) h = tt
+  defined Lexer kinds.Any h = tt
+  defined Lexer (kinds.NotTokens tokens) h = tt
+  defined Lexer (kinds.NotCharacters set) h = tt
   defined Lexer kinds.Action h = tt
   defined Lexer (kinds.Predicate name) h = tt
 

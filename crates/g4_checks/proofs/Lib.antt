@@ -9,4 +9,5 @@ pub mod Nodes
 pub mod Numbers
 pub mod OneCheck
 pub mod OneReference
+mod Passed
 pub mod Sets

@@ -1,6 +1,5 @@
--- What is reported of a grammar is one answer.
-use Rattle.std.proofs.Common.{◌≡◌, ◌≢◌, ℕ, List, [], ◌∷◌, ◌++◌, Bool, Option, Some, None, Result, Ok, Err, ap, sym, ◌∙◌, refl}
-use Rattle.std.specs.Prelude.{⊤}
+-- One fault of what a grammar names is reported, and none where there is none.
+use Rattle.std.proofs.Common.{◌≡◌, ℕ, List, [], ◌∷◌, ◌++◌, Bool, Option, Some, None, ap, sym, ◌∙◌, refl}
 use Rattle.std.proofs.lemmas.List.Elements.{All-nil, All-push}
 use Rattle.g4_base.specs.declared.place.Place.{Place}
 use Rattle.g4_source.specs.declared.atom.AtomKind.{AtomKind}
@@ -11,13 +10,13 @@ use Rattle.g4_source.specs.declared.source.Source.{Source}
 use Rattle.g4_source.specs.declared.kind.RuleKind.{RuleKind}
 use Rattle.g4_source.specs.declared.kind.RuleKind.TheVariants.{Parser, Lexer}
 use Rattle.g4_checks.specs.declared.references.ReferenceFault.{ReferenceFault}
-use Rattle.g4_checks.specs.declared.references.ReferenceFault.TheVariants.{UndefinedRule, UnknownMode, UnknownCommand, UnknownChannel, LexerPredicate, UnknownPredicate, LabelClash, NoMemory}
+use Rattle.g4_checks.specs.declared.references.ReferenceFault.TheVariants.{UndefinedRule, UnknownMode, UnknownCommand, UnknownChannel, LexerPredicate, UnknownPredicate, LabelClash}
 use Rattle.g4_source.specs.First.{IsNone, IsFirst}
 use Rattle.g4_checks.specs.Names.{is_one_of, channel_names, mode_names}
 use Rattle.g4_checks.specs.Uses.{IsLexerPredicate, IsPredicateAt, IsUndefined, IsUnknownAt, IsUnknownPredicate, KindIsLexerPredicate, KindIsUndefined, KindIsUnknownPredicate, UndefinedInLexer, UndefinedInParser}
 use Rattle.g4_checks.specs.Commands.{ArgumentIsUnknownChannel, ArgumentIsUnknownMode, IsUnknownChannel, IsUnknownCommand, IsUnknownMode}
 use Rattle.g4_checks.specs.Labels.{HasClash, IsClash, are_partly_labelled, labels_of, clashes}
-use Rattle.g4_checks.specs.References.{HasChannels, HasCommands, HasModes, HasNoClash, HasNoLexerPredicate, HasPredicates, HasRules, IsChecked, LabelsClash, NamesNoRule, TakesNoChannel, TakesNoMode, atoms_in, commands_in, lexer_names, parser_names, parsers_in}
+use Rattle.g4_checks.specs.References.{HasChannels, HasCommands, HasModes, HasNoClash, HasNoLexerPredicate, HasPredicates, HasRules, IsFault, LabelsClash, NamesNoRule, TakesNoChannel, TakesNoMode, atoms_in, commands_in, lexer_names, parser_names, parsers_in}
 use Rattle.g4_checks.proofs.Missing.{one_missing}
 use Rattle.g4_source.proofs.OneFirst.{IsOne, not_both, one_choice, one_first}
 
@@ -180,8 +179,8 @@ module _ (source : Source) where
       (none_as LabelClash (LabelsClash source) (parsers_in source) h.1)
 
   -- the fault that is reported is the first of the first kind
-  first_kind : (fault : ReferenceFault) → IsChecked source (Err fault) → (fault ≡ NoMemory → ⊥) → IsFirst (FirstOfKind source) kinds fault
-  first_kind (UndefinedRule n) h other = record {
+  first_kind : (fault : ReferenceFault) → IsFault source fault → IsFirst (FirstOfKind source) kinds fault
+  first_kind (UndefinedRule n) h = record {
     before = [];
     item = rules;
     after = modes ∷ commands ∷ channels ∷ lexer_predicates ∷ predicates ∷ labels ∷ [];
@@ -189,7 +188,7 @@ module _ (source : Source) where
     none_before = no_kind;
     reported = (n, refl, h);
   }
-  first_kind (UnknownMode n) h other = record {
+  first_kind (UnknownMode n) h = record {
     before = rules ∷ [];
     item = modes;
     after = commands ∷ channels ∷ lexer_predicates ∷ predicates ∷ labels ∷ [];
@@ -197,7 +196,7 @@ module _ (source : Source) where
     none_before = has_rules h.0;
     reported = (n, refl, h.1);
   }
-  first_kind (UnknownCommand n) h other = record {
+  first_kind (UnknownCommand n) h = record {
     before = rules ∷ modes ∷ [];
     item = commands;
     after = channels ∷ lexer_predicates ∷ predicates ∷ labels ∷ [];
@@ -205,7 +204,7 @@ module _ (source : Source) where
     none_before = has_modes h.0;
     reported = (n, refl, h.1);
   }
-  first_kind (UnknownChannel n) h other = record {
+  first_kind (UnknownChannel n) h = record {
     before = rules ∷ modes ∷ commands ∷ [];
     item = channels;
     after = lexer_predicates ∷ predicates ∷ labels ∷ [];
@@ -213,7 +212,7 @@ module _ (source : Source) where
     none_before = has_commands h.0;
     reported = (n, refl, h.1);
   }
-  first_kind (LexerPredicate place) h other = record {
+  first_kind (LexerPredicate place) h = record {
     before = rules ∷ modes ∷ commands ∷ channels ∷ [];
     item = lexer_predicates;
     after = predicates ∷ labels ∷ [];
@@ -221,7 +220,7 @@ module _ (source : Source) where
     none_before = has_channels h.0;
     reported = (place, refl, h.1);
   }
-  first_kind (UnknownPredicate place) h other =
+  first_kind (UnknownPredicate place) h =
       record {
         before = rules ∷ modes ∷ commands ∷ channels ∷ lexer_predicates ∷ [];
         item = predicates;
@@ -230,7 +229,7 @@ module _ (source : Source) where
         none_before = has_no_lexer_predicate h.0;
         reported = (place, refl, h.1);
       }
-  first_kind (LabelClash n) h other = record {
+  first_kind (LabelClash n) h = record {
     before = rules ∷ modes ∷ commands ∷ channels ∷ lexer_predicates ∷ predicates ∷ [];
     item = labels;
     after = [];
@@ -238,13 +237,11 @@ module _ (source : Source) where
     none_before = has_predicates h.0;
     reported = (n, refl, h.1);
   }
-  first_kind NoMemory h other = absurd (other refl)
 
-  -- the answer is one
-  pub one_check : (a b : Result ⊤ ReferenceFault) → IsChecked source a → IsChecked source b → a ≢ Err NoMemory → b ≢ Err NoMemory → a ≡ b
-  one_check (Ok _) (Ok _) h k n m = refl
-  one_check (Ok _) (Err f) h k n m = absurd (not_both (FirstOfKind source) kinds f (has_no_clash h) (first_kind f k (λ e. m (ap Err e))))
-  one_check (Err f) (Ok _) h k n m = absurd (not_both (FirstOfKind source) kinds f (has_no_clash k) (first_kind f h (λ e. n (ap Err e))))
-  one_check (Err f) (Err g) h k n m =
-      ap Err (one_first (FirstOfKind source) (one_of_kind source) kinds f g (first_kind f h (λ e. n (ap Err e)))
-      (first_kind g k (λ e. m (ap Err e))))
+  -- one fault is reported
+  pub one_fault : (f g : ReferenceFault) → IsFault source f → IsFault source g → f ≡ g
+  one_fault f g h k = one_first (FirstOfKind source) (one_of_kind source) kinds f g (first_kind f h) (first_kind g k)
+
+  -- and none where there is none
+  pub no_fault : (f : ReferenceFault) → HasNoClash source → IsFault source f → ⊥
+  no_fault f none h = not_both (FirstOfKind source) kinds f (has_no_clash none) (first_kind f h)

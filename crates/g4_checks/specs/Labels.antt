@@ -1,7 +1,6 @@
 -- The labels of alternatives, and the faults of them.
 use Rattle.std.specs.Prelude.{◌≡◌, ℕ, List, [], ◌∷◌, ◌++◌, map, Bool, true, ◌&&◌, ◌||◌, Option, is_some, is_none, count_by, nat_le, MatchBool, encode_utf8, encode_utf8_all}
 use Rattle.std.specs.List.{filter_map, list_any}
-use Rattle.std.specs.Option.{option_map}
 use Rattle.std.specs.Str.{chars}
 use Rattle.std.specs.StrCase.Upper.{str_to_uppercase}
 use Rattle.g4_source.specs.declared.atom.Atom.{Atom}
@@ -12,7 +11,7 @@ use Rattle.g4_checks.specs.Names.{is_one_of}
 
 -- the label of an alternative, where it has one
 abbrev pub label_of : RuleAlternative Atom → Option (List ℕ)
-label_of alternative = option_map (λ label. label.name) alternative.label
+label_of alternative = alternative.label
 
 -- the labels of a rule in order
 abbrev pub labels_of : ParserRule Atom → List (List ℕ)

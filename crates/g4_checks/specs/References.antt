@@ -1,5 +1,5 @@
 -- The faults of what a grammar names, in the order in which they are looked for.
-use Rattle.std.specs.Prelude.{ℕ, List, map, Result, Ok, Err, ⊤}
+use Rattle.std.specs.Prelude.{ℕ, List, map}
 use Rattle.g4_source.specs.declared.atom.Atom.{Atom}
 use Rattle.g4_source.specs.declared.rule.Command.{Command}
 use Rattle.g4_source.specs.declared.rule.LexerRule.{LexerRule}
@@ -7,7 +7,7 @@ use Rattle.g4_source.specs.declared.rule.ParserRule.{ParserRule}
 use Rattle.g4_source.specs.declared.source.Source.{Source}
 use Rattle.g4_source.specs.Rules.{lexer_rules, parser_rules}
 use Rattle.g4_checks.specs.declared.references.ReferenceFault.{ReferenceFault}
-use Rattle.g4_checks.specs.declared.references.ReferenceFault.TheVariants.{UndefinedRule, UnknownMode, UnknownCommand, UnknownChannel, LexerPredicate, UnknownPredicate, LabelClash, NoMemory}
+use Rattle.g4_checks.specs.declared.references.ReferenceFault.TheVariants.{UndefinedRule, UnknownMode, UnknownCommand, UnknownChannel, LexerPredicate, UnknownPredicate, LabelClash}
 use Rattle.g4_source.specs.First.{IsFirst, IsNone}
 use Rattle.g4_checks.specs.Names.{channel_names, is_one_of, mode_names}
 use Rattle.g4_source.specs.Atoms.{AtomIn, all_atoms}
@@ -82,14 +82,12 @@ module _ (source : Source) where
   abbrev pub HasNoClash : Type 0
   HasNoClash = HasPredicates × IsNone LabelsClash parsers_in
 
--- the call answers that there is no fault, or with the first of the first kind that has one, unless memory runs out
-abbrev pub IsChecked : Source → Result ⊤ ReferenceFault → Type 0
-IsChecked source (Ok _) = HasNoClash source
-IsChecked source (Err (UndefinedRule n)) = IsFirst (NamesNoRule source) (atoms_in source) n
-IsChecked source (Err (UnknownMode n)) = HasRules source × IsFirst (TakesNoMode source) (commands_in source) n
-IsChecked source (Err (UnknownCommand n)) = HasModes source × IsFirst IsUnknownCommand (commands_in source) n
-IsChecked source (Err (UnknownChannel n)) = HasCommands source × IsFirst (TakesNoChannel source) (commands_in source) n
-IsChecked source (Err (LexerPredicate place)) = HasChannels source × IsFirst IsLexerPredicate (atoms_in source) place
-IsChecked source (Err (UnknownPredicate place)) = HasNoLexerPredicate source × IsFirst IsUnknownPredicate (atoms_in source) place
-IsChecked source (Err (LabelClash n)) = HasPredicates source × IsFirst (LabelsClash source) (parsers_in source) n
-IsChecked source (Err NoMemory) = Unit {0}
+-- this is the fault that is reported: the first of the first kind that has one
+abbrev pub IsFault : Source → ReferenceFault → Type 0
+IsFault source (UndefinedRule n) = IsFirst (NamesNoRule source) (atoms_in source) n
+IsFault source (UnknownMode n) = HasRules source × IsFirst (TakesNoMode source) (commands_in source) n
+IsFault source (UnknownCommand n) = HasModes source × IsFirst IsUnknownCommand (commands_in source) n
+IsFault source (UnknownChannel n) = HasCommands source × IsFirst (TakesNoChannel source) (commands_in source) n
+IsFault source (LexerPredicate place) = HasChannels source × IsFirst IsLexerPredicate (atoms_in source) place
+IsFault source (UnknownPredicate place) = HasNoLexerPredicate source × IsFirst IsUnknownPredicate (atoms_in source) place
+IsFault source (LabelClash n) = HasPredicates source × IsFirst (LabelsClash source) (parsers_in source) n

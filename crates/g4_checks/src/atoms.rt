@@ -1,6 +1,5 @@
 // The atoms of rules in order.
 ghost use Rattle.std.specs.Prelude.{◌≡◌, ◌++◌, IfOk, OnOk, map};
-ghost use Rattle.std.specs.List.{flat_map};
 ghost use Rattle.g4_source.specs.Elements.{atoms, atoms_in_order, atoms_of_either};
 ghost use Rattle.g4_source.specs.Trees.{element_of, in_order};
 ghost use Rattle.g4_source.specs.Rules.{alternatives_of, lexer_alternatives_of};

@@ -4,7 +4,6 @@ ghost use Rattle.std.specs.List.{list_any};
 ghost use Rattle.g4_checks.specs.References.{LabelsClash, parsers_in};
 ghost use Rattle.g4_source.specs.First.{Finds, FindsFirst};
 ghost use Rattle.g4_checks.specs.Labels.{HasClash, IsClash, are_partly_labelled};
-ghost use Rattle.g4_checks.specs.Names.{is_one_of};
 ghost use Rattle.g4_checks.specs.Views.{AreParts, clashes_in};
 
 use crate::capital::capitalised_names;

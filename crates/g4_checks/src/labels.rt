@@ -21,7 +21,7 @@ pub fn labels_of<'a>(alloc: Global, rule: &'a ParserRule<Atom>) -> Result<Vec<&'
     let mut labels = Vec::new(alloc);
     for alternative in rule.alternatives.as_slice() {
         match &alternative.label {
-            Some(label) => labels.push(label.name.as_str())?,
+            Some(label) => labels.push(label.as_str())?,
             None => {}
         }
     }

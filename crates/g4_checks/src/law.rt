@@ -1,12 +1,11 @@
 // What holds of all checks.
-ghost use Rattle.std.specs.Prelude.{◌≡◌, ◌≢◌, Result, ⊤};
+ghost use Rattle.std.specs.Prelude.{◌≡◌};
 ghost use Rattle.g4_source.specs.declared.source.Source.{Source};
-ghost use Rattle.g4_checks.specs.Checking.{IsChecked};
+ghost use Rattle.g4_checks.specs.Checking.{HasNoFault, IsFault};
 ghost use Rattle.g4_checks.specs.declared.fault.CheckFault.{CheckFault};
-ghost use Rattle.g4_checks.specs.declared.fault.CheckFault.TheVariants.{NoMemory};
 
-/// What is reported of the rules of a grammar is one answer, where memory suffices.
+/// Of the rules of a grammar one fault is reported, and none where they have none.
 pub fn one_check()
-    ensures { (source : Source) (a b : Result ⊤ CheckFault) → IsChecked source a → IsChecked source b → a ≢ Err NoMemory
-        → b ≢ Err NoMemory → a ≡ b }
+    ensures one { (source : Source) (f g : CheckFault) → IsFault source f → IsFault source g → f ≡ g }
+    ensures none { (source : Source) (f : CheckFault) → HasNoFault source → IsFault source f → ⊥ }
 {}

@@ -1,5 +1,5 @@
 // What is looked through of a grammar, in order.
-ghost use Rattle.std.specs.Prelude.{◌≡◌, IfOk};
+ghost use Rattle.std.specs.Prelude.{IfOk};
 ghost use Rattle.g4_checks.specs.Views.{AreParts};
 
 use crate::atoms::{AtomUse, atoms_of};

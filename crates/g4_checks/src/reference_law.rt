@@ -1,15 +1,14 @@
 // What holds of all grammars.
-ghost use Rattle.std.specs.Prelude.{◌≡◌, ◌≢◌, ◌++◌, ◌∷◌, [], ℕ, List, Result, ⊤};
+ghost use Rattle.std.specs.Prelude.{◌≡◌, ◌++◌, ◌∷◌, [], ℕ, List};
 ghost use Rattle.g4_source.specs.declared.source.Source.{Source};
-ghost use Rattle.g4_checks.specs.References.{IsChecked};
+ghost use Rattle.g4_checks.specs.References.{HasNoClash, IsFault};
 ghost use Rattle.g4_checks.specs.Predicates.{text_of_predicate};
 ghost use Rattle.g4_checks.specs.declared.references.ReferenceFault.{ReferenceFault};
-ghost use Rattle.g4_checks.specs.declared.references.ReferenceFault.TheVariants.{NoMemory};
 
-/// What is reported of a grammar is one answer, where memory suffices.
+/// Of what a grammar names one fault is reported, and none where all is there.
 pub fn one_reference_check()
-    ensures { (source : Source) (a b : Result ⊤ ReferenceFault) → IsChecked source a → IsChecked source b → a ≢ Err NoMemory
-        → b ≢ Err NoMemory → a ≡ b }
+    ensures one { (source : Source) (f g : ReferenceFault) → IsFault source f → IsFault source g → f ≡ g }
+    ensures none { (source : Source) (f : ReferenceFault) → HasNoClash source → IsFault source f → ⊥ }
 {}
 
 /// The text of a predicate is what is between the braces of its action.

@@ -1,5 +1,6 @@
 // The faults of what a grammar names.
-ghost use Rattle.g4_checks.specs.References.{IsChecked};
+ghost use Rattle.g4_source.specs.Refusals.{Answers};
+ghost use Rattle.g4_checks.specs.References.{HasNoClash, IsFault};
 
 use crate::channels::first_unknown_channel;
 use crate::clashes::first_label_clash;
@@ -9,8 +10,8 @@ use crate::parts::parts_of;
 use crate::predicates::{first_lexer_predicate, first_unknown_predicate};
 use crate::undefined::first_undefined_rule;
 use g4_base::{Place, Text};
-use g4_source::Source;
-use std::alloc::{AllocError, Global};
+use g4_source::{Refused, Source};
+use std::alloc::Global;
 
 /// What a grammar names and is not there, or labels that clash. The variants are in the order in which they are looked for.
 #[derive(Drop)]
@@ -30,18 +31,6 @@ pub enum ReferenceFault {
     /// A rule of whose alternatives some have a label and some have none; or a label that is in two rules, or that is the
     /// name of a parser rule with its first letter in upper case.
     LabelClash(Text),
-    NoMemory,
-}
-
-impl From<AllocError> for ReferenceFault {
-    ghost use Rattle.std.specs.Prelude.{◌≡◌};
-    ghost use Rattle.g4_checks.specs.declared.references.ReferenceFault.TheVariants.{NoMemory};
-
-    ghost from_gives = { λ _ e. e ≡ NoMemory };
-
-    fn from(_: AllocError) -> Self {
-        ReferenceFault::NoMemory
-    }
 }
 
 /// Looks for the first fault: of the first kind that has one, the first in order of the rules, those of all modes in order of the
@@ -49,30 +38,30 @@ impl From<AllocError> for ReferenceFault {
 ///
 /// # Errors
 /// That fault, or no memory.
-pub fn check_references(alloc: Global, source: &Source) -> Result<(), ReferenceFault>
-    ensures { IsChecked source.now result }
+pub fn check_references(alloc: Global, source: &Source) -> Result<(), Refused<ReferenceFault>>
+    ensures { Answers (λ _. HasNoClash source.now) (IsFault source.now) result }
 {
     let parts = parts_of(alloc, source)?;
     if let Some(name) = first_undefined_rule(alloc, source, &parts)? {
-        return Err(ReferenceFault::UndefinedRule(name));
+        return Err(Refused::Fault(ReferenceFault::UndefinedRule(name)));
     }
     if let Some(name) = first_unknown_mode(alloc, source, &parts)? {
-        return Err(ReferenceFault::UnknownMode(name));
+        return Err(Refused::Fault(ReferenceFault::UnknownMode(name)));
     }
     if let Some(name) = first_unknown_command(alloc, source, &parts)? {
-        return Err(ReferenceFault::UnknownCommand(name));
+        return Err(Refused::Fault(ReferenceFault::UnknownCommand(name)));
     }
     if let Some(name) = first_unknown_channel(alloc, source, &parts)? {
-        return Err(ReferenceFault::UnknownChannel(name));
+        return Err(Refused::Fault(ReferenceFault::UnknownChannel(name)));
     }
     if let Some(place) = first_lexer_predicate(source, &parts) {
-        return Err(ReferenceFault::LexerPredicate(place));
+        return Err(Refused::Fault(ReferenceFault::LexerPredicate(place)));
     }
     if let Some(place) = first_unknown_predicate(alloc, source, &parts)? {
-        return Err(ReferenceFault::UnknownPredicate(place));
+        return Err(Refused::Fault(ReferenceFault::UnknownPredicate(place)));
     }
     if let Some(name) = first_label_clash(alloc, source, &parts)? {
-        return Err(ReferenceFault::LabelClash(name));
+        return Err(Refused::Fault(ReferenceFault::LabelClash(name)));
     }
     Ok(())
 }

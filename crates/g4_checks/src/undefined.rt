@@ -1,5 +1,5 @@
 // The first rule that an atom names and that is not there.
-ghost use Rattle.std.specs.Prelude.{◌≡◌, IfOk, map};
+ghost use Rattle.std.specs.Prelude.{IfOk, map};
 ghost use Rattle.g4_checks.specs.References.{NamesNoRule, atoms_in};
 ghost use Rattle.g4_source.specs.First.{Finds, FindsFirst};
 ghost use Rattle.g4_checks.specs.Known.{AreSame};

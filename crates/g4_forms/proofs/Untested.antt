@@ -33,11 +33,11 @@ untested_kind : (a : AtomKind) → parser_atom_forms a ≡ [] → ParserKindIsUn
 untested_kind (kinds.Rule name) h = tt
 untested_kind (kinds.Token name) h = tt
 untested_kind (kinds.Literal literal) h = tt
-untested_kind (kinds.Range place first last) h = tt
+untested_kind (kinds.Range first last) h = tt
 untested_kind (kinds.Set set) h = tt
-untested_kind (kinds.Any place) h = tt
-untested_kind (kinds.NotTokens place tokens) h = tt
-untested_kind (kinds.NotCharacters place set) h = tt
+untested_kind kinds.Any h = tt
+untested_kind (kinds.NotTokens tokens) h = tt
+untested_kind (kinds.NotCharacters set) h = tt
 untested_kind kinds.Action h = tt
 untested_kind (kinds.Predicate name) h = absurd (cc)
 

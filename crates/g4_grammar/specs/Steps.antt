@@ -1,6 +1,5 @@
 -- Steps: what they read, which rule they call, and the added rule.
 use Rattle.std.specs.Prelude.{◌≡◌, ℕ, List, [], ◌∷◌, true, None, Contains}
-use Rattle.g4_base.specs.Place.{first_place}
 use Rattle.g4_tokens.specs.Symbols.{end_of_list}
 use Rattle.g4_source.specs.declared.element.Repeat.{Repeat}
 use Rattle.g4_source.specs.declared.element.Repeat.TheVariants.{Star}
@@ -33,7 +32,7 @@ ReadsSymbols = ReadsStep Contains
 
 -- `*`, greedy
 abbrev pub any_number : Repeat
-any_number = Star (record { place = first_place; greedy = true })
+any_number = Star (record { greedy = true })
 
 -- the added rule of a start rule S: S x* END, where x is any symbol of the set
 abbrev pub added_rule : List ℕ → ℕ → Alternatives (Step (List ℕ))

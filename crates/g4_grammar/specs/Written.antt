@@ -1,5 +1,5 @@
 -- What the atoms of rules read as they are written, and which rules they call.
-use Rattle.std.specs.Prelude.{◌≡◌, ◌≤◌, ◌⊎◌, ℕ, List, [], ◌∷◌, Bool, true, false, Some, map, All, codes}
+use Rattle.std.specs.Prelude.{◌≡◌, ◌≤◌, ◌⊎◌, ℕ, List, [], ◌∷◌, Bool, true, false, Some, All, codes}
 use Rattle.std.specs.List.{position}
 use Rattle.std.specs.Str.{bytes_eq}
 use Rattle.g4_chars.specs.CharSets.{Has}
@@ -25,11 +25,11 @@ abbrev pub ReadsAnySymbol : AtomKind → List ℕ → Type 0
 ReadsAnySymbol (kinds.Rule name) w = ⊥
 ReadsAnySymbol (kinds.Token name) w = (s : ℕ) × (w ≡ s ∷ [])
 ReadsAnySymbol (kinds.Literal literal) w = (s : ℕ) × (w ≡ s ∷ [])
-ReadsAnySymbol (kinds.Range place first last) w = ⊥
+ReadsAnySymbol (kinds.Range first last) w = ⊥
 ReadsAnySymbol (kinds.Set set) w = ⊥
-ReadsAnySymbol (kinds.Any place) w = (s : ℕ) × (w ≡ s ∷ [])
-ReadsAnySymbol (kinds.NotTokens place tokens) w = (s : ℕ) × (w ≡ s ∷ [])
-ReadsAnySymbol (kinds.NotCharacters place set) w = ⊥
+ReadsAnySymbol kinds.Any w = (s : ℕ) × (w ≡ s ∷ [])
+ReadsAnySymbol (kinds.NotTokens tokens) w = (s : ℕ) × (w ≡ s ∷ [])
+ReadsAnySymbol (kinds.NotCharacters set) w = ⊥
 ReadsAnySymbol kinds.Action w = w ≡ []
 ReadsAnySymbol (kinds.Predicate name) w = w ≡ []
 
@@ -43,11 +43,11 @@ abbrev pub MatchesKind : AtomKind → List ℕ → Type 0
 MatchesKind (kinds.Rule name) w = ⊥
 MatchesKind (kinds.Token name) w = ⊥
 MatchesKind (kinds.Literal literal) w = w ≡ literal.characters
-MatchesKind (kinds.Range place first last) w = (c : ℕ) × (w ≡ c ∷ []) × IsBetween first last c
+MatchesKind (kinds.Range first last) w = (c : ℕ) × (w ≡ c ∷ []) × IsBetween first last c
 MatchesKind (kinds.Set set) w = (c : ℕ) × (w ≡ c ∷ []) × Has set c
-MatchesKind (kinds.Any place) w = (c : ℕ) × (w ≡ c ∷ [])
-MatchesKind (kinds.NotTokens place tokens) w = ⊥
-MatchesKind (kinds.NotCharacters place set) w = (c : ℕ) × (w ≡ c ∷ []) × (Has set c → ⊥)
+MatchesKind kinds.Any w = (c : ℕ) × (w ≡ c ∷ [])
+MatchesKind (kinds.NotTokens tokens) w = ⊥
+MatchesKind (kinds.NotCharacters set) w = (c : ℕ) × (w ≡ c ∷ []) × (Has set c → ⊥)
 MatchesKind kinds.Action w = w ≡ []
 MatchesKind (kinds.Predicate name) w = w ≡ []
 
@@ -122,11 +122,11 @@ abbrev pub LexerCalls : List (List ℕ) → AtomKind → ℕ → Type 0
 LexerCalls names (kinds.Rule name) k = ⊥
 LexerCalls names (kinds.Token name) k = position (λ other. bytes_eq other name.text) names ≡ Some k
 LexerCalls names (kinds.Literal literal) k = ⊥
-LexerCalls names (kinds.Range place first last) k = ⊥
+LexerCalls names (kinds.Range first last) k = ⊥
 LexerCalls names (kinds.Set set) k = ⊥
-LexerCalls names (kinds.Any place) k = ⊥
-LexerCalls names (kinds.NotTokens place tokens) k = ⊥
-LexerCalls names (kinds.NotCharacters place set) k = ⊥
+LexerCalls names kinds.Any k = ⊥
+LexerCalls names (kinds.NotTokens tokens) k = ⊥
+LexerCalls names (kinds.NotCharacters set) k = ⊥
 LexerCalls names kinds.Action k = ⊥
 LexerCalls names (kinds.Predicate name) k = ⊥
 
@@ -135,11 +135,11 @@ abbrev pub ParserKindIsUntested : AtomKind → Type 0
 ParserKindIsUntested (kinds.Rule name) = Unit {0}
 ParserKindIsUntested (kinds.Token name) = Unit {0}
 ParserKindIsUntested (kinds.Literal literal) = Unit {0}
-ParserKindIsUntested (kinds.Range place first last) = Unit {0}
+ParserKindIsUntested (kinds.Range first last) = Unit {0}
 ParserKindIsUntested (kinds.Set set) = Unit {0}
-ParserKindIsUntested (kinds.Any place) = Unit {0}
-ParserKindIsUntested (kinds.NotTokens place tokens) = Unit {0}
-ParserKindIsUntested (kinds.NotCharacters place set) = Unit {0}
+ParserKindIsUntested kinds.Any = Unit {0}
+ParserKindIsUntested (kinds.NotTokens tokens) = Unit {0}
+ParserKindIsUntested (kinds.NotCharacters set) = Unit {0}
 ParserKindIsUntested kinds.Action = Unit {0}
 ParserKindIsUntested (kinds.Predicate name) = ⊥
 

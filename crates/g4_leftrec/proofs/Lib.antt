@@ -16,5 +16,6 @@ mod Numbers
 pub mod OtherLevel
 mod Parts
 mod Plainness
+mod SameTrees
 mod Sources
 mod Steps

@@ -1,6 +1,6 @@
 // The primaries and the operators of a left-recursive rule, with their levels.
 ghost use Rattle.std.specs.Prelude.{◌≡◌, ◌<◌, ◌^◌, ◌+◌, ◌-◌, ◌++◌, [], ◌∷◌, IfOk, OnOk, Some, length, map, true};
-ghost use Rattle.std.specs.List.{filter_map, list_any};
+ghost use Rattle.std.specs.List.{filter_map};
 ghost use Rattle.g4_source.specs.Elements.{Elements as Tree};
 ghost use Rattle.g4_source.specs.Trees.{alternative_of, element_of, in_order};
 ghost use Rattle.g4_leftrec.specs.OwnCalls.{after_self, is_left_recursive, is_some, operator_of, primaries, primary_of};

@@ -1,10 +1,13 @@
 // Left-recursive rules as primaries and operators: what calls the rule itself at an end is given a level of precedence.
 #![tactic(auto)]
 
+mod copies;
 mod kinds;
+mod laid_rules;
 mod law;
 mod places;
 mod rewriting;
 
+pub use laid_rules::LaidRules;
 pub use law::{each_alternative_is_kept, only_left_recursive_rules_have_operators};
-pub use rewriting::{Rewritten, rewrite};
+pub use rewriting::rewrite;

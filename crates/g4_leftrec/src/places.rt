@@ -1,7 +1,7 @@
 // Where an alternative calls its own rule: as its first element, and as the last that is no action and no predicate.
 ghost use Rattle.std.specs.Prelude.{◌≡◌, ◌+◌, ◌<◌, IfSome, MatchOption, None, Some, drop, length, map, take};
 ghost use Rattle.g4_source.specs.Trees.{element_of, in_order};
-ghost use Rattle.g4_leftrec.specs.OwnCalls.{after_self, before_self, is_atom, is_some, LastSelf};
+ghost use Rattle.g4_leftrec.specs.OwnCalls.{after_self, before_self, is_atom, is_some};
 ghost use Rattle.g4_leftrec.specs.OwnSteps.{calls, is_silent};
 
 use g4_grammar::Step;

@@ -1,30 +1,21 @@
 // Rules in the form in which they are laid.
 ghost use Rattle.std.specs.Prelude.{◌≡◌, ◌<◌, ◌^◌, ◌+◌, ◌-◌, [], ◌∷◌, IfOk, length, map};
-ghost use Rattle.std.specs.List.{enumerate_from, range_with_len};
+ghost use Rattle.std.specs.List.{range_with_len};
 ghost use Rattle.g4_source.specs.Elements.{Elements as Tree};
 ghost use Rattle.g4_source.specs.Marks.{onto};
 ghost use Rattle.g4_source.specs.Trees.{alternative_of, element_of, in_order};
-ghost use Rattle.g4_source.specs.Rules.{alternatives_of};
-ghost use Rattle.g4_grammar.specs.StepRules.{CanBeLaid, CanBeRewritten};
-ghost use Rattle.g4_layout.specs.Numbers.{NumberingsFit};
 ghost use Rattle.g4_leftrec.specs.OwnCalls.{primaries};
 ghost use Rattle.g4_leftrec.specs.OwnSteps.{calls};
 ghost use Rattle.g4_leftrec.specs.Rewriting.{StepIn, after_primary, formed, loop_of, numbering_of, numberings, plain_alternative, rewritten, turns_of};
 
+use crate::copies;
 use crate::kinds::{Kinds, is_left_recursive, kinds_of};
-use g4_base::{Place, Sequence, Text};
-use g4_grammar::{Numbering, Step, StepRule};
+use crate::laid_rules::LaidRules;
+use g4_base::{Sequence, Text};
+use g4_grammar::{Numbering, ParserRules, Step, StepRule};
 use g4_source::{Alternative, Element, Elements, ParserRule, Repeat, RuleAlternative, Suffix};
 use g4_tokens::Symbols;
 use std::alloc::{AllocError, Global};
-
-/// Rules in the form in which they are laid, and the numbers of their alternatives.
-#[derive(Drop)]
-pub struct Rewritten {
-    pub rules: Vec<StepRule>,
-    /// The numbering of each rule, in order.
-    pub numberings: Vec<Numbering>,
-}
 
 /// A rule in the form in which it is laid, and its numbering.
 #[derive(Drop)]
@@ -56,10 +47,7 @@ fn primary_elements(
 fn turns_of(operators: Vec<Alternative<Step<Symbols>>>) -> Element<Step<Symbols>>
     ensures { in_order (element_of result ∷ []) ≡ turns_of (map alternative_of operators.items) }
 {
-    let sign = Suffix {
-        place: Place::START,
-        greedy: true,
-    };
+    let sign = Suffix { greedy: true };
     Element::Block(None, Repeat::Star(sign), operators)
 }
 
@@ -169,26 +157,20 @@ fn formed(alloc: Global, number: u32, rule: StepRule) -> Result<Laid, AllocError
 ///
 /// # Errors
 /// No memory, also where there are more rules, or more alternatives of a rule and one, than numbers of 32 bits.
-pub fn rewrite(alloc: Global, rules: Vec<StepRule>) -> Result<Rewritten, AllocError>
-    ensures rules { IfOk result (λ made. made.rules.items ≡ rewritten rules.items) }
-    ensures numberings { IfOk result (λ made. made.numberings.items ≡ numberings rules.items) }
-    ensures laid { CanBeRewritten rules.items → IfOk result (λ made. CanBeLaid made.rules.items) }
-    ensures fit { CanBeRewritten rules.items → IfOk result
-        (λ made. NumberingsFit (map alternatives_of made.rules.items) made.numberings.items) }
+pub fn rewrite(alloc: Global, rules: &ParserRules) -> Result<LaidRules, AllocError>
+    ensures { IfOk result (λ made. made ≡ (rewritten rules.now, numberings rules.now)) }
 {
-    let mut made = Rewritten {
-        rules: Vec::new(alloc),
-        numberings: Vec::new(alloc),
-    };
+    let mut laid = Vec::new(alloc);
+    let mut numberings = Vec::new(alloc);
     let mut number = 0u32;
-    for rule in rules {
+    for rule in rules.as_slice() {
         let Some(next) = number.checked_add(1) else {
             return Err(AllocError);
         };
         number = next;
-        let laid = formed(alloc, number, rule)?;
-        made.rules.push(laid.rule)?;
-        made.numberings.push(laid.numbering)?;
+        let made = formed(alloc, number, copies::rule(alloc, rule)?)?;
+        laid.push(made.rule)?;
+        numberings.push(made.numbering)?;
     }
-    Ok(made)
+    Ok(LaidRules::new(laid, numberings))
 }

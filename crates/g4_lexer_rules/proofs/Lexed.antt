@@ -124,11 +124,11 @@ module _ (names : List (List ℕ)) where
     refl,
   )
   reads (kinds.Literal literal) b e r = absurd (let n : ⊥ = cc in n)
-  reads (kinds.Range place first last) b e r = absurd (not_edge b _ e r)
+  reads (kinds.Range first last) b e r = absurd (not_edge b _ e r)
   reads (kinds.Set set) b e r = absurd (not_edge b _ e r)
-  reads (kinds.Any place) b e r = absurd (not_edge b _ e r)
-  reads (kinds.NotTokens place tokens) b e r = absurd (not_edge b _ e r)
-  reads (kinds.NotCharacters place set) b e r = absurd (not_edge b _ e r)
+  reads kinds.Any b e r = absurd (not_edge b _ e r)
+  reads (kinds.NotTokens tokens) b e r = absurd (not_edge b _ e r)
+  reads (kinds.NotCharacters set) b e r = absurd (not_edge b _ e r)
   reads kinds.Action b e r = inl refl
   reads (kinds.Predicate name) b e r = inl refl
 
@@ -137,11 +137,11 @@ module _ (names : List (List ℕ)) where
   calls (kinds.Rule name) b k e c = no_call b _ k e c
   calls (kinds.Token name) b k e c = token_calls (bytes_eq name.text (codes "EOF")) (bytes_eq name.text (codes "EOF")) _ k refl b e c
   calls (kinds.Literal literal) b k e c = absurd (let n : ⊥ = cc in n)
-  calls (kinds.Range place first last) b k e c = no_call b _ k e c
+  calls (kinds.Range first last) b k e c = no_call b _ k e c
   calls (kinds.Set set) b k e c = no_call b _ k e c
-  calls (kinds.Any place) b k e c = no_call b _ k e c
-  calls (kinds.NotTokens place tokens) b k e c = no_call b _ k e c
-  calls (kinds.NotCharacters place set) b k e c = no_call b _ k e c
+  calls kinds.Any b k e c = no_call b _ k e c
+  calls (kinds.NotTokens tokens) b k e c = no_call b _ k e c
+  calls (kinds.NotCharacters set) b k e c = no_call b _ k e c
   calls kinds.Action b k e c = no_empty_call b k e c
   calls (kinds.Predicate name) b k e c = no_empty_call b k e c
 
@@ -154,11 +154,11 @@ module _ (names : List (List ℕ)) where
     blocks (kinds.Literal literal) label repeat ys e h =
         inl (chain_null made literal.characters (block_null made (chain literal.characters)
         (subst (Nullable ReadsBare CallsRule made) e h)))
-    blocks (kinds.Range place first last) label repeat ys e h = absurd (let n : ⊥ = cc in n)
+    blocks (kinds.Range first last) label repeat ys e h = absurd (let n : ⊥ = cc in n)
     blocks (kinds.Set set) label repeat ys e h = absurd (let n : ⊥ = cc in n)
-    blocks (kinds.Any place) label repeat ys e h = absurd (let n : ⊥ = cc in n)
-    blocks (kinds.NotTokens place tokens) label repeat ys e h = absurd (let n : ⊥ = cc in n)
-    blocks (kinds.NotCharacters place set) label repeat ys e h = absurd (let n : ⊥ = cc in n)
+    blocks kinds.Any label repeat ys e h = absurd (let n : ⊥ = cc in n)
+    blocks (kinds.NotTokens tokens) label repeat ys e h = absurd (let n : ⊥ = cc in n)
+    blocks (kinds.NotCharacters set) label repeat ys e h = absurd (let n : ⊥ = cc in n)
     blocks kinds.Action label repeat ys e h = absurd (let n : ⊥ = cc in n)
     blocks (kinds.Predicate name) label repeat ys e h = absurd (let n : ⊥ = cc in n)
 
@@ -168,11 +168,11 @@ module _ (names : List (List ℕ)) where
     no_loop (kinds.Token name) h = h
     no_loop (kinds.Literal literal) (inl h) = chain_loop made literal.characters h
     no_loop (kinds.Literal literal) (inr h) = h
-    no_loop (kinds.Range place first last) h = h
+    no_loop (kinds.Range first last) h = h
     no_loop (kinds.Set set) h = h
-    no_loop (kinds.Any place) h = h
-    no_loop (kinds.NotTokens place tokens) h = h
-    no_loop (kinds.NotCharacters place set) h = h
+    no_loop kinds.Any h = h
+    no_loop (kinds.NotTokens tokens) h = h
+    no_loop (kinds.NotCharacters set) h = h
     no_loop kinds.Action h = h
     no_loop (kinds.Predicate name) h = h
 
@@ -184,11 +184,11 @@ module _ (names : List (List ℕ)) where
         (Call (position_or_len (λ other. bytes_eq other name.text) names))))) j refl h
     lefts (kinds.Literal literal) j (inl h) = chain_left made j literal.characters h
     lefts (kinds.Literal literal) j (inr h) = h
-    lefts (kinds.Range place first last) j h = h
+    lefts (kinds.Range first last) j h = h
     lefts (kinds.Set set) j h = h
-    lefts (kinds.Any place) j h = h
-    lefts (kinds.NotTokens place tokens) j h = h
-    lefts (kinds.NotCharacters place set) j h = h
+    lefts kinds.Any j h = h
+    lefts (kinds.NotTokens tokens) j h = h
+    lefts (kinds.NotCharacters set) j h = h
     lefts kinds.Action j h = h
     lefts (kinds.Predicate name) j h = h
 
@@ -200,11 +200,11 @@ module _ (names : List (List ℕ)) where
       (Call (position_or_len (λ other. bytes_eq other name.text) names))))) j refl h
   has (kinds.Literal literal) j (inl h) = chain_call j literal.characters h
   has (kinds.Literal literal) j (inr h) = h
-  has (kinds.Range place first last) j h = h
+  has (kinds.Range first last) j h = h
   has (kinds.Set set) j h = h
-  has (kinds.Any place) j h = h
-  has (kinds.NotTokens place tokens) j h = h
-  has (kinds.NotCharacters place set) j h = h
+  has kinds.Any j h = h
+  has (kinds.NotTokens tokens) j h = h
+  has (kinds.NotCharacters set) j h = h
   has kinds.Action j h = h
   has (kinds.Predicate name) j h = h
 

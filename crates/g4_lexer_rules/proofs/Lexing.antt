@@ -217,11 +217,11 @@ module _ (literals : List LexerRule) (all : List Rule) where
     kind_called (kinds.Rule name) k ys c is = absurd c
     kind_called (kinds.Token name) k ys c is = let first = name_called name.text c.0 k ys c.1 is in ((c.0, first.0), first.1)
     kind_called (kinds.Literal literal) k ys c is = absurd c
-    kind_called (kinds.Range place first last) k ys c is = absurd c
+    kind_called (kinds.Range first last) k ys c is = absurd c
     kind_called (kinds.Set set) k ys c is = absurd c
-    kind_called (kinds.Any place) k ys c is = absurd c
-    kind_called (kinds.NotTokens place tokens) k ys c is = absurd c
-    kind_called (kinds.NotCharacters place set) k ys c is = absurd c
+    kind_called kinds.Any k ys c is = absurd c
+    kind_called (kinds.NotTokens tokens) k ys c is = absurd c
+    kind_called (kinds.NotCharacters set) k ys c is = absurd c
     kind_called kinds.Action k ys c is = absurd c
     kind_called (kinds.Predicate name) k ys c is = absurd c
 
@@ -248,11 +248,11 @@ module _ (literals : List LexerRule) (all : List Rule) where
     kind_within (kinds.Rule name) j d c = absurd c
     kind_within (kinds.Token name) j d c = let place = d c.0 in name_within name.text place.0 j place.1.1 c.1
     kind_within (kinds.Literal literal) j d c = absurd c
-    kind_within (kinds.Range place first last) j d c = absurd c
+    kind_within (kinds.Range first last) j d c = absurd c
     kind_within (kinds.Set set) j d c = absurd c
-    kind_within (kinds.Any place) j d c = absurd c
-    kind_within (kinds.NotTokens place tokens) j d c = absurd c
-    kind_within (kinds.NotCharacters place set) j d c = absurd c
+    kind_within kinds.Any j d c = absurd c
+    kind_within (kinds.NotTokens tokens) j d c = absurd c
+    kind_within (kinds.NotCharacters set) j d c = absurd c
     kind_within kinds.Action j d c = absurd c
     kind_within (kinds.Predicate name) j d c = absurd c
 

@@ -9,6 +9,7 @@ mod Emptied
 mod Gathered
 pub mod Laws
 pub mod Lexed
+pub mod LexerMade
 mod LexerPlaces
 mod Lexing
 mod Lists

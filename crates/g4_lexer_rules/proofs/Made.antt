@@ -1,7 +1,7 @@
 -- What holds of the rules of a lexer: they are full, and each has a type.
 use Rattle.std.proofs.Common.{◌≡◌, ◌≤◌, get_or, slice_index_or, ℕ, List, [], ◌∷◌, ◌++◌, length, map, Bool, true, false, cond, Option, Some, option_map, refl, sym, ap, ◌∙◌, subst, arith, All}
 use Rattle.std.specs.List.{find}
-use Rattle.std.specs.Option.{is_none, unwrap_or}
+use Rattle.std.specs.Option.{unwrap_or}
 use Rattle.std.specs.Str.{bytes_eq}
 use Rattle.std.proofs.lemmas.List.{length-append, length-map}
 use Rattle.std.proofs.lemmas.List.Elements.{All-append, All-head, All-map, All-tail}
@@ -64,7 +64,7 @@ named_number (entry ∷ types) name = by entry.key (named_number types name)
 pub rule_type : (types : List Entry) (places : Places) (rule : LexerRule) → AreSymbols (names_of types) places
     → type_by_names places rule ≡ type_of_rule types rule
 rule_type types places rule are =
-    ap (λ (o : Option ℕ). cond (is_none rule.fragment) (unwrap_or o 0) 0) (are rule.name ∙ named_number types rule.name)
+    ap (λ (o : Option ℕ). cond rule.fragment 0 (unwrap_or o 0)) (are rule.name ∙ named_number types rule.name)
 
 pub rule_types : (types : List Entry) (places : Places) (rules : List LexerRule) → AreSymbols (names_of types) places
     → map (type_by_names places) rules ≡ map (type_of_rule types) rules
@@ -89,11 +89,12 @@ named_low (token ∷ names) low name =
 
 rule_low : (types : List Entry) → All (λ token. token.symbol ≤ MOST_TYPES) (names_of types) → (rule : LexerRule)
     → type_of_rule types rule ≤ MOST_TYPES
-rule_low types low rule = by (is_none rule.fragment)
+rule_low types low rule = by rule.fragment
   where
-    by : (b : Bool) → cond b (type_of types (keys.Name rule.name)) 0 ≤ MOST_TYPES
-    by true = subst (λ (o : Option ℕ). unwrap_or o 0 ≤ MOST_TYPES) (named_number types rule.name) (named_low (names_of types) low rule.name)
-    by false = omega arith
+    by : (b : Bool) → cond b 0 (type_of types (keys.Name rule.name)) ≤ MOST_TYPES
+    by true = omega arith
+    by false = subst (λ (o : Option ℕ). unwrap_or o 0 ≤ MOST_TYPES) (named_number types rule.name)
+        (named_low (names_of types) low rule.name)
 
 module _ (rules : List Rule) (made : LexerRules) (h : IsLexerRulesOf rules made) where
   -- the types of the grammar

@@ -54,7 +54,7 @@ sets_match names (kinds.Rule name) set canonical is c = let same = set_of [] set
 sets_match names (kinds.Token name) set canonical is c =
     absurd (no_set (bytes_eq name.text (codes "EOF")) _ set (inside (reference names name.text) (Set set) is))
 sets_match names (kinds.Literal literal) set canonical is c = absurd (let n : ⊥ = cc in n)
-sets_match names (kinds.Range place first last) set canonical is c =
+sets_match names (kinds.Range first last) set canonical is c =
     let same = set_of (spanned first.characters last.characters) set
     (inside (Set (spanned first.characters last.characters)) (Set set) is) in
     let all = spanned_has first.characters last.characters c in (
@@ -67,15 +67,15 @@ sets_match names (kinds.Set own) set canonical is c =
       λ h. let w = subst (λ (xs : List Range). Has xs c) (sym same) h in (rise_scalar 0 own c canonical w, (c, refl, w)),
       λ (scalar, (a, one, has)). subst (λ (xs : List Range). Has xs c) same (subst (Has own) (let e : a ≡ c = cc in e) has),
     )
-sets_match names (kinds.Any place) set canonical is c =
+sets_match names kinds.Any set canonical is c =
     let same = set_of (scalars 0 0x110000) set (inside (Set (scalars 0 0x110000)) (Set set) is) in
     let all = scalars_has 0 0x110000 c in (
       λ h. let w = all.0 (subst (λ (xs : List Range). Has xs c) (sym same) h) in (w.2, (c, refl)),
       λ (scalar, more). subst (λ (xs : List Range). Has xs c) same (all.1 (omega arith, scalar_low c scalar, scalar)),
     )
-sets_match names (kinds.NotTokens place tokens) set canonical is c = let same = set_of [] set (inside (Set []) (Set set) is) in
+sets_match names (kinds.NotTokens tokens) set canonical is c = let same = set_of [] set (inside (Set []) (Set set) is) in
     (λ h. absurd (subst (λ (xs : List Range). Has xs c) (sym same) h), λ h. absurd h.1)
-sets_match names (kinds.NotCharacters place own) set canonical is c =
+sets_match names (kinds.NotCharacters own) set canonical is c =
     let same = set_of (gaps 0 own) set (inside (Set (gaps 0 own)) (Set set) is) in
     let all = gaps_has 0 own c canonical in (
       λ h. let w = all.0 (subst (λ (xs : List Range). Has xs c) (sym same) h) in (w.1, (c, refl, w.2)),

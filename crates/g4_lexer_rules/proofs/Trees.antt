@@ -43,11 +43,11 @@ module _ (names : List (List ℕ)) where
   atom_states (kinds.Rule name) = refl
   atom_states (kinds.Token name) = refl
   atom_states (kinds.Literal literal) = omega (arith, characters_states literal.characters)
-  atom_states (kinds.Range place first last) = refl
+  atom_states (kinds.Range first last) = refl
   atom_states (kinds.Set set) = refl
-  atom_states (kinds.Any place) = refl
-  atom_states (kinds.NotTokens place tokens) = refl
-  atom_states (kinds.NotCharacters place set) = refl
+  atom_states kinds.Any = refl
+  atom_states (kinds.NotTokens tokens) = refl
+  atom_states (kinds.NotCharacters set) = refl
   atom_states kinds.Action = refl
   atom_states (kinds.Predicate name) = refl
 
@@ -95,11 +95,11 @@ module _ (names : List (List ℕ)) where
   atom_full (kinds.Rule name) = tt
   atom_full (kinds.Token name) = tt
   atom_full (kinds.Literal literal) = (tt, (characters_full literal.characters, tt))
-  atom_full (kinds.Range place first last) = tt
+  atom_full (kinds.Range first last) = tt
   atom_full (kinds.Set set) = tt
-  atom_full (kinds.Any place) = tt
-  atom_full (kinds.NotTokens place tokens) = tt
-  atom_full (kinds.NotCharacters place set) = tt
+  atom_full kinds.Any = tt
+  atom_full (kinds.NotTokens tokens) = tt
+  atom_full (kinds.NotCharacters set) = tt
   atom_full kinds.Action = tt
   atom_full (kinds.Predicate name) = tt
 

@@ -26,11 +26,11 @@ KindCallsNamed names (kinds.Rule name) k = ⊥
 KindCallsNamed names (kinds.Token name) k = (bytes_eq name.text (codes "EOF") ≡ false)
     × (k ≡ position_or_len (λ other. bytes_eq other name.text) names)
 KindCallsNamed names (kinds.Literal literal) k = ⊥
-KindCallsNamed names (kinds.Range place first last) k = ⊥
+KindCallsNamed names (kinds.Range first last) k = ⊥
 KindCallsNamed names (kinds.Set set) k = ⊥
-KindCallsNamed names (kinds.Any place) k = ⊥
-KindCallsNamed names (kinds.NotTokens place tokens) k = ⊥
-KindCallsNamed names (kinds.NotCharacters place set) k = ⊥
+KindCallsNamed names kinds.Any k = ⊥
+KindCallsNamed names (kinds.NotTokens tokens) k = ⊥
+KindCallsNamed names (kinds.NotCharacters set) k = ⊥
 KindCallsNamed names kinds.Action k = ⊥
 KindCallsNamed names (kinds.Predicate name) k = ⊥
 

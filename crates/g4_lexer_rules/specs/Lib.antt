@@ -1,8 +1,9 @@
--- Other crates cite Commands, Known, LexNets, Lexable, NetworkRules, Rules, Starts, Steps, Tables; only this crate cites Types.
+-- Other crates cite Commands, Known, LexNets, Lexable, Lexers, NetworkRules, Rules, Starts, Steps, Tables; only this crate cites Types.
 pub mod Commands
 pub mod Known
 pub mod LexNets
 pub mod Lexable
+pub mod Lexers
 pub mod NetworkRules
 pub mod Rules
 pub mod Starts

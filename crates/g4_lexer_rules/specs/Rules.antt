@@ -1,6 +1,5 @@
 -- The rules of a lexer, as its network is made of them.
-use Rattle.std.specs.Prelude.{◌≡◌, ℕ, List, [], ◌∷◌, ◌++◌, None, map, codes, cond}
-use Rattle.std.specs.Option.{is_none}
+use Rattle.std.specs.Prelude.{◌≡◌, ℕ, List, [], ◌∷◌, ◌++◌, None, false, map, codes, cond}
 use Rattle.g4_source.specs.Elements.{atom, empty, then}
 use Rattle.g4_source.specs.declared.atom.AtomKind.TheVariants as kinds
 use Rattle.g4_source.specs.declared.atom.Literal.{Literal}
@@ -22,11 +21,11 @@ literal_alternative literal = record { elements = then (atom (record { label = N
 -- what makes the tokens of a literal, as a lexer rule. It is no fragment, and has the name `EOF`, with which no reference calls a rule.
 abbrev pub rule_of_literal : TokenLiteral → LexerRule
 rule_of_literal token =
-    record { mode = None; fragment = None; name = codes "EOF"; alternatives = literal_alternative token.literal ∷ [] }
+    record { mode = None; fragment = false; name = codes "EOF"; alternatives = literal_alternative token.literal ∷ [] }
 
 -- the type of a lexer rule: that of its name; a fragment has none, which is 0
 abbrev pub type_of_rule : List Entry → LexerRule → ℕ
-type_of_rule types rule = cond (is_none rule.fragment) (type_of types (keys.Name rule.name)) 0
+type_of_rule types rule = cond rule.fragment 0 (type_of types (keys.Name rule.name))
 
 -- the types of the rules in order: those of the literals, and then those of the lexer rules
 abbrev pub types_of_rules : List Entry → List Rule → List ℕ

@@ -1,8 +1,7 @@
 -- Where a match may begin.
-use Rattle.std.specs.Prelude.{◌≡◌, ◌≤◌, ◌==◌, ℕ, zero, suc, ◌+◌, List, [], ◌∷◌, ◌++◌, length, map, Bool, false, cond, codes, Option, Some, None, slice_get}
+use Rattle.std.specs.Prelude.{◌≡◌, ◌≤◌, ◌==◌, ℕ, zero, suc, ◌+◌, List, [], ◌∷◌, ◌++◌, length, map, Bool, true, false, cond, codes, Option, Some, None, slice_get}
 use Rattle.std.specs.List.{range_with_len}
 use Rattle.std.specs.Option.{unwrap_or}
-use Rattle.g4_base.specs.declared.place.Place.{Place}
 use Rattle.g4_source.specs.declared.rule.LexerAlternative.{LexerAlternative}
 use Rattle.g4_source.specs.declared.rule.LexerRule.{LexerRule}
 use Rattle.g4_names.specs.Places.{first_place}
@@ -37,10 +36,10 @@ rule_starts states rule [] = decided_starts rule (slice_get states (start_of rul
 rule_starts states rule (x ∷ []) = record { rule = rule; alternative = 1; state = start_of rule } ∷ []
 rule_starts states rule (x ∷ y ∷ more) = decided_starts rule (slice_get states (start_of rule))
 
--- these starts, if there is no place of `fragment`: no match begins with a fragment
-abbrev pub unless_fragment : Option Place → List Start → List Start
-unless_fragment None starts = starts
-unless_fragment (Some place) starts = []
+-- these starts, unless the rule is a fragment: no match begins with one
+abbrev pub unless_fragment : Bool → List Start → List Start
+unless_fragment false starts = starts
+unless_fragment true starts = []
 
 -- where a match of a rule may begin
 abbrev pub matched_starts : List (State Reads) → ℕ → LexerRule → List Start

@@ -51,11 +51,11 @@ abbrev pub element_of_kind : List (List ℕ) → AtomKind → Element LexerStep
 element_of_kind names (kinds.Rule name) = atom (Set [])
 element_of_kind names (kinds.Token name) = atom (reference names name.text)
 element_of_kind names (kinds.Literal literal) = chained literal.characters
-element_of_kind names (kinds.Range place first last) = atom (Set (spanned first.characters last.characters))
+element_of_kind names (kinds.Range first last) = atom (Set (spanned first.characters last.characters))
 element_of_kind names (kinds.Set set) = atom (Set set)
-element_of_kind names (kinds.Any place) = atom (Set (scalars 0 0x110000))
-element_of_kind names (kinds.NotTokens place tokens) = atom (Set [])
-element_of_kind names (kinds.NotCharacters place set) = atom (Set (gaps 0 set))
+element_of_kind names kinds.Any = atom (Set (scalars 0 0x110000))
+element_of_kind names (kinds.NotTokens tokens) = atom (Set [])
+element_of_kind names (kinds.NotCharacters set) = atom (Set (gaps 0 set))
 element_of_kind names kinds.Action = atom Empty
 element_of_kind names (kinds.Predicate name) = atom Empty
 
@@ -64,10 +64,10 @@ abbrev pub SetIsCanonical : AtomKind → Type 0
 SetIsCanonical (kinds.Rule name) = Unit {0}
 SetIsCanonical (kinds.Token name) = Unit {0}
 SetIsCanonical (kinds.Literal literal) = Unit {0}
-SetIsCanonical (kinds.Range place first last) = Unit {0}
+SetIsCanonical (kinds.Range first last) = Unit {0}
 SetIsCanonical (kinds.Set set) = IsCanonical set
-SetIsCanonical (kinds.Any place) = Unit {0}
-SetIsCanonical (kinds.NotTokens place tokens) = Unit {0}
-SetIsCanonical (kinds.NotCharacters place set) = IsCanonical set
+SetIsCanonical kinds.Any = Unit {0}
+SetIsCanonical (kinds.NotTokens tokens) = Unit {0}
+SetIsCanonical (kinds.NotCharacters set) = IsCanonical set
 SetIsCanonical kinds.Action = Unit {0}
 SetIsCanonical (kinds.Predicate name) = Unit {0}

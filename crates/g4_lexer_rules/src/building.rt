@@ -29,7 +29,7 @@ fn join(literals: Vec<LexerRule>, rules: Vec<LexerRule>) -> Result<Vec<LexerRule
 ///
 /// # Errors
 /// Too many states, or no memory.
-pub fn build_lexer(
+pub(crate) fn build_net(
     alloc: Global,
     literals: Vec<LexerRule>,
     rules: Vec<LexerRule>,

@@ -1,5 +1,5 @@
 // The network of rules over steps.
-ghost use Rattle.std.specs.Prelude.{◌≡◌, ◌≤◌, ◌+◌, ◌*◌, All, IfOk, length, map, sum_by};
+ghost use Rattle.std.specs.Prelude.{◌≡◌, ◌≤◌, ◌+◌, ◌*◌, All, IfOk, length, sum_by};
 ghost use Rattle.g4_net.specs.declared.network.TheConstants.{MOST_STATES};
 ghost use Rattle.g4_layout.specs.Numbered.{IsNumberedNetworkOf};
 ghost use Rattle.g4_layout.specs.Numbers.{NumberingsFit};

@@ -1,22 +1,24 @@
 // The rules of a lexer from the rules of a grammar as they are written.
-ghost use Rattle.std.specs.Prelude.{◌≡◌, ◌≤◌, ◌++◌, All, IfOk, OnOk, [], length, map};
-ghost use Rattle.g4_names.specs.declared.places.Places.{Places as Names};
+ghost use Rattle.std.specs.Prelude.{◌≡◌, ◌≤◌, ◌++◌, All, IfOk, [], length, map};
 ghost use Rattle.g4_tokens.specs.declared.symbol.TheConstants.{MOST_TYPES};
 ghost use Rattle.g4_source.specs.Blocks.{LexerRulesAreFull, RulesAreFull};
 ghost use Rattle.g4_source.specs.Rules.{lexer_rules};
 ghost use Rattle.g4_vocab.specs.Numbering.{literals_of, names_of, types_of};
-ghost use Rattle.g4_lexer_rules.specs.Commands.{AreSymbols, type_named};
 ghost use Rattle.g4_lexer_rules.specs.NetworkRules.{all_rules};
+ghost use Rattle.g4_grammar.specs.Written.{RulesAreDefined, RulesCanRun};
 ghost use Rattle.g4_lexer_rules.specs.Rules.{IsLexerRulesOf};
+ghost use Rattle.g4_lexer_rules.specs.Tables.{tables_of};
 ghost use Rattle.g4_lexer_rules.specs.Types.{type_by_names};
 
+use crate::checked_lexer::CheckedLexer;
 use crate::lexer_rules::LexerRules;
 use crate::literals::rules_of_literals;
 use crate::numbers::symbols_of;
+use crate::tables::tables_of;
 use g4_base::Sequence;
 use g4_grammar::{TokenLiteral, TokenName};
 use g4_names::Places;
-use g4_source::{LexerRule, Rule};
+use g4_source::{LexerRule, Rule, Source};
 use std::alloc::{AllocError, Global};
 
 /// The lexer rules among these rules, fragments too.
@@ -37,7 +39,7 @@ fn lexer_rules(alloc: Global, rules: Vec<Rule>) -> Result<Vec<LexerRule>, AllocE
 fn type_of(symbols: &Places<'_>, rule: &LexerRule) -> u32
     ensures { result ≡ type_by_names symbols.now rule.now }
 {
-    if rule.fragment.is_some() {
+    if rule.fragment {
         return 0;
     }
     symbols.place_of(rule.name.as_str()).unwrap_or(0)
@@ -89,7 +91,7 @@ fn gathered(
 ///
 /// # Errors
 /// No memory.
-pub fn lexer_rules_of(
+fn lexer_rules_of(
     alloc: Global,
     rules: Sequence<Rule>,
     names: &[TokenName],
@@ -105,4 +107,30 @@ pub fn lexer_rules_of(
 {
     let made = gathered(alloc, rules, names, literals)?;
     Ok(made)
+}
+
+/// The rules of the lexer of a grammar without fault, of whose token types these have names and literals, and what their commands
+/// name.
+///
+/// # Errors
+/// No memory.
+pub fn checked_lexer_of(
+    alloc: Global,
+    source: Source,
+    names: Sequence<TokenName>,
+    literals: Sequence<TokenLiteral>,
+) -> Result<CheckedLexer, AllocError>
+    requires names { names ≡ names_of (types_of [] source.rules) }
+    requires literals { literals ≡ literals_of (types_of [] source.rules) }
+    requires low_names { All (λ name. name.symbol ≤ MOST_TYPES) names }
+    requires low_literals { All (λ literal. literal.symbol ≤ MOST_TYPES) literals }
+    requires full { RulesAreFull source.rules }
+    requires defined { RulesAreDefined source.rules }
+    requires run { RulesCanRun source.rules }
+    ensures rules { IfOk result (λ made. IsLexerRulesOf source.rules made.0) }
+    ensures tables { IfOk result (λ made. made.1 ≡ tables_of source names) }
+{
+    let tables = tables_of(alloc, &source, names)?;
+    let rules = lexer_rules_of(alloc, source.rules, tables.types.as_slice(), literals)?;
+    Ok(CheckedLexer::new(rules, tables))
 }

@@ -32,7 +32,7 @@ fn rule_of_literal(alloc: Global, token: TokenLiteral) -> Result<LexerRule, Allo
     alternatives.push(alternative)?;
     Ok(LexerRule {
         mode: None,
-        fragment: None,
+        fragment: false,
         name: Text::copy_of(alloc, "EOF")?,
         alternatives: Sequence::new(alternatives),
     })

@@ -79,7 +79,7 @@ impl Substitution<Atom> for Stage<'_> {
                 return Ok(chain);
             }
             AtomKind::Token(name) => self.reference(name.text.as_str()),
-            AtomKind::Range(_, first, last) => {
+            AtomKind::Range(first, last) => {
                 LexerStep::Set(spanned(
                     alloc,
                     first.characters.as_slice(),
@@ -87,8 +87,8 @@ impl Substitution<Atom> for Stage<'_> {
                 )?)
             }
             AtomKind::Set(set) => LexerStep::Set(set.copy_of(alloc)?),
-            AtomKind::Any(_) => LexerStep::Set(all(alloc)?),
-            AtomKind::NotCharacters(_, set) => LexerStep::Set(others(alloc, set)?),
+            AtomKind::Any => LexerStep::Set(all(alloc)?),
+            AtomKind::NotCharacters(set) => LexerStep::Set(others(alloc, set)?),
             AtomKind::Action => LexerStep::Empty,
             AtomKind::Predicate(_) => LexerStep::Empty,
             _ => LexerStep::Set(CharSet::empty(alloc)),

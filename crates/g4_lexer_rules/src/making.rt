@@ -63,7 +63,7 @@ fn all_commands_of(
 ///
 /// # Errors
 /// No memory.
-pub fn lexer_commands(
+pub(crate) fn lexer_commands(
     alloc: Global,
     tables: &CommandTables,
     commands: &[Sequence<Sequence<Command>>],

@@ -69,7 +69,7 @@ fn add_matched(
     requires few { length states.now ≤ MOST_STATES }
     ensures { OnOk result (starts.new.items ≡ starts.old.items ++ matched_starts states.now number rule.now) }
 {
-    if rule.fragment.is_none() {
+    if !rule.fragment {
         add_rule(starts, states, number, rule.alternatives.as_slice())?;
     }
     Ok(())

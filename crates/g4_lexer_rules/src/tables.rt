@@ -23,7 +23,7 @@ pub struct CommandTables {
 ///
 /// # Errors
 /// No memory.
-pub fn tables_of(
+pub(crate) fn tables_of(
     alloc: Global,
     source: &Source,
     types: Sequence<TokenName>,

@@ -1,16 +1,12 @@
 // Modes other than the default one, which no command line can load yet: a lexer grammar, and what texts are lexed to by it.
 ghost use Rattle.std.specs.Prelude.{IfOk};
-ghost use Rattle.g4_source.specs.Blocks.{HaveAlternatives, LexerRulesAreFull};
-ghost use Rattle.g4_lexer_rules.specs.Lexable.{CanBeLexed};
-ghost use Rattle.g4_lexer_rules.specs.NetworkRules.{all_rules};
+ghost use Rattle.g4_source.specs.Blocks.{HaveAlternatives};
 ghost use Rattle.g4_ordered.specs.Network.{IsLexable};
 
 use g4_base::{Place, Sequence, Text};
 use g4_checks::check;
 use g4_lexer::{LexFault, Lexer, tokens};
-use g4_lexer_rules::{
-    CommandTables, LexerRules, build_lexer, lexer_commands, lexer_rules_of, tables_of,
-};
+use g4_lexer_rules::{build_lexer, checked_lexer_of};
 use g4_reader::read_grammar;
 use g4_source::Source;
 use g4_tokens::Tokens;
@@ -47,20 +43,17 @@ o<o!x => LATE 0-1 PUSH 1-2 OWN 2-3 GO 3-4 C 4-5
 <q => no token at 1
 q<x => no token at 1";
 
-/// The rules of a lexer, what their commands name, and what is shown of its token types from 1 on.
+/// A lexer, and what is shown of its token types from 1 on.
 #[derive(Drop)]
 struct Prepared {
-    rules: LexerRules,
-    tables: CommandTables,
+    lexer: Lexer,
     shown: Sequence<Text>,
 }
 
-/// The lexer's rules of a grammar that has no fault.
-#[tactic(auto, using(g4_lexer_rules::proofs::Checked::can_be_lexed))]
-fn checked(alloc: Global, source: Source) -> Result<Prepared, Fail>
+/// The lexer of a grammar that has no fault.
+fn prepare(alloc: Global, source: Source) -> Result<Prepared, Fail>
     requires { HaveAlternatives source }
-    ensures full { IfOk result (λ found. LexerRulesAreFull found.rules.literals × LexerRulesAreFull found.rules.rules) }
-    ensures lexed { IfOk result (λ found. CanBeLexed (all_rules found.rules.literals found.rules.rules)) }
+    ensures { IfOk result (λ made. IsLexable made.lexer.net) }
 {
     let Ok(vocabulary) = number(alloc, source.rules.as_slice()) else {
         return Err(Fail::from("a limit"));
@@ -70,37 +63,13 @@ fn checked(alloc: Global, source: Source) -> Result<Prepared, Fail>
     };
     let types = vocabulary.token_types(alloc)?;
     drop(vocabulary);
-    let tables = tables_of(alloc, &source, types.names)?;
-    let rules = lexer_rules_of(alloc, source.rules, tables.types.as_slice(), types.literals)?;
-    Ok(Prepared {
-        rules,
-        tables,
-        shown: types.shown,
-    })
-}
-
-/// The lexer of these rules.
-#[tactic(auto, using(g4_lexer_rules::proofs::Lexed::is_lexable))]
-fn lexer_of(alloc: Global, rules: LexerRules, tables: &CommandTables) -> Result<Lexer, Fail>
-    requires full { LexerRulesAreFull rules.literals × LexerRulesAreFull rules.rules }
-    requires lexed { CanBeLexed (all_rules rules.literals rules.rules) }
-    ensures { IfOk result (λ lexer. IsLexable lexer.net) }
-{
-    let LexerRules {
-        literals,
-        rules,
-        types,
-    } = rules;
-    let modes = tables.modes.as_slice();
-    let Ok(made) = build_lexer(alloc, literals.into_vec(), rules.into_vec(), modes) else {
+    let checked = checked_lexer_of(alloc, source, types.names, types.literals)?;
+    let Ok(lexer) = build_lexer(alloc, checked) else {
         return Err(Fail::from("no network"));
     };
-    let commands = lexer_commands(alloc, tables, made.commands.as_slice())?;
-    Ok(Lexer {
-        net: made.net,
-        modes: made.modes,
-        types,
-        commands,
+    Ok(Prepared {
+        lexer,
+        shown: types.shown,
     })
 }
 
@@ -171,12 +140,7 @@ fn modes(rt: HostRuntime) -> Result<(), Fail> {
     let Ok(source) = read_grammar(rt.alloc(), GRAMMAR.as_bytes()) else {
         return Err(Fail::from("no grammar"));
     };
-    let Prepared {
-        rules,
-        tables,
-        shown,
-    } = checked(rt.alloc(), source)?;
-    let lexer = lexer_of(rt.alloc(), rules, &tables)?;
+    let Prepared { lexer, shown } = prepare(rt.alloc(), source)?;
     let wrong = differing(rt.alloc(), &lexer, shown.as_slice())?;
     assert_eq!(rt; wrong.as_str(), "");
     Ok(())

@@ -1,7 +1,6 @@
 -- The stages of loading and building a grammar, and the exits from them.
-use Rattle.std.specs.Prelude.{⊤, All}
+use Rattle.std.specs.Prelude.{⊤}
 use Rattle.std.proofs.Common.{◌≡◌, ◌≤◌, ℕ, List, Result, Ok, Err, [], ◌∷◌, ◌+◌, ◌*◌, length, ap, ◌∙◌, subst, sym, refl}
-use Rattle.g4_source.specs.declared.rule.Rule.{Rule}
 use Rattle.g4_source.specs.declared.source.Source.{Source}
 use Rattle.g4_reader.specs.Reading.{IsReading}
 use Rattle.g4_reader.specs.declared.reader.ReadFault.{ReadFault}
@@ -19,10 +18,9 @@ use Rattle.g4_vocab.specs.declared.types.Entry.{Entry}
 use Rattle.g4_vocab.specs.declared.vocabulary.Vocabulary.{Vocabulary}
 use Rattle.g4_checks.specs.Checking.{IsChecked}
 use Rattle.g4_checks.specs.declared.fault.CheckFault.{CheckFault}
-use Rattle.g4_source.specs.Blocks.{LexerRulesAreFull, RulesAreFull}
-use Rattle.g4_grammar.specs.StepRules.{StepRule, CanBeRewritten}
+use Rattle.g4_source.specs.declared.refused.Refused.{Refused}
+use Rattle.g4_grammar.specs.StepRules.{StepRule}
 use Rattle.g4_grammar.specs.declared.step.Numbering.{Numbering}
-use Rattle.g4_grammar.specs.declared.token_types.TokenName.{TokenName}
 use Rattle.g4_grammar.specs.declared.token_types.TokenTypes.{TokenTypes}
 use Rattle.g4_leftrec.specs.Rewriting.{rewritten, numberings}
 use Rattle.g4_load.specs.Usable.{IsParsing}
@@ -34,27 +32,27 @@ use Rattle.g4_resolve.specs.Resolving.{resolved}
 use Rattle.g4_build.specs.Answers.{GivesNetwork}
 use Rattle.g4_build.specs.declared.builder.BuildFault.{BuildFault}
 use Rattle.g4_load.specs.declared.fault.GrammarFault.{GrammarFault}
+use Rattle.g4_load.specs.declared.fault.GrammarFault.TheVariants as faults
 use Rattle.g4_load.specs.declared.fault.CheckError.{CheckError}
 use Rattle.g4_load.specs.declared.fault.CheckError.TheVariants as errors
-use Rattle.g4_load.specs.Faults.{of_read, of_form, of_name, of_number, of_check, of_build}
+use Rattle.g4_load.specs.Faults.{of_read, of_form, of_name, of_number, of_check, of_build, of_lexer}
 use Rattle.g4_load.specs.declared.stop.Stop.{Stop}
 use Rattle.g4_load.specs.declared.stop.Stop.TheVariants as stopping
 use Rattle.g4_load.specs.declared.stop.Halt.{Halt}
 use Rattle.g4_load.specs.declared.stop.Halt.TheVariants as halts
 use Rattle.g4_load.specs.Stages.{Gives, Then, stops, goes_on, OfFile, passes, fails, IsErrorOf, IsHaltOf}
 use Rattle.g4_load.specs.Files.{Files}
-use Rattle.g4_grammar.specs.Written.{RulesAreDefined, RulesCanRun}
 use Rattle.g4_tokens.specs.declared.symbol.TheConstants.{MOST_TYPES}
 use Rattle.g4_lexer_rules.specs.Tables.{tables_of}
 use Rattle.g4_lexer_rules.specs.declared.tables.CommandTables.{CommandTables}
 use Rattle.g4_lexer_rules.specs.Rules.{IsLexerRulesOf}
 use Rattle.g4_lexer_rules.specs.declared.lexer_rules.LexerRules.{LexerRules}
-use Rattle.g4_lexer_rules.proofs.Checked.{can_be_lexed}
-use Rattle.g4_load.specs.Lexers.{CanBeMade, GivesLexer}
+use Rattle.g4_lexer_rules.specs.Lexers.{GivesLexer}
+use Rattle.g4_lexer_rules.specs.declared.lex_net.LexFault.{LexFault}
+use Rattle.g4_lexer_rules.specs.declared.lex_net.LexFault.TheVariants.{States, NoMemory}
 use Rattle.g4_load.specs.Loading.{Fetches, IsGrammarIn, Checks, Numbers, Loads, rules_of_lexer, loaded_of}
 use Rattle.g4_load.specs.declared.loading.Loaded.{Loaded}
-use Rattle.g4_load.specs.Building.{names_of, parser_of, GivesRewritten, Lays, FromGrammar}
-use Rattle.g4_load.specs.declared.interpreter.Parser.{Parser}
+use Rattle.g4_load.specs.Building.{GivesRewritten, Lays, FromGrammar}
 
 -- a layer's fault at which a stage ends
 pub stage_exit : {X Y E : Type 0} (IsAnswer : Result X E → Type 0) (seen : E → CheckError)
@@ -64,6 +62,15 @@ stage_exit IsAnswer seen Second e is = by_seen (seen e) refl
   where
     by_seen : (error : CheckError) → seen e ≡ error → IsErrorOf (Then (Gives IsAnswer seen) Second) error
     by_seen (errors.Fault fault) same = stops fault (e, is, same)
+    by_seen errors.NoMemory same = tt
+
+-- the same of a stage alone
+pub gift_exit : {X E : Type 0} (IsAnswer : Result X E → Type 0) (seen : E → CheckError) (e : E) → IsAnswer (Err e)
+    → IsErrorOf (Gives IsAnswer seen) (seen e)
+gift_exit IsAnswer seen e is = by_seen (seen e) refl
+  where
+    by_seen : (error : CheckError) → seen e ≡ error → IsErrorOf (Gives IsAnswer seen) error
+    by_seen (errors.Fault fault) same = (e, is, same)
     by_seen errors.NoMemory same = tt
 
 -- the error that a call gives is that of a stage
@@ -79,60 +86,30 @@ error_within Stage Whole within errors.NoMemory h = tt
 
 module _ (start : List ℕ) (rules : List StepRule) where
   -- the answer of building, where the rules are these, rewritten
-  pub gives_rewritten : (steps made : List StepRule) (numbers : List Numbering) (r : Result ParserNetwork BuildFault)
-      → steps ≡ rules → made ≡ rewritten steps → numbers ≡ numberings steps → GivesNetwork made numbers start r
-      → GivesRewritten start rules r
-  gives_rewritten steps made numbers r same laid numbered is =
-      subst (λ (ss : List StepRule). GivesNetwork (rewritten ss) (numberings ss) start r) same
-      (subst (λ (ns : List Numbering). GivesNetwork (rewritten steps) ns start r) numbered
-      (subst (λ (ms : List StepRule). GivesNetwork ms numbers start r) laid is))
+  pub gives_rewritten : (made : List StepRule) (numbers : List Numbering) (r : Result ParserNetwork BuildFault)
+      → made ≡ rewritten rules → numbers ≡ numberings rules → GivesNetwork made numbers start r → GivesRewritten start rules r
+  gives_rewritten made numbers r laid numbered is =
+      subst (λ (ns : List Numbering). GivesNetwork (rewritten rules) ns start r) numbered
+      (subst (λ (ms : List StepRule). GivesNetwork ms numbers start r) laid is)
 
   -- rules without a network
   pub build_exit : (e : BuildFault) → GivesRewritten start rules (Err e) → IsErrorOf (Lays start rules) (of_build start e)
-  build_exit e is = stage_exit (GivesRewritten start rules) (of_build start) (λ net result. result ≡ Ok (parser_of rules net)) e is
-
-  -- the rules and their network
-  pub laid : (kept : List StepRule) (net : ParserNetwork) (names : List (List ℕ)) → kept ≡ rules
-      → GivesRewritten start rules (Ok net) → names ≡ names_of rules
-      → Lays start rules (Ok (record { names = names; rules = kept; net = net }))
-  laid kept net names same built named =
-      goes_on net (Ok (record { names = names; rules = kept; net = net })) built
-      (ap (λ (n : List (List ℕ)). Ok (record { names = n; rules = kept; net = net })) named
-      ∙ ap (λ (rs : List StepRule). Ok (record { names = names_of rules; rules = rs; net = net })) same)
+  build_exit e is = gift_exit (GivesRewritten start rules) (of_build start) e is
 
 -- rules and their network can be parsed with
-pub parsing : (start : List ℕ) (rules kept made : List StepRule) (numbers : List Numbering) (net : ParserNetwork) → kept ≡ rules
-    → CanBeRewritten rules → made ≡ rewritten rules → numbers ≡ numberings rules → GivesNetwork made numbers start (Ok net)
-    → IsParsing kept net
-parsing start rules kept made numbers net same rewritable laid numbered built =
+pub parsing : (start : List ℕ) (rules made : List StepRule) (numbers : List Numbering) (net : ParserNetwork)
+    → made ≡ rewritten rules → numbers ≡ numberings rules → GivesNetwork made numbers start (Ok net) → IsParsing rules net
+parsing start rules made numbers net laid numbered built =
     let here : IsBuilt (eof ∷ []) (rewritten rules) (numberings rules) start net =
     subst (λ (ns : List Numbering). IsBuilt (eof ∷ []) (rewritten rules) ns start net) numbered
     (subst (λ (ms : List StepRule). IsBuilt (eof ∷ []) ms numbers start net) laid built) in record {
       ready = (rule_number (rewritten rules) start, 2 * length (rewritten rules) + 2, eof ∷ [], here.runnable);
-      rewritable = subst (λ (ss : List StepRule). CanBeRewritten ss) (sym same) rewritable;
-      built = (start, subst (λ (ss : List StepRule). IsBuilt (eof ∷ []) (rewritten ss) (numberings ss) start net) (sym same) here);
+      built = (start, here);
     }
 
 -- the rules of a source's lexer
 lexer_is : (source : Source) (made : LexerRules) → IsLexerRulesOf source.rules made → made ≡ rules_of_lexer source
 lexer_is source made are = rw (are.literals, are.rules, are.types) refl
-
--- so they can be made a lexer of, where the source is checked
-pub can_be_made : (rules : List Rule) (made : LexerRules) → IsLexerRulesOf rules made → RulesAreFull rules → RulesAreDefined rules
-    → RulesCanRun rules → LexerRulesAreFull made.literals × LexerRulesAreFull made.rules → All (λ type. type ≤ MOST_TYPES) made.types →
-    (tables : CommandTables) → All (λ name. name.symbol ≤ MOST_TYPES) tables.types → CanBeMade made tables
-can_be_made rules made are have defined can full low tables named = record {
-  literals = full.0;
-  rules = full.1;
-  lexed = can_be_lexed rules made are have defined can;
-  types = low;
-  named = named;
-}
-
--- the names of types that commands can take are those of the grammar
-pub named_low : (source : Source) (names : List TokenName) → (tables : CommandTables) → tables ≡ tables_of source names
-    → All (λ name. name.symbol ≤ MOST_TYPES) names → All (λ name. name.symbol ≤ MOST_TYPES) tables.types
-named_low source names tables are low = subst (λ (t : CommandTables). All (λ name. name.symbol ≤ MOST_TYPES) t.types) (sym are) low
 
 -- a stage that stops, stops what follows it
 pub stage_stops : {X Y : Type 0} (Stage : Result X GrammarFault → Type 0) (Second : X → Result Y GrammarFault → Type 0)
@@ -141,10 +118,10 @@ stage_stops Stage Second (errors.Fault fault) h = stops fault h
 stage_stops Stage Second errors.NoMemory h = tt
 
 -- a lexer with too many states
-pub lexer_exit : (start : List ℕ) (grammar : Loaded) (parser : Parser) (e : CheckError) → Lays start grammar.rules (Ok parser)
-    → IsErrorOf (GivesLexer grammar.lexer grammar.tables) e → IsErrorOf (FromGrammar start grammar) e
-lexer_exit start grammar parser (errors.Fault fault) is h = goes_on parser (Err fault) is (stops fault h)
-lexer_exit start grammar parser errors.NoMemory is h = tt
+pub lexer_exit : (start : List ℕ) (grammar : Loaded) (net : ParserNetwork) (e : LexFault) → Lays start grammar.rules (Ok net)
+    → GivesLexer grammar.lexer.0 grammar.lexer.1 (Err e) → IsErrorOf (FromGrammar start grammar) (of_lexer e)
+lexer_exit start grammar net States is h = goes_on net (Err faults.States) is (stops faults.States (States, h, refl))
+lexer_exit start grammar net NoMemory is h = tt
 
 module _ (bytes : List ℕ) where
   -- bytes that are no grammar
@@ -193,7 +170,7 @@ module _ (bytes : List ℕ) where
               few = subst (λ (types : List Entry). greatest_type types ≤ MOST_TYPES) numbered.types numbered.few_types
 
           -- a grammar that cannot be run
-          pub check_exit : (e : CheckFault) → IsChecked source (Err e) → IsErrorOf (IsGrammarIn bytes) (of_check e)
+          pub check_exit : (e : Refused CheckFault) → IsChecked source (Err e) → IsErrorOf (IsGrammarIn bytes) (of_check e)
           check_exit e is = error_within (Checks source) (IsGrammarIn bytes) after_numbers (of_check e)
               (stage_exit (IsChecked source) of_check (λ _ result. result ≡ Ok (loaded_of source)) e is)
 
@@ -201,11 +178,11 @@ module _ (bytes : List ℕ) where
           pub checked : IsChecked source (Ok tt) → (rules : List StepRule) → rules ≡ resolved source.rules → (types : TokenTypes)
               → types ≡ token_types (types_in vocabulary) → (tables : CommandTables) → tables ≡ tables_of source types.names
               → (lexer : LexerRules) → IsLexerRulesOf source.rules lexer →
-              IsGrammarIn bytes (Ok (record { rules = rules; shown = types.shown; lexer = lexer; tables = tables }))
+              IsGrammarIn bytes (Ok (record { rules = rules; shown = types.shown; lexer = (lexer, tables) }))
           checked is rules steps types given tables named lexer are =
               let all : types ≡ token_types (types_of [] source.rules) = given ∙ ap token_types numbered.types in
-              after_numbers (Ok (record { rules = rules; shown = types.shown; lexer = lexer; tables = tables }))
-              (goes_on tt (Ok (record { rules = rules; shown = types.shown; lexer = lexer; tables = tables })) is
+              after_numbers (Ok (record { rules = rules; shown = types.shown; lexer = (lexer, tables) }))
+              (goes_on tt (Ok (record { rules = rules; shown = types.shown; lexer = (lexer, tables) })) is
               (rw (steps, lexer_is source lexer are, named, all) refl))
 
 -- what a stage over the grammar of one file gives of a command line

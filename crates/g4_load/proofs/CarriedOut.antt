@@ -22,22 +22,22 @@ use Rattle.g4_lexer_rules.specs.Commands.{command_of}
 use Rattle.g4_lexer_rules.specs.Known.{IsKnown}
 use Rattle.g4_lexer_rules.specs.Tables.{tables_of}
 use Rattle.g4_lexer_rules.specs.declared.tables.CommandTables.{CommandTables}
+use Rattle.g4_net.specs.Network.{ParserNetwork}
 use Rattle.g4_load.specs.Building.{Builds, FromGrammar, HasLexer, Lays, interpreter_of}
 use Rattle.g4_load.specs.Commands.{CarriesOutAll, IsCarriedOut, written_commands}
-use Rattle.g4_load.specs.Faults.{of_check, of_form, of_name, of_number}
+use Rattle.g4_load.specs.Faults.{of_check, of_form, of_lexer, of_name, of_number}
 use Rattle.g4_load.specs.Files.{Files}
-use Rattle.g4_load.specs.Lexers.{GivesLexer}
+use Rattle.g4_lexer_rules.specs.Lexers.{GivesLexer}
 use Rattle.g4_load.specs.Loading.{Checks, Loads, Numbers, Reads, loaded_of}
 use Rattle.g4_load.specs.Stages.{Gives, Then, OfFile}
 use Rattle.g4_load.specs.declared.fault.GrammarFault.{GrammarFault}
 use Rattle.g4_load.specs.declared.interpreter.Interpreter.{Interpreter}
-use Rattle.g4_load.specs.declared.interpreter.Parser.{Parser}
 use Rattle.g4_load.specs.declared.loading.Loaded.{Loaded}
 use Rattle.g4_load.specs.declared.stop.Stop.{Stop}
 use Rattle.g4_load.proofs.KnownCommands.{all_known}
 use Rattle.g4_load.proofs.OneBuilt.{one_loaded, one_read}
 use Rattle.g4_load.proofs.Stages.{both_give, file_gives}
-use Rattle.g4_load.proofs.WrittenCommands.{of_lexer, same_map}
+use Rattle.g4_load.proofs.WrittenCommands.{of_all_rules, same_map}
 
 -- What is known of a grammar and its source: its commands are known.
 record IsOf (source : Source) (loaded : Loaded) : Type 0 where
@@ -61,25 +61,25 @@ is_of source loaded h =
 
 -- what the code makes of the commands of a grammar: of each alternative those that are carried out
 abbrev made_commands : Loaded → List (List (List LexerCommand))
-made_commands loaded = map (map (filter_map (command_of loaded.tables))) (written_commands loaded)
+made_commands loaded = map (map (filter_map (command_of loaded.lexer.1))) (written_commands loaded)
 
 -- the lexer of an interpreter has them
 interpreter_lexer : (start : List ℕ) (loaded : Loaded) (made : Interpreter) → FromGrammar start loaded (Ok made)
     → made.lexer.commands ≡ made_commands loaded
 interpreter_lexer start loaded made h = by_stages (both_give (Lays start loaded.rules) (HasLexer loaded) made h)
   where
-    by_lexer : (parser : Parser) → (lexer : Lexer) × GivesLexer loaded.lexer loaded.tables (Ok lexer)
-        × ◌≡◌ {A = Result Interpreter GrammarFault} (Ok made) (Ok (interpreter_of loaded parser lexer))
+    by_lexer : (net : ParserNetwork) → (lexer : Lexer) × Gives (GivesLexer loaded.lexer.0 loaded.lexer.1) of_lexer (Ok lexer)
+        × ◌≡◌ {A = Result Interpreter GrammarFault} (Ok made) (Ok (interpreter_of loaded net lexer))
         → made.lexer.commands ≡ made_commands loaded
-    by_lexer parser (lexer, gives, ok) =
-        let is : made ≡ interpreter_of loaded parser lexer = cc in
+    by_lexer net (lexer, gives, ok) =
+        let is : made ≡ interpreter_of loaded net lexer = cc in
         ap (λ (i : Interpreter). i.lexer.commands) is
-        ∙ (ap (λ (l : Lexer). l.commands) gives.2 ∙ ap (map (map (filter_map (command_of loaded.tables)))) gives.1.commands)
+        ∙ (ap (λ (l : Lexer). l.commands) gives.2 ∙ ap (map (map (filter_map (command_of loaded.lexer.1)))) gives.1.commands)
 
-    by_stages : (parser : Parser) × Lays start loaded.rules (Ok parser) × HasLexer loaded parser (Ok made)
+    by_stages : (net : ParserNetwork) × Lays start loaded.rules (Ok net) × HasLexer loaded net (Ok made)
         → made.lexer.commands ≡ made_commands loaded
-    by_stages (parser, lays, has) = by_lexer parser (both_give (GivesLexer loaded.lexer loaded.tables)
-        (λ lexer result. result ≡ Ok (interpreter_of loaded parser lexer)) made has)
+    by_stages (net, lays, has) = by_lexer net (both_give (Gives (GivesLexer loaded.lexer.0 loaded.lexer.1) of_lexer)
+        (λ lexer result. result ≡ Ok (interpreter_of loaded net lexer)) made has)
 
 -- a known command is carried out
 abbrev pub KnownAreCarriedOut : Type 0
@@ -96,8 +96,8 @@ module _ (source : Source) (loaded : Loaded) (is : IsOf source loaded) where
   abbrev names : List TokenName
   names = names_of (types_of [] source.rules)
 
-  tables_are : loaded.tables ≡ tables_of source names
-  tables_are = ap (λ (l : Loaded). l.tables) is.same
+  tables_are : loaded.lexer.1 ≡ tables_of source names
+  tables_are = ap (λ (l : Loaded). l.lexer.1) is.same
 
   -- each command of the source of a grammar is carried out
   each_of : KnownAreCarriedOut → All (IsCarriedOut loaded) (commands_in source)
@@ -107,13 +107,14 @@ module _ (source : Source) (loaded : Loaded) (is : IsOf source loaded) where
       (carried source names command known)) (commands_in source) is.known
 
   -- and of the commands of its lexer none is passed over
-  all_of : KnownAreKept → map (map (map Some)) (made_commands loaded) ≡ map (map (map (command_of loaded.tables))) (written_commands loaded)
+  all_of : KnownAreKept
+      → map (map (map Some)) (made_commands loaded) ≡ map (map (map (command_of loaded.lexer.1))) (written_commands loaded)
   all_of kept =
       let Known : Command → Type 0 = IsKnown source names in
-      let does : Command → Option LexerCommand = command_of loaded.tables in
+      let does : Command → Option LexerCommand = command_of loaded.lexer.1 in
       let all : All (All (All Known)) (written_commands loaded) =
       subst (λ (l : LexerRules). All (All (All Known)) (commands_of (all_rules l.literals l.rules)))
-      (sym (ap (λ (l : Loaded). l.lexer) is.same)) (of_lexer Known source is.known) in
+      (sym (ap (λ (l : Loaded). l.lexer.0) is.same)) (of_all_rules Known source is.known) in
       let one : (commands : List Command) → All Known commands → map Some (filter_map does commands) ≡ map does commands =
       λ commands h. subst (λ (t : CommandTables). map Some (filter_map (command_of t) commands) ≡ map (command_of t) commands)
       (sym tables_are) (kept source names commands h) in

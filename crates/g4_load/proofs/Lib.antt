@@ -1,7 +1,5 @@
 mod Built
 mod CarriedOut
-mod LexerMade
-mod Kept
 mod KnownCommands
 pub mod Networks
 mod Fetched

@@ -23,24 +23,24 @@ use Rattle.g4_vocab.specs.declared.twice.NameFault.TheVariants as naming
 use Rattle.g4_vocab.specs.declared.fault.NumberFault.TheVariants as numbering
 use Rattle.g4_vocab.proofs.OneNaming.{one_naming}
 use Rattle.g4_checks.specs.Checking.{IsChecked}
-use Rattle.g4_checks.specs.declared.fault.CheckFault.TheVariants as checking
-use Rattle.g4_checks.proofs.OneCheck.{one_check}
+use Rattle.g4_source.specs.declared.refused.Refused.TheVariants as checking
+use Rattle.g4_checks.proofs.OneCheck.{one_answer as one_answer_checked}
 use Rattle.g4_build.specs.Answers.{GivesNetwork}
 use Rattle.g4_build.specs.declared.builder.BuildFault.TheVariants as building
 use Rattle.g4_layout.proofs.OneNetwork.{one_network}
 use Rattle.g4_lexer_rules.proofs.Laws.{one_lex_net}
+use Rattle.g4_lexer_rules.specs.declared.lex_net.LexFault.TheVariants as lexing
 use Rattle.g4_lexer_rules.specs.declared.lex_net.LexNet.{LexNet}
 use Rattle.g4_lexer_rules.specs.declared.tables.CommandTables.{CommandTables}
 use Rattle.g4_lexer_rules.specs.declared.lexer_rules.LexerRules.{LexerRules}
-use Rattle.g4_load.specs.Faults.{of_read, of_form, of_name, of_number, of_check, of_build}
+use Rattle.g4_load.specs.Faults.{of_read, of_form, of_name, of_number, of_check, of_build, of_lexer}
 use Rattle.g4_load.specs.Stages.{Gives, Then, stops, goes_on, OfFile}
 use Rattle.g4_load.specs.declared.interpreter.Interpreter.{Interpreter}
 use Rattle.g4_load.specs.declared.fault.GrammarFault.{GrammarFault}
 use Rattle.g4_load.specs.declared.stop.Stop.{Stop}
 use Rattle.g4_load.specs.declared.stop.Stop.TheVariants as stopping
-use Rattle.g4_load.specs.Building.{parser_of, interpreter_of, Lays, HasLexer, FromGrammar, Builds, GivesRewritten}
-use Rattle.g4_load.specs.Lexers.{GivesLexer, lexer_with}
-use Rattle.g4_load.specs.declared.interpreter.Parser.{Parser}
+use Rattle.g4_load.specs.Building.{interpreter_of, names_of, Lays, HasLexer, FromGrammar, Builds, GivesRewritten}
+use Rattle.g4_lexer_rules.specs.Lexers.{GivesLexer, lexer_with}
 use Rattle.g4_load.specs.declared.loading.Loaded.{Loaded}
 use Rattle.g4_load.specs.Listing.{IsStartRule, ListsStart, FromRule, Lists}
 use Rattle.g4_load.specs.Files.{Files}
@@ -94,25 +94,29 @@ one_build rules numbers start (Err building.NoMemory) b p q n m = absurd (n refl
 
 -- rules are laid in at most one way
 one_laid : (start : List ℕ) (rules : List StepRule) → IsSingle (Lays start rules)
-one_laid start rules =
-    one_then (Gives (GivesRewritten start rules) (of_build start)) (λ net result. result ≡ Ok (parser_of rules net))
-    (one_gift (GivesRewritten start rules) (of_build start) building.NoMemory refl
-    (one_build (rewritten rules) (numberings rules) start)) (λ net a b p q. p ∙ sym q)
+one_laid start rules = one_gift (GivesRewritten start rules) (of_build start) building.NoMemory refl
+    (one_build (rewritten rules) (numberings rules) start)
 
 -- the rules of a lexer give at most one lexer
-one_lexer : (rules : LexerRules) (tables : CommandTables) → IsSingle (GivesLexer rules tables)
-one_lexer rules tables (Ok a) (Ok b) p q = ap (λ x. Ok x)
+one_lexer_made : (rules : LexerRules) (tables : CommandTables) → IsSingleBeside lexing.NoMemory (GivesLexer rules tables)
+one_lexer_made rules tables (Ok a) (Ok b) p q n m = ap (λ x. Ok x)
     (p.2 ∙ ap (λ (m : LexNet). lexer_with m rules.types tables)
     (one_lex_net rules.literals rules.rules tables.modes p.0 q.0 p.1 q.1) ∙ sym q.2)
-one_lexer rules tables (Ok a) (Err g) p q = absurd (omega (arith, p.1.fits, q.0))
-one_lexer rules tables (Err f) (Ok b) p q = absurd (omega (arith, q.1.fits, p.0))
-one_lexer rules tables (Err f) (Err g) p q = ap (λ x. Err x) (p.1 ∙ sym q.1)
+one_lexer_made rules tables (Ok a) (Err lexing.States) p q n m = absurd (omega (arith, p.1.fits, q))
+one_lexer_made rules tables (Ok a) (Err lexing.NoMemory) p q n m = absurd (m refl)
+one_lexer_made rules tables (Err lexing.States) (Ok b) p q n m = absurd (omega (arith, q.1.fits, p))
+one_lexer_made rules tables (Err lexing.States) (Err lexing.States) p q n m = refl
+one_lexer_made rules tables (Err lexing.States) (Err lexing.NoMemory) p q n m = absurd (m refl)
+one_lexer_made rules tables (Err lexing.NoMemory) b p q n m = absurd (n refl)
 
--- a parser goes with at most one lexer
-one_with_lexer : (grammar : Loaded) (parser : Parser) → IsSingle (HasLexer grammar parser)
-one_with_lexer grammar parser =
-    one_then (GivesLexer grammar.lexer grammar.tables) (λ lexer result. result ≡ Ok (interpreter_of grammar parser lexer))
-    (one_lexer grammar.lexer grammar.tables) (λ lexer a b p q. p ∙ sym q)
+one_lexer : (rules : LexerRules) (tables : CommandTables) → IsSingle (Gives (GivesLexer rules tables) of_lexer)
+one_lexer rules tables = one_gift (GivesLexer rules tables) of_lexer lexing.NoMemory refl (one_lexer_made rules tables)
+
+-- a network goes with at most one lexer
+one_with_lexer : (grammar : Loaded) (net : ParserNetwork) → IsSingle (HasLexer grammar net)
+one_with_lexer grammar net =
+    one_then (Gives (GivesLexer grammar.lexer.0 grammar.lexer.1) of_lexer) (λ lexer result. result ≡ Ok (interpreter_of grammar net lexer))
+    (one_lexer grammar.lexer.0 grammar.lexer.1) (λ lexer a b p q. p ∙ sym q)
 
 -- a grammar gives at most one thing to parse with
 one_from_grammar : (start : List ℕ) (grammar : Loaded) → IsSingle (FromGrammar start grammar)
@@ -124,22 +128,22 @@ one_start : (net : ParserNetwork) (r s : ℕ) → IsStartRule net r → IsStartR
 one_start net r s p q = let same : Some (Call r 0 p.0) ≡ Some (Call s 0 q.0) = sym p.1 ∙ q.1 in cc
 
 -- and one listing of it
-one_start_listing : (shown : List (List ℕ)) (parser : Parser) → IsSingle (ListsStart shown parser)
-one_start_listing shown parser (Ok a) (Ok b) p q =
-    let also = subst (λ (r : ℕ). IsListing parser.names shown parser.net r b) (one_start parser.net q.0 p.0 q.1 p.1) q.2 in
-    ap (λ (x : List ℕ). Ok x) (one_listing parser.names shown parser.net p.0 a b p.2 also)
-one_start_listing shown parser (Ok a) (Err g) p q = absurd q
-one_start_listing shown parser (Err f) b p q = absurd p
+one_start_listing : (names shown : List (List ℕ)) (net : ParserNetwork) → IsSingle (ListsStart names shown net)
+one_start_listing names shown net (Ok a) (Ok b) p q =
+    let also = subst (λ (r : ℕ). IsListing names shown net r b) (one_start net q.0 p.0 q.1 p.1) q.2 in
+    ap (λ (x : List ℕ). Ok x) (one_listing names shown net p.0 a b p.2 also)
+one_start_listing names shown net (Ok a) (Err g) p q = absurd q
+one_start_listing names shown net (Err f) b p q = absurd p
 
 -- a grammar gives at most one listing of a rule
 one_from_rule : (rule : List ℕ) (grammar : Loaded) → IsSingle (FromRule rule grammar)
-one_from_rule rule grammar = one_then (Lays rule grammar.rules) (ListsStart grammar.shown) (one_laid rule grammar.rules)
-    (one_start_listing grammar.shown)
+one_from_rule rule grammar = one_then (Lays rule grammar.rules) (ListsStart (names_of grammar.rules) grammar.shown)
+    (one_laid rule grammar.rules) (one_start_listing (names_of grammar.rules) grammar.shown)
 
 -- a source gives at most one grammar, where it is checked
 one_checked : (source : Source) → IsSingle (Checks source)
 one_checked source = one_then (Gives (IsChecked source) of_check) (λ _ result. result ≡ Ok (loaded_of source))
-    (one_gift (IsChecked source) of_check checking.NoMemory refl (one_check source)) (λ _ a b p q. p ∙ sym q)
+    (one_gift (IsChecked source) of_check checking.NoMemory refl (one_answer_checked source)) (λ _ a b p q. p ∙ sym q)
 
 one_numbers : (source : Source) → IsSingle (Numbers source)
 one_numbers source =

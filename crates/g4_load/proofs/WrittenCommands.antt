@@ -44,10 +44,10 @@ module _ (P : Command → Type 0) where
       (All-cons (All P) [] [] (All-nil P) (All-nil (All P))) (of_literals tokens)
 
   -- so what holds of each command of a source holds of each of its lexer
-  pub of_lexer : (source : Source) → All P (all_commands source.rules)
+  pub of_all_rules : (source : Source) → All P (all_commands source.rules)
       → All (All (All P))
       (commands_of (all_rules (map rule_of_literal (literals_of (types_of [] source.rules))) (lexer_rules source.rules)))
-  of_lexer source h =
+  of_all_rules source h =
       let literals : List LexerRule = map rule_of_literal (literals_of (types_of [] source.rules)) in
       subst (λ (cs : List (List (List Command))). All (All (All P)) cs)
       (sym (map-append (λ (rule : LexerRule). map (λ x. x.commands) rule.alternatives) literals (lexer_rules source.rules)))

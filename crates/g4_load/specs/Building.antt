@@ -6,13 +6,12 @@ use Rattle.g4_net.specs.Network.{ParserNetwork}
 use Rattle.g4_leftrec.specs.Rewriting.{rewritten, numberings}
 use Rattle.g4_build.specs.Answers.{GivesNetwork}
 use Rattle.g4_build.specs.declared.builder.BuildFault.{BuildFault}
-use Rattle.g4_load.specs.Faults.{of_build}
+use Rattle.g4_load.specs.Faults.{of_build, of_lexer}
 use Rattle.g4_load.specs.Files.{Files}
 use Rattle.g4_load.specs.Loading.{Loads}
 use Rattle.g4_load.specs.Stages.{Gives, Then, OfFile}
-use Rattle.g4_load.specs.Lexers.{GivesLexer}
+use Rattle.g4_lexer_rules.specs.Lexers.{GivesLexer}
 use Rattle.g4_load.specs.declared.interpreter.Interpreter.{Interpreter}
-use Rattle.g4_load.specs.declared.interpreter.Parser.{Parser}
 use Rattle.g4_load.specs.declared.loading.Loaded.{Loaded}
 use Rattle.g4_load.specs.declared.fault.GrammarFault.{GrammarFault}
 use Rattle.g4_load.specs.declared.stop.Stop.{Stop}
@@ -21,26 +20,23 @@ use Rattle.g4_load.specs.declared.stop.Stop.{Stop}
 abbrev pub names_of : List StepRule → List (List ℕ)
 names_of rules = map (λ rule. rule.name) rules
 
--- rules with their network
-abbrev pub parser_of : List StepRule → ParserNetwork → Parser
-parser_of rules net = record { names = names_of rules; rules = rules; net = net }
-
--- a grammar with its parser and its lexer
-abbrev pub interpreter_of : Loaded → Parser → Lexer → Interpreter
-interpreter_of grammar parser lexer =
-    record { names = parser.names; rules = parser.rules; shown = grammar.shown; lexer = lexer; net = parser.net }
+-- a grammar with its network and its lexer
+abbrev pub interpreter_of : Loaded → ParserNetwork → Lexer → Interpreter
+interpreter_of grammar net lexer =
+    record { names = names_of grammar.rules; rules = grammar.rules; shown = grammar.shown; lexer = lexer; net = net }
 
 -- the network of rewritten rules from the start rule, or why they have none
 abbrev pub GivesRewritten : List ℕ → List StepRule → Result ParserNetwork BuildFault → Type 0
 GivesRewritten start rules = GivesNetwork (rewritten rules) (numberings rules) start
 
--- the rules with their network from the start rule, or the first fault of that
-abbrev pub Lays : List ℕ → List StepRule → Result Parser GrammarFault → Type 0
-Lays start rules = Then (Gives (GivesRewritten start rules) (of_build start)) (λ net result. result ≡ Ok (parser_of rules net))
+-- the network of the rules from the start rule, or the first fault of that
+abbrev pub Lays : List ℕ → List StepRule → Result ParserNetwork GrammarFault → Type 0
+Lays start rules = Gives (GivesRewritten start rules) (of_build start)
 
--- the grammar with this parser and its lexer, whose network has no more than 65,536 states, or that it would have more
-abbrev pub HasLexer : Loaded → Parser → Result Interpreter GrammarFault → Type 0
-HasLexer grammar parser = Then (GivesLexer grammar.lexer grammar.tables) (λ lexer result. result ≡ Ok (interpreter_of grammar parser lexer))
+-- the grammar with this network and its lexer, whose network has no more than 65,536 states, or that it would have more
+abbrev pub HasLexer : Loaded → ParserNetwork → Result Interpreter GrammarFault → Type 0
+HasLexer grammar net = Then (Gives (GivesLexer grammar.lexer.0 grammar.lexer.1) of_lexer)
+    (λ lexer result. result ≡ Ok (interpreter_of grammar net lexer))
 
 -- a grammar with both networks, the parser's from the start rule, or the first fault of them
 abbrev pub FromGrammar : List ℕ → Loaded → Result Interpreter GrammarFault → Type 0

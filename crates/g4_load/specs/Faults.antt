@@ -9,9 +9,12 @@ use Rattle.g4_vocab.specs.declared.twice.NameFault.TheVariants as naming
 use Rattle.g4_vocab.specs.declared.fault.NumberFault.{NumberFault}
 use Rattle.g4_vocab.specs.declared.fault.NumberFault.TheVariants as numbering
 use Rattle.g4_checks.specs.declared.fault.CheckFault.{CheckFault}
-use Rattle.g4_checks.specs.declared.fault.CheckFault.TheVariants as checking
+use Rattle.g4_source.specs.declared.refused.Refused.{Refused}
+use Rattle.g4_source.specs.declared.refused.Refused.TheVariants as refusals
 use Rattle.g4_build.specs.declared.builder.BuildFault.{BuildFault}
 use Rattle.g4_build.specs.declared.builder.BuildFault.TheVariants as building
+use Rattle.g4_lexer_rules.specs.declared.lex_net.LexFault.{LexFault}
+use Rattle.g4_lexer_rules.specs.declared.lex_net.LexFault.TheVariants as lexing
 use Rattle.g4_load.specs.declared.fault.GrammarFault.TheVariants as faults
 use Rattle.g4_load.specs.declared.fault.CheckError.{CheckError}
 use Rattle.g4_load.specs.declared.fault.CheckError.TheVariants as errors
@@ -40,19 +43,9 @@ of_number numbering.Types = errors.Fault faults.Types
 of_number numbering.NoMemory = errors.NoMemory
 
 -- of a grammar that cannot be run
-abbrev pub of_check : CheckFault → CheckError
-of_check (checking.UndefinedRule name) = errors.Fault (faults.UndefinedRule name)
-of_check (checking.UnknownMode name) = errors.Fault (faults.UnknownMode name)
-of_check (checking.UnknownCommand name) = errors.Fault (faults.UnknownCommand name)
-of_check (checking.UnknownChannel name) = errors.Fault (faults.UnknownChannel name)
-of_check (checking.LexerPredicate place) = errors.Fault (faults.LexerPredicate place)
-of_check (checking.UnknownPredicate place) = errors.Fault (faults.UnknownPredicate place)
-of_check (checking.LabelClash name) = errors.Fault (faults.LabelClash name)
-of_check (checking.NoPrimary name) = errors.Fault (faults.NoPrimary name)
-of_check (checking.EmptyOperator name i) = errors.Fault (faults.EmptyOperator name i)
-of_check (checking.EmptyLoop name) = errors.Fault (faults.EmptyLoop name)
-of_check (checking.LeftCycle names) = errors.Fault (faults.LeftCycle names)
-of_check checking.NoMemory = errors.NoMemory
+abbrev pub of_check : Refused CheckFault → CheckError
+of_check (refusals.Fault fault) = errors.Fault (faults.Check fault)
+of_check refusals.NoMemory = errors.NoMemory
 
 -- of a numbered grammar without a network from this start rule
 abbrev pub of_build : List ℕ → BuildFault → CheckError
@@ -60,3 +53,8 @@ of_build start building.UnknownStart = errors.Fault (faults.UnknownStart start)
 of_build start building.Alternatives = errors.Fault faults.Alternatives
 of_build start building.States = errors.Fault faults.States
 of_build start building.NoMemory = errors.NoMemory
+
+-- of a lexer without a network
+abbrev pub of_lexer : LexFault → CheckError
+of_lexer lexing.States = errors.Fault faults.States
+of_lexer lexing.NoMemory = errors.NoMemory

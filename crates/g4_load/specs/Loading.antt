@@ -47,8 +47,7 @@ abbrev pub loaded_of : Source → Loaded
 loaded_of source = record {
   rules = resolved source.rules;
   shown = map (λ entry. entry.shown) (types_of [] source.rules);
-  lexer = rules_of_lexer source;
-  tables = tables_of source (names_of (types_of [] source.rules));
+  lexer = (rules_of_lexer source, tables_of source (names_of (types_of [] source.rules)));
 }
 
 -- the grammar, where its rules have no fault

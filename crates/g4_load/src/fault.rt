@@ -6,7 +6,9 @@ use g4_base::{Place, Sequence, Text};
 use g4_build::BuildFault;
 use g4_checks::CheckFault;
 use g4_forms::FormFault;
+use g4_lexer_rules::LexFault;
 use g4_reader::ReadFault;
+use g4_source::Refused;
 use g4_vocab::{NameFault, NumberFault};
 use std::alloc::{AllocError, Global};
 
@@ -26,28 +28,8 @@ pub enum GrammarFault {
     Rules,
     /// More than 4,096 token types.
     Types,
-    /// A rule that is named and that the grammar has not.
-    UndefinedRule(Text),
-    /// A mode that a command takes and that the grammar has not.
-    UnknownMode(Text),
-    /// The name of a command that is none, or that has an argument which it does not take, or lacks one.
-    UnknownCommand(Text),
-    /// A channel that a command takes and that the grammar has not.
-    UnknownChannel(Text),
-    /// The place of a predicate in a lexer rule.
-    LexerPredicate(Place),
-    /// The place of a predicate whose text is none.
-    UnknownPredicate(Place),
-    /// A label that clashes, or a rule that is partly labelled.
-    LabelClash(Text),
-    /// A rule each of whose alternatives begins with the rule itself.
-    NoPrimary(Text),
-    /// A rule, and the number of its alternative that begins with the rule itself and goes on with what derives the empty word.
-    EmptyOperator(Text, u32),
-    /// A rule with a loop that can be empty.
-    EmptyLoop(Text),
-    /// Rules of which each calls the next before anything is read, and the last the first.
-    LeftCycle(Sequence<Text>),
+    /// A fault of what its rules name, or of how they call each other.
+    Check(CheckFault),
     /// No parser rule has this name, which the start rule was to have.
     UnknownStart(Text),
     /// More than 1,024 alternatives of a decision.
@@ -137,38 +119,30 @@ impl From<AllocError> for CheckError {
     }
 }
 
-impl From<CheckFault> for CheckError {
+impl From<Refused<CheckFault>> for CheckError {
     ghost use Rattle.std.specs.Prelude.{◌≡◌};
     ghost use Rattle.g4_load.specs.Faults.{of_check};
 
     ghost from_gives = { λ d e. e ≡ of_check d };
 
-    fn from(fault: CheckFault) -> Self {
+    fn from(refused: Refused<CheckFault>) -> Self {
+        match refused {
+            Refused::Fault(fault) => CheckError::Fault(GrammarFault::Check(fault)),
+            Refused::NoMemory => CheckError::NoMemory,
+        }
+    }
+}
+
+impl From<LexFault> for CheckError {
+    ghost use Rattle.std.specs.Prelude.{◌≡◌};
+    ghost use Rattle.g4_load.specs.Faults.{of_lexer};
+
+    ghost from_gives = { λ d e. e ≡ of_lexer d };
+
+    fn from(fault: LexFault) -> Self {
         match fault {
-            CheckFault::UndefinedRule(name) => {
-                CheckError::Fault(GrammarFault::UndefinedRule(name))
-            }
-            CheckFault::UnknownMode(name) => CheckError::Fault(GrammarFault::UnknownMode(name)),
-            CheckFault::UnknownCommand(name) => {
-                CheckError::Fault(GrammarFault::UnknownCommand(name))
-            }
-            CheckFault::UnknownChannel(name) => {
-                CheckError::Fault(GrammarFault::UnknownChannel(name))
-            }
-            CheckFault::LexerPredicate(place) => {
-                CheckError::Fault(GrammarFault::LexerPredicate(place))
-            }
-            CheckFault::UnknownPredicate(place) => {
-                CheckError::Fault(GrammarFault::UnknownPredicate(place))
-            }
-            CheckFault::LabelClash(name) => CheckError::Fault(GrammarFault::LabelClash(name)),
-            CheckFault::NoPrimary(name) => CheckError::Fault(GrammarFault::NoPrimary(name)),
-            CheckFault::EmptyOperator(name, alternative) => {
-                CheckError::Fault(GrammarFault::EmptyOperator(name, alternative))
-            }
-            CheckFault::EmptyLoop(name) => CheckError::Fault(GrammarFault::EmptyLoop(name)),
-            CheckFault::LeftCycle(names) => CheckError::Fault(GrammarFault::LeftCycle(names)),
-            CheckFault::NoMemory => CheckError::NoMemory,
+            LexFault::States => CheckError::Fault(GrammarFault::States),
+            LexFault::NoMemory => CheckError::NoMemory,
         }
     }
 }

@@ -1,22 +1,20 @@
 // From a grammar without fault to its network, and to what parses with it.
 ghost use Rattle.std.specs.Prelude.{◌≡◌, IfOk, Some, ◌∷◌, []};
-ghost use Rattle.g4_grammar.specs.StepRules.{CanBeRewritten};
 ghost use Rattle.g4_load.specs.Building.{Builds, FromGrammar, Lays, names_of};
 ghost use Rattle.g4_load.specs.Counting.{Counts};
 ghost use Rattle.g4_load.specs.Files.{Files};
 ghost use Rattle.g4_load.specs.Stages.{GivesOrHalts, IsAnswerOf};
-ghost use Rattle.g4_load.specs.Usable.{CanBeBuilt, IsParsing, IsUsable};
+ghost use Rattle.g4_load.specs.Usable.{IsParsing, IsUsable};
 
-use crate::copies;
 use crate::fault::{CheckError, not_built};
-use crate::lexer::make_lexer;
 use crate::loading::{Loaded, load};
 use crate::stop::{Halt, fault_of};
 use g4_base::{Sequence, Text};
 use g4_build::build;
-use g4_grammar::StepRule;
+use g4_grammar::{ParserRules, StepRule};
 use g4_leftrec::rewrite;
 use g4_lexer::Lexer;
+use g4_lexer_rules::build_lexer;
 use g4_net::ParserNetwork;
 use g4_ports::Shelf;
 use std::alloc::{AllocError, Global};
@@ -27,24 +25,15 @@ pub struct Interpreter {
     /// The names of the parser rules, which count from 1.
     pub names: Sequence<Text>,
     /// The parser rules as they are written, with what their atoms are in a network.
-    pub rules: Sequence<StepRule>,
+    pub rules: ParserRules,
     /// What is shown of each token type from 1 on.
     pub shown: Sequence<Text>,
     pub lexer: Lexer,
     pub net: ParserNetwork,
 }
 
-/// Parser rules with the network of one of them.
-#[derive(Drop)]
-pub(crate) struct Parser {
-    /// The names of the rules, which count from 1.
-    pub names: Sequence<Text>,
-    pub rules: Sequence<StepRule>,
-    pub net: ParserNetwork,
-}
-
 /// The names of the rules in order.
-fn names_of(alloc: Global, rules: &[StepRule]) -> Result<Sequence<Text>, AllocError>
+pub(crate) fn names_of(alloc: Global, rules: &[StepRule]) -> Result<Sequence<Text>, AllocError>
     ensures { IfOk result (λ names. names ≡ names_of rules.now) }
 {
     let mut names = Vec::new(alloc);
@@ -54,38 +43,24 @@ fn names_of(alloc: Global, rules: &[StepRule]) -> Result<Sequence<Text>, AllocEr
     Ok(Sequence::new(names))
 }
 
-/// The rules with their network from this start rule, or the first fault of that.
+/// The network of the rules from this start rule, or the first fault of that.
 pub(crate) fn lay(
     alloc: Global,
-    rules: Sequence<StepRule>,
+    rules: &ParserRules,
     start: &str,
-) -> Result<Parser, CheckError>
-    requires { CanBeRewritten rules }
-    ensures laid { IsAnswerOf (Lays start.now rules) result }
-    ensures parsing { IfOk result (λ parser. IsParsing parser.rules parser.net) }
+) -> Result<ParserNetwork, CheckError>
+    ensures laid { IsAnswerOf (Lays start.now rules.now) result }
+    ensures parsing { IfOk result (IsParsing rules.now) }
 {
-    let names = names_of(alloc, rules.as_slice())?;
-    let kept = copies::rules(alloc, rules.as_slice())?;
-    let laid = rewrite(alloc, rules.into_vec())?;
-    let net = match build(
-        alloc,
-        laid.rules.as_slice(),
-        laid.numberings.as_slice(),
-        start,
-    ) {
-        Ok(net) => net,
-        Err(fault) => return Err(not_built(alloc, start, fault)?),
-    };
-    Ok(Parser {
-        names,
-        rules: Sequence::new(kept),
-        net,
-    })
+    let laid = rewrite(alloc, rules)?;
+    match build(alloc, &laid, start) {
+        Ok(net) => Ok(net),
+        Err(fault) => Err(not_built(alloc, start, fault)?),
+    }
 }
 
 /// What parses with the grammar from this start rule, or the first fault of its networks.
 fn interpret(alloc: Global, grammar: Loaded, start: &str) -> Result<Interpreter, CheckError>
-    requires { CanBeBuilt grammar }
     ensures interpreting { IsAnswerOf (FromGrammar start.now grammar) result }
     ensures usable { IfOk result IsUsable }
 {
@@ -93,16 +68,16 @@ fn interpret(alloc: Global, grammar: Loaded, start: &str) -> Result<Interpreter,
         rules,
         shown,
         lexer,
-        tables,
     } = grammar;
-    let parser = lay(alloc, rules, start)?;
-    let lexer = make_lexer(alloc, lexer, &tables)?;
+    let names = names_of(alloc, rules.as_slice())?;
+    let net = lay(alloc, &rules, start)?;
+    let lexer = build_lexer(alloc, lexer)?;
     Ok(Interpreter {
-        names: parser.names,
-        rules: parser.rules,
+        names,
+        rules,
         shown,
         lexer,
-        net: parser.net,
+        net,
     })
 }
 

@@ -1,11 +1,9 @@
 // Grammars by the names of their files: read, numbered and checked; with the networks of their rules, to parse with or to list.
 #![tactic(auto)]
 
-mod copies;
 mod fault;
 mod interpreter;
 mod law;
-mod lexer;
 mod listing;
 mod loading;
 mod stop;

@@ -5,10 +5,9 @@ ghost use Rattle.g4_load.specs.Counting.{Counts};
 ghost use Rattle.g4_load.specs.Files.{Files};
 ghost use Rattle.g4_load.specs.Listing.{FromRule, IsStartListing, IsStartRule, Lists};
 ghost use Rattle.g4_load.specs.Stages.{GivesOrHalts, IsAnswerOf};
-ghost use Rattle.g4_load.specs.Usable.{CanBeBuilt};
 
 use crate::fault::CheckError;
-use crate::interpreter::{Parser, lay};
+use crate::interpreter::{lay, names_of};
 use crate::loading::{Loaded, load};
 use crate::stop::{Halt, fault_of};
 use g4_base::{Octets, Text};
@@ -28,24 +27,28 @@ fn start_rule(net: &ParserNetwork) -> u32
     }
 }
 
-/// The listing of the start rule, where these are shown of the token types.
-fn list_start(alloc: Global, parser: &Parser, shown: &[Text]) -> Result<Octets, AllocError>
-    requires { IsReady parser.now.net }
-    ensures { IfOk result (IsStartListing parser.now shown.now) }
+/// The listing of the start rule of a network of rules of these names, where these are shown of the token types.
+fn list_start(
+    alloc: Global,
+    names: &[Text],
+    shown: &[Text],
+    net: &ParserNetwork,
+) -> Result<Octets, AllocError>
+    requires { IsReady net.now }
+    ensures { IfOk result (IsStartListing names.now shown.now net.now) }
 {
-    let rule = start_rule(&parser.net);
-    let listing = list_rule(alloc, parser.names.as_slice(), shown, &parser.net, rule)?;
+    let rule = start_rule(net);
+    let listing = list_rule(alloc, names, shown, net, rule)?;
     Ok(listing)
 }
 
 /// The listing of the rule of this name of a grammar.
-fn list_from(alloc: Global, grammar: Loaded, rule: &str) -> Result<Octets, CheckError>
-    requires { CanBeBuilt grammar }
-    ensures { IsAnswerOf (FromRule rule.now grammar) result }
+fn list_from(alloc: Global, grammar: &Loaded, rule: &str) -> Result<Octets, CheckError>
+    ensures { IsAnswerOf (FromRule rule.now grammar.now) result }
 {
-    let Loaded { rules, shown, .. } = grammar;
-    let parser = lay(alloc, rules, rule)?;
-    let listing = list_start(alloc, &parser, shown.as_slice())?;
+    let names = names_of(alloc, grammar.rules.as_slice())?;
+    let net = lay(alloc, &grammar.rules, rule)?;
+    let listing = list_start(alloc, names.as_slice(), grammar.shown.as_slice(), &net)?;
     Ok(listing)
 }
 
@@ -66,7 +69,7 @@ pub fn list_named<S: Shelf>(
     ensures counts { Counts ⊥ (S.faults shelf.old) (S.faults shelf.new) (S.misses shelf.old) (S.misses shelf.new) result }
 {
     let grammar = load(alloc, shelf, name)?;
-    match list_from(alloc, grammar, rule) {
+    match list_from(alloc, &grammar, rule) {
         Ok(listing) => Ok(listing),
         Err(CheckError::Fault(fault)) => Err(Halt::Stop(fault_of(alloc, name, fault)?)),
         Err(CheckError::NoMemory) => Err(Halt::NoMemory),

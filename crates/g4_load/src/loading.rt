@@ -4,15 +4,14 @@ ghost use Rattle.g4_load.specs.Counting.{Counts};
 ghost use Rattle.g4_load.specs.Files.{Files};
 ghost use Rattle.g4_load.specs.Loading.{Fetches, IsGrammarIn, Loads};
 ghost use Rattle.g4_load.specs.Stages.{GivesOrHalts, IsAnswerOf};
-ghost use Rattle.g4_load.specs.Usable.{CanBeBuilt};
 
 use crate::fault::CheckError;
 use crate::stop::{Halt, Stop, fault_of};
 use g4_base::{MOST_BYTES, Octets, Sequence, Text};
 use g4_checks::check;
 use g4_forms::check_forms;
-use g4_grammar::StepRule;
-use g4_lexer_rules::{CommandTables, LexerRules, lexer_rules_of, tables_of};
+use g4_grammar::ParserRules;
+use g4_lexer_rules::{CheckedLexer, checked_lexer_of};
 use g4_ports::{Got, Shelf};
 use g4_reader::read_grammar;
 use g4_resolve::resolve;
@@ -23,13 +22,11 @@ use std::alloc::Global;
 #[derive(Drop)]
 pub struct Loaded {
     /// The parser rules in order of the text, which count from 1, with what their atoms are in a network.
-    pub rules: Sequence<StepRule>,
+    pub rules: ParserRules,
     /// What is shown of each token type from 1 on.
     pub shown: Sequence<Text>,
-    /// The rules of the lexer with their token types.
-    pub lexer: LexerRules,
-    /// What the commands of these rules name.
-    pub tables: CommandTables,
+    /// The rules of the lexer with their token types, and what their commands name.
+    pub lexer: CheckedLexer,
 }
 
 /// The bytes of a grammar file.
@@ -51,8 +48,7 @@ fn fetch_grammar<S: Shelf>(alloc: Global, shelf: &mut S, name: &str) -> Result<O
 /// The grammar that these bytes are.
 fn read_and_check(alloc: Global, bytes: &[u8]) -> Result<Loaded, CheckError>
     requires { length bytes.now ≤ MOST_BYTES }
-    ensures grammar { IsAnswerOf (IsGrammarIn bytes.now) result }
-    ensures checked { IfOk result CanBeBuilt }
+    ensures { IsAnswerOf (IsGrammarIn bytes.now) result }
 {
     let source = read_grammar(alloc, bytes)?;
     check_forms(alloc, &source)?;
@@ -62,13 +58,11 @@ fn read_and_check(alloc: Global, bytes: &[u8]) -> Result<Loaded, CheckError>
     let rules = resolve(alloc, source.rules.as_slice(), &vocabulary)?;
     let types = vocabulary.token_types(alloc)?;
     drop(vocabulary);
-    let tables = tables_of(alloc, &source, types.names)?;
-    let lexer = lexer_rules_of(alloc, source.rules, tables.types.as_slice(), types.literals)?;
+    let lexer = checked_lexer_of(alloc, source, types.names, types.literals)?;
     Ok(Loaded {
         rules,
         shown: types.shown,
         lexer,
-        tables,
     })
 }
 
@@ -79,7 +73,6 @@ fn read_and_check(alloc: Global, bytes: &[u8]) -> Result<Loaded, CheckError>
 pub fn load<S: Shelf>(alloc: Global, shelf: &mut S, name: &str) -> Result<Loaded, Halt>
     ensures keeps { S.told shelf.new ≡ S.told shelf.old }
     ensures content { (files : Files) → S.told shelf.old ≡ Some files → GivesOrHalts (Loads files name.now (name.now ∷ [])) result }
-    ensures checked { IfOk result CanBeBuilt }
     ensures counts { Counts ⊥ (S.faults shelf.old) (S.faults shelf.new) (S.misses shelf.old) (S.misses shelf.new) result }
 {
     let bytes = fetch_grammar(alloc, shelf, name)?;

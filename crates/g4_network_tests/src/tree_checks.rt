@@ -8,10 +8,7 @@ use g4_trees::{Item, Tree};
 use std::alloc::{AllocError, Global};
 use std::test::Fail;
 
-const GREEDY: Suffix = Suffix {
-    place: Place::START,
-    greedy: true,
-};
+const GREEDY: Suffix = Suffix { greedy: true };
 
 /// The symbol that a letter represents.
 fn symbol(letter: char) -> u32 {

@@ -18,7 +18,7 @@ use Rattle.g4_syntax.specs.Notation.{Terminal, Expression, one, optional}
 use Rattle.g4_syntax.specs.Productions.{action, assign, suffix}
 use Rattle.g4_syntax.specs.Trees.{Tree, both, left, right, absent, present}
 use Rattle.g4_cursor.specs.Options.{right_of_optional}
-use Rattle.g4_cursor.specs.Texts.{is_present, token_of, name_of}
+use Rattle.g4_cursor.specs.Texts.{is_present, name_of}
 
 -- whether the sign of a label is `+=`
 abbrev pub is_list : Tree assign → Bool
@@ -35,9 +35,9 @@ is_greedy tree = not (is_present tree)
 
 -- how often an element with this sign may be taken
 abbrev pub suffix_of : Tree suffix → Repeat
-suffix_of (both (left question) lazy) = repeats.Optional (record { place = (token_of question).place; greedy = is_greedy lazy })
-suffix_of (both (right (left star)) lazy) = repeats.Star (record { place = (token_of star).place; greedy = is_greedy lazy })
-suffix_of (both (right (right plus)) lazy) = repeats.Plus (record { place = (token_of plus).place; greedy = is_greedy lazy })
+suffix_of (both (left question) lazy) = repeats.Optional (record { greedy = is_greedy lazy })
+suffix_of (both (right (left star)) lazy) = repeats.Star (record { greedy = is_greedy lazy })
+suffix_of (both (right (right plus)) lazy) = repeats.Plus (record { greedy = is_greedy lazy })
 
 -- the same where there may be no sign
 abbrev pub optional_suffix_of : Tree (optional suffix) → Repeat

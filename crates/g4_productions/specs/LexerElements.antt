@@ -65,7 +65,7 @@ excluded_set tree = set_of_ranges (excluded_ranges tree)
 abbrev pub literal_item : Option Label → Tree
     (one characters ▸ (sign kinds.DoubleDot ▸ sign kinds.Literal ∣ optional element_options)) → Labelled
 literal_item l (both literal (left (both dots last))) =
-    single false (record { label = l; kind = atoms.Range (token_of literal).place (literal_of literal) (literal_of last) })
+    single false (record { label = l; kind = atoms.Range (literal_of literal) (literal_of last) })
 literal_item l (both literal (right options)) =
     single (right_of_optional options) (record { label = l; kind = atoms.Literal (literal_of literal) })
 
@@ -104,9 +104,9 @@ abbrev mutual
   pub unnamed_lexer : Option Label → Tree unnamed_lexer_item → Labelled
   unnamed_lexer l (left x) = literal_item l x
   unnamed_lexer l (right (left set)) = single false (record { label = l; kind = atoms.Set (set_of_leaf set) })
-  unnamed_lexer l (right (right (left dot))) = single false (record { label = l; kind = atoms.Any (token_of dot).place })
+  unnamed_lexer l (right (right (left dot))) = single false (record { label = l; kind = atoms.Any })
   unnamed_lexer l (right (right (right (left (both tilde s))))) =
-      single false (record { label = l; kind = atoms.NotCharacters (token_of tilde).place (excluded_set s) })
+      single false (record { label = l; kind = atoms.NotCharacters (excluded_set s) })
   unnamed_lexer l (right (right (right (right b)))) = brackets l (either (lexer_block_of b))
 
   -- the alternatives of a block

@@ -13,7 +13,7 @@ use Rattle.g4_syntax.specs.Notation.{element, token_set, ◌▸◌, ◌∣◌, o
 use Rattle.g4_syntax.specs.Productions.{assign, element_options, reference_end, alternative, block, unnamed_item, item, labelled_item}
 use Rattle.g4_syntax.specs.Trees.{Tree, both, left, right, end, more, inner}
 use Rattle.g4_cursor.specs.Options.{right_of_optional}
-use Rattle.g4_cursor.specs.Texts.{token_of, text_of, name_of, literal_of}
+use Rattle.g4_cursor.specs.Texts.{text_of, name_of, literal_of}
 use Rattle.g4_productions.specs.Elements.{Labelled, single, brackets, is_list, is_right, optional_suffix_of, action_of, action_right, with_suffix}
 
 -- whether the reference to a rule associates to the right
@@ -83,9 +83,9 @@ abbrev mutual
   unnamed l (left (both literal options)) = single (right_of_optional options)
       (record { label = l; kind = atoms.Literal (literal_of literal) })
   unnamed l (right (left (both dot options))) =
-      single (right_of_optional options) (record { label = l; kind = atoms.Any (token_of dot).place })
+      single (right_of_optional options) (record { label = l; kind = atoms.Any })
   unnamed l (right (right (left (both tilde s)))) =
-      single false (record { label = l; kind = atoms.NotTokens (token_of tilde).place (references_of s) })
+      single false (record { label = l; kind = atoms.NotTokens (references_of s) })
   unnamed l (right (right (right b))) = brackets l (either (block_of b))
 
   -- the alternatives of a block

@@ -1,10 +1,8 @@
 -- Rules, and the sections of modes.
 use Rattle.std.specs.Prelude.{ℕ, List, [], ◌∷◌, map, Option, Some, None}
-use Rattle.g4_base.specs.declared.place.Place.{Place}
 use Rattle.g4_grammar_tokens.specs.declared.token.Kind.TheVariants as kinds
 use Rattle.g4_source.specs.declared.rule.Argument.{Argument}
 use Rattle.g4_source.specs.declared.rule.Argument.TheVariants as arguments
-use Rattle.g4_source.specs.declared.rule.AlternativeLabel.{AlternativeLabel}
 use Rattle.g4_source.specs.declared.rule.Command.{Command}
 use Rattle.g4_source.specs.declared.rule.LexerAlternative.{LexerAlternative}
 use Rattle.g4_source.specs.declared.rule.LexerRule.{LexerRule}
@@ -14,18 +12,18 @@ use Rattle.g4_source.specs.declared.rule.Rule.TheVariants as rules
 use Rattle.g4_source.specs.declared.rule.RuleAlternative.{RuleAlternative}
 use Rattle.g4_source.specs.Trees.{in_order}
 use Rattle.g4_source.specs.declared.atom.Atom.{Atom}
-use Rattle.g4_syntax.specs.Notation.{Terminal, one, ◌▸◌, ◌∣◌, optional, repeated, sign, name, with_commas, with_bars}
+use Rattle.g4_syntax.specs.Notation.{◌▸◌, ◌∣◌, optional, repeated, sign, name, with_commas, with_bars}
 use Rattle.g4_syntax.specs.Productions.{rule_alternative, parser_rule, command, lexer_alternative, lexer_rule, mode}
 use Rattle.g4_syntax.specs.Trees.{Tree, both, left, right, absent, present, end, more}
-use Rattle.g4_cursor.specs.Texts.{token_of, text_of, name_of}
+use Rattle.g4_cursor.specs.Texts.{is_present, text_of, name_of}
 use Rattle.g4_productions.specs.declared.lexer_rule.ModeSection.{ModeSection}
 use Rattle.g4_productions.specs.LexerElements.{lexer_elements}
 use Rattle.g4_productions.specs.ParserElements.{alternative_elements, alternative_right}
 
 -- the label of an alternative
-abbrev pub alternative_label : Tree (optional (sign kinds.Hash ▸ name)) → Option AlternativeLabel
+abbrev pub alternative_label : Tree (optional (sign kinds.Hash ▸ name)) → Option (List ℕ)
 alternative_label absent = None
-alternative_label (present (both hash n)) = Some (record { place = (token_of hash).place; name = text_of n })
+alternative_label (present (both hash n)) = Some (text_of n)
 
 -- an alternative of a parser rule
 abbrev pub rule_alternative_of : Tree rule_alternative → RuleAlternative Atom
@@ -87,15 +85,10 @@ rule_lexer_alternatives_after (more (both bar x) xs) = lexer_alternative_of x �
 abbrev pub rule_lexer_alternatives : Tree (with_bars lexer_alternative) → List LexerAlternative
 rule_lexer_alternatives (both x xs) = lexer_alternative_of x ∷ rule_lexer_alternatives_after xs
 
--- the place of `fragment`
-abbrev pub fragment_place : {t : Terminal} → Tree (optional (one t)) → Option Place
-fragment_place absent = None
-fragment_place (present keyword) = Some (token_of keyword).place
-
 -- a lexer rule
 abbrev pub lexer_rule_of : Tree lexer_rule → LexerRule
 lexer_rule_of (both fragment (both n (both options (both colon (both xs semicolon))))) =
-    record { mode = None; fragment = fragment_place fragment; name = text_of n; alternatives = rule_lexer_alternatives xs }
+    record { mode = None; fragment = is_present fragment; name = text_of n; alternatives = rule_lexer_alternatives xs }
 
 -- lexer rules in order
 abbrev pub lexer_rules : Tree (repeated lexer_rule) → List LexerRule

@@ -40,7 +40,7 @@ fn literal_item(cursor: &mut Cursor<'_>, label: Option<Label>) -> Result<Labelle
         let other = cursor.take(Kind::Literal);
         let last = literal(cursor.alloc(), other.text)?;
         let right = false;
-        let kind = AtomKind::Range(taken.place, first, last);
+        let kind = AtomKind::Range(first, last);
         return Ok(Labelled::Single(right, Atom { label, kind }));
     }
     let right = optional_element_options(cursor)?;
@@ -64,14 +64,14 @@ fn unnamed_item(cursor: &mut Cursor<'_>, label: Option<Label>) -> Result<Labelle
         return Ok(Labelled::Single(right, Atom { label, kind }));
     }
     if cursor.is_at(Kind::Dot) {
-        let place = cursor.take(Kind::Dot).place;
-        let kind = AtomKind::Any(place);
+        cursor.take(Kind::Dot);
+        let kind = AtomKind::Any;
         return Ok(Labelled::Single(right, Atom { label, kind }));
     }
     if cursor.is_at(Kind::Tilde) {
-        let place = cursor.take(Kind::Tilde).place;
+        cursor.take(Kind::Tilde);
         let set = excluded_set(cursor)?;
-        let kind = AtomKind::NotCharacters(place, set);
+        let kind = AtomKind::NotCharacters(set);
         return Ok(Labelled::Single(right, Atom { label, kind }));
     }
     let alternatives = block(cursor)?;

@@ -3,10 +3,11 @@ ghost use Rattle.std.specs.Prelude.{◌≡◌, codes};
 ghost use Rattle.g4_syntax.specs.Notation.{optional, word};
 ghost use Rattle.g4_syntax.specs.Productions.{lexer_rule as a_lexer_rule};
 ghost use Rattle.g4_cursor.specs.Progress.{is_next, Gives, Moves};
-ghost use Rattle.g4_productions.specs.Rules.{argument_text_of, argument_of, command_of, commands_in_order, commands_of, lexer_alternative_of, rule_lexer_alternatives, fragment_place, lexer_rule_of, section_of, sections_of};
+ghost use Rattle.g4_cursor.specs.Texts.{is_present};
+ghost use Rattle.g4_productions.specs.Rules.{argument_text_of, argument_of, command_of, commands_in_order, commands_of, lexer_alternative_of, rule_lexer_alternatives, lexer_rule_of, section_of, sections_of};
 
 use crate::lexer_element::elements;
-use g4_base::{Place, Sequence, Text};
+use g4_base::{Sequence, Text};
 use g4_cursor::{Cursor, pass_optional_options};
 use g4_grammar_tokens::Kind;
 use g4_source::{Argument, Command, Elements, LexerAlternative, LexerRule};
@@ -101,15 +102,15 @@ fn alternatives(cursor: &mut Cursor<'_>) -> Result<Sequence<LexerAlternative>, A
     Ok(Sequence::new(alternatives))
 }
 
-/// The place of `fragment`, if it is there.
-fn fragment(cursor: &mut Cursor<'_>) -> Option<Place>
-    ensures { Moves {x = optional (word (codes "fragment"))} (λ tree. result ≡ fragment_place tree) cursor.old cursor.new }
+/// Takes `fragment` if it is there, and says whether it was.
+fn fragment(cursor: &mut Cursor<'_>) -> bool
+    ensures { Moves {x = optional (word (codes "fragment"))} (λ tree. result ≡ is_present tree) cursor.old cursor.new }
 {
     if !cursor.is_at_word(FRAGMENT) {
-        return None;
+        return false;
     }
-    let place = cursor.take_word(FRAGMENT).place;
-    Some(place)
+    cursor.take_word(FRAGMENT);
+    true
 }
 
 /// Whether a lexer rule is next.

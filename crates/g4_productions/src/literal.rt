@@ -1,8 +1,6 @@
 // The literals of lexer rules, which may be bad.
 ghost use Rattle.std.specs.Prelude.{◌≡◌, IfOk};
-ghost use Rattle.std.specs.Str.{chars};
 ghost use Rattle.g4_grammar_tokens.specs.declared.token.Kind.TheVariants as kinds;
-ghost use Rattle.g4_grammar_tokens.specs.Spelling.{literal_spelling};
 ghost use Rattle.g4_syntax.specs.Notation.{one};
 ghost use Rattle.g4_cursor.specs.Progress.{bytes_ahead, Moves};
 ghost use Rattle.g4_cursor.specs.Sets.{character_of, goes_on_bad, is_backward, lone};

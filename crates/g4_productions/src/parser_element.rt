@@ -38,16 +38,16 @@ fn unnamed_item(cursor: &mut Cursor<'_>, label: Option<Label>) -> Result<Labelle
         return Ok(Labelled::Single(right, Atom { label, kind }));
     }
     if cursor.is_at(Kind::Dot) {
-        let place = cursor.take(Kind::Dot).place;
+        cursor.take(Kind::Dot);
         let right = optional_element_options(cursor)?;
-        let kind = AtomKind::Any(place);
+        let kind = AtomKind::Any;
         return Ok(Labelled::Single(right, Atom { label, kind }));
     }
     if cursor.is_at(Kind::Tilde) {
-        let place = cursor.take(Kind::Tilde).place;
+        cursor.take(Kind::Tilde);
         let references = excluded_tokens(cursor)?;
         let right = false;
-        let kind = AtomKind::NotTokens(place, references);
+        let kind = AtomKind::NotTokens(references);
         return Ok(Labelled::Single(right, Atom { label, kind }));
     }
     let alternatives = block(cursor)?;

@@ -3,24 +3,24 @@ ghost use Rattle.g4_cursor.specs.Progress.{Gives};
 ghost use Rattle.g4_productions.specs.Rules.{alternative_label as label_of, rule_alternative_of, rule_alternatives_of, parser_rule_of};
 
 use crate::parser_element::elements;
-use g4_base::Sequence;
+use g4_base::{Sequence, Text};
 use g4_cursor::{
     Cursor, optional_element_options, pass_handlers, pass_modifier, pass_rule_prequels,
 };
 use g4_grammar_tokens::Kind;
-use g4_source::{AlternativeLabel, Atom, Elements, ParserRule, RuleAlternative};
+use g4_source::{Atom, Elements, ParserRule, RuleAlternative};
 use std::alloc::AllocError;
 
 /// The label of an alternative, if it has one.
-fn alternative_label(cursor: &mut Cursor<'_>) -> Result<Option<AlternativeLabel>, AllocError>
+fn alternative_label(cursor: &mut Cursor<'_>) -> Result<Option<Text>, AllocError>
     ensures { Gives label_of cursor.old cursor.new result }
 {
     if !cursor.is_at(Kind::Hash) {
         return Ok(None);
     }
-    let place = cursor.take(Kind::Hash).place;
+    cursor.take(Kind::Hash);
     let name = cursor.name_text()?;
-    Ok(Some(AlternativeLabel { place, name }))
+    Ok(Some(name))
 }
 
 /// An alternative of a rule.

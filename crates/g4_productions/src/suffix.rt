@@ -9,7 +9,6 @@ ghost use Rattle.g4_cursor.specs.Progress.{is_next, Moves, GivesAs};
 ghost use Rattle.g4_productions.specs.Elements.{signed_atom, unlabelled, is_greedy, is_list, is_right, optional_suffix_of, action_item, item_of, with_suffix};
 ghost use Rattle.g4_productions.specs.Elements.{labelled_of};
 
-use g4_base::Place;
 use g4_cursor::{Cursor, optional_element_options};
 use g4_grammar_tokens::Kind;
 use g4_source::{Alternative, Atom, AtomKind, Element, Label, Repeat, Suffix};
@@ -90,13 +89,12 @@ pub(crate) fn with_suffix(
     }
 }
 
-/// The sign at this place, which is greedy unless `?` follows.
-fn suffix(cursor: &mut Cursor<'_>, place: Place) -> Suffix
-    ensures { Moves {x = optional (sign kinds.Question)} (λ tree. result ≡ record { place = place; greedy = is_greedy tree })
-        cursor.old cursor.new }
+/// The sign that was taken: it is greedy unless `?` follows.
+fn suffix(cursor: &mut Cursor<'_>) -> Suffix
+    ensures { Moves {x = optional (sign kinds.Question)} (λ tree. result ≡ record { greedy = is_greedy tree }) cursor.old cursor.new }
 {
     let greedy = !cursor.take_if(Kind::Question);
-    Suffix { place, greedy }
+    Suffix { greedy }
 }
 
 /// How often an element may be taken, by its sign, if it has one.
@@ -104,16 +102,16 @@ pub(crate) fn optional_suffix(cursor: &mut Cursor<'_>) -> Repeat
     ensures { Moves (λ tree. result ≡ optional_suffix_of tree) cursor.old cursor.new }
 {
     if cursor.is_at(Kind::Question) {
-        let place = cursor.take(Kind::Question).place;
-        return Repeat::Optional(suffix(cursor, place));
+        cursor.take(Kind::Question);
+        return Repeat::Optional(suffix(cursor));
     }
     if cursor.is_at(Kind::Star) {
-        let place = cursor.take(Kind::Star).place;
-        return Repeat::Star(suffix(cursor, place));
+        cursor.take(Kind::Star);
+        return Repeat::Star(suffix(cursor));
     }
     if cursor.is_at(Kind::Plus) {
-        let place = cursor.take(Kind::Plus).place;
-        return Repeat::Plus(suffix(cursor, place));
+        cursor.take(Kind::Plus);
+        return Repeat::Plus(suffix(cursor));
     }
     Repeat::Once
 }

@@ -1,6 +1,7 @@
 // What predicates name, and what is named in modes, which no run shows yet: texts of grammars and the first fault.
 use g4_checks::{ReferenceFault, check_references};
 use g4_reader::read_grammar;
+use g4_source::Refused;
 use std::alloc::{AllocError, Global};
 use std::fmt::Write;
 use std::test::Fail;
@@ -15,7 +16,6 @@ fn kind(fault: &ReferenceFault) -> &'static str {
         ReferenceFault::LexerPredicate(_) => "lexer",
         ReferenceFault::UnknownPredicate(_) => "predicate",
         ReferenceFault::LabelClash(_) => "label",
-        ReferenceFault::NoMemory => "no memory",
     }
 }
 
@@ -31,7 +31,6 @@ fn shown(alloc: Global, fault: &ReferenceFault) -> Result<String, AllocError> {
         ReferenceFault::LexerPredicate(place) | ReferenceFault::UnknownPredicate(place) => {
             format!(in alloc; "{kind} {}:{}", place.line, place.column)
         }
-        ReferenceFault::NoMemory => Err(AllocError),
     }
 }
 
@@ -45,7 +44,8 @@ fn found(alloc: Global, text: &str) -> Result<String, AllocError> {
     };
     match check_references(alloc, &source) {
         Ok(()) => String::from_str(alloc, "none"),
-        Err(fault) => shown(alloc, &fault),
+        Err(Refused::Fault(fault)) => shown(alloc, &fault),
+        Err(Refused::NoMemory) => Err(AllocError),
     }
 }
 

@@ -83,18 +83,18 @@ fn push_kind(out: &mut String, kind: &AtomKind) -> Result<(), AllocError> {
         AtomKind::Rule(name) => out.push_str(name.text.as_str()),
         AtomKind::Token(name) => out.push_str(name.text.as_str()),
         AtomKind::Literal(literal) => out.push_str(literal.written.as_str()),
-        AtomKind::Range(_, first, last) => {
+        AtomKind::Range(first, last) => {
             out.push_str(first.written.as_str())?;
             out.push_str("..")?;
             out.push_str(last.written.as_str())
         }
         AtomKind::Set(set) => push_set(out, set),
-        AtomKind::Any(_) => out.push('.'),
-        AtomKind::NotTokens(_, references) => {
+        AtomKind::Any => out.push('.'),
+        AtomKind::NotTokens(references) => {
             out.push('~')?;
             push_references(out, references)
         }
-        AtomKind::NotCharacters(_, set) => {
+        AtomKind::NotCharacters(set) => {
             out.push('~')?;
             push_set(out, set)
         }
@@ -175,7 +175,7 @@ fn push_parser_rule(out: &mut String, rule: &ParserRule<Atom>) -> Result<(), All
         push_elements(out, alternative.elements.as_slice())?;
         if let Some(label) = &alternative.label {
             out.push_str(" #")?;
-            out.push_str(label.name.as_str())?;
+            out.push_str(label.as_str())?;
         }
     }
     Ok(())
@@ -204,7 +204,7 @@ fn push_lexer_rule(out: &mut String, rule: &LexerRule) -> Result<(), AllocError>
         out.push_str(mode.as_str())?;
         out.push('/')?;
     }
-    if rule.fragment.is_some() {
+    if rule.fragment {
         out.push_str("fragment ")?;
     }
     out.push_str(rule.name.as_str())?;

@@ -90,11 +90,11 @@ module _ (rules : List Rule) where
   reads_kind Parser (atoms.Rule name) = (λ h. absurd h, λ h. absurd (reference_reads (rule_number rules Parser name.text) h))
   reads_kind Parser (atoms.Token name) = (λ h. h, λ h. h)
   reads_kind Parser (atoms.Literal literal) = (λ h. h, λ h. h)
-  reads_kind Parser (atoms.Range place first last) = (λ h. absurd h, λ h. absurd (symbol_reads h))
+  reads_kind Parser (atoms.Range first last) = (λ h. absurd h, λ h. absurd (symbol_reads h))
   reads_kind Parser (atoms.Set set) = (λ h. absurd h, λ h. absurd (symbol_reads h))
-  reads_kind Parser (atoms.Any place) = (λ h. h, λ h. h)
-  reads_kind Parser (atoms.NotTokens place tokens) = (λ h. h, λ h. h)
-  reads_kind Parser (atoms.NotCharacters place set) = (λ h. absurd h, λ h. absurd (symbol_reads h))
+  reads_kind Parser atoms.Any = (λ h. h, λ h. h)
+  reads_kind Parser (atoms.NotTokens tokens) = (λ h. h, λ h. h)
+  reads_kind Parser (atoms.NotCharacters set) = (λ h. absurd h, λ h. absurd (symbol_reads h))
   reads_kind Parser atoms.Action = (λ h. h, λ h. h)
   reads_kind Parser (atoms.Predicate name) = (λ h. h, λ h. h)
   reads_kind Lexer (atoms.Rule name) = no_word
@@ -103,11 +103,11 @@ module _ (rules : List Rule) where
     λ h. elim h [ inl e ↦ (text_reads literal.characters).0 e | inr n ↦ absurd n.0 ],
     λ h. inl ((text_reads literal.characters).1 h),
   )
-  reads_kind Lexer (atoms.Range place first last) = (λ h. elim h [ inl m ↦ (m.0, m.1) | inr n ↦ absurd n.0 ], λ h. absurd (symbol_reads h))
+  reads_kind Lexer (atoms.Range first last) = (λ h. elim h [ inl m ↦ (m.0, m.1) | inr n ↦ absurd n.0 ], λ h. absurd (symbol_reads h))
   reads_kind Lexer (atoms.Set set) = (λ h. elim h [ inl m ↦ (m.0, m.1) | inr n ↦ absurd n.0 ], λ h. absurd (symbol_reads h))
-  reads_kind Lexer (atoms.Any place) = (λ h. elim h [ inl m ↦ (m.0, m.1) | inr n ↦ absurd n.0 ], λ h. absurd (symbol_reads h))
-  reads_kind Lexer (atoms.NotTokens place tokens) = no_word
-  reads_kind Lexer (atoms.NotCharacters place set) = (λ h. elim h [ inl m ↦ (m.0, m.1) | inr n ↦ absurd n.0 ], λ h. absurd (symbol_reads h))
+  reads_kind Lexer atoms.Any = (λ h. elim h [ inl m ↦ (m.0, m.1) | inr n ↦ absurd n.0 ], λ h. absurd (symbol_reads h))
+  reads_kind Lexer (atoms.NotTokens tokens) = no_word
+  reads_kind Lexer (atoms.NotCharacters set) = (λ h. elim h [ inl m ↦ (m.0, m.1) | inr n ↦ absurd n.0 ], λ h. absurd (symbol_reads h))
   reads_kind Lexer atoms.Action = empty_word
   reads_kind Lexer (atoms.Predicate name) = empty_word
 
@@ -120,11 +120,11 @@ module _ (rules : List Rule) where
   calls_kind Parser (atoms.Rule name) k = reference_calls (rule_number rules Parser name.text) k
   calls_kind Parser (atoms.Token name) k = (λ h. h, λ h. h)
   calls_kind Parser (atoms.Literal literal) k = (λ h. h, λ h. h)
-  calls_kind Parser (atoms.Range place first last) k = (λ h. h, λ h. h)
+  calls_kind Parser (atoms.Range first last) k = (λ h. h, λ h. h)
   calls_kind Parser (atoms.Set set) k = (λ h. h, λ h. h)
-  calls_kind Parser (atoms.Any place) k = (λ h. h, λ h. h)
-  calls_kind Parser (atoms.NotTokens place tokens) k = (λ h. h, λ h. h)
-  calls_kind Parser (atoms.NotCharacters place set) k = (λ h. h, λ h. h)
+  calls_kind Parser atoms.Any k = (λ h. h, λ h. h)
+  calls_kind Parser (atoms.NotTokens tokens) k = (λ h. h, λ h. h)
+  calls_kind Parser (atoms.NotCharacters set) k = (λ h. h, λ h. h)
   calls_kind Parser atoms.Action k = (λ h. h, λ h. h)
   calls_kind Parser (atoms.Predicate name) k = (λ h. h, λ h. h)
   calls_kind Lexer (atoms.Rule name) k = (λ h. h, λ h. h)
@@ -134,11 +134,11 @@ module _ (rules : List Rule) where
       by : (cs : List ℕ) → ⊥ ↔ CallsLead (text_lead cs) k
       by [] = (λ h. h, λ h. h)
       by (c ∷ cs) = (λ h. h, λ h. h)
-  calls_kind Lexer (atoms.Range place first last) k = (λ h. h, λ h. h)
+  calls_kind Lexer (atoms.Range first last) k = (λ h. h, λ h. h)
   calls_kind Lexer (atoms.Set set) k = (λ h. h, λ h. h)
-  calls_kind Lexer (atoms.Any place) k = (λ h. h, λ h. h)
-  calls_kind Lexer (atoms.NotTokens place tokens) k = (λ h. h, λ h. h)
-  calls_kind Lexer (atoms.NotCharacters place set) k = (λ h. h, λ h. h)
+  calls_kind Lexer atoms.Any k = (λ h. h, λ h. h)
+  calls_kind Lexer (atoms.NotTokens tokens) k = (λ h. h, λ h. h)
+  calls_kind Lexer (atoms.NotCharacters set) k = (λ h. h, λ h. h)
   calls_kind Lexer atoms.Action k = (λ h. h, λ h. h)
   calls_kind Lexer (atoms.Predicate name) k = (λ h. h, λ h. h)
 
@@ -175,21 +175,21 @@ module _ (rules : List Rule) where
   called Parser (atoms.Rule name) k h = (name.text, h)
   called Parser (atoms.Token name) k h = absurd h
   called Parser (atoms.Literal literal) k h = absurd h
-  called Parser (atoms.Range place first last) k h = absurd h
+  called Parser (atoms.Range first last) k h = absurd h
   called Parser (atoms.Set set) k h = absurd h
-  called Parser (atoms.Any place) k h = absurd h
-  called Parser (atoms.NotTokens place tokens) k h = absurd h
-  called Parser (atoms.NotCharacters place set) k h = absurd h
+  called Parser atoms.Any k h = absurd h
+  called Parser (atoms.NotTokens tokens) k h = absurd h
+  called Parser (atoms.NotCharacters set) k h = absurd h
   called Parser atoms.Action k h = absurd h
   called Parser (atoms.Predicate name) k h = absurd h
   called Lexer (atoms.Rule name) k h = absurd h
   called Lexer (atoms.Token name) k h = (name.text, h.1)
   called Lexer (atoms.Literal literal) k h = absurd h
-  called Lexer (atoms.Range place first last) k h = absurd h
+  called Lexer (atoms.Range first last) k h = absurd h
   called Lexer (atoms.Set set) k h = absurd h
-  called Lexer (atoms.Any place) k h = absurd h
-  called Lexer (atoms.NotTokens place tokens) k h = absurd h
-  called Lexer (atoms.NotCharacters place set) k h = absurd h
+  called Lexer atoms.Any k h = absurd h
+  called Lexer (atoms.NotTokens tokens) k h = absurd h
+  called Lexer (atoms.NotCharacters set) k h = absurd h
   called Lexer atoms.Action k h = absurd h
   called Lexer (atoms.Predicate name) k h = absurd h
 

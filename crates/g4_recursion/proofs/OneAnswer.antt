@@ -1,16 +1,15 @@
--- What is reported of rules is one answer.
-use Rattle.std.proofs.Common.{◌≡◌, ◌≢◌, ℕ, List, [], ◌∷◌, map, Some, Result, Ok, Err, refl, sym, ap, ◌∙◌, subst, arith}
-use Rattle.std.specs.Prelude.{⊤}
+-- One fault of rules is reported, and none where they have none.
+use Rattle.std.proofs.Common.{◌≡◌, ℕ, List, [], ◌∷◌, map, Some, refl, sym, ap, ◌∙◌, subst, arith}
 use Rattle.std.specs.List.{slice_get}
 use Rattle.std.proofs.lemmas.Option.{same_Some}
 use Rattle.g4_source.specs.declared.rule.Rule.{Rule}
 use Rattle.g4_source.specs.Rules.{rule_name}
 use Rattle.g4_grammar.specs.Written.{HaveNoEmptyLoop, HaveNoLeftCycle, RuleLeftCalls}
 use Rattle.g4_cycles.proofs.OneCycle.{one_first_cycle, reaches_first}
-use Rattle.g4_recursion.specs.Checking.{AreCycle, HasEmptyLoop, HasEmptyOperator, IsChecked, IsEmptyOperator, IsFirstOperator, IsFirstRule, IsNamed, LacksPrimary}
+use Rattle.g4_recursion.specs.Checking.{AreCycle, HasEmptyLoop, HasEmptyOperator, HaveNoFault, IsEmptyOperator, IsFault, IsFirstOperator, IsFirstRule, IsNamed, LacksPrimary}
 use Rattle.g4_recursion.specs.Least.{IsLeast}
 use Rattle.g4_recursion.specs.declared.checking.RecursionFault.{RecursionFault}
-use Rattle.g4_recursion.specs.declared.checking.RecursionFault.TheVariants.{NoPrimary, EmptyOperator, EmptyLoop, LeftCycle, NoMemory}
+use Rattle.g4_recursion.specs.declared.checking.RecursionFault.TheVariants.{NoPrimary, EmptyOperator, EmptyLoop, LeftCycle}
 use Rattle.g4_recursion.proofs.Bridge.{reaches_left}
 
 -- the least number with a property is one
@@ -69,39 +68,28 @@ module _ (rules : List Rule) where
   not_loop : (name : List ℕ) → HaveNoEmptyLoop rules → IsFirstRule rules (HasEmptyLoop rules) name → ⊥
   not_loop name none (k, least, named) = let (body, at, loop) = least.0 in none k body at loop
 
-  -- the answer is one
-  pub one_recursion : (a b : Result ⊤ RecursionFault) → IsChecked rules a → IsChecked rules b → a ≢ Err NoMemory → b ≢ Err NoMemory → a ≡ b
-  one_recursion (Err NoMemory) b h k n m = absurd (n refl)
-  one_recursion (Ok _) (Err NoMemory) h k n m = absurd (m refl)
-  one_recursion (Err (NoPrimary name)) (Err NoMemory) h k n m = absurd (m refl)
-  one_recursion (Err (EmptyOperator name i)) (Err NoMemory) h k n m = absurd (m refl)
-  one_recursion (Err (EmptyLoop name)) (Err NoMemory) h k n m = absurd (m refl)
-  one_recursion (Err (LeftCycle names)) (Err NoMemory) h k n m = absurd (m refl)
-  one_recursion (Ok _) (Ok _) h k n m = refl
-  one_recursion (Ok _) (Err (NoPrimary name)) h k n m = absurd (not_first (LacksPrimary rules) name h.0.0.0 k)
-  one_recursion (Ok _) (Err (EmptyOperator name i)) h k n m = absurd (not_operator name i h.0.0.1 k.1)
-  one_recursion (Ok _) (Err (EmptyLoop name)) h k n m = absurd (not_loop name h.0.1 k.1)
-  one_recursion (Ok _) (Err (LeftCycle names)) h k n m = absurd (no_cycle names h.1 k.1)
-  one_recursion (Err (NoPrimary name)) (Ok _) h k n m = absurd (not_first (LacksPrimary rules) name k.0.0.0 h)
-  one_recursion (Err (NoPrimary name)) (Err (NoPrimary other)) h k n m =
-      ap (λ x. Err (NoPrimary x)) (one_rule (LacksPrimary rules) name other h k)
-  one_recursion (Err (NoPrimary name)) (Err (EmptyOperator other i)) h k n m = absurd (not_first (LacksPrimary rules) name k.0 h)
-  one_recursion (Err (NoPrimary name)) (Err (EmptyLoop other)) h k n m = absurd (not_first (LacksPrimary rules) name k.0.0 h)
-  one_recursion (Err (NoPrimary name)) (Err (LeftCycle others)) h k n m = absurd (not_first (LacksPrimary rules) name k.0.0.0 h)
-  one_recursion (Err (EmptyOperator name i)) (Ok _) h k n m = absurd (not_operator name i k.0.0.1 h.1)
-  one_recursion (Err (EmptyOperator name i)) (Err (NoPrimary other)) h k n m = absurd (not_first (LacksPrimary rules) other h.0 k)
-  one_recursion (Err (EmptyOperator name i)) (Err (EmptyOperator other j)) h k n m = let (same, place) =
-      one_operator name other i j h.1 k.1 in cc
-  one_recursion (Err (EmptyOperator name i)) (Err (EmptyLoop other)) h k n m = absurd (not_operator name i k.0.1 h.1)
-  one_recursion (Err (EmptyOperator name i)) (Err (LeftCycle others)) h k n m = absurd (not_operator name i k.0.0.1 h.1)
-  one_recursion (Err (EmptyLoop name)) (Ok _) h k n m = absurd (not_loop name k.0.1 h.1)
-  one_recursion (Err (EmptyLoop name)) (Err (NoPrimary other)) h k n m = absurd (not_first (LacksPrimary rules) other h.0.0 k)
-  one_recursion (Err (EmptyLoop name)) (Err (EmptyOperator other j)) h k n m = absurd (not_operator other j h.0.1 k.1)
-  one_recursion (Err (EmptyLoop name)) (Err (EmptyLoop other)) h k n m =
-      ap (λ x. Err (EmptyLoop x)) (one_rule (HasEmptyLoop rules) name other h.1 k.1)
-  one_recursion (Err (EmptyLoop name)) (Err (LeftCycle others)) h k n m = absurd (not_loop name k.0.1 h.1)
-  one_recursion (Err (LeftCycle names)) (Ok _) h k n m = absurd (no_cycle names k.1 h.1)
-  one_recursion (Err (LeftCycle names)) (Err (NoPrimary other)) h k n m = absurd (not_first (LacksPrimary rules) other h.0.0.0 k)
-  one_recursion (Err (LeftCycle names)) (Err (EmptyOperator other j)) h k n m = absurd (not_operator other j h.0.0.1 k.1)
-  one_recursion (Err (LeftCycle names)) (Err (EmptyLoop other)) h k n m = absurd (not_loop other h.0.1 k.1)
-  one_recursion (Err (LeftCycle names)) (Err (LeftCycle others)) h k n m = ap (λ x. Err (LeftCycle x)) (one_cycle names others h.1 k.1)
+  -- one fault is reported
+  pub one_fault : (f g : RecursionFault) → IsFault rules f → IsFault rules g → f ≡ g
+  one_fault (NoPrimary name) (NoPrimary other) h k = ap NoPrimary (one_rule (LacksPrimary rules) name other h k)
+  one_fault (NoPrimary name) (EmptyOperator other i) h k = absurd (not_first (LacksPrimary rules) name k.0 h)
+  one_fault (NoPrimary name) (EmptyLoop other) h k = absurd (not_first (LacksPrimary rules) name k.0.0 h)
+  one_fault (NoPrimary name) (LeftCycle others) h k = absurd (not_first (LacksPrimary rules) name k.0.0.0 h)
+  one_fault (EmptyOperator name i) (NoPrimary other) h k = absurd (not_first (LacksPrimary rules) other h.0 k)
+  one_fault (EmptyOperator name i) (EmptyOperator other j) h k = let (same, place) = one_operator name other i j h.1 k.1 in cc
+  one_fault (EmptyOperator name i) (EmptyLoop other) h k = absurd (not_operator name i k.0.1 h.1)
+  one_fault (EmptyOperator name i) (LeftCycle others) h k = absurd (not_operator name i k.0.0.1 h.1)
+  one_fault (EmptyLoop name) (NoPrimary other) h k = absurd (not_first (LacksPrimary rules) other h.0.0 k)
+  one_fault (EmptyLoop name) (EmptyOperator other j) h k = absurd (not_operator other j h.0.1 k.1)
+  one_fault (EmptyLoop name) (EmptyLoop other) h k = ap EmptyLoop (one_rule (HasEmptyLoop rules) name other h.1 k.1)
+  one_fault (EmptyLoop name) (LeftCycle others) h k = absurd (not_loop name k.0.1 h.1)
+  one_fault (LeftCycle names) (NoPrimary other) h k = absurd (not_first (LacksPrimary rules) other h.0.0.0 k)
+  one_fault (LeftCycle names) (EmptyOperator other j) h k = absurd (not_operator other j h.0.0.1 k.1)
+  one_fault (LeftCycle names) (EmptyLoop other) h k = absurd (not_loop other h.0.1 k.1)
+  one_fault (LeftCycle names) (LeftCycle others) h k = ap LeftCycle (one_cycle names others h.1 k.1)
+
+  -- and none where there is none
+  pub no_fault : (f : RecursionFault) → HaveNoFault rules → IsFault rules f → ⊥
+  no_fault (NoPrimary name) h k = not_first (LacksPrimary rules) name h.0.0.0 k
+  no_fault (EmptyOperator name i) h k = not_operator name i h.0.0.1 k.1
+  no_fault (EmptyLoop name) h k = not_loop name h.0.1 k.1
+  no_fault (LeftCycle names) h k = no_cycle names h.1 k.1

@@ -1,6 +1,6 @@
 -- The faults of how rules call each other before anything is read, and of loops that can be empty, in the order in which they
 -- are looked for. Rules are numbered from 0 in order, those of both kinds together.
-use Rattle.std.specs.Prelude.{◌≡◌, ℕ, ◌+◌, List, map, Some, slice_get, Result, Ok, Err, ⊤}
+use Rattle.std.specs.Prelude.{◌≡◌, ℕ, ◌+◌, List, map, Some, slice_get}
 use Rattle.g4_source.specs.Elements.{Elements, Alternatives}
 use Rattle.g4_source.specs.Bind.{in_order_over}
 use Rattle.g4_source.specs.declared.atom.Atom.{Atom}
@@ -18,7 +18,7 @@ use Rattle.g4_grammar.specs.Written.{CallsIn, HaveNoEmptyLoop, HaveNoLeftCycle, 
 use Rattle.g4_cycles.specs.Cycles.{IsFirstCycle}
 use Rattle.g4_recursion.specs.Least.{IsLeast}
 use Rattle.g4_recursion.specs.declared.checking.RecursionFault.{RecursionFault}
-use Rattle.g4_recursion.specs.declared.checking.RecursionFault.TheVariants.{NoPrimary, EmptyOperator, EmptyLoop, LeftCycle, NoMemory}
+use Rattle.g4_recursion.specs.declared.checking.RecursionFault.TheVariants.{NoPrimary, EmptyOperator, EmptyLoop, LeftCycle}
 
 -- the alternatives of a parser rule in order
 abbrev pub alternatives_in : ParserRule Atom → List (Elements AtomIn)
@@ -90,11 +90,9 @@ module _ (rules : List Rule) where
   abbrev pub AreCycle : List (List ℕ) → Type 0
   AreCycle names = (cycle : List ℕ) × IsFirstCycle (RuleLeftCalls rules) cycle × AreNamed cycle names
 
-  -- the call answers that there is no fault, or with the first of the first kind that has one, unless memory runs out
-  abbrev pub IsChecked : Result ⊤ RecursionFault → Type 0
-  IsChecked (Ok _) = HaveNoFault
-  IsChecked (Err (NoPrimary name)) = IsFirstRule LacksPrimary name
-  IsChecked (Err (EmptyOperator name i)) = HavePrimaries × IsFirstOperator name i
-  IsChecked (Err (EmptyLoop name)) = HaveOperators × IsFirstRule HasEmptyLoop name
-  IsChecked (Err (LeftCycle names)) = HaveLoops × AreCycle names
-  IsChecked (Err NoMemory) = Unit {0}
+  -- this is the fault that is reported: the first of the first kind that has one
+  abbrev pub IsFault : RecursionFault → Type 0
+  IsFault (NoPrimary name) = IsFirstRule LacksPrimary name
+  IsFault (EmptyOperator name i) = HavePrimaries × IsFirstOperator name i
+  IsFault (EmptyLoop name) = HaveOperators × IsFirstRule HasEmptyLoop name
+  IsFault (LeftCycle names) = HaveLoops × AreCycle names

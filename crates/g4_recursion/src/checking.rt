@@ -1,10 +1,11 @@
 // The faults of how rules call each other.
 ghost use Rattle.std.specs.Prelude.{◌≡◌, ◌+◌, IfOk};
-ghost use Rattle.g4_recursion.specs.Checking.{IsChecked};
+ghost use Rattle.g4_source.specs.Refusals.{Answers};
+ghost use Rattle.g4_recursion.specs.Checking.{HaveNoFault, IsFault};
 
 use crate::grammar::grammar_of;
 use g4_base::{Sequence, Text};
-use g4_source::Source;
+use g4_source::{Refused, Source};
 use std::alloc::{AllocError, Global};
 
 /// A rule that cannot be run for how rules call each other. The variants are in the order in which they are looked for.
@@ -19,18 +20,6 @@ pub enum RecursionFault {
     EmptyLoop(Text),
     /// Rules of which each, as it is run, calls the next before anything is read, and the last the first.
     LeftCycle(Sequence<Text>),
-    NoMemory,
-}
-
-impl From<AllocError> for RecursionFault {
-    ghost use Rattle.std.specs.Prelude.{◌≡◌};
-    ghost use Rattle.g4_recursion.specs.declared.checking.RecursionFault.TheVariants.{NoMemory};
-
-    ghost from_gives = { λ _ e. e ≡ NoMemory };
-
-    fn from(_: AllocError) -> Self {
-        RecursionFault::NoMemory
-    }
 }
 
 /// The number, from 1, of the alternative at this place.
@@ -49,23 +38,26 @@ fn number_at(place: usize) -> Result<u32, AllocError>
 ///
 /// # Errors
 /// That fault, or no memory, also where there are more rules, blocks or alternatives than numbers of 32 bits.
-pub fn check_recursion(alloc: Global, source: &Source) -> Result<(), RecursionFault>
-    ensures { IsChecked source.now.rules result }
+pub fn check_recursion(alloc: Global, source: &Source) -> Result<(), Refused<RecursionFault>>
+    ensures { Answers (λ _. HaveNoFault source.now.rules) (IsFault source.now.rules) result }
 {
     let grammar = grammar_of(alloc, source)?;
     if let Some(rule) = grammar.first_without_primary() {
-        return Err(RecursionFault::NoPrimary(grammar.name(alloc, rule)?));
+        let fault = RecursionFault::NoPrimary(grammar.name(alloc, rule)?);
+        return Err(Refused::Fault(fault));
     }
     if let Some((rule, place)) = grammar.first_empty_operator() {
         let name = grammar.name(alloc, rule)?;
-        return Err(RecursionFault::EmptyOperator(name, number_at(place)?));
+        let fault = RecursionFault::EmptyOperator(name, number_at(place)?);
+        return Err(Refused::Fault(fault));
     }
     if let Some(rule) = grammar.first_empty_loop() {
-        return Err(RecursionFault::EmptyLoop(grammar.name(alloc, rule)?));
+        let fault = RecursionFault::EmptyLoop(grammar.name(alloc, rule)?);
+        return Err(Refused::Fault(fault));
     }
     if let Some(cycle) = grammar.first_left_cycle(alloc)? {
         let names = grammar.names(alloc, cycle.as_slice())?;
-        return Err(RecursionFault::LeftCycle(names));
+        return Err(Refused::Fault(RecursionFault::LeftCycle(names)));
     }
     Ok(())
 }

@@ -1,6 +1,6 @@
 // The clauses of bodies. A body is the alternatives of a rule or of a block, and has a number: rules come first. An alternative
 // has a clause whose needs are the bodies of its elements, unless one of these reads something.
-ghost use Rattle.std.specs.Prelude.{◌≡◌, ◌+◌, ℕ, List, map, Option, IfOk, OnOk, length, slice_get, Some};
+ghost use Rattle.std.specs.Prelude.{◌≡◌, ◌+◌, List, map, Option, IfOk, OnOk, length, slice_get, Some};
 ghost use Rattle.g4_source.specs.declared.name.Label.{Label as Named};
 ghost use Rattle.g4_source.specs.Elements.{atom as lone, block, Alternatives, either};
 ghost use Rattle.g4_source.specs.Trees.{element_of, alternative_of, in_order};

@@ -86,11 +86,11 @@ module _ (names : List (List ℕ)) (lexers : List LexerRule) (types : List Entry
   plain_step few (kinds.Rule name) h = refl
   plain_step few (kinds.Token name) h = leaves_end lexers types few (kinds.Token name)
   plain_step few (kinds.Literal literal) h = leaves_end lexers types few (kinds.Literal literal)
-  plain_step few (kinds.Range place first last) h = leaves_end lexers types few (kinds.Range place first last)
+  plain_step few (kinds.Range first last) h = leaves_end lexers types few (kinds.Range first last)
   plain_step few (kinds.Set set) h = leaves_end lexers types few (kinds.Set set)
-  plain_step few (kinds.Any place) h = leaves_end lexers types few (kinds.Any place)
-  plain_step few (kinds.NotTokens place tokens) h = leaves_end lexers types few (kinds.NotTokens place tokens)
-  plain_step few (kinds.NotCharacters place set) h = leaves_end lexers types few (kinds.NotCharacters place set)
+  plain_step few kinds.Any h = leaves_end lexers types few kinds.Any
+  plain_step few (kinds.NotTokens tokens) h = leaves_end lexers types few (kinds.NotTokens tokens)
+  plain_step few (kinds.NotCharacters set) h = leaves_end lexers types few (kinds.NotCharacters set)
   plain_step few kinds.Action h = tt
   plain_step few (kinds.Predicate name) h = absurd h
 
@@ -120,11 +120,11 @@ module _ (names : List (List ℕ)) (lexers : List LexerRule) (types : List Entry
   reads (kinds.Rule name) r = r
   reads (kinds.Token name) r = (r.0, r.2)
   reads (kinds.Literal literal) r = (r.0, r.2)
-  reads (kinds.Range place first last) r = no_symbol r.0 r.1
+  reads (kinds.Range first last) r = no_symbol r.0 r.1
   reads (kinds.Set set) r = no_symbol r.0 r.1
-  reads (kinds.Any place) r = (r.0, r.2)
-  reads (kinds.NotTokens place tokens) r = (r.0, r.2)
-  reads (kinds.NotCharacters place set) r = no_symbol r.0 r.1
+  reads kinds.Any r = (r.0, r.2)
+  reads (kinds.NotTokens tokens) r = (r.0, r.2)
+  reads (kinds.NotCharacters set) r = no_symbol r.0 r.1
   reads kinds.Action r = r
   reads (kinds.Predicate name) r = r
 
@@ -228,11 +228,11 @@ module _ (all : List Rule) (lexers : List LexerRule) (types : List Entry) where
   called_back (kinds.Rule name) k ys c is = called_by name.text k ys c is
   called_back (kinds.Token name) k ys c is = absurd c
   called_back (kinds.Literal literal) k ys c is = absurd c
-  called_back (kinds.Range place first last) k ys c is = absurd c
+  called_back (kinds.Range first last) k ys c is = absurd c
   called_back (kinds.Set set) k ys c is = absurd c
-  called_back (kinds.Any place) k ys c is = absurd c
-  called_back (kinds.NotTokens place tokens) k ys c is = absurd c
-  called_back (kinds.NotCharacters place set) k ys c is = absurd c
+  called_back kinds.Any k ys c is = absurd c
+  called_back (kinds.NotTokens tokens) k ys c is = absurd c
+  called_back (kinds.NotCharacters set) k ys c is = absurd c
   called_back kinds.Action k ys c is = absurd c
   called_back (kinds.Predicate name) k ys c is = absurd c
 
@@ -259,11 +259,11 @@ module _ (all : List Rule) (lexers : List LexerRule) (types : List Entry) where
   calls_on (kinds.Rule name) k ys is c = called_on name.text k ys is c
   calls_on (kinds.Token name) k ys is c = absurd c
   calls_on (kinds.Literal literal) k ys is c = absurd c
-  calls_on (kinds.Range place first last) k ys is c = absurd c
+  calls_on (kinds.Range first last) k ys is c = absurd c
   calls_on (kinds.Set set) k ys is c = absurd c
-  calls_on (kinds.Any place) k ys is c = absurd c
-  calls_on (kinds.NotTokens place tokens) k ys is c = absurd c
-  calls_on (kinds.NotCharacters place set) k ys is c = absurd c
+  calls_on kinds.Any k ys is c = absurd c
+  calls_on (kinds.NotTokens tokens) k ys is c = absurd c
+  calls_on (kinds.NotCharacters set) k ys is c = absurd c
   calls_on kinds.Action k ys is c = absurd c
   calls_on (kinds.Predicate name) k ys is c = absurd c
 
@@ -299,11 +299,11 @@ module _ (all : List Rule) (lexers : List LexerRule) (types : List Entry) where
       let same : j ≡ place_named names name.text + 1 = c in (omega (arith, same), omega (arith, same, less, many))
   number_called (kinds.Token name) d j c = absurd c
   number_called (kinds.Literal literal) d j c = absurd c
-  number_called (kinds.Range place first last) d j c = absurd c
+  number_called (kinds.Range first last) d j c = absurd c
   number_called (kinds.Set set) d j c = absurd c
-  number_called (kinds.Any place) d j c = absurd c
-  number_called (kinds.NotTokens place tokens) d j c = absurd c
-  number_called (kinds.NotCharacters place set) d j c = absurd c
+  number_called kinds.Any d j c = absurd c
+  number_called (kinds.NotTokens tokens) d j c = absurd c
+  number_called (kinds.NotCharacters set) d j c = absurd c
   number_called kinds.Action d j c = absurd c
   number_called (kinds.Predicate name) d j c = absurd c
 

@@ -30,11 +30,11 @@ abbrev pub step_of : List (List ℕ) → List LexerRule → List Entry → AtomK
 step_of names lexers types (kinds.Rule name) = steps.Call (place_named names name.text + 1) 0
 step_of names lexers types (kinds.Token name) = steps.Edge (symbols_of_kind lexers types (kinds.Token name))
 step_of names lexers types (kinds.Literal literal) = steps.Edge (symbols_of_kind lexers types (kinds.Literal literal))
-step_of names lexers types (kinds.Range place first last) = steps.Edge (symbols_of_kind lexers types (kinds.Range place first last))
+step_of names lexers types (kinds.Range first last) = steps.Edge (symbols_of_kind lexers types (kinds.Range first last))
 step_of names lexers types (kinds.Set set) = steps.Edge (symbols_of_kind lexers types (kinds.Set set))
-step_of names lexers types (kinds.Any place) = steps.Edge (symbols_of_kind lexers types (kinds.Any place))
-step_of names lexers types (kinds.NotTokens place tokens) = steps.Edge (symbols_of_kind lexers types (kinds.NotTokens place tokens))
-step_of names lexers types (kinds.NotCharacters place set) = steps.Edge (symbols_of_kind lexers types (kinds.NotCharacters place set))
+step_of names lexers types kinds.Any = steps.Edge (symbols_of_kind lexers types kinds.Any)
+step_of names lexers types (kinds.NotTokens tokens) = steps.Edge (symbols_of_kind lexers types (kinds.NotTokens tokens))
+step_of names lexers types (kinds.NotCharacters set) = steps.Edge (symbols_of_kind lexers types (kinds.NotCharacters set))
 step_of names lexers types kinds.Action = steps.Action
 step_of names lexers types (kinds.Predicate name) = steps.Predicate 0
 

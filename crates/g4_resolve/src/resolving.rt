@@ -1,13 +1,12 @@
 // Tokens as symbols, and references to rules as calls by number.
 ghost use Rattle.std.specs.Prelude.{◌≡◌, ◌≤◌, ◌<◌, ◌^◌, IfOk, length, map};
-ghost use Rattle.g4_grammar.specs.StepRules.{CanBeRewritten};
 ghost use Rattle.g4_names.specs.Places.{ArePlaces};
 ghost use Rattle.g4_vocab.specs.Answers.{IsVocabularyOf};
 ghost use Rattle.g4_vocab.specs.Vocabularies.{lexers_in, types_in};
 ghost use Rattle.g4_resolve.specs.Resolving.{CanBeResolved, place_named, resolved, resolved_alternative, resolved_rule, step_of};
 
 use g4_base::{Sequence, Text};
-use g4_grammar::{Step, StepRule};
+use g4_grammar::{ParserRules, Step, StepRule};
 use g4_names::{Places, places_of};
 use g4_source::{
     Atom, AtomKind, Element, ParserRule, Rule, RuleAlternative, Substitution, parser_rules,
@@ -86,7 +85,7 @@ fn resolved_alternative(
 {
     let elements = substituted(alloc, stage, &alternative.elements)?;
     let label = match &alternative.label {
-        Some(label) => Some(label.copy_of(alloc)?),
+        Some(label) => Some(Text::copy_of(alloc, label.as_str())?),
         None => None,
     };
     Ok(RuleAlternative {
@@ -152,11 +151,10 @@ pub fn resolve(
     alloc: Global,
     rules: &[Rule],
     vocabulary: &Vocabulary<'_>,
-) -> Result<Sequence<StepRule>, AllocError>
+) -> Result<ParserRules, AllocError>
     requires numbered { IsVocabularyOf rules.now vocabulary.now }
     requires checked { CanBeResolved rules.now }
-    ensures steps { IfOk result (λ made. made ≡ resolved rules.now) }
-    ensures rewritable { IfOk result CanBeRewritten }
+    ensures { IfOk result (λ made. made ≡ resolved rules.now) }
 {
     let views = views_of(alloc, rules)?;
     let parsers = parser_rules(alloc, views.as_slice())?;
@@ -168,5 +166,5 @@ pub fn resolve(
         vocabulary,
     };
     let made = resolved_rules(alloc, &stage, parsers.as_slice())?;
-    Ok(made)
+    Ok(ParserRules::new(made))
 }

@@ -1,5 +1,5 @@
 -- What is reported of the first item is one, where one thing is reported of an item.
-use Rattle.std.proofs.Common.{◌≡◌, List, [], ◌∷◌, ◌++◌, Bool, true, false, MatchBool, ap, sym, subst, ◌∙◌}
+use Rattle.std.proofs.Common.{◌≡◌, List, [], ◌∷◌, ◌++◌, Bool, true, false, MatchBool, sym, subst, ◌∙◌}
 use Rattle.std.proofs.lemmas.List.Elements.{All-head, All-tail}
 use Rattle.g4_source.proofs.Parts.{All-rest}
 use Rattle.g4_source.specs.First.{IsNone, IsFirst}

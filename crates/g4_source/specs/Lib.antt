@@ -6,6 +6,7 @@ pub mod Elements
 pub mod First
 pub mod Full
 pub mod Marks
+pub mod Refusals
 pub mod Rules
 pub mod Trees
 pub mod Views

@@ -1,6 +1,6 @@
 // The elements of rules that have no others in them, as they are written.
 use crate::{Label, Name};
-use g4_base::{Place, Sequence, Text};
+use g4_base::{Sequence, Text};
 use g4_chars::CharSet;
 
 /// An element of a rule that has no others in it, as it is written.
@@ -19,16 +19,16 @@ pub enum AtomKind {
     /// An upper-case name: a token type, or in a lexer rule a lexer rule; or `EOF`.
     Token(Name),
     Literal(Literal),
-    /// The characters from that of one literal to that of another, in a lexer rule. The place is that of the first literal.
-    Range(Place, Literal, Literal),
+    /// The characters from that of one literal to that of another, in a lexer rule.
+    Range(Literal, Literal),
     /// One character of a set, in a lexer rule.
     Set(CharSet),
     /// `.`: any token, or in a lexer rule any character.
-    Any(Place),
+    Any,
     /// `~` in a parser rule: any token but these.
-    NotTokens(Place, Sequence<TokenReference>),
+    NotTokens(Sequence<TokenReference>),
     /// `~` in a lexer rule: any character but those of the set.
-    NotCharacters(Place, CharSet),
+    NotCharacters(CharSet),
     /// An action, whose text is passed over.
     Action,
     /// A predicate: its action, braces included.

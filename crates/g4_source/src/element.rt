@@ -3,13 +3,11 @@ ghost use Rattle.std.specs.Prelude.{◌≡◌, map};
 ghost use Rattle.g4_source.specs.Trees.{element_of, in_order};
 
 use crate::Label;
-use g4_base::Place;
 use std::marker::Model;
 
-/// The sign after an element: its place, and whether it is greedy. It is not where another `?` follows it.
+/// The sign after an element. It is greedy where no other `?` follows it.
 #[derive(Clone, Copy, Debug, PartialEq, Eq)]
 pub struct Suffix {
-    pub place: Place,
     pub greedy: bool,
 }
 

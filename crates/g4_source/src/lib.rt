@@ -8,6 +8,7 @@ mod element;
 mod kind;
 mod name;
 mod prequel;
+mod refused;
 mod rule;
 mod rules;
 mod source;
@@ -18,10 +19,8 @@ pub use element::{Alternative, Element, Elements, Repeat, Suffix};
 pub use kind::RuleKind;
 pub use name::{Label, Name};
 pub use prequel::{OptionValue, Prequel, Setting};
-pub use rule::{
-    AlternativeLabel, Argument, Command, LexerAlternative, LexerRule, ParserRule, Rule,
-    RuleAlternative,
-};
+pub use refused::{Refused, TakesIn, passed};
+pub use rule::{Argument, Command, LexerAlternative, LexerRule, ParserRule, Rule, RuleAlternative};
 pub use rules::{RuleView, lexer_rules, parser_rules, views_of};
 pub use source::{GrammarKind, Source};
 pub use substitution::{Substitution, substituted};

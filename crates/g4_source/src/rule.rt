@@ -1,10 +1,9 @@
 // The rules of a grammar.
-ghost use Rattle.std.specs.Prelude.{◌≡◌, IfOk};
+ghost use Rattle.std.specs.Prelude.{◌≡◌};
 ghost use Rattle.g4_source.specs.Rules.{rule_name};
 
 use crate::{Atom, Elements, Name};
-use g4_base::{Place, Sequence, Text};
-use std::alloc::{AllocError, Global};
+use g4_base::{Sequence, Text};
 
 /// A rule: a lower-case name begins a parser rule, an upper-case name a lexer rule.
 #[derive(Drop)]
@@ -38,30 +37,8 @@ pub struct RuleAlternative<A> {
     /// Whether it is right associative: `<assoc=right>` begins it, or follows one of its elements. In brackets it says nothing.
     pub right: bool,
     pub elements: Elements<A>,
-    pub label: Option<AlternativeLabel>,
-}
-
-/// The label of an alternative, and the place of its `#`.
-#[derive(Drop)]
-pub struct AlternativeLabel {
-    pub place: Place,
-    pub name: Text,
-}
-
-impl AlternativeLabel {
-    /// The same label.
-    ///
-    /// # Errors
-    /// No memory.
-    pub fn copy_of(&self, alloc: Global) -> Result<AlternativeLabel, AllocError>
-        ensures { IfOk result (λ copy. copy ≡ self.now) }
-    {
-        let name = Text::copy_of(alloc, self.name.as_str())?;
-        Ok(AlternativeLabel {
-            place: self.place,
-            name,
-        })
-    }
+    /// The name after its `#`.
+    pub label: Option<Text>,
 }
 
 /// A lexer rule: its alternatives in order.
@@ -69,8 +46,7 @@ impl AlternativeLabel {
 pub struct LexerRule {
     /// The mode that it is in, by the name after the last `mode` before it; where there is none, the default mode.
     pub mode: Option<Text>,
-    /// The place of `fragment`, where it is written.
-    pub fragment: Option<Place>,
+    pub fragment: bool,
     pub name: Text,
     pub alternatives: Sequence<LexerAlternative>,
 }

@@ -129,15 +129,15 @@ module _ (names : List (List ℕ)) where
         (λ is w one. inr (rw e (is), one))
         (λ is. rw e ((is, refl))) d
     kind_back a (kinds.Literal literal) us e canonical d = literal_back a literal.characters us (rw e refl) d
-    kind_back a (kinds.Range place first last) us e canonical d =
+    kind_back a (kinds.Range first last) us e canonical d =
         set_back a (spanned first.characters last.characters) us (subst SetIsCanonical (sym e) canonical) (ap (element_of_kind names) e) d
     kind_back a (kinds.Set set) us e canonical d =
         set_back a set us (subst SetIsCanonical (sym e) canonical) (ap (element_of_kind names) e) d
-    kind_back a (kinds.Any place) us e canonical d =
+    kind_back a kinds.Any us e canonical d =
         set_back a (scalars 0 0x110000) us (subst SetIsCanonical (sym e) canonical) (ap (element_of_kind names) e) d
-    kind_back a (kinds.NotTokens place tokens) us e canonical d =
+    kind_back a (kinds.NotTokens tokens) us e canonical d =
         set_back a [] us (subst SetIsCanonical (sym e) canonical) (ap (element_of_kind names) e) d
-    kind_back a (kinds.NotCharacters place set) us e canonical d =
+    kind_back a (kinds.NotCharacters set) us e canonical d =
         set_back a (gaps 0 set) us (subst SetIsCanonical (sym e) canonical) (ap (element_of_kind names) e) d
     kind_back a kinds.Action us e canonical d = empty_back a us (rw e refl) d
     kind_back a (kinds.Predicate name) us e canonical d = empty_back a us (rw e refl) d
@@ -202,13 +202,13 @@ module _ (names : List (List ℕ)) where
     match_on (kinds.Token name) text canonical scalar m = absurd m
     match_on (kinds.Literal literal) text canonical scalar m =
         let h = literal_on literal.characters (subst (All IsScalar) m scalar) in (h.0, h.1, ap (map character) m ∙ h.2)
-    match_on (kinds.Range place first last) text canonical scalar m =
-        set_on (kinds.Range place first last) (spanned first.characters last.characters) text m.0 canonical refl m.1 scalar m
+    match_on (kinds.Range first last) text canonical scalar m =
+        set_on (kinds.Range first last) (spanned first.characters last.characters) text m.0 canonical refl m.1 scalar m
     match_on (kinds.Set set) text canonical scalar m = set_on (kinds.Set set) set text m.0 canonical refl m.1 scalar m
-    match_on (kinds.Any place) text canonical scalar m = set_on (kinds.Any place) (scalars 0 0x110000) text m.0 canonical refl m.1 scalar m
-    match_on (kinds.NotTokens place tokens) text canonical scalar m = absurd m
-    match_on (kinds.NotCharacters place set) text canonical scalar m =
-        set_on (kinds.NotCharacters place set) (gaps 0 set) text m.0 canonical refl m.1 scalar m
+    match_on kinds.Any text canonical scalar m = set_on kinds.Any (scalars 0 0x110000) text m.0 canonical refl m.1 scalar m
+    match_on (kinds.NotTokens tokens) text canonical scalar m = absurd m
+    match_on (kinds.NotCharacters set) text canonical scalar m =
+        set_on (kinds.NotCharacters set) (gaps 0 set) text m.0 canonical refl m.1 scalar m
     match_on kinds.Action text canonical scalar m = ([], an_atom steps.Empty [] refl, ap (map character) m)
     match_on (kinds.Predicate name) text canonical scalar m = ([], an_atom steps.Empty [] refl, ap (map character) m)
 
@@ -216,11 +216,11 @@ module _ (names : List (List ℕ)) where
     ends_on (kinds.Token name) is w e = ((end_of_file ∷ []) ∷ [], end_on (bytes_eq name.text (codes "EOF")) _ is, e)
     ends_on (kinds.Rule name) is w e = absurd is
     ends_on (kinds.Literal literal) is w e = absurd is
-    ends_on (kinds.Range place first last) is w e = absurd is
+    ends_on (kinds.Range first last) is w e = absurd is
     ends_on (kinds.Set set) is w e = absurd is
-    ends_on (kinds.Any place) is w e = absurd is
-    ends_on (kinds.NotTokens place tokens) is w e = absurd is
-    ends_on (kinds.NotCharacters place set) is w e = absurd is
+    ends_on kinds.Any is w e = absurd is
+    ends_on (kinds.NotTokens tokens) is w e = absurd is
+    ends_on (kinds.NotCharacters set) is w e = absurd is
     ends_on kinds.Action is w e = absurd is
     ends_on (kinds.Predicate name) is w e = absurd is
 
@@ -236,11 +236,11 @@ module _ (names : List (List ℕ)) where
     kind_calls (kinds.Rule name) k w c n = absurd c
     kind_calls (kinds.Token name) k w c n = call_on (bytes_eq name.text (codes "EOF")) k _ w c.0 c.1 n
     kind_calls (kinds.Literal literal) k w c n = absurd c
-    kind_calls (kinds.Range place first last) k w c n = absurd c
+    kind_calls (kinds.Range first last) k w c n = absurd c
     kind_calls (kinds.Set set) k w c n = absurd c
-    kind_calls (kinds.Any place) k w c n = absurd c
-    kind_calls (kinds.NotTokens place tokens) k w c n = absurd c
-    kind_calls (kinds.NotCharacters place set) k w c n = absurd c
+    kind_calls kinds.Any k w c n = absurd c
+    kind_calls (kinds.NotTokens tokens) k w c n = absurd c
+    kind_calls (kinds.NotCharacters set) k w c n = absurd c
     kind_calls kinds.Action k w c n = absurd c
     kind_calls (kinds.Predicate name) k w c n = absurd c
 

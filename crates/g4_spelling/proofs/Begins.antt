@@ -1,9 +1,8 @@
 -- A mode's starts are those of the alternatives with which a match in the mode may begin, as the rules are written.
-use Rattle.std.proofs.Common.{◌≡◌, ℕ, zero, suc, ◌+◌, ◌-◌, ◌<◌, ◌⊎◌, inl, inr, List, [], ◌∷◌, ◌++◌, length, map, Bool, true, false, cond, Option, Some, None, refl, sym, ◌∙◌, ap, subst, arith, slice_get}
+use Rattle.std.proofs.Common.{◌≡◌, ℕ, zero, suc, ◌+◌, ◌-◌, ◌<◌, ◌⊎◌, inl, inr, List, [], ◌∷◌, ◌++◌, length, map, Bool, true, false, cond, Option, Some, refl, sym, ◌∙◌, ap, subst, arith, slice_get}
 use Rattle.std.proofs.lemmas.Bool.{cases_lt}
 use Rattle.std.proofs.lemmas.List.{length-append}
 use Rattle.std.proofs.lemmas.Option.{slice_get_within}
-use Rattle.g4_base.specs.declared.place.Place.{Place}
 use Rattle.g4_source.specs.Elements.{either}
 use Rattle.g4_source.specs.Rules.{lexer_alternatives_of}
 use Rattle.g4_source.specs.declared.rule.LexerAlternative.{LexerAlternative}
@@ -29,13 +28,13 @@ use Rattle.g4_derivation.proofs.Firsts.{at_is_member, begins_at}
 use Rattle.g4_spelling.proofs.Placed.{all_laid, alternative_laid, item_below, laid, tree_of}
 
 -- what is left of the starts of a rule is of one that is no fragment
-no_fragment : (place : Option Place) (starts : List Start) (s : Start) → In s (unless_fragment place starts) → place ≡ None
-no_fragment None starts s i = refl
-no_fragment (Some place) starts s i = absurd i
+no_fragment : (fragment : Bool) (starts : List Start) (s : Start) → In s (unless_fragment fragment starts) → fragment ≡ false
+no_fragment false starts s i = refl
+no_fragment true starts s i = absurd i
 
-unless_in : (place : Option Place) (starts : List Start) (s : Start) → place ≡ None → In s starts → In s (unless_fragment place starts)
-unless_in None starts s e i = i
-unless_in (Some place) starts s e i = absurd (let n : ⊥ = cc in n)
+unless_in : (fragment : Bool) (starts : List Start) (s : Start) → fragment ≡ false → In s starts → In s (unless_fragment fragment starts)
+unless_in false starts s e i = i
+unless_in true starts s e i = absurd (let n : ⊥ = cc in n)
 
 -- an alternative that is numbered
 numbered_in : (r n : ℕ) (ps : List ℕ) (k a : ℕ) → slice_get ps k ≡ Some a
@@ -72,7 +71,7 @@ module _ (states : List (State Reads)) where
     rule : LexerRule
     at : slice_get rules place ≡ Some rule
     number : s.rule ≡ n + place
-    whole : rule.fragment ≡ None
+    whole : rule.fragment ≡ false
 
   rule_of : (n : ℕ) (rules : List LexerRule) (s : Start) → In s (starts_from states n rules) → OfRule n rules s
   rule_of n [] s i = absurd i
@@ -91,14 +90,14 @@ module _ (states : List (State Reads)) where
   ]
 
   -- a start of a rule that is no fragment is one of the rules'
-  rule_in : (n : ℕ) (rules : List LexerRule) (k : ℕ) (rule : LexerRule) → slice_get rules k ≡ Some rule → rule.fragment ≡ None
+  rule_in : (n : ℕ) (rules : List LexerRule) (k : ℕ) (rule : LexerRule) → slice_get rules k ≡ Some rule → rule.fragment ≡ false
       → (r : ℕ) → r ≡ n + k → (s : Start) → In s (rule_starts states r rule.alternatives) → In s (starts_from states n rules)
   rule_in n [] k rule is whole r number s i = absurd (let e : ⊥ = cc in e)
   rule_in n (x ∷ rules) zero rule is whole r number s i =
       let same : rule ≡ x = (let e : Some x ≡ Some rule = is in cc) in
       let here : r ≡ n = omega (arith, number) in
       In-left (matched_starts states n x) (starts_from states (n + 1) rules) s
-      (unless_in x.fragment (rule_starts states n x.alternatives) s (subst (λ (y : LexerRule). y.fragment ≡ None) same whole)
+      (unless_in x.fragment (rule_starts states n x.alternatives) s (subst (λ (y : LexerRule). y.fragment ≡ false) same whole)
       (subst (λ (y : LexerRule). In s (rule_starts states n y.alternatives)) same
       (subst (λ (q : ℕ). In s (rule_starts states q rule.alternatives)) here i)))
   rule_in n (x ∷ rules) (suc k) rule is whole r number s i =
@@ -112,7 +111,7 @@ module _ (states : List (State Reads)) where
       rule : LexerRule
       at : slice_get rules place ≡ Some rule
       number : s.rule ≡ n + place
-      whole : rule.fragment ≡ None
+      whole : rule.fragment ≡ false
       inside : is_in_mode modes j rule ≡ true
 
     mode_rule : (n : ℕ) (rules : List LexerRule) (s : Start) → In s (starts_in states modes j n rules) → OfMode n rules s
@@ -143,7 +142,7 @@ module _ (states : List (State Reads)) where
         by false is here rest = later (rest here)
 
     -- a start of a rule of the mode that is no fragment is one of the mode's
-    mode_in : (n : ℕ) (rules : List LexerRule) (k : ℕ) (rule : LexerRule) → slice_get rules k ≡ Some rule → rule.fragment ≡ None
+    mode_in : (n : ℕ) (rules : List LexerRule) (k : ℕ) (rule : LexerRule) → slice_get rules k ≡ Some rule → rule.fragment ≡ false
         → is_in_mode modes j rule ≡ true → (r : ℕ) → r ≡ n + k → (s : Start) → In s (rule_starts states r rule.alternatives)
         → In s (starts_in states modes j n rules)
     mode_in n [] k rule is whole inside r number s i = absurd (let e : ⊥ = cc in e)
@@ -153,7 +152,7 @@ module _ (states : List (State Reads)) where
         subst (λ (b : Bool). In s (cond b (matched_starts states n x) [] ++ starts_in states modes j (n + 1) rules))
         (sym (subst (λ (y : LexerRule). is_in_mode modes j y ≡ true) same inside))
         (In-left (matched_starts states n x) (starts_in states modes j (n + 1) rules) s
-        (unless_in x.fragment (rule_starts states n x.alternatives) s (subst (λ (y : LexerRule). y.fragment ≡ None) same whole)
+        (unless_in x.fragment (rule_starts states n x.alternatives) s (subst (λ (y : LexerRule). y.fragment ≡ false) same whole)
         (subst (λ (y : LexerRule). In s (rule_starts states n y.alternatives)) same
         (subst (λ (q : ℕ). In s (rule_starts states q rule.alternatives)) here i))))
     mode_in n (x ∷ rules) (suc k) rule is whole inside r number s i =
@@ -228,7 +227,7 @@ module _ (literals others : List LexerRule) (modes : List (List ℕ)) (made : Le
       let e : Some other ≡ Some rule = sym also ∙ at in cc
 
   -- a start of the rule of a literal is one of the literals'
-  among_front : (r : ℕ) (rule : LexerRule) (s : Start) → slice_get rules r ≡ Some rule → rule.fragment ≡ None
+  among_front : (r : ℕ) (rule : LexerRule) (s : Start) → slice_get rules r ≡ Some rule → rule.fragment ≡ false
       → In s (rule_starts states r rule.alternatives) → r < length literals → In s front
   among_front r rule s at whole i below =
       let other = item_below literals r below in
@@ -238,7 +237,7 @@ module _ (literals others : List LexerRule) (modes : List (List ℕ)) (made : Le
       rule_in states 0 literals r rule literal whole r number s i
 
   -- it has a start among those of the literals, or of the mode
-  among_starts : (r : ℕ) (rule : LexerRule) (s : Start) → slice_get rules r ≡ Some rule → rule.fragment ≡ None
+  among_starts : (r : ℕ) (rule : LexerRule) (s : Start) → slice_get rules r ≡ Some rule → rule.fragment ≡ false
       → In s (rule_starts states r rule.alternatives) → (r < length literals) ⊎ (is_in_mode modes m rule ≡ true) → In s starts
   among_starts r rule s at whole i (inl below) = subst (In s) (sym here) (In-left front back s (among_front r rule s at whole i below))
   among_starts r rule s at whole i (inr inside) = elim (cases_lt r (length literals)) [

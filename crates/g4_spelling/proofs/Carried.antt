@@ -43,11 +43,11 @@ module _ (names : List (List ℕ)) where
   kind_calls (kinds.Token name) j h = reference_calls (bytes_eq name.text (codes "EOF")) _ j h
   kind_calls (kinds.Literal literal) j (inl h) = absurd (chain_calls literal.characters j h)
   kind_calls (kinds.Literal literal) j (inr h) = absurd h
-  kind_calls (kinds.Range place first last) j h = absurd h
+  kind_calls (kinds.Range first last) j h = absurd h
   kind_calls (kinds.Set set) j h = absurd h
-  kind_calls (kinds.Any place) j h = absurd h
-  kind_calls (kinds.NotTokens place tokens) j h = absurd h
-  kind_calls (kinds.NotCharacters place set) j h = absurd h
+  kind_calls kinds.Any j h = absurd h
+  kind_calls (kinds.NotTokens tokens) j h = absurd h
+  kind_calls (kinds.NotCharacters set) j h = absurd h
   kind_calls kinds.Action j h = absurd h
   kind_calls (kinds.Predicate name) j h = absurd h
 
@@ -57,11 +57,11 @@ module _ (names : List (List ℕ)) where
   kind_greedy (kinds.Token name) = reference_greedy (bytes_eq name.text (codes "EOF"))
       (position_or_len (λ other. bytes_eq other name.text) names)
   kind_greedy (kinds.Literal literal) = (tt, (chain_greedy literal.characters, tt))
-  kind_greedy (kinds.Range place first last) = tt
+  kind_greedy (kinds.Range first last) = tt
   kind_greedy (kinds.Set set) = tt
-  kind_greedy (kinds.Any place) = tt
-  kind_greedy (kinds.NotTokens place tokens) = tt
-  kind_greedy (kinds.NotCharacters place set) = tt
+  kind_greedy kinds.Any = tt
+  kind_greedy (kinds.NotTokens tokens) = tt
+  kind_greedy (kinds.NotCharacters set) = tt
   kind_greedy kinds.Action = tt
   kind_greedy (kinds.Predicate name) = tt
 

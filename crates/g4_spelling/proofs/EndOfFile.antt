@@ -20,11 +20,11 @@ no_text : (kind : AtomKind) → IsEndOfFile kind → (text : List ℕ) → Match
 no_text (kinds.Rule name) is text m = is
 no_text (kinds.Token name) is text m = m
 no_text (kinds.Literal literal) is text m = is
-no_text (kinds.Range place first last) is text m = is
+no_text (kinds.Range first last) is text m = is
 no_text (kinds.Set set) is text m = is
-no_text (kinds.Any place) is text m = is
-no_text (kinds.NotTokens place tokens) is text m = is
-no_text (kinds.NotCharacters place set) is text m = is
+no_text kinds.Any is text m = is
+no_text (kinds.NotTokens tokens) is text m = is
+no_text (kinds.NotCharacters set) is text m = is
 no_text kinds.Action is text m = is
 no_text (kinds.Predicate name) is text m = is
 
@@ -32,11 +32,11 @@ no_call : (names : List (List ℕ)) (kind : AtomKind) → IsEndOfFile kind → (
 no_call names (kinds.Rule name) is k c = is
 no_call names (kinds.Token name) is k c = let e : true ≡ false = sym is ∙ c.0 in let n : ⊥ = cc in n
 no_call names (kinds.Literal literal) is k c = is
-no_call names (kinds.Range place first last) is k c = is
+no_call names (kinds.Range first last) is k c = is
 no_call names (kinds.Set set) is k c = is
-no_call names (kinds.Any place) is k c = is
-no_call names (kinds.NotTokens place tokens) is k c = is
-no_call names (kinds.NotCharacters place set) is k c = is
+no_call names kinds.Any is k c = is
+no_call names (kinds.NotTokens tokens) is k c = is
+no_call names (kinds.NotCharacters set) is k c = is
 no_call names kinds.Action is k c = is
 no_call names (kinds.Predicate name) is k c = is
 

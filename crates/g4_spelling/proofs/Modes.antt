@@ -1,7 +1,6 @@
 -- Where matches begin in the modes: where alternatives of rules begin, those of one rule in their order.
 use Rattle.std.proofs.Common.{◌≡◌, ℕ, zero, suc, ◌+◌, ◌<◌, ◌≤◌, inl, inr, List, [], ◌∷◌, ◌++◌, length, map, Bool, true, false, cond, Option, Some, None, refl, sym, ◌∙◌, ap, subst, arith, Contains, slice_get}
 use Rattle.std.specs.List.{range_with_len}
-use Rattle.g4_base.specs.declared.place.Place.{Place}
 use Rattle.g4_source.specs.declared.rule.LexerAlternative.{LexerAlternative}
 use Rattle.g4_source.specs.declared.rule.LexerRule.{LexerRule}
 use Rattle.g4_net.specs.declared.network.State.{State}
@@ -47,9 +46,9 @@ own_rule states r (x ∷ []) s (inr i) = absurd i
 own_rule states r (x ∷ y ∷ others) s i = decided_rule r (slice_get states (start_of r)) s i
 
 -- a rule that is no fragment
-pub unfragmented : (place : Option Place) (starts : List Start) (s : Start) → In s (unless_fragment place starts) → In s starts
-unfragmented None starts s i = i
-unfragmented (Some place) starts s i = absurd i
+pub unfragmented : (fragment : Bool) (starts : List Start) (s : Start) → In s (unless_fragment fragment starts) → In s starts
+unfragmented false starts s i = i
+unfragmented true starts s i = absurd i
 
 -- two lists of starts, of different rules
 both : (xs ys : List Start) → InOrder (starts_of xs) → InOrder (starts_of ys)
@@ -91,10 +90,10 @@ own_order states r [] = decided_order r (slice_get states (start_of r))
 own_order states r (x ∷ []) = more (start r 1 (start_of r)) [] (λ d i e. absurd i) no_more
 own_order states r (x ∷ y ∷ others) = decided_order r (slice_get states (start_of r))
 
-unfragmented_order : (place : Option Place) (starts : List Start) → InOrder (starts_of starts)
-    → InOrder (starts_of (unless_fragment place starts))
-unfragmented_order None starts h = h
-unfragmented_order (Some place) starts h = no_more
+unfragmented_order : (fragment : Bool) (starts : List Start) → InOrder (starts_of starts)
+    → InOrder (starts_of (unless_fragment fragment starts))
+unfragmented_order false starts h = h
+unfragmented_order true starts h = no_more
 
 -- the items of two lists
 pub item_front : {X : Type 0} (xs ys : List X) (k : ℕ) (x : X) → slice_get xs k ≡ Some x → slice_get (xs ++ ys) k ≡ Some x

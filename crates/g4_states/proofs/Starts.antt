@@ -7,7 +7,7 @@ use Rattle.g4_grammar.specs.declared.step.Step.{Step}
 use Rattle.g4_net.specs.declared.network.Network.{Network}
 use Rattle.g4_net.specs.Network.{start_of}
 use Rattle.g4_layout.specs.Layout as lay
-use Rattle.g4_layout.specs.Layout.{Lies, LieInOrder, LieSideBySide, LiesAsRule, RulesLie}
+use Rattle.g4_layout.specs.Layout.{LieInOrder, LieSideBySide, LiesAsRule, RulesLie}
 use Rattle.g4_layout.specs.Numbers.{BeginsWithBlock, CanStartWith, NumberingsFit}
 use Rattle.g4_layout.proofs.Rules.{rule_up, rules_up}
 use Rattle.g4_layout.proofs.Sizes.{as_many, rule_size}

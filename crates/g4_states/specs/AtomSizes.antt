@@ -9,11 +9,11 @@ abbrev pub states_of_kind : AtomKind → ℕ
 states_of_kind (Rule name) = 1
 states_of_kind (Token name) = 1
 states_of_kind (Literal literal) = length literal.characters
-states_of_kind (Range place first last) = 1
+states_of_kind (Range first last) = 1
 states_of_kind (Set set) = 1
-states_of_kind (Any place) = 1
-states_of_kind (NotTokens place tokens) = 1
-states_of_kind (NotCharacters place set) = 1
+states_of_kind Any = 1
+states_of_kind (NotTokens tokens) = 1
+states_of_kind (NotCharacters set) = 1
 states_of_kind Action = 1
 states_of_kind (Predicate name) = 1
 

@@ -1,5 +1,5 @@
 -- What outcomes mean, from what parsing and lexing answer.
-use Rattle.std.proofs.Common.{◌≡◌, ℕ, List, [], ◌∷◌, ◌++◌, All, Ok, Err, IfOk, Result, sym, subst}
+use Rattle.std.proofs.Common.{◌≡◌, ℕ, List, [], ◌∷◌, ◌++◌, All, Ok, Err, IfOk, Result, subst}
 use Rattle.std.proofs.lemmas.List.Elements.{All-append, All-cons, All-nil, All-weaker}
 use Rattle.g4_tokens.specs.Symbols.{eof}
 use Rattle.g4_derivation.specs.Spelling.{DerivesFrom}
@@ -42,11 +42,11 @@ module _ (interpreter : Interpreter) (usable : IsUsable interpreter) (tokens : T
       SaysWhole interpreter.net lent (Ok tree) → IsMeantAnywhere interpreter (outcomes.Tree tokens tree)
   tree_meant tree accepts fits whole start network = (
     subst (λ (ts : List Token). DerivesFrom (eof ∷ []) (rewritten interpreter.rules) start (word_of ts)) same
-        (accepts (eof ∷ []) interpreter.rules start usable.parsing.rewritable network),
+        (accepts (eof ∷ []) interpreter.rules start usable.rewritable network),
     subst (λ (ts : List Token). IsTreeOf interpreter.rules (word_of ts) tree) same
-        (fits (eof ∷ []) interpreter.rules start usable.parsing.rewritable network),
+        (fits (eof ∷ []) interpreter.rules start usable.rewritable network),
     subst (λ (ts : List Token). LeavesClosing (eof ∷ []) (word_of ts) tree) same
-        (whole (eof ∷ []) interpreter.rules start usable.parsing.rewritable network),
+        (whole (eof ∷ []) interpreter.rules start usable.rewritable network),
   )
 
   -- and of a fault
@@ -54,7 +54,7 @@ module _ (interpreter : Interpreter) (usable : IsUsable interpreter) (tokens : T
       IsMeantAnywhere interpreter (outcomes.Parse tokens fault)
   fault_meant fault accepts start network =
       subst (λ (ts : List Token). IsAcceptance (DerivesFrom (eof ∷ []) (rewritten interpreter.rules) start (word_of ts)) (Err fault)) same
-      (accepts (eof ∷ []) interpreter.rules start usable.parsing.rewritable network)
+      (accepts (eof ∷ []) interpreter.rules start usable.rewritable network)
 
 -- no outcome
 pub none_meant : (interpreter : Interpreter) → All (IsMeantAnywhere interpreter) []

@@ -23,6 +23,11 @@ use Rattle.g4_tool.specs.declared.write.Line.TheVariants.{ToOut}
 use Rattle.g4_load.specs.declared.interpreter.Interpreter.{Interpreter}
 use Rattle.g4_load.specs.declared.fault.GrammarFault.{GrammarFault}
 use Rattle.g4_load.specs.declared.fault.GrammarFault.TheVariants as faults
+use Rattle.g4_checks.specs.declared.fault.CheckFault.TheVariants as checks
+use Rattle.g4_checks.specs.declared.references.ReferenceFault.{ReferenceFault}
+use Rattle.g4_checks.specs.declared.references.ReferenceFault.TheVariants as references
+use Rattle.g4_recursion.specs.declared.checking.RecursionFault.{RecursionFault}
+use Rattle.g4_recursion.specs.declared.checking.RecursionFault.TheVariants as recursions
 use Rattle.g4_load.specs.declared.stop.Stop.{Stop}
 use Rattle.g4_load.specs.declared.stop.Stop.TheVariants as stops
 use Rattle.g4_tool.specs.declared.status.Status.{Status}
@@ -77,6 +82,23 @@ pub data HasEnd (files : Files) (words : List (List ℕ)) : End → Type 0 where
   no_command : IsNoCommand words → HasEnd files words (stopped stops.Usage)
   of_command : (command : Command) (end : End) → IsCommand words command → Ends files command end → HasEnd files words end
 
+-- the line of a fault of what a grammar names
+abbrev pub reference_line : List ℕ → ReferenceFault → Line
+reference_line name (references.UndefinedRule rule) = undefined_line name (codes "rule ") rule
+reference_line name (references.UnknownMode mode) = undefined_line name (codes "mode ") mode
+reference_line name (references.UnknownCommand command) = unknown_command_line name command
+reference_line name (references.UnknownChannel channel) = undefined_line name (codes "channel ") channel
+reference_line name (references.LexerPredicate place) = lexer_predicate_line name place
+reference_line name (references.UnknownPredicate place) = unknown_predicate_line name place
+reference_line name (references.LabelClash label) = label_clash_line name label
+
+-- the line of a fault of how rules call each other
+abbrev pub recursion_line : List ℕ → RecursionFault → Line
+recursion_line name (recursions.NoPrimary rule) = no_primary_line name rule
+recursion_line name (recursions.EmptyOperator rule i) = empty_operator_line name rule i
+recursion_line name (recursions.EmptyLoop rule) = empty_loop_line name rule
+recursion_line name (recursions.LeftCycle rules) = left_cycle_line name rules
+
 -- the line of a grammar's fault
 abbrev pub fault_line : List ℕ → GrammarFault → Line
 fault_line name (faults.NotUtf8 at) = not_utf8_line name at
@@ -85,17 +107,8 @@ fault_line name (faults.BadSet place) = bad_set_line name place
 fault_line name (faults.RuleTwice rule) = twice_line name rule
 fault_line name faults.Rules = limit_line name (codes "rules 4096")
 fault_line name faults.Types = limit_line name (codes "types 4096")
-fault_line name (faults.UndefinedRule rule) = undefined_line name (codes "rule ") rule
-fault_line name (faults.UnknownMode mode) = undefined_line name (codes "mode ") mode
-fault_line name (faults.UnknownCommand command) = unknown_command_line name command
-fault_line name (faults.UnknownChannel channel) = undefined_line name (codes "channel ") channel
-fault_line name (faults.LexerPredicate place) = lexer_predicate_line name place
-fault_line name (faults.UnknownPredicate place) = unknown_predicate_line name place
-fault_line name (faults.LabelClash label) = label_clash_line name label
-fault_line name (faults.NoPrimary rule) = no_primary_line name rule
-fault_line name (faults.EmptyOperator rule i) = empty_operator_line name rule i
-fault_line name (faults.EmptyLoop rule) = empty_loop_line name rule
-fault_line name (faults.LeftCycle rules) = left_cycle_line name rules
+fault_line name (faults.Check (checks.Reference fault)) = reference_line name fault
+fault_line name (faults.Check (checks.Recursion fault)) = recursion_line name fault
 fault_line name (faults.UnknownStart start) = no_rule_line name start
 fault_line name faults.Alternatives = limit_line name (codes "alternatives 1024")
 fault_line name faults.States = limit_line name (codes "states 65536")

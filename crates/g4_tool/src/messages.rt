@@ -1,5 +1,5 @@
 // The lines of faults.
-ghost use Rattle.std.specs.Prelude.{◌≡◌, ◌++◌, IfOk, OnOk, string_bytes, ◌-◌, []};
+ghost use Rattle.std.specs.Prelude.{◌≡◌, ◌++◌, IfOk, OnOk, string_bytes, ◌-◌};
 ghost use Rattle.g4_net.specs.Network.{state_at};
 ghost use Rattle.g4_tool.specs.Texts.{at_place, taken_by, place_of_token, mismatch_line, no_viable_line, failed_predicate_line, too_deep_line, character_text, no_token_line, empty_mode_stack_line, many_tokens_line, not_utf8_line, large_line, absent_line, usage_line, syntax_line, bad_set_line, twice_line, no_rule_line, limit_line};
 ghost use Rattle.g4_tool.specs.declared.write.Line.TheVariants.{ToErr};

@@ -1,6 +1,5 @@
 // What becomes of a file, and the lines that are written of it.
-ghost use Rattle.std.specs.Prelude.{◌≡◌, ◌≤◌, ◌<◌, ◌^◌, ◌++◌, IfOk, OnOk, length};
-ghost use Rattle.g4_tokens.specs.TokenList.{EndsInEnd, word_of};
+ghost use Rattle.std.specs.Prelude.{◌≡◌, ◌≤◌, ◌<◌, ◌++◌, IfOk, OnOk, length};
 ghost use Rattle.g4_trees.specs.Events.{tree_events};
 ghost use Rattle.g4_trees.specs.TreeText.{tree_text};
 ghost use Rattle.g4_tool.specs.Texts.{line_of_events, line_of_tokens, line_of_tree};

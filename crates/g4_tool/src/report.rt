@@ -83,7 +83,7 @@ fn report_files(alloc: Global, parsed: Parsed, files: usize) -> Result<Report, A
 fn report_checked(alloc: Global, grammar: &Loaded) -> Result<Report, AllocError>
     ensures { IfOk result (IsReportOf (checked grammar.now)) }
 {
-    let rules = grammar.rules.len();
+    let rules = grammar.rules.as_slice().len();
     let types = grammar.shown.len();
     let line = format!(in alloc; "rules {rules} tokens {types}\n")?;
     let line = Line::ToOut(Sequence::new(line.into_bytes()));

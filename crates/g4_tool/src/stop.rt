@@ -1,6 +1,6 @@
 // What is reported of a command line that ends before any file is parsed.
 ghost use Rattle.std.specs.Prelude.{◌≡◌, IfOk};
-ghost use Rattle.g4_tool.specs.Ends.{fault_line, stop_line, stop_status};
+ghost use Rattle.g4_tool.specs.Ends.{fault_line, recursion_line, reference_line, stop_line, stop_status};
 
 use crate::messages::{absent, bad_set, large, limit, no_rule, not_utf8, syntax, twice, usage};
 use crate::rule_messages::{
@@ -9,8 +9,41 @@ use crate::rule_messages::{
 };
 use crate::status::Status;
 use crate::write::Line;
+use g4_checks::{CheckFault, ReferenceFault};
 use g4_load::{GrammarFault, Stop};
+use g4_recursion::RecursionFault;
 use std::alloc::{AllocError, Global};
+
+/// The line of a fault of what a grammar names.
+fn reference_line(alloc: Global, name: &str, fault: &ReferenceFault) -> Result<Line, AllocError>
+    ensures { IfOk result (λ line. line ≡ reference_line name.now fault.now) }
+{
+    match fault {
+        ReferenceFault::UndefinedRule(rule) => undefined(alloc, name, "rule ", rule.as_str()),
+        ReferenceFault::UnknownMode(mode) => undefined(alloc, name, "mode ", mode.as_str()),
+        ReferenceFault::UnknownCommand(command) => unknown_command(alloc, name, command.as_str()),
+        ReferenceFault::UnknownChannel(channel) => {
+            undefined(alloc, name, "channel ", channel.as_str())
+        }
+        ReferenceFault::LexerPredicate(place) => lexer_predicate(alloc, name, *place),
+        ReferenceFault::UnknownPredicate(place) => unknown_predicate(alloc, name, *place),
+        ReferenceFault::LabelClash(label) => label_clash(alloc, name, label.as_str()),
+    }
+}
+
+/// The line of a fault of how rules call each other.
+fn recursion_line(alloc: Global, name: &str, fault: &RecursionFault) -> Result<Line, AllocError>
+    ensures { IfOk result (λ line. line ≡ recursion_line name.now fault.now) }
+{
+    match fault {
+        RecursionFault::NoPrimary(rule) => no_primary(alloc, name, rule.as_str()),
+        RecursionFault::EmptyOperator(rule, alternative) => {
+            empty_operator(alloc, name, rule.as_str(), *alternative)
+        }
+        RecursionFault::EmptyLoop(rule) => empty_loop(alloc, name, rule.as_str()),
+        RecursionFault::LeftCycle(rules) => left_cycle(alloc, name, rules.as_slice()),
+    }
+}
 
 /// The line of a grammar's fault.
 fn fault_line(alloc: Global, name: &str, fault: &GrammarFault) -> Result<Line, AllocError>
@@ -25,21 +58,8 @@ fn fault_line(alloc: Global, name: &str, fault: &GrammarFault) -> Result<Line, A
         GrammarFault::RuleTwice(rule) => twice(alloc, name, rule.as_str()),
         GrammarFault::Rules => limit(alloc, name, "rules 4096"),
         GrammarFault::Types => limit(alloc, name, "types 4096"),
-        GrammarFault::UndefinedRule(rule) => undefined(alloc, name, "rule ", rule.as_str()),
-        GrammarFault::UnknownMode(mode) => undefined(alloc, name, "mode ", mode.as_str()),
-        GrammarFault::UnknownCommand(command) => unknown_command(alloc, name, command.as_str()),
-        GrammarFault::UnknownChannel(channel) => {
-            undefined(alloc, name, "channel ", channel.as_str())
-        }
-        GrammarFault::LexerPredicate(place) => lexer_predicate(alloc, name, *place),
-        GrammarFault::UnknownPredicate(place) => unknown_predicate(alloc, name, *place),
-        GrammarFault::LabelClash(label) => label_clash(alloc, name, label.as_str()),
-        GrammarFault::NoPrimary(rule) => no_primary(alloc, name, rule.as_str()),
-        GrammarFault::EmptyOperator(rule, alternative) => {
-            empty_operator(alloc, name, rule.as_str(), *alternative)
-        }
-        GrammarFault::EmptyLoop(rule) => empty_loop(alloc, name, rule.as_str()),
-        GrammarFault::LeftCycle(rules) => left_cycle(alloc, name, rules.as_slice()),
+        GrammarFault::Check(CheckFault::Reference(fault)) => reference_line(alloc, name, fault),
+        GrammarFault::Check(CheckFault::Recursion(fault)) => recursion_line(alloc, name, fault),
         GrammarFault::UnknownStart(start) => no_rule(alloc, name, start.as_str()),
         GrammarFault::Alternatives => limit(alloc, name, "alternatives 1024"),
         GrammarFault::States => limit(alloc, name, "states 65536"),

@@ -3,7 +3,6 @@ use Rattle.std.specs.Prelude.{ℕ, ◌-◌, List, [], ◌∷◌, ◌++◌, Optio
 use Rattle.std.specs.List.{flat_map}
 use Rattle.std.specs.Fmt.{decimal}
 use Rattle.g4_tokens.specs.declared.token.Tokens.{Tokens}
-use Rattle.g4_source.specs.declared.rule.AlternativeLabel.{AlternativeLabel}
 use Rattle.g4_source.specs.declared.rule.ParserRule.{ParserRule}
 use Rattle.g4_source.specs.declared.rule.RuleAlternative.{RuleAlternative}
 use Rattle.g4_trees.specs.declared.tree.Item.{Item}
@@ -33,9 +32,9 @@ abbrev pub tree_events : List Item → List Event
 tree_events xs = events_of_some (tree_of xs)
 
 -- a label's name, or else this one
-abbrev pub label_or : List ℕ → Option AlternativeLabel → List ℕ
+abbrev pub label_or : List ℕ → Option (List ℕ) → List ℕ
 label_or name None = name
-label_or name (Some label) = label.name
+label_or name (Some label) = label
 
 -- what an alternative that was looked up is called, in a rule of this name: its label, if it has one
 abbrev pub called_by : {A : Type 0} → List ℕ → Option (RuleAlternative A) → List ℕ

@@ -1,7 +1,7 @@
 // A tree that grows in order of the text, node by node and token by token.
-ghost use Rattle.std.specs.Prelude.{◌≡◌, ◌∷◌, [], List, OnOk, IfOk};
+ghost use Rattle.std.specs.Prelude.{◌≡◌, [], OnOk, IfOk};
 ghost use Rattle.g4_trees.specs.Trees.{Forest, items_of_all, leaf};
-ghost use Rattle.g4_trees.specs.Growing.{Growing, nothing_grown, with_alternative, with_close, with_node, with_tree, with_wrap, OpenNode};
+ghost use Rattle.g4_trees.specs.Growing.{Growing, nothing_grown, with_alternative, with_close, with_node, with_tree, with_wrap};
 ghost use Rattle.g4_trees.specs.Kept.{HasGrown};
 
 use crate::unwinding::put_in_place;

@@ -8,7 +8,8 @@ ghost use Rattle.g4_trees.specs.declared.tree.Item.{Item as TreeItem};
 
 use crate::text::{push, push_three, push_token};
 use crate::{Item, Tree};
-use g4_source::{AlternativeLabel, ParserRule, RuleAlternative};
+use g4_base::Text;
+use g4_source::{ParserRule, RuleAlternative};
 use g4_tokens::Tokens;
 use itoa::Buffer;
 use std::alloc::{AllocError, Global};
@@ -56,11 +57,11 @@ fn events_among(alloc: Global, items: &[Item]) -> Result<Vec<Event>, AllocError>
 }
 
 /// The name of a label, or else this one.
-fn label_or<'a>(name: &'a str, label: &'a Option<AlternativeLabel>) -> &'a str
+fn label_or<'a>(name: &'a str, label: &'a Option<Text>) -> &'a str
     ensures { result.now ≡ label_of name.now label.now }
 {
     match label {
-        Some(label) => label.name.as_str(),
+        Some(label) => label.as_str(),
         None => name,
     }
 }

@@ -1,5 +1,5 @@
 // The items of a grown tree, with each node that became a first child put in its place.
-ghost use Rattle.std.specs.Prelude.{◌≡◌, ◌++◌, length, reverse, IfOk, OnOk, Some, None, slice_get, ◌-◌, IfSome};
+ghost use Rattle.std.specs.Prelude.{◌≡◌, ◌++◌, length, reverse, IfOk, OnOk, Some, None, ◌-◌};
 ghost use Rattle.g4_trees.specs.Kept.{AreOrdered, entries_from, kept, wrap};
 ghost use Rattle.g4_trees.specs.Unwinding.{Known, known, known_before, enters, HasUnwound};
 ghost use Rattle.g4_trees.specs.Ends.{IsWrapAt};

@@ -63,14 +63,14 @@ module _ (lexers : List LexerRule) (types : List Entry) (few : greatest_type typ
   leaves_end (kinds.Rule name) = none_low
   leaves_end (kinds.Token name) = one_low (symbol_of lexers types (refs.Token name.text)) (symbol_low (refs.Token name.text))
   leaves_end (kinds.Literal literal) = one_low (symbol_of lexers types (refs.Literal literal)) (symbol_low (refs.Literal literal))
-  leaves_end (kinds.Range place first last) = none_low
+  leaves_end (kinds.Range first last) = none_low
   leaves_end (kinds.Set set) = none_low
-  leaves_end (kinds.Any place) = no_end (all_types types) types_low
-  leaves_end (kinds.NotTokens place tokens) =
+  leaves_end kinds.Any = no_end (all_types types) types_low
+  leaves_end (kinds.NotTokens tokens) =
       no_end (types_without lexers types tokens)
       (All-filter (λ (type : ℕ). not (list_any (λ token. symbol_of lexers types token == type) tokens))
       (λ (x : ℕ). x < end_of_list) (all_types types) types_low)
-  leaves_end (kinds.NotCharacters place set) = none_low
+  leaves_end (kinds.NotCharacters set) = none_low
   leaves_end kinds.Action = none_low
   leaves_end (kinds.Predicate name) = none_low
 

@@ -1,7 +1,6 @@
 -- The parser rules and the lexer rules among some rules, with one rule more.
-use Rattle.std.proofs.Common.{◌≡◌, ℕ, ◌+◌, ◌<◌, List, [], ◌∷◌, ◌++◌, length, map, take, get_or, filter, Bool, true, false, cond, sym, ap, ◌∙◌}
+use Rattle.std.proofs.Common.{◌≡◌, ℕ, ◌+◌, ◌<◌, List, [], ◌∷◌, ◌++◌, length, map, take, get_or, filter, Bool, true, false, cond, not, sym, ap, ◌∙◌}
 use Rattle.std.specs.Borrow.{Bor}
-use Rattle.std.specs.Option.{is_none}
 use Rattle.std.proofs.lemmas.List.{take_more, map-append, append-nil}
 use Rattle.std.proofs.lemmas.List.Elements.{filter-append, filter_map-append}
 use Rattle.g4_source.specs.declared.atom.Atom.{Atom}
@@ -15,7 +14,7 @@ use Rattle.g4_vocab.specs.Numbering.{token_lexers}
 
 -- a lexer rule without `fragment`
 abbrev makes : LexerRule → Bool
-makes rule = is_none rule.fragment
+makes rule = not rule.fragment
 
 -- one item more
 push_now : {X : Type 0} (xs new : List (Bor X)) (b : Bor X) → new ≡ xs ++ b ∷ [] → map (λ r. r.now) new ≡ map (λ r. r.now) xs ++ b.now ∷ []
@@ -52,26 +51,26 @@ parsers_same xs l = filter_map-append parser_rule xs (Lexer l ∷ []) ∙ append
 -- a lexer rule without `fragment`
 pub lexer_more : (rules : List Rule) (i : ℕ) (rule : Rule) (b : Bor LexerRule) (ps : List (ParserRule Atom))
     (ls new : List (Bor LexerRule)) → i < length rules → rule ≡ get_or rules i rule → new ≡ ls ++ b ∷ [] → rule ≡ Lexer b.now
-    → is_none b.now.fragment ≡ true →
+    → b.now.fragment ≡ false →
     AreHalves (take i rules) ps (map (λ r. r.now) ls) → AreHalves (take (i + 1) rules) ps (map (λ r. r.now) new)
 lexer_more rules i rule b ps ls new within item pushed is bare h =
     let next = take_rule rules i rule (Lexer b.now) within item is in record {
       parsers_are = h.parsers_are ∙ (sym (parsers_same (take i rules) b.now) ∙ ap parser_rules (sym next));
       lexers_are =
           push_now ls new b pushed ∙ (ap (λ (xs : List LexerRule). xs ++ b.now ∷ []) h.lexers_are
-          ∙ (ap (λ (k : Bool). token_lexers (take i rules) ++ cond k (b.now ∷ []) []) (sym bare)
+          ∙ (ap (λ (k : Bool). token_lexers (take i rules) ++ cond k (b.now ∷ []) []) (sym (ap not bare))
           ∙ (sym (lexers_more (take i rules) b.now) ∙ ap token_lexers (sym next))));
     }
 
 -- a lexer rule with `fragment`
 pub fragment_more : (rules : List Rule) (i : ℕ) (rule : Rule) (l : LexerRule) (ps : List (ParserRule Atom)) (ls : List LexerRule)
-    → i < length rules → rule ≡ get_or rules i rule → rule ≡ Lexer l → is_none l.fragment ≡ false →
+    → i < length rules → rule ≡ get_or rules i rule → rule ≡ Lexer l → l.fragment ≡ true →
     AreHalves (take i rules) ps ls → AreHalves (take (i + 1) rules) ps ls
 fragment_more rules i rule l ps ls within item is some h =
     let next = take_rule rules i rule (Lexer l) within item is in record {
       parsers_are = h.parsers_are ∙ (sym (parsers_same (take i rules) l) ∙ ap parser_rules (sym next));
       lexers_are =
           h.lexers_are ∙ (sym (append-nil (token_lexers (take i rules)))
-          ∙ (ap (λ (k : Bool). token_lexers (take i rules) ++ cond k (l ∷ []) []) (sym some)
+          ∙ (ap (λ (k : Bool). token_lexers (take i rules) ++ cond k (l ∷ []) []) (sym (ap not some))
           ∙ (sym (lexers_more (take i rules) l) ∙ ap token_lexers (sym next))));
     }

@@ -2,7 +2,7 @@
 -- then the other token names of parser rules, then the names in `type(..)` commands of lexer rules.
 use Rattle.std.specs.Prelude.{ℕ, ◌==◌, List, [], ◌∷◌, ◌++◌, map, filter, Option, Some, None, Bool, false, not, cond, codes}
 use Rattle.std.specs.List.{filter_map, flat_map, list_any}
-use Rattle.std.specs.Option.{is_some, is_none}
+use Rattle.std.specs.Option.{is_some}
 use Rattle.std.specs.Str.{bytes_eq}
 use Rattle.g4_tokens.specs.Symbols.{eof}
 use Rattle.g4_source.specs.Elements.{Element, atom, block, Elements, empty, then, atoms_of_either}
@@ -30,18 +30,18 @@ use Rattle.g4_vocab.specs.Types.{Wanted, type_of, all_types, with_keys}
 
 -- the lexer rules without `fragment`, in order of the text
 abbrev pub token_lexers : List Rule → List LexerRule
-token_lexers rules = filter (λ rule. is_none rule.fragment) (lexer_rules rules)
+token_lexers rules = filter (λ rule. not rule.fragment) (lexer_rules rules)
 
 -- an atom, where it is a literal
 abbrev pub literal_kind : AtomKind → Option Literal
 literal_kind (kinds.Rule name) = None
 literal_kind (kinds.Token name) = None
 literal_kind (kinds.Literal literal) = Some literal
-literal_kind (kinds.Range place first last) = None
+literal_kind (kinds.Range first last) = None
 literal_kind (kinds.Set set) = None
-literal_kind (kinds.Any place) = None
-literal_kind (kinds.NotTokens place tokens) = None
-literal_kind (kinds.NotCharacters place set) = None
+literal_kind kinds.Any = None
+literal_kind (kinds.NotTokens tokens) = None
+literal_kind (kinds.NotCharacters set) = None
 literal_kind kinds.Action = None
 literal_kind (kinds.Predicate name) = None
 
@@ -95,11 +95,11 @@ abbrev pub references : AtomKind → List TokenReference
 references (kinds.Rule name) = []
 references (kinds.Token name) = refs.Token name.text ∷ []
 references (kinds.Literal literal) = refs.Literal literal ∷ []
-references (kinds.Range place first last) = []
+references (kinds.Range first last) = []
 references (kinds.Set set) = []
-references (kinds.Any place) = []
-references (kinds.NotTokens place tokens) = tokens
-references (kinds.NotCharacters place set) = []
+references kinds.Any = []
+references (kinds.NotTokens tokens) = tokens
+references (kinds.NotCharacters set) = []
 references kinds.Action = []
 references (kinds.Predicate name) = []
 
@@ -181,11 +181,11 @@ abbrev pub symbols_of_kind : List LexerRule → List Entry → AtomKind → List
 symbols_of_kind lexers types (kinds.Rule name) = []
 symbols_of_kind lexers types (kinds.Token name) = symbol_of lexers types (refs.Token name.text) ∷ []
 symbols_of_kind lexers types (kinds.Literal literal) = symbol_of lexers types (refs.Literal literal) ∷ []
-symbols_of_kind lexers types (kinds.Range place first last) = []
+symbols_of_kind lexers types (kinds.Range first last) = []
 symbols_of_kind lexers types (kinds.Set set) = []
-symbols_of_kind lexers types (kinds.Any place) = all_types types
-symbols_of_kind lexers types (kinds.NotTokens place tokens) = types_without lexers types tokens
-symbols_of_kind lexers types (kinds.NotCharacters place set) = []
+symbols_of_kind lexers types kinds.Any = all_types types
+symbols_of_kind lexers types (kinds.NotTokens tokens) = types_without lexers types tokens
+symbols_of_kind lexers types (kinds.NotCharacters set) = []
 symbols_of_kind lexers types kinds.Action = []
 symbols_of_kind lexers types (kinds.Predicate name) = []
 

@@ -22,7 +22,7 @@ pub fn halves_of(alloc: Global, rules: &[Rule]) -> Result<Halves<'_>, AllocError
         match rule {
             Rule::Parser(parser) => parsers.push(parser)?,
             Rule::Lexer(lexer) => {
-                if lexer.fragment.is_none() {
+                if !lexer.fragment {
                     lexers.push(lexer)?;
                 }
             }

@@ -1,5 +1,5 @@
 // Which types a grammar has.
-ghost use Rattle.std.specs.Prelude.{◌≡◌, OnOk, ◌∷◌, [], map};
+ghost use Rattle.std.specs.Prelude.{OnOk, map};
 ghost use Rattle.std.specs.List.{filter_map};
 ghost use Rattle.g4_vocab.specs.Numbering.{own_literal, rule_token, token_name, wanted};
 ghost use Rattle.g4_vocab.specs.Tables.{Adds, IsTable, Starts, reference_of};

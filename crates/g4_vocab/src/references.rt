@@ -1,6 +1,5 @@
 // The tokens that parser rules name, in order of the text.
 ghost use Rattle.std.specs.Prelude.{◌≡◌, ◌++◌, IfOk, OnOk, map};
-ghost use Rattle.std.specs.List.{flat_map};
 ghost use Rattle.g4_source.specs.Elements.{atoms, atoms_in_order, atoms_of_either};
 ghost use Rattle.g4_source.specs.Trees.{element_of, in_order};
 ghost use Rattle.g4_source.specs.Rules.{alternatives_of};
@@ -51,7 +50,7 @@ fn push_atom<'a>(found: &mut Vec<Reference<'a>>, kind: &'a AtomKind) -> Result<(
         AtomKind::Literal(literal) => {
             found.push(Reference::Literal(literal))?;
         }
-        AtomKind::NotTokens(_, tokens) => {
+        AtomKind::NotTokens(tokens) => {
             push_tokens(found, tokens.as_slice())?;
         }
         _ => {}

@@ -98,8 +98,8 @@ impl Vocabulary<'_> {
                 let symbol = self.symbol_of(Reference::Literal(literal));
                 Symbols::one(alloc, symbol)
             }
-            AtomKind::Any(_) => Symbols::up_to(alloc, self.types.greatest),
-            AtomKind::NotTokens(_, tokens) => self.types_without(alloc, tokens.as_slice()),
+            AtomKind::Any => Symbols::up_to(alloc, self.types.greatest),
+            AtomKind::NotTokens(tokens) => self.types_without(alloc, tokens.as_slice()),
             _ => Symbols::up_to(alloc, 0),
         }
     }

@@ -1,6 +1,6 @@
 // Tables of token types.
-ghost use Rattle.std.specs.Prelude.{◌≡◌, ◌<◌, IfOk, OnOk, [], ◌∷◌, ◌++◌, option_copied, string_bytes};
-ghost use Rattle.g4_vocab.specs.Types.{next_entry, number_of, Wanted};
+ghost use Rattle.std.specs.Prelude.{◌≡◌, ◌<◌, OnOk, [], ◌∷◌, ◌++◌};
+ghost use Rattle.g4_vocab.specs.Types.{next_entry, number_of};
 ghost use Rattle.g4_vocab.specs.Tables.{Adds, IsTable};
 
 use crate::fault::NumberFault;

@@ -1,5 +1,5 @@
 // Which lexer rules' tokens literals name.
-ghost use Rattle.std.specs.Prelude.{◌≡◌, IfOk, OnOk, [], ◌∷◌, ◌++◌, List, map, option_map};
+ghost use Rattle.std.specs.Prelude.{◌≡◌, IfOk, OnOk, map, option_map};
 ghost use Rattle.g4_vocab.specs.Numbering.{named_rule, shown_rule};
 ghost use Rattle.g4_vocab.specs.Tables.{AreWholes, AddsRule};
 

@@ -1,22 +1,29 @@
-use Rattle.std.proofs.Common.{refl}
+use Rattle.std.proofs.Common.{ℕ, List, Ok, ap, ◌∙◌}
 use Rattle.std.proofs.lemmas.Result.{err_from_is_err_and}
-use Rattle.g4_load.specs.Building.{HasLexer, Lays}
+use Rattle.g4_load.specs.Building.{HasLexer, Lays, names_of}
 use Rattle.g4_load.specs.Stages.{goes_on}
+use Rattle.g4_load.specs.declared.interpreter.Interpreter.{Interpreter}
 use Rattle.g4_load.proofs.Built.{lexer_exit, stage_stops}
 use Rattle.g4_load.proofs.interpreter.interpret.Goals as goal
 
-pub returns-in_err-parser-clause-interpreting : goal.returns-in_err-parser-clause-interpreting
-returns-in_err-parser-clause-interpreting c =
-    let p = err_from_is_err_and c.from_residual.result c.from_residual.ensures.1 in
-    rw (p.1, p.2) (stage_stops (Lays c.args.start.now c.args.grammar.rules) (HasLexer c.args.grammar) c.in_err-parser.field-0.0
-    c.in_err-parser.ensures.laid)
+pub returns-in_err-net-clause-interpreting : goal.returns-in_err-net-clause-interpreting
+returns-in_err-net-clause-interpreting c =
+    let p = err_from_is_err_and c.from_residual-in_err-net.result c.from_residual-in_err-net.ensures.1 in
+    rw (p.1, p.2) (stage_stops (Lays c.args.start.now c.args.grammar.rules) (HasLexer c.args.grammar) c.in_err-net.field-0.0
+    c.in_err-net.ensures.laid)
 
 pub returns-in_err-lexer-clause-interpreting : goal.returns-in_err-lexer-clause-interpreting
 returns-in_err-lexer-clause-interpreting c =
     let p = err_from_is_err_and c.from_residual-in_err-lexer.result c.from_residual-in_err-lexer.ensures.1 in
-    rw (p.1, p.2) (lexer_exit c.args.start.now c.args.grammar c.in_ok-parser.parser c.in_err-lexer.field-0.0 c.in_ok-parser.ensures.laid
-    c.in_err-lexer.ensures.lexer)
+    rw (p.1, p.2) (lexer_exit c.args.start.now c.args.grammar c.in_ok-net.net _ c.in_ok-net.ensures.laid c.in_err-lexer.ensures.lexer)
 
 pub returns-clause-interpreting : goal.returns-clause-interpreting
-returns-clause-interpreting c = goes_on c.in_ok-parser.parser _ c.in_ok-parser.ensures.laid
-    (goes_on c.in_ok-lexer.lexer _ c.in_ok-lexer.ensures.lexer refl)
+returns-clause-interpreting c =
+    let grammar = c.args.grammar in
+    let net = c.in_ok-net.net in
+    let lexer = c.in_ok-lexer.lexer in
+    let made : List (List ℕ) → Interpreter =
+    λ names. record { names = names; rules = grammar.rules; shown = grammar.shown; lexer = lexer; net = net } in
+    let named = c.in_ok-names.ensures ∙ ap names_of c.as_slice.ensures.rules in
+    goes_on net (Ok (made c.in_ok-names.names)) c.in_ok-net.ensures.laid
+    (goes_on lexer (Ok (made c.in_ok-names.names)) c.in_ok-lexer.ensures.lexer (ap (λ (names : List (List ℕ)). Ok (made names)) named))

@@ -16,8 +16,8 @@ returns-in-Ok-clause-content g c = λ files told.
     made_of files c.args.name.now (FromRule c.args.rule.now) c.in_ok-grammar.grammar (Ok c.in-Ok.listing)
     (c.in_ok-grammar.ensures.content files told) c.in-Ok.ensures
 
-pub returns-in_ok-fault_of-in-Err-Fault-clause-content : goal.returns-in_ok-fault_of-in-Err-Fault-clause-content
-returns-in_ok-fault_of-in-Err-Fault-clause-content g c = λ files told.
+pub returns-in-Err-Fault-clause-content : goal.returns-in-Err-Fault-clause-content
+returns-in-Err-Fault-clause-content g c = λ files told.
     let name = c.args.name.now in
     let rule = c.args.rule.now in
     subst (λ (stop : Stop). Lists files name rule (name ∷ []) (Err stop)) (sym c.in_ok-fault_of-in-Err-Fault.ensures)

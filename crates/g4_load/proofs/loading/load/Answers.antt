@@ -13,7 +13,7 @@ returns-in_err-bytes-clause-content g c = λ files told.
 pub returns-in-Ok-clause-content : goal.returns-in-Ok-clause-content
 returns-in-Ok-clause-content g c = λ files told.
     loaded files c.args.name.now c.in_ok-bytes.bytes (c.in_ok-bytes.ensures.content files told) (Ok c.in-Ok.grammar)
-    (subst (λ (bs : List ℕ). IsGrammarIn bs (Ok c.in-Ok.grammar)) c.as_slice.ensures c.in-Ok.ensures.grammar)
+    (subst (λ (bs : List ℕ). IsGrammarIn bs (Ok c.in-Ok.grammar)) c.as_slice.ensures c.in-Ok.ensures)
 
 pub returns-in-Err-Fault-clause-content : goal.returns-in-Err-Fault-clause-content
 returns-in-Err-Fault-clause-content g c = λ files told.
@@ -21,4 +21,4 @@ returns-in-Err-Fault-clause-content g c = λ files told.
     subst (λ (stop : Stop). Loads files name (name ∷ []) (Err stop)) (sym c.in_ok-fault_of-in-Err-Fault.ensures)
     (loaded files name c.in_ok-bytes.bytes (c.in_ok-bytes.ensures.content files told) (Err c.in-Err-Fault.fault)
     (subst (λ (bs : List ℕ). IsGrammarIn bs (Err c.in-Err-Fault.fault)) c.as_slice.ensures
-    (rw c.in-Err-Fault.field-0-is at c.in-Err-Fault.ensures.grammar)))
+    (rw c.in-Err-Fault.field-0-is at c.in-Err-Fault.ensures)))

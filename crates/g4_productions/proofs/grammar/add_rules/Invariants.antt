@@ -1,4 +1,4 @@
-use Rattle.std.proofs.Common.{◌≡◌, ◌++◌, map, take}
+use Rattle.std.proofs.Common.{◌≡◌, ◌++◌, map}
 use Rattle.g4_productions.specs.Rules.{in_mode}
 use Rattle.g4_productions.proofs.grammar.add_rules.Given as goal
 

@@ -24,7 +24,7 @@ pub unnamed_item-returns-then-is_at-3 : goal.unnamed_item-returns-then-is_at-3
 unnamed_item-returns-then-is_at-3 t c = second
     (led _ _ _ refl ∙ asks_same _ characters _ (λ token. refl) ∙ sym c.is_at.ensures ∙ c.if-is_at.false)
     (second (asks_same _ a_set _ (λ token. refl) ∙ sym c.is_at-2.ensures ∙ c.if-is_at-2.false)
-    (first (sym c.is_at-3.ensures ∙ c.if-is_at-3.true) (so c.take.ensures (λ dot p. rw p.place refl))))
+    (first (sym c.is_at-3.ensures ∙ c.if-is_at-3.true) (so c.take.ensures (λ dot p. refl))))
 
 pub unnamed_item-returns-then-is_at-4 : goal.unnamed_item-returns-then-is_at-4
 unnamed_item-returns-then-is_at-4 t c = second
@@ -32,7 +32,7 @@ unnamed_item-returns-then-is_at-4 t c = second
     (second (asks_same _ a_set _ (λ token. refl) ∙ sym c.is_at-2.ensures ∙ c.if-is_at-2.false)
     (second (sym c.is_at-3.ensures ∙ c.if-is_at-3.false)
     (first (led _ _ _ refl ∙ sym c.is_at-4.ensures ∙ c.if-is_at-4.true)
-    (upon c.take-then-is_at-4.ensures (so c.in_ok-set-2.ensures (λ set r tilde p. rw (r, p.place) refl))))))
+    (upon c.take-then-is_at-4.ensures (so c.in_ok-set-2.ensures (λ set r tilde p. rw r refl))))))
 
 pub unnamed_item-returns : goal.unnamed_item-returns
 unnamed_item-returns t c = second (led _ _ _ refl ∙ asks_same _ characters _ (λ token. refl) ∙ sym c.is_at.ensures ∙ c.if-is_at.false)

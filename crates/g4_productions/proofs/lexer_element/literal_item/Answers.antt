@@ -6,7 +6,7 @@ pub returns-then-is_at : goal.returns-then-is_at
 returns-then-is_at c = upon c.in_ok-taken.ensures
     (first (led _ _ _ refl ∙ sym c.is_at.ensures ∙ c.if-is_at.true)
     (upon c.take.ensures (so c.take-other.ensures
-    (λ last r dots q literal p. rw (c.in_ok-first.ensures, c.in_ok-last.ensures, p.place, p.text, r.text) refl))))
+    (λ last r dots q literal p. rw (c.in_ok-first.ensures, c.in_ok-last.ensures, p.text, r.text) refl))))
 
 pub returns : goal.returns
 returns c = upon c.in_ok-taken.ensures (second (led _ _ _ refl ∙ sym c.is_at.ensures ∙ c.if-is_at.false)

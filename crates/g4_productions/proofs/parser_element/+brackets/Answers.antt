@@ -19,13 +19,13 @@ unnamed_item-returns-then-is_at t c = first (led _ _ _ refl ∙ sym c.is_at.ensu
 pub unnamed_item-returns-then-is_at-2 : goal.unnamed_item-returns-then-is_at-2
 unnamed_item-returns-then-is_at-2 t c = second (led _ _ _ refl ∙ sym c.is_at.ensures ∙ c.if-is_at.false)
     (first (led _ _ _ refl ∙ sym c.is_at-2.ensures ∙ c.if-is_at-2.true)
-    (upon c.take.ensures (so c.in_ok-right-2.ensures (λ options r dot p. rw (r, p.place) refl))))
+    (upon c.take.ensures (so c.in_ok-right-2.ensures (λ options r dot p. rw r refl))))
 
 pub unnamed_item-returns-then-is_at-3 : goal.unnamed_item-returns-then-is_at-3
 unnamed_item-returns-then-is_at-3 t c = second (led _ _ _ refl ∙ sym c.is_at.ensures ∙ c.if-is_at.false)
     (second (led _ _ _ refl ∙ sym c.is_at-2.ensures ∙ c.if-is_at-2.false)
     (first (led _ _ _ refl ∙ sym c.is_at-3.ensures ∙ c.if-is_at-3.true)
-    (upon c.take-then-is_at-3.ensures (so c.in_ok-references.ensures (λ set r tilde p. rw (r, p.place) refl)))))
+    (upon c.take-then-is_at-3.ensures (so c.in_ok-references.ensures (λ set r tilde p. rw r refl)))))
 
 pub unnamed_item-returns : goal.unnamed_item-returns
 unnamed_item-returns t c = second (led _ _ _ refl ∙ sym c.is_at.ensures ∙ c.if-is_at.false)

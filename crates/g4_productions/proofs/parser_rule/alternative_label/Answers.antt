@@ -7,4 +7,4 @@ returns-then-not-is_at c = left_out _ (led _ _ _ refl ∙ sym c.is_at.ensures �
 
 pub returns : goal.returns
 returns c = there (led _ _ _ refl ∙ sym c.is_at.ensures ∙ c.if-not-is_at.false)
-    (upon c.take.ensures (so c.in_ok-name.ensures (λ n q hash p. rw (q, p.place) refl)))
+    (upon c.take.ensures (so c.in_ok-name.ensures (λ n q hash p. rw q refl)))

@@ -10,29 +10,29 @@ use Rattle.g4_productions.proofs.suffix.optional_suffix.Goals as goal
 pub returns-then-is_at : goal.returns-then-is_at
 returns-then-is_at c = there (led _ _ _ refl ∙ or_here _ _ _ (sym c.is_at.ensures ∙ c.if-is_at.true))
     (upon {P = λ a. (lazy : Tree (optional (sign kinds.Question)))
-    → c.suffix.result ≡ record { place = c.take.result.place; greedy = is_greedy lazy }
+    → c.suffix.result ≡ record { greedy = is_greedy lazy }
     → repeats.Optional c.suffix.result ≡ suffix_of (both a lazy)}
-    (first (sym c.is_at.ensures ∙ c.if-is_at.true) (so c.take.ensures (λ a taken lazy is. rw (is, taken.place) refl)))
+    (first (sym c.is_at.ensures ∙ c.if-is_at.true) (so c.take.ensures (λ a taken lazy is. rw is refl)))
     (so c.suffix.ensures (λ lazy is a says. says lazy is)))
 
 pub returns-then-is_at-2 : goal.returns-then-is_at-2
 returns-then-is_at-2 c = there (led _ _ _ refl ∙ or_there _ _ _ (or_here _ _ _ (sym c.is_at-2.ensures ∙ c.if-is_at-2.true)))
     (upon {P = λ a. (lazy : Tree (optional (sign kinds.Question)))
-    → c.suffix-then-is_at-2.result ≡ record { place = c.take-then-is_at-2.result.place; greedy = is_greedy lazy }
+    → c.suffix-then-is_at-2.result ≡ record { greedy = is_greedy lazy }
     → repeats.Star c.suffix-then-is_at-2.result ≡ suffix_of (both a lazy)}
     (second (sym c.is_at.ensures ∙ c.if-is_at.false)
     (first (sym c.is_at-2.ensures ∙ c.if-is_at-2.true)
-    (so c.take-then-is_at-2.ensures (λ a taken lazy is. rw (is, taken.place) refl))))
+    (so c.take-then-is_at-2.ensures (λ a taken lazy is. rw is refl))))
     (so c.suffix-then-is_at-2.ensures (λ lazy is a says. says lazy is)))
 
 pub returns-then-is_at-3 : goal.returns-then-is_at-3
 returns-then-is_at-3 c = there (led _ _ _ refl ∙ or_there _ _ _ (or_there _ _ _ (sym c.is_at-3.ensures ∙ c.if-is_at-3.true)))
     (upon {P = λ a. (lazy : Tree (optional (sign kinds.Question)))
-    → c.suffix-then-is_at-3.result ≡ record { place = c.take-then-is_at-3.result.place; greedy = is_greedy lazy }
+    → c.suffix-then-is_at-3.result ≡ record { greedy = is_greedy lazy }
     → repeats.Plus c.suffix-then-is_at-3.result ≡ suffix_of (both a lazy)}
     (second (sym c.is_at.ensures ∙ c.if-is_at.false)
     (second (sym c.is_at-2.ensures ∙ c.if-is_at-2.false)
-    (so c.take-then-is_at-3.ensures (λ a taken lazy is. rw (is, taken.place) refl))))
+    (so c.take-then-is_at-3.ensures (λ a taken lazy is. rw is refl))))
     (so c.suffix-then-is_at-3.ensures (λ lazy is a says. says lazy is)))
 
 pub returns : goal.returns

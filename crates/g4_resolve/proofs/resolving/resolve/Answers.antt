@@ -48,19 +48,19 @@ invariant_of-stage c =
           ∙ ap (λ (ns : List (List ℕ)). first_place ns name) (c.as_slice-3.ensures.value ∙ sym c.as_slice-4.ensures.value);
     }
 
-pub returns-clause-steps : goal.returns-clause-steps
-returns-clause-steps c =
+pub returns : goal.returns
+returns c =
     let parsers : map (λ r. r.now) c.in_ok-parsers.parsers.items ≡ parser_rules c.args.rules.now =
     c.in_ok-parsers.ensures ∙ ap parser_rules (ap (map rule_view) c.as_slice.ensures.value ∙ c.in_ok-views.ensures) in
-    steps_are c.args.rules.now (map (λ r. r.now) c.in_ok-parsers.parsers.items) (map (λ r. r.now) c.as_slice-5.result.now)
+    c.new.ensures ∙ steps_are c.args.rules.now (map (λ r. r.now) c.in_ok-parsers.parsers.items) (map (λ r. r.now) c.as_slice-5.result.now)
     c.as_slice-4.result.now (lexers_in c.args.vocabulary.now) (types_in c.args.vocabulary.now) c.in_ok-made.made parsers
     (ap (map (λ r. r.now)) c.as_slice-5.ensures.value)
     (c.as_slice-4.ensures.value ∙ (c.in_ok-names.ensures
     ∙ ap (map (λ rule. rule.name)) (ap (map (λ r. r.now)) c.as_slice-2.ensures.value)))
     c.requires.numbered.lexers c.requires.numbered.types c.in_ok-made.ensures
 
-pub returns-clause-rewritable : goal.returns-clause-rewritable
-returns-clause-rewritable c =
+pub new-requires : goal.new-requires
+new-requires c =
     let rules = c.args.rules.now in
     let few : greatest_type (types_of [] rules) ≤ MOST_TYPES =
     subst (λ (types : List Entry). greatest_type types ≤ MOST_TYPES) c.requires.numbered.types c.requires.numbered.few_types in

@@ -16,7 +16,7 @@ returns c =
     let text : text_of rules_of tokens t ≡ tree_text rules_of tokens c.args.tree.now =
     sym (text_of_items rules_of tokens t) ∙ ap (λ (xs : List Item). tree_text rules_of tokens xs) (sym c.requires.1) in
     let printed : c.print.new.out.items ≡ named ++ tree_text rules_of tokens c.args.tree.now =
-    c.in_ok-print.ensures t c.requires.1 ∙ ap (λ (rs : List StepRule). named ++ text_of rs tokens t) c.as_slice.ensures
+    c.in_ok-print.ensures t c.requires.1 ∙ ap (λ (rs : List StepRule). named ++ text_of rs tokens t) c.as_slice.ensures.rules
     ∙ ap (λ (xs : List ℕ). named ++ xs) text in
     let name : named ≡ c.args.name.now ++ codes ": " = search rules in
     ap ToOut (c.new.ensures ∙ c.in_ok-extend_from_slice-3.ensures.items

@@ -2,14 +2,17 @@
 ghost use Rattle.std.specs.Prelude.{◌≡◌, ◌≤◌, All, IfOk};
 ghost use Rattle.g4_tokens.specs.declared.symbol.TheConstants.{MOST_TYPES};
 ghost use Rattle.g4_lexer.specs.Lexers.{GivesTokenType, HasTokenTypes};
-ghost use Rattle.g4_load.specs.Lexers.{CanBeMade, GivesLexer, lexer_with};
-ghost use Rattle.g4_load.specs.Stages.{IsAnswerOf};
+ghost use Rattle.g4_lexer_rules.specs.Lexers.{GivesLexer, lexer_with};
 ghost use Rattle.g4_ordered.specs.Network.{IsLexable};
 
-use crate::fault::{CheckError, GrammarFault};
+use crate::building::build_net;
+use crate::checked_lexer::CheckedLexer;
+use crate::lex_net::{LexFault, LexNet};
+use crate::lexer_rules::LexerRules;
+use crate::making::lexer_commands;
+use crate::tables::CommandTables;
 use g4_base::Sequence;
 use g4_lexer::Lexer;
-use g4_lexer_rules::{CommandTables, LexFault, LexNet, LexerRules, build_lexer, lexer_commands};
 use std::alloc::{AllocError, Global};
 
 /// The lexer by a network, the token types of its rules, and what their commands name.
@@ -32,33 +35,23 @@ fn lexer_with(
     })
 }
 
-/// The lexer of these rules, or that its network would have too many states.
-pub(crate) fn make_lexer(
-    alloc: Global,
-    rules: LexerRules,
-    tables: &CommandTables,
-) -> Result<Lexer, CheckError>
-    requires { CanBeMade rules tables.now }
-    ensures lexer { IsAnswerOf (GivesLexer rules tables.now) result }
-    ensures lexable { IfOk result (λ lexer. IsLexable lexer.net) }
+/// The lexer of these rules.
+///
+/// # Errors
+/// Its network would have too many states, or no memory.
+pub fn build_lexer(alloc: Global, checked: CheckedLexer) -> Result<Lexer, LexFault>
+    ensures lexer { GivesLexer checked.0 checked.1 result }
+    ensures lexable { IfOk result (λ made. IsLexable made.net) }
     ensures types { IfOk result HasTokenTypes }
 {
+    let (rules, tables) = checked.into_parts();
     let LexerRules {
         literals,
         rules,
         types,
     } = rules;
-    match build_lexer(
-        alloc,
-        literals.into_vec(),
-        rules.into_vec(),
-        tables.modes.as_slice(),
-    ) {
-        Ok(made) => {
-            let lexer = lexer_with(alloc, made, types, tables)?;
-            Ok(lexer)
-        }
-        Err(LexFault::States) => Err(CheckError::Fault(GrammarFault::States)),
-        Err(LexFault::NoMemory) => Err(CheckError::NoMemory),
-    }
+    let modes = tables.modes.as_slice();
+    let made = build_net(alloc, literals.into_vec(), rules.into_vec(), modes)?;
+    let lexer = lexer_with(alloc, made, types, &tables)?;
+    Ok(lexer)
 }

@@ -22,7 +22,7 @@ use Rattle.g4_lexer_rules.specs.Steps.{step_of}
 use Rattle.g4_lexer_rules.proofs.CanStart.{all_start, rules_size}
 use Rattle.g4_lexer_rules.proofs.Starts.{drop_front, take_front}
 use Rattle.g4_lexer_rules.proofs.Trees.{few_all, full_rules, lowered_trees, numberings_fit, tree, trees_full, trees_states}
-use Rattle.g4_lexer_rules.proofs.building.build_lexer.Goals as goal
+use Rattle.g4_lexer_rules.proofs.building.build_net.Goals as goal
 
 -- what the rules of the list over steps are
 abbrev over_steps : List (List (Elements LexerStep)) → List (Alternatives (Step Reads))

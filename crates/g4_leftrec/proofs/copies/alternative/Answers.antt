@@ -1,6 +1,6 @@
 use Rattle.std.proofs.Common.{◌≡◌, refl, ◌∙◌}
-use Rattle.g4_load.proofs.Kept.{same_in_order}
-use Rattle.g4_load.proofs.copies.alternative.Goals as goal
+use Rattle.g4_leftrec.proofs.SameTrees.{same_in_order}
+use Rattle.g4_leftrec.proofs.copies.alternative.Goals as goal
 
 pub returns : goal.returns
 returns c =

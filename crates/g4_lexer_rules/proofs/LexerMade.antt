@@ -12,7 +12,7 @@ use Rattle.g4_lexer_rules.proofs.Lexed.{is_lexable}
 use Rattle.g4_lexer_rules.specs.LexNets.{IsLexNet}
 use Rattle.g4_lexer_rules.specs.declared.lex_net.LexNet.{LexNet}
 use Rattle.g4_lexer_rules.specs.declared.lexer_rules.LexerRules.{LexerRules}
-use Rattle.g4_load.specs.Lexers.{CanBeMade, lexer_with}
+use Rattle.g4_lexer_rules.specs.Lexers.{CanBeMade, lexer_with}
 
 -- the network is that of these rules, where it is that of equal ones
 pub network_of : (literals lits rules rs : List LexerRule) (modes ms : List (List ℕ)) (made : LexNet) → lits ≡ literals → rs ≡ rules

@@ -12,8 +12,8 @@ use Rattle.g4_lexer_rules.specs.LexNets.{IsLexNet}
 use Rattle.g4_lexer_rules.specs.NetworkRules.{all_rules, lexer_states}
 use Rattle.g4_lexer_rules.specs.declared.lex_net.LexNet.{LexNet}
 use Rattle.g4_lexer_rules.specs.declared.lexer_rules.LexerRules.{LexerRules}
-use Rattle.g4_load.specs.declared.fault.GrammarFault.{GrammarFault}
-use Rattle.g4_load.specs.declared.fault.GrammarFault.TheVariants as faults
+use Rattle.g4_lexer_rules.specs.declared.lex_net.LexFault.{LexFault}
+use Rattle.g4_lexer_rules.specs.declared.lex_net.LexFault.TheVariants.{States, NoMemory}
 
 -- the lexer by a network, the token types of its rules, and what their commands name
 abbrev pub lexer_with : LexNet → List ℕ → CommandTables → Lexer
@@ -33,7 +33,8 @@ pub record CanBeMade (made : LexerRules) (tables : CommandTables) : Type 0 where
   pub named : All (λ name. name.symbol ≤ MOST_TYPES) tables.types
 
 -- the lexer by the network of these rules, or that this would have too many states
-abbrev pub GivesLexer : LexerRules → CommandTables → Result Lexer GrammarFault → Type 0
+abbrev pub GivesLexer : LexerRules → CommandTables → Result Lexer LexFault → Type 0
 GivesLexer rules tables (Ok lexer) = (made : LexNet) × IsLexNet rules.literals rules.rules tables.modes made
     × (lexer ≡ lexer_with made rules.types tables)
-GivesLexer rules tables (Err fault) = (MOST_STATES < lexer_states (all_rules rules.literals rules.rules)) × (fault ≡ faults.States)
+GivesLexer rules tables (Err States) = MOST_STATES < lexer_states (all_rules rules.literals rules.rules)
+GivesLexer rules tables (Err NoMemory) = Unit {0}

@@ -3,7 +3,7 @@ ghost use Rattle.std.specs.Prelude.{◌≡◌, IfOk};
 
 use g4_base::{Sequence, Text};
 use g4_grammar::{Step, StepRule};
-use g4_source::{AlternativeLabel, Element, RuleAlternative, Substitution, substituted};
+use g4_source::{Element, RuleAlternative, Substitution, substituted};
 use g4_tokens::Symbols;
 use std::alloc::{AllocError, Global};
 
@@ -46,14 +46,11 @@ impl Substitution<Step<Symbols>> for Same {
 }
 
 /// A copy of the label of an alternative.
-fn label(
-    alloc: Global,
-    label: &Option<AlternativeLabel>,
-) -> Result<Option<AlternativeLabel>, AllocError>
+fn label(alloc: Global, label: &Option<Text>) -> Result<Option<Text>, AllocError>
     ensures { IfOk result (λ copy. copy ≡ label.now) }
 {
     match label {
-        Some(label) => Ok(Some(label.copy_of(alloc)?)),
+        Some(label) => Ok(Some(Text::copy_of(alloc, label.as_str())?)),
         None => Ok(None),
     }
 }
@@ -76,7 +73,7 @@ fn alternative(
 }
 
 /// A copy of the rule.
-fn rule(alloc: Global, rule: &StepRule) -> Result<StepRule, AllocError>
+pub(crate) fn rule(alloc: Global, rule: &StepRule) -> Result<StepRule, AllocError>
     ensures { IfOk result (λ copy. copy ≡ rule.now) }
 {
     let name = Text::copy_of(alloc, rule.name.as_str())?;
@@ -88,15 +85,4 @@ fn rule(alloc: Global, rule: &StepRule) -> Result<StepRule, AllocError>
         name,
         alternatives: Sequence::new(copies),
     })
-}
-
-/// A copy of the rules.
-pub fn rules(alloc: Global, rules: &[StepRule]) -> Result<Vec<StepRule>, AllocError>
-    ensures { IfOk result (λ copies. copies.items ≡ rules.now) }
-{
-    let mut copies = Vec::new(alloc);
-    for other in rules {
-        copies.push(rule(alloc, other)?)?;
-    }
-    Ok(copies)
 }
