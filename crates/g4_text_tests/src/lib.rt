@@ -1,4 +1,4 @@
-// Sets of characters, the tokens of grammar texts, and predicates: tables of texts and what is read, worked out by hand.
+// Sets of characters, the tokens of grammar texts, predicates and `.tokens` files: tables of texts and what is read, worked out by hand.
 #![tactic(auto)]
 
 #[cfg(test)]
@@ -7,5 +7,7 @@ mod characters;
 mod predicates;
 #[cfg(test)]
 mod rows;
+#[cfg(test)]
+mod token_files;
 #[cfg(test)]
 mod tokens;

@@ -1,0 +1,9 @@
+pub mod Kept
+pub mod Keyed
+pub mod LineLengths
+pub mod Maps
+pub mod OneTable
+pub mod Splits
+pub mod Steps
+pub mod Values
+pub mod WholeTokens
