@@ -17,6 +17,9 @@ use std::collections::BTreeSet;
 /// For how many groups of an alternative return states are popped, at most.
 const MOST_POPS: usize = 1_000_000;
 
+/// At how many symbols it is looked for an alternative that covers the others, before it is done ever more seldom.
+const FIRST_LOOKS: usize = 8;
+
 /// What a set shows before a symbol.
 #[derive(Drop)]
 pub(crate) enum Look {
@@ -193,7 +196,7 @@ fn covers(
 }
 
 /// What the set shows before the symbol.
-pub(crate) fn look_ahead(
+fn look_ahead(
     alloc: Global,
     net: &ParserNetwork,
     set: Configs,
@@ -216,4 +219,43 @@ pub(crate) fn look_ahead(
     }
     let open = filled(cover.fresh(), takers.as_slice())?;
     Ok(Look::Open(open))
+}
+
+/// The configurations of the set that take the symbol.
+fn only_takers(
+    alloc: Global,
+    net: &ParserNetwork,
+    set: Configs,
+    symbol: u32,
+) -> Result<Look, AllocError>
+    ensures { IfOk result (IsLook net.now (Holds set) symbol) }
+{
+    let groups = set.groups(alloc)?;
+    let takers = takers(alloc, net, groups.as_slice(), symbol)?;
+    let only = filled(set.fresh(), takers.as_slice())?;
+    Ok(Look::Open(only))
+}
+
+/// Whether it is looked for an alternative that covers the others at this symbol, counted from 0: at the first ones, and then ever
+/// more seldom. It takes time in proportion to the stacks, which grow from one symbol to the next.
+fn is_due(k: usize) -> bool {
+    k < FIRST_LOOKS || k.is_power_of_two()
+}
+
+/// What the set shows before symbol k, as far as it is looked for.
+pub(crate) fn look_before(
+    alloc: Global,
+    net: &ParserNetwork,
+    set: Configs,
+    symbol: u32,
+    k: usize,
+) -> Result<Look, AllocError>
+    ensures { IfOk result (IsLook net.now (Holds set) symbol) }
+{
+    if is_due(k) {
+        let shown = look_ahead(alloc, net, set, symbol)?;
+        return Ok(shown);
+    }
+    let shown = only_takers(alloc, net, set, symbol)?;
+    Ok(shown)
 }

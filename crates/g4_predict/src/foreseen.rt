@@ -8,7 +8,7 @@ ghost use Rattle.g4_net.specs.Proper.{IsProper};
 ghost use Rattle.g4_tokens.specs.TokenList.{word_of};
 ghost use Rattle.g4_predict.specs.FullForeseeing.{IsForeseen};
 
-use crate::covering::{Look, look_ahead};
+use crate::covering::{Look, look_before};
 use crate::frames::take_down;
 use crate::full::{Settled, settle};
 use crate::near::look_near;
@@ -52,14 +52,14 @@ pub fn foresee_full(
         }
     }
     let first = framed_start(alloc, net, decision, allowed)?;
-    let mut place = take_down(alloc, net, first, returns)?;
+    let mut place = take_down(alloc, net, first, returns, 0)?;
     for (k, token) in tokens.iter().enumerate() {
-        let open = match look_ahead(alloc, net, place.set, token.symbol)? {
+        let open = match look_before(alloc, net, place.set, token.symbol, k)? {
             Look::Covered(alternative) => return Ok(Foreseen::Presumed(alternative)),
             Look::Open(open) => open,
         };
         let next = framed_advance(alloc, net, open, token.symbol)?;
-        place = take_down(alloc, net, next, place.below)?;
+        place = take_down(alloc, net, next, place.below, place.taken)?;
         if let Some(settled) = settle(alloc, &place.set, k as u32)? {
             return Ok(Foreseen::Known(settled));
         }

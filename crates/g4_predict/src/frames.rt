@@ -16,11 +16,12 @@ use std::alloc::{AllocError, Global};
 /// How many times as many return states are put in the place of the hole where those before were too few.
 const GROWTH: usize = 4;
 
-/// A set, and the return states that are below its hole, newest last.
+/// A set, the return states that are below its hole, newest last, and how many were put in its place the last time.
 #[derive(Drop)]
 pub(crate) struct Place<'a> {
     pub(crate) set: Configs,
     pub(crate) below: &'a [u32],
+    pub(crate) taken: usize,
 }
 
 /// Whether the state is a rule's end.
@@ -86,13 +87,22 @@ fn left_below(all: usize, taken: usize) -> usize
     all.saturating_sub(GROWTH * taken + 1)
 }
 
+/// How many of all return states would be left below the hole if as many were put in its place as the last time, but one is left.
+fn left_before(all: usize, taken: usize) -> usize
+    ensures some { 0 < all → 0 < result }
+    ensures within { result ≤ all }
+{
+    all - taken.min(all.saturating_sub(1))
+}
+
 /// Puts return states in the place of the hole while something is there: more each time, in the place of the first hole, so that no
-/// set is made from one that was lowered before.
+/// set is made from one that was lowered before. It begins with more than the last time, so that a decision is lowered a few times only.
 fn lower_all<'a>(
     alloc: Global,
     net: &ParserNetwork,
     from: Configs,
     returns: &'a [u32],
+    taken: usize,
 ) -> Result<Place<'a>, AllocError>
     requires well_formed { WellFormed net.now }
     requires few { length net.now.states ≤ MOST_STATES }
@@ -106,26 +116,33 @@ fn lower_all<'a>(
         return Ok(Place {
             set: from,
             below: returns,
+            taken,
         });
     }
     let all = returns.len();
-    let mut left = all;
+    let mut left = left_before(all, taken);
     'tries: loop {
         left = left_below(all, all - left);
         let (below, above) = returns.split_at(left);
         let set = lower(alloc, net, &from, above)?;
         if is_down(alloc, net, &set, below)? {
-            return Ok(Place { set, below });
+            return Ok(Place {
+                set,
+                below,
+                taken: above.len(),
+            });
         }
     }
 }
 
-/// Takes a framed set down: nothing is at the hole then, or no return state is left. What is not kept is left out.
+/// Takes a framed set down: nothing is at the hole then, or no return state is left. What is not kept is left out. The last time so
+/// many return states were taken.
 pub(crate) fn take_down<'a>(
     alloc: Global,
     net: &ParserNetwork,
     from: Configs,
     returns: &'a [u32],
+    taken: usize,
 ) -> Result<Place<'a>, AllocError>
     requires well_formed { WellFormed net.now }
     requires few { length net.now.states ≤ MOST_STATES }
@@ -135,7 +152,7 @@ pub(crate) fn take_down<'a>(
     requires row { (row : List Config) × IsRow row (Holds from) }
     ensures { IfOk result (λ p. IsTakenDown net.now (Holds from) (reverse returns.now) (Holds p.set) p.below.now) }
 {
-    let mut place = lower_all(alloc, net, from, returns)?;
+    let mut place = lower_all(alloc, net, from, returns, taken)?;
     place.set.keep(net);
     Ok(place)
 }

@@ -64,10 +64,10 @@ pub fn decide_full(
         (word_of tokens.now) (choice_of settled)) }
 {
     let first = framed_start(alloc, net, decision, allowed)?;
-    let mut place = take_down(alloc, net, first, returns)?;
+    let mut place = take_down(alloc, net, first, returns, 0)?;
     for (k, token) in tokens.iter().enumerate() {
         let next = framed_advance(alloc, net, place.set, token.symbol)?;
-        place = take_down(alloc, net, next, place.below)?;
+        place = take_down(alloc, net, next, place.below, place.taken)?;
         if let Some(settled) = settle(alloc, &place.set, k as u32)? {
             return Ok(settled);
         }
