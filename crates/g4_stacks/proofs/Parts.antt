@@ -1,11 +1,15 @@
 -- The parts of nodes that are noted.
-use Rattle.std.proofs.Common.{◌≡◌, ◌≤◌, ◌+◌, ◌-◌, ℕ, zero, suc, inl, inr, ◌⊎◌, List, [], ◌∷◌, ◌++◌, Some, slice_get, length, take, replicate, refl, sym, ◌∙◌, ap, subst, arith, append_assoc, length-append}
+use Rattle.std.proofs.Common.{◌≡◌, ◌≤◌, ◌+◌, ◌-◌, ℕ, zero, suc, inl, inr, ◌⊎◌, List, [], ◌∷◌, ◌++◌, Bool, true, false, Some, slice_get, length, take, replicate, refl, sym, ◌∙◌, ap, subst, arith, append_assoc, length-append}
 use Rattle.std.proofs.lemmas.List.{append-nil}
-use Rattle.g4_stacks.specs.Graph.{Content, IsNode}
+use Rattle.g4_net.specs.Configurations.{Stack}
+use Rattle.g4_stacks.specs.Graph.{Content, Has, In, IsNode}
 use Rattle.g4_stacks.specs.Canonical.{IsCanonical, Grows}
 use Rattle.g4_stacks.specs.Merge.{AreParts, IsPart, IsUnion}
+use Rattle.g4_stacks.specs.Table.{one_of}
+use Rattle.g4_stacks.proofs.Canonicity.{has_end, has_pushed, has_wild}
 use Rattle.g4_stacks.proofs.Growing.{keeps}
 use Rattle.g4_stacks.proofs.Marks.{none_in}
+use Rattle.g4_stacks.proofs.Walking.{In-at}
 
 -- each node has the empty set as a part
 pub nothing_part : (g : List Content) (n : ℕ) → IsCanonical g → IsPart g n 0
@@ -23,6 +27,24 @@ part_union g a b p s = ((λ h. inl h), (λ h. elim h [ inl x ↦ x | inr y ↦ p
 
 pub union_part : (g : List Content) (a b : ℕ) → IsPart g b a → IsUnion g a b g b
 union_part g a b p s = ((λ h. inr h), (λ h. elim h [ inl x ↦ p s x | inr y ↦ y ]))
+
+-- a node has the stacks of another that has one top and no mark, if it has that top
+pub one_part : (g : List Content) (node part i t m : ℕ) (c : Content) → slice_get g node ≡ Some c → slice_get g part ≡ Some (one_of t m)
+    → slice_get c.tops i ≡ Some (t, m) → IsPart g node part
+one_part g node part i t m c node_is part_is top s h = by s.returns s.wild h
+  where
+    top_in : (u n : ℕ) → In {X = ℕ × ℕ} (u, n) ((t, m) ∷ []) → In {X = ℕ × ℕ} (u, n) c.tops
+    top_in u n (inl e) = subst (λ (x : ℕ × ℕ). In x c.tops) (sym e) (In-at c.tops i (t, m) top)
+    top_in u n (inr none) = absurd none
+
+    by : (returns : List ℕ) (wild : Bool) → Has g part (record { returns = returns; wild = wild })
+        → Has g node (record { returns = returns; wild = wild })
+    by [] true k = let e : false ≡ true = (has_wild g part (one_of t m) part_is).0 k in absurd (cc)
+    by [] false k = let e : false ≡ true = (has_end g part (one_of t m) part_is).0 k in absurd (cc)
+    by (u ∷ rest) wild k =
+        let z : Stack = record { returns = rest; wild = wild } in
+        let r = (has_pushed g part (one_of t m) u z part_is).0 k in
+        (has_pushed g node c u z node_is).1 (r.0, top_in u r.0 r.1, r.2)
 
 pub no_parts : (g : List Content) → AreParts g []
 no_parts g n part is = absurd (cc)

@@ -1,5 +1,5 @@
 // What a node of the graph holds.
-ghost use Rattle.std.specs.Prelude.{IsTrue, ◌↔◌, ◌≡◌, [], IfOk, MatchOption};
+ghost use Rattle.std.specs.Prelude.{IsTrue, ◌↔◌, ◌≡◌, ℕ, [], IfOk, MatchOption, Some, slice_get};
 ghost use Rattle.g4_stacks.specs.Table.{IsOne, one_of};
 ghost use Rattle.g4_stacks.specs.Canonical.{nothing, only_bottom, only_wildcard, IsPlain};
 
@@ -82,6 +82,20 @@ impl NodeData {
         match self.tops.as_slice() {
             [top] => Some(*top),
             _ => None,
+        }
+    }
+
+    /// Whether the state is on top, with this node of the rests.
+    pub fn has_top(&self, state: u32, node: u32) -> bool
+        ensures { IsTrue result → (i : ℕ) × (slice_get self.now.tops i ≡ Some (state, node)) }
+    {
+        let tops = self.tops.as_slice();
+        let Ok(at) = tops.binary_search(&(state, node)) else {
+            return false;
+        };
+        match tops.get(at) {
+            Some(top) => top.0 == state && top.1 == node,
+            None => false,
         }
     }
 

@@ -302,13 +302,38 @@ impl Graph {
         ensures known { IfSome result (λ n. IsNode self.now n) }
         ensures means { IfSome result (λ n. IsUnion self.now a b self.now n) }
     {
-        if self.has_part(a, b) {
+        if self.has_all(a, b) {
             return Some(a);
         }
-        if self.has_part(b, a) {
+        if self.has_all(b, a) {
             return Some(b);
         }
         None
+    }
+
+    /// Whether the node is known to have all stacks of another.
+    fn has_all(&self, node: u32, part: u32) -> bool
+        requires node { IsNode self.now node }
+        requires part { IsNode self.now part }
+        ensures { IsTrue result → IsPart self.now node part }
+    {
+        if self.has_one(node, part) {
+            return true;
+        }
+        let found = self.has_part(node, part);
+        found
+    }
+
+    /// Whether another node has one top and no mark, and the node has the same top.
+    fn has_one(&self, node: u32, part: u32) -> bool
+        requires node { IsNode self.now node }
+        requires part { IsNode self.now part }
+        ensures { IsTrue result → IsPart self.now node part }
+    {
+        match self.table.get(part).only_top() {
+            Some((state, below)) => self.table.get(node).has_top(state, below),
+            None => false,
+        }
     }
 
     /// Whether the node is known to have all stacks of a lower one: a part of it, or a part of a part.
