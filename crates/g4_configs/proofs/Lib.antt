@@ -9,6 +9,7 @@ pub mod Comparing
 pub mod Twice
 pub mod Lone
 pub mod Snapshots
+pub mod Coding
 mod Keeping
 mod Imaged
 mod Merges

@@ -3,6 +3,8 @@ ghost use Rattle.std.specs.Prelude.{◌≡◌, ◌↔◌, IsTrue, IfOk};
 ghost use Rattle.g4_configs.specs.Configs.{Holds};
 ghost use Rattle.g4_net.specs.Configurations.{IsRow};
 
+mod hash;
+
 use crate::configs::Configs;
 use crate::ordered::{in_order, keys_in, nodes_in};
 use g4_stacks::Shape;

@@ -4,6 +4,8 @@
 #[cfg(test)]
 mod classes;
 #[cfg(test)]
+mod codes;
+#[cfg(test)]
 mod net_checks;
 #[cfg(test)]
 mod rows;

@@ -14,10 +14,11 @@ fn put(set: &mut Configs, state: u32, alternative: u32, back: u32) -> Result<(),
     Ok(())
 }
 
-/// Whether a snapshot can be made of the set, which is the same as itself.
+/// Whether a snapshot with a code can be made of the set, which is the same as itself.
 fn has_snapshot(alloc: Global, set: &Configs) -> Result<bool, AllocError> {
     let snapshot = set.snapshot(alloc)?;
-    Ok(snapshot.same(&snapshot))
+    let code = snapshot.code(alloc)?;
+    Ok(snapshot.same(&snapshot) && snapshot.code(alloc)? == code)
 }
 
 /// The set of 1,000 alternatives at 100 states, each with its number as return state.

@@ -1,5 +1,5 @@
 // The alternative that prediction chooses at a decision.
-ghost use Rattle.std.specs.Prelude.{◌≡◌, ◌+◌, ◌<◌, ◌≤◌, ◌^◌, ℕ, List, Some, Contains, length, drop, reverse};
+ghost use Rattle.std.specs.Prelude.{◌≡◌, ◌+◌, ◌<◌, ◌^◌, ℕ, List, Some, Contains, length, drop, reverse};
 ghost use Rattle.g4_fits.specs.Fitting.{HasUntested, SomeFits};
 ghost use Rattle.g4_net.specs.AddedRule.{IsReady};
 ghost use Rattle.g4_net.specs.Allowed.{Allows};

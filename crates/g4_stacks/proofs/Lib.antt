@@ -18,4 +18,5 @@ pub mod Listing
 pub mod Walking
 pub mod Sizes
 pub mod Shapes
+pub mod Sums
 mod Below

@@ -1,7 +1,7 @@
 // What a node of the graph holds.
-ghost use Rattle.std.specs.Prelude.{IsTrue, ◌↔◌, ◌≡◌, ℕ, [], IfOk, MatchOption, Some, slice_get};
+ghost use Rattle.std.specs.Prelude.{IsTrue, ◌≡◌, ℕ, IfOk, MatchOption, Some, slice_get};
 ghost use Rattle.g4_stacks.specs.Table.{IsOne, one_of};
-ghost use Rattle.g4_stacks.specs.Canonical.{nothing, only_bottom, only_wildcard, IsPlain};
+ghost use Rattle.g4_stacks.specs.Canonical.{nothing, only_bottom, only_wildcard};
 
 use std::alloc::{AllocError, Global};
 use std::marker::Model;

@@ -1,7 +1,7 @@
 // The graph.
-ghost use Rattle.std.specs.Prelude.{◌≡◌, ◌↔◌, ◌⊎◌, ℕ, IsTrue, IfOk, IfSome, MatchOption, OnOk, Some, slice_get, length, max, min};
+ghost use Rattle.std.specs.Prelude.{◌≡◌, ◌↔◌, ◌⊎◌, IsTrue, IfOk, IfSome, MatchOption, Some, slice_get, length, max, min};
 ghost use Rattle.g4_net.specs.Configurations.{Stack, wildcard};
-ghost use Rattle.g4_stacks.specs.Stack.{bottom, pushed};
+ghost use Rattle.g4_stacks.specs.Stack.{bottom};
 ghost use Rattle.g4_stacks.specs.Graph.{Has, IsNode, Keeps, IsPushed, HasTops};
 ghost use Rattle.g4_stacks.specs.Canonical.{IsPlain, IsCanonical, Grows};
 ghost use Rattle.g4_stacks.specs.Table.{IsAdded, one_of};

@@ -10,6 +10,7 @@ mod laws;
 mod lowering;
 mod next;
 mod shape;
+mod sum;
 mod table;
 
 pub use graph::Graph;
@@ -17,3 +18,4 @@ pub use keeping::keeps_is_transitive;
 pub use laws::{lists_are_canonical, lists_are_exact, lists_are_in_order};
 pub use lowering::Part;
 pub use shape::Shape;
+pub use sum::{MODULUS, SPREAD, Sum, mixed};

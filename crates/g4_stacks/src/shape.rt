@@ -5,6 +5,8 @@ ghost use Rattle.g4_stacks.specs.Canonical.{LeadBelow};
 ghost use Rattle.g4_stacks.specs.Taking.{with_tops, renumbered};
 ghost use Rattle.g4_stacks.specs.Listing.{stacks_of};
 
+mod hash;
+
 use crate::content::NodeData;
 use crate::copying::Copying;
 use crate::graph::Graph;

@@ -1,5 +1,5 @@
 // Contents, each once, found by value.
-ghost use Rattle.std.specs.Prelude.{◌≡◌, ◌<◌, ◌++◌, ◌∷◌, [], IfOk, OnErr, Some, slice_get, length};
+ghost use Rattle.std.specs.Prelude.{◌≡◌, ◌<◌, [], IfOk, OnErr, Some, slice_get, length};
 ghost use Rattle.g4_stacks.specs.Table.{IsAdded, IsOne, one_of};
 
 use crate::content::NodeData;
