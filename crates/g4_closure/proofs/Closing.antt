@@ -1,12 +1,12 @@
 -- What the closure's loops keep, and why they end.
-use Rattle.std.proofs.Common.{◌≡◌, ◌+◌, ◌<◌, ◌⊎◌, inl, inr, List, [], ◌∷◌, ◌++◌, Contains, length, refl, sym, ap, subst, arith}
+use Rattle.std.proofs.Common.{◌≡◌, ◌+◌, ◌<◌, ◌↔◌, ◌⊎◌, inl, inr, List, [], ◌∷◌, ◌++◌, Contains, length, refl, sym, ap, subst, arith}
 use Rattle.g4_stacks.specs.Graph.{Content, IsNode, Keeps}
 use Rattle.g4_net.specs.Network.{ParserNetwork}
 use Rattle.g4_net.specs.Configurations.{Config}
 use Rattle.g4_net.specs.Leads.{Leads, Reaches, here, further}
 use Rattle.g4_net.proofs.Pigeons.{In, In-from, In-to}
 use Rattle.g4_configs.specs.declared.group.Group.{Group}
-use Rattle.g4_configs.specs.Configs.{Holds, View}
+use Rattle.g4_configs.specs.Configs.{AreGroups, Holds, View}
 use Rattle.g4_configs.specs.Groups.{AreKnown, AreParts, InGroup, InSome, Same}
 use Rattle.g4_closure.specs.Missing.{dec_holds, lacks}
 use Rattle.g4_closure.specs.Joined.{Joined}
@@ -220,32 +220,63 @@ pub record IsClosing (net : ParserNetwork) (R B : Config → Type 0) (g0 : List 
   pub begun : (c : Config) → B c → Holds v c
   pub waiting : IsWaiting net v work
 
--- a group is added to a closed set
-pub added_waits : (net : ParserNetwork) (x : Group) (v0 : View) (w0 : List Group) (v : View) (work : List Group)
-    → IsClosed net (Holds v0) → w0 ≡ [] → Joined v0 w0 (x ∷ []) v work → IsWaiting net v work
-added_waits net x v0 w0 v work closed none j = record {
-  known = j.known;
-  held = λ c a. elim (let f : InSome v0.graph w0 c ⊎ InSome v0.graph (x ∷ []) c = j.only c a in f) [
-    | inl b ↦ absurd (let y : InSome v0.graph [] c = subst (λ (w : List Group). InSome v0.graph w c) none b in y)
-    | inr b ↦ (j.members c).1 (inr b)
-  ];
-  closed = λ c d i l. elim (let f : Holds v0 c ⊎ InSome v.graph work c = j.waits c i in f)
-      [ inl a ↦ inl ((j.members d).1 (inl (closed c d a l))) | inr a ↦ inr a ];
+-- a set of which some groups wait
+pub closing_here : (net : ParserNetwork) (R : Config → Type 0) (v : View) (work : List Group) → ((c : Config) → Holds v c → R c)
+    → IsWaiting net v work → IsClosing net R (Holds v) v.graph v work
+closing_here net R v work sound waiting = record {
+  keeps = λ n lt. (lt, (λ s. ((λ x. x), (λ x. x))));
+  sound = sound;
+  begun = λ c h. h;
+  waiting = waiting;
 }
 
-pub closing_begins : (net : ParserNetwork) (R : Config → Type 0) (x : Group) (v0 : View) (w0 : List Group) (v : View) (work : List Group)
-    → ((c : Config) → Holds v0 c → R c) → ((c : Config) → InGroup v0.graph x c → R c) → IsClosed net (Holds v0) → w0 ≡ []
-    → Joined v0 w0 (x ∷ []) v work → IsClosing net R (λ c. Holds v0 c ⊎ InGroup v0.graph x c) v0.graph v work
-closing_begins net R x v0 w0 v work sound reached closed none j = record {
+-- groups are added to an empty set
+pub closing_begins : (net : ParserNetwork) (starts : List Group) (v0 : View) (w0 : List Group) (v : View) (work : List Group)
+    → ((c : Config) → Holds v0 c → ⊥) → w0 ≡ [] → Joined v0 w0 starts v work
+    → IsClosing net (ReachedFrom net (InSome v0.graph starts)) (InSome v0.graph starts) v0.graph v work
+closing_begins net starts v0 w0 v work empty none j = record {
   keeps = j.keeps;
-  sound = λ c i. elim (let f : Holds v0 c ⊎ InSome v0.graph (x ∷ []) c = (j.members c).0 i in f)
-      [ inl a ↦ sound c a | inr a ↦ reached c (one c a) ];
-  begun = λ c i. (j.members c).1 (elim i [ inl a ↦ inl a | inr a ↦ inr (inl a) ]);
-  waiting = added_waits net x v0 w0 v work closed none j;
+  sound = λ c h. elim (let f : Holds v0 c ⊎ InSome v0.graph starts c = (j.members c).0 h in f)
+      [ inl a ↦ absurd (empty c a) | inr a ↦ (c, a, here) ];
+  begun = λ c i. (j.members c).1 (inr i);
+  waiting = record {
+    known = j.known;
+    held = λ c a. elim (let f : InSome v0.graph w0 c ⊎ InSome v0.graph starts c = j.only c a in f) [
+      | inl b ↦ absurd (let y : InSome v0.graph [] c = subst (λ (w : List Group). InSome v0.graph w c) none b in y)
+      | inr b ↦ (j.members c).1 (inr b)
+    ];
+    closed = λ c d h l. elim (let f : Holds v0 c ⊎ InSome v.graph work c = j.waits c h in f)
+        [ inl a ↦ absurd (empty c a) | inr a ↦ inr a ];
+  };
 }
-  where
-    one : (c : Config) → InSome v0.graph (x ∷ []) c → InGroup v0.graph x c
-    one c i = elim i [ inl a ↦ a | inr a ↦ absurd a ]
+
+-- all groups of a set wait, and the starts are added to it
+pub all_wait : (net : ParserNetwork) (v0 : View) (xs starts : List Group) (v : View) (work : List Group) → AreGroups v0 xs
+    → Joined v0 xs starts v work → IsWaiting net v work
+all_wait net v0 xs starts v work groups j = record {
+  known = j.known;
+  held = λ c a. elim (let f : InSome v0.graph xs c ⊎ InSome v0.graph starts c = j.only c a in f) [
+    | inl b ↦ (j.members c).1 (inl ((groups.members c).0 b))
+    | inr b ↦ (j.members c).1 (inr b)
+  ];
+  closed = λ c d h l. elim (let f : Holds v0 c ⊎ InSome v.graph work c = j.waits c h in f)
+      [ inl a ↦ inr (j.stays c ((groups.members c).1 a)) | inr a ↦ inr a ];
+}
+
+-- what is reached from groups is reached from the same groups in a graph that has grown
+pub reached_kept : (net : ParserNetwork) (g h : List Content) (xs : List Group) → Keeps g h → AreKnown g xs → (c : Config)
+    → ReachedFrom net (InSome g xs) c ↔ ReachedFrom net (InSome h xs) c
+reached_kept net g h xs kept known c = (
+  (λ r. (r.0, (some_kept g h xs kept known r.0).0 r.1, r.2)),
+  λ r. (r.0, (some_kept g h xs kept known r.0).1 r.1, r.2),
+)
+
+-- so the starts lead to all of it
+pub all_sound : (net : ParserNetwork) (v0 : View) (xs starts : List Group) (v : View) (work : List Group) → AreKnown v0.graph starts
+    → ((c : Config) → Holds v0 c → ReachedFrom net (InSome v0.graph starts) c) → Joined v0 xs starts v work
+    → (c : Config) → Holds v c → ReachedFrom net (InSome v.graph starts) c
+all_sound net v0 xs starts v work known sound j c h = (reached_kept net v0.graph v.graph starts j.keeps known c).0
+    (elim (let f : Holds v0 c ⊎ InSome v0.graph starts c = (j.members c).0 h in f) [ inl a ↦ sound c a | inr a ↦ (c, a, here) ])
 
 -- a closed set has all that its members reach
 pub closed_has : (net : ParserNetwork) (C : Config → Type 0) → IsClosed net C → (c d : Config) → C c → Reaches net c d → C d
@@ -261,6 +292,18 @@ closing_goes_on net R B g0 v v' work work' on i later waiting = record {
   begun = λ c b. later.has c (i.begun c b);
   waiting = waiting;
 }
+
+-- what is reached is closed
+pub reached_on : (net : ParserNetwork) (C : Config → Type 0) → IsClosed net (ReachedFrom net C)
+reached_on net C c d r l = (r.0, r.1, further c d r.2 l)
+
+-- groups were added to an empty set, and were followed for a while
+pub closing_first : (net : ParserNetwork) (starts : List Group) (v0 v1 v2 : View) (w0 w1 w2 : List Group)
+    → ((c : Config) → Holds v0 c → ⊥) → w0 ≡ [] → Joined v0 w0 starts v1 w1 → IsLater net v1 v2 → IsWaiting net v2 w2
+    → IsClosing net (ReachedFrom net (InSome v0.graph starts)) (InSome v0.graph starts) v0.graph v2 w2
+closing_first net starts v0 v1 v2 w0 w1 w2 empty none j later waiting =
+    closing_goes_on net (ReachedFrom net (InSome v0.graph starts)) (InSome v0.graph starts) v0.graph v1 v2 w1 w2
+    (reached_on net (InSome v0.graph starts)) (closing_begins net starts v0 w0 v1 w1 empty none j) later waiting
 
 -- what the set lacks of all that is reached, and what waits, are together fewer
 pub closing_smaller : (net : ParserNetwork) (R B : Config → Type 0) (g0 : List Content) (v v' : View) (work work' : List Group)
@@ -278,9 +321,11 @@ closing_ends net R B g0 v work done i c d in_c l = elim (let f : Holds v d ⊎ I
   | inr a ↦ absurd (let b : InSome v.graph [] c = subst (λ (w : List Group). InSome v.graph w c) done a in b)
 ]
 
--- what is reached is closed
-pub reached_on : (net : ParserNetwork) (C : Config → Type 0) → IsClosed net (ReachedFrom net C)
-reached_on net C c d r l = (r.0, r.1, further c d r.2 l)
+-- a closed set that has the starts, and nothing that they do not lead to
+pub closed_members : (net : ParserNetwork) (g : List Content) (starts : List Group) (v : View) → IsClosed net (Holds v)
+    → ((c : Config) → InSome g starts c → Holds v c) → ((c : Config) → Holds v c → ReachedFrom net (InSome g starts) c)
+    → Same (Holds v) (ReachedFrom net (InSome g starts))
+closed_members net g starts v closed begun sound d = (sound d, λ (c, s, r). closed_has net (Holds v) closed c d (begun c s) r)
 
 pub none_left : (xs : List Group) → length xs ≡ 0 → xs ≡ []
 none_left [] e = refl

@@ -1,6 +1,7 @@
 mod Joining
 mod Closing
-mod Opening
+mod Ending
+mod Growing
 mod Returned
 mod Bounding
 mod Missing

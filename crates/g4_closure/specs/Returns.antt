@@ -14,6 +14,12 @@ pub record AreReached (net : ParserNetwork) (g : List Content) (starts found : L
   pub has : (c : Config) → InSome g starts c → InSome g found c
   pub reached : (c : Config) → InSome g found c → ReachedFrom net (InSome g starts) c
 
+-- The list has grown by some of the groups.
+pub record AreMore (xs found more : List Group) : Type 0 where
+  pub known : (g : List Content) → AreKnown g xs → AreKnown g found → AreKnown g more
+  pub has : (g : List Content) (c : Config) → InSome g found c → InSome g more c
+  pub only : (g : List Content) (c : Config) → InSome g more c → InSome g found c ⊎ InSome g xs c
+
 -- The list has grown by what a group leads to.
 pub record AreFollowed (net : ParserNetwork) (v : View) (x : Group) (found more : List Group) : Type 0 where
   pub known : AreKnown v.graph more

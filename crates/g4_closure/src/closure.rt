@@ -1,5 +1,5 @@
 // What groups of configurations lead to without a symbol read.
-ghost use Rattle.std.specs.Prelude.{◌≡◌, ◌↔◌, ◌⊎◌, ◌<◌, ◌≤◌, ◌*◌, ◌^◌, ◌++◌, ℕ, [], OnOk, Some, length, map, slice_get};
+ghost use Rattle.std.specs.Prelude.{◌≡◌, ◌↔◌, ◌<◌, ◌≤◌, ◌*◌, ◌^◌, ◌++◌, ℕ, [], OnOk, Some, length, map, slice_get};
 ghost use Rattle.g4_closure.specs.Joined.{Joined};
 ghost use Rattle.g4_closure.specs.Waiting.{IsExtended, IsLater, IsSpent, IsWaiting};
 ghost use Rattle.g4_closure.specs.Steps.{IsClosed, LedFrom, ReachedFrom, ReturnedFrom, SteppedFrom, listed_by, placed, popped_to};
@@ -11,7 +11,7 @@ ghost use Rattle.g4_net.specs.declared.network.TheConstants.{MOST_STATES};
 ghost use Rattle.g4_net.specs.Leads.{WellFormed};
 ghost use Rattle.g4_net.specs.Network.{state_at};
 
-use crate::returns::with_returns;
+use crate::filling::fill;
 use g4_configs::{Configs, Group};
 use g4_net::{ParserNetwork, State};
 use g4_tokens::Symbols;
@@ -21,10 +21,10 @@ use std::alloc::{AllocError, Global};
 const ROOM: usize = 64;
 
 /// How many groups are followed, the newest first, however small the set is.
-const PATIENCE: usize = 256;
+const PATIENCE: usize = 32;
 
 /// How often the groups of the set are followed, the newest first, on average.
-const MOST_VISITS: usize = 3;
+const MOST_VISITS: usize = 2;
 
 /// How many groups are followed, the newest first, at most.
 const LONGEST_DIVE: usize = 1_000_000_000;
@@ -97,7 +97,7 @@ pub(crate) fn callers_of(net: &ParserNetwork, rule: u32) -> &[u32]
 }
 
 /// Finds where the end of a rule leads.
-fn returned(
+pub(crate) fn returned(
     set: &Configs,
     net: &ParserNetwork,
     group: Group,
@@ -171,7 +171,7 @@ fn steps(
 }
 
 /// Finds where a group leads in one step.
-fn successors(
+pub(crate) fn successors(
     set: &mut Configs,
     net: &ParserNetwork,
     group: Group,
@@ -262,14 +262,12 @@ fn sweep(
     Ok(())
 }
 
-/// Adds a group to a set that has all that its members lead to, and all that the group leads to. The starts lead to all of it. The
-/// two lists are there to be used again.
-fn close(
+/// Follows the groups that wait, and what they lead to, until none is left. The starts lead to all of the set.
+fn finish(
     alloc: Global,
     set: &mut Configs,
     net: &ParserNetwork,
     starts: &[Group],
-    group: Group,
     work: &mut Vec<Group>,
     found: &mut Vec<Group>,
 ) -> Result<(), AllocError>
@@ -277,18 +275,13 @@ fn close(
     requires few { length net.now.states ≤ MOST_STATES }
     requires within { (c : Config) → InSome set.old.graph starts.now c → IsWithin net.now c }
     requires sound { (c : Config) → Holds set.old c → ReachedFrom net.now (InSome set.old.graph starts.now) c }
-    requires closed { IsClosed net.now (Holds set.old) }
-    requires stacks { IsStacks set.old group.stacks }
-    requires reached { (c : Config) → IsOfGroup set.old group c → ReachedFrom net.now (InSome set.old.graph starts.now) c }
-    requires none { work.old.items ≡ [] }
+    requires waiting { IsWaiting net.now set.old work.old.items }
     ensures keeps { OnOk result (KeepsStacks set.old set.new) }
     ensures sound { OnOk result ((c : Config) → Holds set.new c → ReachedFrom net.now (InSome set.old.graph starts.now) c) }
-    ensures has { OnOk result ((c : Config) → Holds set.old c ⊎ IsOfGroup set.old group c → Holds set.new c) }
+    ensures has { OnOk result ((c : Config) → Holds set.old c → Holds set.new c) }
     ensures closed { OnOk result (IsClosed net.now (Holds set.new)) }
-    ensures none { OnOk result (work.new.items ≡ []) }
 {
     set.is_canonical();
-    add_all(set, work, &[group])?;
     dive(set, net, work, found)?;
     while !work.is_empty() {
         sweep(alloc, set, net, work, found)?;
@@ -296,8 +289,30 @@ fn close(
     Ok(())
 }
 
-/// Adds to an empty set all that the groups lead to, in any number of steps. Where the end of a rule leads down the stacks, the lowest
-/// are added first, so that each merge goes by those before it.
+/// Adds to a set that lacks some of it all that the groups lead to, in any number of steps. The two lists are there to be used again.
+fn complete(
+    alloc: Global,
+    set: &mut Configs,
+    net: &ParserNetwork,
+    starts: &[Group],
+    found: &mut Vec<Group>,
+) -> Result<(), AllocError>
+    requires well_formed { WellFormed net.now }
+    requires few { length net.now.states ≤ MOST_STATES }
+    requires known { AreKnown set.old.graph starts.now }
+    requires within { (c : Config) → InSome set.old.graph starts.now c → IsWithin net.now c }
+    requires sound { (c : Config) → Holds set.old c → ReachedFrom net.now (InSome set.old.graph starts.now) c }
+    ensures keeps { OnOk result (KeepsStacks set.old set.new) }
+    ensures members { OnOk result (Same (Holds set.new) (ReachedFrom net.now (InSome set.old.graph starts.now))) }
+{
+    let mut work = set.groups(alloc)?;
+    add_all(set, &mut work, starts)?;
+    finish(alloc, set, net, starts, &mut work, found)?;
+    Ok(())
+}
+
+/// Adds to an empty set all that the groups lead to, in any number of steps: first the newest found, which suits most sets. Where
+/// that follows some groups again and again, it begins anew, in an order of its own.
 pub(crate) fn reach(
     alloc: Global,
     net: &ParserNetwork,
@@ -312,11 +327,15 @@ pub(crate) fn reach(
     ensures keeps { OnOk result (KeepsStacks set.old set.new) }
     ensures members { OnOk result (Same (Holds set.new) (ReachedFrom net.now (InSome set.old.graph starts.now))) }
 {
-    let mut first = with_returns(alloc, net, set, starts)?;
     let mut work = Vec::with_capacity(alloc, ROOM)?;
     let mut found = Vec::with_capacity(alloc, ROOM)?;
-    while let Some(group) = first.pop() {
-        close(alloc, set, net, starts, group, &mut work, &mut found)?;
+    add_all(set, &mut work, starts)?;
+    dive(set, net, &mut work, &mut found)?;
+    if work.is_empty() {
+        return Ok(());
     }
+    set.clear();
+    fill(alloc, net, set, starts)?;
+    complete(alloc, set, net, starts, &mut found)?;
     Ok(())
 }

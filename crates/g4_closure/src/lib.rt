@@ -3,6 +3,8 @@
 
 mod ahead;
 mod closure;
+mod exploring;
+mod filling;
 mod framed;
 mod left;
 mod lookahead;

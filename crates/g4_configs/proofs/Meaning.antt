@@ -1,11 +1,12 @@
 -- What the nodes of a set say of its alternatives.
-use Rattle.std.proofs.Common.{◌≡◌, ◌≢◌, ℕ, suc, ◌↔◌, List, Option, Some, None, refl, sym, subst, arith}
+use Rattle.std.proofs.Common.{◌≡◌, ◌≢◌, ℕ, suc, ◌↔◌, List, Option, Some, None, IfSome, refl, sym, subst, arith}
 use Rattle.g4_stacks.specs.Graph.{Content, HasOf}
 use Rattle.g4_stacks.specs.Canonical.{IsCanonical}
 use Rattle.g4_stacks.proofs.Canonicity.{unique, witness}
 use Rattle.g4_net.specs.Configurations.{Config, Stack, config}
 use Rattle.g4_net.specs.Lookahead.{Alike, Conflict, HaveSameStacks, LoneState}
-use Rattle.g4_configs.specs.Groups.{AreNodes, Entries, HasAt, Within, node_at}
+use Rattle.g4_configs.specs.Configs.{Holds, IsOfGroup, IsStacks, View}
+use Rattle.g4_configs.specs.Groups.{AreNodes, Entries, HasAt, Within, group_of, node_at}
 
 -- at some state two alternatives have one node
 abbrev pub NodesConflict : Entries → Type 0
@@ -18,6 +19,21 @@ HasLoneNode m = (p i n : ℕ) × (node_at m (p, i) ≡ Some n) × ((j k : ℕ) �
 -- at each state each alternative has one node
 abbrev pub NodesAlike : Entries → Type 0
 NodesAlike m = (p i n q j k : ℕ) → node_at m (p, i) ≡ Some n → node_at m (q, j) ≡ Some k → node_at m (q, i) ≡ Some k
+
+-- the node of a state and an alternative is that of a set of stacks
+pub node_known : (g : List Content) (m : Entries) → AreNodes g m → (v : View) → record { graph = g; nodes = m } ≡ v → (p i : ℕ)
+    (o : Option ℕ) → o ≡ node_at m (p, i) → IfSome o (IsStacks v)
+node_known g m nodes v is p i None e = tt
+node_known g m nodes v is p i (Some n) e = subst (λ (w : View). IsStacks w n) is (nodes (p, i) n (sym e)).0
+
+-- and what it has is in the set
+pub node_held : (g : List Content) (m : Entries) (v : View) → record { graph = g; nodes = m } ≡ v → (p i : ℕ) (o : Option ℕ)
+    → o ≡ node_at m (p, i) → IfSome o (λ n. (c : Config) → IsOfGroup v (group_of ((p, i), n)) c → Holds v c)
+node_held g m v is p i None e = tt
+node_held g m v is p i (Some n) e =
+    subst (λ (w : View). (c : Config) → IsOfGroup w (group_of ((p, i), n)) c → Holds w c) is (λ c h.
+    let there : node_at m (c.state, c.alt) ≡ Some n = rw (h.state, h.alt) (sym e) in
+    subst (λ (k : Option ℕ). HasAt g k c.stack.returns c.stack.wild) (sym there) h.stack)
 
 module _ (g : List Content) (m : Entries) where
   -- a configuration of the set is at a node

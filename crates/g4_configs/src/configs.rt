@@ -1,7 +1,7 @@
 // A set of configurations.
-ghost use Rattle.std.specs.Prelude.{◌≡◌, ◌↔◌, ◌⊎◌, [], IsTrue, IfOk, OnErr, OnOk, false, length, reverse};
+ghost use Rattle.std.specs.Prelude.{◌≡◌, ◌↔◌, ◌⊎◌, [], IsTrue, IfOk, IfSome, OnErr, OnOk, false, length, reverse};
 ghost use Rattle.g4_configs.specs.Configs.{AreGroups, IsOfGroup, HasStack, Holds, IsStacks, KeepsStacks};
-ghost use Rattle.g4_configs.specs.Groups.{Subset};
+ghost use Rattle.g4_configs.specs.Groups.{Subset, group_of};
 ghost use Rattle.g4_net.specs.Configurations.{Config, Stack, above_bottom, wildcard};
 ghost use Rattle.g4_stacks.specs.Canonical.{IsCanonical};
 ghost use Rattle.g4_stacks.specs.Graph.{HasTops, IsPushed};
@@ -55,6 +55,14 @@ impl Configs {
     {
         self.nodes.clear();
         self
+    }
+
+    /// Takes all configurations out. The sets of stacks stay.
+    pub fn clear(&mut self)
+        ensures empty { (c : Config) → Holds self.new c → ⊥ }
+        ensures keeps { KeepsStacks self.old self.new }
+    {
+        self.nodes.clear();
     }
 
     /// Nothing: the caller learns that the graph of the stacks is canonical.
@@ -138,6 +146,14 @@ impl Configs {
     {
         let found = listed(alloc, &self.nodes)?;
         Ok(found)
+    }
+
+    /// The stacks of a state and an alternative, if there are some.
+    pub fn stacks_at(&self, state: u32, alternative: u32) -> Option<u32>
+        ensures known { IfSome result (IsStacks self.now) }
+        ensures held { IfSome result (λ n. (c : Config) → IsOfGroup self.now (group_of ((state, alternative), n)) c → Holds self.now c) }
+    {
+        self.nodes.get(&(state, alternative)).copied()
     }
 
     /// How many groups the set has.
