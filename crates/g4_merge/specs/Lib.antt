@@ -1,0 +1,4 @@
+-- Other crates cite each of these.
+pub mod Importing
+pub mod Laws
+pub mod Merging
