@@ -1,3 +1,7 @@
--- Other crates cite Levels, Tables.
+-- Other crates cite Automata, Levels, Stored, Tables, Walks; only this crate cites Unique.
+pub mod Automata
 pub mod Levels
+pub mod Stored
 pub mod Tables
+pub mod Unique
+pub mod Walks

@@ -1,9 +1,19 @@
-// The parser's network with what a decision asks of it by a look-up: the column of a symbol, and the start of a decision at a level.
+// What was learned of the decisions of a parser, shared by threads: a store of rows, starts and cells, which a walk only reads and
+// one learner at a time fills; and the parser's network with what a decision asks of it by a look-up.
 #![tactic(auto)]
 
 mod decision_net;
 mod levels;
+mod parsing;
+mod path;
+mod row;
 mod starts;
+mod store;
+mod walk;
 
 pub use decision_net::DecisionNet;
 pub use levels::MOST_ALTERNATIVES;
+pub use parsing::Parsing;
+pub use row::Row;
+pub use store::{Learnings, MOST_CELLS, MOST_ROWS, OpenFault, Opened, Pass, Store, open};
+pub use walk::Walk;

@@ -76,6 +76,13 @@ impl<N: Drop, C, A: Automaton<N, C>, B: Home<N>> Board<N, C, A, B> {
         &self.table.shared
     }
 
+    /// The network.
+    pub(crate) fn net(&self) -> &N
+        ensures { result.now ≡ B.plan.net }
+    {
+        &self.plan.net
+    }
+
     pub fn rows(&self) -> usize
         ensures { (result ≡ B.plan.rows) × (result ≤ 65536) }
     {

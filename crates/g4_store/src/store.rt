@@ -114,6 +114,13 @@ pub struct Store<N: Drop, C: Content + Drop, A: Automaton<N, C>, B: Home<N>> {
 }
 
 impl<N: Drop, C: Content + Drop, A: Automaton<N, C>, B: Home<N>> Store<N, C, A, B> {
+    /// The network.
+    pub fn net(&self) -> &N
+        ensures { result.now ≡ B.plan.net }
+    {
+        self.board.net()
+    }
+
     /// Loads a start: its row, or `None` where the word that was read held 0.
     pub fn read_start(&self, pass: &mut Pass<N, C, B>, start: usize) -> Option<usize>
         requires { start < B.plan.starts }

@@ -1,0 +1,98 @@
+// Walks along what was learned of the decisions of a parser.
+ghost use Rattle.std.specs.Prelude.{◌≡◌, ◌+◌, ◌<◌, ◌≤◌, ◌^◌, ℕ, List, All, drop, length};
+ghost use Rattle.g4_classes.specs.Classes.{IsSymbol};
+ghost use Rattle.g4_store.specs.declared.walk.Walk.TheVariants.{End};
+ghost use Rattle.g4_store.specs.Walks.{Keeps, SeenTo, Ticks};
+ghost use Rattle.g4_tokens.specs.Symbols.{end_of_list};
+ghost use Rattle.g4_tokens.specs.TokenList.{EndsInEnd, word_of};
+ghost use Rattle.g4_learned.specs.Automata.{LeadsTo, StartsAt};
+ghost use Rattle.g4_learned.specs.Levels.{IsDecision};
+ghost use Rattle.g4_learned.specs.Stored.{columns_of};
+ghost use Rattle.g4_learned.specs.Walks.{Loads, WalkedAlong, Walks};
+
+use crate::decision_net::DecisionNet;
+use crate::path::verdict_at;
+use crate::store::{Pass, Store};
+use g4_predict::Verdict;
+use g4_store::board::Found;
+use g4_store::steps::Steps;
+use g4_store::view::Home;
+use g4_store::walk;
+use g4_tokens::Token;
+use std::sync::ledger::Ledger;
+
+/// Where a walk ended: at a verdict, to which the symbol at this place after the decision led; or at a word that held 0 when it was
+/// read, the start's or that of the symbol before this place.
+#[derive(Clone, Copy, Debug, PartialEq, Eq)]
+pub enum Walk {
+    Ended(Verdict, usize),
+    NotLearned(usize),
+}
+
+impl<B: Home<DecisionNet>> Store<B> {
+    /// Walks from a start along the columns of tokens by loads alone.
+    fn walk_along<L: Ledger>(
+        &self,
+        pass: &mut Pass<B>,
+        start: usize,
+        tokens: &[Token],
+        steps: &mut Steps<L>,
+    ) -> walk::Walk
+        requires { start < B.plan.starts }
+        ensures walked { WalkedAlong B.plan start (word_of tokens.now) pass.old.0 pass.new.0 result }
+        ensures learned { (k code : ℕ) → SeenTo StartsAt LeadsTo B.plan start (columns_of B.plan.net (word_of tokens.now)) k code pass.old.0
+            → result ≡ End code k }
+        ensures loads { Ticks (length tokens.now) pass.old.0.looks.count pass.new.0.looks.count result }
+        ensures same { Keeps pass.old.0 pass.new.0 }
+        ensures steps { Ticks (length tokens.now) steps.old steps.new result }
+        ensures full { pass.new.1 ≡ pass.old.1 }
+    {
+        let net = self.net();
+        steps.tick();
+        let Some(first) = self.store.read_start(pass, start) else {
+            return walk::Walk::NotLearned(0);
+        };
+        let mut row = first;
+        for (k, token) in tokens.iter().enumerate() {
+            let column = net.column_of(token.symbol);
+            steps.tick();
+            let found = self.store.read_cell(pass, row, column as usize);
+            match found {
+                Found::Nothing => return walk::Walk::NotLearned(k + 1),
+                Found::End(code) => return walk::Walk::End(code, k),
+                Found::Row(next, _mark) => row = next,
+            }
+        }
+        walk::Walk::Open
+    }
+
+    /// Walks at a decision, in a rule that was called at a level, along the tokens from a place on. It takes neither memory nor a lock.
+    pub fn walk<L: Ledger>(
+        &self,
+        pass: &mut Pass<B>,
+        decision: u32,
+        level: u32,
+        tokens: &[Token],
+        from: u32,
+        steps: &mut Steps<L>,
+    ) -> Walk
+        requires decision { IsDecision B.plan.net.net decision }
+        requires symbols { All IsSymbol (word_of tokens.now) }
+        requires ends { EndsInEnd (word_of tokens.now) }
+        requires more { from < length tokens.now }
+        requires few { length tokens.now < 2 ^ 32 }
+        ensures walks { Walks B.plan decision level (drop from (word_of tokens.now)) pass.old.0 pass.new.0 result }
+        ensures loads { Loads pass.old.0.looks.count pass.new.0.looks.count result }
+        ensures same { Keeps pass.old.0 pass.new.0 }
+        ensures steps { Loads steps.old steps.new result }
+        ensures full { pass.new.1 ≡ pass.old.1 }
+    {
+        let start = self.store.net().start_of(decision, level);
+        let rest = &tokens[from as usize..];
+        match self.walk_along(pass, start, rest, steps) {
+            walk::Walk::End(code, k) => Walk::Ended(verdict_at(code, k as u32), k),
+            walk::Walk::NotLearned(k) => Walk::NotLearned(k),
+            walk::Walk::Open => unreachable!(),
+        }
+    }
+}
