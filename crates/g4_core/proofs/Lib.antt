@@ -1,7 +1,12 @@
 pub mod Extending
+pub mod Filling
+pub mod Finding
 pub mod Learning
 pub mod Lists
 pub mod Reached
+pub mod Reading
 pub mod Readings
 pub mod Routes
+pub mod Standing
 pub mod Stepping
+pub mod Walking

@@ -2,8 +2,12 @@
 //! what holds after every schedule of steps.
 #![tactic(auto)]
 
+mod changes;
 mod event;
 mod law;
+mod machine;
+mod sights;
 
 pub use event::{Change, Effect, Entry, Event, Given, Phase, Place, Progress, Slot};
 pub use law::schedules;
+pub use machine::{Copied, Core, StepFault};
