@@ -1,11 +1,11 @@
 -- What the nodes of a set say of its alternatives.
-use Rattle.std.proofs.Common.{◌≡◌, ◌≢◌, ℕ, suc, ◌↔◌, List, Option, Some, None, IfSome, refl, sym, subst, arith}
+use Rattle.std.proofs.Common.{◌≡◌, ◌≢◌, ℕ, suc, ◌↔◌, List, Option, Some, None, IfNone, IfSome, refl, sym, subst, arith}
 use Rattle.g4_stacks.specs.Graph.{Content, HasOf}
 use Rattle.g4_stacks.specs.Canonical.{IsCanonical}
 use Rattle.g4_stacks.proofs.Canonicity.{unique, witness}
 use Rattle.g4_net.specs.Configurations.{Config, Stack, config}
 use Rattle.g4_net.specs.Lookahead.{Alike, Conflict, HaveSameStacks, LoneState}
-use Rattle.g4_configs.specs.Configs.{Holds, IsOfGroup, IsStacks, View}
+use Rattle.g4_configs.specs.Configs.{HasStack, Holds, IsOfGroup, IsStacks, View}
 use Rattle.g4_configs.specs.Groups.{AreNodes, Entries, HasAt, Within, group_of, node_at}
 
 -- at some state two alternatives have one node
@@ -34,6 +34,22 @@ node_held g m v is p i (Some n) e =
     subst (λ (w : View). (c : Config) → IsOfGroup w (group_of ((p, i), n)) c → Holds w c) is (λ c h.
     let there : node_at m (c.state, c.alt) ≡ Some n = rw (h.state, h.alt) (sym e) in
     subst (λ (k : Option ℕ). HasAt g k c.stack.returns c.stack.wild) (sym there) h.stack)
+
+-- what the set has there is in what the node has
+pub node_all : (g : List Content) (m : Entries) (v : View) → record { graph = g; nodes = m } ≡ v → (p i : ℕ) (o : Option ℕ)
+    → o ≡ node_at m (p, i) → IfSome o (λ n. (s : Stack) → Holds v (config p i s) → HasStack v n s)
+node_all g m v is p i None e = tt
+node_all g m v is p i (Some n) e =
+    subst (λ (w : View). (s : Stack) → Holds w (config p i s) → HasStack w n s) is (λ s h.
+    subst (λ (k : Option ℕ). HasAt g k s.returns s.wild) (sym e) h)
+
+-- where there is no node the set has nothing
+pub node_none : (g : List Content) (m : Entries) (v : View) → record { graph = g; nodes = m } ≡ v → (p i : ℕ) (o : Option ℕ)
+    → o ≡ node_at m (p, i) → IfNone o ((s : Stack) → Holds v (config p i s) → ⊥)
+node_none g m v is p i (Some n) e = tt
+node_none g m v is p i None e =
+    subst (λ (w : View). (s : Stack) → Holds w (config p i s) → ⊥) is (λ s h.
+    subst (λ (k : Option ℕ). HasAt g k s.returns s.wild) (sym e) h)
 
 module _ (g : List Content) (m : Entries) where
   -- a configuration of the set is at a node

@@ -1,8 +1,8 @@
 // A set of configurations.
-ghost use Rattle.std.specs.Prelude.{◌≡◌, ◌↔◌, ◌⊎◌, [], IsTrue, IfOk, IfSome, OnErr, OnOk, false, length, reverse};
+ghost use Rattle.std.specs.Prelude.{◌≡◌, ◌↔◌, ◌⊎◌, [], IsTrue, IfOk, IfNone, IfSome, OnErr, OnOk, false, length, reverse};
 ghost use Rattle.g4_configs.specs.Configs.{AreGroups, IsOfGroup, HasStack, Holds, IsStacks, KeepsStacks};
 ghost use Rattle.g4_configs.specs.Groups.{Subset, group_of};
-ghost use Rattle.g4_net.specs.Configurations.{Config, Stack, above_bottom, wildcard};
+ghost use Rattle.g4_net.specs.Configurations.{Config, Stack, above_bottom, config, wildcard};
 ghost use Rattle.g4_stacks.specs.Canonical.{IsCanonical};
 ghost use Rattle.g4_stacks.specs.Graph.{HasTops, IsPushed};
 
@@ -152,6 +152,8 @@ impl Configs {
     pub fn stacks_at(&self, state: u32, alternative: u32) -> Option<u32>
         ensures known { IfSome result (IsStacks self.now) }
         ensures held { IfSome result (λ n. (c : Config) → IsOfGroup self.now (group_of ((state, alternative), n)) c → Holds self.now c) }
+        ensures all { IfSome result (λ n. (s : Stack) → Holds self.now (config state alternative s) → HasStack self.now n s) }
+        ensures none { IfNone result ((s : Stack) → Holds self.now (config state alternative s) → ⊥) }
     {
         self.nodes.get(&(state, alternative)).copied()
     }

@@ -12,7 +12,7 @@ ghost use Rattle.g4_tokens.specs.TokenList.{EndsInEnd, word_of};
 use g4_base::{Sequence, Text};
 use g4_lexer::{Lexer, tokens};
 use g4_load::{Interpreter, build_interpreter};
-use g4_net::{ParserNetwork, State};
+use g4_net::{Allowed, ParserNetwork, State};
 use g4_ports::{MemFile, MemShelf};
 use g4_predict::{Path, has_test, simulate};
 use g4_tokens::{END, EOF, MOST_TYPES, Token, Tokens};
@@ -108,6 +108,6 @@ pub(crate) fn ask(
     if list.is_empty() || !have_symbols(list) {
         return Err(Fail::from("no symbols"));
     }
-    let (_, path) = simulate(alloc, net, DECISION, list)?;
+    let (_, path) = simulate(alloc, net, DECISION, &Allowed::Every, list)?;
     Ok((path, tokens))
 }

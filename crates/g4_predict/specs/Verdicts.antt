@@ -5,7 +5,6 @@ use Rattle.g4_configs.specs.Groups.{Same}
 use Rattle.g4_net.specs.Configurations.{Config, wildcard, IsRow, IsWithin}
 use Rattle.g4_net.specs.Lookahead.{Start, IsEmpty, IsOnly}
 use Rattle.g4_net.specs.Network.{ParserNetwork}
-use Rattle.g4_net.specs.Prediction.{Any}
 use Rattle.g4_lookahead.specs.EndOfList.{GoesOn, Matters}
 use Rattle.g4_predict.specs.declared.verdict.Verdict.{Verdict}
 use Rattle.g4_predict.specs.declared.verdict.Verdict.TheVariants.{Answer, ErrorAt, Sensitive}
@@ -18,9 +17,9 @@ EndsWith D k (Answer i) = IsOnly D i
 EndsWith D k (ErrorAt j) = (j ≡ k) × IsEmpty D
 EndsWith D k (Sensitive j) = (j ≡ k) × ((i : ℕ) → IsOnly D i → ⊥) × Matters D
 
--- the set is the start set of the decision, as if any rule had called the one that is open
-pub record IsStartSet (net : ParserNetwork) (d : ℕ) (C : Config → Type 0) : Type 0 where
-  pub members : Same C (Start net d Any wildcard)
+-- the set is the start set of the decision over the allowed alternatives, as if any rule had called the one that is open
+pub record IsStartSet (net : ParserNetwork) (d : ℕ) (A : ℕ → Type 0) (C : Config → Type 0) : Type 0 where
+  pub members : Same C (Start net d A wildcard)
   pub within : (c : Config) → C c → IsWithin net c
   pub row : (row : List Config) × IsRow row C
 

@@ -88,7 +88,7 @@ pub fn decide(
     if has_test(net, decision) {
         return decide_by_stack(alloc, net, decision, allowed, returns, rest, from);
     }
-    match sll_verdict(alloc, net, decision, rest)? {
+    match sll_verdict(alloc, net, decision, &Allowed::Every, rest)? {
         Verdict::Answer(alternative) => Ok(alternative),
         Verdict::ErrorAt(k) => Err(DecideFault::NoViable { at: from + k }),
         Verdict::Sensitive(_) => {

@@ -79,7 +79,7 @@ pub fn foresee(
     if has_test(net, decision) {
         return foresee_by_stack(alloc, net, decision, allowed, returns, rest, from);
     }
-    match sll_verdict(alloc, net, decision, rest)? {
+    match sll_verdict(alloc, net, decision, &Allowed::Every, rest)? {
         Verdict::Answer(alternative) => Ok(Foresight {
             alternative,
             presumed: false,

@@ -3,11 +3,12 @@ ghost use Rattle.std.specs.Prelude.{◌≡◌, ◌<◌, ◌≤◌, ◌^◌, ◌�
 ghost use Rattle.g4_configs.specs.Configs.{Holds};
 ghost use Rattle.g4_tokens.specs.Symbols.{end_of_list};
 ghost use Rattle.g4_net.specs.AddedRule.{IsReady};
+ghost use Rattle.g4_net.specs.Allowed.{Allows};
 ghost use Rattle.g4_net.specs.Configurations.{Config, IsWithin};
 ghost use Rattle.g4_net.specs.declared.network.TheConstants.{MOST_STATES};
 ghost use Rattle.g4_net.specs.Leads.{WellFormed};
 ghost use Rattle.g4_net.specs.Lookahead.{Next};
-ghost use Rattle.g4_net.specs.Prediction.{Any, Path as Way, Sll};
+ghost use Rattle.g4_net.specs.Prediction.{Path as Way, Sll};
 ghost use Rattle.g4_tokens.specs.TokenList.{word_of};
 ghost use Rattle.g4_lookahead.specs.EndOfList.{Matters};
 ghost use Rattle.g4_predict.specs.Paths.{path_of, verdict_of};
@@ -32,13 +33,18 @@ fn stack_matters(alloc: Global, set: &Configs) -> Result<bool, AllocError>
     Ok(!lone)
 }
 
-/// The start set of a decision, over all its alternatives and above the wildcard.
-fn start_set(alloc: Global, net: &ParserNetwork, decision: u32) -> Result<Configs, AllocError>
+/// The start set of a decision, over the allowed alternatives and above the wildcard.
+fn start_set(
+    alloc: Global,
+    net: &ParserNetwork,
+    decision: u32,
+    allowed: &Allowed,
+) -> Result<Configs, AllocError>
     requires well_formed { WellFormed net.now }
     requires few { length net.now.states ≤ MOST_STATES }
-    ensures { IfOk result (λ set. IsStartSet net.now decision (Holds set)) }
+    ensures { IfOk result (λ set. IsStartSet net.now decision (Allows allowed.now) (Holds set)) }
 {
-    let set = start(alloc, net, decision, &Allowed::Every, &[], true)?;
+    let set = start(alloc, net, decision, allowed, &[], true)?;
     Ok(set)
 }
 
@@ -77,7 +83,7 @@ fn look(
     }
 }
 
-/// The SLL verdict of a decision on the tokens from it on, and its path.
+/// The SLL verdict of a decision over its allowed alternatives, on the tokens from it on, and its path.
 ///
 /// # Errors
 /// No memory.
@@ -85,15 +91,16 @@ pub fn simulate(
     alloc: Global,
     net: &ParserNetwork,
     decision: u32,
+    allowed: &Allowed,
     tokens: &[Token],
 ) -> Result<(Verdict, Path), AllocError>
     requires ready { IsReady net.now }
     requires ends { Contains (word_of tokens.now) end_of_list }
     requires few { length tokens.now < 2 ^ 32 }
     ensures decision { IfOk result (λ r. r.1.decision ≡ decision) }
-    ensures path { IfOk result (λ r. Sll net.now decision Any (word_of tokens.now) (verdict_of r.0) (path_of r.1)) }
+    ensures path { IfOk result (λ r. Sll net.now decision (Allows allowed.now) (word_of tokens.now) (verdict_of r.0) (path_of r.1)) }
 {
-    let mut set = start_set(alloc, net, decision)?;
+    let mut set = start_set(alloc, net, decision, allowed)?;
     let first = set.snapshot(alloc)?;
     let mut looked = Vec::new(alloc);
     for (k, token) in tokens.iter().enumerate() {
@@ -121,7 +128,8 @@ pub fn simulate(
     unreachable!()
 }
 
-/// The SLL verdict of a decision on the tokens from it on, without the path. It makes no snapshot, so it is faster than `simulate`.
+/// The SLL verdict of a decision over its allowed alternatives, on the tokens from it on, without the path. It makes no snapshot, so it is
+/// faster than `simulate`.
 ///
 /// # Errors
 /// No memory.
@@ -129,14 +137,15 @@ pub fn sll_verdict(
     alloc: Global,
     net: &ParserNetwork,
     decision: u32,
+    allowed: &Allowed,
     tokens: &[Token],
 ) -> Result<Verdict, AllocError>
     requires ready { IsReady net.now }
     requires ends { Contains (word_of tokens.now) end_of_list }
     requires few { length tokens.now < 2 ^ 32 }
-    ensures { IfOk result (λ verdict. (path : Way) × Sll net.now decision Any (word_of tokens.now) (verdict_of verdict) path) }
+    ensures { IfOk result (λ verdict. (path : Way) × Sll net.now decision (Allows allowed.now) (word_of tokens.now) (verdict_of verdict) path) }
 {
-    let mut set = start_set(alloc, net, decision)?;
+    let mut set = start_set(alloc, net, decision, allowed)?;
     for (k, token) in tokens.iter().enumerate() {
         let seen = look(alloc, net, set, token.symbol, k as u32)?;
         match seen {

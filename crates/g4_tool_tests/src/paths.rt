@@ -8,6 +8,7 @@ ghost use Rattle.g4_tokens.specs.TokenList.{EndsInEnd, word_of};
 use g4_base::{Sequence, Text};
 use g4_lexer::{Lexer, tokens};
 use g4_load::{Interpreter, build_interpreter};
+use g4_net::Allowed;
 use g4_ports::{MemFile, MemShelf};
 use g4_predict::{Led, Looked, Path, Verdict, simulate};
 use g4_tokens::Tokens;
@@ -61,7 +62,13 @@ fn simulated_by(
     requires { IsUsable interpreter.now }
 {
     let tokens = tokens_of(alloc, &interpreter.lexer, text)?;
-    let simulated = simulate(alloc, &interpreter.net, 2, tokens.list.as_slice())?;
+    let simulated = simulate(
+        alloc,
+        &interpreter.net,
+        2,
+        &Allowed::Every,
+        tokens.list.as_slice(),
+    )?;
     Ok(simulated)
 }
 
