@@ -4,15 +4,15 @@ use Rattle.g4_net.specs.declared.network.State.{State}
 use Rattle.g4_net.specs.declared.network.State.TheVariants.{Decision, End, Edge, Call, Predicate, Level, Action, Empty}
 use Rattle.g4_net.specs.Configurations.{Config, wildcard}
 use Rattle.g4_net.specs.Lookahead.{Next, Start, TakesBy}
-use Rattle.g4_net.specs.Network.{ParserNetwork, IsFirst, state_at}
-use Rattle.g4_net.specs.Prediction.{Any, HasTests, IsTestBy, Path, Sll, Verdict}
+use Rattle.g4_net.specs.Network.{ParserNetwork, state_at}
 use Rattle.g4_lookahead.specs.EndOfList.{GoesOn, Matters}
-use Rattle.g4_lookahead.proofs.Judging.{AreSame, Within, conflict_same, empty_same, lone_same, only_same, row_of_set, sll_same}
+use Rattle.g4_lookahead.proofs.Judging.{AreSame, Within, conflict_same, empty_same, lone_same, only_same, row_of_set}
 use Rattle.g4_classes.specs.Classes.{AreAlike}
 use Rattle.g4_store.specs.declared.automaton.Led.{Led}
 use Rattle.g4_store.specs.declared.automaton.Led.TheVariants as led
+use Rattle.g4_guards.proofs.Same.{start_same}
 use Rattle.g4_learned.specs.Automata.{EndsAs, IsLed}
-use Rattle.g4_learned.specs.Levels.{AllowedAt, IsGuard, MeetsBy}
+use Rattle.g4_guards.specs.Levels.{AllowedAt, IsGuard}
 
 -- sets with the same members
 
@@ -78,42 +78,7 @@ next_of_same net a C D same d = (to C D (λ c. (same c).0) d, to D C (λ c. (sam
 
 -- the alternatives that may be taken
 
-start_within : (net : ParserNetwork) (d : ℕ) (A B : ℕ → Type 0) → ((i t : ℕ) → IsFirst net d i t → A i → B i)
-    → Within (Start net d A wildcard) (Start net d B wildcard)
-start_within net d A B to e (c, (may, first, is), reaches, kept) = (c, (to c.alt c.state first may, first, is), reaches, kept)
-
-pub start_same : (net : ParserNetwork) (d : ℕ) (A B : ℕ → Type 0) → ((i t : ℕ) → IsFirst net d i t → A i → B i)
-    → ((i t : ℕ) → IsFirst net d i t → B i → A i) → AreSame (Start net d A wildcard) (Start net d B wildcard)
-start_same net d A B to from c = (start_within net d A B to c, start_within net d B A from c)
-
-pub sll_allowed : (net : ParserNetwork) (d : ℕ) (A B : ℕ → Type 0) (w : List ℕ) (v : Verdict) (path : Path)
-    → AreSame (Start net d A wildcard) (Start net d B wildcard) → Sll net d A w v path → Sll net d B w v path
-sll_allowed net d A B w v path same h = (
-  row_of_set path.start (Start net d A wildcard) (Start net d B wildcard) same h.0,
-  sll_same net (Start net d A wildcard) (Start net d B wildcard) (λ c. (same c).0) (λ c. (same c).1) w 0 v path.looked h.1,
-)
-
--- a state that is no test may be passed at each level
-meets_untested : (level : ℕ) (o : Option (State (List ℕ))) → (IsTestBy o → ⊥) → MeetsBy level o
-meets_untested level (Some (Level q t)) untested = absurd (untested tt)
-meets_untested level (Some (Decision targets)) untested = tt
-meets_untested level (Some (End rule)) untested = tt
-meets_untested level (Some (Edge set t)) untested = tt
-meets_untested level (Some (Call rule back n)) untested = tt
-meets_untested level (Some (Predicate k t)) untested = tt
-meets_untested level (Some (Action t)) untested = tt
-meets_untested level (Some (Empty t)) untested = tt
-meets_untested level None untested = tt
-
--- where no alternative begins with a test, each may be taken at each level
-pub untested_same : (net : ParserNetwork) (d level : ℕ) → (HasTests net d → ⊥)
-    → AreSame (Start net d Any wildcard) (Start net d (AllowedAt net d level) wildcard)
-untested_same net d level untested =
-    start_same net d Any (AllowedAt net d level)
-    (λ i t first _. (t, first, meets_untested level (state_at net t) (λ test. untested (i, t, first, test))))
-    (λ i t first _. tt)
-
 pub guard_same : (net : ParserNetwork) (d level guard : ℕ) → IsGuard net d level guard
     → AreSame (Start net d (AllowedAt net d guard) wildcard) (Start net d (AllowedAt net d level) wildcard)
 guard_same net d level guard is =
-    start_same net d (AllowedAt net d guard) (AllowedAt net d level) (λ i t first. (is.same i).0) (λ i t first. (is.same i).1)
+    start_same net d (AllowedAt net d guard) (AllowedAt net d level) (λ i t first. (is.same i).0) (λ i t first. (is.same i).1) wildcard

@@ -1,27 +1,29 @@
 -- What a walk along columns answers, as that of a decision.
-use Rattle.std.proofs.Common.{◌≡◌, ◌<◌, ◌^◌, ℕ, List, All, drop, length, refl, sym, ◌∙◌, ap, subst}
+use Rattle.std.proofs.Common.{◌≡◌, ◌<◌, ◌+◌, ◌^◌, ◌⊎◌, inl, inr, ℕ, zero, suc, List, All, drop, length, refl, sym, subst, arith}
 use Rattle.std.proofs.lemmas.List.Elements.{All-drop}
 use Rattle.g4_tokens.specs.declared.token.Token.{Token}
 use Rattle.g4_tokens.specs.TokenList.{EndsInEnd, word_of}
 use Rattle.g4_net.specs.Configurations.{Config}
 use Rattle.g4_classes.specs.Classes.{IsSymbol}
 use Rattle.g4_net.specs.Prediction as said
-use Rattle.g4_net.specs.Prediction.{Sll}
 use Rattle.g4_predict.specs.declared.verdict.Verdict.{Verdict}
 use Rattle.g4_predict.specs.Paths.{verdict_of}
 use Rattle.g4_predict.proofs.Choosing.{ends_ahead, from_on, word_from}
+use Rattle.g4_store.specs.declared.automaton.Fact.{Fact}
 use Rattle.g4_store.specs.declared.automaton.Plan.{Plan}
 use Rattle.g4_store.specs.declared.view.View.{View}
 use Rattle.g4_store.specs.declared.walk.Walk as way
 use Rattle.g4_store.specs.declared.walk.Walk.TheVariants as along
+use Rattle.g4_store.specs.Numbers.{Among}
 use Rattle.g4_store.specs.Walks.{SeenTo}
-use Rattle.g4_learned.specs.Automata.{LeadsTo, StartsAt, verdict_at}
-use Rattle.g4_learned.specs.Levels.{AllowedAt}
-use Rattle.g4_learned.specs.Stored.{IsPlan, columns_of}
+use Rattle.g4_store.proofs.Seen.{came_within}
+use Rattle.g4_learned.specs.Automata.{LeadsTo, StartsAt, code_of, verdict_at}
+use Rattle.g4_learned.specs.Stored.{ArePassed, IsPlan, columns_of}
 use Rattle.g4_learned.specs.Tables.{IsStartOf, Tables}
+use Rattle.g4_learned.specs.Unique.{one_led, one_start}
 use Rattle.g4_learned.specs.Walks.{WalkedAlong, Walks}
-use Rattle.g4_learned.specs.declared.walk.Walk as walk
 use Rattle.g4_learned.specs.declared.walk.Walk.TheVariants.{Ended, NotLearned}
+use Rattle.g4_learned.proofs.Seeing.{IsWay, one_passed, sll_way}
 use Rattle.g4_learned.proofs.Telling.{not_open, walked_says}
 
 module _ (p : Plan Tables) (d level i : ℕ) (word : List ℕ) (old new : View (List Config)) (start : IsStartOf p.net d level i) where
@@ -32,28 +34,74 @@ module _ (p : Plan Tables) (d level i : ℕ) (word : List ℕ) (old new : View (
   same_end : (code k code' k' : ℕ) → along.End code k ≡ along.End code' k' → (code ≡ code') × (k ≡ k')
   same_end code k code' k' e = let one : code ≡ code' = cc in let two : k ≡ k' = cc in (one, two)
 
-  pub ended : (code k : ℕ) (v : Verdict) → All IsSymbol word → WalkedAlong p i word old new (along.End code k)
+  -- where the words of SLL's path were seen, they are those of a way that was seen to an end
+  seen_to : IsPlan p → All IsSymbol word → (v : said.Verdict) (facts : List (Fact (List Config))) → ArePassed p.net d level word v facts
+      → ((f : Fact (List Config)) → Among f facts → Among f old.seen)
+      → (k : ℕ) × SeenTo StartsAt LeadsTo p i (columns_of p.net word) k (code_of v) old × (length facts ≡ k + 2)
+  seen_to plan symbols v facts passed seen =
+      let way = sll_way p d level i word v facts old plan symbols passed start in (
+        way.k,
+        record {
+          y = way.y;
+          facts = way.before;
+          within = way.within;
+          came = way.came;
+          leads_so = way.leads;
+          seen = λ f among. seen f (subst (λ (gs : List (Fact (List Config))). Among f gs) (sym way.are) among);
+        },
+        way.count,
+      )
+
+  pub ended : (code k : ℕ) (v : Verdict) → IsPlan p → All IsSymbol word → WalkedAlong p i word old new (along.End code k)
       → verdict_of v ≡ verdict_at code k → Learned (along.End code k) → Walks p d level word old new (Ended v k)
-  ended code k v symbols walked is learned =
-      let says = walked_says p.net p refl d level i code k word old new start symbols walked in
+  ended code k v plan symbols walked is learned =
+      let (facts, passed, saw, count) = (walked_says p.net p refl d level i code k word old new start symbols walked).1 in
+      let passed' : ArePassed p.net d level word (verdict_of v) facts =
+      subst (λ (u : said.Verdict). ArePassed p.net d level word u facts) (sym is) passed in
       record {
         start = i;
         is_start = start;
         walked = (code, is, walked);
-        verdict = (says.1.0, subst (λ (u : said.Verdict). Sll p.net.net d (AllowedAt p.net.net d level) word u says.1.0) (sym is) says.1.1);
-        learned = λ k' code' seen.
-            let same = same_end code k code' k' (learned k' code' seen) in
-            (same.1, is ∙ (ap (λ n. verdict_at n k) same.0 ∙ ap (verdict_at code') same.1));
+        verdict = (facts, passed', saw, count);
+        kept = λ f seen. (saw f).1 (inl seen);
+        within = λ u facts' other f seen.
+            let same = (one_passed p plan d level word (verdict_of v) u facts facts' passed' other).1 in
+            subst (λ (gs : List (Fact (List Config))). Among f old.seen ⊎ Among f gs) same ((saw f).0 seen);
+        learned = λ u facts' other seen.
+            let (k', to, count') = seen_to plan symbols u facts' other seen in
+            let at = (same_end code k (code_of u) k' (learned k' (code_of u) to)).1 in
+            ((one_passed p plan d level word (verdict_of v) u facts facts' passed' other).0, omega arith);
       }
 
-  pub not_learned : (k : ℕ) → WalkedAlong p i word old new (along.NotLearned k) → Learned (along.NotLearned k)
-      → Walks p d level word old new (NotLearned k)
-  not_learned k walked learned = record {
+  -- a walk that stops has seen no words but those of a way
+  stopped_within : (k : ℕ) → WalkedAlong p i word old new (along.NotLearned k) → (v : said.Verdict) (facts : List (Fact (List Config)))
+      → IsWay p i word v facts old → (f : Fact (List Config)) → Among f new.seen → Among f old.seen ⊎ Among f facts
+  stopped_within zero (none, saw, last) v facts way f seen = elim ((saw f).0 seen) [ inl before ↦ inl before | inr never ↦ absurd never ]
+  stopped_within (suc k) (y, fs, lt, came, none, saw, last) v facts way f seen = elim ((saw f).0 seen) [
+    | inl before ↦ inl before
+    | inr on ↦ inr
+    (subst (λ (gs : List (Fact (List Config))). Among f gs) (sym way.are)
+    (came_within StartsAt LeadsTo one_start one_led p i (columns_of p.net word) way.k k (code_of v) old way.y y way.before fs way.within
+    (omega arith) way.came way.leads came f on))
+  ]
+
+  stopped_kept : (k : ℕ) → WalkedAlong p i word old new (along.NotLearned k) → (f : Fact (List Config)) → Among f old.seen
+      → Among f new.seen
+  stopped_kept zero (none, saw, last) f seen = (saw f).1 (inl seen)
+  stopped_kept (suc k) (y, fs, lt, came, none, saw, last) f seen = (saw f).1 (inl seen)
+
+  pub not_learned : (k : ℕ) → IsPlan p → All IsSymbol word → WalkedAlong p i word old new (along.NotLearned k)
+      → Learned (along.NotLearned k) → Walks p d level word old new (NotLearned k)
+  not_learned k plan symbols walked learned = record {
     start = i;
     is_start = start;
     walked = walked;
     verdict = tt;
-    learned = λ k' code seen. let e : along.NotLearned k ≡ along.End code k' = learned k' code seen in absurd cc;
+    kept = stopped_kept k walked;
+    within = λ u facts other. stopped_within k walked u facts (sll_way p d level i word u facts old plan symbols other start);
+    learned = λ u facts other seen.
+        let (k', to, count) = seen_to plan symbols u facts other seen in
+        let e : along.NotLearned k ≡ along.End (code_of u) k' = learned k' (code_of u) to in absurd cc;
   }
 
 -- the symbols of the tokens from a place on

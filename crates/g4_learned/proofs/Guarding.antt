@@ -9,7 +9,8 @@ use Rattle.g4_net.specs.declared.network.State.TheVariants.{Decision, End, Edge,
 use Rattle.g4_net.specs.Network.{ParserNetwork, state_at, IsFirst}
 use Rattle.g4_net.proofs.Pigeons.{In, In-from, In-to}
 use Rattle.g4_lookahead.proofs.OneChoice.{one_first}
-use Rattle.g4_learned.specs.Levels.{MeetsBy, AllowedAt, AllowSame, IsGuard, next_level, next_levels, AreLevels}
+use Rattle.g4_guards.specs.Levels.{MeetsBy, AllowedAt, AllowSame, IsGuard}
+use Rattle.g4_learned.specs.Levels.{next_level, next_levels, AreLevels}
 
 -- what is asked of a level
 meets_level : (n q u : ℕ) (o : Option (State (List ℕ))) → o ≡ Some (Level q u) → MeetsBy n o → n ≤ q

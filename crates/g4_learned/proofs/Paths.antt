@@ -4,8 +4,7 @@ use Rattle.std.proofs.lemmas.List.Elements.{All-head, All-tail}
 use Rattle.std.proofs.lemmas.Option.{slice_get_within}
 use Rattle.g4_net.specs.Configurations.{Config, IsRow, wildcard}
 use Rattle.g4_net.specs.Lookahead.{Next, Start}
-use Rattle.g4_net.specs.Network.{ParserNetwork}
-use Rattle.g4_net.specs.Prediction.{Any, HasTests, Judges, Path, Sll, SllFrom, Verdict, answer, error_at, sensitive}
+use Rattle.g4_net.specs.Prediction.{Judges, Path, Sll, SllFrom, Verdict, answer, error_at, sensitive}
 use Rattle.g4_net.specs.Prediction as prediction
 use Rattle.g4_classes.specs.Classes.{IsSymbol}
 use Rattle.g4_lookahead.specs.EndOfList.{GoesOn}
@@ -17,10 +16,11 @@ use Rattle.g4_store.specs.declared.automaton.Plan.{Plan}
 use Rattle.g4_store.specs.declared.path.Path as stored
 use Rattle.g4_store.specs.Paths.{IsPath, LeadsOn}
 use Rattle.g4_learned.specs.Automata.{IsLed, LeadsTo, StartsAt, code_of}
-use Rattle.g4_learned.specs.Levels.{AllowedAt}
+use Rattle.g4_guards.specs.Levels.{AllowedAt}
 use Rattle.g4_learned.specs.Stored.{IsPlan, IsStored, stored_entry}
-use Rattle.g4_learned.specs.Tables.{Tables, column_of}
-use Rattle.g4_learned.proofs.Alike.{guard_same, led_same, next_of_same, next_same, same_back, sll_allowed, untested_same}
+use Rattle.g4_learned.specs.Tables.{IsStartOf, Tables, column_of}
+use Rattle.g4_guards.proofs.Same.{sll_over}
+use Rattle.g4_learned.proofs.Alike.{led_same, next_of_same, next_same}
 
 -- the row of a set has its members
 pub same_as_row : (row : List Config) (C : Config → Type 0) → IsRow row C → AreSame C (Contains row)
@@ -93,26 +93,28 @@ module _ (p : Plan Tables) (plan : IsPlan p) where
       small (error_at k) tells = omega arith
       small (sensitive k) tells = omega arith
 
+  -- SLL's path begins at the start of its decision at the level, and leads on
+  pub sll_is_way : (d level i : ℕ) (w : List ℕ) (v : Verdict) (path : Path) → All IsSymbol w
+      → Sll p.net.net d (AllowedAt p.net.net d level) w v path → IsStartOf p.net d level i
+      → StartsAt p.net i path.start × LeadsOn StartsAt LeadsTo p path.start (map (stored_entry p.net) path.looked)
+  sll_is_way d level i w v path symbols sll (guard, at, guards) =
+      let C = Start p.net.net d (AllowedAt p.net.net d guard) wildcard in
+      let here = sll_over p.net.net d (AllowedAt p.net.net d level) (AllowedAt p.net.net d guard) (λ j t first. (guards.same j).1)
+      (λ j t first. (guards.same j).0) w v path sll in
+      let small = has_code d (AllowedAt p.net.net d level) w v path sll in (
+        (d, guard, at, here.0),
+        sll_leads path.start C w 0 v path.looked here.0 symbols small here.1,
+      )
+
   -- a path that is stored is a path of the automaton
   pub stored_is_path : (d level : ℕ) (w : List ℕ) (v : Verdict) (path : Path) (q : stored.Path (List Config)) → All IsSymbol w
       → Sll p.net.net d (AllowedAt p.net.net d level) w v path → IsStored p.net d level path q → IsPath StartsAt LeadsTo p q
   stored_is_path d level w v path q symbols sll is =
+      let way = sll_is_way d level q.start w v path symbols sll is.start in
       let (guard, at, guards) = is.start in
-      let C = Start p.net.net d (AllowedAt p.net.net d guard) wildcard in
-      let same : AreSame (Start p.net.net d (AllowedAt p.net.net d level) wildcard) C =
-      same_back C (Start p.net.net d (AllowedAt p.net.net d level) wildcard) (guard_same p.net.net d level guard guards) in
-      let here = sll_allowed p.net.net d (AllowedAt p.net.net d level) (AllowedAt p.net.net d guard) w v path same sll in
-      let small = has_code d (AllowedAt p.net.net d level) w v path sll in
       let within = slice_get_within p.net.starts q.start (d, guard) at in (
         subst (λ n. q.start < n) (sym plan.starts) within,
-        (d, guard, at, subst (λ (row : List Config). IsRow row C) (sym is.content) here.0),
+        subst (λ (row : List Config). StartsAt p.net q.start row) (sym is.content) way.0,
         subst (λ (x : List Config). LeadsOn StartsAt LeadsTo p x q.looked.items) (sym is.content)
-            (subst (LeadsOn StartsAt LeadsTo p path.start) (sym is.looked)
-            (sll_leads path.start C w 0 v path.looked here.0 symbols small here.1)),
+            (subst (LeadsOn StartsAt LeadsTo p path.start) (sym is.looked) way.1),
       )
-
--- where no alternative begins with a test, SLL's path is the same at each level
-pub sll_untested : (net : ParserNetwork) (d level : ℕ) (w : List ℕ) (v : Verdict) (path : Path) → (HasTests net d → ⊥)
-    → Sll net d Any w v path → Sll net d (AllowedAt net d level) w v path
-sll_untested net d level w v path untested sll =
-    sll_allowed net d Any (AllowedAt net d level) w v path (untested_same net d level untested) sll

@@ -6,7 +6,8 @@ use Rattle.std.specs.List.Sorted.{IsStrictlyIncreasing}
 use Rattle.g4_net.specs.declared.network.State.{State}
 use Rattle.g4_net.specs.declared.network.State.TheVariants.{Decision, End, Edge, Call, Predicate, Level, Action, Empty}
 use Rattle.g4_net.specs.Network.{ParserNetwork, state_at}
-use Rattle.g4_learned.specs.Levels.{AreLevels, AreLevelsOf, IsDecision, IsGuard}
+use Rattle.g4_guards.specs.Levels.{IsDecision, IsGuard}
+use Rattle.g4_learned.specs.Levels.{AreLevels, AreLevelsOf}
 use Rattle.g4_learned.specs.Tables.{AreKeys, AreStarts, HasFewAlternatives, keys_from, places_from}
 use Rattle.g4_learned.proofs.Guarding.{guard_at, level_fits}
 use Rattle.g4_learned.proofs.Placing.{IsKeyAt, before, count_keys, get_cases, get_left, get_right, high_at, key_at, key_from, keys_more, length_keys, low_at, places_more, rising, total}

@@ -1,13 +1,13 @@
 -- What a walk along learned words tells is what SLL says, and no walk goes past END.
-use Rattle.std.proofs.Common.{◌≡◌, ◌<◌, ◌+◌, ◌^◌, ◌⊎◌, inl, inr, ℕ, zero, suc, List, [], ◌∷◌, ◌++◌, All, Contains, length, take, drop, get_or, refl, sym, ◌∙◌, ap, subst, arith, true, add-one, drop-cons, append_assoc}
-use Rattle.std.proofs.lemmas.List.{get_or-map, length-map, length-take-le, take_all, take-append-drop, take-map}
+use Rattle.std.proofs.Common.{◌≡◌, ◌<◌, ◌+◌, ◌^◌, ◌⊎◌, inl, inr, ℕ, zero, suc, List, [], ◌∷◌, ◌++◌, All, Contains, length, take, drop, get_or, map, refl, sym, ◌∙◌, ap, subst, arith, true, add-one, drop-cons, append_assoc}
+use Rattle.std.proofs.lemmas.List.{get_or-map, length-append, length-map, length-take-le, take_all, take-append-drop, take-map}
 use Rattle.std.proofs.lemmas.List.Elements.{All-cons, All-get_or, All-head, All-nil, All-tail, All-take}
 use Rattle.g4_tokens.specs.Symbols.{end_of_list}
 use Rattle.g4_net.specs.AddedRule.{IsReady}
 use Rattle.g4_net.specs.Configurations.{Config, IsRow, wildcard}
 use Rattle.g4_net.specs.Lookahead.{Next, Start}
 use Rattle.g4_net.specs.Network.{ParserNetwork}
-use Rattle.g4_net.specs.Prediction.{Looked, Path, Sll, SllFrom, Verdict}
+use Rattle.g4_net.specs.Prediction.{Looked, SllFrom, Verdict}
 use Rattle.g4_net.specs.Prediction as prediction
 use Rattle.g4_net.proofs.Pigeons.{In, In-from}
 use Rattle.g4_classes.specs.Classes.{IsSymbol}
@@ -16,15 +16,18 @@ use Rattle.g4_lookahead.proofs.Apart.{after_end, stands_start}
 use Rattle.g4_lookahead.proofs.Judging.{AreSame, row_of_set, sll_same}
 use Rattle.g4_lookahead.proofs.Settling.{settled_sll}
 use Rattle.g4_store.specs.declared.automaton.Fact.{Fact}
+use Rattle.g4_store.specs.declared.automaton.Fact.TheVariants.{Cell}
+use Rattle.g4_store.specs.declared.automaton.Fact.TheVariants as fact
 use Rattle.g4_store.specs.declared.automaton.Led.TheVariants.{Row, End}
 use Rattle.g4_store.specs.declared.automaton.Plan.{Plan}
 use Rattle.g4_store.specs.declared.view.View.{View}
 use Rattle.g4_store.specs.declared.walk.Walk.TheVariants as walk
-use Rattle.g4_store.specs.Walks.{Along, Walked}
+use Rattle.g4_store.specs.Paths.{cells_of}
+use Rattle.g4_store.specs.Walks.{Along, SawAlso, Walked}
 use Rattle.g4_store.specs.Walks.Along.{here, onward}
 use Rattle.g4_learned.specs.Automata.{EndsAs, IsLed, LeadsTo, StartsAt, verdict_at}
-use Rattle.g4_learned.specs.Levels.{AllowedAt}
-use Rattle.g4_learned.specs.Stored.{columns_of}
+use Rattle.g4_guards.specs.Levels.{AllowedAt}
+use Rattle.g4_learned.specs.Stored.{ArePassed, columns_of, stored_entry}
 use Rattle.g4_learned.specs.Tables.{IsStartOf, Tables, column_of}
 use Rattle.g4_learned.proofs.Alike.{goes_on_same, guard_same, next_of_same, same_back}
 use Rattle.g4_learned.proofs.Paths.{same_as_row}
@@ -78,11 +81,12 @@ length-last [] a = refl
 length-last (b ∷ w) a = ap suc (length-last w a)
 
 module _ (t : Tables) where
-  -- what SLL says after a walk along columns, it says before it
+  -- what SLL says after a walk along columns, it says before it, and the cells of the way come first in its path
   along_says : (x y : List Config) (ss : List ℕ) (fs : List (Fact (List Config))) → Along LeadsTo t x ss fs y
       → (w rest : List ℕ) (k : ℕ) (v : Verdict) (looked : List Looked) → All IsSymbol w → columns_of t w ≡ ss
       → SllFrom t.net (Contains y) rest (k + length w) v looked
       → (more : List Looked) × SllFrom t.net (Contains x) (w ++ rest) k v more
+      × (cells_of x (map (stored_entry t) more) ≡ fs ++ cells_of y (map (stored_entry t) looked))
   along_says x _ _ _ here w rest k v looked symbols e says =
       let none = none_of t w e in
       let start : k + 0 ≡ k = omega arith in (
@@ -90,6 +94,7 @@ module _ (t : Tables) where
         subst (λ (u : List ℕ). SllFrom t.net (Contains x) (u ++ rest) k v looked) (sym none)
             (subst (λ n. SllFrom t.net (Contains x) rest n v looked) start
             (subst (λ (u : List ℕ). SllFrom t.net (Contains x) rest (k + length u) v looked) none says)),
+        refl,
       )
   along_says x _ _ _ (onward ss fs y s z mark along leads) w rest k v looked symbols e says =
       let last = last_of t w ss s e in
@@ -111,14 +116,33 @@ module _ (t : Tables) where
       (λ conflict lone. goes.clear (record { conflict = conflict; none_lone = lone })) led.2 later in
       let found = along_says x y ss fs along u (a ∷ rest) k v _ all.0 last.columns before in
       let whole : w ++ rest ≡ u ++ (a ∷ rest) = ap (λ (xs : List ℕ). xs ++ rest) last.split ∙ append_assoc u (a ∷ []) rest in
-      (found.0, subst (λ (xs : List ℕ). SllFrom t.net (Contains x) xs k v found.0) (sym whole) found.1)
+      let cells = cells_of z (map (stored_entry t) looked) in
+      let one : Cell y (column_of t a) (Row z 0) ∷ cells ≡ Cell y s (Row z mark) ∷ cells =
+      ap (λ n. Cell y n (Row z 0) ∷ cells) last.column ∙ ap (λ n. Cell y s (Row z n) ∷ cells) (sym led.0) in (
+        found.0,
+        subst (λ (xs : List ℕ). SllFrom t.net (Contains x) xs k v found.0) (sym whole) found.1,
+        found.2 ∙ (ap (λ (xs : List (Fact (List Config))). fs ++ xs) one ∙ sym (append_assoc fs (Cell y s (Row z mark) ∷ []) cells)),
+      )
 
-  -- what SLL says where it ends
-  ends_says : (C : Config → Type 0) (a code k : ℕ) (rest : List ℕ) → EndsAs (Next t.net C a) code
+  -- what SLL says where it ends, with one cell
+  ends_says : (x : List Config) (C : Config → Type 0) (a code k : ℕ) (rest : List ℕ) → EndsAs (Next t.net C a) code
       → (looked : List Looked) × SllFrom t.net C (a ∷ rest) k (verdict_at code k) looked
-  ends_says C a zero k rest e = (_, prediction.nothing_left e)
-  ends_says C a (suc zero) k rest (several, matters) = (_, prediction.gives_up several matters.conflict matters.none_lone)
-  ends_says C a (suc (suc i)) k rest only = (_, prediction.one_left i only)
+      × (cells_of x (map (stored_entry t) looked) ≡ Cell x (column_of t a) (End code) ∷ [])
+  ends_says x C a zero k rest e = (_, prediction.nothing_left e, refl)
+  ends_says x C a (suc zero) k rest (several, matters) =
+      (_, prediction.gives_up several matters.conflict matters.none_lone, refl)
+  ends_says x C a (suc (suc i)) k rest only =
+      let code : i + 2 ≡ suc (suc i) = omega arith in
+      (_, prediction.one_left i only, ap (λ n. Cell x (column_of t a) (End n) ∷ []) code)
+
+  -- a way along columns has a cell for each
+  pub along_length : (x y : List Config) (ss : List ℕ) (fs : List (Fact (List Config))) → Along LeadsTo t x ss fs y → length fs ≡ length ss
+  along_length x _ _ _ here = refl
+  along_length x _ _ _ (onward ss fs y s z mark along leads) =
+      let before = along_length x y ss fs along in
+      let one = length-append fs (Cell y s (Row z mark) ∷ []) in
+      let two = length-append ss (s ∷ []) in
+      omega arith
 
   -- the start of a decision at a level has the row of its start set there
   pub starts_so : (d level i : ℕ) (row : List Config) → IsStartOf t d level i → StartsAt t i row
@@ -130,20 +154,21 @@ module _ (t : Tables) where
       (subst (λ (key : ℕ × ℕ). IsRow row (Start t.net key.0 (AllowedAt t.net key.0 key.1) wildcard)) same is)
 
   module _ (p : Plan Tables) (is_net : p.net ≡ t) where
-    -- a walk to an end tells SLL's verdict
+    -- a walk to an end tells SLL's verdict, and has seen the words of its path
     pub walked_says : (d level i code k : ℕ) (w : List ℕ) (old new : View (List Config)) → IsStartOf t d level i → All IsSymbol w
         → Walked StartsAt LeadsTo p i (columns_of t w) old new (walk.End code k)
-        → (code < 2 ^ 32) × ((path : Path) × Sll t.net d (AllowedAt t.net d level) w (verdict_at code k) path)
+        → (code < 2 ^ 32) × ((facts : List (Fact (List Config))) × ArePassed t d level w (verdict_at code k) facts
+        × SawAlso facts old new × (length facts ≡ k + 2))
     walked_says d level i code k w old new start symbols (y, fs, lt, came, ends, saw) =
         let many : length (columns_of t w) ≡ length w = length-map w (column_of t) in
         let within : k < length w = omega arith in
         let a = get_or w k 0 in
+        let s = get_or (columns_of t w) k 0 in
         let symbol : IsSymbol a = All-get_or IsSymbol w k 0 within symbols in
-        let column : get_or (columns_of t w) k 0 ≡ column_of t a = get_or-map (column_of t) w k 0 0 within in
-        let leads : LeadsTo t y (get_or (columns_of t w) k 0) (End code) =
-        subst (λ (q : Tables). LeadsTo q y (get_or (columns_of t w) k 0) (End code)) is_net ends in
+        let column : s ≡ column_of t a = get_or-map (column_of t) w k 0 0 within in
+        let leads : LeadsTo t y s (End code) = subst (λ (q : Tables). LeadsTo q y s (End code)) is_net ends in
         let led : IsLed (Next t.net (Contains y) a) (End code) = leads.each a symbol (sym column) in
-        let last = ends_says (Contains y) a code k (drop (k + 1) w) led.1 in
+        let last = ends_says y (Contains y) a code k (drop (k + 1) w) led.1 in
         let taken : length (take k w) ≡ k = length-take-le k w (omega arith) in
         let front : k ≡ 0 + length (take k w) = omega arith in
         let along : Along LeadsTo t came.first (take k (columns_of t w)) came.on y =
@@ -159,11 +184,34 @@ module _ (t : Tables) where
         let first : StartsAt t i came.first = subst (λ (q : Tables). StartsAt q i came.first) is_net came.starts_so in
         let row = starts_so d level i came.first start first in
         let C = Start t.net d (AllowedAt t.net d level) wildcard in
-        let same = same_as_row came.first C row in (
+        let same = same_as_row came.first C row in
+        let cell = Cell y s (End code) in
+        let cells : cells_of came.first (map (stored_entry t) found.0) ≡ came.on ++ cell ∷ [] =
+        found.2 ∙ ap (λ (xs : List (Fact (List Config))). came.on ++ xs) (last.2 ∙ ap (λ n. Cell y n (End code) ∷ []) (sym column)) in
+        let are : fs ++ cell ∷ [] ≡ fact.Start i came.first ∷ cells_of came.first (map (stored_entry t) found.0) =
+        ap (λ (xs : List (Fact (List Config))). xs ++ cell ∷ []) came.facts
+        ∙ ap (λ (xs : List (Fact (List Config))). fact.Start i came.first ∷ xs) (sym cells) in
+        let count : length (fs ++ cell ∷ []) ≡ k + 2 =
+        let one = length-append fs (cell ∷ []) in
+        let two : length fs ≡ suc (length came.on) = ap length came.facts in
+        let three = along_length came.first y (take k (columns_of t w)) came.on along in
+        let four = length-take-le k (columns_of t w) (omega arith) in
+        omega arith in (
           led.0,
           (
-            record { start = came.first; looked = found.0 },
-            (row, sll_same t.net (Contains came.first) C (λ c. (same c).1) (λ c. (same c).0) w 0 (verdict_at code k) found.0 says),
+            fs ++ cell ∷ [],
+            record {
+              path = record { start = came.first; looked = found.0 };
+              sll = (
+                row,
+                sll_same t.net (Contains came.first) C (λ c. (same c).1) (λ c. (same c).0) w 0 (verdict_at code k) found.0 says,
+              );
+              start = i;
+              is_start = start;
+              are = are;
+            },
+            saw,
+            count,
           ),
         )
 

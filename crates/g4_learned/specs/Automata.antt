@@ -7,7 +7,7 @@ use Rattle.g4_lookahead.specs.EndOfList.{GoesOn, Matters}
 use Rattle.g4_classes.specs.Classes.{IsSymbol}
 use Rattle.g4_store.specs.declared.automaton.Led.{Led}
 use Rattle.g4_store.specs.declared.automaton.Led.TheVariants.{Row, End}
-use Rattle.g4_learned.specs.Levels.{AllowedAt}
+use Rattle.g4_guards.specs.Levels.{AllowedAt}
 use Rattle.g4_learned.specs.Tables.{Tables, column_of}
 
 -- the code of a verdict, which is that of its end: where it comes is not in it

@@ -1,17 +1,21 @@
 -- Plans of the parser's store, and paths of SLL as they are learned.
-use Rattle.std.specs.Prelude.{◌≡◌, ◌≤◌, ◌<◌, ◌⊎◌, ℕ, ◌*◌, ◌^◌, List, [], length, map}
+use Rattle.std.specs.Prelude.{◌≡◌, ◌≤◌, ◌<◌, ◌⊎◌, ℕ, ◌*◌, ◌^◌, List, [], ◌∷◌, length, map}
 use Rattle.g4_net.specs.AddedRule.{IsReady}
 use Rattle.g4_net.specs.Configurations.{Config}
 use Rattle.g4_net.specs.Network.{ParserNetwork}
 use Rattle.g4_net.specs.Prediction as prediction
+use Rattle.g4_store.specs.declared.automaton.Fact.{Fact}
+use Rattle.g4_store.specs.declared.automaton.Fact.TheVariants.{Start}
 use Rattle.g4_store.specs.declared.automaton.Led.{Led}
 use Rattle.g4_store.specs.declared.automaton.Led.TheVariants.{Row, End}
 use Rattle.g4_store.specs.declared.automaton.Plan.{Plan}
 use Rattle.g4_store.specs.declared.path.Looked.{Looked}
 use Rattle.g4_store.specs.declared.path.Path.{Path}
+use Rattle.g4_store.specs.Paths.{cells_of}
 use Rattle.g4_store.specs.Words.{size_of}
 use Rattle.g4_learned.specs.declared.store.TheConstants.{MOST_CELLS}
 use Rattle.g4_learned.specs.Automata.{code_of}
+use Rattle.g4_guards.specs.Levels.{AllowedAt}
 use Rattle.g4_learned.specs.Tables.{AreTables, IsStartOf, Tables, column_of}
 
 -- The columns and the starts are those of the network's tables, there are no more cells and starts than a store may have, and the
@@ -59,3 +63,15 @@ pub record IsStored (t : Tables) (d level : ℕ) (path : prediction.Path) (store
   pub start : IsStartOf t d level stored.start
   pub content : stored.content ≡ path.start
   pub looked : stored.looked.items ≡ map (stored_entry t) path.looked
+
+-- the start and the cells of a path, from the start of this number
+abbrev pub facts_from : Tables → ℕ → prediction.Path → List (Fact (List Config))
+facts_from t start path = Start start path.start ∷ cells_of path.start (map (stored_entry t) path.looked)
+
+-- The facts are the start and the cells of the path that SLL has at a decision, over the alternatives that may be taken at the level.
+pub record ArePassed (t : Tables) (d level : ℕ) (word : List ℕ) (v : prediction.Verdict) (facts : List (Fact (List Config))) : Type 0 where
+  pub path : prediction.Path
+  pub sll : prediction.Sll t.net d (AllowedAt t.net d level) word v path
+  pub start : ℕ
+  pub is_start : IsStartOf t d level start
+  pub are : facts ≡ facts_from t start path

@@ -5,7 +5,8 @@ use Rattle.g4_net.specs.declared.network.State.TheVariants.{Decision}
 use Rattle.g4_net.specs.Network.{ParserNetwork, state_at}
 use Rattle.g4_classes.specs.Columns.{AreColumnsOf, column_in}
 use Rattle.g4_learned.specs.declared.levels.TheConstants.{MOST_ALTERNATIVES}
-use Rattle.g4_learned.specs.Levels.{AreLevelsOf, IsDecision, IsGuard}
+use Rattle.g4_guards.specs.Levels.{IsDecision, IsGuard}
+use Rattle.g4_learned.specs.Levels.{AreLevelsOf}
 
 -- the network; for each symbol, by its index, its column, and how many columns there are; for each start its decision and its guard
 pub record Tables : Type 0 where

@@ -8,7 +8,7 @@ use Rattle.g4_lookahead.specs.EndOfList.{GoesOn}
 use Rattle.g4_store.specs.declared.automaton.Led.{Led}
 use Rattle.g4_store.specs.declared.automaton.Led.TheVariants.{Row, End}
 use Rattle.g4_learned.specs.Automata.{EndsAs, IsLed, LeadsTo, StartsAt}
-use Rattle.g4_learned.specs.Levels.{AllowedAt}
+use Rattle.g4_guards.specs.Levels.{AllowedAt}
 use Rattle.g4_learned.specs.Tables.{Tables}
 
 -- what is there

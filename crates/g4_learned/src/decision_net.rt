@@ -1,7 +1,7 @@
 // The network with what a decision asks of it.
 ghost use Rattle.std.specs.Prelude.{◌≡◌, ◌≤◌, ◌<◌, IfOk, length};
 ghost use Rattle.g4_net.specs.declared.network.TheConstants.{MOST_STATES};
-ghost use Rattle.g4_learned.specs.Levels.{IsDecision};
+ghost use Rattle.g4_guards.specs.Levels.{IsDecision};
 ghost use Rattle.g4_learned.specs.Tables.{AreTables, IsStartOf, column_of as column_at};
 
 use crate::starts::{Starts, last_within};

@@ -2,7 +2,7 @@
 ghost use Rattle.std.specs.Prelude.{◌≡◌, ◌≤◌, ◌<◌, ◌^◌, IfNone, IfOk, IfSome, length};
 ghost use Rattle.g4_predict.specs.Paths.{led_of, looked_of, path_of, verdict_of};
 ghost use Rattle.g4_learned.specs.Automata.{code_of as code_for, verdict_at as verdict_for};
-ghost use Rattle.g4_learned.specs.Levels.{IsDecision};
+ghost use Rattle.g4_guards.specs.Levels.{IsDecision};
 ghost use Rattle.g4_learned.specs.Stored.{IsStored, stored_entry as stored_entry_of, stored_led as stored_led_of};
 
 use crate::decision_net::DecisionNet;

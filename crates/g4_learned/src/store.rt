@@ -12,7 +12,7 @@ ghost use Rattle.g4_store.specs.Closing.{Closes};
 ghost use Rattle.g4_store.specs.Views.{copied, leading, met, no_looks, pass_view};
 ghost use Rattle.g4_net.specs.AddedRule.{IsReady};
 ghost use Rattle.g4_learned.specs.Automata.{LeadsTo, StartsAt};
-ghost use Rattle.g4_learned.specs.Levels.{AllowedAt, IsDecision};
+ghost use Rattle.g4_guards.specs.Levels.{AllowedAt, IsDecision};
 ghost use Rattle.g4_learned.specs.Stored.{IsPlan, IsStored, IsTooLarge};
 ghost use Rattle.g4_learned.specs.declared.store.OpenFault.TheVariants.{TooLarge};
 ghost use Rattle.g4_learned.specs.Tables.{AreTables};

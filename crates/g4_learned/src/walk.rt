@@ -6,7 +6,7 @@ ghost use Rattle.g4_store.specs.Walks.{Keeps, SeenTo, Ticks};
 ghost use Rattle.g4_tokens.specs.Symbols.{end_of_list};
 ghost use Rattle.g4_tokens.specs.TokenList.{EndsInEnd, word_of};
 ghost use Rattle.g4_learned.specs.Automata.{LeadsTo, StartsAt};
-ghost use Rattle.g4_learned.specs.Levels.{IsDecision};
+ghost use Rattle.g4_guards.specs.Levels.{IsDecision};
 ghost use Rattle.g4_learned.specs.Stored.{columns_of};
 ghost use Rattle.g4_learned.specs.Walks.{Loads, WalkedAlong, Walks};
 

@@ -7,7 +7,7 @@ use Rattle.g4_predict.specs.declared.path.Path.{Path}
 use Rattle.g4_predict.specs.Paths.{path_of}
 use Rattle.g4_tokens.specs.declared.token.Token.{Token}
 use Rattle.g4_tokens.specs.TokenList.{EndsInEnd, word_of}
-use Rattle.g4_learned.specs.Levels.{AllowedAt, IsDecision}
+use Rattle.g4_guards.specs.Levels.{AllowedAt, IsDecision}
 
 -- The path is that of its decision on these tokens, in a rule that was called at level 0.
 pub record IsAsked (net : ParserNetwork) (tokens : List Token) (path : Path) : Type 0 where

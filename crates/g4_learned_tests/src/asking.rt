@@ -1,7 +1,7 @@
 // Questions of decisions: a grammar, a text, and the path of the first decision on it.
 ghost use Rattle.std.specs.Prelude.{◌≡◌, ◌≤◌, ◌<◌, ◌^◌, IfOk, IsTrue, All, length};
 ghost use Rattle.g4_classes.specs.Classes.{IsSymbol};
-ghost use Rattle.g4_learned.specs.Levels.{IsDecision};
+ghost use Rattle.g4_guards.specs.Levels.{IsDecision};
 ghost use Rattle.g4_learned_tests.specs.Asked.{IsAsked};
 ghost use Rattle.g4_lexer.specs.Lexers.{HasTokenTypes};
 ghost use Rattle.g4_load.specs.Usable.{IsUsable};
@@ -10,11 +10,12 @@ ghost use Rattle.g4_ordered.specs.Network.{IsLexable};
 ghost use Rattle.g4_tokens.specs.TokenList.{EndsInEnd, word_of};
 
 use g4_base::{Sequence, Text};
+use g4_guards::allowed_at;
 use g4_lexer::{Lexer, tokens};
 use g4_load::{Interpreter, build_interpreter};
-use g4_net::{Allowed, ParserNetwork, State};
+use g4_net::{ParserNetwork, State};
 use g4_ports::{MemFile, MemShelf};
-use g4_predict::{Path, has_test, simulate};
+use g4_predict::{Path, simulate};
 use g4_tokens::{END, EOF, MOST_TYPES, Token, Tokens};
 use std::alloc::{AllocError, Global};
 use std::test::Fail;
@@ -100,14 +101,15 @@ pub(crate) fn ask(
     requires types { HasTokenTypes lexer.now }
     ensures { IfOk result (λ asked. IsAsked net.now asked.1.list asked.0) }
 {
-    if !is_decision(net, DECISION) || has_test(net, DECISION) {
-        return Err(Fail::from("no decision without tests"));
+    if !is_decision(net, DECISION) {
+        return Err(Fail::from("no decision"));
     }
     let tokens = tokens_of(alloc, lexer, text)?;
     let list = tokens.list.as_slice();
     if list.is_empty() || !have_symbols(list) {
         return Err(Fail::from("no symbols"));
     }
-    let (_, path) = simulate(alloc, net, DECISION, &Allowed::Every, list)?;
+    let allowed = allowed_at(alloc, net, DECISION, 0)?;
+    let (_, path) = simulate(alloc, net, DECISION, &allowed, list)?;
     Ok((path, tokens))
 }

@@ -1,10 +1,11 @@
 // Starts of decisions whose alternatives begin with levels.
 ghost use Rattle.std.specs.Prelude.{◌<◌, IsTrue};
-ghost use Rattle.g4_learned.specs.Levels.{IsDecision};
+ghost use Rattle.g4_guards.specs.Levels.{IsDecision};
 
 use g4_base::Sequence;
+use g4_guards::allowed_at;
 use g4_learned::DecisionNet;
-use g4_net::{MOST_STATES, Network, ParserNetwork, State};
+use g4_net::{Allowed, MOST_STATES, Network, ParserNetwork, State};
 use g4_tokens::Symbols;
 use std::alloc::{AllocError, Global};
 use std::test::Fail;
@@ -52,6 +53,27 @@ fn start_at(alloc: Global, count: u32, level: u32) -> Result<(usize, usize), Fai
         return Err(Fail::from("no decision"));
     }
     Ok((tables.start_of(0, level), tables.starts()))
+}
+
+/// How many of so many levels and the empty edge a level allows, of which the last must be.
+fn allowed_of(alloc: Global, count: u32, level: u32) -> Result<usize, Fail>
+    requires { count < 100000 }
+{
+    let net = levels(alloc, count)?;
+    let allowed = allowed_at(alloc, &net, 0, level)?;
+    assert!(allowed.has(count + 1), "the empty edge");
+    match allowed {
+        Allowed::Every => Ok(count as usize + 1),
+        Allowed::Listed(list) => Ok(list.len()),
+    }
+}
+
+#[test]
+fn allowed_of_many_levels(rt: HostRuntime) -> Result<(), Fail> {
+    for (level, allowed) in [(0, 60_001), (2, 60_001), (3, 60_000), (60_001, 30_001), (120_001, 1)] {
+        assert_eq!(rt; allowed_of(rt.alloc(), 60_000, level)?, allowed, "at {level}");
+    }
+    Ok(())
 }
 
 #[test]

@@ -118,6 +118,11 @@ module _ {A : Type 0} where
   among_right a [] ys m = m
   among_right a (x ∷ xs) ys m = inr (among_right a xs ys m)
 
+  pub among_either : (a : A) (xs ys : List A) → Among a (xs ++ ys) → Among a xs ⊎ Among a ys
+  among_either a [] ys m = inr m
+  among_either a (x ∷ xs) ys (inl e) = inl (inl e)
+  among_either a (x ∷ xs) ys (inr m) = elim (among_either a xs ys m) [ inl l ↦ inl (inr l) | inr r ↦ inr r ]
+
   pub at_append : (a : A) (xs ys : List A) → Among a (xs ++ ys) → Among a xs ⊎ Among a ys
   at_append a [] ys m = inr m
   at_append a (x ∷ xs) ys (inl e) = inl (inl e)

@@ -1,4 +1,4 @@
--- A walk along words that the pass has seen ends where they end.
+-- A walk along words that the pass has seen ends where they end, and of a way to an end no walk leaves it.
 use Rattle.std.proofs.Common.{◌≡◌, ℕ, zero, suc, ◌<◌, ◌≤◌, List, [], ◌∷◌, ◌++◌, length, take, get_or, refl, sym, ap, ◌∙◌, subst, inl, inr, arith, length-append}
 use native.Mathlib.Decide.{dec_le}
 use mathlib.Core.Logic.{dite}
@@ -13,7 +13,7 @@ use Rattle.g4_store.specs.declared.walk.Walk.TheVariants.{End, Open, NotLearned}
 use Rattle.g4_store.specs.Numbers.{Among}
 use Rattle.g4_store.specs.Walks.{Along, Came, Walked, SeenTo}
 use Rattle.g4_store.specs.Walks.Along.{here, onward}
-use Rattle.g4_store.proofs.Lists.{get_front, get_end, among_left, among_right}
+use Rattle.g4_store.proofs.Lists.{get_front, get_end, among_either, among_left, among_right}
 
 take_front : (xs ys : List ℕ) (j : ℕ) → j ≤ length xs → take j (xs ++ ys) ≡ take j xs
 take_front xs ys zero le = refl
@@ -102,6 +102,61 @@ module _ {N C : Type 0} (leads : N → C → ℕ → Led C → Type 0) where
         among_right _ fs (Cell y s (Row z m) ∷ []) (inl (ap (λ (q : ℕ). Cell y q (Row z m)) (sym g))),
       ))
 
+  -- A cell on the way is at one of the columns, and leads on.
+  record IsOnWay (net : N) (x : C) (ss : List ℕ) (f : Fact C) : Type 0 where
+    place : ℕ
+    within : place < length ss
+    from : C
+    to : C
+    mark : ℕ
+    before : List (Fact C)
+    along : Along leads net x (take place ss) before from
+    leads_on : leads net from (get_or ss place 0) (Row to mark)
+    is : f ≡ Cell from (get_or ss place 0) (Row to mark)
+
+  -- so is each of them
+  along_each : (net : N) (x : C) (ss : List ℕ) (fs : List (Fact C)) (y : C) → Along leads net x ss fs y → (f : Fact C) → Among f fs
+      → IsOnWay net x ss f
+  along_each net x _ _ _ here f m = absurd m
+  along_each net x _ _ _ (onward ss fs y s z mark a l) f m = elim (among_either f fs (Cell y s (Row z mark) ∷ []) m) [
+    | inl early ↦
+      let r = along_each net x ss fs y a f early in
+          let n = length-append ss (s ∷ []) in
+          let lt = r.within in
+          let g : get_or ss r.place 0 ≡ get_or (ss ++ s ∷ []) r.place 0 = sym (get_front ss (s ∷ []) r.place lt) in
+          let t : take r.place ss ≡ take r.place (ss ++ s ∷ []) = sym (take_front ss (s ∷ []) r.place (omega arith)) in
+          record {
+            place = r.place;
+            within = omega arith;
+            from = r.from;
+            to = r.to;
+            mark = r.mark;
+            before = r.before;
+            along = subst (λ (q : List ℕ). Along leads net x q r.before r.from) t r.along;
+            leads_on = subst (λ (q : ℕ). leads net r.from q (Row r.to r.mark)) g r.leads_on;
+            is = r.is ∙ ap (λ (q : ℕ). Cell r.from q (Row r.to r.mark)) g;
+          }
+    | inr last ↦
+      let n = length-append ss (s ∷ []) in
+          let g : s ≡ get_or (ss ++ s ∷ []) (length ss) 0 = sym (get_end ss s) in
+          let t : ss ≡ take (length ss) (ss ++ s ∷ []) = sym (take_front ss (s ∷ []) (length ss) (omega arith) ∙ take_all ss) in
+          record {
+            place = length ss;
+            within = omega arith;
+            from = y;
+            to = z;
+            mark = mark;
+            before = fs;
+            along = subst (λ (q : List ℕ). Along leads net x q fs y) t a;
+            leads_on = subst (λ (q : ℕ). leads net y q (Row z mark)) g l;
+            is = only last ∙ ap (λ (q : ℕ). Cell y q (Row z mark)) g;
+          }
+  ]
+    where
+      only : Among f (Cell y s (Row z mark) ∷ []) → f ≡ Cell y s (Row z mark)
+      only (inl e) = e
+      only (inr none) = absurd none
+
 module _ {N C : Type 0} (starts : N → ℕ → C → Type 0) (leads : N → C → ℕ → Led C → Type 0)
     (one_start : (net : N) (i : ℕ) (x y : C) → starts net i x → starts net i y → x ≡ y)
     (one_led : (net : N) (x : C) (s : ℕ) (a b : Led C) → leads net x s a → leads net x s b → a ≡ b) where
@@ -157,6 +212,50 @@ module _ {N C : Type 0} (starts : N → ℕ → C → Type 0) (leads : N → C �
       let same = came_one p i cs j old r.0 z r.3 gs r.4 b in
       not_row r.1 r.2 code (one_led p.net z (get_or cs j 0) (Row r.1 r.2) (ends code)
       (subst (λ (q : C). leads p.net q (get_or cs j 0) (Row r.1 r.2)) same r.5) l)
+
+  -- of a walk along the columns of a way to an end, each fact is one of the way's
+  pub came_within : (p : Plan N) (i : ℕ) (cs : List ℕ) (k j code : ℕ) (old : View C) (y z : C) (fs gs : List (Fact C)) → k < length cs
+      → j ≤ length cs → Came starts leads p i cs k old y fs → leads p.net y (get_or cs k 0) (ends code)
+      → Came starts leads p i cs j old z gs → (f : Fact C) → Among f gs → Among f (fs ++ Cell y (get_or cs k 0) (ends code) ∷ [])
+  came_within p i cs k j code old y z fs gs lt le way l came f m = first (subst (λ (q : List (Fact C)). Among f q) came.facts m)
+    where
+      last : List (Fact C)
+      last = Cell y (get_or cs k 0) (ends code) ∷ []
+
+      on_way : IsOnWay leads p.net came.first (take j cs) f → Among f fs
+      on_way r =
+          let n = length_take cs j le in
+          let lt' = r.within in
+          let m : ℕ = r.place in
+          let g : get_or (take j cs) m 0 ≡ get_or cs m 0 = get_take cs m j (omega arith) in
+          let here' : Came starts leads p i cs m old r.from (Start i came.first ∷ r.before) = record {
+            first = came.first;
+            starts_so = came.starts_so;
+            on = r.before;
+            along = subst (λ (q : List ℕ). Along leads p.net came.first q r.before r.from) (take_take cs m j (omega arith)) r.along;
+            facts = refl;
+          } in
+          let to : leads p.net r.from (get_or cs m 0) (Row r.to r.mark) =
+          subst (λ (q : ℕ). leads p.net r.from q (Row r.to r.mark)) g r.leads_on in
+          dite (dec_le (suc m) k)
+          (λ (before : suc m ≤ k).
+          let c = came_cut p i cs k m old y fs (omega arith) (omega arith) way in
+          let same : c.0 ≡ r.from = came_one p i cs m old c.0 r.from c.3 (Start i came.first ∷ r.before) c.4 here' in
+          let led : Row c.1 c.2 ≡ Row r.to r.mark = one_led p.net r.from (get_or cs m 0) (Row c.1 c.2) (Row r.to r.mark)
+          (subst (λ (q : C). leads p.net q (get_or cs m 0) (Row c.1 c.2)) same c.5) to in
+          let is : Cell c.0 (get_or cs m 0) (Row c.1 c.2) ≡ f =
+          ap (λ (q : C). Cell q (get_or cs m 0) (Row c.1 c.2)) same ∙ (ap (λ (q : Led C). Cell r.from (get_or cs m 0) q) led
+          ∙ (ap (λ (q : ℕ). Cell r.from q (Row r.to r.mark)) (sym g) ∙ sym r.is)) in
+          subst (λ (q : Fact C). Among q fs) is c.6)
+          (λ (after : ¬ (suc m ≤ k)).
+          no_end p i cs j k code old z y gs fs le (omega arith) came way l)
+
+      first : Among f (Start i came.first ∷ came.on) → Among f (fs ++ last)
+      first (inl e) =
+          let same : Start i came.first ≡ Start i way.first =
+          ap (λ (q : C). Start i q) (one_start p.net i came.first way.first came.starts_so way.starts_so) in
+          among_left f fs last (subst (λ (q : List (Fact C)). Among f q) (sym way.facts) (inl (e ∙ same)))
+      first (inr on) = among_left f fs last (on_way (along_each leads p.net came.first (take j cs) came.on z came.along f on))
 
   pub walked_seen : (p : Plan N) (i : ℕ) (cs : List ℕ) (old new : View C) (r : Walk) (k code : ℕ)
       → SeenTo starts leads p i cs k code old → Walked starts leads p i cs old new r → r ≡ End code k

@@ -1,7 +1,7 @@
 use Rattle.std.proofs.Common.{rules, ◌≡◌, ◌<◌, ℕ, ◌+◌, List, Some, slice_get, length, sym, ap, subst, ◌∙◌, arith}
 use Rattle.std.proofs.lemmas.Option.{slice_get_within, get_or_from_slice_get}
 use Rattle.g4_net.specs.Network.{ParserNetwork}
-use Rattle.g4_learned.specs.Levels.{IsDecision, IsGuard}
+use Rattle.g4_guards.specs.Levels.{IsDecision, IsGuard}
 use Rattle.g4_learned.specs.Tables.{Tables, level_at}
 use Rattle.g4_learned.proofs.Starting.{first_none, found_guard, range_of, range_within}
 use Rattle.g4_learned.proofs.decision_net.DecisionNet.start_of.Goals as goal

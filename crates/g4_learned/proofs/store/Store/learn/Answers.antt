@@ -1,6 +1,6 @@
 use Rattle.std.proofs.Common.{length, sym, ap, subst, arith}
 use Rattle.g4_predict.specs.Paths.{path_of}
-use Rattle.g4_learned.specs.Levels.{IsDecision}
+use Rattle.g4_guards.specs.Levels.{IsDecision}
 use Rattle.g4_learned.specs.Stored.{IsPlan, IsStored}
 use Rattle.g4_learned.specs.Tables.{Tables}
 use Rattle.g4_learned.proofs.Paths.{stored_is_path}

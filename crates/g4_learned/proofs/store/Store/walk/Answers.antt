@@ -2,8 +2,8 @@ use Rattle.std.proofs.Common.{drop, sym, subst}
 use Rattle.std.proofs.lemmas.List.Elements.{All-drop}
 use Rattle.g4_classes.specs.Classes.{IsSymbol}
 use Rattle.g4_tokens.specs.TokenList.{word_of}
-use Rattle.g4_store.specs.declared.walk.Walk.TheVariants.{End, NotLearned, Open}
-use Rattle.g4_learned.specs.Levels.{IsDecision}
+use Rattle.g4_store.specs.declared.walk.Walk.TheVariants.{End, NotLearned}
+use Rattle.g4_guards.specs.Levels.{IsDecision}
 use Rattle.g4_learned.specs.Tables.{IsStartOf, Tables}
 use Rattle.g4_learned.proofs.Answering.{ended, learned_from, not_learned, not_past_end, small_code, walked_from}
 use Rattle.g4_learned.proofs.Walking.{start_within}
@@ -40,7 +40,7 @@ returns-in-End-clause-walks g c =
     let ts = c.args.tokens.now in
     ended p c.args.decision c.args.level i (drop c.args.from (word_of ts)) old new
     (subst (λ (t : Tables). IsStartOf t c.args.decision c.args.level i) c.net.ensures c.start_of-start.ensures)
-    c.in-End.code c.in-End.k c.verdict_at.result (All-drop IsSymbol c.args.from (word_of ts) c.requires.symbols)
+    c.in-End.code c.in-End.k c.verdict_at.result c.self.invariant (All-drop IsSymbol c.args.from (word_of ts) c.requires.symbols)
     (walked_from p i c.args.from ts old new (End c.in-End.code c.in-End.k) c.in-End.ensures.walked) c.verdict_at.ensures
     (learned_from p i c.args.from ts old (End c.in-End.code c.in-End.k) c.in-End.ensures.learned)
 
@@ -53,6 +53,6 @@ returns-in-NotLearned-clause-walks g c =
     let ts = c.args.tokens.now in
     not_learned p c.args.decision c.args.level i (drop c.args.from (word_of ts)) old new
     (subst (λ (t : Tables). IsStartOf t c.args.decision c.args.level i) c.net.ensures c.start_of-start.ensures)
-    c.in-NotLearned.k
+    c.in-NotLearned.k c.self.invariant (All-drop IsSymbol c.args.from (word_of ts) c.requires.symbols)
     (walked_from p i c.args.from ts old new (NotLearned c.in-NotLearned.k) c.in-NotLearned.ensures.walked)
     (learned_from p i c.args.from ts old (NotLearned c.in-NotLearned.k) c.in-NotLearned.ensures.learned)

@@ -1,0 +1,117 @@
+-- What walks and learning leave, as what asking does.
+use Rattle.std.proofs.Common.{◌≡◌, ◌+◌, ◌⊎◌, inl, inr, ℕ, List, Bool, true, false, true≢false, length, map, refl, sym, ◌∙◌, ap, subst, arith}
+use Rattle.g4_net.specs.Configurations.{Config}
+use Rattle.g4_net.specs.Prediction.{Path, Sll, Verdict}
+use Rattle.g4_predict.specs.declared.verdict.Verdict as said
+use Rattle.g4_predict.specs.Paths.{verdict_of}
+use Rattle.g4_store.specs.declared.automaton.Fact.{Fact}
+use Rattle.g4_store.specs.declared.automaton.Fact.TheVariants.{Start}
+use Rattle.g4_store.specs.declared.automaton.Plan.{Plan}
+use Rattle.g4_store.specs.declared.book.Learned.{Learned}
+use Rattle.g4_store.specs.declared.book.Learned.TheVariants.{All, Full}
+use Rattle.g4_store.specs.declared.path.Looked.{Looked}
+use Rattle.g4_store.specs.declared.path.Path as stored
+use Rattle.g4_store.specs.Learned.{IsLearned}
+use Rattle.g4_store.specs.Numbers.{Among}
+use Rattle.g4_store.specs.Paths.{Learns, cells_of, facts_of}
+use Rattle.g4_store.specs.Walks as walks
+use Rattle.g4_guards.specs.Levels.{AllowedAt}
+use Rattle.g4_learned.specs.declared.walk.Walk.{Walk}
+use Rattle.g4_learned.specs.declared.walk.Walk.TheVariants.{Ended, NotLearned}
+use Rattle.g4_learned.proofs.Seeing.{one_passed}
+use Rattle.g4_learned.specs.Stored.{ArePassed, IsPlan, IsStored}
+use Rattle.g4_learned.specs.Tables.{Tables}
+use Rattle.g4_learned.specs.Walks.{Loads, Walks}
+use Rattle.g4_decide.specs.Asking.{Asked, HasSeen, Keeps, Told}
+
+module _ (p : Plan Tables) (d level : ℕ) (word : List ℕ) where
+  -- a walk keeps what there was
+  pub walk_keeps : (old new : Told) (walk : Walk) → Walks p d level word old.0 new.0 walk → walks.Keeps old.0 new.0
+      → Keeps p d level word old new
+  walk_keeps old new walk walked kept =
+      record { seen = walked.kept; within = walked.within; known = kept.known; holds = kept.holds; count = kept.count }
+
+  -- one that ended has asked
+  pub walk_asks : (old new : Told) (v : said.Verdict) (k : ℕ) → Walks p d level word old.0 new.0 (Ended v k) → new.1 ≡ old.1
+      → Asked p d level word (verdict_of v) old new
+  walk_asks old new v k walked same =
+      let (facts, passed, saw, count) = walked.verdict in
+      record {
+        facts = facts;
+        passed = passed;
+        some = λ f among within. (saw f).1 (inr among);
+        whole = λ room f among. (saw f).1 (inr among);
+        full = λ room none. absurd (true≢false (sym none ∙ (same ∙ room)));
+        stays_full = λ none. same ∙ none;
+      }
+
+  -- and where all was seen it ends, with as many loads
+  pub walk_loads : (old new : Told) (before after : ℕ) (walk : Walk) → Walks p d level word old.0 new.0 walk → Loads before after walk
+      → (v : Verdict) (facts : List (Fact (List Config))) → HasSeen p d level word old v facts → after ≡ before + length facts
+  walk_loads old new before after (Ended u k) walked loads v facts (passed, seen) =
+      let came = (walked.learned v facts passed seen).1 in omega (arith, loads)
+  walk_loads old new before after (NotLearned k) walked loads v facts (passed, seen) = absurd (walked.learned v facts passed seen)
+
+  pub walk_ends : (old new : Told) (k : ℕ) → Walks p d level word old.0 new.0 (NotLearned k) → (v : Verdict)
+      (facts : List (Fact (List Config))) → HasSeen p d level word old v facts → ⊥
+  walk_ends old new k walked v facts (passed, seen) = walked.learned v facts passed seen
+
+  module _ (plan : IsPlan p) (path : Path) (v : Verdict) (sll : Sll p.net.net d (AllowedAt p.net.net d level) word v path)
+      (q : stored.Path (List Config)) (is : IsStored p.net d level path q) where
+    -- the words of the path that is stored are those of SLL's path
+    stored_passed : ArePassed p.net d level word v (facts_of q)
+    stored_passed = record {
+      path = path;
+      sll = sll;
+      start = q.start;
+      is_start = is.start;
+      are =
+          ap (λ (x : List Config). Start q.start x ∷ cells_of x q.looked.items) is.content
+          ∙ ap (λ (ls : List (Looked (List Config))). Start q.start path.start ∷ cells_of path.start ls) is.looked;
+    }
+
+    -- what learning it leaves
+    learns_keeps : (old mid new : Told) → Keeps p d level word old mid → Learns q mid.0 new.0 → Keeps p d level word old new
+    learns_keeps old mid new kept learns = record {
+      seen = λ f seen. (learns.seen f).1 (inl (kept.seen f seen));
+      within = λ u facts other f seen. elim ((learns.seen f).0 seen) [
+        | inl before ↦ kept.within u facts other f before
+        | inr now ↦ inr
+        (subst (λ (gs : List (Fact (List Config))). Among f gs)
+        (one_passed p plan d level word v u (facts_of q) facts stored_passed other).1 now.0)
+      ];
+      known = λ t y known. learns.known_kept t y (kept.known t y known);
+      holds = learns.holds ∙ kept.holds;
+      count = learns.count ∙ kept.count;
+    }
+
+    pub learned_keeps : (old mid new : Told) (learned : Learned) → Keeps p d level word old mid → IsLearned p.rows q mid new learned
+        → Keeps p d level word old new
+    learned_keeps old mid new All kept (all, same) = learns_keeps old mid new kept all.learns
+    learned_keeps old mid new Full kept (part, full) = learns_keeps old mid new kept part.learns
+
+    -- and it has asked
+    pub learned_asks : (old mid new : Told) (learned : Learned) → mid.1 ≡ old.1 → IsLearned p.rows q mid new learned
+        → Asked p d level word v old new
+    learned_asks old mid new All same (all, stays) = record {
+      facts = facts_of q;
+      passed = stored_passed;
+      some = λ f among within. (all.learns.seen f).1 (inr (among, within));
+      whole = λ room f among. (all.learns.seen f).1 (inr (among, all.whole f among));
+      full = λ room none. absurd (true≢false (sym none ∙ (stays ∙ (same ∙ room))));
+      stays_full = λ none. stays ∙ (same ∙ none);
+    }
+    learned_asks old mid new Full same (part, full) = record {
+      facts = facts_of q;
+      passed = stored_passed;
+      some = λ f among within. (part.learns.seen f).1 (inr (among, within));
+      whole = λ room f among. absurd (true≢false (sym full ∙ room));
+      full = λ room none. record {
+        rows = part.rows;
+        all = part.all;
+        differ = part.differ;
+        are_known = part.known;
+        missing = part.missing;
+      };
+      stays_full = λ none. full;
+    }

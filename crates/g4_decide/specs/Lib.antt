@@ -1,0 +1,3 @@
+-- Other crates cite each of these.
+pub mod Asking
+pub mod Deciding

@@ -1,0 +1,96 @@
+// The alternative that prediction chooses at a decision.
+ghost use Rattle.std.specs.Prelude.{◌≡◌, ◌+◌, ◌<◌, ◌^◌, All, Contains, IfOk, List, drop, length, reverse};
+ghost use Rattle.g4_classes.specs.Classes.{IsSymbol};
+ghost use Rattle.g4_decide.specs.Asking.{Asked, HasSeen, Keeps, Settles};
+ghost use Rattle.g4_decide.specs.Deciding.{HadMemory, IsChosen};
+ghost use Rattle.g4_fits.specs.Fitting.{SomeFits};
+ghost use Rattle.g4_guards.specs.Levels.{AllowedAt, IsDecision};
+ghost use Rattle.g4_net.specs.AddedRule.{IsReady};
+ghost use Rattle.g4_net.specs.Configurations.{Config, above_bottom};
+ghost use Rattle.g4_net.specs.Prediction.{Full, Verdict as Said};
+ghost use Rattle.g4_net.specs.Proper.{IsProper};
+ghost use Rattle.g4_predict.specs.FullVerdicts.{choice_of};
+ghost use Rattle.g4_store.specs.declared.automaton.Fact.{Fact};
+ghost use Rattle.g4_tokens.specs.Symbols.{end_of_list};
+ghost use Rattle.g4_tokens.specs.TokenList.{EndsInEnd, word_of};
+
+use crate::asking::ask;
+use g4_guards::allowed_at;
+use g4_learned::{DecisionNet, Pass, Store};
+use g4_net::ParserNetwork;
+use g4_predict::{DecideFault, Settled, Verdict, decide_full};
+use g4_store::steps::Steps;
+use g4_store::view::Home;
+use g4_tokens::Token;
+use std::alloc::{AllocError, Global};
+use std::sync::Wait;
+use std::sync::ledger::Ledger;
+
+/// What full stacks settle at a decision in a rule that was called at this level, with the return states of the parser's stack, newest
+/// last.
+fn settle_at(
+    alloc: Global,
+    net: &ParserNetwork,
+    decision: u32,
+    level: u32,
+    returns: &[u32],
+    tokens: &[Token],
+) -> Result<Settled, AllocError>
+    requires ready { IsReady net.now }
+    requires proper { IsProper net.now decision (reverse returns.now) }
+    requires ends { Contains (word_of tokens.now) end_of_list }
+    requires few { length tokens.now < 2 ^ 32 }
+    ensures { IfOk result (λ settled. Full net.now decision (AllowedAt net.now decision level) (above_bottom (reverse returns.now))
+        (word_of tokens.now) (choice_of settled)) }
+{
+    let allowed = allowed_at(alloc, net, decision, level)?;
+    let settled = decide_full(alloc, net, decision, &allowed, returns, tokens)?;
+    Ok(settled)
+}
+
+/// The alternative, counted from 1, that prediction chooses at a decision in a rule that was called at this level, with the return
+/// states of the parser's stack, newest last, on the tokens from a place on: SLL's answer, by what is learned, or that of full stacks
+/// where SLL says that the stack matters. It is the least alternative that may be taken with which all of the tokens can be read, if
+/// there is one.
+///
+/// # Errors
+/// No alternative is viable, or no memory. Where the pass has seen the words of SLL's path and the stack does not matter, it takes no
+/// memory, and makes one step for the decision and one for each token that SLL looks at.
+pub fn decide<B: Home<DecisionNet>, R: Wait, L: Ledger>(
+    rt: &R,
+    alloc: Global,
+    store: &Store<B>,
+    pass: &mut Pass<B>,
+    decision: u32,
+    level: u32,
+    returns: &[u32],
+    tokens: &[Token],
+    from: u32,
+    steps: &mut Steps<L>,
+) -> Result<u32, DecideFault>
+    requires decision { IsDecision B.plan.net.net decision }
+    requires proper { IsProper B.plan.net.net decision (reverse returns.now) }
+    requires symbols { All IsSymbol (word_of tokens.now) }
+    requires ends { EndsInEnd (word_of tokens.now) }
+    requires more { from < length tokens.now }
+    requires few { length tokens.now < 2 ^ 32 }
+    ensures chosen { IsChosen B.plan.net.net decision level (reverse returns.now) (drop from (word_of tokens.now)) from result }
+    ensures keeps { Keeps B.plan decision level (drop from (word_of tokens.now)) pass.old pass.new }
+    ensures asked { HadMemory result
+        → (v : Said) × Asked B.plan decision level (drop from (word_of tokens.now)) v pass.old pass.new }
+    ensures walked { (v : Said) (facts : List (Fact (List Config)))
+        → HasSeen B.plan decision level (drop from (word_of tokens.now)) pass.old v facts
+        → (steps.new ≡ steps.old + length facts) × (Settles v → HadMemory result) }
+{
+    match ask(rt, alloc, store, pass, decision, level, tokens, from, steps)? {
+        Verdict::Answer(alternative) => Ok(alternative),
+        Verdict::ErrorAt(k) => Err(DecideFault::NoViable { at: from + k }),
+        Verdict::Sensitive(_) => {
+            let rest = &tokens[from as usize..];
+            match settle_at(alloc, store.net().net(), decision, level, returns, rest)? {
+                Settled::Chosen(alternative) => Ok(alternative),
+                Settled::NoViable(k) => Err(DecideFault::NoViable { at: from + k }),
+            }
+        }
+    }
+}

@@ -1,0 +1,9 @@
+// The alternative that prediction chooses at a decision, by what is learned: SLL's verdict is that of a walk along the store, and where
+// the walk stops, SLL is simulated and what it says is learned.
+#![tactic(auto)]
+
+mod asking;
+mod deciding;
+
+pub use asking::ask;
+pub use deciding::decide;

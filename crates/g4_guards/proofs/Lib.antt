@@ -1,0 +1,3 @@
+pub mod Choosing
+mod Meeting
+pub mod Same
