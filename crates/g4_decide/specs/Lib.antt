@@ -1,3 +1,3 @@
 -- Other crates cite each of these.
-pub mod Asking
+pub mod Asked
 pub mod Deciding

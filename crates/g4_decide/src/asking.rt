@@ -1,12 +1,14 @@
 // SLL's verdict at a decision, by the store.
-ghost use Rattle.std.specs.Prelude.{◌≡◌, ◌+◌, ◌<◌, ◌^◌, All, IfOk, List, Ok, drop, length};
+ghost use Rattle.std.specs.Prelude.{◌≡◌, ◌+◌, ◌<◌, ◌^◌, All, Contains, IfOk, IsOk, List, drop, length};
 ghost use Rattle.g4_classes.specs.Classes.{IsSymbol};
-ghost use Rattle.g4_decide.specs.Asking.{Asked, HasSeen, Keeps};
+ghost use Rattle.g4_decide.specs.Asked.{Asked, HasSeen, Keeps};
 ghost use Rattle.g4_guards.specs.Levels.{AllowedAt, IsDecision};
+ghost use Rattle.g4_net.specs.AddedRule.{IsReady};
 ghost use Rattle.g4_net.specs.Configurations.{Config};
-ghost use Rattle.g4_net.specs.Prediction.{Path as Way, Sll, Verdict as Said};
+ghost use Rattle.g4_net.specs.Prediction.{Sll, Verdict as Said};
 ghost use Rattle.g4_predict.specs.Paths.{path_of, verdict_of};
 ghost use Rattle.g4_store.specs.declared.automaton.Fact.{Fact};
+ghost use Rattle.g4_tokens.specs.Symbols.{end_of_list};
 ghost use Rattle.g4_tokens.specs.TokenList.{EndsInEnd, word_of};
 
 use g4_guards::allowed_at;
@@ -68,17 +70,14 @@ pub fn ask<B: Home<DecisionNet>, R: Wait, L: Ledger>(
         → HasSeen B.plan decision level (drop from (word_of tokens.now)) pass.old v facts
         → IsOk result × (steps.new ≡ steps.old + length facts) }
 {
-    let found = match store.walk(pass, decision, level, tokens, from, steps) {
-        Walk::Ended(verdict, _) => return Ok(verdict),
-        Walk::NotLearned(_) => simulate_at(
-            alloc,
-            store.net().net(),
-            decision,
-            level,
-            &tokens[from as usize..],
-        )?,
-    };
-    let (verdict, path) = found;
-    store.learn(rt, alloc, pass, level, path)?;
-    Ok(verdict)
+    let net = store.net();
+    match store.walk(pass, decision, level, tokens, from, steps) {
+        Walk::Ended(verdict, _) => Ok(verdict),
+        Walk::NotLearned(_) => {
+            let rest = &tokens[from as usize..];
+            let (verdict, path) = simulate_at(alloc, net.net(), decision, level, rest)?;
+            store.learn(rt, alloc, pass, level, path)?;
+            Ok(verdict)
+        }
+    }
 }

@@ -1,9 +1,8 @@
 // The alternative that prediction chooses at a decision.
 ghost use Rattle.std.specs.Prelude.{◌≡◌, ◌+◌, ◌<◌, ◌^◌, All, Contains, IfOk, List, drop, length, reverse};
 ghost use Rattle.g4_classes.specs.Classes.{IsSymbol};
-ghost use Rattle.g4_decide.specs.Asking.{Asked, HasSeen, Keeps, Settles};
+ghost use Rattle.g4_decide.specs.Asked.{Asked, HasSeen, Keeps, Settles};
 ghost use Rattle.g4_decide.specs.Deciding.{HadMemory, IsChosen};
-ghost use Rattle.g4_fits.specs.Fitting.{SomeFits};
 ghost use Rattle.g4_guards.specs.Levels.{AllowedAt, IsDecision};
 ghost use Rattle.g4_net.specs.AddedRule.{IsReady};
 ghost use Rattle.g4_net.specs.Configurations.{Config, above_bottom};
@@ -82,12 +81,13 @@ pub fn decide<B: Home<DecisionNet>, R: Wait, L: Ledger>(
         → HasSeen B.plan decision level (drop from (word_of tokens.now)) pass.old v facts
         → (steps.new ≡ steps.old + length facts) × (Settles v → HadMemory result) }
 {
+    let net = store.net();
     match ask(rt, alloc, store, pass, decision, level, tokens, from, steps)? {
         Verdict::Answer(alternative) => Ok(alternative),
         Verdict::ErrorAt(k) => Err(DecideFault::NoViable { at: from + k }),
         Verdict::Sensitive(_) => {
             let rest = &tokens[from as usize..];
-            match settle_at(alloc, store.net().net(), decision, level, returns, rest)? {
+            match settle_at(alloc, net.net(), decision, level, returns, rest)? {
                 Settled::Chosen(alternative) => Ok(alternative),
                 Settled::NoViable(k) => Err(DecideFault::NoViable { at: from + k }),
             }

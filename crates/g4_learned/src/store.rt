@@ -145,9 +145,10 @@ impl<B: Home<DecisionNet>> Store<B> {
         (Store { store }, pass)
     }
 
-    /// The network with its tables.
+    /// The network with its tables, on which the plan of the store is made.
     pub fn net(&self) -> &DecisionNet
-        ensures { result.now ≡ B.plan.net }
+        ensures is { result.now ≡ B.plan.net }
+        ensures plan { IsPlan B.plan }
     {
         self.store.net()
     }

@@ -50,7 +50,7 @@ loop-k-preserved g c =
     let mid = c.loop-k.pass.0 in
     let new = c.read_cell-found.new.pass.0 in
     let col : s ≡ c.column_of-column.result =
-    column_at c.net-net.result.now p.net c.args.tokens.now k c.column_of-column.result _ c.net-net.ensures
+    column_at c.net-net.result.now p.net c.args.tokens.now k c.column_of-column.result _ c.net-net.ensures.is
     c.loop-k-test.true c.column_of-column.ensures.is in
     let f : CellFound StartsAt LeadsTo p c.loop-k.row i.0 s mid new (found.Row c.in-Row.next c.in-Row._mark) =
     subst (λ n. CellFound StartsAt LeadsTo p c.loop-k.row i.0 n mid new (found.Row c.in-Row.next c.in-Row._mark)) (sym col)
@@ -95,7 +95,7 @@ returns-in-Nothing-clause-walked g c =
     let mid = c.loop-k.pass.0 in
     let new = c.read_cell-found.new.pass.0 in
     let col : s ≡ c.column_of-column.result =
-    column_at c.net-net.result.now p.net c.args.tokens.now k c.column_of-column.result _ c.net-net.ensures
+    column_at c.net-net.result.now p.net c.args.tokens.now k c.column_of-column.result _ c.net-net.ensures.is
     c.loop-k-test.true c.column_of-column.ensures.is in
     let f : CellFound StartsAt LeadsTo p c.loop-k.row i.0 s mid new found.Nothing =
     subst (λ n. CellFound StartsAt LeadsTo p c.loop-k.row i.0 n mid new found.Nothing) (sym col)
@@ -134,7 +134,7 @@ returns-in-End-clause-walked g c =
     let mid = c.loop-k.pass.0 in
     let new = c.read_cell-found.new.pass.0 in
     let col : s ≡ c.column_of-column.result =
-    column_at c.net-net.result.now p.net c.args.tokens.now k c.column_of-column.result _ c.net-net.ensures
+    column_at c.net-net.result.now p.net c.args.tokens.now k c.column_of-column.result _ c.net-net.ensures.is
     c.loop-k-test.true c.column_of-column.ensures.is in
     let e : CellFound StartsAt LeadsTo p c.loop-k.row i.0 s mid new (found.End c.in-End.code) =
     subst (λ n. CellFound StartsAt LeadsTo p c.loop-k.row i.0 n mid new (found.End c.in-End.code)) (sym col)

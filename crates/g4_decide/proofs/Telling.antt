@@ -1,7 +1,11 @@
 -- What walks and learning leave, as what asking does.
-use Rattle.std.proofs.Common.{◌≡◌, ◌+◌, ◌⊎◌, inl, inr, ℕ, List, Bool, true, false, true≢false, length, map, refl, sym, ◌∙◌, ap, subst, arith}
+use Rattle.std.proofs.Common.{◌≡◌, ◌+◌, inl, inr, ℕ, List, ◌∷◌, true≢false, drop, length, sym, ◌∙◌, ap, subst, arith}
 use Rattle.g4_net.specs.Configurations.{Config}
+use Rattle.g4_net.specs.Network.{ParserNetwork}
 use Rattle.g4_net.specs.Prediction.{Path, Sll, Verdict}
+use Rattle.g4_predict.proofs.Choosing.{from_on, word_from}
+use Rattle.g4_tokens.specs.declared.token.Token.{Token}
+use Rattle.g4_tokens.specs.TokenList.{word_of}
 use Rattle.g4_predict.specs.declared.verdict.Verdict as said
 use Rattle.g4_predict.specs.Paths.{verdict_of}
 use Rattle.g4_store.specs.declared.automaton.Fact.{Fact}
@@ -22,7 +26,7 @@ use Rattle.g4_learned.proofs.Seeing.{one_passed}
 use Rattle.g4_learned.specs.Stored.{ArePassed, IsPlan, IsStored}
 use Rattle.g4_learned.specs.Tables.{Tables}
 use Rattle.g4_learned.specs.Walks.{Loads, Walks}
-use Rattle.g4_decide.specs.Asking.{Asked, HasSeen, Keeps, Told}
+use Rattle.g4_decide.specs.Asked.{Asked, HasSeen, Keeps, Told}
 
 module _ (p : Plan Tables) (d level : ℕ) (word : List ℕ) where
   -- a walk keeps what there was
@@ -115,3 +119,12 @@ module _ (p : Plan Tables) (d level : ℕ) (word : List ℕ) where
       };
       stays_full = λ none. full;
     }
+
+-- what SLL says of the tokens from a place on, in the network of the plan
+pub said_on : (net own : ParserNetwork) (d e level from : ℕ) (tokens : List Token) (v : Verdict) (path : Path) → net ≡ own → e ≡ d
+    → Sll net d (AllowedAt net d level) (word_of (from_on from tokens)) v path
+    → Sll own e (AllowedAt own e level) (drop from (word_of tokens)) v path
+said_on net own d e level from tokens v path same is sll =
+    subst (λ (w : List ℕ). Sll own e (AllowedAt own e level) w v path) (word_from from tokens)
+    (subst (λ (n : ParserNetwork). Sll n e (AllowedAt n e level) (word_of (from_on from tokens)) v path) same
+    (subst (λ (k : ℕ). Sll net k (AllowedAt net k level) (word_of (from_on from tokens)) v path) (sym is) sll))
