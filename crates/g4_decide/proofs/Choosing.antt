@@ -87,7 +87,8 @@ within_tokens from k tokens more less =
     omega arith
 
 -- where the stack matters no verdict settles the decision
-pub matters : (p : Plan Tables) → IsPlan p → (d level k : ℕ) (w : List ℕ) (u : Verdict) (v : Said) (facts facts' : List (Fact (List Config)))
+pub matters : (p : Plan Tables) → IsPlan p → (d level k : ℕ) (w : List ℕ) (u : Verdict) (v : Said) (facts facts' : List (Fact
+    (List Config)))
     → u ≡ Sensitive k → ArePassed p.net d level w (verdict_of u) facts → ArePassed p.net d level w v facts' → Settles v → ⊥
 matters p plan d level k w u v facts facts' is passed other settles =
     let same : verdict_of u ≡ v = (one_passed p plan d level w (verdict_of u) v facts facts' passed other).0 in

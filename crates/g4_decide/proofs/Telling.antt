@@ -81,8 +81,8 @@ module _ (p : Plan Tables) (d level : ℕ) (word : List ℕ) where
       within = λ u facts other f seen. elim ((learns.seen f).0 seen) [
         | inl before ↦ kept.within u facts other f before
         | inr now ↦ inr
-        (subst (λ (gs : List (Fact (List Config))). Among f gs)
-        (one_passed p plan d level word v u (facts_of q) facts stored_passed other).1 now.0)
+            (subst (λ (gs : List (Fact (List Config))). Among f gs)
+            (one_passed p plan d level word v u (facts_of q) facts stored_passed other).1 now.0)
       ];
       known = λ t y known. learns.known_kept t y (kept.known t y known);
       holds = learns.holds ∙ kept.holds;

@@ -29,7 +29,8 @@ module _ (net : ParserNetwork) (level : ℕ) (ts : List ℕ) (n t : ℕ) (found 
       same_state : k ≡ n → slice_get ts k ≡ Some u → u ≡ t
       same_state is at = cc
 
-  pub meeting_push : MeetsBy level (state_at net t) → AreMeeting net level ts n found → AreMeeting net level ts (n + 1) (found ++ (n + 1) ∷ [])
+  pub meeting_push : MeetsBy level (state_at net t) → AreMeeting net level ts n found → AreMeeting net level ts (n + 1) (found ++
+      (n + 1) ∷ [])
   meeting_push meets are i = (to, from)
     where
       to : Contains (found ++ (n + 1) ∷ []) i → MeetsAmong net level ts (n + 1) i
@@ -57,7 +58,12 @@ every_allowed net d level ts is all i t (us, k, at, there, number) =
     let same : us ≡ ts = sym (is ∙ ap firsts_by at) in
     let read : slice_get ts k ≡ Some t = subst (λ (xs : List ℕ). slice_get xs k ≡ Some t) same there in
     let less = slice_get_within ts k t read in (
-      (λ _. (t, (us, k, at, there, number), subst (λ (q : ℕ). MeetsBy level (state_at net q)) (get_or_from_slice_get ts k t t read) (all k t less))),
+      (λ _. (
+        t,
+        (us, k, at, there, number),
+        subst (λ (q : ℕ). MeetsBy level (state_at net q)) (get_or_from_slice_get ts k t t read)
+            (all k t less),
+      )),
       (λ _. tt),
     )
 

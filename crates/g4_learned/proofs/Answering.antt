@@ -80,9 +80,9 @@ module _ (p : Plan Tables) (d level i : ℕ) (word : List ℕ) (old new : View (
   stopped_within (suc k) (y, fs, lt, came, none, saw, last) v facts way f seen = elim ((saw f).0 seen) [
     | inl before ↦ inl before
     | inr on ↦ inr
-    (subst (λ (gs : List (Fact (List Config))). Among f gs) (sym way.are)
-    (came_within StartsAt LeadsTo one_start one_led p i (columns_of p.net word) way.k k (code_of v) old way.y y way.before fs way.within
-    (omega arith) way.came way.leads came f on))
+        (subst (λ (gs : List (Fact (List Config))). Among f gs) (sym way.are)
+        (came_within StartsAt LeadsTo one_start one_led p i (columns_of p.net word) way.k k (code_of v) old way.y y way.before fs way.within
+        (omega arith) way.came way.leads came f on))
   ]
 
   stopped_kept : (k : ℕ) → WalkedAlong p i word old new (along.NotLearned k) → (f : Fact (List Config)) → Among f old.seen

@@ -44,7 +44,7 @@ pub(crate) fn interpreter(alloc: Global, grammar: &str) -> Result<Interpreter, F
 }
 
 /// The tokens of a text.
-fn tokens_of(alloc: Global, lexer: &Lexer, text: &str) -> Result<Tokens, Fail>
+pub(crate) fn tokens_of(alloc: Global, lexer: &Lexer, text: &str) -> Result<Tokens, Fail>
     requires lexable { IsLexable lexer.now.net }
     requires types { HasTokenTypes lexer.now }
     ensures ends { IfOk result (λ found. EndsInEnd (word_of found.list)) }
@@ -68,7 +68,7 @@ fn is_symbol(symbol: u32) -> bool
 }
 
 /// Whether each token has a symbol.
-fn have_symbols(tokens: &[Token]) -> bool
+pub(crate) fn have_symbols(tokens: &[Token]) -> bool
     ensures { IsTrue result → All IsSymbol (word_of tokens.now) }
 {
     for token in tokens {
@@ -80,7 +80,7 @@ fn have_symbols(tokens: &[Token]) -> bool
 }
 
 /// Whether the state is a decision.
-fn is_decision(net: &ParserNetwork, state: u32) -> bool
+pub(crate) fn is_decision(net: &ParserNetwork, state: u32) -> bool
     ensures { IsTrue result → IsDecision net.now state }
 {
     match net.states.as_slice().get(state as usize) {

@@ -24,15 +24,15 @@ symbol_at tokens k t = (get_or tokens k t).symbol
 
 -- What the loops keep, `start` being the row of the start set and `looked` the path's entries so far: what SLL says from here
 -- it says from the start.
-pub record IsSimulating (net : ParserNetwork) (d : ℕ) (A : ℕ → Type 0) (tokens : List Token) (k : ℕ) (C : Config → Type 0) (start : List Config)
-    (looked : List Looked) : Type 0 where
+pub record IsSimulating (net : ParserNetwork) (d : ℕ) (A : ℕ → Type 0) (tokens : List Token) (k : ℕ) (C : Config → Type 0)
+    (start : List Config) (looked : List Looked) : Type 0 where
   pub looking : IsLooking net wildcard tokens k C
   pub says : (v : Verdict) (more : List Looked) → SllFrom net C (word_of (drop k tokens)) k v more
       → Sll net d A (word_of tokens) v (record { start = start; looked = looked ++ more })
 
 -- it holds of the start set
-pub simulating_start : (net : ParserNetwork) (d : ℕ) (A : ℕ → Type 0) (tokens : List Token) (C : Config → Type 0) (start : List Config) → IsReady net
-    → Contains (word_of tokens) end_of_list → IsStartSet net d A C → IsRow start C → IsSimulating net d A tokens 0 C start []
+pub simulating_start : (net : ParserNetwork) (d : ℕ) (A : ℕ → Type 0) (tokens : List Token) (C : Config → Type 0) (start : List Config)
+    → IsReady net → Contains (word_of tokens) end_of_list → IsStartSet net d A C → IsRow start C → IsSimulating net d A tokens 0 C start []
 simulating_start net d A tokens C start (rule, loop, set, runnable) ends first is =
     let has : AreSame C (Start net d A wildcard) = first.members in
     record {
@@ -45,8 +45,8 @@ simulating_start net d A tokens C start (rule, loop, set, runnable) ends first i
     }
 
 -- a path whose entries are these, and then one more, and then others
-with_entry : (net : ParserNetwork) (d : ℕ) (A : ℕ → Type 0) (w : List ℕ) (v : Verdict) (start : List Config) (looked : List Looked) (entry : Looked)
-    (more : List Looked) → Sll net d A w v (record { start = start; looked = looked ++ (entry ∷ more) })
+with_entry : (net : ParserNetwork) (d : ℕ) (A : ℕ → Type 0) (w : List ℕ) (v : Verdict) (start : List Config) (looked : List Looked)
+    (entry : Looked) (more : List Looked) → Sll net d A w v (record { start = start; looked = looked ++ (entry ∷ more) })
     → Sll net d A w v (record { start = start; looked = (looked ++ entry ∷ []) ++ more })
 with_entry net d A w v start looked entry more h =
     subst (λ (all : List Looked). Sll net d A w v (record { start = start; looked = all }))
@@ -71,8 +71,8 @@ simulating_next net d A tokens k t C D start row looked less found is h =
     }
 
 -- what SLL ends with at the next set is its verdict
-pub simulated : (net : ParserNetwork) (d : ℕ) (A : ℕ → Type 0) (tokens : List Token) (k : ℕ) (t : Token) (C : Config → Type 0) (start : List Config)
-    (looked : List Looked) (v : said.Verdict) → k < length tokens → EndsWith (Next net C (symbol_at tokens k t)) k v
+pub simulated : (net : ParserNetwork) (d : ℕ) (A : ℕ → Type 0) (tokens : List Token) (k : ℕ) (t : Token) (C : Config → Type 0)
+    (start : List Config) (looked : List Looked) (v : said.Verdict) → k < length tokens → EndsWith (Next net C (symbol_at tokens k t)) k v
     → IsSimulating net d A tokens k C start looked
     → Sll net d A (word_of tokens) (verdict_of v)
     (record { start = start; looked = looked ++ last_entry (symbol_at tokens k t) (verdict_of v) ∷ [] })

@@ -143,7 +143,8 @@ pub fn sll_verdict(
     requires ready { IsReady net.now }
     requires ends { Contains (word_of tokens.now) end_of_list }
     requires few { length tokens.now < 2 ^ 32 }
-    ensures { IfOk result (λ verdict. (path : Way) × Sll net.now decision (Allows allowed.now) (word_of tokens.now) (verdict_of verdict) path) }
+    ensures { IfOk result (λ verdict. (path : Way) × Sll net.now decision (Allows allowed.now) (word_of tokens.now)
+        (verdict_of verdict) path) }
 {
     let mut set = start_set(alloc, net, decision, allowed)?;
     for (k, token) in tokens.iter().enumerate() {

@@ -24,8 +24,10 @@ settle_at-requires-clause-ends g c = ends_ahead c.args.from c.args.tokens.now c.
 
 pub returns-in-Answer-clause-chosen : goal.returns-in-Answer-clause-chosen
 returns-in-Answer-clause-chosen g c =
-    answered g.B.Home.plan.net.net c.args.decision c.args.level (drop c.args.from (word_of c.args.tokens.now)) (reverse c.args.returns.now) c.in-Answer.alternative c.in_ok-alternative.ensures.asked.passed.path
-    (said_is g.B.Home.plan.net.net c.args.decision c.args.level (drop c.args.from (word_of c.args.tokens.now)) c.in_ok-alternative.field-0 (Answer c.in-Answer.alternative)
+    answered g.B.Home.plan.net.net c.args.decision c.args.level (drop c.args.from (word_of c.args.tokens.now))
+    (reverse c.args.returns.now) c.in-Answer.alternative c.in_ok-alternative.ensures.asked.passed.path
+    (said_is g.B.Home.plan.net.net c.args.decision c.args.level (drop c.args.from
+    (word_of c.args.tokens.now)) c.in_ok-alternative.field-0 (Answer c.in-Answer.alternative)
     c.in_ok-alternative.ensures.asked.passed.path c.in-Answer.is c.in_ok-alternative.ensures.asked.passed.sll)
 
 pub returns-in-Answer-clause-walked : goal.returns-in-Answer-clause-walked
@@ -33,16 +35,20 @@ returns-in-Answer-clause-walked g c = λ v facts seen. ((c.in_ok-alternative.ens
 
 pub overflow_add-result : goal.overflow_add-result
 overflow_add-result g c =
-    let choice = failed g.B.Home.plan.net.net c.args.decision c.args.level (drop c.args.from (word_of c.args.tokens.now)) (reverse c.args.returns.now) c.in-ErrorAt.k c.in_ok-alternative.ensures.asked.passed.path
-    (said_is g.B.Home.plan.net.net c.args.decision c.args.level (drop c.args.from (word_of c.args.tokens.now)) c.in_ok-alternative.field-0 (ErrorAt c.in-ErrorAt.k)
+    let choice = failed g.B.Home.plan.net.net c.args.decision c.args.level (drop c.args.from (word_of c.args.tokens.now))
+    (reverse c.args.returns.now) c.in-ErrorAt.k c.in_ok-alternative.ensures.asked.passed.path
+    (said_is g.B.Home.plan.net.net c.args.decision c.args.level (drop c.args.from
+    (word_of c.args.tokens.now)) c.in_ok-alternative.field-0 (ErrorAt c.in-ErrorAt.k)
     c.in_ok-alternative.ensures.asked.passed.path c.in-ErrorAt.is c.in_ok-alternative.ensures.asked.passed.sll) in
     let less = within_tokens c.args.from c.in-ErrorAt.k c.args.tokens.now c.requires.more choice.1 in
     omega (arith, c.requires.few)
 
 pub returns-in-ErrorAt-clause-chosen : goal.returns-in-ErrorAt-clause-chosen
 returns-in-ErrorAt-clause-chosen g c =
-    let choice = failed g.B.Home.plan.net.net c.args.decision c.args.level (drop c.args.from (word_of c.args.tokens.now)) (reverse c.args.returns.now) c.in-ErrorAt.k c.in_ok-alternative.ensures.asked.passed.path
-    (said_is g.B.Home.plan.net.net c.args.decision c.args.level (drop c.args.from (word_of c.args.tokens.now)) c.in_ok-alternative.field-0 (ErrorAt c.in-ErrorAt.k)
+    let choice = failed g.B.Home.plan.net.net c.args.decision c.args.level (drop c.args.from (word_of c.args.tokens.now))
+    (reverse c.args.returns.now) c.in-ErrorAt.k c.in_ok-alternative.ensures.asked.passed.path
+    (said_is g.B.Home.plan.net.net c.args.decision c.args.level (drop c.args.from
+    (word_of c.args.tokens.now)) c.in_ok-alternative.field-0 (ErrorAt c.in-ErrorAt.k)
     c.in_ok-alternative.ensures.asked.passed.path c.in-ErrorAt.is c.in_ok-alternative.ensures.asked.passed.sll) in
     (c.in-ErrorAt.k, choice.0, refl)
 
@@ -51,8 +57,10 @@ returns-in-ErrorAt-clause-walked g c = λ v facts seen. ((c.in_ok-alternative.en
 
 pub overflow_add-result-in-NoViable : goal.overflow_add-result-in-NoViable
 overflow_add-result-in-NoViable g c =
-    let choice = not_viable g.B.Home.plan.net.net c.args.decision c.args.level (drop c.args.from (word_of c.args.tokens.now)) (reverse c.args.returns.now) c.in-Sensitive.field-0 c.in_ok-alternative.ensures.asked.passed.path
-    (said_is g.B.Home.plan.net.net c.args.decision c.args.level (drop c.args.from (word_of c.args.tokens.now)) c.in_ok-alternative.field-0 (Sensitive c.in-Sensitive.field-0)
+    let choice = not_viable g.B.Home.plan.net.net c.args.decision c.args.level (drop c.args.from (word_of c.args.tokens.now))
+    (reverse c.args.returns.now) c.in-Sensitive.field-0 c.in_ok-alternative.ensures.asked.passed.path
+    (said_is g.B.Home.plan.net.net c.args.decision c.args.level (drop c.args.from
+    (word_of c.args.tokens.now)) c.in_ok-alternative.field-0 (Sensitive c.in-Sensitive.field-0)
     c.in_ok-alternative.ensures.asked.passed.path c.in-Sensitive.is c.in_ok-alternative.ensures.asked.passed.sll) c.in-NoViable.k
     (settled_is c.net.result.now g.B.Home.plan.net.net c.args.decision c.args.level c.args.from (reverse c.args.returns.now)
     c.args.tokens.now c.in_ok-alternative-in-Sensitive.field-0 (NoViable c.in-NoViable.k)
@@ -62,8 +70,10 @@ overflow_add-result-in-NoViable g c =
 
 pub returns-in-NoViable-clause-chosen : goal.returns-in-NoViable-clause-chosen
 returns-in-NoViable-clause-chosen g c =
-    let choice = not_viable g.B.Home.plan.net.net c.args.decision c.args.level (drop c.args.from (word_of c.args.tokens.now)) (reverse c.args.returns.now) c.in-Sensitive.field-0 c.in_ok-alternative.ensures.asked.passed.path
-    (said_is g.B.Home.plan.net.net c.args.decision c.args.level (drop c.args.from (word_of c.args.tokens.now)) c.in_ok-alternative.field-0 (Sensitive c.in-Sensitive.field-0)
+    let choice = not_viable g.B.Home.plan.net.net c.args.decision c.args.level (drop c.args.from (word_of c.args.tokens.now))
+    (reverse c.args.returns.now) c.in-Sensitive.field-0 c.in_ok-alternative.ensures.asked.passed.path
+    (said_is g.B.Home.plan.net.net c.args.decision c.args.level (drop c.args.from
+    (word_of c.args.tokens.now)) c.in_ok-alternative.field-0 (Sensitive c.in-Sensitive.field-0)
     c.in_ok-alternative.ensures.asked.passed.path c.in-Sensitive.is c.in_ok-alternative.ensures.asked.passed.sll) c.in-NoViable.k
     (settled_is c.net.result.now g.B.Home.plan.net.net c.args.decision c.args.level c.args.from (reverse c.args.returns.now)
     c.args.tokens.now c.in_ok-alternative-in-Sensitive.field-0 (NoViable c.in-NoViable.k)
@@ -75,8 +85,10 @@ returns-in-NoViable-clause-walked g c = λ v facts seen. ((c.in_ok-alternative.e
 
 pub returns-in-Chosen-clause-chosen : goal.returns-in-Chosen-clause-chosen
 returns-in-Chosen-clause-chosen g c =
-    settled g.B.Home.plan.net.net c.args.decision c.args.level (drop c.args.from (word_of c.args.tokens.now)) (reverse c.args.returns.now) c.in-Sensitive.field-0 c.in_ok-alternative.ensures.asked.passed.path
-    (said_is g.B.Home.plan.net.net c.args.decision c.args.level (drop c.args.from (word_of c.args.tokens.now)) c.in_ok-alternative.field-0 (Sensitive c.in-Sensitive.field-0)
+    settled g.B.Home.plan.net.net c.args.decision c.args.level (drop c.args.from (word_of c.args.tokens.now))
+    (reverse c.args.returns.now) c.in-Sensitive.field-0 c.in_ok-alternative.ensures.asked.passed.path
+    (said_is g.B.Home.plan.net.net c.args.decision c.args.level (drop c.args.from
+    (word_of c.args.tokens.now)) c.in_ok-alternative.field-0 (Sensitive c.in-Sensitive.field-0)
     c.in_ok-alternative.ensures.asked.passed.path c.in-Sensitive.is c.in_ok-alternative.ensures.asked.passed.sll) c.in-Chosen.alternative
     (settled_is c.net.result.now g.B.Home.plan.net.net c.args.decision c.args.level c.args.from (reverse c.args.returns.now)
     c.args.tokens.now c.in_ok-alternative-in-Sensitive.field-0 (Chosen c.in-Chosen.alternative)
