@@ -1,0 +1,2 @@
+-- Only this crate cites it.
+pub mod Numbers
