@@ -6,3 +6,4 @@ mod OneFetched
 mod Opened
 mod Readings
 mod Slashes
+mod Whole

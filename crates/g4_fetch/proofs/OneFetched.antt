@@ -81,7 +81,10 @@ module _ (files : Files) where
       absurd (let no_way : ⊥ = cc in no_way)
   one_read name a b (read bytes source p is) (read others second q also) =
       let here = subst (λ (bs : List ℕ). IsReading bs (Ok second)) (same_bytes name bytes others p q) also in
-      one_reading bytes (Ok source) (Ok second) is here (λ e. cc) (λ e. cc)
+      let same : ◌≡◌ {A = Result Source ReadFault} (Ok source) (Ok second) =
+      one_reading bytes (Ok source) (Ok second) is here (λ e. cc) (λ e. cc) in
+      let sources : source ≡ second = cc in
+      ap (λ (s : Source). Ok s) sources
 
   same_source : (name : List ℕ) (source second : Source) → Reads files name (Ok source) → Reads files name (Ok second) → second ≡ source
   same_source name source second p q =
