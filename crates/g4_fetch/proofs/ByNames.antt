@@ -1,6 +1,6 @@
 -- The values of names, with one more.
-use Rattle.std.proofs.Common.{◌≡◌, ℕ, List, [], Bool, true, false, cond, Option, Some, None, refl, sym, ap, ◌∙◌, subst, string_bytes}
-use Rattle.std.specs.BTreeMap.{BTreeMap, get_by_text, is_at, UpdatesBy}
+use Rattle.std.proofs.Common.{◌≡◌, ℕ, List, [], cond, Some, None, ap, ◌∙◌, string_bytes}
+use Rattle.std.specs.BTreeMap.{get_by_text, is_at, UpdatesBy}
 use Rattle.std.specs.Cmp.Lexicographic.{slice_cmp}
 use Rattle.std.specs.Map.{lookup}
 use Rattle.std.specs.Ordering.{nat_cmp}

@@ -1,5 +1,5 @@
 -- Tasks one after another are the fetches of a grammar's imports.
-use Rattle.std.proofs.Common.{◌≡◌, ℕ, List, [], ◌∷◌, ◌++◌, length, map, reverse, Option, Some, None, Result, Ok, Err, refl, sym, ap, subst, ◌∙◌}
+use Rattle.std.proofs.Common.{◌≡◌, ℕ, List, [], ◌∷◌, ◌++◌, length, reverse, Some, None, Result, Ok, Err, refl, sym, ap, subst, ◌∙◌}
 use Rattle.std.proofs.lemmas.List.{reverse-append, reverse-reverse}
 use Rattle.g4_merge.specs.Importing.{imported_by}
 use Rattle.g4_source.specs.declared.source.Source.{Source}
@@ -93,6 +93,7 @@ module _ (files : Files) (prefix : List ℕ) where
     where
       last : (t : WithImports) (q : Result WithImports Halted) → Continues files prefix [] t q → q ≡ Ok t
       last t q (nothing _) = refl
+
       by : (q : Result WithImports Halted) → Parts g names [] s q → Fetches files prefix g names s q
       by q (all t _ is more) = subst (λ (u : Result WithImports Halted). Fetches files prefix g names s u) (sym (last t q more)) is
       by q (some h is) = is
@@ -123,15 +124,20 @@ module _ (files : Files) (prefix : List ℕ) where
       where
         k : ℕ
         k = length s.files
+
         names : List (List ℕ)
         names = imported_by source
+
         import : Import
         import = record { importer = g; imported = k; name = name }
+
         s' : WithImports
         s' = with_file s (grammar_file prefix name) source
+
         after : (t : WithImports) (q : Result WithImports Halted) → Continues files prefix (tasks.Test import ∷ rest) t q
             → Continues files prefix rest (with_import t import) q
         after t q (tests _ _ _ _ more) = more
+
         by : (q : Result WithImports Halted) → Parts k names (tasks.Test import ∷ rest) s' q
             → Continues files prefix (tasks.Fetch g name ∷ rest) s q
         by q (all t _ below more) =
@@ -187,8 +193,10 @@ module _ (files : Files) (prefix : List ℕ) where
     -- or fetching it halts
     pub missing_halts : (rest : List Task) (halt : Halt) → IsHaltOf (Reads files missing.file) halt
         → IsHaltAfter (Continues files prefix (task_of missing ∷ rest) s) halt
-    missing_halts rest (halts.Stop stop) reads =
-        (_, missing_stops missing.importer missing.name rest s not_there stop
-        (subst (λ (name : List ℕ). Reads files name (Err stop)) is.named reads))
+    missing_halts rest (halts.Stop stop) reads = (
+      _,
+      missing_stops missing.importer missing.name rest s not_there stop
+          (subst (λ (name : List ℕ). Reads files name (Err stop)) is.named reads),
+    )
     missing_halts rest halts.Failed reads = tt
     missing_halts rest halts.NoMemory reads = tt

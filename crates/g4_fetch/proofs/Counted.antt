@@ -1,5 +1,5 @@
 -- Counts of faults and misses over one call and then another.
-use Rattle.std.proofs.Common.{◌≡◌, ◌≤◌, ◌+◌, ℕ, min, sym, subst, ◌∙◌, arith}
+use Rattle.std.proofs.Common.{◌≡◌, ◌≤◌, ℕ, subst, ◌∙◌, arith}
 use Rattle.g4_ports.specs.Ports.{Rose}
 use Rattle.g4_fetch.specs.Counting.{HaltCounts, StopMisses}
 use Rattle.g4_fetch.specs.declared.stop.Stop.{Stop}
@@ -15,8 +15,6 @@ misses_from : (a b c : ℕ) (stop : Stop) → a ≤ b → StopMisses b c stop �
 misses_from a b c (stops.Absent name) less counts = rose_from a b c less counts
 misses_from a b c (stops.TooLarge name size) less counts = rose_from a b c less counts
 misses_from a b c (stops.Unreadable name fault) less counts = omega (arith, less, counts)
-misses_from a b c (stops.RuleTwice name) less counts = omega (arith, less, counts)
-misses_from a b c (stops.BadImport name) less counts = omega (arith, less, counts)
 
 -- a call that halts after one that did not
 pub counts_from : (f g h m n o : ℕ) (halt : Halt) → g ≡ f → m ≤ n → HaltCounts g h n o halt → HaltCounts f h m o halt

@@ -1,6 +1,7 @@
 mod ByNames
 mod Continuing
 mod Counted
+mod Endings
 mod Numbered
 mod OneFetched
 mod Opened

@@ -1,12 +1,11 @@
 -- The numbers of files by their names, with one file more.
-use Rattle.std.proofs.Common.{◌≡◌, ℕ, List, [], ◌∷◌, ◌++◌, length, map, Bool, false, cond, Option, Some, None, refl, sym, ap, ◌∙◌, subst}
+use Rattle.std.proofs.Common.{◌≡◌, ℕ, List, [], ◌∷◌, ◌++◌, length, Bool, false, cond, Option, Some, None, refl, sym, ap, ◌∙◌}
 use Rattle.std.specs.List.{position}
 use Rattle.std.specs.Option.{is_some, option_or}
 use Rattle.std.specs.Str.{bytes_eq}
 use Rattle.std.proofs.lemmas.List.{map-append, length-map}
 use Rattle.g4_names.specs.Places.{first_place}
 use Rattle.g4_names.proofs.Firsts.{new_name, position-push}
-use Rattle.g4_source.specs.declared.source.Source.{Source}
 use Rattle.g4_fetch.specs.ByNames.{value_of}
 use Rattle.g4_fetch.specs.Closures.{file_names}
 use Rattle.g4_fetch.specs.Reaching.{AreNumbers}

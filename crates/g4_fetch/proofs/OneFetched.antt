@@ -1,13 +1,12 @@
 -- A grammar is fetched in at most one way.
-use Rattle.std.proofs.Common.{◌≡◌, ◌≢◌, ◌<◌, ◌≤◌, ℕ, List, [], ◌∷◌, ◌++◌, length, Option, Some, None, Result, Ok, Err, refl, sym, ap, subst, ◌∙◌, arith}
-use Rattle.g4_base.specs.declared.limits.TheConstants.{MOST_BYTES}
+use Rattle.std.proofs.Common.{◌≡◌, ◌≢◌, ℕ, List, [], ◌∷◌, ◌++◌, length, Option, Some, None, Result, Ok, Err, refl, ap, subst, arith}
 use Rattle.g4_merge.specs.Importing.{imported_by}
 use Rattle.g4_reader.specs.Reading.{IsReading}
 use Rattle.g4_reader.specs.declared.reader.ReadFault.{ReadFault}
 use Rattle.g4_reader.specs.declared.reader.ReadFault.TheVariants as reading
 use Rattle.g4_reader.proofs.OneReading.{one_reading}
 use Rattle.g4_source.specs.declared.source.Source.{Source}
-use Rattle.g4_fetch.specs.Closures.{Fetches, no_more, again, stopped, stopped_below, fetched, FetchesGrammar, unread, read_first, Halted, file_names, number_of, with_file, with_import}
+use Rattle.g4_fetch.specs.Closures.{Fetches, no_more, again, stopped, stopped_below, fetched, FetchesGrammar, unread, read_first, Halted, file_names, with_file, with_import}
 use Rattle.g4_fetch.specs.Files.{Files, Opens, absent, too_large, there}
 use Rattle.g4_fetch.specs.Names.{grammar_file, prefix_of}
 use Rattle.g4_fetch.specs.Reading.{Reads, missing, faulty, read, of_read}

@@ -1,14 +1,12 @@
 -- Reading a file halts.
-use Rattle.std.proofs.Common.{◌≡◌, ◌≤◌, ℕ, List, length, Option, Some, Result, Ok, Err, refl, sym, subst, arith}
+use Rattle.std.proofs.Common.{◌≡◌, ◌≤◌, ℕ, List, length, Some, Ok, Err, refl, sym, subst, arith}
 use Rattle.g4_base.specs.declared.limits.TheConstants.{MOST_BYTES}
 use Rattle.g4_reader.specs.Reading.{IsReading}
 use Rattle.g4_reader.specs.declared.reader.ReadFault.{ReadFault}
-use Rattle.g4_source.specs.declared.source.Source.{Source}
 use Rattle.g4_fetch.specs.Counting.{HaltCounts, StopMisses}
 use Rattle.g4_fetch.specs.Files.{Files, Opens, there}
 use Rattle.g4_fetch.specs.Reading.{Reads, missing, faulty, IsHaltOf, IsReadingHalt}
 use Rattle.g4_fetch.specs.declared.stop.Stop.{Stop}
-use Rattle.g4_fetch.specs.declared.stop.Stop.TheVariants as stops
 use Rattle.g4_fetch.specs.declared.stop.Halt.{Halt}
 use Rattle.g4_fetch.specs.declared.stop.Halt.TheVariants as halts
 

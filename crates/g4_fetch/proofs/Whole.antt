@@ -1,6 +1,5 @@
 -- The main grammar and then its imports.
-use Rattle.std.proofs.Common.{◌≡◌, ℕ, List, Option, Some, None, Result, Ok, Err, sym, subst}
-use Rattle.g4_source.specs.declared.source.Source.{Source}
+use Rattle.std.proofs.Common.{◌≡◌, ℕ, List, Option, None, Result, Ok, Err, subst}
 use Rattle.g4_fetch.specs.ByNames.{AreFiles, value_of}
 use Rattle.g4_fetch.specs.Closures.{FetchesGrammar, FetchesImports, GivesOrHaltsAfter, Halted, IsHaltAfter, read_first, unread}
 use Rattle.g4_fetch.specs.Files.{Files}

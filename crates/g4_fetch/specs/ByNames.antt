@@ -1,7 +1,6 @@
 -- Values by names.
-use Rattle.std.specs.Prelude.{◌≡◌, ◌≤◌, ℕ, List, length, Option, Some}
+use Rattle.std.specs.Prelude.{◌≡◌, ℕ, List, Option, Some}
 use Rattle.std.specs.BTreeMap.{get_by_text}
-use Rattle.g4_base.specs.declared.limits.TheConstants.{MOST_BYTES}
 use Rattle.g4_fetch.specs.Files.{Files}
 use Rattle.g4_fetch.specs.declared.by_name.ByName.{ByName}
 

@@ -11,6 +11,7 @@ use Rattle.g4_fetch.specs.declared.closure.GrammarFile.{GrammarFile}
 use Rattle.g4_fetch.specs.declared.closure.Import.{Import}
 use Rattle.g4_fetch.specs.declared.closure.WithImports.{WithImports}
 use Rattle.g4_fetch.specs.declared.stop.Stop.{Stop}
+use Rattle.g4_fetch.specs.declared.stop.Stop.TheVariants as stops
 use Rattle.g4_fetch.specs.declared.stop.Halt.{Halt}
 use Rattle.g4_fetch.specs.declared.stop.Halt.TheVariants as halts
 
@@ -38,6 +39,12 @@ with_import grammar import = record grammar { imports = grammar.imports ++ impor
 pub record Halted : Type 0 where
   pub fetched : List (List ℕ)
   pub stop : Stop
+
+-- the file at which fetching stops
+abbrev pub stop_name : Stop → List ℕ
+stop_name (stops.Absent name) = name
+stop_name (stops.TooLarge name size) = name
+stop_name (stops.Unreadable name fault) = name
 
 -- where a call halts after some fetches: a stop, a failed fetch, or want of memory
 abbrev pub IsHaltAfter : {X : Type 0} → (Result X Halted → Type 0) → Halt → Type 0

@@ -11,8 +11,6 @@ abbrev pub StopMisses : ℕ → ℕ → Stop → Type 0
 StopMisses before now (stops.Absent name) = Rose before now
 StopMisses before now (stops.TooLarge name size) = Rose before now
 StopMisses before now (stops.Unreadable name fault) = before ≤ now
-StopMisses before now (stops.RuleTwice name) = before ≤ now
-StopMisses before now (stops.BadImport name) = before ≤ now
 
 -- the count of faults rises where a fetch failed, and stays the same otherwise
 abbrev pub HaltCounts : ℕ → ℕ → ℕ → ℕ → Halt → Type 0

@@ -1,5 +1,5 @@
 -- What is still to do while imports are fetched, the next first.
-use Rattle.std.specs.Prelude.{◌≡◌, ℕ, List, [], ◌∷◌, length, map, reverse, Option, Some, None, Result, Ok, Err}
+use Rattle.std.specs.Prelude.{◌≡◌, ℕ, List, [], ◌∷◌, map, reverse, Option, Some, None, Result, Ok, Err}
 use Rattle.g4_fetch.specs.Files.{Files}
 use Rattle.g4_fetch.specs.Closures.{Fetches, Halted, IsHaltAfter, number_of, with_import}
 use Rattle.g4_fetch.specs.Names.{grammar_file}

@@ -1,6 +1,6 @@
 // What holds of all grammars that are fetched.
-ghost use Rattle.std.specs.Prelude.{◌≡◌, ℕ, List, Option, Result};
-ghost use Rattle.g4_fetch.specs.Closures.{FetchesGrammar, Halted};
+ghost use Rattle.std.specs.Prelude.{◌≡◌, ◌++◌, ◌∷◌, [], ℕ, List, Option, Result, Err};
+ghost use Rattle.g4_fetch.specs.Closures.{FetchesGrammar, Halted, stop_name};
 ghost use Rattle.g4_fetch.specs.Files.{Files};
 ghost use Rattle.g4_fetch.specs.declared.closure.WithImports.{WithImports};
 
@@ -8,4 +8,10 @@ ghost use Rattle.g4_fetch.specs.declared.closure.WithImports.{WithImports};
 pub fn one_fetched()
     ensures { (files : Files) (library : Option (List ℕ)) (name : List ℕ) (a b : Result WithImports Halted)
         → FetchesGrammar files library name a → FetchesGrammar files library name b → a ≡ b }
+{}
+
+/// Nothing is fetched after the first file that is absent, too large or faulty.
+pub fn ends_at_its_stop()
+    ensures { (files : Files) (library : Option (List ℕ)) (name : List ℕ) (halted : Halted)
+        → FetchesGrammar files library name (Err halted) → (front : List (List ℕ)) × (halted.fetched ≡ front ++ stop_name halted.stop ∷ []) }
 {}

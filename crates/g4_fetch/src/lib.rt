@@ -1,4 +1,4 @@
-// The files of a grammar: fetched with its imports and its vocabulary, each once, and read.
+// A grammar is fetched with all that it imports, each file once.
 #![tactic(auto)]
 
 mod by_name;
@@ -15,5 +15,5 @@ mod task;
 
 pub use closure::{GrammarFile, Import, WithImports};
 pub use grammar::fetch_grammar;
-pub use law::one_fetched;
+pub use law::{ends_at_its_stop, one_fetched};
 pub use stop::{FileFault, Halt, Stop};

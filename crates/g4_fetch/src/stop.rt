@@ -1,8 +1,8 @@
-// Why the files of a grammar are not one grammar.
+// Why a grammar is not fetched.
 use g4_base::{Place, Sequence, Text};
 use std::alloc::{AllocError, AllocFailed};
 
-/// The fault of a file that is no grammar or no table of token numbers.
+/// The fault of a file that is no grammar.
 #[derive(Drop)]
 pub enum FileFault {
     /// The longest front part that is UTF-8 has this many bytes.
@@ -11,13 +11,9 @@ pub enum FileFault {
     Syntax(Place, Sequence<char>),
     /// The place of the first character set that is empty, has a range that runs backward or names an unknown property.
     BadSet(Place),
-    /// The line with this number, counted from 1, is no token line, or gives a second number.
-    BadTokensLine(u32),
-    /// The table has a number past 4,096.
-    Types,
 }
 
-/// Why the files of a grammar are not one grammar, in the order in which it is looked for.
+/// The first file at which fetching a grammar stops, and why.
 #[derive(Drop)]
 pub enum Stop {
     /// No file has this name.
@@ -26,10 +22,6 @@ pub enum Stop {
     TooLarge(Text, u64),
     /// The file of this name has this fault.
     Unreadable(Text, FileFault),
-    /// The name of the first rule, in the first such file, whose name an earlier rule of the file has.
-    RuleTwice(Text),
-    /// The name of the first imported grammar that the importing one cannot import.
-    BadImport(Text),
 }
 
 /// Why there is no grammar.

@@ -105,11 +105,17 @@ fn prefixes(rt: HostRuntime) -> Result<(), Fail> {
     let Ok(beside) = fetch_grammar(rt.alloc(), &mut shelf, None, "a/b/M.g4") else {
         return Err(Fail::from("beside"));
     };
-    assert_eq!(rt; shown(rt.alloc(), &beside)?.as_str(), " a/b/M.g4 a/b/N.g4 + 0>1N");
+    assert_eq!(rt;
+        shown(rt.alloc(), &beside)?.as_str(),
+        " a/b/M.g4 a/b/N.g4 + 0>1N"
+    );
     let Ok(library) = fetch_grammar(rt.alloc(), &mut shelf, Some("l"), "a/b/M.g4") else {
         return Err(Fail::from("library"));
     };
-    assert_eq!(rt; shown(rt.alloc(), &library)?.as_str(), " a/b/M.g4 l/N.g4 l/M.g4 + 1>2M 0>1N");
+    assert_eq!(rt;
+        shown(rt.alloc(), &library)?.as_str(),
+        " a/b/M.g4 l/N.g4 l/M.g4 + 1>2M 0>1N"
+    );
     Ok(())
 }
 
@@ -119,7 +125,12 @@ const CHAIN: u32 = 1000;
 const CLIQUE: u32 = 100;
 
 /// Adds a file with this text.
-fn add_file(alloc: Global, files: &mut Vec<MemFile>, number: u32, text: String) -> Result<(), AllocError> {
+fn add_file(
+    alloc: Global,
+    files: &mut Vec<MemFile>,
+    number: u32,
+    text: String,
+) -> Result<(), AllocError> {
     let name = format!(in alloc; "G{number}.g4")?;
     files.push(MemFile {
         name: Text::new(name),

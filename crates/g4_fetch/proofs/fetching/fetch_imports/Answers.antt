@@ -1,9 +1,8 @@
-use Rattle.std.proofs.Common.{◌≡◌, ◌∷◌, ℕ, List, Option, Some, Result, reverse, subst, ◌∙◌, arith}
+use Rattle.std.proofs.Common.{◌∷◌, Option, reverse, subst, ◌∙◌, arith}
 use Rattle.std.proofs.lemmas.Result.{err_from_is_err_and}
 use Rattle.g4_fetch.proofs.Continuing.{halts_too}
-use Rattle.g4_fetch.specs.Closures.{FetchesImports, Halted}
+use Rattle.g4_fetch.specs.Closures.{FetchesImports}
 use Rattle.g4_fetch.specs.Tasks.{Continues, IsNext, task_of}
-use Rattle.g4_fetch.specs.declared.closure.WithImports.{WithImports}
 use Rattle.g4_fetch.specs.declared.reached.Missing.{Missing}
 use Rattle.g4_fetch.proofs.fetching.fetch_imports.Goals as goal
 

@@ -1,4 +1,4 @@
-use Rattle.std.proofs.Common.{◌≡◌, ◌≤◌, ◌-◌, ◌^◌, List, Option, Some, Result, length}
+use Rattle.std.proofs.Common.{◌≡◌, ◌≤◌, ◌-◌, ◌^◌, Some, Result, length}
 use Rattle.g4_fetch.specs.ByNames.{AreFiles}
 use Rattle.g4_fetch.specs.Closures.{FetchesImports, Halted}
 use Rattle.g4_fetch.specs.Files.{Files}

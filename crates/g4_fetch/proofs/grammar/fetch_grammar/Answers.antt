@@ -1,8 +1,7 @@
-use Rattle.std.proofs.Common.{ℕ, List, option_map, sym, ap, subst, ◌∙◌}
+use Rattle.std.proofs.Common.{◌∙◌}
 use Rattle.std.proofs.lemmas.Result.{err_from_is_err_and}
 use Rattle.g4_fetch.proofs.Whole.{gives_too, main_and_imports, none_kept, not_main}
 use Rattle.g4_fetch.specs.Closures.{FetchesGrammar, FetchesImports}
-use Rattle.g4_fetch.specs.Reading.{IsHaltOf, Reads}
 use Rattle.g4_fetch.proofs.grammar.fetch_grammar.Goals as goal
 
 pub returns-in_err-source-clause-content : goal.returns-in_err-source-clause-content

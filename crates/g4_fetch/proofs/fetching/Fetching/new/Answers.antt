@@ -1,7 +1,7 @@
-use Rattle.std.proofs.Common.{◌≡◌, ◌++◌, ◌∷◌, [], ℕ, List, Result, reverse, ap, sym, subst, ◌∙◌}
+use Rattle.std.proofs.Common.{◌≡◌, ◌++◌, [], List, reverse, ap, sym, subst, ◌∙◌}
 use Rattle.std.proofs.lemmas.List.{append-nil, reverse-reverse}
 use Rattle.g4_fetch.proofs.Continuing.{fetches_all}
-use Rattle.g4_fetch.specs.Closures.{Halted, alone}
+use Rattle.g4_fetch.specs.Closures.{alone}
 use Rattle.g4_fetch.specs.Tasks.{Continues, fetches_of}
 use Rattle.g4_fetch.specs.declared.closure.WithImports.{WithImports}
 use Rattle.g4_fetch.specs.declared.task.Task.{Task}

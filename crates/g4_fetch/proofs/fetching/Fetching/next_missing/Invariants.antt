@@ -1,4 +1,4 @@
-use Rattle.std.proofs.Common.{◌≡◌, List, Result, length}
+use Rattle.std.proofs.Common.{◌≡◌, Result, length}
 use Rattle.g4_fetch.specs.Closures.{Halted}
 use Rattle.g4_fetch.specs.Files.{Files}
 use Rattle.g4_fetch.specs.Tasks.{GoesOn}

@@ -1,8 +1,7 @@
-use Rattle.std.proofs.Common.{◌≡◌, ℕ, List, Option, Some, sym, ap, ◌∙◌}
+use Rattle.std.proofs.Common.{◌≡◌, Some, sym, ap, ◌∙◌}
 use Rattle.g4_fetch.proofs.Continuing.{known_task}
 use Rattle.g4_fetch.specs.Closures.{number_of}
 use Rattle.g4_fetch.specs.Names.{grammar_file}
-use Rattle.g4_fetch.specs.declared.closure.GrammarFile.{GrammarFile}
 use Rattle.g4_fetch.specs.declared.closure.WithImports.{WithImports}
 use Rattle.g4_fetch.proofs.reached.Reached.import_reached.Goals as goal
 
