@@ -19,7 +19,8 @@ last_below c text k zero l at h = absurd (omega arith)
 last_below c text k (suc n) l at h =
     ⊎_elim
     (λ e. cond-true _ _ _ (eq-eqb _ c (ap (λ j. get_or text j 0) (sym e) ∙ at)) ∙ ap (λ j. Some j) (sym e))
-    (λ other. cond-false _ _ _ (ne_eqb _ c (h n (omega arith) (omega arith))) ∙ last_below c text k n (omega arith) at (λ i a b. h i a (omega arith)))
+    (λ other. cond-false _ _ _ (ne_eqb _ c (h n (omega arith) (omega arith)))
+    ∙ last_below c text k n (omega arith) at (λ i a b. h i a (omega arith)))
     (cases_eq k n)
 
 -- what `rsplit_once` gives at an ASCII character

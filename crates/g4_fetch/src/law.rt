@@ -13,5 +13,6 @@ pub fn one_fetched()
 /// Nothing is fetched after the first file that is absent, too large or faulty.
 pub fn ends_at_its_stop()
     ensures { (files : Files) (library : Option (List ℕ)) (name : List ℕ) (halted : Halted)
-        → FetchesGrammar files library name (Err halted) → (front : List (List ℕ)) × (halted.fetched ≡ front ++ stop_name halted.stop ∷ []) }
+        → FetchesGrammar files library name (Err halted)
+        → (front : List (List ℕ)) × (halted.fetched ≡ front ++ stop_name halted.stop ∷ []) }
 {}

@@ -70,7 +70,8 @@ pub fn read_file<S: Shelf>(
     name: &str,
 ) -> Result<Source, Halt>
     ensures keeps { S.told shelf.new ≡ S.told shelf.old }
-    ensures content { (files : Files) → S.told shelf.old ≡ Some files → AreFiles files kept.old → GivesOrHalts (Reads files name.now) result }
+    ensures content { (files : Files) → S.told shelf.old ≡ Some files → AreFiles files kept.old
+        → GivesOrHalts (Reads files name.now) result }
     ensures kept { (files : Files) → S.told shelf.old ≡ Some files → AreFiles files kept.old → OnOk result (AreFiles files kept.new) }
     ensures counts { Counts (S.faults shelf.old) (S.faults shelf.new) (S.misses shelf.old) (S.misses shelf.new) result }
 {

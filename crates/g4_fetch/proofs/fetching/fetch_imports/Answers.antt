@@ -12,10 +12,12 @@ returns-in_err-fetching-2-clause-content g c = λ files told kept.
     let prefix = c.args.prefix.now in
     let after = c.next_missing.new.self in
     let missing = c.in-Some.missing in
-    let next = subst (λ (found : Option Missing). IsNext prefix c.loop-fetching.fetching after found) c.in-Some.is c.in_ok-missing.ensures in
+    let next = subst (λ (found : Option Missing). IsNext prefix c.loop-fetching.fetching after found)
+    c.in-Some.is c.in_ok-missing.ensures in
     let before = c.loop-fetching.invariant.3 files told kept in
     rw (p.1, p.2)
-    (halts_too (Continues files prefix (task_of missing ∷ reverse after.tasks.items) after.reached) (FetchesImports files prefix c.args.main)
+    (halts_too (Continues files prefix (task_of missing ∷ reverse after.tasks.items) after.reached)
+    (FetchesImports files prefix c.args.main)
     (λ r h. before.1 r (next.2 files r h)) c.in_err-fetching-2.field-0.0
     (c.in_err-fetching-2.ensures.content files (c.loop-fetching.invariant.0 ∙ told) before.0))
 
@@ -23,7 +25,8 @@ pub loop-fetching-preserved : goal.loop-fetching-preserved
 loop-fetching-preserved g c =
     let prefix = c.args.prefix.now in
     let after = c.next_missing.new.self in
-    let next = subst (λ (found : Option Missing). IsNext prefix c.loop-fetching.fetching after found) c.in-Some.is c.in_ok-missing.ensures in
+    let next = subst (λ (found : Option Missing). IsNext prefix c.loop-fetching.fetching after found)
+    c.in-Some.is c.in_ok-missing.ensures in
     let so_far = c.loop-fetching.invariant in
     let is = c.in_ok-fetching-2.ensures in (
       is.keeps ∙ so_far.0,

@@ -15,6 +15,7 @@ returns-clause-content g c = λ files told.
     let reads = c.in_ok-source.ensures.content files told (none_kept files c.new-kept.result c.new-kept.ensures) in
     let kept = c.in_ok-source.ensures.kept files told (none_kept files c.new-kept.result c.new-kept.ensures) in
     gives_too (FetchesImports files c.as_str.result.now _) (FetchesGrammar files _ c.args.name.now)
-    (main_and_imports files _ c.args.name.now c.as_str.result.now _ (c.as_str.ensures ∙ c.in_ok-prefix.ensures) c.in_ok-copy_of.ensures reads)
+    (main_and_imports files _ c.args.name.now c.as_str.result.now _ (c.as_str.ensures ∙ c.in_ok-prefix.ensures)
+    c.in_ok-copy_of.ensures reads)
     c.fetch_imports.result
     (c.fetch_imports.ensures.content files (c.in_ok-source.ensures.keeps ∙ told) kept)

@@ -6,7 +6,8 @@ pub returns-in-Some-clause-content : goal.returns-in-Some-clause-content
 returns-in-Some-clause-content g c = λ files told kept.
     let bytes = c.as_slice.result.now in
     c.read_bytes.ensures.content files
-    (there bytes (kept c.args.name.now c.in-Some.bytes.now (sym c.in-Some.ensures) ∙ ap (λ (bs : List ℕ). Some bs) (sym c.as_slice.ensures.value))
+    (there bytes (kept c.args.name.now c.in-Some.bytes.now (sym c.in-Some.ensures)
+    ∙ ap (λ (bs : List ℕ). Some bs) (sym c.as_slice.ensures.value))
     c.as_slice.ensures.small)
 
 pub returns-in-Some-clause-counts : goal.returns-in-Some-clause-counts

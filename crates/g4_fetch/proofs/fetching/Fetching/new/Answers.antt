@@ -15,6 +15,7 @@ returns c = λ files prefix end h.
     c.in_ok-push_imports.ensures ∙ ap (λ (ts : List Task). ts ++ reverse (fetches_of 0 names)) c.new-tasks.ensures.items in
     let all : reverse c.push_imports.new.tasks.items ≡ fetches_of 0 names ++ [] =
     ap reverse items ∙ (reverse-reverse (fetches_of 0 names) ∙ sym (append-nil (fetches_of 0 names))) in
-    let here = subst (λ (s : WithImports). Continues files prefix (reverse c.push_imports.new.tasks.items) s end) c.in_ok-reached.ensures h in
+    let here = subst (λ (s : WithImports). Continues files prefix (reverse c.push_imports.new.tasks.items) s end)
+    c.in_ok-reached.ensures h in
     fetches_all files prefix 0 names (alone c.args.main) end
     (subst (λ (ts : List Task). Continues files prefix ts (alone c.args.main) end) all here)
