@@ -3,6 +3,7 @@ mod Continuing
 mod Counted
 mod Endings
 mod Numbered
+mod Once
 mod OneFetched
 mod Opened
 mod Readings

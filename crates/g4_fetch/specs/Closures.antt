@@ -1,6 +1,6 @@
 -- A grammar with all that it imports. An import is fetched and read where no file of its name was before; then its own imports are,
 -- before the rest of the importing grammar's. An import is tested after those of the imported grammar.
-use Rattle.std.specs.Prelude.{◌≡◌, ℕ, List, [], ◌∷◌, ◌++◌, length, map, Option, Some, None, Result, Ok, Err}
+use Rattle.std.specs.Prelude.{◌≡◌, ℕ, List, [], ◌∷◌, ◌++◌, length, map, slice_get, Option, Some, None, Result, Ok, Err}
 use Rattle.g4_merge.specs.Importing.{imported_by}
 use Rattle.g4_names.specs.Places.{first_place}
 use Rattle.g4_source.specs.declared.source.Source.{Source}
@@ -26,6 +26,10 @@ number_of grammar name = first_place (file_names grammar.files) name
 -- a grammar without its imports
 abbrev pub alone : GrammarFile → WithImports
 alone file = record { files = file ∷ []; imports = [] }
+
+-- no two files have one name: each is the first of its name
+abbrev pub IsEachOnce : WithImports → Type 0
+IsEachOnce grammar = (k : ℕ) (name : List ℕ) → slice_get (file_names grammar.files) k ≡ Some name → number_of grammar name ≡ Some k
 
 -- with one file more
 abbrev pub with_file : WithImports → List ℕ → Source → WithImports

@@ -1,6 +1,6 @@
 // What holds of all grammars that are fetched.
-ghost use Rattle.std.specs.Prelude.{◌≡◌, ◌++◌, ◌∷◌, [], ℕ, List, Option, Result, Err};
-ghost use Rattle.g4_fetch.specs.Closures.{FetchesGrammar, Halted, stop_name};
+ghost use Rattle.std.specs.Prelude.{◌≡◌, ◌++◌, ◌∷◌, [], ℕ, List, Option, Result, Ok, Err};
+ghost use Rattle.g4_fetch.specs.Closures.{FetchesGrammar, Halted, IsEachOnce, stop_name};
 ghost use Rattle.g4_fetch.specs.Files.{Files};
 ghost use Rattle.g4_fetch.specs.declared.closure.WithImports.{WithImports};
 
@@ -15,4 +15,10 @@ pub fn ends_at_its_stop()
     ensures { (files : Files) (library : Option (List ℕ)) (name : List ℕ) (halted : Halted)
         → FetchesGrammar files library name (Err halted)
         → (front : List (List ℕ)) × (halted.fetched ≡ front ++ stop_name halted.stop ∷ []) }
+{}
+
+/// Each file is fetched at most once.
+pub fn each_once()
+    ensures { (files : Files) (library : Option (List ℕ)) (name : List ℕ) (grammar : WithImports)
+        → FetchesGrammar files library name (Ok grammar) → IsEachOnce grammar }
 {}

@@ -15,5 +15,5 @@ mod task;
 
 pub use closure::{GrammarFile, Import, WithImports};
 pub use grammar::fetch_grammar;
-pub use law::{ends_at_its_stop, one_fetched};
+pub use law::{each_once, ends_at_its_stop, one_fetched};
 pub use stop::{FileFault, Halt, Stop};
