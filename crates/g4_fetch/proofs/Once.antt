@@ -1,5 +1,5 @@
 -- Each file is fetched once: its number is its index.
-use Rattle.std.proofs.Common.{◌≡◌, ◌⊎◌, inl, inr, ℕ, zero, suc, ◌+◌, List, [], ◌∷◌, ◌++◌, Option, Some, None, Bool, true, cond, Result, Ok, Err, length, map, slice_get, refl, sym, ap, ◌∙◌, subst, arith}
+use Rattle.std.proofs.Common.{◌≡◌, ◌⊎◌, inl, inr, ℕ, zero, suc, ◌+◌, List, [], ◌∷◌, ◌++◌, Option, Some, None, Bool, cond, Ok, length, map, slice_get, refl, sym, ap, ◌∙◌, subst, arith}
 use Rattle.std.specs.List.{position}
 use Rattle.std.specs.Option.{option_or}
 use Rattle.std.specs.Str.{bytes_eq}
@@ -8,7 +8,7 @@ use Rattle.std.proofs.lemmas.Slice.Eq.{bytes_eq-Decides}
 use Rattle.g4_names.proofs.Firsts.{position-push}
 use Rattle.g4_names.specs.Places.{first_place}
 use Rattle.g4_source.specs.declared.source.Source.{Source}
-use Rattle.g4_fetch.specs.Closures.{Fetches, no_more, again, fetched, FetchesGrammar, read_first, Halted, IsEachOnce, file_names, number_of, with_file}
+use Rattle.g4_fetch.specs.Closures.{Fetches, no_more, again, fetched, FetchesGrammar, read_first, IsEachOnce, file_names, number_of, with_file}
 use Rattle.g4_fetch.specs.Files.{Files}
 use Rattle.g4_fetch.specs.Names.{grammar_file, prefix_of}
 use Rattle.g4_fetch.specs.declared.closure.GrammarFile.{GrammarFile}
