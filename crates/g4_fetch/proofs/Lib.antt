@@ -1,0 +1,11 @@
+mod ByNames
+mod Continuing
+mod Counted
+mod Endings
+mod Numbered
+mod Once
+mod OneFetched
+mod Opened
+mod Readings
+mod Slashes
+mod Whole

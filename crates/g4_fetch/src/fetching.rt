@@ -1,0 +1,108 @@
+// A grammar's imports are fetched.
+ghost use Rattle.std.specs.Prelude.{◌≡◌, ◌+◌, ◌<◌, ◌^◌, ℕ, List, Some, Result, IfOk, OnOk, length};
+ghost use Rattle.g4_fetch.specs.ByNames.{AreFiles};
+ghost use Rattle.g4_fetch.specs.Closures.{FetchesImports, GivesOrHaltsAfter, Halted};
+ghost use Rattle.g4_fetch.specs.Counting.{Counts};
+ghost use Rattle.g4_fetch.specs.Files.{Files};
+ghost use Rattle.g4_fetch.specs.Tasks.{GoesOn, IsFetched, IsMissing, IsNext};
+ghost use Rattle.g4_fetch.specs.declared.closure.WithImports.{WithImports as Grammar};
+
+use crate::by_name::ByName;
+use crate::closure::{GrammarFile, Import, WithImports};
+use crate::opening::FileBytes;
+use crate::reached::{Missing, Reached};
+use crate::reading::read_file;
+use crate::stop::Halt;
+use crate::task::{Task, push_imports};
+use g4_ports::Shelf;
+use std::alloc::{AllocError, Global};
+
+/// What is reached so far, and what is still to do, the next at the end.
+#[derive(Drop)]
+struct Fetching {
+    reached: Reached,
+    tasks: Vec<Task>,
+}
+
+impl Fetching {
+    /// All is to do.
+    fn new(alloc: Global, main: GrammarFile) -> Result<Self, AllocError>
+        ensures { IfOk result (λ fetching. (files : Files) (prefix : List ℕ) (end : Result Grammar Halted)
+            → GoesOn files prefix fetching end → FetchesImports files prefix main end) }
+    {
+        let mut tasks = Vec::new(alloc);
+        push_imports(alloc, &mut tasks, 0, &main.source)?;
+        let reached = Reached::new(alloc, main)?;
+        Ok(Fetching { reached, tasks })
+    }
+
+    /// Carries out tasks up to the first whose grammar is missing.
+    fn next_missing(&mut self, alloc: Global, prefix: &str) -> Result<Option<Missing>, AllocError>
+        ensures { IfOk result (λ missing. IsNext prefix.now self.old self.new missing) }
+    {
+        while let Some(task) = self.tasks.pop() {
+            let missing = self.reached.carry_out(alloc, prefix, task)?;
+            if missing.is_some() {
+                return Ok(missing);
+            }
+        }
+        Ok(None)
+    }
+
+    /// With a grammar that was missing, which is fetched. Its imports are the next tasks.
+    fn fetch<S: Shelf>(
+        self,
+        alloc: Global,
+        shelf: &mut S,
+        kept: &mut ByName<FileBytes>,
+        prefix: &str,
+        missing: Missing,
+    ) -> Result<Self, Halt>
+        requires { IsMissing prefix.now self.reached missing }
+        ensures keeps { S.told shelf.new ≡ S.told shelf.old }
+        ensures content { (files : Files) → S.told shelf.old ≡ Some files → AreFiles files kept.old
+            → IsFetched files prefix.now self missing result }
+        ensures kept { (files : Files) → S.told shelf.old ≡ Some files → AreFiles files kept.old → OnOk result (AreFiles files kept.new) }
+        ensures counts { Counts (S.faults shelf.old) (S.faults shelf.new) (S.misses shelf.old) (S.misses shelf.new) result }
+        ensures grows { IfOk result (λ more. length more.reached.files ≡ length self.reached.files + 1) }
+        ensures countable { OnOk result (length self.reached.files < 2 ^ 64) }
+    {
+        let Missing {
+            importer,
+            name,
+            file,
+        } = missing;
+        let source = read_file(alloc, shelf, kept, file.as_str())?;
+        let Fetching { reached, mut tasks } = self;
+        let imported = reached.count();
+        tasks.push(Task::Test(Import {
+            importer,
+            imported,
+            name,
+        }))?;
+        push_imports(alloc, &mut tasks, imported, &source)?;
+        let reached = reached.with_file(alloc, file, source)?;
+        Ok(Fetching { reached, tasks })
+    }
+}
+
+/// A grammar with all that it imports.
+pub fn fetch_imports<S: Shelf>(
+    alloc: Global,
+    shelf: &mut S,
+    kept: &mut ByName<FileBytes>,
+    prefix: &str,
+    main: GrammarFile,
+) -> Result<WithImports, Halt>
+    ensures keeps { S.told shelf.new ≡ S.told shelf.old }
+    ensures content { (files : Files) → S.told shelf.old ≡ Some files → AreFiles files kept.old
+        → GivesOrHaltsAfter (FetchesImports files prefix.now main) result }
+    ensures kept { (files : Files) → S.told shelf.old ≡ Some files → AreFiles files kept.old → OnOk result (AreFiles files kept.new) }
+    ensures counts { Counts (S.faults shelf.old) (S.faults shelf.new) (S.misses shelf.old) (S.misses shelf.new) result }
+{
+    let mut fetching = Fetching::new(alloc, main)?;
+    while let Some(missing) = fetching.next_missing(alloc, prefix)? {
+        fetching = fetching.fetch(alloc, shelf, kept, prefix, missing)?;
+    }
+    Ok(fetching.reached.finish())
+}

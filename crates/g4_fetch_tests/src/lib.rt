@@ -1,0 +1,5 @@
+// Grammars whose imports are fetched: rows worked out by hand, a chain of a thousand files, and a hundred that import each other.
+#![tactic(auto)]
+
+#[cfg(test)]
+mod fetching;
