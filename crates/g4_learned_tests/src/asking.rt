@@ -68,7 +68,7 @@ fn is_symbol(symbol: u32) -> bool
 }
 
 /// Whether each token has a symbol.
-pub(crate) fn have_symbols(tokens: &[Token]) -> bool
+fn have_symbols(tokens: &[Token]) -> bool
     ensures { IsTrue result → All IsSymbol (word_of tokens.now) }
 {
     for token in tokens {
@@ -77,6 +77,14 @@ pub(crate) fn have_symbols(tokens: &[Token]) -> bool
         }
     }
     true
+}
+
+/// Whether there are tokens, each with a symbol.
+pub(crate) fn can_be_asked(tokens: &[Token]) -> bool
+    ensures some { IsTrue result → 0 < length tokens.now }
+    ensures symbols { IsTrue result → All IsSymbol (word_of tokens.now) }
+{
+    !tokens.is_empty() && have_symbols(tokens)
 }
 
 /// Whether the state is a decision.
@@ -106,7 +114,7 @@ pub(crate) fn ask(
     }
     let tokens = tokens_of(alloc, lexer, text)?;
     let list = tokens.list.as_slice();
-    if list.is_empty() || !have_symbols(list) {
+    if !can_be_asked(list) {
         return Err(Fail::from("no symbols"));
     }
     let allowed = allowed_at(alloc, net, DECISION, 0)?;

@@ -6,7 +6,7 @@ ghost use Rattle.g4_lexer.specs.Lexers.{HasTokenTypes};
 ghost use Rattle.g4_net.specs.Proper.{IsProper};
 ghost use Rattle.g4_ordered.specs.Network.{IsLexable};
 
-use crate::asking::{DECISION, have_symbols, interpreter, is_decision, tokens_of};
+use crate::asking::{DECISION, can_be_asked, interpreter, is_decision, tokens_of};
 use g4_decide::decide;
 use g4_learned::{DecisionNet, Opened, Store, open};
 use g4_lexer::Lexer;
@@ -67,7 +67,7 @@ fn question(
     }
     let tokens = tokens_of(alloc, lexer, text)?;
     let list = tokens.list.as_slice();
-    if list.is_empty() || !have_symbols(list) {
+    if !can_be_asked(list) {
         return Err(Fail::from("no symbols"));
     }
     Ok((tokens, back))

@@ -120,37 +120,37 @@ module _ {N C : Type 0} (leads : N → C → ℕ → Led C → Type 0) where
   along_each net x _ _ _ here f m = absurd m
   along_each net x _ _ _ (onward ss fs y s z mark a l) f m = elim (among_either f fs (Cell y s (Row z mark) ∷ []) m) [
     | inl early ↦
-      let r = along_each net x ss fs y a f early in
-          let n = length-append ss (s ∷ []) in
-          let lt = r.within in
-          let g : get_or ss r.place 0 ≡ get_or (ss ++ s ∷ []) r.place 0 = sym (get_front ss (s ∷ []) r.place lt) in
-          let t : take r.place ss ≡ take r.place (ss ++ s ∷ []) = sym (take_front ss (s ∷ []) r.place (omega arith)) in
-          record {
-            place = r.place;
-            within = omega arith;
-            from = r.from;
-            to = r.to;
-            mark = r.mark;
-            before = r.before;
-            along = subst (λ (q : List ℕ). Along leads net x q r.before r.from) t r.along;
-            leads_on = subst (λ (q : ℕ). leads net r.from q (Row r.to r.mark)) g r.leads_on;
-            is = r.is ∙ ap (λ (q : ℕ). Cell r.from q (Row r.to r.mark)) g;
-          }
+        let r = along_each net x ss fs y a f early in
+        let n = length-append ss (s ∷ []) in
+        let lt = r.within in
+        let g : get_or ss r.place 0 ≡ get_or (ss ++ s ∷ []) r.place 0 = sym (get_front ss (s ∷ []) r.place lt) in
+        let t : take r.place ss ≡ take r.place (ss ++ s ∷ []) = sym (take_front ss (s ∷ []) r.place (omega arith)) in
+        record {
+          place = r.place;
+          within = omega arith;
+          from = r.from;
+          to = r.to;
+          mark = r.mark;
+          before = r.before;
+          along = subst (λ (q : List ℕ). Along leads net x q r.before r.from) t r.along;
+          leads_on = subst (λ (q : ℕ). leads net r.from q (Row r.to r.mark)) g r.leads_on;
+          is = r.is ∙ ap (λ (q : ℕ). Cell r.from q (Row r.to r.mark)) g;
+        }
     | inr last ↦
-      let n = length-append ss (s ∷ []) in
-          let g : s ≡ get_or (ss ++ s ∷ []) (length ss) 0 = sym (get_end ss s) in
-          let t : ss ≡ take (length ss) (ss ++ s ∷ []) = sym (take_front ss (s ∷ []) (length ss) (omega arith) ∙ take_all ss) in
-          record {
-            place = length ss;
-            within = omega arith;
-            from = y;
-            to = z;
-            mark = mark;
-            before = fs;
-            along = subst (λ (q : List ℕ). Along leads net x q fs y) t a;
-            leads_on = subst (λ (q : ℕ). leads net y q (Row z mark)) g l;
-            is = only last ∙ ap (λ (q : ℕ). Cell y q (Row z mark)) g;
-          }
+        let n = length-append ss (s ∷ []) in
+        let g : s ≡ get_or (ss ++ s ∷ []) (length ss) 0 = sym (get_end ss s) in
+        let t : ss ≡ take (length ss) (ss ++ s ∷ []) = sym (take_front ss (s ∷ []) (length ss) (omega arith) ∙ take_all ss) in
+        record {
+          place = length ss;
+          within = omega arith;
+          from = y;
+          to = z;
+          mark = mark;
+          before = fs;
+          along = subst (λ (q : List ℕ). Along leads net x q fs y) t a;
+          leads_on = subst (λ (q : ℕ). leads net y q (Row z mark)) g l;
+          is = only last ∙ ap (λ (q : ℕ). Cell y q (Row z mark)) g;
+        }
   ]
     where
       only : Among f (Cell y s (Row z mark) ∷ []) → f ≡ Cell y s (Row z mark)

@@ -1,4 +1,4 @@
-use Rattle.std.proofs.Common.{rules, All, sym, subst, ℕ}
+use Rattle.std.proofs.Common.{rules, ◌<◌, All, IsTrue, length, sym, subst, ℕ}
 use Rattle.g4_classes.specs.Classes.{IsSymbol}
 use Rattle.g4_net.specs.Allowed.{Allows}
 use Rattle.g4_net.specs.Prediction.{Sll}
@@ -15,7 +15,9 @@ returns c =
     let agrees = c.in_ok-allowed.ensures in
     let path : Sll c.args.net.now 2 (Allows allowed) (word_of c.in_ok-tokens.tokens.list) (verdict_of c.in_ok-path.field-0-0)
     (path_of c.in_ok-path.path) = rw c.as_slice-list.ensures at c.in_ok-path.ensures.path in
-    let symbols : All IsSymbol (word_of c.as_slice-list.result.now) = c.have_symbols.ensures (search rules) in
+    let yes : IsTrue c.can_be_asked.result = search rules in
+    let symbols : All IsSymbol (word_of c.as_slice-list.result.now) = c.can_be_asked.ensures.symbols yes in
+    let some : 0 < length c.as_slice-list.result.now = c.can_be_asked.ensures.some yes in
     record {
       decision = subst (IsDecision c.args.net.now) (sym c.in_ok-path.ensures.decision) here;
       sll = (
@@ -28,6 +30,6 @@ returns c =
       );
       symbols = rw c.as_slice-list.ensures at symbols;
       ends = c.in_ok-tokens.ensures.ends;
-      some = search rules;
+      some = rw c.as_slice-list.ensures at some;
       few = c.in_ok-tokens.ensures.few;
     }
