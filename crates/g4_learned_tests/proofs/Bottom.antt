@@ -1,5 +1,5 @@
 -- The return state of the call of the start rule is a stack for where that rule starts.
-use Rattle.std.proofs.Common.{◌≡◌, ℕ, [], ◌∷◌, Some, refl, ap, ◌∙◌}
+use Rattle.std.proofs.Common.{◌≡◌, ℕ, [], ◌∷◌, Some, refl}
 use Rattle.g4_net.specs.declared.network.State.TheVariants.{Call}
 use Rattle.g4_net.specs.Network.{ParserNetwork, state_at}
 use Rattle.g4_net.specs.Proper.{IsOf, IsProper}
