@@ -1,9 +1,8 @@
 -- Questions of decisions, as the tests ask them.
-use Rattle.std.specs.Prelude.{◌<◌, ◌^◌, ℕ, List, [], ◌∷◌, All, length}
+use Rattle.std.specs.Prelude.{◌<◌, ◌^◌, List, All, length}
 use Rattle.g4_classes.specs.Classes.{IsSymbol}
 use Rattle.g4_net.specs.Network.{ParserNetwork}
 use Rattle.g4_net.specs.Prediction.{Sll, Verdict}
-use Rattle.g4_net.specs.Proper.{IsProper}
 use Rattle.g4_predict.specs.declared.path.Path.{Path}
 use Rattle.g4_predict.specs.Paths.{path_of}
 use Rattle.g4_tokens.specs.declared.token.Token.{Token}
@@ -14,15 +13,6 @@ use Rattle.g4_guards.specs.Levels.{AllowedAt, IsDecision}
 pub record IsAsked (net : ParserNetwork) (tokens : List Token) (path : Path) : Type 0 where
   pub decision : IsDecision net path.decision
   pub sll : (v : Verdict) × Sll net path.decision (AllowedAt net path.decision 0) (word_of tokens) v (path_of path)
-  pub symbols : All IsSymbol (word_of tokens)
-  pub ends : EndsInEnd (word_of tokens)
-  pub some : 0 < length tokens
-  pub few : length tokens < 2 ^ 32
-
--- The first decision begins the start rule, and can be asked on these tokens with this return state on the parser's stack.
-pub record IsQuestion (net : ParserNetwork) (tokens : List Token) (back : ℕ) : Type 0 where
-  pub decision : IsDecision net 2
-  pub proper : IsProper net 2 (back ∷ [])
   pub symbols : All IsSymbol (word_of tokens)
   pub ends : EndsInEnd (word_of tokens)
   pub some : 0 < length tokens

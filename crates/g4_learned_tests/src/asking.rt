@@ -21,7 +21,7 @@ use std::alloc::{AllocError, Global};
 use std::test::Fail;
 
 /// The first state of rule 1, where the rule decides.
-pub(crate) const DECISION: u32 = 2;
+const DECISION: u32 = 2;
 
 /// The grammar as the file X.g4.
 fn shelf_of(alloc: Global, grammar: &str) -> Result<MemShelf, AllocError> {
@@ -44,7 +44,7 @@ pub(crate) fn interpreter(alloc: Global, grammar: &str) -> Result<Interpreter, F
 }
 
 /// The tokens of a text.
-pub(crate) fn tokens_of(alloc: Global, lexer: &Lexer, text: &str) -> Result<Tokens, Fail>
+fn tokens_of(alloc: Global, lexer: &Lexer, text: &str) -> Result<Tokens, Fail>
     requires lexable { IsLexable lexer.now.net }
     requires types { HasTokenTypes lexer.now }
     ensures ends { IfOk result (λ found. EndsInEnd (word_of found.list)) }
@@ -80,7 +80,7 @@ fn have_symbols(tokens: &[Token]) -> bool
 }
 
 /// Whether there are tokens, each with a symbol.
-pub(crate) fn can_be_asked(tokens: &[Token]) -> bool
+fn can_be_asked(tokens: &[Token]) -> bool
     ensures some { IsTrue result → 0 < length tokens.now }
     ensures symbols { IsTrue result → All IsSymbol (word_of tokens.now) }
 {
@@ -88,7 +88,7 @@ pub(crate) fn can_be_asked(tokens: &[Token]) -> bool
 }
 
 /// Whether the state is a decision.
-pub(crate) fn is_decision(net: &ParserNetwork, state: u32) -> bool
+fn is_decision(net: &ParserNetwork, state: u32) -> bool
     ensures { IsTrue result → IsDecision net.now state }
 {
     match net.states.as_slice().get(state as usize) {

@@ -1,10 +1,8 @@
-// Tests of what a decision asks of a network by look-ups, of what a parser's store learns, and of decisions by the store.
+// Tests of what a decision asks of a network by look-ups, and of what a parser's store learns.
 #![tactic(auto)]
 
 #[cfg(test)]
 mod asking;
-#[cfg(test)]
-mod deciding;
 #[cfg(test)]
 mod overlap;
 #[cfg(test)]
