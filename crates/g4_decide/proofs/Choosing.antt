@@ -12,7 +12,7 @@ use Rattle.g4_net.specs.Lookahead.{Start}
 use Rattle.g4_net.specs.Network.{ParserNetwork, IsFirst}
 use Rattle.g4_net.specs.Prediction.{Full, Path, Sll, answer, chosen, error_at, no_viable, sensitive}
 use Rattle.g4_net.specs.Prediction.{Verdict as Said}
-use Rattle.g4_predict.proofs.Choosing.{from_on, word_from}
+use Rattle.g4_learned.proofs.Rests.{from_on, word_from}
 use Rattle.g4_predict.specs.declared.full.Settled.{Settled}
 use Rattle.g4_predict.specs.declared.verdict.Verdict.{Verdict}
 use Rattle.g4_predict.specs.declared.verdict.Verdict.TheVariants.{Sensitive}

@@ -3,7 +3,7 @@ use Rattle.std.proofs.Common.{◌≡◌, ◌+◌, inl, inr, ℕ, List, ◌∷◌
 use Rattle.g4_net.specs.Configurations.{Config}
 use Rattle.g4_net.specs.Network.{ParserNetwork}
 use Rattle.g4_net.specs.Prediction.{Path, Sll, Verdict}
-use Rattle.g4_predict.proofs.Choosing.{from_on, word_from}
+use Rattle.g4_learned.proofs.Rests.{from_on, word_from}
 use Rattle.g4_tokens.specs.declared.token.Token.{Token}
 use Rattle.g4_tokens.specs.TokenList.{word_of}
 use Rattle.g4_predict.specs.declared.verdict.Verdict as said

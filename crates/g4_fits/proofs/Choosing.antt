@@ -4,11 +4,11 @@ use Rattle.std.proofs.lemmas.Bool.{false≢true}
 use Rattle.g4_net.specs.Configurations.{Stack, Config, config, above_bottom, wildcard}
 use Rattle.g4_net.specs.Lookahead.{Start, Next, IsEmpty, IsOnly, Alike}
 use Rattle.g4_net.specs.Network.{ParserNetwork}
-use Rattle.g4_net.specs.Prediction.{Verdict, answer, error_at, sensitive, Looked, Path, Judges, SllFrom, Sll, Choice, chosen, no_viable, Settles, FullFrom, Full, Any, HasTests, Decides, by_answer, by_error, by_full, by_tests}
+use Rattle.g4_net.specs.Prediction.{Verdict, answer, error_at, sensitive, Looked, Path, Judges, SllFrom, Sll, Choice, chosen, no_viable, Settles, FullFrom, Full}
 use Rattle.g4_net.specs.Prediction as prediction
 use Rattle.g4_net.specs.Proper.{IsProper}
 use Rattle.g4_net.proofs.Finite.{reached_keeps}
-use Rattle.g4_fits.specs.Fitting.{Fits, HasUntested, SomeFits, IsLeastThatFits, IsOnlyThatFits}
+use Rattle.g4_fits.specs.Fitting.{Fits, SomeFits, IsLeastThatFits, IsOnlyThatFits}
 use Rattle.g4_fits.proofs.Arriving.{CalledAreOwn, Shown, bottom, below, above, Stops, LastIsOwn, Holds, holds_start, holds_next}
 use Rattle.g4_fits.proofs.Backward.{StopsAt, stopped_start, stopped_next}
 
@@ -154,27 +154,3 @@ module _ (net : ParserNetwork) (own : LastIsOwn net) (d : ℕ) (A : ℕ → Type
   -- and it finds no error
   pub sll_no_error : CalledAreOwn net → (k : ℕ) (path : Path) → SomeFits net d A returns w → Sll net d A w (error_at k) path → ⊥
   sll_no_error all_own k path some s = sll_says all_own some (error_at k) path s
-
--- A decision chooses the least that is allowed and fits, if there is one: without first predicates all are allowed.
-pub decision_chooses : (net : ParserNetwork) → LastIsOwn net → CalledAreOwn net → (d : ℕ) (A : ℕ → Type 0) (returns w : List ℕ) →
-    IsProper net d returns → HasUntested net d A →
-    (c : Choice) → SomeFits net d A returns w → Decides net d A (above_bottom returns) w c → (i : ℕ) × (c ≡ chosen i) ×
-    IsLeastThatFits net d A returns w i
-decision_chooses net own all_own d A returns w proper all _ (j, a, f) (by_answer i path none s) =
-    let r = sll_answers net own d Any returns w proper all_own i path (j, tt, f) s in (
-      i,
-      refl,
-      record {
-        allowed = all none i r.fits.0 r.fits.1;
-        fits = r.fits;
-        least = λ k b g. let is = r.only k tt g in
-            omega (arith, is);
-      },
-    )
-decision_chooses net own all_own d A returns w proper all _ (j, a, f) (by_error k path none s) =
-    absurd (sll_no_error net own d Any returns w proper all_own k path (j, tt, f) s)
-decision_chooses net own all_own d A returns w proper all _ (j, a, f) (by_full k path c none s full) =
-    let r = full_chooses net own d Any returns w proper c (j, tt, f) full in
-    (r.0, r.1, record { allowed = all none r.0 r.2.fits.0 r.2.fits.1; fits = r.2.fits; least = λ k b g. r.2.least k tt g })
-decision_chooses net own all_own d A returns w proper all _ some (by_tests c tests full) =
-    full_chooses net own d A returns w proper c some full

@@ -1,7 +1,6 @@
 -- Which alternatives of a decision fit the rest of a word, by what the network spells. Nothing here looks ahead.
 use Rattle.std.specs.Prelude.{◌≡◌, ◌≤◌, ℕ, List, [], ◌∷◌}
 use Rattle.g4_net.specs.Network.{ParserNetwork, IsFirst}
-use Rattle.g4_net.specs.Prediction.{HasTests}
 use Rattle.g4_net.specs.Spelling.{SpellsWord}
 
 -- each of these states in turn spells a part of what is in w before z, and nothing else is there
@@ -32,7 +31,3 @@ pub record IsOnlyThatFits (net : ParserNetwork) (d : ℕ) (A : ℕ → Type 0) (
   pub allowed : A i
   pub fits : Fits net d i returns w
   pub only : (j : ℕ) → A j → Fits net d j returns w → j ≡ i
-
--- where none of the decision's alternatives begins with a predicate or a level, all of them are among these
-abbrev pub HasUntested : ParserNetwork → ℕ → (ℕ → Type 0) → Type 0
-HasUntested net d A = (HasTests net d → ⊥) → (i t : ℕ) → IsFirst net d i t → A i

@@ -6,9 +6,9 @@ ghost use Rattle.g4_net.specs.Configurations.{above_bottom};
 ghost use Rattle.g4_net.specs.declared.allowed.Allowed.{Allowed};
 ghost use Rattle.g4_net.specs.Loops.{IsLoop, LeadsSilently};
 ghost use Rattle.g4_net.specs.Network.{IsFirst, ParserNetwork};
-ghost use Rattle.g4_net.specs.Prediction.{Choice, Decides, Full, Path, Sll, answer, chosen, error_at};
+ghost use Rattle.g4_net.specs.Prediction.{Choice, Full, Path, Sll, answer, chosen, error_at};
 ghost use Rattle.g4_net.specs.Proper.{IsProper};
-ghost use Rattle.g4_fits.specs.Fitting.{Fits, FitsFrom, HasUntested, IsLeastThatFits, IsOnlyThatFits, SomeFits};
+ghost use Rattle.g4_fits.specs.Fitting.{Fits, FitsFrom, IsLeastThatFits, IsOnlyThatFits, SomeFits};
 
 /// Where some allowed alternative fits the word, full stacks choose the least that does.
 pub fn fitting_by_full_stacks()
@@ -24,15 +24,6 @@ pub fn fitting_by_sll()
         IsOnlyThatFits net d (Allows allowed) returns w i }
     ensures no_error { (net : ParserNetwork) (d : ℕ) (allowed : Allowed) (returns w : List ℕ) (k : ℕ) (path : Path) → IsReady net →
         IsProper net d returns → SomeFits net d (Allows allowed) returns w → Sll net d (Allows allowed) w (error_at k) path → ⊥ }
-{}
-
-/// Where some allowed alternative fits the word, a decision chooses the least that does. Without first predicates all of its
-/// alternatives are allowed.
-pub fn fitting_is_decided()
-    ensures { (net : ParserNetwork) (d : ℕ) (allowed : Allowed) (returns w : List ℕ) (c : Choice) → IsReady net → IsProper net d returns →
-        HasUntested net d (Allows allowed) → SomeFits net d (Allows allowed) returns w →
-        Decides net d (Allows allowed) (above_bottom returns) w c → (i : ℕ) × (c ≡ chosen i) ×
-        IsLeastThatFits net d (Allows allowed) returns w i }
 {}
 
 /// Where the newest return state leads to the same loop again and some alternative of the loop fits, to leave fits too: the loop

@@ -3,4 +3,4 @@
 
 mod law;
 
-pub use law::{fitting_by_full_stacks, fitting_by_sll, fitting_is_decided, leave_fits};
+pub use law::{fitting_by_full_stacks, fitting_by_sll, leave_fits};

@@ -8,7 +8,7 @@ use Rattle.g4_classes.specs.Classes.{IsSymbol}
 use Rattle.g4_net.specs.Prediction as said
 use Rattle.g4_predict.specs.declared.verdict.Verdict.{Verdict}
 use Rattle.g4_predict.specs.Paths.{verdict_of}
-use Rattle.g4_predict.proofs.Choosing.{ends_ahead, from_on, word_from}
+use Rattle.g4_learned.proofs.Rests.{ends_ahead, from_on, word_from}
 use Rattle.g4_store.specs.declared.automaton.Fact.{Fact}
 use Rattle.g4_store.specs.declared.automaton.Plan.{Plan}
 use Rattle.g4_store.specs.declared.view.View.{View}

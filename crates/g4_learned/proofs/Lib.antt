@@ -3,6 +3,7 @@ mod Answering
 mod Guarding
 pub mod Paths
 mod Placing
+pub mod Rests
 pub mod Seeing
 mod Starting
 mod Storing

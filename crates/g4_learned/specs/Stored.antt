@@ -2,6 +2,7 @@
 use Rattle.std.specs.Prelude.{◌≡◌, ◌≤◌, ◌<◌, ◌⊎◌, ℕ, ◌*◌, ◌^◌, List, [], ◌∷◌, length, map}
 use Rattle.g4_net.specs.AddedRule.{IsReady}
 use Rattle.g4_net.specs.Configurations.{Config}
+use Rattle.g4_net.specs.Loops.{HasLoops}
 use Rattle.g4_net.specs.Network.{ParserNetwork}
 use Rattle.g4_net.specs.Prediction as prediction
 use Rattle.g4_store.specs.declared.automaton.Fact.{Fact}
@@ -18,11 +19,12 @@ use Rattle.g4_learned.specs.Automata.{code_of}
 use Rattle.g4_guards.specs.Levels.{AllowedAt}
 use Rattle.g4_learned.specs.Tables.{AreTables, IsStartOf, Tables, column_of}
 
--- The columns and the starts are those of the network's tables, there are no more cells and starts than a store may have, and the
--- words have numbers of 32 bits.
+-- The network can be parsed with, and its levels are in loops. The columns and the starts are those of its tables, there are no more cells
+-- and starts than a store may have, and the words have numbers of 32 bits.
 pub record IsPlan (p : Plan Tables) : Type 0 where
   pub tables : AreTables p.net
   pub ready : IsReady p.net.net
+  pub loops : HasLoops p.net.net
   pub columns : p.columns ≡ p.net.count
   pub starts : p.starts ≡ length p.net.starts
   pub cells : p.rows * p.columns ≤ MOST_CELLS

@@ -2,6 +2,7 @@
 ghost use Rattle.std.specs.Prelude.{◌≡◌, ◌≤◌, ◌<◌, ℕ, true, false, List, [], ◌∷◌, All, IfOk, IfErr, OnErr, ◌||◌};
 ghost use Rattle.g4_classes.specs.Classes.{IsSymbol};
 ghost use Rattle.g4_net.specs.Configurations.{Config};
+ghost use Rattle.g4_net.specs.Loops.{HasLoops};
 ghost use Rattle.g4_net.specs.Prediction.{Sll, Verdict};
 ghost use Rattle.g4_predict.specs.Paths.{path_of};
 ghost use Rattle.g4_store.specs.declared.path.Path.{Path as StoredPath};
@@ -69,7 +70,7 @@ impl From<AllocError> for OpenFault {
 /// The plan of a store over a network, with room for so many rows.
 fn plan_of(net: DecisionNet, rows: usize) -> Result<Plan<DecisionNet>, OpenFault>
     requires rows { (0 < rows) × (rows ≤ 65536) }
-    requires tables { AreTables net × IsReady net.net }
+    requires tables { AreTables net × IsReady net.net × HasLoops net.net }
     ensures plan { IfOk result IsPlan }
     ensures parts { IfOk result (λ p. (p.net ≡ net) × (p.rows ≡ rows) × (0 < size_of p)) }
     ensures too_large { IfErr result (λ e. (e ≡ TooLarge) × IsTooLarge net.net rows) }
@@ -97,6 +98,7 @@ fn plan_of(net: DecisionNet, rows: usize) -> Result<Plan<DecisionNet>, OpenFault
 pub fn open(alloc: Global, net: ParserNetwork, rows: usize) -> Result<Opened, OpenFault>
     requires rows { (0 < rows) × (rows ≤ 65536) }
     requires ready { IsReady net }
+    requires loops { HasLoops net }
     ensures plan { IfOk result (λ o. IsPlan o.plan) }
     ensures parts { IfOk result (λ o. (o.plan.net.net ≡ net) × (o.plan.rows ≡ rows)) }
     ensures too_large { IfErr result (λ e. e ≡ TooLarge → IsTooLarge net rows) }

@@ -6,13 +6,15 @@ use Rattle.g4_net.specs.Network.{ParserNetwork}
 use Rattle.g4_ordered.specs.Network.{IsLexable}
 use Rattle.g4_lexer.specs.Lexers.{HasTokenTypes}
 use Rattle.g4_net.specs.AddedRule.{IsReady}
+use Rattle.g4_net.specs.Loops.{HasLoops}
 use Rattle.g4_layout.specs.Built.{IsBuilt}
 use Rattle.g4_leftrec.specs.Rewriting.{rewritten, numberings}
 use Rattle.g4_load.specs.declared.interpreter.Interpreter.{Interpreter}
 
--- The network can be parsed with, and is that of the rewritten rules from some start rule.
+-- The network can be parsed with, its levels are in loops, and it is that of the rewritten rules from some start rule.
 pub record IsParsing (rules : List StepRule) (net : ParserNetwork) : Type 0 where
   pub ready : IsReady net
+  pub loops : HasLoops net
   pub built : (start : List ℕ) × IsBuilt (eof ∷ []) (rewritten rules) (numberings rules) start net
 
 -- The network is that of the rules as they are run, from this start rule.

@@ -1,11 +1,11 @@
--- A decision has at most one SLL verdict on a word, with one path, and at most one choice.
+-- A decision has at most one SLL verdict on a word, with one path, and at most one answer with full stacks.
 use Rattle.std.proofs.Common.{◌≡◌, ◌≤◌, ℕ, suc, List, [], ◌∷◌, refl, sym, ◌∙◌, ap, arith}
-use Rattle.g4_net.specs.Configurations.{Stack, Config, config, wildcard}
+use Rattle.g4_net.specs.Configurations.{Config, config, wildcard}
 use Rattle.g4_net.specs.Network.{ParserNetwork, IsFirst}
 use Rattle.g4_net.specs.Lookahead.{Start, Next, IsEmpty, IsOnly, Conflict, Alike, IsLeast}
-use Rattle.g4_net.specs.Prediction.{Verdict, answer, error_at, sensitive, led_to, ended, Looked, Path, Judges, nothing_left, one_left, gives_up, goes_on, SllFrom, Sll, Any}
+use Rattle.g4_net.specs.Prediction.{Verdict, answer, error_at, sensitive, led_to, ended, Looked, Path, Judges, nothing_left, one_left, gives_up, goes_on, SllFrom, Sll}
 use Rattle.g4_net.proofs.Rows.{one_row}
-use Rattle.g4_net.specs.Prediction.{Choice, chosen, Settles, none_left, least, FullFrom, Decides, by_answer, by_error, by_full, by_tests}
+use Rattle.g4_net.specs.Prediction.{Choice, chosen, Settles, none_left, least, FullFrom}
 
 -- an alternative has one first state
 pub one_first : (net : ParserNetwork) (d i t u : ℕ) → IsFirst net d i t → IsFirst net d i u → t ≡ u
@@ -85,7 +85,7 @@ settles_once D k Later once b c (goes_on _ e n s l) (least j a g) = absurd (s a)
 settles_once D k Later once b c (goes_on _ e n s l) (goes_on _ f m t r) = once b c l r
 
 -- there is at most one answer with full stacks
-one_full : (net : ParserNetwork) (C : Config → Type 0) (word : List ℕ) (k : ℕ) (b c : Choice) → FullFrom net C word k b
+pub one_full : (net : ParserNetwork) (C : Config → Type 0) (word : List ℕ) (k : ℕ) (b c : Choice) → FullFrom net C word k b
     → FullFrom net C word k c → b ≡ c
 one_full net C [] k b c h g = absurd h
 one_full net C (a ∷ word) k b c h g = settles_once (Next net C a) k (FullFrom net (Next net C a) word (suc k))
@@ -101,31 +101,3 @@ one_sll net d A word v w p q h g =
       ap (λ (xs : List Config). record { start = xs; looked = p.looked }) from
           ∙ ap (λ (xs : List Looked). record { start = q.start; looked = xs }) later.1,
     )
-
--- a decision has at most one choice
-pub one_choice : (net : ParserNetwork) (d : ℕ) (A : ℕ → Type 0) (z : Stack) (word : List ℕ) (b c : Choice) → Decides net d A z word b
-    → Decides net d A z word c → b ≡ c
-one_choice net d A z word b c (by_answer i p n s) (by_answer j q m t) = let e : answer i ≡ answer j =
-    (one_sll net d Any word _ _ p q s t).0 in cc
-one_choice net d A z word b c (by_answer i p n s) (by_error k q m t) = let e : answer i ≡ error_at k =
-    (one_sll net d Any word _ _ p q s t).0 in cc
-one_choice net d A z word b c (by_answer i p n s) (by_full k q _ m t f) = let e : answer i ≡ sensitive k =
-    (one_sll net d Any word _ _ p q s t).0 in cc
-one_choice net d A z word b c (by_answer i p n s) (by_tests _ m f) = absurd (n m)
-one_choice net d A z word b c (by_error k p n s) (by_answer j q m t) = let e : error_at k ≡ answer j =
-    (one_sll net d Any word _ _ p q s t).0 in cc
-one_choice net d A z word b c (by_error k p n s) (by_error l q m t) = let e : error_at k ≡ error_at l =
-    (one_sll net d Any word _ _ p q s t).0 in cc
-one_choice net d A z word b c (by_error k p n s) (by_full l q _ m t f) = let e : error_at k ≡ sensitive l =
-    (one_sll net d Any word _ _ p q s t).0 in cc
-one_choice net d A z word b c (by_error k p n s) (by_tests _ m f) = absurd (n m)
-one_choice net d A z word b c (by_full k p _ n s g) (by_answer j q m t) = let e : sensitive k ≡ answer j =
-    (one_sll net d Any word _ _ p q s t).0 in cc
-one_choice net d A z word b c (by_full k p _ n s g) (by_error l q m t) = let e : sensitive k ≡ error_at l =
-    (one_sll net d Any word _ _ p q s t).0 in cc
-one_choice net d A z word b c (by_full k p _ n s g) (by_full l q _ m t f) = one_full net (Start net d Any z) word 0 b c g f
-one_choice net d A z word b c (by_full k p _ n s g) (by_tests _ m f) = absurd (n m)
-one_choice net d A z word b c (by_tests _ n g) (by_answer j q m t) = absurd (m n)
-one_choice net d A z word b c (by_tests _ n g) (by_error k q m t) = absurd (m n)
-one_choice net d A z word b c (by_tests _ n g) (by_full k q _ m t f) = absurd (m n)
-one_choice net d A z word b c (by_tests _ n g) (by_tests _ m f) = one_full net (Start net d A z) word 0 b c g f

@@ -1,20 +1,7 @@
-pub mod Choosing
 mod Ending
-mod Fitting
-mod Foreseeing
-mod Foretelling
 mod FullEnding
 mod FullLooking
-mod Leaving
 mod Lists
 mod Looking
 mod Options
 mod Placing
-mod Showing
-mod Sighted
-mod Spreading
-mod States
-mod Takers
-mod Testing
-mod Told
-mod Walking

@@ -117,36 +117,6 @@ module _ (net : ParserNetwork) where
             (all_reversed (λ t. t < length net.states) below place.states),
       )
 
--- the members of a list over return states
-in_over : (below : List ℕ) (cs : List Config) (d : Config) → In d (map (over below) cs) ↔ ((c : Config) × In c cs × (d ≡ over below c))
-in_over below [] d = ((λ i. absurd i), (λ (c, i, is). absurd i))
-in_over below (x ∷ xs) d =
-    let rest = in_over below xs d in (
-      (λ i. elim i [ inl e ↦ (x, inl refl, e) | inr j ↦ (let (c, k, is) = rest.0 j in (c, inr k, is)) ]),
-      (λ (c, i, is). elim i [ inl e ↦ inl (is ∙ ap (over below) e) | inr j ↦ inr (rest.1 (c, j, is)) ]),
-    )
-
--- a set over return states has a row
-pub over_row : (below : List ℕ) (H : Config → Type 0) → (row : List Config) × IsRow row H → (row : List Config) × IsRow row (Over below H)
-over_row below H (row, is_row) = (
-  row_of cs,
-  record {
-    rising = own.rising;
-    exactly = λ d. (
-      (λ x. let k = (own.exactly d).0 x in let (c, i, is) = (in_over below row d).0 (In-from cs d k.0 k.1 k.2) in
-          (c, (is_row.exactly c).0 (In-to row c i), is)),
-      (λ (c, h, is). (own.exactly d).1 (In-to cs d
-          ((in_over below row d).1 (c, (let k = (is_row.exactly c).1 h in In-from row c k.0 k.1 k.2), is)))),
-    );
-  },
-)
-  where
-    cs : List Config
-    cs = map (over below) row
-
-    own : IsRow (row_of cs) (Contains cs)
-    own = row_of_is cs
-
 -- what a set settles, it settles over return states
 pub settles_over : (below : List ℕ) (H : Config → Type 0) (k : ℕ) (s : Settled) → SettlesWith H k s → SettlesWith (Over below H) k s
 settles_over below H k (Chosen i) (inl only) = inl (((agree_over below H).only i).0 only)
@@ -160,42 +130,3 @@ goes_over below H goes = record {
   several = λ i x. goes.several i (((agree_over below H).only i).1 x);
   unlike = λ x. goes.unlike ((agree_over below H).alike.1 x);
 }
-
-module _ (net : ParserNetwork) (below : List ℕ) (H : Config → Type 0) (a : ℕ) where
-  -- what takes a symbol over return states
-  pub takers_over : AreSame (Takers net (Over below H) a) (Over below (Takers net H a))
-  takers_over d = (
-    (λ ((c, i, is), (t, takes)). (c, (i, (t, subst (λ (x : Config). TakesBy (state_at net x.state) a t) is takes)), is)),
-    (λ (c, (i, (t, takes)), is). ((c, i, is), (t, subst (λ (x : Config). TakesBy (state_at net x.state) a t) (sym is) takes))),
-  )
-
-  pub same_takers : (T : Config → Type 0) → AreSame T (Takers net H a) → AreSame (Over below T) (Takers net (Over below H) a)
-  same_takers T same d = (
-    (λ (c, i, is). (takers_over d).1 (c, (same c).0 i, is)),
-    (λ x. let (c, i, is) = (takers_over d).0 x in (c, (same c).1 i, is)),
-  )
-
-  -- the least alternative of it
-  pub least_over : (i : ℕ) → IsLeast (Takers net H a) i → IsLeast (Takers net (Over below H) a) i
-  least_over i least = ((agrees below (Takers net (Over below H) a) (Takers net H a) takers_over).least i).1 least
-
-  -- more return states in the middle are more with others below
-  extends_over : (longer shorter : List ℕ) → Extends net longer shorter → Extends net (longer ++ below) (shorter ++ below)
-  extends_over longer shorter e = record {
-    above = e.above;
-    more = e.more;
-    below = e.below ++ below;
-    longer_is = ap (λ (rs : List ℕ). rs ++ below) e.longer_is ∙ append_assoc (e.above ++ e.more) e.below below;
-    shorter_is = ap (λ (rs : List ℕ). rs ++ below) e.shorter_is ∙ append_assoc e.above e.below below;
-    ends = e.ends;
-  }
-
-  -- an alternative that covers the others covers them over return states
-  pub covers_over : (i : ℕ) → Covers net (Takers net H a) i → Covers net (Takers net (Over below H) a) i
-  covers_over i covers d taken =
-      let (c, taker, is) = (takers_over d).0 taken in
-      let (longer, has, extends) = covers c taker in
-      let other : Config = config c.state i (record { returns = longer; wild = c.stack.wild }) in
-      let there : HasExtended net (Takers net (Over below H) a) i (over below c) =
-      (longer ++ below, (takers_over (over below other)).1 (other, has, refl), extends_over longer c.stack.returns extends) in
-      subst (HasExtended net (Takers net (Over below H) a) i) (sym is) there

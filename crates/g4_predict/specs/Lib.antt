@@ -1,11 +1,5 @@
--- Other crates cite Deciding, Foreseeing; only this crate cites Frames, FullForeseeing, FullVerdicts, Looks, Paths, Telling,
--- Verdicts.
-pub mod Deciding
-pub mod Foreseeing
+-- Other crates cite FullVerdicts, Paths; only this crate cites Frames, Verdicts.
 pub mod Frames
-pub mod FullForeseeing
 pub mod FullVerdicts
-pub mod Looks
 pub mod Paths
-pub mod Telling
 pub mod Verdicts

@@ -28,7 +28,7 @@ pub enum Settled {
 }
 
 /// What is settled by the set after symbol k, if anything is.
-pub(crate) fn settle(alloc: Global, set: &Configs, k: u32) -> Result<Option<Settled>, AllocError>
+fn settle(alloc: Global, set: &Configs, k: u32) -> Result<Option<Settled>, AllocError>
     ensures { IfOk result (λ settled. MatchOption settled (GoesOnFull (Holds set.now)) (SettlesWith (Holds set.now) k)) }
 {
     let Some(least) = set.least_alternative() else {

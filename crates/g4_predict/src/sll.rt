@@ -8,7 +8,7 @@ ghost use Rattle.g4_net.specs.Configurations.{Config, IsWithin};
 ghost use Rattle.g4_net.specs.declared.network.TheConstants.{MOST_STATES};
 ghost use Rattle.g4_net.specs.Leads.{WellFormed};
 ghost use Rattle.g4_net.specs.Lookahead.{Next};
-ghost use Rattle.g4_net.specs.Prediction.{Path as Way, Sll};
+ghost use Rattle.g4_net.specs.Prediction.{Sll};
 ghost use Rattle.g4_tokens.specs.TokenList.{word_of};
 ghost use Rattle.g4_lookahead.specs.EndOfList.{Matters};
 ghost use Rattle.g4_predict.specs.Paths.{path_of, verdict_of};
@@ -123,35 +123,6 @@ pub fn simulate(
                 looked.push(Looked { symbol, led })?;
                 set = next;
             }
-        }
-    }
-    unreachable!()
-}
-
-/// The SLL verdict of a decision over its allowed alternatives, on the tokens from it on, without the path. It makes no snapshot, so it is
-/// faster than `simulate`.
-///
-/// # Errors
-/// No memory.
-pub fn sll_verdict(
-    alloc: Global,
-    net: &ParserNetwork,
-    decision: u32,
-    allowed: &Allowed,
-    tokens: &[Token],
-) -> Result<Verdict, AllocError>
-    requires ready { IsReady net.now }
-    requires ends { Contains (word_of tokens.now) end_of_list }
-    requires few { length tokens.now < 2 ^ 32 }
-    ensures { IfOk result (λ verdict. (path : Way) × Sll net.now decision (Allows allowed.now) (word_of tokens.now)
-        (verdict_of verdict) path) }
-{
-    let mut set = start_set(alloc, net, decision, allowed)?;
-    for (k, token) in tokens.iter().enumerate() {
-        let seen = look(alloc, net, set, token.symbol, k as u32)?;
-        match seen {
-            Seen::Ended(verdict) => return Ok(verdict),
-            Seen::Onward(next) => set = next,
         }
     }
     unreachable!()

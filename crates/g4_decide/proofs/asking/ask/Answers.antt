@@ -6,7 +6,7 @@ use Rattle.g4_learned.specs.declared.walk.Walk.TheVariants.{Ended, NotLearned}
 use Rattle.g4_learned.specs.Stored.{IsStored}
 use Rattle.g4_learned.specs.Tables.{Tables}
 use Rattle.g4_net.specs.AddedRule.{IsReady}
-use Rattle.g4_predict.proofs.Choosing.{ends_ahead}
+use Rattle.g4_learned.proofs.Rests.{ends_ahead}
 use Rattle.g4_predict.specs.Paths.{path_of, verdict_of}
 use Rattle.g4_tokens.specs.TokenList.{word_of}
 use Rattle.g4_decide.specs.Asked.{Keeps}

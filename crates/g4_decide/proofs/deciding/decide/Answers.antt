@@ -3,7 +3,7 @@ use Rattle.g4_learned.specs.Tables.{Tables}
 use Rattle.g4_net.specs.AddedRule.{IsReady}
 use Rattle.g4_net.specs.Network.{ParserNetwork}
 use Rattle.g4_net.specs.Proper.{IsProper}
-use Rattle.g4_predict.proofs.Choosing.{ends_ahead}
+use Rattle.g4_learned.proofs.Rests.{ends_ahead}
 use Rattle.g4_predict.specs.declared.full.Settled.TheVariants.{Chosen, NoViable}
 use Rattle.g4_predict.specs.declared.verdict.Verdict.TheVariants.{Answer, ErrorAt, Sensitive}
 use Rattle.g4_tokens.specs.TokenList.{word_of}
