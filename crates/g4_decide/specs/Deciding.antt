@@ -5,8 +5,8 @@ use Rattle.g4_guards.specs.Levels.{AllowedAt}
 use Rattle.g4_net.specs.Configurations.{above_bottom}
 use Rattle.g4_net.specs.Network.{ParserNetwork, IsFirst}
 use Rattle.g4_net.specs.Prediction.{Choice, chosen, no_viable}
-use Rattle.g4_predict.specs.declared.decision.DecideFault.{DecideFault}
-use Rattle.g4_predict.specs.declared.decision.DecideFault.TheVariants.{NoViable, NoMemory}
+use Rattle.g4_decide.specs.declared.fault.DecideFault.{DecideFault}
+use Rattle.g4_decide.specs.declared.fault.DecideFault.TheVariants.{NoViable, NoMemory}
 
 -- the choice of a decision over the alternatives that may be taken at the level of the open rule
 abbrev pub ChoosesAt : ParserNetwork → ℕ → ℕ → List ℕ → List ℕ → Choice → Type 0

@@ -14,10 +14,11 @@ ghost use Rattle.g4_tokens.specs.Symbols.{end_of_list};
 ghost use Rattle.g4_tokens.specs.TokenList.{EndsInEnd, word_of};
 
 use crate::asking::ask;
+use crate::fault::DecideFault;
 use g4_guards::allowed_at;
 use g4_learned::{DecisionNet, Pass, Store};
 use g4_net::ParserNetwork;
-use g4_predict::{DecideFault, Settled, Verdict, decide_full};
+use g4_predict::{Settled, Verdict, decide_full};
 use g4_store::steps::Steps;
 use g4_store::view::Home;
 use g4_tokens::Token;

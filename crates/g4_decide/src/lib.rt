@@ -4,6 +4,8 @@
 
 mod asking;
 mod deciding;
+mod fault;
 
 pub use asking::ask;
 pub use deciding::decide;
+pub use fault::DecideFault;

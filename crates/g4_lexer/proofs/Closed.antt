@@ -4,7 +4,7 @@ use Rattle.std.specs.Str.{encode_utf8_all}
 use Rattle.std.proofs.lemmas.List.Elements.{All-append, All-nil, All-cons}
 use Rattle.std.proofs.lemmas.Str.{encodes-chars}
 use Rattle.g4_tokens.specs.Symbols.{eof, end_of_list}
-use Rattle.g4_lexer.specs.Lexers.{IsTokenType}
+use Rattle.g4_lexer.specs.Lexers.{IsOfList, IsOfText}
 use Rattle.g4_tokens.specs.declared.token.Token.{Token}
 use Rattle.g4_tokens.specs.TokenList.{word_of, EndsInEnd}
 use Rattle.g4_lexer.specs.declared.position.Position.{Position}
@@ -23,12 +23,12 @@ low_lacks (a ∷ w) low (zero, less, is) = omega (arith, low.0)
 low_lacks (a ∷ w) low (suc k, less, is) = low_lacks w low.1 (k, omega arith, is)
 
 -- a token type or EOF is
-low_type : (symbol : ℕ) → IsTokenType symbol → symbol ≤ eof
-low_type symbol (inl low) = omega arith
+low_type : (symbol : ℕ) → IsOfText symbol → symbol ≤ eof
+low_type symbol (inl (some, low)) = omega arith
 low_type symbol (inr is) = omega arith
 
 -- the symbols of the tokens, and of four EOF after them, are low
-word_low : (found : List Token) → All (λ (token : Token). IsTokenType token.symbol) found
+word_low : (found : List Token) → All (λ (token : Token). IsOfText token.symbol) found
     → AreLow (word_of found ++ eof ∷ eof ∷ eof ∷ eof ∷ [])
 word_low [] types = (omega arith, (omega arith, (omega arith, (omega arith, tt))))
 word_low (t ∷ ts) types = (low_type t.symbol (types 0 t (omega arith)), word_low ts (λ k d less. types (suc k) d (omega arith)))
@@ -40,13 +40,35 @@ word_closed (t ∷ ts) end = ap (λ w. t.symbol ∷ w) (word_closed ts end)
 
 -- tokens of token types, closed, end in END
 pub ends_in_end : (tokens found : List Token) (end : Position) → tokens ≡ found ++ closing_at end
-    → All (λ (token : Token). IsTokenType token.symbol) found → EndsInEnd (word_of tokens)
+    → All (λ (token : Token). IsOfText token.symbol) found → EndsInEnd (word_of tokens)
 ends_in_end tokens found end is types =
     subst (λ (ts : List Token). EndsInEnd (word_of ts)) (sym is) (
       word_of found ++ eof ∷ eof ∷ eof ∷ eof ∷ [],
       word_closed found end,
       low_lacks (word_of found ++ eof ∷ eof ∷ eof ∷ eof ∷ []) (word_low found types),
     )
+
+-- and each of their symbols is one of a list
+of_list : (symbol : ℕ) → IsOfText symbol → IsOfList symbol
+of_list symbol (inl type) = inl type
+of_list symbol (inr is) = inr (inl is)
+
+closed_symbols : (found : List Token) (end : Position) → All (λ (token : Token). IsOfText token.symbol) found
+    → All IsOfList (word_of (found ++ closing_at end))
+closed_symbols [] end types =
+    All-cons IsOfList eof (eof ∷ eof ∷ eof ∷ end_of_list ∷ []) (inr (inl refl))
+    (All-cons IsOfList eof (eof ∷ eof ∷ end_of_list ∷ []) (inr (inl refl))
+    (All-cons IsOfList eof (eof ∷ end_of_list ∷ []) (inr (inl refl))
+    (All-cons IsOfList eof (end_of_list ∷ []) (inr (inl refl))
+    (All-cons IsOfList end_of_list [] (inr (inr refl)) (All-nil IsOfList)))))
+closed_symbols (t ∷ ts) end types =
+    All-cons IsOfList t.symbol (word_of (ts ++ closing_at end)) (of_list t.symbol (types 0 t (omega arith)))
+    (closed_symbols ts end (λ k d less. types (suc k) d (omega arith)))
+
+pub symbols_of_list : (tokens found : List Token) (end : Position) → tokens ≡ found ++ closing_at end
+    → All (λ (token : Token). IsOfText token.symbol) found → All IsOfList (word_of tokens)
+symbols_of_list tokens found end is types =
+    subst (λ (ts : List Token). All IsOfList (word_of ts)) (sym is) (closed_symbols found end types)
 
 -- the end of the characters of some bytes is that of the bytes
 pub end_offset : (bytes text : List ℕ) (end : Position) → AreCharacters bytes text → end ≡ position_after first_position text

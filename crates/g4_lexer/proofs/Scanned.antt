@@ -20,7 +20,7 @@ use Rattle.g4_lexer.specs.declared.lexer.Lexer.{Lexer}
 use Rattle.g4_lexer.specs.declared.position.Position.{Position}
 use Rattle.g4_lexer.specs.declared.token.Begun.{Begun}
 use Rattle.g4_lexer.specs.Commands.{after_commands, CarriesOut}
-use Rattle.g4_lexer.specs.Lexers.{starts_in, type_of, commands_of, HasTokenTypes, IsTokenType}
+use Rattle.g4_lexer.specs.Lexers.{starts_in, type_of, commands_of, HasTokenTypes, IsOfText}
 use Rattle.g4_lexer.specs.Lexing.{Course, current, before_commands, NextMatch, made_at, course_after, LexesText, no_token, empty_mode_stack, too_many}
 use Rattle.g4_lexer.specs.Positions.{first_position, position_after}
 use Rattle.g4_lexer.specs.Scanning.{IsScanFault}
@@ -182,14 +182,14 @@ module _ (lexer : Lexer) (text : List ℕ) (start : ℕ) (s : Course) where
           next.matches.some,
         )
 
-        pub types_more : (HasTokenTypes lexer → All (λ (t : Token). IsTokenType t.symbol) old) → HasTokenTypes lexer
-            → All (λ (t : Token). IsTokenType t.symbol) new
+        pub types_more : (HasTokenTypes lexer → All (λ (t : Token). IsOfText t.symbol) old) → HasTokenTypes lexer
+            → All (λ (t : Token). IsOfText t.symbol) new
         types_more types has =
             let low = commands_type (commands_of lexer next.rule next.alternative) (before_commands lexer s next.rule)
             (has.commands next.rule next.alternative) (inl (has.rules next.rule)) in
             let fate : HasTokenType e.fate = subst HaveTokenType next.carried_out low in
-            subst (λ (ts : List Token). All (λ (t : Token). IsTokenType t.symbol) ts) (sym h.0)
-            (All-append (λ (t : Token). IsTokenType t.symbol) old (made token e end) (types has)
+            subst (λ (ts : List Token). All (λ (t : Token). IsOfText t.symbol) ts) (sym h.0)
+            (All-append (λ (t : Token). IsOfText t.symbol) old (made token e end) (types has)
             (made_types e.fate token e.channel end fate))
 
         further : s.at.offset ≤ end.offset

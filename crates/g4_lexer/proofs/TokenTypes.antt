@@ -1,5 +1,5 @@
 -- The types of tokens, where rules have token types and commands give them.
-use Rattle.std.proofs.Common.{ℕ, suc, List, [], ◌∷◌, Option, Some, None, All, arith}
+use Rattle.std.proofs.Common.{◌≡◌, ◌≤◌, ◌⊎◌, inl, inr, ℕ, zero, suc, List, [], ◌∷◌, Option, Some, None, All, refl, arith}
 use Rattle.std.specs.Option.{option_and_then}
 use Rattle.std.proofs.lemmas.List.Elements.{All-nil, All-cons}
 use Rattle.g4_tokens.specs.declared.token.Token.{Token}
@@ -11,8 +11,8 @@ use Rattle.g4_lexer.specs.declared.effects.Fate.TheVariants as fates
 use Rattle.g4_lexer.specs.declared.position.Position.{Position}
 use Rattle.g4_lexer.specs.declared.token.Begun.{Begun}
 use Rattle.g4_lexer.specs.Commands.{gone_back, after_command, after_commands}
-use Rattle.g4_lexer.specs.Lexers.{GivesTokenType, IsTokenType}
-use Rattle.g4_lexer.specs.Tokens.{made_by}
+use Rattle.g4_lexer.specs.Lexers.{GivesTokenType, IsOfText, IsTokenType}
+use Rattle.g4_lexer.specs.Tokens.{made_by, type_or_eof}
 
 -- the match makes a token of a token type, if it makes one
 abbrev pub HasTokenType : Fate → Type 0
@@ -50,10 +50,16 @@ commands_type [] e g h = h
 commands_type (c ∷ cs) e g h = then_type (after_commands cs) (after_command c e)
     (λ x k. commands_type cs x (λ i d less. g (suc i) d (omega arith)) k) (command_type c e (g 0 c (omega arith)) h)
 
+-- none gives way to EOF
+of_text : (symbol : ℕ) → IsTokenType symbol → IsOfText (type_or_eof symbol)
+of_text zero h = inr refl
+of_text (suc n) (inl low) = inl (omega arith, low)
+of_text (suc n) (inr is) = inr is
+
 -- so the token that a match makes has one
 pub made_types : (fate : Fate) (begun : Begun) (channel : ℕ) (end : Position) → HasTokenType fate
-    → All (λ (t : Token). IsTokenType t.symbol) (made_by fate begun channel end)
+    → All (λ (t : Token). IsOfText t.symbol) (made_by fate begun channel end)
 made_types fates.Dropped begun channel end h = λ k d less. absurd (omega arith)
 made_types fates.Kept begun channel end h = λ k d less. absurd (omega arith)
 made_types (fates.Token symbol) begun channel end h =
-    All-cons (λ (t : Token). IsTokenType t.symbol) _ [] h (All-nil (λ (t : Token). IsTokenType t.symbol))
+    All-cons (λ (t : Token). IsOfText t.symbol) _ [] (of_text symbol h) (All-nil (λ (t : Token). IsOfText t.symbol))

@@ -1,7 +1,7 @@
 -- What a lexer says of its modes and rules, by their numbers.
 use Rattle.std.specs.Prelude.{◌≡◌, ◌≤◌, ◌⊎◌, ℕ, zero, suc, List, [], All, slice_index_or}
 use Rattle.g4_tokens.specs.declared.symbol.TheConstants.{MOST_TYPES}
-use Rattle.g4_tokens.specs.Symbols.{eof}
+use Rattle.g4_tokens.specs.Symbols.{eof, end_of_list}
 use Rattle.g4_ordered.specs.Configurations.{LexerConfig}
 use Rattle.g4_ordered.specs.Starts.{starts_of}
 use Rattle.g4_lexer.specs.declared.command.LexerCommand.{LexerCommand}
@@ -43,3 +43,11 @@ GivesTokenType commands.PopMode = Unit {0}
 pub record HasTokenTypes (lexer : Lexer) : Type 0 where
   pub rules : (rule : ℕ) → type_of lexer rule ≤ MOST_TYPES
   pub commands : (rule alternative : ℕ) → All GivesTokenType (commands_of lexer rule alternative)
+
+-- the symbol of a token of a file: a token type, as of a rule, or EOF
+abbrev pub IsOfText : ℕ → Type 0
+IsOfText symbol = ((1 ≤ symbol) × (symbol ≤ MOST_TYPES)) ⊎ (symbol ≡ eof)
+
+-- the same, or END, which closes the list
+abbrev pub IsOfList : ℕ → Type 0
+IsOfList symbol = ((1 ≤ symbol) × (symbol ≤ MOST_TYPES)) ⊎ (symbol ≡ eof) ⊎ (symbol ≡ end_of_list)

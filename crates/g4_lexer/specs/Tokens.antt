@@ -1,5 +1,5 @@
 -- The tokens that matches make, and those that close a file.
-use Rattle.std.specs.Prelude.{◌≡◌, ◌==◌, ℕ, ◌+◌, ◌≤◌, ◌<◌, List, [], ◌∷◌, ◌++◌, length, Option, Some, None, Result, Ok, Err}
+use Rattle.std.specs.Prelude.{◌≡◌, ◌==◌, ℕ, ◌+◌, ◌≤◌, ◌<◌, List, [], ◌∷◌, ◌++◌, cond, length, Option, Some, None, Result, Ok, Err}
 use Rattle.std.specs.List.{filter}
 use Rattle.g4_tokens.specs.Symbols.{eof, end_of_list}
 use Rattle.g4_tokens.specs.declared.token.Token.{Token}
@@ -17,11 +17,15 @@ abbrev pub token_between : ℕ → ℕ → Position → Position → Token
 token_between symbol channel from to = record
     { symbol = symbol; channel = channel; place = from.place; start = from.offset; end = to.offset }
 
+-- a token type; that of EOF in the place of none
+abbrev pub type_or_eof : ℕ → ℕ
+type_or_eof symbol = cond (symbol == 0) eof symbol
+
 -- The tokens that a match makes which ends at the position: one or none. The token begins where its first match began.
 abbrev pub made_by : Fate → Begun → ℕ → Position → List Token
 made_by fates.Dropped begun channel end = []
 made_by fates.Kept begun channel end = []
-made_by (fates.Token symbol) begun channel end = token_between symbol channel begun.from end ∷ []
+made_by (fates.Token symbol) begun channel end = token_between (type_or_eof symbol) channel begun.from end ∷ []
 
 -- the token that goes on with the next match, if one does: it keeps its beginning and its channel
 abbrev pub going_on : Fate → Begun → ℕ → Option Begun

@@ -3,7 +3,7 @@ ghost use Rattle.std.specs.Prelude.{◌≡◌, ◌≤◌, ◌+◌, All, IfOk, le
 ghost use Rattle.g4_base.specs.declared.limits.TheConstants.{MOST_BYTES};
 ghost use Rattle.g4_ordered.specs.Network.{IsLexable};
 ghost use Rattle.g4_tokens.specs.TokenList.{EndsInEnd, word_of};
-ghost use Rattle.g4_lexer.specs.Lexers.{HasTokenTypes};
+ghost use Rattle.g4_lexer.specs.Lexers.{HasTokenTypes, IsOfList};
 ghost use Rattle.g4_lexer.specs.Lexing.{IsLexing, IsLexingWithin};
 ghost use Rattle.g4_lexer.specs.Tokens.{EndsBy, HasText};
 
@@ -37,6 +37,7 @@ pub fn tokens_within(
     ensures few { IfOk result (λ found. length found.list ≤ length bytes + 5) }
     ensures limited { IfOk result (λ found. length found.list ≤ room + 5) }
     ensures ends { HasTokenTypes lexer.now → IfOk result (λ found. EndsInEnd (word_of found.list)) }
+    ensures symbols { HasTokenTypes lexer.now → IfOk result (λ found. All IsOfList (word_of found.list)) }
     ensures spans { IfOk result (λ found. All (EndsBy (length bytes)) found.all) }
     ensures list_spans { IfOk result (λ found. All (EndsBy (length bytes)) found.list) }
     ensures texts { IfOk result (λ found. All HasText found.all) }
@@ -71,6 +72,7 @@ pub fn tokens(alloc: Global, lexer: &Lexer, bytes: Octets) -> Result<Tokens, Lex
     ensures few { IfOk result (λ found. length found.list ≤ length bytes + 5) }
     ensures limited { IfOk result (λ found. length found.list ≤ MOST_TOKENS + 5) }
     ensures ends { HasTokenTypes lexer.now → IfOk result (λ found. EndsInEnd (word_of found.list)) }
+    ensures symbols { HasTokenTypes lexer.now → IfOk result (λ found. All IsOfList (word_of found.list)) }
     ensures spans { IfOk result (λ found. All (EndsBy (length bytes)) found.all) }
     ensures list_spans { IfOk result (λ found. All (EndsBy (length bytes)) found.list) }
     ensures texts { IfOk result (λ found. All HasText found.all) }

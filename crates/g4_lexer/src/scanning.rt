@@ -2,7 +2,7 @@
 ghost use Rattle.std.specs.Prelude.{◌≡◌, ◌≤◌, All, IfOk, length};
 ghost use Rattle.g4_base.specs.declared.limits.TheConstants.{MOST_BYTES};
 ghost use Rattle.g4_ordered.specs.Network.{IsLexable};
-ghost use Rattle.g4_lexer.specs.Lexers.{HasTokenTypes, IsTokenType};
+ghost use Rattle.g4_lexer.specs.Lexers.{HasTokenTypes, IsOfText};
 ghost use Rattle.g4_lexer.specs.Positions.{first_position, position_after};
 ghost use Rattle.g4_lexer.specs.Scanning.{IsScan};
 ghost use Rattle.g4_lexer.specs.Tokens.{EndsBy, HasText};
@@ -39,7 +39,7 @@ pub(crate) fn scan(
     ensures end { IfOk result (λ found. found.end ≡ position_after first_position text.now) }
     ensures few { IfOk result (λ found. length found.tokens.items ≤ length text.now) }
     ensures limited { IfOk result (λ found. length found.tokens.items ≤ room) }
-    ensures types { HasTokenTypes lexer.now → IfOk result (λ found. All (λ token. IsTokenType token.symbol) found.tokens.items) }
+    ensures types { HasTokenTypes lexer.now → IfOk result (λ found. All (λ token. IsOfText token.symbol) found.tokens.items) }
     ensures spans { IfOk result (λ found. All (EndsBy found.end.offset) found.tokens.items) }
     ensures texts { IfOk result (λ found. All HasText found.tokens.items) }
 {

@@ -1,6 +1,6 @@
 // The tokens that matches make.
 ghost use Rattle.std.specs.Prelude.{◌≡◌, ◌++◌, IfOk};
-ghost use Rattle.g4_lexer.specs.Tokens.{Concludes, closing_at, visible};
+ghost use Rattle.g4_lexer.specs.Tokens.{Concludes, closing_at, type_or_eof, visible};
 
 use crate::effects::{Effects, Fate};
 use crate::fault::LexFault;
@@ -13,6 +13,13 @@ use std::alloc::{AllocError, Global};
 pub(crate) struct Begun {
     pub from: Position,
     pub channel: u32,
+}
+
+/// A token type; that of EOF in the place of none.
+fn type_or_eof(symbol: u32) -> u32
+    ensures { result ≡ type_or_eof symbol }
+{
+    if symbol == 0 { EOF } else { symbol }
 }
 
 /// Concludes a match of the token that has begun, with what its commands did and where it ends: pushes the token that it makes, if
@@ -40,7 +47,7 @@ pub(crate) fn conclude(
                 return Err(LexFault::Tokens(begun.from.place));
             }
             tokens.push(Token {
-                symbol,
+                symbol: type_or_eof(symbol),
                 channel: effects.channel,
                 place: begun.from.place,
                 start: begun.from.offset,

@@ -1,11 +1,11 @@
 use Rattle.std.proofs.Common.{◌≡◌, ◌++◌, ◌==◌, ◌∙◌, ap, length, List, arith}
 use Rattle.std.proofs.lemmas.List.{length-append}
 use Rattle.std.proofs.lemmas.List.Elements.{All-filter}
-use Rattle.g4_lexer.specs.Lexers.{IsTokenType}
+use Rattle.g4_lexer.specs.Lexers.{IsOfText}
 use Rattle.g4_tokens.specs.declared.token.Token.{Token}
 use Rattle.g4_lexer.specs.Decoding.{AreCharacters}
 use Rattle.g4_lexer.specs.Tokens.{EndsBy, closing_at, visible}
-use Rattle.g4_lexer.proofs.Closed.{ends_in_end, end_offset, spans_closed, visible_few}
+use Rattle.g4_lexer.proofs.Closed.{ends_in_end, end_offset, spans_closed, symbols_of_list, visible_few}
 use Rattle.g4_lexer.proofs.Scanned.{spans_further}
 use Rattle.g4_lexer.proofs.lexing.tokens_within.Goals as goal
 
@@ -48,7 +48,18 @@ returns-clause-ends c =
     (c.in_ok-list.ensures ∙ ap visible c.deref-2.ensures.value) in
     λ types.
     ends_in_end c.new-2.result (visible found.tokens.items) found.end list_is
-    (All-filter (λ (t : Token). t.channel == 0) (λ (t : Token). IsTokenType t.symbol) found.tokens.items
+    (All-filter (λ (t : Token). t.channel == 0) (λ (t : Token). IsOfText t.symbol) found.tokens.items
+    (c.in_ok-found.ensures.types types))
+
+pub returns-clause-symbols : goal.returns-clause-symbols
+returns-clause-symbols c =
+    let found = c.in_ok-found.found in
+    let list_is : c.new-2.result ≡ visible found.tokens.items ++ closing_at found.end =
+    c.new-2.ensures ∙ c.in_ok-close.ensures ∙ ap (λ (ts : List Token). ts ++ closing_at found.end)
+    (c.in_ok-list.ensures ∙ ap visible c.deref-2.ensures.value) in
+    λ types.
+    symbols_of_list c.new-2.result (visible found.tokens.items) found.end list_is
+    (All-filter (λ (t : Token). t.channel == 0) (λ (t : Token). IsOfText t.symbol) found.tokens.items
     (c.in_ok-found.ensures.types types))
 
 pub returns-clause-spans : goal.returns-clause-spans

@@ -1,6 +1,6 @@
 use Rattle.std.proofs.Common.{◌≡◌, ◌-◌, ◌≤◌, length, take, All}
 use Rattle.g4_tokens.specs.declared.token.Token.{Token}
-use Rattle.g4_lexer.specs.Lexers.{HasTokenTypes, IsTokenType}
+use Rattle.g4_lexer.specs.Lexers.{HasTokenTypes, IsOfText}
 use Rattle.g4_lexer.specs.Positions.{first_position, position_after}
 use Rattle.g4_lexer.specs.Tokens.{EndsBy, HasText}
 use Rattle.g4_lexer.proofs.Reached.{Reached, BeginsBy}
@@ -13,7 +13,7 @@ invariant-loop-start l = record {
   at_is : l.at ≡ position_after first_position (take l.start l.text);
   few : length l.tokens.items ≤ l.start;
   limited : length l.tokens.items ≤ l.room;
-  types : HasTokenTypes l.lexer → All (λ (token : Token). IsTokenType token.symbol) l.tokens.items;
+  types : HasTokenTypes l.lexer → All (λ (token : Token). IsOfText token.symbol) l.tokens.items;
   spans : All (EndsBy l.at.offset) l.tokens.items;
   texts : All HasText l.tokens.items;
   begins : BeginsBy l.at.offset l.begun;
