@@ -1,7 +1,9 @@
 -- The types of tokens, where rules have token types and commands give them.
-use Rattle.std.proofs.Common.{◌≡◌, ◌≤◌, ◌⊎◌, inl, inr, ℕ, zero, suc, List, [], ◌∷◌, Option, Some, None, All, refl, arith}
+use Rattle.std.proofs.Common.{◌≡◌, ◌≤◌, ◌==◌, inl, inr, ℕ, suc, Bool, true, false, cond, List, [], ◌∷◌, Option, Some, None, All, refl, arith}
 use Rattle.std.specs.Option.{option_and_then}
+use Rattle.std.proofs.lemmas.Bool.Decides.{nat_tests}
 use Rattle.std.proofs.lemmas.List.Elements.{All-nil, All-cons}
+use Rattle.g4_tokens.specs.Symbols.{eof}
 use Rattle.g4_tokens.specs.declared.token.Token.{Token}
 use Rattle.g4_lexer.specs.declared.command.LexerCommand.{LexerCommand}
 use Rattle.g4_lexer.specs.declared.command.LexerCommand.TheVariants as commands
@@ -52,9 +54,14 @@ commands_type (c ∷ cs) e g h = then_type (after_commands cs) (after_command c 
 
 -- none gives way to EOF
 of_text : (symbol : ℕ) → IsTokenType symbol → IsOfText (type_or_eof symbol)
-of_text zero h = inr refl
-of_text (suc n) (inl low) = inl (omega arith, low)
-of_text (suc n) (inr is) = inr is
+of_text symbol h = by (symbol == 0) refl
+  where
+    some : (symbol == 0) ≡ false → 1 ≤ symbol
+    some is = grind (arith, nat_tests)
+
+    by : (b : Bool) → (symbol == 0) ≡ b → IsOfText (cond b eof symbol)
+    by true is = inr refl
+    by false is = elim h [ inl low ↦ inl (some is, low) | inr end ↦ inr end ]
 
 -- so the token that a match makes has one
 pub made_types : (fate : Fate) (begun : Begun) (channel : ℕ) (end : Position) → HasTokenType fate

@@ -15,7 +15,6 @@ use Rattle.g4_run.specs.Running.{Frame, Run, Ending, parsed, beginning, no_predi
 use Rattle.g4_parse.specs.declared.parser.ParseFault.{ParseFault}
 use Rattle.g4_parse.specs.Parsing.{IsParse}
 use Rattle.g4_parse.proofs.Forests.{placed_and_then, tokens_and_then, two_are_not_one}
-use Rattle.g4_parse.proofs.Limits.{goes_far}
 use Rattle.g4_parse.proofs.OneTree.{HasOneTree, one_tree_on}
 use Rattle.g4_parse.proofs.OpenRules.{AreOpen, open_decided, open_silently, open_token, open_call, node_fits, open_closed, open_wrapped}
 use Rattle.g4_parse.proofs.Stages.{Stage, begins, advances}
@@ -225,9 +224,9 @@ module _ (set : List ℕ) (rules : List StepRule) (start : List ℕ) (net : Pars
   pub fitting_on : (r s : Run) → Goes net no_predicates word deepest r s → Fitting r → Fitting s
   fitting_on r s g h = record {
     stage = advances net (rule_number (rewritten rules) start) (2 * length (rewritten rules) + 2) built.runnable word ends r s h.stage
-        (proceeds_by net word (state_at net r.state) r s (goes_far net word (state_at net r.state) r s g));
+        (proceeds_by net word (state_at net r.state) r s g);
     one = one_tree_on net (rule_number (rewritten rules) start) (2 * length (rewritten rules) + 2) built.runnable
-        (length word) word r s h.stage (proceeds_by net word (state_at net r.state) r s (goes_far net word (state_at net r.state) r s g))
+        (length word) word r s h.stage (proceeds_by net word (state_at net r.state) r s g)
         h.one;
     are_open = open_on r s (state_at net r.state) refl g h.are_open;
     tokens = tokens_on r s (state_at net r.state) refl g h.one h.tokens;

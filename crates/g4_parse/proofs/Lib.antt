@@ -1,11 +1,8 @@
 pub mod Fitting
-mod Allowing
 mod Begun
 mod Closing
-mod Foreseen
 mod Forests
 mod Grown
-mod Limits
 mod Measure
 mod MoreWords
 mod OneTree
@@ -14,7 +11,7 @@ mod OpenRules
 mod Parts
 mod Stages
 mod Steps
+mod Teaching
 mod Turns
-mod Viable
 mod Words
 pub mod Accepting

@@ -10,8 +10,7 @@ use Rattle.g4_net.specs.AddedRule.{IsRunnable}
 use Rattle.g4_tokens.specs.TokenList.{EndsInEnd}
 use Rattle.g4_net.proofs.Ranks.{IsShort, size, rank, rank_small, rank_falls}
 use Rattle.g4_lookahead.proofs.Proper.{proper_within}
-use Rattle.g4_run.specs.Running.{Frame, Run, backs}
-use Rattle.g4_parse.specs.Standing.{farthest}
+use Rattle.g4_run.specs.Running.{Frame, Run, backs, deepest}
 use Rattle.g4_parse.proofs.Stages.{Stage, advances}
 use Rattle.g4_parse.proofs.Steps.{TakesToken, TakesNone, token_or_none, Proceeds}
 
@@ -21,7 +20,7 @@ config_at p returns = config p 0 (above_bottom returns)
 
 -- the number at a place, a state and return states, newest first, the token list having n tokens
 pub measure_at : ParserNetwork → ℕ → ℕ → ℕ → List ℕ → ℕ
-measure_at net n place p returns = (n - place) * size net farthest + rank net farthest (config_at p returns)
+measure_at net n place p returns = (n - place) * size net deepest + rank net deepest (config_at p returns)
 
 -- one more of something outweighs less than it
 outweighs : (k m s a b : ℕ) → m ≡ suc k → a < s → k * s + a < m * s + b
@@ -29,7 +28,7 @@ outweighs k m s a b e less = let more : m * s ≡ k * s + s = ap (λ (j : ℕ). 
 
 -- a moment of a run is within bounds
 is_short : (net : ParserNetwork) (loop n : ℕ) (r : Run) → WellFormed net → Stage net loop n r
-    → IsShort net farthest (config_at r.state (backs r.frames))
+    → IsShort net deepest (config_at r.state (backs r.frames))
 is_short net loop n r well h = record {
   within = (h.state_in, proper_within net r.state (backs r.frames) well h.proper);
   first = refl;
@@ -44,10 +43,10 @@ module _ {looped : List ℕ} (net : ParserNetwork) (rule loop : ℕ) (ready : Is
       → measure_at net (length word) s.place s.state (backs s.frames) < measure_at net (length word) r.place r.state (backs r.frames)
   unfolding measure_at
   falls_along r s h step =
-      let less = rank_falls net farthest (config_at r.state (backs r.frames)) (config_at s.state (backs s.frames)) ready.well_formed
+      let less = rank_falls net deepest (config_at r.state (backs r.frames)) (config_at s.state (backs s.frames)) ready.well_formed
       (is_short net loop (length word) r ready.well_formed h) (step.leads 0) in
-      let left : (length word - s.place) * size net farthest ≡ (length word - r.place) * size net farthest =
-      ap (λ (k : ℕ). (length word - k) * size net farthest) step.place in
+      let left : (length word - s.place) * size net deepest ≡ (length word - r.place) * size net deepest =
+      ap (λ (k : ℕ). (length word - k) * size net deepest) step.place in
       omega arith
 
   -- one with a token
@@ -56,10 +55,10 @@ module _ {looped : List ℕ} (net : ParserNetwork) (rule loop : ℕ) (ready : Is
   unfolding measure_at
   falls_taking r s k step =
       let within = slice_get_within word r.place step.symbol step.next in
-      let small = rank_small net farthest (config_at s.state (backs s.frames)) ready.well_formed
+      let small = rank_small net deepest (config_at s.state (backs s.frames)) ready.well_formed
       (is_short net loop (length word) s ready.well_formed k) in
-      outweighs (length word - s.place) (length word - r.place) (size net farthest)
-      (rank net farthest (config_at s.state (backs s.frames))) (rank net farthest (config_at r.state (backs r.frames)))
+      outweighs (length word - s.place) (length word - r.place) (size net deepest)
+      (rank net deepest (config_at s.state (backs s.frames))) (rank net deepest (config_at r.state (backs r.frames)))
       (omega (arith, step.place)) small
 
   -- each step makes it fall

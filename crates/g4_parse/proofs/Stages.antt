@@ -15,8 +15,8 @@ use Rattle.g4_lookahead.proofs.Proper.{IsStackFor, Inside, at_call, at_last, at_
 use Rattle.g4_tokens.specs.TokenList.{EndsInEnd}
 use Rattle.g4_trees.specs.Trees.{Tree}
 use Rattle.g4_run.proofs.Moments.{state_child, place_child, first_in, backs_alt, backs_child, backs_token, backs_wrapped}
-use Rattle.g4_run.specs.Running.{Frame, Run, beginning, no_predicates, ClosesBy, with_child, with_token, with_alt, wrapped, begun, node_of, backs}
-use Rattle.g4_parse.specs.Standing.{IsFitBy, farthest}
+use Rattle.g4_run.specs.Running.{Frame, Run, beginning, deepest, no_predicates, ClosesBy, with_child, with_token, with_alt, wrapped, begun, node_of, backs}
+use Rattle.g4_parse.specs.Standing.{IsFitBy}
 use Rattle.g4_parse.proofs.Steps.{ProceedsBy, Proceeds}
 
 -- a symbol other than the last is not at the last place
@@ -36,7 +36,7 @@ before_end word i a (front, same, once) e n =
 pub record Stage (net : ParserNetwork) (loop n : ℕ) (r : Run) : Type 0 where
   pub state_in : r.state < length net.states
   pub proper : IsProper net r.state (backs r.frames)
-  pub short : length r.frames ≤ farthest
+  pub short : length r.frames ≤ deepest
   -- a token is left, but after END
   pub more : (r.state ≡ loop + 4 → ⊥) → (r.state ≡ 1 → ⊥) → r.place < n
 

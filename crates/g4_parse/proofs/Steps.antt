@@ -6,15 +6,14 @@ use Rattle.g4_net.specs.declared.network.State.TheVariants.{Decision, End, Edge,
 use Rattle.g4_net.specs.Configurations.{Config, config, above_bottom}
 use Rattle.g4_net.specs.Network.{ParserNetwork, state_at, start_of, IsFirst, written_at}
 use Rattle.g4_net.specs.Leads.{LeadsBy, Leads}
-use Rattle.g4_run.specs.Running.{Frame, Run, no_predicates, GoesBy, ClosesBy, with_alt, begun, node_of, stack_of, backs}
-use Rattle.g4_parse.specs.Standing.{farthest}
+use Rattle.g4_run.specs.Running.{Frame, Run, deepest, no_predicates, GoesBy, ClosesBy, with_alt, begun, node_of, stack_of, backs}
 use Rattle.g4_run.proofs.Moments.{first_in, backs_alt, backs_child, backs_token, backs_wrapped, state_child, place_child}
 
 -- one step of the run by the state, at a decision along any of its alternatives
 abbrev pub ProceedsBy : ParserNetwork → List ℕ → Option (State (List ℕ)) → Run → Run → Type 0
 ProceedsBy net word (Some (Decision targets)) r s = (i t : ℕ) × IsFirst net r.state i t
     × (s ≡ record r { state = t; frames = with_alt (begun net t (state_at net t)) r.frames })
-ProceedsBy net word o r s = GoesBy net no_predicates word farthest o r s
+ProceedsBy net word o r s = GoesBy net no_predicates word deepest o r s
 
 -- one step of the run, at a decision along any of its alternatives
 abbrev pub Proceeds : ParserNetwork → List ℕ → Run → Run → Type 0
@@ -22,7 +21,7 @@ Proceeds net word r s = ProceedsBy net word (state_at net r.state) r s
 
 -- a step along the chosen alternative is one
 pub proceeds_by : (net : ParserNetwork) (word : List ℕ) (o : Option (State (List ℕ))) (r s : Run)
-    → GoesBy net no_predicates word farthest o r s → ProceedsBy net word o r s
+    → GoesBy net no_predicates word deepest o r s → ProceedsBy net word o r s
 proceeds_by net word None r s g = g
 proceeds_by net word (Some (Decision targets)) r s (i, t, says, first, e) = (i, t, first, e)
 proceeds_by net word (Some (End rule)) r s g = g

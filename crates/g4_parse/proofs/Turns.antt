@@ -8,20 +8,17 @@ use Rattle.std.proofs.lemmas.Bool.Decides.{nat_tests}
 use Rattle.g4_net.specs.declared.network.State.{State}
 use Rattle.g4_net.specs.declared.network.State.TheVariants.{Decision}
 use Rattle.g4_net.specs.Network.{ParserNetwork, state_at, IsFirst}
-use Rattle.g4_net.specs.Allowed.{Allows}
-use Rattle.g4_net.specs.declared.allowed.Allowed.{Allowed}
-use Rattle.g4_net.specs.declared.allowed.Allowed.TheVariants.{Every}
-use Rattle.g4_net.specs.Configurations.{Stack, above_bottom}
-use Rattle.g4_net.specs.Lookahead.{Start}
-use Rattle.g4_net.specs.Prediction.{Choice, chosen, no_viable, HasTests, Any, Full, Decides, by_answer, by_error, by_full, by_tests}
+use Rattle.g4_net.specs.AddedRule.{IsReady}
 use Rattle.g4_net.specs.Leads.{WellFormed}
+use Rattle.g4_net.specs.Loops.{HasLoops}
+use Rattle.g4_net.specs.Prediction.{Choice, chosen, no_viable}
 use Rattle.g4_net.specs.Proper.{IsProper}
-use Rattle.g4_lookahead.proofs.Judging.{Within, full_same}
-use Rattle.g4_predict.specs.Deciding.{IsDecideFault}
-use Rattle.g4_predict.specs.Foreseeing.{IsRightOver, IsForeseen}
-use Rattle.g4_predict.specs.declared.foresight.Foresight.{Foresight}
-use Rattle.g4_predict.specs.declared.decision.DecideFault.{DecideFault}
-use Rattle.g4_predict.specs.declared.decision.DecideFault.TheVariants as deciding
+use Rattle.g4_guards.proofs.Choosing.{choice_over}
+use Rattle.g4_guards.specs.Choosing.{Chooses}
+use Rattle.g4_guards.specs.Levels.{AllowedAt}
+use Rattle.g4_decide.specs.Deciding.{ChoosesAt, IsFault}
+use Rattle.g4_decide.specs.declared.fault.DecideFault.{DecideFault}
+use Rattle.g4_decide.specs.declared.fault.DecideFault.TheVariants as deciding
 use Rattle.g4_parse.specs.Deciding.{of_decide}
 use Rattle.g4_trees.specs.Trees.{leaf}
 use Rattle.g4_trees.specs.Growing.{Growing, with_tree, with_alternative, with_close, with_wrap}
@@ -29,10 +26,9 @@ use Rattle.g4_trees.specs.Kept.{HasGrown}
 use Rattle.g4_parse.specs.declared.parser.Opened.{Opened}
 use Rattle.g4_parse.specs.declared.parser.Parser.{Parser}
 use Rattle.g4_parse.specs.declared.parser.ParseFault.{ParseFault}
+use Rattle.g4_run.proofs.Levelled.{allowed_same}
 use Rattle.g4_run.proofs.Moments.{place_child, state_child}
-use Rattle.g4_run.specs.Running.{Frame, Run, not_viable, no_predicates, Predicts, ClosesBy, with_child, with_token, with_begun, begun, wrapped, node_of, stack_of, AllowsAt, backs}
-use Rattle.g4_parse.specs.Allowing.{IsAllowed}
-use Rattle.g4_parse.specs.Foreseen.{IsForeseenAt, IsForeseenTurnBy}
+use Rattle.g4_run.specs.Running.{Frame, Run, not_viable, no_predicates, Predicts, ClosesBy, with_child, with_token, with_begun, begun, wrapped, node_of, stack_of, AllowsAt, backs, level_of}
 use Rattle.g4_parse.specs.Standing.{StandsFor, IsFaultBy, IsTurnBy, IsDeciding, returns_of, opened_of, grown}
 use Rattle.g4_parse.proofs.Grown.{all_but_last, returns_child, opened_child, grown_close, returns_alt, opened_alt, grown_alt, returns_wrapped, opened_wrapped, grown_wrapped, reverse_returns}
 
@@ -123,79 +119,29 @@ keeps_token r (f ∷ fs) p q same some h a b c o e = record {
       (e (grown (f ∷ fs) r.tree) (subst (λ (gs : List Frame). HasGrown p.tree (grown gs r.tree)) same h.tree));
 }
 
--- the first states of alternatives that are allowed lead to the same where as much is allowed
-starts_same : (net : ParserNetwork) (d : ℕ) (A B : ℕ → Type 0) (z : Stack) → ((i : ℕ) → A i → B i)
-    → Within (Start net d A z) (Start net d B z)
-starts_same net d A B z more c (first, (allowed, is_first, stack), reaches, kept) =
-    (first, (more first.alt allowed, is_first, stack), reaches, kept)
-
--- where as much is allowed at a decision with tests, the choice is the same
-pub as_allowed : (net : ParserNetwork) (d : ℕ) (A B : ℕ → Type 0) (z : Stack) (w : List ℕ) (c : Choice)
-    → (HasTests net d → (i : ℕ) → A i ↔ B i) → Decides net d A z w c → Decides net d B z w c
-as_allowed net d A B z w c same (by_answer i path n sll) = by_answer i path n sll
-as_allowed net d A B z w c same (by_error k path n sll) = by_error k path n sll
-as_allowed net d A B z w c same (by_full k path _ n sll full) = by_full k path c n sll full
-as_allowed net d A B z w c same (by_tests _ some full) =
-    by_tests c some (full_same net (Start net d A z) (Start net d B z) (starts_same net d A B z (λ i. (same some i).0))
-    (starts_same net d B A z (λ i. (same some i).1)) w 0 c full)
-
 -- what is chosen at the parser's state is what prediction says in the run
-predicted : (net : ParserNetwork) (word : List ℕ) (r : Run) (p : Parser) (allowed : Allowed) (choice : Choice)
-    → IsAllowed net p allowed → StandsFor p r → Decides net p.state (Allows allowed) (above_bottom (reverse p.returns.items))
-    (drop p.place word) choice → Predicts net no_predicates word r choice
-predicted net word r p allowed choice allows h says =
+predicted : (net : ParserNetwork) → IsReady net → HasLoops net → (word : List ℕ) (r : Run) (p : Parser) (level : ℕ) (choice : Choice)
+    → level ≡ level_of r.frames → StandsFor p r → ChoosesAt net p.state level (reverse p.returns.items) (drop p.place word) choice
+    → Predicts net no_predicates word r choice
+predicted net ready loops word r p level choice newest h says =
     let stack : reverse p.returns.items ≡ backs r.frames = ap reverse h.returns ∙ reverse_returns r.frames in
-    let said : Decides net r.state (Allows allowed) (above_bottom (backs r.frames)) (drop r.place word) choice =
-    rw (← h.state, ← h.place, ← stack) says in
-    as_allowed net r.state (Allows allowed) (AllowsAt net no_predicates word r) (stack_of r) (drop r.place word) choice
-    (allows word r h) said
+    let said : Chooses net r.state (AllowedAt net r.state (level_of r.frames)) (stack_of r) (drop r.place word) choice =
+    rw (← h.state, ← h.place, ← stack, ← newest) says in
+    choice_over net r.state (AllowedAt net r.state (level_of r.frames)) (AllowsAt net no_predicates word r)
+    (allowed_same net ready loops no_predicates word r) (stack_of r) (drop r.place word) choice said
 
--- what full stacks say where the parser is, they say in the run
-full_at : (net : ParserNetwork) (word : List ℕ) (r : Run) (p : Parser) (B : ℕ → Type 0) (choice : Choice) → StandsFor p r
-    → Full net p.state B (above_bottom (reverse p.returns.items)) (drop p.place word) choice
-    → Full net r.state B (stack_of r) (drop r.place word) choice
-full_at net word r p B choice h full =
-    let stack : reverse p.returns.items ≡ backs r.frames = ap reverse h.returns ∙ reverse_returns r.frames in
-    subst (λ (d : ℕ). Full net d B (stack_of r) (drop r.place word) choice) h.state
-    (subst (λ (at : ℕ). Full net p.state B (stack_of r) (drop at word) choice) h.place
-    (subst (λ (bs : List ℕ). Full net p.state B (above_bottom bs) (drop p.place word) choice) stack full))
-
--- so what full stacks confirm where the parser is, they confirm in the run
-right_at : (net : ParserNetwork) (word : List ℕ) (r : Run) (p : Parser) (allowed : Allowed) (B : ℕ → Type 0) (i : ℕ)
-    → IsAllowed net p allowed → StandsFor p r → IsRightOver B net p.state (Allows allowed) (above_bottom (reverse p.returns.items))
-    (drop p.place word) i →
-    IsRightOver B net r.state (AllowsAt net no_predicates word r) (stack_of r) (drop r.place word) i
-right_at net word r p allowed B i allows h (has, right) = (
-  has,
-  λ some. predicted net word r p allowed (chosen i) allows h
-      (right (λ k none. some k (full_at net word r p B (no_viable k) h none))),
-)
-
--- what is foreseen at the parser's state is foreseen in the run
-foreseen_at : (net : ParserNetwork) (word : List ℕ) (r : Run) (p : Parser) (allowed : Allowed) (f : Foresight) (presumed : Bool)
-    → f.presumed ≡ presumed → IsAllowed net p allowed → StandsFor p r
-    → IsForeseen net p.state (Allows allowed) (above_bottom (reverse p.returns.items)) (drop p.place word) f →
-    IsForeseenAt net word r presumed f.alternative
-foreseen_at net word r p allowed f false is allows h says = predicted net word r p allowed (chosen f.alternative) allows h (says.exact is)
-foreseen_at net word r p allowed f true is allows h says = elim (says.presumed is) [
-  | inl right ↦ (allowed, right_at net word r p allowed (Allows allowed) f.alternative allows h right)
-  | inr right ↦ (Every, right_at net word r p allowed Any f.alternative allows h right)
-]
-
--- Going to the alternative that is foreseen is a turn of the parser.
-pub chooses : (net : ParserNetwork) (word : List ℕ) (r : Run) (p q : Parser) (allowed : Allowed) (targets : List ℕ) (f : Foresight)
-    (t : ℕ) → IsAllowed net p allowed → StandsFor p r
-    → IsForeseen net p.state (Allows allowed) (above_bottom (reverse p.returns.items)) (drop p.place word) f
-    → IsFirst net p.state f.alternative t →
-    StandsFor q (record (with_begun (begun net t (state_at net t)) r) { state = t })
-    → IsForeseenTurnBy net word (Some (Decision targets)) r q (Ok f.presumed)
-chooses net word r p q allowed targets f t allows h says first after = (
+-- Going to the alternative that is chosen is a turn of the parser.
+pub chooses : (net : ParserNetwork) → IsReady net → HasLoops net → (word : List ℕ) (r : Run) (p q : Parser) (level : ℕ)
+    (targets : List ℕ) (i t : ℕ) → level ≡ level_of r.frames → StandsFor p r
+    → ChoosesAt net p.state level (reverse p.returns.items) (drop p.place word) (chosen i) → IsFirst net p.state i t →
+    StandsFor q (record (with_begun (begun net t (state_at net t)) r) { state = t }) → IsTurnBy net word (Some (Decision targets)) r q (Ok tt)
+chooses net ready loops word r p q level targets i t newest h says first after = (
   record (with_begun (begun net t (state_at net t)) r) { state = t },
   (
-    f.alternative,
+    i,
     t,
-    foreseen_at net word r p allowed f f.presumed refl allows h says,
-    subst (λ (n : ℕ). IsFirst net n f.alternative t) h.state first,
+    predicted net ready loops word r p level (chosen i) newest h says,
+    subst (λ (n : ℕ). IsFirst net n i t) h.state first,
     refl,
   ),
   after,
@@ -231,18 +177,18 @@ pub state_within : (net : ParserNetwork) (d : ℕ) (targets : List ℕ) (k : ℕ
 state_within net d targets k well at_d less = well.targets d (get_or targets k 0) (Decision targets) at_d (Contains-get_or targets k 0 less)
 
 -- where prediction finds no alternative the run stops
-pub decides_fault : (net : ParserNetwork) (word : List ℕ) (r : Run) (p : Parser) (allowed : Allowed) (targets : List ℕ)
-    (fault : DecideFault) → IsAllowed net p allowed → StandsFor p r
-    → IsDecideFault net p.state (Allows allowed) (reverse p.returns.items) (drop p.place word) p.place fault
+pub decides_fault : (net : ParserNetwork) → IsReady net → HasLoops net → (word : List ℕ) (r : Run) (p : Parser) (level : ℕ)
+    (targets : List ℕ) (fault : DecideFault) → level ≡ level_of r.frames → StandsFor p r
+    → IsFault net p.state level (reverse p.returns.items) (drop p.place word) p.place fault
     → IsFaultBy net word (Some (Decision targets)) r (of_decide fault)
-decides_fault net word r p allowed targets (deciding.NoViable at) allows h (k, says, is) =
-    (k, predicted net word r p allowed (no_viable k) allows h says, ap not_viable (is ∙ ap (λ (n : ℕ). n + k) h.place))
-decides_fault net word r p allowed targets deciding.NoMemory allows h is = tt
+decides_fault net ready loops word r p level targets (deciding.NoViable at) newest h (k, says, is) =
+    (k, predicted net ready loops word r p level (no_viable k) newest h says, ap not_viable (is ∙ ap (λ (n : ℕ). n + k) h.place))
+decides_fault net ready loops word r p level targets deciding.NoMemory newest h is = tt
 
 -- a turn that answers with this fault
 pub fails_with : (net : ParserNetwork) (word : List ℕ) (o : Option (State (List ℕ))) (r : Run) (q : Parser) (fault : ParseFault)
-    (x : Result Bool ParseFault) → IsErrAnd x (λ e. e ≡ fault) → IsFaultBy net word o r fault → IsForeseenTurnBy net word o r q x
-fails_with net word o r q fault (Ok presumed) is h = absurd is
+    (x : Result ⊤ ParseFault) → IsErrAnd x (λ e. e ≡ fault) → IsFaultBy net word o r fault → IsTurnBy net word o r q x
+fails_with net word o r q fault (Ok done) is h = absurd is
 fails_with net word o r q fault (Err e) is h = subst (IsFaultBy net word o r) (sym is) h
 
 -- the parser at another state is at the moment of that state

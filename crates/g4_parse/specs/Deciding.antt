@@ -1,6 +1,6 @@
 -- The faults of deciding as those of parsing.
-use Rattle.g4_predict.specs.declared.decision.DecideFault.{DecideFault}
-use Rattle.g4_predict.specs.declared.decision.DecideFault.TheVariants as deciding
+use Rattle.g4_decide.specs.declared.fault.DecideFault.{DecideFault}
+use Rattle.g4_decide.specs.declared.fault.DecideFault.TheVariants as deciding
 use Rattle.g4_parse.specs.declared.parser.ParseFault.{ParseFault}
 use Rattle.g4_parse.specs.declared.parser.ParseFault.TheVariants.{NoViable, NoMemory}
 

@@ -1,7 +1,5 @@
--- Other crates cite Parsing; only this crate cites Allowing, Deciding, Depth, Foreseen, Standing.
-pub mod Allowing
+-- Other crates cite Parsing, Teaching; only this crate cites Deciding, Standing.
 pub mod Deciding
-pub mod Depth
-pub mod Foreseen
 pub mod Parsing
 pub mod Standing
+pub mod Teaching

@@ -12,7 +12,7 @@ use Rattle.g4_parse.specs.declared.parser.ParseFault.{ParseFault}
 use Rattle.g4_parse.specs.declared.parser.ParseFault.TheVariants.{NoViable, Mismatch, FailedPredicate, TooDeep, NoMemory}
 use Rattle.g4_parse.specs.declared.parser.Opened.{Opened}
 use Rattle.g4_parse.specs.declared.parser.Parser.{Parser}
-use Rattle.g4_run.specs.Running.{backs, Frame, Run, not_viable, mismatch, failed_predicate, too_deep, level_of, no_predicates, rule_of, GoesBy, StopsBy}
+use Rattle.g4_run.specs.Running.{backs, deepest, Frame, Run, not_viable, mismatch, failed_predicate, too_deep, level_of, no_predicates, rule_of, GoesBy, StopsBy}
 
 -- the return states of the open rules, newest last
 abbrev pub returns_of : List Frame → List ℕ
@@ -44,21 +44,17 @@ pub record StandsFor (p : Parser) (r : Run) : Type 0 where
   pub opened : p.opened.items ≡ opened_of r.frames
   pub tree : HasGrown p.tree (grown r.frames r.tree)
 
--- the limit of a run that goes on past the most rules that may be open: more than are ever open
-abbrev pub farthest : ℕ
-farthest = 2 ^ 40
-
 -- the run stops at this moment with the fault, unless memory ran out
 abbrev pub IsFaultBy : ParserNetwork → List ℕ → Option (State (List ℕ)) → Run → ParseFault → Type 0
-IsFaultBy net word state r (NoViable at) = StopsBy net no_predicates word farthest state r (not_viable at)
-IsFaultBy net word state r (Mismatch at from) = StopsBy net no_predicates word farthest state r (mismatch at from)
-IsFaultBy net word state r (FailedPredicate at rule) = StopsBy net no_predicates word farthest state r (failed_predicate at rule)
-IsFaultBy net word state r (TooDeep at) = StopsBy net no_predicates word farthest state r (too_deep at)
+IsFaultBy net word state r (NoViable at) = StopsBy net no_predicates word deepest state r (not_viable at)
+IsFaultBy net word state r (Mismatch at from) = StopsBy net no_predicates word deepest state r (mismatch at from)
+IsFaultBy net word state r (FailedPredicate at rule) = StopsBy net no_predicates word deepest state r (failed_predicate at rule)
+IsFaultBy net word state r (TooDeep at) = StopsBy net no_predicates word deepest state r (too_deep at)
 IsFaultBy net word state r NoMemory = Unit {0}
 
 -- from this moment the run goes by the state to one that the parser is at, or it stops with the fault
 abbrev pub IsTurnBy : ParserNetwork → List ℕ → Option (State (List ℕ)) → Run → Parser → Result ⊤ ParseFault → Type 0
-IsTurnBy net word state r p (Ok done) = (s : Run) × GoesBy net no_predicates word farthest state r s × StandsFor p s
+IsTurnBy net word state r p (Ok done) = (s : Run) × GoesBy net no_predicates word deepest state r s × StandsFor p s
 IsTurnBy net word state r p (Err fault) = IsFaultBy net word state r fault
 
 -- what prediction asks at a decision, the token list having n tokens

@@ -1,6 +1,6 @@
 // The faults of what parsing calls, as its own.
 use crate::parser::ParseFault;
-use g4_predict::DecideFault;
+use g4_decide::DecideFault;
 use std::alloc::{AllocError, AllocFailed};
 
 impl From<AllocError> for ParseFault {

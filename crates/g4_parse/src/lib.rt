@@ -1,7 +1,6 @@
-// The parse run over a network, and the tree that it gives.
+// The parse run over a network, whose decisions go by what is learned, and the tree that it gives.
 #![tactic(auto)]
 
-mod allowed;
 mod faults;
 mod parser;
 mod runs;

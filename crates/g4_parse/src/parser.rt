@@ -1,28 +1,27 @@
 // The parse run.
-ghost use Rattle.std.specs.Prelude.{◌≡◌, ◌<◌, ◌*◌, ◌^◌, ◌↔◌, ℕ, List, [], Some, false, IsTrue, IfOk, OnOk, length, drop, reverse};
-ghost use Rattle.g4_net.specs.AddedRule.{IsReady};
-ghost use Rattle.g4_net.specs.Allowed.{Allows};
+ghost use Rattle.std.specs.Prelude.{◌≡◌, ◌<◌, ◌*◌, ◌^◌, ◌↔◌, ℕ, All, List, [], Some, IsTrue, IfOk, OnOk, length};
+ghost use Rattle.g4_classes.specs.Classes.{IsSymbol};
+ghost use Rattle.g4_learned.specs.Stored.{IsPlan};
 ghost use Rattle.g4_net.specs.declared.network.State.TheVariants.{Call, Decision, Edge, End, Level};
 ghost use Rattle.g4_net.specs.Network.{ParserNetwork as Net, state_at};
-ghost use Rattle.g4_predict.specs.Foreseeing.{IsForesight};
-ghost use Rattle.g4_parse.specs.declared.parser.Choosing.TheVariants.{Exact};
-ghost use Rattle.g4_parse.specs.Allowing.{IsAllowed};
-ghost use Rattle.g4_parse.specs.Depth.{IsLimitOf};
-ghost use Rattle.g4_parse.specs.Foreseen.{IsForeseenTurnBy};
 ghost use Rattle.g4_run.specs.Running.{Run, beginning, with_begun, with_token};
 ghost use Rattle.g4_parse.specs.Standing.{StandsFor, IsNewestOf, IsTurnBy, IsDeciding, IsUnderway, HasEnded};
+ghost use Rattle.g4_parse.specs.Teaching.{HadMemory, HasKept, IsPassedAt, IsTaught};
 ghost use Rattle.g4_tokens.specs.TokenList.{word_of, EndsInEnd};
 ghost use Rattle.g4_trees.specs.Kept.{HasGrown};
 ghost use Rattle.g4_trees.specs.Trees.{Forest, items_of_all};
 
-use crate::allowed::passing;
 use crate::state::{begun, state_of};
-use g4_base::Sequence;
-use g4_net::{Allowed, ParserNetwork, State};
-use g4_predict::{DecideFault, Foresight, decide, foresee, has_test};
+use g4_decide::decide;
+use g4_learned::{DecisionNet, Pass, Store};
+use g4_net::{ParserNetwork, State};
+use g4_store::steps::Steps;
+use g4_store::view::Home;
 use g4_tokens::{Symbols, Token};
 use g4_trees::{Tree, TreeBuilder};
 use std::alloc::{AllocError, Global};
+use std::sync::Wait;
+use std::sync::ledger::Ledger;
 
 /// Why a token list has no tree.
 #[derive(Drop)]
@@ -42,23 +41,11 @@ pub enum ParseFault {
 /// The most rules that may be open.
 const DEEPEST: usize = 10_000;
 
-/// The limit of a run that goes on past `DEEPEST`: more rules than are ever open.
-const FARTHEST: usize = 1_099_511_627_776;
-
 /// An open rule: its number, and the level at which it was called.
 #[derive(Clone, Copy)]
 struct Opened {
     rule: u32,
     level: u32,
-}
-
-/// How the parser chooses at a decision.
-#[derive(Clone, Copy)]
-pub enum Choosing {
-    /// As prediction says.
-    Exact,
-    /// As prediction says, or by presuming what it will say of a text without an error.
-    Presuming,
 }
 
 /// A moment of the run: the state and the place in the token list, the return states of the open rules, newest last, with their
@@ -104,28 +91,14 @@ impl Parser {
         }
     }
 
-    /// The place, where the run is at a call with as many rules open as may be.
-    pub fn at_limit(&self, net: &ParserNetwork) -> Option<u32>
-        requires { self.now.state < length net.now.states }
-        ensures { IsLimitOf net.now self.now result }
-    {
-        if self.returns.len() < DEEPEST {
-            return None;
-        }
-        match state_of(net, self.state) {
-            State::Call { .. } => Some(self.place),
-            _ => None,
-        }
-    }
-
-    /// Opens a rule, also where as many are open as may be.
+    /// Opens a rule, unless as many are open as may be.
     fn call(&mut self, net: &ParserNetwork, opened: Opened, back: u32) -> Result<(), ParseFault>
         requires starts { 2 * opened.rule < length net.now.written }
         requires fits { 2 * opened.rule < 2 ^ 32 }
         ensures { (word : List ℕ) (r : Run) → StandsFor self.old r
             → IsTurnBy net.now word (Some (Call opened.rule opened.level back)) r self.new result }
     {
-        if self.returns.len() >= FARTHEST {
+        if self.returns.len() >= DEEPEST {
             return Err(ParseFault::TooDeep { at: self.place });
         }
         let start = 2 * opened.rule;
@@ -178,81 +151,40 @@ impl Parser {
         self.tree.set_alternative(alternative);
     }
 
-    /// The alternatives of the decision whose first levels are all true. Where none begins with a level, these are all of them.
-    fn allowed(
-        &self,
-        alloc: Global,
-        net: &ParserNetwork,
-        targets: &[u32],
-    ) -> Result<Allowed, AllocError>
-        requires ready { IsReady net.now }
-        requires decides { state_at net.now self.now.state ≡ Some (Decision targets.now) }
-        ensures { IfOk result (IsAllowed net.now self.now) }
-    {
-        if !has_test(net, self.state) {
-            return Ok(Allowed::Every);
-        }
-        let found = passing(alloc, net, targets, self.newest().level)?;
-        Ok(Allowed::Listed(Sequence::new(found)))
-    }
-
-    /// The alternative that prediction chooses over the allowed ones.
-    fn foresee(
-        &self,
-        alloc: Global,
-        net: &ParserNetwork,
-        allowed: &Allowed,
-        tokens: &[Token],
-        choosing: Choosing,
-    ) -> Result<Foresight, DecideFault>
-        requires deciding { IsDeciding net.now (length tokens.now) self.now }
-        requires decides { (targets : List ℕ) × (state_at net.now self.now.state ≡ Some (Decision targets)) }
-        requires ends { EndsInEnd (word_of tokens.now) }
-        requires few { length tokens.now < 2 ^ 32 }
-        ensures foreseen { IsForesight net.now self.now.state (Allows allowed.now) (reverse self.now.returns.items)
-            (drop self.now.place (word_of tokens.now)) self.now.place result }
-        ensures exact { choosing ≡ Exact → IfOk result (λ foresight. foresight.presumed ≡ false) }
-    {
-        let returns = self.returns.as_slice();
-        match choosing {
-            Choosing::Exact => {
-                let alternative = decide(
-                    alloc, net, self.state, allowed, returns, tokens, self.place,
-                )?;
-                Ok(Foresight {
-                    alternative,
-                    presumed: false,
-                })
-            }
-            Choosing::Presuming => foresee(
-                alloc, net, self.state, allowed, returns, tokens, self.place,
-            ),
-        }
-    }
-
-    /// Goes to the alternative that prediction chooses. The answer is whether it was presumed.
-    fn choose(
+    /// Goes to the alternative that prediction chooses.
+    fn choose<B: Home<DecisionNet>, R: Wait, L: Ledger>(
         &mut self,
+        rt: &R,
         alloc: Global,
         net: &ParserNetwork,
+        store: &Store<B>,
+        pass: &mut Pass<B>,
         targets: &[u32],
         tokens: &[Token],
-        choosing: Choosing,
-    ) -> Result<bool, ParseFault>
+        steps: &mut Steps<L>,
+    ) -> Result<(), ParseFault>
+        requires own { net.now ≡ B.plan.net.net }
+        requires plan { IsPlan B.plan }
         requires deciding { IsDeciding net.now (length tokens.now) self.old }
         requires decides { state_at net.now self.old.state ≡ Some (Decision targets.now) }
+        requires symbols { All IsSymbol (word_of tokens.now) }
         requires ends { EndsInEnd (word_of tokens.now) }
         requires few { length tokens.now < 2 ^ 32 }
         ensures turns { (r : Run) → StandsFor self.old r
-            → IsForeseenTurnBy net.now (word_of tokens.now) (Some (Decision targets.now)) r self.new result }
-        ensures exact { choosing ≡ Exact → IfOk result (λ presumed. presumed ≡ false) }
+            → IsTurnBy net.now (word_of tokens.now) (Some (Decision targets.now)) r self.new result }
+        ensures kept { HasKept pass.old pass.new }
+        ensures taught { HadMemory result → (r : Run) → StandsFor self.old r
+            → IsTaught B.plan (IsPassedAt B.plan.net (word_of tokens.now) r) pass.old pass.new }
     {
-        let allowed = self.allowed(alloc, net, targets)?;
-        let foresight = self.foresee(alloc, net, &allowed, tokens, choosing)?;
-        let target = targets[foresight.alternative as usize - 1];
+        let level = self.newest().level;
+        let returns = self.returns.as_slice();
+        let alternative = decide(
+            rt, alloc, store, pass, self.state, level, returns, tokens, self.place, steps,
+        )?;
+        let target = targets[alternative as usize - 1];
         self.begin_alternative(begun(net, target));
         self.state = target;
-        Ok(foresight.presumed)
+        Ok(())
     }
 
     /// Closes the newest open rule.
@@ -317,27 +249,35 @@ impl Parser {
         }
     }
 
-    /// One step of the run. The answer is whether its choice was presumed.
-    pub fn turn(
+    /// One step of the run.
+    pub fn turn<B: Home<DecisionNet>, R: Wait, L: Ledger>(
         &mut self,
+        rt: &R,
         alloc: Global,
         net: &ParserNetwork,
+        store: &Store<B>,
+        pass: &mut Pass<B>,
         tokens: &[Token],
-        choosing: Choosing,
-    ) -> Result<bool, ParseFault>
+        steps: &mut Steps<L>,
+    ) -> Result<(), ParseFault>
+        requires own { net.now ≡ B.plan.net.net }
+        requires plan { IsPlan B.plan }
         requires underway { IsUnderway net.now (length tokens.now) self.old }
         requires goes_on { HasEnded net.now self.old → ⊥ }
+        requires symbols { All IsSymbol (word_of tokens.now) }
         requires ends { EndsInEnd (word_of tokens.now) }
         requires few { length tokens.now < 2 ^ 32 }
         ensures turns { (r : Run) → StandsFor self.old r
-            → IsForeseenTurnBy net.now (word_of tokens.now) (state_at net.now r.state) r self.new result }
-        ensures exact { choosing ≡ Exact → IfOk result (λ presumed. presumed ≡ false) }
+            → IsTurnBy net.now (word_of tokens.now) (state_at net.now r.state) r self.new result }
+        ensures kept { HasKept pass.old pass.new }
+        ensures taught { HadMemory result → (r : Run) → StandsFor self.old r
+            → IsTaught B.plan (IsPassedAt B.plan.net (word_of tokens.now) r) pass.old pass.new }
     {
         if let State::Decision(targets) = state_of(net, self.state) {
-            return self.choose(alloc, net, targets.as_slice(), tokens, choosing);
+            let targets = targets.as_slice();
+            return self.choose(rt, alloc, net, store, pass, targets, tokens, steps);
         }
-        self.step(net, tokens)?;
-        Ok(false)
+        self.step(net, tokens)
     }
 
     /// The tree of a run that has ended.

@@ -1,120 +1,83 @@
-// Runs of the parser over a token list: one with presumed choices, and where that may report the wrong fault, one without.
-ghost use Rattle.std.specs.Prelude.{◌≡◌, ◌<◌, false, ◌^◌, List, ℕ, IfOk, length};
+// The run of the parser over a token list.
+ghost use Rattle.std.specs.Prelude.{◌≡◌, ◌<◌, ◌^◌, All, List, ℕ, IfOk, length};
+ghost use Rattle.g4_classes.specs.Classes.{IsSymbol};
 ghost use Rattle.g4_grammar.specs.StepRules.{CanBeRewritten, StepRule};
 ghost use Rattle.g4_layout.specs.Built.{IsBuilt};
+ghost use Rattle.g4_learned.specs.Stored.{IsPlan};
 ghost use Rattle.g4_leftrec.specs.Rewriting.{numberings, rewritten};
-ghost use Rattle.g4_net.specs.AddedRule.{IsReady};
-ghost use Rattle.g4_parse.specs.Depth.{IsFirstReached};
-ghost use Rattle.g4_parse.specs.Foreseen.{IsRun};
-ghost use Rattle.g4_parse.specs.declared.parser.ParseFault.TheVariants.{TooDeep};
 ghost use Rattle.g4_derivation.specs.Spelling.{DerivesFrom};
 ghost use Rattle.g4_parse.specs.Parsing.{IsAcceptance, IsParse, LeavesClosing};
+ghost use Rattle.g4_parse.specs.Teaching.{HadMemory, HasKept, IsPassed, IsTaught};
 ghost use Rattle.g4_tokens.specs.TokenList.{word_of, EndsInEnd};
 ghost use Rattle.g4_tree_check.specs.TreesOf.{IsTreeOf};
 
-use crate::parser::{Choosing, ParseFault, Parser};
+use crate::parser::{ParseFault, Parser};
+use g4_learned::{DecisionNet, Pass, Store};
 use g4_net::ParserNetwork;
+use g4_store::steps::Steps;
+use g4_store::view::Home;
 use g4_tokens::Token;
 use g4_trees::Tree;
 use std::alloc::Global;
+use std::sync::Wait;
+use std::sync::ledger::Ledger;
 
-/// Why a run stopped, and whether that may be due to a choice that it presumed.
-#[derive(Drop)]
-struct Stopped {
-    fault: ParseFault,
-    presumed: bool,
-}
-
-/// The run with exact choices comes to the limit on open rules at this place.
-fn stopped_too_deep(at: u32) -> Stopped
-    ensures { result ≡ record { fault = TooDeep at; presumed = false } }
-{
-    Stopped {
-        fault: ParseFault::TooDeep { at },
-        presumed: false,
-    }
-}
-
-/// The place at which the run has come to the limit on open rules first: one that is known from before, or this one.
-fn first_reached(net: &ParserNetwork, parser: &Parser, before: Option<u32>) -> Option<u32>
-    requires { parser.now.state < length net.now.states }
-    ensures { IsFirstReached net.now parser.now before result }
-{
-    match before {
-        Some(at) => Some(at),
-        None => parser.at_limit(net),
-    }
-}
-
-/// The tree of a token list, by one run. Where it has presumed a choice, it goes on past the limit on open rules: should it reach
-/// its tree, each choice was right, so the run with exact choices stops at the limit.
-fn run(
+/// The tree of a token list, by the network of a store.
+fn run<B: Home<DecisionNet>, R: Wait, L: Ledger>(
+    rt: &R,
     alloc: Global,
     net: &ParserNetwork,
+    store: &Store<B>,
+    pass: &mut Pass<B>,
     tokens: &[Token],
-    choosing: Choosing,
-) -> Result<Tree, Stopped>
-    requires ready { IsReady net.now }
+    steps: &mut Steps<L>,
+) -> Result<Tree, ParseFault>
+    requires own { net.now ≡ B.plan.net.net }
+    requires plan { IsPlan B.plan }
+    requires symbols { All IsSymbol (word_of tokens.now) }
     requires ends { EndsInEnd (word_of tokens.now) }
     requires few { length tokens.now < 2 ^ 32 }
-    ensures { IsRun net.now (word_of tokens.now) choosing result }
+    ensures parse { IsParse B.plan.net.net (word_of tokens.now) result }
+    ensures kept { HasKept pass.old pass.new }
+    ensures taught { HadMemory result → IsTaught B.plan (IsPassed B.plan.net (word_of tokens.now)) pass.old pass.new }
 {
     let mut parser = Parser::new(alloc);
-    let mut presumed = false;
-    let mut reached = None;
     'run: while !parser.has_ended(net) {
-        reached = first_reached(net, &parser, reached);
-        if let Some(at) = reached
-            && !presumed
-        {
-            return Err(stopped_too_deep(at));
-        }
-        match parser.turn(alloc, net, tokens, choosing) {
-            Ok(presumes) => presumed = presumed || presumes,
-            Err(fault) => return Err(Stopped { fault, presumed }),
-        }
+        parser.turn(rt, alloc, net, store, pass, tokens, steps)?;
     }
-    if let Some(at) = reached {
-        return Err(stopped_too_deep(at));
-    }
-    match parser.finish(alloc) {
-        Ok(tree) => Ok(tree),
-        Err(_) => Err(Stopped {
-            fault: ParseFault::NoMemory,
-            presumed,
-        }),
-    }
+    Ok(parser.finish(alloc)?)
 }
 
 /// The tree of a token list. One that rules derive, as they are run, has a tree, unless too many rules are open, and no other has.
-/// All tokens are in it but those that end the list.
+/// All tokens are in it but those that end the list. What the store's threads have learned makes no difference to it; what SLL looks at in
+/// the run is learned then, as far as the store has room.
 ///
 /// # Errors
 /// The fault at which the run stops, or no memory.
-pub fn parse(alloc: Global, net: &ParserNetwork, tokens: &[Token]) -> Result<Tree, ParseFault>
-    requires ready { IsReady net.now }
+pub fn parse<B: Home<DecisionNet>, R: Wait, L: Ledger>(
+    rt: &R,
+    alloc: Global,
+    store: &Store<B>,
+    pass: &mut Pass<B>,
+    tokens: &[Token],
+    steps: &mut Steps<L>,
+) -> Result<Tree, ParseFault>
+    requires symbols { All IsSymbol (word_of tokens.now) }
     requires ends { EndsInEnd (word_of tokens.now) }
     requires few { length tokens.now < 2 ^ 32 }
-    ensures parse { IsParse net.now (word_of tokens.now) result }
+    ensures parse { IsParse B.plan.net.net (word_of tokens.now) result }
     ensures tree { (set : List ℕ) (rules : List StepRule) (start : List ℕ) → CanBeRewritten rules →
-        IsBuilt set (rewritten rules) (numberings rules) start net.now
+        IsBuilt set (rewritten rules) (numberings rules) start B.plan.net.net
         → IfOk result (IsTreeOf rules (word_of tokens.now)) }
     ensures whole { (set : List ℕ) (rules : List StepRule) (start : List ℕ) → CanBeRewritten rules →
-        IsBuilt set (rewritten rules) (numberings rules) start net.now
+        IsBuilt set (rewritten rules) (numberings rules) start B.plan.net.net
         → IfOk result (LeavesClosing set (word_of tokens.now)) }
     ensures accepts { (set : List ℕ) (rules : List StepRule) (start : List ℕ) → CanBeRewritten rules →
-        IsBuilt set (rewritten rules) (numberings rules) start net.now
+        IsBuilt set (rewritten rules) (numberings rules) start B.plan.net.net
         → IsAcceptance (DerivesFrom set (rewritten rules) start (word_of tokens.now)) result }
+    ensures kept { HasKept pass.old pass.new }
+    ensures taught { HadMemory result → IsTaught B.plan (IsPassed B.plan.net (word_of tokens.now)) pass.old pass.new }
 {
-    let stopped = match run(alloc, net, tokens, Choosing::Presuming) {
-        Ok(tree) => return Ok(tree),
-        Err(stopped) => stopped,
-    };
-    if !stopped.presumed || matches!(stopped.fault, ParseFault::NoMemory) {
-        return Err(stopped.fault);
-    }
-    match run(alloc, net, tokens, Choosing::Exact) {
-        Ok(tree) => Ok(tree),
-        Err(stopped) => Err(stopped.fault),
-    }
+    let net = store.net().net();
+    run(rt, alloc, net, store, pass, tokens, steps)
 }

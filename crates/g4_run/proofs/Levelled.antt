@@ -1,11 +1,12 @@
 -- Where levels are only at loops to which calls at a level return, what is left goes on to fit.
-use Rattle.std.proofs.Common.{◌≡◌, ◌≤◌, ◌<◌, ◌⊎◌, inl, inr, ℕ, ◌+◌, List, [], ◌∷◌, drop, length, Option, Some, None, Contains, refl, sym, ◌∙◌, ap, subst, arith}
+use Rattle.std.proofs.Common.{◌≡◌, ◌≤◌, ◌<◌, ◌⊎◌, ◌↔◌, inl, inr, ℕ, ◌+◌, List, [], ◌∷◌, drop, length, Option, Some, None, Contains, refl, sym, ◌∙◌, ap, subst, arith}
 use Rattle.g4_fits.specs.Fitting.{FitsFrom, SomeFits, IsLeastThatFits}
 use Rattle.g4_net.specs.Spelling.{SpellsWord}
 use Rattle.g4_fits.proofs.Arriving.{called_are_own, last_is_own}
-use Rattle.g4_fits.proofs.Choosing.{decision_chooses}
 use Rattle.g4_fits.proofs.Leaving.{leave_fits}
 use Rattle.g4_net.specs.Loops.{HasLoops}
+use Rattle.g4_guards.proofs.Choosing.{chooses_least}
+use Rattle.g4_guards.specs.Levels.{AllowedAt, MeetsBy}
 use Rattle.g4_lookahead.proofs.OneChoice.{one_first}
 use Rattle.g4_net.specs.AddedRule.{IsReady}
 use Rattle.g4_net.specs.Leads.{IsTarget}
@@ -127,6 +128,29 @@ module _ (net : ParserNetwork) (ready : IsReady net) (levels : HasLoops net) (va
   passes_level r p q v is (predicate_holds _ k t at holds more) = absurd (no_predicate p k t at)
   passes_level r p q v is (level_holds _ n t at low more) = let same : n ≡ q = cc in subst (λ (x : ℕ). level_of r.frames ≤ x) same low
 
+  -- so the alternatives that a moment allows are those that the level of the open rule allows
+  pub allowed_same : (r : Run) (i : ℕ) → AllowedAt net r.state (level_of r.frames) i ↔ AllowsAt net values word r i
+  allowed_same r i = (
+    (λ (t, first, meets). (t, first, to t (tested_by t (state_at net t) refl) meets)),
+    (λ (t, first, passes). (t, first, from t passes (state_at net t) refl)),
+  )
+    where
+      to : (t : ℕ) → IsTested t → MeetsBy (level_of r.frames) (state_at net t) → Passes net values word r t
+      to t (untested none) meets = no_test t none
+      to t (at_level q v at) meets = level_passes r t q v at (subst (MeetsBy (level_of r.frames)) at meets)
+
+      from : (t : ℕ) → Passes net values word r t → (o : Option (State (List ℕ))) → state_at net t ≡ o
+          → MeetsBy (level_of r.frames) (state_at net t)
+      from t passes (Some (Level q v)) is = subst (MeetsBy (level_of r.frames)) (sym is) (passes_level r t q v is passes)
+      from t passes (Some (Decision ts)) is = subst (MeetsBy (level_of r.frames)) (sym is) tt
+      from t passes (Some (End rule)) is = subst (MeetsBy (level_of r.frames)) (sym is) tt
+      from t passes (Some (Edge set u)) is = subst (MeetsBy (level_of r.frames)) (sym is) tt
+      from t passes (Some (Call rule level back)) is = subst (MeetsBy (level_of r.frames)) (sym is) tt
+      from t passes (Some (Predicate k u)) is = subst (MeetsBy (level_of r.frames)) (sym is) tt
+      from t passes (Some (Action u)) is = subst (MeetsBy (level_of r.frames)) (sym is) tt
+      from t passes (Some (Empty u)) is = subst (MeetsBy (level_of r.frames)) (sym is) tt
+      from t passes None is = subst (MeetsBy (level_of r.frames)) (sym is) tt
+
   -- where the level of the open rule is above 0, what it returns to leads to the loop, so leaving the loop fits
   leaving : (r : Run) (p t q v i : ℕ) (targets : List ℕ) (fs : List Frame) → state_at net p ≡ Some (Decision targets) → Contains targets t →
       state_at net t ≡ Some (Level q v) → q < level_of fs → AreOpened net p fs →
@@ -173,9 +197,8 @@ module _ (net : ParserNetwork) (ready : IsReady net) (levels : HasLoops net) (va
       Predicts net values word r c →
       (i : ℕ) × (c ≡ chosen i) × IsLeastThatFits net r.state (AllowsAt net values word r) (backs r.frames) (drop r.place word) i
   chosen_fits r targets c is h says =
-      decision_chooses net (last_is_own net ready) (called_are_own net ready) r.state (AllowsAt net values word r) (backs r.frames)
-      (drop r.place word) (opened_proper net r.state r.frames h.opened)
-      (λ none i t first. (t, first, no_test t (λ test. none (i, t, first, test)))) c (some_fits r targets is h) says
+      chooses_least net (last_is_own net ready) (called_are_own net ready) r.state (AllowsAt net values word r) (backs r.frames)
+      (drop r.place word) (opened_proper net r.state r.frames h.opened) c (some_fits r targets is h) says
 
   -- no return state is a level
   back_level : (c k level back q v : ℕ) → state_at net c ≡ Some (Call k level back) → state_at net back ≡ Some (Level q v) → ⊥

@@ -4,5 +4,5 @@ mod Unfolding
 mod LastSymbol
 mod Spelled
 pub mod Closing
-mod Levelled
+pub mod Levelled
 pub mod Derived

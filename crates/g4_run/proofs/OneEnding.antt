@@ -6,12 +6,13 @@ use Rattle.g4_net.specs.Network.{ParserNetwork, state_at, IsFirst}
 use Rattle.g4_net.specs.Prediction.{Choice, chosen, no_viable}
 use Rattle.g4_run.specs.Running.{Frame, Run, Ending, Values, parsed, ClosesBy, GoesBy, StopsBy, Predicts, Runs, stops, goes, deepest}
 use Rattle.g4_trees.specs.Trees.{only}
-use Rattle.g4_lookahead.proofs.OneChoice.{one_first, one_choice}
+use Rattle.g4_guards.proofs.Choosing.{one_chosen}
+use Rattle.g4_lookahead.proofs.OneChoice.{one_first}
 
 module _ (net : ParserNetwork) (values : Values) (word : List ℕ) where
   -- a moment has at most one prediction
   one_prediction : (r : Run) (b c : Choice) → Predicts net values word r b → Predicts net values word r c → b ≡ c
-  one_prediction r b c p q = one_choice net _ _ _ _ b c p q
+  one_prediction r b c p q = one_chosen net _ _ _ _ b c p q
 
   -- a rule's end leads to one moment
   closes_once : (r : Run) (fs : List Frame) (s t : Run) → ClosesBy net values word r fs s → ClosesBy net values word r fs t → s ≡ t
@@ -24,7 +25,7 @@ module _ (net : ParserNetwork) (values : Values) (word : List ℕ) where
   closes_none r (f ∷ fs) s e p = cc
 
   -- a state leads to one moment
-  goes_once : (o : Option (State (List ℕ))) (r s t : Run) → GoesBy net values word deepest o r s → GoesBy net values word deepest o r t →
+  pub goes_once : (o : Option (State (List ℕ))) (r s t : Run) → GoesBy net values word deepest o r s → GoesBy net values word deepest o r t →
       s ≡ t
   goes_once None r s t p q = absurd p
   goes_once (Some (Decision targets)) r s t (i, u, chose, first, s_is) (j, v, chose', first', t_is) =
@@ -59,7 +60,7 @@ module _ (net : ParserNetwork) (values : Values) (word : List ℕ) where
   stops_once (Some (Empty u)) r a b p q = absurd p
 
   -- no state goes on and stops
-  never_both : (o : Option (State (List ℕ))) (r s : Run) (e : Ending) → GoesBy net values word deepest o r s →
+  pub never_both : (o : Option (State (List ℕ))) (r s : Run) (e : Ending) → GoesBy net values word deepest o r s →
       StopsBy net values word deepest o r e → ⊥
   never_both None r s e p q = p
   never_both (Some (Decision targets)) r s e (i, _, chose, _, _) (k, said, _) =

@@ -4,7 +4,8 @@ use Rattle.g4_net.specs.declared.network.State.{State}
 use Rattle.g4_net.specs.declared.network.State.TheVariants.{Decision, End, Edge, Call, Predicate, Level, Action, Empty}
 use Rattle.g4_net.specs.Network.{ParserNetwork, state_at, start_of, IsFirst, written_at}
 use Rattle.g4_net.specs.Configurations.{Stack, above_bottom}
-use Rattle.g4_net.specs.Prediction.{Choice, chosen, no_viable, IsTestBy, Decides}
+use Rattle.g4_net.specs.Prediction.{Choice, chosen, no_viable, IsTestBy}
+use Rattle.g4_guards.specs.Choosing.{Chooses}
 use Rattle.g4_trees.specs.Trees.{Tree, leaf, node, Forest, no_tree, and_then, only}
 
 -- An open rule: its return state and level; the node so far, with its rule, alternative and place, and its children.
@@ -123,7 +124,7 @@ module _ (net : ParserNetwork) (values : Values) (word : List ℕ) where
 
   -- what prediction chooses at the decision of this moment
   abbrev pub Predicts : Run → Choice → Type 0
-  Predicts r c = Decides net r.state (AllowsAt r) (stack_of r) (drop r.place word) c
+  Predicts r c = Chooses net r.state (AllowsAt r) (stack_of r) (drop r.place word) c
 
   -- the end of a rule closes its node, and the run goes on at the return state
   abbrev pub ClosesBy : Run → List Frame → Run → Type 0
@@ -157,6 +158,11 @@ module _ (net : ParserNetwork) (values : Values) (word : List ℕ) where
     abbrev pub Goes : Run → Run → Type 0
     Goes r s = GoesBy (state_at net r.state) r s
 
+    -- the run comes from the one moment to the other
+    pub data Comes : Run → Run → Type 0 where
+      comes_there : (r : Run) → Comes r r
+      comes_on : (r s u : Run) → Comes r s → Goes s u → Comes r u
+
     -- where no step exists: the end of the added rule, or a fault
     abbrev pub StopsBy : Option (State (List ℕ)) → Run → Ending → Type 0
     StopsBy None r e = ⊥
@@ -181,3 +187,7 @@ module _ (net : ParserNetwork) (values : Values) (word : List ℕ) where
 -- the run over the whole word has this ending
 abbrev pub Ends : ParserNetwork → List ℕ → Ending → Type 0
 Ends net word e = Runs net no_predicates word deepest beginning e
+
+-- the run over the whole word comes to this moment
+abbrev pub Reaches : ParserNetwork → List ℕ → Run → Type 0
+Reaches net word r = Comes net no_predicates word deepest beginning r

@@ -1,6 +1,7 @@
 -- Only this crate cites these.
 pub mod Counting
 pub mod Ends
+pub mod Grammars
 pub mod Inputs
 pub mod Meaning
 pub mod Outcomes

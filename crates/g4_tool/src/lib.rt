@@ -2,6 +2,7 @@
 #![tactic(auto)]
 
 mod files;
+mod grammar;
 mod inputs;
 mod law;
 mod messages;

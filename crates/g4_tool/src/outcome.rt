@@ -1,5 +1,7 @@
 // What becomes of a file, and the lines that are written of it.
 ghost use Rattle.std.specs.Prelude.{◌≡◌, ◌≤◌, ◌<◌, ◌++◌, IfOk, OnOk, length};
+ghost use Rattle.g4_net.specs.Network.{ParserNetwork as Net};
+ghost use Rattle.g4_tool.specs.Grammars.{with_net};
 ghost use Rattle.g4_trees.specs.Events.{tree_events};
 ghost use Rattle.g4_trees.specs.TreeText.{tree_text};
 ghost use Rattle.g4_tool.specs.Texts.{line_of_events, line_of_tokens, line_of_tree};
@@ -8,6 +10,7 @@ ghost use Rattle.g4_tool.specs.Meaning.{IsMeantAnywhere};
 ghost use Rattle.g4_tool.specs.Outcomes.{HasTree, IsNested, IsOutcome, accepted_line, is_accepted, lex_lines, lexing_refused, outcome_lines, parse_lines, parsing_refused};
 ghost use Rattle.g4_load.specs.Usable.{IsUsable};
 
+use crate::grammar::Grammar;
 use crate::inputs::Input;
 use crate::messages::{
     empty_mode_stack, failed_predicate, large, many_tokens, mismatch, no_token, no_viable,
@@ -15,13 +18,18 @@ use crate::messages::{
 };
 use crate::write::Line;
 use g4_base::{MOST_BYTES, Octets, Sequence};
+use g4_learned::{DecisionNet, Pass, Store};
 use g4_lexer::{LexFault, tokens};
-use g4_load::Interpreter;
+use g4_net::ParserNetwork;
 use g4_parse::{ParseFault, parse};
+use g4_store::steps::Steps;
+use g4_store::view::Home;
 use g4_tokens::Tokens;
 use g4_trees::{Tree, push_token_lines};
 use g4_words::Output;
 use std::alloc::{AllocError, Global};
+use std::sync::Wait;
+use std::sync::ledger::Ledger;
 
 /// What becomes of a file.
 #[derive(Drop)]
@@ -56,18 +64,22 @@ fn parsing_refused(fault: &ParseFault) -> bool
 }
 
 /// The outcome of a file of these bytes.
-fn outcome_of_bytes(
+fn outcome_of_bytes<B: Home<DecisionNet>, R: Wait, L: Ledger>(
+    rt: &R,
     alloc: Global,
-    interpreter: &Interpreter,
+    grammar: &Grammar,
+    store: &Store<B>,
+    pass: &mut Pass<B>,
     bytes: Octets,
+    steps: &mut Steps<L>,
 ) -> Result<Outcome, AllocError>
-    requires usable { IsUsable interpreter.now }
+    requires usable { IsUsable (with_net grammar.now B.plan.net.net) }
     requires small { length bytes ≤ MOST_BYTES }
-    ensures outcome { IfOk result (IsOutcome interpreter.now (Input.Bytes bytes)) }
+    ensures outcome { IfOk result (IsOutcome (with_net grammar.now B.plan.net.net) (Input.Bytes bytes)) }
     ensures nested { IfOk result IsNested }
-    ensures meant { IfOk result (IsMeantAnywhere interpreter.now) }
+    ensures meant { IfOk result (IsMeantAnywhere (with_net grammar.now B.plan.net.net)) }
 {
-    let tokens = match tokens(alloc, &interpreter.lexer, bytes) {
+    let tokens = match tokens(alloc, &grammar.lexer, bytes) {
         Ok(tokens) => tokens,
         Err(fault) => {
             if lexing_refused(&fault) {
@@ -76,7 +88,7 @@ fn outcome_of_bytes(
             return Ok(Outcome::Lex(fault));
         }
     };
-    match parse(alloc, &interpreter.net, tokens.list.as_slice()) {
+    match parse(rt, alloc, store, pass, tokens.list.as_slice(), steps) {
         Ok(tree) => Ok(Outcome::Tree(tokens, tree)),
         Err(fault) => {
             if parsing_refused(&fault) {
@@ -88,19 +100,23 @@ fn outcome_of_bytes(
 }
 
 /// The outcome of a file.
-pub fn outcome_of(
+pub fn outcome_of<B: Home<DecisionNet>, R: Wait, L: Ledger>(
+    rt: &R,
     alloc: Global,
-    interpreter: &Interpreter,
+    grammar: &Grammar,
+    store: &Store<B>,
+    pass: &mut Pass<B>,
     input: Input,
+    steps: &mut Steps<L>,
 ) -> Result<Outcome, AllocError>
-    requires usable { IsUsable interpreter.now }
+    requires usable { IsUsable (with_net grammar.now B.plan.net.net) }
     requires small { IsSmall input }
-    ensures outcome { IfOk result (IsOutcome interpreter.now input) }
+    ensures outcome { IfOk result (IsOutcome (with_net grammar.now B.plan.net.net) input) }
     ensures nested { IfOk result IsNested }
-    ensures meant { IfOk result (IsMeantAnywhere interpreter.now) }
+    ensures meant { IfOk result (IsMeantAnywhere (with_net grammar.now B.plan.net.net)) }
 {
     match input {
-        Input::Bytes(bytes) => outcome_of_bytes(alloc, interpreter, bytes),
+        Input::Bytes(bytes) => outcome_of_bytes(rt, alloc, grammar, store, pass, bytes, steps),
         Input::TooLarge(size) => Ok(Outcome::TooLarge(size)),
     }
 }
@@ -108,18 +124,18 @@ pub fn outcome_of(
 /// The line of a tree.
 fn text_line(
     alloc: Global,
-    interpreter: &Interpreter,
+    grammar: &Grammar,
     name: &str,
     tokens: &Tokens,
     tree: &Tree,
 ) -> Result<Line, AllocError>
     requires { HasTree tree.now }
-    ensures { IfOk result (λ line. line ≡ line_of_tree name.now (tree_text interpreter.now.rules tokens.now tree.now)) }
+    ensures { IfOk result (λ line. line ≡ line_of_tree name.now (tree_text grammar.now.rules tokens.now tree.now)) }
 {
     let mut line = Vec::new(alloc);
     line.extend_from_slice(name.as_bytes())?;
     line.extend_from_slice(b": ")?;
-    tree.print(&mut line, interpreter.rules.as_slice(), tokens)?;
+    tree.print(&mut line, grammar.rules.as_slice(), tokens)?;
     line.extend_from_slice(b"\n")?;
     Ok(Line::ToOut(Sequence::new(line)))
 }
@@ -127,16 +143,16 @@ fn text_line(
 /// The lines of the events of a tree, as one.
 fn events_line(
     alloc: Global,
-    interpreter: &Interpreter,
+    grammar: &Grammar,
     name: &str,
     tokens: &Tokens,
     tree: &Tree,
 ) -> Result<Line, AllocError>
     requires { HasTree tree.now }
-    ensures { IfOk result (λ line. line ≡ line_of_events interpreter.now.rules tokens.now name.now (tree_events tree.now)) }
+    ensures { IfOk result (λ line. line ≡ line_of_events grammar.now.rules tokens.now name.now (tree_events tree.now)) }
 {
     let mut lines = Vec::new(alloc);
-    let rules = interpreter.rules.as_slice();
+    let rules = grammar.rules.as_slice();
     tree.print_events(alloc, &mut lines, name, rules, tokens)?;
     Ok(Line::ToOut(Sequence::new(lines)))
 }
@@ -144,14 +160,14 @@ fn events_line(
 /// The lines of the tokens of a file, as one.
 fn tokens_line(
     alloc: Global,
-    interpreter: &Interpreter,
+    grammar: &Grammar,
     name: &str,
     tokens: &Tokens,
 ) -> Result<Line, AllocError>
-    ensures { IfOk result (λ line. line ≡ line_of_tokens interpreter.now.shown name.now tokens.now) }
+    ensures { IfOk result (λ line. line ≡ line_of_tokens grammar.now.shown name.now tokens.now) }
 {
     let mut lines = Vec::new(alloc);
-    push_token_lines(&mut lines, name, interpreter.shown.as_slice(), tokens)?;
+    push_token_lines(&mut lines, name, grammar.shown.as_slice(), tokens)?;
     Ok(Line::ToOut(Sequence::new(lines)))
 }
 
@@ -159,18 +175,18 @@ fn tokens_line(
 fn accepted_line(
     alloc: Global,
     output: Output,
-    interpreter: &Interpreter,
+    grammar: &Grammar,
     name: &str,
     tokens: &Tokens,
     tree: &Tree,
 ) -> Result<Line, AllocError>
     requires { HasTree tree.now }
-    ensures { IfOk result (λ line. line ≡ accepted_line output interpreter.now name.now tokens.now tree.now) }
+    ensures { IfOk result (λ line. (net : Net) → line ≡ accepted_line output (with_net grammar.now net) name.now tokens.now tree.now) }
 {
     match output {
-        Output::Trees => text_line(alloc, interpreter, name, tokens, tree),
-        Output::Events => events_line(alloc, interpreter, name, tokens, tree),
-        Output::Tokens => tokens_line(alloc, interpreter, name, tokens),
+        Output::Trees => text_line(alloc, grammar, name, tokens, tree),
+        Output::Events => events_line(alloc, grammar, name, tokens, tree),
+        Output::Tokens => tokens_line(alloc, grammar, name, tokens),
     }
 }
 
@@ -198,22 +214,22 @@ fn push_lex(
 fn push_parse(
     lines: &mut Vec<Line>,
     alloc: Global,
-    interpreter: &Interpreter,
+    grammar: &Grammar,
+    net: &ParserNetwork,
     name: &str,
     tokens: &Tokens,
     fault: &ParseFault,
 ) -> Result<(), AllocError>
-    ensures { OnOk result (lines.new.items ≡ lines.old.items ++ parse_lines interpreter.now name.now tokens.now fault.now) }
+    ensures { OnOk result (lines.new.items ≡ lines.old.items ++ parse_lines (with_net grammar.now net.now) name.now tokens.now fault.now) }
 {
-    let types = interpreter.shown.as_slice();
-    let net = &interpreter.net;
+    let types = grammar.shown.as_slice();
     let line = match fault {
         ParseFault::Mismatch { at, state } => {
             mismatch(alloc, types, net, name, tokens, *at, *state)?
         }
         ParseFault::NoViable { at } => no_viable(alloc, name, tokens, *at)?,
         ParseFault::FailedPredicate { at, rule } => {
-            let names = interpreter.names.as_slice();
+            let names = grammar.names.as_slice();
             failed_predicate(alloc, names, name, tokens, *at, *rule)?
         }
         ParseFault::TooDeep { at } => too_deep(alloc, name, tokens, *at)?,
@@ -228,20 +244,21 @@ pub fn push_outcome(
     lines: &mut Vec<Line>,
     alloc: Global,
     output: Output,
-    interpreter: &Interpreter,
+    grammar: &Grammar,
+    net: &ParserNetwork,
     name: &str,
     outcome: &Outcome,
 ) -> Result<(), AllocError>
     requires { IsNested outcome.now }
-    ensures { OnOk result (lines.new.items ≡ lines.old.items ++ outcome_lines output interpreter.now name.now outcome.now) }
+    ensures { OnOk result (lines.new.items ≡ lines.old.items ++ outcome_lines output (with_net grammar.now net.now) name.now outcome.now) }
 {
     match outcome {
         Outcome::Tree(tokens, tree) => {
-            lines.push(accepted_line(alloc, output, interpreter, name, tokens, tree)?)?
+            lines.push(accepted_line(alloc, output, grammar, name, tokens, tree)?)?
         }
         Outcome::Lex(fault) => push_lex(lines, alloc, name, fault)?,
         Outcome::Parse(tokens, fault) => {
-            push_parse(lines, alloc, interpreter, name, tokens, fault)?
+            push_parse(lines, alloc, grammar, net, name, tokens, fault)?
         }
         Outcome::TooLarge(size) => lines.push(large(alloc, name, *size)?)?,
     }

@@ -19,6 +19,7 @@ use g4_load::{Halt, Loaded, Stop, build_interpreter, list_named, load};
 use g4_ports::{Gate, Shelf};
 use g4_words::{Atn, Check, Command, Parse, WordsFault, read_words};
 use std::alloc::{AllocError, Global};
+use std::sync::Wait;
 
 /// What a run writes, and how it ends where nothing fails.
 #[derive(Drop)]
@@ -134,7 +135,8 @@ fn run_atn<S: Shelf>(alloc: Global, shelf: &mut S, atn: &Atn) -> Result<Report, 
 }
 
 /// The report of `parse`, or why there is none.
-fn run_parse<S: Shelf, G: Gate>(
+fn run_parse<R: Wait, S: Shelf, G: Gate>(
+    rt: &R,
     alloc: Global,
     shelf: &mut S,
     parse: &Parse,
@@ -152,13 +154,15 @@ fn run_parse<S: Shelf, G: Gate>(
     let interpreter = build_interpreter(alloc, shelf, grammar, start)?;
     let names = parse.files.as_slice();
     let inputs = fetch_all(alloc, shelf, names)?;
-    let parsed = parse_files(alloc, parse.output, &interpreter, names, inputs, gate)?;
+    let output = parse.output;
+    let parsed = parse_files(rt, alloc, output, interpreter, names, inputs, gate)?;
     let report = report_files(alloc, parsed, names.len())?;
     Ok(report)
 }
 
 /// The report of the words that no fault stops, or why there is none.
-fn run_words<S: Shelf, G: Gate>(
+fn run_words<R: Wait, S: Shelf, G: Gate>(
+    rt: &R,
     alloc: Global,
     shelf: &mut S,
     words: &[String],
@@ -174,7 +178,7 @@ fn run_words<S: Shelf, G: Gate>(
     match read_words(alloc, words) {
         Ok(Command::Check(check)) => run_check(alloc, shelf, &check),
         Ok(Command::Atn(atn)) => run_atn(alloc, shelf, &atn),
-        Ok(Command::Parse(parse)) => run_parse(alloc, shelf, &parse, gate),
+        Ok(Command::Parse(parse)) => run_parse(rt, alloc, shelf, &parse, gate),
         Err(WordsFault::Usage) => Err(Halt::Stop(Stop::Usage)),
         Err(WordsFault::NoMemory) => Err(Halt::NoMemory),
     }
@@ -182,7 +186,8 @@ fn run_words<S: Shelf, G: Gate>(
 
 /// The report of the words, unless a fetch or memory fails.
 #[tactic(auto, using(crate::proofs::Reports::reports_stop))]
-pub fn make_report<S: Shelf, G: Gate>(
+pub fn make_report<R: Wait, S: Shelf, G: Gate>(
+    rt: &R,
     alloc: Global,
     shelf: &mut S,
     words: &[String],
@@ -195,7 +200,7 @@ pub fn make_report<S: Shelf, G: Gate>(
     ensures counts { ReportCounts (IsNoCommand (map string_bytes words.now))
         (S.faults shelf.old) (S.faults shelf.new) (S.misses shelf.old) (S.misses shelf.new) result }
 {
-    match run_words(alloc, shelf, words, gate) {
+    match run_words(rt, alloc, shelf, words, gate) {
         Ok(report) => Ok(report),
         Err(Halt::Stop(stop)) => {
             let report = report_stop(alloc, &stop)?;

@@ -10,13 +10,14 @@ use crate::status::Status;
 use crate::write::write_lines;
 use g4_ports::{Gate, Shelf, Sink};
 use std::alloc::Global;
+use std::sync::Wait;
 use std::thread::Threads;
 
 /// Runs a command line: fetches the grammar that it names and checks it. `check` writes what it has; `parse` fetches the files
 /// as well, and writes a line for each, its tree on out or its first fault on err, and a closing line. Nothing is written before
 /// the whole report is made.
-pub fn run<R: Threads + Sync, S: Shelf, O: Sink, E: Sink, G: Gate>(
-    _rt: &R,
+pub fn run<R: Threads + Wait + Sync, S: Shelf, O: Sink, E: Sink, G: Gate>(
+    rt: &R,
     alloc: Global,
     words: &[String],
     shelf: &mut S,
@@ -48,7 +49,7 @@ pub fn run<R: Threads + Sync, S: Shelf, O: Sink, E: Sink, G: Gate>(
     ensures grows { (S.faults shelf.old ≤ S.faults shelf.new) × (S.misses shelf.old ≤ S.misses shelf.new)
         × (O.faults out.old ≤ O.faults out.new) × (E.faults err.old ≤ E.faults err.new) }
 {
-    match make_report(alloc, shelf, words, gate) {
+    match make_report(rt, alloc, shelf, words, gate) {
         Ok(report) => match write_lines(report.lines.as_slice(), out, err) {
             Ok(()) => report.status,
             Err(_) => Status::Unwritten,

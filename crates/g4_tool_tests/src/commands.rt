@@ -4,6 +4,7 @@ use g4_ports::{Gate, MemFile, MemShelf, MemSink};
 use g4_tool::{Status, run};
 use std::alloc::{AllocError, Global};
 use std::fmt::Write;
+use std::sync::Wait;
 use std::sync::atomic::{AtomicU32, Ordering};
 use std::test::Fail;
 use std::thread::Threads;
@@ -117,7 +118,7 @@ fn shown(alloc: Global, status: Status, ends: &Ends) -> Result<String, AllocErro
 }
 
 /// The status of a run.
-fn status_of<R: Threads + Sync>(
+fn status_of<R: Threads + Wait + Sync>(
     rt: &R,
     alloc: Global,
     words: &[String],
@@ -133,7 +134,7 @@ fn status_of<R: Threads + Sync>(
 }
 
 /// What a run gives, where a fetch and a put on out fail.
-fn found<R: Threads + Sync>(
+fn found<R: Threads + Wait + Sync>(
     rt: &R,
     alloc: Global,
     line: &str,
@@ -166,7 +167,7 @@ check X.g4 f | - | - => 0 begun 0 ended: Usage 0 0 1
 atn X.g4 r | - | 0 => 0 begun 0 ended: Unwritten 1 1 0";
 
 /// Adds a row of which something else comes.
-fn push_other<R: Threads + Sync>(
+fn push_other<R: Threads + Wait + Sync>(
     rt: &R,
     alloc: Global,
     all: &mut String,

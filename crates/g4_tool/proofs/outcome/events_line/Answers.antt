@@ -14,4 +14,4 @@ returns c =
     ∙ ap (λ (xs : List ℕ). xs ++ event_lines c.as_slice-rules.result.now c.args.tokens.now c.args.name.now (events_of t))
     c.new-lines.ensures.items
     ∙ ap (λ (rs : List StepRule). event_lines rs c.args.tokens.now c.args.name.now (events_of t)) c.as_slice-rules.ensures.rules
-    ∙ ap (λ (es : List Event). event_lines c.args.interpreter.now.rules c.args.tokens.now c.args.name.now es) events)
+    ∙ ap (λ (es : List Event). event_lines c.args.grammar.now.rules c.args.tokens.now c.args.name.now es) events)

@@ -11,7 +11,7 @@ pub returns : goal.returns
 returns c =
     let t = c.requires.0 in
     let tokens = c.args.tokens.now in
-    let rules_of : List StepRule = c.args.interpreter.now.rules in
+    let rules_of : List StepRule = c.args.grammar.now.rules in
     let named : List ℕ = c.extend_from_slice-2.new.self.items in
     let text : text_of rules_of tokens t ≡ tree_text rules_of tokens c.args.tree.now =
     sym (text_of_items rules_of tokens t) ∙ ap (λ (xs : List Item). tree_text rules_of tokens xs) (sym c.requires.1) in

@@ -1,16 +1,17 @@
 use Rattle.std.proofs.Common.{◌<◌, ◌∷◌, length, refl, ap, arith}
 use Rattle.g4_trees.specs.Trees.{no_tree}
 use Rattle.g4_net.specs.Network.{start_of, written_at}
-use Rattle.g4_parse.specs.Standing.{farthest, grown}
+use Rattle.g4_parse.specs.Standing.{grown}
+use Rattle.g4_run.specs.Running.{deepest}
 use Rattle.g4_parse.proofs.Grown.{length_returns}
 use Rattle.g4_parse.proofs.parser.Parser.call.Goals as goal
 
-pub returns-then-len-ge-FARTHEST : goal.returns-then-len-ge-FARTHEST
-returns-then-len-ge-FARTHEST c = λ word r h. (omega (arith, length_returns r.frames, ap length h.returns), cc)
+pub returns-then-len-ge-DEEPEST : goal.returns-then-len-ge-DEEPEST
+returns-then-len-ge-DEEPEST c = λ word r h. (omega (arith, length_returns r.frames, ap length h.returns), cc)
 
 pub returns : goal.returns
 returns c = λ word r h.
-    let deep : length r.frames < farthest = omega (arith, length_returns r.frames, ap length h.returns) in (
+    let deep : length r.frames < deepest = omega (arith, length_returns r.frames, ap length h.returns) in (
       record {
         state = start_of c.args.opened.rule;
         place = r.place;

@@ -1,0 +1,159 @@
+-- What turns leave the pass, from the run's beginning to its end.
+use Rattle.std.proofs.Common.{◌≡◌, ◌⊎◌, inl, inr, ℕ, List, drop, true≢false, refl, sym, ◌∙◌, ap, subst}
+use Rattle.std.specs.Prelude.{Bool, true, false, Option, Some}
+use Rattle.g4_decide.specs.Asked.{Asked, Keeps, Told}
+use Rattle.g4_guards.specs.Levels.{IsDecision}
+use Rattle.g4_learned.proofs.Seeing.{one_passed}
+use Rattle.g4_learned.specs.Stored.{ArePassed, IsPlan}
+use Rattle.g4_learned.specs.Tables.{Tables}
+use Rattle.g4_net.specs.Configurations.{Config}
+use Rattle.g4_net.specs.Network.{ParserNetwork, state_at}
+use Rattle.g4_net.specs.Prediction.{Verdict}
+use Rattle.g4_run.proofs.OneEnding.{goes_once, never_both}
+use Rattle.g4_run.specs.Running.{Comes, comes_on, comes_there, Ending, Goes, Reaches, Run, Stops, beginning, deepest, level_of, no_predicates}
+use Rattle.g4_store.specs.declared.automaton.Fact.{Fact}
+use Rattle.g4_store.specs.declared.automaton.Plan.{Plan}
+use Rattle.g4_store.specs.Numbers.{Among}
+use Rattle.g4_parse.specs.Teaching.{HasKept, HasNoRoom, IsPassed, IsPassedAt, IsTaught}
+
+-- what is kept in two steps
+pub kept_then : (a b c : Told) → HasKept a b → HasKept b c → HasKept a c
+kept_then a b c h g = record {
+  seen = λ f x. g.seen f (h.seen f x);
+  known = λ t y x. g.known t y (h.known t y x);
+  holds = g.holds ∙ h.holds;
+  count = g.count ∙ h.count;
+}
+
+pub kept_same : (a : Told) → HasKept a a
+kept_same a = record { seen = λ f x. x; known = λ t y x. x; holds = refl; count = refl }
+
+pub keeps_kept : (p : Plan Tables) (d level : ℕ) (word : List ℕ) (old new : Told) → Keeps p d level word old new → HasKept old new
+keeps_kept p d level word old new k = record { seen = k.seen; known = k.known; holds = k.holds; count = k.count }
+
+-- What is left so far, at a moment of the run: of each moment of the run that is not from this one on all is seen, unless there was want
+-- of room.
+pub record IsTaughtTo (p : Plan Tables) (word : List ℕ) (r : Run) (old new : Told) : Type 0 where
+  pub within : (f : Fact (List Config)) → Among f new.0.seen → Among f old.0.seen ⊎ IsPassed p.net word f
+  pub whole : new.1 ≡ false → (s : Run) → Reaches p.net.net word s
+      → Comes p.net.net no_predicates word deepest r s ⊎ ((f : Fact (List Config)) → IsPassedAt p.net word s f → Among f new.0.seen)
+  pub full : old.1 ≡ false → new.1 ≡ true → HasNoRoom p.rows new.0.known
+  pub stays_full : old.1 ≡ true → new.1 ≡ true
+
+module _ (p : Plan Tables) (plan : IsPlan p) (word : List ℕ) where
+  -- what asking at the decision of a moment leaves
+  pub asked_taught : (r : Run) (v : Verdict) (old new : Told) → Keeps p r.state (level_of r.frames) (drop r.place word) old new
+      → Asked p r.state (level_of r.frames) (drop r.place word) v old new → IsTaught p (IsPassedAt p.net word r) old new
+  asked_taught r v old new keeps asked = record {
+    within = λ f seen. elim (keeps.within v asked.facts asked.passed f seen) [
+      | inl before ↦ inl before
+      | inr now ↦ inr (record { verdict = v; facts = asked.facts; passed = asked.passed; among = now })
+    ];
+    whole = λ room f passed.
+        let same = (one_passed p plan r.state (level_of r.frames) (drop r.place word) passed.verdict v passed.facts asked.facts passed.passed
+        asked.passed).1 in
+        asked.whole room f (subst (λ (fs : List (Fact (List Config))). Among f fs) same passed.among);
+    full = λ room none.
+        let no = asked.full room none in
+        record { rows = no.rows; all = no.all; differ = no.differ; are_known = no.are_known };
+    stays_full = asked.stays_full;
+  }
+
+  -- at a moment without a decision nothing is passed
+  none_passed : (r : Run) (f : Fact (List Config)) → (IsDecision p.net.net r.state → ⊥) → IsPassedAt p.net word r f → ⊥
+  none_passed r f none passed =
+      let start = passed.passed.is_start in
+      none (plan.tables.starts.guards passed.passed.start r.state start.0 start.1).0
+
+  pub untaught : (r : Run) (told : Told) → (IsDecision p.net.net r.state → ⊥) → IsTaught p (IsPassedAt p.net word r) told told
+  untaught r told none = record {
+    within = λ f seen. inl seen;
+    whole = λ room f passed. absurd (none_passed r f none passed);
+    full = λ room full. absurd (true≢false (sym full ∙ room));
+    stays_full = λ full. full;
+  }
+
+  pub taught_begins : (told : Told) → IsTaughtTo p word beginning told told
+  taught_begins told = record {
+    within = λ f seen. inl seen;
+    whole = λ room s reaches. inl reaches;
+    full = λ room full. absurd (true≢false (sym full ∙ room));
+    stays_full = λ full. full;
+  }
+
+  -- a way from a moment is none, or begins with a step
+  begins : (r s : Run) → Comes p.net.net no_predicates word deepest r s
+      → (r ≡ s) ⊎ ((u : Run) × Goes p.net.net no_predicates word deepest r u × Comes p.net.net no_predicates word deepest u s)
+  begins r _ (comes_there r) = inl refl
+  begins r s (comes_on r t s way step) = elim (begins r t way) [
+    | inl same ↦ inr (s, subst (λ (q : Run). Goes p.net.net no_predicates word deepest q s) (sym same) step, comes_there s)
+    | inr (u, first, more) ↦ inr (u, first, comes_on u t s more step)
+  ]
+
+  -- whether there is room, before and after
+  room_before : (mid new : Bool) → (mid ≡ true → new ≡ true) → new ≡ false → mid ≡ false
+  room_before true new stays room = absurd (true≢false (sym (stays refl) ∙ room))
+  room_before false new stays room = refl
+
+  no_room_later : (mid new : Told) → HasKept mid new → HasNoRoom p.rows mid.0.known → HasNoRoom p.rows new.0.known
+  no_room_later mid new kept no = record {
+    rows = no.rows;
+    all = no.all;
+    differ = no.differ;
+    are_known = λ t y at. kept.known t y (no.are_known t y at);
+  }
+
+  module _ (r : Run) (reaches : Reaches p.net.net word r) (old mid new : Told) (before : IsTaughtTo p word r old mid) (kept : HasKept mid new)
+      (taught : IsTaught p (IsPassedAt p.net word r) mid new) where
+    within_more : (f : Fact (List Config)) → Among f new.0.seen → Among f old.0.seen ⊎ IsPassed p.net word f
+    within_more f seen = elim (taught.within f seen) [
+      | inl known ↦ before.within f known
+      | inr passed ↦ inr (r, reaches, passed)
+    ]
+
+    full_more : (m : Bool) → mid.1 ≡ m → old.1 ≡ false → new.1 ≡ true → HasNoRoom p.rows new.0.known
+    full_more true is room full = no_room_later mid new kept (before.full room is)
+    full_more false is room full = taught.full is full
+
+    -- of a moment behind this one all is seen, and now of this one too
+    seen_now : new.1 ≡ false → (s : Run) → Reaches p.net.net word s → (f : Fact (List Config)) → IsPassedAt p.net word s f
+        → (Comes p.net.net no_predicates word deepest r s → r ≡ s) → Among f new.0.seen
+    seen_now room s reached f passed last = elim (before.whole (room_before mid.1 new.1 taught.stays_full room) s reached) [
+      | inl comes ↦ taught.whole room f (subst (λ (q : Run). IsPassedAt p.net word q f) (sym (last comes)) passed)
+      | inr all ↦ kept.seen f (all f passed)
+    ]
+
+    -- a step leads on
+    pub taught_on : (next : Run) → Goes p.net.net no_predicates word deepest r next → IsTaughtTo p word next old new
+    taught_on next step = record {
+      within = within_more;
+      whole = λ room s reached. elim (before.whole (room_before mid.1 new.1 taught.stays_full room) s reached) [
+        | inl comes ↦ elim (begins r s comes) [
+          | inl same ↦ inr (λ f passed. taught.whole room f (subst (λ (q : Run). IsPassedAt p.net word q f) (sym same) passed))
+          | inr (u, first, more) ↦ inl
+              (subst (λ (q : Run). Comes p.net.net no_predicates word deepest q s)
+              (goes_once p.net.net no_predicates word (state_at p.net.net r.state) r u next first step) more)
+        ]
+        | inr all ↦ inr (λ f passed. kept.seen f (all f passed))
+      ];
+      full = full_more mid.1 refl;
+      stays_full = λ full. taught.stays_full (before.stays_full full);
+    }
+
+    -- and where the run stops, all of it is passed
+    pub taught_whole : (e : Ending) → Stops p.net.net no_predicates word deepest r e → IsTaught p (IsPassed p.net word) old new
+    taught_whole e stop = record {
+      within = within_more;
+      whole = λ room f (s, reached, passed). seen_now room s reached f passed (λ comes. elim (begins r s comes) [
+        | inl same ↦ same
+        | inr (u, first, more) ↦ absurd (never_both p.net.net no_predicates word (state_at p.net.net r.state) r u e first stop)
+      ]);
+      full = full_more mid.1 refl;
+      stays_full = λ full. taught.stays_full (before.stays_full full);
+    }
+
+  -- the same of a run that has ended, at a moment without a decision
+  pub taught_ended : (r : Run) (old new : Told) → Reaches p.net.net word r → IsTaughtTo p word r old new → (IsDecision p.net.net r.state → ⊥)
+      → (e : Ending) → Stops p.net.net no_predicates word deepest r e → IsTaught p (IsPassed p.net word) old new
+  taught_ended r old new reaches before none e stop =
+      taught_whole r reaches old new new before (kept_same new) (untaught r new none) e stop

@@ -1,0 +1,58 @@
+-- What a parse leaves its pass: the words of the paths of SLL that its run passes.
+use Rattle.std.specs.Prelude.{◌≡◌, ◌⊎◌, ℕ, List, Result, Ok, Err, drop, length, true, false}
+use mathlib.Core.Option as maybe
+use lib.ListN.{get_elem?}
+use Rattle.g4_decide.specs.Asked.{Told}
+use Rattle.g4_learned.specs.Stored.{ArePassed}
+use Rattle.g4_learned.specs.Tables.{Tables}
+use Rattle.g4_net.specs.Configurations.{Config}
+use Rattle.g4_net.specs.Prediction.{Verdict}
+use Rattle.g4_run.specs.Running.{Reaches, Run, level_of}
+use Rattle.g4_store.specs.declared.automaton.Fact.{Fact}
+use Rattle.g4_store.specs.declared.automaton.Plan.{Plan}
+use Rattle.g4_store.specs.Numbers.{Among}
+use Rattle.g4_parse.specs.declared.parser.ParseFault.{ParseFault}
+use Rattle.g4_parse.specs.declared.parser.ParseFault.TheVariants.{FailedPredicate, Mismatch, NoMemory, NoViable, TooDeep}
+
+-- The word is one of SLL's path at this moment of a run: at its decision, over the alternatives that the level of the open rule allows,
+-- on what is left of the tokens.
+pub record IsPassedAt (t : Tables) (word : List ℕ) (r : Run) (f : Fact (List Config)) : Type 0 where
+  pub verdict : Verdict
+  pub facts : List (Fact (List Config))
+  pub passed : ArePassed t r.state (level_of r.frames) (drop r.place word) verdict facts
+  pub among : Among f facts
+
+-- the run over the tokens passes the word, at one of the moments that it comes to
+abbrev pub IsPassed : Tables → List ℕ → Fact (List Config) → Type 0
+IsPassed t word f = (r : Run) × Reaches t.net word r × IsPassedAt t word r f
+
+-- As many rows are known as there may be, each with another content.
+pub record HasNoRoom (most : ℕ) (known : List (ℕ × List Config)) : Type 0 where
+  pub rows : List (List Config)
+  pub all : length rows ≡ most
+  pub differ : (r q : ℕ) (x : List Config) → get_elem? rows r ≡ maybe.some x → get_elem? rows q ≡ maybe.some x → r ≡ q
+  pub are_known : (t : ℕ) (y : List Config) → get_elem? rows t ≡ maybe.some y → Among (t, y) known
+
+-- Nothing that the pass has seen or knows is lost.
+pub record HasKept (old new : Told) : Type 0 where
+  pub seen : (f : Fact (List Config)) → Among f old.0.seen → Among f new.0.seen
+  pub known : (t : ℕ) (y : List Config) → Among (t, y) old.0.known → Among (t, y) new.0.known
+  pub holds : new.0.holds ≡ old.0.holds
+  pub count : new.0.count ≡ old.0.count
+
+-- The pass has seen the words that are passed and no others, or there was want of room: then it has seen none but these. There is new want
+-- of room only where as many rows are known as there may be.
+pub record IsTaught (p : Plan Tables) (Passed : Fact (List Config) → Type 0) (old new : Told) : Type 0 where
+  pub within : (f : Fact (List Config)) → Among f new.0.seen → Among f old.0.seen ⊎ Passed f
+  pub whole : new.1 ≡ false → (f : Fact (List Config)) → Passed f → Among f new.0.seen
+  pub full : old.1 ≡ false → new.1 ≡ true → HasNoRoom p.rows new.0.known
+  pub stays_full : old.1 ≡ true → new.1 ≡ true
+
+-- the call did not want for memory
+abbrev pub HadMemory : {X : Type 0} → Result X ParseFault → Type 0
+HadMemory (Ok x) = Unit {0}
+HadMemory (Err (NoViable at)) = Unit {0}
+HadMemory (Err (Mismatch at state)) = Unit {0}
+HadMemory (Err (FailedPredicate at rule)) = Unit {0}
+HadMemory (Err (TooDeep at)) = Unit {0}
+HadMemory (Err NoMemory) = ⊥
