@@ -50,8 +50,8 @@ module _ (p : Plan Tables) (plan : IsPlan p) (word : List ℕ) where
       | inr now ↦ inr (record { verdict = v; facts = asked.facts; passed = asked.passed; among = now })
     ];
     whole = λ room f passed.
-        let same = (one_passed p plan r.state (level_of r.frames) (drop r.place word) passed.verdict v passed.facts asked.facts passed.passed
-        asked.passed).1 in
+        let same = (one_passed p plan r.state (level_of r.frames) (drop r.place word) passed.verdict v passed.facts asked.facts
+        passed.passed asked.passed).1 in
         asked.whole room f (subst (λ (fs : List (Fact (List Config))). Among f fs) same passed.among);
     full = λ room none.
         let no = asked.full room none in
@@ -103,8 +103,8 @@ module _ (p : Plan Tables) (plan : IsPlan p) (word : List ℕ) where
     are_known = λ t y at. kept.known t y (no.are_known t y at);
   }
 
-  module _ (r : Run) (reaches : Reaches p.net.net word r) (old mid new : Told) (before : IsTaughtTo p word r old mid) (kept : HasKept mid new)
-      (taught : IsTaught p (IsPassedAt p.net word r) mid new) where
+  module _ (r : Run) (reaches : Reaches p.net.net word r) (old mid new : Told) (before : IsTaughtTo p word r old mid)
+      (kept : HasKept mid new) (taught : IsTaught p (IsPassedAt p.net word r) mid new) where
     within_more : (f : Fact (List Config)) → Among f new.0.seen → Among f old.0.seen ⊎ IsPassed p.net word f
     within_more f seen = elim (taught.within f seen) [
       | inl known ↦ before.within f known
@@ -153,7 +153,8 @@ module _ (p : Plan Tables) (plan : IsPlan p) (word : List ℕ) where
     }
 
   -- the same of a run that has ended, at a moment without a decision
-  pub taught_ended : (r : Run) (old new : Told) → Reaches p.net.net word r → IsTaughtTo p word r old new → (IsDecision p.net.net r.state → ⊥)
-      → (e : Ending) → Stops p.net.net no_predicates word deepest r e → IsTaught p (IsPassed p.net word) old new
+  pub taught_ended : (r : Run) (old new : Told) → Reaches p.net.net word r → IsTaughtTo p word r old new
+      → (IsDecision p.net.net r.state → ⊥) → (e : Ending) → Stops p.net.net no_predicates word deepest r e
+      → IsTaught p (IsPassed p.net word) old new
   taught_ended r old new reaches before none e stop =
       taught_whole r reaches old new new before (kept_same new) (untaught r new none) e stop

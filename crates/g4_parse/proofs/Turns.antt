@@ -134,7 +134,8 @@ predicted net ready loops word r p level choice newest h says =
 pub chooses : (net : ParserNetwork) → IsReady net → HasLoops net → (word : List ℕ) (r : Run) (p q : Parser) (level : ℕ)
     (targets : List ℕ) (i t : ℕ) → level ≡ level_of r.frames → StandsFor p r
     → ChoosesAt net p.state level (reverse p.returns.items) (drop p.place word) (chosen i) → IsFirst net p.state i t →
-    StandsFor q (record (with_begun (begun net t (state_at net t)) r) { state = t }) → IsTurnBy net word (Some (Decision targets)) r q (Ok tt)
+    StandsFor q (record (with_begun (begun net t (state_at net t)) r) { state = t })
+    → IsTurnBy net word (Some (Decision targets)) r q (Ok tt)
 chooses net ready loops word r p q level targets i t newest h says first after = (
   record (with_begun (begun net t (state_at net t)) r) { state = t },
   (

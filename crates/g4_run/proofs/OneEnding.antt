@@ -25,8 +25,8 @@ module _ (net : ParserNetwork) (values : Values) (word : List ℕ) where
   closes_none r (f ∷ fs) s e p = cc
 
   -- a state leads to one moment
-  pub goes_once : (o : Option (State (List ℕ))) (r s t : Run) → GoesBy net values word deepest o r s → GoesBy net values word deepest o r t →
-      s ≡ t
+  pub goes_once : (o : Option (State (List ℕ))) (r s t : Run) → GoesBy net values word deepest o r s
+      → GoesBy net values word deepest o r t → s ≡ t
   goes_once None r s t p q = absurd p
   goes_once (Some (Decision targets)) r s t (i, u, chose, first, s_is) (j, v, chose', first', t_is) =
       let same : chosen i ≡ chosen j = one_prediction r _ _ chose chose' in
