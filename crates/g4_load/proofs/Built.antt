@@ -19,8 +19,7 @@ use Rattle.g4_vocab.specs.declared.vocabulary.Vocabulary.{Vocabulary}
 use Rattle.g4_checks.specs.Checking.{IsChecked}
 use Rattle.g4_checks.specs.declared.fault.CheckFault.{CheckFault}
 use Rattle.g4_source.specs.declared.refused.Refused.{Refused}
-use Rattle.g4_derivation.proofs.Returning.{has_loops}
-use Rattle.g4_grammar.specs.StepRules.{CanBeRewritten, StepRule}
+use Rattle.g4_grammar.specs.StepRules.{StepRule}
 use Rattle.g4_grammar.specs.declared.step.Numbering.{Numbering}
 use Rattle.g4_grammar.specs.declared.token_types.TokenTypes.{TokenTypes}
 use Rattle.g4_leftrec.specs.Rewriting.{rewritten, numberings}
@@ -99,14 +98,12 @@ module _ (start : List ℕ) (rules : List StepRule) where
 
 -- rules and their network can be parsed with
 pub parsing : (start : List ℕ) (rules made : List StepRule) (numbers : List Numbering) (net : ParserNetwork)
-    → CanBeRewritten rules → made ≡ rewritten rules → numbers ≡ numberings rules → GivesNetwork made numbers start (Ok net)
-    → IsParsing rules net
-parsing start rules made numbers net can laid numbered built =
+    → made ≡ rewritten rules → numbers ≡ numberings rules → GivesNetwork made numbers start (Ok net) → IsParsing rules net
+parsing start rules made numbers net laid numbered built =
     let here : IsBuilt (eof ∷ []) (rewritten rules) (numberings rules) start net =
     subst (λ (ns : List Numbering). IsBuilt (eof ∷ []) (rewritten rules) ns start net) numbered
     (subst (λ (ms : List StepRule). IsBuilt (eof ∷ []) ms numbers start net) laid built) in record {
       ready = (rule_number (rewritten rules) start, 2 * length (rewritten rules) + 2, eof ∷ [], here.runnable);
-      loops = has_loops (eof ∷ []) rules start net can here;
       built = (start, here);
     }
 

@@ -11,19 +11,19 @@ use Rattle.g4_layout.specs.Built.{IsBuilt}
 use Rattle.g4_leftrec.specs.Rewriting.{rewritten, numberings}
 use Rattle.g4_load.specs.declared.interpreter.Interpreter.{Interpreter}
 
--- The network can be parsed with, its levels are in loops, and it is that of the rewritten rules from some start rule.
+-- The network can be parsed with, and is that of the rewritten rules from some start rule.
 pub record IsParsing (rules : List StepRule) (net : ParserNetwork) : Type 0 where
   pub ready : IsReady net
-  pub loops : HasLoops net
   pub built : (start : List ℕ) × IsBuilt (eof ∷ []) (rewritten rules) (numberings rules) start net
 
 -- The network is that of the rules as they are run, from this start rule.
 abbrev pub IsNetworkFrom : Interpreter → List ℕ → Type 0
 IsNetworkFrom interpreter start = IsBuilt (eof ∷ []) (rewritten interpreter.rules) (numberings interpreter.rules) start interpreter.net
 
--- Its rules can be rewritten and its network parsed with, and its lexer can be lexed with and gives token types.
+-- Its rules can be rewritten and its network parsed with, whose levels are in loops, and its lexer can be lexed with and gives token types.
 pub record IsUsable (interpreter : Interpreter) : Type 0 where
   pub rewritable : CanBeRewritten interpreter.rules
   pub parsing : IsParsing interpreter.rules interpreter.net
+  pub loops : HasLoops interpreter.net
   pub lexable : IsLexable interpreter.lexer.net
   pub types : HasTokenTypes interpreter.lexer

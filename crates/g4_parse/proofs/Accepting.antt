@@ -1,5 +1,5 @@
 -- A token list is accepted exactly where the rules derive it, as they are run.
-use Rattle.std.proofs.Common.{◌≡◌, inl, inr, ℕ, List, Result, Ok, Err, sym, subst}
+use Rattle.std.proofs.Common.{◌≡◌, inl, inr, ℕ, List, Result, Ok, Err}
 use Rattle.g4_derivation.specs.Spelling.{DerivesFrom}
 use Rattle.g4_grammar.specs.StepRules.{CanBeRewritten, StepRule}
 use Rattle.g4_layout.specs.Built.{IsBuilt}
@@ -41,7 +41,3 @@ module _ (set : List ℕ) (rules : List StepRule) (start : List ℕ) (net : Pars
       (λ t e. (let no : ⊥ = cc in no), λ k e. (let no : ⊥ = cc in no)) run
   accepts ends (Err (TooDeep at)) run = tt
   accepts ends (Err NoMemory) run = tt
-
-  -- where memory runs out, nothing is said
-  pub out_of_memory : (fault : ParseFault) → fault ≡ NoMemory → IsAcceptance Derived (Err fault)
-  out_of_memory fault is = subst (λ (f : ParseFault). IsAcceptance Derived (Err f)) (sym is) tt

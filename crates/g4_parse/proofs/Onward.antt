@@ -1,6 +1,6 @@
 -- From the run's beginning to where the parser is.
 use Rattle.std.proofs.Common.{◌≡◌, ◌<◌, [], ℕ, List, length, reverse, refl, sym, ◌∙◌, ap, subst, arith, append-nil}
-use Rattle.std.specs.Prelude.{Option, Some, ⊤, Result, Ok, Err}
+use Rattle.std.specs.Prelude.{Option, Some, ⊤, Result, Ok, Err, IsErrAnd}
 use Rattle.g4_decide.specs.Asked.{Told}
 use Rattle.g4_guards.specs.Levels.{IsDecision}
 use Rattle.g4_learned.specs.Stored.{IsPlan}
@@ -21,7 +21,7 @@ use Rattle.g4_parse.specs.declared.parser.Parser.{Parser}
 use Rattle.g4_run.specs.Running.{Frame, Run, Ending, parsed, not_viable, mismatch, failed_predicate, too_deep, beginning, comes_on, comes_there, deepest, no_predicates, Reaches, StopsBy, Runs, stops, goes, backs, Ends}
 use Rattle.g4_parse.specs.Parsing.{IsParse, IsParseFault}
 use Rattle.g4_parse.specs.Standing.{StandsFor, IsFitBy, IsFaultBy, IsTurnBy, IsUnderway, HasEnded, grown}
-use Rattle.g4_parse.specs.Teaching.{HadMemory, HasKept, IsPassed, IsPassedAt, IsTaught}
+use Rattle.g4_parse.specs.Teaching.{HadMemory, HasKept, IsNoRefusal, IsPassed, IsPassedAt, IsTaught}
 use Rattle.g4_parse.proofs.Grown.{reverse_returns}
 use Rattle.g4_parse.proofs.OneTree.{HasOneTree, one_tree_on, ended_tree}
 use Rattle.g4_parse.proofs.Measure.{measure_at, falls}
@@ -136,7 +136,7 @@ module _ (p : Plan Tables) (plan : IsPlan p) where
   turn_fails word old now q after fault o turn = fault_onward word o.run fault o.onward (turn o.run o.stands)
 
   -- the run stops with a fault
-  stop_of : (word : List ℕ) (r : Run) (o : Option (State (List ℕ))) (fault : ParseFault) → HadMemory {X = ⊤} (Err fault)
+  stop_of : (word : List ℕ) (r : Run) (o : Option (State (List ℕ))) (fault : ParseFault) → IsNoRefusal fault
       → IsFaultBy p.net.net word o r fault → (e : Ending) × StopsBy p.net.net no_predicates word deepest o r e
   stop_of word r o (NoViable at) had h = (not_viable at, h)
   stop_of word r o (Mismatch at state) had h = (mismatch at state, h)
@@ -147,7 +147,7 @@ module _ (p : Plan Tables) (plan : IsPlan p) where
   -- and then all of the run is passed
   pub fails_taught : (word : List ℕ) (old mid new : Told) (q after : Parser) (fault : ParseFault) → Onward p word old mid q
       → ((r : Run) → StandsFor q r → IsTurnBy p.net.net word (state_at p.net.net r.state) r after (Err fault)) → HasKept mid new
-      → HadMemory {X = ⊤} (Err fault)
+      → IsNoRefusal fault
       → ((r : Run) → StandsFor q r → IsTaught p (IsPassedAt p.net word r) mid new) → IsTaught p (IsPassed p.net word) old new
   fails_taught word old mid new q after fault o turn kept had taught =
       let stop = stop_of word o.run (state_at p.net.net o.run.state) fault had (turn o.run o.stands) in
@@ -207,3 +207,22 @@ module _ (p : Plan Tables) (plan : IsPlan p) where
   ends_taught word old now q o ended =
       let e = ended_tree_of word old now q o ended in
       taught_ended p plan word o.run old now o.reaches o.taught (end_decides o.run.state e.at_end.0 e.at_end.1) (parsed e.tree) e.stop
+
+-- an answer that is this fault
+pub parse_fails : (net : ParserNetwork) (word : List ℕ) (x : Result (List Item) ParseFault) (fault : ParseFault)
+    → IsErrAnd x (λ e. e ≡ fault) → IsParseFault net word fault → IsParse net word x
+parse_fails net word (Ok xs) fault is h = absurd is
+parse_fails net word (Err e) fault is h = subst (IsParseFault net word) (sym is) h
+
+-- and where memory was not refused
+pub had_fault : {X : Type 0} (x : Result X ParseFault) (fault : ParseFault) → IsErrAnd x (λ e. e ≡ fault) → HadMemory x
+    → IsNoRefusal fault
+had_fault (Ok x) fault is had = absurd is
+had_fault (Err e) fault is had = subst IsNoRefusal is had
+
+-- a turn in the network of the plan
+pub own_turn : (net own : ParserNetwork) (word : List ℕ) (q after : Parser) (x : Result ⊤ ParseFault) → net ≡ own
+    → ((r : Run) → StandsFor q r → IsTurnBy net word (state_at net r.state) r after x)
+    → (r : Run) → StandsFor q r → IsTurnBy own word (state_at own r.state) r after x
+own_turn net own word q after x same turn =
+    subst (λ (n : ParserNetwork). (r : Run) → StandsFor q r → IsTurnBy n word (state_at n r.state) r after x) same turn

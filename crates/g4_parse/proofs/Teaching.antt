@@ -14,6 +14,8 @@ use Rattle.g4_run.specs.Running.{Comes, comes_on, comes_there, Ending, Goes, Rea
 use Rattle.g4_store.specs.declared.automaton.Fact.{Fact}
 use Rattle.g4_store.specs.declared.automaton.Plan.{Plan}
 use Rattle.g4_store.specs.Numbers.{Among}
+use Rattle.g4_parse.specs.Standing.{StandsFor}
+use Rattle.g4_parse.specs.declared.parser.Parser.{Parser}
 use Rattle.g4_parse.specs.Teaching.{HasKept, HasNoRoom, IsPassed, IsPassedAt, IsTaught}
 
 -- what is kept in two steps
@@ -54,10 +56,23 @@ module _ (p : Plan Tables) (plan : IsPlan p) (word : List ℕ) where
         passed.passed asked.passed).1 in
         asked.whole room f (subst (λ (fs : List (Fact (List Config))). Among f fs) same passed.among);
     full = λ room none.
-        let no = asked.full room none in
-        record { rows = no.rows; all = no.all; differ = no.differ; are_known = no.are_known };
+        let lack = asked.full room none in
+        record { rows = lack.rows; all = lack.all; differ = lack.differ; are_known = lack.are_known };
     stays_full = asked.stays_full;
   }
+
+  -- the same where the parser is
+  pub asked_at : (r : Run) (q : Parser) (level : ℕ) (v : Verdict) (old new : Told) → StandsFor q r → level ≡ level_of r.frames
+      → Keeps p q.state level (drop q.place word) old new → Asked p q.state level (drop q.place word) v old new
+      → IsTaught p (IsPassedAt p.net word r) old new
+  asked_at r q level v old new h newest keeps asked =
+      asked_taught r v old new
+      (subst (λ (d : ℕ). Keeps p d (level_of r.frames) (drop r.place word) old new) h.state
+      (subst (λ (l : ℕ). Keeps p q.state l (drop r.place word) old new) newest
+      (subst (λ (k : ℕ). Keeps p q.state level (drop k word) old new) h.place keeps)))
+      (subst (λ (d : ℕ). Asked p d (level_of r.frames) (drop r.place word) v old new) h.state
+      (subst (λ (l : ℕ). Asked p q.state l (drop r.place word) v old new) newest
+      (subst (λ (k : ℕ). Asked p q.state level (drop k word) v old new) h.place asked)))
 
   -- at a moment without a decision nothing is passed
   none_passed : (r : Run) (f : Fact (List Config)) → (IsDecision p.net.net r.state → ⊥) → IsPassedAt p.net word r f → ⊥
@@ -84,8 +99,8 @@ module _ (p : Plan Tables) (plan : IsPlan p) (word : List ℕ) where
   -- a way from a moment is none, or begins with a step
   begins : (r s : Run) → Comes p.net.net no_predicates word deepest r s
       → (r ≡ s) ⊎ ((u : Run) × Goes p.net.net no_predicates word deepest r u × Comes p.net.net no_predicates word deepest u s)
-  begins r _ (comes_there r) = inl refl
-  begins r s (comes_on r t s way step) = elim (begins r t way) [
+  begins r _ (comes_there _) = inl refl
+  begins r s (comes_on _ t _ way step) = elim (begins r t way) [
     | inl same ↦ inr (s, subst (λ (q : Run). Goes p.net.net no_predicates word deepest q s) (sym same) step, comes_there s)
     | inr (u, first, more) ↦ inr (u, first, comes_on u t s more step)
   ]
@@ -96,11 +111,11 @@ module _ (p : Plan Tables) (plan : IsPlan p) (word : List ℕ) where
   room_before false new stays room = refl
 
   no_room_later : (mid new : Told) → HasKept mid new → HasNoRoom p.rows mid.0.known → HasNoRoom p.rows new.0.known
-  no_room_later mid new kept no = record {
-    rows = no.rows;
-    all = no.all;
-    differ = no.differ;
-    are_known = λ t y at. kept.known t y (no.are_known t y at);
+  no_room_later mid new kept none = record {
+    rows = none.rows;
+    all = none.all;
+    differ = none.differ;
+    are_known = λ t y at. kept.known t y (none.are_known t y at);
   }
 
   module _ (r : Run) (reaches : Reaches p.net.net word r) (old mid new : Told) (before : IsTaughtTo p word r old mid)

@@ -16,6 +16,7 @@ use Rattle.g4_net.specs.Proper.{IsProper}
 use Rattle.g4_guards.proofs.Choosing.{choice_over}
 use Rattle.g4_guards.specs.Choosing.{Chooses}
 use Rattle.g4_guards.specs.Levels.{AllowedAt}
+use Rattle.g4_decide.specs.Deciding as decided
 use Rattle.g4_decide.specs.Deciding.{ChoosesAt, IsFault}
 use Rattle.g4_decide.specs.declared.fault.DecideFault.{DecideFault}
 use Rattle.g4_decide.specs.declared.fault.DecideFault.TheVariants as deciding
@@ -29,6 +30,7 @@ use Rattle.g4_parse.specs.declared.parser.ParseFault.{ParseFault}
 use Rattle.g4_run.proofs.Levelled.{allowed_same}
 use Rattle.g4_run.proofs.Moments.{place_child, state_child}
 use Rattle.g4_run.specs.Running.{Frame, Run, not_viable, no_predicates, Predicts, ClosesBy, with_child, with_token, with_begun, begun, wrapped, node_of, stack_of, AllowsAt, backs, level_of}
+use Rattle.g4_parse.specs.Teaching.{HadMemory, IsNoRefusal}
 use Rattle.g4_parse.specs.Standing.{StandsFor, IsFaultBy, IsTurnBy, IsDeciding, returns_of, opened_of, grown}
 use Rattle.g4_parse.proofs.Grown.{all_but_last, returns_child, opened_child, grown_close, returns_alt, opened_alt, grown_alt, returns_wrapped, opened_wrapped, grown_wrapped, reverse_returns}
 
@@ -197,3 +199,10 @@ pub moved_to : (p : Parser) (r s : Run) (t : ℕ) → r ≡ s → StandsFor p r 
 moved_to p r s t same h =
     let k : StandsFor p s = subst (StandsFor p) same h in
     record { state = refl; place = k.place; returns = k.returns; opened = k.opened; tree = k.tree }
+
+-- a fault of deciding that is no want of memory is one of parsing that is none
+pub had_decided : (x : Result ⊤ ParseFault) (fault : DecideFault) → IsErrAnd x (λ e. e ≡ of_decide fault) → HadMemory x
+    → decided.HadMemory (Err fault)
+had_decided (Ok done) fault is had = absurd is
+had_decided (Err e) (deciding.NoViable at) is had = tt
+had_decided (Err e) deciding.NoMemory is had = subst IsNoRefusal is had

@@ -48,11 +48,15 @@ pub record IsTaught (p : Plan Tables) (Passed : Fact (List Config) → Type 0) (
   pub full : old.1 ≡ false → new.1 ≡ true → HasNoRoom p.rows new.0.known
   pub stays_full : old.1 ≡ true → new.1 ≡ true
 
+-- the fault is not that memory was refused
+abbrev pub IsNoRefusal : ParseFault → Type 0
+IsNoRefusal (NoViable at) = Unit {0}
+IsNoRefusal (Mismatch at state) = Unit {0}
+IsNoRefusal (FailedPredicate at rule) = Unit {0}
+IsNoRefusal (TooDeep at) = Unit {0}
+IsNoRefusal NoMemory = ⊥
+
 -- the call did not want for memory
 abbrev pub HadMemory : {X : Type 0} → Result X ParseFault → Type 0
 HadMemory (Ok x) = Unit {0}
-HadMemory (Err (NoViable at)) = Unit {0}
-HadMemory (Err (Mismatch at state)) = Unit {0}
-HadMemory (Err (FailedPredicate at rule)) = Unit {0}
-HadMemory (Err (TooDeep at)) = Unit {0}
-HadMemory (Err NoMemory) = ⊥
+HadMemory (Err fault) = IsNoRefusal fault

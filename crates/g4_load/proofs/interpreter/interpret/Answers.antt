@@ -1,5 +1,7 @@
-use Rattle.std.proofs.Common.{ℕ, List, Ok, ap, ◌∙◌}
+use Rattle.std.proofs.Common.{ℕ, List, [], ◌∷◌, Ok, ap, ◌∙◌}
 use Rattle.std.proofs.lemmas.Result.{err_from_is_err_and}
+use Rattle.g4_derivation.proofs.Returning.{has_loops}
+use Rattle.g4_tokens.specs.Symbols.{eof}
 use Rattle.g4_load.specs.Building.{HasLexer, Lays, names_of}
 use Rattle.g4_load.specs.Stages.{goes_on}
 use Rattle.g4_load.specs.declared.interpreter.Interpreter.{Interpreter}
@@ -27,3 +29,14 @@ returns-clause-interpreting c =
     let named = c.in_ok-names.ensures ∙ ap names_of c.as_slice.ensures.rules in
     goes_on net (Ok (made c.in_ok-names.names)) c.in_ok-net.ensures.laid
     (goes_on lexer (Ok (made c.in_ok-names.names)) c.in_ok-lexer.ensures.lexer (ap (λ (names : List (List ℕ)). Ok (made names)) named))
+
+pub returns-clause-usable : goal.returns-clause-usable
+returns-clause-usable c =
+    let parsing = c.in_ok-net.ensures.parsing in
+    record {
+      rewritable = c.as_slice.ensures.rewritable;
+      parsing = parsing;
+      loops = has_loops (eof ∷ []) c.args.grammar.rules parsing.built.0 c.in_ok-net.net c.as_slice.ensures.rewritable parsing.built.1;
+      lexable = c.in_ok-lexer.ensures.lexable;
+      types = c.in_ok-lexer.ensures.types;
+    }

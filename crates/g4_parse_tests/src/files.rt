@@ -1,0 +1,240 @@
+// Files parsed by one pass of a store: their trees or faults, and what the store has learned in the end.
+ghost use Rattle.std.specs.Prelude.{◌≡◌, ◌≤◌, ◌<◌, ◌^◌, All, IfOk, length};
+ghost use Rattle.g4_classes.specs.Classes.{IsSymbol};
+ghost use Rattle.g4_learned.specs.Stored.{IsPlan};
+ghost use Rattle.g4_lexer.specs.Lexers.{HasTokenTypes};
+ghost use Rattle.g4_load.specs.Usable.{IsUsable};
+ghost use Rattle.g4_ordered.specs.Network.{IsLexable};
+ghost use Rattle.g4_tokens.specs.TokenList.{EndsInEnd, word_of};
+
+use g4_base::{Sequence, Text};
+use g4_grammar::StepRule;
+use g4_learned::{DecisionNet, Learnings, Opened, Pass, Store, open};
+use g4_lexer::{Lexer, tokens};
+use g4_load::{Interpreter, build_interpreter};
+use g4_parse::{ParseFault, parse};
+use g4_ports::{MemFile, MemShelf};
+use g4_store::steps::Steps;
+use g4_store::view::Home;
+use g4_tokens::Tokens;
+use std::alloc::{AllocError, Global};
+use std::fmt::Write;
+use std::marker::Brand;
+use std::sync::Wait;
+use std::sync::ledger::{Blank, Ledger};
+use std::test::Fail;
+
+/// The grammar as the file X.g4.
+fn shelf_of(alloc: Global, grammar: &str) -> Result<MemShelf, AllocError> {
+    let file = MemFile {
+        name: Text::copy_of(alloc, "X.g4")?,
+        bytes: Sequence::new(grammar.as_bytes().to_vec(alloc)?),
+    };
+    Ok(MemShelf::new(vec![in alloc; file]?, Vec::new(alloc)))
+}
+
+/// What parses with this grammar from the rule `s`.
+fn interpreter(alloc: Global, grammar: &str) -> Result<Interpreter, Fail>
+    ensures { IfOk result IsUsable }
+{
+    let mut shelf = shelf_of(alloc, grammar)?;
+    match build_interpreter(alloc, &mut shelf, "X.g4", "s") {
+        Ok(interpreter) => Ok(interpreter),
+        Err(_) => Err(Fail::from("no interpreter")),
+    }
+}
+
+/// The tokens of a text.
+fn tokens_of(alloc: Global, lexer: &Lexer, text: &str) -> Result<Tokens, Fail>
+    requires lexable { IsLexable lexer.now.net }
+    requires types { HasTokenTypes lexer.now }
+    ensures ends { IfOk result (λ found. EndsInEnd (word_of found.list)) }
+    ensures symbols { IfOk result (λ found. All IsSymbol (word_of found.list)) }
+    ensures few { IfOk result (λ found. length found.list < 2 ^ 32) }
+{
+    if text.len() > 1_000_000 {
+        return Err(Fail::from("a long text"));
+    }
+    let bytes = Sequence::new(text.as_bytes().to_vec(alloc)?);
+    match tokens(alloc, lexer, bytes) {
+        Ok(tokens) => Ok(tokens),
+        Err(_) => Err(Fail::from("no tokens")),
+    }
+}
+
+/// Adds a fault.
+fn push_fault(shown: &mut String, fault: ParseFault) -> Result<(), Fail> {
+    match fault {
+        ParseFault::NoViable { at } => write!(shown, "no viable alternative at {at}")?,
+        ParseFault::Mismatch { at, state } => write!(shown, "mismatch at {at} in {state}")?,
+        ParseFault::FailedPredicate { at, rule } => write!(shown, "predicate at {at} in {rule}")?,
+        ParseFault::TooDeep { at } => write!(shown, "too deep at {at}")?,
+        ParseFault::NoMemory => return Err(Fail::from("no memory")),
+    }
+    Ok(())
+}
+
+/// Parses a text, and adds its tree or its fault.
+fn push_parsed<B: Home<DecisionNet>, R: Wait, L: Ledger>(
+    shown: &mut String,
+    rt: &R,
+    alloc: Global,
+    lexer: &Lexer,
+    rules: &[StepRule],
+    store: &Store<B>,
+    pass: &mut Pass<B>,
+    text: &str,
+    steps: &mut Steps<L>,
+) -> Result<(), Fail>
+    requires lexable { IsLexable lexer.now.net }
+    requires types { HasTokenTypes lexer.now }
+{
+    let tokens = tokens_of(alloc, lexer, text)?;
+    match parse(rt, alloc, store, pass, tokens.list.as_slice(), steps) {
+        Ok(tree) => {
+            let mut out = Vec::new(alloc);
+            tree.print(&mut out, rules, &tokens)?;
+            shown.push_str(str::from_utf8(&out).unwrap_or("no text"))?;
+        }
+        Err(fault) => push_fault(shown, fault)?,
+    }
+    shown.push_str("; ")?;
+    Ok(())
+}
+
+/// Adds how many rows there are, and how many cells are filled.
+fn push_counts(shown: &mut String, listing: &Learnings) -> Result<(), Fail> {
+    let rows = listing.rows.len();
+    let cells = listing.plan.rows * listing.plan.columns;
+    let filled = listing
+        .words
+        .iter()
+        .skip(listing.plan.rows)
+        .take(cells)
+        .filter(|word| **word != 0)
+        .count();
+    write!(shown, "{rows} rows {filled} edges")?;
+    Ok(())
+}
+
+/// Parses these texts, with a `|` between them, and says what became of each, whether the pass was full, and what was learned.
+fn parse_all<B: Home<DecisionNet>, R: Wait, L: Ledger>(
+    rt: &R,
+    alloc: Global,
+    opened: Opened,
+    lexer: &Lexer,
+    rules: &[StepRule],
+    texts: &str,
+    blank: Blank,
+) -> Result<String, Fail>
+    requires ledger { (blank.name ≡ L.name) × (blank.parts ≡ L.parts) × (0 < blank.parts) }
+    requires plan { IsPlan opened.plan }
+    requires names { (opened.table.shared.table_id ≡ B.table) × (opened.plan ≡ B.plan) }
+    requires lexable { IsLexable lexer.now.net }
+    requires types { HasTokenTypes lexer.now }
+{
+    let mut steps = Steps::<L>::open(blank);
+    let (store, mut pass) = Store::<B>::named(opened);
+    let mut shown = String::new(alloc);
+    for text in texts.split('|') {
+        push_parsed(
+            &mut shown, rt, alloc, lexer, rules, &store, &mut pass, text, &mut steps,
+        )?;
+    }
+    if pass.was_full() {
+        shown.push_str("full, ")?;
+    }
+    let Ok(listing) = store.close(alloc, pass) else {
+        return Err(Fail::from("no memory"));
+    };
+    push_counts(&mut shown, &listing)?;
+    Ok(shown)
+}
+
+/// The same of a grammar, with room for so many rows.
+fn parsed_with<R: Wait>(
+    rt: &R,
+    alloc: Global,
+    grammar: &str,
+    rows: usize,
+    texts: &str,
+) -> Result<String, Fail>
+    requires { (0 < rows) × (rows ≤ 65536) }
+{
+    let interpreter = interpreter(alloc, grammar)?;
+    let Interpreter {
+        rules,
+        lexer,
+        net,
+        ..
+    } = interpreter;
+    let Ok(opened) = open(alloc, net, rows) else {
+        return Err(Fail::from("no store"));
+    };
+    parse_all::<Brand, R, Brand>(
+        rt,
+        alloc,
+        opened,
+        &lexer,
+        rules.as_slice(),
+        texts,
+        Blank::new(1),
+    )
+}
+
+/// Grammars, numbers of rows and texts, and what is shown, worked out by hand.
+const TABLE: &str = "grammar X; s : 'a'* ; # 1024 #  => s; 2 rows 3 edges
+grammar X; s : 'a'* ; # 1024 # aa => (s a a); 2 rows 4 edges
+grammar X; s : 'a'* ; # 1024 # |aa|aa|a => s; (s a a); (s a a); (s a); 2 rows 4 edges
+grammar X; s : 'a'* ; # 1 #  => s; full, 1 rows 1 edges
+grammar X; s : 'a'* ; # 1 # aa| => (s a a); s; full, 1 rows 2 edges
+grammar X; s : 'a' 'b' 'c' | 'a' 'b' 'd' ; # 1024 # abd|aba|abc => (s a b d); no viable alternative at 2; (s a b c); 4 rows 7 edges
+grammar X; s : 'a' 'b' 'c' | 'a' 'b' 'd' ; # 2 # abd|aba|abc => (s a b d); no viable alternative at 2; (s a b c); full, 2 rows 2 edges
+grammar X; s : e ; e : e '*' e | e '+' e | 'a' ; # 1024 # a+a*a|a*a+a => (s (e (e a) + (e (e a) * (e a)))); (s (e (e (e a) * (e a)) + (e a))); 4 rows 9 edges";
+
+/// Adds a row of which something else is shown.
+fn push_other<R: Wait>(rt: &R, alloc: Global, all: &mut String, row: &str) -> Result<(), Fail> {
+    let (asked, wanted) = row.split_once(" => ").unwrap_or((row, ""));
+    let (front, texts) = asked.rsplit_once(" # ").unwrap_or((asked, ""));
+    let (grammar, number) = front.rsplit_once(" # ").unwrap_or((front, ""));
+    let rows = number.parse::<usize>().unwrap_or(1);
+    if rows == 0 || rows > 65_536 {
+        return Err(Fail::from("a number of rows"));
+    }
+    let shown = parsed_with(rt, alloc, grammar, rows, texts)?;
+    if shown.as_str() != wanted {
+        write!(all, "\n{row}\n  is {shown}")?;
+    }
+    Ok(())
+}
+
+#[test]
+fn trees_and_what_is_learned(rt: HostRuntime) -> Result<(), Fail> {
+    let mut wrong = String::new(rt.alloc());
+    for row in TABLE.lines() {
+        push_other(&rt, rt.alloc(), &mut wrong, row)?;
+    }
+    assert_eq!(rt; wrong.as_str(), "");
+    Ok(())
+}
+
+#[test]
+fn a_large_text(rt: HostRuntime) -> Result<(), Fail> {
+    let mut text = String::new(rt.alloc());
+    let mut wanted = String::new(rt.alloc());
+    wanted.push_str("(s")?;
+    for _ in 0..100_000 {
+        text.push_str("ab")?;
+        wanted.push_str(" a b")?;
+    }
+    wanted.push_str("); 2 rows 5 edges")?;
+    let found = parsed_with(
+        &rt,
+        rt.alloc(),
+        "grammar X; s : ('a' | 'b')* ;",
+        1_024,
+        text.as_str(),
+    )?;
+    assert_eq!(rt; found.as_str(), wanted.as_str());
+    Ok(())
+}
