@@ -189,7 +189,7 @@ grammar X; s : 'a'* ; # 1024 # |aa|aa|a => s; (s a a); (s a a); (s a); 2 rows 4 
 grammar X; s : 'a'* ; # 1 #  => s; full, 1 rows 1 edges
 grammar X; s : 'a'* ; # 1 # aa| => (s a a); s; full, 1 rows 2 edges
 grammar X; s : 'a' 'b' 'c' | 'a' 'b' 'd' ; # 1024 # abd|aba|abc => (s a b d); no viable alternative at 2; (s a b c); 4 rows 7 edges
-grammar X; s : 'a' 'b' 'c' | 'a' 'b' 'd' ; # 2 # abd|aba|abc => (s a b d); no viable alternative at 2; (s a b c); full, 2 rows 2 edges
+grammar X; s : 'a' 'b' 'c' | 'a' 'b' 'd' ; # 2 # abd|aba|abc => (s a b d); no viable alternative at 2; (s a b c); full, 2 rows 1 edges
 grammar X; s : e ; e : e '*' e | e '+' e | 'a' ; # 1024 # a+a*a|a*a+a => (s (e (e a) + (e (e a) * (e a)))); (s (e (e (e a) * (e a)) + (e a))); 4 rows 9 edges";
 
 /// Adds a row of which something else is shown.
