@@ -105,7 +105,7 @@ fn push_parsed<B: Home<DecisionNet>, R: Wait, L: Ledger>(
 /// Adds how many rows there are, and how many cells are filled.
 fn push_counts(shown: &mut String, listing: &Learnings) -> Result<(), Fail> {
     let rows = listing.rows.len();
-    let cells = listing.plan.rows * listing.plan.columns;
+    let cells = listing.plan.rows.saturating_mul(listing.plan.columns);
     let filled = listing
         .words
         .iter()
