@@ -8,7 +8,7 @@ ghost use Rattle.g4_ordered.specs.Network.{IsLexable};
 ghost use Rattle.g4_tokens.specs.TokenList.{EndsInEnd, word_of};
 
 use g4_base::{Sequence, Text};
-use g4_grammar::StepRule;
+use g4_grammar::ParserRules;
 use g4_learned::{DecisionNet, Learnings, Opened, Pass, Store, open};
 use g4_lexer::{Lexer, tokens};
 use g4_load::{Interpreter, build_interpreter};
@@ -80,7 +80,7 @@ fn push_parsed<B: Home<DecisionNet>, R: Wait, L: Ledger>(
     rt: &R,
     alloc: Global,
     lexer: &Lexer,
-    rules: &[StepRule],
+    rules: &ParserRules,
     store: &Store<B>,
     pass: &mut Pass<B>,
     text: &str,
@@ -93,7 +93,7 @@ fn push_parsed<B: Home<DecisionNet>, R: Wait, L: Ledger>(
     match parse(rt, alloc, store, pass, tokens.list.as_slice(), steps) {
         Ok(tree) => {
             let mut out = Vec::new(alloc);
-            tree.print(&mut out, rules, &tokens)?;
+            tree.print(&mut out, rules.as_slice(), &tokens)?;
             shown.push_str(str::from_utf8(&out).unwrap_or("no text"))?;
         }
         Err(fault) => push_fault(shown, fault)?,
@@ -123,8 +123,8 @@ fn parse_all<B: Home<DecisionNet>, R: Wait, L: Ledger>(
     alloc: Global,
     opened: Opened,
     lexer: &Lexer,
-    rules: &[StepRule],
-    texts: &str,
+    rules: &ParserRules,
+    texts: &Text,
     blank: Blank,
 ) -> Result<String, Fail>
     requires ledger { (blank.name ≡ L.name) × (blank.parts ≡ L.parts) × (0 < blank.parts) }
@@ -136,7 +136,7 @@ fn parse_all<B: Home<DecisionNet>, R: Wait, L: Ledger>(
     let mut steps = Steps::<L>::open(blank);
     let (store, mut pass) = Store::<B>::named(opened);
     let mut shown = String::new(alloc);
-    for text in texts.split('|') {
+    for text in texts.as_str().split('|') {
         push_parsed(
             &mut shown, rt, alloc, lexer, rules, &store, &mut pass, text, &mut steps,
         )?;
@@ -168,18 +168,11 @@ fn parsed_with<R: Wait>(
         net,
         ..
     } = interpreter;
+    let texts = Text::copy_of(alloc, texts)?;
     let Ok(opened) = open(alloc, net, rows) else {
         return Err(Fail::from("no store"));
     };
-    parse_all::<Brand, R, Brand>(
-        rt,
-        alloc,
-        opened,
-        &lexer,
-        rules.as_slice(),
-        texts,
-        Blank::new(1),
-    )
+    parse_all::<Brand, R, Brand>(rt, alloc, opened, &lexer, &rules, &texts, Blank::new(1))
 }
 
 /// Grammars, numbers of rows and texts, and what is shown, worked out by hand.
