@@ -68,7 +68,7 @@ setting_forms setting = cond (bytes_eq setting.name.text (codes "tokenVocab")) (
 abbrev pub prequel_forms : Prequel → List Form
 prequel_forms (Options settings) = flat_map setting_forms settings
 prequel_forms (Import place names) = one_form place (codes "import")
-prequel_forms (Tokens place names) = one_form place (codes "tokens")
+prequel_forms (Tokens place names) = []
 prequel_forms (Channels place names) = []
 
 -- the first word of a grammar of rules of one kind

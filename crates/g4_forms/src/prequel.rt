@@ -47,8 +47,7 @@ fn check_prequel(alloc: Global, prequel: &Prequel) -> Result<(), FormFault>
     match prequel {
         Prequel::Options(settings) => check_settings(alloc, settings.as_slice()),
         Prequel::Import(place, _) => refuse(alloc, *place, "import"),
-        Prequel::Tokens(place, _) => refuse(alloc, *place, "tokens"),
-        Prequel::Channels(_, _) => Ok(()),
+        Prequel::Tokens(_, _) | Prequel::Channels(_, _) => Ok(()),
     }
 }
 

@@ -3,7 +3,6 @@ ghost use Rattle.std.specs.Prelude.{◌≡◌, ◌≤◌, ◌++◌, All, IfOk, [
 ghost use Rattle.g4_tokens.specs.declared.symbol.TheConstants.{MOST_TYPES};
 ghost use Rattle.g4_source.specs.Blocks.{LexerRulesAreFull, RulesAreFull};
 ghost use Rattle.g4_source.specs.Rules.{lexer_rules};
-ghost use Rattle.g4_vocab.specs.Numbering.{literals_of, names_of, types_of};
 ghost use Rattle.g4_lexer_rules.specs.NetworkRules.{all_rules};
 ghost use Rattle.g4_grammar.specs.Written.{RulesAreDefined, RulesCanRun};
 ghost use Rattle.g4_lexer_rules.specs.Rules.{IsLexerRulesOf};
@@ -64,16 +63,14 @@ fn types_of(
     Ok(Sequence::new(types))
 }
 
-/// The rules of the lexer of these rules, of whose token types these have names and literals.
+/// The rules of the lexer of these rules, where token types have these names, and these literals of their own.
 fn gathered(
     alloc: Global,
     rules: Sequence<Rule>,
     names: &[TokenName],
     literals: Sequence<TokenLiteral>,
 ) -> Result<LexerRules, AllocError>
-    requires names { names.now ≡ names_of (types_of [] rules) }
-    requires literals { literals ≡ literals_of (types_of [] rules) }
-    ensures { IfOk result (IsLexerRulesOf rules) }
+    ensures { IfOk result (IsLexerRulesOf names.now literals rules) }
 {
     let rules = lexer_rules(alloc, rules.into_vec())?;
     let symbols = symbols_of(alloc, names)?;
@@ -86,8 +83,8 @@ fn gathered(
     })
 }
 
-/// The rules of the lexer of a grammar's rules, of whose token types these have names and literals: first the rules of the literals
-/// that have tokens of their own, by type, and then the lexer rules of all modes in order.
+/// The rules of the lexer of a grammar's rules, where token types have these names, and these literals of their own: first the rules of
+/// the literals in order, and then the lexer rules of all modes in order.
 ///
 /// # Errors
 /// No memory.
@@ -97,9 +94,7 @@ fn lexer_rules_of(
     names: &[TokenName],
     literals: Sequence<TokenLiteral>,
 ) -> Result<LexerRules, AllocError>
-    requires names { names.now ≡ names_of (types_of [] rules) }
-    requires literals { literals ≡ literals_of (types_of [] rules) }
-    ensures rules { IfOk result (IsLexerRulesOf rules) }
+    ensures rules { IfOk result (IsLexerRulesOf names.now literals rules) }
     ensures each { IfOk result (λ made. length made.types ≡ length (all_rules made.literals made.rules)) }
     ensures low { All (λ name. name.symbol ≤ MOST_TYPES) names.now → All (λ literal. literal.symbol ≤ MOST_TYPES) literals
         → IfOk result (λ made. All (λ type. type ≤ MOST_TYPES) made.types) }
@@ -109,8 +104,8 @@ fn lexer_rules_of(
     Ok(made)
 }
 
-/// The rules of the lexer of a grammar without fault, of whose token types these have names and literals, and what their commands
-/// name.
+/// The rules of the lexer of a grammar without fault, where token types have these names, and these literals of their own; and what the
+/// commands name.
 ///
 /// # Errors
 /// No memory.
@@ -120,14 +115,12 @@ pub fn checked_lexer_of(
     names: Sequence<TokenName>,
     literals: Sequence<TokenLiteral>,
 ) -> Result<CheckedLexer, AllocError>
-    requires names { names ≡ names_of (types_of [] source.rules) }
-    requires literals { literals ≡ literals_of (types_of [] source.rules) }
     requires low_names { All (λ name. name.symbol ≤ MOST_TYPES) names }
     requires low_literals { All (λ literal. literal.symbol ≤ MOST_TYPES) literals }
     requires full { RulesAreFull source.rules }
     requires defined { RulesAreDefined source.rules }
     requires run { RulesCanRun source.rules }
-    ensures rules { IfOk result (λ made. IsLexerRulesOf source.rules made.0) }
+    ensures rules { IfOk result (λ made. IsLexerRulesOf names literals source.rules made.0) }
     ensures tables { IfOk result (λ made. made.1 ≡ tables_of source names) }
 {
     let tables = tables_of(alloc, &source, names)?;

@@ -55,7 +55,7 @@ fn prepare(alloc: Global, source: Source) -> Result<Prepared, Fail>
     requires { HaveAlternatives source }
     ensures { IfOk result (λ made. IsLexable made.lexer.net) }
 {
-    let Ok(vocabulary) = number(alloc, source.rules.as_slice()) else {
+    let Ok(vocabulary) = number(alloc, &source) else {
         return Err(Fail::from("a limit"));
     };
     let Ok(()) = check(alloc, &source) else {

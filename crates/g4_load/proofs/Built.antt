@@ -10,7 +10,7 @@ use Rattle.g4_forms.specs.declared.fault.FormFault.{FormFault}
 use Rattle.g4_vocab.specs.Names.{HasOwnNames}
 use Rattle.g4_vocab.specs.declared.twice.NameFault.{NameFault}
 use Rattle.g4_vocab.specs.Answers.{CausesNumberFault, FitsLimits, IsVocabularyOf}
-use Rattle.g4_vocab.specs.Numbering.{token_types, types_of}
+use Rattle.g4_vocab.specs.Numbering.{literals_of, names_of, token_types, types_of}
 use Rattle.g4_vocab.specs.Types.{greatest_type}
 use Rattle.g4_vocab.specs.Vocabularies.{types_in}
 use Rattle.g4_vocab.specs.declared.fault.NumberFault.{NumberFault}
@@ -21,6 +21,8 @@ use Rattle.g4_checks.specs.declared.fault.CheckFault.{CheckFault}
 use Rattle.g4_source.specs.declared.refused.Refused.{Refused}
 use Rattle.g4_grammar.specs.StepRules.{StepRule}
 use Rattle.g4_grammar.specs.declared.step.Numbering.{Numbering}
+use Rattle.g4_grammar.specs.declared.token_types.TokenLiteral.{TokenLiteral}
+use Rattle.g4_grammar.specs.declared.token_types.TokenName.{TokenName}
 use Rattle.g4_grammar.specs.declared.token_types.TokenTypes.{TokenTypes}
 use Rattle.g4_leftrec.specs.Rewriting.{rewritten, numberings}
 use Rattle.g4_load.specs.Usable.{IsParsing}
@@ -108,8 +110,10 @@ parsing start rules made numbers net laid numbered built =
     }
 
 -- the rules of a source's lexer
-lexer_is : (source : Source) (made : LexerRules) → IsLexerRulesOf source.rules made → made ≡ rules_of_lexer source
-lexer_is source made are = rw (are.literals, are.rules, are.types) refl
+lexer_is : (source : Source) (names : List TokenName) (literals : List TokenLiteral) (made : LexerRules)
+    → names ≡ names_of (types_of [] source) → literals ≡ literals_of (types_of [] source)
+    → IsLexerRulesOf names literals source.rules made → made ≡ rules_of_lexer source
+lexer_is source names literals made named there are = rw (are.literals_are, are.rules, are.types, named, there) refl
 
 -- a stage that stops, stops what follows it
 pub stage_stops : {X Y : Type 0} (Stage : Result X GrammarFault → Type 0) (Second : X → Result Y GrammarFault → Type 0)
@@ -134,10 +138,10 @@ module _ (bytes : List ℕ) where
 
     -- what follows the forms, and the names
     abbrev WithForms : Result Loaded GrammarFault → Type 0
-    WithForms = Then (Gives (HasOwnNames source.rules) of_name) (λ _. Then (Gives (FitsLimits source.rules) of_number) (λ _. Checks source))
+    WithForms = Then (Gives (HasOwnNames source.rules) of_name) (λ _. Then (Gives (FitsLimits source) of_number) (λ _. Checks source))
 
     abbrev WithNames : Result Loaded GrammarFault → Type 0
-    WithNames = Then (Gives (FitsLimits source.rules) of_number) (λ _. Checks source)
+    WithNames = Then (Gives (FitsLimits source) of_number) (λ _. Checks source)
 
     -- a grammar with a form that is not run yet
     pub form_exit : (e : FormFault) → AreRun {A = ⊤} (forms_not_run source) (Err e) → IsErrorOf (IsGrammarIn bytes) (of_form e)
@@ -158,15 +162,15 @@ module _ (bytes : List ℕ) where
         after_names r h = after_forms r (goes_on tt r named h)
 
         -- a grammar that is not numbered
-        pub number_exit : (e : NumberFault) → CausesNumberFault source.rules e → IsErrorOf (IsGrammarIn bytes) (of_number e)
+        pub number_exit : (e : NumberFault) → CausesNumberFault source e → IsErrorOf (IsGrammarIn bytes) (of_number e)
         number_exit e is = error_within WithNames (IsGrammarIn bytes) after_names (of_number e)
-            (stage_exit (FitsLimits source.rules) of_number (λ _. Checks source) e is)
+            (stage_exit (FitsLimits source) of_number (λ _. Checks source) e is)
 
-        module _ (vocabulary : Vocabulary) (numbered : IsVocabularyOf source.rules vocabulary) where
+        module _ (vocabulary : Vocabulary) (numbered : IsVocabularyOf source vocabulary) where
           after_numbers : (r : Result Loaded GrammarFault) → Checks source r → IsGrammarIn bytes r
           after_numbers r h = after_names r (goes_on tt r (numbered.few_rules, few) h)
             where
-              few : greatest_type (types_of [] source.rules) ≤ MOST_TYPES
+              few : greatest_type (types_of [] source) ≤ MOST_TYPES
               few = subst (λ (types : List Entry). greatest_type types ≤ MOST_TYPES) numbered.types numbered.few_types
 
           -- a grammar that cannot be run
@@ -175,15 +179,21 @@ module _ (bytes : List ℕ) where
               (stage_exit (IsChecked source) of_check (λ _ result. result ≡ Ok (loaded_of source)) e is)
 
           -- a grammar without fault
-          pub checked : IsChecked source (Ok tt) → (rules : List StepRule) → rules ≡ resolved source.rules → (types : TokenTypes)
+          pub checked : IsChecked source (Ok tt) → (rules : List StepRule) → rules ≡ resolved source → (types : TokenTypes)
               → types ≡ token_types (types_in vocabulary) → (tables : CommandTables) → tables ≡ tables_of source types.names
-              → (lexer : LexerRules) → IsLexerRulesOf source.rules lexer →
+              → (lexer : LexerRules) → IsLexerRulesOf types.names types.literals source.rules lexer →
               IsGrammarIn bytes (Ok (record { rules = rules; shown = types.shown; lexer = (lexer, tables) }))
           checked is rules steps types given tables named lexer are =
-              let all : types ≡ token_types (types_of [] source.rules) = given ∙ ap token_types numbered.types in
+              let all : types ≡ token_types (types_of [] source) = given ∙ ap token_types numbered.types in
               after_numbers (Ok (record { rules = rules; shown = types.shown; lexer = (lexer, tables) }))
               (goes_on tt (Ok (record { rules = rules; shown = types.shown; lexer = (lexer, tables) })) is
-              (rw (steps, lexer_is source lexer are, named, all) refl))
+              (rw (
+                steps,
+                lexer_is source types.names types.literals lexer (ap (λ (t : TokenTypes). t.names) all)
+                    (ap (λ (t : TokenTypes). t.literals) all) are,
+                named,
+                all,
+              ) refl))
 
 -- what a stage over the grammar of one file gives of a command line
 abbrev pub of_one : {X : Type 0} → List ℕ → Result X GrammarFault → Result X Stop

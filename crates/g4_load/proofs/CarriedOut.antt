@@ -42,17 +42,17 @@ use Rattle.g4_load.proofs.WrittenCommands.{of_all_rules, same_map}
 -- What is known of a grammar and its source: its commands are known.
 record IsOf (source : Source) (loaded : Loaded) : Type 0 where
   same : loaded ≡ loaded_of source
-  known : All (IsKnown source (names_of (types_of [] source.rules))) (commands_in source)
+  known : All (IsKnown source (names_of (types_of [] source))) (commands_in source)
 
 -- a source that is checked
 is_of : (source : Source) (loaded : Loaded) → Numbers source (Ok loaded) → IsOf source loaded
 is_of source loaded h =
     let forms = both_give (Gives (AreRun {A = ⊤} (forms_not_run source)) of_form)
-    (λ _. Then (Gives (HasOwnNames source.rules) of_name) (λ _. Then (Gives (FitsLimits source.rules) of_number) (λ _. Checks source)))
+    (λ _. Then (Gives (HasOwnNames source.rules) of_name) (λ _. Then (Gives (FitsLimits source) of_number) (λ _. Checks source)))
     loaded h in
     let names = both_give (Gives (HasOwnNames source.rules) of_name)
-    (λ _. Then (Gives (FitsLimits source.rules) of_number) (λ _. Checks source)) loaded forms.2 in
-    let numbers = both_give (Gives (FitsLimits source.rules) of_number) (λ _. Checks source) loaded names.2 in
+    (λ _. Then (Gives (FitsLimits source) of_number) (λ _. Checks source)) loaded forms.2 in
+    let numbers = both_give (Gives (FitsLimits source) of_number) (λ _. Checks source) loaded names.2 in
     let checks = both_give (Gives (IsChecked source) of_check) (λ _ result. result ≡ Ok (loaded_of source)) loaded numbers.2 in
     record {
       same = let ok : ◌≡◌ {A = Result Loaded GrammarFault} (Ok loaded) (Ok (loaded_of source)) = checks.2 in cc;
@@ -94,7 +94,7 @@ KnownAreKept = (source : Source) (types : List TokenName) (commands : List Comma
 module _ (source : Source) (loaded : Loaded) (is : IsOf source loaded) where
   -- the names of the types
   abbrev names : List TokenName
-  names = names_of (types_of [] source.rules)
+  names = names_of (types_of [] source)
 
   tables_are : loaded.lexer.1 ≡ tables_of source names
   tables_are = ap (λ (l : Loaded). l.lexer.1) is.same

@@ -48,20 +48,20 @@ use Rattle.g4_load.specs.Loading.{Fetches, absent, too_large, there, Checks, Num
 use Rattle.g4_load.proofs.OneStage.{IsSingle, IsSingleBeside, one_gift, one_then, one_of_file}
 
 -- the rules of a source are few enough, or not, in at most one way
-one_numbering : (rules : List Rule) → IsSingleBeside numbering.NoMemory (FitsLimits rules)
-one_numbering rules (Ok g) (Ok h) p q n m = refl
-one_numbering rules (Ok g) (Err numbering.Rules) p q n m = absurd (omega (arith, p.0, q))
-one_numbering rules (Ok g) (Err numbering.Types) p q n m = absurd (omega (arith, p.1, q.1))
-one_numbering rules (Ok g) (Err numbering.NoMemory) p q n m = absurd (m refl)
-one_numbering rules (Err numbering.Rules) (Ok h) p q n m = absurd (omega (arith, p, q.0))
-one_numbering rules (Err numbering.Rules) (Err numbering.Rules) p q n m = refl
-one_numbering rules (Err numbering.Rules) (Err numbering.Types) p q n m = absurd (omega (arith, p, q.0))
-one_numbering rules (Err numbering.Rules) (Err numbering.NoMemory) p q n m = absurd (m refl)
-one_numbering rules (Err numbering.Types) (Ok h) p q n m = absurd (omega (arith, p.1, q.1))
-one_numbering rules (Err numbering.Types) (Err numbering.Rules) p q n m = absurd (omega (arith, p.0, q))
-one_numbering rules (Err numbering.Types) (Err numbering.Types) p q n m = refl
-one_numbering rules (Err numbering.Types) (Err numbering.NoMemory) p q n m = absurd (m refl)
-one_numbering rules (Err numbering.NoMemory) b p q n m = absurd (n refl)
+one_numbering : (source : Source) → IsSingleBeside numbering.NoMemory (FitsLimits source)
+one_numbering source (Ok g) (Ok h) p q n m = refl
+one_numbering source (Ok g) (Err numbering.Rules) p q n m = absurd (omega (arith, p.0, q))
+one_numbering source (Ok g) (Err numbering.Types) p q n m = absurd (omega (arith, p.1, q.1))
+one_numbering source (Ok g) (Err numbering.NoMemory) p q n m = absurd (m refl)
+one_numbering source (Err numbering.Rules) (Ok h) p q n m = absurd (omega (arith, p, q.0))
+one_numbering source (Err numbering.Rules) (Err numbering.Rules) p q n m = refl
+one_numbering source (Err numbering.Rules) (Err numbering.Types) p q n m = absurd (omega (arith, p, q.0))
+one_numbering source (Err numbering.Rules) (Err numbering.NoMemory) p q n m = absurd (m refl)
+one_numbering source (Err numbering.Types) (Ok h) p q n m = absurd (omega (arith, p.1, q.1))
+one_numbering source (Err numbering.Types) (Err numbering.Rules) p q n m = absurd (omega (arith, p.0, q))
+one_numbering source (Err numbering.Types) (Err numbering.Types) p q n m = refl
+one_numbering source (Err numbering.Types) (Err numbering.NoMemory) p q n m = absurd (m refl)
+one_numbering source (Err numbering.NoMemory) b p q n m = absurd (n refl)
 
 -- what holds and fails is not both
 not_both : (b : Bool) → b ≡ true → b ≡ false → ⊥
@@ -148,12 +148,12 @@ one_checked source = one_then (Gives (IsChecked source) of_check) (λ _ result. 
 one_numbers : (source : Source) → IsSingle (Numbers source)
 one_numbers source =
     one_then (Gives (AreRun (forms_not_run source)) of_form)
-    (λ _. Then (Gives (HasOwnNames source.rules) of_name) (λ _. Then (Gives (FitsLimits source.rules) of_number) (λ _. Checks source)))
+    (λ _. Then (Gives (HasOwnNames source.rules) of_name) (λ _. Then (Gives (FitsLimits source) of_number) (λ _. Checks source)))
     (one_gift (AreRun (forms_not_run source)) of_form forming.NoMemory refl (one_answer (forms_not_run source)))
-    (λ _. one_then (Gives (HasOwnNames source.rules) of_name) (λ _. Then (Gives (FitsLimits source.rules) of_number) (λ _. Checks source))
+    (λ _. one_then (Gives (HasOwnNames source.rules) of_name) (λ _. Then (Gives (FitsLimits source) of_number) (λ _. Checks source))
     (one_gift (HasOwnNames source.rules) of_name naming.NoMemory refl (one_naming source.rules))
-    (λ _. one_then (Gives (FitsLimits source.rules) of_number) (λ _. Checks source)
-    (one_gift (FitsLimits source.rules) of_number numbering.NoMemory refl (one_numbering source.rules)) (λ _. one_checked source)))
+    (λ _. one_then (Gives (FitsLimits source) of_number) (λ _. Checks source)
+    (one_gift (FitsLimits source) of_number numbering.NoMemory refl (one_numbering source)) (λ _. one_checked source)))
 
 module _ (files : Files) (name : List ℕ) where
   -- a name has at most one file

@@ -4,17 +4,17 @@ use Rattle.std.specs.List.{cons_option, filter_map, list_any}
 use Rattle.std.specs.Option.{is_some}
 use Rattle.std.specs.Str.{bytes_eq}
 use Rattle.std.proofs.lemmas.List.Elements.{All-nil, All-cons, All-head, All-tail}
-use Rattle.g4_source.specs.Rules.{lexer_rules, parser_rules}
+use Rattle.g4_source.specs.Rules.{lexer_rules}
 use Rattle.g4_source.specs.declared.atom.TokenReference.{TokenReference}
 use Rattle.g4_source.specs.declared.atom.TokenReference.TheVariants as refs
-use Rattle.g4_source.specs.declared.rule.Rule.{Rule}
+use Rattle.g4_source.specs.declared.source.Source.{Source}
 use Rattle.g4_lexer_rules.specs.Known.{is_token_name}
-use Rattle.g4_vocab.specs.Numbering.{all_atoms, all_commanded, all_references, names_of, own_literal, rule_token, token_lexers, token_name, types_of}
+use Rattle.g4_vocab.specs.Numbering.{all_commanded, all_declared, all_named, names_of, own_literal, rule_token, token_lexers, token_name, types_of}
 use Rattle.g4_vocab.specs.Types.{Wanted, greatest_type, is_key, next_entry, number_of, with_key, with_keys}
 use Rattle.g4_vocab.specs.declared.types.Entry.{Entry}
 use Rattle.g4_vocab.specs.declared.types.Key.{Key}
 use Rattle.g4_vocab.specs.declared.types.Key.TheVariants as keys
-use Rattle.g4_vocab.proofs.Keys.{key_refl, number_of-push, with_four, with_key-new, with_key-old}
+use Rattle.g4_vocab.proofs.Keys.{key_refl, number_of-push, with_five, with_key-new, with_key-old}
 
 -- the key has a number in the table
 abbrev HasNumber : List Entry → Key → Type 0
@@ -89,18 +89,21 @@ have_symbols table (refs.Token name ∷ tokens) h =
     others false all = All-tail (IsNumbered table) (named name) (filter_map token_name tokens) all
 
 -- the tokens that commands of a grammar's lexer rules name have symbols
-pub commanded_have_symbols : (rules : List Rule) → All (HasSymbol (types_of [] rules)) (all_commanded (lexer_rules rules))
-commanded_have_symbols rules =
-    let tokens : List TokenReference = all_references (all_atoms (parser_rules rules)) in
-    let commanded : List TokenReference = all_commanded (lexer_rules rules) in
-    let literals : List Wanted = filter_map (own_literal (token_lexers rules)) tokens in
-    let lexers : List Wanted = map (rule_token (token_lexers rules)) (token_lexers rules) in
+pub commanded_have_symbols : (source : Source) → All (HasSymbol (types_of [] source)) (all_commanded (lexer_rules source.rules))
+commanded_have_symbols source =
+    let tokens : List TokenReference = all_named source.rules in
+    let commanded : List TokenReference = all_commanded (lexer_rules source.rules) in
+    let literals : List Wanted = filter_map (own_literal (token_lexers source.rules)) tokens in
+    let lexers : List Wanted = map (rule_token (token_lexers source.rules)) (token_lexers source.rules) in
+    let declared : List Wanted = filter_map token_name (all_declared source.prequels) in
     let names : List Wanted = filter_map token_name tokens in
     let more : List Wanted = filter_map token_name commanded in
-    let before : List Entry = with_keys (with_keys (with_keys [] literals) lexers) names in
-    let all : with_keys before more ≡ types_of [] rules =
-    with_four [] (with_keys [] literals) (with_keys (with_keys [] literals) lexers) before literals lexers names more refl refl refl in
-    have_symbols (types_of [] rules) commanded (subst (λ (t : List Entry). All (IsNumbered t) more) all (get_numbers before more))
+    let three : List Entry = with_keys (with_keys (with_keys [] literals) lexers) declared in
+    let all : with_keys (with_keys three names) more ≡ types_of [] source =
+    with_five [] (with_keys [] literals) (with_keys (with_keys [] literals) lexers) three (with_keys three names) literals lexers declared
+    names more refl refl refl refl in
+    have_symbols (types_of [] source) commanded
+    (subst (λ (t : List Entry). All (IsNumbered t) more) all (get_numbers (with_keys three names) more))
 
 -- a name has a type exactly where it has a number
 names_are : (types : List Entry) (name : List ℕ)

@@ -46,13 +46,13 @@ module _ (P : Command → Type 0) where
   -- so what holds of each command of a source holds of each of its lexer
   pub of_all_rules : (source : Source) → All P (all_commands source.rules)
       → All (All (All P))
-      (commands_of (all_rules (map rule_of_literal (literals_of (types_of [] source.rules))) (lexer_rules source.rules)))
+      (commands_of (all_rules (map rule_of_literal (literals_of (types_of [] source))) (lexer_rules source.rules)))
   of_all_rules source h =
-      let literals : List LexerRule = map rule_of_literal (literals_of (types_of [] source.rules)) in
+      let literals : List LexerRule = map rule_of_literal (literals_of (types_of [] source)) in
       subst (λ (cs : List (List (List Command))). All (All (All P)) cs)
       (sym (map-append (λ (rule : LexerRule). map (λ x. x.commands) rule.alternatives) literals (lexer_rules source.rules)))
       (All-append (All (All P)) (commands_of literals) (commands_of (lexer_rules source.rules))
-      (of_literals (literals_of (types_of [] source.rules))) (of_rules source.rules h))
+      (of_literals (literals_of (types_of [] source))) (of_rules source.rules h))
 
 -- two maps that are one where something holds, on a list of which it holds
 pub same_map : {X Y Z : Type 0} (p : Y → Z) (q : X → Y) (r : X → Z) (P : X → Type 0) → ((x : X) → P x → p (q x) ≡ r x) → (xs : List X)

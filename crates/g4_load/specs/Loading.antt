@@ -37,17 +37,17 @@ Reads files name fetched result = (fetched ≡ name ∷ [])
 -- the rules of the lexer of a source: of the literals that have tokens of their own, the lexer rules, and the type of each
 abbrev pub rules_of_lexer : Source → LexerRules
 rules_of_lexer source = record {
-  literals = map rule_of_literal (literals_of (types_of [] source.rules));
+  literals = map rule_of_literal (literals_of (types_of [] source));
   rules = lexer_rules source.rules;
-  types = types_of_rules (types_of [] source.rules) source.rules;
+  types = types_of_rules (names_of (types_of [] source)) (literals_of (types_of [] source)) source.rules;
 }
 
 -- a source without fault, as it is handed on
 abbrev pub loaded_of : Source → Loaded
 loaded_of source = record {
-  rules = resolved source.rules;
-  shown = map (λ entry. entry.shown) (types_of [] source.rules);
-  lexer = (rules_of_lexer source, tables_of source (names_of (types_of [] source.rules)));
+  rules = resolved source;
+  shown = map (λ entry. entry.shown) (types_of [] source);
+  lexer = (rules_of_lexer source, tables_of source (names_of (types_of [] source)));
 }
 
 -- the grammar, where its rules have no fault
@@ -58,7 +58,7 @@ Checks source = Then (Gives (IsChecked source) of_check) (λ _ result. result �
 abbrev pub Numbers : Source → Result Loaded GrammarFault → Type 0
 Numbers source =
     Then (Gives (AreRun {A = ⊤} (forms_not_run source)) of_form)
-    (λ _. Then (Gives (HasOwnNames source.rules) of_name) (λ _. Then (Gives (FitsLimits source.rules) of_number) (λ _. Checks source)))
+    (λ _. Then (Gives (HasOwnNames source.rules) of_name) (λ _. Then (Gives (FitsLimits source) of_number) (λ _. Checks source)))
 
 -- the grammar that the bytes are, or its first fault
 abbrev pub IsGrammarIn : List ℕ → Result Loaded GrammarFault → Type 0

@@ -53,9 +53,9 @@ fn read_and_check(alloc: Global, bytes: &[u8]) -> Result<Loaded, CheckError>
     let source = read_grammar(alloc, bytes)?;
     check_forms(alloc, &source)?;
     check_names(alloc, &source)?;
-    let vocabulary = number(alloc, source.rules.as_slice())?;
+    let vocabulary = number(alloc, &source)?;
     check(alloc, &source)?;
-    let rules = resolve(alloc, source.rules.as_slice(), &vocabulary)?;
+    let rules = resolve(alloc, &source, &vocabulary)?;
     let types = vocabulary.token_types(alloc)?;
     drop(vocabulary);
     let lexer = checked_lexer_of(alloc, source, types.names, types.literals)?;

@@ -13,6 +13,7 @@ use Rattle.g4_source.specs.declared.rule.ParserRule.{ParserRule}
 use Rattle.g4_source.specs.declared.rule.Rule.{Rule}
 use Rattle.g4_source.specs.declared.rule.Rule.TheVariants.{Parser}
 use Rattle.g4_source.specs.declared.rule.RuleAlternative.{RuleAlternative}
+use Rattle.g4_source.specs.declared.source.Source.{Source}
 use Rattle.g4_grammar.specs.declared.step.Step.{Step}
 use Rattle.g4_grammar.specs.declared.step.Step.TheVariants as steps
 use Rattle.g4_grammar.specs.StepRules.{StepRule}
@@ -52,9 +53,10 @@ resolved_rule names lexers types rule = record
 abbrev pub parser_names : List Rule → List (List ℕ)
 parser_names rules = map (λ rule. rule.name) (parser_rules rules)
 
--- the parser rules over steps, their tokens being the symbols that numbering gives from the empty table
-abbrev pub resolved : List Rule → List StepRule
-resolved rules = map (resolved_rule (parser_names rules) (token_lexers rules) (types_of [] rules)) (parser_rules rules)
+-- the parser rules of a grammar over steps, their tokens being the symbols that numbering gives from the empty table
+abbrev pub resolved : Source → List StepRule
+resolved source = map (resolved_rule (parser_names source.rules) (token_lexers source.rules) (types_of [] source))
+    (parser_rules source.rules)
 
 -- What is checked of rules before: each of their blocks has an alternative, each reference is to one of them, they can be run, and so
 -- far no parser rule tests anything.

@@ -9,7 +9,7 @@ use g4_base::{Sequence, Text};
 use g4_grammar::{ParserRules, Step, StepRule};
 use g4_names::{Places, places_of};
 use g4_source::{
-    Atom, AtomKind, Element, ParserRule, Rule, RuleAlternative, Substitution, parser_rules,
+    Atom, AtomKind, Element, ParserRule, RuleAlternative, Source, Substitution, parser_rules,
     substituted, views_of,
 };
 use g4_tokens::Symbols;
@@ -149,14 +149,14 @@ fn names_of(alloc: Global, rules: &[&ParserRule<Atom>]) -> Result<Vec<Text>, All
 /// No memory.
 pub fn resolve(
     alloc: Global,
-    rules: &[Rule],
+    source: &Source,
     vocabulary: &Vocabulary<'_>,
 ) -> Result<ParserRules, AllocError>
-    requires numbered { IsVocabularyOf rules.now vocabulary.now }
-    requires checked { CanBeResolved rules.now }
-    ensures { IfOk result (λ made. made ≡ resolved rules.now) }
+    requires numbered { IsVocabularyOf source.now vocabulary.now }
+    requires checked { CanBeResolved source.now.rules }
+    ensures { IfOk result (λ made. made ≡ resolved source.now) }
 {
-    let views = views_of(alloc, rules)?;
+    let views = views_of(alloc, source.rules.as_slice())?;
     let parsers = parser_rules(alloc, views.as_slice())?;
     let names = names_of(alloc, parsers.as_slice())?;
     let places = places_of(alloc, names.as_slice())?;

@@ -236,6 +236,13 @@ pub with_four : (start one two three : List Entry) (a b c d : List Wanted) → o
 with_four start one two three a b c d first second third =
     ap (λ (es : List Entry). with_keys es d) third ∙ (sym (with_keys-append two c d) ∙ with_three start one two a b (c ++ d) first second)
 
+-- five lists of keys
+pub with_five : (start one two three four : List Entry) (a b c d e : List Wanted) → one ≡ with_keys start a → two ≡ with_keys one b
+    → three ≡ with_keys two c → four ≡ with_keys three d → with_keys four e ≡ with_keys start (a ++ (b ++ (c ++ (d ++ e))))
+with_five start one two three four a b c d e first second third fourth =
+    ap (λ (es : List Entry). with_keys es e) fourth
+    ∙ (sym (with_keys-append three d e) ∙ with_four start one two three a b c (d ++ e) first second third)
+
 -- a fault from the empty table
 pub starts_err : (start : List Entry) (keys : List Wanted) (new : List Entry) (fault : NumberFault) → start ≡ []
     → Adds start keys new (Err fault) → Starts keys (Err fault)

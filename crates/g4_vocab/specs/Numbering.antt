@@ -1,5 +1,5 @@
 -- The numbering of token types: first the literals of parser rules that need a token of their own, then the lexer rules,
--- then the other token names of parser rules, then the names in `type(..)` commands of lexer rules.
+-- then the names in `tokens { .. }`, then the other token names of parser rules, then the names in `type(..)` commands of lexer rules.
 use Rattle.std.specs.Prelude.{ℕ, ◌==◌, List, [], ◌∷◌, ◌++◌, map, filter, Option, Some, None, Bool, false, not, cond, codes}
 use Rattle.std.specs.List.{filter_map, flat_map, list_any}
 use Rattle.std.specs.Option.{is_some}
@@ -12,6 +12,9 @@ use Rattle.g4_source.specs.declared.atom.AtomKind.TheVariants as kinds
 use Rattle.g4_source.specs.declared.atom.Literal.{Literal}
 use Rattle.g4_source.specs.declared.atom.TokenReference.{TokenReference}
 use Rattle.g4_source.specs.declared.atom.TokenReference.TheVariants as refs
+use Rattle.g4_source.specs.declared.prequel.Prequel.{Prequel}
+use Rattle.g4_source.specs.declared.prequel.Prequel.TheVariants.{Options, Import, Tokens, Channels}
+use Rattle.g4_source.specs.declared.source.Source.{Source}
 use Rattle.g4_source.specs.declared.rule.Rule.{Rule}
 use Rattle.g4_source.specs.declared.rule.ParserRule.{ParserRule}
 use Rattle.g4_source.specs.declared.rule.LexerRule.{LexerRule}
@@ -149,23 +152,43 @@ commanded_by alternative = filter_map commanded_token alternative.commands
 abbrev pub all_commanded : List LexerRule → List TokenReference
 all_commanded lexers = flat_map (λ rule. flat_map commanded_by rule.alternatives) lexers
 
--- a token name of a parser rule or of a command: `EOF` is none
+-- the token that a name in `tokens { .. }` is
+abbrev pub name_token : List ℕ → TokenReference
+name_token name = refs.Token name
+
+-- the tokens that something before the rules declares
+abbrev pub declared_by : Prequel → List TokenReference
+declared_by (Options settings) = []
+declared_by (Import place names) = []
+declared_by (Tokens place names) = map name_token names
+declared_by (Channels place names) = []
+
+-- the tokens that a grammar declares, in order of the text
+abbrev pub all_declared : List Prequel → List TokenReference
+all_declared prequels = flat_map declared_by prequels
+
+-- a token name that is declared, or of a parser rule or of a command: `EOF` is none
 abbrev pub token_name : TokenReference → Option Wanted
 token_name (refs.Token name) = cond (bytes_eq name (codes "EOF")) None (Some (record { key = keys.Name name; shown = name }))
 token_name (refs.Literal literal) = None
 
 -- what types are given to, in order
-abbrev pub wanted : List LexerRule → List TokenReference → List TokenReference → List Wanted
-wanted lexers tokens commanded = filter_map (own_literal lexers) tokens
-    ++ (map (rule_token lexers) lexers ++ (filter_map token_name tokens ++ filter_map token_name commanded))
+abbrev pub wanted : List LexerRule → List TokenReference → List TokenReference → List TokenReference → List Wanted
+wanted lexers declared tokens commanded = filter_map (own_literal lexers) tokens ++ (map (rule_token lexers) lexers
+    ++ (filter_map token_name declared ++ (filter_map token_name tokens ++ filter_map token_name commanded)))
 
--- the types of parser rules, lexer rules without `fragment` and tokens that commands name, which a table of types begins
-abbrev pub types_with : List Entry → List (ParserRule Atom) → List LexerRule → List TokenReference → List Entry
-types_with table parsers lexers commanded = with_keys table (wanted lexers (all_references (all_atoms parsers)) commanded)
+-- the tokens that parser rules name, in order of the text
+abbrev pub all_named : List Rule → List TokenReference
+all_named rules = all_references (all_atoms (parser_rules rules))
 
--- the types of a grammar's rules
-abbrev pub types_of : List Entry → List Rule → List Entry
-types_of table rules = types_with table (parser_rules rules) (token_lexers rules) (all_commanded (lexer_rules rules))
+-- what types are given to in a grammar, in order
+abbrev pub wanted_of : Source → List Wanted
+wanted_of source = wanted (token_lexers source.rules) (all_declared source.prequels) (all_named source.rules)
+    (all_commanded (lexer_rules source.rules))
+
+-- the types of a grammar, which a table of types begins
+abbrev pub types_of : List Entry → Source → List Entry
+types_of table source = with_keys table (wanted_of source)
 
 -- the symbol of a token that is named: EOF, or a type
 abbrev pub symbol_of : List LexerRule → List Entry → TokenReference → ℕ

@@ -1,5 +1,5 @@
 -- What the tables of the code have.
-use Rattle.std.specs.Prelude.{◌≡◌, ◌≤◌, ◌<◌, ℕ, List, [], ◌∷◌, filter, cond, Option, Some, None, option_map, Result, Ok, Err, ⊤}
+use Rattle.std.specs.Prelude.{◌≡◌, ◌≤◌, ◌<◌, ℕ, List, [], ◌∷◌, filter, cond, Option, Some, None, option_map, map, Result, Ok, Err, ⊤}
 use Rattle.std.specs.Borrow.{Bor}
 use Rattle.std.specs.BTreeMap.{BTreeMap, get_by}
 use Rattle.std.specs.Cmp.Lexicographic.{slice_cmp}
@@ -7,16 +7,21 @@ use Rattle.std.specs.Ordering.{nat_cmp}
 use Rattle.g4_tokens.specs.declared.symbol.TheConstants.{MOST_TYPES}
 use Rattle.g4_source.specs.declared.atom.TokenReference.{TokenReference}
 use Rattle.g4_source.specs.declared.atom.TokenReference.TheVariants as refs
+use Rattle.g4_source.specs.declared.atom.Atom.{Atom}
 use Rattle.g4_source.specs.declared.rule.LexerRule.{LexerRule}
+use Rattle.g4_source.specs.declared.rule.ParserRule.{ParserRule}
+use Rattle.g4_source.specs.declared.source.Source.{Source}
+use Rattle.g4_source.specs.Rules.{lexer_rules}
 use Rattle.g4_vocab.specs.declared.fault.NumberFault.{NumberFault}
 use Rattle.g4_vocab.specs.declared.fault.NumberFault.TheVariants.{Rules, Types, NoMemory}
+use Rattle.g4_vocab.specs.declared.named.Named.{Named}
 use Rattle.g4_vocab.specs.declared.references.Reference.{Reference}
 use Rattle.g4_vocab.specs.declared.references.Reference.TheVariants as lent
 use Rattle.g4_vocab.specs.declared.types.Key.TheVariants.{Name, Literal}
 use Rattle.g4_vocab.specs.declared.types.Entry.{Entry}
 use Rattle.g4_vocab.specs.declared.types.Types.{Types as Table}
 use Rattle.g4_vocab.specs.Types.{Wanted, number_of, greatest_type, with_keys}
-use Rattle.g4_vocab.specs.Numbering.{is_whole}
+use Rattle.g4_vocab.specs.Numbering.{all_atoms, all_commanded, all_declared, all_references, is_whole, wanted}
 
 -- a map with texts or characters as keys
 abbrev pub TextMap : Type 0 → Type 0
@@ -61,6 +66,17 @@ AddsRule rule old new = (characters : List ℕ)
 abbrev pub reference_of : Reference → TokenReference
 reference_of (lent.Token name) = refs.Token name.now
 reference_of (lent.Literal literal) = refs.Literal literal.now
+
+-- what types are given to: the tokens that a grammar names, and these lexer rules
+abbrev pub wanted_by : List LexerRule → Named → List Wanted
+wanted_by lexers named = wanted lexers (map reference_of named.declared.items) (map reference_of named.tokens.items)
+    (map reference_of named.commanded.items)
+
+-- these are the tokens that a grammar of these parser rules names
+pub record AreNamed (source : Source) (parsers : List (ParserRule Atom)) (named : Named) : Type 0 where
+  pub declared : map reference_of named.declared.items ≡ all_declared source.prequels
+  pub tokens : map reference_of named.tokens.items ≡ all_references (all_atoms parsers)
+  pub commanded : map reference_of named.commanded.items ≡ all_commanded (lexer_rules source.rules)
 
 -- adding these keys gives the table with them, or a fault with its cause
 abbrev pub Adds : List Entry → List Wanted → List Entry → Result ⊤ NumberFault → Type 0

@@ -1,12 +1,14 @@
-// Whether the rules of a grammar's source have names of their own; and from the rules to the token types that they name.
+// Whether the rules of a grammar's source have names of their own; and from a source to the token types that it names.
 #![tactic(auto)]
 
 mod commanded;
+mod declared;
 mod entries;
 mod fault;
 mod halves;
 mod law;
 mod literal;
+mod named;
 mod naming;
 mod numbering;
 mod references;

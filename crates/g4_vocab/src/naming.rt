@@ -1,10 +1,11 @@
 // Which types a grammar has.
 ghost use Rattle.std.specs.Prelude.{OnOk, map};
 ghost use Rattle.std.specs.List.{filter_map};
-ghost use Rattle.g4_vocab.specs.Numbering.{own_literal, rule_token, token_name, wanted};
-ghost use Rattle.g4_vocab.specs.Tables.{Adds, IsTable, Starts, reference_of};
+ghost use Rattle.g4_vocab.specs.Numbering.{own_literal, rule_token, token_name};
+ghost use Rattle.g4_vocab.specs.Tables.{Adds, IsTable, Starts, reference_of, wanted_by};
 
 use crate::fault::NumberFault;
+use crate::named::Named;
 use crate::references::Reference;
 use crate::types::Types;
 use crate::wholes::Wholes;
@@ -71,38 +72,35 @@ fn add_names<'a>(
     Ok(())
 }
 
-/// Gives types to what parser rules name, to these rules and to what commands name, in the order of types.
+/// Gives types to these rules and to the tokens that are named, in the order of types.
 fn add_all<'a>(
     alloc: Global,
     types: &mut Types<'a>,
     wholes: &Wholes<'a>,
-    tokens: &[Reference<'a>],
-    commanded: &[Reference<'a>],
+    named: &Named<'a>,
 ) -> Result<(), NumberFault>
     requires { IsTable types.old }
     ensures table { OnOk result (IsTable types.new) }
-    ensures added { Adds types.old.entries.items
-        (wanted (map (λ r. r.now) wholes.now.rules.items) (map reference_of tokens.now) (map reference_of commanded.now))
+    ensures added { Adds types.old.entries.items (wanted_by (map (λ r. r.now) wholes.now.rules.items) named.now)
         types.new.entries.items result }
 {
-    add_own_literals(alloc, types, wholes, tokens)?;
+    add_own_literals(alloc, types, wholes, named.tokens.as_slice())?;
     add_rules(alloc, types, wholes, wholes.rules.as_slice())?;
-    add_names(alloc, types, tokens)?;
-    add_names(alloc, types, commanded)?;
+    add_names(alloc, types, named.declared.as_slice())?;
+    add_names(alloc, types, named.tokens.as_slice())?;
+    add_names(alloc, types, named.commanded.as_slice())?;
     Ok(())
 }
 
-/// The types of a grammar whose parser rules name these tokens, and whose commands name the others.
+/// The types of a grammar of these lexer rules that names these tokens.
 pub fn types_of<'a>(
     alloc: Global,
     wholes: &Wholes<'a>,
-    tokens: &[Reference<'a>],
-    commanded: &[Reference<'a>],
+    named: &Named<'a>,
 ) -> Result<Types<'a>, NumberFault>
-    ensures { Starts (wanted (map (λ r. r.now) wholes.now.rules.items) (map reference_of tokens.now) (map reference_of commanded.now))
-        result }
+    ensures { Starts (wanted_by (map (λ r. r.now) wholes.now.rules.items) named.now) result }
 {
     let mut types = Types::new(alloc);
-    add_all(alloc, &mut types, wholes, tokens, commanded)?;
+    add_all(alloc, &mut types, wholes, named)?;
     Ok(types)
 }

@@ -10,7 +10,7 @@ use Rattle.g4_lexer_rules.proofs.gathering.gathered.Goals as goal
 pub returns : goal.returns
 returns c =
     let places = c.in_ok-symbols.symbols in
-    rules_gathered c.args.rules c.args.names.now c.args.literals places _ c.requires.names c.requires.literals c.in_ok-symbols.ensures
+    rules_gathered c.args.rules c.args.names.now c.args.literals places _ c.in_ok-symbols.ensures
     (c.new.ensures ∙ (c.in_ok-literals.ensures ∙ ap (map rule_of_literal) c.into_vec-2.ensures))
     (c.new-2.ensures ∙ (c.in_ok-rules.ensures ∙ ap lexer_rules c.into_vec.ensures))
     (c.in_ok-types.ensures

@@ -7,7 +7,7 @@ use Rattle.g4_source.specs.Views.{rule_view}
 use Rattle.g4_source.specs.declared.atom.Atom.{Atom}
 use Rattle.g4_source.specs.declared.rule.LexerRule.{LexerRule}
 use Rattle.g4_source.specs.declared.rule.ParserRule.{ParserRule}
-use Rattle.g4_source.specs.declared.rule.Rule.{Rule}
+use Rattle.g4_source.specs.declared.source.Source.{Source}
 use Rattle.g4_grammar.specs.StepRules.{CanBeRewritten, StepRule}
 use Rattle.g4_vocab.specs.Numbering.{token_lexers, types_of}
 use Rattle.g4_vocab.specs.Types.{greatest_type}
@@ -19,58 +19,66 @@ use Rattle.g4_resolve.proofs.Parsers.{parsers_few}
 use Rattle.g4_resolve.proofs.resolving.resolve.Goals as goal
 
 -- the rules over steps, of the names of the parser rules
-steps_are : (rules : List Rule) (parsers others : List (ParserRule Atom)) (names : List (List ℕ)) (lexers : List LexerRule)
-    (types : List Entry) (made : List StepRule) → parsers ≡ parser_rules rules → others ≡ parsers → names ≡ map (λ rule. rule.name) parsers
-    → lexers ≡ token_lexers rules → types ≡ types_of [] rules → made ≡ map (resolved_rule names lexers types) others → made ≡ resolved rules
-steps_are rules parsers others names lexers types made parsed same named tokens typed is =
+steps_are : (source : Source) (parsers others : List (ParserRule Atom)) (names : List (List ℕ)) (lexers : List LexerRule)
+    (types : List Entry) (made : List StepRule) → parsers ≡ parser_rules source.rules → others ≡ parsers
+    → names ≡ map (λ rule. rule.name) parsers → lexers ≡ token_lexers source.rules → types ≡ types_of [] source
+    → made ≡ map (resolved_rule names lexers types) others → made ≡ resolved source
+steps_are source parsers others names lexers types made parsed same named tokens typed is =
+    let rules = source.rules in
     is
     ∙ (ap (λ (ns : List (List ℕ)). map (resolved_rule ns lexers types) others) (named ∙ ap (map (λ rule. rule.name)) parsed)
     ∙ (ap (λ (ls : List LexerRule). map (resolved_rule (parser_names rules) ls types) others) tokens
     ∙ (ap (λ (es : List Entry). map (resolved_rule (parser_names rules) (token_lexers rules) es) others) typed
-    ∙ ap (map (resolved_rule (parser_names rules) (token_lexers rules) (types_of [] rules))) (same ∙ parsed))))
+    ∙ ap (map (resolved_rule (parser_names rules) (token_lexers rules) (types_of [] source))) (same ∙ parsed))))
 
 pub invariant_of-stage : goal.invariant_of-stage
 invariant_of-stage c =
-    let parsers : map (λ r. r.now) c.in_ok-parsers.parsers.items ≡ parser_rules c.args.rules.now =
-    c.in_ok-parsers.ensures ∙ ap parser_rules (ap (map rule_view) c.as_slice.ensures.value ∙ c.in_ok-views.ensures) in
-    let names : c.as_slice-4.result.now ≡ parser_names c.args.rules.now =
-    c.as_slice-4.ensures.value ∙ (c.in_ok-names.ensures
-    ∙ ap (map (λ rule. rule.name)) (ap (map (λ r. r.now)) c.as_slice-2.ensures.value ∙ parsers)) in
+    let rules = c.args.source.now.rules in
+    let parsers : map (λ r. r.now) c.in_ok-parsers.parsers.items ≡ parser_rules rules =
+    c.in_ok-parsers.ensures ∙ ap parser_rules (ap (map rule_view) c.as_slice-2.ensures.value ∙ (c.in_ok-views.ensures
+    ∙ c.as_slice.ensures)) in
+    let names : c.as_slice-5.result.now ≡ parser_names rules =
+    c.as_slice-5.ensures.value ∙ (c.in_ok-names.ensures
+    ∙ ap (map (λ rule. rule.name)) (ap (map (λ r. r.now)) c.as_slice-3.ensures.value ∙ parsers)) in
     record {
       few = omega (
         arith,
         ap length names,
-        length-map (parser_rules c.args.rules.now) (λ rule. rule.name),
-        parsers_few c.args.rules.now,
+        length-map (parser_rules rules) (λ rule. rule.name),
+        parsers_few rules,
         c.requires.numbered.few_rules,
       );
       named = λ name. c.in_ok-places.ensures.places name
-          ∙ ap (λ (ns : List (List ℕ)). first_place ns name) (c.as_slice-3.ensures.value ∙ sym c.as_slice-4.ensures.value);
+          ∙ ap (λ (ns : List (List ℕ)). first_place ns name) (c.as_slice-4.ensures.value ∙ sym c.as_slice-5.ensures.value);
     }
 
 pub returns : goal.returns
 returns c =
-    let parsers : map (λ r. r.now) c.in_ok-parsers.parsers.items ≡ parser_rules c.args.rules.now =
-    c.in_ok-parsers.ensures ∙ ap parser_rules (ap (map rule_view) c.as_slice.ensures.value ∙ c.in_ok-views.ensures) in
-    c.new.ensures ∙ steps_are c.args.rules.now (map (λ r. r.now) c.in_ok-parsers.parsers.items) (map (λ r. r.now) c.as_slice-5.result.now)
-    c.as_slice-4.result.now (lexers_in c.args.vocabulary.now) (types_in c.args.vocabulary.now) c.in_ok-made.made parsers
-    (ap (map (λ r. r.now)) c.as_slice-5.ensures.value)
-    (c.as_slice-4.ensures.value ∙ (c.in_ok-names.ensures
-    ∙ ap (map (λ rule. rule.name)) (ap (map (λ r. r.now)) c.as_slice-2.ensures.value)))
+    let rules = c.args.source.now.rules in
+    let parsers : map (λ r. r.now) c.in_ok-parsers.parsers.items ≡ parser_rules rules =
+    c.in_ok-parsers.ensures ∙ ap parser_rules (ap (map rule_view) c.as_slice-2.ensures.value ∙ (c.in_ok-views.ensures
+    ∙ c.as_slice.ensures)) in
+    c.new.ensures ∙ steps_are c.args.source.now (map (λ r. r.now) c.in_ok-parsers.parsers.items)
+    (map (λ r. r.now) c.as_slice-6.result.now)
+    c.as_slice-5.result.now (lexers_in c.args.vocabulary.now) (types_in c.args.vocabulary.now) c.in_ok-made.made parsers
+    (ap (map (λ r. r.now)) c.as_slice-6.ensures.value)
+    (c.as_slice-5.ensures.value ∙ (c.in_ok-names.ensures
+    ∙ ap (map (λ rule. rule.name)) (ap (map (λ r. r.now)) c.as_slice-3.ensures.value)))
     c.requires.numbered.lexers c.requires.numbered.types c.in_ok-made.ensures
 
 pub new-requires : goal.new-requires
 new-requires c =
-    let rules = c.args.rules.now in
-    let few : greatest_type (types_of [] rules) ≤ MOST_TYPES =
+    let source = c.args.source.now in
+    let few : greatest_type (types_of [] source) ≤ MOST_TYPES =
     subst (λ (types : List Entry). greatest_type types ≤ MOST_TYPES) c.requires.numbered.types c.requires.numbered.few_types in
-    let parsers : map (λ r. r.now) c.in_ok-parsers.parsers.items ≡ parser_rules rules =
-    c.in_ok-parsers.ensures ∙ ap parser_rules (ap (map rule_view) c.as_slice.ensures.value ∙ c.in_ok-views.ensures) in
+    let parsers : map (λ r. r.now) c.in_ok-parsers.parsers.items ≡ parser_rules source.rules =
+    c.in_ok-parsers.ensures ∙ ap parser_rules (ap (map rule_view) c.as_slice-2.ensures.value ∙ (c.in_ok-views.ensures
+    ∙ c.as_slice.ensures)) in
     subst (λ (made : List StepRule). CanBeRewritten made)
-    (sym (steps_are rules (map (λ r. r.now) c.in_ok-parsers.parsers.items) (map (λ r. r.now) c.as_slice-5.result.now)
-    c.as_slice-4.result.now (lexers_in c.args.vocabulary.now) (types_in c.args.vocabulary.now) c.in_ok-made.made parsers
-    (ap (map (λ r. r.now)) c.as_slice-5.ensures.value)
-    (c.as_slice-4.ensures.value ∙ (c.in_ok-names.ensures
-    ∙ ap (map (λ rule. rule.name)) (ap (map (λ r. r.now)) c.as_slice-2.ensures.value)))
+    (sym (steps_are source (map (λ r. r.now) c.in_ok-parsers.parsers.items) (map (λ r. r.now) c.as_slice-6.result.now)
+    c.as_slice-5.result.now (lexers_in c.args.vocabulary.now) (types_in c.args.vocabulary.now) c.in_ok-made.made parsers
+    (ap (map (λ r. r.now)) c.as_slice-6.ensures.value)
+    (c.as_slice-5.ensures.value ∙ (c.in_ok-names.ensures
+    ∙ ap (map (λ rule. rule.name)) (ap (map (λ r. r.now)) c.as_slice-3.ensures.value)))
     c.requires.numbered.lexers c.requires.numbered.types c.in_ok-made.ensures))
-    (can_be_rewritten rules (token_lexers rules) (types_of [] rules) few c.requires.checked)
+    (can_be_rewritten source.rules (token_lexers source.rules) (types_of [] source) few c.requires.checked)

@@ -1,4 +1,3 @@
-use Rattle.std.proofs.Common.{true, false}
 use Rattle.g4_vocab.proofs.Split.{parser_more, lexer_more, fragment_more}
 use Rattle.g4_vocab.proofs.halves.halves_of.Goals as goal
 use Rattle.g4_vocab.proofs.halves.halves_of.Goals.{in-Parser+in_ok-push-in-Parser, in-Lexer+then-not-lexer+in_ok-push-in-Lexer, in-Lexer+else-not-lexer}
