@@ -19,6 +19,7 @@ use Rattle.g4_store.specs.Learned.{IsLearned}
 use Rattle.g4_store.specs.Numbers.{Among}
 use Rattle.g4_store.specs.Paths.{Learns, cells_of, facts_of}
 use Rattle.g4_store.specs.Walks as walks
+use Rattle.g4_store.proofs.Lists.{among_either, among_right}
 use Rattle.g4_guards.specs.Levels.{AllowedAt}
 use Rattle.g4_learned.specs.declared.walk.Walk.{Walk}
 use Rattle.g4_learned.specs.declared.walk.Walk.TheVariants.{Ended, NotLearned}
@@ -33,7 +34,15 @@ module _ (p : Plan Tables) (d level : ℕ) (word : List ℕ) where
   pub walk_keeps : (old new : Told) (walk : Walk) → Walks p d level word old.0 new.0 walk → walks.Keeps old.0 new.0
       → Keeps p d level word old new
   walk_keeps old new walk walked kept =
-      record { seen = walked.kept; within = walked.within; known = kept.known; holds = kept.holds; count = kept.count }
+      record {
+        seen = walked.kept;
+        within = walked.within;
+        taught = λ f told. subst (λ (fs : List (Fact (List Config))). Among f fs) (sym kept.taught) told;
+        teaches = λ v facts passed f told. inl (subst (λ (fs : List (Fact (List Config))). Among f fs) kept.taught told);
+        known = kept.known;
+        holds = kept.holds;
+        count = kept.count;
+      }
 
   -- one that ended has asked
   pub walk_asks : (old new : Told) (v : said.Verdict) (k : ℕ) → Walks p d level word old.0 new.0 (Ended v k) → new.1 ≡ old.1
@@ -84,6 +93,15 @@ module _ (p : Plan Tables) (d level : ℕ) (word : List ℕ) where
             (subst (λ (gs : List (Fact (List Config))). Among f gs)
             (one_passed p plan d level word v u (facts_of q) facts stored_passed other).1 now.0)
       ];
+      taught = λ f told. subst (λ (fs : List (Fact (List Config))). Among f fs) (sym learns.taught)
+          (among_right f learns.stored mid.0.taught (kept.taught f told));
+      teaches = λ u facts other f told.
+          elim (among_either f learns.stored mid.0.taught (subst (λ (fs : List (Fact (List Config))). Among f fs) learns.taught told)) [
+            | inl now ↦ inr
+                (subst (λ (gs : List (Fact (List Config))). Among f gs)
+                (one_passed p plan d level word v u (facts_of q) facts stored_passed other).1 (learns.stores f now).0)
+            | inr before ↦ kept.teaches u facts other f before
+          ];
       known = λ t y known. learns.known_kept t y (kept.known t y known);
       holds = learns.holds ∙ kept.holds;
       count = learns.count ∙ kept.count;

@@ -16,11 +16,14 @@ use Rattle.g4_learned.specs.Tables.{Tables}
 abbrev pub Told : Type 0
 Told = View (List Config) × Bool
 
--- Nothing is lost, and no words are seen but those of SLL's path at the decision.
+-- Nothing is lost, and no words are seen or taught but those of SLL's path at the decision.
 pub record Keeps (p : Plan Tables) (d level : ℕ) (word : List ℕ) (old new : Told) : Type 0 where
   pub seen : (f : Fact (List Config)) → Among f old.0.seen → Among f new.0.seen
   pub within : (v : Verdict) (facts : List (Fact (List Config))) → ArePassed p.net d level word v facts
       → (f : Fact (List Config)) → Among f new.0.seen → Among f old.0.seen ⊎ Among f facts
+  pub taught : (f : Fact (List Config)) → Among f old.0.taught → Among f new.0.taught
+  pub teaches : (v : Verdict) (facts : List (Fact (List Config))) → ArePassed p.net d level word v facts
+      → (f : Fact (List Config)) → Among f new.0.taught → Among f old.0.taught ⊎ Among f facts
   pub known : (t : ℕ) (y : List Config) → Among (t, y) old.0.known → Among (t, y) new.0.known
   pub holds : new.0.holds ≡ old.0.holds
   pub count : new.0.count ≡ old.0.count

@@ -22,21 +22,24 @@ use Rattle.g4_parse.specs.Teaching.{HasKept, HasNoRoom, IsPassed, IsPassedAt, Is
 pub kept_then : (a b c : Told) → HasKept a b → HasKept b c → HasKept a c
 kept_then a b c h g = record {
   seen = λ f x. g.seen f (h.seen f x);
+  taught = λ f x. g.taught f (h.taught f x);
   known = λ t y x. g.known t y (h.known t y x);
   holds = g.holds ∙ h.holds;
   count = g.count ∙ h.count;
 }
 
 pub kept_same : (a : Told) → HasKept a a
-kept_same a = record { seen = λ f x. x; known = λ t y x. x; holds = refl; count = refl }
+kept_same a = record { seen = λ f x. x; taught = λ f x. x; known = λ t y x. x; holds = refl; count = refl }
 
 pub keeps_kept : (p : Plan Tables) (d level : ℕ) (word : List ℕ) (old new : Told) → Keeps p d level word old new → HasKept old new
-keeps_kept p d level word old new k = record { seen = k.seen; known = k.known; holds = k.holds; count = k.count }
+keeps_kept p d level word old new k =
+    record { seen = k.seen; taught = k.taught; known = k.known; holds = k.holds; count = k.count }
 
 -- What is left so far, at a moment of the run: of each moment of the run that is not from this one on all is seen, unless there was want
 -- of room.
 pub record IsTaughtTo (p : Plan Tables) (word : List ℕ) (r : Run) (old new : Told) : Type 0 where
   pub within : (f : Fact (List Config)) → Among f new.0.seen → Among f old.0.seen ⊎ IsPassed p.net word f
+  pub teaches : (f : Fact (List Config)) → Among f new.0.taught → Among f old.0.taught ⊎ IsPassed p.net word f
   pub whole : new.1 ≡ false → (s : Run) → Reaches p.net.net word s
       → Comes p.net.net no_predicates word deepest r s ⊎ ((f : Fact (List Config)) → IsPassedAt p.net word s f → Among f new.0.seen)
   pub full : old.1 ≡ false → new.1 ≡ true → HasNoRoom p.rows new.0.known
@@ -48,6 +51,10 @@ module _ (p : Plan Tables) (plan : IsPlan p) (word : List ℕ) where
       → Asked p r.state (level_of r.frames) (drop r.place word) v old new → IsTaught p (IsPassedAt p.net word r) old new
   asked_taught r v old new keeps asked = record {
     within = λ f seen. elim (keeps.within v asked.facts asked.passed f seen) [
+      | inl before ↦ inl before
+      | inr now ↦ inr (record { verdict = v; facts = asked.facts; passed = asked.passed; among = now })
+    ];
+    teaches = λ f told. elim (keeps.teaches v asked.facts asked.passed f told) [
       | inl before ↦ inl before
       | inr now ↦ inr (record { verdict = v; facts = asked.facts; passed = asked.passed; among = now })
     ];
@@ -83,6 +90,7 @@ module _ (p : Plan Tables) (plan : IsPlan p) (word : List ℕ) where
   pub untaught : (r : Run) (told : Told) → (IsDecision p.net.net r.state → ⊥) → IsTaught p (IsPassedAt p.net word r) told told
   untaught r told none = record {
     within = λ f seen. inl seen;
+    teaches = λ f told. inl told;
     whole = λ room f passed. absurd (none_passed r f none passed);
     full = λ room full. absurd (true≢false (sym full ∙ room));
     stays_full = λ full. full;
@@ -91,6 +99,7 @@ module _ (p : Plan Tables) (plan : IsPlan p) (word : List ℕ) where
   pub taught_begins : (told : Told) → IsTaughtTo p word beginning told told
   taught_begins told = record {
     within = λ f seen. inl seen;
+    teaches = λ f told. inl told;
     whole = λ room s reaches. inl reaches;
     full = λ room full. absurd (true≢false (sym full ∙ room));
     stays_full = λ full. full;
@@ -126,6 +135,12 @@ module _ (p : Plan Tables) (plan : IsPlan p) (word : List ℕ) where
       | inr passed ↦ inr (r, reaches, passed)
     ]
 
+    teaches_more : (f : Fact (List Config)) → Among f new.0.taught → Among f old.0.taught ⊎ IsPassed p.net word f
+    teaches_more f told = elim (taught.teaches f told) [
+      | inl known ↦ before.teaches f known
+      | inr passed ↦ inr (r, reaches, passed)
+    ]
+
     full_more : (m : Bool) → mid.1 ≡ m → old.1 ≡ false → new.1 ≡ true → HasNoRoom p.rows new.0.known
     full_more true is room full = no_room_later mid new kept (before.full room is)
     full_more false is room full = taught.full is full
@@ -142,6 +157,7 @@ module _ (p : Plan Tables) (plan : IsPlan p) (word : List ℕ) where
     pub taught_on : (next : Run) → Goes p.net.net no_predicates word deepest r next → IsTaughtTo p word next old new
     taught_on next step = record {
       within = within_more;
+      teaches = teaches_more;
       whole = λ room s reached. elim (before.whole (room_before mid.1 new.1 taught.stays_full room) s reached) [
         | inl comes ↦ elim (begins r s comes) [
           | inl same ↦ inr (λ f passed. taught.whole room f (subst (λ (q : Run). IsPassedAt p.net word q f) (sym same) passed))
@@ -159,6 +175,7 @@ module _ (p : Plan Tables) (plan : IsPlan p) (word : List ℕ) where
     pub taught_whole : (e : Ending) → Stops p.net.net no_predicates word deepest r e → IsTaught p (IsPassed p.net word) old new
     taught_whole e stop = record {
       within = within_more;
+      teaches = teaches_more;
       whole = λ room f (s, reached, passed). seen_now room s reached f passed (λ comes. elim (begins r s comes) [
         | inl same ↦ same
         | inr (u, first, more) ↦ absurd (never_both p.net.net no_predicates word (state_at p.net.net r.state) r u e first stop)

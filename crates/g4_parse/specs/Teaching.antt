@@ -33,17 +33,19 @@ pub record HasNoRoom (most : ℕ) (known : List (ℕ × List Config)) : Type 0 w
   pub differ : (r q : ℕ) (x : List Config) → get_elem? rows r ≡ maybe.some x → get_elem? rows q ≡ maybe.some x → r ≡ q
   pub are_known : (t : ℕ) (y : List Config) → get_elem? rows t ≡ maybe.some y → Among (t, y) known
 
--- Nothing that the pass has seen or knows is lost.
+-- Nothing that the pass has seen, taught or knows is lost.
 pub record HasKept (old new : Told) : Type 0 where
   pub seen : (f : Fact (List Config)) → Among f old.0.seen → Among f new.0.seen
+  pub taught : (f : Fact (List Config)) → Among f old.0.taught → Among f new.0.taught
   pub known : (t : ℕ) (y : List Config) → Among (t, y) old.0.known → Among (t, y) new.0.known
   pub holds : new.0.holds ≡ old.0.holds
   pub count : new.0.count ≡ old.0.count
 
--- The pass has seen the words that are passed and no others, or there was want of room: then it has seen none but these. There is new want
--- of room only where as many rows are known as there may be.
+-- The pass has seen the words that are passed and no others, or there was want of room: then it has seen none but these. It has taught none
+-- but these. There is new want of room only where as many rows are known as there may be.
 pub record IsTaught (p : Plan Tables) (Passed : Fact (List Config) → Type 0) (old new : Told) : Type 0 where
   pub within : (f : Fact (List Config)) → Among f new.0.seen → Among f old.0.seen ⊎ Passed f
+  pub teaches : (f : Fact (List Config)) → Among f new.0.taught → Among f old.0.taught ⊎ Passed f
   pub whole : new.1 ≡ false → (f : Fact (List Config)) → Passed f → Among f new.0.seen
   pub full : old.1 ≡ false → new.1 ≡ true → HasNoRoom p.rows new.0.known
   pub stays_full : old.1 ≡ true → new.1 ≡ true
