@@ -13,3 +13,4 @@ pub mod Coding
 mod Keeping
 mod Imaged
 mod Merges
+mod Loading

@@ -99,7 +99,7 @@ pub rows_apart : (qs rs : List (ℕ × ℕ)) (ls ms : List (List Stack)) (v w : 
 rows_apart qs rs ls ms v w at_v at_w a b e = (parts_equal qs rs ls ms a b (at_v ∙ e ∙ sym at_w)).0
 
 -- members of joined lists
-in_joined : {X : Type 0} (x : X) (xs ys : List X) → In x (xs ++ ys) ↔ (In x xs ⊎ In x ys)
+pub in_joined : {X : Type 0} (x : X) (xs ys : List X) → In x (xs ++ ys) ↔ (In x xs ⊎ In x ys)
 in_joined x [] ys = ((λ h. inr h), (λ o. elim o [ inl h ↦ absurd h | inr h ↦ h ]))
 in_joined x (z ∷ zs) ys =
     let r = in_joined x zs ys in (
@@ -108,12 +108,12 @@ in_joined x (z ∷ zs) ys =
     )
 
 -- the configurations of a state and an alternative with these stacks
-record IsOf (q : ℕ × ℕ) (stacks : List Stack) (c : Config) : Type 0 where
+pub record IsOf (q : ℕ × ℕ) (stacks : List Stack) (c : Config) : Type 0 where
   pub state : c.state ≡ q.0
   pub alt : c.alt ≡ q.1
   pub stack : In c.stack stacks
 
-in_configs : (q : ℕ × ℕ) (stacks : List Stack) (c : Config) → In c (configs_of q stacks) ↔ IsOf q stacks c
+pub in_configs : (q : ℕ × ℕ) (stacks : List Stack) (c : Config) → In c (configs_of q stacks) ↔ IsOf q stacks c
 in_configs q [] c = ((λ h. absurd h), (λ o. absurd o.stack))
 in_configs q (s ∷ more) c =
     let r = in_configs q more c in (
@@ -141,7 +141,7 @@ row_at g es = row_of (keys_of es) (map (stacks_of g) (values_of es))
 
 module _ (g : List Content) (canon : IsCanonical g) where
   -- a list of a node and of a group mean the same
-  in_group : (e : (ℕ × ℕ) × ℕ) (c : Config) → IsOf e.0 (stacks_of g e.1) c ↔ InGroup g (group_of e) c
+  pub in_group : (e : (ℕ × ℕ) × ℕ) (c : Config) → IsOf e.0 (stacks_of g e.1) c ↔ InGroup g (group_of e) c
   in_group e c =
       let exact = lists_exact g canon e.1 c.stack in (
         (λ o. record { state = o.state; alt = o.alt; stack = exact.0 (In-to (stacks_of g e.1) c.stack o.stack) }),
@@ -160,7 +160,7 @@ module _ (g : List Content) (canon : IsCanonical g) where
       )
 
 -- what holds of all holds of each
-in_all : {X : Type 0} (P : X → Type 0) (xs : List X) (x : X) → AllByRecursion P xs → In x xs → P x
+pub in_all : {X : Type 0} (P : X → Type 0) (xs : List X) (x : X) → AllByRecursion P xs → In x xs → P x
 in_all P [] x all i = absurd i
 in_all P (y ∷ ys) x all (inl e) = subst P (sym e) all.0
 in_all P (y ∷ ys) x all (inr i) = in_all P ys x all.1 i
@@ -173,7 +173,7 @@ all_before q [] less = tt
 all_before q (r ∷ rs) less = (pair_before q r less.0, all_before q rs less.1)
 
 -- the configurations of a list in order, before those of greater states and alternatives
-rising_before : (q : ℕ × ℕ) (stacks : List Stack) (rest : List Config) → StacksRise stacks → IsRising rest
+pub rising_before : (q : ℕ × ℕ) (stacks : List Stack) (rest : List Config) → StacksRise stacks → IsRising rest
     → ((c : Config) → In c rest → PairBefore q (c.state, c.alt)) → IsRising (configs_of q stacks ++ rest)
 rising_before q [] rest rise rising before = rising
 rising_before q (s ∷ []) [] rise rising before = tt

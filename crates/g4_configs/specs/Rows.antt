@@ -5,6 +5,8 @@ use Rattle.std.specs.Ordering.{nat_cmp, ordering_then}
 use Rattle.std.specs.declared.cmp.Ordering.{Ordering}
 use Rattle.g4_stacks.specs.Table.{pair_cmp}
 use Rattle.g4_net.specs.Configurations.{Config, Stack, config}
+use Rattle.g4_configs.specs.declared.group.Group.{Group}
+use Rattle.g4_configs.specs.Groups.{group_of}
 
 -- the configurations of a state and an alternative with these stacks
 abbrev pub configs_of : ℕ × ℕ → List Stack → List Config
@@ -15,6 +17,12 @@ abbrev pub row_of : List (ℕ × ℕ) → List (List Stack) → List Config
 row_of [] lists = []
 row_of (q ∷ qs) [] = []
 row_of (q ∷ qs) (stacks ∷ lists) = configs_of q stacks ++ row_of qs lists
+
+-- the groups of states and alternatives with these sets of stacks, in turn
+abbrev pub groups_of : List (ℕ × ℕ) → List ℕ → List Group
+groups_of [] nodes = []
+groups_of (q ∷ qs) [] = []
+groups_of (q ∷ qs) (n ∷ nodes) = group_of (q, n) ∷ groups_of qs nodes
 
 -- q comes before r: by state, then by alternative
 abbrev pub PairBefore : ℕ × ℕ → ℕ × ℕ → Type 0

@@ -35,7 +35,7 @@ pub(crate) fn listed(
 }
 
 /// Adds groups to a map of nodes.
-fn add_each(
+pub(crate) fn add_each(
     graph: &mut Graph,
     nodes: &mut HashMap<(u32, u32), u32>,
     groups: &[Group],

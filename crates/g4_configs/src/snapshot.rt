@@ -4,6 +4,7 @@ ghost use Rattle.g4_configs.specs.Configs.{Holds};
 ghost use Rattle.g4_net.specs.Configurations.{IsRow};
 
 mod hash;
+mod loading;
 
 use crate::configs::Configs;
 use crate::ordered::{in_order, keys_in, nodes_in};

@@ -1,4 +1,4 @@
-// Snapshots of large sets of configurations.
+// Snapshots of sets of configurations, and the sets again.
 use g4_configs::{Configs, Group};
 use std::alloc::{AllocError, Global};
 use std::test::Fail;
@@ -21,6 +21,13 @@ fn has_snapshot(alloc: Global, set: &Configs) -> Result<bool, AllocError> {
     Ok(snapshot.same(&snapshot) && snapshot.code(alloc)? == code)
 }
 
+/// Whether the set that is made of its snapshot has the same snapshot, and as many groups.
+fn comes_again(alloc: Global, set: &Configs) -> Result<bool, AllocError> {
+    let snapshot = set.snapshot(alloc)?;
+    let again = snapshot.load(alloc)?;
+    Ok(again.snapshot(alloc)?.same(&snapshot) && again.count() == set.count())
+}
+
 /// The set of 1,000 alternatives at 100 states, each with its number as return state.
 fn many(alloc: Global) -> Result<Configs, AllocError> {
     let mut set = Configs::new(alloc)?;
@@ -35,6 +42,7 @@ fn many(alloc: Global) -> Result<Configs, AllocError> {
 fn a_set_of_many_configurations(rt: HostRuntime) -> Result<(), Fail> {
     let set = many(rt.alloc())?;
     assert!(rt; has_snapshot(rt.alloc(), &set)?);
+    assert!(rt; comes_again(rt.alloc(), &set)?);
     Ok(())
 }
 
@@ -58,5 +66,29 @@ fn a_high_stack(rt: HostRuntime) -> Result<(), Fail> {
     let returns: Vec<u32> = (0..HEIGHT).collect(rt.alloc())?;
     let set = high(rt.alloc(), returns.as_slice())?;
     assert!(rt; has_snapshot(rt.alloc(), &set)?);
+    assert!(rt; comes_again(rt.alloc(), &set)?);
+    Ok(())
+}
+
+#[test]
+fn an_empty_set(rt: HostRuntime) -> Result<(), Fail> {
+    let set = Configs::new(rt.alloc())?;
+    assert!(rt; comes_again(rt.alloc(), &set)?);
+    Ok(())
+}
+
+#[test]
+fn a_set_of_few_configurations(rt: HostRuntime) -> Result<(), Fail> {
+    let mut set = Configs::new(rt.alloc())?;
+    for (state, alternative, back) in [(4, 1, 7), (4, 2, 8), (4, 2, 9), (3, 2, 7)] {
+        put(&mut set, state, alternative, back)?;
+    }
+    let wild = set.wild();
+    set.add(Group {
+        state: 5,
+        alternative: 1,
+        stacks: wild,
+    })?;
+    assert!(rt; comes_again(rt.alloc(), &set)?);
     Ok(())
 }
