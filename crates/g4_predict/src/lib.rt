@@ -1,5 +1,5 @@
-// Prediction: the SLL verdict of a decision with its path, and the answer with full stacks, both over the alternatives that are allowed.
-// The answer is that over single stacks, which is the least allowed alternative that fits.
+// Prediction: the SLL verdict of a decision with its path, also from a set that was kept, and the answer with full stacks, all over the
+// alternatives that are allowed. The answer is that over single stacks, which is the least allowed alternative that fits.
 #![tactic(auto)]
 
 mod frames;
@@ -10,5 +10,5 @@ mod verdict;
 
 pub use full::{Settled, decide_full};
 pub use path::{Led, Looked, Path};
-pub use sll::simulate;
+pub use sll::{simulate, simulate_from};
 pub use verdict::Verdict;

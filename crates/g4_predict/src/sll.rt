@@ -1,5 +1,5 @@
 // SLL: looking ahead from a decision as if any rule had called the one that is open.
-ghost use Rattle.std.specs.Prelude.{◌≡◌, ◌<◌, ◌≤◌, ◌^◌, ◌↔◌, Contains, IfOk, IsTrue, length};
+ghost use Rattle.std.specs.Prelude.{◌≡◌, ◌<◌, ◌≤◌, ◌+◌, ◌^◌, ◌↔◌, Contains, IfOk, IsTrue, length, map};
 ghost use Rattle.g4_configs.specs.Configs.{Holds};
 ghost use Rattle.g4_tokens.specs.Symbols.{end_of_list};
 ghost use Rattle.g4_net.specs.AddedRule.{IsReady};
@@ -8,16 +8,17 @@ ghost use Rattle.g4_net.specs.Configurations.{Config, IsWithin};
 ghost use Rattle.g4_net.specs.declared.network.TheConstants.{MOST_STATES};
 ghost use Rattle.g4_net.specs.Leads.{WellFormed};
 ghost use Rattle.g4_net.specs.Lookahead.{Next};
-ghost use Rattle.g4_net.specs.Prediction.{Sll};
+ghost use Rattle.g4_net.specs.Prediction.{Sll, SllFrom};
 ghost use Rattle.g4_tokens.specs.TokenList.{word_of};
 ghost use Rattle.g4_lookahead.specs.EndOfList.{Matters};
-ghost use Rattle.g4_predict.specs.Paths.{path_of, verdict_of};
+ghost use Rattle.g4_predict.specs.Paths.{looked_of, path_of, verdict_of};
+ghost use Rattle.g4_predict.specs.Reached.{IsReached};
 ghost use Rattle.g4_predict.specs.Verdicts.{IsSeen, IsStartSet};
 
 use crate::{Led, Looked, Path, Verdict};
 use g4_base::Sequence;
 use g4_closure::{Left, left_after, start};
-use g4_configs::Configs;
+use g4_configs::{Configs, Snapshot};
 use g4_net::{Allowed, ParserNetwork};
 use g4_tokens::Token;
 use std::alloc::{AllocError, Global};
@@ -83,6 +84,42 @@ fn look(
     }
 }
 
+/// SLL from a set, after k symbols were looked at: the verdict, and what each token that is looked at leads to.
+fn look_on(
+    alloc: Global,
+    net: &ParserNetwork,
+    from: Configs,
+    tokens: &[Token],
+    k: u32,
+) -> Result<(Verdict, Sequence<Looked>), AllocError>
+    requires ready { IsReady net.now }
+    requires reached { (c : Config) → Holds from c → IsReached net.now c }
+    requires ends { Contains (word_of tokens.now) end_of_list }
+    requires few { k + length tokens.now < 2 ^ 32 }
+    ensures { IfOk result (λ r. SllFrom net.now (Holds from) (word_of tokens.now) k (verdict_of r.0) (map looked_of r.1)) }
+{
+    let mut set = from;
+    let mut looked = Vec::new(alloc);
+    for (index, token) in tokens.iter().enumerate() {
+        let symbol = token.symbol;
+        let seen = look(alloc, net, set, symbol, k + index as u32)?;
+        match seen {
+            Seen::Ended(verdict) => {
+                let led = Led::Ended(verdict);
+                looked.push(Looked { symbol, led })?;
+                return Ok((verdict, Sequence::new(looked)));
+            }
+            Seen::Onward(next) => {
+                let row = next.snapshot(alloc)?;
+                let led = Led::Row(row);
+                looked.push(Looked { symbol, led })?;
+                set = next;
+            }
+        }
+    }
+    unreachable!()
+}
+
 /// The SLL verdict of a decision over its allowed alternatives, on the tokens from it on, and its path.
 ///
 /// # Errors
@@ -100,30 +137,36 @@ pub fn simulate(
     ensures decision { IfOk result (λ r. r.1.decision ≡ decision) }
     ensures path { IfOk result (λ r. Sll net.now decision (Allows allowed.now) (word_of tokens.now) (verdict_of r.0) (path_of r.1)) }
 {
-    let mut set = start_set(alloc, net, decision, allowed)?;
-    let first = set.snapshot(alloc)?;
-    let mut looked = Vec::new(alloc);
-    for (k, token) in tokens.iter().enumerate() {
-        let symbol = token.symbol;
-        let seen = look(alloc, net, set, symbol, k as u32)?;
-        match seen {
-            Seen::Ended(verdict) => {
-                let led = Led::Ended(verdict);
-                looked.push(Looked { symbol, led })?;
-                let path = Path {
-                    decision,
-                    start: first,
-                    looked: Sequence::new(looked),
-                };
-                return Ok((verdict, path));
-            }
-            Seen::Onward(next) => {
-                let row = next.snapshot(alloc)?;
-                let led = Led::Row(row);
-                looked.push(Looked { symbol, led })?;
-                set = next;
-            }
-        }
-    }
-    unreachable!()
+    let set = start_set(alloc, net, decision, allowed)?;
+    let start = set.snapshot(alloc)?;
+    let (verdict, looked) = look_on(alloc, net, set, tokens, 0)?;
+    let path = Path {
+        decision,
+        start,
+        looked,
+    };
+    Ok((verdict, path))
+}
+
+/// The SLL verdict from a set to which SLL came by k symbols, on the tokens after these, and the rest of its path. Symbols count from 0,
+/// the decision's first.
+///
+/// # Errors
+/// No memory.
+pub fn simulate_from(
+    alloc: Global,
+    net: &ParserNetwork,
+    row: &Snapshot,
+    tokens: &[Token],
+    k: u32,
+) -> Result<(Verdict, Sequence<Looked>), AllocError>
+    requires ready { IsReady net.now }
+    requires reached { (c : Config) → Contains row.now c → IsReached net.now c }
+    requires ends { Contains (word_of tokens.now) end_of_list }
+    requires few { k + length tokens.now < 2 ^ 32 }
+    ensures { IfOk result (λ r. SllFrom net.now (Contains row.now) (word_of tokens.now) k (verdict_of r.0) (map looked_of r.1)) }
+{
+    let set = row.load(alloc)?;
+    let found = look_on(alloc, net, set, tokens, k)?;
+    Ok(found)
 }
