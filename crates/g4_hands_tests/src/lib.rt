@@ -1,5 +1,7 @@
-// Hands that take files: one after the other, and many at once.
+// Hands that take files, and workers that work on them: one after the other, and many at once.
 #![tactic(auto)]
 
 #[cfg(test)]
 mod taking;
+#[cfg(test)]
+mod working;

@@ -1,0 +1,2 @@
+-- Other crates cite Placing.
+pub mod Placing

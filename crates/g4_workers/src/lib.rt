@@ -1,0 +1,11 @@
+//! Workers that do a work on files, many at once, each with a state of its own: an outcome for each file, in its place.
+#![tactic(auto)]
+
+mod finish;
+mod place;
+mod run;
+mod work;
+mod worker;
+
+pub use run::run_all;
+pub use work::Work;

@@ -1,0 +1,64 @@
+// A worker, and what it does.
+ghost use Rattle.std.specs.Prelude.{◌≡◌, All, length};
+ghost use Rattle.g4_workers.specs.Placing.{AreOutcomesOf, IsReady};
+
+use crate::work::Work;
+use g4_hands::Hand;
+use std::sync::Wait;
+use std::thread::{Threads, for_each_mut};
+
+/// An outcome, and the number of its file.
+#[derive(Drop)]
+pub struct Numbered<O> {
+    pub file: u32,
+    pub outcome: O,
+}
+
+/// A worker with its hand of the files, its state, and the outcomes so far.
+#[derive(Drop)]
+pub struct Worker<S, O> {
+    pub number: u32,
+    pub hand: Hand,
+    pub state: S,
+    pub outcomes: Vec<Numbered<O>>,
+}
+
+/// Works on files until there are none, or until there is no memory for one.
+fn work_through<R: Wait, S, O: Drop, W: Work<S, O>>(rt: &R, work: &W, worker: &mut Worker<S, O>)
+    requires { IsReady (W.files work.now) (W.is_outcome work.now) worker.old }
+    ensures { IsReady (W.files work.now) (W.is_outcome work.now) worker.new }
+{
+    for _ in rt.forever() {
+        let Some(file) = worker.hand.take(rt) else {
+            break;
+        };
+        let Ok(outcome) = work.run(&mut worker.state, worker.number, file) else {
+            break;
+        };
+        if worker.outcomes.push(Numbered { file, outcome }).is_err() {
+            break;
+        }
+    }
+}
+
+/// All workers at once.
+pub fn work_together<R: Threads + Wait + Sync, S: Send, O: Drop + Send, W: Work<S, O>>(
+    rt: &R,
+    work: &W,
+    workers: &mut [Worker<S, O>],
+)
+    requires { All (IsReady (W.files work.now) (W.is_outcome work.now)) workers.old }
+    ensures long { length workers.new ≡ length workers.old }
+    ensures ready { All (IsReady (W.files work.now) (W.is_outcome work.now)) workers.new }
+{
+    let threads = workers.len() + 1;
+    for_each_mut(
+        rt,
+        workers,
+        threads,
+        &|_, worker: &mut Worker<S, O>|
+            requires { IsReady (W.files work.now) (W.is_outcome work.now) worker.now }
+            ensures { IsReady (W.files work.entry.now) (W.is_outcome work.entry.now) worker.exit.now }
+        { work_through(rt, work, worker) },
+    );
+}
