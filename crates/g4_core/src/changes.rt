@@ -11,13 +11,13 @@ ghost use Rattle.g4_core.specs.declared.event.Progress.TheVariants.{Waiting};
 ghost use Rattle.g4_core.specs.declared.event.Place.TheVariants.{Cell, Start};
 
 use crate::event::{Change, Effect, Entry, Event, Given, Phase, Place, Progress};
-use crate::machine::{Copied, Core};
+use crate::machine::Core;
 use crate::sights::item_at;
-use g4_store::automaton::{Automaton, Led};
+use g4_store::automaton::{Automaton, Content, Led};
 use g4_store::path::Path;
 use std::alloc::{AllocError, Global};
 
-impl<N: Drop, C: Copied + Drop, A: Automaton<N, C>> Core<N, C, A> {
+impl<N: Drop, C: Content + Drop, A: Automaton<N, C>> Core<N, C, A> {
     /// What an event changes; nothing where it is not enabled.
     pub(crate) fn change_of(
         &self,

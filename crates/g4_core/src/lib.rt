@@ -10,4 +10,4 @@ mod sights;
 
 pub use event::{Change, Effect, Entry, Event, Given, Phase, Place, Progress, Slot};
 pub use law::schedules;
-pub use machine::{Copied, Core, StepFault};
+pub use machine::{Core, StepFault};

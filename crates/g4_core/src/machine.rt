@@ -13,12 +13,6 @@ use g4_store::path::Path;
 use std::alloc::{AllocError, Global};
 use std::marker::{Model, PhantomData};
 
-/// A content of which copies can be made.
-pub trait Copied: Content {
-    fn copy(&self, alloc: Global) -> Result<Self, AllocError>
-        ensures { IfOk result (λ made. made ≡ self.now) };
-}
-
 /// Why a step changes nothing.
 #[derive(Clone, Copy, Debug, PartialEq, Eq)]
 pub enum StepFault {
@@ -89,7 +83,7 @@ fn put<T: Copy>(list: &mut Vec<T>, at: usize, value: T)
     }
 }
 
-impl<N: Drop, C: Copied + Drop, A: Automaton<N, C>> Core<N, C, A> {
+impl<N: Drop, C: Content + Drop, A: Automaton<N, C>> Core<N, C, A> {
     /// The machine at the start: nothing is learned, and each of these workers is free.
     ///
     /// # Errors

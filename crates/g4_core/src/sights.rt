@@ -13,8 +13,8 @@ ghost use Rattle.g4_store.specs.declared.automaton.Led.TheVariants.{Row};
 ghost use Rattle.g4_store.specs.declared.path.Path.{Path as Way};
 
 use crate::event::{Entry, Phase, Place, Slot};
-use crate::machine::{Copied, Core};
-use g4_store::automaton::{Automaton, Led};
+use crate::machine::Core;
+use g4_store::automaton::{Automaton, Content, Led};
 use g4_store::path::{Looked, Path};
 
 /// The content at which a path goes on after this.
@@ -37,7 +37,7 @@ pub(crate) fn item_at<T: Copy>(list: &[T], at: usize) -> Option<T>
     }
 }
 
-impl<N: Drop, C: Copied + Drop, A: Automaton<N, C>> Core<N, C, A> {
+impl<N: Drop, C: Content + Drop, A: Automaton<N, C>> Core<N, C, A> {
     /// The path of a question.
     pub(crate) fn path_of(&self, file: usize, question: usize) -> Option<&Path<C>>
         ensures { MatchOption result ((path : Way C) → IsAt self.now.files file question path → ⊥)

@@ -2,7 +2,6 @@
 ghost use Rattle.std.specs.Prelude.{◌≡◌, IfOk};
 ghost use Rattle.g4_core_tests.specs.Numbers.{IsAlong};
 
-use g4_core::Copied;
 use g4_store::automaton::{Automaton, Content, Led};
 use g4_store::path::{Looked, Path};
 use std::alloc::{AllocError, Global};
@@ -23,9 +22,7 @@ impl Content for Number {
     fn same(&self, other: &Number) -> bool {
         self.value == other.value
     }
-}
 
-impl Copied for Number {
     fn copy(&self, _: Global) -> Result<Number, AllocError> {
         Ok(Number { value: self.value })
     }

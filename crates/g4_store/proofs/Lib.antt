@@ -6,6 +6,7 @@ pub mod Loads
 pub mod Stores
 pub mod Growing
 pub mod Moves
+pub mod Known
 pub mod Passes
 pub mod Benches
 pub mod Following

@@ -109,6 +109,11 @@ module _ {A : Type 0} where
   in_range (x ∷ xs) zero a e = omega arith
   in_range (x ∷ xs) (suc i) a e = let h = in_range xs i a e in omega arith
 
+  pub at_below : (l : List A) (i : ℕ) → i < length l → (a : A) × (get_elem? l i ≡ some a)
+  at_below [] i lt = absurd (omega arith)
+  at_below (x ∷ xs) zero lt = (x, refl)
+  at_below (x ∷ xs) (suc i) lt = at_below xs i (omega arith)
+
   pub among_left : (a : A) (xs ys : List A) → Among a xs → Among a (xs ++ ys)
   among_left a [] ys m = absurd m
   among_left a (x ∷ xs) ys (inl e) = inl e

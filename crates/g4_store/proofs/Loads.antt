@@ -13,7 +13,7 @@ use Rattle.g4_store.specs.declared.view.Looks.{Looks}
 use Rattle.g4_store.specs.declared.view.View.{View}
 use Rattle.g4_store.specs.Numbers.{Among, has}
 use Rattle.g4_store.specs.Words.{cell_at, start_at, Names, Stands}
-use Rattle.g4_store.specs.Views.{one_more, saw, looked, NoStart, NoCell, Tells, Knows, Kept, Rule, ProbedStart, ProbedCell, RereadStart, RereadCell, Checked}
+use Rattle.g4_store.specs.Views.{one_more, saw, looked, NoStart, NoCell, Tells, Agrees, Knows, Kept, Rule, ProbedStart, ProbedCell, RereadStart, RereadCell, Checked, Reviewed}
 use Rattle.g4_store.proofs.Lists.{in_range, at_append}
 use Rattle.g4_store.proofs.Placing.{same_cell, names_full}
 use Rattle.g4_store.proofs.Views.{each_set, kept_set}
@@ -114,7 +114,26 @@ module _ {S N C : Type 0} (starts : N → ℕ → C → Type 0) (leads : N → C
           (λ t y m. ap (λ (l : List C). get_elem? l t) (k.book books).1 ∙ k.knows t y m),
           (λ r q x a b. let is = (k.book books).1 in
               h.shows.differ r q x (ap (λ (l : List C). get_elem? l r) (sym is) ∙ a) (ap (λ (l : List C). get_elem? l q) (sym is) ∙ b)),
-          λ f m. (k.fills books f).1 (k.sees f m),
+          (λ f m. (k.fills books f).1 (k.sees f m)),
+          subst (λ (l : List C). length l ≤ p.rows) (sym (k.book books).1) h.shows.fits,
+        ),
+      )
+
+  pub reviews : (p : Plan N) (slots id i : ℕ) (me : Me S (View C)) (st : Step S) → me.0.spent ≡ false
+      → Allows (Rule {S = S} starts leads p) slots id me i (λ n. n) (Reviewed starts leads p st me)
+  reviews p slots id i me st live s h deep mine small =
+      let k = h.each id me.0 mine live in (
+        me.0,
+        keeps,
+        tt,
+        same_again p id i me.0 s h mine live,
+        (
+          refl,
+          refl,
+          record {
+            within = λ t y m. (let a = in_range h.rows t y (k.knows t y m) in let b = h.shows.fits in omega arith);
+            one = λ t y z a b. some-injective _ _ (sym (k.knows t y a) ∙ k.knows t z b);
+          },
         ),
       )
 
@@ -127,7 +146,8 @@ module _ {S N C : Type 0} (starts : N → ℕ → C → Type 0) (leads : N → C
       let there : x ≡ get_or s.words (start_at p sy) 0 = ap (λ (j : ℕ). get_or s.words j 0) at in
       let only : (t : ℕ) → st.word ≡ start_at p t → sy ≡ t = λ t e. (let a = sym at ∙ sym word ∙ e in omega arith) in
       let Told : (w : View C) → ℕ → Type 0 = λ w t. (x ≡ 0 → (w ≡ looked (start_at p t) x v) × NoStart t v.seen)
-      × (x ≢ 0 → (x ≤ p.rows) × ((y : C) × starts p.net t y × (w ≡ looked (start_at p t) x (saw (Start t y) ((x - 1, y) ∷ []) v)))) in
+      × (x ≢ 0 → (x ≤ p.rows) × ((y : C) × starts p.net t y × (w ≡ looked (start_at p t) x (saw (Start t y) ((x - 1, y) ∷ []) v))
+      × Agrees v.known (x - 1) y)) in
       let tell : (w : View C) → Told w sy → ProbedStart starts leads p st me x (w, me.1)
       = λ w told. (refl, λ t l e. subst (λ (t : ℕ). Told w t) (only t e) told) in
       ⊎_elim
@@ -153,7 +173,15 @@ module _ {S N C : Type 0} (starts : N → ℕ → C → Type 0) (leads : N → C
             (λ (e : ⊥). absurd e) m),
         tell (looked (start_at p sy) x (saw (Start sy t.1) told v)) (
           (λ z. absurd (let a = t.4 in omega arith)),
-          (λ _. ((let a = in_range h.rows t.0 t.1 t.3 in let b = h.shows.fits in let c = t.4 in omega arith), (t.1, t.2, refl))),
+          (λ _. (
+            (let a = in_range h.rows t.0 t.1 t.3 in let b = h.shows.fits in let c = t.4 in omega arith),
+            (
+              t.1,
+              t.2,
+              refl,
+              λ z m. some-injective _ _ (sym t.3 ∙ (ap (λ (j : ℕ). get_elem? h.rows j) (sym row) ∙ k.knows (x - 1) z m)),
+            ),
+          )),
         ),
       ))
       (h.shows.begun sy inside)
@@ -171,7 +199,8 @@ module _ {S N C : Type 0} (starts : N → ℕ → C → Type 0) (leads : N → C
       → (row ≡ r) × (sy ≡ t) = λ r t l e. same_cell p.columns row r sy t inside l (let a = sym at ∙ sym word ∙ e in omega arith) in
       let Told : (w : View C) → ℕ → ℕ → C → Type 0 = λ w r t z. (n ≡ 0 → (w ≡ looked (cell_at p r t) n v) × NoCell z t v.seen)
       × (n ≢ 0 → (led : Led C) × (told : List (ℕ × C)) × leads p.net z t led × Tells n led told
-      × ((u : ℕ) (y : C) → Among (u, y) told → u < p.rows) × (w ≡ looked (cell_at p r t) n (saw (Cell z t led) told v))) in
+      × ((u : ℕ) (y : C) → Among (u, y) told → (u < p.rows) × Agrees v.known u y)
+      × (w ≡ looked (cell_at p r t) n (saw (Cell z t led) told v))) in
       let tell : (w : View C) → Told w row sy x → ProbedCell starts leads p st me n (w, me.1)
       = λ w told. (
         refl,
@@ -210,7 +239,10 @@ module _ {S N C : Type 0} (starts : N → ℕ → C → Type 0) (leads : N → C
             told.0,
             t.1,
             subst (λ (w : ℕ). Tells w t.0 told.0) (sym there) told.1,
-            (λ u y m. let a = in_range h.rows u y (told.2 u y m) in let b = h.shows.fits in omega arith),
+            (λ u y m. (
+              (let a = in_range h.rows u y (told.2 u y m) in let b = h.shows.fits in omega arith),
+              (λ z a. some-injective _ _ (sym (told.2 u y m) ∙ k.knows u z a)),
+            )),
             refl,
           )),
         ),

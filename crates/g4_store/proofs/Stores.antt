@@ -16,7 +16,7 @@ use Rattle.g4_store.specs.Numbers.{Among, has}
 use Rattle.g4_store.specs.Words.{cell_at, start_at, Names, IsTo, IsOf, Stands, Follows, Shows}
 use Rattle.g4_store.specs.Views.{filled, NoStart, NoCell, Tells, IsNamed, Knows, Kept, Rule, FilledStart, FilledCell}
 use Rattle.g4_store.proofs.Lists.{in_range, at_append, set_there}
-use Rattle.g4_store.proofs.Placing.{same_cell, below_starts, row_one, names_one, names_full}
+use Rattle.g4_store.proofs.Placing.{same_cell, below_starts, row_one, names_one}
 use Rattle.g4_store.proofs.Views.{each_set, kept_set}
 use Rattle.g4_store.proofs.Loads.{tells}
 

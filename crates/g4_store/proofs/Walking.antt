@@ -1,5 +1,5 @@
 -- A walk, a column at a time.
-use Rattle.std.proofs.Common.{◌≡◌, ℕ, ◌+◌, ◌<◌, List, [], ◌∷◌, ◌++◌, length, take, get_or, Option, None, zero, suc, refl, sym, ap, ◌∙◌, subst, inl, inr, ⊎_elim}
+use Rattle.std.proofs.Common.{◌≡◌, ℕ, ◌+◌, ◌<◌, List, [], ◌∷◌, ◌++◌, length, take, get_or, None, zero, suc, refl, sym, ap, ◌∙◌, subst, inl, inr, ⊎_elim}
 use Rattle.g4_store.specs.declared.automaton.Led.{Led}
 use Rattle.g4_store.specs.declared.automaton.Led.TheVariants.{Row}
 use Rattle.g4_store.specs.declared.automaton.Fact.{Fact}
@@ -7,10 +7,9 @@ use Rattle.g4_store.specs.declared.automaton.Fact.TheVariants.{Start, Cell}
 use Rattle.g4_store.specs.declared.automaton.Plan.{Plan}
 use Rattle.g4_store.specs.declared.view.View.{View}
 use Rattle.g4_store.specs.Numbers.{Among}
-use Rattle.g4_store.specs.Words.{cell_at, start_at}
 use Rattle.g4_store.specs.Views.{saw, looked}
 use Rattle.g4_store.specs.Found.{StartFound, CellFound}
-use Rattle.g4_store.specs.Walks.{Along, SawAlso, FoundNothing, Keeps, Came, Walked}
+use Rattle.g4_store.specs.Walks.{Along, SawAlso, Keeps, Came, Walked}
 use Rattle.g4_store.specs.Walks.Along.{here, onward}
 use Rattle.g4_store.specs.declared.walk.Walk.TheVariants.{NotLearned}
 use Rattle.g4_store.specs.declared.board.Found.TheVariants as found

@@ -8,8 +8,11 @@ use Rattle.g4_store.specs.declared.automaton.Fact.{Fact}
 use Rattle.g4_store.specs.declared.automaton.Fact.TheVariants.{Start, Cell}
 use Rattle.g4_store.specs.declared.automaton.Plan.{Plan}
 use Rattle.g4_store.specs.declared.path.Looked.{Looked}
+use Rattle.g4_store.specs.declared.path.Origin.{Origin}
+use Rattle.g4_store.specs.declared.path.Origin.TheVariants.{AtStart, AtRow}
 use Rattle.g4_store.specs.declared.path.Path.{Path}
 use Rattle.g4_store.specs.declared.view.View.{View}
+use Rattle.g4_store.specs.Known.{HasAllRows}
 use Rattle.g4_store.specs.Numbers.{Among}
 use Rattle.g4_store.specs.Views.{guest_of, told_guest}
 
@@ -54,6 +57,11 @@ module _ {C : Type 0} where
   abbrev pub facts_of : Path C → List (Fact C)
   facts_of path = Start path.start path.content ∷ cells_of path.content path.looked.items
 
+  -- the facts where learning begins
+  abbrev pub first_facts : Origin C → C → List (Fact C)
+  first_facts (AtStart i y) x = Start i x ∷ []
+  first_facts (AtRow r) x = []
+
   -- whether a fact that was taken in was stored now: then it was in none of the facts before, and else it was among them
   abbrev pub Stores : Fact C → List (Fact C) → List (Fact C) → Type 0
   Stores f facts stored = ((stored ≡ []) × Among f facts) ⊎ ((stored ≡ f ∷ []) × (Among f facts → ⊥))
@@ -91,6 +99,14 @@ module _ {C : Type 0} where
   TakesOr most f y old new None = Refuses most y old new
   TakesOr most f y old new (Some t) = Takes most f y t old new
 
+  -- the number is that of a row with this content, which is known
+  abbrev pub HasKnownRow : View C → ℕ → C → Type 0
+  HasKnownRow v r x = (get_elem? v.rows r ≡ maybe.some x) × InKnown v.known x
+
+  -- the pass knows the row of this number, which has this content
+  abbrev pub IsKnownRow : View C → ℕ → C → Type 0
+  IsKnownRow v r x = Among (r, x) v.known
+
   -- where learning is in the path: at the row of x, or past rows for which there was no room
   abbrev pub IsAt : View C → Bool → C → Option ℕ → Type 0
   IsAt v full x (Some r) = (get_elem? v.rows r ≡ maybe.some x) × (full ≡ false → InKnown v.known x)
@@ -121,6 +137,12 @@ module _ {C : Type 0} where
     pub missing : full ≡ true → (y : C) × HasRow done y × (InRows new.rows y → ⊥)
     pub part : full ≡ true → (f : Fact C) → Among f done → Within (InRows new.rows) f → Among f new.seen
 
+module _ {N C : Type 0} (starts : N → ℕ → C → Type 0) where
+  -- learning begins at this content: that of a start, or of a row as HasContent tells
+  abbrev pub BeginsAt : Plan N → (ℕ → C → Type 0) → Origin C → C → Type 0
+  BeginsAt p HasContent (AtStart i y) x = (i < p.starts) × starts p.net i y × (y ≡ x)
+  BeginsAt p HasContent (AtRow r) x = HasContent r x
+
 module _ {N C : Type 0} (starts : N → ℕ → C → Type 0) (leads : N → C → ℕ → Led C → Type 0) where
   abbrev pub Next : Led C → (C → Type 0) → Type 0 → Type 0
   Next (Row y mark) P Q = P y
@@ -135,53 +157,50 @@ module _ {N C : Type 0} (starts : N → ℕ → C → Type 0) (leads : N → C �
   IsPath p path = (path.start < p.starts) × starts p.net path.start path.content × LeadsOn p path.content path.looked.items
 
 module _ {C : Type 0} where
-  -- What learning does in any case: exactly those facts of the path are seen then whose rows are known then. Those that were stored
+  -- What learning some facts does in any case: exactly those of them are seen then whose rows are known then. Those that were stored
   -- are taught, and had not been seen.
-  pub record Learns (path : Path C) (old new : View C) : Type 0 where
+  pub record Learns (facts : List (Fact C)) (old new : View C) : Type 0 where
     pub holds : new.holds ≡ old.holds
     pub count : new.count ≡ old.count
     pub looks : new.looks ≡ old.looks
     pub stored : List (Fact C)
     pub taught : new.taught ≡ stored ++ old.taught
-    pub stores : (f : Fact C) → Among f stored → Among f (facts_of path) × Within (InKnown new.known) f × (Among f old.seen → ⊥)
-    pub seen : (f : Fact C) → Among f new.seen ↔ (Among f old.seen ⊎ (Among f (facts_of path) × Within (InKnown new.known) f))
+    pub stores : (f : Fact C) → Among f stored → Among f facts × Within (InKnown new.known) f × (Among f old.seen → ⊥)
+    pub seen : (f : Fact C) → Among f new.seen ↔ (Among f old.seen ⊎ (Among f facts × Within (InKnown new.known) f))
     pub known_kept : (t : ℕ) (y : C) → Among (t, y) old.known → Among (t, y) new.known
 
-  -- the whole path was learned
-  pub record LearnsAll (path : Path C) (old new : View C) : Type 0 where
-    pub learns : Learns path old new
-    pub whole : (f : Fact C) → Among f (facts_of path) → Within (InKnown new.known) f
-    pub known_new : (t : ℕ) (y : C) → Among (t, y) new.known → Among (t, y) old.known ⊎ HasRow (facts_of path) y
+  -- all of them were learned
+  pub record LearnsAll (facts : List (Fact C)) (old new : View C) : Type 0 where
+    pub learns : Learns facts old new
+    pub whole : (f : Fact C) → Among f facts → Within (InKnown new.known) f
+    pub known_new : (t : ℕ) (y : C) → Among (t, y) new.known → Among (t, y) old.known ⊎ HasRow facts y
 
-  -- there is no room: as many rows are known as there may be, and the path has another
-  pub record LearnsPart (most : ℕ) (path : Path C) (old new : View C) : Type 0 where
-    pub learns : Learns path old new
-    pub rows : List C
-    pub all : length rows ≡ most
-    pub differ : (r q : ℕ) (x : C) → get_elem? rows r ≡ maybe.some x → get_elem? rows q ≡ maybe.some x → r ≡ q
-    pub known : (t : ℕ) (y : C) → get_elem? rows t ≡ maybe.some y → Among (t, y) new.known
-    pub missing : (y : C) × HasRow (facts_of path) y × (InKnown new.known y → ⊥)
+  -- there is no room: as many rows are known as there may be, and one of the facts has another
+  pub record LearnsPart (most : ℕ) (facts : List (Fact C)) (old new : View C) : Type 0 where
+    pub learns : Learns facts old new
+    pub full : HasAllRows most new.known
+    pub missing : (y : C) × HasRow facts y × (InKnown new.known y → ⊥)
 
-  -- what the book fills is what the pass has taught then: exactly the facts of the path that have rows and were in no word before
-  pub record Fills (path : Path C) (old new book book' : View C) : Type 0 where
+  -- what the book fills is what the pass has taught then: exactly those of the facts that have rows and were in no word before
+  pub record Fills (facts : List (Fact C)) (old new book book' : View C) : Type 0 where
     pub stored : List (Fact C)
     pub taught : new.taught ≡ stored ++ old.taught
-    pub facts : book'.facts ≡ stored ++ book.facts
-    pub stores : (f : Fact C) → Among f stored → Among f (facts_of path) × Within (InRows book'.rows) f × (Among f book.facts → ⊥)
-    pub filled : (f : Fact C) → Among f (facts_of path) → Within (InRows book'.rows) f → Among f book'.facts
+    pub stand : book'.facts ≡ stored ++ book.facts
+    pub stores : (f : Fact C) → Among f stored → Among f facts × Within (InRows book'.rows) f × (Among f book.facts → ⊥)
+    pub filled : (f : Fact C) → Among f facts → Within (InRows book'.rows) f → Among f book'.facts
 
-  abbrev pub LearnedBy : ℕ → Path C → View C → View C → Bool → Type 0
-  LearnedBy most path old new true = LearnsPart most path old new
-  LearnedBy most path old new false = LearnsAll path old new
+  abbrev pub LearnedBy : ℕ → List (Fact C) → View C → View C → Bool → Type 0
+  LearnedBy most facts old new true = LearnsPart most facts old new
+  LearnedBy most facts old new false = LearnsAll facts old new
 
   -- how the guest goes
   abbrev pub Sent : Bool → View C → View C → Type 0
   Sent true b v = v ≡ told_guest b
   Sent false b v = v ≡ guest_of b
 
-  -- where learning is, once what was looked at so far is done
-  pub data Going (most : ℕ) (path : Path C) (old new : View C) (full : Bool) (at : Option ℕ)
+  -- where learning some facts is, once what was looked at so far is done
+  pub data Going (most : ℕ) (facts : List (Fact C)) (old new : View C) (full : Bool) (at : Option ℕ)
       (rest : List (Looked C)) (LeadsOn : C → Type 0) : Type 0 where
     goes : (x : C) (done : List (Fact C)) → Followed most done old new full → IsAt new full x at → LeadsOn x
-        → facts_of path ≡ done ++ cells_of x rest → Going most path old new full at rest LeadsOn
-    ended : Followed most (facts_of path) old new full → rest ≡ [] → Going most path old new full at rest LeadsOn
+        → facts ≡ done ++ cells_of x rest → Going most facts old new full at rest LeadsOn
+    ended : Followed most facts old new full → rest ≡ [] → Going most facts old new full at rest LeadsOn

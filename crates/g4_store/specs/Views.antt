@@ -1,5 +1,5 @@
 -- The views, the rule and what each step tells.
-use Rattle.std.specs.Prelude.{◌≡◌, ◌≢◌, ◌⊎◌, ◌↔◌, ℕ, suc, ◌+◌, ◌-◌, ◌<◌, ◌≤◌, List, [], ◌∷◌, ◌++◌, true, false, if◌then◌else◌}
+use Rattle.std.specs.Prelude.{◌≡◌, ◌≢◌, ◌⊎◌, ◌↔◌, ℕ, suc, ◌+◌, ◌-◌, ◌<◌, ◌≤◌, List, [], ◌∷◌, ◌++◌, length, true, false, if◌then◌else◌}
 use mathlib.Core.Option.{some}
 use lib.ListN.{get_elem?}
 use Rattle.atomic_table.specs.Table.{State, Me, Step}
@@ -11,6 +11,7 @@ use Rattle.g4_store.specs.declared.automaton.Fact.TheVariants.{Start, Cell}
 use Rattle.g4_store.specs.declared.automaton.Plan.{Plan}
 use Rattle.g4_store.specs.declared.view.Looks.{Looks}
 use Rattle.g4_store.specs.declared.view.View.{View}
+use Rattle.g4_store.specs.Known.{AreRows}
 use Rattle.g4_store.specs.Numbers.{Among, has, union}
 use Rattle.g4_store.specs.Words.{cell_at, start_at, row_word, end_word, Names, IsOf, Stands, Follows, Shows}
 
@@ -151,6 +152,10 @@ module _ {C : Type 0} where
   Tells w (Row y mark) told = (t : ℕ) × (t < 65536) × (w ≡ row_word t mark) × (told ≡ (t, y) ∷ [])
   Tells w (End code) told = (w ≡ end_word code) × (told ≡ [])
 
+  -- the row of this number, where it is known, has this content
+  abbrev pub Agrees : List (ℕ × C) → ℕ → C → Type 0
+  Agrees known t y = (z : C) → Among (t, z) known → y ≡ z
+
   -- none of the facts is of this start
   abbrev pub NoStart : ℕ → List (Fact C) → Type 0
   NoStart i facts = (y : C) → Among (Start i y) facts → ⊥
@@ -209,7 +214,7 @@ module _ {S N C : Type 0} (starts : N → ℕ → C → Type 0) (leads : N → C
       × ((i : ℕ) → i < p.starts → st.word ≡ start_at p i
       → (found ≡ 0 → (me'.0 ≡ looked (start_at p i) found me.0) × NoStart i me.0.seen)
       × (found ≢ 0 → (found ≤ p.rows) × ((y : C) × starts p.net i y
-      × (me'.0 ≡ looked (start_at p i) found (saw (Start i y) ((found - 1, y) ∷ []) me.0)))))
+      × (me'.0 ≡ looked (start_at p i) found (saw (Start i y) ((found - 1, y) ∷ []) me.0)) × Agrees me.0.known (found - 1) y)))
 
   -- a load of the cell of a row that is known
   abbrev pub ProbedCell : Plan N → Step S → Me S (View C) → ℕ → Me S (View C) → Type 0
@@ -218,7 +223,8 @@ module _ {S N C : Type 0} (starts : N → ℕ → C → Type 0) (leads : N → C
       × ((r s : ℕ) (x : C) → Among (r, x) me.0.known → s < p.columns → st.word ≡ cell_at p r s
       → (found ≡ 0 → (me'.0 ≡ looked (cell_at p r s) found me.0) × NoCell x s me.0.seen)
       × (found ≢ 0 → (led : Led C) × (told : List (ℕ × C)) × leads p.net x s led × Tells found led told
-      × ((t : ℕ) (y : C) → Among (t, y) told → t < p.rows) × (me'.0 ≡ looked (cell_at p r s) found (saw (Cell x s led) told me.0))))
+      × ((t : ℕ) (y : C) → Among (t, y) told → (t < p.rows) × Agrees me.0.known t y)
+      × (me'.0 ≡ looked (cell_at p r s) found (saw (Cell x s led) told me.0))))
 
   -- a load of a start by the book
   abbrev pub RereadStart : Plan N → Step S → Me S (View C) → ℕ → Me S (View C) → Type 0
@@ -256,7 +262,8 @@ module _ {S N C : Type 0} (starts : N → ℕ → C → Type 0) (leads : N → C
       × ((r s : ℕ) (x : C) (led : Led C) (told : List (ℕ × C)) → get_elem? me.0.rows r ≡ some x → s < p.columns → st.word ≡ cell_at p r s
       → Names me.0.rows led st.first → Tells st.first led told → NoCell x s me.0.facts × (me'.0 ≡ filled (Cell x s led) told me.0))
 
-  -- a load by the book, which tells that its rows differ, that what the guest knows are rows, and that what it has seen stands
+  -- a load by the book, which tells that its rows differ and how many there may be, that what the guest knows are rows, and that what
+  -- it has seen stands
   abbrev pub Checked : Plan N → Step S → Me S (View C) → ℕ → Me S (View C) → Type 0
   Checked p st me found me' =
       (me'.1 ≡ me.1)
@@ -264,3 +271,8 @@ module _ {S N C : Type 0} (starts : N → ℕ → C → Type 0) (leads : N → C
       × ((t : ℕ) (y : C) → Among (t, y) me.0.known → get_elem? me.0.rows t ≡ some y)
       × ((r q : ℕ) (x : C) → get_elem? me.0.rows r ≡ some x → get_elem? me.0.rows q ≡ some x → r ≡ q)
       × ((f : Fact C) → Among f me.0.seen → Among f me.0.facts)
+      × (length me.0.rows ≤ p.rows)
+
+  -- a load by a pass, which tells that what it knows are rows
+  abbrev pub Reviewed : Plan N → Step S → Me S (View C) → ℕ → Me S (View C) → Type 0
+  Reviewed p st me found me' = (me'.1 ≡ me.1) × (me'.0 ≡ me.0) × AreRows p.rows me.0.known

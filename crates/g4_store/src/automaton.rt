@@ -1,5 +1,7 @@
 // Automata over contents.
-ghost use Rattle.std.specs.Prelude.{◌≡◌, ◌↔◌, ℕ, IsTrue};
+ghost use Rattle.std.specs.Prelude.{◌≡◌, ◌↔◌, ℕ, IfOk, IsTrue};
+
+use std::alloc::{AllocError, Global};
 
 /// What a column leads to: a row with a mark, or an end without a row.
 #[derive(Drop)]
@@ -26,6 +28,10 @@ pub trait Content: Sized {
 
     fn same(&self, other: &Self) -> bool
         ensures { IsTrue result ↔ (self.now ≡ other.now) };
+
+    /// A copy, where there is memory for it.
+    fn copy(&self, alloc: Global) -> Result<Self, AllocError>
+        ensures { IfOk result (λ made. made ≡ self.now) };
 }
 
 /// An automaton of a network: which content each start has, and where a content leads.

@@ -1,5 +1,5 @@
 // The rows, and the seat that alone fills words.
-ghost use Rattle.std.specs.Prelude.{◌≡◌, ◌≢◌, ◌⊎◌, ◌↔◌, ℕ, ◌+◌, ◌<◌, ◌≤◌, true, false, [], ◌++◌, ◌∷◌, length, IfSome, IfNone, IsTrue, vec_len, vec_capacity, is_none};
+ghost use Rattle.std.specs.Prelude.{◌≡◌, ◌≢◌, ◌⊎◌, ◌↔◌, ℕ, ◌+◌, ◌<◌, ◌≤◌, true, false, [], ◌++◌, ◌∷◌, length, IfOk, IfSome, IfNone, IsTrue, vec_len, vec_capacity, is_none};
 ghost use mathlib.Core.Option.{some};
 ghost use lib.ListN.{get_elem?};
 ghost use Rattle.g4_store.specs.Numbers.{Among, has};
@@ -17,6 +17,7 @@ use crate::rows::Rows;
 use crate::view::{
     Check, FillCell, FillStart, Grow, Home, Place, RereadCell, RereadStart, Telling, Visit,
 };
+use std::alloc::{AllocError, Global};
 use std::marker::{Model, PhantomData};
 
 /// The rows, and the seat that alone fills words. Contracts see the seat's view.
@@ -65,6 +66,17 @@ impl<N: Drop, C: Content + Drop, B: Home<N>> Bench<N, C, B> {
         ensures none { IfNone result (InRows self.now.rows content.now → ⊥) }
     {
         self.rows.find(content)
+    }
+
+    /// A copy of the content of a row.
+    ///
+    /// # Errors
+    /// No memory.
+    pub fn copy_row(&self, alloc: Global, row: usize) -> Result<C, AllocError>
+        requires { (x : C) × (get_elem? self.now.rows row ≡ some x) }
+        ensures { (x : C) → get_elem? self.now.rows row ≡ some x → IfOk result (λ made. made ≡ x) }
+    {
+        self.rows.copy(alloc, row)
     }
 
     /// What is a row is below the number of rows.
@@ -231,6 +243,7 @@ impl<N: Drop, C: Content + Drop, B: Home<N>> Bench<N, C, B> {
         ensures known { (t : ℕ) (y : C) → Among (t, y) self.old.known → get_elem? self.old.rows t ≡ some y }
         ensures differ { (r q : ℕ) (x : C) → get_elem? self.old.rows r ≡ some x → get_elem? self.old.rows q ≡ some x → r ≡ q }
         ensures filled { (f : Fact C) → Among f self.old.seen → Among f self.old.facts }
+        ensures room { length self.old.rows ≤ B.plan.rows }
     {
         board.desk().load::<Check<N, A, B>>(&mut self.seat, 0);
     }

@@ -1,5 +1,5 @@
 // Learning a path.
-ghost use Rattle.std.specs.Prelude.{◌≡◌, ◌≢◌, ◌⊎◌, ◌↔◌, ℕ, ◌+◌, ◌<◌, ◌≤◌, true, false, [], ◌++◌, ◌∷◌, List, length, IfSome, IfNone, IsTrue};
+ghost use Rattle.std.specs.Prelude.{◌≡◌, ◌≢◌, ◌⊎◌, ◌↔◌, ℕ, ◌+◌, ◌<◌, ◌≤◌, true, false, [], ◌++◌, ◌∷◌, List, length, IfOk, IfSome, IfNone, IsTrue};
 ghost use mathlib.Core.Option.{some};
 ghost use lib.ListN.{get_elem?};
 ghost use Rattle.g4_store.specs.Numbers.{Among, has};
@@ -8,13 +8,17 @@ ghost use Rattle.g4_store.specs.declared.automaton.Fact.{Fact};
 ghost use Rattle.g4_store.specs.declared.automaton.Fact.TheVariants.{Start, Cell};
 ghost use Rattle.g4_store.specs.declared.view.View.{View};
 ghost use Rattle.g4_store.specs.Views.{IsIdle, IsPassView, NoStart, NoCell, without_guest};
-ghost use Rattle.g4_store.specs.Paths.{InRows, Takes, TakesOr, TakesEnd, IsAt, Followed, Onward, facts_of, IsPath, LearnedBy, Fills, Sent};
+ghost use Rattle.g4_store.specs.Known.{AreRows};
+ghost use Rattle.g4_store.specs.Paths.{InRows, Takes, TakesOr, TakesEnd, IsAt, Followed, Onward, LearnedBy, Fills, Sent};
+ghost use Rattle.g4_store.specs.Paths.{BeginsAt, HasKnownRow, IsKnownRow, LeadsOn, cells_of, first_facts};
 
 use crate::automaton::{Automaton, Content, Led};
 use crate::bench::{Bench, Progress};
 use crate::board::Board;
-use crate::path::{Looked, Path};
+use crate::path::{Looked, Origin};
 use crate::view::{Home, Place};
+use std::alloc::{AllocError, Global};
+use std::collections::VecDeque;
 
 impl<N: Drop, C: Content + Drop, B: Home<N>> Bench<N, C, B> {
     /// Learns an empty start with a new row.
@@ -221,19 +225,40 @@ impl<N: Drop, C: Content + Drop, B: Home<N>> Bench<N, C, B> {
         }
     }
 
-    /// Learns a path, as far as there is room. The result says whether there was none for some row.
-    fn follow<A: Automaton<N, C>>(&mut self, board: &Board<N, C, A, B>, path: Path<C>) -> bool
-        requires path { IsPath A.starts A.leads B.plan path }
+    /// Where learning begins, whose start is learned if it has one.
+    fn begin_at<A: Automaton<N, C>>(
+        &mut self,
+        board: &Board<N, C, A, B>,
+        origin: Origin<C>,
+    ) -> Progress
+        requires origin { (x : C) × BeginsAt A.starts B.plan (HasKnownRow self.old) origin x }
         requires guest { (self.old.loose ≡ []) × ((n : ℕ) × (has n self.old.holds ≡ true)) }
-        ensures { Followed B.plan.rows (facts_of path) self.old self.new result }
+        ensures { (x : C) → BeginsAt A.starts B.plan (HasKnownRow self.old) origin x
+            → Followed B.plan.rows (first_facts origin x) self.old self.new result.full × IsAt self.new result.full x result.at }
     {
-        let Path {
-            start,
-            content,
-            looked,
-        } = path;
+        match origin {
+            Origin::AtStart(start, content) => {
+                Progress::of(self.begin(board, start as usize, content))
+            }
+            Origin::AtRow(row) => Progress::of(Some(row)),
+        }
+    }
+
+    /// Learns what was looked at from there on, as far as there is room. The result says whether there was none for some row.
+    fn follow<A: Automaton<N, C>>(
+        &mut self,
+        board: &Board<N, C, A, B>,
+        origin: Origin<C>,
+        looked: VecDeque<Looked<C>>,
+    ) -> bool
+        requires path { (x : C) × BeginsAt A.starts B.plan (HasKnownRow self.old) origin x
+            × LeadsOn A.starts A.leads B.plan x looked.items }
+        requires guest { (self.old.loose ≡ []) × ((n : ℕ) × (has n self.old.holds ≡ true)) }
+        ensures { (x : C) → BeginsAt A.starts B.plan (HasKnownRow self.old) origin x
+            → Followed B.plan.rows (first_facts origin x ++ cells_of x looked.items) self.old self.new result }
+    {
         let mut rest = looked;
-        let mut progress = Progress::of(self.begin(board, start as usize, content));
+        let mut progress = self.begin_at(board, origin);
         while let Some(next) = rest.pop_front() {
             progress = self.step(board, progress, next);
         }
@@ -254,27 +279,55 @@ impl<N: Drop, C: Content + Drop, B: Home<N>> Bench<N, C, B> {
         }
     }
 
-    /// Learns a path for a guest, who comes and goes.
+    /// Learns for a guest, who comes and goes, what was looked at from a start or from a row that the guest knows.
     pub fn learn_for<A: Automaton<N, C>>(
         &mut self,
         board: &Board<N, C, A, B>,
         guest: Place<C>,
-        path: Path<C>,
+        origin: Origin<C>,
+        looked: VecDeque<Looked<C>>,
     ) -> (Place<C>, bool)
         requires idle { IsIdle self.old }
         requires guest { (guest.table_id ≡ B.table) × (guest.me.1 ≡ []) × (guest.me.0.spent ≡ false)
             × ((n : ℕ) × (has n guest.me.0.holds ≡ true)) }
-        requires path { IsPath A.starts A.leads B.plan path }
+        requires path { (x : C) × BeginsAt A.starts B.plan (IsKnownRow guest.me.0) origin x
+            × LeadsOn A.starts A.leads B.plan x looked.items }
         ensures idle { IsIdle self.new }
         ensures seat { (result.0.table_id ≡ B.table) × (result.0.me.1 ≡ []) × (IsPassView result.0.me.0) }
-        ensures learned { LearnedBy B.plan.rows path guest.me.0 result.0.me.0 result.1 }
-        ensures fills { Fills path guest.me.0 result.0.me.0 self.old self.new }
+        ensures rows { AreRows B.plan.rows result.0.me.0.known }
+        ensures learned { (x : C) → BeginsAt A.starts B.plan (IsKnownRow guest.me.0) origin x
+            → LearnedBy B.plan.rows (first_facts origin x ++ cells_of x looked.items) guest.me.0 result.0.me.0 result.1 }
+        ensures fills { (x : C) → BeginsAt A.starts B.plan (IsKnownRow guest.me.0) origin x
+            → Fills (first_facts origin x ++ cells_of x looked.items) guest.me.0 result.0.me.0 self.old self.new }
     {
         self.host(board, guest);
         self.check(board);
-        let full = self.follow(board, path);
+        let full = self.follow(board, origin, looked);
         self.check(board);
         let guest = self.send(board, full);
         (guest, full)
+    }
+
+    /// A copy of the content of a row that a guest knows, who comes and goes as it was.
+    pub fn copy_for<A: Automaton<N, C>>(
+        &mut self,
+        alloc: Global,
+        board: &Board<N, C, A, B>,
+        guest: Place<C>,
+        row: usize,
+    ) -> (Place<C>, Result<C, AllocError>)
+        requires idle { IsIdle self.old }
+        requires guest { (guest.table_id ≡ B.table) × (guest.me.1 ≡ []) × IsPassView guest.me.0
+            × ((n : ℕ) × (has n guest.me.0.holds ≡ true)) }
+        requires row { (x : C) × Among (row, x) guest.me.0.known }
+        ensures idle { self.new ≡ self.old }
+        ensures seat { (result.0.table_id ≡ B.table) × (result.0.me ≡ guest.me) }
+        ensures content { (x : C) → Among (row, x) guest.me.0.known → IfOk result.1 (λ made. made ≡ x) }
+    {
+        self.host(board, guest);
+        self.check(board);
+        let content = self.copy_row(alloc, row);
+        let guest = self.send_off(board);
+        (guest, content)
     }
 }

@@ -1,5 +1,6 @@
 // What one thread has seen.
 ghost use Rattle.std.specs.Prelude.{◌≡◌, ◌≢◌, ℕ, ◌<◌, true, false, [], Bool};
+ghost use Rattle.g4_store.specs.Known.{KnowsRows};
 ghost use Rattle.g4_store.specs.Numbers.{Among, has};
 ghost use Rattle.g4_store.specs.Found.{StartFound, CellFound};
 
@@ -18,6 +19,7 @@ pub struct Pass<N, C, B: Home<N>> {
 
 impl<N, C, B: Home<N>> Model for Pass<N, C, B> {
     ghost use Rattle.std.specs.Prelude.{◌≡◌, ℕ, Bool, true, []};
+    ghost use Rattle.g4_store.specs.Known.{KnowsRows};
     ghost use Rattle.g4_store.specs.Numbers.{has};
     ghost use Rattle.g4_store.specs.Views.{IsPassView};
     ghost use Rattle.g4_store.specs.declared.view.View.{View};
@@ -27,7 +29,7 @@ impl<N, C, B: Home<N>> Model for Pass<N, C, B> {
     ghost view = { λ p. (p.seat.me.0, p.full) };
 
     ghost invariant = { λ p. (p.seat.table_id ≡ B.table) × (p.seat.me.1 ≡ []) × IsPassView p.seat.me.0
-        × ((n : ℕ) × (has n p.seat.me.0.holds ≡ true)) };
+        × ((n : ℕ) × (has n p.seat.me.0.holds ≡ true)) × KnowsRows B.plan.rows (p.seat.me.0, p.full) };
 }
 
 impl<N: Drop, C, B: Home<N>> Pass<N, C, B> {
@@ -46,6 +48,7 @@ impl<N: Drop, C, B: Home<N>> Pass<N, C, B> {
     ) -> Option<usize>
         requires { start < B.plan.starts }
         ensures found { StartFound A.starts A.leads B.plan start self.old.0 self.new.0 result }
+        ensures rows { KnowsRows B.plan.rows self.new }
         ensures full { self.new.1 ≡ self.old.1 }
     {
         let word = board.start_word(start);
@@ -66,6 +69,7 @@ impl<N: Drop, C, B: Home<N>> Pass<N, C, B> {
         requires place { (row < B.plan.rows) × (column < B.plan.columns) }
         ensures found { (x : C) → Among (row, x) self.old.0.known
             → CellFound A.starts A.leads B.plan row x column self.old.0 self.new.0 result }
+        ensures rows { KnowsRows B.plan.rows self.new }
         ensures full { self.new.1 ≡ self.old.1 }
     {
         let word = board.cell_word(row, column);

@@ -75,6 +75,15 @@ fn find_from<C: Content>(
     None
 }
 
+/// A copy of the content at a place.
+fn copy_at<C: Content>(alloc: Global, rows: &[C], row: usize) -> Result<C, AllocError>
+    requires { (x : C) × (get_elem? rows.now row ≡ some x) }
+    ensures { (x : C) → get_elem? rows.now row ≡ some x → IfOk result (λ made. made ≡ x) }
+{
+    let made = rows[row].copy(alloc)?;
+    Ok(made)
+}
+
 impl<C: Content + Drop> Rows<C> {
     /// No rows, with room for so many.
     ///
@@ -120,6 +129,18 @@ impl<C: Content + Drop> Rows<C> {
             bucket,
             content,
         )
+    }
+
+    /// A copy of the content of a row.
+    ///
+    /// # Errors
+    /// No memory.
+    pub fn copy(&self, alloc: Global, row: usize) -> Result<C, AllocError>
+        requires { (x : C) × (get_elem? self.now.0 row ≡ some x) }
+        ensures { (x : C) → get_elem? self.now.0 row ≡ some x → IfOk result (λ made. made ≡ x) }
+    {
+        let made = copy_at(alloc, self.contents.as_slice(), row)?;
+        Ok(made)
     }
 
     /// Makes a row, where there is room.

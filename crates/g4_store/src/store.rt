@@ -6,7 +6,8 @@ ghost use Rattle.g4_store.specs.Numbers.{Among, has, union};
 ghost use Rattle.g4_store.specs.Words.{size_of, Stands, Shows};
 ghost use Rattle.g4_store.specs.Views.{opening_view, leading, copied, met, IsWhole};
 ghost use Rattle.g4_store.specs.Found.{StartFound, CellFound};
-ghost use Rattle.g4_store.specs.Paths.{IsPath};
+ghost use Rattle.g4_store.specs.Known.{KnowsRows};
+ghost use Rattle.g4_store.specs.Paths.{IsPath, LeadsOn, cells_of, facts_of};
 ghost use Rattle.g4_store.specs.Learned.{IsLearned};
 ghost use Rattle.g4_store.specs.Closing.{Closes};
 ghost use Rattle.g4_store.specs.declared.automaton.Fact.{Fact};
@@ -18,10 +19,11 @@ use crate::board::{Board, Found};
 use crate::book::{Book, Learned};
 use crate::listing::{Listing, finish};
 use crate::pass::Pass;
-use crate::path::Path;
+use crate::path::{Looked, Origin, Path};
 use crate::rows::Rows;
-use crate::view::{Copying, Home, Meeting, Place, Visit, Words};
+use crate::view::{Copying, Home, Meeting, Place, Review, Visit, Words};
 use std::alloc::{AllocError, Global};
+use std::collections::VecDeque;
 use std::marker::PhantomData;
 use std::sync::{Mutex, Wait};
 
@@ -36,6 +38,12 @@ pub struct Opened<N: Drop, C: Content + Drop, A: Automaton<N, C>> {
         × (size_of plan ≡ table.shared.table_id.words) × (table.shared.table_id.slots ≡ 0) × (size_of plan < 2 ^ 32)
         × (0 < size_of plan) × (plan.rows ≤ 65536) },
     ghost room: { rows ≡ ([], plan.rows) },
+}
+
+fn either(one: bool, two: bool) -> bool
+    ensures { result ≡ one || two }
+{
+    one || two
 }
 
 /// The words, all empty. While they are laid they take their memory twice.
@@ -125,6 +133,7 @@ impl<N: Drop, C: Content + Drop, A: Automaton<N, C>, B: Home<N>> Store<N, C, A, 
     pub fn read_start(&self, pass: &mut Pass<N, C, B>, start: usize) -> Option<usize>
         requires { start < B.plan.starts }
         ensures found { StartFound A.starts A.leads B.plan start pass.old.0 pass.new.0 result }
+        ensures rows { KnowsRows B.plan.rows pass.new }
         ensures full { pass.new.1 ≡ pass.old.1 }
     {
         pass.read_start(&self.board, start)
@@ -136,6 +145,7 @@ impl<N: Drop, C: Content + Drop, A: Automaton<N, C>, B: Home<N>> Store<N, C, A, 
         requires place { (row < B.plan.rows) × (column < B.plan.columns) }
         ensures found { (x : C) → Among (row, x) pass.old.0.known
             → CellFound A.starts A.leads B.plan row x column pass.old.0 pass.new.0 result }
+        ensures rows { KnowsRows B.plan.rows pass.new }
         ensures full { pass.new.1 ≡ pass.old.1 }
     {
         pass.read_cell(&self.board, row, column)
@@ -144,9 +154,51 @@ impl<N: Drop, C: Content + Drop, A: Automaton<N, C>, B: Home<N>> Store<N, C, A, 
     /// Learns a path under the lock.
     pub fn learn<R: Wait>(&self, rt: &R, pass: &mut Pass<N, C, B>, path: Path<C>) -> Learned
         requires { IsPath A.starts A.leads B.plan path }
-        ensures { IsLearned B.plan.rows path pass.old pass.new result }
+        ensures learned { IsLearned B.plan.rows (facts_of path) pass.old pass.new result }
+        ensures rows { KnowsRows B.plan.rows pass.new }
     {
-        self.book.lock(rt).learn(&self.board, pass, path)
+        let Path {
+            start,
+            content,
+            looked,
+        } = path;
+        let origin = Origin::AtStart(start, content);
+        self.book.lock(rt).learn(&self.board, pass, origin, looked)
+    }
+
+    /// Learns under the lock what was looked at from a row on that the pass knows.
+    pub fn learn_on<R: Wait>(
+        &self,
+        rt: &R,
+        pass: &mut Pass<N, C, B>,
+        row: usize,
+        looked: VecDeque<Looked<C>>,
+    ) -> Learned
+        requires { (x : C) × Among (row, x) pass.old.0.known × LeadsOn A.starts A.leads B.plan x looked.items }
+        ensures learned { (x : C) → Among (row, x) pass.old.0.known
+            → IsLearned B.plan.rows (cells_of x looked.items) pass.old pass.new result }
+        ensures rows { KnowsRows B.plan.rows pass.new }
+    {
+        let origin = Origin::AtRow(row);
+        self.book.lock(rt).learn(&self.board, pass, origin, looked)
+    }
+
+    /// A copy of the content of a row that the pass knows. It takes the lock.
+    ///
+    /// # Errors
+    /// No memory.
+    pub fn copy_row<R: Wait>(
+        &self,
+        rt: &R,
+        alloc: Global,
+        pass: &mut Pass<N, C, B>,
+        row: usize,
+    ) -> Result<C, AllocError>
+        requires { (x : C) × Among (row, x) pass.old.0.known }
+        ensures content { (x : C) → Among (row, x) pass.old.0.known → IfOk result (λ made. made ≡ x) }
+        ensures same { pass.new ≡ pass.old }
+    {
+        self.book.lock(rt).copy_row(alloc, &self.board, pass, row)
     }
 
     /// Another pass, which has seen as much. It asks for a pass that leads.
@@ -173,8 +225,10 @@ impl<N: Drop, C: Content + Drop, A: Automaton<N, C>, B: Home<N>> Store<N, C, A, 
             full,
             home: _,
         } = other;
-        pass.full = pass.full || full;
-        self.board.desk().join_seat::<Meeting>(&mut pass.seat, seat);
+        pass.full = either(pass.full, full);
+        let desk = self.board.desk();
+        desk.join_seat::<Meeting>(&mut pass.seat, seat);
+        desk.load::<Review<N, A, B>>(&mut pass.seat, 0);
     }
 
     /// Closes the store. The Listing's memory is taken first, so where there is none both come back.

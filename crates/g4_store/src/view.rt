@@ -133,6 +133,17 @@ impl<N, C, A: Automaton<N, C>, B: Home<N>> Play<(), View<C>> for Check<N, A, B> 
     ghost then = { Checked A.starts A.leads B.plan };
 }
 
+// A load by a pass, which tells that what it knows are rows.
+pub struct Review<N, A, B> {
+    marker: PhantomData<(N, A, B)>,
+}
+
+impl<N, C, A: Automaton<N, C>, B: Home<N>> Play<(), View<C>> for Review<N, A, B> {
+    ghost use Rattle.g4_store.specs.Views.{Reviewed};
+
+    ghost then = { Reviewed A.starts A.leads B.plan };
+}
+
 // A copy of a pass.
 pub struct Copying;
 

@@ -32,6 +32,10 @@ impl Content for Number {
     fn same(&self, other: &Number) -> bool {
         self.value == other.value
     }
+
+    fn copy(&self, _: Global) -> Result<Number, AllocError> {
+        Ok(Number { value: self.value })
+    }
 }
 
 pub struct Numbers;

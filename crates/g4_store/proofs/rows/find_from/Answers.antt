@@ -1,6 +1,5 @@
-use Rattle.std.proofs.Common.{◌≡◌, ◌-◌, ◌<◌, length, true≢false, sym, ap, ◌∙◌, arith}
+use Rattle.std.proofs.Common.{◌≡◌, ◌-◌, true≢false, sym, ap, ◌∙◌, arith}
 use mathlib.Core.Option.{some, some-injective}
-use lib.ListN.{get_elem?}
 use Rattle.g4_store.proofs.Lists.{get_or_there}
 use Rattle.g4_store.proofs.Bucketing.{first_on_way, next_on_way}
 use Rattle.g4_store.proofs.rows.find_from.Goals as goal

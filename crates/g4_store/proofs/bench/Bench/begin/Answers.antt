@@ -1,4 +1,4 @@
-use Rattle.std.proofs.Common.{◌≡◌, [], ◌∷◌, ap, ◌∙◌, sym, subst}
+use Rattle.std.proofs.Common.{◌≡◌, [], ◌∷◌, ap, ◌∙◌, subst}
 use mathlib.Core.Option as maybe
 use Rattle.g4_store.specs.declared.automaton.Fact.TheVariants.{Start}
 use Rattle.g4_store.specs.declared.view.View.{View}

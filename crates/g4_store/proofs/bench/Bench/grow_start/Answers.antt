@@ -1,4 +1,4 @@
-use Rattle.std.proofs.Common.{◌≡◌, ◌<◌, [], ◌∷◌, length, refl, sym, ap, ◌∙◌, subst, inl, arith, length-append}
+use Rattle.std.proofs.Common.{◌≡◌, ◌<◌, length, refl, sym, ap, ◌∙◌, subst, inl, arith}
 use Rattle.atomic_table.specs.Table.{step}
 use mathlib.Core.Option.{none}
 use lib.ListN.{get_elem?}

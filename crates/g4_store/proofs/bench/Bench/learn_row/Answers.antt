@@ -1,4 +1,4 @@
-use Rattle.std.proofs.Common.{◌≡◌, [], ◌∷◌, ap, ◌∙◌, sym, subst}
+use Rattle.std.proofs.Common.{◌≡◌, ap, ◌∙◌, sym, subst}
 use mathlib.Core.Option as maybe
 use lib.ListN.{get_elem?}
 use Rattle.g4_store.specs.declared.automaton.Led.TheVariants.{Row}

@@ -1,5 +1,3 @@
-use Rattle.std.proofs.Common.{◌≡◌, [], ◌∷◌, ap, ◌∙◌, sym, subst}
-use mathlib.Core.Option as maybe
 use Rattle.g4_store.specs.declared.automaton.Led.TheVariants.{Row}
 use Rattle.g4_store.specs.declared.automaton.Fact.TheVariants.{Cell}
 use Rattle.g4_store.proofs.Following.{fill_takes}

@@ -1,4 +1,3 @@
-use Rattle.std.proofs.Common.{◌≡◌, [], ◌∷◌, ap, ◌∙◌, sym, subst}
 use Rattle.g4_store.specs.declared.automaton.Fact.TheVariants.{Start}
 use Rattle.g4_store.proofs.Following.{fill_takes}
 use Rattle.g4_store.proofs.bench.Bench.place_start.Goals as goal

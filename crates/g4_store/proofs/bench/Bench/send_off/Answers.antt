@@ -1,4 +1,4 @@
-use Rattle.std.proofs.Common.{◌≡◌, List, [], sym, ap, ◌∙◌, subst}
+use Rattle.std.proofs.Common.{List, [], sym, ap, ◌∙◌, subst}
 use Rattle.g4_store.specs.declared.view.View.{View}
 use Rattle.g4_store.specs.Views.{IsBookOf, book_view, no_looks}
 use Rattle.g4_store.proofs.Moves.{sends_off}

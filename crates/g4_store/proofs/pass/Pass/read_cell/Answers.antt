@@ -4,7 +4,7 @@ use mathlib.Core.Option.{none}
 use Rattle.g4_store.specs.Numbers.{Among, has}
 use Rattle.g4_store.specs.Found.{CellFound}
 use Rattle.g4_store.proofs.Loads.{probes_cell}
-use Rattle.g4_store.proofs.Passes.{cell_pass, cell_found}
+use Rattle.g4_store.proofs.Passes.{cell_pass, cell_found, cell_rows}
 use Rattle.g4_store.proofs.pass.Pass.read_cell.Goals as goal
 
 pub load-found-requires : goal.load-found-requires
@@ -29,7 +29,18 @@ invariant_of-self g c =
     (subst (λ (q : _). Among (c.args.row, r.row.0) q.0.known) (sym c.self.view_is) r.row.1) r.place.1 c.cell_word-word.ensures.0 in
     let k = cell_pass g.A.Automaton.starts g.A.Automaton.leads g.B.Home.plan c.args.row r.row.0 c.args.column c.load-found.result _ _
     t p.2 in
-    (e.0 ∙ p.0, e.2.0 ∙ p.1, k.0, (p.3.0, ap (λ l. has p.3.0 l) k.1 ∙ p.3.1))
+    let rows = cell_rows g.A.Automaton.starts g.A.Automaton.leads g.B.Home.plan c.args.row r.row.0 c.args.column c.load-found.result _ _
+    c.self.inside.full t p.4 in
+    (e.0 ∙ p.0, e.2.0 ∙ p.1, k.0, (p.3.0, ap (λ l. has p.3.0 l) k.1 ∙ p.3.1), rows)
+
+pub returns-clause-rows : goal.returns-clause-rows
+returns-clause-rows g c =
+    let e = c.load-found.ensures in
+    let r = c.requires in
+    let t = e.2.1 c.args.row c.args.column r.row.0
+    (subst (λ (q : _). Among (c.args.row, r.row.0) q.0.known) (sym c.self.view_is) r.row.1) r.place.1 c.cell_word-word.ensures.0 in
+    cell_rows g.A.Automaton.starts g.A.Automaton.leads g.B.Home.plan c.args.row r.row.0 c.args.column c.load-found.result _ _
+    c.self.inside.full t c.self.invariant.4
 
 pub returns-clause-found : goal.returns-clause-found
 returns-clause-found g c = λ x known.

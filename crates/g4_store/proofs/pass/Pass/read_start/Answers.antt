@@ -4,7 +4,7 @@ use mathlib.Core.Option.{none}
 use Rattle.g4_store.specs.Numbers.{has}
 use Rattle.g4_store.specs.Found.{StartFound}
 use Rattle.g4_store.proofs.Loads.{probes_start}
-use Rattle.g4_store.proofs.Passes.{start_pass, start_found}
+use Rattle.g4_store.proofs.Passes.{start_pass, start_found, start_rows}
 use Rattle.g4_store.proofs.pass.Pass.read_start.Goals as goal
 
 pub load-found-requires : goal.load-found-requires
@@ -24,7 +24,15 @@ invariant_of-self g c =
     let e = c.load-found.ensures in
     let t = e.2.1 c.args.start c.requires c.start_word-word.ensures.0 in
     let k = start_pass g.A.Automaton.starts g.A.Automaton.leads g.B.Home.plan c.args.start c.load-found.result _ _ t p.2 in
-    (e.0 ∙ p.0, e.2.0 ∙ p.1, k.0, (p.3.0, ap (λ l. has p.3.0 l) k.1 ∙ p.3.1))
+    let rows = start_rows g.A.Automaton.starts g.A.Automaton.leads g.B.Home.plan c.args.start c.load-found.result _ _ c.self.inside.full
+    t p.4 in
+    (e.0 ∙ p.0, e.2.0 ∙ p.1, k.0, (p.3.0, ap (λ l. has p.3.0 l) k.1 ∙ p.3.1), rows)
+
+pub returns-clause-rows : goal.returns-clause-rows
+returns-clause-rows g c =
+    let t = c.load-found.ensures.2.1 c.args.start c.requires c.start_word-word.ensures.0 in
+    start_rows g.A.Automaton.starts g.A.Automaton.leads g.B.Home.plan c.args.start c.load-found.result _ _ c.self.inside.full t
+    c.self.invariant.4
 
 pub returns-clause-found : goal.returns-clause-found
 returns-clause-found g c =

@@ -1,4 +1,4 @@
-use Rattle.std.proofs.Common.{◌<◌, ◌≤◌, ℕ, length, IfSome, sym, ap, ◌∙◌, subst}
+use Rattle.std.proofs.Common.{◌<◌, length, IfSome, subst}
 use Rattle.g4_store.proofs.Lists.{some_below}
 use Rattle.g4_store.proofs.rows.Rows.find.Goals as goal
 

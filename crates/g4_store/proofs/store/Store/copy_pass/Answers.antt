@@ -1,5 +1,6 @@
-use Rattle.std.proofs.Common.{◌≡◌, [], refl, sym, ap, ◌∙◌, subst}
+use Rattle.std.proofs.Common.{[], refl, sym, ap, ◌∙◌, subst}
 use Rattle.g4_store.specs.declared.view.View.{View}
+use Rattle.g4_store.specs.Known.{KnowsRows}
 use Rattle.g4_store.specs.Numbers.{has}
 use Rattle.g4_store.specs.Views.{IsPassView}
 use Rattle.g4_store.proofs.Lists.{here_insert}
@@ -29,4 +30,5 @@ invariant_of-result g c =
         ap (λ m. has c.pass.inside.seat.me.0.count m.0.holds) e.4
             ∙ here_insert c.pass.inside.seat.me.0.count [],
       ),
+      subst (λ (u : View _). KnowsRows g.B.Home.plan.rows (u, c.pass.inside.full)) (sym is) record { are = p.4.are; all = p.4.all },
     )

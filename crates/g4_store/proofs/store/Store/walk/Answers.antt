@@ -1,4 +1,4 @@
-use Rattle.std.proofs.Common.{rules, ◌≡◌, ℕ, suc, ◌+◌, [], ◌∷◌, ◌++◌, None, length, get_or, refl, sym, ap, ◌∙◌, subst, inl, arith}
+use Rattle.std.proofs.Common.{◌≡◌, ℕ, suc, ◌+◌, [], ◌∷◌, ◌++◌, length, get_or, refl, sym, ap, ◌∙◌, subst, inl, arith}
 use Rattle.g4_store.specs.declared.automaton.Led.TheVariants.{Row, End}
 use Rattle.g4_store.specs.declared.automaton.Fact.TheVariants.{Start, Cell}
 use Rattle.g4_store.specs.declared.view.View.{View}
@@ -6,7 +6,7 @@ use Rattle.g4_store.specs.declared.walk.Walk.TheVariants.{NotLearned, Open}
 use Rattle.g4_store.specs.declared.walk.Walk.TheVariants.{End as Ended}
 use Rattle.g4_store.specs.Numbers.{Among}
 use Rattle.g4_store.specs.Words.{cell_at, start_at, row_word, end_word}
-use Rattle.g4_store.specs.Walks.{Walked, SawAlso, Came}
+use Rattle.g4_store.specs.Walks.{Walked, Came}
 use Rattle.g4_store.proofs.Seen.{walked_seen}
 use Rattle.g4_store.proofs.Walking.{saw_first, saw_next, keeps_looked, keeps_saw, keeps_on, stops_at_start, stops_at_cell, came_first, came_next}
 use Rattle.g4_store.proofs.store.Store.walk.Goals as goal
