@@ -21,8 +21,9 @@ use Rattle.g4_learned.specs.Automata.{LeadsTo, StartsAt, code_of, verdict_at}
 use Rattle.g4_learned.specs.Stored.{ArePassed, IsPlan, columns_of}
 use Rattle.g4_learned.specs.Tables.{IsStartOf, Tables}
 use Rattle.g4_learned.specs.Unique.{one_led, one_start}
-use Rattle.g4_learned.specs.Walks.{WalkedAlong, Walks}
-use Rattle.g4_learned.specs.declared.walk.Walk.TheVariants.{Ended, NotLearned}
+use Rattle.g4_learned.specs.Walks.{IsVerdict, StopsAt, WalkedAlong, WalkedTo, Walks}
+use Rattle.g4_learned.specs.declared.walk.Walk.{Walk}
+use Rattle.g4_learned.specs.declared.walk.Walk.TheVariants.{Ended, NoEdge, NoStart}
 use Rattle.g4_learned.proofs.Seeing.{IsWay, one_passed, sll_way}
 use Rattle.g4_learned.proofs.Telling.{not_open, walked_says}
 
@@ -90,19 +91,32 @@ module _ (p : Plan Tables) (d level i : ℕ) (word : List ℕ) (old new : View (
   stopped_kept zero (none, saw, last) f seen = (saw f).1 (inl seen)
   stopped_kept (suc k) (y, fs, lt, came, none, saw, last) f seen = (saw f).1 (inl seen)
 
-  pub not_learned : (k : ℕ) → IsPlan p → All IsSymbol word → WalkedAlong p i word old new (along.NotLearned k)
-      → Learned (along.NotLearned k) → Walks p d level word old new (NotLearned k)
-  not_learned k plan symbols walked learned = record {
-    start = i;
-    is_start = start;
-    walked = walked;
-    verdict = tt;
-    kept = stopped_kept k walked;
-    within = λ u facts other. stopped_within k walked u facts (sll_way p d level i word u facts old plan symbols other start);
-    learned = λ u facts other seen.
-        let (k', to, count) = seen_to plan symbols u facts other seen in
-        let e : along.NotLearned k ≡ along.End (code_of u) k' = learned k' (code_of u) to in absurd cc;
-  }
+  -- a walk that stopped, as one with this end
+  module _ (walk : Walk) (k : ℕ) (plan : IsPlan p) (symbols : All IsSymbol word)
+      (walked : WalkedAlong p i word old new (along.NotLearned k)) (to : WalkedTo p i word old new walk)
+      (says : IsVerdict p d level word old new walk) (learned : Learned (along.NotLearned k)) where
+    stopped : Walks p d level word old new walk
+    stopped = record {
+      start = i;
+      is_start = start;
+      walked = to;
+      verdict = says;
+      kept = stopped_kept k walked;
+      within = λ u facts other. stopped_within k walked u facts (sll_way p d level i word u facts old plan symbols other start);
+      learned = λ u facts other seen.
+          let (k', to', count) = seen_to plan symbols u facts other seen in
+          let e : along.NotLearned k ≡ along.End (code_of u) k' = learned k' (code_of u) to' in absurd cc;
+    }
+
+  pub no_start : IsPlan p → All IsSymbol word → WalkedAlong p i word old new (along.NotLearned 0) → Learned (along.NotLearned 0)
+      → Walks p d level word old new NoStart
+  no_start plan symbols walked learned = stopped NoStart 0 plan symbols walked walked tt learned
+
+  pub no_edge : (row k : ℕ) → IsPlan p → All IsSymbol word → WalkedAlong p i word old new (along.NotLearned (suc k))
+      → StopsAt p i word old new row (along.NotLearned (suc k)) → Learned (along.NotLearned (suc k))
+      → Walks p d level word old new (NoEdge row k)
+  no_edge row k plan symbols walked stops learned =
+      stopped (NoEdge row k) (suc k) plan symbols walked (walked, stops) tt learned
 
 -- the symbols of the tokens from a place on
 symbols_from : (from : ℕ) (tokens : List Token) → All IsSymbol (word_of tokens) → All IsSymbol (word_of (from_on from tokens))
@@ -135,3 +149,8 @@ pub learned_from : (p : Plan Tables) (i from : ℕ) (tokens : List Token) (old :
     → (k code : ℕ) → SeenTo StartsAt LeadsTo p i (columns_of p.net (drop from (word_of tokens))) k code old → walk ≡ along.End code k
 learned_from p i from tokens old walk learned k code seen =
     learned k code (subst (λ (w : List ℕ). SeenTo StartsAt LeadsTo p i (columns_of p.net w) k code old) (sym (word_from from tokens)) seen)
+
+pub stops_from : (p : Plan Tables) (i from row : ℕ) (tokens : List Token) (old new : View (List Config)) (walk : way.Walk)
+    → StopsAt p i (word_of (from_on from tokens)) old new row walk → StopsAt p i (drop from (word_of tokens)) old new row walk
+stops_from p i from row tokens old new walk stops =
+    subst (λ (w : List ℕ). StopsAt p i w old new row walk) (word_from from tokens) stops

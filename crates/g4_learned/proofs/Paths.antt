@@ -80,7 +80,7 @@ module _ (p : Plan Tables) (plan : IsPlan p) where
       v looked small h
 
   -- the verdicts of a decision have codes
-  has_code : (d : ℕ) (A : ℕ → Type 0) (w : List ℕ) (v : Verdict) (path : Path) → Sll p.net.net d A w v path → code_of v < 2 ^ 32
+  pub has_code : (d : ℕ) (A : ℕ → Type 0) (w : List ℕ) (v : Verdict) (path : Path) → Sll p.net.net d A w v path → code_of v < 2 ^ 32
   has_code d A w v path h = small v
       (sll_tells p.net.net d (Start p.net.net d A wildcard) (begins_start p.net.net d A wildcard) w 0 (length w) (omega arith) v path.looked
       h.1)

@@ -1,5 +1,5 @@
 -- What a walk along learned words tells is what SLL says, and no walk goes past END.
-use Rattle.std.proofs.Common.{◌≡◌, ◌<◌, ◌+◌, ◌^◌, ◌⊎◌, inl, inr, ℕ, zero, suc, List, [], ◌∷◌, ◌++◌, All, Contains, length, take, drop, get_or, map, refl, sym, ◌∙◌, ap, subst, arith, true, add-one, drop-cons, append_assoc}
+use Rattle.std.proofs.Common.{◌≡◌, ◌<◌, ◌≤◌, ◌+◌, ◌^◌, ◌⊎◌, inl, inr, ℕ, zero, suc, List, [], ◌∷◌, ◌++◌, All, Contains, length, take, drop, get_or, map, refl, sym, ◌∙◌, ap, subst, arith, true, add-one, drop-cons, append_assoc}
 use Rattle.std.proofs.lemmas.List.{get_or-map, length-append, length-map, length-take-le, take_all, take-append-drop, take-map}
 use Rattle.std.proofs.lemmas.List.Elements.{All-cons, All-get_or, All-head, All-nil, All-tail, All-take}
 use Rattle.g4_tokens.specs.Symbols.{end_of_list}
@@ -23,7 +23,9 @@ use Rattle.g4_store.specs.declared.automaton.Plan.{Plan}
 use Rattle.g4_store.specs.declared.view.View.{View}
 use Rattle.g4_store.specs.declared.walk.Walk.TheVariants as walk
 use Rattle.g4_store.specs.Paths.{cells_of}
-use Rattle.g4_store.specs.Walks.{Along, SawAlso, Walked}
+use Rattle.g4_predict.specs.Reached.{IsReached}
+use Rattle.g4_predict.proofs.Reached.{AreReached, reached_next, reached_row, reached_start}
+use Rattle.g4_store.specs.Walks.{Along, Came, SawAlso, Walked}
 use Rattle.g4_store.specs.Walks.Along.{here, onward}
 use Rattle.g4_learned.specs.Automata.{EndsAs, IsLed, LeadsTo, StartsAt, verdict_at}
 use Rattle.g4_guards.specs.Levels.{AllowedAt}
@@ -214,6 +216,72 @@ module _ (t : Tables) where
             count,
           ),
         )
+
+  -- SLL comes to the configurations of a row to which a way leads
+  along_reached : (x y : List Config) (ss : List ℕ) (fs : List (Fact (List Config))) → Along LeadsTo t x ss fs y → (w : List ℕ)
+      → All IsSymbol w → columns_of t w ≡ ss → AreReached t.net (Contains x) → AreReached t.net (Contains y)
+  along_reached x _ _ _ here w symbols e all = all
+  along_reached x _ _ _ (onward ss fs y s z mark along leads) w symbols e all =
+      let last = last_of t w ss s e in
+      let u = last.front in
+      let a = last.symbol in
+      let parts = All-front u a (subst (All IsSymbol) last.split symbols) in
+      let led : IsLed (Next t.net (Contains y) a) (Row z mark) = leads.each a parts.1 last.column in
+      reached_row t.net z (Next t.net (Contains y) a) led.2
+      (reached_next t.net (Contains y) a (along_reached x y ss fs along u parts.0 last.columns all))
+
+  -- which is the row of its own members
+  along_row : (x y : List Config) (ss : List ℕ) (fs : List (Fact (List Config))) → Along LeadsTo t x ss fs y → IsRow x (Contains x)
+      → IsRow y (Contains y)
+  along_row x _ _ _ here is = is
+  along_row x _ _ _ (onward ss fs y s z mark along leads) is =
+      let (a, symbol, column) = leads.some in
+      let led : IsLed (Next t.net (Contains y) a) (Row z mark) = leads.each a symbol column in
+      row_of_set z (Next t.net (Contains y) a) (Contains z) (same_as_row z (Next t.net (Contains y) a) led.2) led.2
+
+-- A walk came to a row after k symbols.
+module _ (p : Plan Tables) (d level i k : ℕ) (w : List ℕ) (old : View (List Config)) (y : List Config) (fs : List (Fact (List Config)))
+    (start : IsStartOf p.net d level i) (symbols : All IsSymbol w)
+    (came : Came StartsAt LeadsTo p i (columns_of p.net w) k old y fs) where
+  abbrev C : Config → Type 0
+  C = Start p.net.net d (AllowedAt p.net.net d level) wildcard
+
+  row : IsRow came.first C
+  row = starts_so p.net d level i came.first start came.starts_so
+
+  -- SLL comes to its configurations
+  pub stopped_reached : (c : Config) → Contains y c → IsReached p.net.net c
+  stopped_reached = along_reached p.net came.first y (take k (columns_of p.net w)) came.on came.along (take k w)
+      (All-take IsSymbol k w symbols) (sym (take-map (column_of p.net) k w))
+      (reached_row p.net.net came.first C row (reached_start p.net.net d (AllowedAt p.net.net d level)))
+
+  -- it is the row of its own members
+  pub stopped_row : IsRow y (Contains y)
+  stopped_row = along_row p.net came.first y (take k (columns_of p.net w)) came.on came.along
+      (row_of_set came.first C (Contains came.first) (same_as_row came.first C row) row)
+
+  -- what SLL says from there on makes its path, with the words of the walk
+  pub stopped_says : k ≤ length w → (v : Verdict) (looked : List Looked) → SllFrom p.net.net (Contains y) (drop k w) k v looked
+      → ArePassed p.net d level w v (fs ++ cells_of y (map (stored_entry p.net) looked))
+  stopped_says le v looked says =
+      let taken : length (take k w) ≡ k = length-take-le k w le in
+      let front : k ≡ 0 + length (take k w) = omega arith in
+      let found = along_says p.net came.first y (take k (columns_of p.net w)) came.on came.along (take k w) (drop k w) 0 v looked
+      (All-take IsSymbol k w symbols) (sym (take-map (column_of p.net) k w))
+      (subst (λ n. SllFrom p.net.net (Contains y) (drop k w) n v looked) front says) in
+      let whole : SllFrom p.net.net (Contains came.first) w 0 v found.0 =
+      subst (λ (xs : List ℕ). SllFrom p.net.net (Contains came.first) xs 0 v found.0) (take-append-drop k w) found.1 in
+      let same = same_as_row came.first C row in
+      let cells = cells_of y (map (stored_entry p.net) looked) in
+      record {
+        path = record { start = came.first; looked = found.0 };
+        sll = (row, sll_same p.net.net (Contains came.first) C (λ c. (same c).1) (λ c. (same c).0) w 0 v found.0 whole);
+        start = i;
+        is_start = start;
+        are =
+            ap (λ (xs : List (Fact (List Config))). xs ++ cells) came.facts
+            ∙ ap (λ (xs : List (Fact (List Config))). fact.Start i came.first ∷ xs) (sym found.2);
+      }
 
 -- words with END
 

@@ -4,7 +4,12 @@ use Rattle.std.proofs.lemmas.List.{get_or-map, length-map}
 use Rattle.std.proofs.lemmas.Option.{slice_get_within}
 use Rattle.g4_tokens.specs.TokenList.{word_of}
 use Rattle.g4_tokens.specs.declared.token.Token.{Token}
+use Rattle.g4_net.specs.Configurations.{Config}
+use Rattle.g4_store.specs.declared.automaton.Fact.{Fact}
 use Rattle.g4_store.specs.declared.automaton.Plan.{Plan}
+use Rattle.g4_store.specs.declared.view.View.{View}
+use Rattle.g4_store.specs.Numbers.{Among}
+use Rattle.g4_store.specs.Walks.{SawAlso}
 use Rattle.g4_learned.specs.Stored.{IsPlan, columns_of}
 use Rattle.g4_learned.specs.Tables.{IsStartOf, Tables, column_of}
 
@@ -23,3 +28,11 @@ column_at q t tokens k column d same lt is =
 pub start_within : (p : Plan Tables) (d level i : ℕ) → IsPlan p → IsStartOf p.net d level i → i < p.starts
 start_within p d level i plan (guard, at, guards) =
     subst (λ n. i < n) (sym plan.starts) (slice_get_within p.net.starts i (d, guard) at)
+
+-- what was seen is seen where no more was seen
+pub saw_same : (fs : List (Fact (List Config))) (old mid new : View (List Config)) → SawAlso fs old mid → new.seen ≡ mid.seen
+    → SawAlso fs old new
+saw_same fs old mid new saw same f = (
+  (λ m. (saw f).0 (subst (λ (l : List (Fact (List Config))). Among f l) same m)),
+  (λ m. subst (λ (l : List (Fact (List Config))). Among f l) (sym same) ((saw f).1 m)),
+)

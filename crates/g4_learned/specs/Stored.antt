@@ -1,7 +1,8 @@
 -- Plans of the parser's store, and paths of SLL as they are learned.
-use Rattle.std.specs.Prelude.{◌≡◌, ◌≤◌, ◌<◌, ◌⊎◌, ℕ, ◌*◌, ◌^◌, List, [], ◌∷◌, length, map}
+use Rattle.std.specs.Prelude.{◌≡◌, ◌≤◌, ◌<◌, ◌⊎◌, ℕ, ◌*◌, ◌^◌, List, [], ◌∷◌, All, Contains, length, map}
+use Rattle.g4_classes.specs.Classes.{IsSymbol}
 use Rattle.g4_net.specs.AddedRule.{IsReady}
-use Rattle.g4_net.specs.Configurations.{Config}
+use Rattle.g4_net.specs.Configurations.{Config, IsRow}
 use Rattle.g4_net.specs.Loops.{HasLoops}
 use Rattle.g4_net.specs.Network.{ParserNetwork}
 use Rattle.g4_net.specs.Prediction as prediction
@@ -65,6 +66,16 @@ pub record IsStored (t : Tables) (d level : ℕ) (path : prediction.Path) (store
   pub start : IsStartOf t d level stored.start
   pub content : stored.content ≡ path.start
   pub looked : stored.looked.items ≡ map (stored_entry t) path.looked
+
+-- What SLL looks at from the set of a row on, to its end: it looks at symbols, and its verdict has a code.
+pub record SaysFrom (net : ParserNetwork) (row : List Config) (looked : List prediction.Looked) : Type 0 where
+  pub is_row : IsRow row (Contains row)
+  pub word : List ℕ
+  pub place : ℕ
+  pub verdict : prediction.Verdict
+  pub symbols : All IsSymbol word
+  pub code : code_of verdict < 2 ^ 32
+  pub says : prediction.SllFrom net (Contains row) word place verdict looked
 
 -- the start and the cells of a path, from the start of this number
 abbrev pub facts_from : Tables → ℕ → prediction.Path → List (Fact (List Config))

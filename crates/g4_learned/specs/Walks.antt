@@ -1,5 +1,5 @@
 -- What a walk answers.
-use Rattle.std.specs.Prelude.{◌≡◌, ◌⊎◌, ℕ, ◌+◌, List, length}
+use Rattle.std.specs.Prelude.{◌≡◌, ◌⊎◌, ◌<◌, ℕ, zero, suc, ◌+◌, List, length}
 use Rattle.g4_net.specs.Configurations.{Config}
 use Rattle.g4_net.specs.Prediction as said
 use Rattle.g4_predict.specs.Paths.{verdict_of}
@@ -9,34 +9,47 @@ use Rattle.g4_store.specs.declared.view.View.{View}
 use Rattle.g4_store.specs.declared.walk.Walk as way
 use Rattle.g4_store.specs.declared.walk.Walk.TheVariants as along
 use Rattle.g4_store.specs.Numbers.{Among}
-use Rattle.g4_store.specs.Walks.{SawAlso, Walked}
+use Rattle.g4_store.specs.Walks.{Came, SawAlso, Walked}
 use Rattle.g4_learned.specs.Automata.{LeadsTo, StartsAt, verdict_at}
 use Rattle.g4_learned.specs.Stored.{ArePassed, columns_of}
 use Rattle.g4_learned.specs.Tables.{IsStartOf, Tables}
 use Rattle.g4_learned.specs.declared.walk.Walk.{Walk}
-use Rattle.g4_learned.specs.declared.walk.Walk.TheVariants.{Ended, NotLearned}
+use Rattle.g4_learned.specs.declared.walk.Walk.TheVariants.{Ended, NoEdge, NoStart}
 
 -- the store's walk from a start along the columns of a word
 abbrev pub WalkedAlong : Plan Tables → ℕ → List ℕ → View (List Config) → View (List Config) → way.Walk → Type 0
 WalkedAlong p i word old new walk = Walked StartsAt LeadsTo p i (columns_of p.net word) old new walk
 
+-- the row to which a walk came whose word for the next column held 0: the walk came along the columns before to its content
+abbrev pub StopsAt : Plan Tables → ℕ → List ℕ → View (List Config) → View (List Config) → ℕ → way.Walk → Type 0
+StopsAt p i word old new row (along.End code k) = Unit {0}
+StopsAt p i word old new row along.Open = Unit {0}
+StopsAt p i word old new row (along.NotLearned zero) = Unit {0}
+StopsAt p i word old new row (along.NotLearned (suc k)) =
+    (y : List Config) × (fs : List (Fact (List Config))) × (k < length word)
+    × Came StartsAt LeadsTo p i (columns_of p.net word) k old y fs × Among (row, y) new.known × SawAlso fs old new
+
 -- the same of a walk that ended at a verdict or at a word that held 0
 abbrev pub WalkedTo : Plan Tables → ℕ → List ℕ → View (List Config) → View (List Config) → Walk → Type 0
 WalkedTo p i word old new (Ended v k) =
     (code : ℕ) × (verdict_of v ≡ verdict_at code k) × WalkedAlong p i word old new (along.End code k)
-WalkedTo p i word old new (NotLearned k) = WalkedAlong p i word old new (along.NotLearned k)
+WalkedTo p i word old new NoStart = WalkedAlong p i word old new (along.NotLearned 0)
+WalkedTo p i word old new (NoEdge row at) =
+    WalkedAlong p i word old new (along.NotLearned (suc at)) × StopsAt p i word old new row (along.NotLearned (suc at))
 
 -- a verdict is that of SLL at the decision, over the alternatives that may be taken at the level: the words of its path, one for the
 -- start and one for each symbol that it looks at, are seen then, and no others are that had not been seen
 abbrev pub IsVerdict : Plan Tables → ℕ → ℕ → List ℕ → View (List Config) → View (List Config) → Walk → Type 0
 IsVerdict p d level word old new (Ended v k) = (facts : List (Fact (List Config))) × ArePassed p.net d level word (verdict_of v) facts
     × SawAlso facts old new × (length facts ≡ k + 2)
-IsVerdict p d level word old new (NotLearned k) = Unit {0}
+IsVerdict p d level word old new NoStart = Unit {0}
+IsVerdict p d level word old new (NoEdge row at) = Unit {0}
 
 -- the walk ended with this verdict, after so many words
 abbrev pub CameTo : said.Verdict → ℕ → Walk → Type 0
 CameTo v n (Ended u k) = (verdict_of u ≡ v) × (n ≡ k + 2)
-CameTo v n (NotLearned k) = ⊥
+CameTo v n NoStart = ⊥
+CameTo v n (NoEdge row at) = ⊥
 
 -- A walk from the start of a decision at a level. It sees no words but those of SLL's path, and where the pass had seen each of them, it
 -- comes to SLL's verdict.
@@ -54,4 +67,5 @@ pub record Walks (p : Plan Tables) (d level : ℕ) (word : List ℕ) (old new : 
 -- how many words are loaded
 abbrev pub Loads : ℕ → ℕ → Walk → Type 0
 Loads old new (Ended v k) = new ≡ old + (2 + k)
-Loads old new (NotLearned k) = new ≡ old + (1 + k)
+Loads old new NoStart = new ≡ old + 1
+Loads old new (NoEdge row at) = new ≡ old + (2 + at)

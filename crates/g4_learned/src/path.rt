@@ -1,5 +1,5 @@
 // Paths of SLL as they are stored: columns in place of symbols, and codes in place of verdicts.
-ghost use Rattle.std.specs.Prelude.{◌≡◌, ◌≤◌, ◌<◌, ◌^◌, IfNone, IfOk, IfSome, length};
+ghost use Rattle.std.specs.Prelude.{◌≡◌, ◌≤◌, ◌<◌, ◌^◌, IfNone, IfOk, IfSome, length, map};
 ghost use Rattle.g4_predict.specs.Paths.{led_of, looked_of, path_of, verdict_of};
 ghost use Rattle.g4_learned.specs.Automata.{code_of as code_for, verdict_at as verdict_for};
 ghost use Rattle.g4_guards.specs.Levels.{IsDecision};
@@ -66,6 +66,25 @@ fn stored_entry(
     Ok(path::Looked { column, led })
 }
 
+/// Symbols that were looked at, as they are stored.
+///
+/// # Errors
+/// No memory.
+pub(crate) fn stored_entries(
+    alloc: Global,
+    net: &DecisionNet,
+    looked: Vec<Looked>,
+) -> Result<VecDeque<path::Looked<Row>>, AllocError>
+    ensures { IfOk result (λ entries. entries.items ≡ map (stored_entry_of net.now) (map looked_of looked.items)) }
+{
+    let mut entries = VecDeque::new(alloc);
+    for entry in looked {
+        let stored = stored_entry(alloc, net, entry)?;
+        entries.push_back(stored)?;
+    }
+    Ok(entries)
+}
+
 /// The path of a decision in a rule that was called at this level, as it is stored.
 ///
 /// # Errors
@@ -87,14 +106,10 @@ pub(crate) fn stored_path(
     } = path;
     let number = net.start_of(decision, level) as u32;
     let content = Row::of(alloc, start)?;
-    let mut entries = VecDeque::new(alloc);
-    for entry in looked.into_vec() {
-        let stored = stored_entry(alloc, net, entry)?;
-        entries.push_back(stored)?;
-    }
+    let looked = stored_entries(alloc, net, looked.into_vec())?;
     Ok(path::Path {
         start: number,
         content,
-        looked: entries,
+        looked,
     })
 }

@@ -5,11 +5,12 @@ use g4_configs::Snapshot;
 use g4_store::automaton::Content;
 use std::alloc::{AllocError, Global};
 use std::marker::Model;
+use std::sync::Arc;
 
-/// A set of configurations with its code, by which it is found.
+/// A set of configurations with its code, by which it is found. Copies share the set.
 #[derive(Drop)]
 pub struct Row {
-    snapshot: Snapshot,
+    snapshot: Arc<Snapshot>,
     code: u64,
 }
 
@@ -20,9 +21,9 @@ impl Model for Row {
 
     ghost Value = { List Config };
 
-    ghost view = { λ r. r.snapshot };
+    ghost view = { λ r. r.snapshot.value };
 
-    ghost invariant = { λ r. r.code ≡ row_code r.snapshot };
+    ghost invariant = { λ r. r.code ≡ row_code r.snapshot.value };
 }
 
 impl Row {
@@ -34,6 +35,7 @@ impl Row {
         ensures { IfOk result (λ row. row ≡ snapshot) }
     {
         let code = snapshot.code(alloc)?;
+        let snapshot = Arc::new(alloc, snapshot)?;
         Ok(Row { snapshot, code })
     }
 
@@ -56,5 +58,13 @@ impl Content for Row {
 
     fn same(&self, other: &Row) -> bool {
         self.snapshot.same(&other.snapshot)
+    }
+
+    fn copy(&self, _alloc: Global) -> Result<Row, AllocError> {
+        let snapshot = Arc::try_clone(&self.snapshot)?;
+        Ok(Row {
+            snapshot,
+            code: self.code,
+        })
     }
 }

@@ -1,29 +1,32 @@
 // The parser's store of learned automata.
-ghost use Rattle.std.specs.Prelude.{◌≡◌, ◌≤◌, ◌<◌, ℕ, true, false, List, [], ◌∷◌, All, IfOk, IfErr, OnErr, ◌||◌};
+ghost use Rattle.std.specs.Prelude.{◌≡◌, ◌≤◌, ◌<◌, ℕ, true, false, List, [], ◌∷◌, All, IfOk, IfErr, OnErr, map, ◌||◌};
 ghost use Rattle.g4_classes.specs.Classes.{IsSymbol};
 ghost use Rattle.g4_net.specs.Configurations.{Config};
 ghost use Rattle.g4_net.specs.Loops.{HasLoops};
 ghost use Rattle.g4_net.specs.Prediction.{Sll, Verdict};
-ghost use Rattle.g4_predict.specs.Paths.{path_of};
+ghost use Rattle.g4_predict.specs.Paths.{looked_of, path_of};
 ghost use Rattle.g4_store.specs.declared.path.Path.{Path as StoredPath};
+ghost use Rattle.g4_store.specs.Known.{KnowsRows};
 ghost use Rattle.g4_store.specs.Learned.{IsLearned};
+ghost use Rattle.g4_store.specs.Paths.{cells_of, facts_of};
 ghost use Rattle.g4_store.specs.Words.{size_of};
-ghost use Rattle.g4_store.specs.Numbers.{has};
+ghost use Rattle.g4_store.specs.Numbers.{Among, has};
 ghost use Rattle.g4_store.specs.Closing.{Closes};
 ghost use Rattle.g4_store.specs.Views.{copied, leading, met, no_looks, pass_view};
 ghost use Rattle.g4_net.specs.AddedRule.{IsReady};
 ghost use Rattle.g4_learned.specs.Automata.{LeadsTo, StartsAt};
 ghost use Rattle.g4_guards.specs.Levels.{AllowedAt, IsDecision};
-ghost use Rattle.g4_learned.specs.Stored.{IsPlan, IsStored, IsTooLarge};
+ghost use Rattle.g4_learned.specs.Stored.{IsPlan, IsStored, IsTooLarge, SaysFrom, stored_entry};
 ghost use Rattle.g4_learned.specs.declared.store.OpenFault.TheVariants.{TooLarge};
 ghost use Rattle.g4_learned.specs.Tables.{AreTables};
 
 use crate::decision_net::DecisionNet;
 use crate::parsing::Parsing;
-use crate::path::stored_path;
+use crate::path::{stored_entries, stored_path};
 use crate::row::Row;
+use g4_base::Sequence;
 use g4_net::ParserNetwork;
-use g4_predict::Path;
+use g4_predict::{Looked, Path};
 use g4_store::automaton::Plan;
 use g4_store::book::Learned;
 use g4_store::listing::Listing;
@@ -201,11 +204,56 @@ impl<B: Home<DecisionNet>> Store<B> {
         requires sll { (word : List ℕ) × (v : Verdict) × All IsSymbol word
             × Sll B.plan.net.net path.decision (AllowedAt B.plan.net.net path.decision level) word v (path_of path) }
         ensures learned { IfOk result (λ learned. (stored : StoredPath (List Config))
-            × IsStored B.plan.net path.decision level (path_of path) stored × IsLearned B.plan.rows stored pass.old pass.new learned) }
+            × IsStored B.plan.net path.decision level (path_of path) stored
+            × IsLearned B.plan.rows (facts_of stored) pass.old pass.new learned) }
+        ensures rows { IfOk result (λ learned. KnowsRows B.plan.rows pass.new) }
         ensures unchanged { OnErr result (pass.new ≡ pass.old) }
     {
         let stored = stored_path(alloc, self.store.net(), level, path)?;
         let learned = self.store.learn(rt, pass, stored);
+        Ok(learned)
+    }
+
+    /// The row of a number that the pass knows. It takes the lock.
+    ///
+    /// # Errors
+    /// No memory.
+    pub fn row<R: Wait>(
+        &self,
+        rt: &R,
+        alloc: Global,
+        pass: &mut Pass<B>,
+        number: usize,
+    ) -> Result<Row, AllocError>
+        requires { (row : List Config) × Among (number, row) pass.old.0.known }
+        ensures row { (row : List Config) → Among (number, row) pass.old.0.known → IfOk result (λ made. made ≡ row) }
+        ensures same { pass.new ≡ pass.old }
+    {
+        let row = self.store.copy_row(rt, alloc, pass, number)?;
+        Ok(row)
+    }
+
+    /// Learns what SLL looked at from a row on that the pass knows, under the lock.
+    ///
+    /// # Errors
+    /// No memory. Then nothing was learned.
+    pub fn learn_on<R: Wait>(
+        &self,
+        rt: &R,
+        alloc: Global,
+        pass: &mut Pass<B>,
+        number: usize,
+        looked: Sequence<Looked>,
+    ) -> Result<Learned, AllocError>
+        requires { (row : List Config) × Among (number, row) pass.old.0.known
+            × SaysFrom B.plan.net.net row (map looked_of looked) }
+        ensures learned { (row : List Config) → Among (number, row) pass.old.0.known → IfOk result (λ learned.
+            IsLearned B.plan.rows (cells_of row (map (stored_entry B.plan.net) (map looked_of looked))) pass.old pass.new learned) }
+        ensures rows { IfOk result (λ learned. KnowsRows B.plan.rows pass.new) }
+        ensures unchanged { OnErr result (pass.new ≡ pass.old) }
+    {
+        let entries = stored_entries(alloc, self.store.net(), looked.into_vec())?;
+        let learned = self.store.learn_on(rt, pass, number, entries);
         Ok(learned)
     }
 }

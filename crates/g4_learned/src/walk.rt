@@ -8,7 +8,8 @@ ghost use Rattle.g4_tokens.specs.TokenList.{EndsInEnd, word_of};
 ghost use Rattle.g4_learned.specs.Automata.{LeadsTo, StartsAt};
 ghost use Rattle.g4_guards.specs.Levels.{IsDecision};
 ghost use Rattle.g4_learned.specs.Stored.{columns_of};
-ghost use Rattle.g4_learned.specs.Walks.{Loads, WalkedAlong, Walks};
+ghost use Rattle.g4_learned.specs.Walks.{Loads, StopsAt, WalkedAlong, Walks};
+ghost use Rattle.g4_store.specs.Known.{KnowsRows};
 
 use crate::decision_net::DecisionNet;
 use crate::path::verdict_at;
@@ -21,12 +22,19 @@ use g4_store::walk;
 use g4_tokens::Token;
 use std::sync::ledger::Ledger;
 
-/// Where a walk ended: at a verdict, to which the symbol at this place after the decision led; or at a word that held 0 when it was
-/// read, the start's or that of the symbol before this place.
+/// Where a walk ended: at a verdict, to which the symbol at this place after the decision led; or at a word that held 0 when it was read,
+/// that of the start, or that of a row and the symbol at this place.
 #[derive(Clone, Copy, Debug, PartialEq, Eq)]
 pub enum Walk {
     Ended(Verdict, usize),
-    NotLearned(usize),
+    NoStart,
+    NoEdge { row: usize, at: usize },
+}
+
+/// A walk of the store, and the row to which it came last.
+struct Way {
+    walk: walk::Walk,
+    row: usize,
 }
 
 impl<B: Home<DecisionNet>> Store<B> {
@@ -37,20 +45,25 @@ impl<B: Home<DecisionNet>> Store<B> {
         start: usize,
         tokens: &[Token],
         steps: &mut Steps<L>,
-    ) -> walk::Walk
+    ) -> Way
         requires { start < B.plan.starts }
-        ensures walked { WalkedAlong B.plan start (word_of tokens.now) pass.old.0 pass.new.0 result }
+        ensures walked { WalkedAlong B.plan start (word_of tokens.now) pass.old.0 pass.new.0 result.walk }
+        ensures stops { StopsAt B.plan start (word_of tokens.now) pass.old.0 pass.new.0 result.row result.walk }
         ensures learned { (k code : ℕ) → SeenTo StartsAt LeadsTo B.plan start (columns_of B.plan.net (word_of tokens.now)) k code pass.old.0
-            → result ≡ End code k }
-        ensures loads { Ticks (length tokens.now) pass.old.0.looks.count pass.new.0.looks.count result }
+            → result.walk ≡ End code k }
+        ensures loads { Ticks (length tokens.now) pass.old.0.looks.count pass.new.0.looks.count result.walk }
         ensures same { Keeps pass.old.0 pass.new.0 }
-        ensures steps { Ticks (length tokens.now) steps.old steps.new result }
+        ensures steps { Ticks (length tokens.now) steps.old steps.new result.walk }
         ensures full { pass.new.1 ≡ pass.old.1 }
+        ensures rows { KnowsRows B.plan.rows pass.new }
     {
         let net = self.net();
         steps.tick();
         let Some(first) = self.store.read_start(pass, start) else {
-            return walk::Walk::NotLearned(0);
+            return Way {
+                walk: walk::Walk::NotLearned(0),
+                row: 0,
+            };
         };
         let mut row = first;
         for (k, token) in tokens.iter().enumerate() {
@@ -58,12 +71,25 @@ impl<B: Home<DecisionNet>> Store<B> {
             steps.tick();
             let found = self.store.read_cell(pass, row, column as usize);
             match found {
-                Found::Nothing => return walk::Walk::NotLearned(k + 1),
-                Found::End(code) => return walk::Walk::End(code, k),
+                Found::Nothing => {
+                    return Way {
+                        walk: walk::Walk::NotLearned(k + 1),
+                        row,
+                    };
+                }
+                Found::End(code) => {
+                    return Way {
+                        walk: walk::Walk::End(code, k),
+                        row,
+                    };
+                }
                 Found::Row(next, _mark) => row = next,
             }
         }
-        walk::Walk::Open
+        Way {
+            walk: walk::Walk::Open,
+            row,
+        }
     }
 
     /// Walks at a decision, in a rule that was called at a level, along the tokens from a place on. It takes neither memory nor a lock.
@@ -86,12 +112,19 @@ impl<B: Home<DecisionNet>> Store<B> {
         ensures same { Keeps pass.old.0 pass.new.0 }
         ensures steps { Loads steps.old steps.new result }
         ensures full { pass.new.1 ≡ pass.old.1 }
+        ensures rows { KnowsRows B.plan.rows pass.new }
     {
         let start = self.store.net().start_of(decision, level);
         let rest = &tokens[from as usize..];
-        match self.walk_along(pass, start, rest, steps) {
+        let Way { walk, row } = self.walk_along(pass, start, rest, steps);
+        match walk {
             walk::Walk::End(code, k) => Walk::Ended(verdict_at(code, k as u32), k),
-            walk::Walk::NotLearned(k) => Walk::NotLearned(k),
+            walk::Walk::NotLearned(k) => {
+                if k == 0 {
+                    return Walk::NoStart;
+                }
+                Walk::NoEdge { row, at: k - 1 }
+            }
             walk::Walk::Open => unreachable!(),
         }
     }

@@ -89,13 +89,13 @@ fn see_first<R: Wait>(
 
 /// Grammars, texts and numbers of rows, and what is seen, worked out by hand.
 const TABLE: &str =
-    "grammar X; s : 'a' 'b' 'c' | 'a' 'b' 'd' ; | abd | 9 => NotLearned(0) All Ended(Answer(2), 2) false 3
-grammar X; s : 'a' 'b' 'c' | 'a' 'b' 'd' ; | aba | 9 => NotLearned(0) All Ended(ErrorAt(2), 2) false 3
-grammar X; s : 'a' 'b' 'c' | 'a' 'b' 'd' ; | abd | 3 => NotLearned(0) All Ended(Answer(2), 2) false 3
-grammar X; s : 'a' 'b' 'c' | 'a' 'b' 'd' ; | abd | 2 => NotLearned(0) Full NotLearned(2) true 2
-grammar X; s : 'a' 'b' 'c' | 'a' 'b' 'd' ; |  | 9 => NotLearned(0) All Ended(ErrorAt(0), 0) false 1
-grammar X; r : 'a' | ; s : 'x' r 'a' 'z' | 'y' r 'z' ; | az | 9 => NotLearned(0) All Ended(Sensitive(1), 1) false 2
-grammar X; s : 'a'* 'b' | 'a'* 'c' ; | aaac | 9 => NotLearned(0) All Ended(Answer(2), 3) false 1";
+    "grammar X; s : 'a' 'b' 'c' | 'a' 'b' 'd' ; | abd | 9 => NoStart All Ended(Answer(2), 2) false 3
+grammar X; s : 'a' 'b' 'c' | 'a' 'b' 'd' ; | aba | 9 => NoStart All Ended(ErrorAt(2), 2) false 3
+grammar X; s : 'a' 'b' 'c' | 'a' 'b' 'd' ; | abd | 3 => NoStart All Ended(Answer(2), 2) false 3
+grammar X; s : 'a' 'b' 'c' | 'a' 'b' 'd' ; | abd | 2 => NoStart Full NoEdge { row: 1, at: 1 } true 2
+grammar X; s : 'a' 'b' 'c' | 'a' 'b' 'd' ; |  | 9 => NoStart All Ended(ErrorAt(0), 0) false 1
+grammar X; r : 'a' | ; s : 'x' r 'a' 'z' | 'y' r 'z' ; | az | 9 => NoStart All Ended(Sensitive(1), 1) false 2
+grammar X; s : 'a'* 'b' | 'a'* 'c' ; | aaac | 9 => NoStart All Ended(Answer(2), 3) false 1";
 
 /// Adds a row of which something else is seen.
 fn push_other<R: Wait>(rt: &R, alloc: Global, all: &mut String, row: &str) -> Result<(), Fail> {

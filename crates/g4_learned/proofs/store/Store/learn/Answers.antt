@@ -31,5 +31,5 @@ returns-clause-learned g c = (
   c.in_ok-stored.stored,
   subst (λ (t : Tables). IsStored t c.args.path.decision c.args.level (path_of c.args.path) c.in_ok-stored.stored) c.net.ensures
       c.in_ok-stored.ensures,
-  c.learn-learned.ensures,
+  c.learn-learned.ensures.learned,
 )

@@ -15,8 +15,11 @@ use Rattle.g4_store.proofs.Seen.{walked_seen}
 use Rattle.g4_store.proofs.Walking.{saw_first, saw_next, keeps_looked, keeps_saw, keeps_on, stops_at_start, stops_at_cell, came_first, came_next}
 use Rattle.g4_learned.specs.Automata.{LeadsTo, StartsAt}
 use Rattle.g4_learned.specs.Stored.{columns_of}
+use Rattle.g4_learned.specs.Tables.{column_of}
+use Rattle.g4_learned.specs.Walks.{StopsAt}
 use Rattle.g4_learned.specs.Unique.{one_led, one_start}
-use Rattle.g4_learned.proofs.Walking.{column_at, many_columns}
+use Rattle.std.proofs.lemmas.List.{length-map}
+use Rattle.g4_learned.proofs.Walking.{column_at, many_columns, saw_same}
 use Rattle.g4_learned.proofs.store.Store.walk_along.Goals as goal
 
 pub loop-k-init : goal.loop-k-init
@@ -37,6 +40,7 @@ loop-k-init g c =
       c.read_start.ensures.full,
       keeps_saw (start_at g.B.Home.plan i) (c.in-Some.first + 1) (Start i y) ((c.in-Some.first, y) ∷ []) old new f.1.2,
       ap (λ (v : View (List Config)). v.looks.count) f.1.2,
+      c.read_start.ensures.rows,
     )
 
 pub loop-k-preserved : goal.loop-k-preserved
@@ -69,6 +73,7 @@ loop-k-preserved g c =
       keeps_on old mid new i.8 (keeps_saw (cell_at p c.loop-k.row s) (row_word c.in-Row.next c.in-Row._mark) cell
           ((c.in-Row.next, z) ∷ []) mid new f.1.2),
       (let a = ap (λ (v : View (List Config)). v.looks.count) f.1.2 in let b = i.9 in omega arith),
+      c.read_cell-found.ensures.rows,
     )
 
 pub returns-in_default-clause-walked : goal.returns-in_default-clause-walked
@@ -104,6 +109,30 @@ returns-in-Nothing-clause-walked g c =
     subst (λ (n : ℕ). Walked StartsAt LeadsTo p c.args.start cols c.args.pass.now.0 new (NotLearned n))
     (let z : suc k ≡ k + 1 = omega arith in z)
     (stops_at_cell StartsAt LeadsTo p c.args.start cols k c.loop-k.row c.args.pass.now.0 mid new i.0 i.1 lt i.2 i.3 i.4 f)
+
+pub returns-in-Nothing-clause-stops : goal.returns-in-Nothing-clause-stops
+returns-in-Nothing-clause-stops g c =
+    let i = c.loop-k.invariant in
+    let p = g.B.Home.plan in
+    let word = word_of c.args.tokens.now in
+    let cols = columns_of p.net word in
+    let k = c.loop-k.k in
+    let s = get_or cols k 0 in
+    let old = c.args.pass.now.0 in
+    let mid = c.loop-k.pass.0 in
+    let new = c.read_cell-found.new.pass.0 in
+    let col : s ≡ c.column_of-column.result =
+    column_at c.net-net.result.now p.net c.args.tokens.now k c.column_of-column.result _ c.net-net.ensures.is
+    c.loop-k-test.true c.column_of-column.ensures.is in
+    let f : CellFound StartsAt LeadsTo p c.loop-k.row i.0 s mid new found.Nothing =
+    subst (λ n. CellFound StartsAt LeadsTo p c.loop-k.row i.0 n mid new found.Nothing) (sym col)
+    (c.in-Nothing.ensures.found i.0 i.4) in
+    let many = many_columns p.net c.args.tokens.now in
+    let count = length-map word (column_of p.net) in
+    let known = subst (λ (v : View (List Config)). Among (c.loop-k.row, i.0) v.known) (sym f.0) i.4 in
+    let saw = saw_same i.1 old mid new i.3 (ap (λ (v : View (List Config)). v.seen) f.0) in
+    subst (λ (n : ℕ). StopsAt p c.args.start word old new c.loop-k.row (NotLearned n)) (let z : suc k ≡ k + 1 = omega arith in z)
+    (i.0, i.1, (let a : k < length word = omega (arith, c.loop-k-test.true) in a), i.2, known, saw)
 
 pub returns-in-Nothing-clause-same : goal.returns-in-Nothing-clause-same
 returns-in-Nothing-clause-same g c =
@@ -185,3 +214,6 @@ pub returns-clause-learned : goal.returns-clause-learned
 returns-clause-learned g c = λ k code s.
     walked_seen StartsAt LeadsTo one_start one_led g.B.Home.plan c.args.start (columns_of g.B.Home.plan.net (word_of c.args.tokens.now))
     c.args.pass.now.0 c.loop-k.pass.0 Open k code s (returns-clause-walked g c)
+
+pub returns-clause-rows : goal.returns-clause-rows
+returns-clause-rows g c = c.loop-k.invariant.10

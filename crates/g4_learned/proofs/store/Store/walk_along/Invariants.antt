@@ -2,6 +2,7 @@ use Rattle.std.proofs.Common.{◌≡◌, ◌+◌, ◌<◌, List}
 use Rattle.g4_net.specs.Configurations.{Config}
 use Rattle.g4_tokens.specs.TokenList.{word_of}
 use Rattle.g4_store.specs.declared.automaton.Fact.{Fact}
+use Rattle.g4_store.specs.Known.{KnowsRows}
 use Rattle.g4_store.specs.Numbers.{Among}
 use Rattle.g4_store.specs.Walks.{Came, SawAlso, Keeps}
 use Rattle.g4_learned.specs.Automata.{LeadsTo, StartsAt}
@@ -19,3 +20,4 @@ invariant-loop-k g l =
     × (l.pass.1 ≡ l.fn.pass.1)
     × Keeps l.fn.pass.0 l.pass.0
     × (l.pass.0.looks.count ≡ l.fn.pass.0.looks.count + (1 + l.k))
+    × KnowsRows g.B.Home.plan.rows l.pass
