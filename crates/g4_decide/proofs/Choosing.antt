@@ -22,7 +22,7 @@ use Rattle.g4_store.specs.declared.automaton.Fact.{Fact}
 use Rattle.g4_store.specs.declared.automaton.Plan.{Plan}
 use Rattle.g4_tokens.specs.declared.token.Token.{Token}
 use Rattle.g4_tokens.specs.TokenList.{word_of}
-use Rattle.g4_decide.specs.Asked.{Settles}
+use Rattle.g4_decide.specs.Asked.{NeedsNoStack}
 use Rattle.g4_decide.specs.Deciding.{ChoosesAt}
 
 module _ (net : ParserNetwork) (d level : ℕ) (w : List ℕ) where
@@ -89,8 +89,8 @@ within_tokens from k tokens more less =
 -- where the stack matters no verdict settles the decision
 pub matters : (p : Plan Tables) → IsPlan p → (d level k : ℕ) (w : List ℕ) (u : Verdict) (v : Said) (facts facts' : List (Fact
     (List Config)))
-    → u ≡ Sensitive k → ArePassed p.net d level w (verdict_of u) facts → ArePassed p.net d level w v facts' → Settles v → ⊥
+    → u ≡ Sensitive k → ArePassed p.net d level w (verdict_of u) facts → ArePassed p.net d level w v facts' → NeedsNoStack v → ⊥
 matters p plan d level k w u v facts facts' is passed other settles =
     let same : verdict_of u ≡ v = (one_passed p plan d level w (verdict_of u) v facts facts' passed other).0 in
     let sensitive_is : v ≡ sensitive k = sym same ∙ ap verdict_of is in
-    let never : Settles (sensitive k) = subst Settles sensitive_is settles in never
+    let never : NeedsNoStack (sensitive k) = subst NeedsNoStack sensitive_is settles in never

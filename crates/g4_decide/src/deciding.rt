@@ -1,7 +1,7 @@
 // The alternative that prediction chooses at a decision.
 ghost use Rattle.std.specs.Prelude.{◌≡◌, ◌+◌, ◌<◌, ◌^◌, All, Contains, IfOk, List, drop, length, reverse};
 ghost use Rattle.g4_classes.specs.Classes.{IsSymbol};
-ghost use Rattle.g4_decide.specs.Asked.{Asked, HasSeen, Keeps, Settles};
+ghost use Rattle.g4_decide.specs.Asked.{Asked, HasSeen, KeepsToPath, NeedsNoStack};
 ghost use Rattle.g4_decide.specs.Deciding.{HadMemory, IsChosen};
 ghost use Rattle.g4_guards.specs.Levels.{AllowedAt, IsDecision};
 ghost use Rattle.g4_net.specs.AddedRule.{IsReady};
@@ -75,12 +75,12 @@ pub fn decide<B: Home<DecisionNet>, R: Wait, L: Ledger>(
     requires more { from < length tokens.now }
     requires few { length tokens.now < 2 ^ 32 }
     ensures chosen { IsChosen B.plan.net.net decision level (reverse returns.now) (drop from (word_of tokens.now)) from result }
-    ensures keeps { Keeps B.plan decision level (drop from (word_of tokens.now)) pass.old pass.new }
+    ensures keeps { KeepsToPath B.plan decision level (drop from (word_of tokens.now)) pass.old pass.new }
     ensures asked { HadMemory result
         → (v : Said) × Asked B.plan decision level (drop from (word_of tokens.now)) v pass.old pass.new }
     ensures walked { (v : Said) (facts : List (Fact (List Config)))
         → HasSeen B.plan decision level (drop from (word_of tokens.now)) pass.old v facts
-        → (steps.new ≡ steps.old + length facts) × (Settles v → HadMemory result) }
+        → (steps.new ≡ steps.old + length facts) × (NeedsNoStack v → HadMemory result) }
 {
     let net = store.net();
     match ask(rt, alloc, store, pass, decision, level, tokens, from, steps)? {
