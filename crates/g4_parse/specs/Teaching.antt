@@ -1,7 +1,5 @@
 -- What a parse leaves its pass: the words of the paths of SLL that its run passes.
-use Rattle.std.specs.Prelude.{◌≡◌, ◌⊎◌, ℕ, List, Result, Ok, Err, drop, length, true, false}
-use mathlib.Core.Option as maybe
-use lib.ListN.{get_elem?}
+use Rattle.std.specs.Prelude.{◌≡◌, ◌⊎◌, ℕ, List, Result, Ok, Err, drop, true, false}
 use Rattle.g4_decide.specs.Asked.{Told}
 use Rattle.g4_learned.specs.Stored.{ArePassed}
 use Rattle.g4_learned.specs.Tables.{Tables}
@@ -10,7 +8,9 @@ use Rattle.g4_net.specs.Prediction.{Verdict}
 use Rattle.g4_run.specs.Running.{Reaches, Run, level_of}
 use Rattle.g4_store.specs.declared.automaton.Fact.{Fact}
 use Rattle.g4_store.specs.declared.automaton.Plan.{Plan}
+use Rattle.g4_store.specs.Known.{KnowsRows}
 use Rattle.g4_store.specs.Numbers.{Among}
+use Rattle.g4_store.specs.Paths.{InKnown, IsIn, Within}
 use Rattle.g4_parse.specs.declared.parser.ParseFault.{ParseFault}
 use Rattle.g4_parse.specs.declared.parser.ParseFault.TheVariants.{FailedPredicate, Mismatch, NoMemory, NoViable, TooDeep}
 
@@ -26,12 +26,9 @@ pub record IsPassedAt (t : Tables) (word : List ℕ) (r : Run) (f : Fact (List C
 abbrev pub IsPassed : Tables → List ℕ → Fact (List Config) → Type 0
 IsPassed t word f = (r : Run) × Reaches t.net word r × IsPassedAt t word r f
 
--- As many rows are known as there may be, each with another content.
-pub record HasNoRoom (most : ℕ) (known : List (ℕ × List Config)) : Type 0 where
-  pub rows : List (List Config)
-  pub all : length rows ≡ most
-  pub differ : (r q : ℕ) (x : List Config) → get_elem? rows r ≡ maybe.some x → get_elem? rows q ≡ maybe.some x → r ≡ q
-  pub are_known : (t : ℕ) (y : List Config) → get_elem? rows t ≡ maybe.some y → Among (t, y) known
+-- one of the words that are passed names the row
+abbrev pub HasPassedRow : (Fact (List Config) → Type 0) → List Config → Type 0
+HasPassedRow Passed y = (f : Fact (List Config)) × Passed f × IsIn y f
 
 -- Nothing that the pass has seen, taught or knows is lost.
 pub record HasKept (old new : Told) : Type 0 where
@@ -41,14 +38,17 @@ pub record HasKept (old new : Told) : Type 0 where
   pub holds : new.0.holds ≡ old.0.holds
   pub count : new.0.count ≡ old.0.count
 
--- The pass has seen the words that are passed and no others, or there was want of room: then it has seen none but these. It has taught none
--- but these. There is new want of room only where as many rows are known as there may be.
+-- The pass has seen and taught no words but those that are passed. It has seen all of these, or there was want of room: then it has seen
+-- those whose rows it knows, and it knows as many rows as there may be. There is new want of room only where a word that is passed has
+-- another row. Where none is passed, the pass is as it was.
 pub record IsTaught (p : Plan Tables) (Passed : Fact (List Config) → Type 0) (old new : Told) : Type 0 where
   pub within : (f : Fact (List Config)) → Among f new.0.seen → Among f old.0.seen ⊎ Passed f
   pub teaches : (f : Fact (List Config)) → Among f new.0.taught → Among f old.0.taught ⊎ Passed f
   pub whole : new.1 ≡ false → (f : Fact (List Config)) → Passed f → Among f new.0.seen
-  pub full : old.1 ≡ false → new.1 ≡ true → HasNoRoom p.rows new.0.known
+  pub some : (f : Fact (List Config)) → Passed f → Within (InKnown new.0.known) f → Among f new.0.seen
+  pub missing : old.1 ≡ false → new.1 ≡ true → (y : List Config) × HasPassedRow Passed y × (InKnown new.0.known y → ⊥)
   pub stays_full : old.1 ≡ true → new.1 ≡ true
+  pub rows : (((f : Fact (List Config)) → Passed f → ⊥) × (new ≡ old)) ⊎ KnowsRows p.rows new
 
 -- the fault is not that memory was refused
 abbrev pub IsNoRefusal : ParseFault → Type 0

@@ -183,7 +183,9 @@ grammar X; s : 'a'* ; # 1 #  => s; full, 1 rows 1 edges
 grammar X; s : 'a'* ; # 1 # aa| => (s a a); s; full, 1 rows 2 edges
 grammar X; s : 'a' 'b' 'c' | 'a' 'b' 'd' ; # 1024 # abd|aba|abc => (s a b d); no viable alternative at 2; (s a b c); 4 rows 7 edges
 grammar X; s : 'a' 'b' 'c' | 'a' 'b' 'd' ; # 2 # abd|aba|abc => (s a b d); no viable alternative at 2; (s a b c); full, 2 rows 1 edges
-grammar X; s : e ; e : e '*' e | e '+' e | 'a' ; # 1024 # a+a*a|a*a+a => (s (e (e a) + (e (e a) * (e a)))); (s (e (e (e a) * (e a)) + (e a))); 4 rows 9 edges";
+grammar X; s : e ; e : e '*' e | e '+' e | 'a' ; # 1024 # a+a*a|a*a+a => (s (e (e a) + (e (e a) * (e a)))); (s (e (e (e a) * (e a)) + (e a))); 4 rows 9 edges
+grammar X; s : s '*' s | s '+' s | '(' s ')' | INT ; INT : [0-9]+ ; # 1024 # 1 => (s 1); 3 rows 4 edges
+grammar X; s : s '*' s | s '+' s | '(' s ')' | INT ; INT : [0-9]+ ; # 1024 # 1+2 => (s (s 1) + (s 2)); 4 rows 6 edges";
 
 /// Adds a row of which something else is shown.
 fn push_other<R: Wait>(rt: &R, alloc: Global, all: &mut String, row: &str) -> Result<(), Fail> {
@@ -229,5 +231,35 @@ fn a_large_text(rt: HostRuntime) -> Result<(), Fail> {
         text.as_str(),
     )?;
     assert_eq!(rt; found.as_str(), wanted.as_str());
+    Ok(())
+}
+
+/// A text of so many brackets, and this letter.
+fn push_nest(text: &mut String, depth: usize, last: &str) -> Result<(), Fail> {
+    for _ in 0..depth {
+        text.push('(')?;
+    }
+    text.push('a')?;
+    for _ in 0..depth {
+        text.push(')')?;
+    }
+    text.push_str(last)?;
+    Ok(())
+}
+
+#[test]
+fn a_long_way_on_from_a_row(rt: HostRuntime) -> Result<(), Fail> {
+    let mut texts = String::new(rt.alloc());
+    push_nest(&mut texts, 1, "b|")?;
+    push_nest(&mut texts, 300, "c")?;
+    let found = parsed_with(
+        &rt,
+        rt.alloc(),
+        "grammar X; s : x 'b' | x 'c' ; x : '(' x ')' | 'a' ;",
+        2_000,
+        texts.as_str(),
+    )?;
+    assert!(rt; found.as_str().split_once(" c); ").is_some());
+    assert!(rt; found.as_str().split_once("full").is_none());
     Ok(())
 }
