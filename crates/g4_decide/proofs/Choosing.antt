@@ -13,10 +13,10 @@ use Rattle.g4_net.specs.Network.{ParserNetwork, IsFirst}
 use Rattle.g4_net.specs.Prediction.{Full, Path, Sll, answer, chosen, error_at, no_viable, sensitive}
 use Rattle.g4_net.specs.Prediction.{Verdict as Said}
 use Rattle.g4_learned.proofs.Rests.{from_on, word_from}
-use Rattle.g4_predict.specs.declared.full.Settled.{Settled}
+use Rattle.g4_full.specs.declared.full.Settled.{Settled}
 use Rattle.g4_predict.specs.declared.verdict.Verdict.{Verdict}
 use Rattle.g4_predict.specs.declared.verdict.Verdict.TheVariants.{Sensitive}
-use Rattle.g4_predict.specs.FullVerdicts.{choice_of}
+use Rattle.g4_full.specs.Settled.{choice_of}
 use Rattle.g4_predict.specs.Paths.{verdict_of}
 use Rattle.g4_store.specs.declared.automaton.Fact.{Fact}
 use Rattle.g4_store.specs.declared.automaton.Plan.{Plan}

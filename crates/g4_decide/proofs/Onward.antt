@@ -1,5 +1,5 @@
 -- Where a walk stopped at a row, SLL goes on from there.
-use Rattle.std.proofs.Common.{◌≡◌, ◌⊎◌, ◌+◌, ◌-◌, ◌<◌, ◌≤◌, inl, inr, ℕ, List, ◌++◌, All, Contains, drop, length, map, sym, ◌∙◌, ap, subst, arith, length-drop}
+use Rattle.std.proofs.Common.{◌≡◌, ◌⊎◌, ◌+◌, ◌<◌, inl, inr, ℕ, List, ◌++◌, All, Contains, drop, length, map, sym, ◌∙◌, subst, arith, length-drop}
 use Rattle.std.proofs.lemmas.List.{drop-drop, length-map}
 use Rattle.std.proofs.lemmas.List.Elements.{All-drop}
 use Rattle.g4_classes.specs.Classes.{IsSymbol}

@@ -8,45 +8,22 @@ ghost use Rattle.g4_net.specs.AddedRule.{IsReady};
 ghost use Rattle.g4_net.specs.Configurations.{Config, above_bottom};
 ghost use Rattle.g4_net.specs.Prediction.{Full, Verdict as Said};
 ghost use Rattle.g4_net.specs.Proper.{IsProper};
-ghost use Rattle.g4_predict.specs.FullVerdicts.{choice_of};
+ghost use Rattle.g4_full.specs.Settled.{choice_of};
 ghost use Rattle.g4_store.specs.declared.automaton.Fact.{Fact};
 ghost use Rattle.g4_tokens.specs.Symbols.{end_of_list};
 ghost use Rattle.g4_tokens.specs.TokenList.{EndsInEnd, word_of};
 
 use crate::asking::ask;
 use crate::fault::DecideFault;
-use g4_guards::allowed_at;
+use g4_full::{Memory, Settled};
 use g4_learned::{DecisionNet, Pass, Store};
-use g4_net::ParserNetwork;
-use g4_predict::{Settled, Verdict, decide_full};
+use g4_predict::Verdict;
 use g4_store::steps::Steps;
 use g4_store::view::Home;
 use g4_tokens::Token;
-use std::alloc::{AllocError, Global};
+use std::alloc::Global;
 use std::sync::Wait;
 use std::sync::ledger::Ledger;
-
-/// What full stacks settle at a decision in a rule that was called at this level, with the return states of the parser's stack, newest
-/// last.
-fn settle_at(
-    alloc: Global,
-    net: &ParserNetwork,
-    decision: u32,
-    level: u32,
-    returns: &[u32],
-    tokens: &[Token],
-) -> Result<Settled, AllocError>
-    requires ready { IsReady net.now }
-    requires proper { IsProper net.now decision (reverse returns.now) }
-    requires ends { Contains (word_of tokens.now) end_of_list }
-    requires few { length tokens.now < 2 ^ 32 }
-    ensures { IfOk result (λ settled. Full net.now decision (AllowedAt net.now decision level) (above_bottom (reverse returns.now))
-        (word_of tokens.now) (choice_of settled)) }
-{
-    let allowed = allowed_at(alloc, net, decision, level)?;
-    let settled = decide_full(alloc, net, decision, &allowed, returns, tokens)?;
-    Ok(settled)
-}
 
 /// The alternative, counted from 1, that prediction chooses at a decision in a rule that was called at this level, with the return
 /// states of the parser's stack, newest last, on the tokens from a place on: SLL's answer, by what is learned, or that of full stacks
@@ -61,6 +38,7 @@ pub fn decide<B: Home<DecisionNet>, R: Wait, L: Ledger>(
     alloc: Global,
     store: &Store<B>,
     pass: &mut Pass<B>,
+    memory: &mut Memory<B>,
     decision: u32,
     level: u32,
     returns: &[u32],
@@ -88,7 +66,7 @@ pub fn decide<B: Home<DecisionNet>, R: Wait, L: Ledger>(
         Verdict::ErrorAt(k) => Err(DecideFault::NoViable { at: from + k }),
         Verdict::Sensitive(_) => {
             let rest = &tokens[from as usize..];
-            match settle_at(alloc, net.net(), decision, level, returns, rest)? {
+            match memory.settle(alloc, net.net(), decision, level, returns, rest)? {
                 Settled::Chosen(alternative) => Ok(alternative),
                 Settled::NoViable(k) => Err(DecideFault::NoViable { at: from + k }),
             }

@@ -13,6 +13,7 @@ ghost use Rattle.g4_trees.specs.Trees.{Forest, items_of_all};
 
 use crate::state::{begun, state_of};
 use g4_decide::decide;
+use g4_full::Memory;
 use g4_learned::{DecisionNet, Pass, Store};
 use g4_net::{ParserNetwork, State};
 use g4_store::steps::Steps;
@@ -159,6 +160,7 @@ impl Parser {
         net: &ParserNetwork,
         store: &Store<B>,
         pass: &mut Pass<B>,
+        memory: &mut Memory<B>,
         targets: &[u32],
         tokens: &[Token],
         steps: &mut Steps<L>,
@@ -179,7 +181,7 @@ impl Parser {
         let level = self.newest().level;
         let returns = self.returns.as_slice();
         let alternative = decide(
-            rt, alloc, store, pass, self.state, level, returns, tokens, self.place, steps,
+            rt, alloc, store, pass, memory, self.state, level, returns, tokens, self.place, steps,
         )?;
         let target = targets[alternative as usize - 1];
         self.begin_alternative(begun(net, target));
@@ -257,6 +259,7 @@ impl Parser {
         net: &ParserNetwork,
         store: &Store<B>,
         pass: &mut Pass<B>,
+        memory: &mut Memory<B>,
         tokens: &[Token],
         steps: &mut Steps<L>,
     ) -> Result<(), ParseFault>
@@ -275,7 +278,7 @@ impl Parser {
     {
         if let State::Decision(targets) = state_of(net, self.state) {
             let targets = targets.as_slice();
-            return self.choose(rt, alloc, net, store, pass, targets, tokens, steps);
+            return self.choose(rt, alloc, net, store, pass, memory, targets, tokens, steps);
         }
         self.step(net, tokens)
     }

@@ -12,6 +12,7 @@ ghost use Rattle.g4_tokens.specs.TokenList.{word_of, EndsInEnd};
 ghost use Rattle.g4_tree_check.specs.TreesOf.{IsTreeOf};
 
 use crate::parser::{ParseFault, Parser};
+use g4_full::Memory;
 use g4_learned::{DecisionNet, Pass, Store};
 use g4_net::ParserNetwork;
 use g4_store::steps::Steps;
@@ -29,6 +30,7 @@ fn run<B: Home<DecisionNet>, R: Wait, L: Ledger>(
     net: &ParserNetwork,
     store: &Store<B>,
     pass: &mut Pass<B>,
+    memory: &mut Memory<B>,
     tokens: &[Token],
     steps: &mut Steps<L>,
 ) -> Result<Tree, ParseFault>
@@ -43,7 +45,7 @@ fn run<B: Home<DecisionNet>, R: Wait, L: Ledger>(
 {
     let mut parser = Parser::new(alloc);
     'run: while !parser.has_ended(net) {
-        parser.turn(rt, alloc, net, store, pass, tokens, steps)?;
+        parser.turn(rt, alloc, net, store, pass, memory, tokens, steps)?;
     }
     Ok(parser.finish(alloc)?)
 }
@@ -59,6 +61,7 @@ pub fn parse<B: Home<DecisionNet>, R: Wait, L: Ledger>(
     alloc: Global,
     store: &Store<B>,
     pass: &mut Pass<B>,
+    memory: &mut Memory<B>,
     tokens: &[Token],
     steps: &mut Steps<L>,
 ) -> Result<Tree, ParseFault>
@@ -79,5 +82,5 @@ pub fn parse<B: Home<DecisionNet>, R: Wait, L: Ledger>(
     ensures taught { HadMemory result → IsTaught B.plan (IsPassed B.plan.net (word_of tokens.now)) pass.old pass.new }
 {
     let net = store.net().net();
-    run(rt, alloc, net, store, pass, tokens, steps)
+    run(rt, alloc, net, store, pass, memory, tokens, steps)
 }

@@ -8,6 +8,7 @@ ghost use Rattle.g4_ordered.specs.Network.{IsLexable};
 ghost use Rattle.g4_tokens.specs.TokenList.{EndsInEnd, word_of};
 
 use g4_base::{Sequence, Text};
+use g4_full::Memory;
 use g4_grammar::ParserRules;
 use g4_learned::{DecisionNet, Learnings, Opened, Pass, Store, open};
 use g4_lexer::{Lexer, tokens};
@@ -83,6 +84,7 @@ fn push_parsed<B: Home<DecisionNet>, R: Wait, L: Ledger>(
     rules: &ParserRules,
     store: &Store<B>,
     pass: &mut Pass<B>,
+    memory: &mut Memory<B>,
     text: &str,
     steps: &mut Steps<L>,
 ) -> Result<(), Fail>
@@ -90,7 +92,15 @@ fn push_parsed<B: Home<DecisionNet>, R: Wait, L: Ledger>(
     requires types { HasTokenTypes lexer.now }
 {
     let tokens = tokens_of(alloc, lexer, text)?;
-    match parse(rt, alloc, store, pass, tokens.list.as_slice(), steps) {
+    match parse(
+        rt,
+        alloc,
+        store,
+        pass,
+        memory,
+        tokens.list.as_slice(),
+        steps,
+    ) {
         Ok(tree) => {
             let mut out = Vec::new(alloc);
             tree.print(&mut out, rules.as_slice(), &tokens)?;
@@ -135,10 +145,20 @@ fn parse_all<B: Home<DecisionNet>, R: Wait, L: Ledger>(
 {
     let mut steps = Steps::<L>::open(blank);
     let (store, mut pass) = Store::<B>::named(opened);
+    let mut memory = Memory::new(alloc);
     let mut shown = String::new(alloc);
     for text in texts.as_str().split('|') {
         push_parsed(
-            &mut shown, rt, alloc, lexer, rules, &store, &mut pass, text, &mut steps,
+            &mut shown,
+            rt,
+            alloc,
+            lexer,
+            rules,
+            &store,
+            &mut pass,
+            &mut memory,
+            text,
+            &mut steps,
         )?;
     }
     if pass.was_full() {
@@ -185,7 +205,9 @@ grammar X; s : 'a' 'b' 'c' | 'a' 'b' 'd' ; # 1024 # abd|aba|abc => (s a b d); no
 grammar X; s : 'a' 'b' 'c' | 'a' 'b' 'd' ; # 2 # abd|aba|abc => (s a b d); no viable alternative at 2; (s a b c); full, 2 rows 1 edges
 grammar X; s : e ; e : e '*' e | e '+' e | 'a' ; # 1024 # a+a*a|a*a+a => (s (e (e a) + (e (e a) * (e a)))); (s (e (e (e a) * (e a)) + (e a))); 4 rows 9 edges
 grammar X; s : s '*' s | s '+' s | '(' s ')' | INT ; INT : [0-9]+ ; # 1024 # 1 => (s 1); 3 rows 4 edges
-grammar X; s : s '*' s | s '+' s | '(' s ')' | INT ; INT : [0-9]+ ; # 1024 # 1+2 => (s (s 1) + (s 2)); 4 rows 6 edges";
+grammar X; s : s '*' s | s '+' s | '(' s ')' | INT ; INT : [0-9]+ ; # 1024 # 1+2 => (s (s 1) + (s 2)); 4 rows 6 edges
+grammar X; s : t* ; t : 'x' a 'c' | 'y' a 'b' 'c' ; a : 'b' | ; # 1024 # xbcybcxbcybbc|ybcxbc|xbbc|yc => (s (t x (a b) c) (t y a b c) (t x (a b) c) (t y (a b) b c)); (s (t y a b c) (t x (a b) c)); mismatch at 2 in 18; mismatch at 1 in 22; 5 rows 11 edges
+grammar X; s : t* ; t : '(' t ')' | '[' t ']' | 'x' a 'c' | 'y' a 'b' 'c' ; a : 'b' | ; # 1024 # ([xbc])[(ybc)]|[[ybbc]] => (s (t ( (t [ (t x (a b) c) ]) )) (t [ (t ( (t y a b c) )) ])); (s (t [ (t [ (t y (a b) b c) ]) ])); 5 rows 12 edges";
 
 /// Adds a row of which something else is shown.
 fn push_other<R: Wait>(rt: &R, alloc: Global, all: &mut String, row: &str) -> Result<(), Fail> {
@@ -261,5 +283,83 @@ fn a_long_way_on_from_a_row(rt: HostRuntime) -> Result<(), Fail> {
     )?;
     assert!(rt; found.as_str().split_once(" c); ").is_some());
     assert!(rt; found.as_str().split_once("full").is_none());
+    Ok(())
+}
+
+/// A grammar that needs the parser's stack. After `x` or `y`, so many letters are looked at before it is known which alternative fits.
+fn push_late(grammar: &mut String, letters: usize) -> Result<(), Fail> {
+    grammar.push_str(
+        "grammar X; s : t* ; t : 'x' a l 'c' | 'y' a ('b' l 'c' | l 'd') ; a : 'b' | ; l :",
+    )?;
+    for _ in 0..letters {
+        grammar.push_str(" 'l'")?;
+    }
+    grammar.push_str(" ;")?;
+    Ok(())
+}
+
+/// A part of a text of that grammar, with this first and last letter.
+fn push_part(text: &mut String, first: char, letters: usize, last: char) -> Result<(), Fail> {
+    text.push(first)?;
+    text.push('b')?;
+    for _ in 0..letters {
+        text.push('l')?;
+    }
+    text.push(last)?;
+    Ok(())
+}
+
+/// The tree of such a part.
+fn push_part_tree(
+    wanted: &mut String,
+    first: char,
+    front: &str,
+    letters: usize,
+    last: char,
+) -> Result<(), Fail> {
+    write!(wanted, " (t {first} {front} (l")?;
+    for _ in 0..letters {
+        wanted.push_str(" l")?;
+    }
+    write!(wanted, ") {last})")?;
+    Ok(())
+}
+
+/// What is found and wanted of so many parts of such a text, in which alternatives end in turn.
+fn late_parts<R: Wait>(
+    rt: &R,
+    alloc: Global,
+    letters: usize,
+    parts: usize,
+) -> Result<(String, String), Fail> {
+    let mut grammar = String::new(alloc);
+    push_late(&mut grammar, letters)?;
+    let mut text = String::new(alloc);
+    let mut wanted = String::new(alloc);
+    wanted.push_str("(s")?;
+    for _ in 0..parts {
+        push_part(&mut text, 'x', letters, 'c')?;
+        push_part_tree(&mut wanted, 'x', "(a b)", letters, 'c')?;
+        push_part(&mut text, 'y', letters, 'c')?;
+        push_part_tree(&mut wanted, 'y', "a b", letters, 'c')?;
+        push_part(&mut text, 'y', letters, 'd')?;
+        push_part_tree(&mut wanted, 'y', "(a b)", letters, 'd')?;
+    }
+    wanted.push_str(")")?;
+    let found = parsed_with(rt, alloc, grammar.as_str(), 1_024, text.as_str())?;
+    Ok((found, wanted))
+}
+
+#[test]
+fn full_stacks_on_a_large_text(rt: HostRuntime) -> Result<(), Fail> {
+    let (found, wanted) = late_parts(&rt, rt.alloc(), 1, 5_000)?;
+    assert!(rt; found.as_str().starts_with(wanted.as_str()));
+    Ok(())
+}
+
+#[test]
+fn full_stacks_that_look_far(rt: HostRuntime) -> Result<(), Fail> {
+    let (found, wanted) = late_parts(&rt, rt.alloc(), 300, 20)?;
+    assert!(rt; found.as_str().starts_with(wanted.as_str()));
     Ok(())
 }

@@ -1,6 +1,4 @@
--- Other crates cite FullVerdicts, Paths, Reached; only this crate cites Frames, Verdicts.
-pub mod Frames
-pub mod FullVerdicts
+-- Other crates cite Paths, Reached; only this crate cites Verdicts.
 pub mod Paths
 pub mod Reached
 pub mod Verdicts

@@ -1,4 +1,4 @@
-use Rattle.std.proofs.Common.{◌+◌, inr, refl, sym, ◌∙◌, ap, subst, drop, map, ◌++◌, ℕ, arith}
+use Rattle.std.proofs.Common.{◌+◌, inr, refl, sym, ◌∙◌, ap, subst, drop, map, ◌++◌, ℕ}
 use Rattle.std.proofs.lemmas.List.Elements.{All-drop}
 use Rattle.g4_classes.specs.Classes.{IsSymbol}
 use Rattle.g4_guards.specs.Levels.{IsDecision}

@@ -4,23 +4,26 @@ use Rattle.g4_net.specs.AddedRule.{IsReady}
 use Rattle.g4_net.specs.Network.{ParserNetwork}
 use Rattle.g4_net.specs.Proper.{IsProper}
 use Rattle.g4_learned.proofs.Rests.{ends_ahead}
-use Rattle.g4_predict.specs.declared.full.Settled.TheVariants.{Chosen, NoViable}
+use Rattle.g4_full.specs.declared.full.Settled.TheVariants.{Chosen, NoViable}
 use Rattle.g4_predict.specs.declared.verdict.Verdict.TheVariants.{Answer, ErrorAt, Sensitive}
 use Rattle.g4_tokens.specs.TokenList.{word_of}
 use Rattle.g4_decide.proofs.Choosing.{answered, failed, matters, not_viable, said_is, settled, settled_is, within_tokens}
 use Rattle.g4_decide.proofs.deciding.decide.Goals as goal
 
-pub settle_at-requires-clause-ready : goal.settle_at-requires-clause-ready
-settle_at-requires-clause-ready g c =
+pub settle-requires-clause-own : goal.settle-requires-clause-own
+settle-requires-clause-own g c = c.net.ensures ∙ ap (λ (t : Tables). t.net) c.net-net.ensures.is
+
+pub settle-requires-clause-ready : goal.settle-requires-clause-ready
+settle-requires-clause-ready g c =
     subst IsReady (sym (c.net.ensures ∙ ap (λ (t : Tables). t.net) c.net-net.ensures.is)) c.net-net.ensures.plan.ready
 
-pub settle_at-requires-clause-proper : goal.settle_at-requires-clause-proper
-settle_at-requires-clause-proper g c =
+pub settle-requires-clause-proper : goal.settle-requires-clause-proper
+settle-requires-clause-proper g c =
     subst (λ (n : ParserNetwork). IsProper n c.args.decision (reverse c.args.returns.now))
     (sym (c.net.ensures ∙ ap (λ (t : Tables). t.net) c.net-net.ensures.is)) c.requires.proper
 
-pub settle_at-requires-clause-ends : goal.settle_at-requires-clause-ends
-settle_at-requires-clause-ends g c = ends_ahead c.args.from c.args.tokens.now c.requires.ends c.requires.more
+pub settle-requires-clause-ends : goal.settle-requires-clause-ends
+settle-requires-clause-ends g c = ends_ahead c.args.from c.args.tokens.now c.requires.ends c.requires.more
 
 pub returns-in-Answer-clause-chosen : goal.returns-in-Answer-clause-chosen
 returns-in-Answer-clause-chosen g c =

@@ -1,0 +1,80 @@
+// Looking ahead from a decision with the parser's own stack.
+ghost use Rattle.std.specs.Prelude.{◌<◌, ◌^◌, Contains, IfOk, length, reverse};
+ghost use Rattle.g4_tokens.specs.Symbols.{end_of_list};
+ghost use Rattle.g4_net.specs.AddedRule.{IsReady};
+ghost use Rattle.g4_net.specs.Allowed.{Allows};
+ghost use Rattle.g4_net.specs.Configurations.{above_bottom};
+ghost use Rattle.g4_net.specs.Prediction.{Full};
+ghost use Rattle.g4_net.specs.Proper.{IsProper};
+ghost use Rattle.g4_tokens.specs.TokenList.{word_of};
+ghost use Rattle.g4_full.specs.Settled.{choice_of};
+ghost use Rattle.g4_guards.specs.Levels.{AllowedAt};
+
+use crate::lowering::take_down;
+use crate::shown::{settle_by, show};
+use g4_closure::{framed_advance, framed_start};
+use g4_guards::allowed_at;
+use g4_net::{Allowed, ParserNetwork};
+use g4_tokens::Token;
+use std::alloc::{AllocError, Global};
+
+/// What full stacks say at a decision. Symbols count from 0, the decision's first.
+#[derive(Drop)]
+pub enum Settled {
+    /// This alternative.
+    Chosen(u32),
+    /// None is left after this symbol.
+    NoViable(u32),
+}
+
+/// The choice of a decision, over the allowed alternatives and with the return states of the parser's stack, newest last, on the
+/// tokens from it on.
+fn decide_full(
+    alloc: Global,
+    net: &ParserNetwork,
+    decision: u32,
+    allowed: &Allowed,
+    returns: &[u32],
+    tokens: &[Token],
+) -> Result<Settled, AllocError>
+    requires ready { IsReady net.now }
+    requires proper { IsProper net.now decision (reverse returns.now) }
+    requires ends { Contains (word_of tokens.now) end_of_list }
+    requires few { length tokens.now < 2 ^ 32 }
+    ensures { IfOk result (λ settled. Full net.now decision (Allows allowed.now) (above_bottom (reverse returns.now))
+        (word_of tokens.now) (choice_of settled)) }
+{
+    let first = framed_start(alloc, net, decision, allowed)?;
+    let mut place = take_down(alloc, net, first, returns, 0)?;
+    for (k, token) in tokens.iter().enumerate() {
+        let next = framed_advance(alloc, net, place.set, token.symbol)?;
+        place = take_down(alloc, net, next, place.below, place.taken)?;
+        let shown = show(alloc, &place.set)?;
+        if let Some(settled) = settle_by(shown, k as u32) {
+            return Ok(settled);
+        }
+    }
+    unreachable!()
+}
+
+/// What full stacks settle at a decision in a rule that was called at this level, with the return states of the parser's stack, newest
+/// last, on the tokens from it on.
+pub(crate) fn settle_at(
+    alloc: Global,
+    net: &ParserNetwork,
+    decision: u32,
+    level: u32,
+    returns: &[u32],
+    tokens: &[Token],
+) -> Result<Settled, AllocError>
+    requires ready { IsReady net.now }
+    requires proper { IsProper net.now decision (reverse returns.now) }
+    requires ends { Contains (word_of tokens.now) end_of_list }
+    requires few { length tokens.now < 2 ^ 32 }
+    ensures { IfOk result (λ settled. Full net.now decision (AllowedAt net.now decision level) (above_bottom (reverse returns.now))
+        (word_of tokens.now) (choice_of settled)) }
+{
+    let allowed = allowed_at(alloc, net, decision, level)?;
+    let settled = decide_full(alloc, net, decision, &allowed, returns, tokens)?;
+    Ok(settled)
+}

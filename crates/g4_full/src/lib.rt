@@ -1,0 +1,14 @@
+// Prediction with full stacks: the answer at a decision with the parser's own stack, over the alternatives that a level allows. That of
+// full stacks is that over single stacks, which is the least allowed alternative that fits. Steps of framed sets are remembered.
+#![tactic(auto)]
+
+mod frames;
+mod full;
+mod look;
+mod lowering;
+mod make;
+mod memory;
+mod shown;
+
+pub use full::Settled;
+pub use memory::Memory;

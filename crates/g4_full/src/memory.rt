@@ -1,0 +1,83 @@
+// What full stacks settle, with a memory of the steps between framed sets.
+ghost use Rattle.std.specs.Prelude.{◌≡◌, ◌<◌, ◌^◌, Contains, IfOk, length, reverse};
+ghost use Rattle.g4_full.specs.Settled.{choice_of};
+ghost use Rattle.g4_guards.specs.Levels.{AllowedAt};
+ghost use Rattle.g4_net.specs.AddedRule.{IsReady};
+ghost use Rattle.g4_net.specs.Configurations.{above_bottom};
+ghost use Rattle.g4_net.specs.Prediction.{Full};
+ghost use Rattle.g4_net.specs.Proper.{IsProper};
+ghost use Rattle.g4_tokens.specs.Symbols.{end_of_list};
+ghost use Rattle.g4_tokens.specs.TokenList.{word_of};
+
+use crate::frames::Frames;
+use crate::full::{Settled, settle_at};
+use g4_learned::DecisionNet;
+use g4_net::ParserNetwork;
+use g4_store::view::Home;
+use g4_tokens::Token;
+use std::alloc::{AllocError, Global};
+use std::marker::{Model, PhantomData};
+
+/// The most steps that are made for one question. Where it needs more, it is settled without the memory.
+const MOST_MADE: usize = 64;
+
+/// Framed sets and the steps between them, as they were made for the questions before, up to a bounded number. It holds for one network
+/// alone, which contracts see. What it answers does not depend on what it remembers.
+#[derive(Drop)]
+pub struct Memory<B: Home<DecisionNet>> {
+    frames: Frames,
+    home: PhantomData<B>,
+}
+
+impl<B: Home<DecisionNet>> Model for Memory<B> {
+    ghost use Rattle.g4_full.specs.Remembered.{IsSound};
+    ghost use Rattle.g4_net.specs.Network.{ParserNetwork as Net};
+
+    ghost Value = { Net };
+
+    ghost view = { λ _. B.plan.net.net };
+
+    ghost invariant = { λ m. IsSound B.plan.net.net m.frames };
+}
+
+impl<B: Home<DecisionNet>> Memory<B> {
+    /// With nothing remembered.
+    pub fn new(alloc: Global) -> Memory<B> {
+        Memory {
+            frames: Frames::new(alloc),
+            home: PhantomData,
+        }
+    }
+
+    /// What full stacks settle at a decision in a rule that was called at this level, with the return states of the parser's stack,
+    /// newest last, on the tokens from it on. A question all of whose steps are remembered takes no memory.
+    ///
+    /// # Errors
+    /// No memory.
+    pub fn settle(
+        &mut self,
+        alloc: Global,
+        net: &ParserNetwork,
+        decision: u32,
+        level: u32,
+        returns: &[u32],
+        tokens: &[Token],
+    ) -> Result<Settled, AllocError>
+        requires own { net.now ≡ B.plan.net.net }
+        requires ready { IsReady net.now }
+        requires proper { IsProper net.now decision (reverse returns.now) }
+        requires ends { Contains (word_of tokens.now) end_of_list }
+        requires few { length tokens.now < 2 ^ 32 }
+        ensures { IfOk result (λ settled. Full net.now decision (AllowedAt net.now decision level) (above_bottom (reverse returns.now))
+            (word_of tokens.now) (choice_of settled)) }
+    {
+        for _ in 0..MOST_MADE {
+            match self.frames.look::<B>(decision, level, returns, tokens) {
+                Ok(settled) => return Ok(settled),
+                Err(step) => self.frames.make(alloc, net, step)?,
+            }
+        }
+        let settled = settle_at(alloc, net, decision, level, returns, tokens)?;
+        Ok(settled)
+    }
+}
