@@ -14,6 +14,7 @@ use crate::inputs::Input;
 use crate::outcome::{Outcome, is_accepted, outcome_of, push_outcome};
 use crate::write::Line;
 use g4_base::Text;
+use g4_full::Memory;
 use g4_learned::{DecisionNet, OpenFault, Opened, Pass, Store, open};
 use g4_load::Interpreter;
 use g4_net::ParserNetwork;
@@ -58,6 +59,7 @@ fn push_file<B: Home<DecisionNet>, R: Wait, L: Ledger>(
     grammar: &Grammar,
     store: &Store<B>,
     pass: &mut Pass<B>,
+    memory: &mut Memory<B>,
     name: &str,
     input: Input,
     steps: &mut Steps<L>,
@@ -67,7 +69,7 @@ fn push_file<B: Home<DecisionNet>, R: Wait, L: Ledger>(
     requires few { parsed.old.accepted < MOST_FILES }
     ensures { OnOk result (IsOneMore output (with_net grammar.now B.plan.net.net) name.now input parsed.old parsed.new) }
 {
-    let outcome = outcome_of(rt, alloc, grammar, store, pass, input, steps)?;
+    let outcome = outcome_of(rt, alloc, grammar, store, pass, memory, input, steps)?;
     let net = store.net().net();
     push_outcome(
         &mut parsed.lines,
@@ -92,6 +94,7 @@ fn parse_in_order<B: Home<DecisionNet>, R: Wait, L: Ledger, G: Gate>(
     grammar: &Grammar,
     store: &Store<B>,
     pass: &mut Pass<B>,
+    memory: &mut Memory<B>,
     names: &[Text],
     inputs: Vec<Input>,
     gate: &G,
@@ -119,6 +122,7 @@ fn parse_in_order<B: Home<DecisionNet>, R: Wait, L: Ledger, G: Gate>(
             grammar,
             store,
             pass,
+            memory,
             name,
             input,
             steps,
@@ -153,8 +157,19 @@ fn parse_opened<B: Home<DecisionNet>, R: Wait, L: Ledger, G: Gate>(
 {
     let mut steps = Steps::<L>::open(blank);
     let (store, mut pass) = Store::<B>::named(opened);
+    let mut memory = Memory::new(alloc);
     parse_in_order(
-        rt, alloc, output, grammar, &store, &mut pass, names, inputs, gate, &mut steps,
+        rt,
+        alloc,
+        output,
+        grammar,
+        &store,
+        &mut pass,
+        &mut memory,
+        names,
+        inputs,
+        gate,
+        &mut steps,
     )
 }
 

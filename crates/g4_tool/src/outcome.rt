@@ -18,6 +18,7 @@ use crate::messages::{
 };
 use crate::write::Line;
 use g4_base::{MOST_BYTES, Octets, Sequence};
+use g4_full::Memory;
 use g4_learned::{DecisionNet, Pass, Store};
 use g4_lexer::{LexFault, tokens};
 use g4_net::ParserNetwork;
@@ -70,6 +71,7 @@ fn outcome_of_bytes<B: Home<DecisionNet>, R: Wait, L: Ledger>(
     grammar: &Grammar,
     store: &Store<B>,
     pass: &mut Pass<B>,
+    memory: &mut Memory<B>,
     bytes: Octets,
     steps: &mut Steps<L>,
 ) -> Result<Outcome, AllocError>
@@ -88,7 +90,15 @@ fn outcome_of_bytes<B: Home<DecisionNet>, R: Wait, L: Ledger>(
             return Ok(Outcome::Lex(fault));
         }
     };
-    match parse(rt, alloc, store, pass, tokens.list.as_slice(), steps) {
+    match parse(
+        rt,
+        alloc,
+        store,
+        pass,
+        memory,
+        tokens.list.as_slice(),
+        steps,
+    ) {
         Ok(tree) => Ok(Outcome::Tree(tokens, tree)),
         Err(fault) => {
             if parsing_refused(&fault) {
@@ -106,6 +116,7 @@ pub fn outcome_of<B: Home<DecisionNet>, R: Wait, L: Ledger>(
     grammar: &Grammar,
     store: &Store<B>,
     pass: &mut Pass<B>,
+    memory: &mut Memory<B>,
     input: Input,
     steps: &mut Steps<L>,
 ) -> Result<Outcome, AllocError>
@@ -116,7 +127,9 @@ pub fn outcome_of<B: Home<DecisionNet>, R: Wait, L: Ledger>(
     ensures meant { IfOk result (IsMeantAnywhere (with_net grammar.now B.plan.net.net)) }
 {
     match input {
-        Input::Bytes(bytes) => outcome_of_bytes(rt, alloc, grammar, store, pass, bytes, steps),
+        Input::Bytes(bytes) => outcome_of_bytes(
+            rt, alloc, grammar, store, pass, memory, bytes, steps,
+        ),
         Input::TooLarge(size) => Ok(Outcome::TooLarge(size)),
     }
 }
