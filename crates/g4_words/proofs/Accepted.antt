@@ -13,7 +13,7 @@ use Rattle.clap.specs.Kinds.{or_else}
 use Rattle.clap.specs.Faults.{check_fault, defaults_fault, entered_fault, fault_of, level_fault, other_fault, settle_fault, step_fault, turn_fault, walk_fault, word_fault}
 use Rattle.clap.specs.declared.error.kind.ErrorKind.TheVariants.{DisplayHelp, InvalidSubcommand, MissingRequiredArgument, MissingSubcommand}
 use Rattle.g4_words.specs.App.{g4_app}
-use Rattle.g4_words.specs.Commands.{HasFewFiles, HasOneOutput, IsCommand}
+use Rattle.g4_words.specs.Commands.{HasFewFiles, HasNumbers, HasOneOutput, IsCommand}
 use Rattle.g4_words.specs.declared.command.Command.{Command}
 use Rattle.g4_words.specs.declared.command.Command.TheVariants as commands
 use Rattle.g4_words.proofs.Outputs.{some_output}
@@ -152,8 +152,14 @@ parse_fills = (
   (
     fills_by_values (rule_of 0 1) refl,
     (
-      fills_by_flag (rule_of 0 2) (omega arith),
-      (fills_by_flag (rule_of 0 3) (omega arith), (fills_by_values (rule_of 0 4) refl, (fills_by_help (rule_of 0 5) refl, tt))),
+      fills_by_values (rule_of 0 2) refl,
+      (
+        fills_by_values (rule_of 0 3) refl,
+        (
+          fills_by_flag (rule_of 0 4) (omega arith),
+          (fills_by_flag (rule_of 0 5) (omega arith), (fills_by_values (rule_of 0 6) refl, (fills_by_help (rule_of 0 7) refl, tt))),
+        ),
+      ),
     ),
   ),
 )
@@ -178,7 +184,8 @@ entered_one : (rows : List Row) (b : Bool) → check_fault top rows b ≡ [] →
 entered_one rows true none = refl
 entered_one rows false none = absurd (some_fault MissingSubcommand [] none)
 
-module _ (words : List Text) (accepted : fault_of g4_app words ≡ []) (few : HasFewFiles words) (one : HasOneOutput words) where
+module _ (words : List Text) (accepted : fault_of g4_app words ≡ []) (few : HasFewFiles words)
+    (numbers : HasNumbers words) (one : HasOneOutput words) where
   parse_of : (rest : List Text) → subcommand_of g4_app words ≡ Some (codes "parse", rows_after (command_at 0).rules [] rest)
       → level_fault (command_at 0) [] nothing_held rest false [] ≡ [] → IsSomeCommand words
   parse_of rest given none =
@@ -188,8 +195,16 @@ module _ (words : List Text) (accepted : fault_of g4_app words ≡ []) (few : Ha
       let grammar = given_has_value (codes "grammar") rows level.0 there.0 in
       let start = given_has_value (codes "start") rows level.0 there.1 in
       let files = given_has_value (codes "files") rows level.0 there.2 in
+      let counts = numbers (codes "parse") rows given in
       let output = some_output rows (λ a b. one (codes "parse") rows a b given) in (
-        commands.Parse (record { grammar = grammar.first; start = start.first; output = output.0; files = files.first ∷ files.others }),
+        commands.Parse (record {
+          grammar = grammar.first;
+          start = start.first;
+          jobs = counts.0.0;
+          rows = counts.1.0;
+          output = output.0;
+          files = files.first ∷ files.others;
+        }),
         record {
           accepted = accepted;
           name = codes "parse";
@@ -200,6 +215,8 @@ module _ (words : List Text) (accepted : fault_of g4_app words ≡ []) (few : Ha
             record {
               grammar = grammar.one;
               start = start.one;
+              jobs = counts.0.1;
+              rows = counts.1.1;
               output = output.1;
               files = files.all;
               few = few (codes "parse") rows (files.first ∷ files.others) given files.all;

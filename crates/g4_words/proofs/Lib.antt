@@ -1,5 +1,6 @@
 mod Accepted
 mod Flags
+mod Numbers
 pub mod OneCommand
 mod Outputs
 mod Refused

@@ -1,5 +1,5 @@
 -- Words are at most one command.
-use Rattle.std.proofs.Common.{◌≡◌, List, Option, Some, ap, ◌∙◌, refl, subst, sym, true≢false}
+use Rattle.std.proofs.Common.{◌≡◌, List, Option, Some, ap, arith, ◌∙◌, refl, subst, sym, true≢false}
 use Rattle.std.specs.Prelude.{codes, true, false}
 use Rattle.std.specs.Str.{bytes_eq}
 use Rattle.clap.specs.Words.{Row, Text, all_of, first_of, subcommand_of}
@@ -9,25 +9,36 @@ use Rattle.g4_words.specs.declared.command.Atn.{Atn}
 use Rattle.g4_words.specs.declared.command.Check.{Check}
 use Rattle.g4_words.specs.declared.command.Command.{Command}
 use Rattle.g4_words.specs.declared.command.Command.TheVariants as commands
-use Rattle.g4_words.specs.declared.command.Output.{Output}
 use Rattle.g4_words.specs.declared.command.Parse.{Parse}
+use Rattle.g4_words.specs.declared.command.TheConstants.{DEFAULT_JOBS, DEFAULT_ROWS, MOST_JOBS, MOST_ROWS}
+use Rattle.g4_words.proofs.Numbers.{one_number}
 use Rattle.g4_words.proofs.Outputs.{one_output}
 
 -- a value that is given is one
 one_value : {X : Type 0} (given : Option X) (a b : X) → given ≡ Some a → given ≡ Some b → a ≡ b
 one_value given a b p q = cc
 
+-- parses with the same fields are the same
+same_parse : (a b : Parse) → a.grammar ≡ b.grammar → a.start ≡ b.start → a.jobs ≡ b.jobs → a.rows ≡ b.rows → a.output ≡ b.output
+    → a.files ≡ b.files → a ≡ b
+same_parse a b grammar start jobs rows output files = λ i. record {
+  grammar = grammar i;
+  start = start i;
+  jobs = jobs i;
+  rows = rows i;
+  output = output i;
+  files = files i;
+}
+
 -- values are those of at most one `parse`, of at most one `check`, and of at most one `atn`
-one_parse : (rows : List Row) (a b : Parse) → IsParse rows a → IsParse rows b → a ≡ b
-one_parse rows a b p q =
-    ap (λ (t : Text). record { grammar = t; start = a.start; output = a.output; files = a.files })
-    (one_value (first_of (codes "grammar") rows) a.grammar b.grammar p.grammar q.grammar)
-    ∙ ap (λ (t : Text). record { grammar = b.grammar; start = t; output = a.output; files = a.files })
-    (one_value (first_of (codes "start") rows) a.start b.start p.start q.start)
-    ∙ ap (λ (o : Output). record { grammar = b.grammar; start = b.start; output = o; files = a.files })
-    (one_output rows a.output b.output p.output q.output)
-    ∙ ap (λ (ts : List Text). record { grammar = b.grammar; start = b.start; output = b.output; files = ts })
-    (one_value (all_of (codes "files") rows) a.files b.files p.files q.files)
+one_parse : (values : List Row) (a b : Parse) → IsParse values a → IsParse values b → a ≡ b
+one_parse values a b p q =
+    same_parse a b (one_value (first_of (codes "grammar") values) a.grammar b.grammar p.grammar q.grammar)
+    (one_value (first_of (codes "start") values) a.start b.start p.start q.start)
+    (one_number (first_of (codes "jobs") values) DEFAULT_JOBS MOST_JOBS a.jobs b.jobs (omega arith) p.jobs q.jobs)
+    (one_number (first_of (codes "rows") values) DEFAULT_ROWS MOST_ROWS a.rows b.rows (omega arith) p.rows q.rows)
+    (one_output values a.output b.output p.output q.output)
+    (one_value (all_of (codes "files") values) a.files b.files p.files q.files)
 
 one_check : (rows : List Row) (a b : Check) → IsCheck rows a → IsCheck rows b → a ≡ b
 one_check rows a b p q = ap (λ (t : Text). record { grammar = t }) (one_value (first_of (codes "grammar") rows) a.grammar b.grammar p q)

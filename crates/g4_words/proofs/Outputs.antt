@@ -1,17 +1,25 @@
 -- The flags that are given ask for one output.
-use Rattle.std.proofs.Common.{◌≡◌, ◌⊎◌, Bool, List, Option, Some, None, true, false, inl, inr, refl, sym, true≢false, ◌∙◌}
+use Rattle.std.proofs.Common.{◌≡◌, ◌⊎◌, Bool, List, Option, Some, None, true, false, ap, inl, inr, refl, subst, sym, true≢false, ◌∙◌}
 use Rattle.std.specs.Prelude.{Err, codes}
 use Rattle.std.specs.Str.{bytes_eq}
 use Rattle.std.proofs.lemmas.Slice.Eq.{bytes_eq-Decides}
-use Rattle.clap.specs.Words.{Row, Text, one_of}
-use Rattle.g4_words.specs.Commands.{Finds, HasFlag, IsAskedFor, IsOutput, IsParse}
+use Rattle.clap.specs.Words.{Row, Text, first_of, one_of}
+use Rattle.g4_words.specs.Commands.{Finds, HasFlag, IsAskedFor, IsNumber, IsOutput, IsOutputFlag, IsParse}
 use Rattle.g4_words.specs.declared.command.Output.{Output}
 use Rattle.g4_words.specs.declared.command.Output.TheVariants as outputs
+use Rattle.g4_words.specs.declared.command.TheConstants.{DEFAULT_JOBS, DEFAULT_ROWS, MOST_JOBS, MOST_ROWS}
 use Rattle.g4_words.specs.declared.reading.WordsFault.{WordsFault}
 use Rattle.g4_words.specs.declared.reading.WordsFault.TheVariants.{Usage, NoMemory}
 
 events_are_not_tokens : outputs.Events ≡ outputs.Tokens → ⊥
 events_are_not_tokens same = cc
+
+-- the flags differ
+other_flag : (one other : Text) → bytes_eq one one ≡ true → bytes_eq one other ≡ false → one ≡ other → ⊥
+other_flag one other itself not_other same = true≢false (sym itself ∙ ap (bytes_eq one) same ∙ not_other)
+
+events_flag_is_not_tokens : codes "events" ≡ codes "tokens" → ⊥
+events_flag_is_not_tokens = other_flag (codes "events") (codes "tokens") refl refl
 
 module _ (rows : List Row) where
   -- flags ask for at most one output
@@ -59,6 +67,19 @@ module _ (rows : List Row) where
   no_parse Usage none = λ parse is. none parse.output is.output
   no_parse NoMemory none = tt
 
+  -- values with a number that is not within its limit are those of no `parse`
+  pub no_jobs : (fault : WordsFault) (text : Option Text) → text ≡ first_of (codes "jobs") rows
+      → Finds (IsNumber text DEFAULT_JOBS MOST_JOBS) (Err fault) → Finds (IsParse rows) (Err fault)
+  no_jobs Usage text same none = λ parse is.
+      none parse.jobs (subst (λ (t : Option Text). IsNumber t DEFAULT_JOBS MOST_JOBS parse.jobs) (sym same) is.jobs)
+  no_jobs NoMemory text same none = tt
+
+  pub no_rows : (fault : WordsFault) (text : Option Text) → text ≡ first_of (codes "rows") rows
+      → Finds (IsNumber text DEFAULT_ROWS MOST_ROWS) (Err fault) → Finds (IsParse rows) (Err fault)
+  no_rows Usage text same none = λ parse is.
+      none parse.rows (subst (λ (t : Option Text). IsNumber t DEFAULT_ROWS MOST_ROWS parse.rows) (sym same) is.rows)
+  no_rows NoMemory text same none = tt
+
   -- a flag is given or not
   has_or_not : (name : Text) → HasFlag name rows ⊎ (HasFlag name rows → ⊥)
   has_or_not name = by_value (one_of name rows) refl
@@ -74,13 +95,18 @@ module _ (rows : List Row) where
               λ is_true. true≢false (sym ((bytes_eq-Decides value (codes "true")).1 is_true) ∙ same) in
               inr (λ has. let is_true : value ≡ codes "true" = cc in is_not_true is_true)
 
-  -- flags that ask for no more than one output ask for some
-  pub some_output : ((a b : Output) → IsAskedFor rows a → IsAskedFor rows b → a ≡ b) → (output : Output) × IsOutput rows output
+  -- of the flags that say what is written no more than one is given
+  abbrev IsOne : Type 0
+  IsOne = (a b : Text) → IsOutputFlag a → IsOutputFlag b → HasFlag a rows → HasFlag b rows → a ≡ b
+
+  -- then they ask for some output
+  pub some_output : IsOne → (output : Output) × IsOutput rows output
   some_output one = by_flags (has_or_not (codes "events")) (has_or_not (codes "tokens"))
     where
       by_flags : (HasFlag (codes "events") rows ⊎ (HasFlag (codes "events") rows → ⊥))
           → (HasFlag (codes "tokens") rows ⊎ (HasFlag (codes "tokens") rows → ⊥)) → (output : Output) × IsOutput rows output
-      by_flags (inl events) (inl tokens) = absurd (events_are_not_tokens (one outputs.Events outputs.Tokens events tokens))
+      by_flags (inl events) (inl tokens) =
+          absurd (events_flag_is_not_tokens (one (codes "events") (codes "tokens") (inl refl) (inr refl) events tokens))
       by_flags (inl events) (inr no_tokens) = (outputs.Events, is_events events no_tokens)
       by_flags (inr no_events) (inl tokens) = (outputs.Tokens, is_tokens no_events tokens)
       by_flags (inr no_events) (inr no_tokens) = (outputs.Trees, is_trees no_events no_tokens)

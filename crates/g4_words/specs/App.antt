@@ -30,11 +30,23 @@ letter_g = 103
 abbrev pub letter_s : ℕ
 letter_s = 115
 
--- `parse -g GRAMMAR -s RULE [--events] [--tokens] FILE..`
+abbrev pub letter_j : ℕ
+letter_j = 106
+
+abbrev pub letter_r : ℕ
+letter_r = 114
+
+-- `parse` with the two options that are needed, and with the two that give a number
+abbrev pub named_app : App
+named_app = with_rule (with_rule (new_app (codes "parse")) (needed_rule (option_rule (codes "grammar") letter_g)))
+    (needed_rule (option_rule (codes "start") letter_s))
+
+abbrev pub numbered_app : App
+numbered_app = with_rule (with_rule named_app (option_rule (codes "jobs") letter_j)) (option_rule (codes "rows") letter_r)
+
+-- `parse -g GRAMMAR -s RULE [-j JOBS] [-r ROWS] [--events] [--tokens] FILE..`
 abbrev pub parse_app : App
-parse_app = with_rule (with_rule (with_rule (with_rule
-    (with_rule (new_app (codes "parse")) (needed_rule (option_rule (codes "grammar") letter_g)))
-    (needed_rule (option_rule (codes "start") letter_s))) (flag_rule (codes "events"))) (flag_rule (codes "tokens")))
+parse_app = with_rule (with_rule (with_rule numbered_app (flag_rule (codes "events"))) (flag_rule (codes "tokens")))
     (needed_rule (words_rule (codes "files")))
 
 -- `check GRAMMAR`

@@ -1,5 +1,5 @@
 -- Which words are a command.
-use Rattle.std.specs.Prelude.{◌≡◌, ◌≢◌, ◌≤◌, ◌⊎◌, List, [], Result, Ok, Err, Some, codes, length}
+use Rattle.std.specs.Prelude.{◌≡◌, ◌≢◌, ◌≤◌, ◌<◌, ◌^◌, ◌⊎◌, ◌↔◌, ℕ, Bool, true, List, [], Option, Result, Ok, Err, Some, None, codes, decimal, length}
 use Rattle.clap.specs.Words.{Row, Text, all_of, fault_of, first_of, one_of, subcommand_of, subcommand_rows_of}
 use Rattle.clap.specs.declared.parser.matches.ArgMatches.{ArgMatches}
 use Rattle.g4_words.specs.App.{g4_app}
@@ -10,7 +10,7 @@ use Rattle.g4_words.specs.declared.command.Command.TheVariants as commands
 use Rattle.g4_words.specs.declared.command.Output.{Output}
 use Rattle.g4_words.specs.declared.command.Output.TheVariants as outputs
 use Rattle.g4_words.specs.declared.command.Parse.{Parse}
-use Rattle.g4_words.specs.declared.command.TheConstants.{MOST_FILES}
+use Rattle.g4_words.specs.declared.command.TheConstants.{DEFAULT_JOBS, DEFAULT_ROWS, MOST_FILES, MOST_JOBS, MOST_ROWS}
 use Rattle.g4_words.specs.declared.reading.WordsFault.{WordsFault}
 use Rattle.g4_words.specs.declared.reading.WordsFault.TheVariants.{Usage, NoMemory}
 
@@ -29,12 +29,32 @@ pub record IsOutput (rows : List Row) (output : Output) : Type 0 where
   pub only : (other : Output) → IsAskedFor rows other → other ≡ output
   pub asked : (output ≡ outputs.Trees) ⊎ IsAskedFor rows output
 
+-- the number that an option with this text gives, in decimal digits without a sign and without leading zeros; the default without a text
+abbrev pub IsGiven : Option Text → ℕ → ℕ → Type 0
+IsGiven None default number = number ≡ default
+IsGiven (Some text) default number = text ≡ decimal number
+
+-- the number that an option gives, from 1 to the most
+pub record IsNumber (text : Option Text) (default most number : ℕ) : Type 0 where
+  pub given : IsGiven text default number
+  pub some : 1 ≤ number
+  pub within : number ≤ most
+
+-- how many workers there are, and how many rows
+abbrev pub IsJobs : List Row → ℕ → Type 0
+IsJobs rows = IsNumber (first_of (codes "jobs") rows) DEFAULT_JOBS MOST_JOBS
+
+abbrev pub IsRows : List Row → ℕ → Type 0
+IsRows rows = IsNumber (first_of (codes "rows") rows) DEFAULT_ROWS MOST_ROWS
+
 -- the values of `parse`
-pub record IsParse (rows : List Row) (parse : Parse) : Type 0 where
-  pub grammar : first_of (codes "grammar") rows ≡ Some parse.grammar
-  pub start : first_of (codes "start") rows ≡ Some parse.start
-  pub output : IsOutput rows parse.output
-  pub files : all_of (codes "files") rows ≡ Some parse.files
+pub record IsParse (values : List Row) (parse : Parse) : Type 0 where
+  pub grammar : first_of (codes "grammar") values ≡ Some parse.grammar
+  pub start : first_of (codes "start") values ≡ Some parse.start
+  pub jobs : IsJobs values parse.jobs
+  pub rows : IsRows values parse.rows
+  pub output : IsOutput values parse.output
+  pub files : all_of (codes "files") values ≡ Some parse.files
   pub few : length parse.files ≤ MOST_FILES
 
 -- the value of `check`
@@ -65,16 +85,34 @@ abbrev pub HasFewFiles : List Text → Type 0
 HasFewFiles words = (name : Text) (rows : List Row) (files : List Text) → subcommand_of g4_app words ≡ Some (name, rows)
     → all_of (codes "files") rows ≡ Some files → length files ≤ MOST_FILES
 
--- the flags of the words ask for no more than one output
+-- the flag says what is written
+abbrev pub IsOutputFlag : Text → Type 0
+IsOutputFlag flag = (flag ≡ codes "events") ⊎ (flag ≡ codes "tokens")
+
+-- the words have no more than one flag that says what is written
 abbrev pub HasOneOutput : List Text → Type 0
-HasOneOutput words = (name : Text) (rows : List Row) (a b : Output) → subcommand_of g4_app words ≡ Some (name, rows)
-    → IsAskedFor rows a → IsAskedFor rows b → a ≡ b
+HasOneOutput words = (name : Text) (rows : List Row) (a b : Text) → subcommand_of g4_app words ≡ Some (name, rows)
+    → IsOutputFlag a → IsOutputFlag b → HasFlag a rows → HasFlag b rows → a ≡ b
+
+-- the numbers that the options give are within their limits
+abbrev pub HasNumbers : List Text → Type 0
+HasNumbers words = (name : Text) (rows : List Row) → subcommand_of g4_app words ≡ Some (name, rows)
+    → ((jobs : ℕ) × IsJobs rows jobs) × ((room : ℕ) × IsRows rows room)
 
 -- the answer is a thing of this kind, or Usage where there is none, unless memory runs out
 abbrev pub Finds : {T : Type 0} → (T → Type 0) → Result T WordsFault → Type 0
 Finds Is (Ok found) = Is found
 Finds {T} Is (Err Usage) = (other : T) → Is other → ⊥
 Finds Is (Err NoMemory) = Unit {0}
+
+-- the text is the number in decimal digits, from 1
+abbrev pub IsWritten : Text → ℕ → Type 0
+IsWritten text number = (text ≡ decimal number) × (1 ≤ number)
+
+-- the number that the text is, or none where it is no number of 32 bits
+abbrev pub FindsNumber : Text → Option ℕ → Type 0
+FindsNumber text (Some number) = IsWritten text number
+FindsNumber text None = (number : ℕ) → number < 2 ^ 32 → IsWritten text number → ⊥
 
 -- `clap` accepts the words with these matches, or refuses them, unless memory runs out
 abbrev pub Accepts : List Text → Result ArgMatches WordsFault → Type 0

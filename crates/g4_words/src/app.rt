@@ -57,7 +57,7 @@ fn with_arg<'a>(command: Command<'a>, arg: Arg<'a>) -> Result<Command<'a>, Alloc
     command.arg(arg)
 }
 
-/// `parse -g GRAMMAR -s RULE [--events] [--tokens] FILE..`
+/// `parse -g GRAMMAR -s RULE [-j JOBS] [-r ROWS] [--events] [--tokens] FILE..`
 fn parse_command<'a>(alloc: Global) -> Result<Command<'a>, AllocError>
     ensures app { IfOk result (λ c. app_of c ≡ parse_app) }
     ensures local { IfOk result (λ c. (fields_of c).has_globals ≡ false) }
@@ -65,6 +65,8 @@ fn parse_command<'a>(alloc: Global) -> Result<Command<'a>, AllocError>
     let command = Command::new(alloc, "parse");
     let command = with_arg(command, needed(option(alloc, "grammar", 'g')))?;
     let command = with_arg(command, needed(option(alloc, "start", 's')))?;
+    let command = with_arg(command, option(alloc, "jobs", 'j'))?;
+    let command = with_arg(command, option(alloc, "rows", 'r'))?;
     let command = with_arg(command, flag(alloc, "events"))?;
     let command = with_arg(command, flag(alloc, "tokens"))?;
     let command = with_arg(command, needed(words(alloc, "files")))?;

@@ -4,6 +4,18 @@ use g4_base::{Sequence, Text};
 /// The most files of a command line.
 pub const MOST_FILES: usize = 4_096;
 
+/// The most workers that parse files at the same time.
+pub const MOST_JOBS: u32 = 64;
+
+/// How many workers there are where the words ask for no number.
+pub const DEFAULT_JOBS: u32 = 4;
+
+/// The most rows that the store of a parse may have.
+pub const MOST_ROWS: u32 = 65_536;
+
+/// How many rows the store has where the words ask for no number.
+pub const DEFAULT_ROWS: u32 = 1_024;
+
 /// What is written of a file that is accepted.
 #[derive(Clone, Copy, Debug, PartialEq, Eq)]
 pub enum Output {
@@ -15,13 +27,17 @@ pub enum Output {
     Tokens,
 }
 
-/// `parse -g GRAMMAR -s RULE [--events | --tokens] FILE..`: parse files by a rule of a grammar.
+/// `parse -g GRAMMAR -s RULE [-j JOBS] [-r ROWS] [--events | --tokens] FILE..`: parse files by a rule of a grammar.
 #[derive(Drop)]
 pub struct Parse {
     /// The name of the grammar's file.
     pub grammar: Text,
     /// The name of the start rule.
     pub start: Text,
+    /// How many workers parse files, from 1 to `MOST_JOBS`.
+    pub jobs: u32,
+    /// How many rows the store has room for, from 1 to `MOST_ROWS`.
+    pub rows: u32,
     /// What is written of each file.
     pub output: Output,
     /// The names of the files to parse, in the order of the words.

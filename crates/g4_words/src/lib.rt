@@ -7,6 +7,9 @@ mod command;
 mod law;
 mod reading;
 
-pub use command::{Atn, Check, Command, MOST_FILES, Output, Parse};
+pub use command::{
+    Atn, Check, Command, DEFAULT_JOBS, DEFAULT_ROWS, MOST_FILES, MOST_JOBS, MOST_ROWS, Output,
+    Parse,
+};
 pub use law::{one_command, some_command};
 pub use reading::{WordsFault, read_words};

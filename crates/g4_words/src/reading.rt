@@ -1,10 +1,13 @@
 // The command that words are.
-ghost use Rattle.std.specs.Prelude.{◌≡◌, ◌↔◌, IfOk, true, map, option_map, string_bytes};
+ghost use Rattle.std.specs.Prelude.{◌≡◌, ◌↔◌, ◌≤◌, IfOk, true, map, option_map, string_bytes};
 ghost use Rattle.clap.specs.Words.{all_of, first_of, found_of, rows_of};
-ghost use Rattle.g4_words.specs.Commands.{Accepts, Finds, HasFlag, IsAtn, IsCheck, IsCommand, IsNamed, IsOutput, IsParse};
+ghost use Rattle.g4_words.specs.Commands.{Accepts, Finds, FindsNumber, HasFlag, IsAtn, IsCheck, IsCommand, IsNamed, IsNumber, IsOutput, IsParse};
 
 use crate::app::g4_command;
-use crate::command::{Atn, Check, Command, MOST_FILES, Output, Parse};
+use crate::command::{
+    Atn, Check, Command, DEFAULT_JOBS, DEFAULT_ROWS, MOST_FILES, MOST_JOBS, MOST_ROWS, Output,
+    Parse,
+};
 use clap::ArgMatches;
 use clap::error::ErrorKind;
 use g4_base::{Sequence, Text};
@@ -77,6 +80,36 @@ fn output_of(values: &ArgMatches<'_>) -> Result<Output, WordsFault>
     }
 }
 
+/// The number from 1 that the text is in decimal digits, without a sign and without leading zeros, if it has 32 bits.
+fn written_number(text: &str) -> Option<u32>
+    ensures { FindsNumber text.now result }
+{
+    let first = text.as_bytes().first()?;
+    if *first <= b'0' {
+        return None;
+    }
+    text.parse::<u32>().ok()
+}
+
+/// The number that an option with this text gives, from 1 to `most`; without the option it is the default.
+fn number_of(text: Option<&str>, default: u32, most: u32) -> Result<u32, WordsFault>
+    requires default { (1 ≤ default) × (default ≤ most) }
+    ensures { Finds (IsNumber (option_map (λ s. s.now) text.entry) default most) result }
+{
+    let Some(text) = text else {
+        return Ok(default);
+    };
+    match written_number(text) {
+        Some(number) => {
+            if number > most {
+                return Err(WordsFault::Usage);
+            }
+            Ok(number)
+        }
+        None => Err(WordsFault::Usage),
+    }
+}
+
 fn copies_of(alloc: Global, texts: &[&str]) -> Result<Sequence<Text>, AllocError>
     ensures { IfOk result (λ s. s ≡ map (λ t. t.now) texts.now) }
 {
@@ -102,10 +135,14 @@ fn read_parse(alloc: Global, values: &ArgMatches<'_>) -> Result<Parse, WordsFaul
     if files.len() > MOST_FILES {
         return Err(WordsFault::Usage);
     }
+    let jobs = number_of(value_of(values, "jobs"), DEFAULT_JOBS, MOST_JOBS)?;
+    let rows = number_of(value_of(values, "rows"), DEFAULT_ROWS, MOST_ROWS)?;
     let output = output_of(values)?;
     Ok(Parse {
         grammar: Text::copy_of(alloc, grammar)?,
         start: Text::copy_of(alloc, start)?,
+        jobs,
+        rows,
         output,
         files: copies_of(alloc, files)?,
     })
@@ -152,8 +189,8 @@ fn read_named(alloc: Global, name: &str, values: &ArgMatches<'_>) -> Result<Comm
 /// The command that the words are. The program's own name is not among them.
 ///
 /// # Errors
-/// `Usage` where they are no command, as where they ask for help, have more than `MOST_FILES` files or have both flags; `NoMemory` where
-/// memory runs out.
+/// `Usage` where they are no command, as where they ask for help, have more than `MOST_FILES` files, a number that is not within its limit
+/// or two flags that say what is written; `NoMemory` where memory runs out.
 pub fn read_words(alloc: Global, words: &[String]) -> Result<Command, WordsFault>
     ensures { Finds (IsCommand (map string_bytes words.now)) result }
 {
