@@ -36,6 +36,8 @@ pub enum GrammarFault {
     Alternatives,
     /// More than 65,536 states of the network or of the lexer's.
     States,
+    /// More than 16,777,216 cells of the learned automata, with the rows that are asked for: a grammar is not refused for that here.
+    Cells,
 }
 
 /// Why a grammar is not checked or not built.

@@ -1,7 +1,7 @@
 mod Fetched
+mod Gathered
 mod Meant
 mod OneByOne
 mod OneEnd
-mod OneOutcome
 mod Reports
 mod Written

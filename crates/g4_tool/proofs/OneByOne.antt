@@ -1,21 +1,17 @@
 -- The outcomes of files one by one, their lines and how many are accepted.
-use Rattle.std.proofs.Common.{◌≡◌, ◌≢◌, ◌<◌, ◌+◌, ℕ, suc, List, [], ◌∷◌, ◌++◌, length, take, get_or, count_by, cond, ◌≤◌, ◌&&◌, Bool, true, false, ◌==◌, sym, ap, ◌∙◌, arith, refl}
+use Rattle.std.proofs.Common.{◌≡◌, ◌+◌, ℕ, suc, List, [], ◌∷◌, ◌++◌, length, count_by, cond, ◌≤◌, ◌&&◌, Bool, true, false, ◌==◌, sym, ap, ◌∙◌, arith, refl}
 use Rattle.std.specs.List.{list_all}
-use Rattle.std.proofs.lemmas.List.{take_more, append_assoc, length-take-le}
+use Rattle.std.proofs.lemmas.List.{append_assoc}
 use Rattle.std.proofs.lemmas.List.Sums.{count_by-le-length, sum_by-append, sum_by-cons}
-use Rattle.g4_lexer.specs.declared.fault.LexFault.{LexFault}
-use Rattle.g4_lexer.specs.declared.fault.LexFault.TheVariants as lexing
-use Rattle.g4_parse.specs.declared.parser.ParseFault.{ParseFault}
-use Rattle.g4_parse.specs.declared.parser.ParseFault.TheVariants as parsing
 use Rattle.g4_tool.specs.declared.files.Parsed.{Parsed}
-use Rattle.g4_tool.specs.declared.inputs.Input.{Input}
+use Rattle.g4_outcome.specs.declared.input.Input.{Input}
 use Rattle.g4_load.specs.declared.interpreter.Interpreter.{Interpreter}
-use Rattle.g4_tool.specs.declared.outcome.Outcome.{Outcome}
+use Rattle.g4_outcome.specs.declared.outcome.Outcome.{Outcome}
 use Rattle.g4_words.specs.declared.command.Output.{Output}
-use Rattle.g4_tool.specs.declared.write.Line.{Line}
+use Rattle.g4_outcome.specs.declared.line.Line.{Line}
 use Rattle.g4_tool.proofs.Meant.{one_more_meant}
-use Rattle.g4_tool.specs.Meaning.{IsMeantAnywhere}
-use Rattle.g4_tool.specs.Outcomes.{IsOutcome, AreOutcomes, AreParsed, IsOneMore, is_accepted, lexing_refused, parsing_refused, outcome_lines, lines_of_files}
+use Rattle.g4_outcome.specs.Outcomes.{IsOutcome, AreOutcomes, is_accepted, outcome_lines, lines_of_files}
+use Rattle.g4_tool.specs.Files.{AreParsed, IsOneMore}
 
 -- there are as many outcomes as inputs
 pub as_many : (interpreter : Interpreter) (is : List Input) (os : List Outcome) → AreOutcomes interpreter is os → length os ≡ length is
@@ -50,14 +46,6 @@ more_lines output interpreter (n ∷ names) (o ∷ os) name outcome same =
     ∙ sym (append_assoc (outcome_lines output interpreter n o) (lines_of_files output interpreter names os)
     (outcome_lines output interpreter name outcome))
 
--- one more file, by its outcome
-pub one_more : (output : Output) (interpreter : Interpreter) (name : List ℕ) (input : Input) (before now : Parsed) (outcome : Outcome)
-    → IsOutcome interpreter input outcome →
-    IsMeantAnywhere interpreter outcome → now.lines.items ≡ before.lines.items ++ outcome_lines output interpreter name outcome →
-    now.accepted ≡ before.accepted + count_by is_accepted (outcome ∷ []) → IsOneMore output interpreter name input before now
-one_more output interpreter name input before now outcome is meant lines accepted =
-    record { outcome = outcome; is = is; lines = lines; accepted = accepted; meant = meant }
-
 -- the files so far, and one more
 pub one_more_file : (output : Output) (interpreter : Interpreter) (names : List (List ℕ)) (is : List Input) (name : List ℕ)
     (input : Input) (before now : Parsed) → length names ≡ length is →
@@ -84,24 +72,3 @@ all_counted (o ∷ os) =
     ap (λ n. n == suc (length os)) (sum_by-cons (λ x. cond (is_accepted x) 1 0) o os)
     ∙ one_counted (is_accepted o) (list_all is_accepted os) (count_by is_accepted os) (length os) (count_by-le-length is_accepted os)
     (all_counted os)
-
--- the names up to a place, and the next
-pub names_then : (names : List (List ℕ)) (k : ℕ) (next name : List ℕ) → k < length names → next ≡ get_or names k next → name ≡ next
-    → take (k + 1) names ≡ take k names ++ name ∷ []
-names_then names k next name within is same = take_more names k next within ∙ ap (λ (x : List ℕ). take k names ++ x ∷ []) (sym (same ∙ is))
-
--- a fault for which memory was not refused
-pub lexed_apart : (fault : LexFault) → lexing_refused fault ≡ false → fault ≢ lexing.NoMemory
-lexed_apart fault not is = let refused : lexing_refused fault ≡ true = ap lexing_refused is in cc
-
-pub parsed_apart : (fault : ParseFault) → parsing_refused fault ≡ false → fault ≢ parsing.NoMemory
-parsed_apart fault not is = let refused : parsing_refused fault ≡ true = ap parsing_refused is in cc
-
--- one file more is at most one more accepted
-pub one_more_accepted : (before now k : ℕ) (outcome : Outcome) → before ≤ k → now ≡ before + count_by is_accepted (outcome ∷ [])
-    → now ≤ k + 1
-one_more_accepted before now k outcome few is = omega (arith, few, is, count_by-le-length is_accepted (outcome ∷ []))
-
--- so many names are taken
-pub taken_names : (names : List (List ℕ)) (k n : ℕ) → k < length names → k ≡ n → length (take k names) ≡ n
-taken_names names k n within same = length-take-le k names (omega (arith, within)) ∙ same

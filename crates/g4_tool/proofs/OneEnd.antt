@@ -12,12 +12,13 @@ use Rattle.g4_load.specs.declared.stop.Stop.{Stop}
 use Rattle.g4_load.specs.declared.stop.Stop.TheVariants as stops
 use Rattle.g4_load.specs.Files.{Files}
 use Rattle.g4_load.specs.Building.{Builds}
-use Rattle.g4_tool.specs.declared.inputs.Input.{Input}
-use Rattle.g4_tool.specs.declared.outcome.Outcome.{Outcome}
+use Rattle.g4_outcome.specs.declared.input.Input.{Input}
+use Rattle.g4_outcome.specs.declared.outcome.Outcome.{Outcome}
+use Rattle.g4_tool.specs.Cells.{HasManyCells}
 use Rattle.g4_tool.specs.Inputs.{inputs_of}
-use Rattle.g4_tool.specs.Outcomes.{AreOutcomes}
-use Rattle.g4_tool.specs.Ends.{End, stopped, checked, listed, all_parsed, EndsCheck, not_checked, grammar_checked, EndsAtn, not_listed, rule_listed, EndsParse, not_built, file_absent, files_parsed, Ends, HasEnd, no_command, of_command}
-use Rattle.g4_tool.proofs.OneOutcome.{one_outcome_each}
+use Rattle.g4_outcome.specs.Outcomes.{AreOutcomes}
+use Rattle.g4_tool.specs.Ends.{End, stopped, checked, listed, all_parsed, EndsCheck, not_checked, grammar_checked, EndsAtn, not_listed, rule_listed, EndsParse, not_built, many_cells, file_absent, files_parsed, Ends, HasEnd, no_command, of_command}
+use Rattle.g4_outcome.proofs.OneOutcome.{one_outcome_each}
 
 module _ (files : Files) where
   -- `check` has at most one end
@@ -59,25 +60,46 @@ module _ (files : Files) where
         ap (λ x. all_parsed parse.output x parse.files os) (sym interpreter)
         ∙ ap (λ xs. all_parsed parse.output j parse.files xs) (one_outcome_each i is os ps h also)
 
+    -- the same cells
+    pub same_many : (f g : List (List ℕ)) (i j : Interpreter) → Builds files parse.grammar parse.start f (Ok i)
+        → Builds files parse.grammar parse.start g (Ok j) → HasManyCells parse.rows i → HasManyCells parse.rows j
+    same_many f g i j h k many =
+        let same = same_built f g (Ok i) (Ok j) h k in
+        let one : i ≡ j = cc in
+        subst (λ (x : Interpreter). HasManyCells parse.rows x) one many
+
     -- `parse` has at most one end
     one_parse : (a b : End) → EndsParse files parse a → EndsParse files parse b → a ≡ b
     one_parse _ _ (not_built f s h) (not_built g t k) = let same = same_built f g (Err s) (Err t) h k in let stop : s ≡ t = cc in
         ap stopped stop
-    one_parse _ _ (not_built f s h) (file_absent g j m k r) = let same = same_built f g (Err s) (Ok j) h k in
+    one_parse _ _ (not_built f s h) (many_cells g j k y) = let same = same_built f g (Err s) (Ok j) h k in
         absurd (let no_way : ⊥ = cc in no_way)
-    one_parse _ _ (not_built f s h) (files_parsed g j js ps k r w) = let same = same_built f g (Err s) (Ok j) h k in
+    one_parse _ _ (not_built f s h) (file_absent g j m k y r) = let same = same_built f g (Err s) (Ok j) h k in
         absurd (let no_way : ⊥ = cc in no_way)
-    one_parse _ _ (file_absent f i n h l) (not_built g t k) = let same = same_built f g (Ok i) (Err t) h k in
+    one_parse _ _ (not_built f s h) (files_parsed g j js ps k y r w) = let same = same_built f g (Err s) (Ok j) h k in
         absurd (let no_way : ⊥ = cc in no_way)
-    one_parse _ _ (file_absent f i n h l) (file_absent g j m k r) = let same = same_inputs (Err n) (Err m) l r in
+    one_parse _ _ (many_cells f i h x) (not_built g t k) = let same = same_built f g (Ok i) (Err t) h k in
+        absurd (let no_way : ⊥ = cc in no_way)
+    one_parse _ _ (many_cells f i h x) (many_cells g j k y) = refl
+    one_parse _ _ (many_cells f i h x) (file_absent g j m k y r) =
+        absurd (y (same_many f g i j h k x))
+    one_parse _ _ (many_cells f i h x) (files_parsed g j js ps k y r w) =
+        absurd (y (same_many f g i j h k x))
+    one_parse _ _ (file_absent f i n h x l) (not_built g t k) = let same = same_built f g (Ok i) (Err t) h k in
+        absurd (let no_way : ⊥ = cc in no_way)
+    one_parse _ _ (file_absent f i n h x l) (many_cells g j k y) =
+        absurd (x (same_many g f j i k h y))
+    one_parse _ _ (file_absent f i n h x l) (file_absent g j m k y r) = let same = same_inputs (Err n) (Err m) l r in
         let names : n ≡ m = cc in ap (λ x. stopped (stops.Absent x)) names
-    one_parse _ _ (file_absent f i n h l) (files_parsed g j js ps k r w) = let same = same_inputs (Err n) (Ok js) l r in
+    one_parse _ _ (file_absent f i n h x l) (files_parsed g j js ps k y r w) = let same = same_inputs (Err n) (Ok js) l r in
         absurd (let no_way : ⊥ = cc in no_way)
-    one_parse _ _ (files_parsed f i is os h l u) (not_built g t k) = let same = same_built f g (Ok i) (Err t) h k in
+    one_parse _ _ (files_parsed f i is os h x l u) (not_built g t k) = let same = same_built f g (Ok i) (Err t) h k in
         absurd (let no_way : ⊥ = cc in no_way)
-    one_parse _ _ (files_parsed f i is os h l u) (file_absent g j m k r) = let same = same_inputs (Ok is) (Err m) l r in
+    one_parse _ _ (files_parsed f i is os h x l u) (many_cells g j k y) =
+        absurd (x (same_many g f j i k h y))
+    one_parse _ _ (files_parsed f i is os h x l u) (file_absent g j m k y r) = let same = same_inputs (Ok is) (Err m) l r in
         absurd (let no_way : ⊥ = cc in no_way)
-    one_parse _ _ (files_parsed f i is os h l u) (files_parsed g j js ps k r w) =
+    one_parse _ _ (files_parsed f i is os h x l u) (files_parsed g j js ps k y r w) =
         let built = same_built f g (Ok i) (Ok j) h k in
         let fetched = same_inputs (Ok is) (Ok js) l r in
         let interpreter : j ≡ i = cc in

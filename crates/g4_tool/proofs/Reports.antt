@@ -3,16 +3,17 @@ use Rattle.std.proofs.Common.{◌≡◌, ◌⊎◌, inl, inr, ◌++◌, ◌∷�
 use Rattle.std.specs.List.{list_all}
 use Rattle.g4_load.specs.declared.loading.Loaded.{Loaded}
 use Rattle.g4_tool.specs.declared.files.Parsed.{Parsed}
-use Rattle.g4_tool.specs.declared.inputs.Input.{Input}
+use Rattle.g4_outcome.specs.declared.input.Input.{Input}
 use Rattle.g4_load.specs.declared.interpreter.Interpreter.{Interpreter}
 use Rattle.g4_tool.specs.declared.report.Report.{Report}
 use Rattle.g4_tool.specs.declared.status.Status.{Status}
 use Rattle.g4_tool.specs.declared.status.Status.TheVariants.{Done, Refused}
 use Rattle.g4_load.specs.declared.stop.Stop.{Stop}
 use Rattle.g4_load.specs.declared.stop.Stop.TheVariants as stops
+use Rattle.g4_load.specs.declared.fault.GrammarFault.TheVariants as faults
 use Rattle.g4_load.specs.declared.stop.Halt.{Halt}
 use Rattle.g4_load.specs.declared.stop.Halt.TheVariants as halts
-use Rattle.g4_tool.specs.declared.write.Line.{Line}
+use Rattle.g4_outcome.specs.declared.line.Line.{Line}
 use Rattle.g4_tool.specs.Running.{HasReportedFront}
 use Rattle.g4_tool.specs.Writing.{Wrote, WroteFront}
 use Rattle.g4_tool.specs.Texts.{closing_line}
@@ -28,14 +29,16 @@ use Rattle.g4_load.specs.Listing.{Lists}
 use Rattle.g4_load.specs.Loading.{Loads}
 use Rattle.g4_load.specs.Building.{Builds}
 use Rattle.g4_load.specs.Stages.{IsHaltOf}
-use Rattle.g4_tool.specs.Outcomes.{AreParsed, is_accepted, lines_of_files}
-use Rattle.g4_tool.specs.Ends.{End, stopped, checked, listed, all_parsed, not_checked, grammar_checked, not_listed, rule_listed, EndsParse, not_built, file_absent, files_parsed, Ends, HasEnd, no_command, of_command, status_of}
+use Rattle.g4_outcome.specs.Outcomes.{is_accepted, lines_of_files}
+use Rattle.g4_tool.specs.Cells.{HasManyCells, Refuses}
+use Rattle.g4_tool.specs.Files.{AreParsed}
+use Rattle.g4_tool.specs.Ends.{End, stopped, checked, listed, all_parsed, not_checked, grammar_checked, not_listed, rule_listed, EndsParse, not_built, many_cells, file_absent, files_parsed, Ends, HasEnd, no_command, of_command, status_of}
 use Rattle.g4_tool.specs.Report.{IsReportOf, IsReportOfFiles, IsReport, ReportsOrHalts, ComesExactly, CanBeRun, IsComplete}
 use Rattle.g4_load.specs.Usable.{IsNetworkFrom}
 use Rattle.g4_load.proofs.Networks.{network_from}
 use Rattle.g4_tool.proofs.Meant.{meant_from}
 use Rattle.g4_tool.proofs.OneByOne.{as_many, all_counted}
-use Rattle.g4_tool.proofs.OneEnd.{one_end, same_built, same_inputs}
+use Rattle.g4_tool.proofs.OneEnd.{one_end, same_built, same_inputs, same_many}
 use Rattle.g4_words.proofs.OneCommand.{one_command}
 
 -- the lines that are lent are written
@@ -100,12 +103,22 @@ module _ (files : Files) (words : List (List ℕ)) (parse : Parse) (fetched : Li
   stops_unbuilt halts.NoMemory h = tt
 
   module _ (interpreter : Interpreter) (built : Builds files parse.grammar parse.start fetched (Ok interpreter)) where
+    -- a command with too many cells
+    pub stops_many : (halt : Halt) → Refuses parse.grammar parse.rows interpreter (Err halt) → ReportsOrHalts files words (Err halt)
+    stops_many (halts.Stop stop) h = subst (λ (s : Stop). HasEnd files words (stopped s)) (sym h.1)
+        (of_command (commands.Parse parse) (stopped (stops.Fault parse.grammar faults.Cells)) command
+        (many_cells fetched interpreter built h.0))
+    stops_many halts.Failed h = absurd h
+    stops_many halts.NoMemory h = tt
+
+  module _ (interpreter : Interpreter) (built : Builds files parse.grammar parse.start fetched (Ok interpreter))
+      (fits : ¬ (HasManyCells parse.rows interpreter)) where
     -- a command without one of its files
     pub stops_absent : {X : Type 0} (view : X → List Input) (halt : Halt) → GivesInputs view (inputs_of files parse.files) (Err halt)
         → ReportsOrHalts files words (Err halt)
     stops_absent view (halts.Stop stops.Usage) h = absurd h
     stops_absent view (halts.Stop (stops.Absent name)) h =
-        of_command (commands.Parse parse) (stopped (stops.Absent name)) command (file_absent fetched interpreter name built h)
+        of_command (commands.Parse parse) (stopped (stops.Absent name)) command (file_absent fetched interpreter name built fits h)
     stops_absent view (halts.Stop (stops.TooLarge name size)) h = absurd h
     stops_absent view (halts.Stop (stops.Fault name fault)) h = absurd h
     stops_absent view halts.Failed h = tt
@@ -119,7 +132,7 @@ module _ (files : Files) (words : List (List ℕ)) (parse : Parse) (fetched : Li
         let all : count ≡ length are.outcomes = counted ∙ paired ∙ sym (as_many interpreter inputs are.outcomes are.are) in record {
           end = all_parsed parse.output interpreter parse.files are.outcomes;
           has = of_command (commands.Parse parse) (all_parsed parse.output interpreter parse.files are.outcomes) command
-              (files_parsed fetched interpreter inputs are.outcomes built there are.are);
+              (files_parsed fetched interpreter inputs are.outcomes built fits there are.are);
           is = record {
             lines = is.lines ∙ ap (λ ls. ls ++ closing_line count made.accepted ∷ []) are.lines
                 ∙ ap (λ n. lines_of_files parse.output interpreter parse.files are.outcomes ++ closing_line n made.accepted ∷ []) all
@@ -152,10 +165,12 @@ module _ (files : Files) (words : List (List ℕ)) (answer : Status) (report : R
   parse_done can _ (not_built fetched stop h) =
       let same = same_built files can.parse fetched can.fetched (Err stop) (Ok can.interpreter) h can.built in
       absurd (let no_way : ⊥ = cc in no_way)
-  parse_done can _ (file_absent fetched interpreter name h k) =
+  parse_done can _ (many_cells fetched interpreter h many) =
+      absurd (can.fits (same_many files can.parse fetched can.fetched interpreter can.interpreter h can.built many))
+  parse_done can _ (file_absent fetched interpreter name h fits k) =
       let same = same_inputs files can.parse (Err name) (Ok can.inputs) k can.there in
       absurd (let no_way : ⊥ = cc in no_way)
-  parse_done can _ (files_parsed fetched interpreter inputs outcomes h k l) = either (list_all is_accepted outcomes)
+  parse_done can _ (files_parsed fetched interpreter inputs outcomes h fits k l) = either (list_all is_accepted outcomes)
     where
       either : (b : Bool) → ((if b then Done else Refused) ≡ Done) ⊎ ((if b then Done else Refused) ≡ Refused)
       either true = inl refl

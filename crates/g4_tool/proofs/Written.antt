@@ -2,8 +2,8 @@
 use Rattle.std.proofs.Common.{◌≡◌, ℕ, ◌+◌, ◌<◌, List, [], ◌∷◌, ◌++◌, length, take, drop, get_or, subst, Option, Some, None, refl, sym, ap, ◌∙◌}
 use Rattle.std.proofs.lemmas.List.{append_assoc, append-nil, take-append-drop, take_more, drop_more}
 use Rattle.g4_ports.specs.Ports.{with_more, TakesFront}
-use Rattle.g4_tool.specs.declared.write.Line.{Line}
-use Rattle.g4_tool.specs.declared.write.Line.TheVariants.{ToOut, ToErr}
+use Rattle.g4_outcome.specs.declared.line.Line.{Line}
+use Rattle.g4_outcome.specs.declared.line.Line.TheVariants.{ToOut, ToErr}
 use Rattle.g4_tool.specs.Writing.{out_of, err_of, Wrote, WrotePiece, WroteFront}
 
 pub out_of-append : (xs ys : List Line) → out_of (xs ++ ys) ≡ out_of xs ++ out_of ys

@@ -8,18 +8,20 @@ use Rattle.g4_words.specs.declared.command.Command.{Command}
 use Rattle.g4_words.specs.declared.command.Command.TheVariants as commands
 use Rattle.g4_words.specs.declared.command.Parse.{Parse}
 use Rattle.g4_load.specs.declared.loading.Loaded.{Loaded}
-use Rattle.g4_tool.specs.Texts.{usage_line, absent_line, large_line, not_utf8_line, syntax_line, bad_set_line, twice_line, no_rule_line, limit_line, undefined_line, unknown_command_line, lexer_predicate_line, unknown_predicate_line, label_clash_line, no_primary_line, empty_operator_line, empty_loop_line, left_cycle_line, checked_line, closing_line}
+use Rattle.g4_outcome.specs.Texts.{large_line, not_utf8_line}
+use Rattle.g4_tool.specs.Texts.{usage_line, absent_line, syntax_line, bad_set_line, twice_line, no_rule_line, limit_line, undefined_line, unknown_command_line, lexer_predicate_line, unknown_predicate_line, label_clash_line, no_primary_line, empty_operator_line, empty_loop_line, left_cycle_line, checked_line, closing_line}
 use Rattle.g4_load.specs.Listing.{Lists}
 use Rattle.g4_load.specs.Loading.{Loads}
 use Rattle.g4_load.specs.Building.{Builds}
 use Rattle.g4_load.specs.Files.{Files}
+use Rattle.g4_tool.specs.Cells.{HasManyCells}
 use Rattle.g4_tool.specs.Inputs.{inputs_of}
-use Rattle.g4_tool.specs.Outcomes.{AreOutcomes, is_accepted, lines_of_files}
-use Rattle.g4_tool.specs.declared.inputs.Input.{Input}
-use Rattle.g4_tool.specs.declared.outcome.Outcome.{Outcome}
+use Rattle.g4_outcome.specs.Outcomes.{AreOutcomes, is_accepted, lines_of_files}
+use Rattle.g4_outcome.specs.declared.input.Input.{Input}
+use Rattle.g4_outcome.specs.declared.outcome.Outcome.{Outcome}
 use Rattle.g4_words.specs.declared.command.Output.{Output}
-use Rattle.g4_tool.specs.declared.write.Line.{Line}
-use Rattle.g4_tool.specs.declared.write.Line.TheVariants.{ToOut}
+use Rattle.g4_outcome.specs.declared.line.Line.{Line}
+use Rattle.g4_outcome.specs.declared.line.Line.TheVariants.{ToOut}
 use Rattle.g4_load.specs.declared.interpreter.Interpreter.{Interpreter}
 use Rattle.g4_load.specs.declared.fault.GrammarFault.{GrammarFault}
 use Rattle.g4_load.specs.declared.fault.GrammarFault.TheVariants as faults
@@ -55,15 +57,21 @@ pub data EndsAtn (files : Files) (atn : Atn) : End → Type 0 where
   rule_listed : (fetched : List (List ℕ)) (listing : List ℕ) → Lists files atn.grammar atn.rule fetched (Ok listing)
       → EndsAtn files atn (listed listing)
 
--- The end of `parse`: its grammar is not built, or one of its files is absent, or each has an outcome.
+-- The end of `parse`: its grammar is not built, or has too many cells with the rows that are asked for, or one of its files is absent,
+-- or each has an outcome.
 pub data EndsParse (files : Files) (parse : Parse) : End → Type 0 where
   not_built : (fetched : List (List ℕ)) (stop : Stop) → Builds files parse.grammar parse.start fetched (Err stop)
       → EndsParse files parse (stopped stop)
+  many_cells : (fetched : List (List ℕ)) (interpreter : Interpreter)
+      → Builds files parse.grammar parse.start fetched (Ok interpreter) → HasManyCells parse.rows interpreter
+      → EndsParse files parse (stopped (stops.Fault parse.grammar faults.Cells))
   file_absent : (fetched : List (List ℕ)) (interpreter : Interpreter) (name : List ℕ)
-      → Builds files parse.grammar parse.start fetched (Ok interpreter) → inputs_of files parse.files ≡ Err name
+      → Builds files parse.grammar parse.start fetched (Ok interpreter) → ¬ (HasManyCells parse.rows interpreter)
+      → inputs_of files parse.files ≡ Err name
       → EndsParse files parse (stopped (stops.Absent name))
   files_parsed : (fetched : List (List ℕ)) (interpreter : Interpreter) (inputs : List Input) (outcomes : List Outcome)
-      → Builds files parse.grammar parse.start fetched (Ok interpreter) → inputs_of files parse.files ≡ Ok inputs
+      → Builds files parse.grammar parse.start fetched (Ok interpreter) → ¬ (HasManyCells parse.rows interpreter)
+      → inputs_of files parse.files ≡ Ok inputs
       → AreOutcomes interpreter inputs outcomes →
       EndsParse files parse (all_parsed parse.output interpreter parse.files outcomes)
 
@@ -112,6 +120,7 @@ fault_line name (faults.Check (checks.Recursion fault)) = recursion_line name fa
 fault_line name (faults.UnknownStart start) = no_rule_line name start
 fault_line name faults.Alternatives = limit_line name (codes "alternatives 1024")
 fault_line name faults.States = limit_line name (codes "states 65536")
+fault_line name faults.Cells = limit_line name (codes "cells 16777216")
 
 -- the line of a command line that stops before any file is parsed
 abbrev pub stop_line : Stop → Line

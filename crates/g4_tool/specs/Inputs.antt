@@ -2,8 +2,8 @@
 use Rattle.std.specs.Prelude.{◌≡◌, ◌≤◌, ℕ, List, [], ◌∷◌, length, Option, Some, None, Result, Ok, Err, nat_lt, cond}
 use Rattle.g4_base.specs.declared.limits.TheConstants.{MOST_BYTES}
 use Rattle.g4_load.specs.Files.{Files}
-use Rattle.g4_tool.specs.declared.inputs.Input.{Input}
-use Rattle.g4_tool.specs.declared.inputs.Input.TheVariants.{Bytes, TooLarge}
+use Rattle.g4_outcome.specs.declared.input.Input.{Input}
+use Rattle.g4_outcome.specs.declared.input.Input.TheVariants.{Bytes, TooLarge}
 use Rattle.g4_load.specs.declared.stop.Stop.TheVariants as stops
 use Rattle.g4_load.specs.declared.stop.Halt.{Halt}
 use Rattle.g4_load.specs.declared.stop.Halt.TheVariants as halts
@@ -36,8 +36,3 @@ GivesInputs view inputs (Err (halts.Stop (stops.TooLarge name size))) = ⊥
 GivesInputs view inputs (Err (halts.Stop (stops.Fault name fault))) = ⊥
 GivesInputs view inputs (Err halts.Failed) = Unit {0}
 GivesInputs view inputs (Err halts.NoMemory) = Unit {0}
-
--- the content is within the limit
-abbrev pub IsSmall : Input → Type 0
-IsSmall (Bytes bytes) = length bytes ≤ MOST_BYTES
-IsSmall (TooLarge size) = Unit {0}

@@ -1,10 +1,9 @@
 -- Only this crate cites these.
+pub mod Cells
 pub mod Counting
 pub mod Ends
-pub mod Grammars
+pub mod Files
 pub mod Inputs
-pub mod Meaning
-pub mod Outcomes
 pub mod Report
 pub mod Running
 pub mod Texts

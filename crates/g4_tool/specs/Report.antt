@@ -5,14 +5,15 @@ use Rattle.g4_words.specs.declared.command.Command.TheVariants as commands
 use Rattle.g4_words.specs.declared.command.Parse.{Parse}
 use Rattle.g4_load.specs.Building.{Builds}
 use Rattle.g4_load.specs.Files.{Files}
+use Rattle.g4_tool.specs.Cells.{HasManyCells}
 use Rattle.g4_tool.specs.Inputs.{inputs_of}
 use Rattle.g4_tool.specs.Texts.{closing_line}
 use Rattle.g4_tool.specs.Ends.{End, stopped, checked, listed, all_parsed, HasEnd, lines_of, status_of}
-use Rattle.g4_tool.specs.Meaning.{IsMeant}
+use Rattle.g4_outcome.specs.Meaning.{IsMeant}
 use Rattle.g4_tool.specs.declared.files.Parsed.{Parsed}
 use Rattle.g4_load.specs.declared.stop.Halt.{Halt}
 use Rattle.g4_load.specs.declared.stop.Halt.TheVariants as halts
-use Rattle.g4_tool.specs.declared.inputs.Input.{Input}
+use Rattle.g4_outcome.specs.declared.input.Input.{Input}
 use Rattle.g4_load.specs.declared.interpreter.Interpreter.{Interpreter}
 use Rattle.g4_tool.specs.declared.report.Report.{Report}
 use Rattle.g4_tool.specs.declared.status.Status.{Status}
@@ -65,7 +66,7 @@ pub record Means (files : Files) (words : List (List ℕ)) (status : Status) : T
 abbrev pub ComesExactly : Files → List (List ℕ) → Status → Type 0
 ComesExactly files words answer = (status : Status) → (answer ≡ status) ↔ Means files words status
 
--- The words parse files with a grammar that is without fault, and each of the files is there.
+-- The words parse files with a grammar that is without fault and has not too many cells, and each of the files is there.
 pub record CanBeRun (files : Files) (words : List (List ℕ)) : Type 0 where
   pub parse : Parse
   pub fetched : List (List ℕ)
@@ -73,6 +74,7 @@ pub record CanBeRun (files : Files) (words : List (List ℕ)) : Type 0 where
   pub inputs : List Input
   pub command : IsCommand words (commands.Parse parse)
   pub built : Builds files parse.grammar parse.start fetched (Ok interpreter)
+  pub fits : ¬ (HasManyCells parse.rows interpreter)
   pub there : inputs_of files parse.files ≡ Ok inputs
 
 -- where the command can be run, it is Done or Refused

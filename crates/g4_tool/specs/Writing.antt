@@ -1,8 +1,8 @@
 -- What the outputs have taken of the lines of a report, and why writing ended.
 use Rattle.std.specs.Prelude.{◌≡◌, ℕ, List, [], ◌∷◌, ◌++◌, Option, Result, Ok, Err, ◌⊎◌}
 use Rattle.g4_ports.specs.Ports.{Rose, with_more, TakesFront}
-use Rattle.g4_tool.specs.declared.write.Line.{Line}
-use Rattle.g4_tool.specs.declared.write.Line.TheVariants.{ToOut, ToErr}
+use Rattle.g4_outcome.specs.declared.line.Line.{Line}
+use Rattle.g4_outcome.specs.declared.line.Line.TheVariants.{ToOut, ToErr}
 
 -- the bytes of the lines for out
 abbrev pub out_of : List Line → List ℕ

@@ -1,34 +1,29 @@
-// The files of a run, parsed in order.
-ghost use Rattle.std.specs.Prelude.{◌≡◌, ◌<◌, ◌≤◌, ◌+◌, ◌∷◌, [], All, IfOk, OnOk, count_by, length};
+// The files of a run, parsed by many workers, and their lines in order.
+ghost use Rattle.std.specs.Prelude.{◌≡◌, ◌<◌, ◌≤◌, ◌+◌, ◌++◌, All, IfOk, OnOk, cond, length};
 ghost use Rattle.g4_learned.specs.Stored.{IsPlan};
 ghost use Rattle.g4_load.specs.Usable.{IsUsable};
 ghost use Rattle.g4_net.specs.AddedRule.{IsReady};
 ghost use Rattle.g4_net.specs.Loops.{HasLoops};
-ghost use Rattle.g4_tool.specs.Grammars.{with_net};
-ghost use Rattle.g4_tool.specs.Inputs.{IsSmall};
-ghost use Rattle.g4_tool.specs.Outcomes.{AreParsed, IsOneMore, is_accepted};
-ghost use Rattle.g4_words.specs.declared.command.TheConstants.{MOST_FILES};
+ghost use Rattle.g4_outcome.specs.Grammars.{with_net};
+ghost use Rattle.g4_outcome.specs.Inputs.{IsSmall};
+ghost use Rattle.g4_pool.specs.Files.{AreReports, Files};
+ghost use Rattle.g4_tool.specs.Files.{AreParsed};
+ghost use Rattle.g4_words.specs.declared.command.TheConstants.{MOST_FILES, MOST_JOBS, MOST_ROWS};
 
-use crate::grammar::Grammar;
-use crate::inputs::Input;
-use crate::outcome::{Outcome, is_accepted, outcome_of, push_outcome};
-use crate::write::Line;
 use g4_base::Text;
 use g4_full::Memory;
-use g4_learned::{DecisionNet, OpenFault, Opened, Pass, Store, open};
+use g4_learned::{DecisionNet, OpenFault, Opened, Store, open};
 use g4_load::Interpreter;
 use g4_net::ParserNetwork;
+use g4_outcome::{FileReport, Grammar, Input, Line};
+use g4_pool::{WorkerState, parse_all};
 use g4_ports::Gate;
-use g4_store::steps::Steps;
 use g4_store::view::Home;
 use g4_words::Output;
 use std::alloc::{AllocError, Global};
 use std::marker::Brand;
 use std::sync::Wait;
-use std::sync::ledger::{Blank, Ledger};
-
-/// How many rows the store of the learned automata has.
-const ROWS: usize = 1_024;
+use std::thread::Threads;
 
 /// The lines of files, and how many of the files were accepted.
 #[derive(Drop)]
@@ -37,171 +32,110 @@ pub struct Parsed {
     pub accepted: usize,
 }
 
-/// How many files are accepted with this one, where so many are without it.
-fn accepted_with(accepted: usize, outcome: &Outcome) -> usize
-    requires { accepted < MOST_FILES }
-    ensures { result ≡ accepted + count_by is_accepted (outcome.now ∷ []) }
+/// Adds lines.
+fn push_lines(lines: &mut Vec<Line>, more: Vec<Line>) -> Result<(), AllocError>
+    ensures { OnOk result (lines.new.items ≡ lines.old.items ++ more.items) }
 {
-    if is_accepted(outcome) {
-        accepted + 1
-    } else {
-        accepted
+    for line in more {
+        lines.push(line)?;
     }
-}
-
-/// Adds the lines of the outcome of a file.
-#[tactic(auto, using(crate::proofs::OneByOne::one_more))]
-fn push_file<B: Home<DecisionNet>, R: Wait, L: Ledger>(
-    parsed: &mut Parsed,
-    rt: &R,
-    alloc: Global,
-    output: Output,
-    grammar: &Grammar,
-    store: &Store<B>,
-    pass: &mut Pass<B>,
-    memory: &mut Memory<B>,
-    name: &str,
-    input: Input,
-    steps: &mut Steps<L>,
-) -> Result<(), AllocError>
-    requires usable { IsUsable (with_net grammar.now B.plan.net.net) }
-    requires small { IsSmall input }
-    requires few { parsed.old.accepted < MOST_FILES }
-    ensures { OnOk result (IsOneMore output (with_net grammar.now B.plan.net.net) name.now input parsed.old parsed.new) }
-{
-    let outcome = outcome_of(rt, alloc, grammar, store, pass, memory, input, steps)?;
-    let net = store.net().net();
-    push_outcome(
-        &mut parsed.lines,
-        alloc,
-        output,
-        grammar,
-        net,
-        name,
-        &outcome,
-    )?;
-    parsed.accepted = accepted_with(parsed.accepted, &outcome);
     Ok(())
 }
 
-/// The lines of the files in order, by one pass of a store. Worker 0 enters and leaves the gate once for each file. The memory of a
-/// file's input and tokens is given back as soon as the lines of the file are made.
-#[tactic(auto, using(crate::proofs::Meant::none_meant))]
-fn parse_in_order<B: Home<DecisionNet>, R: Wait, L: Ledger, G: Gate>(
-    rt: &R,
-    alloc: Global,
-    output: Output,
-    grammar: &Grammar,
-    store: &Store<B>,
-    pass: &mut Pass<B>,
-    memory: &mut Memory<B>,
-    names: &[Text],
-    inputs: Vec<Input>,
-    gate: &G,
-    steps: &mut Steps<L>,
-) -> Result<Parsed, AllocError>
-    requires usable { IsUsable (with_net grammar.now B.plan.net.net) }
-    requires small { All IsSmall inputs.items }
-    requires paired { length names.now ≡ length inputs.items }
-    requires few { length names.now ≤ MOST_FILES }
-    ensures { IfOk result (AreParsed output (with_net grammar.now B.plan.net.net) names.now inputs.items) }
+/// Adds what is reported of a file.
+fn push_report(parsed: &mut Parsed, report: FileReport) -> Result<(), AllocError>
+    requires few { parsed.old.accepted < MOST_FILES }
+    ensures lines { OnOk result (parsed.new.lines.items ≡ parsed.old.lines.items ++ report.lines.items) }
+    ensures accepted { OnOk result (parsed.new.accepted ≡ parsed.old.accepted + cond report.accepted 1 0) }
+{
+    let FileReport { lines, accepted } = report;
+    push_lines(&mut parsed.lines, lines)?;
+    if accepted {
+        parsed.accepted += 1;
+    }
+    Ok(())
+}
+
+/// What is reported of all files, in order.
+fn gather(alloc: Global, reports: Vec<FileReport>) -> Result<Parsed, AllocError>
+    requires few { length reports.items ≤ MOST_FILES }
+    ensures { (files : Files) → length files.names ≡ length files.inputs → AreReports files reports.items
+        → IfOk result (AreParsed files.output files.interpreter files.names files.inputs) }
 {
     let mut parsed = Parsed {
         lines: Vec::new(alloc),
         accepted: 0,
     };
-    let mut file = 0usize;
-    for input in inputs {
-        let name = names[file].as_str();
-        gate.enter(0, file as u32);
-        let pushed = push_file(
-            &mut parsed,
-            rt,
-            alloc,
-            output,
-            grammar,
-            store,
-            pass,
-            memory,
-            name,
-            input,
-            steps,
-        );
-        gate.leave(0, file as u32);
-        pushed?;
-        file += 1;
+    for report in reports {
+        push_report(&mut parsed, report)?;
     }
     Ok(parsed)
 }
 
-/// The same by the first pass of a store that was opened.
-fn parse_opened<B: Home<DecisionNet>, R: Wait, L: Ledger, G: Gate>(
+/// The lines of the files by a store that was opened.
+fn parse_opened<B: Home<DecisionNet> + Send + Sync, R: Threads + Wait + Sync, G: Gate>(
     rt: &R,
     alloc: Global,
     output: Output,
+    jobs: u32,
     grammar: &Grammar,
     opened: Opened,
     names: &[Text],
-    inputs: Vec<Input>,
+    inputs: &[Input],
     gate: &G,
-    blank: Blank,
 ) -> Result<Parsed, AllocError>
-    requires ledger { (blank.name ≡ L.name) × (blank.parts ≡ L.parts) × (0 < blank.parts) }
     requires plan { IsPlan opened.plan }
     requires home { (opened.table.shared.table_id ≡ B.table) × (opened.plan ≡ B.plan) }
     requires usable { IsUsable (with_net grammar.now B.plan.net.net) }
-    requires small { All IsSmall inputs.items }
-    requires paired { length names.now ≡ length inputs.items }
+    requires small { All IsSmall inputs.now }
+    requires paired { length names.now ≡ length inputs.now }
     requires few { length names.now ≤ MOST_FILES }
-    ensures { IfOk result (AreParsed output (with_net grammar.now B.plan.net.net) names.now inputs.items) }
+    requires jobs { (0 < jobs) × (jobs ≤ MOST_JOBS) }
+    ensures { IfOk result (AreParsed output (with_net grammar.now B.plan.net.net) names.now inputs.now) }
 {
-    let mut steps = Steps::<L>::open(blank);
-    let (store, mut pass) = Store::<B>::named(opened);
-    let mut memory = Memory::new(alloc);
-    parse_in_order(
-        rt,
-        alloc,
-        output,
-        grammar,
-        &store,
-        &mut pass,
-        &mut memory,
-        names,
-        inputs,
-        gate,
-        &mut steps,
-    )
+    let (store, pass) = Store::<B>::named(opened);
+    let memory = Memory::new(alloc);
+    let mut state = WorkerState { pass, memory };
+    let reports = parse_all(
+        rt, alloc, output, grammar, &store, &mut state, names, inputs, jobs, gate,
+    )?;
+    gather(alloc, reports)
 }
 
-/// A store of the network, in which nothing is learned yet. There is no memory for one that would be too large.
-fn open_store(alloc: Global, net: ParserNetwork) -> Result<Opened, AllocError>
+/// A store of the network with room for so many rows, in which nothing is learned yet. There is no memory for one that would be too large.
+fn open_store(alloc: Global, net: ParserNetwork, rows: u32) -> Result<Opened, AllocError>
+    requires rows { (0 < rows) × (rows ≤ MOST_ROWS) }
     requires ready { IsReady net }
     requires loops { HasLoops net }
     ensures plan { IfOk result (λ o. IsPlan o.plan) }
     ensures net { IfOk result (λ o. o.plan.net.net ≡ net) }
 {
-    match open(alloc, net, ROWS) {
+    match open(alloc, net, rows as usize) {
         Ok(opened) => Ok(opened),
         Err(OpenFault::TooLarge) => Err(AllocError),
         Err(OpenFault::NoMemory) => Err(AllocError),
     }
 }
 
-/// The lines of the files in order. What prediction learns of one file serves the next ones.
-pub fn parse_files<R: Wait, G: Gate>(
+/// The lines of the files in order, parsed by so many workers. What prediction learns of one file serves the others.
+pub fn parse_files<R: Threads + Wait + Sync, G: Gate>(
     rt: &R,
     alloc: Global,
     output: Output,
+    jobs: u32,
+    rows: u32,
     interpreter: Interpreter,
     names: &[Text],
-    inputs: Vec<Input>,
+    inputs: &[Input],
     gate: &G,
 ) -> Result<Parsed, AllocError>
     requires usable { IsUsable interpreter }
-    requires small { All IsSmall inputs.items }
-    requires paired { length names.now ≡ length inputs.items }
+    requires small { All IsSmall inputs.now }
+    requires paired { length names.now ≡ length inputs.now }
     requires few { length names.now ≤ MOST_FILES }
-    ensures { IfOk result (AreParsed output interpreter names.now inputs.items) }
+    requires jobs { (0 < jobs) × (jobs ≤ MOST_JOBS) }
+    requires rows { (0 < rows) × (rows ≤ MOST_ROWS) }
+    ensures { IfOk result (AreParsed output interpreter names.now inputs.now) }
 {
     let Interpreter {
         names: rule_names,
@@ -216,16 +150,8 @@ pub fn parse_files<R: Wait, G: Gate>(
         shown,
         lexer,
     };
-    let opened = open_store(alloc, net)?;
-    parse_opened::<Brand, R, Brand, G>(
-        rt,
-        alloc,
-        output,
-        &grammar,
-        opened,
-        names,
-        inputs,
-        gate,
-        Blank::new(1),
+    let opened = open_store(alloc, net, rows)?;
+    parse_opened::<Brand, R, G>(
+        rt, alloc, output, jobs, &grammar, opened, names, inputs, gate,
     )
 }

@@ -2,19 +2,14 @@
 ghost use Rattle.std.specs.Prelude.{◌≡◌, All, IfOk, Some, length};
 ghost use Rattle.g4_load.specs.Counting.{Counts};
 ghost use Rattle.g4_load.specs.Files.{Files};
-ghost use Rattle.g4_tool.specs.Inputs.{inputs_of, GivesInputs, IsSmall};
+ghost use Rattle.g4_outcome.specs.Inputs.{IsSmall};
+ghost use Rattle.g4_tool.specs.Inputs.{inputs_of, GivesInputs};
 
-use g4_base::{Octets, Text};
+use g4_base::Text;
 use g4_load::{Halt, Stop};
+use g4_outcome::Input;
 use g4_ports::{Got, Shelf};
 use std::alloc::Global;
-
-/// A file's content, or its size past the limit.
-#[derive(Drop)]
-pub enum Input {
-    Bytes(Octets),
-    TooLarge(u64),
-}
 
 /// All the files in order, or the first that is absent.
 pub fn fetch_all<S: Shelf>(alloc: Global, shelf: &mut S, names: &[Text]) -> Result<Vec<Input>, Halt>

@@ -1,12 +1,11 @@
 // The tool: from a command line and named files to what is written and the status.
 #![tactic(auto)]
 
+mod cells;
 mod files;
-mod grammar;
 mod inputs;
 mod law;
 mod messages;
-mod outcome;
 mod report;
 mod rule_messages;
 mod status;

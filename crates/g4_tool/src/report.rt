@@ -1,5 +1,5 @@
 // The report of a command line: its lines and its status, made before any of it is written.
-ghost use Rattle.std.specs.Prelude.{◌≡◌, ◌≤◌, ◌⊎◌, ℕ, List, IfOk, MatchResult, Some, Err, length, map, string_bytes};
+ghost use Rattle.std.specs.Prelude.{◌≡◌, ◌<◌, ◌≤◌, ◌⊎◌, ℕ, List, IfOk, MatchResult, Some, Err, length, map, string_bytes};
 ghost use Rattle.g4_load.specs.Counting.{Counts};
 ghost use Rattle.g4_tool.specs.Counting.{ReportCounts};
 ghost use Rattle.g4_tool.specs.Ends.{IsNoCommand, checked, listed, stopped};
@@ -7,19 +7,21 @@ ghost use Rattle.g4_load.specs.Files.{Files};
 ghost use Rattle.g4_tool.specs.Report.{ReportsOrHalts, IsDoneOrRefused, IsReport, IsReportOf, IsReportOfFiles};
 ghost use Rattle.g4_words.specs.Commands.{IsCommand};
 ghost use Rattle.g4_words.specs.declared.command.Command.TheVariants as commands;
-ghost use Rattle.g4_words.specs.declared.command.TheConstants.{MOST_FILES};
+ghost use Rattle.g4_words.specs.declared.command.TheConstants.{MOST_FILES, MOST_JOBS, MOST_ROWS};
 
+use crate::cells::check_cells;
 use crate::files::{Parsed, parse_files};
 use crate::inputs::fetch_all;
 use crate::status::Status;
 use crate::stop::{line_of, status_of};
-use crate::write::Line;
 use g4_base::{Octets, Sequence};
 use g4_load::{Halt, Loaded, Stop, build_interpreter, list_named, load};
+use g4_outcome::Line;
 use g4_ports::{Gate, Shelf};
 use g4_words::{Atn, Check, Command, Parse, WordsFault, read_words};
 use std::alloc::{AllocError, Global};
 use std::sync::Wait;
+use std::thread::Threads;
 
 /// What a run writes, and how it ends where nothing fails.
 #[derive(Drop)]
@@ -135,7 +137,7 @@ fn run_atn<S: Shelf>(alloc: Global, shelf: &mut S, atn: &Atn) -> Result<Report, 
 }
 
 /// The report of `parse`, or why there is none.
-fn run_parse<R: Wait, S: Shelf, G: Gate>(
+fn run_parse<R: Threads + Wait + Sync, S: Shelf, G: Gate>(
     rt: &R,
     alloc: Global,
     shelf: &mut S,
@@ -143,6 +145,8 @@ fn run_parse<R: Wait, S: Shelf, G: Gate>(
     gate: &G,
 ) -> Result<Report, Halt>
     requires few { length parse.now.files ≤ MOST_FILES }
+    requires jobs { (0 < parse.now.jobs) × (parse.now.jobs ≤ MOST_JOBS) }
+    requires rows { (0 < parse.now.rows) × (parse.now.rows ≤ MOST_ROWS) }
     ensures keeps { S.told shelf.new ≡ S.told shelf.old }
     ensures content { (files : Files) (words : List (List ℕ)) → S.told shelf.old ≡ Some files → IsCommand words (commands.Parse parse.now)
         → ReportsOrHalts files words result }
@@ -152,16 +156,26 @@ fn run_parse<R: Wait, S: Shelf, G: Gate>(
     let grammar = parse.grammar.as_str();
     let start = parse.start.as_str();
     let interpreter = build_interpreter(alloc, shelf, grammar, start)?;
+    check_cells(alloc, grammar, parse.rows, &interpreter)?;
     let names = parse.files.as_slice();
     let inputs = fetch_all(alloc, shelf, names)?;
-    let output = parse.output;
-    let parsed = parse_files(rt, alloc, output, interpreter, names, inputs, gate)?;
+    let parsed = parse_files(
+        rt,
+        alloc,
+        parse.output,
+        parse.jobs,
+        parse.rows,
+        interpreter,
+        names,
+        inputs.as_slice(),
+        gate,
+    )?;
     let report = report_files(alloc, parsed, names.len())?;
     Ok(report)
 }
 
 /// The report of the words that no fault stops, or why there is none.
-fn run_words<R: Wait, S: Shelf, G: Gate>(
+fn run_words<R: Threads + Wait + Sync, S: Shelf, G: Gate>(
     rt: &R,
     alloc: Global,
     shelf: &mut S,
@@ -186,7 +200,7 @@ fn run_words<R: Wait, S: Shelf, G: Gate>(
 
 /// The report of the words, unless a fetch or memory fails.
 #[tactic(auto, using(crate::proofs::Reports::reports_stop))]
-pub fn make_report<R: Wait, S: Shelf, G: Gate>(
+pub fn make_report<R: Threads + Wait + Sync, S: Shelf, G: Gate>(
     rt: &R,
     alloc: Global,
     shelf: &mut S,

@@ -2,9 +2,8 @@
 ghost use Rattle.std.specs.Prelude.{◌≡◌, ◌++◌, IfOk, OnOk};
 ghost use Rattle.g4_tool.specs.Texts.{empty_loop_line, empty_operator_line, label_clash_line, left_cycle_line, lexer_predicate_line, more_names, names_in_order, no_primary_line, undefined_line, unknown_command_line, unknown_predicate_line};
 
-use crate::messages::{push, start_line, to_err};
-use crate::write::Line;
 use g4_base::{Place, Sequence, Text};
+use g4_outcome::{Line, push, start_line, to_err};
 use std::alloc::{AllocError, Global};
 
 /// A rule, a mode or a channel, as the kind says, that is named and that the grammar has not.

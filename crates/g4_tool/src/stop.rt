@@ -2,15 +2,15 @@
 ghost use Rattle.std.specs.Prelude.{◌≡◌, IfOk};
 ghost use Rattle.g4_tool.specs.Ends.{fault_line, recursion_line, reference_line, stop_line, stop_status};
 
-use crate::messages::{absent, bad_set, large, limit, no_rule, not_utf8, syntax, twice, usage};
+use crate::messages::{absent, bad_set, limit, no_rule, syntax, twice, usage};
 use crate::rule_messages::{
     empty_loop, empty_operator, label_clash, left_cycle, lexer_predicate, no_primary, undefined,
     unknown_command, unknown_predicate,
 };
 use crate::status::Status;
-use crate::write::Line;
 use g4_checks::{CheckFault, ReferenceFault};
 use g4_load::{GrammarFault, Stop};
+use g4_outcome::{Line, large, not_utf8};
 use g4_recursion::RecursionFault;
 use std::alloc::{AllocError, Global};
 
@@ -63,6 +63,7 @@ fn fault_line(alloc: Global, name: &str, fault: &GrammarFault) -> Result<Line, A
         GrammarFault::UnknownStart(start) => no_rule(alloc, name, start.as_str()),
         GrammarFault::Alternatives => limit(alloc, name, "alternatives 1024"),
         GrammarFault::States => limit(alloc, name, "states 65536"),
+        GrammarFault::Cells => limit(alloc, name, "cells 16777216"),
     }
 }
 

@@ -2,15 +2,8 @@
 ghost use Rattle.std.specs.Prelude.{◌∷◌, [], OnOk};
 ghost use Rattle.g4_tool.specs.Writing.{Wrote, WroteFront, CountsWriting};
 
-use g4_base::Octets;
+use g4_outcome::Line;
 use g4_ports::{Failed, Sink, write_all};
-
-/// A line of the report, on the one output or the other.
-#[derive(Drop)]
-pub enum Line {
-    ToOut(Octets),
-    ToErr(Octets),
-}
 
 /// Writes a line.
 pub fn write_line<O: Sink, E: Sink>(line: &Line, out: &mut O, err: &mut E) -> Result<(), Failed>

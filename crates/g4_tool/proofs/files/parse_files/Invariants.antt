@@ -1,7 +1,4 @@
 use Rattle.g4_tool.proofs.files.parse_files.Given as goal
 
-abbrev pub ghosts-parse_opened-B-Home : goal.ghosts-parse_opened-B-Home
-ghosts-parse_opened-B-Home g a = record { table = a.opened.table.shared.table_id; plan = a.opened.plan }
-
-abbrev pub ghosts-parse_opened-L-Ledger : goal.ghosts-parse_opened-L-Ledger
-ghosts-parse_opened-L-Ledger g a = record { name = a.blank.name; parts = a.blank.parts }
+abbrev pub ghosts-parse_opened : goal.ghosts-parse_opened
+ghosts-parse_opened g a = record { table = a.opened.table.shared.table_id; plan = a.opened.plan }

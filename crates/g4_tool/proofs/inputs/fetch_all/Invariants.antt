@@ -1,6 +1,7 @@
 use Rattle.std.proofs.Common.{◌≡◌, ◌≤◌, All, drop, length, Some}
 use Rattle.g4_load.specs.Files.{Files}
-use Rattle.g4_tool.specs.Inputs.{inputs_of, IsSmall}
+use Rattle.g4_outcome.specs.Inputs.{IsSmall}
+use Rattle.g4_tool.specs.Inputs.{inputs_of}
 use Rattle.g4_tool.proofs.Fetched.{with_front}
 use Rattle.g4_tool.proofs.inputs.fetch_all.Given as goal
 

@@ -1,0 +1,3 @@
+mod Apart
+mod Meant
+pub mod OneOutcome

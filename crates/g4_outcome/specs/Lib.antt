@@ -1,0 +1,7 @@
+-- Other crates cite these.
+pub mod Grammars
+pub mod Inputs
+pub mod Meaning
+pub mod Outcomes
+pub mod Reported
+pub mod Texts

@@ -1,0 +1,2 @@
+-- Other crates cite Files.
+pub mod Files

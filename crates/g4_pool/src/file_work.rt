@@ -1,0 +1,148 @@
+// The work on a file, as each worker does it.
+ghost use Rattle.std.specs.Prelude.{◌≡◌, ◌<◌, IfOk};
+ghost use Rattle.g4_load.specs.Usable.{IsUsable};
+ghost use Rattle.g4_outcome.specs.Grammars.{with_net};
+ghost use Rattle.g4_outcome.specs.Inputs.{IsSmall};
+ghost use Rattle.g4_outcome.specs.Reported.{IsFileReport};
+
+use crate::copies::copy_input;
+use crate::worker_state::WorkerState;
+use g4_base::Text;
+use g4_learned::{DecisionNet, Store};
+use g4_outcome::{FileReport, Grammar, Input, report_file};
+use g4_ports::Gate;
+use g4_store::steps::Steps;
+use g4_store::view::Home;
+use g4_words::Output;
+use g4_workers::Work;
+use std::alloc::{AllocError, Global};
+use std::marker::{Brand, Model};
+use std::sync::Wait;
+use std::sync::ledger::{Blank, Ledger};
+
+/// What all workers share: the grammar and the store of its learned automata, the files, and the gate.
+#[derive(Drop)]
+pub struct FileWork<'a, B: Home<DecisionNet>, R, G> {
+    pub rt: &'a R,
+    pub alloc: Global,
+    pub output: Output,
+    pub grammar: &'a Grammar,
+    pub store: &'a Store<B>,
+    pub names: &'a [Text],
+    pub inputs: &'a [Input],
+    pub gate: &'a G,
+}
+
+impl<'a, B: Home<DecisionNet>, R, G> Model for FileWork<'a, B, R, G> {
+    ghost use Rattle.std.specs.Prelude.{◌≡◌, All, length};
+    ghost use Rattle.g4_load.specs.Usable.{IsUsable};
+    ghost use Rattle.g4_outcome.specs.Grammars.{with_net};
+    ghost use Rattle.g4_outcome.specs.Inputs.{IsSmall};
+    ghost use Rattle.g4_pool.specs.Files.{Files, files_of};
+    ghost use Rattle.g4_source.specs.Marks.{elements_code};
+    ghost use Rattle.std.specs.Coded.{codes};
+
+    ghost Value = { Files };
+
+    ghost coded = { Prim.hlevel (codes, elements_code) };
+
+    ghost view = { λ w. files_of w.output (with_net w.grammar.now B.plan.net.net) w.names.now w.inputs.now };
+
+    ghost invariant = { λ w. IsUsable (with_net w.grammar.now B.plan.net.net) × All IsSmall w.inputs.now
+        × (length w.names.now ≡ length w.inputs.now) };
+}
+
+/// What is reported of a file of this name, with a count of loads.
+fn report_counted<B: Home<DecisionNet>, R: Wait, L: Ledger>(
+    rt: &R,
+    alloc: Global,
+    output: Output,
+    grammar: &Grammar,
+    store: &Store<B>,
+    state: &mut WorkerState<B>,
+    name: &Text,
+    input: Input,
+    blank: Blank,
+) -> Result<FileReport, AllocError>
+    requires ledger { (blank.name ≡ L.name) × (blank.parts ≡ L.parts) × (0 < blank.parts) }
+    requires usable { IsUsable (with_net grammar.now B.plan.net.net) }
+    requires small { IsSmall input }
+    ensures { IfOk result (IsFileReport output (with_net grammar.now B.plan.net.net) name.now input) }
+{
+    let mut steps = Steps::<L>::open(blank);
+    report_file(
+        rt,
+        alloc,
+        output,
+        grammar,
+        store,
+        &mut state.pass,
+        &mut state.memory,
+        name.as_str(),
+        input,
+        &mut steps,
+    )
+}
+
+/// The same with a count of its own.
+fn report_one<B: Home<DecisionNet>, R: Wait>(
+    rt: &R,
+    alloc: Global,
+    output: Output,
+    grammar: &Grammar,
+    store: &Store<B>,
+    state: &mut WorkerState<B>,
+    name: &Text,
+    input: Input,
+) -> Result<FileReport, AllocError>
+    requires usable { IsUsable (with_net grammar.now B.plan.net.net) }
+    requires small { IsSmall input }
+    ensures { IfOk result (IsFileReport output (with_net grammar.now B.plan.net.net) name.now input) }
+{
+    report_counted::<B, R, Brand>(
+        rt,
+        alloc,
+        output,
+        grammar,
+        store,
+        state,
+        name,
+        input,
+        Blank::new(1),
+    )
+}
+
+impl<'a, B: Home<DecisionNet> + Send + Sync, R: Wait + Sync, G: Gate> Work<
+    WorkerState<B>,
+    FileReport,
+> for FileWork<'a, B, R, G> {
+    ghost use Rattle.std.specs.Prelude.{length};
+    ghost use Rattle.g4_pool.specs.Files.{IsReportAt};
+
+    ghost files = { λ files. length files.inputs };
+
+    ghost is_outcome = { IsReportAt };
+
+    fn run(
+        &self,
+        state: &mut WorkerState<B>,
+        worker: u32,
+        file: u32,
+    ) -> Result<FileReport, AllocError> {
+        let name = &self.names[file as usize];
+        let input = copy_input(self.alloc, &self.inputs[file as usize])?;
+        self.gate.enter(worker, file);
+        let report = report_one(
+            self.rt,
+            self.alloc,
+            self.output,
+            self.grammar,
+            self.store,
+            state,
+            name,
+            input,
+        );
+        self.gate.leave(worker, file);
+        report
+    }
+}

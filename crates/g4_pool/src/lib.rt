@@ -1,0 +1,10 @@
+//! The files of a run, parsed by many workers at once with one store of learned automata.
+#![tactic(auto)]
+
+mod copies;
+mod file_work;
+mod pool;
+mod worker_state;
+
+pub use pool::parse_all;
+pub use worker_state::WorkerState;

@@ -1,0 +1,64 @@
+// The pool: all files of a run.
+ghost use Rattle.std.specs.Prelude.{◌≡◌, ◌<◌, ◌≤◌, All, IfOk, length, true};
+ghost use Rattle.g4_load.specs.Usable.{IsUsable};
+ghost use Rattle.g4_outcome.specs.Grammars.{with_net};
+ghost use Rattle.g4_outcome.specs.Inputs.{IsSmall};
+ghost use Rattle.g4_pool.specs.Files.{AreReports, files_of};
+ghost use Rattle.g4_store.specs.Numbers.{has};
+
+use crate::file_work::FileWork;
+use crate::worker_state::{WorkerState, new_states};
+use g4_base::Text;
+use g4_learned::{DecisionNet, Store};
+use g4_outcome::{FileReport, Grammar, Input};
+use g4_ports::Gate;
+use g4_store::view::Home;
+use g4_words::Output;
+use g4_workers::run_all;
+use std::alloc::{AllocError, Global};
+use std::sync::Wait;
+use std::thread::Threads;
+
+/// What is reported of each file, in the order of the files, by so many workers at once. Each has a copy of the caller's pass, and what one
+/// has learned serves the others. It makes no difference to a report which worker parsed the file, nor what others had learned then. A
+/// worker enters and leaves the gate once for each file that it parses. What no worker came to, for want
+/// of memory, is parsed by the caller.
+///
+/// # Errors
+/// No memory.
+pub fn parse_all<B: Home<DecisionNet> + Send + Sync, R: Threads + Wait + Sync, G: Gate>(
+    rt: &R,
+    alloc: Global,
+    output: Output,
+    grammar: &Grammar,
+    store: &Store<B>,
+    state: &mut WorkerState<B>,
+    names: &[Text],
+    inputs: &[Input],
+    jobs: u32,
+    gate: &G,
+) -> Result<Vec<FileReport>, AllocError>
+    requires leads { has 0 state.old.pass.0.holds ≡ true }
+    requires usable { IsUsable (with_net grammar.now B.plan.net.net) }
+    requires small { All IsSmall inputs.now }
+    requires paired { length names.now ≡ length inputs.now }
+    requires few { length inputs.now ≤ 4096 }
+    requires jobs { (0 < jobs) × (jobs ≤ 64) }
+    ensures { IfOk result (λ reports.
+        AreReports (files_of output (with_net grammar.now B.plan.net.net) names.now inputs.now) reports.items) }
+{
+    let states = new_states(alloc, store, &mut state.pass, jobs)?;
+    let files = inputs.len() as u32;
+    let work = FileWork {
+        rt,
+        alloc,
+        output,
+        grammar,
+        store,
+        names,
+        inputs,
+        gate,
+    };
+    let (reports, _) = run_all(rt, alloc, &work, files, state, states)?;
+    Ok(reports)
+}
