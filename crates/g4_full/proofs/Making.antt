@@ -1,6 +1,7 @@
 -- Sets that are made, and what is asked of them.
-use Rattle.std.proofs.Common.{◌≡◌, ◌↔◌, ℕ, List, Contains, false, sym, subst}
-use Rattle.g4_frames.specs.Framed.{FramedNext, FramedStart, IsAtHole, IsFramed, Kept, Lowered}
+use Rattle.std.proofs.Common.{◌≡◌, ◌↔◌, ◌<◌, inl, inr, ℕ, zero, suc, List, [], ◌∷◌, Option, Some, None, Contains, IfSome, false, length, slice_get, refl, sym, subst, arith}
+use Rattle.g4_configs.specs.Configs.{Holds, View}
+use Rattle.g4_frames.specs.Framed.{FramedNext, FramedStart, IsAtHole, IsFramed, IsHeld, Kept, Lowered}
 use Rattle.g4_frames.specs.Running.{AreSame}
 use Rattle.g4_frames.proofs.Meaning.{same_back, same_then}
 use Rattle.g4_guards.specs.Levels.{AllowedAt, AreAllowedAt}
@@ -11,7 +12,9 @@ use Rattle.g4_net.specs.Lookahead.{IsKept}
 use Rattle.g4_net.specs.Network.{ParserNetwork}
 use Rattle.g4_full.specs.declared.frames.Frame.{Frame}
 use Rattle.g4_full.specs.declared.frames.Frames.{Frames}
-use Rattle.g4_full.specs.Remembered.{HasRow, IsRight, IsSet, SetOf, row_of}
+use Rattle.g4_full.specs.declared.live.Live.{Live}
+use Rattle.g4_full.specs.Remembered.{HasRow, IsLive, IsNumber, IsRight, IsSet, IsSound, SetOf, row_by, row_of}
+use Rattle.g4_full.specs.declared.shown.Shown.{Shown}
 use Rattle.g4_full.specs.Settled.{Shows}
 use Rattle.g4_full.proofs.Placing.{framed_same}
 use Rattle.g4_full.proofs.Showing.{shows_same}
@@ -26,19 +29,41 @@ row_set m n row C (lt, same) is =
     (lt, subst (λ (r : List Config). AreSame (Contains r) C) (sym same) (row_same row C is))
 
 -- what is asked of a set is right, by what is found of the set itself and of what is kept of it
-pub right_of : (net : ParserNetwork) (e : Frame) (C K : Config → Type 0) → IsRow e.set C → IsFramed net C
+pub right_of : (net : ParserNetwork) (e : Frame) (C : Config → Type 0) → IsRow e.set C → IsFramed net C
     → ((c : Config) → C c → IsWithin net c) → (e.at_hole ≡ false → (c : Config) → C c → IsAtHole net c → ⊥)
-    → ((c : Config) → K c ↔ (C c × IsKept net c)) → Shows K e.shown → IsRight net e
-right_of net e C K row framed within clear keep shows = record {
+    → Shows (Kept net C) e.shown → IsRight net e
+right_of net e C row framed within clear shows = record {
   framed = framed_same net (Contains e.set) C (row_same e.set C row) framed;
   within = λ c i. within c ((row_same e.set C row c).0 i);
   clear = λ none c i. clear none c ((row_same e.set C row c).0 i);
-  shown = shows_same K (Kept net (Contains e.set))
-      (λ c. (
-        (λ i. let k = (keep c).0 i in ((row_same e.set C row c).1 k.0, k.1)),
-        λ k. (keep c).1 ((row_same e.set C row c).0 k.0, k.1),
-      )) e.shown shows;
+  shown = shows_same (Kept net C) (Kept net (Contains e.set))
+      (λ c. ((λ (i, k). ((row_same e.set C row c).1 i, k)), λ (i, k). ((row_same e.set C row c).0 i, k))) e.shown shows;
 }
+
+-- where nothing is at the hole, all of a framed set is kept
+pub clear_kept : (net : ParserNetwork) (C : Config → Type 0) → IsFramed net C → ((c : Config) → C c → IsAtHole net c → ⊥)
+    → AreSame C (Kept net C)
+clear_kept net C framed clear c = ((λ i. (i, kept_of (framed.held c i) (clear c i))), λ i. i.0)
+  where
+    kept_of : IsHeld net c → (IsAtHole net c → ⊥) → IsKept net c
+    kept_of (inl kept) none = kept
+    kept_of (inr at) none = absurd (none at)
+
+-- sets with the same members show the same
+pub same_shown : (D E : Config → Type 0) → ((c : Config) → D c ↔ E c) → (shown : Shown) → Shows D shown → Shows E shown
+same_shown D E same shown shows = shows_same D E (λ c. ((same c).0, (same c).1)) shown shows
+
+-- there is a set for each number
+at_some : {X : Type 0} (xs : List X) (k : ℕ) → k < length xs → (x : X) × (slice_get xs k ≡ Some x)
+at_some [] k lt = absurd (omega (arith, lt))
+at_some (x ∷ xs) zero lt = (x, refl)
+at_some (x ∷ xs) (suc k) lt = at_some xs k (omega (arith, lt))
+
+-- a set that is made again from its row
+pub loaded_same : (m : Frames) (from : ℕ) (e : Frame) → slice_get m.sets.items from ≡ Some e → (S : Config → Type 0) → IsRow e.set S
+    → AreSame S (SetOf m from)
+loaded_same m from e at S is = subst (λ (o : Option Frame). AreSame S (Contains (row_by o))) (sym at)
+    (same_back (Contains e.set) S (row_same e.set S is))
 
 -- the start set over the alternatives that a level allows
 pub start_at : (net : ParserNetwork) (d level : ℕ) (allowed : Allowed) (C : Config → Type 0) → AreAllowedAt net d level (Allows allowed)
@@ -64,12 +89,8 @@ module _ (net : ParserNetwork) where
     λ (t, (c, i, is), reaches, held). (t, (c, (same c).1 i, is), reaches, held),
   )
 
-  -- A set S is made again from the row of the set of a number, and a step from it leads to the set D, which has a number too.
-  module _ (m : Frames) (from : ℕ) (row : List Config) (S D : Config → Type 0) (at : row_of m from ≡ row) (is : IsRow row S) where
-    -- it has the members of the set of that number
-    members : AreSame S (SetOf m from)
-    members = subst (λ (r : List Config). AreSame S (Contains r)) (sym at) (same_back (Contains row) S (row_same row S is))
-
+  -- A set S has the members of that of a number, and a step from it leads to the set D, which has a number too.
+  module _ (m : Frames) (from : ℕ) (S D : Config → Type 0) (members : AreSame S (SetOf m from)) where
     pub next_made : (a n : ℕ) → IsSet m n D → AreSame D (FramedNext net S a) → IsSet m n (FramedNext net (SetOf m from) a)
     next_made a n set made = (
       set.0,
@@ -85,10 +106,30 @@ module _ (net : ParserNetwork) where
           (same_then D (Lowered net S above) (Lowered net (SetOf m from) above) made (lowered_same S (SetOf m from) above members)),
     )
 
-  -- a set that is made again from a row that is right has bottoms, and is within the network
-  module _ (e : Frame) (right : IsRight net e) (S : Config → Type 0) (is : IsRow e.set S) where
-    pub loaded_framed : IsFramed net S
-    loaded_framed = framed_same net S (Contains e.set) (same_back (Contains e.set) S (row_same e.set S is)) right.framed
+  -- such a set has bottoms, and is within the network
+  module _ (m : Frames) (sound : IsSound net m) (from : ℕ) (there : IsNumber m from) (S : Config → Type 0)
+      (members : AreSame S (SetOf m from)) where
+    pub set_framed : IsFramed net S
+    set_framed =
+        let (e, is) = at_some m.sets.items from there in
+        framed_same net S (SetOf m from) members
+        (subst (λ (o : Option Frame). IsFramed net (Contains (row_by o))) (sym is) (sound.sets from e is).framed)
 
-    pub loaded_within : (c : Config) → S c → IsWithin net c
-    loaded_within c i = right.within c ((row_same e.set S is c).1 i)
+    pub set_within : (c : Config) → S c → IsWithin net c
+    set_within c i =
+        let (e, is) = at_some m.sets.items from there in
+        (sound.sets from e is).within c (subst (λ (o : Option Frame). Contains (row_by o) c) is ((members c).0 i))
+
+-- a set that stays under its number has its members
+pub still_same : (old new : Frames) (from : ℕ) (S : Config → Type 0) → row_of new from ≡ row_of old from → AreSame S (SetOf old from)
+    → AreSame S (SetOf new from)
+still_same old new from S same members = subst (λ (row : List Config). AreSame S (Contains row)) (sym same) members
+
+-- the set that is there, if it has the members of that of its number
+pub live_of : (m : Frames) (l : Live) (C : Config → Type 0) → IsSet m l.number C
+    → IfSome l.set (λ s. (c : Config) → Holds s c ↔ C c) → IsLive m l
+live_of m l C set same = by l.set same
+  where
+    by : (o : Option View) → IfSome o (λ s. (c : Config) → Holds s c ↔ C c) → IfSome o (λ s. IsSet m l.number (Holds s))
+    by None none = tt
+    by (Some s) to = (set.0, same_then (SetOf m l.number) C (Holds s) set.1 (λ c. ((to c).1, (to c).0)))

@@ -1,5 +1,6 @@
 -- Framed sets and the steps between them that are remembered, and when they are right.
-use Rattle.std.specs.Prelude.{◌≡◌, ◌<◌, ◌≤◌, ℕ, List, [], ◌∷◌, Option, Some, None, Contains, false, length, slice_get}
+use Rattle.std.specs.Prelude.{◌≡◌, ◌<◌, ◌≤◌, ℕ, List, [], ◌∷◌, Option, Some, None, Contains, IfSome, false, length, slice_get}
+use Rattle.g4_configs.specs.Configs.{Holds}
 use Rattle.g4_frames.specs.Framed.{FramedNext, FramedStart, IsAtHole, IsFramed, Kept, Lowered}
 use Rattle.g4_frames.specs.Running.{AreSame}
 use Rattle.g4_guards.specs.Levels.{AllowedAt}
@@ -8,6 +9,7 @@ use Rattle.g4_net.specs.Network.{ParserNetwork}
 use Rattle.g4_stacks.specs.Table.{Numbers, number_at}
 use Rattle.g4_full.specs.declared.frames.Frame.{Frame}
 use Rattle.g4_full.specs.declared.frames.Frames.{Frames}
+use Rattle.g4_full.specs.declared.live.Live.{Live}
 use Rattle.g4_full.specs.declared.look.Step.{Step}
 use Rattle.g4_full.specs.declared.look.Step.TheVariants as steps
 use Rattle.g4_full.specs.Settled.{Shows}
@@ -41,6 +43,10 @@ HasRow m n row = IsNumber m n × (row_of m n ≡ row)
 -- there is a set with this number, and it is the set F
 abbrev pub IsSet : Frames → ℕ → (Config → Type 0) → Type 0
 IsSet m n F = IsNumber m n × AreSame (SetOf m n) F
+
+-- the set that is there, if there is one, is that of its number
+abbrev pub IsLive : Frames → Live → Type 0
+IsLive m l = IfSome l.set (λ s. IsSet m l.number (Holds s))
 
 -- a table has for each of its keys the number of a set that is right for it
 abbrev pub AreNoted : Numbers → (ℕ → ℕ → ℕ → Type 0) → Type 0

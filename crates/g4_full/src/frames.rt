@@ -9,10 +9,16 @@ use std::alloc::{AllocError, Global};
 use std::collections::HashMap;
 
 /// The most sets that are remembered.
-const MOST_SETS: usize = 4_096;
+const MOST_SETS: usize = 24_576;
 
 /// The most steps that are remembered.
-const MOST_STEPS: usize = 65_536;
+const MOST_STEPS: usize = 196_608;
+
+/// Sets of more groups and steps than these are large: they take more than some 5 kilobytes.
+const LARGE: usize = 100;
+
+/// For how many small sets a large one counts: so there are at most 4,096 large ones.
+const COUNT_OF_LARGE: usize = 6;
 
 /// A framed set, and what is asked of it.
 #[derive(Drop)]
@@ -22,6 +28,10 @@ pub(crate) struct Frame {
     pub at_hole: bool,
     /// What is shown by what is kept of the set.
     pub shown: Shown,
+    /// By how many steps it was made from a decision's start.
+    pub depth: usize,
+    /// How many groups of configurations it has.
+    pub groups: usize,
     /// The number of an earlier set with the same code.
     pub earlier: Option<u32>,
 }
@@ -38,6 +48,17 @@ pub(crate) struct Frames {
     pub returns: HashMap<(u32, u32), u32>,
     /// For each code the number of the newest set with it.
     newest: HashMap<u64, u32>,
+    /// How many small sets there are, and large ones, each of which counts for more.
+    weight: usize,
+}
+
+/// For how many small sets a set counts. Its stacks grow with the steps by which it was made.
+fn weight_of(frame: &Frame) -> usize {
+    let size = frame
+        .groups
+        .saturating_add(frame.depth)
+        .saturating_add(frame.depth);
+    if size > LARGE { COUNT_OF_LARGE } else { 1 }
 }
 
 /// The number, where it is less than that other one.
@@ -61,6 +82,7 @@ impl Frames {
             symbols: HashMap::new(alloc),
             returns: HashMap::new(alloc),
             newest: HashMap::new(alloc),
+            weight: 0,
         }
     }
 
@@ -73,6 +95,7 @@ impl Frames {
         self.symbols.clear();
         self.returns.clear();
         self.newest.clear();
+        self.weight = 0;
     }
 
     /// Whether a step more may be remembered, with a set more.
@@ -81,7 +104,9 @@ impl Frames {
     {
         let starts = self.starts.len();
         let steps = self.symbols.len().saturating_add(self.returns.len());
-        self.sets.len() < MOST_SETS && starts.saturating_add(steps) < MOST_STEPS
+        self.sets.len() < MOST_SETS
+            && starts.saturating_add(steps) < MOST_STEPS
+            && self.weight < MOST_SETS
     }
 
     /// The number of the set with these configurations, which have this code.
@@ -114,6 +139,7 @@ impl Frames {
         let number = self.sets.len() as u32;
         self.sets.reserve(1)?;
         self.newest.insert(code, number)?;
+        self.weight = self.weight.saturating_add(weight_of(&frame));
         self.sets.push_reserved(frame);
         Ok(number)
     }

@@ -2,8 +2,10 @@
 // full stacks is that over single stacks, which is the least allowed alternative that fits. Steps of framed sets are remembered.
 #![tactic(auto)]
 
+mod ask;
 mod frames;
 mod full;
+mod live;
 mod look;
 mod lowering;
 mod make;

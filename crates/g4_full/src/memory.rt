@@ -11,6 +11,7 @@ ghost use Rattle.g4_tokens.specs.TokenList.{word_of};
 
 use crate::frames::Frames;
 use crate::full::{Settled, settle_at};
+use crate::live::Live;
 use g4_learned::DecisionNet;
 use g4_net::ParserNetwork;
 use g4_store::view::Home;
@@ -71,10 +72,11 @@ impl<B: Home<DecisionNet>> Memory<B> {
         ensures { IfOk result (λ settled. Full net.now decision (AllowedAt net.now decision level) (above_bottom (reverse returns.now))
             (word_of tokens.now) (choice_of settled)) }
     {
+        let mut live = Live::none();
         for _ in 0..MOST_MADE {
             match self.frames.look::<B>(decision, level, returns, tokens) {
                 Ok(settled) => return Ok(settled),
-                Err(step) => self.frames.make(alloc, net, step)?,
+                Err(step) => live = self.frames.make(alloc, net, step, live)?,
             }
         }
         let settled = settle_at(alloc, net, decision, level, returns, tokens)?;

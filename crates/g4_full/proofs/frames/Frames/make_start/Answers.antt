@@ -18,15 +18,15 @@ number_of-requires-clause-framed c = framed_same c.args.net.now (Holds c.in_ok-s
 pub returns : goal.returns
 returns c =
     let mid = c.number_of.new.self in
-    let sound = c.in_ok-number.ensures.sound in
-    let number = c.in_ok-number.ensures.number in
+    let sound = c.in_ok-made.ensures.sound in
+    let number = c.in_ok-made.ensures.number in
     record {
       sound = record {
         sets = sound.sets;
         starts = noted_more (IsStart c.args.net.now mid) mid.starts.entries c.insert.new.self.entries c.args.decision c.args.level
-            c.in_ok-number.number sound.starts (
+            c.in_ok-made.made.number sound.starts (
               number.0,
-              same_then (SetOf mid c.in_ok-number.number) (Holds c.in_ok-start.start)
+              same_then (SetOf mid c.in_ok-made.made.number) (Holds c.in_ok-start.start)
                   (FramedStart c.args.net.now c.args.decision (AllowedAt c.args.net.now c.args.decision c.args.level)) number.1
                   (start_at c.args.net.now c.args.decision c.args.level c.in_ok-allowed.allowed (Holds c.in_ok-start.start)
                   c.in_ok-allowed.ensures c.in_ok-start.ensures.members),
@@ -35,12 +35,13 @@ returns c =
         symbols = sound.symbols;
         returns = sound.returns;
       };
+      live = c.in_ok-made.ensures.live;
     }
 
 pub returns-in_err-insert : goal.returns-in_err-insert
 returns-in_err-insert c =
     let mid = c.number_of.new.self in
-    let sound = c.in_ok-number.ensures.sound in
+    let sound = c.in_ok-made.ensures.sound in
     let same : c.insert.new.self.entries ≡ mid.starts.entries = search rules in
     record {
       sound = record {
@@ -49,4 +50,5 @@ returns-in_err-insert c =
         symbols = sound.symbols;
         returns = sound.returns;
       };
+      live = search rules;
     }
