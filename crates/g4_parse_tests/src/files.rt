@@ -363,3 +363,65 @@ fn full_stacks_that_look_far(rt: HostRuntime) -> Result<(), Fail> {
     assert!(rt; found.as_str().starts_with(wanted.as_str()));
     Ok(())
 }
+
+/// The rules of one kind of parts in a grammar that needs the parser's stack: so many letters are looked at.
+fn push_kind(grammar: &mut String, kind: usize, letters: usize) -> Result<(), Fail> {
+    write!(
+        grammar,
+        " t{kind} : 'x' a{kind} l{kind} 'c' | 'y' a{kind} ('b' l{kind} 'c' | l{kind} 'd') ;"
+    )?;
+    write!(grammar, " a{kind} : 'b' | ; l{kind} :")?;
+    for _ in 0..letters {
+        grammar.push_str(" 'l'")?;
+    }
+    grammar.push_str(" ;")?;
+    Ok(())
+}
+
+/// A grammar with so many kinds of parts, each with a number before it.
+fn push_kinds(grammar: &mut String, kinds: usize, letters: usize) -> Result<(), Fail> {
+    grammar.push_str("grammar X; s : ('n' t")?;
+    for kind in 0..kinds {
+        write!(grammar, " | 'n{kind}' t{kind}")?;
+    }
+    grammar.push_str(")* ; t : 'z' ;")?;
+    for kind in 0..kinds {
+        push_kind(grammar, kind, letters)?;
+    }
+    Ok(())
+}
+
+/// A part of this kind, and its tree.
+fn push_part_of_kind(
+    text: &mut String,
+    wanted: &mut String,
+    kind: usize,
+    letters: usize,
+) -> Result<(), Fail> {
+    write!(text, "n{kind}")?;
+    push_part(text, 'y', letters, 'c')?;
+    write!(wanted, " n{kind} (t{kind} y a{kind} b (l{kind}")?;
+    for _ in 0..letters {
+        wanted.push_str(" l")?;
+    }
+    wanted.push_str(") c)")?;
+    Ok(())
+}
+
+#[test]
+fn more_sets_than_are_remembered(rt: HostRuntime) -> Result<(), Fail> {
+    let alloc = rt.alloc();
+    let (kinds, letters) = (90, 110);
+    let mut grammar = String::new(alloc);
+    push_kinds(&mut grammar, kinds, letters)?;
+    let mut text = String::new(alloc);
+    let mut wanted = String::new(alloc);
+    wanted.push_str("(s")?;
+    for part in 0..3 * kinds {
+        push_part_of_kind(&mut text, &mut wanted, part % kinds, letters)?;
+    }
+    wanted.push_str(")")?;
+    let found = parsed_with(&rt, alloc, grammar.as_str(), 1_024, text.as_str())?;
+    assert!(rt; found.as_str().starts_with(wanted.as_str()));
+    Ok(())
+}
