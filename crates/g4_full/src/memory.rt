@@ -20,7 +20,7 @@ use std::alloc::{AllocError, Global};
 use std::marker::{Model, PhantomData};
 
 /// The most steps that are made for one question. Where it needs more, it is settled without the memory.
-const MOST_MADE: usize = 64;
+const MOST_MADE: usize = 16;
 
 /// Framed sets and the steps between them, as they were made for the questions before, up to a bounded number. It holds for one network
 /// alone, which contracts see. What it answers does not depend on what it remembers.
