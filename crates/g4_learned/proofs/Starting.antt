@@ -12,6 +12,9 @@ use Rattle.g4_learned.specs.Tables.{AreKeys, AreStarts, HasFewAlternatives, keys
 use Rattle.g4_learned.proofs.Guarding.{guard_at, level_fits}
 use Rattle.g4_learned.proofs.Placing.{IsKeyAt, before, count_keys, get_cases, get_left, get_right, high_at, key_at, key_from, keys_more, length_keys, low_at, places_more, rising, total}
 
+cases_le : (m n : ℕ) → (m ≤ n) ⊎ (n < m)
+cases_le m n = grind arith
+
 -- what is read at a place is in the list
 read_in : (ls : List ℕ) (m l : ℕ) → slice_get ls m ≡ Some l → Contains ls l
 read_in ls m l at = (m, slice_get_within ls m l at, get_or_from_slice_get ls m l l at)
@@ -92,35 +95,6 @@ module _ (net : ParserNetwork) (first : List ℕ) (keys : List (ℕ × ℕ)) (k 
 
   key_is : (i d l : ℕ) → slice_get keys i ≡ Some (d, l) → IsKeyAt k.all 0 i d l
   key_is i d l at = key_from k.all 0 i d l (subst (λ (ks : List (ℕ × ℕ)). slice_get ks i ≡ Some (d, l)) k.are at)
-
-  -- one start for each decision and each of its guards
-  pub are_starts : AreStarts net keys
-  are_starts = record {
-    guards = λ i d guard at.
-        let a = key_is i d guard at in
-        let h = levels_at i d guard a in
-        let c = read_in a.levels a.place guard a.at in (
-          (h.targets, h.at),
-          guard_at net d h.targets a.levels h.at h.are guard guard (level_fits net d h.targets a.levels h.at h.are guard c) c
-              (omega arith) (λ l has le. le),
-        );
-    once = λ i j d guard at at'.
-        let a = key_is i d guard at in
-        let b = key_is j d guard at' in
-        let h = levels_at i d guard a in
-        let g = levels_at j d guard b in
-        let same : a.levels ≡ b.levels = let x = h.has in let y = g.has in cc in
-        let placed : slice_get a.levels b.place ≡ Some guard =
-        subst (λ (xs : List ℕ). slice_get xs b.place ≡ Some guard) (sym same) b.at in
-        let place = one_place a.levels a.place b.place guard h.are.rising a.at placed in
-        let s = a.is_state in
-        let s' = b.is_state in
-        let state : a.state ≡ b.state = omega (arith, s, s') in
-        let p = a.is_place in
-        let q = b.is_place in
-        let f = ap (before k.all) state in
-        omega (arith, p, q, f, place);
-  }
 
   -- few alternatives
   pub are_few : HasFewAlternatives net
@@ -236,6 +210,65 @@ module _ (net : ParserNetwork) (first : List ℕ) (keys : List (ℕ × ℕ)) (k 
                 let up' : slice_index levels (m + 1) ≤ slice_index levels n =
                 subst (λ (y : ℕ). slice_index levels (m + 1) ≤ slice_index levels y) h up in
                 absurd (omega (arith, over', up', is_x, x_le))
+
+    -- from a place of the range on, whose level is not above, there is the last such place
+    last_from : (k at level : ℕ) → level < 2 ^ 32 → low ≤ at → at + suc k ≡ low + length levels → (get_or keys at (0, 0)).1 ≤ level
+        → (i guard : ℕ) × (slice_get keys i ≡ Some (d, guard)) × IsGuard net d level guard
+    last_from zero at level fits from to le =
+        let inside : at < low + length levels = omega (arith, to) in
+        let found = found_guard at level fits from inside le (λ more. absurd (omega (arith, to, more))) in
+        (at, found.0, found.1, found.2)
+    last_from (suc k) at level fits from to le =
+        by (last_from k (at + 1) level fits (omega (arith, from)) (omega (arith, to))) (cases_le next level)
+      where
+        next : ℕ
+        next = (get_or keys (at + 1) (0, 0)).1
+
+        by : (next ≤ level → (i guard : ℕ) × (slice_get keys i ≡ Some (d, guard)) × IsGuard net d level guard)
+            → (next ≤ level) ⊎ (level < next) → (i guard : ℕ) × (slice_get keys i ≡ Some (d, guard)) × IsGuard net d level guard
+        by on (inl more) = on more
+        by on (inr above) =
+            let found = found_guard at level fits from (omega (arith, to)) le (λ _. above) in (at, found.0, found.1, found.2)
+
+    pub start_there : (level : ℕ) → level < 2 ^ 32 → (i guard : ℕ) × (slice_get keys i ≡ Some (d, guard)) × IsGuard net d level guard
+    start_there level fits =
+        let some = r.some in
+        last_from (length levels - 1) low level fits (omega arith) (omega (arith, some)) (omega (arith, first_none))
+
+  -- one start for each decision and each of its guards
+  pub are_starts : AreStarts net keys
+  are_starts = record {
+    there = λ d level decides fits. let range = range_of d decides in
+        start_there d range.0 range.1 range.2 range.3 level fits;
+    guards = λ i d guard at.
+        let a = key_is i d guard at in
+        let h = levels_at i d guard a in
+        let c = read_in a.levels a.place guard a.at in (
+          (h.targets, h.at),
+          guard_at net d h.targets a.levels h.at h.are guard guard (level_fits net d h.targets a.levels h.at h.are guard c) c
+              (omega arith) (λ l has le. le),
+        );
+    fits = λ i d guard at.
+        let a = key_is i d guard at in
+        let h = levels_at i d guard a in
+        level_fits net d h.targets a.levels h.at h.are guard (read_in a.levels a.place guard a.at);
+    once = λ i j d guard at at'.
+        let a = key_is i d guard at in
+        let b = key_is j d guard at' in
+        let h = levels_at i d guard a in
+        let g = levels_at j d guard b in
+        let same : a.levels ≡ b.levels = let x = h.has in let y = g.has in cc in
+        let placed : slice_get a.levels b.place ≡ Some guard =
+        subst (λ (xs : List ℕ). slice_get xs b.place ≡ Some guard) (sym same) b.at in
+        let place = one_place a.levels a.place b.place guard h.are.rising a.at placed in
+        let s = a.is_state in
+        let s' = b.is_state in
+        let state : a.state ≡ b.state = omega (arith, s, s') in
+        let p = a.is_place in
+        let q = b.is_place in
+        let f = ap (before k.all) state in
+        omega (arith, p, q, f, place);
+  }
 
 -- at first there is no state
 pub keys_none : (net : ParserNetwork) (first : List ℕ) (keys : List (ℕ × ℕ)) → first ≡ 0 ∷ [] → keys ≡ [] → AreKeys net [] first keys

@@ -1,5 +1,5 @@
 -- A network with its columns and starts, which a decision looks up.
-use Rattle.std.specs.Prelude.{◌≡◌, ◌≤◌, ℕ, suc, ◌+◌, List, [], ◌∷◌, ◌++◌, Some, length, map, slice_get, slice_index_or}
+use Rattle.std.specs.Prelude.{◌≡◌, ◌≤◌, ◌<◌, ℕ, suc, ◌+◌, ◌^◌, List, [], ◌∷◌, ◌++◌, Some, length, map, slice_get, slice_index_or}
 use Rattle.g4_net.specs.declared.network.State.{State}
 use Rattle.g4_net.specs.declared.network.State.TheVariants.{Decision}
 use Rattle.g4_net.specs.Network.{ParserNetwork, state_at}
@@ -23,9 +23,12 @@ column_of t a = column_in t.columns a
 abbrev pub IsStartOf : Tables → ℕ → ℕ → ℕ → Type 0
 IsStartOf t d level i = (guard : ℕ) × (slice_get t.starts i ≡ Some (d, guard)) × IsGuard t.net d level guard
 
--- One start for each decision and each of its guards.
+-- One start for each decision and each of its guards: that of each level of 32 bits is there.
 pub record AreStarts (net : ParserNetwork) (starts : List (ℕ × ℕ)) : Type 0 where
+  pub there : (d level : ℕ) → IsDecision net d → level < 2 ^ 32
+      → (i guard : ℕ) × (slice_get starts i ≡ Some (d, guard)) × IsGuard net d level guard
   pub guards : (i d guard : ℕ) → slice_get starts i ≡ Some (d, guard) → IsDecision net d × IsGuard net d guard guard
+  pub fits : (i d guard : ℕ) → slice_get starts i ≡ Some (d, guard) → guard < 2 ^ 32
   pub once : (i j d guard : ℕ) → slice_get starts i ≡ Some (d, guard) → slice_get starts j ≡ Some (d, guard) → i ≡ j
 
 -- the decisions have no more alternatives than a code can name

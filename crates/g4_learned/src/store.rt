@@ -177,7 +177,7 @@ impl<B: Home<DecisionNet>> Store<B> {
 
     /// Closes the store. The Listing's memory is taken first, so where there is none both come back.
     pub fn close(self, alloc: Global, pass: Pass<B>) -> Result<Learnings, (Store<B>, Pass<B>)>
-        ensures plan { IfOk result (λ l. l.plan ≡ B.plan) }
+        ensures plan { IfOk result (λ l. (l.plan ≡ B.plan) × IsPlan B.plan) }
         ensures closes { IfOk result (λ l. Closes StartsAt LeadsTo B.plan pass.0 l.words.items l.rows.items) }
         ensures back { IfErr result (λ r. r.1 ≡ pass) }
     {
