@@ -7,5 +7,5 @@ mod run;
 mod work;
 mod worker;
 
-pub use run::run_all;
+pub use run::{Finished, run_all};
 pub use work::Work;

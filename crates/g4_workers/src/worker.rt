@@ -1,6 +1,6 @@
 // A worker, and what it does.
 ghost use Rattle.std.specs.Prelude.{◌≡◌, All, length};
-ghost use Rattle.g4_workers.specs.Placing.{AreOutcomesOf, IsReady};
+ghost use Rattle.g4_workers.specs.Placing.{IsReady, numbers_of};
 
 use crate::work::Work;
 use g4_hands::Hand;
@@ -21,21 +21,42 @@ pub struct Worker<S, O> {
     pub hand: Hand,
     pub state: S,
     pub outcomes: Vec<Numbered<O>>,
+    /// Whether there was no memory for an outcome.
+    pub lost: bool,
+}
+
+/// Works on the next file. Whether there was one, and memory for its outcome.
+fn work_on_next<R: Wait, S, O: Drop, W: Work<S, O>>(
+    rt: &R,
+    work: &W,
+    worker: &mut Worker<S, O>,
+) -> bool
+    requires { IsReady (W.has_done work.now) (W.files work.now) (W.is_outcome work.now) worker.old }
+    ensures ready { IsReady (W.has_done work.now) (W.files work.now) (W.is_outcome work.now) worker.new }
+    ensures number { worker.new.number ≡ worker.old.number }
+{
+    let Some(file) = worker.hand.take(rt) else {
+        return false;
+    };
+    let Ok(outcome) = work.run(&mut worker.state, worker.number, file) else {
+        worker.lost = true;
+        return false;
+    };
+    if worker.outcomes.push(Numbered { file, outcome }).is_err() {
+        worker.lost = true;
+        return false;
+    }
+    true
 }
 
 /// Works on files until there are none, or until there is no memory for one.
 fn work_through<R: Wait, S, O: Drop, W: Work<S, O>>(rt: &R, work: &W, worker: &mut Worker<S, O>)
-    requires { IsReady (W.files work.now) (W.is_outcome work.now) worker.old }
-    ensures { IsReady (W.files work.now) (W.is_outcome work.now) worker.new }
+    requires { IsReady (W.has_done work.now) (W.files work.now) (W.is_outcome work.now) worker.old }
+    ensures ready { IsReady (W.has_done work.now) (W.files work.now) (W.is_outcome work.now) worker.new }
+    ensures number { worker.new.number ≡ worker.old.number }
 {
     for _ in rt.forever() {
-        let Some(file) = worker.hand.take(rt) else {
-            break;
-        };
-        let Ok(outcome) = work.run(&mut worker.state, worker.number, file) else {
-            break;
-        };
-        if worker.outcomes.push(Numbered { file, outcome }).is_err() {
+        if !work_on_next(rt, work, worker) {
             break;
         }
     }
@@ -47,9 +68,10 @@ pub fn work_together<R: Threads + Wait + Sync, S: Send, O: Drop + Send, W: Work<
     work: &W,
     workers: &mut [Worker<S, O>],
 )
-    requires { All (IsReady (W.files work.now) (W.is_outcome work.now)) workers.old }
+    requires { All (IsReady (W.has_done work.now) (W.files work.now) (W.is_outcome work.now)) workers.old }
     ensures long { length workers.new ≡ length workers.old }
-    ensures ready { All (IsReady (W.files work.now) (W.is_outcome work.now)) workers.new }
+    ensures ready { All (IsReady (W.has_done work.now) (W.files work.now) (W.is_outcome work.now)) workers.new }
+    ensures numbers { numbers_of workers.new ≡ numbers_of workers.old }
 {
     let threads = workers.len() + 1;
     for_each_mut(
@@ -57,8 +79,9 @@ pub fn work_together<R: Threads + Wait + Sync, S: Send, O: Drop + Send, W: Work<
         workers,
         threads,
         &|_, worker: &mut Worker<S, O>|
-            requires { IsReady (W.files work.now) (W.is_outcome work.now) worker.now }
-            ensures { IsReady (W.files work.entry.now) (W.is_outcome work.entry.now) worker.exit.now }
+            requires { IsReady (W.has_done work.now) (W.files work.now) (W.is_outcome work.now) worker.now }
+            ensures { IsReady (W.has_done work.entry.now) (W.files work.entry.now) (W.is_outcome work.entry.now) worker.exit.now
+                × (worker.exit.now.number ≡ worker.entry.now.number) }
         { work_through(rt, work, worker) },
     );
 }
