@@ -1,3 +1,4 @@
 mod Apart
 mod Meant
 pub mod OneOutcome
+pub mod Taught

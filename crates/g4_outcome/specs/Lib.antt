@@ -4,4 +4,5 @@ pub mod Inputs
 pub mod Meaning
 pub mod Outcomes
 pub mod Reported
+pub mod Taught
 pub mod Texts

@@ -4,6 +4,7 @@ ghost use Rattle.g4_load.specs.Usable.{IsUsable};
 ghost use Rattle.g4_outcome.specs.Grammars.{with_net};
 ghost use Rattle.g4_outcome.specs.Inputs.{IsSmall};
 ghost use Rattle.g4_outcome.specs.Reported.{IsFileReport};
+ghost use Rattle.g4_outcome.specs.Taught.{HasTaught};
 
 use crate::grammar::Grammar;
 use crate::input::Input;
@@ -26,7 +27,8 @@ pub struct FileReport {
     pub accepted: bool,
 }
 
-/// What is reported of a file of this name. Its tokens and its tree are given back as soon as its lines are made.
+/// What is reported of a file of this name. Its tokens and its tree are given back as soon as its lines are made. What SLL looks at in the
+/// run over its tokens is learned then, as far as the store has room.
 ///
 /// # Errors
 /// No memory.
@@ -44,7 +46,8 @@ pub fn report_file<B: Home<DecisionNet>, R: Wait, L: Ledger>(
 ) -> Result<FileReport, AllocError>
     requires usable { IsUsable (with_net grammar.now B.plan.net.net) }
     requires small { IsSmall input }
-    ensures { IfOk result (IsFileReport output (with_net grammar.now B.plan.net.net) name.now input) }
+    ensures report { IfOk result (IsFileReport output (with_net grammar.now B.plan.net.net) name.now input) }
+    ensures taught { IfOk result (λ _. HasTaught B.plan (with_net grammar.now B.plan.net.net) input pass.old pass.new) }
 {
     let outcome = outcome_of(rt, alloc, grammar, store, pass, memory, input, steps)?;
     let net = store.net().net();

@@ -5,6 +5,7 @@ ghost use Rattle.g4_outcome.specs.Grammars.{with_net};
 ghost use Rattle.g4_outcome.specs.Inputs.{IsSmall};
 ghost use Rattle.g4_outcome.specs.Meaning.{IsMeantAnywhere};
 ghost use Rattle.g4_outcome.specs.Outcomes.{IsNested, IsOutcome, is_accepted, lexing_refused, parsing_refused};
+ghost use Rattle.g4_outcome.specs.Taught.{HasTaught};
 
 use crate::grammar::Grammar;
 use crate::input::Input;
@@ -69,6 +70,7 @@ fn outcome_of_bytes<B: Home<DecisionNet>, R: Wait, L: Ledger>(
     ensures outcome { IfOk result (IsOutcome (with_net grammar.now B.plan.net.net) (Input.Bytes bytes)) }
     ensures nested { IfOk result IsNested }
     ensures meant { IfOk result (IsMeantAnywhere (with_net grammar.now B.plan.net.net)) }
+    ensures taught { IfOk result (λ _. HasTaught B.plan (with_net grammar.now B.plan.net.net) (Input.Bytes bytes) pass.old pass.new) }
 {
     let tokens = match tokens(alloc, &grammar.lexer, bytes) {
         Ok(tokens) => tokens,
@@ -114,6 +116,7 @@ pub fn outcome_of<B: Home<DecisionNet>, R: Wait, L: Ledger>(
     ensures outcome { IfOk result (IsOutcome (with_net grammar.now B.plan.net.net) input) }
     ensures nested { IfOk result IsNested }
     ensures meant { IfOk result (IsMeantAnywhere (with_net grammar.now B.plan.net.net)) }
+    ensures taught { IfOk result (λ _. HasTaught B.plan (with_net grammar.now B.plan.net.net) input pass.old pass.new) }
 {
     match input {
         Input::Bytes(bytes) => outcome_of_bytes(

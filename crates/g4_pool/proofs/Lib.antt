@@ -1,2 +1,5 @@
+mod Begun
+mod Done
+mod Learned
 mod Reported
 mod Shared

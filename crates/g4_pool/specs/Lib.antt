@@ -1,2 +1,4 @@
--- Other crates cite Files.
+-- Other crates cite Files, Learned.
+pub mod Done
 pub mod Files
+pub mod Learned

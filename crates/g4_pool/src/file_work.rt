@@ -4,6 +4,7 @@ ghost use Rattle.g4_load.specs.Usable.{IsUsable};
 ghost use Rattle.g4_outcome.specs.Grammars.{with_net};
 ghost use Rattle.g4_outcome.specs.Inputs.{IsSmall};
 ghost use Rattle.g4_outcome.specs.Reported.{IsFileReport};
+ghost use Rattle.g4_outcome.specs.Taught.{HasTaught};
 
 use crate::copies::copy_input;
 use crate::worker_state::WorkerState;
@@ -31,6 +32,8 @@ pub struct FileWork<'a, B: Home<DecisionNet>, R, G> {
     pub names: &'a [Text],
     pub inputs: &'a [Input],
     pub gate: &'a G,
+    /// How many workers there are beside the caller.
+    pub jobs: u32,
 }
 
 impl<'a, B: Home<DecisionNet>, R, G> Model for FileWork<'a, B, R, G> {
@@ -38,15 +41,15 @@ impl<'a, B: Home<DecisionNet>, R, G> Model for FileWork<'a, B, R, G> {
     ghost use Rattle.g4_load.specs.Usable.{IsUsable};
     ghost use Rattle.g4_outcome.specs.Grammars.{with_net};
     ghost use Rattle.g4_outcome.specs.Inputs.{IsSmall};
-    ghost use Rattle.g4_pool.specs.Files.{Files, files_of};
+    ghost use Rattle.g4_pool.specs.Files.{Pooled, files_of, pooled};
     ghost use Rattle.g4_source.specs.Marks.{elements_code};
     ghost use Rattle.std.specs.Coded.{codes};
 
-    ghost Value = { Files };
+    ghost Value = { Pooled };
 
     ghost coded = { Prim.hlevel (codes, elements_code) };
 
-    ghost view = { λ w. files_of w.output (with_net w.grammar.now B.plan.net.net) w.names.now w.inputs.now };
+    ghost view = { λ w. pooled (files_of w.output (with_net w.grammar.now B.plan.net.net) w.names.now w.inputs.now) w.jobs };
 
     ghost invariant = { λ w. IsUsable (with_net w.grammar.now B.plan.net.net) × All IsSmall w.inputs.now
         × (length w.names.now ≡ length w.inputs.now) };
@@ -67,7 +70,8 @@ fn report_counted<B: Home<DecisionNet>, R: Wait, L: Ledger>(
     requires ledger { (blank.name ≡ L.name) × (blank.parts ≡ L.parts) × (0 < blank.parts) }
     requires usable { IsUsable (with_net grammar.now B.plan.net.net) }
     requires small { IsSmall input }
-    ensures { IfOk result (IsFileReport output (with_net grammar.now B.plan.net.net) name.now input) }
+    ensures report { IfOk result (IsFileReport output (with_net grammar.now B.plan.net.net) name.now input) }
+    ensures taught { IfOk result (λ _. HasTaught B.plan (with_net grammar.now B.plan.net.net) input state.old.pass state.new.pass) }
 {
     let mut steps = Steps::<L>::open(blank);
     report_file(
@@ -97,7 +101,8 @@ fn report_one<B: Home<DecisionNet>, R: Wait>(
 ) -> Result<FileReport, AllocError>
     requires usable { IsUsable (with_net grammar.now B.plan.net.net) }
     requires small { IsSmall input }
-    ensures { IfOk result (IsFileReport output (with_net grammar.now B.plan.net.net) name.now input) }
+    ensures report { IfOk result (IsFileReport output (with_net grammar.now B.plan.net.net) name.now input) }
+    ensures taught { IfOk result (λ _. HasTaught B.plan (with_net grammar.now B.plan.net.net) input state.old.pass state.new.pass) }
 {
     report_counted::<B, R, Brand>(
         rt,
@@ -117,11 +122,14 @@ impl<'a, B: Home<DecisionNet> + Send + Sync, R: Wait + Sync, G: Gate> Work<
     FileReport,
 > for FileWork<'a, B, R, G> {
     ghost use Rattle.std.specs.Prelude.{length};
+    ghost use Rattle.g4_pool.specs.Done.{HasDone};
     ghost use Rattle.g4_pool.specs.Files.{IsReportAt};
 
-    ghost files = { λ files. length files.inputs };
+    ghost files = { λ work. length work.files.inputs };
 
-    ghost is_outcome = { IsReportAt };
+    ghost is_outcome = { λ work. IsReportAt work.files };
+
+    ghost has_done = { λ work numbers done state. HasDone B.plan work.files work.jobs numbers done state.pass };
 
     fn run(
         &self,
@@ -144,5 +152,10 @@ impl<'a, B: Home<DecisionNet> + Send + Sync, R: Wait + Sync, G: Gate> Work<
         );
         self.gate.leave(worker, file);
         report
+    }
+
+    fn join(&self, state: &mut WorkerState<B>, other: WorkerState<B>) {
+        let WorkerState { pass, .. } = other;
+        self.store.meet(&mut state.pass, pass);
     }
 }

@@ -3,8 +3,8 @@ ghost use Rattle.std.specs.Prelude.{◌≡◌, ◌<◌, ◌≤◌, All, IfOk, le
 ghost use Rattle.g4_load.specs.Usable.{IsUsable};
 ghost use Rattle.g4_outcome.specs.Grammars.{with_net};
 ghost use Rattle.g4_outcome.specs.Inputs.{IsSmall};
-ghost use Rattle.g4_pool.specs.Files.{AreReports, files_of};
-ghost use Rattle.g4_store.specs.Numbers.{has};
+ghost use Rattle.g4_pool.specs.Files.{AreReports, files_of, first_pass};
+ghost use Rattle.g4_pool.specs.Learned.{HasLearned};
 
 use crate::file_work::FileWork;
 use crate::worker_state::{WorkerState, new_states};
@@ -14,7 +14,7 @@ use g4_outcome::{FileReport, Grammar, Input};
 use g4_ports::Gate;
 use g4_store::view::Home;
 use g4_words::Output;
-use g4_workers::run_all;
+use g4_workers::{Finished, run_all};
 use std::alloc::{AllocError, Global};
 use std::sync::Wait;
 use std::thread::Threads;
@@ -22,7 +22,7 @@ use std::thread::Threads;
 /// What is reported of each file, in the order of the files, by so many workers at once. Each has a copy of the caller's pass, and what one
 /// has learned serves the others. It makes no difference to a report which worker parsed the file, nor what others had learned then. A
 /// worker enters and leaves the gate once for each file that it parses. What no worker came to, for want
-/// of memory, is parsed by the caller.
+/// of memory, is parsed by the caller. In the end the caller's pass has what all have learned, unless a worker had no memory for a report.
 ///
 /// # Errors
 /// No memory.
@@ -37,15 +37,17 @@ pub fn parse_all<B: Home<DecisionNet> + Send + Sync, R: Threads + Wait + Sync, G
     inputs: &[Input],
     jobs: u32,
     gate: &G,
-) -> Result<Vec<FileReport>, AllocError>
-    requires leads { has 0 state.old.pass.0.holds ≡ true }
+) -> Result<Finished<FileReport>, AllocError>
+    requires first { state.old.pass ≡ first_pass 1 }
     requires usable { IsUsable (with_net grammar.now B.plan.net.net) }
     requires small { All IsSmall inputs.now }
     requires paired { length names.now ≡ length inputs.now }
     requires few { length inputs.now ≤ 4096 }
     requires jobs { (0 < jobs) × (jobs ≤ 64) }
-    ensures { IfOk result (λ reports.
-        AreReports (files_of output (with_net grammar.now B.plan.net.net) names.now inputs.now) reports.items) }
+    ensures reports { IfOk result (λ r.
+        AreReports (files_of output (with_net grammar.now B.plan.net.net) names.now inputs.now) r.outcomes.items) }
+    ensures learned { IfOk result (λ r. r.complete ≡ true
+        → HasLearned B.plan (files_of output (with_net grammar.now B.plan.net.net) names.now inputs.now) state.new.pass) }
 {
     let states = new_states(alloc, store, &mut state.pass, jobs)?;
     let files = inputs.len() as u32;
@@ -58,7 +60,8 @@ pub fn parse_all<B: Home<DecisionNet> + Send + Sync, R: Threads + Wait + Sync, G
         names,
         inputs,
         gate,
+        jobs,
     };
-    let (reports, _) = run_all(rt, alloc, &work, files, state, states)?;
-    Ok(reports)
+    let finished = run_all(rt, alloc, &work, files, state, states)?;
+    Ok(finished)
 }

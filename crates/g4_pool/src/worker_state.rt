@@ -1,6 +1,6 @@
 // What a worker has of its own.
-ghost use Rattle.std.specs.Prelude.{◌≡◌, IfOk, length, true};
-ghost use Rattle.g4_store.specs.Numbers.{has};
+ghost use Rattle.std.specs.Prelude.{◌≡◌, ◌+◌, ℕ, IfOk, length, map};
+ghost use Rattle.g4_pool.specs.Files.{copy_of, first_copies, first_pass};
 
 use g4_full::Memory;
 use g4_learned::{DecisionNet, Pass, Store};
@@ -16,21 +16,24 @@ pub struct WorkerState<B: Home<DecisionNet>> {
 
 /// A pass that has seen as much as this one, which goes on to lead.
 fn copy_pass<B: Home<DecisionNet>>(store: &Store<B>, pass: &mut Pass<B>) -> Pass<B>
-    requires { has 0 pass.old.0.holds ≡ true }
-    ensures { has 0 pass.new.0.holds ≡ true }
+    requires { (n : ℕ) × (pass.old ≡ first_pass n) }
+    ensures copy { (n : ℕ) → pass.old ≡ first_pass n → result ≡ copy_of n }
+    ensures leads { (n : ℕ) → pass.old ≡ first_pass n → pass.new ≡ first_pass (n + 1) }
 {
     store.copy_pass(pass)
 }
 
-/// So many states, whose passes have seen as much as this one, and which remember nothing.
+/// So many states, whose passes are the first copies of this one, and which remember nothing.
 pub fn new_states<B: Home<DecisionNet>>(
     alloc: Global,
     store: &Store<B>,
     pass: &mut Pass<B>,
     jobs: u32,
 ) -> Result<Vec<WorkerState<B>>, AllocError>
-    requires leads { has 0 pass.old.0.holds ≡ true }
-    ensures { IfOk result (λ states. length states.items ≡ jobs) }
+    requires first { pass.old ≡ first_pass 1 }
+    ensures long { IfOk result (λ states. length states.items ≡ jobs) }
+    ensures copies { IfOk result (λ states. map (λ s. s.pass) states.items ≡ first_copies jobs) }
+    ensures leads { IfOk result (λ _. pass.new ≡ first_pass (jobs + 1)) }
 {
     let mut states = Vec::new(alloc);
     for _ in 0..jobs {

@@ -5,6 +5,8 @@ use Rattle.g4_tokens.specs.TokenList.{word_of}
 use Rattle.g4_parse.specs.Parsing.{IsParse}
 use Rattle.g4_outcome.specs.Grammars.{with_net}
 use Rattle.g4_outcome.specs.Outcomes.{not_lexed, not_parsed, parsed}
+use Rattle.g4_parse.specs.Teaching.{IsPassed, IsTaught}
+use Rattle.g4_outcome.proofs.Taught.{had_memory, lexed_taught, unlexed_taught}
 use Rattle.g4_outcome.proofs.Meant.{fault_meant, tree_meant}
 use Rattle.g4_outcome.proofs.Apart.{lexed_apart, parsed_apart}
 use Rattle.g4_outcome.proofs.outcome.outcome_of_bytes.Goals as goal
@@ -48,3 +50,25 @@ returns-else-parsing_refused-clause-meant g c =
 pub parse-requires-clause-symbols : goal.parse-requires-clause-symbols
 parse-requires-clause-symbols g c =
     subst (λ (ts : List Token). All IsSymbol (word_of ts)) (sym c.as_slice.ensures) (c.in-Ok.ensures.symbols c.requires.usable.types)
+
+pub returns-in-Err-clause-taught : goal.returns-in-Err-clause-taught
+returns-in-Err-clause-taught g c =
+    unlexed_taught g.B.Home.plan (with_net c.args.grammar.now g.B.Home.plan.net.net) c.args.bytes c.in-Err.fault _ c.in-Err.ensures.lexing
+    (lexed_apart _ (sym c.lexing_refused.ensures ∙ c.if-lexing_refused.false))
+
+pub returns-in-Ok-parse-clause-taught : goal.returns-in-Ok-parse-clause-taught
+returns-in-Ok-parse-clause-taught g c =
+    let p = g.B.Home.plan in
+    lexed_taught p (with_net c.args.grammar.now p.net.net) c.args.bytes c.in-Ok.tokens _ _ c.in-Ok.ensures.lexing
+    (c.in-Ok.ensures.symbols c.requires.usable.types) c.parse.ensures.kept
+    (subst (λ (ts : List Token). IsTaught p (IsPassed p.net (word_of ts)) c.args.pass.now c.parse.new.pass) c.as_slice.ensures
+    (c.in-Ok-parse.ensures.taught tt))
+
+pub returns-else-parsing_refused-clause-taught : goal.returns-else-parsing_refused-clause-taught
+returns-else-parsing_refused-clause-taught g c =
+    let p = g.B.Home.plan in
+    lexed_taught p (with_net c.args.grammar.now p.net.net) c.args.bytes c.in-Ok.tokens _ _ c.in-Ok.ensures.lexing
+    (c.in-Ok.ensures.symbols c.requires.usable.types) c.parse.ensures.kept
+    (subst (λ (ts : List Token). IsTaught p (IsPassed p.net (word_of ts)) c.args.pass.now c.parse.new.pass) c.as_slice.ensures
+    (c.in-Err-parse.ensures.taught
+    (had_memory c.in-Err-parse.fault (parsed_apart _ (sym c.parsing_refused.ensures ∙ c.if-parsing_refused.false)))))
