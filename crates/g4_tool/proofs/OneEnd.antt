@@ -1,5 +1,5 @@
 -- Words have at most one end over the same files.
-use Rattle.std.proofs.Common.{◌≡◌, ℕ, List, Result, Ok, Err, ap, sym, ◌∙◌, refl, subst}
+use Rattle.std.proofs.Common.{◌≡◌, ◌↔◌, ℕ, Bool, List, Option, None, Some, Contains, Result, Ok, Err, ap, sym, ◌∙◌, refl, subst, true≢false}
 use Rattle.g4_words.specs.declared.command.Atn.{Atn}
 use Rattle.g4_words.specs.declared.command.Check.{Check}
 use Rattle.g4_words.specs.declared.command.Command.{Command}
@@ -16,9 +16,23 @@ use Rattle.g4_outcome.specs.declared.input.Input.{Input}
 use Rattle.g4_outcome.specs.declared.outcome.Outcome.{Outcome}
 use Rattle.g4_tool.specs.Cells.{HasManyCells}
 use Rattle.g4_tool.specs.Inputs.{inputs_of}
+use Rattle.g4_tool.specs.Learned.{IsTold}
+use Rattle.g4_tally.specs.declared.tally.Tally.{Tally}
+use Rattle.g4_tally.proofs.OneTally.{one_of_both}
 use Rattle.g4_outcome.specs.Outcomes.{AreOutcomes}
 use Rattle.g4_tool.specs.Ends.{End, stopped, checked, listed, all_parsed, EndsCheck, not_checked, grammar_checked, EndsAtn, not_listed, rule_listed, EndsParse, not_built, many_cells, file_absent, files_parsed, Ends, HasEnd, no_command, of_command}
 use Rattle.g4_outcome.proofs.OneOutcome.{one_outcome_each}
+
+-- there is at most one tally
+one_told : (asked : Bool) (rows : ℕ) (i : Interpreter) (is : List Input) (a b : Option Tally) → IsTold asked rows i is a
+    → IsTold asked rows i is b → a ≡ b
+one_told asked rows i is None None h k = refl
+one_told asked rows i is None (Some t) h k = absurd (true≢false (sym k.0 ∙ h))
+one_told asked rows i is (Some s) None h k = absurd (true≢false (sym h.0 ∙ k))
+one_told asked rows i is (Some s) (Some t) h k =
+    let same : (word : List ℕ) → Contains h.1.0 word ↔ Contains k.1.0 word =
+    λ word. (λ one. (k.1.1 word).1 ((h.1.1 word).0 one), λ other. (h.1.1 word).1 ((k.1.1 word).0 other)) in
+    ap Some (one_of_both rows i.net h.1.0 k.1.0 same s t h.1.2 k.1.2)
 
 module _ (files : Files) where
   -- `check` has at most one end
@@ -53,12 +67,16 @@ module _ (files : Files) where
     same_inputs r s h k = sym h ∙ k
 
     -- files that are all parsed
-    one_parsed : (i j : Interpreter) (is js : List Input) (os ps : List Outcome) → j ≡ i → js ≡ is → AreOutcomes i is os
-        → AreOutcomes j js ps → all_parsed parse.output i parse.files os ≡ all_parsed parse.output j parse.files ps
-    one_parsed i j is js os ps interpreter inputs h k =
+    one_parsed : (i j : Interpreter) (is js : List Input) (os ps : List Outcome) (s t : Option Tally) → j ≡ i → js ≡ is
+        → AreOutcomes i is os → AreOutcomes j js ps → IsTold parse.learned parse.rows i is s → IsTold parse.learned parse.rows j js t
+        → all_parsed parse.output i parse.files os s ≡ all_parsed parse.output j parse.files ps t
+    one_parsed i j is js os ps s t interpreter inputs h k x y =
         let also : AreOutcomes i is ps = subst (λ xs. AreOutcomes i xs ps) inputs (subst (λ x. AreOutcomes x js ps) interpreter k) in
-        ap (λ x. all_parsed parse.output x parse.files os) (sym interpreter)
-        ∙ ap (λ xs. all_parsed parse.output j parse.files xs) (one_outcome_each i is os ps h also)
+        let told : IsTold parse.learned parse.rows i is t =
+        subst (λ xs. IsTold parse.learned parse.rows i xs t) inputs (subst (λ x. IsTold parse.learned parse.rows x js t) interpreter y) in
+        ap (λ x. all_parsed parse.output x parse.files os s) (sym interpreter)
+        ∙ (ap (λ xs. all_parsed parse.output j parse.files xs s) (one_outcome_each i is os ps h also)
+        ∙ ap (λ x. all_parsed parse.output j parse.files ps x) (one_told parse.learned parse.rows i is s t x told))
 
     -- the same cells
     pub same_many : (f g : List (List ℕ)) (i j : Interpreter) → Builds files parse.grammar parse.start f (Ok i)
@@ -76,14 +94,14 @@ module _ (files : Files) where
         absurd (let no_way : ⊥ = cc in no_way)
     one_parse _ _ (not_built f s h) (file_absent g j m k y r) = let same = same_built f g (Err s) (Ok j) h k in
         absurd (let no_way : ⊥ = cc in no_way)
-    one_parse _ _ (not_built f s h) (files_parsed g j js ps k y r w) = let same = same_built f g (Err s) (Ok j) h k in
+    one_parse _ _ (not_built f s h) (files_parsed g j js ps t k y r w v) = let same = same_built f g (Err s) (Ok j) h k in
         absurd (let no_way : ⊥ = cc in no_way)
     one_parse _ _ (many_cells f i h x) (not_built g t k) = let same = same_built f g (Ok i) (Err t) h k in
         absurd (let no_way : ⊥ = cc in no_way)
     one_parse _ _ (many_cells f i h x) (many_cells g j k y) = refl
     one_parse _ _ (many_cells f i h x) (file_absent g j m k y r) =
         absurd (y (same_many f g i j h k x))
-    one_parse _ _ (many_cells f i h x) (files_parsed g j js ps k y r w) =
+    one_parse _ _ (many_cells f i h x) (files_parsed g j js ps t k y r w v) =
         absurd (y (same_many f g i j h k x))
     one_parse _ _ (file_absent f i n h x l) (not_built g t k) = let same = same_built f g (Ok i) (Err t) h k in
         absurd (let no_way : ⊥ = cc in no_way)
@@ -91,20 +109,20 @@ module _ (files : Files) where
         absurd (x (same_many g f j i k h y))
     one_parse _ _ (file_absent f i n h x l) (file_absent g j m k y r) = let same = same_inputs (Err n) (Err m) l r in
         let names : n ≡ m = cc in ap (λ x. stopped (stops.Absent x)) names
-    one_parse _ _ (file_absent f i n h x l) (files_parsed g j js ps k y r w) = let same = same_inputs (Err n) (Ok js) l r in
+    one_parse _ _ (file_absent f i n h x l) (files_parsed g j js ps t k y r w v) = let same = same_inputs (Err n) (Ok js) l r in
         absurd (let no_way : ⊥ = cc in no_way)
-    one_parse _ _ (files_parsed f i is os h x l u) (not_built g t k) = let same = same_built f g (Ok i) (Err t) h k in
+    one_parse _ _ (files_parsed f i is os s h x l u z) (not_built g t k) = let same = same_built f g (Ok i) (Err t) h k in
         absurd (let no_way : ⊥ = cc in no_way)
-    one_parse _ _ (files_parsed f i is os h x l u) (many_cells g j k y) =
+    one_parse _ _ (files_parsed f i is os s h x l u z) (many_cells g j k y) =
         absurd (x (same_many g f j i k h y))
-    one_parse _ _ (files_parsed f i is os h x l u) (file_absent g j m k y r) = let same = same_inputs (Ok is) (Err m) l r in
+    one_parse _ _ (files_parsed f i is os s h x l u z) (file_absent g j m k y r) = let same = same_inputs (Ok is) (Err m) l r in
         absurd (let no_way : ⊥ = cc in no_way)
-    one_parse _ _ (files_parsed f i is os h x l u) (files_parsed g j js ps k y r w) =
+    one_parse _ _ (files_parsed f i is os s h x l u z) (files_parsed g j js ps t k y r w v) =
         let built = same_built f g (Ok i) (Ok j) h k in
         let fetched = same_inputs (Ok is) (Ok js) l r in
         let interpreter : j ≡ i = cc in
         let inputs : js ≡ is = cc in
-        one_parsed i j is js os ps interpreter inputs u w
+        one_parsed i j is js os ps s t interpreter inputs u w z v
 
   -- a command has at most one end
   one_of_command : (command : Command) (a b : End) → Ends files command a → Ends files command b → a ≡ b

@@ -25,6 +25,8 @@ use Rattle.g4_words.specs.declared.command.Command.TheVariants as commands
 use Rattle.g4_words.specs.declared.command.Parse.{Parse}
 use Rattle.g4_load.specs.Files.{Files}
 use Rattle.g4_tool.specs.Inputs.{inputs_of, GivesInputs}
+use Rattle.g4_tool.specs.Learned.{IsTold, learned_lines}
+use Rattle.g4_tally.specs.declared.tally.Tally.{Tally}
 use Rattle.g4_load.specs.Listing.{Lists}
 use Rattle.g4_load.specs.Loading.{Loads}
 use Rattle.g4_load.specs.Building.{Builds}
@@ -125,19 +127,21 @@ module _ (files : Files) (words : List (List ℕ)) (parse : Parse) (fetched : Li
     stops_absent view halts.NoMemory h = tt
 
     -- a command whose files are parsed
-    pub reports_files : (inputs : List Input) (made : Parsed) (count : ℕ) (report : Report) → inputs_of files parse.files ≡ Ok inputs
-        → length parse.files ≡ length inputs → count ≡ length parse.files →
-        AreParsed parse.output interpreter parse.files inputs made → IsReportOfFiles made count report → IsReport files words report
-    reports_files inputs made count report there paired counted are is =
+    pub reports_files : (inputs : List Input) (made : Parsed) (learned : Option Tally) (count : ℕ) (report : Report)
+        → inputs_of files parse.files ≡ Ok inputs → length parse.files ≡ length inputs → count ≡ length parse.files
+        → AreParsed parse.output interpreter parse.files inputs made → IsTold parse.learned parse.rows interpreter inputs learned
+        → IsReportOfFiles made learned count report → IsReport files words report
+    reports_files inputs made learned count report there paired counted are told is =
         let all : count ≡ length are.outcomes = counted ∙ paired ∙ sym (as_many interpreter inputs are.outcomes are.are) in record {
-          end = all_parsed parse.output interpreter parse.files are.outcomes;
-          has = of_command (commands.Parse parse) (all_parsed parse.output interpreter parse.files are.outcomes) command
-              (files_parsed fetched interpreter inputs are.outcomes built fits there are.are);
+          end = all_parsed parse.output interpreter parse.files are.outcomes learned;
+          has = of_command (commands.Parse parse) (all_parsed parse.output interpreter parse.files are.outcomes learned) command
+              (files_parsed fetched interpreter inputs are.outcomes learned built fits there are.are told);
           is = record {
-            lines = is.lines ∙ ap (λ ls. ls ++ closing_line count made.accepted ∷ []) are.lines
-                ∙ ap (λ n. lines_of_files parse.output interpreter parse.files are.outcomes ++ closing_line n made.accepted ∷ []) all
+            lines = is.lines ∙ ap (λ ls. ls ++ closing_line count made.accepted ∷ learned_lines learned) are.lines
+                ∙ ap (λ n. lines_of_files parse.output interpreter parse.files are.outcomes ++ closing_line n made.accepted
+                ∷ learned_lines learned) all
                 ∙ ap (λ n. lines_of_files parse.output interpreter parse.files are.outcomes ++ closing_line (length are.outcomes) n
-                ∷ []) are.accepted;
+                ∷ learned_lines learned) are.accepted;
             status = is.status ∙ ap (λ (n : ℕ). if made.accepted == n then Done else Refused) all
                 ∙ ap (λ (n : ℕ). if n == length are.outcomes then Done else Refused) are.accepted
                 ∙ ap (λ (b : Bool). if b then Done else Refused) (all_counted are.outcomes);
@@ -170,7 +174,7 @@ module _ (files : Files) (words : List (List ℕ)) (answer : Status) (report : R
   parse_done can _ (file_absent fetched interpreter name h fits k) =
       let same = same_inputs files can.parse (Err name) (Ok can.inputs) k can.there in
       absurd (let no_way : ⊥ = cc in no_way)
-  parse_done can _ (files_parsed fetched interpreter inputs outcomes h fits k l) = either (list_all is_accepted outcomes)
+  parse_done can _ (files_parsed fetched interpreter inputs outcomes learned h fits k l told) = either (list_all is_accepted outcomes)
     where
       either : (b : Bool) → ((if b then Done else Refused) ≡ Done) ⊎ ((if b then Done else Refused) ≡ Refused)
       either true = inl refl

@@ -1,5 +1,5 @@
 -- How a command line ends over files by their names, and what is reported of that.
-use Rattle.std.specs.Prelude.{◌≡◌, ℕ, List, [], ◌∷◌, ◌++◌, length, count_by, Ok, Err, codes, if◌then◌else◌}
+use Rattle.std.specs.Prelude.{◌≡◌, ℕ, List, [], ◌∷◌, ◌++◌, length, count_by, Option, Ok, Err, codes, if◌then◌else◌}
 use Rattle.std.specs.List.{list_all}
 use Rattle.g4_words.specs.Commands.{IsCommand}
 use Rattle.g4_words.specs.declared.command.Atn.{Atn}
@@ -16,6 +16,8 @@ use Rattle.g4_load.specs.Building.{Builds}
 use Rattle.g4_load.specs.Files.{Files}
 use Rattle.g4_tool.specs.Cells.{HasManyCells}
 use Rattle.g4_tool.specs.Inputs.{inputs_of}
+use Rattle.g4_tool.specs.Learned.{IsTold, learned_lines}
+use Rattle.g4_tally.specs.declared.tally.Tally.{Tally}
 use Rattle.g4_outcome.specs.Outcomes.{AreOutcomes, is_accepted, lines_of_files}
 use Rattle.g4_outcome.specs.declared.input.Input.{Input}
 use Rattle.g4_outcome.specs.declared.outcome.Outcome.{Outcome}
@@ -36,12 +38,12 @@ use Rattle.g4_tool.specs.declared.status.Status.{Status}
 use Rattle.g4_tool.specs.declared.status.Status.TheVariants as statuses
 
 -- The end of a command line: it stops before any file is parsed, its grammar is checked, a rule is listed, or each of its files
--- has an outcome.
+-- has an outcome, and it is told how much was learned, if it is asked for.
 pub data End : Type 0 where
   stopped : Stop → End
   checked : Loaded → End
   listed : List ℕ → End
-  all_parsed : Output → Interpreter → (names : List (List ℕ)) → List Outcome → End
+  all_parsed : Output → Interpreter → (names : List (List ℕ)) → List Outcome → Option Tally → End
 
 -- The end of `check`: its grammar is loaded, or not.
 pub data EndsCheck (files : Files) (check : Check) : End → Type 0 where
@@ -58,7 +60,7 @@ pub data EndsAtn (files : Files) (atn : Atn) : End → Type 0 where
       → EndsAtn files atn (listed listing)
 
 -- The end of `parse`: its grammar is not built, or has too many cells with the rows that are asked for, or one of its files is absent,
--- or each has an outcome.
+-- or each has an outcome, and it is told how much was learned.
 pub data EndsParse (files : Files) (parse : Parse) : End → Type 0 where
   not_built : (fetched : List (List ℕ)) (stop : Stop) → Builds files parse.grammar parse.start fetched (Err stop)
       → EndsParse files parse (stopped stop)
@@ -70,10 +72,11 @@ pub data EndsParse (files : Files) (parse : Parse) : End → Type 0 where
       → inputs_of files parse.files ≡ Err name
       → EndsParse files parse (stopped (stops.Absent name))
   files_parsed : (fetched : List (List ℕ)) (interpreter : Interpreter) (inputs : List Input) (outcomes : List Outcome)
+      (learned : Option Tally)
       → Builds files parse.grammar parse.start fetched (Ok interpreter) → ¬ (HasManyCells parse.rows interpreter)
       → inputs_of files parse.files ≡ Ok inputs
-      → AreOutcomes interpreter inputs outcomes →
-      EndsParse files parse (all_parsed parse.output interpreter parse.files outcomes)
+      → AreOutcomes interpreter inputs outcomes → IsTold parse.learned parse.rows interpreter inputs learned
+      → EndsParse files parse (all_parsed parse.output interpreter parse.files outcomes learned)
 
 -- the end of a command
 abbrev pub Ends : Files → Command → End → Type 0
@@ -141,15 +144,16 @@ abbrev pub lines_of : End → List Line
 lines_of (stopped stop) = stop_line stop ∷ []
 lines_of (listed listing) = ToOut listing ∷ []
 lines_of (checked grammar) = checked_line (length grammar.rules) (length grammar.shown) ∷ []
-lines_of (all_parsed output interpreter names outcomes) =
-    lines_of_files output interpreter names outcomes ++ closing_line (length outcomes) (count_by is_accepted outcomes) ∷ []
+lines_of (all_parsed output interpreter names outcomes learned) =
+    lines_of_files output interpreter names outcomes ++ closing_line (length outcomes) (count_by is_accepted outcomes)
+    ∷ learned_lines learned
 
 -- the status of an end
 abbrev pub status_of : End → Status
 status_of (stopped stop) = stop_status stop
 status_of (checked grammar) = statuses.Done
 status_of (listed listing) = statuses.Done
-status_of (all_parsed output interpreter names outcomes) = if list_all is_accepted outcomes then statuses.Done else statuses.Refused
+status_of (all_parsed output interpreter names outcomes learned) = if list_all is_accepted outcomes then statuses.Done else statuses.Refused
 
 -- the number with which the program ends
 abbrev pub number_of : Status → ℕ

@@ -4,6 +4,7 @@ pub mod Counting
 pub mod Ends
 pub mod Files
 pub mod Inputs
+pub mod Learned
 pub mod Report
 pub mod Running
 pub mod Texts

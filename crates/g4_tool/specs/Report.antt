@@ -1,5 +1,5 @@
 -- The report of a command line over files by their names: the lines for out and err, and the status.
-use Rattle.std.specs.Prelude.{◌≡◌, ◌↔◌, ◌⊎◌, ◌==◌, ℕ, List, [], ◌∷◌, ◌++◌, All, Result, Ok, Err, if◌then◌else◌}
+use Rattle.std.specs.Prelude.{◌≡◌, ◌↔◌, ◌⊎◌, ◌==◌, ℕ, List, ◌∷◌, ◌++◌, All, Option, Result, Ok, Err, if◌then◌else◌}
 use Rattle.g4_words.specs.Commands.{IsCommand}
 use Rattle.g4_words.specs.declared.command.Command.TheVariants as commands
 use Rattle.g4_words.specs.declared.command.Parse.{Parse}
@@ -7,6 +7,8 @@ use Rattle.g4_load.specs.Building.{Builds}
 use Rattle.g4_load.specs.Files.{Files}
 use Rattle.g4_tool.specs.Cells.{HasManyCells}
 use Rattle.g4_tool.specs.Inputs.{inputs_of}
+use Rattle.g4_tool.specs.Learned.{learned_lines}
+use Rattle.g4_tally.specs.declared.tally.Tally.{Tally}
 use Rattle.g4_tool.specs.Texts.{closing_line}
 use Rattle.g4_tool.specs.Ends.{End, stopped, checked, listed, all_parsed, HasEnd, lines_of, status_of}
 use Rattle.g4_outcome.specs.Meaning.{IsMeant}
@@ -24,9 +26,9 @@ pub record IsReportOf (end : End) (report : Report) : Type 0 where
   pub lines : report.lines ≡ lines_of end
   pub status : report.status ≡ status_of end
 
--- the report has the lines of so many files, and the closing line
-pub record IsReportOfFiles (parsed : Parsed) (files : ℕ) (report : Report) : Type 0 where
-  pub lines : report.lines ≡ parsed.lines.items ++ closing_line files parsed.accepted ∷ []
+-- the report has the lines of so many files, the closing line, and what is told of how much was learned
+pub record IsReportOfFiles (parsed : Parsed) (learned : Option Tally) (files : ℕ) (report : Report) : Type 0 where
+  pub lines : report.lines ≡ parsed.lines.items ++ closing_line files parsed.accepted ∷ learned_lines learned
   pub status : report.status ≡ (if parsed.accepted == files then Done else Refused)
 
 -- the status where nothing stops the command
@@ -38,7 +40,7 @@ abbrev pub IsMeantEnd : List ℕ → End → Type 0
 IsMeantEnd start (stopped stop) = Unit {0}
 IsMeantEnd start (checked grammar) = Unit {0}
 IsMeantEnd start (listed listing) = Unit {0}
-IsMeantEnd start (all_parsed output interpreter names os) = All (IsMeant interpreter start) os
+IsMeantEnd start (all_parsed output interpreter names os learned) = All (IsMeant interpreter start) os
 
 -- The report is that of the end that the words have. Where they parse files, each file with a tree is one whose tokens the rules derive
 -- from the start rule, and are in the tree but for EOFs at their end; of the others that have tokens none is, unless too many rules

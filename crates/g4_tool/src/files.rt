@@ -1,5 +1,5 @@
 // The files of a run, parsed by many workers, and their lines in order.
-ghost use Rattle.std.specs.Prelude.{◌≡◌, ◌<◌, ◌≤◌, ◌+◌, ◌++◌, All, IfOk, OnOk, cond, length};
+ghost use Rattle.std.specs.Prelude.{◌≡◌, ◌<◌, ◌≤◌, ◌+◌, ◌++◌, All, IfOk, OnOk, cond, length, true};
 ghost use Rattle.g4_learned.specs.Stored.{IsPlan};
 ghost use Rattle.g4_load.specs.Usable.{IsUsable};
 ghost use Rattle.g4_net.specs.AddedRule.{IsReady};
@@ -7,7 +7,10 @@ ghost use Rattle.g4_net.specs.Loops.{HasLoops};
 ghost use Rattle.g4_outcome.specs.Grammars.{with_net};
 ghost use Rattle.g4_outcome.specs.Inputs.{IsSmall};
 ghost use Rattle.g4_pool.specs.Files.{AreReports, Files};
+ghost use Rattle.g4_pool.specs.Learned.{HasLearned};
+ghost use Rattle.g4_store.specs.Views.{IsWhole};
 ghost use Rattle.g4_tool.specs.Files.{AreParsed};
+ghost use Rattle.g4_tool.specs.Learned.{IsTold};
 ghost use Rattle.g4_words.specs.declared.command.TheConstants.{MOST_FILES, MOST_JOBS, MOST_ROWS};
 
 use g4_base::Text;
@@ -19,6 +22,7 @@ use g4_outcome::{FileReport, Grammar, Input, Line};
 use g4_pool::{WorkerState, parse_all};
 use g4_ports::Gate;
 use g4_store::view::Home;
+use g4_tally::{Tally, tally_of};
 use g4_words::Output;
 use std::alloc::{AllocError, Global};
 use std::marker::Brand;
@@ -30,6 +34,13 @@ use std::thread::Threads;
 pub struct Parsed {
     pub lines: Vec<Line>,
     pub accepted: usize,
+}
+
+/// The same, and what is told of how much was learned.
+#[derive(Drop)]
+pub struct ParsedRun {
+    pub parsed: Parsed,
+    pub learned: Option<Tally>,
 }
 
 /// Adds lines.
@@ -72,18 +83,42 @@ fn gather(alloc: Global, reports: Vec<FileReport>) -> Result<Parsed, AllocError>
     Ok(parsed)
 }
 
+/// How much was learned, if it is asked for. A worker that had no memory for a report takes with it what it has learned.
+fn learned_of<B: Home<DecisionNet>>(
+    alloc: Global,
+    asked: bool,
+    complete: bool,
+    store: Store<B>,
+    state: WorkerState<B>,
+) -> Result<Option<Tally>, AllocError>
+    requires whole { complete ≡ true → IsWhole state.pass.0 }
+    ensures { (files : Files) → files.interpreter.net ≡ B.plan.net.net → (complete ≡ true → HasLearned B.plan files state.pass)
+        → IfOk result (IsTold asked B.plan.rows files.interpreter files.inputs) }
+{
+    if !asked {
+        return Ok(None);
+    }
+    if !complete {
+        return Err(AllocError);
+    }
+    let WorkerState { pass, .. } = state;
+    let tally = tally_of(alloc, store, pass)?;
+    Ok(Some(tally))
+}
+
 /// The lines of the files by a store that was opened.
 fn parse_opened<B: Home<DecisionNet> + Send + Sync, R: Threads + Wait + Sync, G: Gate>(
     rt: &R,
     alloc: Global,
     output: Output,
     jobs: u32,
+    asked: bool,
     grammar: &Grammar,
     opened: Opened,
     names: &[Text],
     inputs: &[Input],
     gate: &G,
-) -> Result<Parsed, AllocError>
+) -> Result<ParsedRun, AllocError>
     requires plan { IsPlan opened.plan }
     requires home { (opened.table.shared.table_id ≡ B.table) × (opened.plan ≡ B.plan) }
     requires usable { IsUsable (with_net grammar.now B.plan.net.net) }
@@ -91,15 +126,18 @@ fn parse_opened<B: Home<DecisionNet> + Send + Sync, R: Threads + Wait + Sync, G:
     requires paired { length names.now ≡ length inputs.now }
     requires few { length names.now ≤ MOST_FILES }
     requires jobs { (0 < jobs) × (jobs ≤ MOST_JOBS) }
-    ensures { IfOk result (AreParsed output (with_net grammar.now B.plan.net.net) names.now inputs.now) }
+    ensures parsed { IfOk result (λ run. AreParsed output (with_net grammar.now B.plan.net.net) names.now inputs.now run.parsed) }
+    ensures told { IfOk result (λ run. IsTold asked B.plan.rows (with_net grammar.now B.plan.net.net) inputs.now run.learned) }
 {
     let (store, pass) = Store::<B>::named(opened);
     let memory = Memory::new(alloc);
     let mut state = WorkerState { pass, memory };
-    let reports = parse_all(
+    let finished = parse_all(
         rt, alloc, output, grammar, &store, &mut state, names, inputs, jobs, gate,
     )?;
-    gather(alloc, reports)
+    let learned = learned_of(alloc, asked, finished.complete, store, state)?;
+    let parsed = gather(alloc, finished.outcomes)?;
+    Ok(ParsedRun { parsed, learned })
 }
 
 /// A store of the network with room for so many rows, in which nothing is learned yet. There is no memory for one that would be too large.
@@ -108,7 +146,7 @@ fn open_store(alloc: Global, net: ParserNetwork, rows: u32) -> Result<Opened, Al
     requires ready { IsReady net }
     requires loops { HasLoops net }
     ensures plan { IfOk result (λ o. IsPlan o.plan) }
-    ensures net { IfOk result (λ o. o.plan.net.net ≡ net) }
+    ensures parts { IfOk result (λ o. (o.plan.net.net ≡ net) × (o.plan.rows ≡ rows)) }
 {
     match open(alloc, net, rows as usize) {
         Ok(opened) => Ok(opened),
@@ -117,25 +155,28 @@ fn open_store(alloc: Global, net: ParserNetwork, rows: u32) -> Result<Opened, Al
     }
 }
 
-/// The lines of the files in order, parsed by so many workers. What prediction learns of one file serves the others.
+/// The lines of the files in order, parsed by so many workers, and how much was learned, if it is asked for. What prediction learns of one
+/// file serves the others.
 pub fn parse_files<R: Threads + Wait + Sync, G: Gate>(
     rt: &R,
     alloc: Global,
     output: Output,
     jobs: u32,
     rows: u32,
+    asked: bool,
     interpreter: Interpreter,
     names: &[Text],
     inputs: &[Input],
     gate: &G,
-) -> Result<Parsed, AllocError>
+) -> Result<ParsedRun, AllocError>
     requires usable { IsUsable interpreter }
     requires small { All IsSmall inputs.now }
     requires paired { length names.now ≡ length inputs.now }
     requires few { length names.now ≤ MOST_FILES }
     requires jobs { (0 < jobs) × (jobs ≤ MOST_JOBS) }
     requires rows { (0 < rows) × (rows ≤ MOST_ROWS) }
-    ensures { IfOk result (AreParsed output interpreter names.now inputs.now) }
+    ensures parsed { IfOk result (λ run. AreParsed output interpreter names.now inputs.now run.parsed) }
+    ensures told { IfOk result (λ run. IsTold asked rows interpreter inputs.now run.learned) }
 {
     let Interpreter {
         names: rule_names,
@@ -152,6 +193,6 @@ pub fn parse_files<R: Threads + Wait + Sync, G: Gate>(
     };
     let opened = open_store(alloc, net, rows)?;
     parse_opened::<Brand, R, G>(
-        rt, alloc, output, jobs, &grammar, opened, names, inputs, gate,
+        rt, alloc, output, jobs, asked, &grammar, opened, names, inputs, gate,
     )
 }

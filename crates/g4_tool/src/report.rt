@@ -1,8 +1,9 @@
 // The report of a command line: its lines and its status, made before any of it is written.
-ghost use Rattle.std.specs.Prelude.{◌≡◌, ◌<◌, ◌≤◌, ◌⊎◌, ℕ, List, IfOk, MatchResult, Some, Err, length, map, string_bytes};
+ghost use Rattle.std.specs.Prelude.{◌≡◌, ◌<◌, ◌≤◌, ◌⊎◌, ◌++◌, ℕ, List, IfOk, OnOk, MatchResult, Some, Err, length, map, string_bytes};
 ghost use Rattle.g4_load.specs.Counting.{Counts};
 ghost use Rattle.g4_tool.specs.Counting.{ReportCounts};
 ghost use Rattle.g4_tool.specs.Ends.{IsNoCommand, checked, listed, stopped};
+ghost use Rattle.g4_tool.specs.Learned.{learned_lines};
 ghost use Rattle.g4_load.specs.Files.{Files};
 ghost use Rattle.g4_tool.specs.Report.{ReportsOrHalts, IsDoneOrRefused, IsReport, IsReportOf, IsReportOfFiles};
 ghost use Rattle.g4_words.specs.Commands.{IsCommand};
@@ -10,7 +11,7 @@ ghost use Rattle.g4_words.specs.declared.command.Command.TheVariants as commands
 ghost use Rattle.g4_words.specs.declared.command.TheConstants.{MOST_FILES, MOST_JOBS, MOST_ROWS};
 
 use crate::cells::check_cells;
-use crate::files::{Parsed, parse_files};
+use crate::files::{Parsed, ParsedRun, parse_files};
 use crate::inputs::fetch_all;
 use crate::status::Status;
 use crate::stop::{line_of, status_of};
@@ -18,6 +19,7 @@ use g4_base::{Octets, Sequence};
 use g4_load::{Halt, Loaded, Stop, build_interpreter, list_named, load};
 use g4_outcome::Line;
 use g4_ports::{Gate, Shelf};
+use g4_tally::{Tally, tally_line};
 use g4_words::{Atn, Check, Command, Parse, WordsFault, read_words};
 use std::alloc::{AllocError, Global};
 use std::sync::Wait;
@@ -60,17 +62,37 @@ fn report_stop(alloc: Global, stop: &Stop) -> Result<Report, AllocError>
     })
 }
 
+/// Adds what is told of how much was learned.
+fn push_learned(
+    alloc: Global,
+    lines: &mut Vec<Line>,
+    learned: Option<Tally>,
+) -> Result<(), AllocError>
+    ensures { OnOk result (lines.new.items ≡ lines.old.items ++ learned_lines learned) }
+{
+    match learned {
+        Some(tally) => {
+            let line = tally_line(alloc, &tally)?;
+            lines.push(Line::ToOut(Sequence::new(line.into_bytes())))?;
+            Ok(())
+        }
+        None => Ok(()),
+    }
+}
+
 /// The report of so many files.
-fn report_files(alloc: Global, parsed: Parsed, files: usize) -> Result<Report, AllocError>
-    ensures report { IfOk result (IsReportOfFiles parsed files) }
+fn report_files(alloc: Global, run: ParsedRun, files: usize) -> Result<Report, AllocError>
+    ensures report { IfOk result (IsReportOfFiles run.parsed run.learned files) }
     ensures status { IfOk result (λ report. IsDoneOrRefused report.status) }
 {
+    let ParsedRun { parsed, learned } = run;
     let Parsed {
         mut lines,
         accepted,
     } = parsed;
     let closing = format!(in alloc; "files {files} accepted {accepted}\n")?;
     lines.push(Line::ToOut(Sequence::new(closing.into_bytes())))?;
+    push_learned(alloc, &mut lines, learned)?;
     let status = if accepted == files {
         Status::Done
     } else {
@@ -165,6 +187,7 @@ fn run_parse<R: Threads + Wait + Sync, S: Shelf, G: Gate>(
         parse.output,
         parse.jobs,
         parse.rows,
+        parse.learned,
         interpreter,
         names,
         inputs.as_slice(),

@@ -16,7 +16,7 @@ use Rattle.g4_words.specs.App.{g4_app}
 use Rattle.g4_words.specs.Commands.{HasFewFiles, HasNumbers, HasOneOutput, IsCommand}
 use Rattle.g4_words.specs.declared.command.Command.{Command}
 use Rattle.g4_words.specs.declared.command.Command.TheVariants as commands
-use Rattle.g4_words.proofs.Outputs.{some_output}
+use Rattle.g4_words.proofs.Outputs.{some_learned, some_output}
 use Rattle.g4_words.proofs.Rows.{FillAll, fills_by_flag, fills_by_help, fills_by_values, first_none, given_has_value, second_none, some_fault}
 use Rattle.g4_words.proofs.Walks.{level_filled}
 
@@ -157,7 +157,10 @@ parse_fills = (
         fills_by_values (rule_of 0 3) refl,
         (
           fills_by_flag (rule_of 0 4) (omega arith),
-          (fills_by_flag (rule_of 0 5) (omega arith), (fills_by_values (rule_of 0 6) refl, (fills_by_help (rule_of 0 7) refl, tt))),
+          (
+            fills_by_flag (rule_of 0 5) (omega arith),
+            (fills_by_flag (rule_of 0 6) (omega arith), (fills_by_values (rule_of 0 7) refl, (fills_by_help (rule_of 0 8) refl, tt))),
+          ),
         ),
       ),
     ),
@@ -196,13 +199,15 @@ module _ (words : List Text) (accepted : fault_of g4_app words ≡ []) (few : Ha
       let start = given_has_value (codes "start") rows level.0 there.1 in
       let files = given_has_value (codes "files") rows level.0 there.2 in
       let counts = numbers (codes "parse") rows given in
-      let output = some_output rows (λ a b. one (codes "parse") rows a b given) in (
+      let output = some_output rows (λ a b. one (codes "parse") rows a b given) in
+      let learned = some_learned rows output.0 (λ a b. one (codes "parse") rows a b given) output.1 in (
         commands.Parse (record {
           grammar = grammar.first;
           start = start.first;
           jobs = counts.0.0;
           rows = counts.1.0;
           output = output.0;
+          learned = learned.0;
           files = files.first ∷ files.others;
         }),
         record {
@@ -218,6 +223,7 @@ module _ (words : List Text) (accepted : fault_of g4_app words ≡ []) (few : Ha
               jobs = counts.0.1;
               rows = counts.1.1;
               output = output.1;
+              learned = learned.1;
               files = files.all;
               few = few (codes "parse") rows (files.first ∷ files.others) given files.all;
             },

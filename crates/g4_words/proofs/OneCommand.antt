@@ -12,7 +12,7 @@ use Rattle.g4_words.specs.declared.command.Command.TheVariants as commands
 use Rattle.g4_words.specs.declared.command.Parse.{Parse}
 use Rattle.g4_words.specs.declared.command.TheConstants.{DEFAULT_JOBS, DEFAULT_ROWS, MOST_JOBS, MOST_ROWS}
 use Rattle.g4_words.proofs.Numbers.{one_number}
-use Rattle.g4_words.proofs.Outputs.{one_output}
+use Rattle.g4_words.proofs.Outputs.{one_learned, one_output}
 
 -- a value that is given is one
 one_value : {X : Type 0} (given : Option X) (a b : X) → given ≡ Some a → given ≡ Some b → a ≡ b
@@ -20,24 +20,26 @@ one_value given a b p q = cc
 
 -- parses with the same fields are the same
 same_parse : (a b : Parse) → a.grammar ≡ b.grammar → a.start ≡ b.start → a.jobs ≡ b.jobs → a.rows ≡ b.rows → a.output ≡ b.output
-    → a.files ≡ b.files → a ≡ b
-same_parse a b grammar start jobs rows output files = λ i. record {
+    → a.learned ≡ b.learned → a.files ≡ b.files → a ≡ b
+same_parse a b grammar start jobs rows output learned files = λ i. record {
   grammar = grammar i;
   start = start i;
   jobs = jobs i;
   rows = rows i;
   output = output i;
+  learned = learned i;
   files = files i;
 }
 
 -- values are those of at most one `parse`, of at most one `check`, and of at most one `atn`
 one_parse : (values : List Row) (a b : Parse) → IsParse values a → IsParse values b → a ≡ b
 one_parse values a b p q =
+    let output = one_output values a.output b.output p.output q.output in
     same_parse a b (one_value (first_of (codes "grammar") values) a.grammar b.grammar p.grammar q.grammar)
     (one_value (first_of (codes "start") values) a.start b.start p.start q.start)
     (one_number (first_of (codes "jobs") values) DEFAULT_JOBS MOST_JOBS a.jobs b.jobs (omega arith) p.jobs q.jobs)
-    (one_number (first_of (codes "rows") values) DEFAULT_ROWS MOST_ROWS a.rows b.rows (omega arith) p.rows q.rows)
-    (one_output values a.output b.output p.output q.output)
+    (one_number (first_of (codes "rows") values) DEFAULT_ROWS MOST_ROWS a.rows b.rows (omega arith) p.rows q.rows) output
+    (one_learned values a.output b.output a.learned b.learned p.learned q.learned)
     (one_value (all_of (codes "files") values) a.files b.files p.files q.files)
 
 one_check : (rows : List Row) (a b : Check) → IsCheck rows a → IsCheck rows b → a ≡ b

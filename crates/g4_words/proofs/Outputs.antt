@@ -4,7 +4,7 @@ use Rattle.std.specs.Prelude.{Err, codes}
 use Rattle.std.specs.Str.{bytes_eq}
 use Rattle.std.proofs.lemmas.Slice.Eq.{bytes_eq-Decides}
 use Rattle.clap.specs.Words.{Row, Text, first_of, one_of}
-use Rattle.g4_words.specs.Commands.{Finds, HasFlag, IsAskedFor, IsNumber, IsOutput, IsOutputFlag, IsParse}
+use Rattle.g4_words.specs.Commands.{Finds, HasFlag, IsAskedFor, IsLearned, IsNumber, IsOutput, IsOutputFlag, IsParse}
 use Rattle.g4_words.specs.declared.command.Output.{Output}
 use Rattle.g4_words.specs.declared.command.Output.TheVariants as outputs
 use Rattle.g4_words.specs.declared.command.TheConstants.{DEFAULT_JOBS, DEFAULT_ROWS, MOST_JOBS, MOST_ROWS}
@@ -20,6 +20,12 @@ other_flag one other itself not_other same = true≢false (sym itself ∙ ap (by
 
 events_flag_is_not_tokens : codes "events" ≡ codes "tokens" → ⊥
 events_flag_is_not_tokens = other_flag (codes "events") (codes "tokens") refl refl
+
+learned_flag_is_not_events : codes "learned" ≡ codes "events" → ⊥
+learned_flag_is_not_events = other_flag (codes "learned") (codes "events") refl refl
+
+learned_flag_is_not_tokens : codes "learned" ≡ codes "tokens" → ⊥
+learned_flag_is_not_tokens = other_flag (codes "learned") (codes "tokens") refl refl
 
 module _ (rows : List Row) where
   -- flags ask for at most one output
@@ -62,10 +68,23 @@ module _ (rows : List Row) where
   pub not_both : HasFlag (codes "events") rows → HasFlag (codes "tokens") rows → (output : Output) → IsOutput rows output → ⊥
   not_both events tokens output is = events_are_not_tokens (is.only outputs.Events events ∙ sym (is.only outputs.Tokens tokens))
 
-  -- values that ask for no output are those of no `parse`
+  -- whether the flag is given is one answer
+  pub one_learned : (a b : Output) (x y : Bool) → IsLearned rows a x → IsLearned rows b y → x ≡ y
+  one_learned a b true true p q = refl
+  one_learned a b true false p q = sym (q.given.1 (p.given.0 refl))
+  one_learned a b false true p q = p.given.1 (q.given.0 refl)
+  one_learned a b false false p q = refl
+
+  -- values that ask for no output, or for an output with which the flag for what was learned does not go, are those of no `parse`
   pub no_parse : (fault : WordsFault) → Finds (IsOutput rows) (Err fault) → Finds (IsParse rows) (Err fault)
   no_parse Usage none = λ parse is. none parse.output is.output
   no_parse NoMemory none = tt
+
+  pub no_learned : (output : Output) (fault : WordsFault) → IsOutput rows output → Finds (IsLearned rows output) (Err fault)
+      → Finds (IsParse rows) (Err fault)
+  no_learned output Usage is none = λ parse all.
+      none parse.learned (subst (λ (o : Output). IsLearned rows o parse.learned) (one_output parse.output output all.output is) all.learned)
+  no_learned output NoMemory is none = tt
 
   -- values with a number that is not within its limit are those of no `parse`
   pub no_jobs : (fault : WordsFault) (text : Option Text) → text ≡ first_of (codes "jobs") rows
@@ -106,7 +125,33 @@ module _ (rows : List Row) where
       by_flags : (HasFlag (codes "events") rows ⊎ (HasFlag (codes "events") rows → ⊥))
           → (HasFlag (codes "tokens") rows ⊎ (HasFlag (codes "tokens") rows → ⊥)) → (output : Output) × IsOutput rows output
       by_flags (inl events) (inl tokens) =
-          absurd (events_flag_is_not_tokens (one (codes "events") (codes "tokens") (inl refl) (inr refl) events tokens))
+          absurd (events_flag_is_not_tokens (one (codes "events") (codes "tokens") (inl refl) (inr (inl refl)) events tokens))
       by_flags (inl events) (inr no_tokens) = (outputs.Events, is_events events no_tokens)
       by_flags (inr no_events) (inl tokens) = (outputs.Tokens, is_tokens no_events tokens)
       by_flags (inr no_events) (inr no_tokens) = (outputs.Trees, is_trees no_events no_tokens)
+
+  -- and where the one that is given asks how much was learned, the output is the trees
+  pub some_learned : (output : Output) → IsOne → IsOutput rows output → (learned : Bool) × IsLearned rows output learned
+  some_learned output one is = by_flag (has_or_not (codes "learned"))
+    where
+      by_asked : HasFlag (codes "learned") rows → (other : Output) → IsAskedFor rows other → ⊥
+      by_asked learned outputs.Trees asked = asked
+      by_asked learned outputs.Events asked =
+          learned_flag_is_not_events (one (codes "learned") (codes "events") (inr (inr refl)) (inl refl) learned asked)
+      by_asked learned outputs.Tokens asked =
+          learned_flag_is_not_tokens (one (codes "learned") (codes "tokens") (inr (inr refl)) (inr (inl refl)) learned asked)
+
+      trees : HasFlag (codes "learned") rows → ((output ≡ outputs.Trees) ⊎ IsAskedFor rows output) → output ≡ outputs.Trees
+      trees learned (inl same) = same
+      trees learned (inr asked) = absurd (by_asked learned output asked)
+
+      by_flag : (HasFlag (codes "learned") rows ⊎ (HasFlag (codes "learned") rows → ⊥))
+          → (learned : Bool) × IsLearned rows output learned
+      by_flag (inl given) = (true, record { given = (λ _. given, λ _. refl); alone = λ _. trees given is.asked })
+      by_flag (inr none) = (
+        false,
+        record {
+          given = (λ yes. absurd (true≢false (sym yes)), λ given. absurd (none given));
+          alone = λ yes. absurd (true≢false (sym yes));
+        },
+      )

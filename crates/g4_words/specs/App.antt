@@ -44,10 +44,10 @@ named_app = with_rule (with_rule (new_app (codes "parse")) (needed_rule (option_
 abbrev pub numbered_app : App
 numbered_app = with_rule (with_rule named_app (option_rule (codes "jobs") letter_j)) (option_rule (codes "rows") letter_r)
 
--- `parse -g GRAMMAR -s RULE [-j JOBS] [-r ROWS] [--events] [--tokens] FILE..`
+-- `parse -g GRAMMAR -s RULE [-j JOBS] [-r ROWS] [--events] [--tokens] [--learned] FILE..`
 abbrev pub parse_app : App
-parse_app = with_rule (with_rule (with_rule numbered_app (flag_rule (codes "events"))) (flag_rule (codes "tokens")))
-    (needed_rule (words_rule (codes "files")))
+parse_app = with_rule (with_rule (with_rule (with_rule numbered_app (flag_rule (codes "events"))) (flag_rule (codes "tokens")))
+    (flag_rule (codes "learned"))) (needed_rule (words_rule (codes "files")))
 
 -- `check GRAMMAR`
 abbrev pub check_app : App

@@ -29,6 +29,11 @@ pub record IsOutput (rows : List Row) (output : Output) : Type 0 where
   pub only : (other : Output) → IsAskedFor rows other → other ≡ output
   pub asked : (output ≡ outputs.Trees) ⊎ IsAskedFor rows output
 
+-- whether the flag is given that asks how much was learned; it is the only one that says what is written, so it goes with the trees
+pub record IsLearned (rows : List Row) (output : Output) (learned : Bool) : Type 0 where
+  pub given : (learned ≡ true) ↔ HasFlag (codes "learned") rows
+  pub alone : learned ≡ true → output ≡ outputs.Trees
+
 -- the number that an option with this text gives, in decimal digits without a sign and without leading zeros; the default without a text
 abbrev pub IsGiven : Option Text → ℕ → ℕ → Type 0
 IsGiven None default number = number ≡ default
@@ -54,6 +59,7 @@ pub record IsParse (values : List Row) (parse : Parse) : Type 0 where
   pub jobs : IsJobs values parse.jobs
   pub rows : IsRows values parse.rows
   pub output : IsOutput values parse.output
+  pub learned : IsLearned values parse.output parse.learned
   pub files : all_of (codes "files") values ≡ Some parse.files
   pub few : length parse.files ≤ MOST_FILES
 
@@ -87,7 +93,7 @@ HasFewFiles words = (name : Text) (rows : List Row) (files : List Text) → subc
 
 -- the flag says what is written
 abbrev pub IsOutputFlag : Text → Type 0
-IsOutputFlag flag = (flag ≡ codes "events") ⊎ (flag ≡ codes "tokens")
+IsOutputFlag flag = (flag ≡ codes "events") ⊎ (flag ≡ codes "tokens") ⊎ (flag ≡ codes "learned")
 
 -- the words have no more than one flag that says what is written
 abbrev pub HasOneOutput : List Text → Type 0

@@ -57,7 +57,7 @@ fn with_arg<'a>(command: Command<'a>, arg: Arg<'a>) -> Result<Command<'a>, Alloc
     command.arg(arg)
 }
 
-/// `parse -g GRAMMAR -s RULE [-j JOBS] [-r ROWS] [--events] [--tokens] FILE..`
+/// `parse -g GRAMMAR -s RULE [-j JOBS] [-r ROWS] [--events] [--tokens] [--learned] FILE..`
 fn parse_command<'a>(alloc: Global) -> Result<Command<'a>, AllocError>
     ensures app { IfOk result (λ c. app_of c ≡ parse_app) }
     ensures local { IfOk result (λ c. (fields_of c).has_globals ≡ false) }
@@ -69,6 +69,7 @@ fn parse_command<'a>(alloc: Global) -> Result<Command<'a>, AllocError>
     let command = with_arg(command, option(alloc, "rows", 'r'))?;
     let command = with_arg(command, flag(alloc, "events"))?;
     let command = with_arg(command, flag(alloc, "tokens"))?;
+    let command = with_arg(command, flag(alloc, "learned"))?;
     let command = with_arg(command, needed(words(alloc, "files")))?;
     Ok(command)
 }

@@ -27,7 +27,7 @@ pub enum Output {
     Tokens,
 }
 
-/// `parse -g GRAMMAR -s RULE [-j JOBS] [-r ROWS] [--events | --tokens] FILE..`: parse files by a rule of a grammar.
+/// `parse -g GRAMMAR -s RULE [-j JOBS] [-r ROWS] [--events | --tokens | --learned] FILE..`: parse files by a rule of a grammar.
 #[derive(Drop)]
 pub struct Parse {
     /// The name of the grammar's file.
@@ -40,6 +40,8 @@ pub struct Parse {
     pub rows: u32,
     /// What is written of each file.
     pub output: Output,
+    /// Whether it is also written, after the trees, how much was learned.
+    pub learned: bool,
     /// The names of the files to parse, in the order of the words.
     pub files: Sequence<Text>,
 }

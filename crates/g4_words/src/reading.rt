@@ -1,7 +1,7 @@
 // The command that words are.
 ghost use Rattle.std.specs.Prelude.{◌≡◌, ◌↔◌, ◌≤◌, IfOk, true, map, option_map, string_bytes};
 ghost use Rattle.clap.specs.Words.{all_of, first_of, found_of, rows_of};
-ghost use Rattle.g4_words.specs.Commands.{Accepts, Finds, FindsNumber, HasFlag, IsAtn, IsCheck, IsCommand, IsNamed, IsNumber, IsOutput, IsParse};
+ghost use Rattle.g4_words.specs.Commands.{Accepts, Finds, FindsNumber, HasFlag, IsAtn, IsCheck, IsCommand, IsLearned, IsNamed, IsNumber, IsOutput, IsParse};
 
 use crate::app::g4_command;
 use crate::command::{
@@ -80,6 +80,17 @@ fn output_of(values: &ArgMatches<'_>) -> Result<Output, WordsFault>
     }
 }
 
+/// Whether it is to be written how much was learned. With another flag this is Usage.
+fn learned_of(values: &ArgMatches<'_>, output: Output) -> Result<bool, WordsFault>
+    ensures { Finds (IsLearned (rows_of (found_of values.now)) output) result }
+{
+    match (has_flag(values, "learned"), output) {
+        (false, _) => Ok(false),
+        (true, Output::Trees) => Ok(true),
+        (true, _) => Err(WordsFault::Usage),
+    }
+}
+
 /// The number from 1 that the text is in decimal digits, without a sign and without leading zeros, if it has 32 bits.
 fn written_number(text: &str) -> Option<u32>
     ensures { FindsNumber text.now result }
@@ -138,12 +149,14 @@ fn read_parse(alloc: Global, values: &ArgMatches<'_>) -> Result<Parse, WordsFaul
     let jobs = number_of(value_of(values, "jobs"), DEFAULT_JOBS, MOST_JOBS)?;
     let rows = number_of(value_of(values, "rows"), DEFAULT_ROWS, MOST_ROWS)?;
     let output = output_of(values)?;
+    let learned = learned_of(values, output)?;
     Ok(Parse {
         grammar: Text::copy_of(alloc, grammar)?,
         start: Text::copy_of(alloc, start)?,
         jobs,
         rows,
         output,
+        learned,
         files: copies_of(alloc, files)?,
     })
 }

@@ -4,6 +4,7 @@ use Rattle.g4_outcome.specs.declared.input.Input.{Input}
 use Rattle.g4_tool.specs.Cells.{Refuses}
 use Rattle.g4_tool.specs.Files.{AreParsed}
 use Rattle.g4_tool.specs.Inputs.{GivesInputs, inputs_of}
+use Rattle.g4_tool.specs.Learned.{IsTold}
 use Rattle.g4_tool.proofs.Reports.{stops_unbuilt, stops_many, stops_absent, reports_files}
 use Rattle.g4_tool.proofs.report.run_parse.Goals as goal
 
@@ -38,12 +39,14 @@ pub returns-clause-content : goal.returns-clause-content
 returns-clause-content g c = λ files words told command.
     reports_files files words _ _ command c.in_ok-interpreter.interpreter
     (rw (c.as_str-grammar.ensures, c.as_str-start.ensures) at (c.in_ok-interpreter.ensures.content files told)) c.in_ok-check_cells.ensures
-    _ _ _ _
+    _ _ _ _ _
     (rw c.as_slice-names.ensures at (c.in_ok-inputs.ensures.content files (c.in_ok-interpreter.ensures.keeps ∙ told)))
     (rw c.as_slice-names.ensures at c.in_ok-inputs.ensures.paired)
     (ap length c.as_slice-names.ensures) (subst
     (λ (is : List Input). AreParsed c.args.parse.now.output c.in_ok-interpreter.interpreter c.args.parse.now.files is
-    c.in_ok-parsed.parsed) c.as_slice.ensures.value (rw c.as_slice-names.ensures at c.in_ok-parsed.ensures)) c.in_ok-report.ensures.report
+    c.in_ok-parsed.parsed.parsed) c.as_slice.ensures.value (rw c.as_slice-names.ensures at c.in_ok-parsed.ensures.parsed)) (subst
+    (λ (is : List Input). IsTold c.args.parse.now.learned c.args.parse.now.rows c.in_ok-interpreter.interpreter is
+    c.in_ok-parsed.parsed.learned) c.as_slice.ensures.value c.in_ok-parsed.ensures.told) c.in_ok-report.ensures.report
 
 pub returns-in_err-parsed-clause-content : goal.returns-in_err-parsed-clause-content
 returns-in_err-parsed-clause-content g c = λ files words told command.

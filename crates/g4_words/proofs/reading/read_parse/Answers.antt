@@ -1,5 +1,5 @@
 use Rattle.std.proofs.lemmas.Result.{err_from_is_err_and}
-use Rattle.g4_words.proofs.Outputs.{no_jobs, no_parse, no_rows}
+use Rattle.g4_words.proofs.Outputs.{no_jobs, no_learned, no_parse, no_rows}
 use Rattle.g4_words.proofs.reading.read_parse.Goals as goal
 
 pub returns-in_err-jobs : goal.returns-in_err-jobs
@@ -16,3 +16,8 @@ pub returns-in_err-output : goal.returns-in_err-output
 returns-in_err-output c =
     let p = err_from_is_err_and c.from_residual-in_err-output.result c.from_residual-in_err-output.ensures.1 in
     rw (p.1, p.2) (no_parse _ c.in_err-output.field-0.0 c.in_err-output.ensures)
+
+pub returns-in_err-learned : goal.returns-in_err-learned
+returns-in_err-learned c =
+    let p = err_from_is_err_and c.from_residual-in_err-learned.result c.from_residual-in_err-learned.ensures.1 in
+    rw (p.1, p.2) (no_learned _ c.in_ok-output.output c.in_err-learned.field-0.0 c.in_ok-output.ensures c.in_err-learned.ensures)

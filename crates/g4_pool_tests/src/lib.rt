@@ -1,0 +1,7 @@
+// Runs over many files by many workers.
+#![tactic(auto)]
+
+#[cfg(test)]
+mod holding;
+#[cfg(test)]
+mod many;
