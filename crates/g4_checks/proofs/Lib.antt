@@ -3,6 +3,7 @@ pub mod Counting
 mod Defined
 pub mod FirstClash
 pub mod FirstLetters
+pub mod OneHolder
 pub mod Known
 pub mod Missing
 pub mod Nodes

@@ -1,6 +1,7 @@
--- Other crates cite Checking, Commands, Names, References; only this crate cites Known, Labels, Predicates, Uses, Views.
+-- Other crates cite Checking, Commands, Holders, Names, References; only this crate cites Known, Labels, Predicates, Uses, Views.
 pub mod Checking
 pub mod Commands
+pub mod Holders
 pub mod Known
 pub mod Labels
 pub mod Names

@@ -97,6 +97,15 @@ fn push_rule<'a>(found: &mut Vec<AtomUse<'a>>, rule: RuleView<'a>) -> Result<(),
     Ok(())
 }
 
+/// The atoms of a rule in order.
+pub fn rule_atoms_of<'a>(alloc: Global, rule: RuleView<'a>) -> Result<Vec<AtomUse<'a>>, AllocError>
+    ensures { IfOk result (λ found. map use_view found.items ≡ rule_atoms (rule_view rule.entry)) }
+{
+    let mut found = Vec::new(alloc);
+    push_rule(&mut found, rule)?;
+    Ok(found)
+}
+
 /// The atoms of the rules in order.
 pub fn atoms_of<'a>(alloc: Global, rules: &[RuleView<'a>]) -> Result<Vec<AtomUse<'a>>, AllocError>
     ensures { IfOk result (λ found. map use_view found.items ≡ all_atoms (map rule_view rules.now)) }

@@ -9,6 +9,7 @@ mod checking;
 mod clashes;
 mod commands;
 mod fault;
+mod holders;
 mod inside;
 mod labels;
 mod law;
@@ -23,6 +24,7 @@ mod undefined;
 
 pub use checking::check;
 pub use fault::CheckFault;
-pub use law::one_check;
+pub use holders::holder_of;
+pub use law::{one_check, one_holder};
 pub use reference_law::{one_reference_check, text_between_braces};
 pub use references::{ReferenceFault, check_references};

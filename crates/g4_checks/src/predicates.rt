@@ -33,7 +33,7 @@ fn lexer_predicate_place(kind: RuleKind, atom: &AtomKind) -> Option<Place>
 }
 
 /// The place of the first atom that is a predicate in a lexer rule.
-fn first_in_lexer(atoms: &[AtomUse<'_>]) -> Option<Place>
+pub fn first_in_lexer(atoms: &[AtomUse<'_>]) -> Option<Place>
     ensures { FindsFirst IsLexerPredicate (map use_view atoms.now) result }
 {
     for atom in atoms {
@@ -80,7 +80,7 @@ fn unknown_predicate_place(
 }
 
 /// The place of the first atom that is a predicate in a parser rule with a text that no predicate has.
-fn first_unknown(alloc: Global, atoms: &[AtomUse<'_>]) -> Result<Option<Place>, AllocError>
+pub fn first_unknown(alloc: Global, atoms: &[AtomUse<'_>]) -> Result<Option<Place>, AllocError>
     ensures { IfOk result (FindsFirst IsUnknownPredicate (map use_view atoms.now)) }
 {
     for atom in atoms {
