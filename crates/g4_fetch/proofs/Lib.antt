@@ -2,9 +2,10 @@ mod ByNames
 mod Continuing
 mod Counted
 mod Endings
+mod Filled
 mod Numbered
 mod Once
-mod OneFetched
+pub mod OneFetched
 mod Opened
 mod Readings
 mod Slashes

@@ -1,8 +1,9 @@
 -- A grammar with all that it imports. An import is fetched and read where no file of its name was before; then its own imports are,
 -- before the rest of the importing grammar's. An import is tested after those of the imported grammar.
-use Rattle.std.specs.Prelude.{◌≡◌, ℕ, List, [], ◌∷◌, ◌++◌, length, map, slice_get, Option, Some, None, Result, Ok, Err}
+use Rattle.std.specs.Prelude.{◌≡◌, ◌<◌, ℕ, List, [], ◌∷◌, ◌++◌, All, length, map, slice_get, Option, Some, None, Result, Ok, Err}
 use Rattle.g4_merge.specs.Importing.{imported_by}
 use Rattle.g4_names.specs.Places.{first_place}
+use Rattle.g4_source.specs.Blocks.{HaveAlternatives}
 use Rattle.g4_source.specs.declared.source.Source.{Source}
 use Rattle.g4_fetch.specs.Files.{Files}
 use Rattle.g4_fetch.specs.Names.{grammar_file, prefix_of}
@@ -30,6 +31,10 @@ alone file = record { files = file ∷ []; imports = [] }
 -- no two files have one name: each is the first of its name
 abbrev pub IsEachOnce : WithImports → Type 0
 IsEachOnce grammar = (k : ℕ) (name : List ℕ) → slice_get (file_names grammar.files) k ≡ Some name → number_of grammar name ≡ Some k
+
+-- there is the main grammar, and each block of each grammar has an alternative
+abbrev pub IsWhole : WithImports → Type 0
+IsWhole grammar = (0 < length grammar.files) × All (λ f. HaveAlternatives f.source) grammar.files
 
 -- with one file more
 abbrev pub with_file : WithImports → List ℕ → Source → WithImports

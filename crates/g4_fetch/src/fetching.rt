@@ -1,11 +1,12 @@
 // A grammar's imports are fetched.
 ghost use Rattle.std.specs.Prelude.{◌≡◌, ◌+◌, ◌<◌, ◌^◌, ℕ, List, Some, Result, IfOk, OnOk, length};
 ghost use Rattle.g4_fetch.specs.ByNames.{AreFiles};
-ghost use Rattle.g4_fetch.specs.Closures.{FetchesImports, GivesOrHaltsAfter, Halted};
+ghost use Rattle.g4_fetch.specs.Closures.{FetchesImports, GivesOrHaltsAfter, Halted, IsWhole};
 ghost use Rattle.g4_fetch.specs.Counting.{Counts};
 ghost use Rattle.g4_fetch.specs.Files.{Files};
 ghost use Rattle.g4_fetch.specs.Tasks.{GoesOn, IsFetched, IsMissing, IsNext};
 ghost use Rattle.g4_fetch.specs.declared.closure.WithImports.{WithImports as Grammar};
+ghost use Rattle.g4_source.specs.Blocks.{HaveAlternatives};
 
 use crate::by_name::ByName;
 use crate::closure::{GrammarFile, Import, WithImports};
@@ -27,6 +28,7 @@ struct Fetching {
 impl Fetching {
     /// All is to do.
     fn new(alloc: Global, main: GrammarFile) -> Result<Self, AllocError>
+        requires { HaveAlternatives main.source }
         ensures { IfOk result (λ fetching. (files : Files) (prefix : List ℕ) (end : Result Grammar Halted)
             → GoesOn files prefix fetching end → FetchesImports files prefix main end) }
     {
@@ -94,10 +96,12 @@ pub fn fetch_imports<S: Shelf>(
     prefix: &str,
     main: GrammarFile,
 ) -> Result<WithImports, Halt>
+    requires { HaveAlternatives main.source }
     ensures keeps { S.told shelf.new ≡ S.told shelf.old }
     ensures content { (files : Files) → S.told shelf.old ≡ Some files → AreFiles files kept.old
         → GivesOrHaltsAfter (FetchesImports files prefix.now main) result }
     ensures kept { (files : Files) → S.told shelf.old ≡ Some files → AreFiles files kept.old → OnOk result (AreFiles files kept.new) }
+    ensures whole { IfOk result IsWhole }
     ensures counts { Counts (S.faults shelf.old) (S.faults shelf.new) (S.misses shelf.old) (S.misses shelf.new) result }
 {
     let mut fetching = Fetching::new(alloc, main)?;

@@ -1,7 +1,7 @@
 // A grammar is fetched with all that it imports.
-ghost use Rattle.std.specs.Prelude.{◌≡◌, Some, option_map};
+ghost use Rattle.std.specs.Prelude.{◌≡◌, IfOk, Some, option_map};
 ghost use Rattle.g4_fetch.specs.Counting.{Counts};
-ghost use Rattle.g4_fetch.specs.Closures.{FetchesGrammar, GivesOrHaltsAfter};
+ghost use Rattle.g4_fetch.specs.Closures.{FetchesGrammar, GivesOrHaltsAfter, IsWhole};
 ghost use Rattle.g4_fetch.specs.Files.{Files};
 
 use crate::by_name::ByName;
@@ -28,6 +28,7 @@ pub fn fetch_grammar<S: Shelf>(
     ensures keeps { S.told shelf.new ≡ S.told shelf.old }
     ensures content { (files : Files) → S.told shelf.old ≡ Some files
         → GivesOrHaltsAfter (FetchesGrammar files (option_map (λ l. l.now) library.entry) name.now) result }
+    ensures whole { IfOk result IsWhole }
     ensures counts { Counts (S.faults shelf.old) (S.faults shelf.new) (S.misses shelf.old) (S.misses shelf.new) result }
 {
     let prefix = prefix_of(alloc, library, name)?;

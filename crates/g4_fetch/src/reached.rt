@@ -1,7 +1,8 @@
 // The files that are reached so far.
 ghost use Rattle.std.specs.Prelude.{◌≡◌, None, IfOk, OnOk, length};
-ghost use Rattle.g4_fetch.specs.Closures.{alone, number_of, with_file, with_import};
+ghost use Rattle.g4_fetch.specs.Closures.{IsWhole, alone, number_of, with_file, with_import};
 ghost use Rattle.g4_fetch.specs.Tasks.{IsCarriedOut};
+ghost use Rattle.g4_source.specs.Blocks.{HaveAlternatives};
 
 use crate::by_name::ByName;
 use crate::closure::{GrammarFile, Import, WithImports};
@@ -31,6 +32,7 @@ pub struct Reached {
 impl Model for Reached {
     ghost use Rattle.std.specs.Coded.{codes};
     ghost use Rattle.g4_source.specs.Marks.{elements_code};
+    ghost use Rattle.g4_fetch.specs.Closures.{IsWhole};
     ghost use Rattle.g4_fetch.specs.Reaching.{AreNumbers, reached_of};
     ghost use Rattle.g4_fetch.specs.declared.closure.WithImports.{WithImports};
 
@@ -40,12 +42,13 @@ impl Model for Reached {
 
     ghost view = { λ r. reached_of r.files.items r.imports.items };
 
-    ghost invariant = { λ r. AreNumbers r.files.items r.numbers };
+    ghost invariant = { λ r. AreNumbers r.files.items r.numbers × IsWhole (reached_of r.files.items r.imports.items) };
 }
 
 impl Reached {
     /// The grammar alone.
     pub fn new(alloc: Global, main: GrammarFile) -> Result<Self, AllocError>
+        requires { HaveAlternatives main.source }
         ensures { IfOk result (λ reached. reached ≡ alone main) }
     {
         let mut numbers = ByName::new(alloc);
@@ -75,7 +78,8 @@ impl Reached {
 
     /// With one file more.
     pub fn with_file(self, alloc: Global, name: Text, source: Source) -> Result<Self, AllocError>
-        requires { number_of self name ≡ None }
+        requires none { number_of self name ≡ None }
+        requires full { HaveAlternatives source }
         ensures { IfOk result (λ reached. reached ≡ with_file self name source) }
     {
         let Reached {
@@ -102,7 +106,8 @@ impl Reached {
 
     /// The grammar with its imports.
     pub fn finish(self) -> WithImports
-        ensures { result ≡ self }
+        ensures same { result ≡ self }
+        ensures whole { IsWhole result }
     {
         let Reached { files, imports, .. } = self;
         WithImports {

@@ -1,10 +1,11 @@
 // One grammar file is read.
-ghost use Rattle.std.specs.Prelude.{◌≡◌, ◌≤◌, ℕ, Ok, Some, OnOk, length};
+ghost use Rattle.std.specs.Prelude.{◌≡◌, ◌≤◌, ℕ, Ok, Some, IfOk, OnOk, length};
 ghost use Rattle.g4_base.specs.declared.limits.TheConstants.{MOST_BYTES};
 ghost use Rattle.g4_fetch.specs.ByNames.{AreFiles};
 ghost use Rattle.g4_fetch.specs.Counting.{Counts};
 ghost use Rattle.g4_fetch.specs.Files.{Files, Opens};
 ghost use Rattle.g4_fetch.specs.Reading.{GivesOrHalts, IsReadingHalt, Reads};
+ghost use Rattle.g4_source.specs.Blocks.{HaveAlternatives};
 
 use crate::by_name::ByName;
 use crate::opening::{FileBytes, open};
@@ -36,6 +37,7 @@ fn halt_of(alloc: Global, name: &str, fault: ReadFault) -> Halt
 fn read_bytes(alloc: Global, name: &str, bytes: &[u8]) -> Result<Source, Halt>
     requires { length bytes.now ≤ MOST_BYTES }
     ensures content { (files : Files) → Opens files name.now (Ok bytes.now) → GivesOrHalts (Reads files name.now) result }
+    ensures full { IfOk result HaveAlternatives }
     ensures counts { (faults misses : ℕ) → Counts faults faults misses misses result }
 {
     match read_grammar(alloc, bytes) {
@@ -54,6 +56,7 @@ fn read_anew<S: Shelf>(
     ensures keeps { S.told shelf.new ≡ S.told shelf.old }
     ensures content { (files : Files) → S.told shelf.old ≡ Some files → GivesOrHalts (Reads files name.now) result }
     ensures kept { (files : Files) → S.told shelf.old ≡ Some files → AreFiles files kept.old → OnOk result (AreFiles files kept.new) }
+    ensures full { IfOk result HaveAlternatives }
     ensures counts { Counts (S.faults shelf.old) (S.faults shelf.new) (S.misses shelf.old) (S.misses shelf.new) result }
 {
     let bytes = open(alloc, shelf, name)?;
@@ -73,6 +76,7 @@ pub fn read_file<S: Shelf>(
     ensures content { (files : Files) → S.told shelf.old ≡ Some files → AreFiles files kept.old
         → GivesOrHalts (Reads files name.now) result }
     ensures kept { (files : Files) → S.told shelf.old ≡ Some files → AreFiles files kept.old → OnOk result (AreFiles files kept.new) }
+    ensures full { IfOk result HaveAlternatives }
     ensures counts { Counts (S.faults shelf.old) (S.faults shelf.new) (S.misses shelf.old) (S.misses shelf.new) result }
 {
     if let Some(bytes) = kept.get(name) {
