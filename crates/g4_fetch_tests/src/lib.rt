@@ -1,5 +1,8 @@
-// Grammars whose imports are fetched: rows worked out by hand, a chain of a thousand files, and a hundred that import each other.
+// Grammars whose imports are fetched and become one: rows worked out by hand, a chain of a thousand files, and a hundred that import each
+// other.
 #![tactic(auto)]
 
 #[cfg(test)]
 mod fetching;
+#[cfg(test)]
+mod integrating;
