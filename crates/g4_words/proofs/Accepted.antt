@@ -7,6 +7,7 @@ use Rattle.std.specs.Str.{bytes_eq}
 use Rattle.clap.specs.Lexer.{long_of, short_of}
 use Rattle.std.proofs.lemmas.Slice.Eq.{bytes_eq-Decides}
 use Rattle.clap.specs.Walk.{Held, Names, Outcome, Row, Rule, Step, Text, Waiting, Walk, after_flag, after_step, arg_by_index, done, idle, long_or_other, next, nothing_held, option, plain, plain_word, positional, refused, rows_after, settled, short_or_plain, subcommand, subcommand_met, subcommand_or_other, to_positional, trailing, value, waits, walk, walk_from, walked, walked_from, word_met, finished}
+use Rattle.clap.specs.Words.{first_of}
 use Rattle.clap.specs.Simple.{App, Shape, built, entered, help_rule, names_of, rows_at, subcommand_of}
 use Rattle.clap.specs.Takes.{is_given}
 use Rattle.clap.specs.Kinds.{or_else}
@@ -156,10 +157,16 @@ parse_fills = (
       (
         fills_by_values (rule_of 0 3) refl,
         (
-          fills_by_flag (rule_of 0 4) (omega arith),
+          fills_by_values (rule_of 0 4) refl,
           (
             fills_by_flag (rule_of 0 5) (omega arith),
-            (fills_by_flag (rule_of 0 6) (omega arith), (fills_by_values (rule_of 0 7) refl, (fills_by_help (rule_of 0 8) refl, tt))),
+            (
+              fills_by_flag (rule_of 0 6) (omega arith),
+              (
+                fills_by_flag (rule_of 0 7) (omega arith),
+                (fills_by_values (rule_of 0 8) refl, (fills_by_help (rule_of 0 9) refl, tt)),
+              ),
+            ),
           ),
         ),
       ),
@@ -168,10 +175,13 @@ parse_fills = (
 )
 
 check_fills : FillAll (command_at 1).rules
-check_fills = (fills_by_values (rule_of 1 0) refl, (fills_by_help (rule_of 1 1) refl, tt))
+check_fills = (fills_by_values (rule_of 1 0) refl, (fills_by_values (rule_of 1 1) refl, (fills_by_help (rule_of 1 2) refl, tt)))
 
 atn_fills : FillAll (command_at 2).rules
-atn_fills = (fills_by_values (rule_of 2 0) refl, (fills_by_values (rule_of 2 1) refl, (fills_by_help (rule_of 2 2) refl, tt)))
+atn_fills = (
+  fills_by_values (rule_of 2 0) refl,
+  (fills_by_values (rule_of 2 1) refl, (fills_by_values (rule_of 2 2) refl, (fills_by_help (rule_of 2 3) refl, tt))),
+)
 
 -- the first of the commands whose name is met; the last is the request for help
 abbrev met_command : Bool → Bool → Bool → Bool → Option Shape
@@ -204,6 +214,7 @@ module _ (words : List Text) (accepted : fault_of g4_app words ≡ []) (few : Ha
         commands.Parse (record {
           grammar = grammar.first;
           start = start.first;
+          library = first_of (codes "library") rows;
           jobs = counts.0.0;
           rows = counts.1.0;
           output = output.0;
@@ -220,6 +231,7 @@ module _ (words : List Text) (accepted : fault_of g4_app words ≡ []) (few : Ha
             record {
               grammar = grammar.one;
               start = start.one;
+              library = refl;
               jobs = counts.0.1;
               rows = counts.1.1;
               output = output.1;
@@ -237,8 +249,14 @@ module _ (words : List Text) (accepted : fault_of g4_app words ≡ []) (few : Ha
       let rows = rows_after (command_at 1).rules [] rest in
       let level = level_filled (command_at 1) check_fills rest none in
       let grammar = given_has_value (codes "grammar") rows level.0 (one_given (is_given (codes "grammar") rows) level.1) in (
-        commands.Check (record { grammar = grammar.first }),
-        record { accepted = accepted; name = codes "check"; rows = rows; given = given; named = (refl, grammar.one) },
+        commands.Check (record { grammar = grammar.first; library = first_of (codes "library") rows }),
+        record {
+          accepted = accepted;
+          name = codes "check";
+          rows = rows;
+          given = given;
+          named = (refl, record { grammar = grammar.one; library = refl });
+        },
       )
 
   atn_of : (rest : List Text) → subcommand_of g4_app words ≡ Some (codes "atn", rows_after (command_at 2).rules [] rest)
@@ -249,13 +267,13 @@ module _ (words : List Text) (accepted : fault_of g4_app words ≡ []) (few : Ha
       let there = two_given (is_given (codes "grammar") rows) (is_given (codes "rule") rows) level.1 in
       let grammar = given_has_value (codes "grammar") rows level.0 there.0 in
       let rule = given_has_value (codes "rule") rows level.0 there.1 in (
-        commands.Atn (record { grammar = grammar.first; rule = rule.first }),
+        commands.Atn (record { grammar = grammar.first; rule = rule.first; library = first_of (codes "library") rows }),
         record {
           accepted = accepted;
           name = codes "atn";
           rows = rows;
           given = given;
-          named = (refl, record { grammar = grammar.one; rule = rule.one });
+          named = (refl, record { grammar = grammar.one; rule = rule.one; library = refl });
         },
       )
 

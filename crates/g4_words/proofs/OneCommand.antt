@@ -19,11 +19,13 @@ one_value : {X : Type 0} (given : Option X) (a b : X) → given ≡ Some a → g
 one_value given a b p q = cc
 
 -- parses with the same fields are the same
-same_parse : (a b : Parse) → a.grammar ≡ b.grammar → a.start ≡ b.start → a.jobs ≡ b.jobs → a.rows ≡ b.rows → a.output ≡ b.output
+same_parse : (a b : Parse) → a.grammar ≡ b.grammar → a.start ≡ b.start → a.library ≡ b.library → a.jobs ≡ b.jobs
+    → a.rows ≡ b.rows → a.output ≡ b.output
     → a.learned ≡ b.learned → a.files ≡ b.files → a ≡ b
-same_parse a b grammar start jobs rows output learned files = λ i. record {
+same_parse a b grammar start library jobs rows output learned files = λ i. record {
   grammar = grammar i;
   start = start i;
+  library = library i;
   jobs = jobs i;
   rows = rows i;
   output = output i;
@@ -36,20 +38,25 @@ one_parse : (values : List Row) (a b : Parse) → IsParse values a → IsParse v
 one_parse values a b p q =
     let output = one_output values a.output b.output p.output q.output in
     same_parse a b (one_value (first_of (codes "grammar") values) a.grammar b.grammar p.grammar q.grammar)
-    (one_value (first_of (codes "start") values) a.start b.start p.start q.start)
+    (one_value (first_of (codes "start") values) a.start b.start p.start q.start) (p.library ∙ sym q.library)
     (one_number (first_of (codes "jobs") values) DEFAULT_JOBS MOST_JOBS a.jobs b.jobs (omega arith) p.jobs q.jobs)
     (one_number (first_of (codes "rows") values) DEFAULT_ROWS MOST_ROWS a.rows b.rows (omega arith) p.rows q.rows) output
     (one_learned values a.output b.output a.learned b.learned p.learned q.learned)
     (one_value (all_of (codes "files") values) a.files b.files p.files q.files)
 
 one_check : (rows : List Row) (a b : Check) → IsCheck rows a → IsCheck rows b → a ≡ b
-one_check rows a b p q = ap (λ (t : Text). record { grammar = t }) (one_value (first_of (codes "grammar") rows) a.grammar b.grammar p q)
+one_check rows a b p q =
+    ap (λ (t : Text). record { grammar = t; library = a.library })
+    (one_value (first_of (codes "grammar") rows) a.grammar b.grammar p.grammar q.grammar)
+    ∙ ap (λ (l : Option Text). record { grammar = b.grammar; library = l }) (p.library ∙ sym q.library)
 
 one_atn : (rows : List Row) (a b : Atn) → IsAtn rows a → IsAtn rows b → a ≡ b
 one_atn rows a b p q =
-    ap (λ (t : Text). record { grammar = t; rule = a.rule })
+    ap (λ (t : Text). record { grammar = t; rule = a.rule; library = a.library })
     (one_value (first_of (codes "grammar") rows) a.grammar b.grammar p.grammar q.grammar)
-    ∙ ap (λ (t : Text). record { grammar = b.grammar; rule = t }) (one_value (first_of (codes "rule") rows) a.rule b.rule p.rule q.rule)
+    ∙ (ap (λ (t : Text). record { grammar = b.grammar; rule = t; library = a.library })
+    (one_value (first_of (codes "rule") rows) a.rule b.rule p.rule q.rule)
+    ∙ ap (λ (l : Option Text). record { grammar = b.grammar; rule = b.rule; library = l }) (p.library ∙ sym q.library))
 
 -- no name is that of two commands
 apart : (one other : Text) → bytes_eq one one ≡ true → bytes_eq one other ≡ false → one ≡ other → ⊥

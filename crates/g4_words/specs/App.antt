@@ -36,6 +36,9 @@ letter_j = 106
 abbrev pub letter_r : ℕ
 letter_r = 114
 
+abbrev pub letter_l : ℕ
+letter_l = 108
+
 -- `parse` with the two options that are needed, and with the two that give a number
 abbrev pub named_app : App
 named_app = with_rule (with_rule (new_app (codes "parse")) (needed_rule (option_rule (codes "grammar") letter_g)))
@@ -44,18 +47,23 @@ named_app = with_rule (with_rule (new_app (codes "parse")) (needed_rule (option_
 abbrev pub numbered_app : App
 numbered_app = with_rule (with_rule named_app (option_rule (codes "jobs") letter_j)) (option_rule (codes "rows") letter_r)
 
--- `parse -g GRAMMAR -s RULE [-j JOBS] [-r ROWS] [--events] [--tokens] [--learned] FILE..`
+-- with an option that gives the library of imported grammars
+abbrev pub with_library : App → App
+with_library app = with_rule app (option_rule (codes "library") letter_l)
+
+-- `parse -g GRAMMAR -s RULE [-j JOBS] [-r ROWS] [-l LIB] [--events] [--tokens] [--learned] FILE..`
 abbrev pub parse_app : App
-parse_app = with_rule (with_rule (with_rule (with_rule numbered_app (flag_rule (codes "events"))) (flag_rule (codes "tokens")))
-    (flag_rule (codes "learned"))) (needed_rule (words_rule (codes "files")))
+parse_app = with_rule (with_rule (with_rule (with_rule (with_library numbered_app) (flag_rule (codes "events")))
+    (flag_rule (codes "tokens"))) (flag_rule (codes "learned"))) (needed_rule (words_rule (codes "files")))
 
--- `check GRAMMAR`
+-- `check [-l LIB] GRAMMAR`
 abbrev pub check_app : App
-check_app = with_rule (new_app (codes "check")) (needed_rule (word_rule (codes "grammar")))
+check_app = with_rule (with_library (new_app (codes "check"))) (needed_rule (word_rule (codes "grammar")))
 
--- `atn GRAMMAR RULE`
+-- `atn [-l LIB] GRAMMAR RULE`
 abbrev pub atn_app : App
-atn_app = with_rule (with_rule (new_app (codes "atn")) (needed_rule (word_rule (codes "grammar")))) (needed_rule (word_rule (codes "rule")))
+atn_app = with_rule (with_rule (with_library (new_app (codes "atn"))) (needed_rule (word_rule (codes "grammar"))))
+    (needed_rule (word_rule (codes "rule")))
 
 -- one of the commands is needed, and the program's own name is not among the words
 abbrev pub base_app : App

@@ -52,10 +52,15 @@ IsJobs rows = IsNumber (first_of (codes "jobs") rows) DEFAULT_JOBS MOST_JOBS
 abbrev pub IsRows : List Row → ℕ → Type 0
 IsRows rows = IsNumber (first_of (codes "rows") rows) DEFAULT_ROWS MOST_ROWS
 
+-- the library that an option gives, if it is given
+abbrev pub IsLibrary : List Row → Option Text → Type 0
+IsLibrary rows library = library ≡ first_of (codes "library") rows
+
 -- the values of `parse`
 pub record IsParse (values : List Row) (parse : Parse) : Type 0 where
   pub grammar : first_of (codes "grammar") values ≡ Some parse.grammar
   pub start : first_of (codes "start") values ≡ Some parse.start
+  pub library : IsLibrary values parse.library
   pub jobs : IsJobs values parse.jobs
   pub rows : IsRows values parse.rows
   pub output : IsOutput values parse.output
@@ -63,14 +68,16 @@ pub record IsParse (values : List Row) (parse : Parse) : Type 0 where
   pub files : all_of (codes "files") values ≡ Some parse.files
   pub few : length parse.files ≤ MOST_FILES
 
--- the value of `check`
-abbrev pub IsCheck : List Row → Check → Type 0
-IsCheck rows check = first_of (codes "grammar") rows ≡ Some check.grammar
+-- the values of `check`
+pub record IsCheck (rows : List Row) (check : Check) : Type 0 where
+  pub grammar : first_of (codes "grammar") rows ≡ Some check.grammar
+  pub library : IsLibrary rows check.library
 
 -- the values of `atn`
 pub record IsAtn (rows : List Row) (atn : Atn) : Type 0 where
   pub grammar : first_of (codes "grammar") rows ≡ Some atn.grammar
   pub rule : first_of (codes "rule") rows ≡ Some atn.rule
+  pub library : IsLibrary rows atn.library
 
 -- the command of this name with these values
 abbrev pub IsNamed : Text → List Row → Command → Type 0

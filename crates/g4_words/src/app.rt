@@ -2,7 +2,7 @@
 ghost use Rattle.std.specs.Prelude.{◌≡◌, IfOk, false};
 ghost use Rattle.clap.specs.Words.{app_of, rule_of, with_rule, with_subcommand};
 ghost use Rattle.clap.specs.declared.Command.TheViews.{out-Command as fields_of};
-ghost use Rattle.g4_words.specs.App.{atn_app, base_app, check_app, flag_rule, g4_app, needed_rule, option_rule, parse_app, word_rule, words_rule};
+ghost use Rattle.g4_words.specs.App.{atn_app, base_app, check_app, flag_rule, g4_app, needed_rule, option_rule, parse_app, with_library, word_rule, words_rule};
 
 use clap::{Arg, ArgAction, Command};
 use std::alloc::{AllocError, Global};
@@ -57,7 +57,15 @@ fn with_arg<'a>(command: Command<'a>, arg: Arg<'a>) -> Result<Command<'a>, Alloc
     command.arg(arg)
 }
 
-/// `parse -g GRAMMAR -s RULE [-j JOBS] [-r ROWS] [--events] [--tokens] [--learned] FILE..`
+/// The command with an option that gives the library of imported grammars.
+fn with_library<'a>(alloc: Global, command: Command<'a>) -> Result<Command<'a>, AllocError>
+    ensures app { IfOk result (λ c. app_of c ≡ with_library (app_of command.entry)) }
+    ensures local { IfOk result (λ c. (fields_of c).has_globals ≡ (fields_of command.entry).has_globals) }
+{
+    with_arg(command, option(alloc, "library", 'l'))
+}
+
+/// `parse -g GRAMMAR -s RULE [-j JOBS] [-r ROWS] [-l LIB] [--events] [--tokens] [--learned] FILE..`
 fn parse_command<'a>(alloc: Global) -> Result<Command<'a>, AllocError>
     ensures app { IfOk result (λ c. app_of c ≡ parse_app) }
     ensures local { IfOk result (λ c. (fields_of c).has_globals ≡ false) }
@@ -67,6 +75,7 @@ fn parse_command<'a>(alloc: Global) -> Result<Command<'a>, AllocError>
     let command = with_arg(command, needed(option(alloc, "start", 's')))?;
     let command = with_arg(command, option(alloc, "jobs", 'j'))?;
     let command = with_arg(command, option(alloc, "rows", 'r'))?;
+    let command = with_library(alloc, command)?;
     let command = with_arg(command, flag(alloc, "events"))?;
     let command = with_arg(command, flag(alloc, "tokens"))?;
     let command = with_arg(command, flag(alloc, "learned"))?;
@@ -74,22 +83,22 @@ fn parse_command<'a>(alloc: Global) -> Result<Command<'a>, AllocError>
     Ok(command)
 }
 
-/// `check GRAMMAR`
+/// `check [-l LIB] GRAMMAR`
 fn check_command<'a>(alloc: Global) -> Result<Command<'a>, AllocError>
     ensures app { IfOk result (λ c. app_of c ≡ check_app) }
     ensures local { IfOk result (λ c. (fields_of c).has_globals ≡ false) }
 {
-    let command = Command::new(alloc, "check");
+    let command = with_library(alloc, Command::new(alloc, "check"))?;
     let command = with_arg(command, needed(word(alloc, "grammar")))?;
     Ok(command)
 }
 
-/// `atn GRAMMAR RULE`
+/// `atn [-l LIB] GRAMMAR RULE`
 fn atn_command<'a>(alloc: Global) -> Result<Command<'a>, AllocError>
     ensures app { IfOk result (λ c. app_of c ≡ atn_app) }
     ensures local { IfOk result (λ c. (fields_of c).has_globals ≡ false) }
 {
-    let command = Command::new(alloc, "atn");
+    let command = with_library(alloc, Command::new(alloc, "atn"))?;
     let command = with_arg(command, needed(word(alloc, "grammar")))?;
     let command = with_arg(command, needed(word(alloc, "rule")))?;
     Ok(command)

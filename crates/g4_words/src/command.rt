@@ -27,13 +27,15 @@ pub enum Output {
     Tokens,
 }
 
-/// `parse -g GRAMMAR -s RULE [-j JOBS] [-r ROWS] [--events | --tokens | --learned] FILE..`: parse files by a rule of a grammar.
+/// `parse -g GRAMMAR -s RULE [-j JOBS] [-r ROWS] [-l LIB] [--events | --tokens | --learned] FILE..`: parse files by a rule of a grammar.
 #[derive(Drop)]
 pub struct Parse {
     /// The name of the grammar's file.
     pub grammar: Text,
     /// The name of the start rule.
     pub start: Text,
+    /// The folder of all other files of the grammar, if one is named.
+    pub library: Option<Text>,
     /// How many workers parse files, from 1 to `MOST_JOBS`.
     pub jobs: u32,
     /// How many rows the store has room for, from 1 to `MOST_ROWS`.
@@ -46,20 +48,24 @@ pub struct Parse {
     pub files: Sequence<Text>,
 }
 
-/// `check GRAMMAR`: check a grammar.
+/// `check [-l LIB] GRAMMAR`: check a grammar.
 #[derive(Drop)]
 pub struct Check {
     /// The name of the grammar's file.
     pub grammar: Text,
+    /// The folder of all other files of the grammar, if one is named.
+    pub library: Option<Text>,
 }
 
-/// `atn GRAMMAR RULE`: list the network of a rule.
+/// `atn [-l LIB] GRAMMAR RULE`: list the network of a rule.
 #[derive(Drop)]
 pub struct Atn {
     /// The name of the grammar's file.
     pub grammar: Text,
     /// The name of the rule.
     pub rule: Text,
+    /// The folder of all other files of the grammar, if one is named.
+    pub library: Option<Text>,
 }
 
 /// What a command line asks for.

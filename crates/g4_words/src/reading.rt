@@ -1,7 +1,7 @@
 // The command that words are.
 ghost use Rattle.std.specs.Prelude.{◌≡◌, ◌↔◌, ◌≤◌, IfOk, true, map, option_map, string_bytes};
 ghost use Rattle.clap.specs.Words.{all_of, first_of, found_of, rows_of};
-ghost use Rattle.g4_words.specs.Commands.{Accepts, Finds, FindsNumber, HasFlag, IsAtn, IsCheck, IsCommand, IsLearned, IsNamed, IsNumber, IsOutput, IsParse};
+ghost use Rattle.g4_words.specs.Commands.{Accepts, Finds, FindsNumber, HasFlag, IsAtn, IsCheck, IsCommand, IsLearned, IsLibrary, IsNamed, IsNumber, IsOutput, IsParse};
 
 use crate::app::g4_command;
 use crate::command::{
@@ -121,6 +121,16 @@ fn number_of(text: Option<&str>, default: u32, most: u32) -> Result<u32, WordsFa
     }
 }
 
+/// The library that an option gives, if it is given.
+fn library_of(alloc: Global, values: &ArgMatches<'_>) -> Result<Option<Text>, AllocError>
+    ensures { IfOk result (IsLibrary (rows_of (found_of values.now))) }
+{
+    match value_of(values, "library") {
+        Some(library) => Ok(Some(Text::copy_of(alloc, library)?)),
+        None => Ok(None),
+    }
+}
+
 fn copies_of(alloc: Global, texts: &[&str]) -> Result<Sequence<Text>, AllocError>
     ensures { IfOk result (λ s. s ≡ map (λ t. t.now) texts.now) }
 {
@@ -153,6 +163,7 @@ fn read_parse(alloc: Global, values: &ArgMatches<'_>) -> Result<Parse, WordsFaul
     Ok(Parse {
         grammar: Text::copy_of(alloc, grammar)?,
         start: Text::copy_of(alloc, start)?,
+        library: library_of(alloc, values)?,
         jobs,
         rows,
         output,
@@ -169,6 +180,7 @@ fn read_check(alloc: Global, values: &ArgMatches<'_>) -> Result<Check, WordsFaul
     };
     Ok(Check {
         grammar: Text::copy_of(alloc, grammar)?,
+        library: library_of(alloc, values)?,
     })
 }
 
@@ -184,6 +196,7 @@ fn read_atn(alloc: Global, values: &ArgMatches<'_>) -> Result<Atn, WordsFault>
     Ok(Atn {
         grammar: Text::copy_of(alloc, grammar)?,
         rule: Text::copy_of(alloc, rule)?,
+        library: library_of(alloc, values)?,
     })
 }
 
