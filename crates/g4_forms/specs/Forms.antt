@@ -67,16 +67,20 @@ setting_forms setting = cond (bytes_eq setting.name.text (codes "tokenVocab")) (
 -- what comes before the rules
 abbrev pub prequel_forms : Prequel → List Form
 prequel_forms (Options settings) = flat_map setting_forms settings
-prequel_forms (Import place names) = one_form place (codes "import")
+prequel_forms (Import place names) = []
 prequel_forms (Tokens place names) = []
 prequel_forms (Channels place names) = []
 
--- the first word of a grammar of rules of one kind
+-- the first word of a grammar of parser rules alone, whose tokens are those of another grammar
 abbrev pub kind_forms : Place → GrammarKind → List Form
 kind_forms place grammars.Combined = []
-kind_forms place grammars.Lexer = one_form place (codes "lexer")
+kind_forms place grammars.Lexer = []
 kind_forms place grammars.Parser = one_form place (codes "parser")
 
--- the forms with which a grammar is not run, in order of the text; only a lexer grammar has modes, and it is not run at all
+-- the forms with which a grammar is not run, in order of the text
 abbrev pub forms_not_run : Source → List Form
 forms_not_run source = kind_forms source.place source.kind ++ (flat_map prequel_forms source.prequels ++ flat_map rule_forms source.rules)
+
+-- the forms with which a grammar that another imports is not run: its kind and its options are passed over
+abbrev pub imported_forms_not_run : Source → List Form
+imported_forms_not_run source = flat_map rule_forms source.rules

@@ -14,7 +14,7 @@ pub fn check_kind(alloc: Global, place: Place, kind: GrammarKind) -> Result<(), 
 {
     match kind {
         GrammarKind::Combined => Ok(()),
-        GrammarKind::Lexer => refuse(alloc, place, "lexer"),
+        GrammarKind::Lexer => Ok(()),
         GrammarKind::Parser => refuse(alloc, place, "parser"),
     }
 }
@@ -46,8 +46,9 @@ fn check_prequel(alloc: Global, prequel: &Prequel) -> Result<(), FormFault>
 {
     match prequel {
         Prequel::Options(settings) => check_settings(alloc, settings.as_slice()),
-        Prequel::Import(place, _) => refuse(alloc, *place, "import"),
-        Prequel::Tokens(_, _) | Prequel::Channels(_, _) => Ok(()),
+        Prequel::Import(..) => Ok(()),
+        Prequel::Tokens(..) => Ok(()),
+        Prequel::Channels(..) => Ok(()),
     }
 }
 

@@ -1,14 +1,7 @@
 -- The stages of loading and building a grammar, and the exits from them.
 use Rattle.std.specs.Prelude.{⊤}
-use Rattle.std.proofs.Common.{◌≡◌, ◌≤◌, ℕ, List, Result, Ok, Err, [], ◌∷◌, ◌+◌, ◌*◌, length, ap, ◌∙◌, subst, sym, refl}
+use Rattle.std.proofs.Common.{◌≡◌, ◌≤◌, ℕ, List, Option, Result, Ok, Err, [], ◌∷◌, ◌+◌, ◌*◌, length, ap, ◌∙◌, subst, sym, refl}
 use Rattle.g4_source.specs.declared.source.Source.{Source}
-use Rattle.g4_reader.specs.Reading.{IsReading}
-use Rattle.g4_reader.specs.declared.reader.ReadFault.{ReadFault}
-use Rattle.g4_forms.specs.Answers.{AreRun}
-use Rattle.g4_forms.specs.Forms.{forms_not_run}
-use Rattle.g4_forms.specs.declared.fault.FormFault.{FormFault}
-use Rattle.g4_vocab.specs.Names.{HasOwnNames}
-use Rattle.g4_vocab.specs.declared.twice.NameFault.{NameFault}
 use Rattle.g4_vocab.specs.Answers.{CausesNumberFault, FitsLimits, IsVocabularyOf}
 use Rattle.g4_vocab.specs.Numbering.{literals_of, names_of, token_types, types_of}
 use Rattle.g4_vocab.specs.Types.{greatest_type}
@@ -37,13 +30,13 @@ use Rattle.g4_load.specs.declared.fault.GrammarFault.{GrammarFault}
 use Rattle.g4_load.specs.declared.fault.GrammarFault.TheVariants as faults
 use Rattle.g4_load.specs.declared.fault.CheckError.{CheckError}
 use Rattle.g4_load.specs.declared.fault.CheckError.TheVariants as errors
-use Rattle.g4_load.specs.Faults.{of_read, of_form, of_name, of_number, of_check, of_build, of_lexer}
+use Rattle.g4_load.specs.Faults.{of_number, of_check, of_build, of_lexer}
 use Rattle.g4_load.specs.declared.stop.Stop.{Stop}
 use Rattle.g4_load.specs.declared.stop.Stop.TheVariants as stopping
 use Rattle.g4_load.specs.declared.stop.Halt.{Halt}
 use Rattle.g4_load.specs.declared.stop.Halt.TheVariants as halts
-use Rattle.g4_load.specs.Stages.{Gives, Then, stops, goes_on, OfFile, passes, fails, IsErrorOf, IsHaltOf}
-use Rattle.g4_load.specs.Files.{Files}
+use Rattle.g4_load.specs.Stages.{AfterFetches, Gives, Then, stops, goes_on, OfFile, passes, fails, IsErrorOf, IsHaltOf}
+use Rattle.g4_fetch.specs.Files.{Files}
 use Rattle.g4_tokens.specs.declared.symbol.TheConstants.{MOST_TYPES}
 use Rattle.g4_lexer_rules.specs.Tables.{tables_of}
 use Rattle.g4_lexer_rules.specs.declared.tables.CommandTables.{CommandTables}
@@ -52,8 +45,9 @@ use Rattle.g4_lexer_rules.specs.declared.lexer_rules.LexerRules.{LexerRules}
 use Rattle.g4_lexer_rules.specs.Lexers.{GivesLexer}
 use Rattle.g4_lexer_rules.specs.declared.lex_net.LexFault.{LexFault}
 use Rattle.g4_lexer_rules.specs.declared.lex_net.LexFault.TheVariants.{States, NoMemory}
-use Rattle.g4_load.specs.Loading.{Fetches, IsGrammarIn, Checks, Numbers, Loads, rules_of_lexer, loaded_of}
+use Rattle.g4_load.specs.Loading.{Checks, IsNumbered, Numbers, Loads, rules_of_lexer, loaded_of}
 use Rattle.g4_load.specs.declared.loading.Loaded.{Loaded}
+use Rattle.g4_load.specs.declared.loading.Numbered.{Numbered}
 use Rattle.g4_load.specs.Building.{GivesRewritten, Lays, FromGrammar}
 
 -- a layer's fault at which a stage ends
@@ -127,73 +121,42 @@ pub lexer_exit : (start : List ℕ) (grammar : Loaded) (net : ParserNetwork) (e 
 lexer_exit start grammar net States is h = goes_on net (Err faults.States) is (stops faults.States (States, h, refl))
 lexer_exit start grammar net NoMemory is h = tt
 
-module _ (bytes : List ℕ) where
-  -- bytes that are no grammar
-  pub read_exit : (e : ReadFault) → IsReading bytes (Err e) → IsErrorOf (IsGrammarIn bytes) (of_read e)
-  read_exit e is = stage_exit (IsReading bytes) of_read Numbers e is
+module _ (source : Source) where
+  -- a grammar that is not numbered
+  pub number_exit : (e : NumberFault) → CausesNumberFault source e → IsErrorOf (Numbers source) (of_number e)
+  number_exit e is = stage_exit (FitsLimits source) of_number (λ _. Checks source) e is
 
-  module _ (source : Source) (read : IsReading bytes (Ok source)) where
-    after_reading : (r : Result Loaded GrammarFault) → Numbers source r → IsGrammarIn bytes r
-    after_reading r h = goes_on source r read h
+  module _ (vocabulary : Vocabulary) (numbered : IsVocabularyOf source vocabulary) where
+    pub fits_limits : FitsLimits source (Ok tt)
+    fits_limits = (
+      numbered.few_rules,
+      subst (λ (types : List Entry). greatest_type types ≤ MOST_TYPES) numbered.types numbered.few_types,
+    )
 
-    -- what follows the forms, and the names
-    abbrev WithForms : Result Loaded GrammarFault → Type 0
-    WithForms = Then (Gives (HasOwnNames source.rules) of_name) (λ _. Then (Gives (FitsLimits source) of_number) (λ _. Checks source))
+    -- a grammar that cannot be run
+    pub check_exit : (e : Refused CheckFault) → IsChecked source (Err e) → IsErrorOf (Numbers source) (of_check e)
+    check_exit e is = error_within (Checks source) (Numbers source) (λ r h. goes_on tt r fits_limits h) (of_check e)
+        (stage_exit (IsChecked source) of_check (λ _ result. result ≡ Ok (loaded_of source)) e is)
 
-    abbrev WithNames : Result Loaded GrammarFault → Type 0
-    WithNames = Then (Gives (FitsLimits source) of_number) (λ _. Checks source)
+  module _ (numbered : Numbered) (is : IsNumbered source numbered) where
+    -- a grammar without fault
+    pub loaded_is : (rules : List StepRule) (shown : List (List ℕ)) (tables : CommandTables) (lexer : LexerRules)
+        → rules ≡ numbered.rules → shown ≡ numbered.types.shown → tables ≡ tables_of source numbered.types.names
+        → IsLexerRulesOf numbered.types.names numbered.types.literals source.rules lexer
+        → ◌≡◌ {A = Loaded} (record { rules = rules; shown = shown; lexer = (lexer, tables) }) (loaded_of source)
+    loaded_is rules shown tables lexer steps seen named are = rw (
+      steps,
+      is.rules,
+      lexer_is source numbered.types.names numbered.types.literals lexer (ap (λ (t : TokenTypes). t.names) is.types)
+          (ap (λ (t : TokenTypes). t.literals) is.types) are,
+      named,
+      seen,
+      is.types,
+    ) refl
 
-    -- a grammar with a form that is not run yet
-    pub form_exit : (e : FormFault) → AreRun {A = ⊤} (forms_not_run source) (Err e) → IsErrorOf (IsGrammarIn bytes) (of_form e)
-    form_exit e is = error_within (Numbers source) (IsGrammarIn bytes) after_reading (of_form e)
-        (stage_exit (AreRun {A = ⊤} (forms_not_run source)) of_form (λ _. WithForms) e is)
-
-    module _ (run : AreRun {A = ⊤} (forms_not_run source) (Ok tt)) where
-      after_forms : (r : Result Loaded GrammarFault) → WithForms r → IsGrammarIn bytes r
-      after_forms r h = after_reading r (goes_on tt r run h)
-
-      -- a grammar with a rule name that is used twice
-      pub name_exit : (e : NameFault) → HasOwnNames source.rules (Err e) → IsErrorOf (IsGrammarIn bytes) (of_name e)
-      name_exit e is = error_within WithForms (IsGrammarIn bytes) after_forms (of_name e)
-          (stage_exit (HasOwnNames source.rules) of_name (λ _. WithNames) e is)
-
-      module _ (named : HasOwnNames source.rules (Ok tt)) where
-        after_names : (r : Result Loaded GrammarFault) → WithNames r → IsGrammarIn bytes r
-        after_names r h = after_forms r (goes_on tt r named h)
-
-        -- a grammar that is not numbered
-        pub number_exit : (e : NumberFault) → CausesNumberFault source e → IsErrorOf (IsGrammarIn bytes) (of_number e)
-        number_exit e is = error_within WithNames (IsGrammarIn bytes) after_names (of_number e)
-            (stage_exit (FitsLimits source) of_number (λ _. Checks source) e is)
-
-        module _ (vocabulary : Vocabulary) (numbered : IsVocabularyOf source vocabulary) where
-          after_numbers : (r : Result Loaded GrammarFault) → Checks source r → IsGrammarIn bytes r
-          after_numbers r h = after_names r (goes_on tt r (numbered.few_rules, few) h)
-            where
-              few : greatest_type (types_of [] source) ≤ MOST_TYPES
-              few = subst (λ (types : List Entry). greatest_type types ≤ MOST_TYPES) numbered.types numbered.few_types
-
-          -- a grammar that cannot be run
-          pub check_exit : (e : Refused CheckFault) → IsChecked source (Err e) → IsErrorOf (IsGrammarIn bytes) (of_check e)
-          check_exit e is = error_within (Checks source) (IsGrammarIn bytes) after_numbers (of_check e)
-              (stage_exit (IsChecked source) of_check (λ _ result. result ≡ Ok (loaded_of source)) e is)
-
-          -- a grammar without fault
-          pub checked : IsChecked source (Ok tt) → (rules : List StepRule) → rules ≡ resolved source → (types : TokenTypes)
-              → types ≡ token_types (types_in vocabulary) → (tables : CommandTables) → tables ≡ tables_of source types.names
-              → (lexer : LexerRules) → IsLexerRulesOf types.names types.literals source.rules lexer →
-              IsGrammarIn bytes (Ok (record { rules = rules; shown = types.shown; lexer = (lexer, tables) }))
-          checked is rules steps types given tables named lexer are =
-              let all : types ≡ token_types (types_of [] source) = given ∙ ap token_types numbered.types in
-              after_numbers (Ok (record { rules = rules; shown = types.shown; lexer = (lexer, tables) }))
-              (goes_on tt (Ok (record { rules = rules; shown = types.shown; lexer = (lexer, tables) })) is
-              (rw (
-                steps,
-                lexer_is source types.names types.literals lexer (ap (λ (t : TokenTypes). t.names) all)
-                    (ap (λ (t : TokenTypes). t.literals) all) are,
-                named,
-                all,
-              ) refl))
+    -- is loaded
+    pub numbers_give : Numbers source (Ok (loaded_of source))
+    numbers_give = goes_on tt (Ok (loaded_of source)) is.fits (goes_on tt (Ok (loaded_of source)) is.checked refl)
 
 -- what a stage over the grammar of one file gives of a command line
 abbrev pub of_one : {X : Type 0} → List ℕ → Result X GrammarFault → Result X Stop
@@ -205,33 +168,24 @@ over_file : {X : Type 0} (name : List ℕ) (Stage : Result X GrammarFault → Ty
 over_file name Stage (Ok x) h = passes x h
 over_file name Stage (Err fault) h = fails fault h
 
-module _ (files : Files) (name bytes : List ℕ) (fetched : Fetches files name (Ok bytes)) where
-  -- the grammar of a file that is fetched
-  pub loaded : (r : Result Loaded GrammarFault) → IsGrammarIn bytes r → Loads files name (name ∷ []) (of_one name r)
-  loaded r (stops fault h) = stops (stopping.Fault name fault)
-      (refl, goes_on bytes (Err (stopping.Fault name fault)) fetched (fails fault h))
-  loaded r (goes_on source s h k) = goes_on source (of_one name s) (refl, goes_on bytes (Ok source) fetched (passes source h))
-      (over_file name (Numbers source) s k)
-
-module _ (files : Files) (name : List ℕ) where
-  -- a file that is not fetched is not loaded
-  pub not_fetched : (halt : Halt) → IsHaltOf (Fetches files name) halt → IsHaltOf (Loads files name (name ∷ [])) halt
-  not_fetched (halts.Stop stop) h = stops stop (refl, stops stop h)
-  not_fetched halts.Failed h = tt
-  not_fetched halts.NoMemory h = tt
-
+module _ (files : Files) (library : Option (List ℕ)) (name : List ℕ) where
   module _ {X : Type 0} (Stage : Loaded → Result X GrammarFault → Type 0) where
-    -- what is made of the grammar in a file
-    abbrev pub Makes : Result X Stop → Type 0
-    Makes = Then (Loads files name (name ∷ [])) (λ grammar. OfFile name (Stage grammar))
+    abbrev Makes : List (List ℕ) → Result X Stop → Type 0
+    Makes fetched = Then (Loads files library name fetched) (λ grammar. OfFile name (Stage grammar))
 
-    -- of a file that is not loaded nothing is made
-    pub not_loaded : (halt : Halt) → IsHaltOf (Loads files name (name ∷ [])) halt → IsHaltOf Makes halt
-    not_loaded (halts.Stop stop) h = stops stop h
+    -- nothing is made of a grammar that is not loaded
+    pub not_loaded : (halt : Halt) → IsHaltOf (AfterFetches (Loads files library name)) halt → IsHaltOf (AfterFetches Makes) halt
+    not_loaded (halts.Stop stop) h = (h.0, stops stop h.1)
     not_loaded halts.Failed h = tt
     not_loaded halts.NoMemory h = tt
 
-    -- what is made of a grammar that is loaded
-    pub made_of : (grammar : Loaded) (r : Result X GrammarFault) → Loads files name (name ∷ []) (Ok grammar) → Stage grammar r
-        → Makes (of_one name r)
-    made_of grammar r h k = goes_on grammar (of_one name r) h (over_file name (Stage grammar) r k)
+    -- what is made of a grammar
+    pub made_of : (grammar : Loaded) (r : Result X GrammarFault) → AfterFetches (Loads files library name) (Ok grammar)
+        → Stage grammar r → AfterFetches Makes (of_one name r)
+    made_of grammar r h k = (h.0, goes_on grammar (of_one name r) h.1 (over_file name (Stage grammar) r k))
+
+    -- and the fault of one of which nothing is made
+    pub fault_of_one : (grammar : Loaded) (fault : GrammarFault) (stop : Stop) → AfterFetches (Loads files library name) (Ok grammar)
+        → Stage grammar (Err fault) → stop ≡ stopping.Fault name fault → AfterFetches Makes (Err stop)
+    fault_of_one grammar fault stop h k same =
+        subst (λ (s : Stop). AfterFetches Makes (Err s)) (sym same) (made_of grammar (Err fault) h k)

@@ -1,18 +1,14 @@
 -- No command of the lexer rules of a grammar is passed over.
-use Rattle.std.specs.Prelude.{⊤}
 use Rattle.std.proofs.Common.{◌≡◌, ℕ, List, [], map, Option, Some, Result, Ok, All, sym, ap, ◌∙◌, subst}
 use Rattle.std.specs.List.{filter_map}
 use Rattle.std.specs.Option.{IsSome}
 use Rattle.std.proofs.lemmas.List.Elements.{All-weaker}
 use Rattle.g4_source.specs.declared.rule.Command.{Command}
 use Rattle.g4_source.specs.declared.source.Source.{Source}
-use Rattle.g4_forms.specs.Answers.{AreRun}
-use Rattle.g4_forms.specs.Forms.{forms_not_run}
 use Rattle.g4_checks.specs.Checking.{IsChecked}
 use Rattle.g4_grammar.specs.declared.token_types.TokenName.{TokenName}
 use Rattle.g4_checks.specs.References.{commands_in}
 use Rattle.g4_vocab.specs.Answers.{FitsLimits}
-use Rattle.g4_vocab.specs.Names.{HasOwnNames}
 use Rattle.g4_vocab.specs.Numbering.{names_of, types_of}
 use Rattle.g4_lexer.specs.declared.command.LexerCommand.{LexerCommand}
 use Rattle.g4_lexer.specs.declared.lexer.Lexer.{Lexer}
@@ -25,17 +21,19 @@ use Rattle.g4_lexer_rules.specs.declared.tables.CommandTables.{CommandTables}
 use Rattle.g4_net.specs.Network.{ParserNetwork}
 use Rattle.g4_load.specs.Building.{Builds, FromGrammar, HasLexer, Lays, interpreter_of}
 use Rattle.g4_load.specs.Commands.{CarriesOutAll, IsCarriedOut, written_commands}
-use Rattle.g4_load.specs.Faults.{of_check, of_form, of_lexer, of_name, of_number}
-use Rattle.g4_load.specs.Files.{Files}
+use Rattle.g4_load.specs.Faults.{of_check, of_lexer, of_number}
+use Rattle.g4_fetch.specs.Files.{Files}
+use Rattle.g4_imports.specs.declared.composite.Composite.{Composite}
 use Rattle.g4_lexer_rules.specs.Lexers.{GivesLexer}
-use Rattle.g4_load.specs.Loading.{Checks, Loads, Numbers, Reads, loaded_of}
+use Rattle.g4_load.specs.Loading.{Checks, Loads, LoadsComposite, Merges, Numbers, loaded_of}
 use Rattle.g4_load.specs.Stages.{Gives, Then, OfFile}
 use Rattle.g4_load.specs.declared.fault.GrammarFault.{GrammarFault}
 use Rattle.g4_load.specs.declared.interpreter.Interpreter.{Interpreter}
 use Rattle.g4_load.specs.declared.loading.Loaded.{Loaded}
 use Rattle.g4_load.specs.declared.stop.Stop.{Stop}
 use Rattle.g4_load.proofs.KnownCommands.{all_known}
-use Rattle.g4_load.proofs.OneBuilt.{one_loaded, one_read}
+use Rattle.g4_load.proofs.OneBuilt.{one_loaded, one_merged}
+use Rattle.g4_load.proofs.Located.{composite_gives}
 use Rattle.g4_load.proofs.Stages.{both_give, file_gives}
 use Rattle.g4_load.proofs.WrittenCommands.{of_all_rules, same_map}
 
@@ -47,12 +45,7 @@ record IsOf (source : Source) (loaded : Loaded) : Type 0 where
 -- a source that is checked
 is_of : (source : Source) (loaded : Loaded) → Numbers source (Ok loaded) → IsOf source loaded
 is_of source loaded h =
-    let forms = both_give (Gives (AreRun {A = ⊤} (forms_not_run source)) of_form)
-    (λ _. Then (Gives (HasOwnNames source.rules) of_name) (λ _. Then (Gives (FitsLimits source) of_number) (λ _. Checks source)))
-    loaded h in
-    let names = both_give (Gives (HasOwnNames source.rules) of_name)
-    (λ _. Then (Gives (FitsLimits source) of_number) (λ _. Checks source)) loaded forms.2 in
-    let numbers = both_give (Gives (FitsLimits source) of_number) (λ _. Checks source) loaded names.2 in
+    let numbers = both_give (Gives (FitsLimits source) of_number) (λ _. Checks source) loaded h in
     let checks = both_give (Gives (IsChecked source) of_check) (λ _ result. result ≡ Ok (loaded_of source)) loaded numbers.2 in
     record {
       same = let ok : ◌≡◌ {A = Result Loaded GrammarFault} (Ok loaded) (Ok (loaded_of source)) = checks.2 in cc;
@@ -121,39 +114,50 @@ module _ (source : Source) (loaded : Loaded) (is : IsOf source loaded) where
       same_map (map (map Some)) (map (filter_map does)) (map (map does)) (All (All Known))
       (same_map (map Some) (filter_map does) (map does) (All Known) one) (written_commands loaded) all
 
-module _ (files : Files) (name : List ℕ) where
-  -- a file that is loaded, and its source
-  loaded_from : (f : List (List ℕ)) (loaded : Loaded) → Loads files name f (Ok loaded)
-      → (source : Source) × Reads files name f (Ok source) × IsOf source loaded
+module _ (files : Files) (library : Option (List ℕ)) (name : List ℕ) where
+  -- a grammar that is loaded, and its source
+  loaded_from : (f : List (List ℕ)) (loaded : Loaded) → Loads files library name f (Ok loaded)
+      → (composite : Composite) × Merges files library name f (Ok composite) × IsOf composite.merged.source loaded
   loaded_from f loaded h =
-      let stages = both_give (Reads files name f) (λ source. OfFile name (Numbers source)) loaded h in
-      (stages.0, stages.1, is_of stages.0 loaded (file_gives name (Numbers stages.0) loaded stages.2))
+      let stages = both_give (Merges files library name f) (LoadsComposite name) loaded h in (
+        stages.0,
+        stages.1,
+        is_of stages.0.merged.source loaded
+            (composite_gives name stages.0 (Numbers stages.0.merged.source) loaded stages.2),
+      )
 
   -- each command of its source is carried out
-  pub each_carried_out : KnownAreCarriedOut → (f g : List (List ℕ)) (source : Source) (loaded : Loaded)
-      → Reads files name f (Ok source) → Loads files name g (Ok loaded) → All (IsCarriedOut loaded) (commands_in source)
-  each_carried_out carried f g source loaded reads loads = by_source (loaded_from g loaded loads)
+  pub each_carried_out : KnownAreCarriedOut → (f g : List (List ℕ)) (composite : Composite) (loaded : Loaded)
+      → Merges files library name f (Ok composite) → Loads files library name g (Ok loaded)
+      → All (IsCarriedOut loaded) (commands_in composite.merged.source)
+  each_carried_out carried f g composite loaded merges loads = by_source (loaded_from g loaded loads)
     where
-      by_source : (other : Source) × Reads files name g (Ok other) × IsOf other loaded → All (IsCarriedOut loaded) (commands_in source)
+      by_source : (other : Composite) × Merges files library name g (Ok other) × IsOf other.merged.source loaded
+          → All (IsCarriedOut loaded) (commands_in composite.merged.source)
       by_source (other, also, is) =
-          let one : ◌≡◌ {A = Result Source Stop} (Ok source) (Ok other) = one_read files name f g (Ok source) (Ok other) reads also in
-          let same : other ≡ source = cc in
-          subst (λ (s : Source). All (IsCarriedOut loaded) (commands_in s)) same (each_of other loaded is carried)
+          let one : ◌≡◌ {A = Result Composite Stop} (Ok composite) (Ok other) =
+          one_merged files library name f g (Ok composite) (Ok other) merges also in
+          let same : other ≡ composite = cc in
+          subst (λ (s : Composite). All (IsCarriedOut loaded) (commands_in s.merged.source)) same
+          (each_of other.merged.source loaded is carried)
 
   -- and the lexer of the interpreter has all of them
   pub all_carried_out : KnownAreKept → (start : List ℕ) (f g : List (List ℕ)) (loaded : Loaded) (made : Interpreter)
-      → Loads files name f (Ok loaded) → Builds files name start g (Ok made) → CarriesOutAll loaded made.lexer
+      → Loads files library name f (Ok loaded) → Builds files library name start g (Ok made) → CarriesOutAll loaded made.lexer
   all_carried_out kept start f g loaded made loads builds =
-      by_grammar (both_give (Loads files name g) (λ grammar. OfFile name (FromGrammar start grammar)) made builds)
+      by_grammar (both_give (Loads files library name g) (λ grammar. OfFile name (FromGrammar start grammar)) made builds)
     where
-      by_source : made.lexer.commands ≡ made_commands loaded → (source : Source) × Reads files name f (Ok source) × IsOf source loaded
+      by_source : made.lexer.commands ≡ made_commands loaded
+          → (composite : Composite) × Merges files library name f (Ok composite) × IsOf composite.merged.source loaded
           → CarriesOutAll loaded made.lexer
-      by_source written (source, reads, is) = ap (map (map (map Some))) written ∙ all_of source loaded is kept
+      by_source written (composite, merges, is) =
+          ap (map (map (map Some))) written ∙ all_of composite.merged.source loaded is kept
 
-      by_grammar : (other : Loaded) × Loads files name g (Ok other) × OfFile name (FromGrammar start other) (Ok made)
+      by_grammar : (other : Loaded) × Loads files library name g (Ok other) × OfFile name (FromGrammar start other) (Ok made)
           → CarriesOutAll loaded made.lexer
       by_grammar (other, also, from) =
-          let one : ◌≡◌ {A = Result Loaded Stop} (Ok other) (Ok loaded) = one_loaded files name g f (Ok other) (Ok loaded) also loads in
+          let one : ◌≡◌ {A = Result Loaded Stop} (Ok other) (Ok loaded) =
+          one_loaded files library name g f (Ok other) (Ok loaded) also loads in
           let same : other ≡ loaded = cc in
           let here : FromGrammar start loaded (Ok made) =
           subst (λ (l : Loaded). FromGrammar start l (Ok made)) same (file_gives name (FromGrammar start other) made from) in

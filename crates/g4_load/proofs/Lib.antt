@@ -1,8 +1,12 @@
 mod Built
 mod CarriedOut
+mod Composed
+mod Counted
+mod FormsRun
+mod Kept
 mod KnownCommands
+mod Located
 pub mod Networks
-mod Fetched
 pub mod OneBuilt
 pub mod OneStage
 mod Stages

@@ -1,27 +1,17 @@
 -- A grammar file gives at most one grammar, and at most one interpreter and one listing from a start rule.
-use Rattle.std.proofs.Common.{◌≡◌, ℕ, List, [], ◌∷◌, length, Bool, true, false, Some, Result, Ok, Err, ap, sym, ◌∙◌, refl, subst, arith}
+use Rattle.std.specs.Prelude.{⊤}
+use Rattle.std.proofs.Common.{◌≡◌, ℕ, List, [], ◌∷◌, length, Bool, true, false, Option, Some, Result, Ok, Err, ap, sym, ◌∙◌, refl, subst, arith}
 use Rattle.g4_tokens.specs.Symbols.{eof}
 use Rattle.g4_grammar.specs.StepRules.{StepRule}
 use Rattle.g4_grammar.specs.declared.step.Numbering.{Numbering}
 use Rattle.g4_leftrec.specs.Rewriting.{rewritten, numberings}
-use Rattle.g4_source.specs.declared.rule.Rule.{Rule}
 use Rattle.g4_net.specs.Network.{ParserNetwork}
 use Rattle.g4_net.specs.declared.network.State.TheVariants.{Call}
 use Rattle.g4_netlist.specs.Listing.{IsListing}
 use Rattle.g4_netlist.proofs.OneListing.{one_listing}
 use Rattle.g4_source.specs.declared.source.Source.{Source}
-use Rattle.g4_reader.specs.Reading.{IsReading}
-use Rattle.g4_reader.specs.declared.reader.ReadFault.TheVariants as reading
-use Rattle.g4_reader.proofs.OneReading.{one_reading}
-use Rattle.g4_forms.specs.declared.fault.FormFault.TheVariants as forming
-use Rattle.g4_forms.specs.Forms.{forms_not_run}
-use Rattle.g4_forms.specs.Answers.{AreRun}
-use Rattle.g4_forms.proofs.OneAnswer.{one_answer}
-use Rattle.g4_vocab.specs.Names.{HasOwnNames}
 use Rattle.g4_vocab.specs.Answers.{FitsLimits}
-use Rattle.g4_vocab.specs.declared.twice.NameFault.TheVariants as naming
 use Rattle.g4_vocab.specs.declared.fault.NumberFault.TheVariants as numbering
-use Rattle.g4_vocab.proofs.OneNaming.{one_naming}
 use Rattle.g4_checks.specs.Checking.{IsChecked}
 use Rattle.g4_source.specs.declared.refused.Refused.TheVariants as checking
 use Rattle.g4_checks.proofs.OneCheck.{one_answer as one_answer_checked}
@@ -33,18 +23,26 @@ use Rattle.g4_lexer_rules.specs.declared.lex_net.LexFault.TheVariants as lexing
 use Rattle.g4_lexer_rules.specs.declared.lex_net.LexNet.{LexNet}
 use Rattle.g4_lexer_rules.specs.declared.tables.CommandTables.{CommandTables}
 use Rattle.g4_lexer_rules.specs.declared.lexer_rules.LexerRules.{LexerRules}
-use Rattle.g4_load.specs.Faults.{of_read, of_form, of_name, of_number, of_check, of_build, of_lexer}
-use Rattle.g4_load.specs.Stages.{Gives, Then, stops, goes_on, OfFile}
+use Rattle.g4_load.specs.Faults.{of_number, of_check, of_build, of_lexer}
+use Rattle.g4_load.specs.Stages.{AfterFetches, Gives, Then, stops, goes_on, OfFile}
 use Rattle.g4_load.specs.declared.interpreter.Interpreter.{Interpreter}
 use Rattle.g4_load.specs.declared.fault.GrammarFault.{GrammarFault}
 use Rattle.g4_load.specs.declared.stop.Stop.{Stop}
-use Rattle.g4_load.specs.declared.stop.Stop.TheVariants as stopping
 use Rattle.g4_load.specs.Building.{interpreter_of, names_of, Lays, HasLexer, FromGrammar, Builds, GivesRewritten}
 use Rattle.g4_lexer_rules.specs.Lexers.{GivesLexer, lexer_with}
 use Rattle.g4_load.specs.declared.loading.Loaded.{Loaded}
 use Rattle.g4_load.specs.Listing.{IsStartRule, ListsStart, FromRule, Lists}
-use Rattle.g4_load.specs.Files.{Files}
-use Rattle.g4_load.specs.Loading.{Fetches, absent, too_large, there, Checks, Numbers, Reads, Loads, loaded_of}
+use Rattle.g4_fetch.specs.Closures.{Halted}
+use Rattle.g4_fetch.specs.Files.{Files}
+use Rattle.g4_fetch.specs.declared.closure.WithImports.{WithImports}
+use Rattle.g4_fetch.proofs.OneFetched.{one_fetched}
+use Rattle.g4_imports.specs.declared.composite.Composite.{Composite}
+use Rattle.g4_imports.proofs.OneIntegration.{no_fault, one_composite, one_fault}
+use Rattle.g4_load.specs.Forms.{FileForm, TellsForms, file_forms}
+use Rattle.g4_load.specs.Stopping.{stop_of_fetch, stop_of_import}
+use Rattle.g4_load.specs.Loading as loading
+use Rattle.g4_load.proofs.Located.{one_of_composite}
+use Rattle.g4_load.specs.Loading.{Checks, Composes, Integrates, LoadsComposite, Merges, Numbers, Reads, Loads, loaded_of}
 use Rattle.g4_load.proofs.OneStage.{IsSingle, IsSingleBeside, one_gift, one_then, one_of_file}
 
 -- the rules of a source are few enough, or not, in at most one way
@@ -146,75 +144,96 @@ one_checked source = one_then (Gives (IsChecked source) of_check) (λ _ result. 
     (one_gift (IsChecked source) of_check checking.NoMemory refl (one_answer_checked source)) (λ _ a b p q. p ∙ sym q)
 
 one_numbers : (source : Source) → IsSingle (Numbers source)
-one_numbers source =
-    one_then (Gives (AreRun (forms_not_run source)) of_form)
-    (λ _. Then (Gives (HasOwnNames source.rules) of_name) (λ _. Then (Gives (FitsLimits source) of_number) (λ _. Checks source)))
-    (one_gift (AreRun (forms_not_run source)) of_form forming.NoMemory refl (one_answer (forms_not_run source)))
-    (λ _. one_then (Gives (HasOwnNames source.rules) of_name) (λ _. Then (Gives (FitsLimits source) of_number) (λ _. Checks source))
-    (one_gift (HasOwnNames source.rules) of_name naming.NoMemory refl (one_naming source.rules))
-    (λ _. one_then (Gives (FitsLimits source) of_number) (λ _. Checks source)
-    (one_gift (FitsLimits source) of_number numbering.NoMemory refl (one_numbering source)) (λ _. one_checked source)))
+one_numbers source = one_then (Gives (FitsLimits source) of_number) (λ _. Checks source)
+    (one_gift (FitsLimits source) of_number numbering.NoMemory refl (one_numbering source)) (λ _. one_checked source)
 
-module _ (files : Files) (name : List ℕ) where
-  -- a name has at most one file
-  one_fetch : IsSingle (Fetches files name)
-  one_fetch a b (absent p) (absent q) = refl
-  one_fetch a b (absent p) (too_large bytes q large) = absurd (let no_way : ⊥ = cc in no_way)
-  one_fetch a b (absent p) (there bytes q small) = absurd (let no_way : ⊥ = cc in no_way)
-  one_fetch a b (too_large bytes p large) (absent q) = absurd (let no_way : ⊥ = cc in no_way)
-  one_fetch a b (too_large bytes p large) (too_large others q larger) =
-      let same : bytes ≡ others = cc in
-      ap (λ (bs : List ℕ). Err (stopping.TooLarge name (length bs))) same
-  one_fetch a b (too_large bytes p large) (there others q small) =
-      let same : bytes ≡ others = cc in
-      absurd (omega (arith, large, small, ap length same))
-  one_fetch a b (there bytes p small) (absent q) = absurd (let no_way : ⊥ = cc in no_way)
-  one_fetch a b (there bytes p small) (too_large others q large) =
-      let same : bytes ≡ others = cc in
-      absurd (omega (arith, large, small, ap length same))
-  one_fetch a b (there bytes p small) (there others q little) =
-      let same : bytes ≡ others = cc in
-      ap (λ bs. Ok bs) same
+-- of forms one thing is reported
+one_forms : (forms : List FileForm) → IsSingle {X = ⊤} (TellsForms forms)
+one_forms forms (Ok u) (Ok v) p q = refl
+one_forms [] (Ok u) (Err t) p q = absurd q
+one_forms (form ∷ forms) (Ok u) (Err t) p q = absurd (let no_way : ⊥ = cc in no_way)
+one_forms [] (Err s) b p q = absurd p
+one_forms (form ∷ forms) (Err s) (Ok v) p q = absurd (let no_way : ⊥ = cc in no_way)
+one_forms (form ∷ forms) (Err s) (Err t) p q = ap (λ x. Err x) (p ∙ sym q)
 
-  -- what follows the fetch
-  abbrev AfterFetch : List ℕ → Result Source Stop → Type 0
-  AfterFetch bytes = OfFile name (Gives (IsReading bytes) of_read)
+-- and of imports
+one_integrates : (grammar : WithImports) → IsSingle (Integrates grammar)
+one_integrates grammar (Ok a) (Ok b) p q = ap (λ x. Ok x) (one_composite grammar.files a b p.1 q.1)
+one_integrates grammar (Ok a) (Err t) p (fault, is, told) = absurd (no_fault grammar fault p.0 is)
+one_integrates grammar (Err s) (Ok b) (fault, is, told) q = absurd (no_fault grammar fault q.0 is)
+one_integrates grammar (Err s) (Err t) (fault, is, told) (other, also, says) =
+    ap (λ x. Err x) (told ∙ (ap stop_of_import (one_fault grammar fault other is also) ∙ sym says))
 
-  -- one reading, and one loading, whatever names are fetched
-  abbrev ReadsAny : Result Source Stop → Type 0
-  ReadsAny = Then (Fetches files name) AfterFetch
+one_composes : (grammar : WithImports) → IsSingle (Composes grammar)
+one_composes grammar = one_then (TellsForms (file_forms grammar.files)) (λ _. Integrates grammar)
+    (one_forms (file_forms grammar.files)) (λ _. one_integrates grammar)
+
+module _ (files : Files) (library : Option (List ℕ)) (name : List ℕ) where
+  -- a grammar is read in at most one way
+  one_read : (f g : List (List ℕ)) (a b : Result WithImports Stop) → Reads files library name f a → Reads files library name g b → a ≡ b
+  one_read f g a b (loading.stops halted h) (loading.stops other k) =
+      let same : ◌≡◌ {A = Result WithImports Halted} (Err halted) (Err other) =
+      one_fetched files library name (Err halted) (Err other) h k in
+      let one : halted ≡ other = cc in
+      ap (λ (x : Halted). Err (stop_of_fetch x.stop)) one
+  one_read f g a b (loading.stops halted h) (loading.reads grammar k) =
+      let same : ◌≡◌ {A = Result WithImports Halted} (Err halted) (Ok grammar) =
+      one_fetched files library name (Err halted) (Ok grammar) h k in
+      absurd (let no_way : ⊥ = cc in no_way)
+  one_read f g a b (loading.reads grammar h) (loading.stops halted k) =
+      let same : ◌≡◌ {A = Result WithImports Halted} (Ok grammar) (Err halted) =
+      one_fetched files library name (Ok grammar) (Err halted) h k in
+      absurd (let no_way : ⊥ = cc in no_way)
+  one_read f g a b (loading.reads grammar h) (loading.reads other k) =
+      let same : ◌≡◌ {A = Result WithImports Halted} (Ok grammar) (Ok other) =
+      one_fetched files library name (Ok grammar) (Ok other) h k in
+      let one : grammar ≡ other = cc in
+      ap (λ (x : WithImports). Ok x) one
+
+  -- whatever names are fetched
+  abbrev ReadsAny : Result WithImports Stop → Type 0
+  ReadsAny = AfterFetches (Reads files library name)
 
   one_reads : IsSingle ReadsAny
-  one_reads = one_then (Fetches files name) AfterFetch one_fetch
-      (λ bytes. one_of_file name (Gives (IsReading bytes) of_read)
-      (one_gift (IsReading bytes) of_read reading.NoMemory refl (one_reading bytes)))
+  one_reads a b p q = one_read p.0 q.0 a b p.1 q.1
 
-  -- a file is at most one source, or stops at most one way
-  pub one_read : (f g : List (List ℕ)) (a b : Result Source Stop) → Reads files name f a → Reads files name g b → a ≡ b
-  one_read f g a b p q = one_reads a b p.1 q.1
+  abbrev MergesAny : Result Composite Stop → Type 0
+  MergesAny = Then ReadsAny Composes
+
+  one_merges : IsSingle MergesAny
+  one_merges = one_then ReadsAny Composes one_reads one_composes
+
+  merges_any : (fetched : List (List ℕ)) (r : Result Composite Stop) → Merges files library name fetched r → MergesAny r
+  merges_any fetched r (stops stop h) = stops stop (fetched, h)
+  merges_any fetched r (goes_on grammar s h k) = goes_on grammar s (fetched, h) k
+
+  -- a grammar becomes one in at most one way
+  pub one_merged : (f g : List (List ℕ)) (a b : Result Composite Stop) → Merges files library name f a → Merges files library name g b
+      → a ≡ b
+  one_merged f g a b p q = one_merges a b (merges_any f a p) (merges_any g b q)
 
   abbrev LoadsAny : Result Loaded Stop → Type 0
-  LoadsAny = Then ReadsAny (λ source. OfFile name (Numbers source))
+  LoadsAny = Then MergesAny (LoadsComposite name)
 
   one_loads : IsSingle LoadsAny
-  one_loads = one_then ReadsAny (λ source. OfFile name (Numbers source)) one_reads
-      (λ source. one_of_file name (Numbers source) (one_numbers source))
+  one_loads = one_then MergesAny (LoadsComposite name) one_merges
+      (λ composite. one_of_composite name composite (Numbers composite.merged.source) (one_numbers composite.merged.source))
 
-  loads_any : (fetched : List (List ℕ)) (r : Result Loaded Stop) → Loads files name fetched r → LoadsAny r
-  loads_any fetched r (stops fault h) = stops fault h.1
-  loads_any fetched r (goes_on source s h k) = goes_on source s h.1 k
+  loads_any : (fetched : List (List ℕ)) (r : Result Loaded Stop) → Loads files library name fetched r → LoadsAny r
+  loads_any fetched r (stops stop h) = stops stop (merges_any fetched (Err stop) h)
+  loads_any fetched r (goes_on composite s h k) = goes_on composite s (merges_any fetched (Ok composite) h) k
 
-  -- a file gives at most one numbered grammar, or stops at most one way
-  pub one_loaded : (f g : List (List ℕ)) (a b : Result Loaded Stop) → Loads files name f a → Loads files name g b → a ≡ b
+  -- a grammar is loaded in at most one way, or stops at most one way
+  pub one_loaded : (f g : List (List ℕ)) (a b : Result Loaded Stop) → Loads files library name f a → Loads files library name g b → a ≡ b
   one_loaded f g a b p q = one_loads a b (loads_any f a p) (loads_any g b q)
 
-  -- what is made of the grammar in a file
+  -- what is made of a grammar
   module _ {X : Type 0} (Stage : Loaded → Result X GrammarFault → Type 0) (one : (grammar : Loaded) → IsSingle (Stage grammar)) where
     abbrev MakesAny : Result X Stop → Type 0
     MakesAny = Then LoadsAny (λ grammar. OfFile name (Stage grammar))
 
     abbrev Makes : List (List ℕ) → Result X Stop → Type 0
-    Makes fetched = Then (Loads files name fetched) (λ grammar. OfFile name (Stage grammar))
+    Makes fetched = Then (Loads files library name fetched) (λ grammar. OfFile name (Stage grammar))
 
     makes_any : (fetched : List (List ℕ)) (r : Result X Stop) → Makes fetched r → MakesAny r
     makes_any fetched r (stops fault h) = stops fault (loads_any fetched (Err fault) h)
@@ -224,12 +243,12 @@ module _ (files : Files) (name : List ℕ) where
     one_made f g a b p q = one_then LoadsAny (λ grammar. OfFile name (Stage grammar)) one_loads
         (λ grammar. one_of_file name (Stage grammar) (one grammar)) a b (makes_any f a p) (makes_any g b q)
 
-  -- a file and a start rule give at most one interpreter, or stop at most one way
-  pub one_built : (start : List ℕ) (f g : List (List ℕ)) (a b : Result Interpreter Stop) → Builds files name start f a
-      → Builds files name start g b → a ≡ b
+  -- a grammar and a start rule give at most one interpreter, or stop at most one way
+  pub one_built : (start : List ℕ) (f g : List (List ℕ)) (a b : Result Interpreter Stop) → Builds files library name start f a
+      → Builds files library name start g b → a ≡ b
   one_built start f g a b p q = one_made (FromGrammar start) (one_from_grammar start) f g a b p q
 
-  -- a file and a rule give at most one listing, or stop at most one way
-  pub one_listed : (rule : List ℕ) (f g : List (List ℕ)) (a b : Result (List ℕ) Stop) → Lists files name rule f a
-      → Lists files name rule g b → a ≡ b
+  -- a grammar and a rule give at most one listing, or stop at most one way
+  pub one_listed : (rule : List ℕ) (f g : List (List ℕ)) (a b : Result (List ℕ) Stop) → Lists files library name rule f a
+      → Lists files library name rule g b → a ≡ b
   one_listed rule f g a b p q = one_made (FromRule rule) (one_from_rule rule) f g a b p q

@@ -1,5 +1,5 @@
 -- A grammar is built: it is loaded, and its networks are laid.
-use Rattle.std.specs.Prelude.{◌≡◌, ℕ, List, map, Result, Ok}
+use Rattle.std.specs.Prelude.{◌≡◌, ℕ, List, map, Option, Result, Ok}
 use Rattle.g4_lexer.specs.declared.lexer.Lexer.{Lexer}
 use Rattle.g4_grammar.specs.StepRules.{StepRule}
 use Rattle.g4_net.specs.Network.{ParserNetwork}
@@ -7,7 +7,7 @@ use Rattle.g4_leftrec.specs.Rewriting.{rewritten, numberings}
 use Rattle.g4_build.specs.Answers.{GivesNetwork}
 use Rattle.g4_build.specs.declared.builder.BuildFault.{BuildFault}
 use Rattle.g4_load.specs.Faults.{of_build, of_lexer}
-use Rattle.g4_load.specs.Files.{Files}
+use Rattle.g4_fetch.specs.Files.{Files}
 use Rattle.g4_load.specs.Loading.{Loads}
 use Rattle.g4_load.specs.Stages.{Gives, Then, OfFile}
 use Rattle.g4_lexer_rules.specs.Lexers.{GivesLexer}
@@ -43,5 +43,5 @@ abbrev pub FromGrammar : List ℕ → Loaded → Result Interpreter GrammarFault
 FromGrammar start grammar = Then (Lays start grammar.rules) (HasLexer grammar)
 
 -- what files are parsed with from the start rule, or the first fault of loading and building
-abbrev pub Builds : Files → List ℕ → List ℕ → List (List ℕ) → Result Interpreter Stop → Type 0
-Builds files name start fetched = Then (Loads files name fetched) (λ grammar. OfFile name (FromGrammar start grammar))
+abbrev pub Builds : Files → Option (List ℕ) → List ℕ → List ℕ → List (List ℕ) → Result Interpreter Stop → Type 0
+Builds files library name start fetched = Then (Loads files library name fetched) (λ grammar. OfFile name (FromGrammar start grammar))

@@ -1,11 +1,7 @@
 -- The faults of a grammar, from those of the stages.
 use Rattle.std.specs.Prelude.{ℕ, List}
-use Rattle.g4_reader.specs.declared.reader.ReadFault.{ReadFault}
-use Rattle.g4_reader.specs.declared.reader.ReadFault.TheVariants as reading
 use Rattle.g4_forms.specs.declared.fault.FormFault.{FormFault}
 use Rattle.g4_forms.specs.declared.fault.FormFault.TheVariants as forming
-use Rattle.g4_vocab.specs.declared.twice.NameFault.{NameFault}
-use Rattle.g4_vocab.specs.declared.twice.NameFault.TheVariants as naming
 use Rattle.g4_vocab.specs.declared.fault.NumberFault.{NumberFault}
 use Rattle.g4_vocab.specs.declared.fault.NumberFault.TheVariants as numbering
 use Rattle.g4_checks.specs.declared.fault.CheckFault.{CheckFault}
@@ -19,22 +15,10 @@ use Rattle.g4_load.specs.declared.fault.GrammarFault.TheVariants as faults
 use Rattle.g4_load.specs.declared.fault.CheckError.{CheckError}
 use Rattle.g4_load.specs.declared.fault.CheckError.TheVariants as errors
 
--- of bytes that are no grammar
-abbrev pub of_read : ReadFault → CheckError
-of_read (reading.NotUtf8 at) = errors.Fault (faults.NotUtf8 at)
-of_read (reading.Syntax place characters) = errors.Fault (faults.Syntax place characters)
-of_read (reading.BadSet place) = errors.Fault (faults.BadSet place)
-of_read reading.NoMemory = errors.NoMemory
-
 -- of a grammar with a form that is not run yet
 abbrev pub of_form : FormFault → CheckError
 of_form (forming.NotRun place characters) = errors.Fault (faults.Syntax place characters)
 of_form forming.NoMemory = errors.NoMemory
-
--- of a grammar with a rule name that is used twice
-abbrev pub of_name : NameFault → CheckError
-of_name (naming.RuleTwice name) = errors.Fault (faults.RuleTwice name)
-of_name naming.NoMemory = errors.NoMemory
 
 -- of a grammar that is not numbered
 abbrev pub of_number : NumberFault → CheckError

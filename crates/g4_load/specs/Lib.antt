@@ -1,10 +1,13 @@
--- Other crates cite Building, Counting, Files, Listing, Loading, Stages, Usable; only this crate cites Commands, Faults.
+-- Other crates cite Building, Counting, Listing, Loading, Stages, Usable; only this crate cites Commands, Faults, Forms, Locating,
+-- Stopping.
 pub mod Building
 pub mod Commands
 pub mod Counting
 pub mod Faults
-pub mod Files
+pub mod Forms
 pub mod Listing
 pub mod Loading
+pub mod Locating
 pub mod Stages
+pub mod Stopping
 pub mod Usable

@@ -1,10 +1,10 @@
 -- The states of a rule of a grammar are listed.
-use Rattle.std.specs.Prelude.{◌≡◌, ℕ, List, Some, Result, Ok, Err}
+use Rattle.std.specs.Prelude.{◌≡◌, ℕ, List, Option, Some, Result, Ok, Err}
 use Rattle.g4_net.specs.declared.network.State.TheVariants.{Call}
 use Rattle.g4_net.specs.Network.{ParserNetwork, state_at}
 use Rattle.g4_netlist.specs.Listing.{IsListing}
 use Rattle.g4_load.specs.Building.{Lays, names_of}
-use Rattle.g4_load.specs.Files.{Files}
+use Rattle.g4_fetch.specs.Files.{Files}
 use Rattle.g4_load.specs.Loading.{Loads}
 use Rattle.g4_load.specs.Stages.{Then, OfFile}
 use Rattle.g4_load.specs.declared.loading.Loaded.{Loaded}
@@ -29,5 +29,5 @@ abbrev pub FromRule : List ℕ → Loaded → Result (List ℕ) GrammarFault →
 FromRule rule grammar = Then (Lays rule grammar.rules) (ListsStart (names_of grammar.rules) grammar.shown)
 
 -- the listing of a rule of the grammar in a file, or the first fault of loading it and of its network
-abbrev pub Lists : Files → List ℕ → List ℕ → List (List ℕ) → Result (List ℕ) Stop → Type 0
-Lists files name rule fetched = Then (Loads files name fetched) (λ grammar. OfFile name (FromRule rule grammar))
+abbrev pub Lists : Files → Option (List ℕ) → List ℕ → List ℕ → List (List ℕ) → Result (List ℕ) Stop → Type 0
+Lists files library name rule fetched = Then (Loads files library name fetched) (λ grammar. OfFile name (FromRule rule grammar))

@@ -43,3 +43,18 @@ IsHaltOf Stage halts.NoMemory = Unit {0}
 abbrev pub GivesOrHalts : {X : Type 0} → (Result X Stop → Type 0) → Result X Halt → Type 0
 GivesOrHalts Stage (Ok x) = Stage (Ok x)
 GivesOrHalts Stage (Err halt) = IsHaltOf Stage halt
+
+-- why a call that fetches nothing halts: a stop that the stages give, or want of memory
+abbrev pub IsStopOf : {X : Type 0} → (Result X Stop → Type 0) → Halt → Type 0
+IsStopOf Stage (halts.Stop stop) = Stage (Err stop)
+IsStopOf Stage halts.Failed = ⊥
+IsStopOf Stage halts.NoMemory = Unit {0}
+
+-- such a call answers with what the stages give, unless memory runs out
+abbrev pub GivesOrStops : {X : Type 0} → (Result X Stop → Type 0) → Result X Halt → Type 0
+GivesOrStops Stage (Ok x) = Stage (Ok x)
+GivesOrStops Stage (Err halt) = IsStopOf Stage halt
+
+-- what stages give, whatever names were fetched for it
+abbrev pub AfterFetches : {X : Type 0} → (List (List ℕ) → Result X Stop → Type 0) → Result X Stop → Type 0
+AfterFetches Stage result = (fetched : List (List ℕ)) × Stage fetched result

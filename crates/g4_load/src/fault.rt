@@ -7,9 +7,8 @@ use g4_build::BuildFault;
 use g4_checks::CheckFault;
 use g4_forms::FormFault;
 use g4_lexer_rules::LexFault;
-use g4_reader::ReadFault;
 use g4_source::Refused;
-use g4_vocab::{NameFault, NumberFault};
+use g4_vocab::NumberFault;
 use std::alloc::{AllocError, Global};
 
 /// The fault of a grammar, in the order in which faults are looked for.
@@ -22,8 +21,10 @@ pub enum GrammarFault {
     Syntax(Place, Sequence<char>),
     /// The place of the first character set that is empty, has a range that runs backward or names an unknown property.
     BadSet(Place),
-    /// The name of the first rule whose name an earlier rule has.
+    /// The name of the first rule whose name an earlier rule of its file has.
     RuleTwice(Text),
+    /// The name by which a grammar of a kind is imported that cannot be imported there.
+    BadImport(Text),
     /// More than 4,096 rules.
     Rules,
     /// More than 4,096 token types.
@@ -47,24 +48,6 @@ pub enum CheckError {
     NoMemory,
 }
 
-impl From<ReadFault> for CheckError {
-    ghost use Rattle.std.specs.Prelude.{◌≡◌};
-    ghost use Rattle.g4_load.specs.Faults.{of_read};
-
-    ghost from_gives = { λ d e. e ≡ of_read d };
-
-    fn from(fault: ReadFault) -> Self {
-        match fault {
-            ReadFault::NotUtf8(at) => CheckError::Fault(GrammarFault::NotUtf8(at)),
-            ReadFault::Syntax(place, characters) => {
-                CheckError::Fault(GrammarFault::Syntax(place, characters))
-            }
-            ReadFault::BadSet(place) => CheckError::Fault(GrammarFault::BadSet(place)),
-            ReadFault::NoMemory => CheckError::NoMemory,
-        }
-    }
-}
-
 impl From<FormFault> for CheckError {
     ghost use Rattle.std.specs.Prelude.{◌≡◌};
     ghost use Rattle.g4_load.specs.Faults.{of_form};
@@ -77,20 +60,6 @@ impl From<FormFault> for CheckError {
                 CheckError::Fault(GrammarFault::Syntax(place, characters))
             }
             FormFault::NoMemory => CheckError::NoMemory,
-        }
-    }
-}
-
-impl From<NameFault> for CheckError {
-    ghost use Rattle.std.specs.Prelude.{◌≡◌};
-    ghost use Rattle.g4_load.specs.Faults.{of_name};
-
-    ghost from_gives = { λ d e. e ≡ of_name d };
-
-    fn from(fault: NameFault) -> Self {
-        match fault {
-            NameFault::RuleTwice(name) => CheckError::Fault(GrammarFault::RuleTwice(name)),
-            NameFault::NoMemory => CheckError::NoMemory,
         }
     }
 }

@@ -1,9 +1,9 @@
 // From a grammar without fault to its network, and to what parses with it.
-ghost use Rattle.std.specs.Prelude.{◌≡◌, IfOk, Some, ◌∷◌, []};
+ghost use Rattle.std.specs.Prelude.{◌≡◌, IfOk, Some, option_map};
 ghost use Rattle.g4_load.specs.Building.{Builds, FromGrammar, Lays, names_of};
 ghost use Rattle.g4_load.specs.Counting.{Counts};
-ghost use Rattle.g4_load.specs.Files.{Files};
-ghost use Rattle.g4_load.specs.Stages.{GivesOrHalts, IsAnswerOf};
+ghost use Rattle.g4_fetch.specs.Files.{Files};
+ghost use Rattle.g4_load.specs.Stages.{AfterFetches, GivesOrHalts, IsAnswerOf};
 ghost use Rattle.g4_load.specs.Usable.{IsParsing, IsUsable};
 
 use crate::fault::{CheckError, not_built};
@@ -81,23 +81,25 @@ fn interpret(alloc: Global, grammar: Loaded, start: &str) -> Result<Interpreter,
     })
 }
 
-/// What parses from this start rule with the grammar in the file of this name.
+/// What parses from this start rule with the grammar in the file of this name, with all that it imports from the library, or else from
+/// the folder of that file.
 ///
 /// # Errors
-/// The file is absent or too large, the first fault of the grammar or of its networks, a fetch that failed, or no memory.
+/// The first file that is absent or too large, the first fault of the grammar or of its networks, a fetch that failed, or no memory.
 pub fn build_interpreter<S: Shelf>(
     alloc: Global,
     shelf: &mut S,
+    library: Option<&str>,
     name: &str,
     start: &str,
 ) -> Result<Interpreter, Halt>
     ensures keeps { S.told shelf.new ≡ S.told shelf.old }
     ensures content { (files : Files) → S.told shelf.old ≡ Some files
-        → GivesOrHalts (Builds files name.now start.now (name.now ∷ [])) result }
+        → GivesOrHalts (AfterFetches (Builds files (option_map (λ l. l.now) library.entry) name.now start.now)) result }
     ensures usable { IfOk result IsUsable }
     ensures counts { Counts ⊥ (S.faults shelf.old) (S.faults shelf.new) (S.misses shelf.old) (S.misses shelf.new) result }
 {
-    let grammar = load(alloc, shelf, name)?;
+    let grammar = load(alloc, shelf, library, name)?;
     match interpret(alloc, grammar, start) {
         Ok(interpreter) => Ok(interpreter),
         Err(CheckError::Fault(fault)) => Err(Halt::Stop(fault_of(alloc, name, fault)?)),

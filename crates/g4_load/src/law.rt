@@ -1,43 +1,45 @@
 // What holds of all grammars in files.
-ghost use Rattle.std.specs.Prelude.{◌≡◌, ℕ, All, List, Ok, Result};
+ghost use Rattle.std.specs.Prelude.{◌≡◌, ℕ, All, List, Ok, Option, Result};
 ghost use Rattle.g4_checks.specs.References.{commands_in};
-ghost use Rattle.g4_source.specs.declared.source.Source.{Source};
+ghost use Rattle.g4_fetch.specs.Files.{Files};
+ghost use Rattle.g4_imports.specs.declared.composite.Composite.{Composite};
 ghost use Rattle.g4_load.specs.Building.{Builds};
 ghost use Rattle.g4_load.specs.Commands.{CarriesOutAll, IsCarriedOut};
-ghost use Rattle.g4_load.specs.Files.{Files};
 ghost use Rattle.g4_load.specs.Listing.{Lists};
-ghost use Rattle.g4_load.specs.Loading.{Loads, Reads};
+ghost use Rattle.g4_load.specs.Loading.{Loads, Merges};
 ghost use Rattle.g4_load.specs.declared.interpreter.Interpreter.{Interpreter as Made};
 ghost use Rattle.g4_load.specs.declared.loading.Loaded.{Loaded as Grammar};
 ghost use Rattle.g4_load.specs.declared.stop.Stop.{Stop};
 
 use g4_lexer_rules::known_commands_are_carried_out;
 
-/// A file is loaded in at most one way, or stops a command line in at most one way.
+/// A grammar is loaded in at most one way, or stops a command line in at most one way.
 pub fn one_loaded()
-    ensures { (files : Files) (name : List ℕ) (f g : List (List ℕ)) (a b : Result Grammar Stop) → Loads files name f a
-        → Loads files name g b → a ≡ b }
+    ensures { (files : Files) (library : Option (List ℕ)) (name : List ℕ) (f g : List (List ℕ)) (a b : Result Grammar Stop)
+        → Loads files library name f a → Loads files library name g b → a ≡ b }
 {}
 
 /// A file and a start rule give at most one interpreter, or stop a command line in at most one way.
 pub fn one_built()
-    ensures { (files : Files) (name start : List ℕ) (f g : List (List ℕ)) (a b : Result Made Stop) → Builds files name start f a
-        → Builds files name start g b → a ≡ b }
+    ensures { (files : Files) (library : Option (List ℕ)) (name start : List ℕ) (f g : List (List ℕ)) (a b : Result Made Stop)
+        → Builds files library name start f a → Builds files library name start g b → a ≡ b }
 {}
 
 /// A file and a rule give at most one listing, or stop a command line in at most one way.
 pub fn one_listed()
-    ensures { (files : Files) (name rule : List ℕ) (f g : List (List ℕ)) (a b : Result (List ℕ) Stop) → Lists files name rule f a
-        → Lists files name rule g b → a ≡ b }
+    ensures { (files : Files) (library : Option (List ℕ)) (name rule : List ℕ) (f g : List (List ℕ)) (a b : Result (List ℕ) Stop)
+        → Lists files library name rule f a → Lists files library name rule g b → a ≡ b }
 {}
 
 /// Each command of the lexer rules of a grammar that is loaded is carried out. The lexer of an interpreter has what each of them does,
 /// in order, so none is passed over.
 pub fn commands_are_carried_out()
-    ensures each { (files : Files) (name : List ℕ) (f g : List (List ℕ)) (source : Source) (grammar : Grammar)
-        → Reads files name f (Ok source) → Loads files name g (Ok grammar) → All (IsCarriedOut grammar) (commands_in source) }
-    ensures all { (files : Files) (name start : List ℕ) (f g : List (List ℕ)) (grammar : Grammar) (made : Made)
-        → Loads files name f (Ok grammar) → Builds files name start g (Ok made) → CarriesOutAll grammar made.lexer }
+    ensures each { (files : Files) (library : Option (List ℕ)) (name : List ℕ) (f g : List (List ℕ)) (composite : Composite)
+        (grammar : Grammar) → Merges files library name f (Ok composite) → Loads files library name g (Ok grammar)
+        → All (IsCarriedOut grammar) (commands_in composite.merged.source) }
+    ensures all { (files : Files) (library : Option (List ℕ)) (name start : List ℕ) (f g : List (List ℕ)) (grammar : Grammar)
+        (made : Made) → Loads files library name f (Ok grammar) → Builds files library name start g (Ok made)
+        → CarriesOutAll grammar made.lexer }
 {
     // The checks before leave no command that is not known.
     known_commands_are_carried_out();

@@ -1,11 +1,14 @@
-// Grammars by the names of their files: read, numbered and checked; with the networks of their rules, to parse with or to list.
+// Grammars by the names of their files: read with all that they import, numbered and checked; with the networks of their rules, to parse
+// with or to list.
 #![tactic(auto)]
 
 mod fault;
+mod forms;
 mod interpreter;
 mod law;
 mod listing;
 mod loading;
+mod locating;
 mod stop;
 
 pub use fault::GrammarFault;

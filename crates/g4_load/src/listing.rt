@@ -1,10 +1,10 @@
 // The listing of a rule of the grammar in a file.
-ghost use Rattle.std.specs.Prelude.{◌≡◌, IfOk, Some, ◌∷◌, []};
+ghost use Rattle.std.specs.Prelude.{◌≡◌, IfOk, Some, option_map};
 ghost use Rattle.g4_net.specs.AddedRule.{IsReady};
 ghost use Rattle.g4_load.specs.Counting.{Counts};
-ghost use Rattle.g4_load.specs.Files.{Files};
+ghost use Rattle.g4_fetch.specs.Files.{Files};
 ghost use Rattle.g4_load.specs.Listing.{FromRule, IsStartListing, IsStartRule, Lists};
-ghost use Rattle.g4_load.specs.Stages.{GivesOrHalts, IsAnswerOf};
+ghost use Rattle.g4_load.specs.Stages.{AfterFetches, GivesOrHalts, IsAnswerOf};
 
 use crate::fault::CheckError;
 use crate::interpreter::{lay, names_of};
@@ -52,23 +52,24 @@ fn list_from(alloc: Global, grammar: &Loaded, rule: &str) -> Result<Octets, Chec
     Ok(listing)
 }
 
-/// The listing of the rule of this name of the grammar in the file of this name: the states of the rule in the network of which
-/// it is the start rule.
+/// The listing of the rule of this name of the grammar in the file of this name, with all that it imports from the library, or else from
+/// the folder of that file: the states of the rule in the network of which it is the start rule.
 ///
 /// # Errors
-/// The file is absent or too large, the first fault of the grammar or of its network, a fetch that failed, or no memory.
+/// The first file that is absent or too large, the first fault of the grammar or of its network, a fetch that failed, or no memory.
 pub fn list_named<S: Shelf>(
     alloc: Global,
     shelf: &mut S,
+    library: Option<&str>,
     name: &str,
     rule: &str,
 ) -> Result<Octets, Halt>
     ensures keeps { S.told shelf.new ≡ S.told shelf.old }
     ensures content { (files : Files) → S.told shelf.old ≡ Some files
-        → GivesOrHalts (Lists files name.now rule.now (name.now ∷ [])) result }
+        → GivesOrHalts (AfterFetches (Lists files (option_map (λ l. l.now) library.entry) name.now rule.now)) result }
     ensures counts { Counts ⊥ (S.faults shelf.old) (S.faults shelf.new) (S.misses shelf.old) (S.misses shelf.new) result }
 {
-    let grammar = load(alloc, shelf, name)?;
+    let grammar = load(alloc, shelf, library, name)?;
     match list_from(alloc, &grammar, rule) {
         Ok(listing) => Ok(listing),
         Err(CheckError::Fault(fault)) => Err(Halt::Stop(fault_of(alloc, name, fault)?)),

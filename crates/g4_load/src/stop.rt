@@ -1,9 +1,13 @@
 // How a command line ends before any file is parsed.
 ghost use Rattle.std.specs.Prelude.{◌≡◌, IfOk};
+ghost use Rattle.g4_load.specs.Stopping.{fault_in_file, stop_of_fetch, stop_of_import};
 ghost use Rattle.g4_load.specs.declared.stop.Stop.TheVariants.{Fault};
 
 use crate::fault::GrammarFault;
 use g4_base::Text;
+use g4_fetch::FileFault;
+use g4_imports::ImportFault;
+use g4_source::Refused;
 use std::alloc::{AllocError, AllocFailed, Global};
 
 /// How a command line ends before any file is parsed.
@@ -47,6 +51,67 @@ impl<T: Drop> From<AllocFailed<T>> for Halt {
 
     fn from(_: AllocFailed<T>) -> Self {
         Halt::NoMemory
+    }
+}
+
+/// The fault of a file that is no grammar.
+fn fault_in_file(fault: FileFault) -> GrammarFault
+    ensures { result ≡ fault_in_file fault }
+{
+    match fault {
+        FileFault::NotUtf8(at) => GrammarFault::NotUtf8(at),
+        FileFault::Syntax(place, characters) => GrammarFault::Syntax(place, characters),
+        FileFault::BadSet(place) => GrammarFault::BadSet(place),
+    }
+}
+
+/// How the command line ends where fetching its grammar stops.
+fn stop_of_fetch(stop: g4_fetch::Stop) -> Stop
+    ensures { result ≡ stop_of_fetch stop }
+{
+    match stop {
+        g4_fetch::Stop::Absent(name) => Stop::Absent(name),
+        g4_fetch::Stop::TooLarge(name, size) => Stop::TooLarge(name, size),
+        g4_fetch::Stop::Unreadable(name, fault) => Stop::Fault(name, fault_in_file(fault)),
+    }
+}
+
+impl From<g4_fetch::Halt> for Halt {
+    ghost use Rattle.std.specs.Prelude.{◌≡◌};
+    ghost use Rattle.g4_load.specs.Stopping.{halt_of_fetch};
+
+    ghost from_gives = { λ d e. e ≡ halt_of_fetch d };
+
+    fn from(halt: g4_fetch::Halt) -> Self {
+        match halt {
+            g4_fetch::Halt::Stop(stop) => Halt::Stop(stop_of_fetch(stop)),
+            g4_fetch::Halt::Failed => Halt::Failed,
+            g4_fetch::Halt::NoMemory => Halt::NoMemory,
+        }
+    }
+}
+
+/// How the command line ends where its grammar does not become one with those that it imports.
+fn stop_of_import(fault: ImportFault) -> Stop
+    ensures { result ≡ stop_of_import fault }
+{
+    match fault {
+        ImportFault::RuleTwice { file, rule } => Stop::Fault(file, GrammarFault::RuleTwice(rule)),
+        ImportFault::BadImport { file, name } => Stop::Fault(file, GrammarFault::BadImport(name)),
+    }
+}
+
+impl From<Refused<ImportFault>> for Halt {
+    ghost use Rattle.std.specs.Prelude.{◌≡◌};
+    ghost use Rattle.g4_load.specs.Stopping.{halt_of_import};
+
+    ghost from_gives = { λ d e. e ≡ halt_of_import d };
+
+    fn from(refused: Refused<ImportFault>) -> Self {
+        match refused {
+            Refused::Fault(fault) => Halt::Stop(stop_of_import(fault)),
+            Refused::NoMemory => Halt::NoMemory,
+        }
     }
 }
 

@@ -10,7 +10,7 @@ use Rattle.g4_load.proofs.OneBuilt.{one_built, one_listed, one_loaded}
 use Rattle.g4_load.specs.declared.interpreter.Interpreter.{Interpreter}
 use Rattle.g4_load.specs.declared.stop.Stop.{Stop}
 use Rattle.g4_load.specs.declared.stop.Stop.TheVariants as stops
-use Rattle.g4_load.specs.Files.{Files}
+use Rattle.g4_fetch.specs.Files.{Files}
 use Rattle.g4_load.specs.Building.{Builds}
 use Rattle.g4_outcome.specs.declared.input.Input.{Input}
 use Rattle.g4_outcome.specs.declared.outcome.Outcome.{Outcome}
@@ -37,31 +37,33 @@ one_told asked rows i is (Some s) (Some t) h k =
 module _ (files : Files) where
   -- `check` has at most one end
   one_check : (check : Check) (a b : End) → EndsCheck files check a → EndsCheck files check b → a ≡ b
-  one_check check _ _ (not_checked f s h) (not_checked g t k) = let same = one_loaded files check.grammar f g (Err s) (Err t) h k in
+  one_check check _ _ (not_checked f s h) (not_checked g t k) =
+      let same = one_loaded files check.library check.grammar f g (Err s) (Err t) h k in
       let stop : s ≡ t = cc in ap stopped stop
   one_check check _ _ (not_checked f s h) (grammar_checked g made k) = let same =
-      one_loaded files check.grammar f g (Err s) (Ok made) h k in absurd (let no_way : ⊥ = cc in no_way)
+      one_loaded files check.library check.grammar f g (Err s) (Ok made) h k in absurd (let no_way : ⊥ = cc in no_way)
   one_check check _ _ (grammar_checked f made h) (not_checked g t k) = let same =
-      one_loaded files check.grammar f g (Ok made) (Err t) h k in absurd (let no_way : ⊥ = cc in no_way)
+      one_loaded files check.library check.grammar f g (Ok made) (Err t) h k in absurd (let no_way : ⊥ = cc in no_way)
   one_check check _ _ (grammar_checked f made h) (grammar_checked g other k) = let same =
-      one_loaded files check.grammar f g (Ok made) (Ok other) h k in let grammar : made ≡ other = cc in ap checked grammar
+      one_loaded files check.library check.grammar f g (Ok made) (Ok other) h k in let grammar : made ≡ other = cc in ap checked grammar
 
   -- `atn` has
   one_atn : (atn : Atn) (a b : End) → EndsAtn files atn a → EndsAtn files atn b → a ≡ b
-  one_atn atn _ _ (not_listed f s h) (not_listed g t k) = let same = one_listed files atn.grammar atn.rule f g (Err s) (Err t) h k in
+  one_atn atn _ _ (not_listed f s h) (not_listed g t k) =
+      let same = one_listed files atn.library atn.grammar atn.rule f g (Err s) (Err t) h k in
       let stop : s ≡ t = cc in ap stopped stop
   one_atn atn _ _ (not_listed f s h) (rule_listed g made k) = let same =
-      one_listed files atn.grammar atn.rule f g (Err s) (Ok made) h k in absurd (let no_way : ⊥ = cc in no_way)
+      one_listed files atn.library atn.grammar atn.rule f g (Err s) (Ok made) h k in absurd (let no_way : ⊥ = cc in no_way)
   one_atn atn _ _ (rule_listed f made h) (not_listed g t k) = let same =
-      one_listed files atn.grammar atn.rule f g (Ok made) (Err t) h k in absurd (let no_way : ⊥ = cc in no_way)
+      one_listed files atn.library atn.grammar atn.rule f g (Ok made) (Err t) h k in absurd (let no_way : ⊥ = cc in no_way)
   one_atn atn _ _ (rule_listed f made h) (rule_listed g other k) = let same =
-      one_listed files atn.grammar atn.rule f g (Ok made) (Ok other) h k in let listing : made ≡ other = cc in ap listed listing
+      one_listed files atn.library atn.grammar atn.rule f g (Ok made) (Ok other) h k in let listing : made ≡ other = cc in ap listed listing
 
   module _ (parse : Parse) where
     -- the same interpreter, and the same files
-    pub same_built : (f g : List (List ℕ)) (r s : Result Interpreter Stop) → Builds files parse.grammar parse.start f r
-        → Builds files parse.grammar parse.start g s → r ≡ s
-    same_built f g r s h k = one_built files parse.grammar parse.start f g r s h k
+    pub same_built : (f g : List (List ℕ)) (r s : Result Interpreter Stop) → Builds files parse.library parse.grammar parse.start f r
+        → Builds files parse.library parse.grammar parse.start g s → r ≡ s
+    same_built f g r s h k = one_built files parse.library parse.grammar parse.start f g r s h k
 
     pub same_inputs : (r s : Result (List Input) (List ℕ)) → inputs_of files parse.files ≡ r → inputs_of files parse.files ≡ s → r ≡ s
     same_inputs r s h k = sym h ∙ k
@@ -79,8 +81,8 @@ module _ (files : Files) where
         ∙ ap (λ x. all_parsed parse.output j parse.files ps x) (one_told parse.learned parse.rows i is s t x told))
 
     -- the same cells
-    pub same_many : (f g : List (List ℕ)) (i j : Interpreter) → Builds files parse.grammar parse.start f (Ok i)
-        → Builds files parse.grammar parse.start g (Ok j) → HasManyCells parse.rows i → HasManyCells parse.rows j
+    pub same_many : (f g : List (List ℕ)) (i j : Interpreter) → Builds files parse.library parse.grammar parse.start f (Ok i)
+        → Builds files parse.library parse.grammar parse.start g (Ok j) → HasManyCells parse.rows i → HasManyCells parse.rows j
     same_many f g i j h k many =
         let same = same_built f g (Ok i) (Ok j) h k in
         let one : i ≡ j = cc in

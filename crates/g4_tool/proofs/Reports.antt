@@ -23,14 +23,14 @@ use Rattle.g4_words.specs.declared.command.Check.{Check}
 use Rattle.g4_words.specs.declared.command.Command.{Command}
 use Rattle.g4_words.specs.declared.command.Command.TheVariants as commands
 use Rattle.g4_words.specs.declared.command.Parse.{Parse}
-use Rattle.g4_load.specs.Files.{Files}
+use Rattle.g4_fetch.specs.Files.{Files}
 use Rattle.g4_tool.specs.Inputs.{inputs_of, GivesInputs}
 use Rattle.g4_tool.specs.Learned.{IsTold, learned_lines}
 use Rattle.g4_tally.specs.declared.tally.Tally.{Tally}
 use Rattle.g4_load.specs.Listing.{Lists}
 use Rattle.g4_load.specs.Loading.{Loads}
 use Rattle.g4_load.specs.Building.{Builds}
-use Rattle.g4_load.specs.Stages.{IsHaltOf}
+use Rattle.g4_load.specs.Stages.{AfterFetches, IsHaltOf}
 use Rattle.g4_outcome.specs.Outcomes.{is_accepted, lines_of_files}
 use Rattle.g4_tool.specs.Cells.{HasManyCells, Refuses}
 use Rattle.g4_tool.specs.Files.{AreParsed}
@@ -60,67 +60,70 @@ pub reports_stop : (files : Files) (words : List (List ℕ)) (stop : Stop) (repo
     → IsReportOf (stopped stop) report → IsReport files words report
 reports_stop files words stop report has is = record { end = stopped stop; has = has; is = is; meant = λ parse is_parse. tt }
 
-module _ (files : Files) (words : List (List ℕ)) (check : Check) (fetched : List (List ℕ))
+module _ (files : Files) (words : List (List ℕ)) (check : Check)
     (command : IsCommand words (commands.Check check)) where
   -- a grammar that is not checked
-  pub stops_unchecked : (halt : Halt) → IsHaltOf (Loads files check.grammar fetched) halt → ReportsOrHalts files words (Err halt)
-  stops_unchecked (halts.Stop stop) h = of_command (commands.Check check) (stopped stop) command (not_checked fetched stop h)
+  pub stops_unchecked : (halt : Halt) → IsHaltOf (AfterFetches (Loads files check.library check.grammar)) halt
+      → ReportsOrHalts files words (Err halt)
+  stops_unchecked (halts.Stop stop) h = of_command (commands.Check check) (stopped stop) command (not_checked h.0 stop h.1)
   stops_unchecked halts.Failed h = tt
   stops_unchecked halts.NoMemory h = tt
 
   -- a grammar that is checked
-  pub reports_checked : (grammar : Loaded) (report : Report) → Loads files check.grammar fetched (Ok grammar)
+  pub reports_checked : (grammar : Loaded) (report : Report) → AfterFetches (Loads files check.library check.grammar) (Ok grammar)
       → IsReportOf (checked grammar) report → IsReport files words report
   reports_checked grammar report loads is = record {
     end = checked grammar;
     has = of_command (commands.Check check) (checked grammar) command
-        (grammar_checked fetched grammar loads);
+        (grammar_checked loads.0 grammar loads.1);
     is = is;
     meant = λ parse is_parse. tt;
   }
 
-module _ (files : Files) (words : List (List ℕ)) (atn : Atn) (fetched : List (List ℕ)) (command : IsCommand words (commands.Atn atn)) where
+module _ (files : Files) (words : List (List ℕ)) (atn : Atn) (command : IsCommand words (commands.Atn atn)) where
   -- a rule that is not listed
-  pub stops_unlisted : (halt : Halt) → IsHaltOf (Lists files atn.grammar atn.rule fetched) halt → ReportsOrHalts files words (Err halt)
-  stops_unlisted (halts.Stop stop) h = of_command (commands.Atn atn) (stopped stop) command (not_listed fetched stop h)
+  pub stops_unlisted : (halt : Halt) → IsHaltOf (AfterFetches (Lists files atn.library atn.grammar atn.rule)) halt
+      → ReportsOrHalts files words (Err halt)
+  stops_unlisted (halts.Stop stop) h = of_command (commands.Atn atn) (stopped stop) command (not_listed h.0 stop h.1)
   stops_unlisted halts.Failed h = tt
   stops_unlisted halts.NoMemory h = tt
 
   -- a rule that is listed
-  pub reports_listed : (listing : List ℕ) (report : Report) → Lists files atn.grammar atn.rule fetched (Ok listing)
+  pub reports_listed : (listing : List ℕ) (report : Report) → AfterFetches (Lists files atn.library atn.grammar atn.rule) (Ok listing)
       → IsReportOf (listed listing) report → IsReport files words report
   reports_listed listing report lists is = record {
     end = listed listing;
-    has = of_command (commands.Atn atn) (listed listing) command (rule_listed fetched listing lists);
+    has = of_command (commands.Atn atn) (listed listing) command (rule_listed lists.0 listing lists.1);
     is = is;
     meant = λ parse is_parse. tt;
   }
 
-module _ (files : Files) (words : List (List ℕ)) (parse : Parse) (fetched : List (List ℕ))
+module _ (files : Files) (words : List (List ℕ)) (parse : Parse)
     (command : IsCommand words (commands.Parse parse)) where
   -- a command without an interpreter
-  pub stops_unbuilt : (halt : Halt) → IsHaltOf (Builds files parse.grammar parse.start fetched) halt → ReportsOrHalts files words (Err halt)
-  stops_unbuilt (halts.Stop stop) h = of_command (commands.Parse parse) (stopped stop) command (not_built fetched stop h)
+  pub stops_unbuilt : (halt : Halt) → IsHaltOf (AfterFetches (Builds files parse.library parse.grammar parse.start)) halt
+      → ReportsOrHalts files words (Err halt)
+  stops_unbuilt (halts.Stop stop) h = of_command (commands.Parse parse) (stopped stop) command (not_built h.0 stop h.1)
   stops_unbuilt halts.Failed h = tt
   stops_unbuilt halts.NoMemory h = tt
 
-  module _ (interpreter : Interpreter) (built : Builds files parse.grammar parse.start fetched (Ok interpreter)) where
+  module _ (interpreter : Interpreter) (built : AfterFetches (Builds files parse.library parse.grammar parse.start) (Ok interpreter)) where
     -- a command with too many cells
     pub stops_many : (halt : Halt) → Refuses parse.grammar parse.rows interpreter (Err halt) → ReportsOrHalts files words (Err halt)
     stops_many (halts.Stop stop) h = subst (λ (s : Stop). HasEnd files words (stopped s)) (sym h.1)
         (of_command (commands.Parse parse) (stopped (stops.Fault parse.grammar faults.Cells)) command
-        (many_cells fetched interpreter built h.0))
+        (many_cells built.0 interpreter built.1 h.0))
     stops_many halts.Failed h = absurd h
     stops_many halts.NoMemory h = tt
 
-  module _ (interpreter : Interpreter) (built : Builds files parse.grammar parse.start fetched (Ok interpreter))
+  module _ (interpreter : Interpreter) (built : AfterFetches (Builds files parse.library parse.grammar parse.start) (Ok interpreter))
       (fits : ¬ (HasManyCells parse.rows interpreter)) where
     -- a command without one of its files
     pub stops_absent : {X : Type 0} (view : X → List Input) (halt : Halt) → GivesInputs view (inputs_of files parse.files) (Err halt)
         → ReportsOrHalts files words (Err halt)
     stops_absent view (halts.Stop stops.Usage) h = absurd h
     stops_absent view (halts.Stop (stops.Absent name)) h =
-        of_command (commands.Parse parse) (stopped (stops.Absent name)) command (file_absent fetched interpreter name built fits h)
+        of_command (commands.Parse parse) (stopped (stops.Absent name)) command (file_absent built.0 interpreter name built.1 fits h)
     stops_absent view (halts.Stop (stops.TooLarge name size)) h = absurd h
     stops_absent view (halts.Stop (stops.Fault name fault)) h = absurd h
     stops_absent view halts.Failed h = tt
@@ -135,7 +138,7 @@ module _ (files : Files) (words : List (List ℕ)) (parse : Parse) (fetched : Li
         let all : count ≡ length are.outcomes = counted ∙ paired ∙ sym (as_many interpreter inputs are.outcomes are.are) in record {
           end = all_parsed parse.output interpreter parse.files are.outcomes learned;
           has = of_command (commands.Parse parse) (all_parsed parse.output interpreter parse.files are.outcomes learned) command
-              (files_parsed fetched interpreter inputs are.outcomes learned built fits there are.are told);
+              (files_parsed built.0 interpreter inputs are.outcomes learned built.1 fits there are.are told);
           is = record {
             lines = is.lines ∙ ap (λ ls. ls ++ closing_line count made.accepted ∷ learned_lines learned) are.lines
                 ∙ ap (λ n. lines_of_files parse.output interpreter parse.files are.outcomes ++ closing_line n made.accepted
@@ -152,7 +155,7 @@ module _ (files : Files) (words : List (List ℕ)) (parse : Parse) (fetched : Li
               let same : parse ≡ other = cc in
               meant_from interpreter other.start are.outcomes
               (subst (λ (q : Parse). IsNetworkFrom interpreter q.start) same
-              (network_from files parse.grammar parse.start fetched interpreter built)) are.meant);
+              (network_from files parse.library parse.grammar parse.start built.0 interpreter built.1)) are.meant);
         }
 
 module _ (files : Files) (words : List (List ℕ)) (answer : Status) (report : Report) (is : IsReport files words report)

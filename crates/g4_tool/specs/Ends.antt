@@ -9,11 +9,11 @@ use Rattle.g4_words.specs.declared.command.Command.TheVariants as commands
 use Rattle.g4_words.specs.declared.command.Parse.{Parse}
 use Rattle.g4_load.specs.declared.loading.Loaded.{Loaded}
 use Rattle.g4_outcome.specs.Texts.{large_line, not_utf8_line}
-use Rattle.g4_tool.specs.Texts.{usage_line, absent_line, syntax_line, bad_set_line, twice_line, no_rule_line, limit_line, undefined_line, unknown_command_line, lexer_predicate_line, unknown_predicate_line, label_clash_line, no_primary_line, empty_operator_line, empty_loop_line, left_cycle_line, checked_line, closing_line}
+use Rattle.g4_tool.specs.Texts.{usage_line, absent_line, syntax_line, bad_set_line, twice_line, bad_import_line, no_rule_line, limit_line, undefined_line, unknown_command_line, lexer_predicate_line, unknown_predicate_line, label_clash_line, no_primary_line, empty_operator_line, empty_loop_line, left_cycle_line, checked_line, closing_line}
 use Rattle.g4_load.specs.Listing.{Lists}
 use Rattle.g4_load.specs.Loading.{Loads}
 use Rattle.g4_load.specs.Building.{Builds}
-use Rattle.g4_load.specs.Files.{Files}
+use Rattle.g4_fetch.specs.Files.{Files}
 use Rattle.g4_tool.specs.Cells.{HasManyCells}
 use Rattle.g4_tool.specs.Inputs.{inputs_of}
 use Rattle.g4_tool.specs.Learned.{IsTold, learned_lines}
@@ -47,33 +47,33 @@ pub data End : Type 0 where
 
 -- The end of `check`: its grammar is loaded, or not.
 pub data EndsCheck (files : Files) (check : Check) : End → Type 0 where
-  not_checked : (fetched : List (List ℕ)) (stop : Stop) → Loads files check.grammar fetched (Err stop)
+  not_checked : (fetched : List (List ℕ)) (stop : Stop) → Loads files check.library check.grammar fetched (Err stop)
       → EndsCheck files check (stopped stop)
-  grammar_checked : (fetched : List (List ℕ)) (grammar : Loaded) → Loads files check.grammar fetched (Ok grammar)
+  grammar_checked : (fetched : List (List ℕ)) (grammar : Loaded) → Loads files check.library check.grammar fetched (Ok grammar)
       → EndsCheck files check (checked grammar)
 
 -- The end of `atn`: its rule is listed, or not.
 pub data EndsAtn (files : Files) (atn : Atn) : End → Type 0 where
-  not_listed : (fetched : List (List ℕ)) (stop : Stop) → Lists files atn.grammar atn.rule fetched (Err stop)
+  not_listed : (fetched : List (List ℕ)) (stop : Stop) → Lists files atn.library atn.grammar atn.rule fetched (Err stop)
       → EndsAtn files atn (stopped stop)
-  rule_listed : (fetched : List (List ℕ)) (listing : List ℕ) → Lists files atn.grammar atn.rule fetched (Ok listing)
+  rule_listed : (fetched : List (List ℕ)) (listing : List ℕ) → Lists files atn.library atn.grammar atn.rule fetched (Ok listing)
       → EndsAtn files atn (listed listing)
 
 -- The end of `parse`: its grammar is not built, or has too many cells with the rows that are asked for, or one of its files is absent,
 -- or each has an outcome, and it is told how much was learned.
 pub data EndsParse (files : Files) (parse : Parse) : End → Type 0 where
-  not_built : (fetched : List (List ℕ)) (stop : Stop) → Builds files parse.grammar parse.start fetched (Err stop)
+  not_built : (fetched : List (List ℕ)) (stop : Stop) → Builds files parse.library parse.grammar parse.start fetched (Err stop)
       → EndsParse files parse (stopped stop)
   many_cells : (fetched : List (List ℕ)) (interpreter : Interpreter)
-      → Builds files parse.grammar parse.start fetched (Ok interpreter) → HasManyCells parse.rows interpreter
+      → Builds files parse.library parse.grammar parse.start fetched (Ok interpreter) → HasManyCells parse.rows interpreter
       → EndsParse files parse (stopped (stops.Fault parse.grammar faults.Cells))
   file_absent : (fetched : List (List ℕ)) (interpreter : Interpreter) (name : List ℕ)
-      → Builds files parse.grammar parse.start fetched (Ok interpreter) → ¬ (HasManyCells parse.rows interpreter)
+      → Builds files parse.library parse.grammar parse.start fetched (Ok interpreter) → ¬ (HasManyCells parse.rows interpreter)
       → inputs_of files parse.files ≡ Err name
       → EndsParse files parse (stopped (stops.Absent name))
   files_parsed : (fetched : List (List ℕ)) (interpreter : Interpreter) (inputs : List Input) (outcomes : List Outcome)
       (learned : Option Tally)
-      → Builds files parse.grammar parse.start fetched (Ok interpreter) → ¬ (HasManyCells parse.rows interpreter)
+      → Builds files parse.library parse.grammar parse.start fetched (Ok interpreter) → ¬ (HasManyCells parse.rows interpreter)
       → inputs_of files parse.files ≡ Ok inputs
       → AreOutcomes interpreter inputs outcomes → IsTold parse.learned parse.rows interpreter inputs learned
       → EndsParse files parse (all_parsed parse.output interpreter parse.files outcomes learned)
@@ -116,6 +116,7 @@ fault_line name (faults.NotUtf8 at) = not_utf8_line name at
 fault_line name (faults.Syntax place characters) = syntax_line name place characters
 fault_line name (faults.BadSet place) = bad_set_line name place
 fault_line name (faults.RuleTwice rule) = twice_line name rule
+fault_line name (faults.BadImport imported) = bad_import_line name imported
 fault_line name faults.Rules = limit_line name (codes "rules 4096")
 fault_line name faults.Types = limit_line name (codes "types 4096")
 fault_line name (faults.Check (checks.Reference fault)) = reference_line name fault

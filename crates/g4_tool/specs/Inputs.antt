@@ -1,7 +1,7 @@
 -- The files of a run.
 use Rattle.std.specs.Prelude.{◌≡◌, ◌≤◌, ℕ, List, [], ◌∷◌, length, Option, Some, None, Result, Ok, Err, nat_lt, cond}
 use Rattle.g4_base.specs.declared.limits.TheConstants.{MOST_BYTES}
-use Rattle.g4_load.specs.Files.{Files}
+use Rattle.g4_fetch.specs.Files.{Files}
 use Rattle.g4_outcome.specs.declared.input.Input.{Input}
 use Rattle.g4_outcome.specs.declared.input.Input.TheVariants.{Bytes, TooLarge}
 use Rattle.g4_load.specs.declared.stop.Stop.TheVariants as stops

@@ -4,7 +4,7 @@ use Rattle.g4_words.specs.Commands.{IsCommand}
 use Rattle.g4_words.specs.declared.command.Command.TheVariants as commands
 use Rattle.g4_words.specs.declared.command.Parse.{Parse}
 use Rattle.g4_load.specs.Building.{Builds}
-use Rattle.g4_load.specs.Files.{Files}
+use Rattle.g4_fetch.specs.Files.{Files}
 use Rattle.g4_tool.specs.Cells.{HasManyCells}
 use Rattle.g4_tool.specs.Inputs.{inputs_of}
 use Rattle.g4_tool.specs.Learned.{learned_lines}
@@ -75,7 +75,7 @@ pub record CanBeRun (files : Files) (words : List (List ℕ)) : Type 0 where
   pub interpreter : Interpreter
   pub inputs : List Input
   pub command : IsCommand words (commands.Parse parse)
-  pub built : Builds files parse.grammar parse.start fetched (Ok interpreter)
+  pub built : Builds files parse.library parse.grammar parse.start fetched (Ok interpreter)
   pub fits : ¬ (HasManyCells parse.rows interpreter)
   pub there : inputs_of files parse.files ≡ Ok inputs
 

@@ -1,7 +1,7 @@
 -- What a run has written of its report, and why it ended with its status.
 use Rattle.std.specs.Prelude.{◌≡◌, ◌≢◌, ℕ, List, Option, Some, ◌⊎◌}
 use Rattle.g4_ports.specs.Ports.{Rose}
-use Rattle.g4_load.specs.Files.{Files}
+use Rattle.g4_fetch.specs.Files.{Files}
 use Rattle.g4_tool.specs.Report.{IsReport, ComesExactly, IsComplete}
 use Rattle.g4_tool.specs.Writing.{Wrote, WroteFront, OneRose, NoneRose}
 use Rattle.g4_tool.specs.declared.report.Report.{Report}

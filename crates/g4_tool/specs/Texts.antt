@@ -28,6 +28,10 @@ bad_set_line name place = ToErr (at_place name place ++ codes "bad character set
 abbrev pub twice_line : List ℕ → List ℕ → Line
 twice_line name rule = ToErr (name ++ (codes ": rule " ++ (rule ++ codes " stands twice\n")))
 
+-- the line of a grammar of a kind that cannot be imported there, by the name by which it is imported
+abbrev pub bad_import_line : List ℕ → List ℕ → Line
+bad_import_line name imported = ToErr (name ++ (codes ": cannot import " ++ (imported ++ codes "\n")))
+
 -- the line of a rule, a mode or a channel that is named and that the grammar has not
 abbrev pub undefined_line : List ℕ → List ℕ → List ℕ → Line
 undefined_line name kind item = ToErr (name ++ (codes ": " ++ (kind ++ (item ++ codes " is not defined\n"))))

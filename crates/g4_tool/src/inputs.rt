@@ -1,7 +1,7 @@
 // The files of a run, fetched in order.
 ghost use Rattle.std.specs.Prelude.{◌≡◌, All, IfOk, Some, length};
 ghost use Rattle.g4_load.specs.Counting.{Counts};
-ghost use Rattle.g4_load.specs.Files.{Files};
+ghost use Rattle.g4_fetch.specs.Files.{Files};
 ghost use Rattle.g4_outcome.specs.Inputs.{IsSmall};
 ghost use Rattle.g4_tool.specs.Inputs.{inputs_of, GivesInputs};
 

@@ -1,6 +1,6 @@
 // The lines of faults of words, grammars and names of files.
 ghost use Rattle.std.specs.Prelude.{◌≡◌, IfOk};
-ghost use Rattle.g4_tool.specs.Texts.{absent_line, usage_line, syntax_line, bad_set_line, twice_line, no_rule_line, limit_line};
+ghost use Rattle.g4_tool.specs.Texts.{absent_line, usage_line, syntax_line, bad_set_line, twice_line, bad_import_line, no_rule_line, limit_line};
 
 use g4_base::{Place, push_shown};
 use g4_outcome::{Line, start_line, to_err};
@@ -52,6 +52,14 @@ pub fn twice(alloc: Global, name: &str, rule: &str) -> Result<Line, AllocError>
     ensures { IfOk result (λ line. line ≡ twice_line name.now rule.now) }
 {
     let line = format!(in alloc; "{name}: rule {rule} stands twice\n")?;
+    Ok(to_err(line))
+}
+
+/// A grammar of a kind that cannot be imported there, by the name by which it is imported.
+pub fn bad_import(alloc: Global, name: &str, imported: &str) -> Result<Line, AllocError>
+    ensures { IfOk result (λ line. line ≡ bad_import_line name.now imported.now) }
+{
+    let line = format!(in alloc; "{name}: cannot import {imported}\n")?;
     Ok(to_err(line))
 }
 

@@ -1,10 +1,10 @@
 // The report of a command line: its lines and its status, made before any of it is written.
-ghost use Rattle.std.specs.Prelude.{◌≡◌, ◌<◌, ◌≤◌, ◌⊎◌, ◌++◌, ℕ, List, IfOk, OnOk, MatchResult, Some, Err, length, map, string_bytes};
+ghost use Rattle.std.specs.Prelude.{◌≡◌, ◌<◌, ◌≤◌, ◌⊎◌, ◌++◌, ℕ, List, IfOk, OnOk, MatchResult, Some, Err, length, map, option_map, string_bytes};
 ghost use Rattle.g4_load.specs.Counting.{Counts};
 ghost use Rattle.g4_tool.specs.Counting.{ReportCounts};
 ghost use Rattle.g4_tool.specs.Ends.{IsNoCommand, checked, listed, stopped};
 ghost use Rattle.g4_tool.specs.Learned.{learned_lines};
-ghost use Rattle.g4_load.specs.Files.{Files};
+ghost use Rattle.g4_fetch.specs.Files.{Files};
 ghost use Rattle.g4_tool.specs.Report.{ReportsOrHalts, IsDoneOrRefused, IsReport, IsReportOf, IsReportOfFiles};
 ghost use Rattle.g4_words.specs.Commands.{IsCommand};
 ghost use Rattle.g4_words.specs.declared.command.Command.TheVariants as commands;
@@ -15,7 +15,7 @@ use crate::files::{Parsed, ParsedRun, parse_files};
 use crate::inputs::fetch_all;
 use crate::status::Status;
 use crate::stop::{line_of, status_of};
-use g4_base::{Octets, Sequence};
+use g4_base::{Octets, Sequence, Text};
 use g4_load::{Halt, Loaded, Stop, build_interpreter, list_named, load};
 use g4_outcome::Line;
 use g4_ports::{Gate, Shelf};
@@ -118,6 +118,16 @@ fn report_checked(alloc: Global, grammar: &Loaded) -> Result<Report, AllocError>
     })
 }
 
+/// A name in place, if there is one.
+fn named(name: &Option<Text>) -> Option<&str>
+    ensures { option_map (λ n. n.now) result ≡ name.now }
+{
+    match name {
+        Some(name) => Some(name.as_str()),
+        None => None,
+    }
+}
+
 /// The report of `check`, or why there is none.
 fn run_check<S: Shelf>(alloc: Global, shelf: &mut S, check: &Check) -> Result<Report, Halt>
     ensures keeps { S.told shelf.new ≡ S.told shelf.old }
@@ -127,7 +137,8 @@ fn run_check<S: Shelf>(alloc: Global, shelf: &mut S, check: &Check) -> Result<Re
     ensures counts { Counts ⊥ (S.faults shelf.old) (S.faults shelf.new) (S.misses shelf.old) (S.misses shelf.new) result }
 {
     let name = check.grammar.as_str();
-    let grammar = load(alloc, shelf, name)?;
+    let library = named(&check.library);
+    let grammar = load(alloc, shelf, library, name)?;
     let report = report_checked(alloc, &grammar)?;
     Ok(report)
 }
@@ -153,7 +164,8 @@ fn run_atn<S: Shelf>(alloc: Global, shelf: &mut S, atn: &Atn) -> Result<Report, 
 {
     let name = atn.grammar.as_str();
     let rule = atn.rule.as_str();
-    let listing = list_named(alloc, shelf, name, rule)?;
+    let library = named(&atn.library);
+    let listing = list_named(alloc, shelf, library, name, rule)?;
     let report = report_listed(alloc, listing)?;
     Ok(report)
 }
@@ -177,7 +189,8 @@ fn run_parse<R: Threads + Wait + Sync, S: Shelf, G: Gate>(
 {
     let grammar = parse.grammar.as_str();
     let start = parse.start.as_str();
-    let interpreter = build_interpreter(alloc, shelf, grammar, start)?;
+    let library = named(&parse.library);
+    let interpreter = build_interpreter(alloc, shelf, library, grammar, start)?;
     check_cells(alloc, grammar, parse.rows, &interpreter)?;
     let names = parse.files.as_slice();
     let inputs = fetch_all(alloc, shelf, names)?;

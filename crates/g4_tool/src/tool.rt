@@ -2,7 +2,7 @@
 ghost use Rattle.std.specs.Prelude.{◌≡◌, ◌≢◌, ◌≤◌, ◌↔◌, ◌⊎◌, Some, map, string_bytes};
 ghost use Rattle.g4_ports.specs.Ports.{Rose};
 ghost use Rattle.g4_tool.specs.Ends.{IsNoCommand};
-ghost use Rattle.g4_load.specs.Files.{Files};
+ghost use Rattle.g4_fetch.specs.Files.{Files};
 ghost use Rattle.g4_tool.specs.Running.{HasCauses, HasReportedFront, IsWhole, NothingFails};
 
 use crate::report::{Stopped, make_report};

@@ -30,7 +30,7 @@ fn interpreter(alloc: Global, grammar: &str) -> Result<Interpreter, Fail>
     ensures { IfOk result IsUsable }
 {
     let mut shelf = shelf_of(alloc, grammar)?;
-    match build_interpreter(alloc, &mut shelf, "X.g4", "s") {
+    match build_interpreter(alloc, &mut shelf, None, "X.g4", "s") {
         Ok(interpreter) => Ok(interpreter),
         Err(_) => Err(Fail::from("no interpreter")),
     }

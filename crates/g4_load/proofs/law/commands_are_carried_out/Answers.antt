@@ -2,9 +2,9 @@ use Rattle.g4_load.proofs.CarriedOut.{all_carried_out, each_carried_out}
 use Rattle.g4_load.proofs.law.commands_are_carried_out.Goals as goal
 
 pub returns-clause-each : goal.returns-clause-each
-returns-clause-each c = λ files name f g source loaded reads loads.
-    each_carried_out files name c.known_commands_are_carried_out.ensures.each f g source loaded reads loads
+returns-clause-each c = λ files library name f g composite loaded merges loads.
+    each_carried_out files library name c.known_commands_are_carried_out.ensures.each f g composite loaded merges loads
 
 pub returns-clause-all : goal.returns-clause-all
-returns-clause-all c = λ files name start f g loaded made loads builds.
-    all_carried_out files name c.known_commands_are_carried_out.ensures.all start f g loaded made loads builds
+returns-clause-all c = λ files library name start f g loaded made loads builds.
+    all_carried_out files library name c.known_commands_are_carried_out.ensures.all start f g loaded made loads builds

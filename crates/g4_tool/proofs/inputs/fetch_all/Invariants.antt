@@ -1,5 +1,5 @@
 use Rattle.std.proofs.Common.{◌≡◌, ◌≤◌, All, drop, length, Some}
-use Rattle.g4_load.specs.Files.{Files}
+use Rattle.g4_fetch.specs.Files.{Files}
 use Rattle.g4_outcome.specs.Inputs.{IsSmall}
 use Rattle.g4_tool.specs.Inputs.{inputs_of}
 use Rattle.g4_tool.proofs.Fetched.{with_front}
