@@ -1,13 +1,11 @@
--- How many bounds are not past a character, and what that says of sets.
-use Rattle.std.proofs.Common.{◌≡◌, ℕ, zero, suc, ◌+◌, ◌<◌, ◌≤◌, ◌⊎◌, inl, inr, List, [], ◌∷◌, Bool, true, false, cond, length, get_or, nat_le, refl, sym, Contains, arith}
+-- How many bounds are not past a number.
+use Rattle.std.proofs.Common.{◌≡◌, ℕ, zero, suc, ◌+◌, ◌<◌, ◌≤◌, ◌⊎◌, inl, inr, List, [], ◌∷◌, ◌++◌, Bool, true, false, cond, length, get_or, nat_le, ap, arith}
 use Rattle.std.proofs.lemmas.Bool.Decides.{nat_tests}
-use Rattle.std.proofs.lemmas.List.Sums.{sum_by-cons}
+use Rattle.std.proofs.lemmas.List.Sums.{sum_by-cons, sum_by_push}
 use Rattle.std.specs.List.{count_by}
-use Rattle.g4_chars.specs.declared.range.Range.{Range}
-use Rattle.g4_chars.specs.CharSets.{Has}
-use Rattle.g4_ordered.specs.Network.{LexerNetwork}
-use Rattle.g4_matching.specs.Bounds.{bounds_of, AreBounds}
-use Rattle.g4_matching.specs.Classes.{AreAlikeBy, class_in}
+use Rattle.std.specs.List.Sorted.{IsStrictlyIncreasing}
+use Rattle.std.proofs.lemmas.List.Kept.{AllPairs-from_increasing}
+use Rattle.g4_matching.specs.Partitions.{part_in}
 
 -- one that passes counts
 counts : (b : Bool) (m n : ℕ) → b ≡ true → m ≡ cond b 1 0 + n → m ≡ n + 1
@@ -33,51 +31,41 @@ counted p (x ∷ xs) (suc i) le first rest =
     let e = counts (p x) (count_by p (x ∷ xs)) (count_by p xs) (first 0 (omega arith)) (sum_by-cons (λ b. cond (p b) 1 0) x xs) in
     omega arith
 
--- one bound more
-one_more : (bounds : List ℕ) (y a : ℕ) → class_in (y ∷ bounds) a ≡ cond (nat_le y a) 1 0 + class_in bounds a
-one_more bounds y a = sum_by-cons (λ b. cond (nat_le b a) 1 0) y bounds
+-- one bound more before the others
+pub one_before : (bounds : List ℕ) (y a : ℕ) → part_in (y ∷ bounds) a ≡ cond (nat_le y a) 1 0 + part_in bounds a
+one_before bounds y a = sum_by-cons (λ b. cond (nat_le b a) 1 0) y bounds
 
--- a character further on has no lesser class
-grows : (bounds : List ℕ) (a b : ℕ) → a ≤ b → class_in bounds a ≤ class_in bounds b
-grows [] a b le = omega arith
-grows (x ∷ bounds) a b le = let h = grows bounds a b le in let e = one_more bounds x a in let f = one_more bounds x b in
-    grind (arith, nat_tests)
+-- and after them
+pub one_after : (bounds : List ℕ) (y a : ℕ) → part_in (bounds ++ y ∷ []) a ≡ part_in bounds a + cond (nat_le y a) 1 0
+one_after bounds y a = sum_by_push (λ b. cond (nat_le b a) 1 0) bounds y
 
--- and a greater one, where a bound is between
-parts : (bounds : List ℕ) (a b x : ℕ) → a < x → x ≤ b → Contains bounds x → class_in bounds a < class_in bounds b
-parts [] a b x lt le c = let n = c.1 in absurd (omega arith)
-parts (y ∷ bounds) a b x lt le (zero, n, is) = let h = grows bounds a b (omega arith) in let e = one_more bounds y a in
-    let f = one_more bounds y b in grind (arith, nat_tests)
-parts (y ∷ bounds) a b x lt le (suc k, n, is) = let h = parts bounds a b x lt le (k, omega arith, is) in
-    let e = one_more bounds y a in let f = one_more bounds y b in grind (arith, nat_tests)
+-- a test that holds, and one that does not
+pub not_past : (b a : ℕ) → b ≤ a → nat_le b a ≡ true
+not_past b a le = grind (arith, nat_tests)
 
--- one is past the other or not
-split : (a b : ℕ) → (a ≤ b) ⊎ (b < a)
-split a b = grind arith
+pub is_past : (b a : ℕ) → a < b → nat_le b a ≡ false
+is_past b a lt = grind (arith, nat_tests)
 
--- no bound is between characters of one class
-not_between : (bounds : List ℕ) (a b x : ℕ) → class_in bounds a ≡ class_in bounds b → Contains bounds x → x ≤ a → x ≤ b
-not_between bounds a b x same c le = elim (split x b)
-    [ inl k ↦ k | inr less ↦ (let p = parts bounds b a x less le c in absurd (omega arith)) ]
+-- each bound is below a later one
+pub later : (bounds : List ℕ) (j k : ℕ) → IsStrictlyIncreasing bounds → j < k → k < length bounds → get_or bounds j 0 < get_or bounds k 0
+later bounds j k rising less within = AllPairs-from_increasing bounds rising j k 0 less within
 
--- a set whose bounds are all there has both of them or neither
-same_has : (bounds : List ℕ) (rs : List Range) (a b : ℕ) → ((x : ℕ) → Contains (bounds_of rs) x → Contains bounds x)
-    → class_in bounds a ≡ class_in bounds b → Has rs a → Has rs b
-same_has bounds [] a b all same h = h
-same_has bounds (r ∷ rs) a b all same (inl w) = inl (
-  not_between bounds a b r.first same (all r.first (0, omega arith, refl)) w.0,
-  elim (split b r.last) [
-    | inl le ↦ le
-    | inr less ↦ (let k = not_between bounds b a (r.last + 1) (sym same) (all (r.last + 1) (1, omega arith, refl)) (omega arith) in
-        let le = w.1 in absurd (omega arith))
-  ],
-)
-same_has bounds (r ∷ rs) a b all same (inr more) =
-    inr (same_has bounds rs a b (λ x c. let n = c.1 in all x (suc (suc c.0), omega arith, c.2)) same more)
+-- the part of a number that is not before a bound, and before the next
+pub part_is : (bounds : List ℕ) (i a : ℕ) → IsStrictlyIncreasing bounds → i ≤ length bounds
+    → ((k : ℕ) → k < i → get_or bounds k 0 ≤ a) → (i < length bounds → a < get_or bounds i 0) → part_in bounds a ≡ i
+part_is bounds i a rising within before after =
+    let e = counted (λ b. nat_le b a) bounds i within (λ k less. not_past (get_or bounds k 0) a (before k less))
+    (λ k le less. is_past (get_or bounds k 0) a (at k le less)) in
+    omega arith
+  where
+    at : (k : ℕ) → i ≤ k → k < length bounds → a < get_or bounds k 0
+    at k le less = elim (split i k) [
+      | inl same ↦ (let h = after (omega arith) in let e : get_or bounds i 0 ≡ get_or bounds k 0 = ap (λ (n : ℕ). get_or bounds n 0) same in omega arith)
+      | inr before ↦ (let h = after (omega arith) in let l = later bounds i k rising (other i k le before) less in omega arith)
+    ]
+      where
+        split : (m n : ℕ) → (m ≡ n) ⊎ (m ≡ n → ⊥)
+        split m n = grind arith
 
--- so characters of one class are not distinguished
-pub alike : (net : LexerNetwork) (bounds : List ℕ) → AreBounds net bounds → AreAlikeBy net bounds
-alike net bounds h a b same p t set is = (
-  same_has bounds set a b (λ x c. h p t x set is c) same,
-  same_has bounds set b a (λ x c. h p t x set is c) (sym same),
-)
+        other : (m n : ℕ) → m ≤ n → (m ≡ n → ⊥) → m < n
+        other m n le never = grind arith

@@ -1,7 +1,6 @@
 -- What is learned stays right.
-use Rattle.std.proofs.Common.{◌≡◌, ℕ, zero, suc, ◌+◌, ◌-◌, ◌*◌, ◌/◌, ◌%◌, ◌<◌, ◌≤◌, ◌⊎◌, inl, inr, List, [], ◌∷◌, ◌++◌, Bool, false, Option, Some, None, length, slice_get, take, drop, replicate, nat_le, length-append, sym, ◌∙◌, ap, subst, arith}
+use Rattle.std.proofs.Common.{◌≡◌, ℕ, zero, suc, ◌+◌, ◌-◌, ◌*◌, ◌/◌, ◌%◌, ◌<◌, ◌≤◌, ◌⊎◌, inl, inr, List, [], ◌∷◌, ◌++◌, Bool, false, Option, Some, None, length, slice_get, take, drop, replicate, length-append, sym, ◌∙◌, ap, subst, arith}
 use Rattle.std.proofs.lemmas.List.{length-replicate, take_at, take_all}
-use Rattle.std.proofs.lemmas.List.Sums.{count_by-le-length}
 use Rattle.std.proofs.lemmas.Nat.{div-mul-add, mod-mul-add, mul-add-lt, mul-le}
 use Rattle.std.proofs.lemmas.Option.{slice_get_within}
 use Rattle.g4_ordered.specs.declared.start.Start.{Start}
@@ -9,9 +8,10 @@ use Rattle.g4_ordered.specs.Network.{LexerNetwork}
 use Rattle.g4_ordered.specs.Configurations.{LexerConfig}
 use Rattle.g4_ordered.specs.Leads.{ReadsTo}
 use Rattle.g4_ordered.specs.Lists.{ReadAll, all_read, taken, refused}
-use Rattle.g4_matching.specs.Classes.{AreAlike, AreAlikeBy, class_in}
+use Rattle.g4_matching.specs.Classes.{AreAlike, AreClasses}
+use Rattle.g4_matching.specs.Partitions.{Classing, class_in}
 use Rattle.g4_matching.specs.declared.learned.Learned.{Learned}
-use Rattle.g4_matching.specs.Automaton.{HasList, StepsTo, Begins, AreLearned, cell_of, class_count, starts_in}
+use Rattle.g4_matching.specs.Automaton.{HasList, StepsTo, Begins, AreLearned, cell_of, starts_in}
 use Rattle.g4_matching.specs.Cells.{IsNoted}
 use Rattle.g4_matching.specs.Ends.{TellsEnd}
 use Rattle.g4_matching.specs.Entries.{AreKnown, configs_of}
@@ -34,40 +34,44 @@ alike_reads_all net a b list read ab ba (refused c cs _ never h) =
     refused c cs read (λ d r. never d (alike_reads net b a c d ba r)) (alike_reads_all net a b cs read ab ba h)
 
 -- the list after a character is the one after each of its class
-pub alike_next : (net : LexerNetwork) (bounds : List ℕ) (last : Bool) (a b : ℕ) (list next : List LexerConfig) → AreAlikeBy net bounds
-    → class_in bounds a ≡ class_in bounds b → IsNext net last a list next → IsNext net last b list next
-alike_next net bounds last a b list next alike same h =
-    record { read = h.read; reads = alike_reads_all net a b list h.read (alike a b same) (alike b a (sym same)) h.reads; makes = h.makes }
+pub alike_next : (net : LexerNetwork) (classes : Classing) (last : Bool) (a b : ℕ) (list next : List LexerConfig) → AreClasses net classes
+    → class_in classes a ≡ class_in classes b → IsNext net last a list next → IsNext net last b list next
+alike_next net classes last a b list next alike same h =
+    record {
+      read = h.read;
+      reads = alike_reads_all net a b list h.read ((alike.same a b).0 same) ((alike.same b a).0 (sym same)) h.reads;
+      makes = h.makes;
+    }
 
--- a class is below the number of classes
-pub class_within : (bounds : List ℕ) (a : ℕ) → class_in bounds a < class_count bounds
-class_within bounds a = let n = count_by-le-length (λ b. nat_le b a) bounds in omega arith
+-- each class is below the number of classes
+abbrev pub IsWithin : Classing → Type 0
+IsWithin classes = (a : ℕ) → class_in classes a < classes.count
 
 -- a list that has a cell is there
-pub cell_within : (bounds : List ℕ) (a from n cells : ℕ) → from < n → cells ≡ n * class_count bounds → cell_of bounds from a < cells
-cell_within bounds a from n cells lt is =
-    let h = mul-add-lt from (class_count bounds) (class_in bounds a) n lt (class_within bounds a) in
-    let e : class_count bounds * n ≡ n * class_count bounds = grind arith in
+pub cell_within : (classes : Classing) (a from n cells : ℕ) → IsWithin classes → from < n → cells ≡ n * classes.count → cell_of classes from a < cells
+cell_within classes a from n cells within lt is =
+    let h = mul-add-lt from (classes.count) (class_in classes a) n lt (within a) in
+    let e : classes.count * n ≡ n * classes.count = grind arith in
     omega arith
 
 -- and no other has
-within_cells : (bounds : List ℕ) (a from n cells : ℕ) → cell_of bounds from a < cells → cells ≡ n * class_count bounds → from < n
-within_cells bounds a from n cells lt is = elim (split from n) [
+within_cells : (classes : Classing) (a from n cells : ℕ) → cell_of classes from a < cells → cells ≡ n * classes.count → from < n
+within_cells classes a from n cells lt is = elim (split from n) [
   | inl less ↦ less
-  | inr le ↦ (let h = mul-le n (class_count bounds) from (class_count bounds) le (omega arith) in absurd (omega arith))
+  | inr le ↦ (let h = mul-le n (classes.count) from (classes.count) le (omega arith) in absurd (omega arith))
 ]
   where
     split : (a b : ℕ) → (a < b) ⊎ (b ≤ a)
     split a b = grind arith
 
 -- one cell is of one list and one class
-same_list : (bounds : List ℕ) (a b from other : ℕ) → cell_of bounds from a ≡ cell_of bounds other b → from ≡ other
-same_list bounds a b from other is = sym (div-mul-add from (class_count bounds) (class_in bounds a) (class_within bounds a))
-    ∙ ap (λ (n : ℕ). n / class_count bounds) is ∙ div-mul-add other (class_count bounds) (class_in bounds b) (class_within bounds b)
+same_list : (classes : Classing) (a b from other : ℕ) → IsWithin classes → cell_of classes from a ≡ cell_of classes other b → from ≡ other
+same_list classes a b from other within is = sym (div-mul-add from (classes.count) (class_in classes a) (within a))
+    ∙ ap (λ (n : ℕ). n / classes.count) is ∙ div-mul-add other (classes.count) (class_in classes b) (within b)
 
-same_class : (bounds : List ℕ) (a b from other : ℕ) → cell_of bounds from a ≡ cell_of bounds other b → class_in bounds a ≡ class_in bounds b
-same_class bounds a b from other is = sym (mod-mul-add from (class_count bounds) (class_in bounds a) (class_within bounds a))
-    ∙ ap (λ (n : ℕ). n % class_count bounds) is ∙ mod-mul-add other (class_count bounds) (class_in bounds b) (class_within bounds b)
+same_class : (classes : Classing) (a b from other : ℕ) → IsWithin classes → cell_of classes from a ≡ cell_of classes other b → class_in classes a ≡ class_in classes b
+same_class classes a b from other within is = sym (mod-mul-add from (classes.count) (class_in classes a) (within a))
+    ∙ ap (λ (n : ℕ). n % classes.count) is ∙ mod-mul-add other (classes.count) (class_in classes b) (within b)
 
 -- in empty cells nothing is noted
 pub none_noted : (n k : ℕ) (x : ℕ) → slice_get (replicate n None) k ≡ Some (Some x) → ⊥
@@ -95,14 +99,14 @@ pub more_list : (returns : List (List ℕ)) (old new : List Learned) (n : ℕ) (
 more_list returns old new n list keeps h = (h.0, keeps n h.0 h.1, h.2)
 
 -- with no list nothing is wrong
-pub learned_none : (net : LexerNetwork) (modes : List (List Start)) (bounds : List ℕ) (returns : List (List ℕ)) (lists : List Learned)
-    (next firsts : List (Option ℕ)) → AreAlikeBy net bounds → lists ≡ [] → next ≡ []
+pub learned_none : (net : LexerNetwork) (modes : List (List Start)) (classes : Classing) (returns : List (List ℕ)) (lists : List Learned)
+    (next firsts : List (Option ℕ)) → AreClasses net classes → lists ≡ [] → next ≡ []
     → ((mode n : ℕ) → slice_get firsts mode ≡ Some (Some n) → ⊥)
-    → AreLearned net modes bounds returns lists next firsts
-learned_none net modes bounds returns lists next firsts alike no_list no_cell none = record {
-  alike = alike;
+    → AreLearned net modes classes returns lists next firsts
+learned_none net modes classes returns lists next firsts alike no_list no_cell none = record {
+  classes_are = alike;
   cells = let a = ap length no_list in let b = ap length no_cell in
-      let e : length lists * class_count bounds ≡ 0 = ap (λ (n : ℕ). n * class_count bounds) a ∙ grind arith in b ∙ sym e;
+      let e : length lists * classes.count ≡ 0 = ap (λ (n : ℕ). n * classes.count) a ∙ grind arith in b ∙ sym e;
   known = λ n l is. absurd (nothing n l (ap (λ (x : List Learned). slice_get x n) (sym no_list) ∙ is));
   ends = λ n l is. absurd (nothing n l (ap (λ (x : List Learned). slice_get x n) (sym no_list) ∙ is));
   noted = λ a from to lt is. let n = ap length no_list in absurd (omega arith);
@@ -112,12 +116,12 @@ learned_none net modes bounds returns lists next firsts alike no_list no_cell no
     nothing : (n : ℕ) (l : Learned) → slice_get [] n ≡ Some l → ⊥
     nothing n l is = cc
 
-module _ (net : LexerNetwork) (modes : List (List Start)) (bounds : List ℕ) where
+module _ (net : LexerNetwork) (modes : List (List Start)) (classes : Classing) where
   -- as the store grows
   pub learned_grows : (old new : List (List ℕ)) (lists : List Learned) (next firsts : List (Option ℕ)) → Grows old new
-      → AreLearned net modes bounds old lists next firsts → AreLearned net modes bounds new lists next firsts
+      → AreLearned net modes classes old lists next firsts → AreLearned net modes classes new lists next firsts
   learned_grows old new lists next firsts g h = record {
-    alike = h.alike;
+    classes_are = h.classes_are;
     cells = h.cells;
     known = λ n l is e i. grown_known old new e g (h.known n l is e i);
     ends = λ n l is. subst (λ (c : List LexerConfig). TellsEnd net c l.end)
@@ -136,11 +140,11 @@ module _ (net : LexerNetwork) (modes : List (List Start)) (bounds : List ℕ) wh
 
   -- as a list is added
   pub learned_more : (returns : List (List ℕ)) (lists new : List Learned) (l : Learned) (next cells firsts : List (Option ℕ))
-      → AreLearned net modes bounds returns lists next firsts → new ≡ lists ++ l ∷ [] → cells ≡ next ++ replicate (class_count bounds) None
+      → AreLearned net modes classes returns lists next firsts → new ≡ lists ++ l ∷ [] → cells ≡ next ++ replicate (classes.count) None
       → AreKnown returns l.entries.items → TellsEnd net (configs_of returns l.entries.items) l.end
-      → AreLearned net modes bounds returns new cells firsts
+      → AreLearned net modes classes returns new cells firsts
   learned_more returns lists new l next cells firsts h is_new is_cells known tells = record {
-    alike = h.alike;
+    classes_are = h.classes_are;
     cells = many;
     known = λ n x is. elim (at n x is) [
       | inl old ↦ h.known n x old
@@ -153,10 +157,10 @@ module _ (net : LexerNetwork) (modes : List (List Start)) (bounds : List ℕ) wh
           (λ (y : Learned). TellsEnd net (configs_of returns y.entries.items) y.end) same tells
     ];
     noted = λ a from to lt is.
-        let old = left_noted next (class_count bounds) (cell_of bounds from a) to
-        (ap (λ (c : List (Option ℕ)). slice_get c (cell_of bounds from a)) (sym is_cells) ∙ is) in
-        let there = within_cells bounds a from (length lists) (length next)
-        (slice_get_within next (cell_of bounds from a) (Some to) old) h.cells in
+        let old = left_noted next (classes.count) (cell_of classes from a) to
+        (ap (λ (c : List (Option ℕ)). slice_get c (cell_of classes from a)) (sym is_cells) ∙ is) in
+        let there = within_cells classes a from (length lists) (length next)
+        (slice_get_within next (cell_of classes from a) (Some to) old) h.cells in
         let s = h.noted a from to there old in
         record {
           list = s.list;
@@ -169,15 +173,15 @@ module _ (net : LexerNetwork) (modes : List (List Start)) (bounds : List ℕ) wh
         record { list = s.list; has = more_list returns lists new n s.list keeps s.has; is_first = s.is_first };
   }
     where
-      many : length cells ≡ length new * class_count bounds
+      many : length cells ≡ length new * classes.count
       many =
           let none : Option ℕ = None in
-          let a = ap length is_cells ∙ length-append next (replicate (class_count bounds) none) in
-          let b = length-replicate (class_count bounds) none in
+          let a = ap length is_cells ∙ length-append next (replicate (classes.count) none) in
+          let b = length-replicate (classes.count) none in
           let c = ap length is_new ∙ length-append lists (l ∷ []) in
           let d = h.cells in
-          let e : length new * class_count bounds ≡ (length lists + 1) * class_count bounds = ap (λ (n : ℕ). n * class_count bounds) c in
-          let f : (length lists + 1) * class_count bounds ≡ length lists * class_count bounds + class_count bounds = grind arith in
+          let e : length new * classes.count ≡ (length lists + 1) * classes.count = ap (λ (n : ℕ). n * classes.count) c in
+          let f : (length lists + 1) * classes.count ≡ length lists * classes.count + classes.count = grind arith in
           omega arith
 
       at : (n : ℕ) (x : Learned) → slice_get new n ≡ Some x → (slice_get lists n ≡ Some x) ⊎ (l ≡ x)
@@ -189,23 +193,23 @@ module _ (net : LexerNetwork) (modes : List (List Start)) (bounds : List ℕ) wh
 
   -- as the list after a list is noted
   pub learned_next : (returns : List (List ℕ)) (lists : List Learned) (next cells firsts : List (Option ℕ)) (a from to : ℕ)
-      → AreLearned net modes bounds returns lists next firsts → length cells ≡ length next
-      → IsNoted next (cell_of bounds from a) to cells → StepsTo net returns lists a from to
-      → AreLearned net modes bounds returns lists cells firsts
+      → AreLearned net modes classes returns lists next firsts → length cells ≡ length next
+      → IsNoted next (cell_of classes from a) to cells → StepsTo net returns lists a from to
+      → AreLearned net modes classes returns lists cells firsts
   learned_next returns lists next cells firsts a from to h many noted steps = record {
-    alike = h.alike;
+    classes_are = h.classes_are;
     cells = many ∙ h.cells;
     known = h.known;
     ends = h.ends;
-    noted = λ b other n lt is. elim (noted (cell_of bounds other b) n is) [
-      | inl here ↦ (let list_is = same_list bounds b a other from here.0 in
+    noted = λ b other n lt is. elim (noted (cell_of classes other b) n is) [
+      | inl here ↦ (let list_is = same_list classes b a other from h.classes_are.within here.0 in
           subst (StepsTo net returns lists b other) (sym here.1) (subst (λ (k : ℕ). StepsTo net returns lists b k to) (sym list_is)
           (record {
             list = steps.list;
             next = steps.next;
             before = steps.before;
             after = steps.after;
-            is_next = alike_next net bounds false a b steps.list steps.next h.alike (sym (same_class bounds b a other from here.0))
+            is_next = alike_next net classes false a b steps.list steps.next h.classes_are (sym (same_class classes b a other from h.classes_are.within here.0))
                 steps.is_next;
           })))
       | inr old ↦ h.noted b other n lt old
@@ -215,10 +219,10 @@ module _ (net : LexerNetwork) (modes : List (List Start)) (bounds : List ℕ) wh
 
   -- as the first list of a mode is noted
   pub learned_first : (returns : List (List ℕ)) (lists : List Learned) (next firsts cells : List (Option ℕ)) (mode n : ℕ)
-      → AreLearned net modes bounds returns lists next firsts → IsNoted firsts mode n cells
-      → Begins net (starts_in modes mode) returns lists n → AreLearned net modes bounds returns lists next cells
+      → AreLearned net modes classes returns lists next firsts → IsNoted firsts mode n cells
+      → Begins net (starts_in modes mode) returns lists n → AreLearned net modes classes returns lists next cells
   learned_first returns lists next firsts cells mode n h noted begins = record {
-    alike = h.alike;
+    classes_are = h.classes_are;
     cells = h.cells;
     known = h.known;
     ends = h.ends;

@@ -1,8 +1,12 @@
+mod Alike
+mod Alternate
 mod Backwards
+mod Bounded
 mod Collected
 mod Counted
 mod Ended
 mod Indexed
+mod Joined
 mod Kept
 mod Known
 mod Learning
@@ -10,6 +14,7 @@ mod Lookups
 mod Matched
 mod Numbered
 mod Numbering
+mod Numbers
 mod Same
 mod Spreading
 mod Stores

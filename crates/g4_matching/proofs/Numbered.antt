@@ -12,6 +12,7 @@ use Rattle.g4_matching.specs.declared.rule_end.RuleEnd.{RuleEnd}
 use Rattle.g4_matching.specs.Ends.{TellsEnd}
 use Rattle.g4_matching.proofs.Lookups.{same_some}
 use Rattle.g4_matching.specs.Entries.{configs_of}
+use Rattle.g4_matching.specs.Partitions.{Classing}
 use Rattle.g4_matching.specs.Listing.{returns_of, listed}
 
 -- the list that was made last is the one under a number that has its entries
@@ -35,11 +36,11 @@ one_under returns lists n list other h k = sym h.2
     ∙ ap (λ (l : Learned). configs_of returns l.entries.items) (same_some h.0 k.0 (sym h.1 ∙ k.1)) ∙ k.2
 
 -- what is kept with a list is the end that it gives
-pub tells_at : (net : LexerNetwork) (modes : List (List Start)) (bounds : List ℕ) (returns : List (List ℕ)) (lists : List Learned)
+pub tells_at : (net : LexerNetwork) (modes : List (List Start)) (classes : Classing) (returns : List (List ℕ)) (lists : List Learned)
     (next firsts : List (Option ℕ)) (n : ℕ) (list : List LexerConfig) (end : Option RuleEnd)
-    → AreLearned net modes bounds returns lists next firsts
+    → AreLearned net modes classes returns lists next firsts
     → (h : HasList returns lists n list) → end ≡ h.0.end → TellsEnd net list end
-tells_at net modes bounds returns lists next firsts n list end sound h is =
+tells_at net modes classes returns lists next firsts n list end sound h is =
     subst (TellsEnd net list) (sym is) (subst (λ (l : List LexerConfig). TellsEnd net l h.0.end) h.2 (sound.ends n h.0 h.1))
 
 -- a list without entries has no configurations

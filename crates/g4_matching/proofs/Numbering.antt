@@ -21,7 +21,7 @@ then_equal : (o p : Ordering) → o ≡ Equal → p ≡ Equal → ordering_then 
 then_equal o p e f = subst (λ x. ordering_then x p ≡ Equal) (sym e) f
 
 -- nodes compare equal where they are
-node_decides : (p q : ℕ × ℕ) → Decides (is_eq (node_cmp p q)) (p ≡ q)
+pub node_decides : (p q : ℕ × ℕ) → Decides (is_eq (node_cmp p q)) (p ≡ q)
 node_decides p q = (to, from)
   where
     make : ℕ → ℕ → ℕ × ℕ

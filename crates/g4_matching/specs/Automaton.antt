@@ -5,7 +5,8 @@ use Rattle.g4_ordered.specs.Network.{LexerNetwork}
 use Rattle.g4_ordered.specs.Configurations.{LexerConfig}
 use Rattle.g4_ordered.specs.Starts.{starts_of}
 use Rattle.g4_ordered.specs.Lists.{ListOf, Never}
-use Rattle.g4_matching.specs.Classes.{AreAlikeBy, class_in}
+use Rattle.g4_matching.specs.Classes.{AreClasses}
+use Rattle.g4_matching.specs.Partitions.{Classing, class_in}
 use Rattle.g4_matching.specs.declared.automaton.Automaton.{Automaton}
 use Rattle.g4_matching.specs.declared.entry.Entry.{Entry}
 use Rattle.g4_matching.specs.declared.learned.Learned.{Learned}
@@ -37,23 +38,19 @@ pub record Begins (net : LexerNetwork) (starts : List LexerConfig) (returns : Li
   pub has : HasList returns lists n list
   pub is_first : ListOf net false Never starts list
 
--- how many classes there are
-abbrev pub class_count : List ℕ → ℕ
-class_count bounds = length bounds + 1
-
 -- the cell of a list and a character
-abbrev pub cell_of : List ℕ → ℕ → ℕ → ℕ
-cell_of bounds list a = list * class_count bounds + class_in bounds a
+abbrev pub cell_of : Classing → ℕ → ℕ → ℕ
+cell_of classes list a = list * classes.count + class_in classes a
 
 -- What is learned is right: each list gives its end; what is noted for a list and a class is the list after it, by each character of
 -- that class; what is noted for a mode is its first list.
-pub record AreLearned (net : LexerNetwork) (modes : List (List Start)) (bounds : List ℕ) (returns : List (List ℕ))
+pub record AreLearned (net : LexerNetwork) (modes : List (List Start)) (classes : Classing) (returns : List (List ℕ))
     (lists : List Learned) (next firsts : List (Option ℕ)) : Type 0 where
-  pub alike : AreAlikeBy net bounds
-  pub cells : length next ≡ length lists * class_count bounds
+  pub classes_are : AreClasses net classes
+  pub cells : length next ≡ length lists * classes.count
   pub known : (n : ℕ) (l : Learned) → slice_get lists n ≡ Some l → AreKnown returns l.entries.items
   pub ends : (n : ℕ) (l : Learned) → slice_get lists n ≡ Some l → TellsEnd net (configs_of returns l.entries.items) l.end
-  pub noted : (a from to : ℕ) → from < length lists → slice_get next (cell_of bounds from a) ≡ Some (Some to)
+  pub noted : (a from to : ℕ) → from < length lists → slice_get next (cell_of classes from a) ≡ Some (Some to)
       → StepsTo net returns lists a from to
   pub begun : (mode n : ℕ) → slice_get firsts mode ≡ Some (Some n) → Begins net (starts_in modes mode) returns lists n
 

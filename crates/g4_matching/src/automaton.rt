@@ -3,7 +3,8 @@ ghost use Rattle.std.specs.Prelude.{◌≡◌, ◌*◌, ◌<◌, true, false, So
 ghost use Rattle.g4_ordered.specs.Lists.{ListOf, Never};
 ghost use Rattle.g4_ordered.specs.Network.{IsLexable};
 ghost use Rattle.g4_matching.specs.declared.learned.Learned.{Learned as List};
-ghost use Rattle.g4_matching.specs.Automaton.{HasEntries, IsForgotten, IsSound, KeepsLists, MakesNext, StepsTo, cell_of, class_count, starts_in};
+ghost use Rattle.g4_matching.specs.Automaton.{HasEntries, IsForgotten, IsSound, KeepsLists, MakesNext, StepsTo, cell_of, starts_in};
+ghost use Rattle.g4_matching.specs.Classes.{AreClasses};
 ghost use Rattle.g4_matching.specs.Listing.{IsReady, listed, returns_of};
 
 use crate::CharClasses;
@@ -44,6 +45,29 @@ impl Automaton {
         ensures { IfOk result (IsSound modes.now) }
     {
         let classes = CharClasses::of_network(alloc, modes.net)?;
+        let automaton = Automaton::by_classes(alloc, modes, classes)?;
+        Ok(automaton)
+    }
+
+    /// Another one over the same classes, with no list learned.
+    pub fn another(&self, alloc: Global, modes: &Modes) -> Result<Automaton, AllocError>
+        requires { IsSound modes.now self.now }
+        ensures { IfOk result (IsSound modes.now) }
+    {
+        let classes = self.classes.copy(alloc)?;
+        let automaton = Automaton::by_classes(alloc, modes, classes)?;
+        Ok(automaton)
+    }
+
+    /// With no list learned, over classes of the characters.
+    fn by_classes(
+        alloc: Global,
+        modes: &Modes,
+        classes: CharClasses,
+    ) -> Result<Automaton, AllocError>
+        requires { AreClasses modes.now.net.now classes }
+        ensures { IfOk result (IsSound modes.now) }
+    {
         let firsts = vec![in alloc; None; modes.starts.len()]?;
         Ok(Automaton {
             alloc,
@@ -227,7 +251,7 @@ impl Automaton {
     /// The cell of a list and a character.
     pub fn cell(&self, list: u32, character: char) -> usize
         requires within { list < length self.now.lists.items }
-        requires cells { length self.now.next.items ≡ length self.now.lists.items * class_count self.now.classes }
+        requires cells { length self.now.next.items ≡ length self.now.lists.items * self.now.classes.count }
         ensures { result ≡ cell_of self.now.classes list character }
     {
         list as usize * self.classes.count() + self.classes.class_of(character)

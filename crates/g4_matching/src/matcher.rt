@@ -51,6 +51,20 @@ impl<'a> Matcher<'a> {
         Ok(Matcher { modes, automaton })
     }
 
+    /// Another matcher by the same network and modes, which has learned nothing. The classes of characters are not found again.
+    ///
+    /// # Errors
+    /// No memory.
+    pub fn another(&self, alloc: Global) -> Result<Matcher<'a>, AllocError>
+        ensures { IfOk result (λ matcher. matcher ≡ self.now) }
+    {
+        let automaton = self.automaton.another(alloc, &self.modes)?;
+        Ok(Matcher {
+            modes: self.modes,
+            automaton,
+        })
+    }
+
     /// The match at the front of the text in a mode: the longest, of the least rule, and of its first alternative in the list. In a
     /// mode that is none there is no match.
     ///

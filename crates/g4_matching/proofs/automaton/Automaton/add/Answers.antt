@@ -1,7 +1,6 @@
 use Rattle.std.proofs.Common.{◌≡◌, ◌+◌, ◌++◌, ◌∷◌, [], List, replicate, None, slice_get, length, ap, sym, ◌∙◌, subst, arith}
 use Rattle.g4_matching.specs.declared.entry.Entry.{Entry}
 use Rattle.g4_matching.specs.declared.learned.Learned.{Learned}
-use Rattle.g4_matching.specs.Automaton.{class_count}
 use Rattle.g4_matching.specs.Ends.{TellsEnd}
 use Rattle.g4_matching.specs.Entries.{AreKnown, configs_of}
 use Rattle.g4_matching.specs.Listing.{returns_of}
@@ -15,8 +14,8 @@ returns-clause-sound c =
     let l : Learned = record { entries = c.in_ok-entries.entries; end = c.least_end-end.result; earlier = c.copied-earlier.result } in
     let lists : c.push_reserved.new.self.items ≡ a.lists.items ++ l ∷ [] =
     c.push_reserved.ensures.items ∙ ap (λ (x : List Learned). x ++ l ∷ []) c.in_ok-reserve.ensures.items in
-    let cells : c.resize.new.self.items ≡ a.next.items ++ replicate (class_count a.classes) None =
-    resized (c.len.result + c.count.result) (class_count a.classes) a.next.len a.next.items c.resize.new.self.items
+    let cells : c.resize.new.self.items ≡ a.next.items ++ replicate a.classes.count None =
+    resized (c.len.result + c.count.result) a.classes.count a.next.len a.next.items c.resize.new.self.items
     c.in_ok-resize.ensures.items a.next.ok.0 (omega (arith, c.len.ensures, c.count.ensures)) in
     let entries : c.in_ok-entries.entries.items ≡ a.listing.list.items = c.in_ok-entries.ensures.items ∙ c.as_slice.ensures.value in
     learned_more c.args.modes.now.net.now c.args.modes.now.starts.now a.classes (returns_of a.listing) a.lists.items
