@@ -54,7 +54,8 @@ fn tokens_of(alloc: Global, lexer: &Lexer, text: &str) -> Result<Tokens, Fail>
         return Err(Fail::from("a long text"));
     }
     let bytes = Sequence::new(text.as_bytes().to_vec(alloc)?);
-    match tokens(alloc, lexer, bytes) {
+    let mut matcher = lexer.matcher(alloc)?;
+    match tokens(alloc, lexer, &mut matcher, bytes) {
         Ok(tokens) => Ok(tokens),
         Err(_) => Err(Fail::from("no tokens")),
     }

@@ -2,7 +2,9 @@
 use Rattle.std.specs.Prelude.{◌≡◌, ◌≤◌, ◌⊎◌, ℕ, zero, suc, List, [], All, slice_index_or}
 use Rattle.g4_tokens.specs.declared.symbol.TheConstants.{MOST_TYPES}
 use Rattle.g4_tokens.specs.Symbols.{eof, end_of_list}
+use Rattle.g4_ordered.specs.declared.start.Start.{Start}
 use Rattle.g4_ordered.specs.Configurations.{LexerConfig}
+use Rattle.g4_ordered.specs.Network.{LexerNetwork}
 use Rattle.g4_ordered.specs.Starts.{starts_of}
 use Rattle.g4_lexer.specs.declared.command.LexerCommand.{LexerCommand}
 use Rattle.g4_lexer.specs.declared.command.LexerCommand.TheVariants as commands
@@ -11,6 +13,10 @@ use Rattle.g4_lexer.specs.declared.lexer.Lexer.{Lexer}
 -- where a match may begin in a mode; nowhere, if there is no such mode
 abbrev pub starts_in : Lexer → ℕ → List LexerConfig
 starts_in lexer mode = starts_of (slice_index_or lexer.modes mode [])
+
+-- what a matcher of the lexer goes by: its network, and where a match may begin in each mode
+abbrev pub matched_by : Lexer → LexerNetwork × List (List Start)
+matched_by lexer = (lexer.net, lexer.modes)
 
 -- the type of a rule's tokens; 0, if it has none
 abbrev pub type_of : Lexer → ℕ → ℕ

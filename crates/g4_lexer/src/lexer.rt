@@ -1,10 +1,13 @@
 // What a lexer goes by.
-ghost use Rattle.std.specs.Prelude.{◌≡◌};
-ghost use Rattle.g4_lexer.specs.Lexers.{commands_of, type_of};
+ghost use Rattle.std.specs.Prelude.{◌≡◌, IfOk};
+ghost use Rattle.g4_lexer.specs.Lexers.{commands_of, matched_by, type_of};
+ghost use Rattle.g4_ordered.specs.Network.{IsLexable};
 
 use crate::command::LexerCommand;
 use g4_base::Sequence;
+use g4_matching::Matcher;
 use g4_ordered::{LexerNetwork, Start};
+use std::alloc::{AllocError, Global};
 
 /// What a lexer goes by: its network, and what is known of its modes and rules by their numbers.
 #[derive(Drop)]
@@ -19,6 +22,18 @@ pub struct Lexer {
 }
 
 impl Lexer {
+    /// A matcher for the files of this lexer, which has learned nothing yet.
+    ///
+    /// # Errors
+    /// No memory.
+    pub fn matcher<'a>(&'a self, alloc: Global) -> Result<Matcher<'a>, AllocError>
+        requires { IsLexable self.now.net }
+        ensures { IfOk result (λ matcher. matcher ≡ matched_by self.now) }
+    {
+        let matcher = Matcher::new(alloc, &self.net, self.modes.as_slice())?;
+        Ok(matcher)
+    }
+
     /// The type of a rule's tokens; 0 where it has none.
     pub(crate) fn rule_type(&self, rule: u32) -> u32
         ensures { result ≡ type_of self.now rule }

@@ -16,6 +16,7 @@ mod token;
 
 pub use command::LexerCommand;
 pub use fault::LexFault;
+pub use g4_matching::Matcher;
 pub use law::{one_lexing, one_lexing_within};
 pub use lexer::Lexer;
 pub use lexing::{MOST_TOKENS, tokens, tokens_within};

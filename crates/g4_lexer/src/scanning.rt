@@ -1,8 +1,7 @@
 // The tokens of the characters of a file.
 ghost use Rattle.std.specs.Prelude.{◌≡◌, ◌≤◌, All, IfOk, length};
 ghost use Rattle.g4_base.specs.declared.limits.TheConstants.{MOST_BYTES};
-ghost use Rattle.g4_ordered.specs.Network.{IsLexable};
-ghost use Rattle.g4_lexer.specs.Lexers.{HasTokenTypes, IsOfText};
+ghost use Rattle.g4_lexer.specs.Lexers.{HasTokenTypes, IsOfText, matched_by};
 ghost use Rattle.g4_lexer.specs.Positions.{first_position, position_after};
 ghost use Rattle.g4_lexer.specs.Scanning.{IsScan};
 ghost use Rattle.g4_lexer.specs.Tokens.{EndsBy, HasText};
@@ -23,18 +22,20 @@ pub(crate) struct Scanned {
     pub end: Position,
 }
 
-/// The tokens of a file's characters, at most `room`.
+/// The tokens of a file's characters, at most `room`. What the matcher has learned before makes no difference to them.
 ///
 /// # Errors
 /// The first fault in the text, or no memory.
 pub(crate) fn scan(
     alloc: Global,
     lexer: &Lexer,
+    matcher: &mut Matcher<'_>,
     text: &[char],
     room: usize,
 ) -> Result<Scanned, LexFault>
-    requires lexable { IsLexable lexer.now.net }
+    requires own { matcher.old ≡ matched_by lexer.now }
     requires fits { length text.now ≤ MOST_BYTES }
+    ensures own { matcher.new ≡ matched_by lexer.now }
     ensures scan { IsScan room lexer.now text.now result }
     ensures end { IfOk result (λ found. found.end ≡ position_after first_position text.now) }
     ensures few { IfOk result (λ found. length found.tokens.items ≤ length text.now) }
@@ -43,7 +44,6 @@ pub(crate) fn scan(
     ensures spans { IfOk result (λ found. All (EndsBy found.end.offset) found.tokens.items) }
     ensures texts { IfOk result (λ found. All HasText found.tokens.items) }
 {
-    let mut matcher = Matcher::new(alloc, &lexer.net, lexer.modes.as_slice())?;
     let mut effects = Effects::new(alloc);
     let mut tokens = Vec::new(alloc);
     let mut begun: Option<Begun> = None;

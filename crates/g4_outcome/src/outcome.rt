@@ -1,5 +1,6 @@
 // What becomes of a file.
 ghost use Rattle.std.specs.Prelude.{◌≡◌, ◌≤◌, IfOk, length};
+ghost use Rattle.g4_lexer.specs.Lexers.{matched_by};
 ghost use Rattle.g4_load.specs.Usable.{IsUsable};
 ghost use Rattle.g4_outcome.specs.Grammars.{with_net};
 ghost use Rattle.g4_outcome.specs.Inputs.{IsSmall};
@@ -12,7 +13,7 @@ use crate::input::Input;
 use g4_base::{MOST_BYTES, Octets};
 use g4_full::Memory;
 use g4_learned::{DecisionNet, Pass, Store};
-use g4_lexer::{LexFault, tokens};
+use g4_lexer::{LexFault, Matcher, tokens};
 use g4_parse::{ParseFault, parse};
 use g4_store::steps::Steps;
 use g4_store::view::Home;
@@ -62,17 +63,20 @@ fn outcome_of_bytes<B: Home<DecisionNet>, R: Wait, L: Ledger>(
     store: &Store<B>,
     pass: &mut Pass<B>,
     memory: &mut Memory<B>,
+    matcher: &mut Matcher<'_>,
     bytes: Octets,
     steps: &mut Steps<L>,
 ) -> Result<Outcome, AllocError>
+    requires own { matcher.old ≡ matched_by grammar.now.lexer }
     requires usable { IsUsable (with_net grammar.now B.plan.net.net) }
     requires small { length bytes ≤ MOST_BYTES }
+    ensures own { matcher.new ≡ matched_by grammar.now.lexer }
     ensures outcome { IfOk result (IsOutcome (with_net grammar.now B.plan.net.net) (Input.Bytes bytes)) }
     ensures nested { IfOk result IsNested }
     ensures meant { IfOk result (IsMeantAnywhere (with_net grammar.now B.plan.net.net)) }
     ensures taught { IfOk result (λ _. HasTaught B.plan (with_net grammar.now B.plan.net.net) (Input.Bytes bytes) pass.old pass.new) }
 {
-    let tokens = match tokens(alloc, &grammar.lexer, bytes) {
+    let tokens = match tokens(alloc, &grammar.lexer, matcher, bytes) {
         Ok(tokens) => tokens,
         Err(fault) => {
             if lexing_refused(&fault) {
@@ -108,11 +112,14 @@ pub fn outcome_of<B: Home<DecisionNet>, R: Wait, L: Ledger>(
     store: &Store<B>,
     pass: &mut Pass<B>,
     memory: &mut Memory<B>,
+    matcher: &mut Matcher<'_>,
     input: Input,
     steps: &mut Steps<L>,
 ) -> Result<Outcome, AllocError>
+    requires own { matcher.old ≡ matched_by grammar.now.lexer }
     requires usable { IsUsable (with_net grammar.now B.plan.net.net) }
     requires small { IsSmall input }
+    ensures own { matcher.new ≡ matched_by grammar.now.lexer }
     ensures outcome { IfOk result (IsOutcome (with_net grammar.now B.plan.net.net) input) }
     ensures nested { IfOk result IsNested }
     ensures meant { IfOk result (IsMeantAnywhere (with_net grammar.now B.plan.net.net)) }
@@ -120,7 +127,7 @@ pub fn outcome_of<B: Home<DecisionNet>, R: Wait, L: Ledger>(
 {
     match input {
         Input::Bytes(bytes) => outcome_of_bytes(
-            rt, alloc, grammar, store, pass, memory, bytes, steps,
+            rt, alloc, grammar, store, pass, memory, matcher, bytes, steps,
         ),
         Input::TooLarge(size) => Ok(Outcome::TooLarge(size)),
     }

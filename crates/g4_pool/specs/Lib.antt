@@ -2,3 +2,4 @@
 pub mod Done
 pub mod Files
 pub mod Learned
+pub mod Lexers

@@ -7,6 +7,7 @@ ghost use Rattle.g4_outcome.specs.Reported.{IsFileReport};
 ghost use Rattle.g4_outcome.specs.Taught.{HasTaught};
 
 use crate::copies::copy_input;
+use crate::lexer_home::LexerHome;
 use crate::worker_state::WorkerState;
 use g4_base::Text;
 use g4_learned::{DecisionNet, Store};
@@ -23,7 +24,7 @@ use std::sync::ledger::{Blank, Ledger};
 
 /// What all workers share: the grammar and the store of its learned automata, the files, and the gate.
 #[derive(Drop)]
-pub struct FileWork<'a, B: Home<DecisionNet>, R, G> {
+pub struct FileWork<'a, B: Home<DecisionNet> + LexerHome, R, G> {
     pub rt: &'a R,
     pub alloc: Global,
     pub output: Output,
@@ -36,7 +37,7 @@ pub struct FileWork<'a, B: Home<DecisionNet>, R, G> {
     pub jobs: u32,
 }
 
-impl<'a, B: Home<DecisionNet>, R, G> Model for FileWork<'a, B, R, G> {
+impl<'a, B: Home<DecisionNet> + LexerHome, R, G> Model for FileWork<'a, B, R, G> {
     ghost use Rattle.std.specs.Prelude.{◌≡◌, All, length};
     ghost use Rattle.g4_load.specs.Usable.{IsUsable};
     ghost use Rattle.g4_outcome.specs.Grammars.{with_net};
@@ -52,22 +53,23 @@ impl<'a, B: Home<DecisionNet>, R, G> Model for FileWork<'a, B, R, G> {
     ghost view = { λ w. pooled (files_of w.output (with_net w.grammar.now B.plan.net.net) w.names.now w.inputs.now) w.jobs };
 
     ghost invariant = { λ w. IsUsable (with_net w.grammar.now B.plan.net.net) × All IsSmall w.inputs.now
-        × (length w.names.now ≡ length w.inputs.now) };
+        × (length w.names.now ≡ length w.inputs.now) × (w.grammar.now.lexer ≡ B.lexer) };
 }
 
 /// What is reported of a file of this name, with a count of loads.
-fn report_counted<B: Home<DecisionNet>, R: Wait, L: Ledger>(
+fn report_counted<B: Home<DecisionNet> + LexerHome, R: Wait, L: Ledger>(
     rt: &R,
     alloc: Global,
     output: Output,
     grammar: &Grammar,
     store: &Store<B>,
-    state: &mut WorkerState<B>,
+    state: &mut WorkerState<'_, B>,
     name: &Text,
     input: Input,
     blank: Blank,
 ) -> Result<FileReport, AllocError>
     requires ledger { (blank.name ≡ L.name) × (blank.parts ≡ L.parts) × (0 < blank.parts) }
+    requires own { grammar.now.lexer ≡ B.lexer }
     requires usable { IsUsable (with_net grammar.now B.plan.net.net) }
     requires small { IsSmall input }
     ensures report { IfOk result (IsFileReport output (with_net grammar.now B.plan.net.net) name.now input) }
@@ -82,6 +84,7 @@ fn report_counted<B: Home<DecisionNet>, R: Wait, L: Ledger>(
         store,
         &mut state.pass,
         &mut state.memory,
+        &mut state.matcher.matcher,
         name.as_str(),
         input,
         &mut steps,
@@ -89,16 +92,17 @@ fn report_counted<B: Home<DecisionNet>, R: Wait, L: Ledger>(
 }
 
 /// The same with a count of its own.
-fn report_one<B: Home<DecisionNet>, R: Wait>(
+fn report_one<B: Home<DecisionNet> + LexerHome, R: Wait>(
     rt: &R,
     alloc: Global,
     output: Output,
     grammar: &Grammar,
     store: &Store<B>,
-    state: &mut WorkerState<B>,
+    state: &mut WorkerState<'_, B>,
     name: &Text,
     input: Input,
 ) -> Result<FileReport, AllocError>
+    requires own { grammar.now.lexer ≡ B.lexer }
     requires usable { IsUsable (with_net grammar.now B.plan.net.net) }
     requires small { IsSmall input }
     ensures report { IfOk result (IsFileReport output (with_net grammar.now B.plan.net.net) name.now input) }
@@ -117,8 +121,8 @@ fn report_one<B: Home<DecisionNet>, R: Wait>(
     )
 }
 
-impl<'a, B: Home<DecisionNet> + Send + Sync, R: Wait + Sync, G: Gate> Work<
-    WorkerState<B>,
+impl<'a, 'm, B: Home<DecisionNet> + LexerHome + Send + Sync, R: Wait + Sync, G: Gate> Work<
+    WorkerState<'m, B>,
     FileReport,
 > for FileWork<'a, B, R, G> {
     ghost use Rattle.std.specs.Prelude.{length};
@@ -133,7 +137,7 @@ impl<'a, B: Home<DecisionNet> + Send + Sync, R: Wait + Sync, G: Gate> Work<
 
     fn run(
         &self,
-        state: &mut WorkerState<B>,
+        state: &mut WorkerState<'m, B>,
         worker: u32,
         file: u32,
     ) -> Result<FileReport, AllocError> {
@@ -154,7 +158,7 @@ impl<'a, B: Home<DecisionNet> + Send + Sync, R: Wait + Sync, G: Gate> Work<
         report
     }
 
-    fn join(&self, state: &mut WorkerState<B>, other: WorkerState<B>) {
+    fn join(&self, state: &mut WorkerState<'m, B>, other: WorkerState<'m, B>) {
         let WorkerState { pass, .. } = other;
         self.store.meet(&mut state.pass, pass);
     }

@@ -3,8 +3,10 @@
 
 mod copies;
 mod file_work;
+mod lexer_home;
 mod pool;
 mod worker_state;
 
+pub use lexer_home::{LexerHome, OwnMatcher};
 pub use pool::parse_all;
 pub use worker_state::WorkerState;

@@ -7,6 +7,7 @@ ghost use Rattle.g4_pool.specs.Files.{AreReports, files_of, first_pass};
 ghost use Rattle.g4_pool.specs.Learned.{HasLearned};
 
 use crate::file_work::FileWork;
+use crate::lexer_home::LexerHome;
 use crate::worker_state::{WorkerState, new_states};
 use g4_base::Text;
 use g4_learned::{DecisionNet, Store};
@@ -26,19 +27,20 @@ use std::thread::Threads;
 ///
 /// # Errors
 /// No memory.
-pub fn parse_all<B: Home<DecisionNet> + Send + Sync, R: Threads + Wait + Sync, G: Gate>(
+pub fn parse_all<'a, B: Home<DecisionNet> + LexerHome + Send + Sync, R: Threads + Wait + Sync, G: Gate>(
     rt: &R,
     alloc: Global,
     output: Output,
     grammar: &Grammar,
     store: &Store<B>,
-    state: &mut WorkerState<B>,
+    state: &mut WorkerState<'a, B>,
     names: &[Text],
     inputs: &[Input],
     jobs: u32,
     gate: &G,
 ) -> Result<Finished<FileReport>, AllocError>
     requires first { state.old.pass ≡ first_pass 1 }
+    requires own { grammar.now.lexer ≡ B.lexer }
     requires usable { IsUsable (with_net grammar.now B.plan.net.net) }
     requires small { All IsSmall inputs.now }
     requires paired { length names.now ≡ length inputs.now }
@@ -49,7 +51,7 @@ pub fn parse_all<B: Home<DecisionNet> + Send + Sync, R: Threads + Wait + Sync, G
     ensures learned { IfOk result (λ r. r.complete ≡ true
         → HasLearned B.plan (files_of output (with_net grammar.now B.plan.net.net) names.now inputs.now) state.new.pass) }
 {
-    let states = new_states(alloc, store, &mut state.pass, jobs)?;
+    let states = new_states(alloc, store, &mut state.pass, &state.matcher, jobs)?;
     let files = inputs.len() as u32;
     let work = FileWork {
         rt,

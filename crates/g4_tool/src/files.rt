@@ -19,7 +19,7 @@ use g4_learned::{DecisionNet, OpenFault, Opened, Store, open};
 use g4_load::Interpreter;
 use g4_net::ParserNetwork;
 use g4_outcome::{FileReport, Grammar, Input, Line};
-use g4_pool::{WorkerState, parse_all};
+use g4_pool::{LexerHome, OwnMatcher, WorkerState, parse_all};
 use g4_ports::Gate;
 use g4_store::view::Home;
 use g4_tally::{Tally, tally_of};
@@ -84,12 +84,12 @@ fn gather(alloc: Global, reports: Vec<FileReport>) -> Result<Parsed, AllocError>
 }
 
 /// How much was learned, if it is asked for. A worker that had no memory for a report takes with it what it has learned.
-fn learned_of<B: Home<DecisionNet>>(
+fn learned_of<B: Home<DecisionNet> + LexerHome>(
     alloc: Global,
     asked: bool,
     complete: bool,
     store: Store<B>,
-    state: WorkerState<B>,
+    state: WorkerState<'_, B>,
 ) -> Result<Option<Tally>, AllocError>
     requires whole { complete ≡ true → IsWhole state.pass.0 }
     ensures { (files : Files) → files.interpreter.net ≡ B.plan.net.net → (complete ≡ true → HasLearned B.plan files state.pass)
@@ -107,7 +107,7 @@ fn learned_of<B: Home<DecisionNet>>(
 }
 
 /// The lines of the files by a store that was opened.
-fn parse_opened<B: Home<DecisionNet> + Send + Sync, R: Threads + Wait + Sync, G: Gate>(
+fn parse_opened<B: Home<DecisionNet> + LexerHome + Send + Sync, R: Threads + Wait + Sync, G: Gate>(
     rt: &R,
     alloc: Global,
     output: Output,
@@ -121,6 +121,7 @@ fn parse_opened<B: Home<DecisionNet> + Send + Sync, R: Threads + Wait + Sync, G:
 ) -> Result<ParsedRun, AllocError>
     requires plan { IsPlan opened.plan }
     requires home { (opened.table.shared.table_id ≡ B.table) × (opened.plan ≡ B.plan) }
+    requires own { grammar.now.lexer ≡ B.lexer }
     requires usable { IsUsable (with_net grammar.now B.plan.net.net) }
     requires small { All IsSmall inputs.now }
     requires paired { length names.now ≡ length inputs.now }
@@ -131,7 +132,12 @@ fn parse_opened<B: Home<DecisionNet> + Send + Sync, R: Threads + Wait + Sync, G:
 {
     let (store, pass) = Store::<B>::named(opened);
     let memory = Memory::new(alloc);
-    let mut state = WorkerState { pass, memory };
+    let matcher = OwnMatcher::new(alloc, &grammar.lexer)?;
+    let mut state = WorkerState {
+        pass,
+        memory,
+        matcher,
+    };
     let finished = parse_all(
         rt, alloc, output, grammar, &store, &mut state, names, inputs, jobs, gate,
     )?;

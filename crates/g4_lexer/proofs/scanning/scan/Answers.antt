@@ -13,7 +13,7 @@ use Rattle.g4_lexer.proofs.scanning.scan.Goals as goal
 
 pub loop-start-init : goal.loop-start-init
 loop-start-init c = record {
-  matcher = rw (← c.as_slice.ensures) c.in_ok-matcher.ensures;
+  matcher = c.requires.own;
   within = omega arith;
   at_is = refl;
   few = omega (arith, ap length c.new-tokens.ensures.items);
