@@ -10,6 +10,7 @@ use g4_lexer::{LexFault, Lexer, Matcher, tokens};
 use g4_lexer_rules::{build_lexer, checked_lexer_of};
 use g4_reader::read_grammar;
 use g4_source::Source;
+use g4_token_file::TokenTable;
 use g4_tokens::Tokens;
 use g4_vocab::number;
 use std::alloc::{AllocError, Global};
@@ -56,7 +57,7 @@ fn prepare(alloc: Global, source: Source) -> Result<Prepared, Fail>
     requires { HaveAlternatives source }
     ensures { IfOk result (λ made. IsLexable made.lexer.net) }
 {
-    let Ok(vocabulary) = number(alloc, &source) else {
+    let Ok(vocabulary) = number(alloc, TokenTable::new(alloc), &source) else {
         return Err(Fail::from("a limit"));
     };
     let Ok(()) = check(alloc, &source) else {

@@ -3,11 +3,14 @@ use Rattle.std.specs.Prelude.{⊤}
 use Rattle.std.proofs.Common.{◌≡◌, ◌≤◌, ℕ, List, Option, Result, Ok, Err, [], ◌∷◌, ◌+◌, ◌*◌, length, ap, ◌∙◌, subst, sym, refl}
 use Rattle.g4_source.specs.declared.source.Source.{Source}
 use Rattle.g4_vocab.specs.Answers.{CausesNumberFault, FitsLimits, IsVocabularyOf}
-use Rattle.g4_vocab.specs.Numbering.{literals_of, names_of, token_types, types_of}
-use Rattle.g4_vocab.specs.Types.{greatest_type}
-use Rattle.g4_vocab.specs.Vocabularies.{types_in}
+use Rattle.g4_vocab.specs.Numbering.{own_of, token_lexers, types_of}
+use Rattle.g4_vocab.specs.Shown.{literals_of, names_of, token_types}
+use Rattle.g4_vocab.specs.Vocabularies.{lexers_in, own_in, types_in}
 use Rattle.g4_vocab.specs.declared.fault.NumberFault.{NumberFault}
-use Rattle.g4_vocab.specs.declared.types.Entry.{Entry}
+use Rattle.g4_token_file.specs.Keys.{greatest_number}
+use Rattle.g4_token_file.specs.declared.entry.TokenEntry.{TokenEntry}
+use Rattle.g4_source.specs.declared.atom.Literal.{Literal}
+use Rattle.g4_source.specs.declared.rule.LexerRule.{LexerRule}
 use Rattle.g4_vocab.specs.declared.vocabulary.Vocabulary.{Vocabulary}
 use Rattle.g4_checks.specs.Checking.{IsChecked}
 use Rattle.g4_checks.specs.declared.fault.CheckFault.{CheckFault}
@@ -105,7 +108,7 @@ parsing start rules made numbers net laid numbered built =
 
 -- the rules of a source's lexer
 lexer_is : (source : Source) (names : List TokenName) (literals : List TokenLiteral) (made : LexerRules)
-    → names ≡ names_of (types_of [] source) → literals ≡ literals_of (types_of [] source)
+    → names ≡ names_of (types_of [] source) → literals ≡ literals_of [] source
     → IsLexerRulesOf names literals source.rules made → made ≡ rules_of_lexer source
 lexer_is source names literals made named there are = rw (are.literals_are, are.rules, are.types, named, there) refl
 
@@ -123,15 +126,23 @@ lexer_exit start grammar net NoMemory is h = tt
 
 module _ (source : Source) where
   -- a grammar that is not numbered
-  pub number_exit : (e : NumberFault) → CausesNumberFault source e → IsErrorOf (Numbers source) (of_number e)
-  number_exit e is = stage_exit (FitsLimits source) of_number (λ _. Checks source) e is
+  pub number_exit : (e : NumberFault) → CausesNumberFault [] source e → IsErrorOf (Numbers source) (of_number e)
+  number_exit e is = stage_exit (FitsLimits [] source) of_number (λ _. Checks source) e is
 
-  module _ (vocabulary : Vocabulary) (numbered : IsVocabularyOf source vocabulary) where
-    pub fits_limits : FitsLimits source (Ok tt)
+  module _ (vocabulary : Vocabulary) (numbered : IsVocabularyOf [] source vocabulary) where
+    pub fits_limits : FitsLimits [] source (Ok tt)
     fits_limits = (
-      numbered.few_rules,
-      subst (λ (types : List Entry). greatest_type types ≤ MOST_TYPES) numbered.types numbered.few_types,
+      numbered.fits.few_rules,
+      subst (λ (types : List TokenEntry). greatest_number types ≤ MOST_TYPES) numbered.types numbered.fits.few_types,
     )
+
+    -- its token types
+    pub types_are : token_types (lexers_in vocabulary) (own_in vocabulary) (types_in vocabulary)
+        ≡ token_types (token_lexers source.rules) (own_of source) (types_of [] source)
+    types_are =
+        ap (λ (ls : List LexerRule). token_types ls (own_in vocabulary) (types_in vocabulary)) numbered.fits.lexers
+        ∙ (ap (λ (ls : List Literal). token_types (token_lexers source.rules) ls (types_in vocabulary)) numbered.own
+        ∙ ap (token_types (token_lexers source.rules) (own_of source)) numbered.types)
 
     -- a grammar that cannot be run
     pub check_exit : (e : Refused CheckFault) → IsChecked source (Err e) → IsErrorOf (Numbers source) (of_check e)

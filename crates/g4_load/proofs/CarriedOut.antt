@@ -9,7 +9,8 @@ use Rattle.g4_checks.specs.Checking.{IsChecked}
 use Rattle.g4_grammar.specs.declared.token_types.TokenName.{TokenName}
 use Rattle.g4_checks.specs.References.{commands_in}
 use Rattle.g4_vocab.specs.Answers.{FitsLimits}
-use Rattle.g4_vocab.specs.Numbering.{names_of, types_of}
+use Rattle.g4_vocab.specs.Numbering.{types_of}
+use Rattle.g4_vocab.specs.Shown.{names_of}
 use Rattle.g4_lexer.specs.declared.command.LexerCommand.{LexerCommand}
 use Rattle.g4_lexer.specs.declared.lexer.Lexer.{Lexer}
 use Rattle.g4_lexer_rules.specs.NetworkRules.{all_rules, commands_of}
@@ -45,7 +46,7 @@ record IsOf (source : Source) (loaded : Loaded) : Type 0 where
 -- a source that is checked
 is_of : (source : Source) (loaded : Loaded) → Numbers source (Ok loaded) → IsOf source loaded
 is_of source loaded h =
-    let numbers = both_give (Gives (FitsLimits source) of_number) (λ _. Checks source) loaded h in
+    let numbers = both_give (Gives (FitsLimits [] source) of_number) (λ _. Checks source) loaded h in
     let checks = both_give (Gives (IsChecked source) of_check) (λ _ result. result ≡ Ok (loaded_of source)) loaded numbers.2 in
     record {
       same = let ok : ◌≡◌ {A = Result Loaded GrammarFault} (Ok loaded) (Ok (loaded_of source)) = checks.2 in cc;

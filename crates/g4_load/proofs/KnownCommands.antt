@@ -18,8 +18,9 @@ use Rattle.g4_source.specs.declared.source.Source.{Source}
 use Rattle.g4_checks.specs.References.{HasNoClash, commands_in}
 use Rattle.g4_checks.specs.Commands.{all_commands}
 use Rattle.g4_lexer_rules.specs.Known.{ArgumentIsUnknownType, IsKnown, TakesNoType, is_token_name}
-use Rattle.g4_vocab.specs.Numbering.{all_commanded, argument_name, commanded_by, commanded_token, names_of, types_of}
-use Rattle.g4_vocab.specs.declared.types.Entry.{Entry}
+use Rattle.g4_token_file.specs.declared.entry.TokenEntry.{TokenEntry}
+use Rattle.g4_vocab.specs.Numbering.{all_commanded, argument_name, commanded_by, commanded_token, types_of}
+use Rattle.g4_vocab.specs.Shown.{names_of}
 use Rattle.g4_load.proofs.TokenNames.{HasSymbol, commanded_have_symbols, is_name}
 
 -- what follows of each part of one list, of a part of the other, follows of the lists
@@ -29,7 +30,7 @@ each_part f g P Q one [] h = All-nil Q
 each_part f g P Q one (x ∷ xs) h = All-append Q (g x) (flat_map g xs) (one x (All-front P (f x) (flat_map f xs) h))
     (each_part f g P Q one xs (All-rest P (f x) (flat_map f xs) h))
 
-module _ (types : List Entry) where
+module _ (types : List TokenEntry) where
   -- the command takes no token type that is not there
   abbrev TakesAType : Command → Type 0
   TakesAType command = (n : List ℕ) → TakesNoType (names_of types) command n → ⊥
@@ -86,7 +87,7 @@ module _ (types : List Entry) where
 -- so where the names of the rules are checked, each command is known, and its token type is that of the grammar
 pub all_known : (source : Source) → HasNoClash source → All (IsKnown source (names_of (types_of [] source))) (commands_in source)
 all_known source checked =
-    let types : List Entry = types_of [] source in
+    let types : List TokenEntry = types_of [] source in
     let typed : All (TakesAType types) (commands_in source) = rules_take types source.rules (commanded_have_symbols source) in
     λ k d less. record {
       known = checked.0.0.0.0.1 k d less;

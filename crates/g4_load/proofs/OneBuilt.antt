@@ -46,7 +46,7 @@ use Rattle.g4_load.specs.Loading.{Checks, Composes, Integrates, LoadsComposite, 
 use Rattle.g4_load.proofs.OneStage.{IsSingle, IsSingleBeside, one_gift, one_then, one_of_file}
 
 -- the rules of a source are few enough, or not, in at most one way
-one_numbering : (source : Source) → IsSingleBeside numbering.NoMemory (FitsLimits source)
+one_numbering : (source : Source) → IsSingleBeside numbering.NoMemory (FitsLimits [] source)
 one_numbering source (Ok g) (Ok h) p q n m = refl
 one_numbering source (Ok g) (Err numbering.Rules) p q n m = absurd (omega (arith, p.0, q))
 one_numbering source (Ok g) (Err numbering.Types) p q n m = absurd (omega (arith, p.1, q.1))
@@ -144,8 +144,8 @@ one_checked source = one_then (Gives (IsChecked source) of_check) (λ _ result. 
     (one_gift (IsChecked source) of_check checking.NoMemory refl (one_answer_checked source)) (λ _ a b p q. p ∙ sym q)
 
 one_numbers : (source : Source) → IsSingle (Numbers source)
-one_numbers source = one_then (Gives (FitsLimits source) of_number) (λ _. Checks source)
-    (one_gift (FitsLimits source) of_number numbering.NoMemory refl (one_numbering source)) (λ _. one_checked source)
+one_numbers source = one_then (Gives (FitsLimits [] source) of_number) (λ _. Checks source)
+    (one_gift (FitsLimits [] source) of_number numbering.NoMemory refl (one_numbering source)) (λ _. one_checked source)
 
 -- of forms one thing is reported
 one_forms : (forms : List FileForm) → IsSingle {X = ⊤} (TellsForms forms)

@@ -12,7 +12,7 @@ use Rattle.g4_source.specs.declared.rule.Rule.TheVariants as kinds
 use Rattle.g4_source.specs.declared.source.Source.{Source}
 use Rattle.g4_checks.specs.Commands.{all_commands}
 use Rattle.g4_grammar.specs.declared.token_types.TokenLiteral.{TokenLiteral}
-use Rattle.g4_vocab.specs.Numbering.{literals_of, types_of}
+use Rattle.g4_vocab.specs.Shown.{literals_of}
 use Rattle.g4_lexer_rules.specs.NetworkRules.{all_rules, commands_of}
 use Rattle.g4_lexer_rules.specs.Rules.{rule_of_literal}
 use Rattle.g4_source.proofs.Parts.{All-front, All-rest}
@@ -46,13 +46,13 @@ module _ (P : Command → Type 0) where
   -- so what holds of each command of a source holds of each of its lexer
   pub of_all_rules : (source : Source) → All P (all_commands source.rules)
       → All (All (All P))
-      (commands_of (all_rules (map rule_of_literal (literals_of (types_of [] source))) (lexer_rules source.rules)))
+      (commands_of (all_rules (map rule_of_literal (literals_of [] source)) (lexer_rules source.rules)))
   of_all_rules source h =
-      let literals : List LexerRule = map rule_of_literal (literals_of (types_of [] source)) in
+      let literals : List LexerRule = map rule_of_literal (literals_of [] source) in
       subst (λ (cs : List (List (List Command))). All (All (All P)) cs)
       (sym (map-append (λ (rule : LexerRule). map (λ x. x.commands) rule.alternatives) literals (lexer_rules source.rules)))
       (All-append (All (All P)) (commands_of literals) (commands_of (lexer_rules source.rules))
-      (of_literals (literals_of (types_of [] source))) (of_rules source.rules h))
+      (of_literals (literals_of [] source)) (of_rules source.rules h))
 
 -- two maps that are one where something holds, on a list of which it holds
 pub same_map : {X Y Z : Type 0} (p : Y → Z) (q : X → Y) (r : X → Z) (P : X → Type 0) → ((x : X) → P x → p (q x) ≡ r x) → (xs : List X)

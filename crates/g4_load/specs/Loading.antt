@@ -9,7 +9,8 @@ use Rattle.g4_source.specs.Rules.{lexer_rules}
 use Rattle.g4_grammar.specs.Written.{ParserRuleIsUntested, RulesAreDefined, RulesCanRun}
 use Rattle.g4_tokens.specs.declared.symbol.TheConstants.{MOST_TYPES}
 use Rattle.g4_vocab.specs.Answers.{FitsLimits}
-use Rattle.g4_vocab.specs.Numbering.{literals_of, names_of, token_types, types_of}
+use Rattle.g4_vocab.specs.Numbering.{own_of, token_lexers, types_of}
+use Rattle.g4_vocab.specs.Shown.{literals_of, names_of, shown_of, token_types}
 use Rattle.g4_checks.specs.Checking.{IsChecked}
 use Rattle.g4_lexer_rules.specs.Tables.{tables_of}
 use Rattle.g4_lexer_rules.specs.Rules.{rule_of_literal, types_of_rules}
@@ -53,16 +54,16 @@ Composes grammar = Then (TellsForms (file_forms grammar.files)) (λ _. Integrate
 -- the rules of the lexer of a source: of the literals that have tokens of their own, the lexer rules, and the type of each
 abbrev pub rules_of_lexer : Source → LexerRules
 rules_of_lexer source = record {
-  literals = map rule_of_literal (literals_of (types_of [] source));
+  literals = map rule_of_literal (literals_of [] source);
   rules = lexer_rules source.rules;
-  types = types_of_rules (names_of (types_of [] source)) (literals_of (types_of [] source)) source.rules;
+  types = types_of_rules (names_of (types_of [] source)) (literals_of [] source) source.rules;
 }
 
 -- a source without fault, as it is handed on
 abbrev pub loaded_of : Source → Loaded
 loaded_of source = record {
-  rules = resolved source;
-  shown = map (λ entry. entry.shown) (types_of [] source);
+  rules = resolved (types_of [] source) source;
+  shown = shown_of [] source;
   lexer = (rules_of_lexer source, tables_of source (names_of (types_of [] source)));
 }
 
@@ -72,7 +73,7 @@ Checks source = Then (Gives (IsChecked source) of_check) (λ _ result. result �
 
 -- the grammar of a source, or its first fault: a limit, a fault of the rules
 abbrev pub Numbers : Source → Result Loaded GrammarFault → Type 0
-Numbers source = Then (Gives (FitsLimits source) of_number) (λ _. Checks source)
+Numbers source = Then (Gives (FitsLimits [] source) of_number) (λ _. Checks source)
 
 -- the grammar in the main file of this name, with those that it imports
 abbrev pub LoadsComposite : List ℕ → Composite → Result Loaded Stop → Type 0
@@ -92,10 +93,10 @@ AreUntested source = (rule : ParserRule Atom) → Contains source.rules (Parser 
 
 -- the parser rules and the token types of a source without fault
 pub record IsNumbered (source : Source) (numbered : Numbered) : Type 0 where
-  pub fits : FitsLimits source (Ok tt)
+  pub fits : FitsLimits [] source (Ok tt)
   pub checked : IsChecked source (Ok tt)
-  pub rules : numbered.rules ≡ resolved source
-  pub types : numbered.types ≡ token_types (types_of [] source)
+  pub rules : numbered.rules ≡ resolved (types_of [] source) source
+  pub types : numbered.types ≡ token_types (token_lexers source.rules) (own_of source) (types_of [] source)
   pub low_names : All (λ name. name.symbol ≤ MOST_TYPES) numbered.types.names
   pub low_literals : All (λ literal. literal.symbol ≤ MOST_TYPES) numbered.types.literals
   pub defined : RulesAreDefined source.rules

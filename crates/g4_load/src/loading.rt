@@ -21,6 +21,7 @@ use g4_merge::Merged;
 use g4_ports::Shelf;
 use g4_resolve::resolve;
 use g4_source::Source;
+use g4_token_file::TokenTable;
 use g4_vocab::number;
 use std::alloc::{AllocError, Global};
 
@@ -77,7 +78,7 @@ fn number_and_check(alloc: Global, source: &Source) -> Result<Numbered, CheckErr
     requires untested { AreUntested source.now }
     ensures { GivesNumbered source.now result }
 {
-    let vocabulary = number(alloc, source)?;
+    let vocabulary = number(alloc, TokenTable::new(alloc), source)?;
     check(alloc, source)?;
     let rules = resolve(alloc, source, &vocabulary)?;
     let types = vocabulary.token_types(alloc)?;

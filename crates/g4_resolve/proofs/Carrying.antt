@@ -32,8 +32,8 @@ use Rattle.g4_grammar.specs.Written.{ReadsAnySymbol, ReadsIn, KindReads, CallsIn
 use Rattle.g4_grammar.specs.Written as written
 use Rattle.g4_grammar.proofs.Carried.{either_over_twice, can_run_over}
 use Rattle.g4_grammar.proofs.Positions.{found_within, within_found}
-use Rattle.g4_vocab.specs.declared.types.Entry.{Entry}
-use Rattle.g4_vocab.specs.Types.{greatest_type}
+use Rattle.g4_token_file.specs.Keys.{greatest_number}
+use Rattle.g4_token_file.specs.declared.entry.TokenEntry.{TokenEntry}
 use Rattle.g4_vocab.proofs.Laws.{leaves_end}
 use Rattle.g4_resolve.specs.Resolving.{CanBeResolved, parser_names, place_named, step_of, resolved_alternative, resolved_rule}
 use Rattle.g4_resolve.proofs.Parsers.{place_of, at_place, first_place, first_parser, found_less, first_of_place}
@@ -59,7 +59,7 @@ each_parser_rule P (Parser rule ∷ rules) h =
 each_parser_rule P (Lexer rule ∷ rules) h = each_parser_rule P rules
     (λ other has. h other (Contains-append_right (Lexer rule ∷ []) rules (Parser other) has))
 
-module _ (names : List (List ℕ)) (lexers : List LexerRule) (types : List Entry) where
+module _ (names : List (List ℕ)) (lexers : List LexerRule) (types : List TokenEntry) where
   -- the step of an atom
   abbrev becomes : Atom → Step (List ℕ)
   becomes a = step_of names lexers types a.kind
@@ -82,7 +82,8 @@ module _ (names : List (List ℕ)) (lexers : List LexerRule) (types : List Entry
       (All-map P becomes (atoms_of_either (alternatives_of rule)) all))
 
   -- an atom that tests nothing is a plain step
-  plain_step : greatest_type types ≤ MOST_TYPES → (kind : AtomKind) → ParserKindIsUntested kind → IsPlain (step_of names lexers types kind)
+  plain_step : greatest_number types ≤ MOST_TYPES → (kind : AtomKind) → ParserKindIsUntested kind
+      → IsPlain (step_of names lexers types kind)
   plain_step few (kinds.Rule name) h = refl
   plain_step few (kinds.Token name) h = leaves_end lexers types few (kinds.Token name)
   plain_step few (kinds.Literal literal) h = leaves_end lexers types few (kinds.Literal literal)
@@ -94,7 +95,7 @@ module _ (names : List (List ℕ)) (lexers : List LexerRule) (types : List Entry
   plain_step few kinds.Action h = tt
   plain_step few (kinds.Predicate name) h = absurd h
 
-  plain_rules : greatest_type types ≤ MOST_TYPES → (rules : List (ParserRule Atom)) → All ParserRuleIsUntested rules
+  plain_rules : greatest_number types ≤ MOST_TYPES → (rules : List (ParserRule Atom)) → All ParserRuleIsUntested rules
       → All RuleIsPlain (map (resolved_rule names lexers types) rules)
   plain_rules few rules h =
       All-map RuleIsPlain (resolved_rule names lexers types) rules
@@ -145,7 +146,7 @@ module _ (names : List (List ℕ)) (lexers : List LexerRule) (types : List Entry
   reads_in rule_kinds.Parser a r = reads a.kind r
   reads_in rule_kinds.Lexer a r = absurd (no_symbol r.0 r.1)
 
-module _ (all : List Rule) (lexers : List LexerRule) (types : List Entry) where
+module _ (all : List Rule) (lexers : List LexerRule) (types : List TokenEntry) where
   -- the names of the rules
   abbrev names : List (List ℕ)
   names = parser_names all
@@ -332,7 +333,7 @@ module _ (all : List Rule) (lexers : List LexerRule) (types : List Entry) where
   within_rules (Lexer rule ∷ some) h = within_rules some (All-rest AtomIsDefined (rule_atoms (Lexer rule)) (all_atoms some) h)
 
   -- they can be rewritten
-  pub can_be_rewritten : greatest_type types ≤ MOST_TYPES → CanBeResolved all → CanBeRewritten made
+  pub can_be_rewritten : greatest_number types ≤ MOST_TYPES → CanBeResolved all → CanBeRewritten made
   can_be_rewritten few can = record {
     plain = plain_rules names lexers types few (parser_rules all) (each_parser_rule ParserRuleIsUntested all can.untested);
     full = full_rules names lexers types all can.full;

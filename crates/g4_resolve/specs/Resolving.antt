@@ -18,8 +18,8 @@ use Rattle.g4_grammar.specs.declared.step.Step.{Step}
 use Rattle.g4_grammar.specs.declared.step.Step.TheVariants as steps
 use Rattle.g4_grammar.specs.StepRules.{StepRule}
 use Rattle.g4_grammar.specs.Written.{ParserRuleIsUntested, RulesAreDefined, RulesCanRun}
-use Rattle.g4_vocab.specs.declared.types.Entry.{Entry}
-use Rattle.g4_vocab.specs.Numbering.{symbols_of_kind, token_lexers, types_of}
+use Rattle.g4_token_file.specs.declared.entry.TokenEntry.{TokenEntry}
+use Rattle.g4_vocab.specs.Numbering.{symbols_of_kind, token_lexers}
 
 -- the place of the first name that is this one, or how many there are
 abbrev pub place_named : List (List ℕ) → List ℕ → ℕ
@@ -27,7 +27,7 @@ place_named names name = position_or_len (λ other. bytes_eq other name) names
 
 -- the step that an atom is: a token is an edge, and a reference a call of the rule of its name, where rules count from 1. No
 -- predicate is run yet, and all have number 0.
-abbrev pub step_of : List (List ℕ) → List LexerRule → List Entry → AtomKind → Step (List ℕ)
+abbrev pub step_of : List (List ℕ) → List LexerRule → List TokenEntry → AtomKind → Step (List ℕ)
 step_of names lexers types (kinds.Rule name) = steps.Call (place_named names name.text + 1) 0
 step_of names lexers types (kinds.Token name) = steps.Edge (symbols_of_kind lexers types (kinds.Token name))
 step_of names lexers types (kinds.Literal literal) = steps.Edge (symbols_of_kind lexers types (kinds.Literal literal))
@@ -40,12 +40,12 @@ step_of names lexers types kinds.Action = steps.Action
 step_of names lexers types (kinds.Predicate name) = steps.Predicate 0
 
 -- an alternative over steps
-abbrev pub resolved_alternative : List (List ℕ) → List LexerRule → List Entry → RuleAlternative Atom → RuleAlternative (Step (List ℕ))
+abbrev pub resolved_alternative : List (List ℕ) → List LexerRule → List TokenEntry → RuleAlternative Atom → RuleAlternative (Step (List ℕ))
 resolved_alternative names lexers types a = record
     { right = a.right; elements = in_order_over (λ b. step_of names lexers types b.kind) a.elements; label = a.label }
 
 -- a rule over steps
-abbrev pub resolved_rule : List (List ℕ) → List LexerRule → List Entry → ParserRule Atom → StepRule
+abbrev pub resolved_rule : List (List ℕ) → List LexerRule → List TokenEntry → ParserRule Atom → StepRule
 resolved_rule names lexers types rule = record
     { name = rule.name; alternatives = map (resolved_alternative names lexers types) rule.alternatives }
 
@@ -53,10 +53,9 @@ resolved_rule names lexers types rule = record
 abbrev pub parser_names : List Rule → List (List ℕ)
 parser_names rules = map (λ rule. rule.name) (parser_rules rules)
 
--- the parser rules of a grammar over steps, their tokens being the symbols that numbering gives from the empty table
-abbrev pub resolved : Source → List StepRule
-resolved source = map (resolved_rule (parser_names source.rules) (token_lexers source.rules) (types_of [] source))
-    (parser_rules source.rules)
+-- the parser rules of a grammar over steps, their tokens being symbols by these types
+abbrev pub resolved : List TokenEntry → Source → List StepRule
+resolved types source = map (resolved_rule (parser_names source.rules) (token_lexers source.rules) types) (parser_rules source.rules)
 
 -- What is checked of rules before: each of their blocks has an alternative, each reference is to one of them, they can be run, and so
 -- far no parser rule tests anything.

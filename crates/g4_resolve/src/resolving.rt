@@ -1,7 +1,7 @@
 // Tokens as symbols, and references to rules as calls by number.
 ghost use Rattle.std.specs.Prelude.{◌≡◌, ◌≤◌, ◌<◌, ◌^◌, IfOk, length, map};
 ghost use Rattle.g4_names.specs.Places.{ArePlaces};
-ghost use Rattle.g4_vocab.specs.Answers.{IsVocabularyOf};
+ghost use Rattle.g4_vocab.specs.Answers.{IsVocabularyFor};
 ghost use Rattle.g4_vocab.specs.Vocabularies.{lexers_in, types_in};
 ghost use Rattle.g4_resolve.specs.Resolving.{CanBeResolved, place_named, resolved, resolved_alternative, resolved_rule, step_of};
 
@@ -152,9 +152,9 @@ pub fn resolve(
     source: &Source,
     vocabulary: &Vocabulary<'_>,
 ) -> Result<ParserRules, AllocError>
-    requires numbered { IsVocabularyOf source.now vocabulary.now }
+    requires numbered { IsVocabularyFor source.now vocabulary.now }
     requires checked { CanBeResolved source.now.rules }
-    ensures { IfOk result (λ made. made ≡ resolved source.now) }
+    ensures { IfOk result (λ made. made ≡ resolved (types_in vocabulary.now) source.now) }
 {
     let views = views_of(alloc, source.rules.as_slice())?;
     let parsers = parser_rules(alloc, views.as_slice())?;

@@ -1,13 +1,13 @@
 -- The numbers of keys in a table with one entry more.
-use Rattle.std.proofs.Common.{◌≡◌, ℕ, ◌≤◌, List, [], ◌∷◌, ◌++◌, Bool, true, false, cond, Option, Some, None, refl, sym, ap, ◌∙◌, subst}
+use Rattle.std.proofs.Common.{◌≡◌, ℕ, ◌≤◌, List, [], ◌∷◌, ◌++◌, Bool, true, false, cond, Option, Some, None, max, refl, sym, ap, ◌∙◌, subst, arith}
 use Rattle.std.proofs.lemmas.Slice.Eq.{bytes_eq-Decides}
 use Rattle.g4_tokens.specs.declared.symbol.TheConstants.{MOST_TYPES}
 use Rattle.g4_token_file.specs.declared.entry.TokenKey.{TokenKey}
 use Rattle.g4_token_file.specs.declared.entry.TokenKey.TheVariants.{Name, Literal}
 use Rattle.g4_token_file.specs.declared.entry.TokenEntry.{TokenEntry}
 use Rattle.g4_token_file.specs.declared.numbers.Numbers.{Numbers}
-use Rattle.g4_token_file.specs.Indexed.{AreNumbersOf, numbered}
-use Rattle.g4_token_file.specs.Keys.{is_key, number_of}
+use Rattle.g4_token_file.specs.Indexed.{AreNumbersOf, IsIndexed, numbered}
+use Rattle.g4_token_file.specs.Keys.{greatest_number, is_key, number_of}
 
 -- keys that are equal are one
 pub key_same : (a b : TokenKey) → is_key a b ≡ true → a ≡ b
@@ -67,3 +67,25 @@ numbers_more table old new entry h fresh small added = record {
   within = λ key number is. some_le (is_key entry.key key) entry.number number (number_of table key) small (h.within key)
       (sym (number_of-push table entry key fresh) ∙ is);
 }
+
+-- the greatest number with one entry more
+pub greatest_number-push : (table : List TokenEntry) (entry : TokenEntry)
+    → greatest_number (table ++ entry ∷ []) ≡ max (greatest_number table) entry.number
+greatest_number-push [] entry = omega arith
+greatest_number-push (first ∷ table) entry = let h : greatest_number (table ++ entry ∷ []) ≡ max (greatest_number table) entry.number =
+    greatest_number-push table entry in omega arith
+
+-- a table with one entry more
+pub indexed_more : (table : List TokenEntry) (old new : Numbers) (greatest : ℕ) (entry : TokenEntry) → IsIndexed table old greatest
+    → number_of table entry.key ≡ None → entry.number ≤ MOST_TYPES
+    → ((key : TokenKey) → numbered new key ≡ cond (is_key entry.key key) (Some entry.number) (numbered old key))
+    → IsIndexed (table ++ entry ∷ []) new (max greatest entry.number)
+indexed_more table old new greatest entry h fresh small added =
+    let top = greatest_number-push table entry in
+    let same = h.greatest_is in
+    let low = h.within in
+    record {
+      indexed = numbers_more table old new entry h.indexed fresh small added;
+      greatest_is = omega (arith, top, same);
+      within = omega (arith, low, small);
+    }

@@ -1,5 +1,5 @@
 -- The entries of a table by what they give a number.
-use Rattle.std.specs.Prelude.{ℕ, List, [], ◌∷◌, Option, Some, None, Bool, false, if◌then◌else◌}
+use Rattle.std.specs.Prelude.{ℕ, List, [], ◌∷◌, Option, Some, None, Bool, false, max, if◌then◌else◌}
 use Rattle.std.specs.Str.{bytes_eq}
 use Rattle.g4_token_file.specs.declared.entry.TokenKey.{TokenKey}
 use Rattle.g4_token_file.specs.declared.entry.TokenKey.TheVariants.{Name, Literal}
@@ -16,3 +16,8 @@ is_key (Literal a) (Literal b) = bytes_eq a b
 abbrev pub number_of : List TokenEntry → TokenKey → Option ℕ
 number_of [] key = None
 number_of (entry ∷ table) key = if is_key entry.key key then Some entry.number else number_of table key
+
+-- the greatest number of the entries: 0 of none
+abbrev pub greatest_number : List TokenEntry → ℕ
+greatest_number [] = 0
+greatest_number (entry ∷ table) = max entry.number (greatest_number table)

@@ -7,7 +7,7 @@ use Rattle.std.specs.Option.{is_some}
 use Rattle.std.specs.Str.{bytes_eq}
 use Rattle.g4_source.specs.declared.atom.Literal.{Literal}
 use Rattle.g4_source.specs.declared.rule.LexerRule.{LexerRule}
-use Rattle.g4_vocab.specs.Numbering.{is_whole, only_name, stands_for, whole_literal, named_rule}
+use Rattle.g4_vocab.specs.Numbering.{default_literal, is_whole, named_rule, only_name, stands_for}
 use Rattle.g4_vocab.specs.Tables.{TextMap, AreWholes, AddsRule, at, kept, kept_name, kept_more}
 use Rattle.g4_vocab.proofs.Keys.{bytes_same, bytes_eq-sym}
 
@@ -35,14 +35,14 @@ abbrev pub texts : Option (Bor (List ℕ)) → Option (List ℕ)
 texts only = option_map (λ name. name.now) only
 
 -- a rule that is no literal
-pub none_kept : (rule : LexerRule) (names : TextMap (Option (Bor (List ℕ)))) → whole_literal rule.alternatives ≡ None
+pub none_kept : (rule : LexerRule) (names : TextMap (Option (Bor (List ℕ)))) → default_literal rule ≡ None
     → AddsRule rule names names
 none_kept rule names is characters = sym (ap
     (λ (o : Option Literal). cond (stands_for characters o) (kept_more (kept names characters) rule.name) (kept names characters)) is)
 
 -- a rule that is a literal
 pub rule_kept : (rule : LexerRule) (literal : Literal) (old new : TextMap (Option (Bor (List ℕ)))) (only : Option (Bor (List ℕ)))
-    → whole_literal rule.alternatives ≡ Some literal →
+    → default_literal rule ≡ Some literal →
     ((characters : List ℕ) → at new characters ≡ cond (bytes_eq literal.characters characters) (Some only) (at old characters))
     → Some (texts only) ≡ kept_more (kept old literal.characters) rule.name → AddsRule rule old new
 rule_kept rule literal old new only is put same characters =

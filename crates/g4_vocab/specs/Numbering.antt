@@ -1,6 +1,7 @@
--- The numbering of token types: first the literals of parser rules that need a token of their own, then the lexer rules,
--- then the names in `tokens { .. }`, then the other token names of parser rules, then the names in `type(..)` commands of lexer rules.
-use Rattle.std.specs.Prelude.{ℕ, ◌==◌, List, [], ◌∷◌, ◌++◌, map, filter, Option, Some, None, Bool, false, not, cond, codes}
+-- The numbering of token types. The numbers of a table come first; then types are given to the literals of parser rules that need a token
+-- of their own, to the lexer rules, to the names in `tokens { .. }`, to the other token names of parser rules, and to the names in
+-- `type(..)` commands of lexer rules: to each that has none the next one after the greatest.
+use Rattle.std.specs.Prelude.{ℕ, ◌==◌, List, [], ◌∷◌, ◌++◌, map, filter, Option, Some, None, option_map, Bool, true, false, not, cond, codes, slice_get}
 use Rattle.std.specs.List.{filter_map, flat_map, list_any}
 use Rattle.std.specs.Option.{is_some}
 use Rattle.std.specs.Str.{bytes_eq}
@@ -23,12 +24,9 @@ use Rattle.g4_source.specs.declared.rule.Command.{Command}
 use Rattle.g4_source.specs.declared.rule.Argument.{Argument}
 use Rattle.g4_source.specs.declared.rule.Argument.TheVariants as arguments
 use Rattle.g4_source.specs.Rules.{parser_rules, lexer_rules, alternatives_of}
-use Rattle.g4_grammar.specs.declared.token_types.TokenLiteral.{TokenLiteral}
-use Rattle.g4_grammar.specs.declared.token_types.TokenName.{TokenName}
-use Rattle.g4_grammar.specs.declared.token_types.TokenTypes.{TokenTypes}
-use Rattle.g4_vocab.specs.declared.types.Key.{Key}
-use Rattle.g4_vocab.specs.declared.types.Key.TheVariants as keys
-use Rattle.g4_vocab.specs.declared.types.Entry.{Entry}
+use Rattle.g4_token_file.specs.declared.entry.TokenKey.{TokenKey}
+use Rattle.g4_token_file.specs.declared.entry.TokenKey.TheVariants as keys
+use Rattle.g4_token_file.specs.declared.entry.TokenEntry.{TokenEntry}
 use Rattle.g4_vocab.specs.Types.{Wanted, type_of, all_types, with_keys}
 
 -- the lexer rules without `fragment`, in order of the text
@@ -70,9 +68,18 @@ abbrev pub stands_for : List ℕ → Option Literal → Bool
 stands_for characters None = false
 stands_for characters (Some literal) = bytes_eq characters literal.characters
 
--- the lexer rule is a literal for these characters and nothing else
+-- the mode of a lexer rule is the default mode
+abbrev pub in_default_mode : Option (List ℕ) → Bool
+in_default_mode None = true
+in_default_mode (Some name) = bytes_eq name (codes "DEFAULT_MODE")
+
+-- the literal that is the whole of a lexer rule of the default mode
+abbrev pub default_literal : LexerRule → Option Literal
+default_literal rule = cond (in_default_mode rule.mode) (whole_literal rule.alternatives) None
+
+-- the lexer rule is in the default mode, a literal for these characters and nothing else
 abbrev pub is_whole : List ℕ → LexerRule → Bool
-is_whole characters rule = stands_for characters (whole_literal rule.alternatives)
+is_whole characters rule = stands_for characters (default_literal rule)
 
 -- the name of the rule, where there is exactly one
 abbrev pub only_name : List LexerRule → Option (List ℕ)
@@ -80,17 +87,17 @@ only_name [] = None
 only_name (rule ∷ []) = Some rule.name
 only_name (rule ∷ other ∷ more) = None
 
--- the name of the rule whose token a literal for these characters names: the only one that is such a literal
+-- the name of the rule whose token a literal for these characters names: the only one of the default mode that is such a literal
 abbrev pub named_rule : List LexerRule → List ℕ → Option (List ℕ)
 named_rule lexers characters = only_name (filter (is_whole characters) lexers)
 
 -- the key of a literal, given the name of the rule whose token it names
-abbrev pub key_by_rule : List ℕ → Option (List ℕ) → Key
+abbrev pub key_by_rule : List ℕ → Option (List ℕ) → TokenKey
 key_by_rule characters None = keys.Literal characters
 key_by_rule characters (Some name) = keys.Name name
 
 -- the key of a literal for these characters
-abbrev pub literal_key : List LexerRule → List ℕ → Key
+abbrev pub literal_key : List LexerRule → List ℕ → TokenKey
 literal_key lexers characters = key_by_rule characters (named_rule lexers characters)
 
 -- the tokens that an atom names
@@ -114,25 +121,39 @@ all_atoms parsers = flat_map (λ rule. atoms_of_either (alternatives_of rule)) p
 abbrev pub all_references : List Atom → List TokenReference
 all_references atoms = flat_map (λ a. references a.kind) atoms
 
--- a literal that needs a token of its own: it names no lexer rule's
-abbrev pub own_literal : List LexerRule → TokenReference → Option Wanted
-own_literal lexers (refs.Token name) = None
-own_literal lexers (refs.Literal literal) =
-    cond (is_some (named_rule lexers literal.characters)) None
-    (Some (record { key = keys.Literal literal.characters; shown = literal.written }))
+-- the literal that needs a token of its own: it names no lexer rule's
+abbrev pub needs_own : List LexerRule → TokenReference → Option Literal
+needs_own lexers (refs.Token name) = None
+needs_own lexers (refs.Literal literal) = cond (is_some (named_rule lexers literal.characters)) None (Some literal)
 
--- a literal as the rule writes it, where it names the rule's token, else the rule's name
-abbrev pub shown_literal : List LexerRule → List ℕ → Option Literal → List ℕ
-shown_literal lexers name None = name
-shown_literal lexers name (Some literal) = cond (is_some (named_rule lexers literal.characters)) literal.written name
+-- the literals, of those for the same characters the first
+abbrev pub first_literals : List Literal → List Literal
+first_literals [] = []
+first_literals (literal ∷ more) = literal ∷ filter (λ other. not (bytes_eq other.characters literal.characters)) (first_literals more)
 
--- what is shown of a lexer rule's token
-abbrev pub shown_rule : List LexerRule → LexerRule → List ℕ
-shown_rule lexers rule = shown_literal lexers rule.name (whole_literal rule.alternatives)
+-- the literals among these tokens that need tokens of their own
+abbrev pub own_literals : List LexerRule → List TokenReference → List Literal
+own_literals lexers tokens = first_literals (filter_map (needs_own lexers) tokens)
+
+-- such a literal, as it is wanted
+abbrev pub literal_token : Literal → Wanted
+literal_token literal = record { token = refs.Literal literal; literal = None }
+
+-- the literal, where it names a lexer rule's token
+abbrev pub if_named : List LexerRule → Option Literal → Option Literal
+if_named lexers None = None
+if_named lexers (Some literal) = cond (is_some (named_rule lexers literal.characters)) (Some literal) None
+
+-- the literal that names the token of the lexer rule: the rule alone is it
+abbrev pub rule_literal : List LexerRule → LexerRule → Option Literal
+rule_literal lexers rule = if_named lexers (default_literal rule)
 
 -- a lexer rule's token
 abbrev pub rule_token : List LexerRule → LexerRule → Wanted
-rule_token lexers rule = record { key = keys.Name rule.name; shown = shown_rule lexers rule }
+rule_token lexers rule = record {
+  token = refs.Token rule.name;
+  literal = option_map (λ literal. literal.characters) (rule_literal lexers rule);
+}
 
 -- the token that a command's argument names: a number names none
 abbrev pub argument_name : Option Argument → Option TokenReference
@@ -169,38 +190,46 @@ all_declared prequels = flat_map declared_by prequels
 
 -- a token name that is declared, or of a parser rule or of a command: `EOF` is none
 abbrev pub token_name : TokenReference → Option Wanted
-token_name (refs.Token name) = cond (bytes_eq name (codes "EOF")) None (Some (record { key = keys.Name name; shown = name }))
+token_name (refs.Token name) = cond (bytes_eq name (codes "EOF")) None (Some (record { token = refs.Token name; literal = None }))
 token_name (refs.Literal literal) = None
 
 -- what types are given to, in order
-abbrev pub wanted : List LexerRule → List TokenReference → List TokenReference → List TokenReference → List Wanted
-wanted lexers declared tokens commanded = filter_map (own_literal lexers) tokens ++ (map (rule_token lexers) lexers
+abbrev pub wanted : List LexerRule → List Literal → List TokenReference → List TokenReference → List TokenReference → List Wanted
+wanted lexers own declared tokens commanded = map literal_token own ++ (map (rule_token lexers) lexers
     ++ (filter_map token_name declared ++ (filter_map token_name tokens ++ filter_map token_name commanded)))
 
 -- the tokens that parser rules name, in order of the text
 abbrev pub all_named : List Rule → List TokenReference
 all_named rules = all_references (all_atoms (parser_rules rules))
 
+-- the literals of a grammar's parser rules that need tokens of their own
+abbrev pub own_of : Source → List Literal
+own_of source = own_literals (token_lexers source.rules) (all_named source.rules)
+
+-- the first of them, in order of the text
+abbrev pub first_own_literal : Source → Option Literal
+first_own_literal source = slice_get (own_of source) 0
+
 -- what types are given to in a grammar, in order
 abbrev pub wanted_of : Source → List Wanted
-wanted_of source = wanted (token_lexers source.rules) (all_declared source.prequels) (all_named source.rules)
+wanted_of source = wanted (token_lexers source.rules) (own_of source) (all_declared source.prequels) (all_named source.rules)
     (all_commanded (lexer_rules source.rules))
 
 -- the types of a grammar, which a table of types begins
-abbrev pub types_of : List Entry → Source → List Entry
+abbrev pub types_of : List TokenEntry → Source → List TokenEntry
 types_of table source = with_keys table (wanted_of source)
 
 -- the symbol of a token that is named: EOF, or a type
-abbrev pub symbol_of : List LexerRule → List Entry → TokenReference → ℕ
+abbrev pub symbol_of : List LexerRule → List TokenEntry → TokenReference → ℕ
 symbol_of lexers types (refs.Token name) = cond (bytes_eq name (codes "EOF")) eof (type_of types (keys.Name name))
 symbol_of lexers types (refs.Literal literal) = type_of types (literal_key lexers literal.characters)
 
 -- all types but those of these tokens
-abbrev pub types_without : List LexerRule → List Entry → List TokenReference → List ℕ
+abbrev pub types_without : List LexerRule → List TokenEntry → List TokenReference → List ℕ
 types_without lexers types tokens = filter (λ type. not (list_any (λ token. symbol_of lexers types token == type) tokens)) (all_types types)
 
 -- the symbols of which an atom of a parser rule reads one; an atom that only a lexer rule can have reads none
-abbrev pub symbols_of_kind : List LexerRule → List Entry → AtomKind → List ℕ
+abbrev pub symbols_of_kind : List LexerRule → List TokenEntry → AtomKind → List ℕ
 symbols_of_kind lexers types (kinds.Rule name) = []
 symbols_of_kind lexers types (kinds.Token name) = symbol_of lexers types (refs.Token name.text) ∷ []
 symbols_of_kind lexers types (kinds.Literal literal) = symbol_of lexers types (refs.Literal literal) ∷ []
@@ -211,34 +240,3 @@ symbols_of_kind lexers types (kinds.NotTokens tokens) = types_without lexers typ
 symbols_of_kind lexers types (kinds.NotCharacters set) = []
 symbols_of_kind lexers types kinds.Action = []
 symbols_of_kind lexers types (kinds.Predicate name) = []
-
--- a type with its literal, where its key is a literal
-abbrev pub literal_by : ℕ → List ℕ → Key → Option TokenLiteral
-literal_by type shown (keys.Name name) = None
-literal_by type shown (keys.Literal characters) =
-    Some (record { literal = record { characters = characters; written = shown }; symbol = type })
-
--- the same of an entry of the table
-abbrev pub entry_literal : Entry → Option TokenLiteral
-entry_literal entry = literal_by entry.number entry.shown entry.key
-
--- the types that only literals have, with these, in the order of the table
-abbrev pub literals_of : List Entry → List TokenLiteral
-literals_of types = filter_map entry_literal types
-
--- a type with its name, where its key is a name
-abbrev pub name_by : ℕ → Key → Option TokenName
-name_by type (keys.Name name) = Some (record { name = name; symbol = type })
-name_by type (keys.Literal characters) = None
-
--- the same of an entry of the table
-abbrev pub entry_name : Entry → Option TokenName
-entry_name entry = name_by entry.number entry.key
-
--- the types that have names, with these, in the order of the table
-abbrev pub names_of : List Entry → List TokenName
-names_of types = filter_map entry_name types
-
--- the token types of a table
-abbrev pub token_types : List Entry → TokenTypes
-token_types types = record { shown = map (λ entry. entry.shown) types; names = names_of types; literals = literals_of types }

@@ -1,10 +1,13 @@
 -- What the tables of the code have.
-use Rattle.std.specs.Prelude.{◌≡◌, ◌≤◌, ◌<◌, ℕ, List, [], ◌∷◌, filter, cond, Option, Some, None, option_map, map, Result, Ok, Err, ⊤}
+use Rattle.std.specs.Prelude.{◌≡◌, ◌≤◌, ◌<◌, ◌+◌, ◌==◌, ℕ, List, [], ◌∷◌, ◌++◌, filter, length, cond, Option, Some, None, option_map, map, Result, Ok, Err, Vec, slice_get}
+use Rattle.std.specs.Global.{Global}
 use Rattle.std.specs.Borrow.{Bor}
 use Rattle.std.specs.BTreeMap.{BTreeMap, get_by}
 use Rattle.std.specs.Cmp.Lexicographic.{slice_cmp}
+use Rattle.std.specs.Option.{option_or, unwrap_or}
 use Rattle.std.specs.Ordering.{nat_cmp}
 use Rattle.g4_tokens.specs.declared.symbol.TheConstants.{MOST_TYPES}
+use Rattle.g4_source.specs.declared.atom.Literal.{Literal as Written}
 use Rattle.g4_source.specs.declared.atom.TokenReference.{TokenReference}
 use Rattle.g4_source.specs.declared.atom.TokenReference.TheVariants as refs
 use Rattle.g4_source.specs.declared.atom.Atom.{Atom}
@@ -12,16 +15,19 @@ use Rattle.g4_source.specs.declared.rule.LexerRule.{LexerRule}
 use Rattle.g4_source.specs.declared.rule.ParserRule.{ParserRule}
 use Rattle.g4_source.specs.declared.source.Source.{Source}
 use Rattle.g4_source.specs.Rules.{lexer_rules}
+use Rattle.g4_grammar.specs.declared.token_types.TokenLiteral.{TokenLiteral}
+use Rattle.g4_token_file.specs.Keys.{greatest_number}
+use Rattle.g4_token_file.specs.declared.entry.TokenEntry.{TokenEntry}
+use Rattle.g4_vocab.specs.declared.faces.Face.{Face as Lent}
 use Rattle.g4_vocab.specs.declared.fault.NumberFault.{NumberFault}
 use Rattle.g4_vocab.specs.declared.fault.NumberFault.TheVariants.{Rules, Types, NoMemory}
 use Rattle.g4_vocab.specs.declared.named.Named.{Named}
 use Rattle.g4_vocab.specs.declared.references.Reference.{Reference}
 use Rattle.g4_vocab.specs.declared.references.Reference.TheVariants as lent
-use Rattle.g4_vocab.specs.declared.types.Key.TheVariants.{Name, Literal}
-use Rattle.g4_vocab.specs.declared.types.Entry.{Entry}
-use Rattle.g4_vocab.specs.declared.types.Types.{Types as Table}
-use Rattle.g4_vocab.specs.Types.{Wanted, number_of, greatest_type, with_keys}
-use Rattle.g4_vocab.specs.Numbering.{all_atoms, all_commanded, all_declared, all_references, is_whole, wanted}
+use Rattle.g4_vocab.specs.declared.wanted.WantedToken.{WantedToken}
+use Rattle.g4_vocab.specs.Numbering.{all_atoms, all_commanded, all_declared, all_references, is_whole, own_literals, wanted}
+use Rattle.g4_vocab.specs.Shown.{Face, of_type}
+use Rattle.g4_vocab.specs.Types.{Wanted, literal_number, with_keys}
 
 -- a map with texts or characters as keys
 abbrev pub TextMap : Type 0 → Type 0
@@ -30,13 +36,6 @@ TextMap X = BTreeMap (Bor (List ℕ)) X
 -- the value at these bytes or characters
 abbrev pub at : {X : Type 0} → TextMap X → List ℕ → Option X
 at map key = get_by (λ k. slice_cmp nat_cmp key k.now) map
-
--- What is kept beside the entries of a table: the types by their keys, and the greatest one, which is within the limit.
-pub record IsTable (table : Table) : Type 0 where
-  pub names : (name : List ℕ) → at table.names name ≡ number_of table.entries.items (Name name)
-  pub literals : (characters : List ℕ) → at table.literals characters ≡ number_of table.entries.items (Literal characters)
-  pub greatest : table.greatest ≡ greatest_type table.entries.items
-  pub within : table.greatest ≤ MOST_TYPES
 
 -- what is kept of rules that are one literal: nothing of no rule, the name of one, and that there are several
 abbrev pub kept_name : List LexerRule → Option (Option (List ℕ))
@@ -67,9 +66,17 @@ abbrev pub reference_of : Reference → TokenReference
 reference_of (lent.Token name) = refs.Token name.now
 reference_of (lent.Literal literal) = refs.Literal literal.now
 
--- what types are given to: the tokens that a grammar names, and these lexer rules
+-- what types are given to, as it is lent
+abbrev pub wanted_of : WantedToken → Wanted
+wanted_of wanted = record { token = reference_of wanted.token; literal = option_map (λ literal. literal.now.characters) wanted.literal }
+
+-- the literals of tokens that are named that need tokens of their own
+abbrev pub own_by : List LexerRule → Named → List Written
+own_by lexers named = own_literals lexers (map reference_of named.tokens.items)
+
+-- what types are given to: these lexer rules, and the tokens that a grammar names
 abbrev pub wanted_by : List LexerRule → Named → List Wanted
-wanted_by lexers named = wanted lexers (map reference_of named.declared.items) (map reference_of named.tokens.items)
+wanted_by lexers named = wanted lexers (own_by lexers named) (map reference_of named.declared.items) (map reference_of named.tokens.items)
     (map reference_of named.commanded.items)
 
 -- these are the tokens that a grammar of these parser rules names
@@ -78,16 +85,75 @@ pub record AreNamed (source : Source) (parsers : List (ParserRule Atom)) (named 
   pub tokens : map reference_of named.tokens.items ≡ all_references (all_atoms parsers)
   pub commanded : map reference_of named.commanded.items ≡ all_commanded (lexer_rules source.rules)
 
--- adding these keys gives the table with them, or a fault with its cause
-abbrev pub Adds : List Entry → List Wanted → List Entry → Result ⊤ NumberFault → Type 0
-Adds old keys new (Ok _) = new ≡ with_keys old keys
-Adds old keys new (Err Rules) = ⊥
-Adds old keys new (Err Types) = MOST_TYPES < greatest_type (with_keys old keys)
-Adds old keys new (Err NoMemory) = Unit {0}
+-- adding these tokens gives the table with them, or a fault with its cause
+abbrev pub Adds : List TokenEntry → List Wanted → Result (List TokenEntry) NumberFault → Type 0
+Adds table all (Ok new) = new ≡ with_keys table all
+Adds table all (Err Rules) = ⊥
+Adds table all (Err Types) = MOST_TYPES < greatest_number (with_keys table all)
+Adds table all (Err NoMemory) = Unit {0}
 
--- the table with these keys alone, or a fault with its cause
-abbrev pub Starts : List Wanted → Result Table NumberFault → Type 0
-Starts keys (Ok table) = IsTable table × (table.entries.items ≡ with_keys [] keys)
-Starts keys (Err Rules) = ⊥
-Starts keys (Err Types) = MOST_TYPES < greatest_type (with_keys [] keys)
-Starts keys (Err NoMemory) = Unit {0}
+-- a new token gets this number, or a fault with its cause
+abbrev pub GivesNumber : List TokenEntry → Option (List ℕ) → Result ℕ NumberFault → Type 0
+GivesNumber table literal (Ok number) =
+    (number ≡ unwrap_or (literal_number table literal) (greatest_number table + 1)) × (number ≤ MOST_TYPES)
+GivesNumber table literal (Err Rules) = ⊥
+GivesNumber table literal (Err Types) = (literal_number table literal ≡ None) × (MOST_TYPES ≤ greatest_number table)
+GivesNumber table literal (Err NoMemory) = Unit {0}
+
+-- a way to show a type, as it is lent
+abbrev pub face_of : Lent → Face
+face_of face = record { number = face.number; text = face.text.now }
+
+-- a map of texts by numbers
+abbrev pub NumberMap : Type 0
+NumberMap = BTreeMap ℕ (Bor (List ℕ))
+
+-- the text at the number: the empty one, where there is none
+abbrev pub text_or : Option (Bor (List ℕ)) → List ℕ
+text_or None = []
+text_or (Some text) = text.now
+
+abbrev pub shown_at : NumberMap → ℕ → List ℕ
+shown_at first number = text_or (get_by (nat_cmp number) first)
+
+-- the first way to show the number
+abbrev pub first_face : List Face → ℕ → Option (List ℕ)
+first_face [] number = None
+first_face (face ∷ more) number = cond (face.number == number) (Some face.text) (first_face more number)
+
+-- the text that the map has for the number
+abbrev pub text_in : NumberMap → ℕ → Option (List ℕ)
+text_in first number = option_map (λ text. text.now) (get_by (nat_cmp number) first)
+
+-- the map has the first way to show each number
+abbrev pub AreShown : List Face → NumberMap → Type 0
+AreShown faces first = (number : ℕ) → text_in first number ≡ first_face faces number
+
+-- the new map has this way too, where the old one has none
+abbrev pub AddsFace : Face → NumberMap → NumberMap → Type 0
+AddsFace face old new = (number : ℕ)
+    → text_in new number ≡ option_or (text_in old number) (cond (face.number == number) (Some face.text) None)
+
+-- groups of tokens
+abbrev pub Groups : Type 0
+Groups = List (Vec TokenLiteral Global)
+
+-- the tokens of a group, if there is one
+abbrev pub members_of : Option (Vec TokenLiteral Global) → List TokenLiteral
+members_of None = []
+members_of (Some group) = group.items
+
+-- the tokens of the group of this number
+abbrev pub members_in : Groups → ℕ → List TokenLiteral
+members_in groups number = members_of (slice_get groups number)
+
+-- a token more is in the group of its type, and in no other
+pub record Joins (old : Groups) (token : TokenLiteral) (new : Groups) : Type 0 where
+  pub same : length new ≡ length old
+  pub joined : (number : ℕ) → members_in new number
+      ≡ cond (token.symbol == number) (members_in old number ++ token ∷ []) (members_in old number)
+
+-- there are as many groups, and each has the tokens of its number in order
+pub record HaveJoined (count : ℕ) (tokens : List TokenLiteral) (groups : Vec (Vec TokenLiteral Global) Global) : Type 0 where
+  pub counted : length groups.items ≡ count
+  pub joined : (number : ℕ) → number < count → members_in groups.items number ≡ of_type tokens number

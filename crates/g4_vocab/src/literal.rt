@@ -1,9 +1,9 @@
-// Lexer rules that are a literal and nothing else.
+// Lexer rules that are a literal and nothing else, those of the default mode among them.
 ghost use Rattle.std.specs.Prelude.{◌≡◌, MatchOption, None, Some, map};
 ghost use Rattle.g4_source.specs.Trees.{element_of, in_order};
-ghost use Rattle.g4_vocab.specs.Numbering.{literal_element, literal_kind, whole_elements, whole_literal};
+ghost use Rattle.g4_vocab.specs.Numbering.{default_literal, in_default_mode, literal_element, literal_kind, whole_elements, whole_literal};
 
-use g4_source::{Atom, AtomKind, Element, LexerAlternative, Literal};
+use g4_source::{Atom, AtomKind, Element, LexerAlternative, LexerRule, Literal};
 
 /// The literal that the atom is.
 fn literal_kind(kind: &AtomKind) -> Option<&Literal>
@@ -38,11 +38,32 @@ fn whole_elements(elements: &[Element<Atom>]) -> Option<&Literal>
 }
 
 /// The literal that is the whole of these alternatives.
-pub fn whole_literal(alternatives: &[LexerAlternative]) -> Option<&Literal>
+fn whole_literal(alternatives: &[LexerAlternative]) -> Option<&Literal>
     ensures { MatchOption result (whole_literal alternatives.now ≡ None) (λ l. whole_literal alternatives.now ≡ Some l.now) }
 {
     match alternatives {
         [alternative] => whole_elements(alternative.elements.as_slice()),
         _ => None,
+    }
+}
+
+/// Whether the rule is in the default mode.
+fn is_default(rule: &LexerRule) -> bool
+    ensures { result ≡ in_default_mode rule.now.mode }
+{
+    match &rule.mode {
+        Some(name) => name.as_str() == "DEFAULT_MODE",
+        None => true,
+    }
+}
+
+/// The literal that a rule of the default mode is.
+pub fn default_literal(rule: &LexerRule) -> Option<&Literal>
+    ensures { MatchOption result (default_literal rule.now ≡ None) (λ l. default_literal rule.now ≡ Some l.now) }
+{
+    if is_default(rule) {
+        whole_literal(rule.alternatives.as_slice())
+    } else {
+        None
     }
 }

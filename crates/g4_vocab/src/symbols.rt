@@ -3,18 +3,24 @@ ghost use Rattle.std.specs.Prelude.{◌≡◌, ◌==◌, ◌≤◌, All, IfOk, �
 ghost use Rattle.std.specs.BTreeSet.{contains};
 ghost use Rattle.std.specs.List.{list_any};
 ghost use Rattle.std.specs.Ordering.{nat_cmp};
-ghost use Rattle.g4_vocab.specs.Types.{type_of};
-ghost use Rattle.g4_vocab.specs.declared.types.Key.TheVariants.{Name};
+ghost use Rattle.g4_token_file.specs.declared.entry.TokenKey.TheVariants.{Name};
 ghost use Rattle.g4_tokens.specs.declared.symbol.TheConstants.{MOST_TYPES};
-ghost use Rattle.g4_vocab.specs.Numbering.{literal_key, symbol_of, symbols_of_kind, token_types, types_without};
+ghost use Rattle.g4_vocab.specs.Types.{type_of};
+ghost use Rattle.g4_vocab.specs.Numbering.{literal_key, symbol_of, symbols_of_kind, types_without};
+ghost use Rattle.g4_vocab.specs.Shown.{token_types};
 ghost use Rattle.g4_vocab.specs.Tables.{reference_of};
-ghost use Rattle.g4_vocab.specs.Vocabularies.{lexers_in, types_in};
+ghost use Rattle.g4_vocab.specs.Vocabularies.{lexers_in, own_in, types_in};
 
-use crate::entries::{literals_of, names_of, shown_types};
+use crate::by_type::by_type;
+use crate::entries::names_of;
+use crate::faces::shown_types;
+use crate::kinds::types_without;
 use crate::references::{Reference, reference_to};
+use crate::types::{type_of_literal, type_of_name};
 use crate::vocabulary::Vocabulary;
 use g4_grammar::TokenTypes;
 use g4_source::{AtomKind, TokenReference};
+use g4_token_file::TokenTable;
 use g4_tokens::{EOF, Symbols};
 use std::alloc::{AllocError, Global};
 use std::collections::BTreeSet;
@@ -24,7 +30,7 @@ impl Vocabulary<'_> {
     fn symbol_of_name(&self, name: &str) -> u32
         ensures { result ≡ type_of (types_in self.now) (Name name.now) }
     {
-        self.types.of_name(name).unwrap_or(0)
+        type_of_name(&self.types, name)
     }
 
     /// The symbol of a literal.
@@ -34,7 +40,7 @@ impl Vocabulary<'_> {
     {
         match self.wholes.named_rule(characters) {
             Some(name) => self.symbol_of_name(name),
-            None => self.types.of_literal(characters).unwrap_or(0),
+            None => type_of_literal(&self.types, characters),
         }
     }
 
@@ -77,8 +83,8 @@ impl Vocabulary<'_> {
         ensures { IfOk result (λ set. set ≡ types_without (lexers_in self.now)
             (types_in self.now) tokens.now) }
     {
-        let left_out = self.symbols_of(alloc, tokens)?;
-        let types = Symbols::up_to_without(alloc, self.types.greatest, &left_out)?;
+        let symbols = self.symbols_of(alloc, tokens)?;
+        let types = types_without(alloc, &self.types, self.gaps.as_slice(), symbols)?;
         Ok(types)
     }
 
@@ -98,7 +104,7 @@ impl Vocabulary<'_> {
                 let symbol = self.symbol_of(Reference::Literal(literal));
                 Symbols::one(alloc, symbol)
             }
-            AtomKind::Any => Symbols::up_to(alloc, self.types.greatest),
+            AtomKind::Any => self.all.copy_of(alloc),
             AtomKind::NotTokens(tokens) => self.types_without(alloc, tokens.as_slice()),
             _ => Symbols::up_to(alloc, 0),
         }
@@ -109,17 +115,25 @@ impl Vocabulary<'_> {
     /// # Errors
     /// No memory.
     pub fn token_types(&self, alloc: Global) -> Result<TokenTypes, AllocError>
-        ensures types { IfOk result (λ types. types ≡ token_types (types_in self.now)) }
+        ensures types { IfOk result (λ types. types ≡ token_types (lexers_in self.now) (own_in self.now) (types_in self.now)) }
         ensures names { IfOk result (λ types. All (λ name. name.symbol ≤ MOST_TYPES) types.names) }
         ensures literals { IfOk result (λ types. All (λ literal. literal.symbol ≤ MOST_TYPES) types.literals) }
     {
-        let shown = shown_types(alloc, self.types.entries.as_slice())?;
-        let names = names_of(alloc, self.types.entries.as_slice())?;
-        let literals = literals_of(alloc, self.types.entries.as_slice())?;
+        let own = self.own.as_slice();
+        let shown = shown_types(alloc, &self.wholes, own, &self.types)?;
+        let names = names_of(alloc, self.types.entries())?;
+        let literals = by_type(alloc, &self.types, own)?;
         Ok(TokenTypes {
             shown,
             names,
             literals,
         })
+    }
+
+    /// The table of the types, to be kept without the rules: so another grammar can be numbered that begins with it.
+    pub fn into_table(self) -> TokenTable
+        ensures { result ≡ types_in self.entry }
+    {
+        self.types
     }
 }

@@ -1,146 +1,123 @@
-// Tables of token types.
-ghost use Rattle.std.specs.Prelude.{◌≡◌, ◌<◌, OnOk, [], ◌∷◌, ◌++◌};
-ghost use Rattle.g4_vocab.specs.Types.{next_entry, number_of};
-ghost use Rattle.g4_vocab.specs.Tables.{Adds, IsTable};
+// Tables of token types that grow.
+ghost use Rattle.std.specs.Prelude.{◌≡◌, ◌≤◌, [], ◌∷◌, IfOk, IfSome, map, option_map};
+ghost use Rattle.std.specs.Option.{is_some};
+ghost use Rattle.g4_token_file.specs.Keys.{number_of};
+ghost use Rattle.g4_token_file.specs.declared.entry.TokenKey.TheVariants.{Name, Literal as Lit};
+ghost use Rattle.g4_tokens.specs.declared.symbol.TheConstants.{MOST_TYPES};
+ghost use Rattle.g4_vocab.specs.Types.{entry_of, key_of, literal_number, type_of};
+ghost use Rattle.g4_vocab.specs.Tables.{Adds, GivesNumber, reference_of, wanted_of};
 
 use crate::fault::NumberFault;
+use crate::references::Reference;
+use crate::wanted::WantedToken;
 use g4_base::{Sequence, Text};
 use g4_source::Literal;
+use g4_token_file::{TokenEntry, TokenKey, TokenTable};
 use g4_tokens::MOST_TYPES;
 use std::alloc::{AllocError, Global};
-use std::collections::BTreeMap;
 
-/// What has a token type.
-#[derive(Drop)]
-pub enum Key {
-    /// A name.
-    Name(Text),
-    /// A literal by its characters.
-    Literal(Sequence<char>),
+/// The type of a name, 0 where the table does not have it.
+pub fn type_of_name(types: &TokenTable, name: &str) -> u32
+    ensures { result ≡ type_of types.now (Name name.now) }
+{
+    types.number_of_name(name).unwrap_or(0)
 }
 
-/// A key, its type, and what is shown of the type.
-#[derive(Drop)]
-pub struct Entry {
-    pub key: Key,
-    pub number: u32,
-    pub shown: Text,
+/// The type of a literal for these characters, 0 where the table does not have it.
+pub fn type_of_literal(types: &TokenTable, characters: &[char]) -> u32
+    ensures { result ≡ type_of types.now (Lit characters.now) }
+{
+    types.number_of_literal(characters).unwrap_or(0)
 }
 
-/// A table of token types, in the order in which they were given, and the types by their keys.
-#[derive(Drop)]
-pub struct Types<'a> {
-    pub entries: Vec<Entry>,
-    pub names: BTreeMap<&'a str, u32>,
-    pub literals: BTreeMap<&'a [char], u32>,
-    pub greatest: u32,
+/// Whether the table has the token.
+fn has_token(types: &TokenTable, token: Reference<'_>) -> bool
+    ensures { result ≡ is_some (number_of types.now (key_of (reference_of token.entry))) }
+{
+    match token {
+        Reference::Token(name) => types.number_of_name(name).is_some(),
+        Reference::Literal(literal) => types
+            .number_of_literal(literal.characters.as_slice())
+            .is_some(),
+    }
 }
 
-impl<'a> Types<'a> {
-    /// The empty table.
-    pub fn new(alloc: Global) -> Self
-        ensures empty { result.entries.items ≡ [] }
-        ensures table { IsTable result }
-    {
-        Types {
-            entries: Vec::new(alloc),
-            names: BTreeMap::new(alloc),
-            literals: BTreeMap::new(alloc),
-            greatest: 0,
+/// The number of the literal, if there is one and the table has it.
+fn literal_number(types: &TokenTable, literal: Option<&Literal>) -> Option<u32>
+    ensures value { result ≡ literal_number types.now (option_map (λ l. l.now.characters) literal.entry) }
+    ensures within { IfSome result (λ number. number ≤ MOST_TYPES) }
+{
+    match literal {
+        Some(literal) => types.number_of_literal(literal.characters.as_slice()),
+        None => None,
+    }
+}
+
+/// The type that a new token gets: that of the literal which names it too, else the next one after the greatest.
+fn new_number(types: &TokenTable, literal: Option<&Literal>) -> Result<u32, NumberFault>
+    ensures { GivesNumber types.now (option_map (λ l. l.now.characters) literal.entry) result }
+{
+    match literal_number(types, literal) {
+        Some(number) => Ok(number),
+        None => {
+            let greatest = types.greatest();
+            if greatest >= MOST_TYPES {
+                return Err(NumberFault::Types);
+            }
+            Ok(greatest + 1)
         }
     }
+}
 
-    /// The type of a name.
-    pub fn of_name(&self, name: &str) -> Option<u32>
-        requires { IsTable self.now }
-        ensures { result ≡ number_of self.now.entries.items (Key.Name name.now) }
-    {
-        self.names.get(name).copied()
-    }
-
-    /// The type of a literal for these characters.
-    pub fn of_literal(&self, characters: &[char]) -> Option<u32>
-        requires { IsTable self.now }
-        ensures { result ≡ number_of self.now.entries.items (Key.Literal characters.now) }
-    {
-        self.literals.get(characters).copied()
-    }
-
-    /// Adds a new name.
-    fn push_name(&mut self, alloc: Global, name: &'a str, shown: &str) -> Result<(), AllocError>
-        requires table { IsTable self.old }
-        requires room { self.old.greatest < MOST_TYPES }
-        requires fresh { number_of self.old.entries.items (Key.Name name.now) ≡ None }
-        ensures table { OnOk result (IsTable self.new) }
-        ensures pushed { OnOk result (self.new.entries.items
-            ≡ self.old.entries.items ++ next_entry self.old.entries.items (record { key = Key.Name name.now; shown = shown.now }) ∷ []) }
-    {
-        let number = self.greatest + 1;
-        let entry = Entry {
-            key: Key::Name(Text::copy_of(alloc, name)?),
-            number,
-            shown: Text::copy_of(alloc, shown)?,
-        };
-        self.names.insert(name, number)?;
-        self.entries.push(entry)?;
-        self.greatest = number;
-        Ok(())
-    }
-
-    /// Adds a new literal.
-    fn push_literal(&mut self, alloc: Global, literal: &'a Literal) -> Result<(), AllocError>
-        requires table { IsTable self.old }
-        requires room { self.old.greatest < MOST_TYPES }
-        requires fresh { number_of self.old.entries.items (Key.Literal literal.now.characters) ≡ None }
-        ensures table { OnOk result (IsTable self.new) }
-        ensures pushed { OnOk result (self.new.entries.items
-            ≡ self.old.entries.items ++ next_entry self.old.entries.items
-            (record { key = Key.Literal literal.now.characters; shown = literal.now.written }) ∷ []) }
-    {
-        let number = self.greatest + 1;
-        let characters = literal.characters.as_slice();
-        let entry = Entry {
-            key: Key::Literal(Sequence::new(characters.to_vec(alloc)?)),
-            number,
-            shown: Text::copy_of(alloc, literal.written.as_str())?,
-        };
-        self.literals.insert(characters, number)?;
-        self.entries.push(entry)?;
-        self.greatest = number;
-        Ok(())
-    }
-
-    /// Gives the name the next type, unless it has one.
-    pub fn add_name(&mut self, alloc: Global, name: &'a str, shown: &str) -> Result<(), NumberFault>
-        requires { IsTable self.old }
-        ensures table { OnOk result (IsTable self.new) }
-        ensures added { Adds self.old.entries.items (record { key = Key.Name name.now; shown = shown.now } ∷ [])
-            self.new.entries.items result }
-    {
-        if self.of_name(name).is_some() {
-            return Ok(());
+/// The entry of a token of this type.
+fn entry_of(alloc: Global, token: Reference<'_>, number: u32) -> Result<TokenEntry, AllocError>
+    ensures { IfOk result (λ entry. entry ≡ entry_of (reference_of token.entry) number) }
+{
+    let (key, written) = match token {
+        Reference::Token(name) => (TokenKey::Name(Text::copy_of(alloc, name)?), name),
+        Reference::Literal(literal) => {
+            let characters = literal.characters.as_slice().to_vec(alloc)?;
+            (
+                TokenKey::Literal(Sequence::new(characters)),
+                literal.written.as_str(),
+            )
         }
-        if self.greatest >= MOST_TYPES {
-            return Err(NumberFault::Types);
-        }
-        self.push_name(alloc, name, shown)?;
-        Ok(())
-    }
+    };
+    Ok(TokenEntry {
+        key,
+        written: Text::copy_of(alloc, written)?,
+        number,
+    })
+}
 
-    /// Gives the literal the next type, unless it has one.
-    pub fn add_literal(&mut self, alloc: Global, literal: &'a Literal) -> Result<(), NumberFault>
-        requires { IsTable self.old }
-        ensures table { OnOk result (IsTable self.new) }
-        ensures added { Adds self.old.entries.items
-            (record { key = Key.Literal literal.now.characters; shown = literal.now.written } ∷ []) self.new.entries.items result }
-    {
-        if self.of_literal(literal.characters.as_slice()).is_some() {
-            return Ok(());
-        }
-        if self.greatest >= MOST_TYPES {
-            return Err(NumberFault::Types);
-        }
-        self.push_literal(alloc, literal)?;
-        Ok(())
+/// The table with the token, which keeps its number where it is there.
+fn with_token(
+    alloc: Global,
+    types: TokenTable,
+    wanted: WantedToken<'_>,
+) -> Result<TokenTable, NumberFault>
+    ensures { Adds types (wanted_of wanted.entry ∷ []) result }
+{
+    if has_token(&types, wanted.token) {
+        return Ok(types);
     }
+    let number = new_number(&types, wanted.literal)?;
+    let entry = entry_of(alloc, wanted.token, number)?;
+    let longer = types.with_entry(alloc, entry)?;
+    Ok(longer)
+}
+
+/// The table with these tokens, one after another.
+pub fn with_tokens(
+    alloc: Global,
+    table: TokenTable,
+    wanted: &[WantedToken<'_>],
+) -> Result<TokenTable, NumberFault>
+    ensures { Adds table (map wanted_of wanted.now) result }
+{
+    let mut types = table;
+    for token in wanted {
+        types = with_token(alloc, types, *token)?;
+    }
+    Ok(types)
 }

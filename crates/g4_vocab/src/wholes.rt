@@ -1,17 +1,17 @@
 // Which lexer rules' tokens literals name.
 ghost use Rattle.std.specs.Prelude.{◌≡◌, IfOk, OnOk, map, option_map};
-ghost use Rattle.g4_vocab.specs.Numbering.{named_rule, shown_rule};
+ghost use Rattle.g4_vocab.specs.Numbering.{named_rule, rule_literal};
 ghost use Rattle.g4_vocab.specs.Tables.{AreWholes, AddsRule};
 
-use crate::literal::whole_literal;
-use g4_source::LexerRule;
+use crate::literal::default_literal;
+use g4_source::{LexerRule, Literal};
 use std::alloc::{AllocError, Global};
 use std::collections::BTreeMap;
 
-/// The names of rules by the characters of the literals that they are: none where several rules are one literal.
+/// The names of rules of the default mode by the characters of the literals that they are: none where several are one literal.
 type Names<'a> = BTreeMap<&'a [char], Option<&'a str>>;
 
-/// Lexer rules, and which of them are a literal and nothing else.
+/// Lexer rules, and which of those of the default mode are a literal and nothing else.
 #[derive(Drop)]
 pub struct Wholes<'a> {
     pub rules: Vec<&'a LexerRule>,
@@ -19,11 +19,11 @@ pub struct Wholes<'a> {
     pub ghost named: { AreWholes (map (λ r. r.now) rules.items) names },
 }
 
-/// Adds the rule, where it is a literal and nothing else.
+/// Adds the rule, where it is in the default mode, a literal and nothing else.
 fn add_rule<'a>(names: &mut Names<'a>, rule: &'a LexerRule) -> Result<(), AllocError>
     ensures { OnOk result (AddsRule rule.now names.old names.new) }
 {
-    if let Some(literal) = whole_literal(rule.alternatives.as_slice()) {
+    if let Some(literal) = default_literal(rule) {
         let characters = literal.characters.as_slice();
         let only = if names.contains_key(characters) {
             None
@@ -65,19 +65,16 @@ impl<'a> Wholes<'a> {
         }
     }
 
-    /// What is shown of a rule's token: a literal where the rule alone is it, else the name.
-    pub fn shown_rule<'s>(&self, rule: &'s LexerRule) -> &'s str
-        ensures { result.now ≡ shown_rule (map (λ r. r.now) self.now.rules.items) rule.now }
+    /// The literal that names the token of a rule: the rule alone is it.
+    pub fn literal_of<'s>(&self, rule: &'s LexerRule) -> Option<&'s Literal>
+        ensures { option_map (λ l. l.now) result ≡ rule_literal (map (λ r. r.now) self.now.rules.items) rule.now }
     {
-        match whole_literal(rule.alternatives.as_slice()) {
-            Some(literal) => {
-                if self.named_rule(literal.characters.as_slice()).is_some() {
-                    literal.written.as_str()
-                } else {
-                    rule.name.as_str()
-                }
-            }
-            None => rule.name.as_str(),
+        match default_literal(rule) {
+            Some(literal) => match self.named_rule(literal.characters.as_slice()) {
+                Some(_) => Some(literal),
+                None => None,
+            },
+            None => None,
         }
     }
 }

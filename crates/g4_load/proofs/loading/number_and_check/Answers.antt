@@ -1,20 +1,26 @@
 use Rattle.std.proofs.Common.{ap, ◌∙◌}
 use Rattle.std.proofs.lemmas.Result.{err_from_is_err_and}
-use Rattle.g4_vocab.specs.Numbering.{token_types}
-use Rattle.g4_load.proofs.Built.{check_exit, fits_limits, number_exit}
+use Rattle.std.proofs.Common.{List}
+use Rattle.g4_resolve.specs.Resolving.{resolved}
+use Rattle.g4_token_file.specs.declared.entry.TokenEntry.{TokenEntry}
+use Rattle.g4_load.proofs.Built.{check_exit, fits_limits, number_exit, types_are}
 use Rattle.g4_load.proofs.loading.number_and_check.Goals as goal
 
 pub returns-in_err-vocabulary : goal.returns-in_err-vocabulary
 returns-in_err-vocabulary c =
     let p = err_from_is_err_and c.from_residual.result c.from_residual.ensures.1 in
     let fault = c.in_err-vocabulary.field-0.0 in
-    rw (p.1, p.2) (number_exit c.args.source.now fault c.in_err-vocabulary.ensures)
+    rw (p.1, p.2) (number_exit c.args.source.now fault (rw c.new.ensures at c.in_err-vocabulary.ensures))
 
 pub returns-in_err-check : goal.returns-in_err-check
 returns-in_err-check c =
     let p = err_from_is_err_and c.from_residual-in_err-check.result c.from_residual-in_err-check.ensures.1 in
     rw (p.1, p.2)
-    (check_exit c.args.source.now c.in_ok-vocabulary.vocabulary c.in_ok-vocabulary.ensures _ c.in_err-check.ensures.checked)
+    (check_exit c.args.source.now c.in_ok-vocabulary.vocabulary (rw c.new.ensures at c.in_ok-vocabulary.ensures) _
+    c.in_err-check.ensures.checked)
+
+pub resolve-requires-clause-numbered : goal.resolve-requires-clause-numbered
+resolve-requires-clause-numbered c = c.in_ok-vocabulary.ensures.fits
 
 pub resolve-requires-clause-checked : goal.resolve-requires-clause-checked
 resolve-requires-clause-checked c = record {
@@ -25,13 +31,15 @@ resolve-requires-clause-checked c = record {
 }
 
 pub returns : goal.returns
-returns c = record {
-  fits = fits_limits c.args.source.now c.in_ok-vocabulary.vocabulary c.in_ok-vocabulary.ensures;
-  checked = c.in_ok-check.ensures.checked;
-  rules = c.in_ok-rules.ensures;
-  types = c.in_ok-types.ensures.types ∙ ap token_types c.in_ok-vocabulary.ensures.types;
-  low_names = c.in_ok-types.ensures.names;
-  low_literals = c.in_ok-types.ensures.literals;
-  defined = c.in_ok-check.ensures.defined;
-  run = c.in_ok-check.ensures.run;
-}
+returns c =
+    let numbered = rw c.new.ensures at c.in_ok-vocabulary.ensures in
+    record {
+      fits = fits_limits c.args.source.now c.in_ok-vocabulary.vocabulary numbered;
+      checked = c.in_ok-check.ensures.checked;
+      rules = c.in_ok-rules.ensures ∙ ap (λ (ts : List TokenEntry). resolved ts c.args.source.now) numbered.types;
+      types = c.in_ok-types.ensures.types ∙ types_are c.args.source.now c.in_ok-vocabulary.vocabulary numbered;
+      low_names = c.in_ok-types.ensures.names;
+      low_literals = c.in_ok-types.ensures.literals;
+      defined = c.in_ok-check.ensures.defined;
+      run = c.in_ok-check.ensures.run;
+    }

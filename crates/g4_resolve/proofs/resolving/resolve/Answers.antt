@@ -1,6 +1,5 @@
 use Rattle.std.proofs.Common.{◌≡◌, ◌≤◌, ℕ, List, [], length, map, sym, ap, ◌∙◌, subst, arith}
 use Rattle.std.proofs.lemmas.List.{length-map}
-use Rattle.g4_tokens.specs.declared.symbol.TheConstants.{MOST_TYPES}
 use Rattle.g4_names.specs.Places.{first_place}
 use Rattle.g4_source.specs.Rules.{parser_rules}
 use Rattle.g4_source.specs.Views.{rule_view}
@@ -9,10 +8,9 @@ use Rattle.g4_source.specs.declared.rule.LexerRule.{LexerRule}
 use Rattle.g4_source.specs.declared.rule.ParserRule.{ParserRule}
 use Rattle.g4_source.specs.declared.source.Source.{Source}
 use Rattle.g4_grammar.specs.StepRules.{CanBeRewritten, StepRule}
-use Rattle.g4_vocab.specs.Numbering.{token_lexers, types_of}
-use Rattle.g4_vocab.specs.Types.{greatest_type}
+use Rattle.g4_vocab.specs.Numbering.{token_lexers}
 use Rattle.g4_vocab.specs.Vocabularies.{lexers_in, types_in}
-use Rattle.g4_vocab.specs.declared.types.Entry.{Entry}
+use Rattle.g4_token_file.specs.declared.entry.TokenEntry.{TokenEntry}
 use Rattle.g4_resolve.specs.Resolving.{parser_names, resolved, resolved_rule}
 use Rattle.g4_resolve.proofs.Carrying.{can_be_rewritten}
 use Rattle.g4_resolve.proofs.Parsers.{parsers_few}
@@ -20,16 +18,15 @@ use Rattle.g4_resolve.proofs.resolving.resolve.Goals as goal
 
 -- the rules over steps, of the names of the parser rules
 steps_are : (source : Source) (parsers others : List (ParserRule Atom)) (names : List (List ℕ)) (lexers : List LexerRule)
-    (types : List Entry) (made : List StepRule) → parsers ≡ parser_rules source.rules → others ≡ parsers
-    → names ≡ map (λ rule. rule.name) parsers → lexers ≡ token_lexers source.rules → types ≡ types_of [] source
-    → made ≡ map (resolved_rule names lexers types) others → made ≡ resolved source
-steps_are source parsers others names lexers types made parsed same named tokens typed is =
+    (types : List TokenEntry) (made : List StepRule) → parsers ≡ parser_rules source.rules → others ≡ parsers
+    → names ≡ map (λ rule. rule.name) parsers → lexers ≡ token_lexers source.rules
+    → made ≡ map (resolved_rule names lexers types) others → made ≡ resolved types source
+steps_are source parsers others names lexers types made parsed same named tokens is =
     let rules = source.rules in
     is
     ∙ (ap (λ (ns : List (List ℕ)). map (resolved_rule ns lexers types) others) (named ∙ ap (map (λ rule. rule.name)) parsed)
     ∙ (ap (λ (ls : List LexerRule). map (resolved_rule (parser_names rules) ls types) others) tokens
-    ∙ (ap (λ (es : List Entry). map (resolved_rule (parser_names rules) (token_lexers rules) es) others) typed
-    ∙ ap (map (resolved_rule (parser_names rules) (token_lexers rules) (types_of [] source))) (same ∙ parsed))))
+    ∙ ap (map (resolved_rule (parser_names rules) (token_lexers rules) types)) (same ∙ parsed)))
 
 pub invariant_of-stage : goal.invariant_of-stage
 invariant_of-stage c =
@@ -64,13 +61,11 @@ returns c =
     (ap (map (λ r. r.now)) c.as_slice-6.ensures.value)
     (c.as_slice-5.ensures.value ∙ (c.in_ok-names.ensures
     ∙ ap (map (λ rule. rule.name)) (ap (map (λ r. r.now)) c.as_slice-3.ensures.value)))
-    c.requires.numbered.lexers c.requires.numbered.types c.in_ok-made.ensures
+    c.requires.numbered.lexers c.in_ok-made.ensures
 
 pub new-requires : goal.new-requires
 new-requires c =
     let source = c.args.source.now in
-    let few : greatest_type (types_of [] source) ≤ MOST_TYPES =
-    subst (λ (types : List Entry). greatest_type types ≤ MOST_TYPES) c.requires.numbered.types c.requires.numbered.few_types in
     let parsers : map (λ r. r.now) c.in_ok-parsers.parsers.items ≡ parser_rules source.rules =
     c.in_ok-parsers.ensures ∙ ap parser_rules (ap (map rule_view) c.as_slice-2.ensures.value ∙ (c.in_ok-views.ensures
     ∙ c.as_slice.ensures)) in
@@ -80,5 +75,6 @@ new-requires c =
     (ap (map (λ r. r.now)) c.as_slice-6.ensures.value)
     (c.as_slice-5.ensures.value ∙ (c.in_ok-names.ensures
     ∙ ap (map (λ rule. rule.name)) (ap (map (λ r. r.now)) c.as_slice-3.ensures.value)))
-    c.requires.numbered.lexers c.requires.numbered.types c.in_ok-made.ensures))
-    (can_be_rewritten source.rules (token_lexers source.rules) (types_of [] source) few c.requires.checked)
+    c.requires.numbered.lexers c.in_ok-made.ensures))
+    (can_be_rewritten source.rules (token_lexers source.rules) (types_in c.args.vocabulary.now) c.requires.numbered.few_types
+    c.requires.checked)

@@ -1,5 +1,5 @@
 use Rattle.std.proofs.Common.{[], sym, ◌∙◌, rules}
-use Rattle.g4_vocab.specs.Numbering.{entry_name}
+use Rattle.g4_vocab.specs.Shown.{entry_name}
 use Rattle.g4_vocab.proofs.Lists.{picks_more, picks_same}
 use Rattle.g4_vocab.proofs.entries.names_of.Goals as goal
 use Rattle.g4_vocab.proofs.entries.names_of.Goals.{in-Some+in_ok-push, in_default}

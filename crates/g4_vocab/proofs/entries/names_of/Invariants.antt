@@ -1,6 +1,6 @@
 use Rattle.std.proofs.Common.{◌≡◌, take}
 use Rattle.std.specs.List.{filter_map}
-use Rattle.g4_vocab.specs.Numbering.{entry_name}
+use Rattle.g4_vocab.specs.Shown.{entry_name}
 use Rattle.g4_vocab.proofs.entries.names_of.Given as goal
 
 abbrev pub invariant-loop-entry : goal.invariant-loop-entry

@@ -4,7 +4,7 @@ use Rattle.g4_source.specs.declared.rule.LexerRule.{LexerRule}
 use Rattle.g4_source.specs.declared.rule.Rule.{Rule}
 use Rattle.g4_vocab.specs.Answers.{GivesTypes}
 use Rattle.g4_vocab.specs.Halves.{AreHalves}
-use Rattle.g4_vocab.specs.Tables.{AreNamed, wanted_by}
+use Rattle.g4_vocab.specs.Tables.{AreNamed}
 use Rattle.g4_vocab.specs.declared.fault.TheConstants.{MOST_RULES}
 use Rattle.g4_vocab.proofs.Sources.{rules_err, rules_ok}
 use Rattle.g4_vocab.proofs.numbering.number.Goals as goal
@@ -20,8 +20,8 @@ returns c =
     let are : AreNamed source parsers named =
     subst (λ ps. AreNamed source (map (λ r. r.now) ps) named) c.as_slice.ensures.value c.in_ok-named.ensures in
     let few : length source.rules ≤ MOST_RULES = omega (arith, ap length c.as_slice-rules.ensures, c.if-rules-gt-MOST_RULES.false) in
-    rules_ok source parsers lexers named halves are few c.in_ok-vocabulary.vocabulary
-    (subst (λ (ls : List LexerRule). GivesTypes ls (wanted_by ls named) (Ok c.in_ok-vocabulary.vocabulary)) c.in_ok-wholes.ensures
+    rules_ok c.args.table source parsers lexers named halves are few c.in_ok-vocabulary.vocabulary
+    (subst (λ (ls : List LexerRule). GivesTypes c.args.table ls named (Ok c.in_ok-vocabulary.vocabulary)) c.in_ok-wholes.ensures
     c.in_ok-vocabulary.ensures)
 
 pub returns-in_err-vocabulary : goal.returns-in_err-vocabulary
@@ -37,5 +37,5 @@ returns-in_err-vocabulary c =
     let are : AreNamed source parsers named =
     subst (λ ps. AreNamed source (map (λ r. r.now) ps) named) c.as_slice.ensures.value c.in_ok-named.ensures in
     let few : length source.rules ≤ MOST_RULES = omega (arith, ap length c.as_slice-rules.ensures, c.if-rules-gt-MOST_RULES.false) in
-    rw (p.1, p.2) (rules_err source parsers lexers named halves are few fault
-    (subst (λ (ls : List LexerRule). GivesTypes ls (wanted_by ls named) (Err fault)) c.in_ok-wholes.ensures c.in_err-vocabulary.ensures))
+    rw (p.1, p.2) (rules_err c.args.table source parsers lexers named halves are few fault
+    (subst (λ (ls : List LexerRule). GivesTypes c.args.table ls named (Err fault)) c.in_ok-wholes.ensures c.in_err-vocabulary.ensures))

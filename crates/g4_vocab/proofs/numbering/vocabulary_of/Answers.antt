@@ -1,12 +1,13 @@
-use Rattle.std.proofs.Common.{map}
-use Rattle.std.proofs.lemmas.Result.{err_from_is_err_and}
-use Rattle.g4_vocab.specs.Tables.{wanted_by}
-use Rattle.g4_vocab.proofs.Sources.{types_err}
+use Rattle.std.proofs.Common.{ℕ, List, not, ap, ◌∙◌}
+use Rattle.std.specs.BTreeSet.{contains}
+use Rattle.std.specs.List.{list_any}
+use Rattle.std.specs.Ordering.{is_eq, nat_cmp}
+use Rattle.g4_vocab.specs.Types.{all_types}
+use Rattle.g4_vocab.proofs.LeftTypes.{filter_all}
 use Rattle.g4_vocab.proofs.numbering.vocabulary_of.Goals as goal
 
-pub returns-in_err-types : goal.returns-in_err-types
-returns-in_err-types c =
-    let p = err_from_is_err_and c.from_residual.result c.from_residual.ensures.1 in
-    let fault = c.in_err-types.field-0.0 in
-    rw (p.1, p.2) (types_err (map (λ r. r.now) c.args.wholes.rules.items)
-    (wanted_by (map (λ r. r.now) c.args.wholes.rules.items) c.args.named.now) fault c.in_err-types.ensures)
+pub invariant_of-result-clause-all_are : goal.invariant_of-result-clause-all_are
+invariant_of-result-clause-all_are c =
+    c.in_ok-all.ensures
+    ∙ filter_all (λ n. not (contains nat_cmp c.new.result n))
+    (λ n. ap not (ap (λ (keys : List ℕ). list_any (λ k. is_eq (nat_cmp n k)) keys) c.new.ensures.empty)) (all_types c.args.types)

@@ -15,7 +15,7 @@ returns-in_ok-insert c =
     let only = c.if-contains_key.only in
     let chars : c.as_slice-characters.result.now ≡ literal.characters = c.as_slice-characters.ensures in
     let there : c.contains_key.result ≡ is_some (at old literal.characters) = rw chars at c.contains_key.ensures in
-    rule_kept c.args.rule.now literal old c.insert.new.self only (rw c.as_slice.ensures at c.in-Some.ensures)
+    rule_kept c.args.rule.now literal old c.insert.new.self only c.in-Some.ensures
     (λ q. btree_map_updates_str c.as_slice-characters.result.now old c.insert.new.self (Some only) c.in_ok-insert.ensures.updates q
     ∙ ap (λ (cs : List ℕ). cond (bytes_eq cs q) (Some only) (at old q)) chars)
     (elim c.if-contains_key.branch [

@@ -1,7 +1,0 @@
-use Rattle.std.proofs.Common.{◌≡◌, take}
-use Rattle.std.specs.List.{filter_map}
-use Rattle.g4_vocab.specs.Numbering.{entry_literal}
-use Rattle.g4_vocab.proofs.entries.literals_of.Given as goal
-
-abbrev pub invariant-loop-entry : goal.invariant-loop-entry
-invariant-loop-entry l = l.literals.items ≡ filter_map entry_literal (take l.entry-index l.entries)
