@@ -1,5 +1,6 @@
 // As many rules and types as there may be, and more.
 use crate::reading::{grammar_of, table_of};
+use g4_attach::{AttachFault, attach};
 use g4_source::AtomKind;
 use g4_token_file::TokenTable;
 use g4_vocab::{NumberFault, Vocabulary, number};
@@ -101,5 +102,35 @@ fn tables_of_many_entries(rt: HostRuntime) -> Result<(), Fail> {
         answered(rt.alloc(), odd, 2000, 97)?.as_str(),
         "4096 97 2000 2097"
     );
+    Ok(())
+}
+
+/// What comes of a parser grammar of so many rules with a lexer grammar of so many.
+fn joined(alloc: Global, parsers: u32, lexers: u32) -> Result<String, Fail> {
+    let mut parser = String::from_str(alloc, "parser grammar P;")?;
+    for rule in 0..parsers {
+        write!(parser, " r{rule} : 'l0' ;")?;
+    }
+    let mut lexer = String::from_str(alloc, "lexer grammar L;")?;
+    lexer.push_str(rules(alloc, 0, lexers)?.as_str())?;
+    let parser = grammar_of(alloc, parser.as_str())?;
+    let lexer = grammar_of(alloc, lexer.as_str())?;
+    match attach(alloc, TokenTable::new(alloc), parser, Some(lexer)) {
+        Ok(attached) => match number(alloc, attached.table, &attached.source) {
+            Ok(vocabulary) => Ok(counted(alloc, &vocabulary)?),
+            Err(_) => Ok(String::from_str(alloc, "no types")?),
+        },
+        Err(AttachFault::Rules) => Ok(String::from_str(alloc, "rules")?),
+        Err(_) => Ok(String::from_str(alloc, "none")?),
+    }
+}
+
+#[test]
+fn many_rules_of_both(rt: HostRuntime) -> Result<(), Fail> {
+    assert_eq!(rt;
+        joined(rt.alloc(), 2000, 2096)?.as_str(),
+        "2096 2096 0 2096"
+    );
+    assert_eq!(rt; joined(rt.alloc(), 2001, 2096)?.as_str(), "rules");
     Ok(())
 }

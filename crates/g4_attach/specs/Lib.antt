@@ -1,0 +1,2 @@
+-- Other crates cite it.
+pub mod Attaching
