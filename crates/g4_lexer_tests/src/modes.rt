@@ -1,12 +1,11 @@
-// Modes other than the default one, which no command line can load yet: a lexer grammar, and what texts are lexed to by it.
-ghost use Rattle.std.specs.Prelude.{◌≡◌, IfOk};
+// Modes other than the default one: a lexer grammar, and what texts are lexed to by it.
+ghost use Rattle.std.specs.Prelude.{IfOk};
 ghost use Rattle.g4_source.specs.Blocks.{HaveAlternatives};
-ghost use Rattle.g4_lexer.specs.Lexers.{matched_by};
 ghost use Rattle.g4_ordered.specs.Network.{IsLexable};
 
 use g4_base::{Place, Sequence, Text};
 use g4_checks::check;
-use g4_lexer::{LexFault, Lexer, Matcher, tokens};
+use g4_lexer::{LexFault, Lexer, tokens};
 use g4_lexer_rules::{build_lexer, checked_lexer_of};
 use g4_reader::read_grammar;
 use g4_source::Source;
@@ -108,37 +107,30 @@ fn write_fault(out: &mut String, fault: &LexFault) -> Result<(), AllocError> {
 }
 
 /// What a text is lexed to.
-fn lexed(
-    alloc: Global,
-    lexer: &Lexer,
-    matcher: &mut Matcher<'_>,
-    shown: &[Text],
-    text: &str,
-) -> Result<String, Fail>
-    requires { matcher.old ≡ matched_by lexer.now }
-    ensures { matcher.new ≡ matched_by lexer.now }
+fn lexed(alloc: Global, lexer: &Lexer, shown: &[Text], text: &str) -> Result<String, Fail>
+    requires { IsLexable lexer.now.net }
 {
     if text.len() > 1_000_000 {
         return Err(Fail::from("a long text"));
     }
     let mut out = String::new(alloc);
+    let mut matcher = lexer.matcher(alloc)?;
     let bytes = Sequence::new(text.as_bytes().to_vec(alloc)?);
-    match tokens(alloc, lexer, matcher, bytes) {
+    match tokens(alloc, lexer, &mut matcher, bytes) {
         Ok(found) => write_tokens(&mut out, shown, &found)?,
         Err(fault) => write_fault(&mut out, &fault)?,
     }
     Ok(out)
 }
 
-/// The rows of which something else is found. One matcher serves them all, as it serves the files of a worker.
+/// The rows of which something else is found.
 fn differing(alloc: Global, lexer: &Lexer, shown: &[Text]) -> Result<String, Fail>
     requires { IsLexable lexer.now.net }
 {
     let mut all = String::new(alloc);
-    let mut matcher = lexer.matcher(alloc)?;
     for row in TABLE.lines() {
         let (text, wanted) = row.split_once(" => ").unwrap_or((row, ""));
-        let found = lexed(alloc, lexer, &mut matcher, shown, text)?;
+        let found = lexed(alloc, lexer, shown, text)?;
         if found.as_str().trim_end() != wanted {
             write!(all, "\n{row}\n  is {found}")?;
         }

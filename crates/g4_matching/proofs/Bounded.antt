@@ -136,7 +136,10 @@ module _ (parts : ℕ) (classes : List ℕ) (alternate : AreAlternate parts clas
           ∙ ap (λ (l : List ℕ). slice_index_or classes (part_in l x) 0) bounds_are
 
       at : (x : ℕ) → ((class_in c x ≡ 1) × Has rs x) ⊎ ((class_in c x ≡ 0) × (Has rs x → ⊥))
-      at x = elim (tells_one rs x canonical many) [ inl member ↦ inl (is x ∙ member.0, member.1) | inr never ↦ inr (is x ∙ never.0, never.1) ]
+      at x = elim (tells_one rs x canonical many) [
+        | inl member ↦ inl (is x ∙ member.0, member.1)
+        | inr never ↦ inr (is x ∙ never.0, never.1)
+      ]
 
       to : ((class_in c a ≡ 1) × Has rs a) ⊎ ((class_in c a ≡ 0) × (Has rs a → ⊥))
           → ((class_in c b ≡ 1) × Has rs b) ⊎ ((class_in c b ≡ 0) × (Has rs b → ⊥)) → class_in c a ≡ class_in c b

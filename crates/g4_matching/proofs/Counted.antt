@@ -60,7 +60,10 @@ part_is bounds i a rising within before after =
   where
     at : (k : ℕ) → i ≤ k → k < length bounds → a < get_or bounds k 0
     at k le less = elim (split i k) [
-      | inl same ↦ (let h = after (omega arith) in let e : get_or bounds i 0 ≡ get_or bounds k 0 = ap (λ (n : ℕ). get_or bounds n 0) same in omega arith)
+      | inl same ↦ (
+          let h = after (omega arith) in
+          let e : get_or bounds i 0 ≡ get_or bounds k 0 = ap (λ (n : ℕ). get_or bounds n 0) same in
+          omega arith)
       | inr before ↦ (let h = after (omega arith) in let l = later bounds i k rising (other i k le before) less in omega arith)
     ]
       where

@@ -62,7 +62,8 @@ rising_push xs y rising below k within = elim (split (k + 1) (length xs)) [
 ]
 
 -- the part of a number past all bounds is the last
-part_last : (bounds : List ℕ) (a : ℕ) → IsStrictlyIncreasing bounds → ((x : ℕ) → Contains bounds x → x ≤ a) → part_in bounds a ≡ length bounds
+part_last : (bounds : List ℕ) (a : ℕ) → IsStrictlyIncreasing bounds → ((x : ℕ) → Contains bounds x → x ≤ a)
+    → part_in bounds a ≡ length bounds
 part_last bounds a rising past = part_is bounds (length bounds) a rising (omega arith)
     (λ k less. past (get_or bounds k 0) (has_at bounds k less)) (λ less. absurd (omega arith))
 
@@ -144,7 +145,8 @@ module _ (left right : Classing) (left_is : IsPartition left) (right_is : IsPart
       ]
 
       -- the part of a number from the bound on, and below what is left
-      part_at : (others : List ℕ) (a : ℕ) → AreIn xs k others → ((x : ℕ) → Contains others x → x < b) → b ≤ a → IsBelow a xs m → part_in xs a ≡ m
+      part_at : (others : List ℕ) (a : ℕ) → AreIn xs k others → ((x : ℕ) → Contains others x → x < b) → b ≤ a → IsBelow a xs m
+          → part_in xs a ≡ m
       part_at others a are low from below = part_is xs m a rising place_within before below
         where
           before : (n : ℕ) → n < m → get_or xs n 0 ≤ a
@@ -240,8 +242,9 @@ module _ (left right : Classing) (left_is : IsPartition left) (right_is : IsPart
           let f = further in
           omega arith
 
-  module _ (i j : ℕ) (bounds classes : List ℕ) (pairs : List (ℕ × ℕ)) (m : BTreeMap (ℕ × ℕ) ℕ) (g : Going left right i j bounds classes pairs)
-      (left_end : IsEnd left.bounds i) (right_end : IsEnd right.bounds j) (store : IsOf pairs m) (c : Classing) (bounds_are : c.bounds ≡ bounds)
+  module _ (i j : ℕ) (bounds classes : List ℕ) (pairs : List (ℕ × ℕ)) (m : BTreeMap (ℕ × ℕ) ℕ)
+      (g : Going left right i j bounds classes pairs) (left_end : IsEnd left.bounds i) (right_end : IsEnd right.bounds j)
+      (store : IsOf pairs m) (c : Classing) (bounds_are : c.bounds ≡ bounds)
       (classes_are : c.classes ≡ classes) (count_is : c.count ≡ length pairs) where
     class_is : (a : ℕ) → class_in c a ≡ class_by bounds classes a
     class_is a = ap (λ (l : List ℕ). class_by c.bounds l a) classes_are ∙ ap (λ (l : List ℕ). class_by l classes a) bounds_are
@@ -255,7 +258,8 @@ module _ (left right : Classing) (left_is : IsPartition left) (right_is : IsPart
     ends_partition = record {
       rising = subst IsStrictlyIncreasing (sym bounds_are) g.rising;
       parts = (let p = g.parts in let e = ap length bounds_are in let f = ap length classes_are in omega arith);
-      within = λ a. let w = slice_get_within pairs (class_in c a) (class_in left a, class_in right a) (pair_of a) in omega (arith, count_is);
+      within = λ a.
+          let w = slice_get_within pairs (class_in c a) (class_in left a, class_in right a) (pair_of a) in omega (arith, count_is);
     }
 
     -- which tells apart what one of the two does

@@ -48,7 +48,8 @@ abbrev pub IsWithin : Classing → Type 0
 IsWithin classes = (a : ℕ) → class_in classes a < classes.count
 
 -- a list that has a cell is there
-pub cell_within : (classes : Classing) (a from n cells : ℕ) → IsWithin classes → from < n → cells ≡ n * classes.count → cell_of classes from a < cells
+pub cell_within : (classes : Classing) (a from n cells : ℕ) → IsWithin classes → from < n → cells ≡ n * classes.count
+    → cell_of classes from a < cells
 cell_within classes a from n cells within lt is =
     let h = mul-add-lt from (classes.count) (class_in classes a) n lt (within a) in
     let e : classes.count * n ≡ n * classes.count = grind arith in
@@ -69,7 +70,8 @@ same_list : (classes : Classing) (a b from other : ℕ) → IsWithin classes →
 same_list classes a b from other within is = sym (div-mul-add from (classes.count) (class_in classes a) (within a))
     ∙ ap (λ (n : ℕ). n / classes.count) is ∙ div-mul-add other (classes.count) (class_in classes b) (within b)
 
-same_class : (classes : Classing) (a b from other : ℕ) → IsWithin classes → cell_of classes from a ≡ cell_of classes other b → class_in classes a ≡ class_in classes b
+same_class : (classes : Classing) (a b from other : ℕ) → IsWithin classes → cell_of classes from a ≡ cell_of classes other b
+    → class_in classes a ≡ class_in classes b
 same_class classes a b from other within is = sym (mod-mul-add from (classes.count) (class_in classes a) (within a))
     ∙ ap (λ (n : ℕ). n % classes.count) is ∙ mod-mul-add other (classes.count) (class_in classes b) (within b)
 
@@ -209,7 +211,8 @@ module _ (net : LexerNetwork) (modes : List (List Start)) (classes : Classing) w
             next = steps.next;
             before = steps.before;
             after = steps.after;
-            is_next = alike_next net classes false a b steps.list steps.next h.classes_are (sym (same_class classes b a other from h.classes_are.within here.0))
+            is_next = alike_next net classes false a b steps.list steps.next h.classes_are
+                (sym (same_class classes b a other from h.classes_are.within here.0))
                 steps.is_next;
           })))
       | inr old ↦ h.noted b other n lt old

@@ -1,5 +1,5 @@
 -- What a file leaves its pass, by what becomes of its bytes.
-use Rattle.std.proofs.Common.{◌≡◌, ◌≢◌, ◌⊎◌, inl, inr, ℕ, List, All, Bool, true, false, Result, Ok, Err, refl, sym, ◌∙◌, ap, subst, true≢false}
+use Rattle.std.proofs.Common.{◌≡◌, ◌≢◌, ◌⊎◌, inl, inr, ℕ, List, All, Result, Ok, Err, refl, sym, ◌∙◌, ap, subst, true≢false}
 use Rattle.g4_classes.specs.Classes.{IsSymbol}
 use Rattle.g4_decide.specs.Asked.{Told}
 use Rattle.g4_learned.specs.Tables.{Tables}

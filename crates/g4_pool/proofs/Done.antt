@@ -1,21 +1,17 @@
 -- What is done with a worker's state: at first, after one file more, and after another's pass was met.
-use Rattle.std.proofs.Common.{◌≡◌, ◌⊎◌, inl, inr, ℕ, zero, suc, ◌+◌, List, [], ◌∷◌, ◌++◌, All, Bool, true, false, ◌||◌, if◌then◌else◌, Contains, Some, slice_get, refl, sym, ◌∙◌, ap, subst, arith, true≢false}
+use Rattle.std.proofs.Common.{◌≡◌, ◌⊎◌, inl, inr, ℕ, zero, suc, ◌+◌, List, [], ◌∷◌, ◌++◌, Bool, true, false, ◌||◌, if◌then◌else◌, Contains, Some, slice_get, refl, sym, ◌∙◌, ap, subst, arith, true≢false}
 use Rattle.std.proofs.lemmas.List.Elements.{Contains-append_cases, Contains-append_left, Contains-append_right}
-use Rattle.g4_classes.specs.Classes.{IsSymbol}
 use Rattle.g4_decide.specs.Asked.{Told}
 use Rattle.g4_learned.specs.Tables.{Tables}
 use Rattle.g4_net.specs.Configurations.{Config}
 use Rattle.g4_outcome.specs.Taught.{HasTaught, IsPassedIn, IsWordOf}
 use Rattle.g4_outcome.specs.declared.input.Input.{Input}
-use Rattle.g4_parse.specs.Teaching.{HasPassedRow}
 use Rattle.g4_store.specs.declared.automaton.Fact.{Fact}
 use Rattle.g4_store.specs.declared.automaton.Plan.{Plan}
-use Rattle.g4_store.specs.Known.{HasAllRows, KnowsRows}
-use Rattle.g4_store.specs.Numbers.{Among, has, union}
-use Rattle.g4_store.specs.Paths.{InKnown}
+use Rattle.g4_store.specs.Numbers.{Among, has}
 use Rattle.g4_store.specs.Views.{met, no_looks, pass_view}
 use Rattle.g4_store.proofs.Lists.{among_either, among_left, among_right, at_insert, at_union, here_insert, left_union, right_union}
-use Rattle.g4_pool.specs.Done.{HasDone, HasPassed, IsPassedAt, IsShort}
+use Rattle.g4_pool.specs.Done.{HasDone, IsPassedAt, IsShort}
 use Rattle.g4_pool.specs.Files.{Files}
 
 -- a flag is given or not

@@ -1,5 +1,5 @@
 -- What the caller's pass has in the end.
-use Rattle.std.proofs.Common.{◌≡◌, ◌≢◌, ◌⊎◌, inl, inr, ℕ, zero, suc, ◌+◌, ◌<◌, ◌≤◌, List, [], ◌∷◌, All, Bool, true, false, Contains, Some, Ok, Err, Result, get_or, length, slice_get, refl, sym, ◌∙◌, ap, subst, arith, true≢false}
+use Rattle.std.proofs.Common.{◌≡◌, ◌⊎◌, inl, inr, ℕ, zero, suc, ◌<◌, ◌≤◌, List, [], ◌∷◌, All, Contains, Some, length, slice_get, refl, sym, ◌∙◌, ap, subst, arith}
 use Rattle.std.proofs.lemmas.List.Elements.{All-cons, All-nil}
 use Rattle.std.proofs.lemmas.Option.{get_or_from_slice_get, slice_get-get_or, slice_get_within}
 use Rattle.g4_classes.specs.Classes.{IsSymbol}
@@ -8,19 +8,18 @@ use Rattle.g4_learned.specs.Tables.{Tables}
 use Rattle.g4_load.specs.declared.interpreter.Interpreter.{Interpreter}
 use Rattle.g4_net.specs.Configurations.{Config}
 use Rattle.g4_outcome.specs.Outcomes.{IsOutcome}
-use Rattle.g4_outcome.specs.Taught.{IsPassedIn, IsWordOf}
+use Rattle.g4_outcome.specs.Taught.{IsWordOf}
 use Rattle.g4_outcome.specs.declared.file_report.FileReport.{FileReport}
 use Rattle.g4_outcome.specs.declared.input.Input.{Input}
 use Rattle.g4_outcome.specs.declared.outcome.Outcome.{Outcome}
 use Rattle.g4_outcome.proofs.Taught.{has_word, one_word}
 use Rattle.g4_store.specs.declared.automaton.Fact.{Fact}
 use Rattle.g4_store.specs.declared.automaton.Plan.{Plan}
-use Rattle.g4_store.specs.Numbers.{Among}
 use Rattle.g4_store.specs.Views.{IsWhole}
 use Rattle.g4_tally.specs.Passed as tally
 use Rattle.g4_workers.specs.Placing.{HasAll}
-use Rattle.g4_pool.specs.Done.{HasDone, HasPassed, IsPassedAt, IsShort}
-use Rattle.g4_pool.specs.Files.{AreReports, Files, IsReportAt}
+use Rattle.g4_pool.specs.Done.{HasDone, IsPassedAt, IsShort}
+use Rattle.g4_pool.specs.Files.{AreReports, Files}
 use Rattle.g4_pool.specs.Learned.{AreWordsOf, HasLearned}
 
 -- ---- the words of files

@@ -1,5 +1,5 @@
 -- What is reported of a file that was looked up.
-use Rattle.std.proofs.Common.{◌≡◌, ◌<◌, ℕ, List, [], ◌∷◌, ◌++◌, Ok, Err, Result, IfOk, length, get_or, refl, sym, subst, ◌∙◌}
+use Rattle.std.proofs.Common.{◌≡◌, ◌<◌, ℕ, List, [], ◌∷◌, ◌++◌, Ok, Err, Result, IfOk, length, get_or, refl, subst}
 use Rattle.std.proofs.lemmas.Option.{slice_get_read}
 use Rattle.g4_outcome.specs.Reported.{IsFileReport}
 use Rattle.g4_outcome.specs.declared.file_report.FileReport.{FileReport}

@@ -27,7 +27,12 @@ use std::thread::Threads;
 ///
 /// # Errors
 /// No memory.
-pub fn parse_all<'a, B: Home<DecisionNet> + LexerHome + Send + Sync, R: Threads + Wait + Sync, G: Gate>(
+pub fn parse_all<
+    'a,
+    B: Home<DecisionNet> + LexerHome + Send + Sync,
+    R: Threads + Wait + Sync,
+    G: Gate,
+>(
     rt: &R,
     alloc: Global,
     output: Output,

@@ -8,8 +8,8 @@ use g4_learned::{DecisionNet, Pass, Store};
 use g4_store::view::Home;
 use std::alloc::{AllocError, Global};
 
-/// What a worker has of its own, for all of its files: its pass of the store, the steps of framed sets that it remembers, and the matcher of
-/// its tokens, which learns the lexer's lists.
+/// What a worker has of its own, for all of its files: its pass of the store, the steps of framed sets that it remembers, and the matcher
+/// of its tokens, which learns the lexer's lists.
 #[derive(Drop)]
 pub struct WorkerState<'a, B: Home<DecisionNet> + LexerHome> {
     pub pass: Pass<B>,

@@ -41,7 +41,8 @@ loop-bound-preserved c =
     let next : IsNext l.bounds i r.bounds j b =
     subst (λ (xs : List ℕ). IsNext xs i r.bounds j b) c.deref.ensures.value
     (subst (λ (ys : List ℕ). IsNext c.deref.result.now i ys j b) c.deref-in-loop-bound.ensures.value c.in-Some.ensures) in
-    let past_left : IsPast l.bounds i b i' = subst (λ (xs : List ℕ). IsPast xs i b i') c.deref-in-Some.ensures.value c.past-at_left.ensures in
+    let past_left : IsPast l.bounds i b i' =
+    subst (λ (xs : List ℕ). IsPast xs i b i') c.deref-in-Some.ensures.value c.past-at_left.ensures in
     let past_right : IsPast r.bounds j b j' = subst (λ (xs : List ℕ). IsPast xs j b j') c.deref-in-Some-2.ensures.value
     c.past-at_right.ensures in
     let left_place = place_within l r c.requires.left c.requires.right i j bounds classes pairs g b next l.bounds i i'

@@ -1,8 +1,7 @@
 use denote.Param.Send.{sendable}
-use Rattle.std.proofs.Common.{List, ℕ, arith}
-use Rattle.g4_decide.specs.Asked.{Told}
+use Rattle.std.proofs.Common.{arith}
 use Rattle.g4_outcome.specs.Grammars.{with_net}
-use Rattle.g4_pool.specs.Files.{AreReports, Files, files_of}
+use Rattle.g4_pool.specs.Files.{Files, files_of}
 use Rattle.g4_pool.proofs.Begun.{each_begun, own_begun}
 use Rattle.g4_pool.proofs.Learned.{has_learned}
 use Rattle.g4_pool.proofs.Shared.{work_is_sync}

@@ -1,4 +1,4 @@
-use Rattle.std.proofs.Common.{◌≡◌, Bool, List, ap, true, ◌∙◌}
+use Rattle.std.proofs.Common.{ap, ◌∙◌}
 use Rattle.g4_decide.specs.Asked.{Told}
 use Rattle.g4_store.specs.Numbers.{has}
 use Rattle.g4_store.specs.Views.{copied, leading}

@@ -1,4 +1,4 @@
-use Rattle.std.proofs.Common.{◌≡◌, ◌<◌, ◌++◌, ◌∷◌, [], IfOk, List, ℕ, length, arith, ap, sym, subst, ◌∙◌}
+use Rattle.std.proofs.Common.{◌<◌, ◌++◌, ◌∷◌, [], IfOk, length, arith, ap, sym, subst, ◌∙◌}
 use Rattle.g4_outcome.specs.Grammars.{with_net}
 use Rattle.g4_pool.specs.Done.{HasDone}
 use Rattle.g4_pool.specs.Files.{Files, IsReportAt, Pooled, files_of}
