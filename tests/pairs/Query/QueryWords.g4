@@ -1,0 +1,54 @@
+/* The words of questions to a database, in any case. Any other word is a name. */
+lexer grammar QueryWords;
+
+import QueryLetters;
+
+ALL : A L L ;
+AND : A N D ;
+AS : A S ;
+ASC : A S C ;
+BETWEEN : B E T W E E N ;
+BY : B Y ;
+CASE : C A S E ;
+CREATE : C R E A T E ;
+CROSS : C R O S S ;
+DELETE : D E L E T E ;
+DESC : D E S C ;
+DISTINCT : D I S T I N C T ;
+ELSE : E L S E ;
+END : E N D ;
+EXCEPT : E X C E P T ;
+EXISTS : E X I S T S ;
+FALSE : F A L S E ;
+FROM : F R O M ;
+GROUP : G R O U P ;
+HAVING : H A V I N G ;
+IN : I N ;
+INSERT : I N S E R T ;
+INTERSECT : I N T E R S E C T ;
+INTO : I N T O ;
+IS : I S ;
+JOIN : J O I N ;
+LEFT : L E F T ;
+LIKE : L I K E ;
+LIMIT : L I M I T ;
+NOT : N O T ;
+NULL : N U L L ;
+ON : O N ;
+OR : O R ;
+ORDER : O R D E R ;
+PRIMARY : P R I M A R Y ;
+KEY : K E Y ;
+SELECT : S E L E C T ;
+SET : S E T ;
+TABLE : T A B L E ;
+THEN : T H E N ;
+TRUE : T R U E ;
+UNION : U N I O N ;
+UPDATE : U P D A T E ;
+VALUES : V A L U E S ;
+WHEN : W H E N ;
+WHERE : W H E R E ;
+WITH : W I T H ;
+
+NAME : [\p{L}_] [\p{L}\p{Mn}\p{Nd}_$]* ;
