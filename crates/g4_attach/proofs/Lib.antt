@@ -1,2 +1,3 @@
 mod Answered
 mod KeptTypes
+pub mod OneAttached

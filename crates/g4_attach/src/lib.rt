@@ -7,4 +7,4 @@ mod law;
 
 pub use attaching::{Attached, attach};
 pub use fault::AttachFault;
-pub use law::lexer_types_kept;
+pub use law::{lexer_types_kept, one_attached};

@@ -31,11 +31,18 @@ more_tasks old next new test more is also =
     ∙ ap (λ (ts : List Task). more ++ ts) (next_task next old test is)))
 
 -- what holds wherever another thing does, holds where a call halts
-pub halts_too : (P Q : Result WithImports Halted → Type 0) → ((r : Result WithImports Halted) → P r → Q r) → (halt : Halt)
+pub halts_too : {X : Type 0} (P Q : Result X Halted → Type 0) → ((r : Result X Halted) → P r → Q r) → (halt : Halt)
     → IsHaltAfter P halt → IsHaltAfter Q halt
 halts_too P Q step (halts.Stop stop) is = (is.0, step _ is.1)
 halts_too P Q step halts.Failed is = tt
 halts_too P Q step halts.NoMemory is = tt
+
+-- the same of what gives another thing
+pub halts_below : {X Y : Type 0} (P : Result X Halted → Type 0) (Q : Result Y Halted → Type 0)
+    → ((halted : Halted) → P (Err halted) → Q (Err halted)) → (halt : Halt) → IsHaltAfter P halt → IsHaltAfter Q halt
+halts_below P Q step (halts.Stop stop) is = (is.0, step _ is.1)
+halts_below P Q step halts.Failed is = tt
+halts_below P Q step halts.NoMemory is = tt
 
 module _ (files : Files) (prefix : List ℕ) where
   -- nothing is left to fetch, so nothing stops

@@ -3,10 +3,14 @@ mod Continuing
 mod Counted
 mod Endings
 mod Filled
+mod Lasts
 mod Numbered
 mod Once
-pub mod OneFetched
+mod OneFetched
+pub mod OneVocabulary
 mod Opened
 mod Readings
 mod Slashes
+mod TableReadings
 mod Whole
+mod WithVocabulary

@@ -1,5 +1,5 @@
 -- Each file is fetched once: its number is its index.
-use Rattle.std.proofs.Common.{◌≡◌, ◌⊎◌, inl, inr, ℕ, zero, suc, ◌+◌, List, [], ◌∷◌, ◌++◌, Option, Some, None, Bool, cond, Ok, length, map, slice_get, refl, sym, ap, ◌∙◌, subst, arith}
+use Rattle.std.proofs.Common.{◌≡◌, ◌⊎◌, inl, inr, ℕ, zero, suc, ◌+◌, List, [], ◌∷◌, ◌++◌, Option, Some, None, Bool, cond, Result, Ok, Err, length, map, slice_get, refl, sym, ap, ◌∙◌, subst, arith}
 use Rattle.std.specs.List.{position}
 use Rattle.std.specs.Option.{option_or}
 use Rattle.std.specs.Str.{bytes_eq}
@@ -8,9 +8,14 @@ use Rattle.std.proofs.lemmas.Slice.Eq.{bytes_eq-Decides}
 use Rattle.g4_names.proofs.Firsts.{position-push}
 use Rattle.g4_names.specs.Places.{first_place}
 use Rattle.g4_source.specs.declared.source.Source.{Source}
-use Rattle.g4_fetch.specs.Closures.{Fetches, no_more, again, fetched, FetchesGrammar, read_first, IsEachOnce, file_names, number_of, with_file}
+use Rattle.g4_fetch.specs.Closures.{Fetches, no_more, again, fetched, FetchesGrammar, read_first, Halted, IsEachOnce, file_names, number_of, with_file}
+use Rattle.g4_fetch.specs.Fetching.{FetchesAll, FetchesFile, FetchesVocabulary, a_grammar, added, grammar_halts, halted_below, known as is_known, known_table, lexer_number, no_grammar, table_read, unread as not_read, vocabulary_halts}
 use Rattle.g4_fetch.specs.Files.{Files}
 use Rattle.g4_fetch.specs.Names.{grammar_file, prefix_of}
+use Rattle.g4_fetch.specs.Vocabularies.{lexer_table_file, table_file}
+use Rattle.g4_fetch.specs.declared.closure.Fetched.{Fetched}
+use Rattle.g4_fetch.specs.declared.lexer.WithLexer.{WithLexer}
+use Rattle.g4_fetch.specs.declared.stop.Stop.{Stop}
 use Rattle.g4_fetch.specs.declared.closure.GrammarFile.{GrammarFile}
 use Rattle.g4_fetch.specs.declared.closure.WithImports.{WithImports}
 
@@ -64,3 +69,49 @@ grammar_once files library name t (read_first source _ is more) =
   where
     by : (k : ℕ) (n : List ℕ) → slice_get (name ∷ []) k ≡ Some n → first_place (name ∷ []) n ≡ Some k
     by k n at = once_more [] name refl (λ j m there. absurd (let no_way : ⊥ = cc in no_way)) k n at
+
+module _ (files : Files) (prefix : List ℕ) where
+  file_once : (s : WithImports) (name : List ℕ) (r : Result WithLexer Halted) → FetchesFile files prefix s name r → IsEachOnce s
+      → (parts : WithLexer) → r ≡ Ok parts → IsEachOnce parts.grammar
+  file_once s name _ (is_known number there) once parts same =
+      let here : s ≡ parts.grammar = ok_same (record { grammar = s; lexer = None; table = known_table prefix (slice_get s.files number) })
+      parts same in
+      subst IsEachOnce here once
+    where
+      ok_same : (v w : WithLexer) → ◌≡◌ {A = Result WithLexer Halted} (Ok v) (Ok w) → v.grammar ≡ w.grammar
+      ok_same v w e = let both : v ≡ w = cc in ap (λ (x : WithLexer). x.grammar) both
+  file_once s name _ (not_read stop none is) once parts same = absurd (let no_way : ⊥ = cc in no_way)
+  file_once s name _ (halted_below source halted none is more) once parts same = absurd (let no_way : ⊥ = cc in no_way)
+  file_once s name _ (added source more none is fetches) once parts same =
+      let here : more ≡ parts.grammar = ok_same (record {
+        grammar = more;
+        lexer = lexer_number source.kind (length s.files);
+        table = lexer_table_file prefix source source.kind;
+      }) parts same in
+      subst IsEachOnce here
+      (imports_once files prefix _ _ _ more fetches (once_with files prefix s name source none once))
+    where
+      ok_same : (v w : WithLexer) → ◌≡◌ {A = Result WithLexer Halted} (Ok v) (Ok w) → v.grammar ≡ w.grammar
+      ok_same v w e = let both : v ≡ w = cc in ap (λ (x : WithLexer). x.grammar) both
+
+  vocabulary_once : (s : WithImports) (r : Result WithLexer Halted) → FetchesVocabulary files prefix s r → IsEachOnce s
+      → (parts : WithLexer) → r ≡ Ok parts → IsEachOnce parts.grammar
+  vocabulary_once s _ (no_grammar main first none) once parts same =
+      let both : ◌≡◌ {A = WithLexer}
+      (record { grammar = s; lexer = None; table = table_file prefix main.source main.source.kind }) parts = cc in
+      subst IsEachOnce (ap (λ (x : WithLexer). x.grammar) both) once
+  vocabulary_once s _ (a_grammar main name result first named at) once parts same = file_once s name result at once parts same
+
+-- of all that is fetched
+pub all_once : (files : Files) (library : Option (List ℕ)) (name : List ℕ) (names : List (List ℕ)) (all : Fetched)
+    → FetchesAll files library name names (Ok all) → IsEachOnce all.grammar
+all_once files library name names all h = by names (Ok all) h refl
+  where
+    by : (f : List (List ℕ)) (r : Result Fetched Stop) → FetchesAll files library name f r → r ≡ Ok all → IsEachOnce all.grammar
+    by _ _ (grammar_halts halted is) same = absurd (let no_way : ⊥ = cc in no_way)
+    by _ _ (vocabulary_halts grammar halted is at) same = absurd (let no_way : ⊥ = cc in no_way)
+    by _ _ (table_read grammar parts (Err other) is has at) same = absurd (let no_way : ⊥ = cc in no_way)
+    by _ _ (table_read grammar parts (Ok table) is has at) same =
+        let both : ◌≡◌ {A = Fetched} (record { grammar = parts.grammar; lexer = parts.lexer; table = table }) all = cc in
+        subst IsEachOnce (ap (λ (x : Fetched). x.grammar) both)
+        (vocabulary_once files (prefix_of library name) grammar (Ok parts) has (grammar_once files library name grammar is) parts refl)

@@ -17,7 +17,7 @@ use Rattle.g4_fetch.specs.declared.stop.Stop.TheVariants as stops
 
 module _ (files : Files) where
   -- a name has at most one file
-  one_opened : (name : List ℕ) (a b : Result (List ℕ) Stop) → Opens files name a → Opens files name b → a ≡ b
+  pub one_opened : (name : List ℕ) (a b : Result (List ℕ) Stop) → Opens files name a → Opens files name b → a ≡ b
   one_opened name a b (absent p) (absent q) = refl
   one_opened name a b (absent p) (too_large bytes q large) = absurd (let no_way : ⊥ = cc in no_way)
   one_opened name a b (absent p) (there bytes q small) = absurd (let no_way : ⊥ = cc in no_way)
@@ -37,11 +37,11 @@ module _ (files : Files) where
       ap (λ bs. Ok bs) same
 
   -- a name with bytes has these
-  same_bytes : (name bytes others : List ℕ) → Opens files name (Ok bytes) → Opens files name (Ok others) → others ≡ bytes
+  pub same_bytes : (name bytes others : List ℕ) → Opens files name (Ok bytes) → Opens files name (Ok others) → others ≡ bytes
   same_bytes name bytes others p q =
       let same : ◌≡◌ {A = Result (List ℕ) Stop} (Ok bytes) (Ok others) = one_opened name (Ok bytes) (Ok others) p q in cc
 
-  not_both : (name bytes : List ℕ) (stop : Stop) → Opens files name (Ok bytes) → Opens files name (Err stop) → ⊥
+  pub not_both : (name bytes : List ℕ) (stop : Stop) → Opens files name (Ok bytes) → Opens files name (Err stop) → ⊥
   not_both name bytes stop p q =
       let same : ◌≡◌ {A = Result (List ℕ) Stop} (Ok bytes) (Err stop) = one_opened name (Ok bytes) (Err stop) p q in cc
 
@@ -53,7 +53,7 @@ module _ (files : Files) where
       let seen : of_read error ≡ None = ap of_read here in cc
 
   -- a file is read in at most one way
-  one_read : (name : List ℕ) (a b : Result Source Stop) → Reads files name a → Reads files name b → a ≡ b
+  pub one_read : (name : List ℕ) (a b : Result Source Stop) → Reads files name a → Reads files name b → a ≡ b
   one_read name a b (missing stop p) (missing other q) =
       let same : ◌≡◌ {A = Result (List ℕ) Stop} (Err stop) (Err other) = one_opened name (Err stop) (Err other) p q in cc
   one_read name a b (missing stop p) (faulty bytes error fault q is told) = absurd (not_both name bytes stop q p)
@@ -85,20 +85,20 @@ module _ (files : Files) where
       let sources : source ≡ second = cc in
       ap (λ (s : Source). Ok s) sources
 
-  same_source : (name : List ℕ) (source second : Source) → Reads files name (Ok source) → Reads files name (Ok second) → second ≡ source
+  pub same_source : (name : List ℕ) (source second : Source) → Reads files name (Ok source) → Reads files name (Ok second) → second ≡ source
   same_source name source second p q =
       let same : ◌≡◌ {A = Result Source Stop} (Ok source) (Ok second) = one_read name (Ok source) (Ok second) p q in cc
 
-  not_read_both : (name : List ℕ) (source : Source) (stop : Stop) → Reads files name (Ok source) → Reads files name (Err stop) → ⊥
+  pub not_read_both : (name : List ℕ) (source : Source) (stop : Stop) → Reads files name (Ok source) → Reads files name (Err stop) → ⊥
   not_read_both name source stop p q =
       let same : ◌≡◌ {A = Result Source Stop} (Ok source) (Err stop) = one_read name (Ok source) (Err stop) p q in cc
 
-  known_or_not : (o : Option ℕ) (k : ℕ) → o ≡ Some k → o ≡ None → ⊥
+  pub known_or_not : (o : Option ℕ) (k : ℕ) → o ≡ Some k → o ≡ None → ⊥
   known_or_not o k p q = cc
 
   -- imports are fetched in at most one way
   module _ (prefix : List ℕ) where
-    one_fetches : (g : ℕ) (names : List (List ℕ)) (s : WithImports) (a b : Result WithImports Halted) → Fetches files prefix g names s a
+    pub one_fetches : (g : ℕ) (names : List (List ℕ)) (s : WithImports) (a b : Result WithImports Halted) → Fetches files prefix g names s a
         → Fetches files prefix g names s b → a ≡ b
     one_fetches g _ s a b (no_more _ _) (no_more _ _) = refl
     one_fetches g _ s a b (again _ k name names _ _ p more) (again _ l _ _ _ _ q rest) =

@@ -1,13 +1,8 @@
 -- Values by names.
-use Rattle.std.specs.Prelude.{◌≡◌, ℕ, List, Option, Some}
+use Rattle.std.specs.Prelude.{ℕ, List, Option}
 use Rattle.std.specs.BTreeMap.{get_by_text}
-use Rattle.g4_fetch.specs.Files.{Files}
 use Rattle.g4_fetch.specs.declared.by_name.ByName.{ByName}
 
 -- the value of a name
 unfoldable pub value_of : {T : Type 0} → ByName T → List ℕ → Option T
 value_of values name = get_by_text values.entries name
-
--- what is kept are files, each small enough
-abbrev pub AreFiles : Files → ByName (List ℕ) → Type 0
-AreFiles files kept = (name bytes : List ℕ) → value_of kept name ≡ Some bytes → files name ≡ Some bytes

@@ -4,6 +4,8 @@ use Rattle.std.specs.Prelude.{◌≡◌, ◌<◌, ℕ, List, [], ◌∷◌, ◌+
 use Rattle.g4_merge.specs.Importing.{imported_by}
 use Rattle.g4_names.specs.Places.{first_place}
 use Rattle.g4_source.specs.Blocks.{HaveAlternatives}
+use Rattle.g4_source.specs.declared.source.GrammarKind.{GrammarKind}
+use Rattle.g4_source.specs.declared.source.GrammarKind.TheVariants as kinds
 use Rattle.g4_source.specs.declared.source.Source.{Source}
 use Rattle.g4_fetch.specs.Files.{Files}
 use Rattle.g4_fetch.specs.Names.{grammar_file, prefix_of}
@@ -97,6 +99,17 @@ pub data Fetches (files : Files) (prefix : List ℕ) : ℕ → List (List ℕ) �
 -- a grammar with all that it imports
 abbrev pub FetchesImports : Files → List ℕ → GrammarFile → Result WithImports Halted → Type 0
 FetchesImports files prefix main = Fetches files prefix 0 (imported_by main.source) (alone main)
+
+-- the names of the grammars that a grammar imports, if it is a lexer grammar
+abbrev pub imported_by_lexer : Source → GrammarKind → List (List ℕ)
+imported_by_lexer source kinds.Lexer = imported_by source
+imported_by_lexer source kinds.Combined = []
+imported_by_lexer source kinds.Parser = []
+
+-- a grammar after others, with all that it imports if it is a lexer grammar
+abbrev pub FetchesMore : Files → List ℕ → WithImports → GrammarFile → Result WithImports Halted → Type 0
+FetchesMore files prefix grammar file = Fetches files prefix (length grammar.files) (imported_by_lexer file.source file.source.kind)
+    (with_file grammar file.name file.source)
 
 -- the main grammar, of this name, with all that it imports
 pub data FetchesGrammar (files : Files) (library : Option (List ℕ)) (name : List ℕ) : Result WithImports Halted → Type 0 where

@@ -19,3 +19,7 @@ prefix_of None main = folder_of main
 -- the name of the file of a grammar
 abbrev pub grammar_file : List ℕ → List ℕ → List ℕ
 grammar_file prefix name = prefix ++ name ++ codes ".g4"
+
+-- the name of the file of tokens of a grammar
+abbrev pub tokens_file : List ℕ → List ℕ → List ℕ
+tokens_file prefix name = prefix ++ name ++ codes ".tokens"

@@ -42,3 +42,7 @@ abbrev pub IsReadingHalt : List ℕ → ReadFault → Halt → Type 0
 IsReadingHalt name error (halts.Stop stop) = (fault : FileFault) × (of_read error ≡ Some fault) × (stop ≡ stops.Unreadable name fault)
 IsReadingHalt name error halts.Failed = ⊥
 IsReadingHalt name error halts.NoMemory = Unit {0}
+
+-- whatever files are fetched, in their order
+abbrev pub AfterFetches : {X : Type 0} → (List (List ℕ) → Result X Stop → Type 0) → Result X Stop → Type 0
+AfterFetches Stage result = (fetched : List (List ℕ)) × Stage fetched result

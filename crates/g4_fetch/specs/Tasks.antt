@@ -49,7 +49,8 @@ IsCarriedOut prefix task before after (Some missing) = (after ≡ before) × (ta
 
 -- tasks are carried out up to the first whose grammar is missing, or all
 abbrev pub IsNext : List ℕ → Fetching → Fetching → Option Missing → Type 0
-IsNext prefix before after None = (files : Files) → GoesOn files prefix before (Ok after.reached)
+IsNext prefix before after None = (after.reached.files ≡ before.reached.files)
+    × ((files : Files) → GoesOn files prefix before (Ok after.reached))
 IsNext prefix before after (Some missing) = IsMissing prefix after.reached missing × (after.reached.files ≡ before.reached.files)
     × ((files : Files) (result : Result WithImports Halted)
     → Continues files prefix (task_of missing ∷ reverse after.tasks.items) after.reached result → GoesOn files prefix before result)

@@ -1,6 +1,6 @@
 // The names under which files are fetched.
 ghost use Rattle.std.specs.Prelude.{◌≡◌, IfOk, option_map, string_bytes};
-ghost use Rattle.g4_fetch.specs.Names.{folder_of, grammar_file, prefix_of};
+ghost use Rattle.g4_fetch.specs.Names.{folder_of, grammar_file, prefix_of, tokens_file};
 
 use g4_base::Text;
 use std::alloc::{AllocError, Global};
@@ -32,5 +32,13 @@ pub fn grammar_file(alloc: Global, prefix: &str, name: &str) -> Result<Text, All
     ensures { IfOk result (λ file. file ≡ grammar_file prefix.now name.now) }
 {
     let file = format!(in alloc; "{prefix}{name}.g4")?;
+    Ok(Text::new(file))
+}
+
+/// The name of the file of tokens of a grammar.
+pub fn tokens_file(alloc: Global, prefix: &str, name: &str) -> Result<Text, AllocError>
+    ensures { IfOk result (λ file. file ≡ tokens_file prefix.now name.now) }
+{
+    let file = format!(in alloc; "{prefix}{name}.tokens")?;
     Ok(Text::new(file))
 }

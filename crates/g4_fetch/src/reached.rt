@@ -1,5 +1,5 @@
 // The files that are reached so far.
-ghost use Rattle.std.specs.Prelude.{◌≡◌, None, IfOk, OnOk, length};
+ghost use Rattle.std.specs.Prelude.{◌≡◌, ◌<◌, None, Some, IfOk, OnOk, length, slice_get};
 ghost use Rattle.g4_fetch.specs.Closures.{IsWhole, alone, number_of, with_file, with_import};
 ghost use Rattle.g4_fetch.specs.Tasks.{IsCarriedOut};
 ghost use Rattle.g4_source.specs.Blocks.{HaveAlternatives};
@@ -64,13 +64,28 @@ impl Reached {
 
     /// How many files there are.
     pub fn count(&self) -> usize
-        ensures { result ≡ length self.now.files }
+        ensures count { result ≡ length self.now.files }
+        ensures some { 0 < result }
     {
         self.files.len()
     }
 
+    /// The files in order.
+    pub fn files(&self) -> &[GrammarFile]
+        ensures { result.now ≡ self.now.files }
+    {
+        self.files.as_slice()
+    }
+
+    /// The main grammar.
+    pub fn main(&self) -> &Source
+        ensures { (main : GrammarFile) × (slice_get self.now.files 0 ≡ Some main) × (result.now ≡ main.source) }
+    {
+        &self.files[0].source
+    }
+
     /// The number of the file of this name.
-    fn number_of(&self, name: &str) -> Option<usize>
+    pub fn number_of(&self, name: &str) -> Option<usize>
         ensures { result ≡ number_of self.now name.now }
     {
         self.numbers.get(name).copied()

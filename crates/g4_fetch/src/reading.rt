@@ -1,14 +1,12 @@
 // One grammar file is read.
-ghost use Rattle.std.specs.Prelude.{◌≡◌, ◌≤◌, ℕ, Ok, Some, IfOk, OnOk, length};
+ghost use Rattle.std.specs.Prelude.{◌≡◌, ◌≤◌, ℕ, Ok, Some, IfOk, length};
 ghost use Rattle.g4_base.specs.declared.limits.TheConstants.{MOST_BYTES};
-ghost use Rattle.g4_fetch.specs.ByNames.{AreFiles};
 ghost use Rattle.g4_fetch.specs.Counting.{Counts};
 ghost use Rattle.g4_fetch.specs.Files.{Files, Opens};
 ghost use Rattle.g4_fetch.specs.Reading.{GivesOrHalts, IsReadingHalt, Reads};
 ghost use Rattle.g4_source.specs.Blocks.{HaveAlternatives};
 
-use crate::by_name::ByName;
-use crate::opening::{FileBytes, open};
+use crate::opening::open;
 use crate::stop::{FileFault, Halt, Stop};
 use g4_base::Text;
 use g4_ports::Shelf;
@@ -46,41 +44,13 @@ fn read_bytes(alloc: Global, name: &str, bytes: &[u8]) -> Result<Source, Halt>
     }
 }
 
-/// The grammar in the file of this name, which is fetched and kept.
-fn read_anew<S: Shelf>(
-    alloc: Global,
-    shelf: &mut S,
-    kept: &mut ByName<FileBytes>,
-    name: &str,
-) -> Result<Source, Halt>
+/// The grammar in the file of this name.
+pub fn read_file<S: Shelf>(alloc: Global, shelf: &mut S, name: &str) -> Result<Source, Halt>
     ensures keeps { S.told shelf.new ≡ S.told shelf.old }
     ensures content { (files : Files) → S.told shelf.old ≡ Some files → GivesOrHalts (Reads files name.now) result }
-    ensures kept { (files : Files) → S.told shelf.old ≡ Some files → AreFiles files kept.old → OnOk result (AreFiles files kept.new) }
     ensures full { IfOk result HaveAlternatives }
     ensures counts { Counts (S.faults shelf.old) (S.faults shelf.new) (S.misses shelf.old) (S.misses shelf.new) result }
 {
     let bytes = open(alloc, shelf, name)?;
-    let source = read_bytes(alloc, name, bytes.as_slice())?;
-    kept.add(alloc, name, bytes)?;
-    Ok(source)
-}
-
-/// The grammar in the file of this name, which is fetched unless it was before.
-pub fn read_file<S: Shelf>(
-    alloc: Global,
-    shelf: &mut S,
-    kept: &mut ByName<FileBytes>,
-    name: &str,
-) -> Result<Source, Halt>
-    ensures keeps { S.told shelf.new ≡ S.told shelf.old }
-    ensures content { (files : Files) → S.told shelf.old ≡ Some files → AreFiles files kept.old
-        → GivesOrHalts (Reads files name.now) result }
-    ensures kept { (files : Files) → S.told shelf.old ≡ Some files → AreFiles files kept.old → OnOk result (AreFiles files kept.new) }
-    ensures full { IfOk result HaveAlternatives }
-    ensures counts { Counts (S.faults shelf.old) (S.faults shelf.new) (S.misses shelf.old) (S.misses shelf.new) result }
-{
-    if let Some(bytes) = kept.get(name) {
-        return read_bytes(alloc, name, bytes.as_slice());
-    }
-    read_anew(alloc, shelf, kept, name)
+    read_bytes(alloc, name, bytes.as_slice())
 }

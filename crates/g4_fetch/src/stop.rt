@@ -2,7 +2,7 @@
 use g4_base::{Place, Sequence, Text};
 use std::alloc::{AllocError, AllocFailed};
 
-/// The fault of a file that is no grammar.
+/// The fault of a file that is no grammar, or no file of tokens.
 #[derive(Drop)]
 pub enum FileFault {
     /// The longest front part that is UTF-8 has this many bytes.
@@ -11,6 +11,10 @@ pub enum FileFault {
     Syntax(Place, Sequence<char>),
     /// The place of the first character set that is empty, has a range that runs backward or names an unknown property.
     BadSet(Place),
+    /// The line with this number, counted from 1, is no token line, or gives a name or a literal a second number.
+    BadTokensLine(u32),
+    /// A number of a token is past 4,096.
+    Types,
 }
 
 /// The first file at which fetching a grammar stops, and why.

@@ -1,6 +1,6 @@
 // Files fetched, in order.
 use g4_base::{Octets, Text};
-use g4_fetch::{FileFault, Halt, Stop, WithImports, fetch_grammar};
+use g4_fetch::{Fetched, FileFault, Halt, Stop, fetch_grammar};
 use g4_ports::{MemFile, MemShelf};
 use std::alloc::{AllocError, Global};
 use std::fmt::Write;
@@ -20,6 +20,24 @@ M.g4=grammar M; import A, B;/A.g4=grammar A;/B.g4=grammar => unreadable B.g4 1:7
 M.g4=grammar M; r : [/A.g4=x => unreadable M.g4 1:15
 A.g4=grammar M; => absent M.g4";
 
+/// The same of parser grammars with lexer grammars, and of files of tokens: the number of the lexer grammar follows, and how many tokens
+/// have numbers.
+const VOCABULARIES: &str = "M.g4=parser grammar M; => M.g4 + tokens 0
+M.g4=parser grammar M; options { tokenVocab = L; }/L.g4=lexer grammar L; => M.g4 L.g4 + lexer 1 tokens 0
+M.g4=parser grammar M; options { tokenVocab = L; } import N;/L.g4=lexer grammar L; import K; options { tokenVocab = W; }/N.g4=parser grammar N; options { tokenVocab = X; }/K.g4=lexer grammar K;/W.tokens=A=3 => M.g4 N.g4 L.g4 K.g4 + 0>1N 2>3K lexer 2 tokens 1
+M.g4=parser grammar M; options { tokenVocab = L; } import N;/L.g4=lexer grammar L; => absent N.g4
+M.g4=parser grammar M; options { tokenVocab = L; }/L.g4=lexer grammar L; import K; options { tokenVocab = W; } => absent K.g4
+M.g4=parser grammar M; options { tokenVocab = L; }/L.g4=lexer grammar L; options { tokenVocab = W; } => absent W.tokens
+M.g4=parser grammar M; options { tokenVocab = L; }/L.g4=grammar L; import K; options { tokenVocab = W; } => M.g4 L.g4 + tokens 0
+M.g4=parser grammar M; options { tokenVocab = L; } import L;/L.g4=lexer grammar L; options { tokenVocab = W; }/W.tokens= => M.g4 L.g4 + 0>1L tokens 0
+M.g4=parser grammar M; options { tokenVocab = M; } => M.g4 + tokens 0
+M.g4=parser grammar M; options { tokenVocab = L; }/L.g4=lexer grammar L; import L, M; => M.g4 L.g4 + 1>1L 1>0M lexer 1 tokens 0
+M.g4=grammar M; options { tokenVocab = V; } options { tokenVocab = W; }/W.tokens=A=3 => M.g4 + tokens 1
+M.g4=lexer grammar M; import N; options { tokenVocab = W; }/N.g4=lexer grammar N;/W.tokens=A=3 => M.g4 N.g4 + 0>1N tokens 1
+M.g4=lexer grammar M; options { tokenVocab = W; }/W.tokens=A=x => bad W.tokens 1
+M.g4=lexer grammar M; options { tokenVocab = W; }/W.tokens=A=4097 => past W.tokens
+M.g4=grammar M; options { tokenVocab = a.b; } options { x = y; } => M.g4 + tokens 0";
+
 /// A shelf with these files.
 fn shelf_of(alloc: Global, texts: &str) -> Result<MemShelf, AllocError> {
     let mut files = Vec::new(alloc);
@@ -34,7 +52,8 @@ fn shelf_of(alloc: Global, texts: &str) -> Result<MemShelf, AllocError> {
 }
 
 /// The files and the imports.
-fn shown(alloc: Global, grammar: &WithImports) -> Result<String, AllocError> {
+fn shown(alloc: Global, fetched: &Fetched) -> Result<String, AllocError> {
+    let grammar = &fetched.grammar;
     let mut text = String::new(alloc);
     for file in grammar.files.as_slice() {
         text.push(' ')?;
@@ -64,10 +83,46 @@ fn why(alloc: Global, halt: &Halt) -> Result<String, AllocError> {
             let column = place.column;
             write!(text, " unreadable {name} {line}:{column}")?;
         }
+        Halt::Stop(Stop::Unreadable(name, FileFault::BadTokensLine(line))) => {
+            let name = name.as_str();
+            write!(text, " bad {name} {line}")?;
+        }
+        Halt::Stop(Stop::Unreadable(name, FileFault::Types)) => {
+            let name = name.as_str();
+            write!(text, " past {name}")?;
+        }
         Halt::Failed => text.push_str(" failed")?,
         _ => text.push_str(" other")?,
     }
     Ok(text)
+}
+
+/// The lexer grammar, and how many tokens have numbers.
+fn push_vocabulary(text: &mut String, fetched: &Fetched) -> Result<(), AllocError> {
+    if let Some(lexer) = fetched.lexer {
+        write!(text, " lexer {lexer}")?;
+    }
+    let count = fetched.table.entries().len();
+    write!(text, " tokens {count}")?;
+    Ok(())
+}
+
+#[test]
+fn vocabularies(rt: HostRuntime) -> Result<(), Fail> {
+    for row in VOCABULARIES.lines() {
+        let (texts, wanted) = row.split_once(" =>").unwrap_or((row, ""));
+        let mut shelf = shelf_of(rt.alloc(), texts)?;
+        let found = match fetch_grammar(rt.alloc(), &mut shelf, None, "M.g4") {
+            Ok(fetched) => {
+                let mut text = shown(rt.alloc(), &fetched)?;
+                push_vocabulary(&mut text, &fetched)?;
+                text
+            }
+            Err(halt) => why(rt.alloc(), &halt)?,
+        };
+        assert_eq!(rt; found.as_str(), wanted);
+    }
+    Ok(())
 }
 
 #[test]
@@ -76,9 +131,9 @@ fn rows(rt: HostRuntime) -> Result<(), Fail> {
         let (texts, wanted) = row.split_once(" =>").unwrap_or((row, ""));
         let mut shelf = shelf_of(rt.alloc(), texts)?;
         let found = match fetch_grammar(rt.alloc(), &mut shelf, None, "M.g4") {
-            Ok(grammar) => {
-                assert_eq!(rt; shelf.calls, grammar.files.len() as u64);
-                shown(rt.alloc(), &grammar)?
+            Ok(fetched) => {
+                assert_eq!(rt; shelf.calls, fetched.grammar.files.len() as u64);
+                shown(rt.alloc(), &fetched)?
             }
             Err(halt) => why(rt.alloc(), &halt)?,
         };
@@ -152,11 +207,11 @@ fn a_chain(rt: HostRuntime) -> Result<(), Fail> {
         add_file(rt.alloc(), &mut files, number, text)?;
     }
     let mut shelf = MemShelf::new(files, Vec::new(rt.alloc()));
-    let Ok(grammar) = fetch_grammar(rt.alloc(), &mut shelf, None, "G0.g4") else {
+    let Ok(fetched) = fetch_grammar(rt.alloc(), &mut shelf, None, "G0.g4") else {
         return Err(Fail::from("no grammar"));
     };
-    assert_eq!(rt; grammar.files.len(), 1000);
-    assert_eq!(rt; grammar.imports.len(), 999);
+    assert_eq!(rt; fetched.grammar.files.len(), 1000);
+    assert_eq!(rt; fetched.grammar.imports.len(), 999);
     assert_eq!(rt; shelf.calls, 1000);
     Ok(())
 }
@@ -176,11 +231,11 @@ fn all_import_all(rt: HostRuntime) -> Result<(), Fail> {
         add_file(rt.alloc(), &mut files, number, text)?;
     }
     let mut shelf = MemShelf::new(files, Vec::new(rt.alloc()));
-    let Ok(grammar) = fetch_grammar(rt.alloc(), &mut shelf, None, "G0.g4") else {
+    let Ok(fetched) = fetch_grammar(rt.alloc(), &mut shelf, None, "G0.g4") else {
         return Err(Fail::from("no grammar"));
     };
-    assert_eq!(rt; grammar.files.len(), 100);
-    assert_eq!(rt; grammar.imports.len(), 10000);
+    assert_eq!(rt; fetched.grammar.files.len(), 100);
+    assert_eq!(rt; fetched.grammar.imports.len(), 10000);
     assert_eq!(rt; shelf.calls, 100);
     Ok(())
 }

@@ -1,7 +1,7 @@
 // Grammars with their imports, as one.
 use g4_base::{Octets, Text};
 use g4_fetch::fetch_grammar;
-use g4_imports::{Composite, ImportFault, integrate};
+use g4_imports::{Composite, Composites, ImportFault, integrate};
 use g4_ports::{MemFile, MemShelf};
 use g4_source::Refused;
 use std::alloc::{AllocError, Global};
@@ -31,7 +31,11 @@ M=parser grammar M; import N; r : ;/N=parser grammar N; s : ; => r:M s:N
 M=parser grammar M; import N; r : ;/N=lexer grammar N; A : 'a' ; => M: no N
 M=parser grammar M; import N; r : ;/N=grammar N; s : ; => M: no N
 M=lexer grammar M; import N; A : 'a' ;/N=lexer grammar N; import M; B : 'b' ; mode X; => A:M B:N
-M=grammar M; import N; r : ;/N=grammar N; import M, O; s : ;/O=lexer grammar O; mode X; => N: no M";
+M=grammar M; import N; r : ;/N=grammar N; import M, O; s : ;/O=lexer grammar O; mode X; => N: no M
+M=parser grammar M; import N; options { tokenVocab = L; } r : A ;/N=parser grammar N; r : ; s : ;/L=lexer grammar L; import K; A : 'a' ; mode X; B : 'b' ;/K=lexer grammar K; B : 'x' ; C : 'c' ; => r:M s:N | A:L B:L C:K
+M=parser grammar M; options { tokenVocab = L; } import N; r : A ;/N=grammar N; s : ;/L=lexer grammar L; A : 'a' ; A : 'b' ; => L: A twice
+M=parser grammar M; options { tokenVocab = L; } import N; r : A ;/N=grammar N; s : ;/L=lexer grammar L; import M; A : 'a' ; => M: no N
+M=parser grammar M; options { tokenVocab = L; } r : A ;/L=lexer grammar L; import K; A : 'a' ;/K=lexer grammar K; import M; => K: no M";
 
 /// A shelf with these files.
 fn shelf_of(alloc: Global, texts: &str) -> Result<MemShelf, AllocError> {
@@ -65,6 +69,16 @@ fn shown(alloc: Global, composite: &Composite) -> Result<String, AllocError> {
     Ok(text)
 }
 
+/// The same of a grammar and of its lexer grammar.
+fn shown_both(alloc: Global, composites: &Composites) -> Result<String, AllocError> {
+    let mut text = shown(alloc, &composites.grammar)?;
+    if let Some(lexer) = &composites.lexer {
+        text.push_str(" |")?;
+        text.push_str(shown(alloc, lexer)?.as_str())?;
+    }
+    Ok(text)
+}
+
 /// Why there is no composite.
 fn why(alloc: Global, fault: &ImportFault) -> Result<String, AllocError> {
     match fault {
@@ -86,12 +100,12 @@ fn rows(rt: HostRuntime) -> Result<(), Fail> {
     for row in ROWS.lines() {
         let (texts, wanted) = row.split_once(" =>").unwrap_or((row, ""));
         let mut shelf = shelf_of(rt.alloc(), texts)?;
-        let grammar = match fetch_grammar(rt.alloc(), &mut shelf, None, "M.g4") {
-            Ok(grammar) => grammar,
+        let fetched = match fetch_grammar(rt.alloc(), &mut shelf, None, "M.g4") {
+            Ok(fetched) => fetched,
             Err(_) => return Err(Fail::from("no grammar")),
         };
-        let found = match integrate(rt.alloc(), grammar) {
-            Ok(composite) => shown(rt.alloc(), &composite)?,
+        let found = match integrate(rt.alloc(), fetched.grammar, fetched.lexer) {
+            Ok(composites) => shown_both(rt.alloc(), &composites)?,
             Err(Refused::Fault(fault)) => why(rt.alloc(), &fault)?,
             Err(Refused::NoMemory) => return Err(Fail::from("no memory")),
         };

@@ -1,5 +1,5 @@
-// Grammars whose imports are fetched and become one: rows worked out by hand, a chain of a thousand files, and a hundred that import each
-// other.
+// Grammars whose imports and vocabularies are fetched and become one: rows worked out by hand, a chain of a thousand files, and a hundred
+// that import each other.
 #![tactic(auto)]
 
 #[cfg(test)]

@@ -1,21 +1,15 @@
 -- The forms of the grammar language that are read but not run yet.
-use Rattle.std.specs.Prelude.{ℕ, List, [], ◌∷◌, ◌++◌, codes, cond}
+use Rattle.std.specs.Prelude.{ℕ, List, [], ◌∷◌}
 use Rattle.std.specs.List.{flat_map}
-use Rattle.std.specs.Str.{bytes_eq}
 use Rattle.g4_base.specs.declared.place.Place.{Place}
 use Rattle.g4_source.specs.declared.name.Name.{Name}
 use Rattle.g4_source.specs.Elements.{Element, Elements, Alternatives, atoms, atoms_in_order, atoms_of_either}
 use Rattle.g4_source.specs.declared.atom.Atom.{Atom}
 use Rattle.g4_source.specs.declared.atom.AtomKind.{AtomKind}
 use Rattle.g4_source.specs.declared.atom.AtomKind.TheVariants as kinds
-use Rattle.g4_source.specs.declared.prequel.Prequel.{Prequel}
-use Rattle.g4_source.specs.declared.prequel.Prequel.TheVariants.{Options, Import, Tokens, Channels}
-use Rattle.g4_source.specs.declared.prequel.Setting.{Setting}
 use Rattle.g4_source.specs.declared.rule.Rule.{Rule}
 use Rattle.g4_source.specs.declared.rule.Rule.TheVariants as rules
 use Rattle.g4_source.specs.declared.rule.RuleAlternative.{RuleAlternative}
-use Rattle.g4_source.specs.declared.source.GrammarKind.{GrammarKind}
-use Rattle.g4_source.specs.declared.source.GrammarKind.TheVariants as grammars
 use Rattle.g4_source.specs.declared.source.Source.{Source}
 
 -- a form that is not run: the place of its first token, and the bytes of that token
@@ -60,27 +54,6 @@ abbrev pub rule_forms : Rule → List Form
 rule_forms (rules.Parser rule) = flat_map parser_alternative_forms rule.alternatives
 rule_forms (rules.Lexer rule) = []
 
--- an option: only the tokens of another grammar are not run
-abbrev pub setting_forms : Setting → List Form
-setting_forms setting = cond (bytes_eq setting.name.text (codes "tokenVocab")) (named setting.name) []
-
--- what comes before the rules
-abbrev pub prequel_forms : Prequel → List Form
-prequel_forms (Options settings) = flat_map setting_forms settings
-prequel_forms (Import place names) = []
-prequel_forms (Tokens place names) = []
-prequel_forms (Channels place names) = []
-
--- the first word of a grammar of parser rules alone, whose tokens are those of another grammar
-abbrev pub kind_forms : Place → GrammarKind → List Form
-kind_forms place grammars.Combined = []
-kind_forms place grammars.Lexer = []
-kind_forms place grammars.Parser = one_form place (codes "parser")
-
 -- the forms with which a grammar is not run, in order of the text
 abbrev pub forms_not_run : Source → List Form
-forms_not_run source = kind_forms source.place source.kind ++ (flat_map prequel_forms source.prequels ++ flat_map rule_forms source.rules)
-
--- the forms with which a grammar that another imports is not run: its kind and its options are passed over
-abbrev pub imported_forms_not_run : Source → List Form
-imported_forms_not_run source = flat_map rule_forms source.rules
+forms_not_run source = flat_map rule_forms source.rules

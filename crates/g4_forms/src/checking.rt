@@ -4,11 +4,10 @@ ghost use Rattle.g4_source.specs.declared.atom.Atom.{Atom};
 ghost use Rattle.g4_source.specs.declared.rule.ParserRule.{ParserRule};
 ghost use Rattle.g4_source.specs.declared.rule.Rule.TheVariants.{Parser};
 ghost use Rattle.g4_grammar.specs.Written.{ParserRuleIsUntested};
-ghost use Rattle.g4_forms.specs.Forms.{forms_not_run, imported_forms_not_run};
+ghost use Rattle.g4_forms.specs.Forms.{forms_not_run};
 ghost use Rattle.g4_forms.specs.Answers.{AreRun};
 
 use crate::fault::FormFault;
-use crate::prequel::{check_kind, check_prequels};
 use crate::rule::check_rules;
 use g4_source::Source;
 use std::alloc::Global;
@@ -20,20 +19,6 @@ use std::alloc::Global;
 /// `NotRun` with that form, where there is one.
 pub fn check_forms(alloc: Global, source: &Source) -> Result<(), FormFault>
     ensures forms { AreRun (forms_not_run source.now) result }
-    ensures untested { OnOk result ((rule : ParserRule Atom) → Contains source.now.rules (Parser rule) → ParserRuleIsUntested rule) }
-{
-    check_kind(alloc, source.place, source.kind)?;
-    check_prequels(alloc, source.prequels.as_slice())?;
-    check_rules(alloc, source.rules.as_slice())?;
-    Ok(())
-}
-
-/// The same of a grammar that another imports, of which the kind and the options are passed over.
-///
-/// # Errors
-/// `NotRun` with the first form that is not run yet, where there is one.
-pub fn check_imported_forms(alloc: Global, source: &Source) -> Result<(), FormFault>
-    ensures forms { AreRun (imported_forms_not_run source.now) result }
     ensures untested { OnOk result ((rule : ParserRule Atom) → Contains source.now.rules (Parser rule) → ParserRuleIsUntested rule) }
 {
     check_rules(alloc, source.rules.as_slice())?;

@@ -5,9 +5,8 @@ mod checking;
 mod element;
 mod fault;
 mod law;
-mod prequel;
 mod rule;
 
-pub use checking::{check_forms, check_imported_forms};
+pub use checking::check_forms;
 pub use fault::FormFault;
 pub use law::one_answer;

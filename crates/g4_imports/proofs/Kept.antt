@@ -1,14 +1,17 @@
 -- The rules of a merged grammar are rules of its files.
-use Rattle.std.proofs.Common.{◌≡◌, ◌⊎◌, ℕ, zero, suc, ◌<◌, List, [], ◌∷◌, ◌++◌, length, map, flat_map, get_or, Bool, true, false, cond, inl, inr, refl, sym, ap, ◌∙◌, subst, arith}
+use Rattle.std.proofs.Common.{◌≡◌, ◌⊎◌, ℕ, zero, suc, ◌<◌, List, [], ◌∷◌, ◌++◌, length, map, flat_map, get_or, take, drop, Option, Bool, true, false, cond, inl, inr, refl, sym, ap, ◌∙◌, subst, arith}
 use Rattle.std.specs.List.{Contains}
-use Rattle.std.proofs.lemmas.List.Elements.{Contains-append_cases, Contains-append_right}
+use Rattle.std.specs.Option.{IfSome}
+use Rattle.std.proofs.lemmas.List.{take-append-drop}
+use Rattle.std.proofs.lemmas.List.Elements.{Contains-append_cases, Contains-append_left, Contains-append_right}
 use Rattle.g4_source.specs.declared.rule.Rule.{Rule}
 use Rattle.g4_source.specs.declared.source.Source.{Source}
 use Rattle.g4_merge.specs.Merging.{all_rules, chosen, firsts, merged_of}
 use Rattle.g4_merge.specs.declared.merging.Merged.{Merged}
 use Rattle.g4_fetch.specs.declared.closure.GrammarFile.{GrammarFile}
-use Rattle.g4_imports.specs.Composites.{IsComposite, RulesAreOfFiles, sources_of}
+use Rattle.g4_imports.specs.Composites.{AreComposites, AreOfFiles, IsComposite, RulesAreOfFiles, apart, as_one, sources_of}
 use Rattle.g4_imports.specs.declared.composite.Composite.{Composite}
+use Rattle.g4_imports.specs.declared.composite.Composites.{Composites}
 
 -- what is among the others is among all
 later : {A : Type 0} (y : A) (xs : List A) (x : A) → Contains xs x → Contains (y ∷ xs) x
@@ -45,6 +48,19 @@ rule_of_file (file ∷ files) rule h =
       | inr more ↦ (let found = rule_of_file files rule more in (found.0, later file files found.0 found.1, found.2))
     ]
 
+-- a file of a part is one of all
+kept_in : (part files : List GrammarFile) (composite : Composite) → ((file : GrammarFile) → Contains part file → Contains files file)
+    → RulesAreOfFiles part composite → RulesAreOfFiles files composite
+kept_in part files composite more of rule h = let found = of rule h in (found.0, more found.0 found.1, found.2)
+
+in_front : (number : ℕ) (files : List GrammarFile) (file : GrammarFile) → Contains (take number files) file → Contains files file
+in_front number files file h = subst (λ (fs : List GrammarFile). Contains fs file) (take-append-drop number files)
+    (Contains-append_left (take number files) (drop number files) file h)
+
+behind : (number : ℕ) (files : List GrammarFile) (file : GrammarFile) → Contains (drop number files) file → Contains files file
+behind number files file h = subst (λ (fs : List GrammarFile). Contains fs file) (take-append-drop number files)
+    (Contains-append_right (take number files) (drop number files) file h)
+
 pub rules_kept : (files : List GrammarFile) (composite : Composite) → IsComposite files composite → RulesAreOfFiles files composite
 rules_kept files composite is rule h =
     let sources = sources_of is.imports in
@@ -54,3 +70,14 @@ rules_kept files composite is rule h =
     (subst (λ (rs : List Rule). Contains rs rule) merged h) in
     subst (λ (fs : List GrammarFile). (file : GrammarFile) × Contains fs file × Contains file.source.rules rule) (sym is.parts)
     (rule_of_file (is.main ∷ is.imports) rule there)
+
+-- the rules of a grammar and of its lexer grammar
+pub all_kept : (files : List GrammarFile) (lexer : Option ℕ) (composites : Composites) → AreComposites files lexer composites
+    → AreOfFiles files composites
+all_kept files _ composites (as_one _ is none) =
+    (rules_kept files composites.grammar is, subst (λ (o : Option Composite). IfSome o (RulesAreOfFiles files)) (sym none) tt)
+all_kept files _ composites (apart number _ lexer is there also) = (
+  kept_in (take number files) files composites.grammar (in_front number files) (rules_kept (take number files) composites.grammar is),
+  subst (λ (o : Option Composite). IfSome o (RulesAreOfFiles files)) (sym there)
+      (kept_in (drop number files) files lexer (behind number files) (rules_kept (drop number files) lexer also)),
+)

@@ -1,5 +1,5 @@
 -- Of a grammar with its imports one thing is reported: the grammar that they are together, or the first fault.
-use Rattle.std.proofs.Common.{◌≡◌, List, [], ◌∷◌, ℕ, Option, Some, Ok, Err, map, refl, sym, ap, ◌∙◌, subst}
+use Rattle.std.proofs.Common.{◌≡◌, List, [], ◌∷◌, ℕ, Option, Some, Ok, Err, map, take, drop, refl, sym, ap, ◌∙◌, subst}
 use Rattle.std.specs.List.{slice_get}
 use Rattle.std.proofs.lemmas.Option.{same_Some}
 use Rattle.g4_source.proofs.OneFirst.{IsOne, one_first, not_both}
@@ -10,9 +10,10 @@ use Rattle.g4_vocab.specs.Names.{first_repeated}
 use Rattle.g4_fetch.specs.declared.closure.GrammarFile.{GrammarFile}
 use Rattle.g4_fetch.specs.declared.closure.Import.{Import}
 use Rattle.g4_fetch.specs.declared.closure.WithImports.{WithImports}
-use Rattle.g4_imports.specs.Composites.{IsComposite, sources_of}
+use Rattle.g4_imports.specs.Composites.{AreComposites, IsComposite, apart, as_one, sources_of}
 use Rattle.g4_imports.specs.Faults.{CannotImport, HasNoFault, IsFault, RepeatsRule}
 use Rattle.g4_imports.specs.declared.composite.Composite.{Composite}
+use Rattle.g4_imports.specs.declared.composite.Composites.{Composites}
 use Rattle.g4_imports.specs.declared.fault.ImportFault.{ImportFault}
 use Rattle.g4_imports.specs.declared.fault.ImportFault.TheVariants.{RuleTwice, BadImport}
 
@@ -62,3 +63,17 @@ one_composite files a b h k =
     ∙ (ap (λ (f : GrammarFile). merged_of f.source (sources_of h.imports)) main
     ∙ (ap (λ (fs : List GrammarFile). merged_of k.main.source (sources_of fs)) imports ∙ sym k.merged)))
     (h.names ∙ sym k.names)
+
+same_composites : (a b : Composites) → a.grammar ≡ b.grammar → a.lexer ≡ b.lexer → a ≡ b
+same_composites a b grammar lexer =
+    ap (λ (g : Composite). record { grammar = g; lexer = a.lexer }) grammar
+    ∙ ap (λ (l : Option Composite). record { grammar = b.grammar; lexer = l }) lexer
+
+-- a grammar and its lexer grammar are these
+pub one_composites : (files : List GrammarFile) (lexer : Option ℕ) (a b : Composites) → AreComposites files lexer a
+    → AreComposites files lexer b → a ≡ b
+one_composites files _ a b (as_one _ is none) (as_one _ also nothing) =
+    same_composites a b (one_composite files a.grammar b.grammar is also) (none ∙ sym nothing)
+one_composites files _ a b (apart number _ lexer is there at) (apart _ _ other also here on) =
+    same_composites a b (one_composite (take number files) a.grammar b.grammar is also)
+    (there ∙ (ap (λ (l : Composite). Some l) (one_composite (drop number files) lexer other at on) ∙ sym here))

@@ -11,8 +11,7 @@ use Rattle.g4_source.specs.declared.rule.Rule.{Rule}
 use Rattle.g4_merge.specs.Laws.{NamesDiffer}
 use Rattle.g4_vocab.specs.Names.{first_repeated}
 use Rattle.g4_fetch.specs.declared.closure.GrammarFile.{GrammarFile}
-use Rattle.g4_fetch.specs.declared.closure.WithImports.{WithImports}
-use Rattle.g4_imports.specs.Faults.{HasOwnNames, RepeatsRule}
+use Rattle.g4_imports.specs.Faults.{RepeatsRule}
 use Rattle.g4_imports.specs.declared.fault.ImportFault.{ImportFault}
 use Rattle.g4_imports.specs.declared.fault.ImportFault.TheVariants.{RuleTwice}
 
@@ -82,15 +81,13 @@ names_differ earlier (rule ∷ rules) e (suc i) (suc j) a b at also same =
 pub same_main : (x y : GrammarFile) (xs ys : List GrammarFile) → x ∷ xs ≡ y ∷ ys → x ≡ y
 same_main x y xs ys e = cc
 
--- of a grammar without a name that is repeated in a file the names of the main one's rules differ
-pub main_differs : (grammar : WithImports) (main : GrammarFile) (imports : List GrammarFile) → grammar.files ≡ main ∷ imports
-    → HasOwnNames grammar → NamesDiffer main.source.rules
-main_differs grammar main imports parts own =
+-- where no file repeats a name the names of the main one's rules differ
+pub main_differs : (main : GrammarFile) (imports : List GrammarFile) → IsNone RepeatsRule (main ∷ imports) → NamesDiffer main.source.rules
+main_differs main imports own =
     names_differ [] main.source.rules (none_repeated (first_repeated [] main.source.rules) refl)
   where
     none_repeated : (o : Option (List ℕ)) → first_repeated [] main.source.rules ≡ o → first_repeated [] main.source.rules ≡ None
     none_repeated None is = is
     none_repeated (Some rule) is =
-        let here : IsNone RepeatsRule (main ∷ imports) = subst (IsNone RepeatsRule) parts own in
-        absurd (All-head (λ (f : GrammarFile). (fault : ImportFault) → RepeatsRule f fault → ⊥) main imports here
+        absurd (All-head (λ (f : GrammarFile). (fault : ImportFault) → RepeatsRule f fault → ⊥) main imports own
         (RuleTwice main.name rule) (rule, is, refl))

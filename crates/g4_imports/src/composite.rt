@@ -1,7 +1,8 @@
 // The grammar that a grammar is with all that it imports.
-ghost use Rattle.std.specs.Prelude.{◌≡◌, ◌<◌, IfOk, OnOk, length, map};
+ghost use Rattle.std.specs.Prelude.{◌≡◌, ◌<◌, IfOk, OnOk, Some, length, map};
 ghost use Rattle.g4_fetch.specs.Closures.{file_names};
-ghost use Rattle.g4_imports.specs.Composites.{AreSplit, IsComposite, RulesAreOfFiles};
+ghost use Rattle.g4_fetch.specs.Fetching.{IsLater};
+ghost use Rattle.g4_imports.specs.Composites.{AreComposites, AreOfFiles, AreSplit, IsComposite};
 ghost use Rattle.g4_imports.specs.Faults.{HasNoFault, IsFault};
 ghost use Rattle.g4_source.specs.Refusals.{Answers};
 
@@ -17,9 +18,9 @@ use std::alloc::{AllocError, Global};
 /// A grammar with all that it imports, as one.
 #[derive(Drop)]
 pub struct Composite {
-    /// The grammar, and of each of its rules the number of the file that it is from. The main file has the number 0.
+    /// The grammar, and of each of its rules the number of the file that it is from, counted from 0, which is its own.
     pub merged: Merged,
-    /// The names of all files in order.
+    /// The names of these files in order.
     pub names: Sequence<Text>,
 }
 
@@ -69,18 +70,73 @@ fn compose(alloc: Global, files: Vec<GrammarFile>) -> Result<Composite, AllocErr
     Ok(Composite { merged, names })
 }
 
+/// A grammar with all that it imports, as one, and its lexer grammar, if there is one, the same.
+#[derive(Drop)]
+pub struct Composites {
+    pub grammar: Composite,
+    pub lexer: Option<Composite>,
+}
+
+/// The files before a lexer grammar's as one grammar, and that with the others as another.
+fn compose_apart(
+    alloc: Global,
+    mut files: Vec<GrammarFile>,
+    lexer: usize,
+) -> Result<Composites, AllocError>
+    requires some { 0 < lexer }
+    requires there { lexer < length files.items }
+    ensures { IfOk result (AreComposites files.items (Some lexer)) }
+{
+    let others = files.split_off(lexer)?;
+    let grammar = compose(alloc, files)?;
+    let lexer = compose(alloc, others)?;
+    Ok(Composites {
+        grammar,
+        lexer: Some(lexer),
+    })
+}
+
+/// The files as one grammar, or, where one is that of a lexer grammar, those before it, and that with the others.
+fn compose_all(
+    alloc: Global,
+    grammar: WithImports,
+    lexer: Option<usize>,
+) -> Result<Composites, AllocError>
+    requires some { 0 < length grammar.files }
+    requires later { IsLater grammar lexer }
+    ensures { IfOk result (AreComposites grammar.files lexer) }
+{
+    let files = grammar.files.into_vec();
+    match lexer {
+        Some(number) => compose_apart(alloc, files, number),
+        None => {
+            let grammar = compose(alloc, files)?;
+            Ok(Composites {
+                grammar,
+                lexer: None,
+            })
+        }
+    }
+}
+
 /// A grammar with all that it imports, as one: its rules are its own and then those of the imports, in the order in which these were
-/// fetched; of rules with one name the first.
+/// fetched; of rules with one name the first. Where a lexer grammar has this number, it is another grammar with all that comes after it.
 ///
 /// # Errors
 /// The first file that has a rule name twice; or the first import of a kind that cannot be imported there, a grammar's own imports before
 /// it; or no memory.
-pub fn integrate(alloc: Global, grammar: WithImports) -> Result<Composite, Refused<ImportFault>>
-    requires { 0 < length grammar.files }
-    ensures composite { Answers (λ composite. HasNoFault grammar × IsComposite grammar.files composite) (IsFault grammar) result }
-    ensures rules { IfOk result (RulesAreOfFiles grammar.files) }
+pub fn integrate(
+    alloc: Global,
+    grammar: WithImports,
+    lexer: Option<usize>,
+) -> Result<Composites, Refused<ImportFault>>
+    requires some { 0 < length grammar.files }
+    requires later { IsLater grammar lexer }
+    ensures composites { Answers (λ composites. HasNoFault grammar × AreComposites grammar.files lexer composites)
+        (IsFault grammar) result }
+    ensures rules { IfOk result (λ composites. AreOfFiles grammar.files composites) }
 {
     check_imports(alloc, &grammar)?;
-    let composite = compose(alloc, grammar.files.into_vec())?;
-    Ok(composite)
+    let composites = compose_all(alloc, grammar, lexer)?;
+    Ok(composites)
 }

@@ -9,6 +9,6 @@ mod law;
 mod modes;
 mod twice;
 
-pub use composite::{Composite, integrate};
+pub use composite::{Composite, Composites, integrate};
 pub use fault::ImportFault;
 pub use law::{main_rules_win, one_integration};

@@ -107,10 +107,10 @@ parsing start rules made numbers net laid numbered built =
     }
 
 -- the rules of a source's lexer
-lexer_is : (source : Source) (names : List TokenName) (literals : List TokenLiteral) (made : LexerRules)
-    → names ≡ names_of (types_of [] source) → literals ≡ literals_of [] source
-    → IsLexerRulesOf names literals source.rules made → made ≡ rules_of_lexer source
-lexer_is source names literals made named there are = rw (are.literals_are, are.rules, are.types, named, there) refl
+lexer_is : (table : List TokenEntry) (source : Source) (names : List TokenName) (literals : List TokenLiteral) (made : LexerRules)
+    → names ≡ names_of (types_of table source) → literals ≡ literals_of table source
+    → IsLexerRulesOf names literals source.rules made → made ≡ rules_of_lexer table source
+lexer_is table source names literals made named there are = rw (are.literals_are, are.rules, are.types, named, there) refl
 
 -- a stage that stops, stops what follows it
 pub stage_stops : {X Y : Type 0} (Stage : Result X GrammarFault → Type 0) (Second : X → Result Y GrammarFault → Type 0)
@@ -124,13 +124,13 @@ pub lexer_exit : (start : List ℕ) (grammar : Loaded) (net : ParserNetwork) (e 
 lexer_exit start grammar net States is h = goes_on net (Err faults.States) is (stops faults.States (States, h, refl))
 lexer_exit start grammar net NoMemory is h = tt
 
-module _ (source : Source) where
+module _ (table : List TokenEntry) (source : Source) where
   -- a grammar that is not numbered
-  pub number_exit : (e : NumberFault) → CausesNumberFault [] source e → IsErrorOf (Numbers source) (of_number e)
-  number_exit e is = stage_exit (FitsLimits [] source) of_number (λ _. Checks source) e is
+  pub number_exit : (e : NumberFault) → CausesNumberFault table source e → IsErrorOf (Numbers table source) (of_number e)
+  number_exit e is = stage_exit (FitsLimits table source) of_number (λ _. Checks table source) e is
 
-  module _ (vocabulary : Vocabulary) (numbered : IsVocabularyOf [] source vocabulary) where
-    pub fits_limits : FitsLimits [] source (Ok tt)
+  module _ (vocabulary : Vocabulary) (numbered : IsVocabularyOf table source vocabulary) where
+    pub fits_limits : FitsLimits table source (Ok tt)
     fits_limits = (
       numbered.fits.few_rules,
       subst (λ (types : List TokenEntry). greatest_number types ≤ MOST_TYPES) numbered.types numbered.fits.few_types,
@@ -138,27 +138,27 @@ module _ (source : Source) where
 
     -- its token types
     pub types_are : token_types (lexers_in vocabulary) (own_in vocabulary) (types_in vocabulary)
-        ≡ token_types (token_lexers source.rules) (own_of source) (types_of [] source)
+        ≡ token_types (token_lexers source.rules) (own_of source) (types_of table source)
     types_are =
         ap (λ (ls : List LexerRule). token_types ls (own_in vocabulary) (types_in vocabulary)) numbered.fits.lexers
         ∙ (ap (λ (ls : List Literal). token_types (token_lexers source.rules) ls (types_in vocabulary)) numbered.own
         ∙ ap (token_types (token_lexers source.rules) (own_of source)) numbered.types)
 
     -- a grammar that cannot be run
-    pub check_exit : (e : Refused CheckFault) → IsChecked source (Err e) → IsErrorOf (Numbers source) (of_check e)
-    check_exit e is = error_within (Checks source) (Numbers source) (λ r h. goes_on tt r fits_limits h) (of_check e)
-        (stage_exit (IsChecked source) of_check (λ _ result. result ≡ Ok (loaded_of source)) e is)
+    pub check_exit : (e : Refused CheckFault) → IsChecked source (Err e) → IsErrorOf (Numbers table source) (of_check e)
+    check_exit e is = error_within (Checks table source) (Numbers table source) (λ r h. goes_on tt r fits_limits h) (of_check e)
+        (stage_exit (IsChecked source) of_check (λ _ result. result ≡ Ok (loaded_of table source)) e is)
 
-  module _ (numbered : Numbered) (is : IsNumbered source numbered) where
+  module _ (numbered : Numbered) (is : IsNumbered table source numbered) where
     -- a grammar without fault
     pub loaded_is : (rules : List StepRule) (shown : List (List ℕ)) (tables : CommandTables) (lexer : LexerRules)
         → rules ≡ numbered.rules → shown ≡ numbered.types.shown → tables ≡ tables_of source numbered.types.names
         → IsLexerRulesOf numbered.types.names numbered.types.literals source.rules lexer
-        → ◌≡◌ {A = Loaded} (record { rules = rules; shown = shown; lexer = (lexer, tables) }) (loaded_of source)
+        → ◌≡◌ {A = Loaded} (record { rules = rules; shown = shown; lexer = (lexer, tables) }) (loaded_of table source)
     loaded_is rules shown tables lexer steps seen named are = rw (
       steps,
       is.rules,
-      lexer_is source numbered.types.names numbered.types.literals lexer (ap (λ (t : TokenTypes). t.names) is.types)
+      lexer_is table source numbered.types.names numbered.types.literals lexer (ap (λ (t : TokenTypes). t.names) is.types)
           (ap (λ (t : TokenTypes). t.literals) is.types) are,
       named,
       seen,
@@ -166,8 +166,8 @@ module _ (source : Source) where
     ) refl
 
     -- is loaded
-    pub numbers_give : Numbers source (Ok (loaded_of source))
-    numbers_give = goes_on tt (Ok (loaded_of source)) is.fits (goes_on tt (Ok (loaded_of source)) is.checked refl)
+    pub numbers_give : Numbers table source (Ok (loaded_of table source))
+    numbers_give = goes_on tt (Ok (loaded_of table source)) is.fits (goes_on tt (Ok (loaded_of table source)) is.checked refl)
 
 -- what a stage over the grammar of one file gives of a command line
 abbrev pub of_one : {X : Type 0} → List ℕ → Result X GrammarFault → Result X Stop

@@ -24,33 +24,34 @@ use Rattle.g4_load.specs.Building.{Builds, FromGrammar, HasLexer, Lays, interpre
 use Rattle.g4_load.specs.Commands.{CarriesOutAll, IsCarriedOut, written_commands}
 use Rattle.g4_load.specs.Faults.{of_check, of_lexer, of_number}
 use Rattle.g4_fetch.specs.Files.{Files}
-use Rattle.g4_imports.specs.declared.composite.Composite.{Composite}
+use Rattle.g4_token_file.specs.declared.entry.TokenEntry.{TokenEntry}
 use Rattle.g4_lexer_rules.specs.Lexers.{GivesLexer}
-use Rattle.g4_load.specs.Loading.{Checks, Loads, LoadsComposite, Merges, Numbers, loaded_of}
+use Rattle.g4_load.specs.Loading.{Checks, Loads, LoadsUnited, Numbers, Unifies, loaded_of}
 use Rattle.g4_load.specs.Stages.{Gives, Then, OfFile}
 use Rattle.g4_load.specs.declared.fault.GrammarFault.{GrammarFault}
 use Rattle.g4_load.specs.declared.interpreter.Interpreter.{Interpreter}
 use Rattle.g4_load.specs.declared.loading.Loaded.{Loaded}
 use Rattle.g4_load.specs.declared.stop.Stop.{Stop}
+use Rattle.g4_load.specs.declared.whole.United.{United}
 use Rattle.g4_load.proofs.KnownCommands.{all_known}
-use Rattle.g4_load.proofs.OneBuilt.{one_loaded, one_merged}
-use Rattle.g4_load.proofs.Located.{composite_gives}
+use Rattle.g4_load.proofs.OneBuilt.{one_loaded, one_unified}
+use Rattle.g4_load.proofs.Located.{whole_gives}
 use Rattle.g4_load.proofs.Stages.{both_give, file_gives}
 use Rattle.g4_load.proofs.WrittenCommands.{of_all_rules, same_map}
 
 -- What is known of a grammar and its source: its commands are known.
-record IsOf (source : Source) (loaded : Loaded) : Type 0 where
-  same : loaded ≡ loaded_of source
-  known : All (IsKnown source (names_of (types_of [] source))) (commands_in source)
+record IsOf (table : List TokenEntry) (source : Source) (loaded : Loaded) : Type 0 where
+  same : loaded ≡ loaded_of table source
+  known : All (IsKnown source (names_of (types_of table source))) (commands_in source)
 
 -- a source that is checked
-is_of : (source : Source) (loaded : Loaded) → Numbers source (Ok loaded) → IsOf source loaded
-is_of source loaded h =
-    let numbers = both_give (Gives (FitsLimits [] source) of_number) (λ _. Checks source) loaded h in
-    let checks = both_give (Gives (IsChecked source) of_check) (λ _ result. result ≡ Ok (loaded_of source)) loaded numbers.2 in
+is_of : (table : List TokenEntry) (source : Source) (loaded : Loaded) → Numbers table source (Ok loaded) → IsOf table source loaded
+is_of table source loaded h =
+    let numbers = both_give (Gives (FitsLimits table source) of_number) (λ _. Checks table source) loaded h in
+    let checks = both_give (Gives (IsChecked source) of_check) (λ _ result. result ≡ Ok (loaded_of table source)) loaded numbers.2 in
     record {
-      same = let ok : ◌≡◌ {A = Result Loaded GrammarFault} (Ok loaded) (Ok (loaded_of source)) = checks.2 in cc;
-      known = all_known source checks.1.0;
+      same = let ok : ◌≡◌ {A = Result Loaded GrammarFault} (Ok loaded) (Ok (loaded_of table source)) = checks.2 in cc;
+      known = all_known table source checks.1.0;
     }
 
 -- what the code makes of the commands of a grammar: of each alternative those that are carried out
@@ -85,10 +86,10 @@ abbrev pub KnownAreKept : Type 0
 KnownAreKept = (source : Source) (types : List TokenName) (commands : List Command) → All (IsKnown source types) commands
     → map Some (filter_map (command_of (tables_of source types)) commands) ≡ map (command_of (tables_of source types)) commands
 
-module _ (source : Source) (loaded : Loaded) (is : IsOf source loaded) where
+module _ (table : List TokenEntry) (source : Source) (loaded : Loaded) (is : IsOf table source loaded) where
   -- the names of the types
   abbrev names : List TokenName
-  names = names_of (types_of [] source)
+  names = names_of (types_of table source)
 
   tables_are : loaded.lexer.1 ≡ tables_of source names
   tables_are = ap (λ (l : Loaded). l.lexer.1) is.same
@@ -108,7 +109,7 @@ module _ (source : Source) (loaded : Loaded) (is : IsOf source loaded) where
       let does : Command → Option LexerCommand = command_of loaded.lexer.1 in
       let all : All (All (All Known)) (written_commands loaded) =
       subst (λ (l : LexerRules). All (All (All Known)) (commands_of (all_rules l.literals l.rules)))
-      (sym (ap (λ (l : Loaded). l.lexer.0) is.same)) (of_all_rules Known source is.known) in
+      (sym (ap (λ (l : Loaded). l.lexer.0) is.same)) (of_all_rules Known table source is.known) in
       let one : (commands : List Command) → All Known commands → map Some (filter_map does commands) ≡ map does commands =
       λ commands h. subst (λ (t : CommandTables). map Some (filter_map (command_of t) commands) ≡ map (command_of t) commands)
       (sym tables_are) (kept source names commands h) in
@@ -118,29 +119,29 @@ module _ (source : Source) (loaded : Loaded) (is : IsOf source loaded) where
 module _ (files : Files) (library : Option (List ℕ)) (name : List ℕ) where
   -- a grammar that is loaded, and its source
   loaded_from : (f : List (List ℕ)) (loaded : Loaded) → Loads files library name f (Ok loaded)
-      → (composite : Composite) × Merges files library name f (Ok composite) × IsOf composite.merged.source loaded
+      → (united : United) × Unifies files library name f (Ok united) × IsOf united.table united.whole.source loaded
   loaded_from f loaded h =
-      let stages = both_give (Merges files library name f) (LoadsComposite name) loaded h in (
+      let stages = both_give (Unifies files library name f) (LoadsUnited name) loaded h in (
         stages.0,
         stages.1,
-        is_of stages.0.merged.source loaded
-            (composite_gives name stages.0 (Numbers stages.0.merged.source) loaded stages.2),
+        is_of stages.0.table stages.0.whole.source loaded
+            (whole_gives name stages.0.whole (Numbers stages.0.table stages.0.whole.source) loaded stages.2),
       )
 
   -- each command of its source is carried out
-  pub each_carried_out : KnownAreCarriedOut → (f g : List (List ℕ)) (composite : Composite) (loaded : Loaded)
-      → Merges files library name f (Ok composite) → Loads files library name g (Ok loaded)
-      → All (IsCarriedOut loaded) (commands_in composite.merged.source)
-  each_carried_out carried f g composite loaded merges loads = by_source (loaded_from g loaded loads)
+  pub each_carried_out : KnownAreCarriedOut → (f g : List (List ℕ)) (united : United) (loaded : Loaded)
+      → Unifies files library name f (Ok united) → Loads files library name g (Ok loaded)
+      → All (IsCarriedOut loaded) (commands_in united.whole.source)
+  each_carried_out carried f g united loaded unifies loads = by_source (loaded_from g loaded loads)
     where
-      by_source : (other : Composite) × Merges files library name g (Ok other) × IsOf other.merged.source loaded
-          → All (IsCarriedOut loaded) (commands_in composite.merged.source)
+      by_source : (other : United) × Unifies files library name g (Ok other) × IsOf other.table other.whole.source loaded
+          → All (IsCarriedOut loaded) (commands_in united.whole.source)
       by_source (other, also, is) =
-          let one : ◌≡◌ {A = Result Composite Stop} (Ok composite) (Ok other) =
-          one_merged files library name f g (Ok composite) (Ok other) merges also in
-          let same : other ≡ composite = cc in
-          subst (λ (s : Composite). All (IsCarriedOut loaded) (commands_in s.merged.source)) same
-          (each_of other.merged.source loaded is carried)
+          let one : ◌≡◌ {A = Result United Stop} (Ok united) (Ok other) =
+          one_unified files library name f g (Ok united) (Ok other) unifies also in
+          let same : other ≡ united = cc in
+          subst (λ (s : United). All (IsCarriedOut loaded) (commands_in s.whole.source)) same
+          (each_of other.table other.whole.source loaded is carried)
 
   -- and the lexer of the interpreter has all of them
   pub all_carried_out : KnownAreKept → (start : List ℕ) (f g : List (List ℕ)) (loaded : Loaded) (made : Interpreter)
@@ -149,10 +150,10 @@ module _ (files : Files) (library : Option (List ℕ)) (name : List ℕ) where
       by_grammar (both_give (Loads files library name g) (λ grammar. OfFile name (FromGrammar start grammar)) made builds)
     where
       by_source : made.lexer.commands ≡ made_commands loaded
-          → (composite : Composite) × Merges files library name f (Ok composite) × IsOf composite.merged.source loaded
+          → (united : United) × Unifies files library name f (Ok united) × IsOf united.table united.whole.source loaded
           → CarriesOutAll loaded made.lexer
-      by_source written (composite, merges, is) =
-          ap (map (map (map Some))) written ∙ all_of composite.merged.source loaded is kept
+      by_source written (united, unifies, is) =
+          ap (map (map (map Some))) written ∙ all_of united.table united.whole.source loaded is kept
 
       by_grammar : (other : Loaded) × Loads files library name g (Ok other) × OfFile name (FromGrammar start other) (Ok made)
           → CarriesOutAll loaded made.lexer

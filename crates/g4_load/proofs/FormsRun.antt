@@ -6,7 +6,7 @@ use Rattle.std.specs.Str.{chars}
 use Rattle.std.proofs.lemmas.List.{drop_all, drop_more, take_rest}
 use Rattle.std.proofs.lemmas.List.Elements.{All-cons}
 use Rattle.g4_forms.specs.Answers.{AreRun}
-use Rattle.g4_forms.specs.Forms.{Form}
+use Rattle.g4_forms.specs.Forms.{Form, forms_not_run}
 use Rattle.g4_forms.specs.declared.fault.FormFault.{FormFault}
 use Rattle.g4_forms.specs.declared.fault.FormFault.TheVariants as forming
 use Rattle.g4_source.specs.declared.source.Source.{Source}
@@ -19,12 +19,13 @@ use Rattle.g4_load.specs.declared.stop.Halt.{Halt}
 use Rattle.g4_load.specs.declared.stop.Halt.TheVariants as halts
 
 -- the first form of a file is reported
-pub first_halts : (forms : Source → List Form) (file : GrammarFile) (fault : FormFault) (halt : Halt)
-    → AreRun {A = ⊤} (forms file.source) (Err fault) → IsHaltOfForm file.name fault halt → FormsAreRun (forms_in forms file) (Err halt)
-first_halts forms file fault halt is told = by_forms (forms file.source) refl fault is halt told
+pub first_halts : (file : GrammarFile) (fault : FormFault) (halt : Halt)
+    → AreRun {A = ⊤} (forms_not_run file.source) (Err fault) → IsHaltOfForm file.name fault halt → FormsAreRun (forms_in file) (Err halt)
+first_halts file fault halt is told = by_forms (forms_not_run file.source) refl fault is halt told
   where
-    by_forms : (fs : List Form) → forms file.source ≡ fs → (fault : FormFault) → AreRun {A = ⊤} (forms file.source) (Err fault)
-        → (halt : Halt) → IsHaltOfForm file.name fault halt → FormsAreRun (forms_in forms file) (Err halt)
+    by_forms : (fs : List Form) → forms_not_run file.source ≡ fs → (fault : FormFault)
+        → AreRun {A = ⊤} (forms_not_run file.source) (Err fault)
+        → (halt : Halt) → IsHaltOfForm file.name fault halt → FormsAreRun (forms_in file) (Err halt)
     by_forms fs same fault is halts.NoMemory told = tt
     by_forms fs same (forming.NotRun place characters) is halts.Failed told = absurd told
     by_forms fs same forming.NoMemory is halts.Failed told = absurd told
@@ -38,9 +39,8 @@ first_halts forms file fault halt is told = by_forms (forms file.source) refl fa
         ∙ ap (λ cs. stops.Fault file.name (faults.Syntax f.place cs)) here.1))
 
 -- a file without a form
-pub none_run : (forms : Source → List Form) (file : GrammarFile) → AreRun {A = ⊤} (forms file.source) (Ok tt)
-    → FormsAreRun (forms_in forms file) (Ok tt)
-none_run forms file is = ap (map (λ (form : Form). record { file = file.name; form = form })) is
+pub none_run : (file : GrammarFile) → AreRun {A = ⊤} (forms_not_run file.source) (Ok tt) → FormsAreRun (forms_in file) (Ok tt)
+none_run file is = ap (map (λ (form : Form). record { file = file.name; form = form })) is
 
 -- the first of some forms is the first of those and more
 pub first_of_more : (xs ys : List FileForm) (halt : Halt) → FormsAreRun xs (Err halt) → FormsAreRun (xs ++ ys) (Err halt)
@@ -74,16 +74,3 @@ module _ (F : GrammarFile → List FileForm) (files : List GrammarFile) (i : ℕ
   -- all files
   pub all_passed : length files ≤ i → AreLeft → flat_map F files ≡ []
   all_passed past left = left ∙ ap (flat_map F) (drop_all i files past)
-
--- the forms of the imports follow those of the main file
-pub then_imports : (xs ys : List FileForm) (halt : Halt) → xs ≡ [] → FormsAreRun ys (Err halt) → FormsAreRun (xs ++ ys) (Err halt)
-then_imports xs ys halt none h = subst (λ (zs : List FileForm). FormsAreRun (zs ++ ys) (Err halt)) (sym none) h
-
--- what holds of the main file and of its imports, holds of all files
-pub of_all_files : (P : GrammarFile → Type 0) (files : List GrammarFile) (main : GrammarFile) → 1 ≤ length files
-    → main ≡ get_or files 0 main → P main → All P (take (length files - 1) (drop 1 files)) → All P files
-of_all_files P [] main within is here rest = absurd (omega arith)
-of_all_files P (file ∷ files) main within is here rest =
-    subst (All P) (sym (ap (λ (f : GrammarFile). f ∷ files) (sym is)
-    ∙ ap (λ (fs : List GrammarFile). main ∷ fs) (sym (take_rest (file ∷ files) 1))))
-    (All-cons P main (take (length (file ∷ files) - 1) (drop 1 (file ∷ files))) here rest)

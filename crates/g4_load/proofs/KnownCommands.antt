@@ -85,10 +85,11 @@ module _ (types : List TokenEntry) where
       (rules_take rules (All-rest (HasSymbol types) commanded (all_commanded (lexer_rules rules)) h))
 
 -- so where the names of the rules are checked, each command is known, and its token type is that of the grammar
-pub all_known : (source : Source) → HasNoClash source → All (IsKnown source (names_of (types_of [] source))) (commands_in source)
-all_known source checked =
-    let types : List TokenEntry = types_of [] source in
-    let typed : All (TakesAType types) (commands_in source) = rules_take types source.rules (commanded_have_symbols source) in
+pub all_known : (table : List TokenEntry) (source : Source) → HasNoClash source
+    → All (IsKnown source (names_of (types_of table source))) (commands_in source)
+all_known table source checked =
+    let types : List TokenEntry = types_of table source in
+    let typed : All (TakesAType types) (commands_in source) = rules_take types source.rules (commanded_have_symbols table source) in
     λ k d less. record {
       known = checked.0.0.0.0.1 k d less;
       mode = checked.0.0.0.0.0.1 k d less;

@@ -23,7 +23,7 @@ use Rattle.g4_lexer_rules.specs.declared.lex_net.LexFault.TheVariants as lexing
 use Rattle.g4_lexer_rules.specs.declared.lex_net.LexNet.{LexNet}
 use Rattle.g4_lexer_rules.specs.declared.tables.CommandTables.{CommandTables}
 use Rattle.g4_lexer_rules.specs.declared.lexer_rules.LexerRules.{LexerRules}
-use Rattle.g4_load.specs.Faults.{of_number, of_check, of_build, of_lexer}
+use Rattle.g4_load.specs.Faults.{of_attach, of_number, of_check, of_build, of_lexer}
 use Rattle.g4_load.specs.Stages.{AfterFetches, Gives, Then, stops, goes_on, OfFile}
 use Rattle.g4_load.specs.declared.interpreter.Interpreter.{Interpreter}
 use Rattle.g4_load.specs.declared.fault.GrammarFault.{GrammarFault}
@@ -32,34 +32,44 @@ use Rattle.g4_load.specs.Building.{interpreter_of, names_of, Lays, HasLexer, Fro
 use Rattle.g4_lexer_rules.specs.Lexers.{GivesLexer, lexer_with}
 use Rattle.g4_load.specs.declared.loading.Loaded.{Loaded}
 use Rattle.g4_load.specs.Listing.{IsStartRule, ListsStart, FromRule, Lists}
-use Rattle.g4_fetch.specs.Closures.{Halted}
+use Rattle.g4_source.specs.declared.source.GrammarKind.{GrammarKind}
+use Rattle.g4_source.specs.declared.source.GrammarKind.TheVariants as kinds
+use Rattle.g4_token_file.specs.declared.entry.TokenEntry.{TokenEntry}
+use Rattle.g4_attach.specs.Attaching.{IsAttached}
+use Rattle.g4_attach.specs.declared.fault.AttachFault.TheVariants as attaching
+use Rattle.g4_attach.proofs.OneAttached.{one_attached}
 use Rattle.g4_fetch.specs.Files.{Files}
+use Rattle.g4_fetch.specs.declared.closure.Fetched.{Fetched}
 use Rattle.g4_fetch.specs.declared.closure.WithImports.{WithImports}
-use Rattle.g4_fetch.proofs.OneFetched.{one_fetched}
+use Rattle.g4_fetch.specs.declared.stop.Stop.{Stop as FetchStop}
+use Rattle.g4_fetch.proofs.OneVocabulary.{one_all}
 use Rattle.g4_imports.specs.declared.composite.Composite.{Composite}
-use Rattle.g4_imports.proofs.OneIntegration.{no_fault, one_composite, one_fault}
+use Rattle.g4_imports.specs.declared.composite.Composites.{Composites}
+use Rattle.g4_imports.proofs.OneIntegration.{no_fault, one_composites, one_fault}
 use Rattle.g4_load.specs.Forms.{FileForm, TellsForms, file_forms}
 use Rattle.g4_load.specs.Stopping.{stop_of_fetch, stop_of_import}
 use Rattle.g4_load.specs.Loading as loading
-use Rattle.g4_load.proofs.Located.{one_of_composite}
-use Rattle.g4_load.specs.Loading.{Checks, Composes, Integrates, LoadsComposite, Merges, Numbers, Reads, Loads, loaded_of}
+use Rattle.g4_load.proofs.Located.{one_of_whole}
+use Rattle.g4_load.specs.Loading.{Checks, Composes, Integrates, LoadsUnited, Merges, Numbers, Reads, Loads, Unifies, loaded_of}
+use Rattle.g4_load.specs.Uniting.{Attaches, Unites, lexer_source, united_of}
+use Rattle.g4_load.specs.declared.whole.United.{United}
 use Rattle.g4_load.proofs.OneStage.{IsSingle, IsSingleBeside, one_gift, one_then, one_of_file}
 
 -- the rules of a source are few enough, or not, in at most one way
-one_numbering : (source : Source) → IsSingleBeside numbering.NoMemory (FitsLimits [] source)
-one_numbering source (Ok g) (Ok h) p q n m = refl
-one_numbering source (Ok g) (Err numbering.Rules) p q n m = absurd (omega (arith, p.0, q))
-one_numbering source (Ok g) (Err numbering.Types) p q n m = absurd (omega (arith, p.1, q.1))
-one_numbering source (Ok g) (Err numbering.NoMemory) p q n m = absurd (m refl)
-one_numbering source (Err numbering.Rules) (Ok h) p q n m = absurd (omega (arith, p, q.0))
-one_numbering source (Err numbering.Rules) (Err numbering.Rules) p q n m = refl
-one_numbering source (Err numbering.Rules) (Err numbering.Types) p q n m = absurd (omega (arith, p, q.0))
-one_numbering source (Err numbering.Rules) (Err numbering.NoMemory) p q n m = absurd (m refl)
-one_numbering source (Err numbering.Types) (Ok h) p q n m = absurd (omega (arith, p.1, q.1))
-one_numbering source (Err numbering.Types) (Err numbering.Rules) p q n m = absurd (omega (arith, p.0, q))
-one_numbering source (Err numbering.Types) (Err numbering.Types) p q n m = refl
-one_numbering source (Err numbering.Types) (Err numbering.NoMemory) p q n m = absurd (m refl)
-one_numbering source (Err numbering.NoMemory) b p q n m = absurd (n refl)
+one_numbering : (table : List TokenEntry) (source : Source) → IsSingleBeside numbering.NoMemory (FitsLimits table source)
+one_numbering table source (Ok g) (Ok h) p q n m = refl
+one_numbering table source (Ok g) (Err numbering.Rules) p q n m = absurd (omega (arith, p.0, q))
+one_numbering table source (Ok g) (Err numbering.Types) p q n m = absurd (omega (arith, p.1, q.1))
+one_numbering table source (Ok g) (Err numbering.NoMemory) p q n m = absurd (m refl)
+one_numbering table source (Err numbering.Rules) (Ok h) p q n m = absurd (omega (arith, p, q.0))
+one_numbering table source (Err numbering.Rules) (Err numbering.Rules) p q n m = refl
+one_numbering table source (Err numbering.Rules) (Err numbering.Types) p q n m = absurd (omega (arith, p, q.0))
+one_numbering table source (Err numbering.Rules) (Err numbering.NoMemory) p q n m = absurd (m refl)
+one_numbering table source (Err numbering.Types) (Ok h) p q n m = absurd (omega (arith, p.1, q.1))
+one_numbering table source (Err numbering.Types) (Err numbering.Rules) p q n m = absurd (omega (arith, p.0, q))
+one_numbering table source (Err numbering.Types) (Err numbering.Types) p q n m = refl
+one_numbering table source (Err numbering.Types) (Err numbering.NoMemory) p q n m = absurd (m refl)
+one_numbering table source (Err numbering.NoMemory) b p q n m = absurd (n refl)
 
 -- what holds and fails is not both
 not_both : (b : Bool) → b ≡ true → b ≡ false → ⊥
@@ -139,13 +149,25 @@ one_from_rule rule grammar = one_then (Lays rule grammar.rules) (ListsStart (nam
     (one_laid rule grammar.rules) (one_start_listing (names_of grammar.rules) grammar.shown)
 
 -- a source gives at most one grammar, where it is checked
-one_checked : (source : Source) → IsSingle (Checks source)
-one_checked source = one_then (Gives (IsChecked source) of_check) (λ _ result. result ≡ Ok (loaded_of source))
+one_checked : (table : List TokenEntry) (source : Source) → IsSingle (Checks table source)
+one_checked table source = one_then (Gives (IsChecked source) of_check) (λ _ result. result ≡ Ok (loaded_of table source))
     (one_gift (IsChecked source) of_check checking.NoMemory refl (one_answer_checked source)) (λ _ a b p q. p ∙ sym q)
 
-one_numbers : (source : Source) → IsSingle (Numbers source)
-one_numbers source = one_then (Gives (FitsLimits [] source) of_number) (λ _. Checks source)
-    (one_gift (FitsLimits [] source) of_number numbering.NoMemory refl (one_numbering source)) (λ _. one_checked source)
+one_numbers : (table : List TokenEntry) (source : Source) → IsSingle (Numbers table source)
+one_numbers table source = one_then (Gives (FitsLimits table source) of_number) (λ _. Checks table source)
+    (one_gift (FitsLimits table source) of_number numbering.NoMemory refl (one_numbering table source)) (λ _. one_checked table source)
+
+-- a parser grammar is attached to its lexer grammar in at most one way
+one_attaches : (table : List TokenEntry) (parser : Composite) (lexer : Option Composite) → IsSingle (Attaches table parser lexer)
+one_attaches table parser lexer = one_then (Gives (IsAttached table parser.merged.source (lexer_source lexer)) of_attach)
+    (λ attached result. result ≡ Ok (united_of parser lexer attached))
+    (one_gift (IsAttached table parser.merged.source (lexer_source lexer)) of_attach attaching.NoMemory refl
+    (one_attached table parser.merged.source (lexer_source lexer))) (λ _ a b p q. p ∙ sym q)
+
+one_unites : (table : List TokenEntry) (composites : Composites) (kind : GrammarKind) → IsSingle (Unites table composites kind)
+one_unites table composites kinds.Combined a b p q = p ∙ sym q
+one_unites table composites kinds.Lexer a b p q = p ∙ sym q
+one_unites table composites kinds.Parser a b p q = one_attaches table composites.grammar composites.lexer a b p q
 
 -- of forms one thing is reported
 one_forms : (forms : List FileForm) → IsSingle {X = ⊤} (TellsForms forms)
@@ -157,71 +179,77 @@ one_forms (form ∷ forms) (Err s) (Ok v) p q = absurd (let no_way : ⊥ = cc in
 one_forms (form ∷ forms) (Err s) (Err t) p q = ap (λ x. Err x) (p ∙ sym q)
 
 -- and of imports
-one_integrates : (grammar : WithImports) → IsSingle (Integrates grammar)
-one_integrates grammar (Ok a) (Ok b) p q = ap (λ x. Ok x) (one_composite grammar.files a b p.1 q.1)
-one_integrates grammar (Ok a) (Err t) p (fault, is, told) = absurd (no_fault grammar fault p.0 is)
-one_integrates grammar (Err s) (Ok b) (fault, is, told) q = absurd (no_fault grammar fault q.0 is)
-one_integrates grammar (Err s) (Err t) (fault, is, told) (other, also, says) =
+one_integrates : (grammar : WithImports) (lexer : Option ℕ) → IsSingle (Integrates grammar lexer)
+one_integrates grammar lexer (Ok a) (Ok b) p q = ap (λ x. Ok x) (one_composites grammar.files lexer a b p.1 q.1)
+one_integrates grammar lexer (Ok a) (Err t) p (fault, is, told) = absurd (no_fault grammar fault p.0 is)
+one_integrates grammar lexer (Err s) (Ok b) (fault, is, told) q = absurd (no_fault grammar fault q.0 is)
+one_integrates grammar lexer (Err s) (Err t) (fault, is, told) (other, also, says) =
     ap (λ x. Err x) (told ∙ (ap stop_of_import (one_fault grammar fault other is also) ∙ sym says))
 
-one_composes : (grammar : WithImports) → IsSingle (Composes grammar)
-one_composes grammar = one_then (TellsForms (file_forms grammar.files)) (λ _. Integrates grammar)
-    (one_forms (file_forms grammar.files)) (λ _. one_integrates grammar)
+one_composes : (grammar : WithImports) (lexer : Option ℕ) → IsSingle (Composes grammar lexer)
+one_composes grammar lexer = one_then (TellsForms (file_forms grammar.files)) (λ _. Integrates grammar lexer)
+    (one_forms (file_forms grammar.files)) (λ _. one_integrates grammar lexer)
+
+module _ (name : List ℕ) (fetched : Fetched) where
+  -- what becomes of composites
+  abbrev UnitesHere : Composites → Result United Stop → Type 0
+  UnitesHere composites = OfFile name (Unites fetched.table composites composites.grammar.merged.source.kind)
+
+  one_merges : IsSingle (Merges name fetched)
+  one_merges = one_then (Composes fetched.grammar fetched.lexer) UnitesHere (one_composes fetched.grammar fetched.lexer)
+      (λ composites. one_of_file name (Unites fetched.table composites composites.grammar.merged.source.kind)
+      (one_unites fetched.table composites composites.grammar.merged.source.kind))
 
 module _ (files : Files) (library : Option (List ℕ)) (name : List ℕ) where
   -- a grammar is read in at most one way
-  one_read : (f g : List (List ℕ)) (a b : Result WithImports Stop) → Reads files library name f a → Reads files library name g b → a ≡ b
-  one_read f g a b (loading.stops halted h) (loading.stops other k) =
-      let same : ◌≡◌ {A = Result WithImports Halted} (Err halted) (Err other) =
-      one_fetched files library name (Err halted) (Err other) h k in
-      let one : halted ≡ other = cc in
-      ap (λ (x : Halted). Err (stop_of_fetch x.stop)) one
-  one_read f g a b (loading.stops halted h) (loading.reads grammar k) =
-      let same : ◌≡◌ {A = Result WithImports Halted} (Err halted) (Ok grammar) =
-      one_fetched files library name (Err halted) (Ok grammar) h k in
+  one_read : (f g : List (List ℕ)) (a b : Result Fetched Stop) → Reads files library name f a → Reads files library name g b → a ≡ b
+  one_read f g a b (loading.stops _ stop h) (loading.stops _ other k) =
+      let same : ◌≡◌ {A = Result Fetched FetchStop} (Err stop) (Err other) = one_all files library name f g (Err stop) (Err other) h k in
+      let one : stop ≡ other = cc in
+      ap (λ (x : FetchStop). Err (stop_of_fetch name x)) one
+  one_read f g a b (loading.stops _ stop h) (loading.reads _ grammar k) =
+      let same : ◌≡◌ {A = Result Fetched FetchStop} (Err stop) (Ok grammar) = one_all files library name f g (Err stop) (Ok grammar) h k in
       absurd (let no_way : ⊥ = cc in no_way)
-  one_read f g a b (loading.reads grammar h) (loading.stops halted k) =
-      let same : ◌≡◌ {A = Result WithImports Halted} (Ok grammar) (Err halted) =
-      one_fetched files library name (Ok grammar) (Err halted) h k in
+  one_read f g a b (loading.reads _ grammar h) (loading.stops _ stop k) =
+      let same : ◌≡◌ {A = Result Fetched FetchStop} (Ok grammar) (Err stop) = one_all files library name f g (Ok grammar) (Err stop) h k in
       absurd (let no_way : ⊥ = cc in no_way)
-  one_read f g a b (loading.reads grammar h) (loading.reads other k) =
-      let same : ◌≡◌ {A = Result WithImports Halted} (Ok grammar) (Ok other) =
-      one_fetched files library name (Ok grammar) (Ok other) h k in
+  one_read f g a b (loading.reads _ grammar h) (loading.reads _ other k) =
+      let same : ◌≡◌ {A = Result Fetched FetchStop} (Ok grammar) (Ok other) = one_all files library name f g (Ok grammar) (Ok other) h k in
       let one : grammar ≡ other = cc in
-      ap (λ (x : WithImports). Ok x) one
+      ap (λ (x : Fetched). Ok x) one
 
   -- whatever names are fetched
-  abbrev ReadsAny : Result WithImports Stop → Type 0
+  abbrev ReadsAny : Result Fetched Stop → Type 0
   ReadsAny = AfterFetches (Reads files library name)
 
   one_reads : IsSingle ReadsAny
   one_reads a b p q = one_read p.0 q.0 a b p.1 q.1
 
-  abbrev MergesAny : Result Composite Stop → Type 0
-  MergesAny = Then ReadsAny Composes
+  abbrev UnifiesAny : Result United Stop → Type 0
+  UnifiesAny = Then ReadsAny (Merges name)
 
-  one_merges : IsSingle MergesAny
-  one_merges = one_then ReadsAny Composes one_reads one_composes
+  one_unifies : IsSingle UnifiesAny
+  one_unifies = one_then ReadsAny (Merges name) one_reads (one_merges name)
 
-  merges_any : (fetched : List (List ℕ)) (r : Result Composite Stop) → Merges files library name fetched r → MergesAny r
-  merges_any fetched r (stops stop h) = stops stop (fetched, h)
-  merges_any fetched r (goes_on grammar s h k) = goes_on grammar s (fetched, h) k
+  unifies_any : (fetched : List (List ℕ)) (r : Result United Stop) → Unifies files library name fetched r → UnifiesAny r
+  unifies_any fetched r (stops stop h) = stops stop (fetched, h)
+  unifies_any fetched r (goes_on grammar s h k) = goes_on grammar s (fetched, h) k
 
   -- a grammar becomes one in at most one way
-  pub one_merged : (f g : List (List ℕ)) (a b : Result Composite Stop) → Merges files library name f a → Merges files library name g b
+  pub one_unified : (f g : List (List ℕ)) (a b : Result United Stop) → Unifies files library name f a → Unifies files library name g b
       → a ≡ b
-  one_merged f g a b p q = one_merges a b (merges_any f a p) (merges_any g b q)
+  one_unified f g a b p q = one_unifies a b (unifies_any f a p) (unifies_any g b q)
 
   abbrev LoadsAny : Result Loaded Stop → Type 0
-  LoadsAny = Then MergesAny (LoadsComposite name)
+  LoadsAny = Then UnifiesAny (LoadsUnited name)
 
   one_loads : IsSingle LoadsAny
-  one_loads = one_then MergesAny (LoadsComposite name) one_merges
-      (λ composite. one_of_composite name composite (Numbers composite.merged.source) (one_numbers composite.merged.source))
+  one_loads = one_then UnifiesAny (LoadsUnited name) one_unifies
+      (λ united. one_of_whole name united.whole (Numbers united.table united.whole.source) (one_numbers united.table united.whole.source))
 
   loads_any : (fetched : List (List ℕ)) (r : Result Loaded Stop) → Loads files library name fetched r → LoadsAny r
-  loads_any fetched r (stops stop h) = stops stop (merges_any fetched (Err stop) h)
-  loads_any fetched r (goes_on composite s h k) = goes_on composite s (merges_any fetched (Ok composite) h) k
+  loads_any fetched r (stops stop h) = stops stop (unifies_any fetched (Err stop) h)
+  loads_any fetched r (goes_on united s h k) = goes_on united s (unifies_any fetched (Ok united) h) k
 
   -- a grammar is loaded in at most one way, or stops at most one way
   pub one_loaded : (f g : List (List ℕ)) (a b : Result Loaded Stop) → Loads files library name f a → Loads files library name g b → a ≡ b

@@ -106,8 +106,9 @@ last_of a b c d e =
     ∙ ap (λ (x : List Wanted). a ++ x) (append_assoc b (c ++ d) e ∙ ap (λ (x : List Wanted). b ++ x) (append_assoc c d e))
 
 -- the tokens that commands of a grammar's lexer rules name have symbols
-pub commanded_have_symbols : (source : Source) → All (HasSymbol (types_of [] source)) (all_commanded (lexer_rules source.rules))
-commanded_have_symbols source =
+pub commanded_have_symbols : (table : List TokenEntry) (source : Source)
+    → All (HasSymbol (types_of table source)) (all_commanded (lexer_rules source.rules))
+commanded_have_symbols table source =
     let lexers = token_lexers source.rules in
     let tokens : List TokenReference = all_named source.rules in
     let commanded : List TokenReference = all_commanded (lexer_rules source.rules) in
@@ -116,8 +117,9 @@ commanded_have_symbols source =
     let c : List Wanted = filter_map token_name (all_declared source.prequels) in
     let d : List Wanted = filter_map token_name tokens in
     let e : List Wanted = filter_map token_name commanded in
-    have_symbols (types_of [] source) commanded
-    (subst (λ (all : List Wanted). All (IsNumbered (with_keys [] all)) e) (last_of a b c d e) (last_numbers [] (a ++ (b ++ (c ++ d))) e))
+    have_symbols (types_of table source) commanded
+    (subst (λ (all : List Wanted). All (IsNumbered (with_keys table all)) e) (last_of a b c d e)
+    (last_numbers table (a ++ (b ++ (c ++ d))) e))
 
 -- a name has a type exactly where it has a number
 names_are : (types : List TokenEntry) (name : List ℕ)

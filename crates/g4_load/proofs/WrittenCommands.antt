@@ -10,6 +10,7 @@ use Rattle.g4_source.specs.declared.rule.LexerRule.{LexerRule}
 use Rattle.g4_source.specs.declared.rule.Rule.{Rule}
 use Rattle.g4_source.specs.declared.rule.Rule.TheVariants as kinds
 use Rattle.g4_source.specs.declared.source.Source.{Source}
+use Rattle.g4_token_file.specs.declared.entry.TokenEntry.{TokenEntry}
 use Rattle.g4_checks.specs.Commands.{all_commands}
 use Rattle.g4_grammar.specs.declared.token_types.TokenLiteral.{TokenLiteral}
 use Rattle.g4_vocab.specs.Shown.{literals_of}
@@ -44,15 +45,15 @@ module _ (P : Command → Type 0) where
       (All-cons (All P) [] [] (All-nil P) (All-nil (All P))) (of_literals tokens)
 
   -- so what holds of each command of a source holds of each of its lexer
-  pub of_all_rules : (source : Source) → All P (all_commands source.rules)
+  pub of_all_rules : (table : List TokenEntry) (source : Source) → All P (all_commands source.rules)
       → All (All (All P))
-      (commands_of (all_rules (map rule_of_literal (literals_of [] source)) (lexer_rules source.rules)))
-  of_all_rules source h =
-      let literals : List LexerRule = map rule_of_literal (literals_of [] source) in
+      (commands_of (all_rules (map rule_of_literal (literals_of table source)) (lexer_rules source.rules)))
+  of_all_rules table source h =
+      let literals : List LexerRule = map rule_of_literal (literals_of table source) in
       subst (λ (cs : List (List (List Command))). All (All (All P)) cs)
       (sym (map-append (λ (rule : LexerRule). map (λ x. x.commands) rule.alternatives) literals (lexer_rules source.rules)))
       (All-append (All (All P)) (commands_of literals) (commands_of (lexer_rules source.rules))
-      (of_literals (literals_of [] source)) (of_rules source.rules h))
+      (of_literals (literals_of table source)) (of_rules source.rules h))
 
 -- two maps that are one where something holds, on a list of which it holds
 pub same_map : {X Y Z : Type 0} (p : Y → Z) (q : X → Y) (r : X → Z) (P : X → Type 0) → ((x : X) → P x → p (q x) ≡ r x) → (xs : List X)

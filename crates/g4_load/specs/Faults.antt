@@ -1,7 +1,7 @@
 -- The faults of a grammar, from those of the stages.
 use Rattle.std.specs.Prelude.{ℕ, List}
-use Rattle.g4_forms.specs.declared.fault.FormFault.{FormFault}
-use Rattle.g4_forms.specs.declared.fault.FormFault.TheVariants as forming
+use Rattle.g4_attach.specs.declared.fault.AttachFault.{AttachFault}
+use Rattle.g4_attach.specs.declared.fault.AttachFault.TheVariants as attaching
 use Rattle.g4_vocab.specs.declared.fault.NumberFault.{NumberFault}
 use Rattle.g4_vocab.specs.declared.fault.NumberFault.TheVariants as numbering
 use Rattle.g4_checks.specs.declared.fault.CheckFault.{CheckFault}
@@ -15,10 +15,13 @@ use Rattle.g4_load.specs.declared.fault.GrammarFault.TheVariants as faults
 use Rattle.g4_load.specs.declared.fault.CheckError.{CheckError}
 use Rattle.g4_load.specs.declared.fault.CheckError.TheVariants as errors
 
--- of a grammar with a form that is not run yet
-abbrev pub of_form : FormFault → CheckError
-of_form (forming.NotRun place characters) = errors.Fault (faults.Syntax place characters)
-of_form forming.NoMemory = errors.NoMemory
+-- of a parser grammar that is not attached to its lexer grammar
+abbrev pub of_attach : AttachFault → CheckError
+of_attach (attaching.NotALexer name) = errors.Fault (faults.NotALexer name)
+of_attach (attaching.LiteralWithoutToken literal) = errors.Fault (faults.LiteralWithoutToken literal)
+of_attach attaching.Rules = errors.Fault faults.Rules
+of_attach attaching.Types = errors.Fault faults.Types
+of_attach attaching.NoMemory = errors.NoMemory
 
 -- of a grammar that is not numbered
 abbrev pub of_number : NumberFault → CheckError

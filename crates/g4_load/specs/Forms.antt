@@ -7,7 +7,7 @@ use Rattle.g4_source.specs.declared.rule.ParserRule.{ParserRule}
 use Rattle.g4_source.specs.declared.rule.Rule.TheVariants.{Parser}
 use Rattle.g4_source.specs.declared.source.Source.{Source}
 use Rattle.g4_grammar.specs.Written.{ParserRuleIsUntested}
-use Rattle.g4_forms.specs.Forms.{Form, forms_not_run, imported_forms_not_run}
+use Rattle.g4_forms.specs.Forms.{Form, forms_not_run}
 use Rattle.g4_forms.specs.declared.fault.FormFault.{FormFault}
 use Rattle.g4_forms.specs.declared.fault.FormFault.TheVariants as forming
 use Rattle.g4_fetch.specs.declared.closure.GrammarFile.{GrammarFile}
@@ -22,18 +22,13 @@ pub record FileForm : Type 0 where
   pub file : List ℕ
   pub form : Form
 
--- the forms of a file, by a function of its source
-abbrev pub forms_in : (Source → List Form) → GrammarFile → List FileForm
-forms_in forms file = map (λ form. record { file = file.name; form = form }) (forms file.source)
+-- the forms of a file
+abbrev pub forms_in : GrammarFile → List FileForm
+forms_in file = map (λ form. record { file = file.name; form = form }) (forms_not_run file.source)
 
--- of imported files in order
-abbrev pub imported_forms : List GrammarFile → List FileForm
-imported_forms files = flat_map (forms_in imported_forms_not_run) files
-
--- of files in order, the first being the main one
+-- of files in order
 abbrev pub file_forms : List GrammarFile → List FileForm
-file_forms [] = []
-file_forms (main ∷ imports) = forms_in forms_not_run main ++ imported_forms imports
+file_forms files = flat_map forms_in files
 
 -- the fault that is reported of a form
 abbrev pub stop_of_form : FileForm → Stop

@@ -1,5 +1,5 @@
 -- Other crates cite Building, Counting, Listing, Loading, Stages, Usable; only this crate cites Commands, Faults, Forms, Locating,
--- Stopping.
+-- Stopping, Uniting.
 pub mod Building
 pub mod Commands
 pub mod Counting
@@ -10,4 +10,5 @@ pub mod Loading
 pub mod Locating
 pub mod Stages
 pub mod Stopping
+pub mod Uniting
 pub mod Usable

@@ -1,5 +1,5 @@
 -- How a command line ends where fetching its grammar stops, or where that does not become one with those that it imports.
-use Rattle.std.specs.Prelude.{ℕ, List}
+use Rattle.std.specs.Prelude.{◌≡◌, ℕ, List}
 use Rattle.g4_source.specs.declared.refused.Refused.{Refused}
 use Rattle.g4_source.specs.declared.refused.Refused.TheVariants as refusals
 use Rattle.g4_fetch.specs.declared.stop.FileFault.{FileFault}
@@ -22,18 +22,30 @@ abbrev pub fault_in_file : FileFault → GrammarFault
 fault_in_file (reading.NotUtf8 at) = faults.NotUtf8 at
 fault_in_file (reading.Syntax place characters) = faults.Syntax place characters
 fault_in_file (reading.BadSet place) = faults.BadSet place
+fault_in_file (reading.BadTokensLine line) = faults.BadTokensLine line
+fault_in_file reading.Types = faults.Types
 
--- where fetching stops
-abbrev pub stop_of_fetch : FetchStop → Stop
-stop_of_fetch (fetching.Absent name) = stops.Absent name
-stop_of_fetch (fetching.TooLarge name size) = stops.TooLarge name size
-stop_of_fetch (fetching.Unreadable name fault) = stops.Fault name (fault_in_file fault)
+-- the file in which it is told, of the main one and its own: a limit is told of the main file
+abbrev pub file_told : List ℕ → List ℕ → FileFault → List ℕ
+file_told main file (reading.NotUtf8 at) = file
+file_told main file (reading.Syntax place characters) = file
+file_told main file (reading.BadSet place) = file
+file_told main file (reading.BadTokensLine line) = file
+file_told main file reading.Types = main
 
--- where fetching halts
-abbrev pub halt_of_fetch : FetchHalt → Halt
-halt_of_fetch (halting.Stop stop) = halts.Stop (stop_of_fetch stop)
-halt_of_fetch halting.Failed = halts.Failed
-halt_of_fetch halting.NoMemory = halts.NoMemory
+-- where fetching stops, by the name of the main file
+abbrev pub stop_of_fetch : List ℕ → FetchStop → Stop
+stop_of_fetch main (fetching.Absent name) = stops.Absent name
+stop_of_fetch main (fetching.TooLarge name size) = stops.TooLarge name size
+stop_of_fetch main (fetching.Unreadable name fault) = stops.Fault (file_told main name fault) (fault_in_file fault)
+
+-- where fetching halts, unless memory runs out
+abbrev pub IsHaltOfFetch : List ℕ → FetchHalt → Halt → Type 0
+IsHaltOfFetch main (halting.Stop stop) (halts.Stop told) = told ≡ stop_of_fetch main stop
+IsHaltOfFetch main (halting.Stop stop) halts.Failed = ⊥
+IsHaltOfFetch main (halting.Stop stop) halts.NoMemory = Unit {0}
+IsHaltOfFetch main halting.Failed halt = halt ≡ halts.Failed
+IsHaltOfFetch main halting.NoMemory halt = halt ≡ halts.NoMemory
 
 -- where a grammar does not become one with those that it imports: the file that has a rule name twice, or that imports
 abbrev pub stop_of_import : ImportFault → Stop

@@ -2,10 +2,10 @@
 ghost use Rattle.std.specs.Prelude.{◌≡◌, IfOk};
 ghost use Rattle.g4_load.specs.Faults.{of_build};
 
+use g4_attach::AttachFault;
 use g4_base::{Place, Sequence, Text};
 use g4_build::BuildFault;
 use g4_checks::CheckFault;
-use g4_forms::FormFault;
 use g4_lexer_rules::LexFault;
 use g4_source::Refused;
 use g4_vocab::NumberFault;
@@ -25,6 +25,13 @@ pub enum GrammarFault {
     RuleTwice(Text),
     /// The name by which a grammar of a kind is imported that cannot be imported there.
     BadImport(Text),
+    /// The number of the first line of a file of tokens that is no token line, or gives a name or a literal a second number.
+    BadTokensLine(u32),
+    /// The name of a parser grammar whose `tokenVocab` names no lexer grammar.
+    NotALexer(Text),
+    /// The first literal of the rules of a parser grammar, as it is written, that is not the whole content of exactly one rule of its lexer
+    /// grammar.
+    LiteralWithoutToken(Text),
     /// More than 4,096 rules.
     Rules,
     /// More than 4,096 token types.
@@ -48,18 +55,21 @@ pub enum CheckError {
     NoMemory,
 }
 
-impl From<FormFault> for CheckError {
+impl From<AttachFault> for CheckError {
     ghost use Rattle.std.specs.Prelude.{◌≡◌};
-    ghost use Rattle.g4_load.specs.Faults.{of_form};
+    ghost use Rattle.g4_load.specs.Faults.{of_attach};
 
-    ghost from_gives = { λ d e. e ≡ of_form d };
+    ghost from_gives = { λ d e. e ≡ of_attach d };
 
-    fn from(fault: FormFault) -> Self {
+    fn from(fault: AttachFault) -> Self {
         match fault {
-            FormFault::NotRun(place, characters) => {
-                CheckError::Fault(GrammarFault::Syntax(place, characters))
+            AttachFault::NotALexer(name) => CheckError::Fault(GrammarFault::NotALexer(name)),
+            AttachFault::LiteralWithoutToken(literal) => {
+                CheckError::Fault(GrammarFault::LiteralWithoutToken(literal))
             }
-            FormFault::NoMemory => CheckError::NoMemory,
+            AttachFault::Rules => CheckError::Fault(GrammarFault::Rules),
+            AttachFault::Types => CheckError::Fault(GrammarFault::Types),
+            AttachFault::NoMemory => CheckError::NoMemory,
         }
     }
 }

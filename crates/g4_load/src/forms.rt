@@ -1,13 +1,12 @@
-// The forms of a grammar and of those that it imports.
+// The forms of a grammar and of those that it imports, and of its lexer grammar.
 ghost use Rattle.std.specs.Prelude.{All, OnOk};
-ghost use Rattle.g4_forms.specs.Forms.{forms_not_run, imported_forms_not_run};
-ghost use Rattle.g4_load.specs.Forms.{FormsAreRun, IsHaltOfForm, IsUntested, file_forms, forms_in, imported_forms};
+ghost use Rattle.g4_load.specs.Forms.{FormsAreRun, IsHaltOfForm, IsUntested, file_forms, forms_in};
 
 use crate::fault::GrammarFault;
 use crate::stop::{Halt, Stop};
 use g4_base::Text;
 use g4_fetch::GrammarFile;
-use g4_forms::{FormFault, check_forms, check_imported_forms};
+use g4_forms::{FormFault, check_forms};
 use std::alloc::Global;
 
 /// A form of the file of this name that is not run yet.
@@ -25,9 +24,9 @@ fn halt_of_form(alloc: Global, name: &str, fault: FormFault) -> Halt
     }
 }
 
-/// Looks for the first form of the main file that is not run yet.
-fn check_main(alloc: Global, file: &GrammarFile) -> Result<(), Halt>
-    ensures forms { FormsAreRun (forms_in forms_not_run file.now) result }
+/// Looks for the first form of a file that is not run yet.
+fn check_file(alloc: Global, file: &GrammarFile) -> Result<(), Halt>
+    ensures forms { FormsAreRun (forms_in file.now) result }
     ensures untested { OnOk result (IsUntested file.now) }
 {
     match check_forms(alloc, &file.source) {
@@ -36,40 +35,14 @@ fn check_main(alloc: Global, file: &GrammarFile) -> Result<(), Halt>
     }
 }
 
-/// Looks for the first form of an imported file that is not run yet.
-fn check_import(alloc: Global, file: &GrammarFile) -> Result<(), Halt>
-    ensures forms { FormsAreRun (forms_in imported_forms_not_run file.now) result }
-    ensures untested { OnOk result (IsUntested file.now) }
-{
-    match check_imported_forms(alloc, &file.source) {
-        Ok(()) => Ok(()),
-        Err(fault) => Err(halt_of_form(alloc, file.name.as_str(), fault)),
-    }
-}
-
-/// Looks for the first form of imported files that is not run yet.
-fn check_imports(alloc: Global, files: &[GrammarFile]) -> Result<(), Halt>
-    ensures forms { FormsAreRun (imported_forms files.now) result }
-    ensures untested { OnOk result (All IsUntested files.now) }
-{
-    for file in files {
-        check_import(alloc, file)?;
-    }
-    Ok(())
-}
-
 /// Looks for the first form, in order of the files and of their texts, that is not run yet. Where there is none, no parser rule tests
 /// anything.
 pub fn check_all_forms(alloc: Global, files: &[GrammarFile]) -> Result<(), Halt>
     ensures forms { FormsAreRun (file_forms files.now) result }
     ensures untested { OnOk result (All IsUntested files.now) }
 {
-    match files {
-        [] => Ok(()),
-        [main, imports @ ..] => {
-            check_main(alloc, main)?;
-            check_imports(alloc, imports)?;
-            Ok(())
-        }
+    for file in files {
+        check_file(alloc, file)?;
     }
+    Ok(())
 }

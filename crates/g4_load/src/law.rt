@@ -2,14 +2,14 @@
 ghost use Rattle.std.specs.Prelude.{◌≡◌, ℕ, All, List, Ok, Option, Result};
 ghost use Rattle.g4_checks.specs.References.{commands_in};
 ghost use Rattle.g4_fetch.specs.Files.{Files};
-ghost use Rattle.g4_imports.specs.declared.composite.Composite.{Composite};
 ghost use Rattle.g4_load.specs.Building.{Builds};
 ghost use Rattle.g4_load.specs.Commands.{CarriesOutAll, IsCarriedOut};
 ghost use Rattle.g4_load.specs.Listing.{Lists};
-ghost use Rattle.g4_load.specs.Loading.{Loads, Merges};
+ghost use Rattle.g4_load.specs.Loading.{Loads, Unifies};
 ghost use Rattle.g4_load.specs.declared.interpreter.Interpreter.{Interpreter as Made};
 ghost use Rattle.g4_load.specs.declared.loading.Loaded.{Loaded as Grammar};
 ghost use Rattle.g4_load.specs.declared.stop.Stop.{Stop};
+ghost use Rattle.g4_load.specs.declared.whole.United.{United as Whole};
 
 use g4_lexer_rules::known_commands_are_carried_out;
 
@@ -34,9 +34,9 @@ pub fn one_listed()
 /// Each command of the lexer rules of a grammar that is loaded is carried out. The lexer of an interpreter has what each of them does,
 /// in order, so none is passed over.
 pub fn commands_are_carried_out()
-    ensures each { (files : Files) (library : Option (List ℕ)) (name : List ℕ) (f g : List (List ℕ)) (composite : Composite)
-        (grammar : Grammar) → Merges files library name f (Ok composite) → Loads files library name g (Ok grammar)
-        → All (IsCarriedOut grammar) (commands_in composite.merged.source) }
+    ensures each { (files : Files) (library : Option (List ℕ)) (name : List ℕ) (f g : List (List ℕ)) (united : Whole)
+        (grammar : Grammar) → Unifies files library name f (Ok united) → Loads files library name g (Ok grammar)
+        → All (IsCarriedOut grammar) (commands_in united.whole.source) }
     ensures all { (files : Files) (library : Option (List ℕ)) (name start : List ℕ) (f g : List (List ℕ)) (grammar : Grammar)
         (made : Made) → Loads files library name f (Ok grammar) → Builds files library name start g (Ok made)
         → CarriesOutAll grammar made.lexer }

@@ -1,5 +1,5 @@
-// Grammars by the names of their files: read with all that they import, numbered and checked; with the networks of their rules, to parse
-// with or to list.
+// Grammars by the names of their files: read with all that they import and with their vocabularies, numbered and checked; with the
+// networks of their rules, to parse with or to list.
 #![tactic(auto)]
 
 mod fault;
@@ -10,6 +10,7 @@ mod listing;
 mod loading;
 mod locating;
 mod stop;
+mod whole;
 
 pub use fault::GrammarFault;
 pub use interpreter::{Interpreter, build_interpreter};

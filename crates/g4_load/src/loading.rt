@@ -1,23 +1,25 @@
 // From the files of a grammar to its rules, numbered and checked.
-ghost use Rattle.std.specs.Prelude.{◌≡◌, All, Contains, IfOk, OnOk, Some, option_map};
+ghost use Rattle.std.specs.Prelude.{◌≡◌, IfOk, List, Some, option_map};
 ghost use Rattle.g4_fetch.specs.Closures.{IsWhole};
+ghost use Rattle.g4_fetch.specs.Fetching.{IsLater};
 ghost use Rattle.g4_fetch.specs.Files.{Files};
 ghost use Rattle.g4_source.specs.Blocks.{HaveAlternatives};
+ghost use Rattle.g4_token_file.specs.declared.entry.TokenEntry.{TokenEntry};
 ghost use Rattle.g4_load.specs.Counting.{Counts};
-ghost use Rattle.g4_load.specs.Loading.{AreUntested, Composes, GivesNumbered, IsNumbered, Loads, LoadsComposite, Reads, loaded_of};
+ghost use Rattle.g4_load.specs.Loading.{AreFull, AreUntested, Composes, GivesNumbered, IsNumbered, IsReady, Loads, LoadsUnited, Merges, Reads, TestNothing, loaded_of};
 ghost use Rattle.g4_load.specs.Stages.{AfterFetches, GivesOrHalts, GivesOrStops};
 
 use crate::fault::CheckError;
 use crate::forms::check_all_forms;
 use crate::locating::located;
-use crate::stop::Halt;
+use crate::stop::{Halt, fault_of, halt_of_fetch};
+use crate::whole::{United, unite};
 use g4_base::{Sequence, Text};
 use g4_checks::check;
-use g4_fetch::{WithImports, fetch_grammar};
+use g4_fetch::{Fetched, WithImports, fetch_grammar};
 use g4_grammar::{ParserRules, TokenTypes};
-use g4_imports::{Composite, integrate};
+use g4_imports::{Composites, integrate};
 use g4_lexer_rules::{CheckedLexer, checked_lexer_of};
-use g4_merge::Merged;
 use g4_ports::Shelf;
 use g4_resolve::resolve;
 use g4_source::Source;
@@ -43,42 +45,72 @@ struct Numbered {
     types: TokenTypes,
 }
 
-/// The grammar in the file of this name, with all that it imports.
+/// The grammar in the file of this name, with all that it imports and with its vocabulary.
 fn read<S: Shelf>(
     alloc: Global,
     shelf: &mut S,
     library: Option<&str>,
     name: &str,
-) -> Result<WithImports, Halt>
+) -> Result<Fetched, Halt>
     ensures keeps { S.told shelf.new ≡ S.told shelf.old }
     ensures content { (files : Files) → S.told shelf.old ≡ Some files
         → GivesOrHalts (AfterFetches (Reads files (option_map (λ l. l.now) library.entry) name.now)) result }
-    ensures whole { IfOk result IsWhole }
+    ensures whole { IfOk result (λ fetched. IsWhole fetched.grammar) }
+    ensures lexer { IfOk result (λ fetched. IsLater fetched.grammar fetched.lexer) }
     ensures counts { Counts ⊥ (S.faults shelf.old) (S.faults shelf.new) (S.misses shelf.old) (S.misses shelf.new) result }
 {
-    let grammar = fetch_grammar(alloc, shelf, library, name)?;
-    Ok(grammar)
+    match fetch_grammar(alloc, shelf, library, name) {
+        Ok(fetched) => Ok(fetched),
+        Err(halt) => Err(halt_of_fetch(alloc, name, halt)),
+    }
 }
 
-/// A grammar with all that it imports, as one.
-fn compose(alloc: Global, grammar: WithImports) -> Result<Composite, Halt>
-    requires { IsWhole grammar }
-    ensures composes { GivesOrStops (Composes grammar) result }
-    ensures full { IfOk result (λ composite. HaveAlternatives composite.merged.source) }
-    ensures untested { IfOk result (λ composite. AreUntested composite.merged.source) }
+/// A grammar with all that it imports as one, and its lexer grammar the same.
+fn compose(alloc: Global, grammar: WithImports, lexer: Option<usize>) -> Result<Composites, Halt>
+    requires whole { IsWhole grammar }
+    requires later { IsLater grammar lexer }
+    ensures composes { GivesOrStops (Composes grammar lexer) result }
+    ensures full { IfOk result AreFull }
+    ensures untested { IfOk result TestNothing }
 {
     check_all_forms(alloc, grammar.files.as_slice())?;
-    let composite = integrate(alloc, grammar)?;
-    Ok(composite)
+    let composites = integrate(alloc, grammar, lexer)?;
+    Ok(composites)
 }
 
-/// The parser rules and the token types of a grammar, where it has no fault.
-fn number_and_check(alloc: Global, source: &Source) -> Result<Numbered, CheckError>
+/// A grammar with all that it imports, and with its lexer grammar, as one. The main file has this name.
+fn merge(alloc: Global, name: &str, fetched: Fetched) -> Result<United, Halt>
+    requires whole { IsWhole fetched.grammar }
+    requires later { IsLater fetched.grammar fetched.lexer }
+    ensures merges { GivesOrStops (Merges name.now fetched) result }
+    ensures full { IfOk result (λ united. HaveAlternatives united.whole.source) }
+    ensures untested { IfOk result (λ united. AreUntested united.whole.source) }
+{
+    let Fetched {
+        grammar,
+        lexer,
+        table,
+    } = fetched;
+    let composites = compose(alloc, grammar, lexer)?;
+    match unite(alloc, table, composites) {
+        Ok(united) => Ok(united),
+        Err(CheckError::Fault(fault)) => Err(Halt::Stop(fault_of(alloc, name, fault)?)),
+        Err(CheckError::NoMemory) => Err(Halt::NoMemory),
+    }
+}
+
+/// The parser rules and the token types of a grammar, which begin with this table, where it has no fault.
+fn number_and_check(
+    alloc: Global,
+    table: TokenTable,
+    source: &Source,
+) -> Result<Numbered, CheckError>
     requires full { HaveAlternatives source.now }
     requires untested { AreUntested source.now }
-    ensures { GivesNumbered source.now result }
+    ensures numbered { GivesNumbered table source.now result }
+    ensures ready { IfOk result (IsReady source.now) }
 {
-    let vocabulary = number(alloc, TokenTable::new(alloc), source)?;
+    let vocabulary = number(alloc, table, source)?;
     check(alloc, source)?;
     let rules = resolve(alloc, source, &vocabulary)?;
     let types = vocabulary.token_types(alloc)?;
@@ -88,8 +120,8 @@ fn number_and_check(alloc: Global, source: &Source) -> Result<Numbered, CheckErr
 /// The grammar of a source without fault.
 fn with_lexer(alloc: Global, source: Source, numbered: Numbered) -> Result<Loaded, AllocError>
     requires full { HaveAlternatives source }
-    requires numbered { IsNumbered source numbered }
-    ensures { IfOk result (λ loaded. loaded ≡ loaded_of source) }
+    requires ready { IsReady source numbered }
+    ensures { IfOk result (λ loaded. (table : List TokenEntry) → IsNumbered table source numbered → loaded ≡ loaded_of table source) }
 {
     let Numbered { rules, types } = numbered;
     let lexer = checked_lexer_of(alloc, source, types.names, types.literals)?;
@@ -100,28 +132,25 @@ fn with_lexer(alloc: Global, source: Source, numbered: Numbered) -> Result<Loade
     })
 }
 
-/// The grammar in the main file of this name with those that it imports, as one, where its rules have no fault.
-fn load_composite(alloc: Global, name: &str, composite: Composite) -> Result<Loaded, Halt>
-    requires full { HaveAlternatives composite.merged.source }
-    requires untested { AreUntested composite.merged.source }
-    ensures { GivesOrStops (LoadsComposite name.now composite) result }
+/// The grammar in the main file of this name, as one, where its rules have no fault.
+fn load_united(alloc: Global, name: &str, united: United) -> Result<Loaded, Halt>
+    requires full { HaveAlternatives united.whole.source }
+    requires untested { AreUntested united.whole.source }
+    ensures { GivesOrStops (LoadsUnited name.now united) result }
 {
-    match number_and_check(alloc, &composite.merged.source) {
+    let United { whole, table } = united;
+    match number_and_check(alloc, table, &whole.source) {
         Ok(numbered) => {
-            let Composite { merged, .. } = composite;
-            let Merged { source, .. } = merged;
-            let loaded = with_lexer(alloc, source, numbered)?;
+            let loaded = with_lexer(alloc, whole.source, numbered)?;
             Ok(loaded)
         }
-        Err(CheckError::Fault(fault)) => {
-            Err(Halt::Stop(located(alloc, name, &composite, fault)?))
-        }
+        Err(CheckError::Fault(fault)) => Err(Halt::Stop(located(alloc, name, &whole, fault)?)),
         Err(CheckError::NoMemory) => Err(Halt::NoMemory),
     }
 }
 
-/// The grammar in the file of this name, with all that it imports, whose rules are checked. `X` is imported from the file `X.g4` in the
-/// library, or, where there is none, in the folder of the main file.
+/// The grammar in the file of this name, with all that it imports and with its vocabulary, whose rules are checked. The grammar `X` is in
+/// the file `X.g4`, and the tokens of `X` are in `X.tokens`, in the library, or, where there is none, in the folder of the main file.
 ///
 /// # Errors
 /// The first file that is absent or too large, the first fault of the grammar, a fetch that failed, or no memory.
@@ -136,8 +165,8 @@ pub fn load<S: Shelf>(
         → GivesOrHalts (AfterFetches (Loads files (option_map (λ l. l.now) library.entry) name.now)) result }
     ensures counts { Counts ⊥ (S.faults shelf.old) (S.faults shelf.new) (S.misses shelf.old) (S.misses shelf.new) result }
 {
-    let grammar = read(alloc, shelf, library, name)?;
-    let composite = compose(alloc, grammar)?;
-    let loaded = load_composite(alloc, name, composite)?;
+    let fetched = read(alloc, shelf, library, name)?;
+    let united = merge(alloc, name, fetched)?;
+    let loaded = load_united(alloc, name, united)?;
     Ok(loaded)
 }

@@ -1,6 +1,6 @@
 // How a command line ends before any file is parsed.
 ghost use Rattle.std.specs.Prelude.{◌≡◌, IfOk};
-ghost use Rattle.g4_load.specs.Stopping.{fault_in_file, stop_of_fetch, stop_of_import};
+ghost use Rattle.g4_load.specs.Stopping.{IsHaltOfFetch, fault_in_file, file_told, stop_of_fetch, stop_of_import};
 ghost use Rattle.g4_load.specs.declared.stop.Stop.TheVariants.{Fault};
 
 use crate::fault::GrammarFault;
@@ -62,32 +62,46 @@ fn fault_in_file(fault: FileFault) -> GrammarFault
         FileFault::NotUtf8(at) => GrammarFault::NotUtf8(at),
         FileFault::Syntax(place, characters) => GrammarFault::Syntax(place, characters),
         FileFault::BadSet(place) => GrammarFault::BadSet(place),
+        FileFault::BadTokensLine(line) => GrammarFault::BadTokensLine(line),
+        FileFault::Types => GrammarFault::Types,
     }
 }
 
-/// How the command line ends where fetching its grammar stops.
-fn stop_of_fetch(stop: g4_fetch::Stop) -> Stop
-    ensures { result ≡ stop_of_fetch stop }
+/// The name of the file in which a file's fault is told: a limit is told of the main file.
+fn file_of<'a>(main: &'a str, file: &'a str, fault: &FileFault) -> &'a str
+    ensures { result.now ≡ file_told main.now file.now fault.now }
+{
+    match fault {
+        FileFault::Types => main,
+        _ => file,
+    }
+}
+
+/// How the command line ends where fetching its grammar, in the main file of this name, stops.
+fn stop_of_fetch(alloc: Global, main: &str, stop: g4_fetch::Stop) -> Result<Stop, AllocError>
+    ensures { IfOk result (λ found. found ≡ stop_of_fetch main.now stop) }
 {
     match stop {
-        g4_fetch::Stop::Absent(name) => Stop::Absent(name),
-        g4_fetch::Stop::TooLarge(name, size) => Stop::TooLarge(name, size),
-        g4_fetch::Stop::Unreadable(name, fault) => Stop::Fault(name, fault_in_file(fault)),
+        g4_fetch::Stop::Absent(name) => Ok(Stop::Absent(name)),
+        g4_fetch::Stop::TooLarge(name, size) => Ok(Stop::TooLarge(name, size)),
+        g4_fetch::Stop::Unreadable(name, fault) => {
+            let file = Text::copy_of(alloc, file_of(main, name.as_str(), &fault))?;
+            Ok(Stop::Fault(file, fault_in_file(fault)))
+        }
     }
 }
 
-impl From<g4_fetch::Halt> for Halt {
-    ghost use Rattle.std.specs.Prelude.{◌≡◌};
-    ghost use Rattle.g4_load.specs.Stopping.{halt_of_fetch};
-
-    ghost from_gives = { λ d e. e ≡ halt_of_fetch d };
-
-    fn from(halt: g4_fetch::Halt) -> Self {
-        match halt {
-            g4_fetch::Halt::Stop(stop) => Halt::Stop(stop_of_fetch(stop)),
-            g4_fetch::Halt::Failed => Halt::Failed,
-            g4_fetch::Halt::NoMemory => Halt::NoMemory,
-        }
+/// Why no file is parsed where the grammar in the main file of this name is not fetched.
+pub fn halt_of_fetch(alloc: Global, main: &str, halt: g4_fetch::Halt) -> Halt
+    ensures { IsHaltOfFetch main.now halt result }
+{
+    match halt {
+        g4_fetch::Halt::Stop(stop) => match stop_of_fetch(alloc, main, stop) {
+            Ok(stop) => Halt::Stop(stop),
+            Err(_) => Halt::NoMemory,
+        },
+        g4_fetch::Halt::Failed => Halt::Failed,
+        g4_fetch::Halt::NoMemory => Halt::NoMemory,
     }
 }
 

@@ -1,6 +1,7 @@
 mod Fetched
 mod Gathered
 mod Meant
+mod Missed
 mod OneByOne
 mod OneEnd
 mod Reports

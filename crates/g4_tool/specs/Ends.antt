@@ -9,7 +9,7 @@ use Rattle.g4_words.specs.declared.command.Command.TheVariants as commands
 use Rattle.g4_words.specs.declared.command.Parse.{Parse}
 use Rattle.g4_load.specs.declared.loading.Loaded.{Loaded}
 use Rattle.g4_outcome.specs.Texts.{large_line, not_utf8_line}
-use Rattle.g4_tool.specs.Texts.{usage_line, absent_line, syntax_line, bad_set_line, twice_line, bad_import_line, no_rule_line, limit_line, undefined_line, unknown_command_line, lexer_predicate_line, unknown_predicate_line, label_clash_line, no_primary_line, empty_operator_line, empty_loop_line, left_cycle_line, checked_line, closing_line}
+use Rattle.g4_tool.specs.Texts.{usage_line, absent_line, syntax_line, bad_set_line, twice_line, bad_import_line, bad_tokens_line, no_lexer_line, no_token_type_line, no_rule_line, limit_line, undefined_line, unknown_command_line, lexer_predicate_line, unknown_predicate_line, label_clash_line, no_primary_line, empty_operator_line, empty_loop_line, left_cycle_line, checked_line, closing_line}
 use Rattle.g4_load.specs.Listing.{Lists}
 use Rattle.g4_load.specs.Loading.{Loads}
 use Rattle.g4_load.specs.Building.{Builds}
@@ -117,6 +117,9 @@ fault_line name (faults.Syntax place characters) = syntax_line name place charac
 fault_line name (faults.BadSet place) = bad_set_line name place
 fault_line name (faults.RuleTwice rule) = twice_line name rule
 fault_line name (faults.BadImport imported) = bad_import_line name imported
+fault_line name (faults.BadTokensLine line) = bad_tokens_line name line
+fault_line name (faults.NotALexer grammar) = no_lexer_line name grammar
+fault_line name (faults.LiteralWithoutToken literal) = no_token_type_line name literal
 fault_line name faults.Rules = limit_line name (codes "rules 4096")
 fault_line name faults.Types = limit_line name (codes "types 4096")
 fault_line name (faults.Check (checks.Reference fault)) = reference_line name fault

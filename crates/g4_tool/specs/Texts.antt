@@ -32,6 +32,18 @@ twice_line name rule = ToErr (name ++ (codes ": rule " ++ (rule ++ codes " stand
 abbrev pub bad_import_line : List ℕ → List ℕ → Line
 bad_import_line name imported = ToErr (name ++ (codes ": cannot import " ++ (imported ++ codes "\n")))
 
+-- the line of a file of tokens with a line that is no token line
+abbrev pub bad_tokens_line : List ℕ → ℕ → Line
+bad_tokens_line name line = ToErr (name ++ (codes ": line " ++ (decimal line ++ codes " is no token line\n")))
+
+-- the line of a parser grammar that names no lexer grammar
+abbrev pub no_lexer_line : List ℕ → List ℕ → Line
+no_lexer_line name grammar = ToErr (name ++ (codes ": no lexer grammar for " ++ (grammar ++ codes "\n")))
+
+-- the line of a literal that names no token of the lexer grammar, as it is written
+abbrev pub no_token_type_line : List ℕ → List ℕ → Line
+no_token_type_line name literal = ToErr (name ++ (codes ": no token for " ++ (literal ++ codes "\n")))
+
 -- the line of a rule, a mode or a channel that is named and that the grammar has not
 abbrev pub undefined_line : List ℕ → List ℕ → List ℕ → Line
 undefined_line name kind item = ToErr (name ++ (codes ": " ++ (kind ++ (item ++ codes " is not defined\n"))))

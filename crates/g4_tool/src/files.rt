@@ -92,7 +92,7 @@ fn learned_of<B: Home<DecisionNet> + LexerHome>(
     state: WorkerState<'_, B>,
 ) -> Result<Option<Tally>, AllocError>
     requires whole { complete ≡ true → IsWhole state.pass.0 }
-    ensures { (files : Files) → files.interpreter.net ≡ B.plan.net.net → (complete ≡ true → HasLearned B.plan files state.pass)
+    ensures { (files : Files) → files.interpreter.net ≡ B.plan.net.net → (complete ≡ true → HasLearned B.plan files state.entry.pass)
         → IfOk result (IsTold asked B.plan.rows files.interpreter files.inputs) }
 {
     if !asked {

@@ -1,6 +1,6 @@
 // The lines of faults of words, grammars and names of files.
 ghost use Rattle.std.specs.Prelude.{◌≡◌, IfOk};
-ghost use Rattle.g4_tool.specs.Texts.{absent_line, usage_line, syntax_line, bad_set_line, twice_line, bad_import_line, no_rule_line, limit_line};
+ghost use Rattle.g4_tool.specs.Texts.{absent_line, usage_line, syntax_line, bad_set_line, twice_line, bad_import_line, bad_tokens_line, no_lexer_line, no_token_type_line, no_rule_line, limit_line};
 
 use g4_base::{Place, push_shown};
 use g4_outcome::{Line, start_line, to_err};
@@ -60,6 +60,30 @@ pub fn bad_import(alloc: Global, name: &str, imported: &str) -> Result<Line, All
     ensures { IfOk result (λ line. line ≡ bad_import_line name.now imported.now) }
 {
     let line = format!(in alloc; "{name}: cannot import {imported}\n")?;
+    Ok(to_err(line))
+}
+
+/// A file of tokens whose line with this number is no token line.
+pub fn bad_tokens(alloc: Global, name: &str, line: u32) -> Result<Line, AllocError>
+    ensures { IfOk result (λ made. made ≡ bad_tokens_line name.now line) }
+{
+    let made = format!(in alloc; "{name}: line {line} is no token line\n")?;
+    Ok(to_err(made))
+}
+
+/// A parser grammar that names no lexer grammar.
+pub fn no_lexer(alloc: Global, name: &str, grammar: &str) -> Result<Line, AllocError>
+    ensures { IfOk result (λ line. line ≡ no_lexer_line name.now grammar.now) }
+{
+    let line = format!(in alloc; "{name}: no lexer grammar for {grammar}\n")?;
+    Ok(to_err(line))
+}
+
+/// A literal, as it is written, that names no token of the lexer grammar.
+pub fn no_token_type(alloc: Global, name: &str, literal: &str) -> Result<Line, AllocError>
+    ensures { IfOk result (λ line. line ≡ no_token_type_line name.now literal.now) }
+{
+    let line = format!(in alloc; "{name}: no token for {literal}\n")?;
     Ok(to_err(line))
 }
 

@@ -2,7 +2,10 @@
 ghost use Rattle.std.specs.Prelude.{◌≡◌, IfOk};
 ghost use Rattle.g4_tool.specs.Ends.{fault_line, recursion_line, reference_line, stop_line, stop_status};
 
-use crate::messages::{absent, bad_import, bad_set, limit, no_rule, syntax, twice, usage};
+use crate::messages::{
+    absent, bad_import, bad_set, bad_tokens, limit, no_lexer, no_rule, no_token_type, syntax,
+    twice, usage,
+};
 use crate::rule_messages::{
     empty_loop, empty_operator, label_clash, left_cycle, lexer_predicate, no_primary, undefined,
     unknown_command, unknown_predicate,
@@ -57,6 +60,9 @@ fn fault_line(alloc: Global, name: &str, fault: &GrammarFault) -> Result<Line, A
         GrammarFault::BadSet(place) => bad_set(alloc, name, *place),
         GrammarFault::RuleTwice(rule) => twice(alloc, name, rule.as_str()),
         GrammarFault::BadImport(imported) => bad_import(alloc, name, imported.as_str()),
+        GrammarFault::BadTokensLine(line) => bad_tokens(alloc, name, *line),
+        GrammarFault::NotALexer(grammar) => no_lexer(alloc, name, grammar.as_str()),
+        GrammarFault::LiteralWithoutToken(literal) => no_token_type(alloc, name, literal.as_str()),
         GrammarFault::Rules => limit(alloc, name, "rules 4096"),
         GrammarFault::Types => limit(alloc, name, "types 4096"),
         GrammarFault::Check(CheckFault::Reference(fault)) => reference_line(alloc, name, fault),

@@ -21,10 +21,11 @@ fn rules(alloc: Global, parsers: u32, lexers: u32) -> Result<String, AllocError>
 }
 
 /// A table of this many entries: names from `T0` on, or literals of the parser rules, with the odd numbers from 1 on, or with all.
-fn table_lines(alloc: Global, count: u32, literals: bool, step: u32) -> Result<String, AllocError> {
+fn table_lines(alloc: Global, count: u32, literals: bool, odd: bool) -> Result<String, AllocError> {
     let mut lines = String::new(alloc);
     for entry in 0..count {
-        let number = entry * step + 1;
+        let before = u64::from(entry);
+        let number = if odd { before * 2 + 1 } else { before + 1 };
         if entry > 0 {
             lines.push(' ')?;
         }
@@ -81,7 +82,7 @@ fn as_many_types_as_there_may_be(rt: HostRuntime) -> Result<(), Fail> {
 fn tables_of_many_entries(rt: HostRuntime) -> Result<(), Fail> {
     let full = table_of(
         rt.alloc(),
-        table_lines(rt.alloc(), 4096, false, 1)?.as_str(),
+        table_lines(rt.alloc(), 4096, false, false)?.as_str(),
     )?;
     assert_eq!(rt;
         answered(rt.alloc(), full, 0, 0)?.as_str(),
@@ -89,15 +90,21 @@ fn tables_of_many_entries(rt: HostRuntime) -> Result<(), Fail> {
     );
     let full = table_of(
         rt.alloc(),
-        table_lines(rt.alloc(), 4096, false, 1)?.as_str(),
+        table_lines(rt.alloc(), 4096, false, false)?.as_str(),
     )?;
     assert_eq!(rt; answered(rt.alloc(), full, 0, 1)?.as_str(), "types");
-    let full = table_of(rt.alloc(), table_lines(rt.alloc(), 4096, true, 1)?.as_str())?;
+    let full = table_of(
+        rt.alloc(),
+        table_lines(rt.alloc(), 4096, true, false)?.as_str(),
+    )?;
     assert_eq!(rt;
         answered(rt.alloc(), full, 4096, 0)?.as_str(),
         "4096 0 4096 4096"
     );
-    let odd = table_of(rt.alloc(), table_lines(rt.alloc(), 2000, true, 2)?.as_str())?;
+    let odd = table_of(
+        rt.alloc(),
+        table_lines(rt.alloc(), 2000, true, true)?.as_str(),
+    )?;
     assert_eq!(rt;
         answered(rt.alloc(), odd, 2000, 97)?.as_str(),
         "4096 97 2000 2097"

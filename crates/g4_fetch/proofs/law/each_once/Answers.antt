@@ -1,5 +1,5 @@
-use Rattle.g4_fetch.proofs.Once.{grammar_once}
+use Rattle.g4_fetch.proofs.Once.{all_once}
 use Rattle.g4_fetch.proofs.law.each_once.Goals as goal
 
 pub returns : goal.returns
-returns c = λ files library name grammar h. grammar_once files library name grammar h
+returns c = λ files library name fetched all h. all_once files library name fetched all h

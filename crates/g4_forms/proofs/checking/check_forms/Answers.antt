@@ -6,4 +6,4 @@ use Rattle.g4_forms.proofs.checking.check_forms.Goals as goal
 
 pub returns-clause-untested : goal.returns-clause-untested
 returns-clause-untested c = untested_rules c.args.source.now.rules
-    (sym (ap (flat_map rule_forms) c.as_slice-2.ensures) ∙ c.in_ok-check_rules.ensures)
+    (sym (ap (flat_map rule_forms) c.as_slice.ensures) ∙ c.in_ok-check_rules.ensures)

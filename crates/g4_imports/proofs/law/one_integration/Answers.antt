@@ -7,5 +7,5 @@ returns-clause-fault c = λ grammar a b h k. one.one_fault grammar a b h k
 pub returns-clause-none : goal.returns-clause-none
 returns-clause-none c = λ grammar fault none h. one.no_fault grammar fault none h
 
-pub returns-clause-composite : goal.returns-clause-composite
-returns-clause-composite c = λ files a b h k. one.one_composite files a b h k
+pub returns-clause-composites : goal.returns-clause-composites
+returns-clause-composites c = λ files lexer a b h k. one.one_composites files lexer a b h k

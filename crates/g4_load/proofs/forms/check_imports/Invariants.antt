@@ -1,8 +1,0 @@
-use Rattle.std.proofs.Common.{All, take}
-use Rattle.g4_forms.specs.Forms.{imported_forms_not_run}
-use Rattle.g4_load.specs.Forms.{IsUntested, forms_in}
-use Rattle.g4_load.proofs.FormsRun.{AreLeft}
-use Rattle.g4_load.proofs.forms.check_imports.Given as goal
-
-abbrev pub invariant-loop-file : goal.invariant-loop-file
-invariant-loop-file l = AreLeft (forms_in imported_forms_not_run) l.files l.file-index × All IsUntested (take l.file-index l.files)
