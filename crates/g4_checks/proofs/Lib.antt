@@ -10,5 +10,6 @@ pub mod Nodes
 pub mod Numbers
 pub mod OneCheck
 pub mod OneReference
+pub mod ParserPredicates
 mod Passed
 pub mod Sets

@@ -1,4 +1,4 @@
--- Other crates cite Checking, Commands, Holders, Names, References; only this crate cites Known, Labels, Predicates, Uses, Views.
+-- Other crates cite Checking, Commands, Holders, Names, Predicates, References; only this crate cites Known, Labels, Uses, Views.
 pub mod Checking
 pub mod Commands
 pub mod Holders

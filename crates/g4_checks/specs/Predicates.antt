@@ -1,5 +1,6 @@
 -- The predicates of rules, and the rules that they name.
 use Rattle.std.specs.Prelude.{◌≡◌, ℕ, List, [], ◌∷◌, Bool, false, ◌==◌, if◌then◌else◌, reverse}
+use Rattle.std.specs.List.{AllZip}
 use Rattle.std.specs.Str.{chars}
 use Rattle.g4_source.specs.declared.name.Name.{Name}
 use Rattle.g4_preds.specs.Readings.{IsPredicate}
@@ -19,9 +20,16 @@ without_last byte text = reverse (without_first byte (reverse text))
 abbrev pub text_of_predicate : List ℕ → List ℕ
 text_of_predicate action = without_last 125 (without_first 123 action)
 
--- the predicate with this action is this tree
+-- the predicate with this action, as it is written, is this tree
+abbrev pub IsRead : List ℕ → Tree → Type 0
+IsRead action tree = IsPredicate (chars (text_of_predicate action)) tree
+
 abbrev pub Reads : Name → Tree → Type 0
-Reads written tree = IsPredicate (chars (text_of_predicate written.text)) tree
+Reads written tree = IsRead written.text tree
+
+-- the predicates with these actions are these trees, one for each, in order
+abbrev pub ArePredicates : List (List ℕ) → List Tree → Type 0
+ArePredicates actions trees = AllZip IsRead actions trees
 
 -- n is this name, and no rule has it
 abbrev pub IsMissing : (List ℕ → Bool) → List ℕ → List ℕ → Type 0

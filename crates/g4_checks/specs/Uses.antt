@@ -1,11 +1,12 @@
 -- What the atoms of rules name, and the faults of it.
-use Rattle.std.specs.Prelude.{◌≡◌, ℕ, List, Bool, false, codes}
+use Rattle.std.specs.Prelude.{◌≡◌, ℕ, List, [], Bool, false, codes}
 use Rattle.std.specs.Str.{bytes_eq}
 use Rattle.g4_base.specs.declared.place.Place.{Place}
 use Rattle.g4_source.specs.declared.atom.AtomKind.{AtomKind}
 use Rattle.g4_source.specs.declared.atom.AtomKind.TheVariants.{Rule as RuleName, Token, Predicate}
 use Rattle.g4_preds.specs.Trees.{Tree}
 use Rattle.g4_source.specs.Atoms.{AtomIn}
+use Rattle.g4_grammar.specs.Written.{predicate_text}
 use Rattle.g4_source.specs.declared.kind.RuleKind.{RuleKind}
 use Rattle.g4_source.specs.declared.kind.RuleKind.TheVariants.{Parser, Lexer}
 use Rattle.g4_checks.specs.Predicates.{IsMissing, NamesMissing, Reads}
@@ -54,3 +55,11 @@ KindIsUnknownPredicate Lexer a place = ⊥
 
 abbrev pub IsUnknownPredicate : AtomIn → Place → Type 0
 IsUnknownPredicate a place = KindIsUnknownPredicate a.kind a.atom.kind place
+
+-- the text of an atom that is a predicate of a parser rule
+abbrev pub kind_predicate_text : RuleKind → AtomKind → List (List ℕ)
+kind_predicate_text Parser a = predicate_text a
+kind_predicate_text Lexer a = []
+
+abbrev pub parser_predicate_text : AtomIn → List (List ℕ)
+parser_predicate_text a = kind_predicate_text a.kind a.atom.kind

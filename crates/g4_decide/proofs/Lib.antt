@@ -1,3 +1,3 @@
 mod Telling
-mod Choosing
+pub mod Choosing
 mod Onward

@@ -24,8 +24,8 @@ use Rattle.g4_tokens.specs.declared.token.Token.{Token}
 use Rattle.g4_tokens.specs.TokenList.{word_of}
 use Rattle.g4_decide.specs.Asked.{HaveCodes}
 
-module _ (p : Plan Tables) (plan : IsPlan p) (d level from at row : ℕ) (tokens : List Token) (old new : View (List Config))
-    (walks : Walks p d level (drop from (word_of tokens)) old new (NoEdge row at)) (symbols : All IsSymbol (word_of tokens)) where
+module _ (p : Plan Tables) (plan : IsPlan p) (d condition from at row : ℕ) (tokens : List Token) (old new : View (List Config))
+    (walks : Walks p d condition (drop from (word_of tokens)) old new (NoEdge row at)) (symbols : All IsSymbol (word_of tokens)) where
   abbrev word : List ℕ
   word = drop from (word_of tokens)
 
@@ -55,25 +55,25 @@ module _ (p : Plan Tables) (plan : IsPlan p) (d level from at row : ℕ) (tokens
   rest_symbols = subst (All IsSymbol) (sym (word_from (from + at) tokens)) (All-drop IsSymbol (from + at) (word_of tokens) symbols)
 
   pub is_row : IsRow content (Contains content)
-  is_row = stopped_row p d level walks.start at word old content before walks.is_start (All-drop IsSymbol from (word_of tokens) symbols)
+  is_row = stopped_row p d condition walks.start at word old content before walks.is_start (All-drop IsSymbol from (word_of tokens) symbols)
       walks.walked.1.3
 
   pub reached : (c : Config) → Contains content c → IsReached p.net.net c
-  reached = stopped_reached p d level walks.start at word old content before walks.is_start
+  reached = stopped_reached p d condition walks.start at word old content before walks.is_start
       (All-drop IsSymbol from (word_of tokens) symbols) walks.walked.1.3
 
   -- what SLL says from there on makes its path, with the words of the walk
   pub says_all : (v : Verdict) (looked : List Looked)
       → SllFrom p.net.net (Contains content) (word_of (from_on (from + at) tokens)) at v looked
-      → ArePassed p.net d level word v (before ++ cells_of content (map (stored_entry p.net) looked))
+      → ArePassed p.net d condition word v (before ++ cells_of content (map (stored_entry p.net) looked))
   says_all v looked says =
-      stopped_says p d level walks.start at word old content before walks.is_start (All-drop IsSymbol from (word_of tokens) symbols)
+      stopped_says p d condition walks.start at word old content before walks.is_start (All-drop IsSymbol from (word_of tokens) symbols)
       walks.walked.1.3 (let lt = walks.walked.1.2 in omega arith) v looked
       (subst (λ (w : List ℕ). SllFrom p.net.net (Contains content) w at v looked) rest_is says)
 
   pub codes : HaveCodes p.net.net content (word_of (from_on (from + at) tokens)) at
   codes v looked says =
-      let passed = says_all v looked says in has_code p plan d (AllowedAt p.net.net d level) word v passed.path passed.sll
+      let passed = says_all v looked says in has_code p plan d (AllowedAt p.net.net d condition) word v passed.path passed.sll
 
   -- of its words those of the walk are seen
   pub seen_or_new : (cells : List (Fact (List Config))) (f : Fact (List Config)) → Among f (before ++ cells)

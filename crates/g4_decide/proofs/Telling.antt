@@ -30,10 +30,10 @@ use Rattle.g4_learned.specs.Tables.{Tables}
 use Rattle.g4_learned.specs.Walks.{Loads, Walks}
 use Rattle.g4_decide.specs.Asked.{Asked, HasSeen, KeepsToPath, Told}
 
-module _ (p : Plan Tables) (d level : ℕ) (word : List ℕ) where
+module _ (p : Plan Tables) (d condition : ℕ) (word : List ℕ) where
   -- a walk keeps what there was
-  pub walk_keeps : (old new : Told) (walk : Walk) → Walks p d level word old.0 new.0 walk → walks.Keeps old.0 new.0
-      → KeepsToPath p d level word old new
+  pub walk_keeps : (old new : Told) (walk : Walk) → Walks p d condition word old.0 new.0 walk → walks.Keeps old.0 new.0
+      → KeepsToPath p d condition word old new
   walk_keeps old new walk walked kept =
       record {
         seen = walked.kept;
@@ -46,8 +46,8 @@ module _ (p : Plan Tables) (d level : ℕ) (word : List ℕ) where
       }
 
   -- one that ended has asked
-  pub walk_asks : (old new : Told) (v : said.Verdict) (k : ℕ) → Walks p d level word old.0 new.0 (Ended v k) → new.1 ≡ old.1
-      → KnowsRows p.rows new → Asked p d level word (verdict_of v) old new
+  pub walk_asks : (old new : Told) (v : said.Verdict) (k : ℕ) → Walks p d condition word old.0 new.0 (Ended v k) → new.1 ≡ old.1
+      → KnowsRows p.rows new → Asked p d condition word (verdict_of v) old new
   walk_asks old new v k walked same rows =
       let (facts, passed, saw, count) = walked.verdict in
       record {
@@ -61,33 +61,34 @@ module _ (p : Plan Tables) (d level : ℕ) (word : List ℕ) where
       }
 
   -- and where all was seen it ends, with as many loads
-  pub walk_loads : (old new : Told) (before after : ℕ) (walk : Walk) → Walks p d level word old.0 new.0 walk → Loads before after walk
-      → (v : Verdict) (facts : List (Fact (List Config))) → HasSeen p d level word old v facts → after ≡ before + length facts
+  pub walk_loads : (old new : Told) (before after : ℕ) (walk : Walk) → Walks p d condition word old.0 new.0 walk → Loads before after walk
+      → (v : Verdict) (facts : List (Fact (List Config))) → HasSeen p d condition word old v facts → after ≡ before + length facts
   walk_loads old new before after (Ended u k) walked loads v facts (passed, seen) =
       let came = (walked.learned v facts passed seen).1 in omega (arith, loads)
   walk_loads old new before after NoStart walked loads v facts (passed, seen) = absurd (walked.learned v facts passed seen)
   walk_loads old new before after (NoEdge row at) walked loads v facts (passed, seen) = absurd (walked.learned v facts passed seen)
 
-  pub never_no_start : (old new : Told) → Walks p d level word old.0 new.0 NoStart → (v : Verdict) (facts : List (Fact (List Config)))
-      → HasSeen p d level word old v facts → ⊥
+  pub never_no_start : (old new : Told) → Walks p d condition word old.0 new.0 NoStart → (v : Verdict) (facts : List (Fact (List Config)))
+      → HasSeen p d condition word old v facts → ⊥
   never_no_start old new walked v facts (passed, seen) = walked.learned v facts passed seen
 
-  pub never_no_edge : (old new : Told) (row at : ℕ) → Walks p d level word old.0 new.0 (NoEdge row at) → (v : Verdict)
-      (facts : List (Fact (List Config))) → HasSeen p d level word old v facts → ⊥
+  pub never_no_edge : (old new : Told) (row at : ℕ) → Walks p d condition word old.0 new.0 (NoEdge row at) → (v : Verdict)
+      (facts : List (Fact (List Config))) → HasSeen p d condition word old v facts → ⊥
   never_no_edge old new row at walked v facts (passed, seen) = walked.learned v facts passed seen
 
   -- Some of the words of SLL's path are learned, and the others were seen before.
-  module _ (plan : IsPlan p) (v : Verdict) (facts : List (Fact (List Config))) (passed : ArePassed p.net d level word v facts)
+  module _ (plan : IsPlan p) (v : Verdict) (facts : List (Fact (List Config))) (passed : ArePassed p.net d condition word v facts)
       (some : List (Fact (List Config))) (of_path : (f : Fact (List Config)) → Among f some → Among f facts) where
     -- what learning them leaves
-    learns_keeps : (old mid new : Told) → KeepsToPath p d level word old mid → Learns some mid.0 new.0 → KeepsToPath p d level word old new
+    learns_keeps : (old mid new : Told) → KeepsToPath p d condition word old mid → Learns some mid.0 new.0
+        → KeepsToPath p d condition word old new
     learns_keeps old mid new kept learns = record {
       seen = λ f seen. (learns.seen f).1 (inl (kept.seen f seen));
       within = λ u facts' other f seen. elim ((learns.seen f).0 seen) [
         | inl before ↦ kept.within u facts' other f before
         | inr now ↦ inr
             (subst (λ (gs : List (Fact (List Config))). Among f gs)
-            (one_passed p plan d level word v u facts facts' passed other).1 (of_path f now.0))
+            (one_passed p plan d condition word v u facts facts' passed other).1 (of_path f now.0))
       ];
       taught = λ f told. subst (λ (fs : List (Fact (List Config))). Among f fs) (sym learns.taught)
           (among_right f learns.stored mid.0.taught (kept.taught f told));
@@ -95,7 +96,7 @@ module _ (p : Plan Tables) (d level : ℕ) (word : List ℕ) where
           elim (among_either f learns.stored mid.0.taught (subst (λ (fs : List (Fact (List Config))). Among f fs) learns.taught told)) [
             | inl now ↦ inr
                 (subst (λ (gs : List (Fact (List Config))). Among f gs)
-                (one_passed p plan d level word v u facts facts' passed other).1 (of_path f (learns.stores f now).0))
+                (one_passed p plan d condition word v u facts facts' passed other).1 (of_path f (learns.stores f now).0))
             | inr before ↦ kept.teaches u facts' other f before
           ];
       known = λ t y known. learns.known_kept t y (kept.known t y known);
@@ -103,8 +104,8 @@ module _ (p : Plan Tables) (d level : ℕ) (word : List ℕ) where
       count = learns.count ∙ kept.count;
     }
 
-    pub learned_keeps : (old mid new : Told) (learned : Learned) → KeepsToPath p d level word old mid
-        → IsLearned p.rows some mid new learned → KeepsToPath p d level word old new
+    pub learned_keeps : (old mid new : Told) (learned : Learned) → KeepsToPath p d condition word old mid
+        → IsLearned p.rows some mid new learned → KeepsToPath p d condition word old new
     learned_keeps old mid new All kept (all, same) = learns_keeps old mid new kept all.learns
     learned_keeps old mid new Full kept (part, full) = learns_keeps old mid new kept part.learns
 
@@ -115,7 +116,7 @@ module _ (p : Plan Tables) (d level : ℕ) (word : List ℕ) where
     -- and it has asked
     pub learned_asks : (old mid new : Told) (learned : Learned)
         → ((f : Fact (List Config)) → Among f facts → Among f mid.0.seen ⊎ Among f some) → mid.1 ≡ old.1
-        → IsLearned p.rows some mid new learned → KnowsRows p.rows new → Asked p d level word v old new
+        → IsLearned p.rows some mid new learned → KnowsRows p.rows new → Asked p d condition word v old new
     learned_asks old mid new All all_of same (all, stays) rows = record {
       facts = facts;
       passed = passed;
@@ -145,8 +146,8 @@ module _ (p : Plan Tables) (d level : ℕ) (word : List ℕ) where
     }
 
   -- the words of a path that is stored are those of SLL's path
-  pub stored_passed : (path : Path) (v : Verdict) → Sll p.net.net d (AllowedAt p.net.net d level) word v path
-      → (q : stored.Path (List Config)) → IsStored p.net d level path q → ArePassed p.net d level word v (facts_of q)
+  pub stored_passed : (path : Path) (v : Verdict) → Sll p.net.net d (AllowedAt p.net.net d condition) word v path
+      → (q : stored.Path (List Config)) → IsStored p.net d condition path q → ArePassed p.net d condition word v (facts_of q)
   stored_passed path v sll q is = record {
     path = path;
     sll = sll;
@@ -158,10 +159,10 @@ module _ (p : Plan Tables) (d level : ℕ) (word : List ℕ) where
   }
 
 -- what SLL says of the tokens from a place on, in the network of the plan
-pub said_on : (net own : ParserNetwork) (d e level from : ℕ) (tokens : List Token) (v : Verdict) (path : Path) → net ≡ own → e ≡ d
-    → Sll net d (AllowedAt net d level) (word_of (from_on from tokens)) v path
-    → Sll own e (AllowedAt own e level) (drop from (word_of tokens)) v path
-said_on net own d e level from tokens v path same is sll =
-    subst (λ (w : List ℕ). Sll own e (AllowedAt own e level) w v path) (word_from from tokens)
-    (subst (λ (n : ParserNetwork). Sll n e (AllowedAt n e level) (word_of (from_on from tokens)) v path) same
-    (subst (λ (k : ℕ). Sll net k (AllowedAt net k level) (word_of (from_on from tokens)) v path) (sym is) sll))
+pub said_on : (net own : ParserNetwork) (d e condition from : ℕ) (tokens : List Token) (v : Verdict) (path : Path) → net ≡ own → e ≡ d
+    → Sll net d (AllowedAt net d condition) (word_of (from_on from tokens)) v path
+    → Sll own e (AllowedAt own e condition) (drop from (word_of tokens)) v path
+said_on net own d e condition from tokens v path same is sll =
+    subst (λ (w : List ℕ). Sll own e (AllowedAt own e condition) w v path) (word_from from tokens)
+    (subst (λ (n : ParserNetwork). Sll n e (AllowedAt n e condition) (word_of (from_on from tokens)) v path) same
+    (subst (λ (k : ℕ). Sll net k (AllowedAt net k condition) (word_of (from_on from tokens)) v path) (sym is) sll))

@@ -18,12 +18,12 @@ abbrev pub Told : Type 0
 Told = View (List Config) × Bool
 
 -- Nothing is lost, and no words are seen or taught but those of SLL's path at the decision.
-pub record KeepsToPath (p : Plan Tables) (d level : ℕ) (word : List ℕ) (old new : Told) : Type 0 where
+pub record KeepsToPath (p : Plan Tables) (d condition : ℕ) (word : List ℕ) (old new : Told) : Type 0 where
   pub seen : (f : Fact (List Config)) → Among f old.0.seen → Among f new.0.seen
-  pub within : (v : Verdict) (facts : List (Fact (List Config))) → ArePassed p.net d level word v facts
+  pub within : (v : Verdict) (facts : List (Fact (List Config))) → ArePassed p.net d condition word v facts
       → (f : Fact (List Config)) → Among f new.0.seen → Among f old.0.seen ⊎ Among f facts
   pub taught : (f : Fact (List Config)) → Among f old.0.taught → Among f new.0.taught
-  pub teaches : (v : Verdict) (facts : List (Fact (List Config))) → ArePassed p.net d level word v facts
+  pub teaches : (v : Verdict) (facts : List (Fact (List Config))) → ArePassed p.net d condition word v facts
       → (f : Fact (List Config)) → Among f new.0.taught → Among f old.0.taught ⊎ Among f facts
   pub known : (t : ℕ) (y : List Config) → Among (t, y) old.0.known → Among (t, y) new.0.known
   pub holds : new.0.holds ≡ old.0.holds
@@ -31,9 +31,9 @@ pub record KeepsToPath (p : Plan Tables) (d level : ℕ) (word : List ℕ) (old 
 
 -- Once SLL was asked, the words of its path are seen: all of them, or, where there was want of room, those whose rows are known. Then as
 -- many rows are known as there may be; and where the want of room is new, the path has another.
-pub record Asked (p : Plan Tables) (d level : ℕ) (word : List ℕ) (v : Verdict) (old new : Told) : Type 0 where
+pub record Asked (p : Plan Tables) (d condition : ℕ) (word : List ℕ) (v : Verdict) (old new : Told) : Type 0 where
   pub facts : List (Fact (List Config))
-  pub passed : ArePassed p.net d level word v facts
+  pub passed : ArePassed p.net d condition word v facts
   pub some : (f : Fact (List Config)) → Among f facts → Within (InKnown new.0.known) f → Among f new.0.seen
   pub whole : new.1 ≡ false → (f : Fact (List Config)) → Among f facts → Among f new.0.seen
   pub missing : old.1 ≡ false → new.1 ≡ true → (y : List Config) × HasRow facts y × (InKnown new.0.known y → ⊥)
@@ -48,8 +48,8 @@ NeedsNoStack (sensitive k) = ⊥
 
 -- the pass has seen each word of SLL's path, which has this verdict and these words
 abbrev pub HasSeen : Plan Tables → ℕ → ℕ → List ℕ → Told → Verdict → List (Fact (List Config)) → Type 0
-HasSeen p d level word old v facts =
-    ArePassed p.net d level word v facts × ((f : Fact (List Config)) → Among f facts → Among f old.0.seen)
+HasSeen p d condition word old v facts =
+    ArePassed p.net d condition word v facts × ((f : Fact (List Config)) → Among f facts → Among f old.0.seen)
 
 -- what SLL says of the word from the row on, after so many symbols, has a code
 abbrev pub HaveCodes : ParserNetwork → List Config → List ℕ → ℕ → Type 0

@@ -2,25 +2,39 @@
 use Rattle.std.specs.Prelude.{◌≡◌, ℕ, ◌+◌, List, Result, Ok, Err}
 use Rattle.g4_guards.specs.Choosing.{Chooses}
 use Rattle.g4_guards.specs.Levels.{AllowedAt}
+use Rattle.g4_net.specs.Allowed.{Allows}
+use Rattle.g4_net.specs.declared.allowed.Allowed.{Allowed}
 use Rattle.g4_net.specs.Configurations.{above_bottom}
 use Rattle.g4_net.specs.Network.{ParserNetwork, IsFirst}
 use Rattle.g4_net.specs.Prediction.{Choice, chosen, no_viable}
 use Rattle.g4_decide.specs.declared.fault.DecideFault.{DecideFault}
 use Rattle.g4_decide.specs.declared.fault.DecideFault.TheVariants.{NoViable, NoMemory}
 
--- the choice of a decision over the alternatives that may be taken at the level of the open rule
+-- why there is no alternative among these, the word beginning at this place of the token list
+abbrev pub IsFaultOver : ParserNetwork → ℕ → (ℕ → Type 0) → List ℕ → List ℕ → ℕ → DecideFault → Type 0
+IsFaultOver net d A returns w from (NoViable at) = (k : ℕ) × Chooses net d A (above_bottom returns) w (no_viable k) × (at ≡ from + k)
+IsFaultOver net d A returns w from NoMemory = Unit {0}
+
+-- the call answers with the choice over these alternatives, which is one of the decision's, or none, unless memory runs out
+abbrev pub IsChosenOver : ParserNetwork → ℕ → (ℕ → Type 0) → List ℕ → List ℕ → ℕ → Result ℕ DecideFault → Type 0
+IsChosenOver net d A returns w from (Ok i) = Chooses net d A (above_bottom returns) w (chosen i) × ((t : ℕ) × IsFirst net d i t)
+IsChosenOver net d A returns w from (Err fault) = IsFaultOver net d A returns w from fault
+
+-- the alternatives of the decision that are allowed
+abbrev pub AllowedFirsts : ParserNetwork → ℕ → Allowed → ℕ → Type 0
+AllowedFirsts net d allowed i = Allows allowed i × ((t : ℕ) × IsFirst net d i t)
+
+-- the choice of a decision over the alternatives that may be taken under the condition
 abbrev pub ChoosesAt : ParserNetwork → ℕ → ℕ → List ℕ → List ℕ → Choice → Type 0
-ChoosesAt net d level returns w c = Chooses net d (AllowedAt net d level) (above_bottom returns) w c
+ChoosesAt net d condition returns w c = Chooses net d (AllowedAt net d condition) (above_bottom returns) w c
 
--- why there is no alternative, the word beginning at this place of the token list
+-- why there is no alternative under the condition, the word beginning at this place of the token list
 abbrev pub IsFault : ParserNetwork → ℕ → ℕ → List ℕ → List ℕ → ℕ → DecideFault → Type 0
-IsFault net d level returns w from (NoViable at) = (k : ℕ) × ChoosesAt net d level returns w (no_viable k) × (at ≡ from + k)
-IsFault net d level returns w from NoMemory = Unit {0}
+IsFault net d condition returns w from fault = IsFaultOver net d (AllowedAt net d condition) returns w from fault
 
--- the call answers with the choice, which is one of the decision's alternatives, or none, unless memory runs out
+-- the same over the alternatives that may be taken under the condition
 abbrev pub IsChosen : ParserNetwork → ℕ → ℕ → List ℕ → List ℕ → ℕ → Result ℕ DecideFault → Type 0
-IsChosen net d level returns w from (Ok i) = ChoosesAt net d level returns w (chosen i) × ((t : ℕ) × IsFirst net d i t)
-IsChosen net d level returns w from (Err fault) = IsFault net d level returns w from fault
+IsChosen net d condition returns w from result = IsChosenOver net d (AllowedAt net d condition) returns w from result
 
 -- the call did not want for memory
 abbrev pub HadMemory : Result ℕ DecideFault → Type 0

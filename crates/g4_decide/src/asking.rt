@@ -2,10 +2,11 @@
 ghost use Rattle.std.specs.Prelude.{◌≡◌, ◌+◌, ◌<◌, ◌^◌, ℕ, All, Contains, IfOk, IsOk, List, OnErr, drop, length, map};
 ghost use Rattle.g4_classes.specs.Classes.{IsSymbol};
 ghost use Rattle.g4_decide.specs.Asked.{Asked, HasSeen, HaveCodes, KeepsToPath};
-ghost use Rattle.g4_guards.specs.Levels.{AllowedAt, IsDecision};
+ghost use Rattle.g4_guards.specs.Levels.{AllowedAt, IsCondition, IsDecision};
 ghost use Rattle.g4_net.specs.AddedRule.{IsReady};
 ghost use Rattle.g4_net.specs.Configurations.{Config, IsRow};
 ghost use Rattle.g4_learned.specs.Stored.{stored_entry};
+ghost use Rattle.g4_net.specs.Loops.{HasLoops};
 ghost use Rattle.g4_net.specs.Prediction.{Looked, Sll, SllFrom, Verdict as Said};
 ghost use Rattle.g4_predict.specs.Paths.{path_of, verdict_of};
 ghost use Rattle.g4_predict.specs.Reached.{IsReached};
@@ -29,22 +30,23 @@ use std::alloc::{AllocError, Global};
 use std::sync::Wait;
 use std::sync::ledger::Ledger;
 
-/// SLL's verdict at a decision in a rule that was called at this level, on these tokens, and its path.
+/// SLL's verdict at a decision under this condition, on these tokens, and its path.
 fn simulate_at(
     alloc: Global,
     net: &ParserNetwork,
     decision: u32,
-    level: u32,
+    condition: u32,
     tokens: &[Token],
 ) -> Result<(Verdict, Path), AllocError>
     requires ready { IsReady net.now }
+    requires loops { HasLoops net.now }
     requires ends { Contains (word_of tokens.now) end_of_list }
     requires few { length tokens.now < 2 ^ 32 }
     ensures decision { IfOk result (λ r. r.1.decision ≡ decision) }
-    ensures path { IfOk result (λ r. Sll net.now decision (AllowedAt net.now decision level) (word_of tokens.now) (verdict_of r.0)
+    ensures path { IfOk result (λ r. Sll net.now decision (AllowedAt net.now decision condition) (word_of tokens.now) (verdict_of r.0)
         (path_of r.1)) }
 {
-    let allowed = allowed_at(alloc, net, decision, level)?;
+    let allowed = allowed_at(alloc, net, decision, condition)?;
     let simulated = simulate(alloc, net, decision, &allowed, tokens)?;
     Ok(simulated)
 }
@@ -78,7 +80,7 @@ fn go_on<B: Home<DecisionNet>, R: Wait>(
     Ok(verdict)
 }
 
-/// SLL's verdict at a decision in a rule that was called at this level, on the tokens from a place on: that of a walk along what is
+/// SLL's verdict at a decision under this condition, on the tokens from a place on: that of a walk along what is
 /// learned, or else of a simulation from the row on to which the walk came, which is learned.
 ///
 /// # Errors
@@ -90,29 +92,30 @@ pub fn ask<B: Home<DecisionNet>, R: Wait, L: Ledger>(
     store: &Store<B>,
     pass: &mut Pass<B>,
     decision: u32,
-    level: u32,
+    condition: u32,
     tokens: &[Token],
     from: u32,
     steps: &mut Steps<L>,
 ) -> Result<Verdict, AllocError>
     requires decision { IsDecision B.plan.net.net decision }
+    requires condition { IsCondition B.plan.net.net decision condition }
     requires symbols { All IsSymbol (word_of tokens.now) }
     requires ends { EndsInEnd (word_of tokens.now) }
     requires more { from < length tokens.now }
     requires few { length tokens.now < 2 ^ 32 }
-    ensures keeps { KeepsToPath B.plan decision level (drop from (word_of tokens.now)) pass.old pass.new }
-    ensures asked { IfOk result (λ v. Asked B.plan decision level (drop from (word_of tokens.now)) (verdict_of v) pass.old pass.new) }
+    ensures keeps { KeepsToPath B.plan decision condition (drop from (word_of tokens.now)) pass.old pass.new }
+    ensures asked { IfOk result (λ v. Asked B.plan decision condition (drop from (word_of tokens.now)) (verdict_of v) pass.old pass.new) }
     ensures walked { (v : Said) (facts : List (Fact (List Config)))
-        → HasSeen B.plan decision level (drop from (word_of tokens.now)) pass.old v facts
+        → HasSeen B.plan decision condition (drop from (word_of tokens.now)) pass.old v facts
         → IsOk result × (steps.new ≡ steps.old + length facts) }
 {
     let net = store.net();
-    match store.walk(pass, decision, level, tokens, from, steps) {
+    match store.walk(pass, decision, condition, tokens, from, steps) {
         Walk::Ended(verdict, _) => Ok(verdict),
         Walk::NoStart => {
             let rest = &tokens[from as usize..];
-            let (verdict, path) = simulate_at(alloc, net.net(), decision, level, rest)?;
-            store.learn(rt, alloc, pass, level, path)?;
+            let (verdict, path) = simulate_at(alloc, net.net(), decision, condition, rest)?;
+            store.learn(rt, alloc, pass, condition, path)?;
             Ok(verdict)
         }
         Walk::NoEdge { row, at } => {

@@ -1,9 +1,9 @@
-// The alternative that prediction chooses at a decision.
+// The alternative that prediction chooses at a decision under a condition.
 ghost use Rattle.std.specs.Prelude.{◌≡◌, ◌+◌, ◌<◌, ◌^◌, All, Contains, IfOk, List, drop, length, reverse};
 ghost use Rattle.g4_classes.specs.Classes.{IsSymbol};
 ghost use Rattle.g4_decide.specs.Asked.{Asked, HasSeen, KeepsToPath, NeedsNoStack};
 ghost use Rattle.g4_decide.specs.Deciding.{HadMemory, IsChosen};
-ghost use Rattle.g4_guards.specs.Levels.{AllowedAt, IsDecision};
+ghost use Rattle.g4_guards.specs.Levels.{AllowedAt, IsCondition, IsDecision};
 ghost use Rattle.g4_net.specs.AddedRule.{IsReady};
 ghost use Rattle.g4_net.specs.Configurations.{Config, above_bottom};
 ghost use Rattle.g4_net.specs.Prediction.{Full, Verdict as Said};
@@ -25,7 +25,7 @@ use std::alloc::Global;
 use std::sync::Wait;
 use std::sync::ledger::Ledger;
 
-/// The alternative, counted from 1, that prediction chooses at a decision in a rule that was called at this level, with the return
+/// The alternative, counted from 1, that prediction chooses at a decision under this condition, with the return
 /// states of the parser's stack, newest last, on the tokens from a place on: SLL's answer, by what is learned, or that of full stacks
 /// where SLL says that the stack matters. It is the least alternative that may be taken with which all of the tokens can be read, if
 /// there is one.
@@ -40,33 +40,36 @@ pub fn decide<B: Home<DecisionNet>, R: Wait, L: Ledger>(
     pass: &mut Pass<B>,
     memory: &mut Memory<B>,
     decision: u32,
-    level: u32,
+    condition: u32,
     returns: &[u32],
     tokens: &[Token],
     from: u32,
     steps: &mut Steps<L>,
 ) -> Result<u32, DecideFault>
     requires decision { IsDecision B.plan.net.net decision }
+    requires condition { IsCondition B.plan.net.net decision condition }
     requires proper { IsProper B.plan.net.net decision (reverse returns.now) }
     requires symbols { All IsSymbol (word_of tokens.now) }
     requires ends { EndsInEnd (word_of tokens.now) }
     requires more { from < length tokens.now }
     requires few { length tokens.now < 2 ^ 32 }
-    ensures chosen { IsChosen B.plan.net.net decision level (reverse returns.now) (drop from (word_of tokens.now)) from result }
-    ensures keeps { KeepsToPath B.plan decision level (drop from (word_of tokens.now)) pass.old pass.new }
+    ensures chosen { IsChosen B.plan.net.net decision condition (reverse returns.now) (drop from (word_of tokens.now)) from result }
+    ensures keeps { KeepsToPath B.plan decision condition (drop from (word_of tokens.now)) pass.old pass.new }
     ensures asked { HadMemory result
-        → (v : Said) × Asked B.plan decision level (drop from (word_of tokens.now)) v pass.old pass.new }
+        → (v : Said) × Asked B.plan decision condition (drop from (word_of tokens.now)) v pass.old pass.new }
     ensures walked { (v : Said) (facts : List (Fact (List Config)))
-        → HasSeen B.plan decision level (drop from (word_of tokens.now)) pass.old v facts
+        → HasSeen B.plan decision condition (drop from (word_of tokens.now)) pass.old v facts
         → (steps.new ≡ steps.old + length facts) × (NeedsNoStack v → HadMemory result) }
 {
     let net = store.net();
-    match ask(rt, alloc, store, pass, decision, level, tokens, from, steps)? {
+    match ask(
+        rt, alloc, store, pass, decision, condition, tokens, from, steps,
+    )? {
         Verdict::Answer(alternative) => Ok(alternative),
         Verdict::ErrorAt(k) => Err(DecideFault::NoViable { at: from + k }),
         Verdict::Sensitive(_) => {
             let rest = &tokens[from as usize..];
-            match memory.settle(alloc, net.net(), decision, level, returns, rest)? {
+            match memory.settle(alloc, net.net(), decision, condition, returns, rest)? {
                 Settled::Chosen(alternative) => Ok(alternative),
                 Settled::NoViable(k) => Err(DecideFault::NoViable { at: from + k }),
             }

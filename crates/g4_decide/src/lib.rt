@@ -3,9 +3,11 @@
 #![tactic(auto)]
 
 mod asking;
+mod by_stack;
 mod deciding;
 mod fault;
 
 pub use asking::ask;
+pub use by_stack::decide_by_stack;
 pub use deciding::decide;
 pub use fault::DecideFault;

@@ -65,11 +65,12 @@ pub loaded_same : (m : Frames) (from : ℕ) (e : Frame) → slice_get m.sets.ite
 loaded_same m from e at S is = subst (λ (o : Option Frame). AreSame S (Contains (row_by o))) (sym at)
     (same_back (Contains e.set) S (row_same e.set S is))
 
--- the start set over the alternatives that a level allows
-pub start_at : (net : ParserNetwork) (d level : ℕ) (allowed : Allowed) (C : Config → Type 0) → AreAllowedAt net d level (Allows allowed)
-    → AreSame C (FramedStart net d (Allows allowed)) → AreSame C (FramedStart net d (AllowedAt net d level))
-start_at net d level allowed C are same =
-    same_then C (FramedStart net d (Allows allowed)) (FramedStart net d (AllowedAt net d level)) same
+-- the start set over the alternatives that a condition allows
+pub start_at : (net : ParserNetwork) (d condition : ℕ) (allowed : Allowed) (C : Config → Type 0)
+    → AreAllowedAt net d condition (Allows allowed)
+    → AreSame C (FramedStart net d (Allows allowed)) → AreSame C (FramedStart net d (AllowedAt net d condition))
+start_at net d condition allowed C are same =
+    same_then C (FramedStart net d (Allows allowed)) (FramedStart net d (AllowedAt net d condition)) same
     (λ c. (
       (λ (x, (may, first, is), reaches, held). (x, ((are x.alt x.state first).0 may, first, is), reaches, held)),
       λ (x, (may, first, is), reaches, held). (x, ((are x.alt x.state first).1 may, first, is), reaches, held),

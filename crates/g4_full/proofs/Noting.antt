@@ -111,7 +111,7 @@ module _ (old new : Frames) (keeps : KeepsSets old new) where
       sets = right;
       starts = noted_same (IsStart net new) old.starts.entries new.starts.entries tables.starts
           (noted_weaker (IsStart net old) (IsStart net new) old.starts.entries
-          (λ d level n is. set_kept n (FramedStart net d (AllowedAt net d level)) is) sound.starts);
+          (λ d condition n is. set_kept n (FramedStart net d (AllowedAt net d condition)) is) sound.starts);
       symbols = noted_same (IsNext net new) old.symbols.entries new.symbols.entries tables.symbols
           (noted_weaker (IsNext net old) (IsNext net new) old.symbols.entries
           (λ from a n is. (number_kept from is.0, after_kept (λ row. FramedNext net (Contains row) a) from n is.0 is.1)) sound.symbols);

@@ -122,9 +122,9 @@ module _ (net : ParserNetwork) where
         same low
 
     -- the start set
-    pub start_is : (d level n : ℕ) → number_at m.starts.entries (d, level) ≡ Some n
-        → AreSame (SetOf m n) (FramedStart net d (AllowedAt net d level))
-    start_is d level n noted = (sound.starts d level n noted).1
+    pub start_is : (d condition n : ℕ) → number_at m.starts.entries (d, condition) ≡ Some n
+        → AreSame (SetOf m n) (FramedStart net d (AllowedAt net d condition))
+    start_is d condition n noted = (sound.starts d condition n noted).1
 
     -- and the set after what is kept of another
     pub next_is : (from a n : ℕ) → number_at m.symbols.entries (from, a) ≡ Some n

@@ -52,9 +52,9 @@ IsLive m l = IfSome l.set (λ s. IsSet m l.number (Holds s))
 abbrev pub AreNoted : Numbers → (ℕ → ℕ → ℕ → Type 0) → Type 0
 AreNoted table IsRightFor = (x y n : ℕ) → number_at table (x, y) ≡ Some n → IsRightFor x y n
 
--- the number is that of the start set of the decision at the level
+-- the number is that of the start set of the decision under the condition
 abbrev pub IsStart : ParserNetwork → Frames → ℕ → ℕ → ℕ → Type 0
-IsStart net m d level n = IsSet m n (FramedStart net d (AllowedAt net d level))
+IsStart net m d condition n = IsSet m n (FramedStart net d (AllowedAt net d condition))
 
 -- the number is that of the set after a set and a symbol
 abbrev pub IsNext : ParserNetwork → Frames → ℕ → ℕ → ℕ → Type 0
@@ -91,6 +91,6 @@ pub record KeepsSets (old new : Frames) : Type 0 where
 
 -- the step can be made: there is the set from which it is, and the return state is one of the network
 abbrev pub CanBeMade : ParserNetwork → Frames → Step → Type 0
-CanBeMade net m (steps.Start d level) = Unit {0}
+CanBeMade net m (steps.Start d condition) = Unit {0}
 CanBeMade net m (steps.Symbol from a) = IsNumber m from
 CanBeMade net m (steps.Return from t) = IsNumber m from × (t < length net.states)

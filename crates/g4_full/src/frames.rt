@@ -40,7 +40,7 @@ pub(crate) struct Frame {
 #[derive(Drop)]
 pub(crate) struct Frames {
     pub sets: Vec<Frame>,
-    /// The start set of a decision at a level.
+    /// The start set of a decision under a condition.
     pub starts: HashMap<(u32, u32), u32>,
     /// The set after a set and a symbol.
     pub symbols: HashMap<(u32, u32), u32>,

@@ -4,6 +4,7 @@ ghost use Rattle.g4_tokens.specs.Symbols.{end_of_list};
 ghost use Rattle.g4_net.specs.AddedRule.{IsReady};
 ghost use Rattle.g4_net.specs.Allowed.{Allows};
 ghost use Rattle.g4_net.specs.Configurations.{above_bottom};
+ghost use Rattle.g4_net.specs.Loops.{HasLoops};
 ghost use Rattle.g4_net.specs.Prediction.{Full};
 ghost use Rattle.g4_net.specs.Proper.{IsProper};
 ghost use Rattle.g4_tokens.specs.TokenList.{word_of};
@@ -29,7 +30,10 @@ pub enum Settled {
 
 /// The choice of a decision, over the allowed alternatives and with the return states of the parser's stack, newest last, on the
 /// tokens from it on.
-fn decide_full(
+///
+/// # Errors
+/// No memory.
+pub fn settle_over(
     alloc: Global,
     net: &ParserNetwork,
     decision: u32,
@@ -57,24 +61,25 @@ fn decide_full(
     unreachable!()
 }
 
-/// What full stacks settle at a decision in a rule that was called at this level, with the return states of the parser's stack, newest
+/// What full stacks settle at a decision under this condition, with the return states of the parser's stack, newest
 /// last, on the tokens from it on.
 pub(crate) fn settle_at(
     alloc: Global,
     net: &ParserNetwork,
     decision: u32,
-    level: u32,
+    condition: u32,
     returns: &[u32],
     tokens: &[Token],
 ) -> Result<Settled, AllocError>
     requires ready { IsReady net.now }
+    requires loops { HasLoops net.now }
     requires proper { IsProper net.now decision (reverse returns.now) }
     requires ends { Contains (word_of tokens.now) end_of_list }
     requires few { length tokens.now < 2 ^ 32 }
-    ensures { IfOk result (λ settled. Full net.now decision (AllowedAt net.now decision level) (above_bottom (reverse returns.now))
+    ensures { IfOk result (λ settled. Full net.now decision (AllowedAt net.now decision condition) (above_bottom (reverse returns.now))
         (word_of tokens.now) (choice_of settled)) }
 {
-    let allowed = allowed_at(alloc, net, decision, level)?;
-    let settled = decide_full(alloc, net, decision, &allowed, returns, tokens)?;
+    let allowed = allowed_at(alloc, net, decision, condition)?;
+    let settled = settle_over(alloc, net, decision, &allowed, returns, tokens)?;
     Ok(settled)
 }

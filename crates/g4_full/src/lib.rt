@@ -1,4 +1,4 @@
-// Prediction with full stacks: the answer at a decision with the parser's own stack, over the alternatives that a level allows. That of
+// Prediction with full stacks: the answer at a decision with the parser's own stack, over the alternatives that a condition allows. That of
 // full stacks is that over single stacks, which is the least allowed alternative that fits. Steps of framed sets are remembered.
 #![tactic(auto)]
 
@@ -12,5 +12,5 @@ mod make;
 mod memory;
 mod shown;
 
-pub use full::Settled;
+pub use full::{Settled, settle_over};
 pub use memory::Memory;

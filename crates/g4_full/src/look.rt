@@ -23,8 +23,8 @@ use g4_tokens::Token;
 /// A step between framed sets.
 #[derive(Clone, Copy)]
 pub(crate) enum Step {
-    /// To the start set of a decision at a level.
-    Start { decision: u32, level: u32 },
+    /// To the start set of a decision under a condition.
+    Start { decision: u32, condition: u32 },
     /// From a set by a symbol.
     Symbol { from: u32, symbol: u32 },
     /// From a set by a return state, which is put in the place of the hole.
@@ -47,14 +47,17 @@ impl Frames {
         &self.sets[number as usize]
     }
 
-    /// The start set of a decision at a level, or else the step to it.
-    fn start(&self, decision: u32, level: u32) -> Result<u32, Step>
-        ensures { MatchResult result (λ n. number_at self.now.starts.entries (decision, level) ≡ Some n)
-            (λ step. step ≡ ByStart decision level) }
+    /// The start set of a decision under a condition, or else the step to it.
+    fn start(&self, decision: u32, condition: u32) -> Result<u32, Step>
+        ensures { MatchResult result (λ n. number_at self.now.starts.entries (decision, condition) ≡ Some n)
+            (λ step. step ≡ ByStart decision condition) }
     {
-        match self.starts.get(&(decision, level)) {
+        match self.starts.get(&(decision, condition)) {
             Some(number) => Ok(*number),
-            None => Err(Step::Start { decision, level }),
+            None => Err(Step::Start {
+                decision,
+                condition,
+            }),
         }
     }
 
@@ -109,7 +112,7 @@ impl Frames {
         Ok(Spot { set, below })
     }
 
-    /// What full stacks settle at a decision in a rule that was called at this level, with the return states of the parser's stack,
+    /// What full stacks settle at a decision under this condition, with the return states of the parser's stack,
     /// newest last, on the tokens from it on, as far as steps are remembered.
     ///
     /// # Errors
@@ -117,7 +120,7 @@ impl Frames {
     pub fn look<B: Home<DecisionNet>>(
         &self,
         decision: u32,
-        level: u32,
+        condition: u32,
         returns: &[u32],
         tokens: &[Token],
     ) -> Result<Settled, Step>
@@ -126,11 +129,11 @@ impl Frames {
         requires proper { IsProper B.plan.net.net decision (reverse returns.now) }
         requires ends { Contains (word_of tokens.now) end_of_list }
         requires few { length tokens.now < 2 ^ 32 }
-        ensures settled { IfOk result (λ settled. Full B.plan.net.net decision (AllowedAt B.plan.net.net decision level)
+        ensures settled { IfOk result (λ settled. Full B.plan.net.net decision (AllowedAt B.plan.net.net decision condition)
             (above_bottom (reverse returns.now)) (word_of tokens.now) (choice_of settled)) }
         ensures missing { IfErr result (CanBeMade B.plan.net.net self.now) }
     {
-        let start = self.start(decision, level)?;
+        let start = self.start(decision, condition)?;
         let mut spot = self.go_down::<B>(start, returns)?;
         for (k, token) in tokens.iter().enumerate() {
             let next = self.after(spot.set, token.symbol)?;

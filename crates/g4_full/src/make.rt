@@ -8,6 +8,7 @@ ghost use Rattle.g4_full.specs.declared.frames.TheConstants.{MOST_SETS};
 ghost use Rattle.g4_net.specs.Configurations.{Config, IsRow, IsWithin};
 ghost use Rattle.g4_net.specs.declared.network.TheConstants.{MOST_STATES};
 ghost use Rattle.g4_net.specs.Leads.{WellFormed};
+ghost use Rattle.g4_net.specs.Loops.{HasLoops};
 
 use crate::ask::ask;
 use crate::frames::{Frame, Frames};
@@ -109,25 +110,26 @@ impl Frames {
         }
     }
 
-    /// Makes the start set of a decision at a level.
+    /// Makes the start set of a decision under a condition.
     fn make_start(
         &mut self,
         alloc: Global,
         net: &ParserNetwork,
         decision: u32,
-        level: u32,
+        condition: u32,
     ) -> Result<Live, AllocError>
         requires well_formed { WellFormed net.now }
+        requires loops { HasLoops net.now }
         requires few { length net.now.states ≤ MOST_STATES }
         requires sound { IsSound net.now self.old }
         requires room { length self.old.sets.items < MOST_SETS }
         ensures sound { IsSound net.now self.new }
         ensures live { IfOk result (IsLive self.new) }
     {
-        let allowed = allowed_at(alloc, net, decision, level)?;
+        let allowed = allowed_at(alloc, net, decision, condition)?;
         let start = framed_start(alloc, net, decision, &allowed)?;
         let made = self.number_of(alloc, net, start, 0)?;
-        self.starts.insert((decision, level), made.number)?;
+        self.starts.insert((decision, condition), made.number)?;
         Ok(made)
     }
 
@@ -194,6 +196,7 @@ impl Frames {
         live: Live,
     ) -> Result<Live, AllocError>
         requires well_formed { WellFormed net.now }
+        requires loops { HasLoops net.now }
         requires few { length net.now.states ≤ MOST_STATES }
         requires sound { IsSound net.now self.old }
         requires step { CanBeMade net.now self.old step }
@@ -206,7 +209,10 @@ impl Frames {
             return Ok(Live::none());
         }
         match step {
-            Step::Start { decision, level } => self.make_start(alloc, net, decision, level),
+            Step::Start {
+                decision,
+                condition,
+            } => self.make_start(alloc, net, decision, condition),
             Step::Symbol { from, symbol } => self.make_next(alloc, net, from, symbol, live),
             Step::Return { from, state } => self.make_lowered(alloc, net, from, state, live),
         }

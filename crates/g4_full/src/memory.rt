@@ -4,6 +4,7 @@ ghost use Rattle.g4_full.specs.Settled.{choice_of};
 ghost use Rattle.g4_guards.specs.Levels.{AllowedAt};
 ghost use Rattle.g4_net.specs.AddedRule.{IsReady};
 ghost use Rattle.g4_net.specs.Configurations.{above_bottom};
+ghost use Rattle.g4_net.specs.Loops.{HasLoops};
 ghost use Rattle.g4_net.specs.Prediction.{Full};
 ghost use Rattle.g4_net.specs.Proper.{IsProper};
 ghost use Rattle.g4_tokens.specs.Symbols.{end_of_list};
@@ -50,7 +51,7 @@ impl<B: Home<DecisionNet>> Memory<B> {
         }
     }
 
-    /// What full stacks settle at a decision in a rule that was called at this level, with the return states of the parser's stack,
+    /// What full stacks settle at a decision under this condition, with the return states of the parser's stack,
     /// newest last, on the tokens from it on. A question all of whose steps are remembered takes no memory.
     ///
     /// # Errors
@@ -60,26 +61,27 @@ impl<B: Home<DecisionNet>> Memory<B> {
         alloc: Global,
         net: &ParserNetwork,
         decision: u32,
-        level: u32,
+        condition: u32,
         returns: &[u32],
         tokens: &[Token],
     ) -> Result<Settled, AllocError>
         requires own { net.now ≡ B.plan.net.net }
         requires ready { IsReady net.now }
+        requires loops { HasLoops net.now }
         requires proper { IsProper net.now decision (reverse returns.now) }
         requires ends { Contains (word_of tokens.now) end_of_list }
         requires few { length tokens.now < 2 ^ 32 }
-        ensures { IfOk result (λ settled. Full net.now decision (AllowedAt net.now decision level) (above_bottom (reverse returns.now))
+        ensures { IfOk result (λ settled. Full net.now decision (AllowedAt net.now decision condition) (above_bottom (reverse returns.now))
             (word_of tokens.now) (choice_of settled)) }
     {
         let mut live = Live::none();
         for _ in 0..MOST_MADE {
-            match self.frames.look::<B>(decision, level, returns, tokens) {
+            match self.frames.look::<B>(decision, condition, returns, tokens) {
                 Ok(settled) => return Ok(settled),
                 Err(step) => live = self.frames.make(alloc, net, step, live)?,
             }
         }
-        let settled = settle_at(alloc, net, decision, level, returns, tokens)?;
+        let settled = settle_at(alloc, net, decision, condition, returns, tokens)?;
         Ok(settled)
     }
 }

@@ -20,11 +20,11 @@ StepRule = ParserRule (Step (List ℕ))
 abbrev pub by_number : List StepRule → List (Alternatives (Step (List ℕ)))
 by_number rules = none ∷ map alternatives_of rules
 
--- a step that a rule has as it is written: it does not take END, calls at level 0, and so far is no predicate
+-- a step that a rule has as it is written: it does not take END, and calls at level 0
 abbrev pub IsPlain : Step (List ℕ) → Type 0
 IsPlain (Edge set) = Contains set end_of_list → ⊥
 IsPlain (Call rule level) = level ≡ 0
-IsPlain (Predicate k) = ⊥
+IsPlain (Predicate k) = Unit {0}
 IsPlain (Level q) = ⊥
 IsPlain Action = Unit {0}
 IsPlain Empty = ⊥
@@ -33,10 +33,19 @@ IsPlain Empty = ⊥
 abbrev pub IsPlainLaid : Step (List ℕ) → Type 0
 IsPlainLaid (Edge set) = Contains set end_of_list → ⊥
 IsPlainLaid (Call rule level) = Unit {0}
-IsPlainLaid (Predicate k) = ⊥
+IsPlainLaid (Predicate k) = Unit {0}
 IsPlainLaid (Level q) = Unit {0}
 IsPlainLaid Action = Unit {0}
 IsPlainLaid Empty = Unit {0}
+
+-- the step is no predicate
+abbrev pub IsNoPredicate : Step (List ℕ) → Type 0
+IsNoPredicate (Edge set) = Unit {0}
+IsNoPredicate (Call rule level) = Unit {0}
+IsNoPredicate (Predicate k) = ⊥
+IsNoPredicate (Level q) = Unit {0}
+IsNoPredicate Action = Unit {0}
+IsNoPredicate Empty = Unit {0}
 
 -- each step of the rule is so
 abbrev pub RuleIsPlain : StepRule → Type 0
@@ -44,6 +53,14 @@ RuleIsPlain rule = All IsPlain (atoms_of_either (alternatives_of rule))
 
 abbrev pub RuleIsPlainLaid : StepRule → Type 0
 RuleIsPlainLaid rule = All IsPlainLaid (atoms_of_either (alternatives_of rule))
+
+-- no step of the rule is a predicate
+abbrev pub RuleIsUnpredicated : StepRule → Type 0
+RuleIsUnpredicated rule = All IsNoPredicate (atoms_of_either (alternatives_of rule))
+
+-- no rule has a predicate
+abbrev pub AreUnpredicated : List StepRule → Type 0
+AreUnpredicated rules = All RuleIsUnpredicated rules
 
 -- each call of a rule is of one of `count` rules, numbered from 1
 abbrev pub CallsWithin : ℕ → StepRule → Type 0

@@ -1,6 +1,6 @@
 -- What the atoms of rules read as they are written, and which rules they call.
 use Rattle.std.specs.Prelude.{◌≡◌, ◌≤◌, ◌⊎◌, ℕ, List, [], ◌∷◌, Bool, true, false, Some, All, codes}
-use Rattle.std.specs.List.{position}
+use Rattle.std.specs.List.{flat_map, position}
 use Rattle.std.specs.Str.{bytes_eq}
 use Rattle.g4_chars.specs.CharSets.{Has}
 use Rattle.g4_source.specs.Elements.{atoms_of_either}
@@ -11,7 +11,7 @@ use Rattle.g4_source.specs.declared.atom.Literal.{Literal}
 use Rattle.g4_source.specs.declared.rule.Rule.{Rule}
 use Rattle.g4_source.specs.declared.rule.Rule.TheVariants.{Parser, Lexer}
 use Rattle.g4_source.specs.declared.rule.ParserRule.{ParserRule}
-use Rattle.g4_source.specs.Rules.{alternatives_of}
+use Rattle.g4_source.specs.Rules.{alternatives_of, parser_rules}
 use Rattle.g4_source.specs.declared.kind.RuleKind.{RuleKind}
 use Rattle.g4_source.specs.declared.kind.RuleKind.TheVariants as rule_kinds
 use Rattle.g4_source.specs.Atoms.{AtomIn, all_atoms, bodies_of}
@@ -142,6 +142,27 @@ ParserKindIsUntested (kinds.NotTokens tokens) = Unit {0}
 ParserKindIsUntested (kinds.NotCharacters set) = Unit {0}
 ParserKindIsUntested kinds.Action = Unit {0}
 ParserKindIsUntested (kinds.Predicate name) = ⊥
+
+-- the text of an atom that is a predicate, as it is written
+abbrev pub predicate_text : AtomKind → List (List ℕ)
+predicate_text (kinds.Predicate name) = name.text ∷ []
+predicate_text (kinds.Rule name) = []
+predicate_text (kinds.Token name) = []
+predicate_text (kinds.Literal literal) = []
+predicate_text (kinds.Range first last) = []
+predicate_text (kinds.Set set) = []
+predicate_text kinds.Any = []
+predicate_text (kinds.NotTokens tokens) = []
+predicate_text (kinds.NotCharacters set) = []
+predicate_text kinds.Action = []
+
+-- the texts of the predicates of a parser rule, in order
+abbrev pub rule_predicates : ParserRule Atom → List (List ℕ)
+rule_predicates rule = flat_map (λ a. predicate_text a.kind) (atoms_of_either (alternatives_of rule))
+
+-- the texts of the predicates of the parser rules of a grammar, in order
+abbrev pub predicate_texts : List Rule → List (List ℕ)
+predicate_texts rules = flat_map rule_predicates (parser_rules rules)
 
 -- no atom of the alternatives of a parser rule tests anything
 abbrev pub ParserRuleIsUntested : ParserRule Atom → Type 0

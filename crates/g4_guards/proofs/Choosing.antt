@@ -1,5 +1,5 @@
 -- A decision has at most one choice, and chooses the least alternative that fits, where some does.
-use Rattle.std.proofs.Common.{◌≡◌, ◌↔◌, ℕ, List, refl, arith}
+use Rattle.std.proofs.Common.{◌≡◌, ◌↔◌, ℕ, List, ap, refl, arith}
 use Rattle.g4_fits.specs.Fitting.{IsLeastThatFits, SomeFits}
 use Rattle.g4_fits.proofs.Arriving.{CalledAreOwn, LastIsOwn}
 use Rattle.g4_fits.proofs.Choosing.{full_chooses, sll_answers, sll_no_error}
@@ -10,7 +10,9 @@ use Rattle.g4_net.specs.Network.{ParserNetwork}
 use Rattle.g4_net.specs.Prediction.{Choice, Full, Path, Verdict, answer, chosen, error_at, sensitive}
 use Rattle.g4_net.specs.Proper.{IsProper}
 use Rattle.g4_guards.specs.Choosing.{Chooses, IsGuarded, by_answer, by_error, by_full, unguarded}
-use Rattle.g4_guards.specs.Levels.{AllowedAt}
+use Rattle.g4_guards.specs.Levels.{IsCondition, any_level, few_digits}
+use Rattle.g4_guards.specs.Tests.{HasTests, tests_among}
+use Rattle.g4_guards.specs.declared.tests.Tests.TheVariants.{Many}
 use Rattle.g4_guards.proofs.Same.{full_over, sll_over}
 
 pub chooses_least : (net : ParserNetwork) → LastIsOwn net → CalledAreOwn net → (d : ℕ) (A : ℕ → Type 0) (returns w : List ℕ)
@@ -52,13 +54,26 @@ module _ (net : ParserNetwork) (d : ℕ) (A : ℕ → Type 0) (z : Stack) (w : L
   one_chosen _ _ (unguarded b none g) (by_full k q c m t f) = absurd (none m)
   one_chosen _ _ (unguarded b none g) (unguarded c other f) = one_full_over b c g f
 
+-- a decision with many tests has no guards
+pub many_unguarded : (net : ParserNetwork) (d : ℕ) → HasTests net d Many → (A : ℕ → Type 0) → IsGuarded net d A → ⊥
+many_unguarded net d (some, (targets, (at, many))) A (n, may, is) = by may
+  where
+    by : IsCondition net d n → ⊥
+    by (any_level none) = some none
+    by (few_digits us more few less) =
+        let at' = few.0 in
+        let same : us ≡ targets = cc in
+        let e = ap (tests_among net) same in
+        let few' = few.1 in
+        omega (arith, few', many, e)
+
 -- a choice over alternatives is that over the same alternatives said in another way
 module _ (net : ParserNetwork) (d : ℕ) (A B : ℕ → Type 0) (same : (i : ℕ) → A i ↔ B i) where
   guarded_over : IsGuarded net d A → IsGuarded net d B
-  guarded_over (level, is) = (level, λ i. ((λ b. (is i).0 ((same i).1 b)), (λ a. (same i).0 ((is i).1 a))))
+  guarded_over (n, may, is) = (n, may, λ i. ((λ b. (is i).0 ((same i).1 b)), (λ a. (same i).0 ((is i).1 a))))
 
   guarded_back : IsGuarded net d B → IsGuarded net d A
-  guarded_back (level, is) = (level, λ i. ((λ a. (is i).0 ((same i).0 a)), (λ b. (same i).1 ((is i).1 b))))
+  guarded_back (n, may, is) = (n, may, λ i. ((λ a. (is i).0 ((same i).0 a)), (λ b. (same i).1 ((is i).1 b))))
 
   pub choice_over : (z : Stack) (w : List ℕ) (c : Choice) → Chooses net d A z w c → Chooses net d B z w c
   choice_over z w _ (by_answer i path g s) = by_answer i path (guarded_over g)

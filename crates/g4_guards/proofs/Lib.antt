@@ -1,3 +1,5 @@
 pub mod Choosing
+pub mod Digits
 mod Meeting
 pub mod Same
+mod Testing

@@ -3,11 +3,11 @@ use Rattle.std.specs.Prelude.{◌↔◌, ℕ, List}
 use Rattle.g4_net.specs.Configurations.{Stack}
 use Rattle.g4_net.specs.Network.{ParserNetwork}
 use Rattle.g4_net.specs.Prediction.{Choice, Full, Path, Sll, answer, chosen, error_at, no_viable, sensitive}
-use Rattle.g4_guards.specs.Levels.{AllowedAt}
+use Rattle.g4_guards.specs.Levels.{AllowedAt, IsCondition}
 
--- there is a guard for these alternatives: at some level exactly they may be taken
+-- there is a guard for these alternatives: under some condition of the decision exactly they may be taken
 abbrev pub IsGuarded : ParserNetwork → ℕ → (ℕ → Type 0) → Type 0
-IsGuarded net d A = (level : ℕ) × ((i : ℕ) → A i ↔ AllowedAt net d level i)
+IsGuarded net d A = (n : ℕ) × IsCondition net d n × ((i : ℕ) → A i ↔ AllowedAt net d n i)
 
 -- The choice of a decision, over the allowed alternatives and with the parser's stack, on the word that remains. Where these
 -- alternatives have a guard it goes by SLL over them, and by full stacks over them from its start where SLL says that the stack

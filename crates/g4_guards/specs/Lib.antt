@@ -1,4 +1,5 @@
--- Other crates cite Choosing, Levels; only this crate cites Meeting.
+-- Other crates cite Choosing, Levels, Tests; only this crate cites Meeting.
 pub mod Choosing
 pub mod Levels
 pub mod Meeting
+pub mod Tests

@@ -1,8 +1,11 @@
-// Which alternatives of a decision may be taken at the level of the open rule, what prediction chooses among them, and laws of that.
+// Which alternatives of a decision may be taken under a condition, what prediction chooses among them, and laws of that. A condition is the
+// level of the open rule, or the truth values of the tests with which the alternatives begin.
 #![tactic(auto)]
 
 mod allowed;
 mod law;
+mod tests;
 
 pub use allowed::allowed_at;
 pub use law::{chooses_what_fits, one_choice};
+pub use tests::{MOST_TESTED, Tests, count_tests, is_test_at, tests_of};

@@ -1,13 +1,13 @@
 -- The rules of a parser's network, the added rule among them, are such that the network is well formed.
 use Rattle.std.proofs.Common.{◌≡◌, ℕ, zero, suc, ◌+◌, ◌≤◌, inl, inr, List, [], ◌∷◌, length, map, Some, refl, subst, arith, slice_get, All}
 use Rattle.std.proofs.lemmas.List.{length-map}
-use Rattle.std.proofs.lemmas.List.Elements.{All-head, All-tail, All-weaker}
+use Rattle.std.proofs.lemmas.List.Elements.{All-head, All-tail}
 use Rattle.g4_source.specs.Elements.{atom, empty, then, Alternatives, none, only, atoms_of_either}
 use Rattle.g4_source.specs.Full.{EachIsFull}
 use Rattle.g4_source.specs.Rules.{alternatives_of}
 use Rattle.g4_source.specs.Blocks.{ParserRulesAreFull}
 use Rattle.g4_grammar.specs.declared.step.Step.{Step}
-use Rattle.g4_grammar.specs.declared.step.Step.TheVariants.{Edge, Call, Predicate, Level, Action, Empty}
+use Rattle.g4_grammar.specs.declared.step.Step.TheVariants.{Edge}
 use Rattle.g4_grammar.specs.LeftCalls.{OneNullable, this, another, one_more, an_atom, a_call, SomeHasCall, CallsAreInRange, NoLeftCycle}
 use Rattle.g4_grammar.specs.Loops.{SomeHasEmptyLoop, NoEmptyLoop}
 use Rattle.g4_grammar.specs.StepRules.{StepRule, IsPlainLaid, CanBeLaid}
@@ -64,24 +64,6 @@ added_loops rules set start (inr h) = h
 added_full : (set : List ℕ) (start : ℕ) → EachIsFull (added_rule set start)
 added_full set start = ((tt, ((tt, ((tt, tt), tt)), (tt, tt))), tt)
 
--- no predicate
-abbrev pub IsUnpredicated : Step (List ℕ) → Type 0
-IsUnpredicated (Edge set) = Unit {0}
-IsUnpredicated (Call rule level) = Unit {0}
-IsUnpredicated (Predicate k) = ⊥
-IsUnpredicated (Level q) = Unit {0}
-IsUnpredicated Action = Unit {0}
-IsUnpredicated Empty = Unit {0}
-
--- a plain step is none
-plain_unpredicated : (step : Step (List ℕ)) → IsPlainLaid step → IsUnpredicated step
-plain_unpredicated (Edge set) h = tt
-plain_unpredicated (Call rule level) h = tt
-plain_unpredicated (Predicate k) h = h
-plain_unpredicated (Level q) h = tt
-plain_unpredicated Action h = tt
-plain_unpredicated Empty h = tt
-
 module _ (set : List ℕ) (start : ℕ) (rules : List StepRule) (can : CanBeLaid rules) (from : 1 ≤ start) (within : start ≤ length rules) where
   -- the alternatives of all rules of the network
   abbrev pub all_rules : List (Alternatives (Step (List ℕ)))
@@ -126,13 +108,3 @@ module _ (set : List ℕ) (start : ℕ) (rules : List StepRule) (can : CanBeLaid
       → EachIsSound (CallsKnown IsPlainLaid CallsRule (λ j. (1 ≤ j) × (j ≤ length rules))) xs
   plain_trees k xs is = each_sound IsPlainLaid CallsRule (λ j. (1 ≤ j) × (j ≤ length rules)) xs (full_each rules can.full k xs is)
       (of_each (λ ys. All IsPlainLaid (atoms_of_either ys)) rules can.plain k xs is) (λ j h. calls_within k j xs is h)
-
-  -- no step of any rule is a predicate
-  pub unpredicated_trees : (k : ℕ) (xs : Alternatives (Step (List ℕ))) → slice_get all_rules k ≡ Some xs
-      → EachIsSound (CallsKnown IsUnpredicated CallsRule (λ j. Unit {0})) xs
-  unpredicated_trees zero xs is = let same : added_rule set start ≡ xs = cc in
-      subst (EachIsSound (CallsKnown IsUnpredicated CallsRule (λ j. Unit {0}))) same
-      (((tt, λ j c. tt), ((tt, (((tt, λ j c. tt), tt), tt)), ((tt, λ j c. tt), tt))), tt)
-  unpredicated_trees (suc k) xs is = each_sound IsUnpredicated CallsRule (λ j. Unit {0}) xs (full_each rules can.full k xs is)
-      (All-weaker IsPlainLaid IsUnpredicated plain_unpredicated (atoms_of_either xs)
-      (of_each (λ ys. All IsPlainLaid (atoms_of_either ys)) rules can.plain k xs is)) (λ j h. tt)

@@ -14,6 +14,7 @@ pub mod Added
 pub mod Laying
 pub mod OwnEnds
 pub mod Runnable
+pub mod Unpredicated
 pub mod Agreement
 pub mod Sizes
 pub mod Numbering

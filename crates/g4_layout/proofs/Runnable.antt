@@ -9,8 +9,8 @@ use Rattle.g4_grammar.specs.declared.step.Step.{Step}
 use Rattle.g4_grammar.specs.StepRules.{StepRule, IsPlainLaid, CanBeLaid}
 use Rattle.g4_grammar.specs.Steps.{CallsRule, added_rule}
 use Rattle.g4_net.specs.declared.network.State.{State}
-use Rattle.g4_net.specs.declared.network.State.TheVariants.{Decision, End, Edge, Call, Predicate, Level, Action, Empty}
-use Rattle.g4_net.specs.AddedRule.{HasAddedRule, IsOutside, IsApart, IsNoPredicate, IsRunnable}
+use Rattle.g4_net.specs.declared.network.State.TheVariants.{End, Edge, Call}
+use Rattle.g4_net.specs.AddedRule.{HasAddedRule, IsOutside, IsApart, IsRunnable}
 use Rattle.g4_net.specs.Network.{ParserNetwork, state_at, start_of, end_of}
 use Rattle.g4_layout.specs.Callers.{callers_of}
 use Rattle.g4_layout.specs.Layout.{RulesLie, a_rule, IsNetworkOf}
@@ -18,25 +18,13 @@ use Rattle.g4_layout.specs.Rules.{rule_number, rules_of}
 use Rattle.g4_layout.proofs.Added.{added_at}
 use Rattle.g4_layout.proofs.Callers.{callers_length}
 use Rattle.g4_layout.proofs.Formed.{well_formed}
-use Rattle.g4_layout.proofs.Laying.{IsUnpredicated, all_length, all_in_range, all_loops, all_cycles, all_full, plain_trees, unpredicated_trees}
+use Rattle.g4_layout.proofs.Laying.{all_length, all_in_range, all_loops, all_cycles, all_full, plain_trees}
 use Rattle.g4_layout.proofs.OwnEnds.{ends_are_own}
 use Rattle.g4_layout.proofs.Rules.{half, Laid, IsWithinRule, every_rule, rules_up}
-use Rattle.g4_layout.proofs.RulesSound.{state_sound, heads_sound, others_sound}
+use Rattle.g4_layout.proofs.RulesSound.{heads_sound, others_sound}
 use Rattle.g4_layout.proofs.Sound.{IsSoundState, SoundAt, AreAllowed, target_allowed}
 use Rattle.g4_layout.proofs.Trees.{EachIsSound, CallsKnown}
 use Rattle.g4_net.specs.declared.network.TheConstants.{MOST_STATES}
-
--- a state whose step is no predicate
-unpredicated_state : (Ended Allowed : ℕ → Type 0) (s : State (List ℕ))
-    → IsSoundState (CallsKnown IsUnpredicated CallsRule (λ j. Unit {0})) Ended Allowed (Some s) → IsNoPredicate s
-unpredicated_state Ended Allowed (Decision targets) h = tt
-unpredicated_state Ended Allowed (End rule) h = tt
-unpredicated_state Ended Allowed (Edge set t) h = tt
-unpredicated_state Ended Allowed (Call rule level back) h = tt
-unpredicated_state Ended Allowed (Predicate k t) h = h.0.0
-unpredicated_state Ended Allowed (Level q t) h = tt
-unpredicated_state Ended Allowed (Action t) h = tt
-unpredicated_state Ended Allowed (Empty t) h = tt
 
 -- how the rules after the added one are laid out
 record AfterAdded (net : ParserNetwork) (all : List (Alternatives (Step (List ℕ)))) (count loop : ℕ) : Type 0 where
@@ -162,8 +150,5 @@ runnable set rules start net can within no_end network few callers =
           (sym long) (plain_trees set number rules can from within)) no_end;
       own_ends = ends_are_own all net network (all_full set number rules can from within)
           (ap length callers ∙ (callers_length net.states (length rules + 1) ∙ sym size));
-      unpredicated = λ p s is. unpredicated_state (λ k. k < length all) (λ q. q < length net.states) s
-          (state_sound all net network (CallsKnown IsUnpredicated CallsRule (λ j. Unit {0}))
-          (unpredicated_trees set number rules can from within) p s is);
       few = few;
     }

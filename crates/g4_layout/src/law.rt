@@ -4,7 +4,7 @@ ghost use Rattle.g4_source.specs.Full.{EachIsFull};
 ghost use Rattle.g4_source.specs.Elements.{Alternatives};
 ghost use Rattle.g4_grammar.specs.LeftCalls.{CallsAreInRange, NoLeftCycle};
 ghost use Rattle.g4_grammar.specs.Loops.{NoEmptyLoop};
-ghost use Rattle.g4_grammar.specs.StepRules.{CanBeLaid, StepRule};
+ghost use Rattle.g4_grammar.specs.StepRules.{AreUnpredicated, CanBeLaid, StepRule};
 ghost use Rattle.g4_grammar.specs.Steps.{CallsRule, ReadsSymbols};
 ghost use Rattle.g4_grammar.specs.declared.step.Numbering.{Numbering};
 ghost use Rattle.g4_grammar.specs.declared.step.Step.{Step};
@@ -13,7 +13,7 @@ ghost use Rattle.g4_layout.specs.Callers.{callers_of};
 ghost use Rattle.g4_layout.specs.Layout.{IsNetworkOf};
 ghost use Rattle.g4_layout.specs.Numbered.{IsNumberedNetworkOf};
 ghost use Rattle.g4_layout.specs.Rules.{rule_number, rules_of};
-ghost use Rattle.g4_net.specs.AddedRule.{IsRunnable};
+ghost use Rattle.g4_net.specs.AddedRule.{IsRunnable, IsUnpredicated};
 ghost use Rattle.g4_net.specs.Configurations.{above_bottom, config};
 ghost use Rattle.g4_net.specs.Leads.{LeadsOn, WellFormed};
 ghost use Rattle.g4_net.specs.Network.{IsReturn, ParserNetwork};
@@ -46,6 +46,12 @@ pub fn every_network_is_runnable()
         IsNetworkOf (rules_of set rules start) net → length net.states ≤ MOST_STATES
         → net.callers ≡ callers_of net.states (length rules + 1) →
         IsRunnable net (rule_number rules start) (2 * length rules + 2) set }
+{}
+
+/// Where no rule as it is laid has a predicate, no state of the network is one.
+pub fn laid_without_predicates()
+    ensures { (set : List ℕ) (rules : List StepRule) (numberings : List Numbering) (start : List ℕ) (net : ParserNetwork) → CanBeLaid rules
+        → AreUnpredicated rules → IsBuilt set rules numberings start net → IsUnpredicated net }
 {}
 
 /// The callers listed of a rule are the return states of its calls.

@@ -4,6 +4,6 @@
 mod law;
 
 pub use law::{
-    callers_are_returns, every_network_is_runnable, never_comes_back, one_network,
-    one_numbered_network, well_formed,
+    callers_are_returns, every_network_is_runnable, laid_without_predicates, never_comes_back,
+    one_network, one_numbered_network, well_formed,
 };

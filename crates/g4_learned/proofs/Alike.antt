@@ -78,7 +78,7 @@ next_of_same net a C D same d = (to C D (λ c. (same c).0) d, to D C (λ c. (sam
 
 -- the alternatives that may be taken
 
-pub guard_same : (net : ParserNetwork) (d level guard : ℕ) → IsGuard net d level guard
-    → AreSame (Start net d (AllowedAt net d guard) wildcard) (Start net d (AllowedAt net d level) wildcard)
-guard_same net d level guard is =
-    start_same net d (AllowedAt net d guard) (AllowedAt net d level) (λ i t first. (is.same i).0) (λ i t first. (is.same i).1) wildcard
+pub guard_same : (net : ParserNetwork) (d condition guard : ℕ) → IsGuard net d condition guard
+    → AreSame (Start net d (AllowedAt net d guard) wildcard) (Start net d (AllowedAt net d condition) wildcard)
+guard_same net d condition guard is =
+    start_same net d (AllowedAt net d guard) (AllowedAt net d condition) (λ i t first. (is.same i).0) (λ i t first. (is.same i).1) wildcard

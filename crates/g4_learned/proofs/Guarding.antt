@@ -9,7 +9,9 @@ use Rattle.g4_net.specs.declared.network.State.TheVariants.{Decision, End, Edge,
 use Rattle.g4_net.specs.Network.{ParserNetwork, state_at, IsFirst}
 use Rattle.g4_net.proofs.Pigeons.{In, In-from, In-to}
 use Rattle.g4_lookahead.proofs.OneChoice.{one_first}
-use Rattle.g4_guards.specs.Levels.{MeetsBy, AllowedAt, AllowSame, IsGuard}
+use Rattle.g4_guards.specs.Levels.{MeetsBy, AllowedAt, AllowSame, IsGuard, at_level}
+use Rattle.g4_guards.specs.Tests.{HasNoPredicate}
+use Rattle.g4_guards.proofs.Digits.{allowed_meets}
 use Rattle.g4_learned.specs.Levels.{next_level, next_levels, AreLevels}
 
 -- what is asked of a level
@@ -107,6 +109,10 @@ target_of net d i t targets at (others, k, at', is, e) =
 at_most_or_above : (m n : ℕ) → (m ≤ n) ⊎ (n < m)
 at_most_or_above m n = grind arith
 
+-- a first state of alternative i may be passed at the level
+abbrev MetAt : ParserNetwork → ℕ → ℕ → ℕ → Type 0
+MetAt net d n i = (t : ℕ) × IsFirst net d i t × MeetsBy n (state_at net t)
+
 module _ (net : ParserNetwork) (d : ℕ) (targets levels : List ℕ) (at : state_at net d ≡ Some (Decision targets))
     (are : AreLevels net targets levels) where
   -- a level is a `u32`
@@ -116,9 +122,8 @@ module _ (net : ParserNetwork) (d : ℕ) (targets levels : List ℕ) (at : state
     | inr some ↦ (let n = from_next net targets l some in let q = next_from (state_at net n.0) l n.2 in q.4)
   ]
 
-  -- what may be taken at the greatest level up to another, may be taken at the other one
-  up : (g level i : ℕ) → level < 2 ^ 32 → ((l : ℕ) → Contains levels l → l ≤ level → l ≤ g) → AllowedAt net d g i
-      → AllowedAt net d level i
+  -- what may be passed at the greatest level up to another, may be passed at the other one
+  up : (g level i : ℕ) → level < 2 ^ 32 → ((l : ℕ) → Contains levels l → l ≤ level → l ≤ g) → MetAt net d g i → MetAt net d level i
   up g level i fits greatest (t, first, meets) = (
     t,
     first,
@@ -136,7 +141,7 @@ module _ (net : ParserNetwork) (d : ℕ) (targets levels : List ℕ) (at : state
           absurd (omega (arith, high, le))
 
   -- and the other way round
-  down : (g level i : ℕ) → g ≤ level → AllowedAt net d level i → AllowedAt net d g i
+  down : (g level i : ℕ) → g ≤ level → MetAt net d level i → MetAt net d g i
   down g level i le (t, first, meets) = (
     t,
     first,
@@ -144,9 +149,13 @@ module _ (net : ParserNetwork) (d : ℕ) (targets levels : List ℕ) (at : state
         let m = meets_level level q u (state_at net t) is meets in omega (arith, m, le)),
   )
 
+  -- that it may be passed is that it may be taken
+  taken : HasNoPredicate net d → (n i : ℕ) → MetAt net d n i → AllowedAt net d n i
+  taken none n i (t, first, meets) = (t, first, at_level none meets)
+
   -- no level below it allows the same
-  lowest : (g level n : ℕ) → Contains levels g → g ≤ level → AllowSame net d n level → g ≤ n
-  lowest g level n c le same = by (are.only g c) (at_most_or_above g n)
+  lowest : HasNoPredicate net d → (g level n : ℕ) → Contains levels g → g ≤ level → AllowSame net d n level → g ≤ n
+  lowest no_tests g level n c le same = by (are.only g c) (at_most_or_above g n)
     where
       by : (g ≡ 0) ⊎ Contains (next_levels net targets) g → (g ≤ n) ⊎ (n < g) → g ≤ n
       by (inl none) h = omega (arith, none)
@@ -155,20 +164,23 @@ module _ (net : ParserNetwork) (d : ℕ) (targets levels : List ℕ) (at : state
           let (t, i, next) = from_next net targets g some in
           let (q, u, is, e, fits) = next_from (state_at net t) g next in
           let (j, first) = first_of net d t targets at i in
-          let taken : MeetsBy n (state_at net t) = meets_by n (state_at net t) (λ p v at'.
+          let passed : MeetsBy n (state_at net t) = meets_by n (state_at net t) (λ p v at'.
           let s : Path (Option (State (List ℕ))) (Some (Level q u)) (Some (Level p v)) = sym is ∙ at' in
           let p_is : q ≡ p = cc in omega (arith, less, e, p_is)) in
-          let (t', first', meets) = (same j).0 (t, first, taken) in
+          let (t', first', meets) = allowed_meets net d level j no_tests ((same j).0 (taken no_tests n j (t, first, passed))) in
           let t_is : t' ≡ t = one_first net d j t' t first' first in
           let m = meets_level level q u (state_at net t') (ap (state_at net) t_is ∙ is) meets in
           absurd (omega (arith, m, le, e))
 
   -- so it is the guard
-  pub guard_at : (g level : ℕ) → level < 2 ^ 32 → Contains levels g → g ≤ level
+  pub guard_at : HasNoPredicate net d → (g level : ℕ) → level < 2 ^ 32 → Contains levels g → g ≤ level
       → ((l : ℕ) → Contains levels l → l ≤ level → l ≤ g) → IsGuard net d level g
-  guard_at g level fits c le greatest = record {
-    same = λ i. (up g level i fits greatest, down g level i le);
-    least = λ n same. lowest g level n c le same;
+  guard_at none g level fits c le greatest = record {
+    same = λ i. (
+      (λ may. taken none level i (up g level i fits greatest (allowed_meets net d g i none may))),
+      (λ may. taken none g i (down g level i le (allowed_meets net d level i none may))),
+    );
+    least = λ n same. lowest none g level n c le same;
   }
 
 -- the levels of first states, collected one by one

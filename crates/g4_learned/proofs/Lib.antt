@@ -4,6 +4,7 @@ mod Guarding
 pub mod Paths
 mod Placing
 pub mod Rests
+mod Rising
 pub mod Seeing
 mod Starting
 mod Storing

@@ -93,24 +93,24 @@ module _ (p : Plan Tables) (plan : IsPlan p) where
       small (error_at k) tells = omega arith
       small (sensitive k) tells = omega arith
 
-  -- SLL's path begins at the start of its decision at the level, and leads on
-  pub sll_is_way : (d level i : ℕ) (w : List ℕ) (v : Verdict) (path : Path) → All IsSymbol w
-      → Sll p.net.net d (AllowedAt p.net.net d level) w v path → IsStartOf p.net d level i
+  -- SLL's path begins at the start of its decision at the condition, and leads on
+  pub sll_is_way : (d condition i : ℕ) (w : List ℕ) (v : Verdict) (path : Path) → All IsSymbol w
+      → Sll p.net.net d (AllowedAt p.net.net d condition) w v path → IsStartOf p.net d condition i
       → StartsAt p.net i path.start × LeadsOn StartsAt LeadsTo p path.start (map (stored_entry p.net) path.looked)
-  sll_is_way d level i w v path symbols sll (guard, at, guards) =
+  sll_is_way d condition i w v path symbols sll (guard, at, guards) =
       let C = Start p.net.net d (AllowedAt p.net.net d guard) wildcard in
-      let here = sll_over p.net.net d (AllowedAt p.net.net d level) (AllowedAt p.net.net d guard) (λ j t first. (guards.same j).1)
+      let here = sll_over p.net.net d (AllowedAt p.net.net d condition) (AllowedAt p.net.net d guard) (λ j t first. (guards.same j).1)
       (λ j t first. (guards.same j).0) w v path sll in
-      let small = has_code d (AllowedAt p.net.net d level) w v path sll in (
+      let small = has_code d (AllowedAt p.net.net d condition) w v path sll in (
         (d, guard, at, here.0),
         sll_leads path.start C w 0 v path.looked here.0 symbols small here.1,
       )
 
   -- a path that is stored is a path of the automaton
-  pub stored_is_path : (d level : ℕ) (w : List ℕ) (v : Verdict) (path : Path) (q : stored.Path (List Config)) → All IsSymbol w
-      → Sll p.net.net d (AllowedAt p.net.net d level) w v path → IsStored p.net d level path q → IsPath StartsAt LeadsTo p q
-  stored_is_path d level w v path q symbols sll is =
-      let way = sll_is_way d level q.start w v path symbols sll is.start in
+  pub stored_is_path : (d condition : ℕ) (w : List ℕ) (v : Verdict) (path : Path) (q : stored.Path (List Config)) → All IsSymbol w
+      → Sll p.net.net d (AllowedAt p.net.net d condition) w v path → IsStored p.net d condition path q → IsPath StartsAt LeadsTo p q
+  stored_is_path d condition w v path q symbols sll is =
+      let way = sll_is_way d condition q.start w v path symbols sll is.start in
       let (guard, at, guards) = is.start in
       let within = slice_get_within p.net.starts q.start (d, guard) at in (
         subst (λ n. q.start < n) (sym plan.starts) within,

@@ -20,7 +20,8 @@ use Rattle.g4_store.specs.Paths.{LeadsOn, Next as Onward, cells_of, next_facts}
 use Rattle.g4_store.specs.Walks.{Along, Came}
 use Rattle.g4_store.specs.Walks.Along.{here, onward}
 use Rattle.g4_learned.specs.Automata.{LeadsTo, StartsAt, code_of}
-use Rattle.g4_guards.specs.Levels.{AllowedAt}
+use Rattle.g4_guards.specs.Levels.{AllowSame, AllowedAt}
+use Rattle.g4_guards.proofs.Same.{sll_over}
 use Rattle.g4_learned.specs.Stored.{ArePassed, IsPlan, columns_of, facts_from, stored_entry}
 use Rattle.g4_learned.specs.Tables.{AreStarts, IsStartOf, Tables, column_of}
 use Rattle.g4_learned.proofs.Paths.{sll_is_way}
@@ -124,20 +125,21 @@ module _ (p : Plan Tables) (first : List Config) where
   goes (l ∷ ls) code x ss fs along (within, leads, on) to =
       goes_by x ss fs l ls code l.led refl (λ z ts gs more rest to'. goes ls code z ts gs more rest to') along leads on to
 
--- a decision has one start at a level
-pub one_start_of : (t : Tables) (d level i j : ℕ) → AreStarts t.net t.starts → IsStartOf t d level i → IsStartOf t d level j → i ≡ j
-one_start_of t d level i j starts (g, at, guards) (h, at', guards') =
+-- a decision has one start under a condition
+pub one_start_of : (t : Tables) (d condition i j : ℕ) → AreStarts t.net t.starts → IsStartOf t d condition i → IsStartOf t d condition j
+    → i ≡ j
+one_start_of t d condition i j starts (g, at, guards) (h, at', guards') =
     let less : g ≤ h = guards.least h guards'.same in
     let more : h ≤ g = guards'.least g guards.same in
     let same : h ≡ g = omega arith in
     starts.once i j d g at (subst (λ n. slice_get t.starts j ≡ Some (d, n)) same at')
 
 -- SLL's path has the same verdict and words at each time
-pub one_passed : (p : Plan Tables) → IsPlan p → (d level : ℕ) (w : List ℕ) (v u : Verdict) (facts facts' : List (Fact (List Config)))
-    → ArePassed p.net d level w v facts → ArePassed p.net d level w u facts' → (v ≡ u) × (facts ≡ facts')
-one_passed p plan d level w v u facts facts' one two =
-    let same = one_sll p.net.net d (AllowedAt p.net.net d level) w v u one.path two.path one.sll two.sll in
-    let starts = one_start_of p.net d level one.start two.start plan.tables.starts one.is_start two.is_start in (
+pub one_passed : (p : Plan Tables) → IsPlan p → (d condition : ℕ) (w : List ℕ) (v u : Verdict) (facts facts' : List (Fact (List Config)))
+    → ArePassed p.net d condition w v facts → ArePassed p.net d condition w u facts' → (v ≡ u) × (facts ≡ facts')
+one_passed p plan d condition w v u facts facts' one two =
+    let same = one_sll p.net.net d (AllowedAt p.net.net d condition) w v u one.path two.path one.sll two.sll in
+    let starts = one_start_of p.net d condition one.start two.start plan.tables.starts one.is_start two.is_start in (
       same.0,
       one.are ∙ (ap (λ n. facts_from p.net n one.path) starts ∙ (ap (facts_from p.net two.start) same.1 ∙ sym two.are)),
     )
@@ -154,15 +156,16 @@ pub record IsWay (p : Plan Tables) (i : ℕ) (w : List ℕ) (v : Verdict) (facts
   pub are : facts ≡ before ++ Cell y (get_or (columns_of p.net w) k 0) (End (code_of v)) ∷ []
   pub count : length facts ≡ k + 2
 
-pub sll_way : (p : Plan Tables) (d level i : ℕ) (w : List ℕ) (v : Verdict) (facts : List (Fact (List Config))) (old : View (List Config))
-    → IsPlan p → All IsSymbol w → (passed : ArePassed p.net d level w v facts) → IsStartOf p.net d level i → IsWay p i w v facts old
-sll_way p d level i w v facts old plan symbols passed start =
-    let is : passed.start ≡ i = one_start_of p.net d level passed.start i plan.tables.starts passed.is_start start in
+pub sll_way : (p : Plan Tables) (d condition i : ℕ) (w : List ℕ) (v : Verdict) (facts : List (Fact (List Config))) (old : View
+    (List Config))
+    → IsPlan p → All IsSymbol w → (passed : ArePassed p.net d condition w v facts) → IsStartOf p.net d condition i → IsWay p i w v facts old
+sll_way p d condition i w v facts old plan symbols passed start =
+    let is : passed.start ≡ i = one_start_of p.net d condition passed.start i plan.tables.starts passed.is_start start in
     let path : Path = passed.path in
     let first = path.start in
     let entries = map (stored_entry p.net) path.looked in
-    let way = sll_is_way p plan d level passed.start w v path symbols passed.sll passed.is_start in
-    let enters = sll_enters p.net (Start p.net.net d (AllowedAt p.net.net d level) wildcard) w 0 v path.looked passed.sll.1 in
+    let way = sll_is_way p plan d condition passed.start w v path symbols passed.sll passed.is_start in
+    let enters = sll_enters p.net (Start p.net.net d (AllowedAt p.net.net d condition) wildcard) w 0 v path.looked passed.sll.1 in
     let more = goes p first entries (code_of v) first [] [] here way.1 enters.0 in
     let columns = columns_of p.net w in
     let front = more.columns in
@@ -195,3 +198,27 @@ sll_way p d level i w v facts old plan symbols passed start =
           let two = length-append more.on (cell ∷ []) in
           let three = along_length p.net first more.y front more.on more.along in omega arith;
     }
+
+-- conditions under which the same may be taken have the same starts and paths
+pub passed_alike : (t : Tables) (d m n : ℕ) (w : List ℕ) (v : Verdict) (facts : List (Fact (List Config))) → AllowSame t.net d m n
+    → ArePassed t d m w v facts → ArePassed t d n w v facts
+passed_alike t d m n w v facts same passed = record {
+  path = passed.path;
+  sll = sll_over t.net d (AllowedAt t.net d m) (AllowedAt t.net d n) (λ j u first. (same j).0) (λ j u first. (same j).1) w v passed.path
+      passed.sll;
+  start = passed.start;
+  is_start = (let (guard, at, is) = passed.is_start in (
+    guard,
+    at,
+    record {
+      same = λ i. ((λ a. (same i).0 ((is.same i).0 a)), (λ a. (is.same i).1 ((same i).1 a)));
+      least = λ k like. is.least k (λ i. ((λ a. (same i).1 ((like i).0 a)), (λ a. (like i).1 ((same i).0 a))));
+    },
+  ));
+  are = passed.are;
+}
+
+pub one_passed_alike : (p : Plan Tables) → IsPlan p → (d m n : ℕ) (w : List ℕ) (v u : Verdict) (facts facts' : List (Fact (List Config)))
+    → AllowSame p.net.net d m n → ArePassed p.net d m w v facts → ArePassed p.net d n w u facts' → (v ≡ u) × (facts ≡ facts')
+one_passed_alike p plan d m n w v u facts facts' same one two =
+    one_passed p plan d n w v u facts facts' (passed_alike p.net d m n w v facts same one) two

@@ -146,22 +146,22 @@ module _ (t : Tables) where
       let two = length-append ss (s ∷ []) in
       omega arith
 
-  -- the start of a decision at a level has the row of its start set there
-  pub starts_so : (d level i : ℕ) (row : List Config) → IsStartOf t d level i → StartsAt t i row
-      → IsRow row (Start t.net d (AllowedAt t.net d level) wildcard)
-  starts_so d level i row (guard, at, guards) (e, other, at', is) =
+  -- the start of a decision under a condition has the row of its start set there
+  pub starts_so : (d condition i : ℕ) (row : List Config) → IsStartOf t d condition i → StartsAt t i row
+      → IsRow row (Start t.net d (AllowedAt t.net d condition) wildcard)
+  starts_so d condition i row (guard, at, guards) (e, other, at', is) =
       let same : ◌≡◌ {A = ℕ × ℕ} (e, other) (d, guard) = cc in
-      row_of_set row (Start t.net d (AllowedAt t.net d guard) wildcard) (Start t.net d (AllowedAt t.net d level) wildcard)
-      (guard_same t.net d level guard guards)
+      row_of_set row (Start t.net d (AllowedAt t.net d guard) wildcard) (Start t.net d (AllowedAt t.net d condition) wildcard)
+      (guard_same t.net d condition guard guards)
       (subst (λ (key : ℕ × ℕ). IsRow row (Start t.net key.0 (AllowedAt t.net key.0 key.1) wildcard)) same is)
 
   module _ (p : Plan Tables) (is_net : p.net ≡ t) where
     -- a walk to an end tells SLL's verdict, and has seen the words of its path
-    pub walked_says : (d level i code k : ℕ) (w : List ℕ) (old new : View (List Config)) → IsStartOf t d level i → All IsSymbol w
+    pub walked_says : (d condition i code k : ℕ) (w : List ℕ) (old new : View (List Config)) → IsStartOf t d condition i → All IsSymbol w
         → Walked StartsAt LeadsTo p i (columns_of t w) old new (walk.End code k)
-        → (code < 2 ^ 32) × ((facts : List (Fact (List Config))) × ArePassed t d level w (verdict_at code k) facts
+        → (code < 2 ^ 32) × ((facts : List (Fact (List Config))) × ArePassed t d condition w (verdict_at code k) facts
         × SawAlso facts old new × (length facts ≡ k + 2))
-    walked_says d level i code k w old new start symbols (y, fs, lt, came, ends, saw) =
+    walked_says d condition i code k w old new start symbols (y, fs, lt, came, ends, saw) =
         let many : length (columns_of t w) ≡ length w = length-map w (column_of t) in
         let within : k < length w = omega arith in
         let a = get_or w k 0 in
@@ -184,8 +184,8 @@ module _ (t : Tables) where
         let says : SllFrom t.net (Contains came.first) w 0 (verdict_at code k) found.0 =
         subst (λ (xs : List ℕ). SllFrom t.net (Contains came.first) xs 0 (verdict_at code k) found.0) whole found.1 in
         let first : StartsAt t i came.first = subst (λ (q : Tables). StartsAt q i came.first) is_net came.starts_so in
-        let row = starts_so d level i came.first start first in
-        let C = Start t.net d (AllowedAt t.net d level) wildcard in
+        let row = starts_so d condition i came.first start first in
+        let C = Start t.net d (AllowedAt t.net d condition) wildcard in
         let same = same_as_row came.first C row in
         let cell = Cell y s (End code) in
         let cells : cells_of came.first (map (stored_entry t) found.0) ≡ came.on ++ cell ∷ [] =
@@ -240,20 +240,20 @@ module _ (t : Tables) where
       row_of_set z (Next t.net (Contains y) a) (Contains z) (same_as_row z (Next t.net (Contains y) a) led.2) led.2
 
 -- A walk came to a row after k symbols.
-module _ (p : Plan Tables) (d level i k : ℕ) (w : List ℕ) (old : View (List Config)) (y : List Config) (fs : List (Fact (List Config)))
-    (start : IsStartOf p.net d level i) (symbols : All IsSymbol w)
+module _ (p : Plan Tables) (d condition i k : ℕ) (w : List ℕ) (old : View (List Config)) (y : List Config) (fs : List (Fact (List Config)))
+    (start : IsStartOf p.net d condition i) (symbols : All IsSymbol w)
     (came : Came StartsAt LeadsTo p i (columns_of p.net w) k old y fs) where
   abbrev C : Config → Type 0
-  C = Start p.net.net d (AllowedAt p.net.net d level) wildcard
+  C = Start p.net.net d (AllowedAt p.net.net d condition) wildcard
 
   row : IsRow came.first C
-  row = starts_so p.net d level i came.first start came.starts_so
+  row = starts_so p.net d condition i came.first start came.starts_so
 
   -- SLL comes to its configurations
   pub stopped_reached : (c : Config) → Contains y c → IsReached p.net.net c
   stopped_reached = along_reached p.net came.first y (take k (columns_of p.net w)) came.on came.along (take k w)
       (All-take IsSymbol k w symbols) (sym (take-map (column_of p.net) k w))
-      (reached_row p.net.net came.first C row (reached_start p.net.net d (AllowedAt p.net.net d level)))
+      (reached_row p.net.net came.first C row (reached_start p.net.net d (AllowedAt p.net.net d condition)))
 
   -- it is the row of its own members
   pub stopped_row : IsRow y (Contains y)
@@ -262,7 +262,7 @@ module _ (p : Plan Tables) (d level i k : ℕ) (w : List ℕ) (old : View (List 
 
   -- what SLL says from there on makes its path, with the words of the walk
   pub stopped_says : k ≤ length w → (v : Verdict) (looked : List Looked) → SllFrom p.net.net (Contains y) (drop k w) k v looked
-      → ArePassed p.net d level w v (fs ++ cells_of y (map (stored_entry p.net) looked))
+      → ArePassed p.net d condition w v (fs ++ cells_of y (map (stored_entry p.net) looked))
   stopped_says le v looked says =
       let taken : length (take k w) ≡ k = length-take-le k w le in
       let front : k ≡ 0 + length (take k w) = omega arith in
@@ -331,17 +331,17 @@ module _ (t : Tables) (C : Config → Type 0) (no_further : (w : List ℕ) → G
       )
 
 -- so a walk along a word with END does not come past it
-pub not_open : (p : Plan Tables) (t : Tables) (d level i : ℕ) (w : List ℕ) (old new : View (List Config)) → p.net ≡ t → IsReady t.net
-    → IsStartOf t d level i → All IsSymbol w → Contains w end_of_list
+pub not_open : (p : Plan Tables) (t : Tables) (d condition i : ℕ) (w : List ℕ) (old new : View (List Config)) → p.net ≡ t → IsReady t.net
+    → IsStartOf t d condition i → All IsSymbol w → Contains w end_of_list
     → Walked StartsAt LeadsTo p i (columns_of t w) old new walk.Open → ⊥
-not_open p t d level i w old new is_net (rule, loop, set, runnable) start symbols ends (y, fs, came, saw) =
-    let C = Start t.net d (AllowedAt t.net d level) wildcard in
+not_open p t d condition i w old new is_net (rule, loop, set, runnable) start symbols ends (y, fs, came, saw) =
+    let C = Start t.net d (AllowedAt t.net d condition) wildcard in
     let first : StartsAt t i came.first = subst (λ (q : Tables). StartsAt q i came.first) is_net came.starts_so in
-    let row = starts_so t d level i came.first start first in
+    let row = starts_so t d condition i came.first start first in
     let no_further : (u : List ℕ) → GoesOn (After t.net C (u ++ end_of_list ∷ [])) → ⊥ = λ u.
     settled_sll 1 wildcard (After t.net C (u ++ end_of_list ∷ []))
     (after_end t.net rule loop true C runnable.apart
-    (stands_start t.net rule loop d (AllowedAt t.net d level) wildcard runnable.apart (record { alone = λ i. refl; apart = tt })) u) in
+    (stands_start t.net rule loop d (AllowedAt t.net d condition) wildcard runnable.apart (record { alone = λ i. refl; apart = tt })) u) in
     let all : take (length (columns_of t w)) (columns_of t w) ≡ columns_of t w =
     take_all (length (columns_of t w)) (columns_of t w) (omega arith) in
     let along : Along LeadsTo t came.first (columns_of t w) came.on y =

@@ -25,8 +25,8 @@ column_at q t tokens k column d same lt is =
     get_or-map (column_of t) (word_of tokens) k 0 0 (omega arith) ∙ (ap (column_of t) symbol ∙ sym here)
 
 -- the start of a decision is one of the plan
-pub start_within : (p : Plan Tables) (d level i : ℕ) → IsPlan p → IsStartOf p.net d level i → i < p.starts
-start_within p d level i plan (guard, at, guards) =
+pub start_within : (p : Plan Tables) (d condition i : ℕ) → IsPlan p → IsStartOf p.net d condition i → i < p.starts
+start_within p d condition i plan (guard, at, guards) =
     subst (λ n. i < n) (sym plan.starts) (slice_get_within p.net.starts i (d, guard) at)
 
 -- what was seen is seen where no more was seen

@@ -1,10 +1,9 @@
 -- The levels at which what may be taken of a decision changes.
-use Rattle.std.specs.Prelude.{◌≡◌, ◌≤◌, ◌⊎◌, ℕ, ◌+◌, ◌-◌, ◌^◌, List, [], ◌∷◌, ◌++◌, Option, Some, None, Contains, length, nat_lt, if◌then◌else◌}
+use Rattle.std.specs.Prelude.{◌≡◌, ◌⊎◌, ℕ, ◌+◌, ◌-◌, ◌^◌, List, [], ◌∷◌, ◌++◌, Option, Some, None, Contains, nat_lt, if◌then◌else◌}
 use Rattle.std.specs.List.Sorted.{IsStrictlyIncreasing}
 use Rattle.g4_net.specs.declared.network.State.{State}
 use Rattle.g4_net.specs.declared.network.State.TheVariants.{Decision, End, Edge, Call, Predicate, Level, Action, Empty}
 use Rattle.g4_net.specs.Network.{ParserNetwork, state_at}
-use Rattle.g4_learned.specs.declared.levels.TheConstants.{MOST_ALTERNATIVES}
 
 -- the first level at which the state may not be passed any more, where a `u32` has one
 abbrev pub next_level : Option (State (List ℕ)) → List ℕ
@@ -28,14 +27,3 @@ pub record AreLevels (net : ParserNetwork) (targets levels : List ℕ) : Type 0 
   pub rising : IsStrictlyIncreasing levels
   pub all : (l : ℕ) → (l ≡ 0) ⊎ Contains (next_levels net targets) l → Contains levels l
   pub only : (l : ℕ) → Contains levels l → (l ≡ 0) ⊎ Contains (next_levels net targets) l
-
--- the same of a state: what is no decision has none
-abbrev pub AreLevelsOf : ParserNetwork → State (List ℕ) → List ℕ → Type 0
-AreLevelsOf net (Decision targets) levels = AreLevels net targets levels × (length targets ≤ MOST_ALTERNATIVES)
-AreLevelsOf net (End rule) levels = levels ≡ []
-AreLevelsOf net (Edge set t) levels = levels ≡ []
-AreLevelsOf net (Call rule level back) levels = levels ≡ []
-AreLevelsOf net (Predicate k t) levels = levels ≡ []
-AreLevelsOf net (Level q t) levels = levels ≡ []
-AreLevelsOf net (Action t) levels = levels ≡ []
-AreLevelsOf net (Empty t) levels = levels ≡ []

@@ -1,5 +1,6 @@
--- Other crates cite Automata, Levels, Stored, Tables, Walks; only this crate cites Unique.
+-- Other crates cite Automata, Guards, Levels, Stored, Tables, Walks; only this crate cites Unique.
 pub mod Automata
+pub mod Guards
 pub mod Levels
 pub mod Stored
 pub mod Tables

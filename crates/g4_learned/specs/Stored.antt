@@ -61,9 +61,9 @@ stored_led (prediction.ended v) = End (code_of v)
 abbrev pub stored_entry : Tables → prediction.Looked → Looked (List Config)
 stored_entry t entry = record { column = column_of t entry.symbol; led = stored_led entry.led }
 
--- The path of a decision at a level, as it is stored.
-pub record IsStored (t : Tables) (d level : ℕ) (path : prediction.Path) (stored : Path (List Config)) : Type 0 where
-  pub start : IsStartOf t d level stored.start
+-- The path of a decision under a condition, as it is stored.
+pub record IsStored (t : Tables) (d condition : ℕ) (path : prediction.Path) (stored : Path (List Config)) : Type 0 where
+  pub start : IsStartOf t d condition stored.start
   pub content : stored.content ≡ path.start
   pub looked : stored.looked.items ≡ map (stored_entry t) path.looked
 
@@ -81,10 +81,12 @@ pub record SaysFrom (net : ParserNetwork) (row : List Config) (looked : List pre
 abbrev pub facts_from : Tables → ℕ → prediction.Path → List (Fact (List Config))
 facts_from t start path = Start start path.start ∷ cells_of path.start (map (stored_entry t) path.looked)
 
--- The facts are the start and the cells of the path that SLL has at a decision, over the alternatives that may be taken at the level.
-pub record ArePassed (t : Tables) (d level : ℕ) (word : List ℕ) (v : prediction.Verdict) (facts : List (Fact (List Config))) : Type 0 where
+-- The facts are the start and the cells of the path that SLL has at a decision, over the alternatives that may be taken under the
+-- condition.
+pub record ArePassed (t : Tables) (d condition : ℕ) (word : List ℕ) (v : prediction.Verdict) (facts : List (Fact
+    (List Config))) : Type 0 where
   pub path : prediction.Path
-  pub sll : prediction.Sll t.net d (AllowedAt t.net d level) word v path
+  pub sll : prediction.Sll t.net d (AllowedAt t.net d condition) word v path
   pub start : ℕ
-  pub is_start : IsStartOf t d level start
+  pub is_start : IsStartOf t d condition start
   pub are : facts ≡ facts_from t start path

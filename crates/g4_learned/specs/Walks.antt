@@ -37,13 +37,14 @@ WalkedTo p i word old new NoStart = WalkedAlong p i word old new (along.NotLearn
 WalkedTo p i word old new (NoEdge row at) =
     WalkedAlong p i word old new (along.NotLearned (suc at)) × StopsAt p i word old new row (along.NotLearned (suc at))
 
--- a verdict is that of SLL at the decision, over the alternatives that may be taken at the level: the words of its path, one for the
+-- a verdict is that of SLL at the decision, over the alternatives that may be taken under the condition: the words of its path, one for the
 -- start and one for each symbol that it looks at, are seen then, and no others are that had not been seen
 abbrev pub IsVerdict : Plan Tables → ℕ → ℕ → List ℕ → View (List Config) → View (List Config) → Walk → Type 0
-IsVerdict p d level word old new (Ended v k) = (facts : List (Fact (List Config))) × ArePassed p.net d level word (verdict_of v) facts
+IsVerdict p d condition word old new (Ended v k) = (facts : List (Fact (List Config)))
+    × ArePassed p.net d condition word (verdict_of v) facts
     × SawAlso facts old new × (length facts ≡ k + 2)
-IsVerdict p d level word old new NoStart = Unit {0}
-IsVerdict p d level word old new (NoEdge row at) = Unit {0}
+IsVerdict p d condition word old new NoStart = Unit {0}
+IsVerdict p d condition word old new (NoEdge row at) = Unit {0}
 
 -- the walk ended with this verdict, after so many words
 abbrev pub CameTo : said.Verdict → ℕ → Walk → Type 0
@@ -51,17 +52,17 @@ CameTo v n (Ended u k) = (verdict_of u ≡ v) × (n ≡ k + 2)
 CameTo v n NoStart = ⊥
 CameTo v n (NoEdge row at) = ⊥
 
--- A walk from the start of a decision at a level. It sees no words but those of SLL's path, and where the pass had seen each of them, it
--- comes to SLL's verdict.
-pub record Walks (p : Plan Tables) (d level : ℕ) (word : List ℕ) (old new : View (List Config)) (walk : Walk) : Type 0 where
+-- A walk from the start of a decision under a condition. It sees no words but those of SLL's path, and where the pass had seen each of
+-- them, it comes to SLL's verdict.
+pub record Walks (p : Plan Tables) (d condition : ℕ) (word : List ℕ) (old new : View (List Config)) (walk : Walk) : Type 0 where
   pub start : ℕ
-  pub is_start : IsStartOf p.net d level start
+  pub is_start : IsStartOf p.net d condition start
   pub walked : WalkedTo p start word old new walk
-  pub verdict : IsVerdict p d level word old new walk
+  pub verdict : IsVerdict p d condition word old new walk
   pub kept : (f : Fact (List Config)) → Among f old.seen → Among f new.seen
-  pub within : (v : said.Verdict) (facts : List (Fact (List Config))) → ArePassed p.net d level word v facts
+  pub within : (v : said.Verdict) (facts : List (Fact (List Config))) → ArePassed p.net d condition word v facts
       → (f : Fact (List Config)) → Among f new.seen → Among f old.seen ⊎ Among f facts
-  pub learned : (v : said.Verdict) (facts : List (Fact (List Config))) → ArePassed p.net d level word v facts
+  pub learned : (v : said.Verdict) (facts : List (Fact (List Config))) → ArePassed p.net d condition word v facts
       → ((f : Fact (List Config)) → Among f facts → Among f old.seen) → CameTo v (length facts) walk
 
 -- how many words are loaded

@@ -3,16 +3,18 @@
 #![tactic(auto)]
 
 mod decision_net;
+mod guards;
 mod levels;
 mod parsing;
 mod path;
 mod row;
 mod starts;
 mod store;
+mod tests;
 mod walk;
 
 pub use decision_net::DecisionNet;
-pub use levels::MOST_ALTERNATIVES;
+pub use guards::MOST_ALTERNATIVES;
 pub use parsing::Parsing;
 pub use row::Row;
 pub use store::{Learnings, MOST_CELLS, MOST_ROWS, OpenFault, Opened, Pass, Store, open};

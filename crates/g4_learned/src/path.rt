@@ -2,7 +2,7 @@
 ghost use Rattle.std.specs.Prelude.{◌≡◌, ◌≤◌, ◌<◌, ◌^◌, IfNone, IfOk, IfSome, length, map};
 ghost use Rattle.g4_predict.specs.Paths.{led_of, looked_of, path_of, verdict_of};
 ghost use Rattle.g4_learned.specs.Automata.{code_of as code_for, verdict_at as verdict_for};
-ghost use Rattle.g4_guards.specs.Levels.{IsDecision};
+ghost use Rattle.g4_guards.specs.Levels.{IsCondition, IsDecision};
 ghost use Rattle.g4_learned.specs.Stored.{IsStored, stored_entry as stored_entry_of, stored_led as stored_led_of};
 
 use crate::decision_net::DecisionNet;
@@ -85,26 +85,27 @@ pub(crate) fn stored_entries(
     Ok(entries)
 }
 
-/// The path of a decision in a rule that was called at this level, as it is stored.
+/// The path of a decision under this condition, as it is stored.
 ///
 /// # Errors
 /// No memory.
 pub(crate) fn stored_path(
     alloc: Global,
     net: &DecisionNet,
-    level: u32,
+    condition: u32,
     path: Path,
 ) -> Result<path::Path<Row>, AllocError>
     requires decision { IsDecision net.now.net path.decision }
+    requires condition { IsCondition net.now.net path.decision condition }
     requires few { length net.now.starts < 2 ^ 32 }
-    ensures { IfOk result (λ stored. IsStored net.now path.decision level (path_of path) stored) }
+    ensures { IfOk result (λ stored. IsStored net.now path.decision condition (path_of path) stored) }
 {
     let Path {
         decision,
         start,
         looked,
     } = path;
-    let number = net.start_of(decision, level) as u32;
+    let number = net.start_of(decision, condition) as u32;
     let content = Row::of(alloc, start)?;
     let looked = stored_entries(alloc, net, looked.into_vec())?;
     Ok(path::Path {

@@ -15,7 +15,7 @@ ghost use Rattle.g4_store.specs.Closing.{Closes};
 ghost use Rattle.g4_store.specs.Views.{copied, leading, met, no_looks, pass_view};
 ghost use Rattle.g4_net.specs.AddedRule.{IsReady};
 ghost use Rattle.g4_learned.specs.Automata.{LeadsTo, StartsAt};
-ghost use Rattle.g4_guards.specs.Levels.{AllowedAt, IsDecision};
+ghost use Rattle.g4_guards.specs.Levels.{AllowedAt, IsCondition, IsDecision};
 ghost use Rattle.g4_learned.specs.Stored.{IsPlan, IsStored, IsTooLarge, SaysFrom, stored_entry};
 ghost use Rattle.g4_learned.specs.declared.store.OpenFault.TheVariants.{TooLarge};
 ghost use Rattle.g4_learned.specs.Tables.{AreTables};
@@ -188,7 +188,7 @@ impl<B: Home<DecisionNet>> Store<B> {
         }
     }
 
-    /// Learns the path of a decision in a rule that was called at a level, under the lock.
+    /// Learns the path of a decision under a condition, under the lock.
     ///
     /// # Errors
     /// No memory. Then nothing was learned.
@@ -197,19 +197,20 @@ impl<B: Home<DecisionNet>> Store<B> {
         rt: &R,
         alloc: Global,
         pass: &mut Pass<B>,
-        level: u32,
+        condition: u32,
         path: Path,
     ) -> Result<Learned, AllocError>
         requires decision { IsDecision B.plan.net.net path.decision }
+        requires condition { IsCondition B.plan.net.net path.decision condition }
         requires sll { (word : List ℕ) × (v : Verdict) × All IsSymbol word
-            × Sll B.plan.net.net path.decision (AllowedAt B.plan.net.net path.decision level) word v (path_of path) }
+            × Sll B.plan.net.net path.decision (AllowedAt B.plan.net.net path.decision condition) word v (path_of path) }
         ensures learned { IfOk result (λ learned. (stored : StoredPath (List Config))
-            × IsStored B.plan.net path.decision level (path_of path) stored
+            × IsStored B.plan.net path.decision condition (path_of path) stored
             × IsLearned B.plan.rows (facts_of stored) pass.old pass.new learned) }
         ensures rows { IfOk result (λ learned. KnowsRows B.plan.rows pass.new) }
         ensures unchanged { OnErr result (pass.new ≡ pass.old) }
     {
-        let stored = stored_path(alloc, self.store.net(), level, path)?;
+        let stored = stored_path(alloc, self.store.net(), condition, path)?;
         let learned = self.store.learn(rt, pass, stored);
         Ok(learned)
     }

@@ -6,7 +6,7 @@ ghost use Rattle.g4_store.specs.Walks.{Keeps, SeenTo, Ticks};
 ghost use Rattle.g4_tokens.specs.Symbols.{end_of_list};
 ghost use Rattle.g4_tokens.specs.TokenList.{EndsInEnd, word_of};
 ghost use Rattle.g4_learned.specs.Automata.{LeadsTo, StartsAt};
-ghost use Rattle.g4_guards.specs.Levels.{IsDecision};
+ghost use Rattle.g4_guards.specs.Levels.{IsCondition, IsDecision};
 ghost use Rattle.g4_learned.specs.Stored.{columns_of};
 ghost use Rattle.g4_learned.specs.Walks.{Loads, StopsAt, WalkedAlong, Walks};
 ghost use Rattle.g4_store.specs.Known.{KnowsRows};
@@ -92,29 +92,30 @@ impl<B: Home<DecisionNet>> Store<B> {
         }
     }
 
-    /// Walks at a decision, in a rule that was called at a level, along the tokens from a place on. It takes neither memory nor a lock.
+    /// Walks at a decision, under a condition, along the tokens from a place on. It takes neither memory nor a lock.
     pub fn walk<L: Ledger>(
         &self,
         pass: &mut Pass<B>,
         decision: u32,
-        level: u32,
+        condition: u32,
         tokens: &[Token],
         from: u32,
         steps: &mut Steps<L>,
     ) -> Walk
         requires decision { IsDecision B.plan.net.net decision }
+        requires condition { IsCondition B.plan.net.net decision condition }
         requires symbols { All IsSymbol (word_of tokens.now) }
         requires ends { EndsInEnd (word_of tokens.now) }
         requires more { from < length tokens.now }
         requires few { length tokens.now < 2 ^ 32 }
-        ensures walks { Walks B.plan decision level (drop from (word_of tokens.now)) pass.old.0 pass.new.0 result }
+        ensures walks { Walks B.plan decision condition (drop from (word_of tokens.now)) pass.old.0 pass.new.0 result }
         ensures loads { Loads pass.old.0.looks.count pass.new.0.looks.count result }
         ensures same { Keeps pass.old.0 pass.new.0 }
         ensures steps { Loads steps.old steps.new result }
         ensures full { pass.new.1 ≡ pass.old.1 }
         ensures rows { KnowsRows B.plan.rows pass.new }
     {
-        let start = self.store.net().start_of(decision, level);
+        let start = self.store.net().start_of(decision, condition);
         let rest = &tokens[from as usize..];
         let Way { walk, row } = self.walk_along(pass, start, rest, steps);
         match walk {

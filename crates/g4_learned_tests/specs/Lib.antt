@@ -1,2 +1,3 @@
--- Only this crate cites it.
+-- Only this crate cites these.
 pub mod Asked
+pub mod Leading

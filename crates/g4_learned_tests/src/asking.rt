@@ -1,16 +1,17 @@
 // Questions of decisions: a grammar, a text, and the path of the first decision on it.
 ghost use Rattle.std.specs.Prelude.{◌≡◌, ◌≤◌, ◌<◌, ◌^◌, IfOk, IsTrue, All, length};
 ghost use Rattle.g4_classes.specs.Classes.{IsSymbol};
-ghost use Rattle.g4_guards.specs.Levels.{IsDecision};
+ghost use Rattle.g4_guards.specs.Levels.{IsCondition, IsDecision};
 ghost use Rattle.g4_learned_tests.specs.Asked.{IsAsked};
 ghost use Rattle.g4_lexer.specs.Lexers.{HasTokenTypes};
 ghost use Rattle.g4_load.specs.Usable.{IsUsable};
 ghost use Rattle.g4_net.specs.AddedRule.{IsReady};
+ghost use Rattle.g4_net.specs.Loops.{HasLoops};
 ghost use Rattle.g4_ordered.specs.Network.{IsLexable};
 ghost use Rattle.g4_tokens.specs.TokenList.{EndsInEnd, word_of};
 
 use g4_base::{Sequence, Text};
-use g4_guards::allowed_at;
+use g4_guards::{Tests, allowed_at, tests_of};
 use g4_lexer::{Lexer, tokens};
 use g4_load::{Interpreter, build_interpreter};
 use g4_net::{ParserNetwork, State};
@@ -98,7 +99,19 @@ fn is_decision(net: &ParserNetwork, state: u32) -> bool
     }
 }
 
-/// The path of the first decision on a text, and the text's tokens.
+/// Whether 0 is a condition of the state: it has no more than a few tests.
+fn has_conditions(net: &ParserNetwork, state: u32) -> bool
+    requires { HasLoops net.now }
+    ensures { IsTrue result → IsCondition net.now state 0 }
+{
+    match tests_of(net, state) {
+        Tests::Levels => true,
+        Tests::Few => true,
+        Tests::Many => false,
+    }
+}
+
+/// The path of the first decision on a text under condition 0, and the text's tokens.
 pub(crate) fn ask(
     alloc: Global,
     net: &ParserNetwork,
@@ -106,12 +119,16 @@ pub(crate) fn ask(
     text: &str,
 ) -> Result<(Path, Tokens), Fail>
     requires ready { IsReady net.now }
+    requires loops { HasLoops net.now }
     requires lexable { IsLexable lexer.now.net }
     requires types { HasTokenTypes lexer.now }
     ensures { IfOk result (λ asked. IsAsked net.now asked.1.list asked.0) }
 {
     if !is_decision(net, DECISION) {
         return Err(Fail::from("no decision"));
+    }
+    if !has_conditions(net, DECISION) {
+        return Err(Fail::from("no conditions"));
     }
     let tokens = tokens_of(alloc, lexer, text)?;
     let list = tokens.list.as_slice();

@@ -19,3 +19,4 @@ mod Plainness
 mod SameTrees
 mod Sources
 mod Steps
+pub mod Unpredicated

@@ -9,5 +9,8 @@ mod places;
 mod rewriting;
 
 pub use laid_rules::LaidRules;
-pub use law::{each_alternative_is_kept, only_left_recursive_rules_have_operators};
+pub use law::{
+    each_alternative_is_kept, network_without_predicates, only_left_recursive_rules_have_operators,
+    rewritten_without_predicates,
+};
 pub use rewriting::rewrite;

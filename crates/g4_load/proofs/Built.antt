@@ -48,7 +48,7 @@ use Rattle.g4_lexer_rules.specs.declared.lexer_rules.LexerRules.{LexerRules}
 use Rattle.g4_lexer_rules.specs.Lexers.{GivesLexer}
 use Rattle.g4_lexer_rules.specs.declared.lex_net.LexFault.{LexFault}
 use Rattle.g4_lexer_rules.specs.declared.lex_net.LexFault.TheVariants.{States, NoMemory}
-use Rattle.g4_load.specs.Loading.{Checks, IsNumbered, Numbers, Loads, rules_of_lexer, loaded_of}
+use Rattle.g4_load.specs.Loading.{Checks, HandsOn, IsLoaded, IsNumbered, Numbers, Loads, rules_of_lexer}
 use Rattle.g4_load.specs.declared.loading.Loaded.{Loaded}
 use Rattle.g4_load.specs.declared.loading.Numbered.{Numbered}
 use Rattle.g4_load.specs.Building.{GivesRewritten, Lays, FromGrammar}
@@ -147,27 +147,33 @@ module _ (table : List TokenEntry) (source : Source) where
     -- a grammar that cannot be run
     pub check_exit : (e : Refused CheckFault) → IsChecked source (Err e) → IsErrorOf (Numbers table source) (of_check e)
     check_exit e is = error_within (Checks table source) (Numbers table source) (λ r h. goes_on tt r fits_limits h) (of_check e)
-        (stage_exit (IsChecked source) of_check (λ _ result. result ≡ Ok (loaded_of table source)) e is)
+        (stage_exit (IsChecked source) of_check (λ _. HandsOn table source) e is)
 
   module _ (numbered : Numbered) (is : IsNumbered table source numbered) where
     -- a grammar without fault
-    pub loaded_is : (rules : List StepRule) (shown : List (List ℕ)) (tables : CommandTables) (lexer : LexerRules)
-        → rules ≡ numbered.rules → shown ≡ numbered.types.shown → tables ≡ tables_of source numbered.types.names
+    pub loaded_is : (tables : CommandTables) (lexer : LexerRules) → tables ≡ tables_of source numbered.types.names
         → IsLexerRulesOf numbered.types.names numbered.types.literals source.rules lexer
-        → ◌≡◌ {A = Loaded} (record { rules = rules; shown = shown; lexer = (lexer, tables) }) (loaded_of table source)
-    loaded_is rules shown tables lexer steps seen named are = rw (
-      steps,
-      is.rules,
-      lexer_is table source numbered.types.names numbered.types.literals lexer (ap (λ (t : TokenTypes). t.names) is.types)
-          (ap (λ (t : TokenTypes). t.literals) is.types) are,
-      named,
-      seen,
-      is.types,
-    ) refl
+        → IsLoaded table source (record {
+          rules = numbered.rules;
+          predicates = numbered.predicates;
+          shown = numbered.types.shown;
+          lexer = (lexer, tables);
+        })
+    loaded_is tables lexer named are = record {
+      rules = is.rules;
+      predicates = is.predicates;
+      shown = ap (λ (t : TokenTypes). t.shown) is.types;
+      lexer = rw (
+        lexer_is table source numbered.types.names numbered.types.literals lexer (ap (λ (t : TokenTypes). t.names) is.types)
+            (ap (λ (t : TokenTypes). t.literals) is.types) are,
+        named,
+        is.types,
+      ) refl;
+    }
 
     -- is loaded
-    pub numbers_give : Numbers table source (Ok (loaded_of table source))
-    numbers_give = goes_on tt (Ok (loaded_of table source)) is.fits (goes_on tt (Ok (loaded_of table source)) is.checked refl)
+    pub numbers_give : (loaded : Loaded) → IsLoaded table source loaded → Numbers table source (Ok loaded)
+    numbers_give loaded h = goes_on tt (Ok loaded) is.fits (goes_on tt (Ok loaded) is.checked h)
 
 -- what a stage over the grammar of one file gives of a command line
 abbrev pub of_one : {X : Type 0} → List ℕ → Result X GrammarFault → Result X Stop

@@ -26,7 +26,7 @@ use Rattle.g4_load.specs.Faults.{of_check, of_lexer, of_number}
 use Rattle.g4_fetch.specs.Files.{Files}
 use Rattle.g4_token_file.specs.declared.entry.TokenEntry.{TokenEntry}
 use Rattle.g4_lexer_rules.specs.Lexers.{GivesLexer}
-use Rattle.g4_load.specs.Loading.{Checks, Loads, LoadsUnited, Numbers, Unifies, loaded_of}
+use Rattle.g4_load.specs.Loading.{Checks, HandsOn, IsLoaded, Loads, LoadsUnited, Numbers, Unifies}
 use Rattle.g4_load.specs.Stages.{Gives, Then, OfFile}
 use Rattle.g4_load.specs.declared.fault.GrammarFault.{GrammarFault}
 use Rattle.g4_load.specs.declared.interpreter.Interpreter.{Interpreter}
@@ -40,17 +40,17 @@ use Rattle.g4_load.proofs.Stages.{both_give, file_gives}
 use Rattle.g4_load.proofs.WrittenCommands.{of_all_rules, same_map}
 
 -- What is known of a grammar and its source: its commands are known.
-record IsOf (table : List TokenEntry) (source : Source) (loaded : Loaded) : Type 0 where
-  same : loaded ≡ loaded_of table source
-  known : All (IsKnown source (names_of (types_of table source))) (commands_in source)
+pub record IsOf (table : List TokenEntry) (source : Source) (loaded : Loaded) : Type 0 where
+  pub made : IsLoaded table source loaded
+  pub known : All (IsKnown source (names_of (types_of table source))) (commands_in source)
 
 -- a source that is checked
 is_of : (table : List TokenEntry) (source : Source) (loaded : Loaded) → Numbers table source (Ok loaded) → IsOf table source loaded
 is_of table source loaded h =
     let numbers = both_give (Gives (FitsLimits table source) of_number) (λ _. Checks table source) loaded h in
-    let checks = both_give (Gives (IsChecked source) of_check) (λ _ result. result ≡ Ok (loaded_of table source)) loaded numbers.2 in
+    let checks = both_give (Gives (IsChecked source) of_check) (λ _. HandsOn table source) loaded numbers.2 in
     record {
-      same = let ok : ◌≡◌ {A = Result Loaded GrammarFault} (Ok loaded) (Ok (loaded_of table source)) = checks.2 in cc;
+      made = checks.2;
       known = all_known table source checks.1.0;
     }
 
@@ -92,7 +92,7 @@ module _ (table : List TokenEntry) (source : Source) (loaded : Loaded) (is : IsO
   names = names_of (types_of table source)
 
   tables_are : loaded.lexer.1 ≡ tables_of source names
-  tables_are = ap (λ (l : Loaded). l.lexer.1) is.same
+  tables_are = ap (λ (l : LexerRules × CommandTables). l.1) is.made.lexer
 
   -- each command of the source of a grammar is carried out
   each_of : KnownAreCarriedOut → All (IsCarriedOut loaded) (commands_in source)
@@ -109,7 +109,7 @@ module _ (table : List TokenEntry) (source : Source) (loaded : Loaded) (is : IsO
       let does : Command → Option LexerCommand = command_of loaded.lexer.1 in
       let all : All (All (All Known)) (written_commands loaded) =
       subst (λ (l : LexerRules). All (All (All Known)) (commands_of (all_rules l.literals l.rules)))
-      (sym (ap (λ (l : Loaded). l.lexer.0) is.same)) (of_all_rules Known table source is.known) in
+      (sym (ap (λ (l : LexerRules × CommandTables). l.0) is.made.lexer)) (of_all_rules Known table source is.known) in
       let one : (commands : List Command) → All Known commands → map Some (filter_map does commands) ≡ map does commands =
       λ commands h. subst (λ (t : CommandTables). map Some (filter_map (command_of t) commands) ≡ map (command_of t) commands)
       (sym tables_are) (kept source names commands h) in
@@ -118,7 +118,7 @@ module _ (table : List TokenEntry) (source : Source) (loaded : Loaded) (is : IsO
 
 module _ (files : Files) (library : Option (List ℕ)) (name : List ℕ) where
   -- a grammar that is loaded, and its source
-  loaded_from : (f : List (List ℕ)) (loaded : Loaded) → Loads files library name f (Ok loaded)
+  pub loaded_from : (f : List (List ℕ)) (loaded : Loaded) → Loads files library name f (Ok loaded)
       → (united : United) × Unifies files library name f (Ok united) × IsOf united.table united.whole.source loaded
   loaded_from f loaded h =
       let stages = both_give (Unifies files library name f) (LoadsUnited name) loaded h in (

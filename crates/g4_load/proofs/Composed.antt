@@ -15,8 +15,7 @@ use Rattle.g4_imports.specs.Composites.{AreComposites}
 use Rattle.g4_imports.specs.Faults.{HasNoFault, IsFault}
 use Rattle.g4_imports.specs.declared.composite.Composites.{Composites}
 use Rattle.g4_imports.specs.declared.fault.ImportFault.{ImportFault}
-use Rattle.g4_load.specs.Forms.{FormsAreRun, TellsForms, file_forms}
-use Rattle.g4_load.specs.Loading.{Composes, Integrates, Loads, LoadsUnited, Merges, Reads, reads}
+use Rattle.g4_load.specs.Loading.{Composes, Loads, LoadsUnited, Merges, Reads, reads}
 use Rattle.g4_load.specs.Loading as loading
 use Rattle.g4_load.specs.Stages.{AfterFetches, IsHaltOf, IsStopOf, OfFile, Then, fails, goes_on, passes, stops}
 use Rattle.g4_load.specs.Stopping.{IsHaltOfFetch, halt_of_import, stop_of_import}
@@ -72,24 +71,13 @@ module _ (files : Files) (library : Option (List ℕ)) (name : List ℕ) where
       united_loads loaded h = loads (Ok loaded) h
 
 module _ (grammar : WithImports) (lexer : Option ℕ) where
-  -- a grammar with a form that is not run
-  pub forms_halt : (halt : Halt) → FormsAreRun (file_forms grammar.files) (Err halt) → IsStopOf (Composes grammar lexer) halt
-  forms_halt (halts.Stop stop) h = stops stop h
-  forms_halt halts.Failed h = absurd h
-  forms_halt halts.NoMemory h = tt
-
   -- a grammar with a fault of its imports
-  pub import_halts : FormsAreRun (file_forms grammar.files) (Ok tt) → (refused : Refused ImportFault)
+  pub import_halts : (refused : Refused ImportFault)
       → Answers {T = Composites} (λ composites. HasNoFault grammar × AreComposites grammar.files lexer composites) (IsFault grammar)
       (Err refused)
       → IsStopOf (Composes grammar lexer) (halt_of_import refused)
-  import_halts run (refusals.Fault fault) h = goes_on tt (Err (stop_of_import fault)) run (fault, h, refl)
-  import_halts run refusals.NoMemory h = tt
-
-  -- a grammar that becomes one with them
-  pub composes_all : FormsAreRun (file_forms grammar.files) (Ok tt) → (composites : Composites)
-      → HasNoFault grammar × AreComposites grammar.files lexer composites → Composes grammar lexer (Ok composites)
-  composes_all run composites h = goes_on tt (Ok composites) run h
+  import_halts (refusals.Fault fault) h = (fault, h, refl)
+  import_halts refusals.NoMemory h = tt
 
 module _ (name : List ℕ) (fetched : Fetched) where
   -- a grammar whose files are not put together

@@ -7,12 +7,10 @@ use Rattle.g4_fetch.specs.declared.stop.Halt.{Halt as FetchHalt}
 use Rattle.g4_fetch.specs.declared.stop.Halt.TheVariants as halting
 use Rattle.g4_fetch.specs.declared.stop.Stop.{Stop as FetchStop}
 use Rattle.g4_fetch.specs.declared.stop.Stop.TheVariants as fetching
-use Rattle.g4_imports.specs.declared.composite.Composites.{Composites}
 use Rattle.g4_imports.specs.declared.fault.ImportFault.{ImportFault}
 use Rattle.g4_imports.specs.declared.fault.ImportFault.TheVariants as importing
 use Rattle.g4_load.specs.Counting.{Counts, HaltCounts, StopMisses}
-use Rattle.g4_load.specs.Forms.{FileForm, TellsForms, file_forms}
-use Rattle.g4_load.specs.Loading.{Composes, Integrates, LoadsUnited, Merges}
+use Rattle.g4_load.specs.Loading.{Composes, LoadsUnited, Merges}
 use Rattle.g4_load.specs.Locating.{passes, fails}
 use Rattle.g4_load.specs.Stages.{IsStopOf, OfFile, goes_on, stops}
 use Rattle.g4_load.specs.Stages as of_file
@@ -31,27 +29,13 @@ module _ (before now : ℕ) (more : before ≤ now) where
   fault_misses : (stop : Stop) (file : List ℕ) (fault : GrammarFault) → stop ≡ stopping.Fault file fault → StopMisses ⊥ before now stop
   fault_misses stop file fault same = subst (λ (s : Stop). StopMisses ⊥ before now s) (sym same) more
 
-  forms_misses : (forms : List FileForm) (stop : Stop) → TellsForms forms (Err stop) → StopMisses ⊥ before now stop
-  forms_misses [] stop h = absurd h
-  forms_misses (form ∷ forms) stop h = fault_misses stop form.file _ h
-
   import_misses : (fault : ImportFault) (stop : Stop) → stop ≡ stop_of_import fault → StopMisses ⊥ before now stop
   import_misses (importing.RuleTwice file rule) stop h = fault_misses stop file _ h
   import_misses (importing.BadImport file name) stop h = fault_misses stop file _ h
 
   composes_misses : (grammar : WithImports) (lexer : Option ℕ) (stop : Stop) → Composes grammar lexer (Err stop)
       → StopMisses ⊥ before now stop
-  composes_misses grammar lexer stop h = by (Err stop) h refl
-    where
-      integrates : Integrates grammar lexer (Err stop) → StopMisses ⊥ before now stop
-      integrates (fault, is, same) = import_misses fault stop same
-
-      by : (r : Result Composites Stop) → Composes grammar lexer r → r ≡ Err stop → StopMisses ⊥ before now stop
-      by r (stops fault is) same =
-          let here : fault ≡ stop = cc in
-          forms_misses (file_forms grammar.files) stop
-          (subst (λ (s : Stop). TellsForms (file_forms grammar.files) (Err s)) here is)
-      by r (goes_on x s is on) same = integrates (subst (λ (t : Result Composites Stop). Integrates grammar lexer t) same on)
+  composes_misses grammar lexer stop (fault, is, same) = import_misses fault stop same
 
   file_misses : {X : Type 0} (name : List ℕ) (Stage : Result X GrammarFault → Type 0) (stop : Stop) → OfFile name Stage (Err stop)
       → StopMisses ⊥ before now stop

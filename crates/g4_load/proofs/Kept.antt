@@ -1,17 +1,13 @@
 -- What holds of the rules of each file holds of the rules of the grammar that they are together.
-use Rattle.std.proofs.Common.{◌≡◌, ◌⊎◌, inl, inr, ℕ, zero, suc, List, [], ◌∷◌, ◌++◌, All, Option, Some, None, Result, Ok, refl, sym, ap, ◌∙◌, subst, arith}
+use Rattle.std.proofs.Common.{◌≡◌, ℕ, zero, suc, List, [], ◌∷◌, ◌++◌, All, Option, Some, None, Result, Ok, refl, sym, ap, ◌∙◌, subst, arith}
 use Rattle.std.specs.List.{Contains}
 use Rattle.std.specs.Option.{IfSome}
-use Rattle.std.proofs.lemmas.List.Elements.{All-contains, Contains-append_cases, Contains-append_right}
+use Rattle.std.proofs.lemmas.List.Elements.{All-contains, Contains-append_right}
 use Rattle.g4_source.specs.Blocks.{HaveAlternatives, RuleIsFull, RulesAreFull}
-use Rattle.g4_source.specs.declared.atom.Atom.{Atom}
-use Rattle.g4_source.specs.declared.rule.ParserRule.{ParserRule}
 use Rattle.g4_source.specs.declared.rule.Rule.{Rule}
-use Rattle.g4_source.specs.declared.rule.Rule.TheVariants.{Parser}
 use Rattle.g4_source.specs.declared.source.GrammarKind.{GrammarKind}
 use Rattle.g4_source.specs.declared.source.GrammarKind.TheVariants as kinds
 use Rattle.g4_source.specs.declared.source.Source.{Source}
-use Rattle.g4_grammar.specs.Written.{ParserRuleIsUntested}
 use Rattle.g4_token_file.specs.declared.entry.TokenEntry.{TokenEntry}
 use Rattle.g4_attach.specs.Attaching.{IsAnswer, IsAttached, if_lexer}
 use Rattle.g4_attach.specs.declared.attaching.Attached.{Attached}
@@ -20,8 +16,7 @@ use Rattle.g4_imports.specs.Composites.{AreOfFiles, RulesAreOfFiles}
 use Rattle.g4_imports.specs.declared.composite.Composite.{Composite}
 use Rattle.g4_imports.specs.declared.composite.Composites.{Composites}
 use Rattle.g4_load.specs.Faults.{of_attach}
-use Rattle.g4_load.specs.Forms.{IsUntested}
-use Rattle.g4_load.specs.Loading.{AreFull, AreUntested, TestNothing}
+use Rattle.g4_load.specs.Loading.{AreFull}
 use Rattle.g4_load.specs.Stages.{Gives}
 use Rattle.g4_load.specs.Uniting.{Unites, lexer_source, united_alone, united_of}
 use Rattle.g4_load.specs.declared.fault.GrammarFault.{GrammarFault}
@@ -46,24 +41,10 @@ module _ (files : List GrammarFile) (composite : Composite) where
       full_rule found.0.source.rules rule
       (All-contains (λ (f : GrammarFile). HaveAlternatives f.source) files found.0 full found.1) found.2)
 
-  pub all_untested : All IsUntested files → RulesAreOfFiles files composite → AreUntested composite.merged.source
-  all_untested untested of rule has =
-      let found = of (Parser rule) has in
-      All-contains IsUntested files found.0 untested found.1 rule found.2
-
 -- rules after rules
 full_append : (xs ys : List Rule) → RulesAreFull xs → RulesAreFull ys → RulesAreFull (xs ++ ys)
 full_append [] ys first others = others
 full_append (x ∷ xs) ys first others = (first.0, full_append xs ys first.1 others)
-
--- a parser rule of rules after rules
-of_both : (xs ys : List Rule) (P : ParserRule Atom → Type 0) → ((rule : ParserRule Atom) → Contains xs (Parser rule) → P rule)
-    → ((rule : ParserRule Atom) → Contains ys (Parser rule) → P rule) → (rule : ParserRule Atom) → Contains (xs ++ ys) (Parser rule)
-    → P rule
-of_both xs ys P first others rule has = elim (Contains-append_cases xs ys (Parser rule) has) [
-  | inl here ↦ first rule here
-  | inr more ↦ others rule more
-]
 
 module _ (files : List GrammarFile) where
   if_full : All (λ f. HaveAlternatives f.source) files → (o : Option Composite) → IfSome o (RulesAreOfFiles files)
@@ -71,18 +52,9 @@ module _ (files : List GrammarFile) where
   if_full full None of = tt
   if_full full (Some composite) of = all_full files composite full of
 
-  if_untested : All IsUntested files → (o : Option Composite) → IfSome o (RulesAreOfFiles files)
-      → IfSome o (λ lexer. AreUntested lexer.merged.source)
-  if_untested untested None of = tt
-  if_untested untested (Some composite) of = all_untested files composite untested of
-
   -- of a grammar and its lexer grammar
   pub both_full : (composites : Composites) → All (λ f. HaveAlternatives f.source) files → AreOfFiles files composites → AreFull composites
   both_full composites full of = (all_full files composites.grammar full of.0, if_full full composites.lexer of.1)
-
-  pub both_untested : (composites : Composites) → All IsUntested files → AreOfFiles files composites → TestNothing composites
-  both_untested composites untested of =
-      (all_untested files composites.grammar untested of.0, if_untested untested composites.lexer of.1)
 
 -- where a parser grammar is attached, there is a lexer grammar, whose rules come after its own
 record HasRules (parser : Source) (lexer : Option Composite) (attached : Attached) : Type 0 where
@@ -100,10 +72,6 @@ attached_rules table parser (Some composite) attached h = by composite.merged.so
     by kinds.Combined is = absurd is
     by kinds.Parser is = absurd is
     by kinds.Lexer is = record { composite = composite; there = refl; rules = ap (λ (s : Source). s.rules) is.whole }
-
--- no parser rule of these tests anything
-abbrev Untested : List Rule → Type 0
-Untested rules = (rule : ParserRule Atom) → Contains rules (Parser rule) → ParserRuleIsUntested rule
 
 -- so of a grammar as one
 module _ (table : List TokenEntry) (composites : Composites) where
@@ -137,13 +105,3 @@ module _ (table : List TokenEntry) (composites : Composites) where
       by (of_two lexer there rules) = subst RulesAreFull (sym rules)
           (full_append composites.grammar.merged.source.rules lexer.merged.source.rules full.0
           (subst (λ (o : Option Composite). IfSome o (λ c. HaveAlternatives c.merged.source)) there full.1))
-
-  pub united_untested : (kind : GrammarKind) (united : United) → Unites table composites kind (Ok united) → TestNothing composites
-      → AreUntested united.whole.source
-  united_untested kind united h none = by (made_of kind united h)
-    where
-      by : IsMadeOf united → AreUntested united.whole.source
-      by (of_one rules) = subst Untested (sym rules) none.0
-      by (of_two lexer there rules) = subst Untested (sym rules)
-          (of_both composites.grammar.merged.source.rules lexer.merged.source.rules ParserRuleIsUntested none.0
-          (subst (λ (o : Option Composite). IfSome o (λ c. AreUntested c.merged.source)) there none.1))

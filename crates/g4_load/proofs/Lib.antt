@@ -2,7 +2,6 @@ mod Built
 mod CarriedOut
 mod Composed
 mod Counted
-mod FormsRun
 mod Kept
 mod KnownCommands
 mod Located
@@ -11,4 +10,5 @@ pub mod OneBuilt
 pub mod OneStage
 mod Stages
 mod TokenNames
+mod Trees
 mod WrittenCommands

@@ -3,7 +3,9 @@ use Rattle.std.specs.Prelude.{⊤}
 use Rattle.std.proofs.Common.{◌≡◌, ℕ, List, [], ◌∷◌, length, Bool, true, false, Option, Some, Result, Ok, Err, ap, sym, ◌∙◌, refl, subst, arith}
 use Rattle.g4_tokens.specs.Symbols.{eof}
 use Rattle.g4_grammar.specs.StepRules.{StepRule}
+use Rattle.g4_grammar.specs.Written.{predicate_texts}
 use Rattle.g4_grammar.specs.declared.step.Numbering.{Numbering}
+use Rattle.g4_preds.specs.Trees.{Tree}
 use Rattle.g4_leftrec.specs.Rewriting.{rewritten, numberings}
 use Rattle.g4_net.specs.Network.{ParserNetwork}
 use Rattle.g4_net.specs.declared.network.State.TheVariants.{Call}
@@ -15,6 +17,7 @@ use Rattle.g4_vocab.specs.declared.fault.NumberFault.TheVariants as numbering
 use Rattle.g4_checks.specs.Checking.{IsChecked}
 use Rattle.g4_source.specs.declared.refused.Refused.TheVariants as checking
 use Rattle.g4_checks.proofs.OneCheck.{one_answer as one_answer_checked}
+use Rattle.g4_checks.proofs.ParserPredicates.{one_predicates}
 use Rattle.g4_build.specs.Answers.{GivesNetwork}
 use Rattle.g4_build.specs.declared.builder.BuildFault.TheVariants as building
 use Rattle.g4_layout.proofs.OneNetwork.{one_network}
@@ -46,11 +49,10 @@ use Rattle.g4_fetch.proofs.OneVocabulary.{one_all}
 use Rattle.g4_imports.specs.declared.composite.Composite.{Composite}
 use Rattle.g4_imports.specs.declared.composite.Composites.{Composites}
 use Rattle.g4_imports.proofs.OneIntegration.{no_fault, one_composites, one_fault}
-use Rattle.g4_load.specs.Forms.{FileForm, TellsForms, file_forms}
 use Rattle.g4_load.specs.Stopping.{stop_of_fetch, stop_of_import}
 use Rattle.g4_load.specs.Loading as loading
 use Rattle.g4_load.proofs.Located.{one_of_whole}
-use Rattle.g4_load.specs.Loading.{Checks, Composes, Integrates, LoadsUnited, Merges, Numbers, Reads, Loads, Unifies, loaded_of}
+use Rattle.g4_load.specs.Loading.{Checks, Composes, HandsOn, LoadsUnited, Merges, Numbers, Reads, Loads, Unifies}
 use Rattle.g4_load.specs.Uniting.{Attaches, Unites, lexer_source, united_of}
 use Rattle.g4_load.specs.declared.whole.United.{United}
 use Rattle.g4_load.proofs.OneStage.{IsSingle, IsSingleBeside, one_gift, one_then, one_of_file}
@@ -148,10 +150,30 @@ one_from_rule : (rule : List ℕ) (grammar : Loaded) → IsSingle (FromRule rule
 one_from_rule rule grammar = one_then (Lays rule grammar.rules) (ListsStart (names_of grammar.rules) grammar.shown)
     (one_laid rule grammar.rules) (one_start_listing (names_of grammar.rules) grammar.shown)
 
+-- grammars with the same parts are the same
+abbrev of_parts : List StepRule → List Tree → List (List ℕ) → LexerRules × CommandTables → Loaded
+of_parts rules predicates shown lexer = record { rules = rules; predicates = predicates; shown = shown; lexer = lexer }
+
+same_parts : (a b : Loaded) → a.rules ≡ b.rules → a.predicates ≡ b.predicates → a.shown ≡ b.shown → a.lexer ≡ b.lexer → a ≡ b
+same_parts a b rules predicates shown lexer =
+    ap (λ (x : List StepRule). of_parts x a.predicates a.shown a.lexer) rules
+    ∙ (ap (λ (x : List Tree). of_parts b.rules x a.shown a.lexer) predicates
+    ∙ (ap (λ (x : List (List ℕ)). of_parts b.rules b.predicates x a.lexer) shown
+    ∙ ap (λ (x : LexerRules × CommandTables). of_parts b.rules b.predicates b.shown x) lexer))
+
+-- a source without fault is handed on in at most one way
+one_handed : (table : List TokenEntry) (source : Source) → IsSingle (HandsOn table source)
+one_handed table source (Ok a) (Ok b) p q = ap (λ x. Ok x)
+    (same_parts a b (p.rules ∙ sym q.rules)
+    (one_predicates (predicate_texts source.rules) a.predicates b.predicates p.predicates q.predicates) (p.shown ∙ sym q.shown)
+    (p.lexer ∙ sym q.lexer))
+one_handed table source (Ok a) (Err g) p q = absurd q
+one_handed table source (Err f) b p q = absurd p
+
 -- a source gives at most one grammar, where it is checked
 one_checked : (table : List TokenEntry) (source : Source) → IsSingle (Checks table source)
-one_checked table source = one_then (Gives (IsChecked source) of_check) (λ _ result. result ≡ Ok (loaded_of table source))
-    (one_gift (IsChecked source) of_check checking.NoMemory refl (one_answer_checked source)) (λ _ a b p q. p ∙ sym q)
+one_checked table source = one_then (Gives (IsChecked source) of_check) (λ _. HandsOn table source)
+    (one_gift (IsChecked source) of_check checking.NoMemory refl (one_answer_checked source)) (λ _. one_handed table source)
 
 one_numbers : (table : List TokenEntry) (source : Source) → IsSingle (Numbers table source)
 one_numbers table source = one_then (Gives (FitsLimits table source) of_number) (λ _. Checks table source)
@@ -169,26 +191,13 @@ one_unites table composites kinds.Combined a b p q = p ∙ sym q
 one_unites table composites kinds.Lexer a b p q = p ∙ sym q
 one_unites table composites kinds.Parser a b p q = one_attaches table composites.grammar composites.lexer a b p q
 
--- of forms one thing is reported
-one_forms : (forms : List FileForm) → IsSingle {X = ⊤} (TellsForms forms)
-one_forms forms (Ok u) (Ok v) p q = refl
-one_forms [] (Ok u) (Err t) p q = absurd q
-one_forms (form ∷ forms) (Ok u) (Err t) p q = absurd (let no_way : ⊥ = cc in no_way)
-one_forms [] (Err s) b p q = absurd p
-one_forms (form ∷ forms) (Err s) (Ok v) p q = absurd (let no_way : ⊥ = cc in no_way)
-one_forms (form ∷ forms) (Err s) (Err t) p q = ap (λ x. Err x) (p ∙ sym q)
-
--- and of imports
-one_integrates : (grammar : WithImports) (lexer : Option ℕ) → IsSingle (Integrates grammar lexer)
-one_integrates grammar lexer (Ok a) (Ok b) p q = ap (λ x. Ok x) (one_composites grammar.files lexer a b p.1 q.1)
-one_integrates grammar lexer (Ok a) (Err t) p (fault, is, told) = absurd (no_fault grammar fault p.0 is)
-one_integrates grammar lexer (Err s) (Ok b) (fault, is, told) q = absurd (no_fault grammar fault q.0 is)
-one_integrates grammar lexer (Err s) (Err t) (fault, is, told) (other, also, says) =
-    ap (λ x. Err x) (told ∙ (ap stop_of_import (one_fault grammar fault other is also) ∙ sym says))
-
+-- and of imports one thing is reported
 one_composes : (grammar : WithImports) (lexer : Option ℕ) → IsSingle (Composes grammar lexer)
-one_composes grammar lexer = one_then (TellsForms (file_forms grammar.files)) (λ _. Integrates grammar lexer)
-    (one_forms (file_forms grammar.files)) (λ _. one_integrates grammar lexer)
+one_composes grammar lexer (Ok a) (Ok b) p q = ap (λ x. Ok x) (one_composites grammar.files lexer a b p.1 q.1)
+one_composes grammar lexer (Ok a) (Err t) p (fault, is, told) = absurd (no_fault grammar fault p.0 is)
+one_composes grammar lexer (Err s) (Ok b) (fault, is, told) q = absurd (no_fault grammar fault q.0 is)
+one_composes grammar lexer (Err s) (Err t) (fault, is, told) (other, also, says) =
+    ap (λ x. Err x) (told ∙ (ap stop_of_import (one_fault grammar fault other is also) ∙ sym says))
 
 module _ (name : List ℕ) (fetched : Fetched) where
   -- what becomes of composites

@@ -1,5 +1,5 @@
 -- A grammar is built: it is loaded, and its networks are laid.
-use Rattle.std.specs.Prelude.{◌≡◌, ℕ, List, map, Option, Result, Ok}
+use Rattle.std.specs.Prelude.{◌≡◌, ℕ, List, [], map, Option, Result, Ok}
 use Rattle.g4_lexer.specs.declared.lexer.Lexer.{Lexer}
 use Rattle.g4_grammar.specs.StepRules.{StepRule}
 use Rattle.g4_net.specs.Network.{ParserNetwork}
@@ -20,10 +20,17 @@ use Rattle.g4_load.specs.declared.stop.Stop.{Stop}
 abbrev pub names_of : List StepRule → List (List ℕ)
 names_of rules = map (λ rule. rule.name) rules
 
--- a grammar with its network and its lexer
+-- a grammar with its network and its lexer, no flags being given
 abbrev pub interpreter_of : Loaded → ParserNetwork → Lexer → Interpreter
-interpreter_of grammar net lexer =
-    record { names = names_of grammar.rules; rules = grammar.rules; shown = grammar.shown; lexer = lexer; net = net }
+interpreter_of grammar net lexer = record {
+  names = names_of grammar.rules;
+  rules = grammar.rules;
+  predicates = grammar.predicates;
+  flags = [];
+  shown = grammar.shown;
+  lexer = lexer;
+  net = net;
+}
 
 -- the network of rewritten rules from the start rule, or why they have none
 abbrev pub GivesRewritten : List ℕ → List StepRule → Result ParserNetwork BuildFault → Type 0

@@ -1,13 +1,13 @@
--- Other crates cite Building, Counting, Listing, Loading, Stages, Usable; only this crate cites Commands, Faults, Forms, Locating,
--- Stopping, Uniting.
+-- Other crates cite Building, Counting, Listing, Loading, Stages, Usable; only this crate cites Commands, Faults, Locating,
+-- Predicates, Stopping, Uniting.
 pub mod Building
 pub mod Commands
 pub mod Counting
 pub mod Faults
-pub mod Forms
 pub mod Listing
 pub mod Loading
 pub mod Locating
+pub mod Predicates
 pub mod Stages
 pub mod Stopping
 pub mod Uniting

@@ -1,18 +1,16 @@
 -- A grammar is loaded: its file is read with those of all that it imports and with its vocabulary, these become one grammar, and its rules
 -- are numbered and checked.
-use Rattle.std.specs.Prelude.{◌≡◌, ◌≤◌, ℕ, List, All, Contains, IfSome, map, Option, Result, Ok, Err, ⊤}
-use Rattle.g4_source.specs.declared.atom.Atom.{Atom}
-use Rattle.g4_source.specs.declared.rule.ParserRule.{ParserRule}
-use Rattle.g4_source.specs.declared.rule.Rule.TheVariants.{Parser}
+use Rattle.std.specs.Prelude.{◌≡◌, ◌≤◌, ℕ, List, All, IfSome, map, Option, Result, Ok, Err}
 use Rattle.g4_source.specs.declared.source.Source.{Source}
 use Rattle.g4_source.specs.Blocks.{HaveAlternatives}
 use Rattle.g4_source.specs.Rules.{lexer_rules}
-use Rattle.g4_grammar.specs.Written.{ParserRuleIsUntested, RulesAreDefined, RulesCanRun}
+use Rattle.g4_grammar.specs.Written.{RulesAreDefined, RulesCanRun, predicate_texts}
 use Rattle.g4_tokens.specs.declared.symbol.TheConstants.{MOST_TYPES}
 use Rattle.g4_vocab.specs.Answers.{FitsLimits}
 use Rattle.g4_vocab.specs.Numbering.{own_of, token_lexers, types_of}
 use Rattle.g4_vocab.specs.Shown.{literals_of, names_of, shown_of, token_types}
 use Rattle.g4_checks.specs.Checking.{IsChecked}
+use Rattle.g4_checks.specs.Predicates.{ArePredicates}
 use Rattle.g4_lexer_rules.specs.Tables.{tables_of}
 use Rattle.g4_lexer_rules.specs.Rules.{rule_of_literal, types_of_rules}
 use Rattle.g4_lexer_rules.specs.declared.lexer_rules.LexerRules.{LexerRules}
@@ -30,7 +28,6 @@ use Rattle.g4_imports.specs.declared.fault.ImportFault.{ImportFault}
 use Rattle.g4_load.specs.declared.loading.Loaded.{Loaded}
 use Rattle.g4_load.specs.declared.loading.Numbered.{Numbered}
 use Rattle.g4_load.specs.Faults.{of_number, of_check}
-use Rattle.g4_load.specs.Forms.{TellsForms, file_forms}
 use Rattle.g4_load.specs.Locating.{OfWhole}
 use Rattle.g4_load.specs.Stages.{Gives, IsErrorOf, OfFile, Then}
 use Rattle.g4_load.specs.Stopping.{stop_of_fetch, stop_of_import}
@@ -49,13 +46,9 @@ pub data Reads (files : Files) (library : Option (List ℕ)) (name : List ℕ) :
       → Reads files library name fetched (Ok grammar)
 
 -- a grammar with all that it imports as one, and its lexer grammar, if there is one, the same; or the first fault of these
-abbrev pub Integrates : WithImports → Option ℕ → Result Composites Stop → Type 0
-Integrates grammar lexer (Ok composites) = HasNoFault grammar × AreComposites grammar.files lexer composites
-Integrates grammar lexer (Err stop) = (fault : ImportFault) × IsFault grammar fault × (stop ≡ stop_of_import fault)
-
--- the same, or the first form of its files that is not run yet
 abbrev pub Composes : WithImports → Option ℕ → Result Composites Stop → Type 0
-Composes grammar lexer = Then (TellsForms (file_forms grammar.files)) (λ _. Integrates grammar lexer)
+Composes grammar lexer (Ok composites) = HasNoFault grammar × AreComposites grammar.files lexer composites
+Composes grammar lexer (Err stop) = (fault : ImportFault) × IsFault grammar fault × (stop ≡ stop_of_import fault)
 
 -- the same as one grammar, or why a parser grammar has no lexer grammar
 abbrev pub Merges : List ℕ → Fetched → Result United Stop → Type 0
@@ -70,17 +63,21 @@ rules_of_lexer table source = record {
   types = types_of_rules (names_of (types_of table source)) (literals_of table source) source.rules;
 }
 
--- a source without fault whose types begin with these, as it is handed on
-abbrev pub loaded_of : List TokenEntry → Source → Loaded
-loaded_of table source = record {
-  rules = resolved (types_of table source) source;
-  shown = shown_of table source;
-  lexer = (rules_of_lexer table source, tables_of source (names_of (types_of table source)));
-}
+-- A source without fault whose types begin with these, as it is handed on. Its predicates are those of its parser rules, in order.
+pub record IsLoaded (table : List TokenEntry) (source : Source) (loaded : Loaded) : Type 0 where
+  pub rules : loaded.rules ≡ resolved (types_of table source) source
+  pub predicates : ArePredicates (predicate_texts source.rules) loaded.predicates
+  pub shown : loaded.shown ≡ shown_of table source
+  pub lexer : loaded.lexer ≡ (rules_of_lexer table source, tables_of source (names_of (types_of table source)))
+
+-- the source is handed on so
+abbrev pub HandsOn : List TokenEntry → Source → Result Loaded GrammarFault → Type 0
+HandsOn table source (Ok loaded) = IsLoaded table source loaded
+HandsOn table source (Err fault) = ⊥
 
 -- the grammar, where its rules have no fault
 abbrev pub Checks : List TokenEntry → Source → Result Loaded GrammarFault → Type 0
-Checks table source = Then (Gives (IsChecked source) of_check) (λ _ result. result ≡ Ok (loaded_of table source))
+Checks table source = Then (Gives (IsChecked source) of_check) (λ _. HandsOn table source)
 
 -- the grammar of a source, or its first fault: a limit, a fault of the rules
 abbrev pub Numbers : List TokenEntry → Source → Result Loaded GrammarFault → Type 0
@@ -98,10 +95,6 @@ Unifies files library name fetched = Then (Reads files library name fetched) (Me
 abbrev pub Loads : Files → Option (List ℕ) → List ℕ → List (List ℕ) → Result Loaded Stop → Type 0
 Loads files library name fetched = Then (Unifies files library name fetched) (LoadsUnited name)
 
--- no parser rule tests anything
-abbrev pub AreUntested : Source → Type 0
-AreUntested source = (rule : ParserRule Atom) → Contains source.rules (Parser rule) → ParserRuleIsUntested rule
-
 -- the lexer of a source without fault can be made with these types
 pub record IsReady (source : Source) (numbered : Numbered) : Type 0 where
   pub low_names : All (λ name. name.symbol ≤ MOST_TYPES) numbered.types.names
@@ -109,11 +102,12 @@ pub record IsReady (source : Source) (numbered : Numbered) : Type 0 where
   pub defined : RulesAreDefined source.rules
   pub run : RulesCanRun source.rules
 
--- the parser rules and the token types of a source without fault, whose types begin with these
+-- the parser rules, their predicates and the token types of a source without fault, whose types begin with these
 pub record IsNumbered (table : List TokenEntry) (source : Source) (numbered : Numbered) : Type 0 where
   pub fits : FitsLimits table source (Ok tt)
   pub checked : IsChecked source (Ok tt)
   pub rules : numbered.rules ≡ resolved (types_of table source) source
+  pub predicates : ArePredicates (predicate_texts source.rules) numbered.predicates
   pub types : numbered.types ≡ token_types (token_lexers source.rules) (own_of source) (types_of table source)
 
 -- the call answers with these, or with the first fault of the source
@@ -125,7 +119,3 @@ GivesNumbered table source (Err error) = IsErrorOf (Numbers table source) error
 abbrev pub AreFull : Composites → Type 0
 AreFull composites = HaveAlternatives composites.grammar.merged.source
     × IfSome composites.lexer (λ lexer. HaveAlternatives lexer.merged.source)
-
--- no parser rule of both tests anything
-abbrev pub TestNothing : Composites → Type 0
-TestNothing composites = AreUntested composites.grammar.merged.source × IfSome composites.lexer (λ lexer. AreUntested lexer.merged.source)

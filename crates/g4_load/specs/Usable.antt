@@ -27,3 +27,7 @@ pub record IsUsable (interpreter : Interpreter) : Type 0 where
   pub loops : HasLoops interpreter.net
   pub lexable : IsLexable interpreter.lexer.net
   pub types : HasTokenTypes interpreter.lexer
+
+-- the same with these flags given
+abbrev pub with_flags : List (List ℕ) → Interpreter → Interpreter
+with_flags flags interpreter = record interpreter { flags = flags }

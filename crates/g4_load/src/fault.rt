@@ -16,8 +16,7 @@ use std::alloc::{AllocError, Global};
 pub enum GrammarFault {
     /// The longest front part that is UTF-8 has this many bytes.
     NotUtf8(usize),
-    /// The place and the characters of the first syntax fault, or, there being none, of the first token of the first form
-    /// that is not run yet.
+    /// The place and the characters of the first syntax fault.
     Syntax(Place, Sequence<char>),
     /// The place of the first character set that is empty, has a range that runs backward or names an unknown property.
     BadSet(Place),

@@ -4,7 +4,7 @@ ghost use Rattle.g4_load.specs.Building.{Builds, FromGrammar, Lays, names_of};
 ghost use Rattle.g4_load.specs.Counting.{Counts};
 ghost use Rattle.g4_fetch.specs.Files.{Files};
 ghost use Rattle.g4_load.specs.Stages.{AfterFetches, GivesOrHalts, IsAnswerOf};
-ghost use Rattle.g4_load.specs.Usable.{IsParsing, IsUsable};
+ghost use Rattle.g4_load.specs.Usable.{IsParsing, IsUsable, with_flags};
 
 use crate::fault::{CheckError, not_built};
 use crate::loading::{Loaded, load};
@@ -17,6 +17,7 @@ use g4_lexer::Lexer;
 use g4_lexer_rules::build_lexer;
 use g4_net::ParserNetwork;
 use g4_ports::Shelf;
+use g4_preds::Predicate;
 use std::alloc::{AllocError, Global};
 
 /// What files are parsed with: a grammar's lexer, and the network of one of its rules.
@@ -26,10 +27,32 @@ pub struct Interpreter {
     pub names: Sequence<Text>,
     /// The parser rules as they are written, with what their atoms are in a network.
     pub rules: ParserRules,
+    /// The predicates of the parser rules, by their numbers.
+    pub predicates: Sequence<Predicate>,
+    /// The flags that its predicates find given: none at first.
+    pub flags: Sequence<Text>,
     /// What is shown of each token type from 1 on.
     pub shown: Sequence<Text>,
     pub lexer: Lexer,
     pub net: ParserNetwork,
+}
+
+impl Interpreter {
+    /// The same with these flags given.
+    pub fn with_flags(self, flags: Sequence<Text>) -> Interpreter
+        ensures same { result ≡ with_flags flags self }
+        ensures usable { IsUsable self → IsUsable result }
+    {
+        Interpreter {
+            names: self.names,
+            rules: self.rules,
+            predicates: self.predicates,
+            flags,
+            shown: self.shown,
+            lexer: self.lexer,
+            net: self.net,
+        }
+    }
 }
 
 /// The names of the rules in order.
@@ -66,6 +89,7 @@ fn interpret(alloc: Global, grammar: Loaded, start: &str) -> Result<Interpreter,
 {
     let Loaded {
         rules,
+        predicates,
         shown,
         lexer,
     } = grammar;
@@ -75,6 +99,8 @@ fn interpret(alloc: Global, grammar: Loaded, start: &str) -> Result<Interpreter,
     Ok(Interpreter {
         names,
         rules,
+        predicates,
+        flags: Sequence::new(Vec::new(alloc)),
         shown,
         lexer,
         net,

@@ -3,7 +3,6 @@
 #![tactic(auto)]
 
 mod fault;
-mod forms;
 mod interpreter;
 mod law;
 mod listing;
@@ -14,7 +13,9 @@ mod whole;
 
 pub use fault::GrammarFault;
 pub use interpreter::{Interpreter, build_interpreter};
-pub use law::{commands_are_carried_out, one_built, one_listed, one_loaded};
+pub use law::{
+    commands_are_carried_out, one_built, one_listed, one_loaded, predicates_have_their_trees,
+};
 pub use listing::list_named;
 pub use loading::{Loaded, load};
 pub use stop::{Halt, Stop};

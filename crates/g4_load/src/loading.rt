@@ -6,21 +6,21 @@ ghost use Rattle.g4_fetch.specs.Files.{Files};
 ghost use Rattle.g4_source.specs.Blocks.{HaveAlternatives};
 ghost use Rattle.g4_token_file.specs.declared.entry.TokenEntry.{TokenEntry};
 ghost use Rattle.g4_load.specs.Counting.{Counts};
-ghost use Rattle.g4_load.specs.Loading.{AreFull, AreUntested, Composes, GivesNumbered, IsNumbered, IsReady, Loads, LoadsUnited, Merges, Reads, TestNothing, loaded_of};
+ghost use Rattle.g4_load.specs.Loading.{AreFull, Composes, GivesNumbered, IsLoaded, IsNumbered, IsReady, Loads, LoadsUnited, Merges, Reads};
 ghost use Rattle.g4_load.specs.Stages.{AfterFetches, GivesOrHalts, GivesOrStops};
 
 use crate::fault::CheckError;
-use crate::forms::check_all_forms;
 use crate::locating::located;
 use crate::stop::{Halt, fault_of, halt_of_fetch};
 use crate::whole::{United, unite};
 use g4_base::{Sequence, Text};
-use g4_checks::check;
+use g4_checks::{check, predicates_of};
 use g4_fetch::{Fetched, WithImports, fetch_grammar};
 use g4_grammar::{ParserRules, TokenTypes};
 use g4_imports::{Composites, integrate};
 use g4_lexer_rules::{CheckedLexer, checked_lexer_of};
 use g4_ports::Shelf;
+use g4_preds::Predicate;
 use g4_resolve::resolve;
 use g4_source::Source;
 use g4_token_file::TokenTable;
@@ -32,16 +32,19 @@ use std::alloc::{AllocError, Global};
 pub struct Loaded {
     /// The parser rules in order of the text, which count from 1, with what their atoms are in a network.
     pub rules: ParserRules,
+    /// The predicates of the parser rules, by their numbers.
+    pub predicates: Sequence<Predicate>,
     /// What is shown of each token type from 1 on.
     pub shown: Sequence<Text>,
     /// The rules of the lexer with their token types, and what their commands name.
     pub lexer: CheckedLexer,
 }
 
-/// The parser rules of a grammar without fault, and its token types.
+/// The parser rules of a grammar without fault, their predicates, and its token types.
 #[derive(Drop)]
 struct Numbered {
     rules: ParserRules,
+    predicates: Sequence<Predicate>,
     types: TokenTypes,
 }
 
@@ -71,9 +74,7 @@ fn compose(alloc: Global, grammar: WithImports, lexer: Option<usize>) -> Result<
     requires later { IsLater grammar lexer }
     ensures composes { GivesOrStops (Composes grammar lexer) result }
     ensures full { IfOk result AreFull }
-    ensures untested { IfOk result TestNothing }
 {
-    check_all_forms(alloc, grammar.files.as_slice())?;
     let composites = integrate(alloc, grammar, lexer)?;
     Ok(composites)
 }
@@ -84,7 +85,6 @@ fn merge(alloc: Global, name: &str, fetched: Fetched) -> Result<United, Halt>
     requires later { IsLater fetched.grammar fetched.lexer }
     ensures merges { GivesOrStops (Merges name.now fetched) result }
     ensures full { IfOk result (λ united. HaveAlternatives united.whole.source) }
-    ensures untested { IfOk result (λ united. AreUntested united.whole.source) }
 {
     let Fetched {
         grammar,
@@ -99,34 +99,43 @@ fn merge(alloc: Global, name: &str, fetched: Fetched) -> Result<United, Halt>
     }
 }
 
-/// The parser rules and the token types of a grammar, which begin with this table, where it has no fault.
+/// The parser rules, their predicates and the token types of a grammar, which begin with this table, where it has no fault.
 fn number_and_check(
     alloc: Global,
     table: TokenTable,
     source: &Source,
 ) -> Result<Numbered, CheckError>
     requires full { HaveAlternatives source.now }
-    requires untested { AreUntested source.now }
     ensures numbered { GivesNumbered table source.now result }
     ensures ready { IfOk result (IsReady source.now) }
 {
     let vocabulary = number(alloc, table, source)?;
     check(alloc, source)?;
     let rules = resolve(alloc, source, &vocabulary)?;
+    let predicates = predicates_of(alloc, source)?;
     let types = vocabulary.token_types(alloc)?;
-    Ok(Numbered { rules, types })
+    Ok(Numbered {
+        rules,
+        predicates,
+        types,
+    })
 }
 
 /// The grammar of a source without fault.
 fn with_lexer(alloc: Global, source: Source, numbered: Numbered) -> Result<Loaded, AllocError>
     requires full { HaveAlternatives source }
     requires ready { IsReady source numbered }
-    ensures { IfOk result (λ loaded. (table : List TokenEntry) → IsNumbered table source numbered → loaded ≡ loaded_of table source) }
+    ensures { IfOk result (λ loaded. (table : List TokenEntry) → IsNumbered table source numbered → IsLoaded table source loaded) }
 {
-    let Numbered { rules, types } = numbered;
+    let Numbered {
+        rules,
+        predicates,
+        types,
+    } = numbered;
     let lexer = checked_lexer_of(alloc, source, types.names, types.literals)?;
     Ok(Loaded {
         rules,
+        predicates,
         shown: types.shown,
         lexer,
     })
@@ -135,7 +144,6 @@ fn with_lexer(alloc: Global, source: Source, numbered: Numbered) -> Result<Loade
 /// The grammar in the main file of this name, as one, where its rules have no fault.
 fn load_united(alloc: Global, name: &str, united: United) -> Result<Loaded, Halt>
     requires full { HaveAlternatives united.whole.source }
-    requires untested { AreUntested united.whole.source }
     ensures { GivesOrStops (LoadsUnited name.now united) result }
 {
     let United { whole, table } = united;

@@ -1,4 +1,6 @@
 mod Contained
+mod Counted
+mod Ordered
 mod Marking
 mod Marked
 mod Ends

@@ -5,8 +5,8 @@ use Rattle.std.proofs.lemmas.List.{drop_more}
 use Rattle.std.proofs.lemmas.List.Concat.{flat_map-append}
 use Rattle.std.proofs.lemmas.List.Elements.{All-contains, filter-append, filter_passes}
 use Rattle.std.proofs.lemmas.List.Kept.{IsStrictlyIncreasing-filter}
-use Rattle.g4_net.specs.Network.{ParserNetwork, state_at}
-use Rattle.g4_netlist.specs.Listing.{line_by, lines_of, spaced}
+use Rattle.g4_net.specs.Network.{ParserNetwork}
+use Rattle.g4_netlist.specs.Listing.{line_of, lines_of, spaced}
 use Rattle.g4_netlist.specs.OfRule.{AreStatesOf}
 use Rattle.g4_netlist.specs.Searching.{AreMarks, IsFound, marked}
 use Rattle.g4_netlist.proofs.Contained.{Contains-filter, Contains-range, range_more, range_rises}
@@ -40,11 +40,11 @@ lines_same names shown net found i unset =
 
 -- a state that is marked has its line after those of the states before it
 pub lines_more : (names shown : List (List ℕ)) (net : ParserNetwork) (found : List Bool) (i : ℕ) → slice_index_or found i false ≡ true →
-    lines_of names shown net (marked found (i + 1)) ≡ lines_of names shown net (marked found i) ++ line_by names shown i (state_at net i)
+    lines_of names shown net (marked found (i + 1)) ≡ lines_of names shown net (marked found i) ++ line_of names shown net i
 lines_more names shown net found i is_set =
     ap (lines_of names shown net) (marked_more found i ∙ ap (λ (b : Bool). marked found i ++ cond b (i ∷ []) []) is_set)
-    ∙ flat_map-append (λ p. line_by names shown p (state_at net p)) (marked found i) (i ∷ [])
-    ∙ ap (λ (xs : List ℕ). lines_of names shown net (marked found i) ++ xs) (append-nil (line_by names shown i (state_at net i)))
+    ∙ flat_map-append (line_of names shown net) (marked found i) (i ∷ [])
+    ∙ ap (λ (xs : List ℕ). lines_of names shown net (marked found i) ++ xs) (append-nil (line_of names shown net i))
 
 -- one more number, a space before it
 pub spaced_next : (numbers : List ℕ) (i : ℕ) (before after all : List ℕ) → i < length numbers

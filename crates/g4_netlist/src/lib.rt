@@ -4,6 +4,7 @@
 mod law;
 mod line;
 mod listing;
+mod making;
 mod search;
 mod shown;
 

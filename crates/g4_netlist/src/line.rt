@@ -44,7 +44,7 @@ fn push_edge(
     set: &Symbols,
     target: u32,
 ) -> Result<(), AllocError>
-    ensures { OnOk result (out.new.items ≡ out.old.items ++ state_text [] shown.now (Edge set.now target)) }
+    ensures { OnOk result (out.new.items ≡ out.old.items ++ state_text [] shown.now 0 (Edge set.now target)) }
 {
     let symbols = set.to_vec(alloc)?;
     let rest = format!(in alloc; " {target}")?;
@@ -62,7 +62,7 @@ fn push_call(
     level: u32,
     back: u32,
 ) -> Result<(), AllocError>
-    ensures { OnOk result (out.new.items ≡ out.old.items ++ state_text names.now [] (Call rule level back)) }
+    ensures { OnOk result (out.new.items ≡ out.old.items ++ state_text names.now [] 0 (Call rule level back)) }
 {
     let rest = format!(in alloc; " {level} {back}")?;
     push(out, "call ")?;
@@ -70,15 +70,16 @@ fn push_call(
     push(out, rest.as_str())
 }
 
-/// Adds what is listed of a state after its number.
+/// Adds what is listed of a state after its number, where so many predicates are made before it.
 fn push_text(
     alloc: Global,
     out: &mut Vec<u8>,
     names: &[Text],
     shown: &[Text],
+    before: usize,
     state: &State<Symbols>,
 ) -> Result<(), AllocError>
-    ensures { OnOk result (out.new.items ≡ out.old.items ++ state_text names.now shown.now state.now) }
+    ensures { OnOk result (out.new.items ≡ out.old.items ++ state_text names.now shown.now before state.now) }
 {
     match state {
         State::Decision(targets) => {
@@ -88,8 +89,8 @@ fn push_text(
         State::End(_) => push(out, "end"),
         State::Edge(set, target) => push_edge(alloc, out, shown, set, *target),
         State::Call { rule, level, back } => push_call(alloc, out, names, *rule, *level, *back),
-        State::Predicate(number, target) => {
-            let text = format!(in alloc; "pred {number} {target}")?;
+        State::Predicate(_, target) => {
+            let text = format!(in alloc; "pred {before} {target}")?;
             push(out, text.as_str())
         }
         State::Level(level, target) => {
@@ -107,19 +108,20 @@ fn push_text(
     }
 }
 
-/// Adds the line of a state.
+/// Adds the line of a state, where so many predicates are made before it.
 pub(crate) fn push_line(
     alloc: Global,
     out: &mut Vec<u8>,
     names: &[Text],
     shown: &[Text],
+    before: usize,
     number: usize,
     state: &State<Symbols>,
 ) -> Result<(), AllocError>
-    ensures { OnOk result (out.new.items ≡ out.old.items ++ state_line names.now shown.now number state.now) }
+    ensures { OnOk result (out.new.items ≡ out.old.items ++ state_line names.now shown.now before number state.now) }
 {
     let start = format!(in alloc; "{number} ")?;
     push(out, start.as_str())?;
-    push_text(alloc, out, names, shown, state)?;
+    push_text(alloc, out, names, shown, before, state)?;
     push(out, "\n")
 }

@@ -2,28 +2,35 @@
 ghost use Rattle.std.specs.Prelude.{◌≡◌, ◌++◌, IfOk, OnOk, length};
 ghost use Rattle.g4_net.specs.Network.{state_at};
 ghost use Rattle.g4_netlist.specs.Listing.{IsListing, line_by, lines_of};
+ghost use Rattle.g4_netlist.specs.Making.{AreOrders};
 ghost use Rattle.g4_netlist.specs.Searching.{marked};
 
 use crate::line::{push_line, push_name};
+use crate::making::{predicate_orders, predicates_before};
 use crate::search::states_of;
 use crate::shown::push;
 use g4_base::{Octets, Sequence, Text};
 use g4_net::ParserNetwork;
 use std::alloc::{AllocError, Global};
 
-/// Adds the line of the state of this number, if there is one.
+/// Adds the line of the state of this number, if there is one. `orders` are those of the network's predicates, least first.
 fn push_state(
     alloc: Global,
     out: &mut Vec<u8>,
     names: &[Text],
     shown: &[Text],
     net: &ParserNetwork,
+    orders: &[u128],
     number: usize,
 ) -> Result<(), AllocError>
-    ensures { OnOk result (out.new.items ≡ out.old.items ++ line_by names.now shown.now number (state_at net.now number)) }
+    requires { AreOrders net.now orders.now }
+    ensures { OnOk result (out.new.items ≡ out.old.items ++ line_by names.now shown.now net.now number (state_at net.now number)) }
 {
     match net.states.as_slice().get(number) {
-        Some(state) => push_line(alloc, out, names, shown, number, state),
+        Some(state) => {
+            let before = predicates_before(net, orders, number, state);
+            push_line(alloc, out, names, shown, before, number, state)
+        }
         None => Ok(()),
     }
 }
@@ -39,11 +46,12 @@ fn push_marked(
 ) -> Result<(), AllocError>
     ensures { OnOk result (out.new.items ≡ out.old.items ++ lines_of names.now shown.now net.now (marked found.now (length found.now))) }
 {
+    let orders = predicate_orders(alloc, net)?;
     for number in 0..found.len() {
         if !found[number] {
             continue;
         }
-        push_state(alloc, out, names, shown, net, number)?;
+        push_state(alloc, out, names, shown, net, orders.as_slice(), number)?;
     }
     Ok(())
 }

@@ -2,3 +2,4 @@ mod Apart
 mod Meant
 pub mod OneOutcome
 pub mod Taught
+mod OpenNames

@@ -2,7 +2,7 @@
 use Rattle.std.proofs.Common.{◌≡◌, ℕ, List, [], ◌∷◌, Ok, Err, IfOk, Result, subst}
 use Rattle.g4_tokens.specs.Symbols.{eof}
 use Rattle.g4_derivation.specs.Spelling.{DerivesFrom}
-use Rattle.g4_grammar.specs.StepRules.{CanBeRewritten, StepRule}
+use Rattle.g4_grammar.specs.StepRules.{AreUnpredicated, CanBeRewritten, StepRule}
 use Rattle.g4_layout.specs.Built.{IsBuilt}
 use Rattle.g4_leftrec.specs.Rewriting.{numberings, rewritten}
 use Rattle.g4_load.specs.Usable.{IsUsable}
@@ -22,7 +22,7 @@ use Rattle.g4_trees.specs.declared.tree.Item.{Item}
 abbrev pub SaysAcceptance : ParserNetwork → List Token → Result (List Item) ParseFault → Type 0
 SaysAcceptance net tokens result = (set : List ℕ) (rules : List StepRule) (start : List ℕ) → CanBeRewritten rules →
     IsBuilt set (rewritten rules) (numberings rules) start net →
-    IsAcceptance (DerivesFrom set (rewritten rules) start (word_of tokens)) result
+    IsAcceptance (AreUnpredicated rules) (DerivesFrom set (rewritten rules) start (word_of tokens)) result
 
 abbrev pub SaysTree : ParserNetwork → List Token → Result (List Item) ParseFault → Type 0
 SaysTree net tokens result = (set : List ℕ) (rules : List StepRule) (start : List ℕ) → CanBeRewritten rules →
@@ -51,5 +51,6 @@ module _ (interpreter : Interpreter) (usable : IsUsable interpreter) (tokens : T
   pub fault_meant : (fault : ParseFault) → SaysAcceptance interpreter.net lent (Err fault) →
       IsMeantAnywhere interpreter (outcomes.Parse tokens fault)
   fault_meant fault accepts start network =
-      subst (λ (ts : List Token). IsAcceptance (DerivesFrom (eof ∷ []) (rewritten interpreter.rules) start (word_of ts)) (Err fault)) same
+      subst (λ (ts : List Token). IsAcceptance (AreUnpredicated interpreter.rules)
+      (DerivesFrom (eof ∷ []) (rewritten interpreter.rules) start (word_of ts)) (Err fault)) same
       (accepts (eof ∷ []) interpreter.rules start usable.rewritable network)

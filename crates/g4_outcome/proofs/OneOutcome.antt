@@ -13,8 +13,9 @@ use Rattle.g4_trees.specs.Trees.{items_of}
 use Rattle.g4_parse.specs.declared.parser.ParseFault.{ParseFault}
 use Rattle.g4_parse.specs.declared.parser.ParseFault.TheVariants as parsing
 use Rattle.g4_parse.specs.Parsing.{IsParse}
-use Rattle.g4_run.specs.Running.{Ending, parsed, not_viable, mismatch, failed_predicate, too_deep, beginning, no_predicates, Ends}
+use Rattle.g4_run.specs.Running.{Ending, parsed, not_viable, mismatch, failed_predicate, too_deep, beginning, Ends, Values}
 use Rattle.g4_run.proofs.OneEnding.{one_end}
+use Rattle.g4_outcome.specs.Predicates.{values_of}
 use Rattle.g4_outcome.specs.declared.input.Input.{Input}
 use Rattle.g4_load.specs.declared.interpreter.Interpreter.{Interpreter}
 use Rattle.g4_outcome.specs.declared.outcome.Outcome.{Outcome}
@@ -31,21 +32,21 @@ result_of (failed_predicate at rule) = Err (parsing.FailedPredicate at rule)
 result_of (too_deep at) = Err (parsing.TooDeep at)
 
 -- a result is that of an ending, want of memory aside
-from_ending : (net : ParserNetwork) (word : List ℕ) (r : Result (List Item) ParseFault) → IsParse net word r
-    → r ≢ Err parsing.NoMemory → (e : Ending) × Ends net word e × (result_of e ≡ r)
-from_ending net word (Ok tree) (t, p, e) n = (parsed t, p, ap Ok (sym e))
-from_ending net word (Err (parsing.NoViable at)) p n = (not_viable at, p, refl)
-from_ending net word (Err (parsing.Mismatch at state)) p n = (mismatch at state, p, refl)
-from_ending net word (Err (parsing.FailedPredicate at rule)) p n = (failed_predicate at rule, p, refl)
-from_ending net word (Err (parsing.TooDeep at)) p n = (too_deep at, p, refl)
-from_ending net word (Err parsing.NoMemory) p n = absurd (n refl)
+from_ending : (net : ParserNetwork) (values : Values) (word : List ℕ) (r : Result (List Item) ParseFault) → IsParse net values word r
+    → r ≢ Err parsing.NoMemory → (e : Ending) × Ends net values word e × (result_of e ≡ r)
+from_ending net values word (Ok tree) (t, p, e) n = (parsed t, p, ap Ok (sym e))
+from_ending net values word (Err (parsing.NoViable at)) p n = (not_viable at, p, refl)
+from_ending net values word (Err (parsing.Mismatch at state)) p n = (mismatch at state, p, refl)
+from_ending net values word (Err (parsing.FailedPredicate at rule)) p n = (failed_predicate at rule, p, refl)
+from_ending net values word (Err (parsing.TooDeep at)) p n = (too_deep at, p, refl)
+from_ending net values word (Err parsing.NoMemory) p n = absurd (n refl)
 
 -- a run over a word has at most one result
-one_parse : (net : ParserNetwork) (word : List ℕ) → IsSingleBeside parsing.NoMemory (IsParse net word)
-one_parse net word a b p q n m =
-    let e = from_ending net word a p n in
-    let d = from_ending net word b q m in
-    sym e.2 ∙ ap result_of (one_end net no_predicates word beginning e.0 d.0 e.1 d.1) ∙ d.2
+one_parse : (net : ParserNetwork) (values : Values) (word : List ℕ) → IsSingleBeside parsing.NoMemory (IsParse net values word)
+one_parse net values word a b p q n m =
+    let e = from_ending net values word a p n in
+    let d = from_ending net values word b q m in
+    sym e.2 ∙ ap result_of (one_end net values word beginning e.0 d.0 e.1 d.1) ∙ d.2
 
 module _ (interpreter : Interpreter) where
   -- one lexing of the bytes, and one run over the tokens
@@ -55,11 +56,13 @@ module _ (interpreter : Interpreter) where
       (subst (λ bs. IsLexing interpreter.lexer bs r) same h) k n m
 
   one_run : (a b : Tokens) (r s : Result (List Item) ParseFault) → ◌≡◌ {A = Result Tokens LexFault} (Ok a) (Ok b)
-      → IsParse interpreter.net (word_of a.list) r → IsParse interpreter.net (word_of b.list) s → r ≢ Err parsing.NoMemory
+      → IsParse interpreter.net (values_of interpreter a) (word_of a.list) r
+      → IsParse interpreter.net (values_of interpreter b) (word_of b.list) s → r ≢ Err parsing.NoMemory
       → s ≢ Err parsing.NoMemory → r ≡ s
   one_run a b r s ok h k n m =
       let same : a ≡ b = cc in
-      one_parse interpreter.net (word_of b.list) r s (subst (λ (t : Tokens). IsParse interpreter.net (word_of t.list) r) same h) k n m
+      one_parse interpreter.net (values_of interpreter b) (word_of b.list) r s
+      (subst (λ (t : Tokens). IsParse interpreter.net (values_of interpreter t) (word_of t.list) r) same h) k n m
 
   -- an input has at most one outcome
   pub one_outcome : (input : Input) (a b : Outcome) → IsOutcome interpreter input a → IsOutcome interpreter input b → a ≡ b

@@ -21,7 +21,9 @@ use Rattle.g4_outcome.specs.declared.input.Input.{Input}
 use Rattle.g4_outcome.specs.declared.input.Input.TheVariants.{Bytes, TooLarge}
 use Rattle.g4_outcome.specs.declared.outcome.Outcome.{Outcome}
 use Rattle.g4_outcome.specs.Outcomes.{IsOutcome, not_lexed, not_parsed, parsed, too_large}
-use Rattle.g4_outcome.specs.Taught.{HasTaught, IsPassedIn, IsWordOf}
+use Rattle.g4_outcome.specs.Predicates.{run_over, values_of}
+use Rattle.g4_run.specs.Running.{RunOver}
+use Rattle.g4_outcome.specs.Taught.{HasTaught, IsPassedIn, IsRunOf}
 
 -- what is passed by one name is passed by the other
 pub same_taught : (p : Plan Tables) (One Other : Fact (List Config) → Type 0) → ((f : Fact (List Config)) → One f → Other f)
@@ -38,47 +40,47 @@ same_taught p One Other to from old new h = record {
 
 module _ (p : Plan Tables) (interpreter : Interpreter) (input : Input) where
   -- a file without tokens leaves the pass as it is
-  no_word : ((word : List ℕ) → IsWordOf interpreter input word → ⊥) → (told : Told) → HasTaught p interpreter input told told
-  no_word none told = record {
+  no_run : ((over : RunOver) → IsRunOf interpreter input over → ⊥) → (told : Told) → HasTaught p interpreter input told told
+  no_run none told = record {
     kept = record { seen = λ f h. h; taught = λ f h. h; known = λ t y h. h; holds = refl; count = refl };
     taught = record {
       within = λ f h. inl h;
       teaches = λ f h. inl h;
-      whole = λ not_full f passed. absurd (none passed.word passed.of);
-      some = λ f passed within. absurd (none passed.word passed.of);
+      whole = λ not_full f passed. absurd (none passed.over passed.of);
+      some = λ f passed within. absurd (none passed.over passed.of);
       missing = λ was is. absurd (true≢false (sym is ∙ was));
       stays_full = λ is. is;
-      rows = inl (λ f passed. none passed.word passed.of, refl);
+      rows = inl (λ f passed. none passed.over passed.of, refl);
     };
-    symbols = λ word of. absurd (none word of);
+    symbols = λ over of. absurd (none over of);
   }
 
 -- a file that is too large
 pub large_taught : (p : Plan Tables) (interpreter : Interpreter) (size : ℕ) (told : Told)
     → HasTaught p interpreter (TooLarge size) told told
 large_taught p interpreter size told =
-    no_word p interpreter (TooLarge size) (λ word of. let same = of.given in let no_way : ⊥ = cc in no_way) told
+    no_run p interpreter (TooLarge size) (λ over of. let same = of.given in let no_way : ⊥ = cc in no_way) told
 
 module _ (p : Plan Tables) (interpreter : Interpreter) (bytes : List ℕ) where
   -- there is one lexing
-  tokens_are : (tokens : Tokens) (word : List ℕ) → IsLexing interpreter.lexer bytes (Ok tokens)
-      → (of : IsWordOf interpreter (Bytes bytes) word) → word ≡ word_of tokens.list
-  tokens_are tokens word lexed of =
+  run_is : (tokens : Tokens) (over : RunOver) → IsLexing interpreter.lexer bytes (Ok tokens)
+      → (of : IsRunOf interpreter (Bytes bytes) over) → over ≡ run_over interpreter tokens
+  run_is tokens over lexed of =
       let same : bytes ≡ of.bytes = let g = of.given in cc in
       let ok : ◌≡◌ {A = Result Tokens LexFault} (Ok of.tokens) (Ok tokens) =
       one_answer interpreter.lexer MOST_TOKENS bytes (Ok of.tokens) (Ok tokens)
       (subst (λ (bs : List ℕ). IsLexing interpreter.lexer bs (Ok of.tokens)) (sym same) of.lexed) lexed
       (λ e. let no_way : ⊥ = cc in no_way) (λ e. let no_way : ⊥ = cc in no_way) in
       let tokens_same : of.tokens ≡ tokens = cc in
-      of.is ∙ (let f : word_of of.tokens.list ≡ word_of tokens.list = cc in f)
+      of.is ∙ ap (run_over interpreter) tokens_same
 
   -- a fault of its characters
   pub unlexed_taught : (fault : LexFault) (told : Told) → IsLexing interpreter.lexer bytes (Err fault) → fault ≢ lexing.NoMemory
       → HasTaught p interpreter (Bytes bytes) told told
-  unlexed_taught fault told lexed apart = no_word p interpreter (Bytes bytes) none told
+  unlexed_taught fault told lexed apart = no_run p interpreter (Bytes bytes) none told
     where
-      none : (word : List ℕ) → IsWordOf interpreter (Bytes bytes) word → ⊥
-      none word of =
+      none : (over : RunOver) → IsRunOf interpreter (Bytes bytes) over → ⊥
+      none over of =
           let same : bytes ≡ of.bytes = let g = of.given in cc in
           let clash : ◌≡◌ {A = Result Tokens LexFault} (Ok of.tokens) (Err fault) =
           one_answer interpreter.lexer MOST_TOKENS bytes (Ok of.tokens) (Err fault)
@@ -88,23 +90,27 @@ module _ (p : Plan Tables) (interpreter : Interpreter) (bytes : List ℕ) where
 
   -- a file with tokens
   pub lexed_taught : (tokens : Tokens) (old new : Told) → IsLexing interpreter.lexer bytes (Ok tokens)
-      → All IsSymbol (word_of tokens.list) → HasKept old new → IsTaught p (IsPassed p.net (word_of tokens.list)) old new
+      → All IsSymbol (word_of tokens.list) → HasKept old new
+      → IsTaught p (IsPassed p.net (values_of interpreter tokens) (word_of tokens.list)) old new
       → HasTaught p interpreter (Bytes bytes) old new
   lexed_taught tokens old new lexed symbols kept taught = record {
     kept = kept;
-    taught = same_taught p (IsPassed p.net (word_of tokens.list)) (IsPassedIn p.net interpreter (Bytes bytes)) to from old new taught;
-    symbols = λ word of. subst (λ (w : List ℕ). All IsSymbol w) (sym (tokens_are tokens word lexed of)) symbols;
+    taught = same_taught p (IsPassed p.net (values_of interpreter tokens) (word_of tokens.list))
+        (IsPassedIn p.net interpreter (Bytes bytes)) to from old new taught;
+    symbols = λ over of. subst (λ (o : RunOver). All IsSymbol o.word) (sym (run_is tokens over lexed of)) symbols;
   }
     where
-      to : (f : Fact (List Config)) → IsPassed p.net (word_of tokens.list) f → IsPassedIn p.net interpreter (Bytes bytes) f
+      to : (f : Fact (List Config)) → IsPassed p.net (values_of interpreter tokens) (word_of tokens.list) f
+          → IsPassedIn p.net interpreter (Bytes bytes) f
       to f passed = record {
-        word = word_of tokens.list;
+        over = run_over interpreter tokens;
         of = record { bytes = bytes; tokens = tokens; given = refl; lexed = lexed; is = refl };
         passed = passed;
       }
 
-      from : (f : Fact (List Config)) → IsPassedIn p.net interpreter (Bytes bytes) f → IsPassed p.net (word_of tokens.list) f
-      from f passed = subst (λ (w : List ℕ). IsPassed p.net w f) (tokens_are tokens passed.word lexed passed.of) passed.passed
+      from : (f : Fact (List Config)) → IsPassedIn p.net interpreter (Bytes bytes) f
+          → IsPassed p.net (values_of interpreter tokens) (word_of tokens.list) f
+      from f passed = subst (λ (o : RunOver). IsPassed p.net o.values o.word f) (run_is tokens passed.over lexed passed.of) passed.passed
 
 -- a fault that is no want of memory
 pub had_memory : (fault : ParseFault) → fault ≢ parsing.NoMemory → IsNoRefusal fault
@@ -114,34 +120,34 @@ had_memory (parsing.FailedPredicate at rule) apart = tt
 had_memory (parsing.TooDeep at) apart = tt
 had_memory parsing.NoMemory apart = absurd (apart refl)
 
--- ---- the word of a file, by its outcome
+-- ---- the run of a file, by its outcome
 
 module _ (interpreter : Interpreter) where
-  -- a file has at most one word
-  pub one_word : (input : Input) (a b : List ℕ) → IsWordOf interpreter input a → IsWordOf interpreter input b → a ≡ b
-  one_word input a b h k =
+  -- a file has at most one run
+  pub one_run : (input : Input) (a b : RunOver) → IsRunOf interpreter input a → IsRunOf interpreter input b → a ≡ b
+  one_run input a b h k =
       let same : h.bytes ≡ k.bytes = let g = sym h.given ∙ k.given in cc in
       let ok : ◌≡◌ {A = Result Tokens LexFault} (Ok h.tokens) (Ok k.tokens) =
       one_answer interpreter.lexer MOST_TOKENS k.bytes (Ok h.tokens) (Ok k.tokens)
       (subst (λ (bs : List ℕ). IsLexing interpreter.lexer bs (Ok h.tokens)) same h.lexed) k.lexed
       (λ e. let no_way : ⊥ = cc in no_way) (λ e. let no_way : ⊥ = cc in no_way) in
       let tokens : h.tokens ≡ k.tokens = cc in
-      h.is ∙ (ap (λ (t : Tokens). word_of t.list) tokens ∙ sym k.is)
+      h.is ∙ (ap (run_over interpreter) tokens ∙ sym k.is)
 
   -- one with a tree or a fault of the parser has one, any other has none
-  pub has_word : (input : Input) (outcome : Outcome) → IsOutcome interpreter input outcome
-      → ((word : List ℕ) × IsWordOf interpreter input word) ⊎ ((word : List ℕ) → IsWordOf interpreter input word → ⊥)
-  has_word input _ (too_large size given) =
-      inr (λ word of. let g = sym given ∙ of.given in let no_way : ⊥ = cc in no_way)
-  has_word input _ (not_lexed bytes fault given lexed apart) =
-      inr (λ word of.
+  pub has_run : (input : Input) (outcome : Outcome) → IsOutcome interpreter input outcome
+      → ((over : RunOver) × IsRunOf interpreter input over) ⊎ ((over : RunOver) → IsRunOf interpreter input over → ⊥)
+  has_run input _ (too_large size given) =
+      inr (λ over of. let g = sym given ∙ of.given in let no_way : ⊥ = cc in no_way)
+  has_run input _ (not_lexed bytes fault given lexed apart) =
+      inr (λ over of.
       let same : of.bytes ≡ bytes = let g = sym of.given ∙ given in cc in
       let clash : ◌≡◌ {A = Result Tokens LexFault} (Ok of.tokens) (Err fault) =
       one_answer interpreter.lexer MOST_TOKENS bytes (Ok of.tokens) (Err fault)
       (subst (λ (bs : List ℕ). IsLexing interpreter.lexer bs (Ok of.tokens)) same of.lexed) lexed
       (λ e. let no_way : ⊥ = cc in no_way) (λ e. apart (let f : fault ≡ lexing.NoMemory = cc in f)) in
       let no_way : ⊥ = cc in no_way)
-  has_word input _ (not_parsed bytes tokens fault given lexed parse apart) =
-      inl (word_of tokens.list, record { bytes = bytes; tokens = tokens; given = given; lexed = lexed; is = refl })
-  has_word input _ (parsed bytes tokens tree given lexed parse) =
-      inl (word_of tokens.list, record { bytes = bytes; tokens = tokens; given = given; lexed = lexed; is = refl })
+  has_run input _ (not_parsed bytes tokens fault given lexed parse apart) =
+      inl (run_over interpreter tokens, record { bytes = bytes; tokens = tokens; given = given; lexed = lexed; is = refl })
+  has_run input _ (parsed bytes tokens tree given lexed parse) =
+      inl (run_over interpreter tokens, record { bytes = bytes; tokens = tokens; given = given; lexed = lexed; is = refl })

@@ -5,4 +5,12 @@ use Rattle.g4_outcome.specs.declared.grammar.Grammar.{Grammar}
 
 -- both together
 abbrev pub with_net : Grammar → ParserNetwork → Interpreter
-with_net grammar net = record { names = grammar.names; rules = grammar.rules; shown = grammar.shown; lexer = grammar.lexer; net = net }
+with_net grammar net = record {
+  names = grammar.names;
+  rules = grammar.rules;
+  predicates = grammar.predicates;
+  flags = grammar.flags;
+  shown = grammar.shown;
+  lexer = grammar.lexer;
+  net = net;
+}

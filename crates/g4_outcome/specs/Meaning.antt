@@ -2,6 +2,7 @@
 use Rattle.std.specs.Prelude.{ℕ, List, [], ◌∷◌, Err}
 use Rattle.g4_tokens.specs.Symbols.{eof}
 use Rattle.g4_derivation.specs.Spelling.{DerivesFrom}
+use Rattle.g4_grammar.specs.StepRules.{AreUnpredicated}
 use Rattle.g4_leftrec.specs.Rewriting.{rewritten}
 use Rattle.g4_load.specs.Usable.{IsNetworkFrom}
 use Rattle.g4_load.specs.declared.interpreter.Interpreter.{Interpreter}
@@ -17,12 +18,13 @@ abbrev pub DerivesTokens : Interpreter → List ℕ → Tokens → Type 0
 DerivesTokens interpreter start tokens = DerivesFrom (eof ∷ []) (rewritten interpreter.rules) start (word_of tokens.list)
 
 -- A file with a tree: its tokens are derived, the tree is one of the rules, as they are written, over these tokens, and all tokens
--- but EOFs at their end, and END, are in it. A file with a fault of the parser: its tokens are not derived, unless the fault is that
--- too many rules are open.
+-- but EOFs at their end, and END, are in it. A file with a fault of the parser: where no rule has a predicate, its tokens are not derived,
+-- unless the fault is that too many rules are open.
 abbrev pub IsMeant : Interpreter → List ℕ → Outcome → Type 0
 IsMeant interpreter start (outcomes.Tree tokens tree) = DerivesTokens interpreter start tokens ×
     IsTreeOf interpreter.rules (word_of tokens.list) tree × LeavesClosing (eof ∷ []) (word_of tokens.list) tree
-IsMeant interpreter start (outcomes.Parse tokens fault) = IsAcceptance (DerivesTokens interpreter start tokens) (Err fault)
+IsMeant interpreter start (outcomes.Parse tokens fault) =
+    IsAcceptance (AreUnpredicated interpreter.rules) (DerivesTokens interpreter start tokens) (Err fault)
 IsMeant interpreter start (outcomes.Lex fault) = Unit {0}
 IsMeant interpreter start (outcomes.TooLarge size) = Unit {0}
 

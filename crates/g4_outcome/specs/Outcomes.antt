@@ -13,6 +13,7 @@ use Rattle.g4_parse.specs.declared.parser.ParseFault.{ParseFault}
 use Rattle.g4_parse.specs.declared.parser.ParseFault.TheVariants as parsing
 use Rattle.g4_parse.specs.Parsing.{IsParse}
 use Rattle.g4_outcome.specs.Texts.{line_of_events, line_of_tokens, line_of_tree, mismatch_line, no_viable_line, failed_predicate_line, too_deep_line, no_token_line, empty_mode_stack_line, many_tokens_line, not_utf8_line, large_line}
+use Rattle.g4_outcome.specs.Predicates.{values_of}
 use Rattle.g4_outcome.specs.declared.input.Input.{Input}
 use Rattle.g4_outcome.specs.declared.input.Input.TheVariants as inputs
 use Rattle.g4_load.specs.declared.interpreter.Interpreter.{Interpreter}
@@ -28,10 +29,12 @@ pub data IsOutcome (interpreter : Interpreter) (input : Input) : Outcome → Typ
   not_lexed : (bytes : List ℕ) (fault : LexFault) → input ≡ inputs.Bytes bytes → IsLexing interpreter.lexer bytes (Err fault)
       → fault ≢ lexing.NoMemory → IsOutcome interpreter input (outcomes.Lex fault)
   not_parsed : (bytes : List ℕ) (tokens : Tokens) (fault : ParseFault) → input ≡ inputs.Bytes bytes
-      → IsLexing interpreter.lexer bytes (Ok tokens) → IsParse interpreter.net (word_of tokens.list) (Err fault)
+      → IsLexing interpreter.lexer bytes (Ok tokens) → IsParse interpreter.net (values_of interpreter tokens) (word_of tokens.list)
+      (Err fault)
       → fault ≢ parsing.NoMemory → IsOutcome interpreter input (outcomes.Parse tokens fault)
   parsed : (bytes : List ℕ) (tokens : Tokens) (tree : List Item) → input ≡ inputs.Bytes bytes
-      → IsLexing interpreter.lexer bytes (Ok tokens) → IsParse interpreter.net (word_of tokens.list) (Ok tree)
+      → IsLexing interpreter.lexer bytes (Ok tokens) → IsParse interpreter.net (values_of interpreter tokens) (word_of tokens.list)
+      (Ok tree)
       → IsOutcome interpreter input (outcomes.Tree tokens tree)
 
 -- an outcome for each input, in order

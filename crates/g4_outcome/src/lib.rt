@@ -8,6 +8,7 @@ mod input;
 mod line;
 mod outcome;
 mod outcome_lines;
+mod predicates;
 
 pub use fault_lines::{large, not_utf8, push, start_line, to_err};
 pub use file_report::{FileReport, report_file};

@@ -10,6 +10,7 @@ ghost use Rattle.g4_outcome.specs.Taught.{HasTaught};
 
 use crate::grammar::Grammar;
 use crate::input::Input;
+use crate::predicates::FilePredicates;
 use g4_base::{MOST_BYTES, Octets};
 use g4_full::Memory;
 use g4_learned::{DecisionNet, Pass, Store};
@@ -85,12 +86,17 @@ fn outcome_of_bytes<B: Home<DecisionNet>, R: Wait, L: Ledger>(
             return Ok(Outcome::Lex(fault));
         }
     };
+    let predicates = FilePredicates {
+        grammar,
+        tokens: &tokens,
+    };
     match parse(
         rt,
         alloc,
         store,
         pass,
         memory,
+        &predicates,
         tokens.list.as_slice(),
         steps,
     ) {

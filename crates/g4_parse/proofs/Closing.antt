@@ -14,24 +14,24 @@ use Rattle.g4_trees.specs.declared.tree.Item.{Item}
 use Rattle.g4_trees.specs.Trees.{Tree, Forest, no_tree, and_then, only, tokens_of}
 use Rattle.g4_run.proofs.Closing.{closing_left, returns_to_loop}
 use Rattle.g4_run.proofs.Moments.{tree_token}
-use Rattle.g4_run.specs.Running.{Frame, Run, Ending, parsed, beginning, no_predicates, ClosesBy, GoesBy, StopsBy, Runs, stops, goes, with_child, node_of, deepest, backs}
+use Rattle.g4_run.specs.Running.{Frame, Run, Ending, parsed, beginning, ClosesBy, GoesBy, StopsBy, Runs, stops, goes, with_child, node_of, deepest, backs, Values}
 use Rattle.g4_parse.specs.declared.parser.ParseFault.{ParseFault}
 use Rattle.g4_parse.specs.Parsing.{IsParse, LeavesClosing}
 use Rattle.g4_parse.proofs.Fitting.{ArePlacedTo, IsFitting, fitting_begins, fitting_on, stops_tree}
 use Rattle.g4_parse.proofs.OneTree.{HasOneTree}
 
-module _ (net : ParserNetwork) (word : List ℕ) where
+module _ (net : ParserNetwork) (values : Values) (word : List ℕ) where
   -- the only open rule is closed
   abbrev ClosesLast : Run → Run → Type 0
   ClosesLast r s = (f : Frame) × (r.frames ≡ f ∷ []) × (s ≡ with_child (record r { state = f.back; frames = [] }) [] (node_of f))
 
-  closed : (r s : Run) (fs : List Frame) → r.frames ≡ fs → ClosesBy net no_predicates word r fs s → (s.tree ≡ r.tree) ⊎ ClosesLast r s
+  closed : (r s : Run) (fs : List Frame) → r.frames ≡ fs → ClosesBy net values word r fs s → (s.tree ≡ r.tree) ⊎ ClosesLast r s
   closed r s [] e g = absurd g
   closed r s (f ∷ []) e g = inr (f, e, g)
   closed r s (f ∷ k ∷ fs) e g = inl (ap (λ (x : Run). x.tree) g)
 
   -- each other step leaves the tree outside the open rules as it is
-  tree_on : (r s : Run) (o : Option (State (List ℕ))) → GoesBy net no_predicates word deepest o r s → (s.tree ≡ r.tree) ⊎ ClosesLast r s
+  tree_on : (r s : Run) (o : Option (State (List ℕ))) → GoesBy net values word deepest o r s → (s.tree ≡ r.tree) ⊎ ClosesLast r s
   tree_on r s None g = absurd g
   tree_on r s (Some (Decision targets)) (i, t, says, first, e) = inl (ap (λ (x : Run). x.tree) e)
   tree_on r s (Some (End ended)) g = closed r s r.frames refl g
@@ -42,8 +42,8 @@ module _ (net : ParserNetwork) (word : List ℕ) where
   tree_on r s (Some (Action t)) e = inl (ap (λ (x : Run). x.tree) e)
   tree_on r s (Some (Empty t)) e = inl (ap (λ (x : Run). x.tree) e)
 
-module _ (set : List ℕ) (rules : List StepRule) (start : List ℕ) (net : ParserNetwork) (word : List ℕ) (can : CanBeRewritten rules)
-    (built : IsBuilt set (rewritten rules) (numberings rules) start net) (ends : EndsInEnd word) where
+module _ (set : List ℕ) (rules : List StepRule) (start : List ℕ) (net : ParserNetwork) (values : Values) (word : List ℕ)
+    (can : CanBeRewritten rules) (built : IsBuilt set (rewritten rules) (numberings rules) start net) (ends : EndsInEnd word) where
   -- what follows the first n symbols of the word is what ends it
   abbrev ClosesAfter : ℕ → Type 0
   ClosesAfter n = (a : ℕ) → Contains (drop n word) a → Contains set a ⊎ (a ≡ end_of_list)
@@ -53,8 +53,8 @@ module _ (set : List ℕ) (rules : List StepRule) (start : List ℕ) (net : Pars
   HasClosing ts = (t : Tree) → ts ≡ only t → ClosesAfter (length (tokens_of t))
 
   -- it is once the only open rule is closed, which has all tokens so far
-  last_closed : (r s : Run) (tree : Tree) → IsFitting rules net word r → ClosesLast net word r s →
-      Runs net no_predicates word deepest s (parsed tree) → HasClosing s.tree
+  last_closed : (r s : Run) (tree : Tree) → IsFitting rules net word r → ClosesLast net values word r s →
+      Runs net values word deepest s (parsed tree) → HasClosing s.tree
   last_closed r s tree h (f, e, g) run t is =
       let returns : backs r.frames ≡ f.back ∷ [] = ap backs e in
       let none : r.tree ≡ no_tree = (subst (λ (bs : List ℕ). HasOneTree bs r.state r.tree) returns h.one).0 in
@@ -68,29 +68,30 @@ module _ (set : List ℕ) (rules : List StepRule) (start : List ℕ) (net : Pars
       let loop = 2 * length (rewritten rules) + 2 in
       let to_loop : f.back ≡ loop = returns_to_loop net (rule_number (rewritten rules) start) loop built.runnable.apart r.state f.back
       (subst (IsProper net r.state) returns h.stage.proper) in
-      subst ClosesAfter place (closing_left net (rule_number (rewritten rules) start) loop built.runnable.apart no_predicates word deepest s
+      subst ClosesAfter place (closing_left net (rule_number (rewritten rules) start) loop built.runnable.apart values word deepest s
       tree ends (ap (λ (x : Run). x.state) g ∙ to_loop) (ap (λ (x : Run). x.frames) g) run)
 
   -- so it is with the tree that a run ends with
-  runs_close : (r : Run) (e : Ending) (t : Tree) → Runs net no_predicates word deepest r e → e ≡ parsed t → IsFitting rules net word r →
+  runs_close : (r : Run) (e : Ending) (t : Tree) → Runs net values word deepest r e → e ≡ parsed t → IsFitting rules net word r →
       HasClosing r.tree → ClosesAfter (length (tokens_of t))
-  runs_close r e t (stops _ _ stop) is h closing = closing t (stops_tree set rules start net word can built ends r (state_at net r.state) t
-      (subst (StopsBy net no_predicates word deepest (state_at net r.state) r) is stop))
+  runs_close r e t (stops _ _ stop) is h closing = closing t (stops_tree set rules start net values word can built ends r
+      (state_at net r.state) t
+      (subst (StopsBy net values word deepest (state_at net r.state) r) is stop))
   runs_close r e t (goes _ s _ step more) is h closing =
-      runs_close s e t more is (fitting_on set rules start net word can built ends r s step h)
-      (elim (tree_on net word r s (state_at net r.state) step) [
+      runs_close s e t more is (fitting_on set rules start net values word can built ends r s step h)
+      (elim (tree_on net values word r s (state_at net r.state) step) [
         | inl same ↦ subst HasClosing (sym same) closing
-        | inr last ↦ last_closed r s t h last (subst (Runs net no_predicates word deepest s) is more)
+        | inr last ↦ last_closed r s t h last (subst (Runs net values word deepest s) is more)
       ])
 
 -- so it is with what the parse call answers
-pub answer_closes : (net : ParserNetwork) (word : List ℕ) (x : Result (List Item) ParseFault) → EndsInEnd word → IsParse net word x →
-    (set : List ℕ) (rules : List StepRule) (start : List ℕ) → CanBeRewritten rules →
+pub answer_closes : (net : ParserNetwork) (values : Values) (word : List ℕ) (x : Result (List Item) ParseFault) → EndsInEnd word
+    → IsParse net values word x → (set : List ℕ) (rules : List StepRule) (start : List ℕ) → CanBeRewritten rules →
     IsBuilt set (rewritten rules) (numberings rules) start net → IfOk x (LeavesClosing set word)
-answer_closes net word (Ok xs) ends (t, runs, is) set rules start can built = (
+answer_closes net values word (Ok xs) ends (t, runs, is) set rules start can built = (
   t,
   is,
-  runs_close set rules start net word can built ends beginning (parsed t) t runs refl
-      (fitting_begins set rules start net word can built ends) (λ u e. absurd (let n : ⊥ = cc in n)),
+  runs_close set rules start net values word can built ends beginning (parsed t) t runs refl
+      (fitting_begins set rules start net values word can built ends) (λ u e. absurd (let n : ⊥ = cc in n)),
 )
-answer_closes net word (Err fault) ends fails set rules start can built = tt
+answer_closes net values word (Err fault) ends fails set rules start can built = tt

@@ -11,7 +11,7 @@ use Rattle.g4_tokens.specs.TokenList.{EndsInEnd}
 use Rattle.g4_trees.specs.declared.tree.Item.{Item}
 use Rattle.g4_trees.specs.Trees.{Tree, node, Forest, no_tree, a_tree, and_then, only, items_of, tokens_of_all, leaf}
 use Rattle.g4_tree_check.specs.TreesOf.{ArePlaced, Conforms, IsPlaced, IsTreeOf}
-use Rattle.g4_run.specs.Running.{Frame, Run, Ending, parsed, beginning, no_predicates, ClosesBy, GoesBy, Goes, StopsBy, Runs, stops, goes, with_alt, with_token, with_child, wrapped, node_of, begun, deepest, backs, Ends}
+use Rattle.g4_run.specs.Running.{Frame, Run, Ending, parsed, beginning, ClosesBy, GoesBy, Goes, StopsBy, Runs, stops, goes, with_alt, with_token, with_child, wrapped, node_of, begun, deepest, backs, Ends, Values}
 use Rattle.g4_parse.specs.declared.parser.ParseFault.{ParseFault}
 use Rattle.g4_parse.specs.Parsing.{IsParse}
 use Rattle.g4_parse.proofs.Forests.{placed_and_then, tokens_and_then, two_are_not_one}
@@ -89,8 +89,8 @@ pub record IsFitting (rules : List StepRule) (net : ParserNetwork) (word : List 
   pub tokens : r.tree ≡ no_tree → ArePlacedTo r.place r.frames
   pub whole : (t : Tree) → r.tree ≡ only t → IsWhole rules word t
 
-module _ (set : List ℕ) (rules : List StepRule) (start : List ℕ) (net : ParserNetwork) (word : List ℕ) (can : CanBeRewritten rules)
-    (built : IsBuilt set (rewritten rules) (numberings rules) start net) (ends : EndsInEnd word) where
+module _ (set : List ℕ) (rules : List StepRule) (start : List ℕ) (net : ParserNetwork) (values : Values) (word : List ℕ)
+    (can : CanBeRewritten rules) (built : IsBuilt set (rewritten rules) (numberings rules) start net) (ends : EndsInEnd word) where
   abbrev Fitting : Run → Type 0
   Fitting = IsFitting rules net word
 
@@ -99,14 +99,14 @@ module _ (set : List ℕ) (rules : List StepRule) (start : List ℕ) (net : Pars
 
   -- the open rules after closing one
   closed_open : (r s : Run) (ended : ℕ) (fs : List Frame) → state_at net r.state ≡ Some (End ended) →
-      ClosesBy net no_predicates word r fs s → Open r.state fs → Open s.state s.frames
+      ClosesBy net values word r fs s → Open r.state fs → Open s.state s.frames
   closed_open r s ended [] is g h = absurd g
   closed_open r s ended (f ∷ []) is g h = subst (λ (x : Run). Open x.state x.frames) (sym g) tt
   closed_open r s ended (f ∷ k ∷ fs) is g h = subst (λ (x : Run). Open x.state x.frames) (sym g)
       (open_closed rules net word set start can built r ended f (k ∷ fs) is h)
 
   -- the open rules after a step
-  open_on : (r s : Run) (o : Option (State (List ℕ))) → state_at net r.state ≡ o → GoesBy net no_predicates word deepest o r s →
+  open_on : (r s : Run) (o : Option (State (List ℕ))) → state_at net r.state ≡ o → GoesBy net values word deepest o r s →
       Open r.state r.frames → Open s.state s.frames
   open_on r s None is g h = absurd g
   open_on r s (Some (Decision targets)) is (i, t, says, first, e) h =
@@ -119,7 +119,8 @@ module _ (set : List ℕ) (rules : List StepRule) (start : List ℕ) (net : Pars
   open_on r s (Some (Call callee level back)) is (room, e) h =
       subst (λ (x : Run). Open x.state x.frames) (sym e) (open_call rules net word set start can built r.state callee level back r.place
       r.frames is h)
-  open_on r s (Some (Predicate k t)) is g h = absurd (built.runnable.unpredicated r.state (Predicate k t) is)
+  open_on r s (Some (Predicate k t)) is (holds, e) h = subst (λ (x : Run). Open x.state x.frames) (sym e)
+      (open_silently rules net word set start can built r.state t (Predicate k t) r.frames is (λ targets f. cc) refl (refl, refl) h)
   open_on r s (Some (Level q t)) is (below, e) h = subst (λ (x : Run). Open x.state x.frames) (sym e)
       (open_wrapped rules net word set start can built r.state q t r.frames is h)
   open_on r s (Some (Action t)) is e h = subst (λ (x : Run). Open x.state x.frames) (sym e)
@@ -146,7 +147,7 @@ module _ (set : List ℕ) (rules : List StepRule) (start : List ℕ) (net : Pars
   token_tokens r t taken (f ∷ fs) same is one h none = placed_more r f fs (h none)
 
   -- closing a rule
-  closed_tokens : (r s : Run) (fs : List Frame) → ClosesBy net no_predicates word r fs s → (r.tree ≡ no_tree → ArePlacedTo r.place fs) →
+  closed_tokens : (r s : Run) (fs : List Frame) → ClosesBy net values word r fs s → (r.tree ≡ no_tree → ArePlacedTo r.place fs) →
       HasTokens s
   closed_tokens r s [] g h = absurd g
   closed_tokens r s (f ∷ []) g h = subst HasTokens (sym g) (λ none. absurd (not_none r.tree none))
@@ -157,7 +158,7 @@ module _ (set : List ℕ) (rules : List StepRule) (start : List ℕ) (net : Pars
   closed_tokens r s (f ∷ k ∷ fs) g h = subst HasTokens (sym g)
       (λ none. placed_closed (record r { state = f.back; frames = k ∷ fs }) f k fs r.place (h none))
 
-  tokens_on : (r s : Run) (o : Option (State (List ℕ))) → state_at net r.state ≡ o → GoesBy net no_predicates word deepest o r s →
+  tokens_on : (r s : Run) (o : Option (State (List ℕ))) → state_at net r.state ≡ o → GoesBy net values word deepest o r s →
       HasOneTree (backs r.frames) r.state r.tree → HasTokens r → HasTokens s
   tokens_on r s None is g one h = absurd g
   tokens_on r s (Some (Decision targets)) is (i, t, says, first, e) one h =
@@ -167,7 +168,7 @@ module _ (set : List ℕ) (rules : List StepRule) (start : List ℕ) (net : Pars
   tokens_on r s (Some (Call callee level back)) is (room, e) one h =
       subst HasTokens (sym e) (λ none. let h' = h none in let still : count_open r.frames + 0 ≡ r.place = omega (arith, h'.1) in
       ((sym h'.1, tt, h'.0), still))
-  tokens_on r s (Some (Predicate k t)) is g one h = absurd (built.runnable.unpredicated r.state (Predicate k t) is)
+  tokens_on r s (Some (Predicate k t)) is (holds, e) one h = subst HasTokens (sym e) h
   tokens_on r s (Some (Level q t)) is (below, e) one h = subst HasTokens (sym e)
       (λ none. placed_wrapped (written_at net r.state) r.place r.frames (h none))
   tokens_on r s (Some (Action t)) is e one h = subst HasTokens (sym e) h
@@ -196,7 +197,7 @@ module _ (set : List ℕ) (rules : List StepRule) (start : List ℕ) (net : Pars
   last_closed (a_tree u ts) f place fits tokens t is = absurd (two_are_not_one u (node_of f) ts no_tree t is)
 
   closed_whole : (r s : Run) (ended : ℕ) (fs : List Frame) → state_at net r.state ≡ Some (End ended) →
-      ClosesBy net no_predicates word r fs s → Open r.state fs → (r.tree ≡ no_tree → ArePlacedTo r.place fs) → HasWhole r.tree →
+      ClosesBy net values word r fs s → Open r.state fs → (r.tree ≡ no_tree → ArePlacedTo r.place fs) → HasWhole r.tree →
       HasWhole s.tree
   closed_whole r s ended [] is g h tokens whole = absurd g
   closed_whole r s ended (f ∷ []) is g h tokens whole = subst (λ (x : Run). HasWhole x.tree) (sym g)
@@ -207,7 +208,7 @@ module _ (set : List ℕ) (rules : List StepRule) (start : List ℕ) (net : Pars
   token_tree r [] h = h
   token_tree r (f ∷ fs) h = h
 
-  whole_on : (r s : Run) (o : Option (State (List ℕ))) → state_at net r.state ≡ o → GoesBy net no_predicates word deepest o r s →
+  whole_on : (r s : Run) (o : Option (State (List ℕ))) → state_at net r.state ≡ o → GoesBy net values word deepest o r s →
       Open r.state r.frames → HasTokens r → HasWhole r.tree → HasWhole s.tree
   whole_on r s None is g h tokens whole = absurd g
   whole_on r s (Some (Decision targets)) is (i, t, says, first, e) h tokens whole = subst (λ (x : Run). HasWhole x.tree) (sym e) whole
@@ -215,18 +216,19 @@ module _ (set : List ℕ) (rules : List StepRule) (start : List ℕ) (net : Pars
   whole_on r s (Some (Edge taken t)) is (a, next, has, e) h tokens whole =
       subst (λ (x : Run). HasWhole x.tree) (sym e) (token_tree r r.frames whole)
   whole_on r s (Some (Call callee level back)) is (room, e) h tokens whole = subst (λ (x : Run). HasWhole x.tree) (sym e) whole
-  whole_on r s (Some (Predicate k t)) is g h tokens whole = absurd (built.runnable.unpredicated r.state (Predicate k t) is)
+  whole_on r s (Some (Predicate k t)) is (holds, e) h tokens whole = subst (λ (x : Run). HasWhole x.tree) (sym e) whole
   whole_on r s (Some (Level q t)) is (below, e) h tokens whole = subst (λ (x : Run). HasWhole x.tree) (sym e) whole
   whole_on r s (Some (Action t)) is e h tokens whole = subst (λ (x : Run). HasWhole x.tree) (sym e) whole
   whole_on r s (Some (Empty t)) is e h tokens whole = subst (λ (x : Run). HasWhole x.tree) (sym e) whole
 
   -- a step
-  pub fitting_on : (r s : Run) → Goes net no_predicates word deepest r s → Fitting r → Fitting s
+  pub fitting_on : (r s : Run) → Goes net values word deepest r s → Fitting r → Fitting s
   fitting_on r s g h = record {
-    stage = advances net (rule_number (rewritten rules) start) (2 * length (rewritten rules) + 2) built.runnable word ends r s h.stage
-        (proceeds_by net word (state_at net r.state) r s g);
+    stage = advances net (rule_number (rewritten rules) start) (2 * length
+        (rewritten rules) + 2) built.runnable values word ends r s h.stage
+        (proceeds_by net values word (state_at net r.state) r s g);
     one = one_tree_on net (rule_number (rewritten rules) start) (2 * length (rewritten rules) + 2) built.runnable
-        (length word) word r s h.stage (proceeds_by net word (state_at net r.state) r s g)
+        (length word) values word r s h.stage (proceeds_by net values word (state_at net r.state) r s g)
         h.one;
     are_open = open_on r s (state_at net r.state) refl g h.are_open;
     tokens = tokens_on r s (state_at net r.state) refl g h.one h.tokens;
@@ -236,7 +238,7 @@ module _ (set : List ℕ) (rules : List StepRule) (start : List ℕ) (net : Pars
   -- the beginning
   pub fitting_begins : Fitting beginning
   fitting_begins = record {
-    stage = begins net (rule_number (rewritten rules) start) (2 * length (rewritten rules) + 2) built.runnable word ends;
+    stage = begins net (rule_number (rewritten rules) start) (2 * length (rewritten rules) + 2) built.runnable values word ends;
     one = (λ e. refl, λ n. absurd (n refl));
     are_open = tt;
     tokens = λ none. (tt, refl);
@@ -244,7 +246,7 @@ module _ (set : List ℕ) (rules : List StepRule) (start : List ℕ) (net : Pars
   }
 
   -- where a run stops with a tree, this is the one outside
-  pub stops_tree : (r : Run) (o : Option (State (List ℕ))) (t : Tree) → StopsBy net no_predicates word deepest o r (parsed t) →
+  pub stops_tree : (r : Run) (o : Option (State (List ℕ))) (t : Tree) → StopsBy net values word deepest o r (parsed t) →
       r.tree ≡ only t
   stops_tree r None t stop = absurd stop
   stops_tree r (Some (Decision targets)) t (k, says, e) = absurd (let n : ⊥ = cc in n)
@@ -257,23 +259,24 @@ module _ (set : List ℕ) (rules : List StepRule) (start : List ℕ) (net : Pars
   stops_tree r (Some (Empty u)) t stop = absurd stop
 
   -- a run that stops with a tree
-  runs_whole : (r : Run) (e : Ending) (t : Tree) → Runs net no_predicates word deepest r e → e ≡ parsed t → Fitting r → IsWhole rules word t
+  runs_whole : (r : Run) (e : Ending) (t : Tree) → Runs net values word deepest r e → e ≡ parsed t → Fitting r → IsWhole rules word t
   runs_whole r e t (stops _ _ stop) is h = h.whole t (stops_tree r (state_at net r.state) t
-      (subst (StopsBy net no_predicates word deepest (state_at net r.state) r) is stop))
+      (subst (StopsBy net values word deepest (state_at net r.state) r) is stop))
   runs_whole r e t (goes _ s _ step more) is h = runs_whole s e t more is (fitting_on r s step h)
 
 -- the tree of a run over the network of rules is one of the trees of the rules as they are written
-pub tree_fits : (set : List ℕ) (rules : List StepRule) (start : List ℕ) (net : ParserNetwork) (word : List ℕ) → CanBeRewritten rules →
-    IsBuilt set (rewritten rules) (numberings rules) start net → EndsInEnd word → (t : Tree) → Ends net word (parsed t) →
+pub tree_fits : (set : List ℕ) (rules : List StepRule) (start : List ℕ) (net : ParserNetwork) (values : Values) (word : List ℕ)
+    → CanBeRewritten rules → IsBuilt set (rewritten rules) (numberings rules) start net → EndsInEnd word → (t : Tree)
+    → Ends net values word (parsed t) →
     IsTreeOf rules word (items_of t)
-tree_fits set rules start net word can built ends t runs =
-    whole_is_tree rules word t (runs_whole set rules start net word can built ends beginning (parsed t) t runs refl
-    (fitting_begins set rules start net word can built ends))
+tree_fits set rules start net values word can built ends t runs =
+    whole_is_tree rules word t (runs_whole set rules start net values word can built ends beginning (parsed t) t runs refl
+    (fitting_begins set rules start net values word can built ends))
 
 -- so what the parse call answers is the items of one of the rules' trees
-pub answer_fits : (net : ParserNetwork) (word : List ℕ) (x : Result (List Item) ParseFault) → EndsInEnd word → IsParse net word x →
-    (set : List ℕ) (rules : List StepRule) (start : List ℕ) → CanBeRewritten rules →
+pub answer_fits : (net : ParserNetwork) (values : Values) (word : List ℕ) (x : Result (List Item) ParseFault) → EndsInEnd word
+    → IsParse net values word x → (set : List ℕ) (rules : List StepRule) (start : List ℕ) → CanBeRewritten rules →
     IsBuilt set (rewritten rules) (numberings rules) start net → IfOk x (IsTreeOf rules word)
-answer_fits net word (Ok xs) ends (t, runs, is) set rules start can built =
-    subst (IsTreeOf rules word) (sym is) (tree_fits set rules start net word can built ends t runs)
-answer_fits net word (Err fault) ends fails set rules start can built = tt
+answer_fits net values word (Ok xs) ends (t, runs, is) set rules start can built =
+    subst (IsTreeOf rules word) (sym is) (tree_fits set rules start net values word can built ends t runs)
+answer_fits net values word (Err fault) ends fails set rules start can built = tt

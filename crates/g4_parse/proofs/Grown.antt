@@ -1,10 +1,10 @@
 -- The parser's lists, the tree that it grows, and the open rules of the run.
 use Rattle.std.proofs.Common.{◌≡◌, ◌∷◌, [], ◌++◌, ◌-◌, ℕ, List, length, map, take, refl, ◌∙◌, ap, arith, length-append, reverse, cond, ◌==◌}
-use Rattle.std.proofs.lemmas.List.{reverse-append, take_at}
+use Rattle.std.proofs.lemmas.List.{map-append, reverse-append, take_at}
 use Rattle.g4_trees.specs.Trees.{Tree}
 use Rattle.g4_trees.specs.Growing.{with_tree, with_alternative, with_close, with_wrap}
 use Rattle.g4_run.specs.Running.{Frame, Run, with_child, with_alt, wrapped, node_of, backs}
-use Rattle.g4_parse.specs.declared.parser.Opened.{Opened}
+use Rattle.g4_parse.specs.declared.predicates.Opened.{Opened}
 use Rattle.g4_parse.specs.Standing.{returns_of, opened_of, grown, open_node}
 
 -- as many rules are open
@@ -20,6 +20,14 @@ all_but_last xs x = take_at xs (x ∷ []) (length (xs ++ x ∷ []) - 1) (omega (
 pub reverse_returns : (fs : List Frame) → reverse (returns_of fs) ≡ backs fs
 reverse_returns [] = refl
 reverse_returns (f ∷ fs) = reverse-append (returns_of fs) (f.back ∷ []) ∙ ap (λ (bs : List ℕ). f.back ∷ bs) (reverse_returns fs)
+
+-- so it is with the numbers of the open rules
+pub rules_open : (fs : List Frame) → reverse (map (λ o. o.rule) (opened_of fs)) ≡ map (λ f. f.rule) fs
+rules_open [] = refl
+rules_open (f ∷ fs) =
+    ap reverse (map-append (λ (o : Opened). o.rule) (opened_of fs) (record { rule = f.rule; level = f.level } ∷ []))
+    ∙ reverse-append (map (λ (o : Opened). o.rule) (opened_of fs)) (f.rule ∷ [])
+    ∙ ap (λ (rs : List ℕ). f.rule ∷ rs) (rules_open fs)
 
 -- one more child opens no rule
 pub returns_child : (r : Run) (fs : List Frame) (t : Tree) → returns_of (with_child r fs t).frames ≡ returns_of fs

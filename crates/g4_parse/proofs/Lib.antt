@@ -1,5 +1,6 @@
 pub mod Fitting
 mod Begun
+mod Passing
 mod Closing
 mod Forests
 mod Grown

@@ -10,7 +10,7 @@ use Rattle.g4_net.specs.AddedRule.{IsRunnable}
 use Rattle.g4_tokens.specs.TokenList.{EndsInEnd}
 use Rattle.g4_net.proofs.Ranks.{IsShort, size, rank, rank_small, rank_falls}
 use Rattle.g4_lookahead.proofs.Proper.{proper_within}
-use Rattle.g4_run.specs.Running.{Frame, Run, backs, deepest}
+use Rattle.g4_run.specs.Running.{Frame, Run, Values, backs, deepest}
 use Rattle.g4_parse.proofs.Stages.{Stage, advances}
 use Rattle.g4_parse.proofs.Steps.{TakesToken, TakesNone, token_or_none, Proceeds}
 
@@ -36,8 +36,8 @@ is_short net loop n r well h = record {
   short = let few = h.short in omega (arith, length-map r.frames (λ (f : Frame). f.back));
 }
 
-module _ {looped : List ℕ} (net : ParserNetwork) (rule loop : ℕ) (ready : IsRunnable net rule loop looped) (word : List ℕ)
-    (ends : EndsInEnd word) where
+module _ {looped : List ℕ} (net : ParserNetwork) (rule loop : ℕ) (ready : IsRunnable net rule loop looped) (values : Values)
+    (word : List ℕ) (ends : EndsInEnd word) where
   -- a step without a token
   falls_along : (r s : Run) → Stage net loop (length word) r → TakesNone net r s
       → measure_at net (length word) s.place s.state (backs s.frames) < measure_at net (length word) r.place r.state (backs r.frames)
@@ -62,9 +62,9 @@ module _ {looped : List ℕ} (net : ParserNetwork) (rule loop : ℕ) (ready : Is
       (omega (arith, step.place)) small
 
   -- each step makes it fall
-  pub falls : (r s : Run) → Stage net loop (length word) r → Proceeds net word r s
+  pub falls : (r s : Run) → Stage net loop (length word) r → Proceeds net values word r s
       → measure_at net (length word) s.place s.state (backs s.frames) < measure_at net (length word) r.place r.state (backs r.frames)
-  falls r s h g = elim (token_or_none net word r s (state_at net r.state) refl g) [
+  falls r s h g = elim (token_or_none net values word r s (state_at net r.state) refl g) [
     | inl step ↦ falls_along r s h step
-    | inr step ↦ falls_taking r s (advances net rule loop ready word ends r s h g) step
+    | inr step ↦ falls_taking r s (advances net rule loop ready values word ends r s h g) step
   ]

@@ -11,7 +11,7 @@ use Rattle.g4_net.specs.AddedRule.{IsRunnable}
 use Rattle.g4_lookahead.proofs.Proper.{IsStackFor, Inside, at_call, at_last, at_loop, at_turn, after_turn, at_end, after_end, inside_cases, stack_for}
 use Rattle.g4_trees.specs.Trees.{Tree, Forest, no_tree, and_then, only}
 use Rattle.g4_run.proofs.Moments.{first_in, backs_alt, backs_token, backs_wrapped, tree_token}
-use Rattle.g4_run.specs.Running.{Frame, Run, no_predicates, ClosesBy, begun, node_of, backs}
+use Rattle.g4_run.specs.Running.{Frame, Run, ClosesBy, begun, node_of, backs, Values}
 use Rattle.g4_parse.proofs.Stages.{Stage}
 use Rattle.g4_parse.proofs.Steps.{ProceedsBy, Proceeds}
 
@@ -32,7 +32,8 @@ moved : (bs : List ℕ) (p q : ℕ) (tree : Forest) → (bs ≡ [] → (p ≡ 0 
 moved [] p q tree apart h = (λ e. absurd ((apart refl).1 e), λ n. h.1 (apart refl).0)
 moved (b ∷ bs) p q tree apart h = anywhere b bs p q tree h
 
-module _ {looped : List ℕ} (net : ParserNetwork) (rule loop : ℕ) (ready : IsRunnable net rule loop looped) (n : ℕ) where
+module _ {looped : List ℕ} (net : ParserNetwork) (rule loop : ℕ) (ready : IsRunnable net rule loop looped) (n : ℕ)
+    (values : Values) where
   -- the added rule never comes back to its start
   never_back : (p t : ℕ) (s : State (List ℕ)) → Inside net rule loop ready.apart p → state_at net p ≡ Some s → IsTarget s t → t ≡ 0 → ⊥
   never_back p t s (at_call e at) is to z = let same : s ≡ Call rule 0 loop = cc in
@@ -77,7 +78,7 @@ module _ {looped : List ℕ} (net : ParserNetwork) (rule loop : ℕ) (ready : Is
       rw (b, c) here
 
   -- closing a rule
-  closed : (r : Run) (fs : List Frame) (s : Run) → r.frames ≡ fs → ClosesBy net no_predicates [] r fs s
+  closed : (r : Run) (fs : List Frame) (s : Run) → r.frames ≡ fs → ClosesBy net values [] r fs s
       → HasOneTree (backs fs) r.state r.tree → HasOneTree (backs s.frames) s.state s.tree
   closed r [] s e g one = absurd g
   closed r (f ∷ []) s e g one =
@@ -108,7 +109,7 @@ module _ {looped : List ℕ} (net : ParserNetwork) (rule loop : ℕ) (ready : Is
 
   -- a step
   one_tree_by : (word : List ℕ) (r s : Run) (o : Option (State (List ℕ))) → state_at net r.state ≡ o → Stage net loop n r
-      → ProceedsBy net word o r s → HasOneTree (backs r.frames) r.state r.tree → HasOneTree (backs s.frames) s.state s.tree
+      → ProceedsBy net values word o r s → HasOneTree (backs r.frames) r.state r.tree → HasOneTree (backs s.frames) s.state s.tree
   one_tree_by word r s None is h g one = absurd g
   one_tree_by word r s (Some (Decision targets)) is h (i, t, first, e) one =
       along r s (Decision targets) t h is (first_in net r.state i t targets is first) (λ callee level back f. cc)
@@ -116,7 +117,7 @@ module _ {looped : List ℕ} (net : ParserNetwork) (rule loop : ℕ) (ready : Is
       (ap (λ (x : Run). x.tree) e) one
   one_tree_by word r s (Some (End ended)) is h g one = closed r r.frames s refl (closes_any r.frames g) one
     where
-      closes_any : (fs : List Frame) → ClosesBy net no_predicates word r fs s → ClosesBy net no_predicates [] r fs s
+      closes_any : (fs : List Frame) → ClosesBy net values word r fs s → ClosesBy net values [] r fs s
       closes_any [] x = x
       closes_any (f ∷ fs) x = x
   one_tree_by word r s (Some (Edge set t)) is h (a, next, has, e) one =
@@ -124,7 +125,9 @@ module _ {looped : List ℕ} (net : ParserNetwork) (rule loop : ℕ) (ready : Is
       (ap (λ (x : Run). backs x.frames) e ∙ backs_token r r.frames refl) (ap (λ (x : Run). x.tree) e ∙ tree_token r r.frames) one
   one_tree_by word r s (Some (Call callee level back)) is h (room, e) one =
       called_one r s callee level back r.frames refl h is (ap (λ (x : Run). backs x.frames) e) (ap (λ (x : Run). x.tree) e) one
-  one_tree_by word r s (Some (Predicate k t)) is h g one = absurd (ready.unpredicated r.state (Predicate k t) is)
+  one_tree_by word r s (Some (Predicate k t)) is h (holds, e) one =
+      along r s (Predicate k t) t h is refl (λ callee level back f. cc) (ap (λ (x : Run). x.state) e)
+      (ap (λ (x : Run). backs x.frames) e) (ap (λ (x : Run). x.tree) e) one
   one_tree_by word r s (Some (Level q t)) is h (below, e) one =
       along r s (Level q t) t h is refl (λ callee level back f. cc) (ap (λ (x : Run). x.state) e)
       (ap (λ (x : Run). backs x.frames) e ∙ backs_wrapped (written_at net r.state) r.frames) (ap (λ (x : Run). x.tree) e) one
@@ -135,7 +138,7 @@ module _ {looped : List ℕ} (net : ParserNetwork) (rule loop : ℕ) (ready : Is
       along r s (Empty t) t h is refl (λ callee level back f. cc) (ap (λ (x : Run). x.state) e) (ap (λ (x : Run). backs x.frames) e)
       (ap (λ (x : Run). x.tree) e) one
 
-  pub one_tree_on : (word : List ℕ) (r s : Run) → Stage net loop n r → Proceeds net word r s
+  pub one_tree_on : (word : List ℕ) (r s : Run) → Stage net loop n r → Proceeds net values word r s
       → HasOneTree (backs r.frames) r.state r.tree → HasOneTree (backs s.frames) s.state s.tree
   one_tree_on word r s h g one = one_tree_by word r s (state_at net r.state) refl h g one
 

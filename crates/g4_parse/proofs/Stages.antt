@@ -15,7 +15,7 @@ use Rattle.g4_lookahead.proofs.Proper.{IsStackFor, Inside, at_call, at_last, at_
 use Rattle.g4_tokens.specs.TokenList.{EndsInEnd}
 use Rattle.g4_trees.specs.Trees.{Tree}
 use Rattle.g4_run.proofs.Moments.{state_child, place_child, first_in, backs_alt, backs_child, backs_token, backs_wrapped}
-use Rattle.g4_run.specs.Running.{Frame, Run, beginning, deepest, no_predicates, ClosesBy, with_child, with_token, with_alt, wrapped, begun, node_of, backs}
+use Rattle.g4_run.specs.Running.{Frame, Run, beginning, deepest, ClosesBy, with_child, with_token, with_alt, wrapped, begun, node_of, backs, Values}
 use Rattle.g4_parse.specs.Standing.{IsFitBy}
 use Rattle.g4_parse.proofs.Steps.{ProceedsBy, Proceeds}
 
@@ -96,7 +96,7 @@ module _ {looped : List ℕ} (net : ParserNetwork) (rule loop : ℕ) (ready : Is
   starts_within p callee level back is = let listed = ready.well_formed.calls p callee level back is in
       omega (arith, ready.well_formed.rules)
 
-  module _ (word : List ℕ) (ends : EndsInEnd word) where
+  module _ (values : Values) (word : List ℕ) (ends : EndsInEnd word) where
     -- the beginning
     pub begins : Stage net loop (length word) beginning
     begins = record {
@@ -125,7 +125,7 @@ module _ {looped : List ℕ} (net : ParserNetwork) (rule loop : ℕ) (ready : Is
 
     -- closing a rule
     closes : (r : Run) (ended : ℕ) (fs : List Frame) (s : Run) → r.frames ≡ fs → Stage net loop (length word) r
-        → state_at net r.state ≡ Some (End ended) → ClosesBy net no_predicates word r fs s → Stage net loop (length word) s
+        → state_at net r.state ≡ Some (End ended) → ClosesBy net values word r fs s → Stage net loop (length word) s
     closes r ended [] s e h is g = absurd g
     closes r ended (f ∷ fs) s e h is g =
         let open_backs : backs r.frames ≡ f.back ∷ backs fs = ap backs e in
@@ -149,7 +149,7 @@ module _ {looped : List ℕ} (net : ParserNetwork) (rule loop : ℕ) (ready : Is
 
     -- a step
     advances_by : (r s : Run) (o : Option (State (List ℕ))) → state_at net r.state ≡ o → Stage net loop (length word) r
-        → ProceedsBy net word o r s → Stage net loop (length word) s
+        → ProceedsBy net values word o r s → Stage net loop (length word) s
     advances_by r s None is h g = absurd g
     advances_by r s (Some (Decision targets)) is h (i, t, first, e) =
         moves r (Decision targets) t r.frames s h is (first_in net r.state i t targets is first) (ap (λ (x : Run). x.state) e)
@@ -178,7 +178,10 @@ module _ {looped : List ℕ} (net : ParserNetwork) (rule loop : ℕ) (ready : Is
       short = omega (arith, ap (λ (x : Run). length x.frames) e);
       more = λ x y. let less = left r (Call callee level back) h is (λ e. cc) (λ e. cc) in omega (arith, ap (λ (x : Run). x.place) e);
     }
-    advances_by r s (Some (Predicate k t)) is h g = absurd (ready.unpredicated r.state (Predicate k t) is)
+    advances_by r s (Some (Predicate k t)) is h (holds, e) =
+        moves r (Predicate k t) t r.frames s h is refl (ap (λ (x : Run). x.state) e) (ap (λ (x : Run). x.place) e)
+        (ap (λ (x : Run). backs x.frames) e) (ap (λ (x : Run). length x.frames) e)
+        (λ x. left r (Predicate k t) h is (λ u. cc) (λ u. cc))
     advances_by r s (Some (Level q t)) is h (below, e) =
         moves r (Level q t) t r.frames s h is refl (ap (λ (x : Run). x.state) e) (ap (λ (x : Run). x.place) e)
         (ap (λ (x : Run). backs x.frames) e ∙ backs_wrapped (written_at net r.state) r.frames)
@@ -193,7 +196,7 @@ module _ {looped : List ℕ} (net : ParserNetwork) (rule loop : ℕ) (ready : Is
         (ap (λ (x : Run). backs x.frames) e) (ap (λ (x : Run). length x.frames) e)
         (λ x. left r (Empty t) h is (λ u. x cc) (λ u. cc))
 
-    pub advances : (r s : Run) → Stage net loop (length word) r → Proceeds net word r s → Stage net loop (length word) s
+    pub advances : (r s : Run) → Stage net loop (length word) r → Proceeds net values word r s → Stage net loop (length word) s
     advances r s h g = advances_by r s (state_at net r.state) refl h g
 
     -- what each state asks
@@ -215,7 +218,7 @@ module _ {looped : List ℕ} (net : ParserNetwork) (rule loop : ℕ) (ready : Is
         let same = ready.well_formed.written in
         let few = ready.few in
         (omega arith, omega arith)
-    fits_by r (Some (Predicate k t)) is h = ready.unpredicated r.state (Predicate k t) is
+    fits_by r (Some (Predicate k t)) is h = tt
     fits_by r (Some (Level q t)) is h = let within = h.state_in in omega (arith, ready.well_formed.written)
     fits_by r (Some (Action t)) is h = tt
     fits_by r (Some (Empty t)) is h = tt

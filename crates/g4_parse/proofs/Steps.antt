@@ -6,31 +6,31 @@ use Rattle.g4_net.specs.declared.network.State.TheVariants.{Decision, End, Edge,
 use Rattle.g4_net.specs.Configurations.{Config, config, above_bottom}
 use Rattle.g4_net.specs.Network.{ParserNetwork, state_at, start_of, IsFirst, written_at}
 use Rattle.g4_net.specs.Leads.{LeadsBy, Leads}
-use Rattle.g4_run.specs.Running.{Frame, Run, deepest, no_predicates, GoesBy, ClosesBy, with_alt, begun, node_of, stack_of, backs}
+use Rattle.g4_run.specs.Running.{Frame, Run, deepest, GoesBy, ClosesBy, with_alt, begun, node_of, stack_of, backs, Values}
 use Rattle.g4_run.proofs.Moments.{first_in, backs_alt, backs_child, backs_token, backs_wrapped, state_child, place_child}
 
 -- one step of the run by the state, at a decision along any of its alternatives
-abbrev pub ProceedsBy : ParserNetwork → List ℕ → Option (State (List ℕ)) → Run → Run → Type 0
-ProceedsBy net word (Some (Decision targets)) r s = (i t : ℕ) × IsFirst net r.state i t
+abbrev pub ProceedsBy : ParserNetwork → Values → List ℕ → Option (State (List ℕ)) → Run → Run → Type 0
+ProceedsBy net values word (Some (Decision targets)) r s = (i t : ℕ) × IsFirst net r.state i t
     × (s ≡ record r { state = t; frames = with_alt (begun net t (state_at net t)) r.frames })
-ProceedsBy net word o r s = GoesBy net no_predicates word deepest o r s
+ProceedsBy net values word o r s = GoesBy net values word deepest o r s
 
 -- one step of the run, at a decision along any of its alternatives
-abbrev pub Proceeds : ParserNetwork → List ℕ → Run → Run → Type 0
-Proceeds net word r s = ProceedsBy net word (state_at net r.state) r s
+abbrev pub Proceeds : ParserNetwork → Values → List ℕ → Run → Run → Type 0
+Proceeds net values word r s = ProceedsBy net values word (state_at net r.state) r s
 
 -- a step along the chosen alternative is one
-pub proceeds_by : (net : ParserNetwork) (word : List ℕ) (o : Option (State (List ℕ))) (r s : Run)
-    → GoesBy net no_predicates word deepest o r s → ProceedsBy net word o r s
-proceeds_by net word None r s g = g
-proceeds_by net word (Some (Decision targets)) r s (i, t, says, first, e) = (i, t, first, e)
-proceeds_by net word (Some (End rule)) r s g = g
-proceeds_by net word (Some (Edge set t)) r s g = g
-proceeds_by net word (Some (Call rule level back)) r s g = g
-proceeds_by net word (Some (Predicate k t)) r s g = g
-proceeds_by net word (Some (Level q t)) r s g = g
-proceeds_by net word (Some (Action t)) r s g = g
-proceeds_by net word (Some (Empty t)) r s g = g
+pub proceeds_by : (net : ParserNetwork) (values : Values) (word : List ℕ) (o : Option (State (List ℕ))) (r s : Run)
+    → GoesBy net values word deepest o r s → ProceedsBy net values word o r s
+proceeds_by net values word None r s g = g
+proceeds_by net values word (Some (Decision targets)) r s (i, t, says, first, e) = (i, t, first, e)
+proceeds_by net values word (Some (End rule)) r s g = g
+proceeds_by net values word (Some (Edge set t)) r s g = g
+proceeds_by net values word (Some (Call rule level back)) r s g = g
+proceeds_by net values word (Some (Predicate k t)) r s g = g
+proceeds_by net values word (Some (Level q t)) r s g = g
+proceeds_by net values word (Some (Action t)) r s g = g
+proceeds_by net values word (Some (Empty t)) r s g = g
 
 -- where a run is, as a configuration of an alternative
 abbrev pub config_of : ℕ → Run → Config
@@ -69,10 +69,10 @@ silent_edge net r s t o returns is l state place same = record {
 }
 
 -- closing a rule
-closing : (net : ParserNetwork) (word : List ℕ) (r : Run) (ended : ℕ) (fs : List Frame) (s : Run) → r.frames ≡ fs
-    → state_at net r.state ≡ Some (End ended) → ClosesBy net no_predicates word r fs s → TakesNone net r s
-closing net word r ended [] s e is g = absurd g
-closing net word r ended (f ∷ fs) s e is g =
+closing : (net : ParserNetwork) (values : Values) (word : List ℕ) (r : Run) (ended : ℕ) (fs : List Frame) (s : Run) → r.frames ≡ fs
+    → state_at net r.state ≡ Some (End ended) → ClosesBy net values word r fs s → TakesNone net r s
+closing net values word r ended [] s e is g = absurd g
+closing net values word r ended (f ∷ fs) s e is g =
     let after : Run = record { state = f.back; place = r.place; frames = fs; tree = r.tree } in
     let state : s.state ≡ f.back = ap (λ (x : Run). x.state) g ∙ state_child after fs (node_of f) in
     let place : s.place ≡ r.place = ap (λ (x : Run). x.place) g ∙ place_child after fs (node_of f) in
@@ -82,15 +82,16 @@ closing net word r ended (f ∷ fs) s e is g =
     (config f.back i (above_bottom (backs fs)))) (sym e) refl) state place returns
 
 -- each step is one of the two
-pub token_or_none : (net : ParserNetwork) (word : List ℕ) (r s : Run) (o : Option (State (List ℕ))) → state_at net r.state ≡ o
-    → ProceedsBy net word o r s → TakesNone net r s ⊎ TakesToken net word r s
-token_or_none net word r s None is g = absurd g
-token_or_none net word r s (Some (Decision targets)) is (i, t, first, e) =
+pub token_or_none : (net : ParserNetwork) (values : Values) (word : List ℕ) (r s : Run) (o : Option (State (List ℕ)))
+    → state_at net r.state ≡ o
+    → ProceedsBy net values word o r s → TakesNone net r s ⊎ TakesToken net word r s
+token_or_none net values word r s None is g = absurd g
+token_or_none net values word r s (Some (Decision targets)) is (i, t, first, e) =
     inl (silent_edge net r s t (Some (Decision targets)) (backs r.frames) is
     (λ j. (t, first_in net r.state i t targets is first, refl)) (ap (λ (x : Run). x.state) e) (ap (λ (x : Run). x.place) e)
     (ap (λ (x : Run). backs x.frames) e ∙ backs_alt (begun net t (state_at net t)) r.frames))
-token_or_none net word r s (Some (End ended)) is g = inl (closing net word r ended r.frames s refl is g)
-token_or_none net word r s (Some (Edge set t)) is (a, next, has, e) = inr (record {
+token_or_none net values word r s (Some (End ended)) is g = inl (closing net values word r ended r.frames s refl is g)
+token_or_none net values word r s (Some (Edge set t)) is (a, next, has, e) = inr (record {
   set = set;
   target = t;
   symbol = a;
@@ -101,18 +102,18 @@ token_or_none net word r s (Some (Edge set t)) is (a, next, has, e) = inr (recor
   place = ap (λ (x : Run). x.place) e;
   returns = ap (λ (x : Run). backs x.frames) e ∙ backs_token r r.frames refl;
 })
-token_or_none net word r s (Some (Call called level back)) is (room, e) =
+token_or_none net values word r s (Some (Call called level back)) is (room, e) =
     inl (silent_edge net r s (start_of called) (Some (Call called level back)) (back ∷ backs r.frames) is (λ i. refl)
     (ap (λ (x : Run). x.state) e) (ap (λ (x : Run). x.place) e) (ap (λ (x : Run). backs x.frames) e))
-token_or_none net word r s (Some (Predicate k t)) is (holds, e) =
+token_or_none net values word r s (Some (Predicate k t)) is (holds, e) =
     inl (silent_edge net r s t (Some (Predicate k t)) (backs r.frames) is (λ i. refl) (ap (λ (x : Run). x.state) e)
     (ap (λ (x : Run). x.place) e) (ap (λ (x : Run). backs x.frames) e))
-token_or_none net word r s (Some (Level q t)) is (below, e) =
+token_or_none net values word r s (Some (Level q t)) is (below, e) =
     inl (silent_edge net r s t (Some (Level q t)) (backs r.frames) is (λ i. refl) (ap (λ (x : Run). x.state) e)
     (ap (λ (x : Run). x.place) e) (ap (λ (x : Run). backs x.frames) e ∙ backs_wrapped (written_at net r.state) r.frames))
-token_or_none net word r s (Some (Action t)) is e =
+token_or_none net values word r s (Some (Action t)) is e =
     inl (silent_edge net r s t (Some (Action t)) (backs r.frames) is (λ i. refl) (ap (λ (x : Run). x.state) e)
     (ap (λ (x : Run). x.place) e) (ap (λ (x : Run). backs x.frames) e))
-token_or_none net word r s (Some (Empty t)) is e =
+token_or_none net values word r s (Some (Empty t)) is e =
     inl (silent_edge net r s t (Some (Empty t)) (backs r.frames) is (λ i. refl) (ap (λ (x : Run). x.state) e)
     (ap (λ (x : Run). x.place) e) (ap (λ (x : Run). backs x.frames) e))

@@ -2,15 +2,15 @@
 use Rattle.std.proofs.Common.{◌≡◌, ◌⊎◌, inl, inr, ℕ, List, drop, true≢false, refl, sym, ◌∙◌, ap, subst}
 use Rattle.std.specs.Prelude.{Bool, true, false}
 use Rattle.g4_decide.specs.Asked.{Asked, KeepsToPath, Told}
-use Rattle.g4_guards.specs.Levels.{IsDecision}
-use Rattle.g4_learned.proofs.Seeing.{one_passed}
+use Rattle.g4_guards.specs.Levels.{AllowSame, IsCondition, IsDecision}
+use Rattle.g4_learned.proofs.Seeing.{one_passed_alike}
 use Rattle.g4_learned.specs.Stored.{ArePassed, IsPlan}
 use Rattle.g4_learned.specs.Tables.{Tables}
 use Rattle.g4_net.specs.Configurations.{Config}
 use Rattle.g4_net.specs.Network.{ParserNetwork, state_at}
 use Rattle.g4_net.specs.Prediction.{Verdict}
 use Rattle.g4_run.proofs.OneEnding.{goes_once, never_both}
-use Rattle.g4_run.specs.Running.{Comes, comes_on, comes_there, Ending, Goes, Reaches, Run, Stops, beginning, deepest, level_of, no_predicates}
+use Rattle.g4_run.specs.Running.{Comes, comes_on, comes_there, Ending, Goes, Reaches, Run, Stops, beginning, deepest, Values}
 use Rattle.g4_store.specs.declared.automaton.Fact.{Fact}
 use Rattle.g4_store.specs.declared.automaton.Plan.{Plan}
 use Rattle.g4_store.specs.Known.{KnowsRows}
@@ -20,7 +20,7 @@ use Rattle.g4_store.proofs.Following as following
 use Rattle.g4_store.proofs.Known.{no_more_rows}
 use Rattle.g4_parse.specs.Standing.{StandsFor}
 use Rattle.g4_parse.specs.declared.parser.Parser.{Parser}
-use Rattle.g4_parse.specs.Teaching.{HasKept, HasPassedRow, IsPassed, IsPassedAt, IsTaught}
+use Rattle.g4_parse.specs.Teaching.{HasKept, HasPassedRow, IsConditionAt, IsPassed, IsPassedAt, IsTaught}
 
 -- what is kept in two steps
 pub kept_then : (a b c : Told) → HasKept a b → HasKept b c → HasKept a c
@@ -40,78 +40,92 @@ keeps_kept p d level word old new k =
     record { seen = k.seen; taught = k.taught; known = k.known; holds = k.holds; count = k.count }
 
 -- What is left so far, at a moment of the run, of the moments that do not come after this one.
-pub record IsTaughtTo (p : Plan Tables) (word : List ℕ) (r : Run) (old new : Told) : Type 0 where
-  pub within : (f : Fact (List Config)) → Among f new.0.seen → Among f old.0.seen ⊎ IsPassed p.net word f
-  pub teaches : (f : Fact (List Config)) → Among f new.0.taught → Among f old.0.taught ⊎ IsPassed p.net word f
-  pub whole : new.1 ≡ false → (s : Run) → Reaches p.net.net word s
-      → Comes p.net.net no_predicates word deepest r s ⊎ ((f : Fact (List Config)) → IsPassedAt p.net word s f → Among f new.0.seen)
-  pub some : (s : Run) → Reaches p.net.net word s → Comes p.net.net no_predicates word deepest r s
-      ⊎ ((f : Fact (List Config)) → IsPassedAt p.net word s f → Within (InKnown new.0.known) f → Among f new.0.seen)
+pub record IsTaughtTo (p : Plan Tables) (values : Values) (word : List ℕ) (r : Run) (old new : Told) : Type 0 where
+  pub within : (f : Fact (List Config)) → Among f new.0.seen → Among f old.0.seen ⊎ IsPassed p.net values word f
+  pub teaches : (f : Fact (List Config)) → Among f new.0.taught → Among f old.0.taught ⊎ IsPassed p.net values word f
+  pub whole : new.1 ≡ false → (s : Run) → Reaches p.net.net values word s
+      → Comes p.net.net values word deepest r s ⊎ ((f : Fact (List Config)) → IsPassedAt p.net values word s f → Among f new.0.seen)
+  pub some : (s : Run) → Reaches p.net.net values word s → Comes p.net.net values word deepest r s
+      ⊎ ((f : Fact (List Config)) → IsPassedAt p.net values word s f → Within (InKnown new.0.known) f → Among f new.0.seen)
   pub missing : old.1 ≡ false → new.1 ≡ true
-      → (y : List Config) × HasPassedRow (IsPassed p.net word) y × (InKnown new.0.known y → ⊥)
+      → (y : List Config) × HasPassedRow (IsPassed p.net values word) y × (InKnown new.0.known y → ⊥)
   pub stays_full : old.1 ≡ true → new.1 ≡ true
-  pub rows : (((s : Run) → Reaches p.net.net word s → Comes p.net.net no_predicates word deepest r s
-      ⊎ ((f : Fact (List Config)) → IsPassedAt p.net word s f → ⊥)) × (new ≡ old)) ⊎ KnowsRows p.rows new
+  pub rows : (((s : Run) → Reaches p.net.net values word s → Comes p.net.net values word deepest r s
+      ⊎ ((f : Fact (List Config)) → IsPassedAt p.net values word s f → ⊥)) × (new ≡ old)) ⊎ KnowsRows p.rows new
 
-module _ (p : Plan Tables) (plan : IsPlan p) (word : List ℕ) where
+module _ (p : Plan Tables) (plan : IsPlan p) (values : Values) (word : List ℕ) where
+  -- under two conditions of a moment the same alternatives may be taken
+  allow_same : (r : Run) (m n : ℕ) → IsConditionAt p.net.net values word r m → IsConditionAt p.net.net values word r n
+      → AllowSame p.net.net r.state m n
+  allow_same r m n a b i = ((λ h. (b.allows i).1 ((a.allows i).0 h)), λ h. (a.allows i).1 ((b.allows i).0 h))
+
   -- what asking at the decision of a moment leaves
-  pub asked_taught : (r : Run) (v : Verdict) (old new : Told) → KeepsToPath p r.state (level_of r.frames) (drop r.place word) old new
-      → Asked p r.state (level_of r.frames) (drop r.place word) v old new → IsTaught p (IsPassedAt p.net word r) old new
-  asked_taught r v old new keeps asked = record {
-    within = λ f seen. elim (keeps.within v asked.facts asked.passed f seen) [
-      | inl before ↦ inl before
-      | inr now ↦ inr (record { verdict = v; facts = asked.facts; passed = asked.passed; among = now })
-    ];
-    teaches = λ f told. elim (keeps.teaches v asked.facts asked.passed f told) [
-      | inl before ↦ inl before
-      | inr now ↦ inr (record { verdict = v; facts = asked.facts; passed = asked.passed; among = now })
-    ];
-    whole = λ room f passed.
-        let same = (one_passed p plan r.state (level_of r.frames) (drop r.place word) passed.verdict v passed.facts asked.facts
-        passed.passed asked.passed).1 in
-        asked.whole room f (subst (λ (fs : List (Fact (List Config))). Among f fs) same passed.among);
-    some = λ f passed known.
-        let same = (one_passed p plan r.state (level_of r.frames) (drop r.place word) passed.verdict v passed.facts asked.facts
-        passed.passed asked.passed).1 in
-        asked.some f (subst (λ (fs : List (Fact (List Config))). Among f fs) same passed.among) known;
-    missing = λ room full.
-        let (y, (f, among, is), unknown) = asked.missing room full in
-        (y, (f, record { verdict = v; facts = asked.facts; passed = asked.passed; among = among }, is), unknown);
-    stays_full = asked.stays_full;
-    rows = inr asked.rows;
-  }
+  module _ (r : Run) (n : ℕ) (under : IsConditionAt p.net.net values word r n) (v : Verdict) (old new : Told)
+      (keeps : KeepsToPath p r.state n (drop r.place word) old new) (asked : Asked p r.state n (drop r.place word) v old new) where
+    passes_now : (f : Fact (List Config)) → Among f asked.facts → IsPassedAt p.net values word r f
+    passes_now f now = record { condition = n; under = under; verdict = v; facts = asked.facts; passed = asked.passed; among = now }
+
+    -- what is passed at the moment is of that path
+    among_asked : (f : Fact (List Config)) → IsPassedAt p.net values word r f → Among f asked.facts
+    among_asked f passed =
+        let same = (one_passed_alike p plan r.state passed.condition n (drop r.place word) passed.verdict v passed.facts asked.facts
+        (allow_same r passed.condition n passed.under under) passed.passed asked.passed).1 in
+        subst (λ (fs : List (Fact (List Config))). Among f fs) same passed.among
+
+    pub asked_taught : IsTaught p (IsPassedAt p.net values word r) old new
+    asked_taught = record {
+      within = λ f seen. elim (keeps.within v asked.facts asked.passed f seen) [
+        | inl before ↦ inl before
+        | inr now ↦ inr (passes_now f now)
+      ];
+      teaches = λ f told. elim (keeps.teaches v asked.facts asked.passed f told) [
+        | inl before ↦ inl before
+        | inr now ↦ inr (passes_now f now)
+      ];
+      whole = λ room f passed. asked.whole room f (among_asked f passed);
+      some = λ f passed known. asked.some f (among_asked f passed) known;
+      missing = λ room full.
+          let (y, (f, among, is), unknown) = asked.missing room full in (y, (f, passes_now f among, is), unknown);
+      stays_full = asked.stays_full;
+      rows = inr asked.rows;
+    }
 
   -- the same where the parser is
-  pub asked_at : (r : Run) (q : Parser) (level : ℕ) (v : Verdict) (old new : Told) → StandsFor q r → level ≡ level_of r.frames
-      → KeepsToPath p q.state level (drop q.place word) old new → Asked p q.state level (drop q.place word) v old new
-      → IsTaught p (IsPassedAt p.net word r) old new
-  asked_at r q level v old new h newest keeps asked =
-      asked_taught r v old new
-      (subst (λ (d : ℕ). KeepsToPath p d (level_of r.frames) (drop r.place word) old new) h.state
-      (subst (λ (l : ℕ). KeepsToPath p q.state l (drop r.place word) old new) newest
-      (subst (λ (k : ℕ). KeepsToPath p q.state level (drop k word) old new) h.place keeps)))
-      (subst (λ (d : ℕ). Asked p d (level_of r.frames) (drop r.place word) v old new) h.state
-      (subst (λ (l : ℕ). Asked p q.state l (drop r.place word) v old new) newest
-      (subst (λ (k : ℕ). Asked p q.state level (drop k word) v old new) h.place asked)))
+  pub asked_at : (r : Run) (q : Parser) (n : ℕ) (v : Verdict) (old new : Told) → StandsFor q r
+      → IsConditionAt p.net.net values word r n → KeepsToPath p q.state n (drop q.place word) old new
+      → Asked p q.state n (drop q.place word) v old new → IsTaught p (IsPassedAt p.net values word r) old new
+  asked_at r q n v old new h under keeps asked =
+      asked_taught r n under v old new
+      (subst (λ (d : ℕ). KeepsToPath p d n (drop r.place word) old new) h.state
+      (subst (λ (k : ℕ). KeepsToPath p q.state n (drop k word) old new) h.place keeps))
+      (subst (λ (d : ℕ). Asked p d n (drop r.place word) v old new) h.state
+      (subst (λ (k : ℕ). Asked p q.state n (drop k word) v old new) h.place asked))
 
-  -- at a moment without a decision nothing is passed
-  none_passed : (r : Run) (f : Fact (List Config)) → (IsDecision p.net.net r.state → ⊥) → IsPassedAt p.net word r f → ⊥
-  none_passed r f none passed =
-      let start = passed.passed.is_start in
-      none (plan.tables.starts.guards passed.passed.start r.state start.0 start.1).0
-
-  pub untaught : (r : Run) (told : Told) → (IsDecision p.net.net r.state → ⊥) → IsTaught p (IsPassedAt p.net word r) told told
-  untaught r told none = record {
+  -- at a moment where nothing is passed, nothing is left
+  nothing_taught : (r : Run) (told : Told) → ((f : Fact (List Config)) → IsPassedAt p.net values word r f → ⊥)
+      → IsTaught p (IsPassedAt p.net values word r) told told
+  nothing_taught r told none = record {
     within = λ f seen. inl seen;
     teaches = λ f told. inl told;
-    whole = λ room f passed. absurd (none_passed r f none passed);
-    some = λ f passed known. absurd (none_passed r f none passed);
+    whole = λ room f passed. absurd (none f passed);
+    some = λ f passed known. absurd (none f passed);
     missing = λ room full. absurd (true≢false (sym full ∙ room));
     stays_full = λ full. full;
-    rows = inl ((λ f passed. none_passed r f none passed), refl);
+    rows = inl (none, refl);
   }
 
-  pub taught_begins : (told : Told) → IsTaughtTo p word beginning told told
+  -- so it is at a moment without a decision
+  pub untaught : (r : Run) (told : Told) → (IsDecision p.net.net r.state → ⊥) → IsTaught p (IsPassedAt p.net values word r) told told
+  untaught r told none = nothing_taught r told
+      (λ f passed. let start = passed.passed.is_start in
+      none (plan.tables.starts.guards passed.passed.start r.state start.0 start.1).0)
+
+  -- and at one whose decision has no condition
+  pub unguarded : (r : Run) (told : Told) → ((n : ℕ) → IsCondition p.net.net r.state n → ⊥)
+      → IsTaught p (IsPassedAt p.net values word r) told told
+  unguarded r told none = nothing_taught r told (λ f passed. none passed.condition passed.under.is)
+
+  pub taught_begins : (told : Told) → IsTaughtTo p values word beginning told told
   taught_begins told = record {
     within = λ f seen. inl seen;
     teaches = λ f told. inl told;
@@ -123,11 +137,11 @@ module _ (p : Plan Tables) (plan : IsPlan p) (word : List ℕ) where
   }
 
   -- a way from a moment is none, or begins with a step
-  begins : (r s : Run) → Comes p.net.net no_predicates word deepest r s
-      → (r ≡ s) ⊎ ((u : Run) × Goes p.net.net no_predicates word deepest r u × Comes p.net.net no_predicates word deepest u s)
+  begins : (r s : Run) → Comes p.net.net values word deepest r s
+      → (r ≡ s) ⊎ ((u : Run) × Goes p.net.net values word deepest r u × Comes p.net.net values word deepest u s)
   begins r _ (comes_there _) = inl refl
   begins r s (comes_on _ t _ way step) = elim (begins r t way) [
-    | inl same ↦ inr (s, subst (λ (q : Run). Goes p.net.net no_predicates word deepest q s) (sym same) step, comes_there s)
+    | inl same ↦ inr (s, subst (λ (q : Run). Goes p.net.net values word deepest q s) (sym same) step, comes_there s)
     | inr (u, first, more) ↦ inr (u, first, comes_on u t s more step)
   ]
 
@@ -136,15 +150,15 @@ module _ (p : Plan Tables) (plan : IsPlan p) (word : List ℕ) where
   room_before true new stays room = absurd (true≢false (sym (stays refl) ∙ room))
   room_before false new stays room = refl
 
-  module _ (r : Run) (reaches : Reaches p.net.net word r) (old mid new : Told) (before : IsTaughtTo p word r old mid)
-      (kept : HasKept mid new) (taught : IsTaught p (IsPassedAt p.net word r) mid new) where
-    within_more : (f : Fact (List Config)) → Among f new.0.seen → Among f old.0.seen ⊎ IsPassed p.net word f
+  module _ (r : Run) (reaches : Reaches p.net.net values word r) (old mid new : Told) (before : IsTaughtTo p values word r old mid)
+      (kept : HasKept mid new) (taught : IsTaught p (IsPassedAt p.net values word r) mid new) where
+    within_more : (f : Fact (List Config)) → Among f new.0.seen → Among f old.0.seen ⊎ IsPassed p.net values word f
     within_more f seen = elim (taught.within f seen) [
       | inl known ↦ before.within f known
       | inr passed ↦ inr (r, reaches, passed)
     ]
 
-    teaches_more : (f : Fact (List Config)) → Among f new.0.taught → Among f old.0.taught ⊎ IsPassed p.net word f
+    teaches_more : (f : Fact (List Config)) → Among f new.0.taught → Among f old.0.taught ⊎ IsPassed p.net values word f
     teaches_more f told = elim (taught.teaches f told) [
       | inl known ↦ before.teaches f known
       | inr passed ↦ inr (r, reaches, passed)
@@ -158,7 +172,7 @@ module _ (p : Plan Tables) (plan : IsPlan p) (word : List ℕ) where
     ]
 
     missing_now : (m : Bool) → mid.1 ≡ m → old.1 ≡ false → new.1 ≡ true
-        → (y : List Config) × HasPassedRow (IsPassed p.net word) y × (InKnown new.0.known y → ⊥)
+        → (y : List Config) × HasPassedRow (IsPassed p.net values word) y × (InKnown new.0.known y → ⊥)
     missing_now true is room full = elim before.rows [
       | inl (none, same) ↦ absurd (true≢false (sym is ∙ (ap (λ (v : Told). v.1) same ∙ room)))
       | inr rows ↦
@@ -170,15 +184,15 @@ module _ (p : Plan Tables) (plan : IsPlan p) (word : List ℕ) where
         (y, (f, (r, reaches, passed), names), unknown)
 
     -- what was seen of a moment before, and of this one
-    whole_to : new.1 ≡ false → (s : Run) → Reaches p.net.net word s
-        → Comes p.net.net no_predicates word deepest r s ⊎ ((f : Fact (List Config)) → IsPassedAt p.net word s f → Among f new.0.seen)
+    whole_to : new.1 ≡ false → (s : Run) → Reaches p.net.net values word s
+        → Comes p.net.net values word deepest r s ⊎ ((f : Fact (List Config)) → IsPassedAt p.net values word s f → Among f new.0.seen)
     whole_to room s reached = elim (before.whole (room_before mid.1 new.1 taught.stays_full room) s reached) [
       | inl comes ↦ inl comes
       | inr all ↦ inr (λ f passed. kept.seen f (all f passed))
     ]
 
-    some_to : (m : Bool) → mid.1 ≡ m → (s : Run) → Reaches p.net.net word s → Comes p.net.net no_predicates word deepest r s
-        ⊎ ((f : Fact (List Config)) → IsPassedAt p.net word s f → Within (InKnown new.0.known) f → Among f new.0.seen)
+    some_to : (m : Bool) → mid.1 ≡ m → (s : Run) → Reaches p.net.net values word s → Comes p.net.net values word deepest r s
+        ⊎ ((f : Fact (List Config)) → IsPassedAt p.net values word s f → Within (InKnown new.0.known) f → Among f new.0.seen)
     some_to false is s reached = elim (before.whole is s reached) [
       | inl comes ↦ inl comes
       | inr all ↦ inr (λ f passed known. kept.seen f (all f passed))
@@ -195,9 +209,9 @@ module _ (p : Plan Tables) (plan : IsPlan p) (word : List ℕ) where
       ]
     ]
 
-    rows_to : (((s : Run) → Reaches p.net.net word s → Comes p.net.net no_predicates word deepest r s
-        ⊎ ((f : Fact (List Config)) → IsPassedAt p.net word s f → ⊥))
-        × ((f : Fact (List Config)) → IsPassedAt p.net word r f → ⊥) × (new ≡ old)) ⊎ KnowsRows p.rows new
+    rows_to : (((s : Run) → Reaches p.net.net values word s → Comes p.net.net values word deepest r s
+        ⊎ ((f : Fact (List Config)) → IsPassedAt p.net values word s f → ⊥))
+        × ((f : Fact (List Config)) → IsPassedAt p.net values word r f → ⊥) × (new ≡ old)) ⊎ KnowsRows p.rows new
     rows_to = elim taught.rows [
       | inl (none, same) ↦ elim before.rows [
         | inl (never, was) ↦ inl (never, none, same ∙ was)
@@ -207,37 +221,37 @@ module _ (p : Plan Tables) (plan : IsPlan p) (word : List ℕ) where
     ]
 
     -- of what is said of each moment before, and of this one, from the next one on
-    from_next : (P : Run → Type 0) (next : Run) → Goes p.net.net no_predicates word deepest r next → P r → (s : Run)
-        → Comes p.net.net no_predicates word deepest r s ⊎ P s → Comes p.net.net no_predicates word deepest next s ⊎ P s
+    from_next : (P : Run → Type 0) (next : Run) → Goes p.net.net values word deepest r next → P r → (s : Run)
+        → Comes p.net.net values word deepest r s ⊎ P s → Comes p.net.net values word deepest next s ⊎ P s
     from_next P next step here s (inr there) = inr there
     from_next P next step here s (inl comes) = elim (begins r s comes) [
       | inl same ↦ inr (subst P same here)
       | inr (u, first, more) ↦ inl
-          (subst (λ (q : Run). Comes p.net.net no_predicates word deepest q s)
-          (goes_once p.net.net no_predicates word (state_at p.net.net r.state) r u next first step) more)
+          (subst (λ (q : Run). Comes p.net.net values word deepest q s)
+          (goes_once p.net.net values word (state_at p.net.net r.state) r u next first step) more)
     ]
 
     -- and where the run stops, of each moment
-    of_all : (P : Run → Type 0) (e : Ending) → Stops p.net.net no_predicates word deepest r e → P r → (s : Run)
-        → Comes p.net.net no_predicates word deepest r s ⊎ P s → P s
+    of_all : (P : Run → Type 0) (e : Ending) → Stops p.net.net values word deepest r e → P r → (s : Run)
+        → Comes p.net.net values word deepest r s ⊎ P s → P s
     of_all P e stop here s (inr there) = there
     of_all P e stop here s (inl comes) = elim (begins r s comes) [
       | inl same ↦ subst P same here
-      | inr (u, first, more) ↦ absurd (never_both p.net.net no_predicates word (state_at p.net.net r.state) r u e first stop)
+      | inr (u, first, more) ↦ absurd (never_both p.net.net values word (state_at p.net.net r.state) r u e first stop)
     ]
 
     -- what is said of a moment
     abbrev AllSeen : Run → Type 0
-    AllSeen s = (f : Fact (List Config)) → IsPassedAt p.net word s f → Among f new.0.seen
+    AllSeen s = (f : Fact (List Config)) → IsPassedAt p.net values word s f → Among f new.0.seen
 
     abbrev KnownSeen : Run → Type 0
-    KnownSeen s = (f : Fact (List Config)) → IsPassedAt p.net word s f → Within (InKnown new.0.known) f → Among f new.0.seen
+    KnownSeen s = (f : Fact (List Config)) → IsPassedAt p.net values word s f → Within (InKnown new.0.known) f → Among f new.0.seen
 
     abbrev NonePassed : Run → Type 0
-    NonePassed s = (f : Fact (List Config)) → IsPassedAt p.net word s f → ⊥
+    NonePassed s = (f : Fact (List Config)) → IsPassedAt p.net values word s f → ⊥
 
     -- a step leads on
-    pub taught_on : (next : Run) → Goes p.net.net no_predicates word deepest r next → IsTaughtTo p word next old new
+    pub taught_on : (next : Run) → Goes p.net.net values word deepest r next → IsTaughtTo p values word next old new
     taught_on next step = record {
       within = within_more;
       teaches = teaches_more;
@@ -252,7 +266,7 @@ module _ (p : Plan Tables) (plan : IsPlan p) (word : List ℕ) where
     }
 
     -- and where the run stops, all of it is passed
-    pub taught_whole : (e : Ending) → Stops p.net.net no_predicates word deepest r e → IsTaught p (IsPassed p.net word) old new
+    pub taught_whole : (e : Ending) → Stops p.net.net values word deepest r e → IsTaught p (IsPassed p.net values word) old new
     taught_whole e stop = record {
       within = within_more;
       teaches = teaches_more;
@@ -268,8 +282,8 @@ module _ (p : Plan Tables) (plan : IsPlan p) (word : List ℕ) where
     }
 
   -- the same of a run that has ended, at a moment without a decision
-  pub taught_ended : (r : Run) (old new : Told) → Reaches p.net.net word r → IsTaughtTo p word r old new
-      → (IsDecision p.net.net r.state → ⊥) → (e : Ending) → Stops p.net.net no_predicates word deepest r e
-      → IsTaught p (IsPassed p.net word) old new
+  pub taught_ended : (r : Run) (old new : Told) → Reaches p.net.net values word r → IsTaughtTo p values word r old new
+      → (IsDecision p.net.net r.state → ⊥) → (e : Ending) → Stops p.net.net values word deepest r e
+      → IsTaught p (IsPassed p.net values word) old new
   taught_ended r old new reaches before none e stop =
       taught_whole r reaches old new new before (kept_same new) (untaught r new none) e stop

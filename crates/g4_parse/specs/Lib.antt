@@ -1,5 +1,7 @@
--- Other crates cite Parsing, Teaching; only this crate cites Deciding, Standing.
+-- Other crates cite NoPredicates, Parsing, Teaching; only this crate cites Deciding, Standing, Tested.
 pub mod Deciding
+pub mod NoPredicates
 pub mod Parsing
 pub mod Standing
 pub mod Teaching
+pub mod Tested

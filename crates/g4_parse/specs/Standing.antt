@@ -10,9 +10,9 @@ use Rattle.g4_trees.specs.Growing.{Growing, OpenNode}
 use Rattle.g4_trees.specs.Kept.{HasGrown}
 use Rattle.g4_parse.specs.declared.parser.ParseFault.{ParseFault}
 use Rattle.g4_parse.specs.declared.parser.ParseFault.TheVariants.{NoViable, Mismatch, FailedPredicate, TooDeep, NoMemory}
-use Rattle.g4_parse.specs.declared.parser.Opened.{Opened}
+use Rattle.g4_parse.specs.declared.predicates.Opened.{Opened}
 use Rattle.g4_parse.specs.declared.parser.Parser.{Parser}
-use Rattle.g4_run.specs.Running.{backs, deepest, Frame, Run, not_viable, mismatch, failed_predicate, too_deep, level_of, no_predicates, rule_of, GoesBy, StopsBy}
+use Rattle.g4_run.specs.Running.{backs, deepest, Frame, Run, not_viable, mismatch, failed_predicate, too_deep, level_of, rule_of, GoesBy, StopsBy, Values}
 
 -- the return states of the open rules, newest last
 abbrev pub returns_of : List Frame → List ℕ
@@ -45,17 +45,17 @@ pub record StandsFor (p : Parser) (r : Run) : Type 0 where
   pub tree : HasGrown p.tree (grown r.frames r.tree)
 
 -- the run stops at this moment with the fault, unless memory ran out
-abbrev pub IsFaultBy : ParserNetwork → List ℕ → Option (State (List ℕ)) → Run → ParseFault → Type 0
-IsFaultBy net word state r (NoViable at) = StopsBy net no_predicates word deepest state r (not_viable at)
-IsFaultBy net word state r (Mismatch at from) = StopsBy net no_predicates word deepest state r (mismatch at from)
-IsFaultBy net word state r (FailedPredicate at rule) = StopsBy net no_predicates word deepest state r (failed_predicate at rule)
-IsFaultBy net word state r (TooDeep at) = StopsBy net no_predicates word deepest state r (too_deep at)
-IsFaultBy net word state r NoMemory = Unit {0}
+abbrev pub IsFaultBy : ParserNetwork → Values → List ℕ → Option (State (List ℕ)) → Run → ParseFault → Type 0
+IsFaultBy net values word state r (NoViable at) = StopsBy net values word deepest state r (not_viable at)
+IsFaultBy net values word state r (Mismatch at from) = StopsBy net values word deepest state r (mismatch at from)
+IsFaultBy net values word state r (FailedPredicate at rule) = StopsBy net values word deepest state r (failed_predicate at rule)
+IsFaultBy net values word state r (TooDeep at) = StopsBy net values word deepest state r (too_deep at)
+IsFaultBy net values word state r NoMemory = Unit {0}
 
 -- from this moment the run goes by the state to one that the parser is at, or it stops with the fault
-abbrev pub IsTurnBy : ParserNetwork → List ℕ → Option (State (List ℕ)) → Run → Parser → Result ⊤ ParseFault → Type 0
-IsTurnBy net word state r p (Ok done) = (s : Run) × GoesBy net no_predicates word deepest state r s × StandsFor p s
-IsTurnBy net word state r p (Err fault) = IsFaultBy net word state r fault
+abbrev pub IsTurnBy : ParserNetwork → Values → List ℕ → Option (State (List ℕ)) → Run → Parser → Result ⊤ ParseFault → Type 0
+IsTurnBy net values word state r p (Ok done) = (s : Run) × GoesBy net values word deepest state r s × StandsFor p s
+IsTurnBy net values word state r p (Err fault) = IsFaultBy net values word state r fault
 
 -- what prediction asks at a decision, the token list having n tokens
 pub record IsDecisionFit (net : ParserNetwork) (n : ℕ) (r : Run) : Type 0 where
@@ -71,7 +71,7 @@ IsFitBy net n (Some (Decision targets)) r = IsDecisionFit net n r
 IsFitBy net n (Some (End rule)) r = r.frames ≡ [] → rule ≡ 0
 IsFitBy net n (Some (Edge set t)) r = r.place < n
 IsFitBy net n (Some (Call rule level back)) r = (start_of rule < length net.written) × (start_of rule < 2 ^ 32)
-IsFitBy net n (Some (Predicate k t)) r = ⊥
+IsFitBy net n (Some (Predicate k t)) r = Unit {0}
 IsFitBy net n (Some (Level q t)) r = r.state < length net.written
 IsFitBy net n (Some (Action t)) r = Unit {0}
 IsFitBy net n (Some (Empty t)) r = Unit {0}

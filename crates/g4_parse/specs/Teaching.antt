@@ -1,11 +1,13 @@
 -- What a parse leaves its pass: the words of the paths of SLL that its run passes.
-use Rattle.std.specs.Prelude.{◌≡◌, ◌⊎◌, ℕ, List, Result, Ok, Err, drop, true, false}
+use Rattle.std.specs.Prelude.{◌≡◌, ◌⊎◌, ◌↔◌, ℕ, List, Result, Ok, Err, drop, true, false}
 use Rattle.g4_decide.specs.Asked.{Told}
+use Rattle.g4_guards.specs.Levels.{AllowedAt, IsCondition}
 use Rattle.g4_learned.specs.Stored.{ArePassed}
 use Rattle.g4_learned.specs.Tables.{Tables}
 use Rattle.g4_net.specs.Configurations.{Config}
+use Rattle.g4_net.specs.Network.{ParserNetwork}
 use Rattle.g4_net.specs.Prediction.{Verdict}
-use Rattle.g4_run.specs.Running.{Reaches, Run, level_of}
+use Rattle.g4_run.specs.Running.{AllowsAt, Reaches, Run, Values}
 use Rattle.g4_store.specs.declared.automaton.Fact.{Fact}
 use Rattle.g4_store.specs.declared.automaton.Plan.{Plan}
 use Rattle.g4_store.specs.Known.{KnowsRows}
@@ -14,17 +16,24 @@ use Rattle.g4_store.specs.Paths.{InKnown, IsIn, Within}
 use Rattle.g4_parse.specs.declared.parser.ParseFault.{ParseFault}
 use Rattle.g4_parse.specs.declared.parser.ParseFault.TheVariants.{FailedPredicate, Mismatch, NoMemory, NoViable, TooDeep}
 
--- The word is one of SLL's path at this moment of a run: at its decision, over the alternatives that the level of the open rule allows,
--- on what is left of the tokens.
-pub record IsPassedAt (t : Tables) (word : List ℕ) (r : Run) (f : Fact (List Config)) : Type 0 where
+-- The number is a condition of the decision of this moment, under which the alternatives may be taken that the moment allows.
+pub record IsConditionAt (net : ParserNetwork) (values : Values) (word : List ℕ) (r : Run) (condition : ℕ) : Type 0 where
+  pub is : IsCondition net r.state condition
+  pub allows : (i : ℕ) → AllowedAt net r.state condition i ↔ AllowsAt net values word r i
+
+-- The word is one of SLL's path at this moment of a run: at its decision, over the alternatives that it allows, on what is left of the
+-- tokens. Where these have no guard there is none.
+pub record IsPassedAt (t : Tables) (values : Values) (word : List ℕ) (r : Run) (f : Fact (List Config)) : Type 0 where
+  pub condition : ℕ
+  pub under : IsConditionAt t.net values word r condition
   pub verdict : Verdict
   pub facts : List (Fact (List Config))
-  pub passed : ArePassed t r.state (level_of r.frames) (drop r.place word) verdict facts
+  pub passed : ArePassed t r.state condition (drop r.place word) verdict facts
   pub among : Among f facts
 
 -- the run over the tokens passes the word, at one of the moments that it comes to
-abbrev pub IsPassed : Tables → List ℕ → Fact (List Config) → Type 0
-IsPassed t word f = (r : Run) × Reaches t.net word r × IsPassedAt t word r f
+abbrev pub IsPassed : Tables → Values → List ℕ → Fact (List Config) → Type 0
+IsPassed t values word f = (r : Run) × Reaches t.net values word r × IsPassedAt t values word r f
 
 -- one of the words that are passed names the row
 abbrev pub HasPassedRow : (Fact (List Config) → Type 0) → List Config → Type 0

@@ -2,17 +2,17 @@
 ghost use Rattle.std.specs.Prelude.{◌≡◌, ◌<◌, ◌*◌, ◌^◌, ◌↔◌, ℕ, All, List, [], Some, IsTrue, IfOk, OnOk, length};
 ghost use Rattle.g4_classes.specs.Classes.{IsSymbol};
 ghost use Rattle.g4_learned.specs.Stored.{IsPlan};
-ghost use Rattle.g4_net.specs.declared.network.State.TheVariants.{Call, Decision, Edge, End, Level};
+ghost use Rattle.g4_net.specs.declared.network.State.TheVariants.{Call, Decision, Edge, End, Level, Predicate};
 ghost use Rattle.g4_net.specs.Network.{ParserNetwork as Net, state_at};
-ghost use Rattle.g4_run.specs.Running.{Run, beginning, with_begun, with_token};
+ghost use Rattle.g4_run.specs.Running.{Run, Values, beginning, with_begun, with_token};
 ghost use Rattle.g4_parse.specs.Standing.{StandsFor, IsNewestOf, IsTurnBy, IsDeciding, IsUnderway, HasEnded};
 ghost use Rattle.g4_parse.specs.Teaching.{HadMemory, HasKept, IsPassedAt, IsTaught};
 ghost use Rattle.g4_tokens.specs.TokenList.{word_of, EndsInEnd};
 ghost use Rattle.g4_trees.specs.Kept.{HasGrown};
 ghost use Rattle.g4_trees.specs.Trees.{Forest, items_of_all};
 
+use crate::predicates::{Opened, Predicates};
 use crate::state::{begun, state_of};
-use g4_decide::decide;
 use g4_full::Memory;
 use g4_learned::{DecisionNet, Pass, Store};
 use g4_net::{ParserNetwork, State};
@@ -42,21 +42,14 @@ pub enum ParseFault {
 /// The most rules that may be open.
 const DEEPEST: usize = 10_000;
 
-/// An open rule: its number, and the level at which it was called.
-#[derive(Clone, Copy)]
-struct Opened {
-    rule: u32,
-    level: u32,
-}
-
 /// A moment of the run: the state and the place in the token list, the return states of the open rules, newest last, with their
 /// numbers and levels, and the tree so far.
 #[derive(Drop)]
 pub struct Parser {
-    state: u32,
-    place: u32,
-    returns: Vec<u32>,
-    opened: Vec<Opened>,
+    pub(crate) state: u32,
+    pub(crate) place: u32,
+    pub(crate) returns: Vec<u32>,
+    pub(crate) opened: Vec<Opened>,
     tree: TreeBuilder,
 }
 
@@ -83,7 +76,7 @@ impl Parser {
     }
 
     /// The newest open rule. Of the added rule the number and the level are 0.
-    fn newest(&self) -> Opened
+    pub(crate) fn newest(&self) -> Opened
         ensures { (r : Run) → StandsFor self.now r → IsNewestOf r.frames result }
     {
         match self.opened.last() {
@@ -96,8 +89,8 @@ impl Parser {
     fn call(&mut self, net: &ParserNetwork, opened: Opened, back: u32) -> Result<(), ParseFault>
         requires starts { 2 * opened.rule < length net.now.written }
         requires fits { 2 * opened.rule < 2 ^ 32 }
-        ensures { (word : List ℕ) (r : Run) → StandsFor self.old r
-            → IsTurnBy net.now word (Some (Call opened.rule opened.level back)) r self.new result }
+        ensures { (values : Values) (word : List ℕ) (r : Run) → StandsFor self.old r
+            → IsTurnBy net.now values word (Some (Call opened.rule opened.level back)) r self.new result }
     {
         if self.returns.len() >= DEEPEST {
             return Err(ParseFault::TooDeep { at: self.place });
@@ -126,8 +119,8 @@ impl Parser {
     fn take(&mut self, set: &Symbols, target: u32, tokens: &[Token]) -> Result<(), ParseFault>
         requires more { self.old.place < length tokens.now }
         requires few { length tokens.now < 2 ^ 32 }
-        ensures { (net : Net) (r : Run) → StandsFor self.old r
-            → IsTurnBy net (word_of tokens.now) (Some (Edge set.now target)) r self.new result }
+        ensures { (net : Net) (values : Values) (r : Run) → StandsFor self.old r
+            → IsTurnBy net values (word_of tokens.now) (Some (Edge set.now target)) r self.new result }
     {
         let symbol = tokens[self.place as usize].symbol;
         if !set.contains(symbol) {
@@ -153,7 +146,7 @@ impl Parser {
     }
 
     /// Goes to the alternative that prediction chooses.
-    fn choose<B: Home<DecisionNet>, R: Wait, L: Ledger>(
+    fn choose<B: Home<DecisionNet>, R: Wait, L: Ledger, P: Predicates>(
         &mut self,
         rt: &R,
         alloc: Global,
@@ -161,6 +154,7 @@ impl Parser {
         store: &Store<B>,
         pass: &mut Pass<B>,
         memory: &mut Memory<B>,
+        predicates: &P,
         targets: &[u32],
         tokens: &[Token],
         steps: &mut Steps<L>,
@@ -173,15 +167,13 @@ impl Parser {
         requires ends { EndsInEnd (word_of tokens.now) }
         requires few { length tokens.now < 2 ^ 32 }
         ensures turns { (r : Run) → StandsFor self.old r
-            → IsTurnBy net.now (word_of tokens.now) (Some (Decision targets.now)) r self.new result }
+            → IsTurnBy net.now (P.values predicates.now) (word_of tokens.now) (Some (Decision targets.now)) r self.new result }
         ensures kept { HasKept pass.old pass.new }
         ensures taught { HadMemory result → (r : Run) → StandsFor self.old r
-            → IsTaught B.plan (IsPassedAt B.plan.net (word_of tokens.now) r) pass.old pass.new }
+            → IsTaught B.plan (IsPassedAt B.plan.net (P.values predicates.now) (word_of tokens.now) r) pass.old pass.new }
     {
-        let level = self.newest().level;
-        let returns = self.returns.as_slice();
-        let alternative = decide(
-            rt, alloc, store, pass, memory, self.state, level, returns, tokens, self.place, steps,
+        let alternative = self.chosen(
+            rt, alloc, store, pass, memory, predicates, targets, tokens, steps,
         )?;
         let target = targets[alternative as usize - 1];
         self.begin_alternative(begun(net, target));
@@ -192,8 +184,8 @@ impl Parser {
     /// Closes the newest open rule.
     fn close(&mut self) -> Result<(), ParseFault>
         requires { 0 < length self.old.returns.items }
-        ensures { (net : Net) (word : List ℕ) (rule : ℕ) (r : Run) → StandsFor self.old r
-            → IsTurnBy net word (Some (End rule)) r self.new result }
+        ensures { (net : Net) (values : Values) (word : List ℕ) (rule : ℕ) (r : Run) → StandsFor self.old r
+            → IsTurnBy net values word (Some (End rule)) r self.new result }
     {
         let Some(back) = self.returns.pop() else {
             unreachable!()
@@ -207,7 +199,8 @@ impl Parser {
     /// Makes the node so far of the newest open rule the first child of a new node of the same rule, where the level is true.
     fn pass_level(&mut self, net: &ParserNetwork, most: u32, target: u32) -> Result<(), ParseFault>
         requires { self.now.state < length net.now.written }
-        ensures { (word : List ℕ) (r : Run) → StandsFor self.old r → IsTurnBy net.now word (Some (Level most target)) r self.new result }
+        ensures { (values : Values) (word : List ℕ) (r : Run) → StandsFor self.old r
+            → IsTurnBy net.now values word (Some (Level most target)) r self.new result }
     {
         let newest = self.newest();
         if newest.level > most {
@@ -222,13 +215,39 @@ impl Parser {
         Ok(())
     }
 
+    /// Passes a predicate, where it is true.
+    fn pass_predicate<P: Predicates>(
+        &mut self,
+        predicates: &P,
+        predicate: u32,
+        target: u32,
+    ) -> Result<(), ParseFault>
+        ensures { (net : Net) (word : List ℕ) (r : Run) → StandsFor self.old r
+            → IsTurnBy net (P.values predicates.now) word (Some (Predicate predicate target)) r self.new result }
+    {
+        if !predicates.holds(predicate, &self.opened, self.place) {
+            return Err(ParseFault::FailedPredicate {
+                at: self.place,
+                rule: self.newest().rule,
+            });
+        }
+        self.state = target;
+        Ok(())
+    }
+
     /// One step of the run, at a state that is no decision.
-    fn step(&mut self, net: &ParserNetwork, tokens: &[Token]) -> Result<(), ParseFault>
+    fn step<P: Predicates>(
+        &mut self,
+        net: &ParserNetwork,
+        predicates: &P,
+        tokens: &[Token],
+    ) -> Result<(), ParseFault>
         requires underway { IsUnderway net.now (length tokens.now) self.old }
         requires goes_on { HasEnded net.now self.old → ⊥ }
         requires chooses_none { (targets : List ℕ) → state_at net.now self.old.state ≡ Some (Decision targets) → ⊥ }
         requires few { length tokens.now < 2 ^ 32 }
-        ensures { (r : Run) → StandsFor self.old r → IsTurnBy net.now (word_of tokens.now) (state_at net.now r.state) r self.new result }
+        ensures { (r : Run) → StandsFor self.old r
+            → IsTurnBy net.now (P.values predicates.now) (word_of tokens.now) (state_at net.now r.state) r self.new result }
     {
         match state_of(net, self.state) {
             State::Call { rule, level, back } => {
@@ -246,13 +265,13 @@ impl Parser {
                 Ok(())
             }
             State::Decision(_) => unreachable!(),
-            State::Predicate(..) => unreachable!(),
+            State::Predicate(number, target) => self.pass_predicate(predicates, *number, *target),
             State::Level(most, target) => self.pass_level(net, *most, *target),
         }
     }
 
     /// One step of the run.
-    pub fn turn<B: Home<DecisionNet>, R: Wait, L: Ledger>(
+    pub fn turn<B: Home<DecisionNet>, R: Wait, L: Ledger, P: Predicates>(
         &mut self,
         rt: &R,
         alloc: Global,
@@ -260,6 +279,7 @@ impl Parser {
         store: &Store<B>,
         pass: &mut Pass<B>,
         memory: &mut Memory<B>,
+        predicates: &P,
         tokens: &[Token],
         steps: &mut Steps<L>,
     ) -> Result<(), ParseFault>
@@ -271,16 +291,18 @@ impl Parser {
         requires ends { EndsInEnd (word_of tokens.now) }
         requires few { length tokens.now < 2 ^ 32 }
         ensures turns { (r : Run) → StandsFor self.old r
-            → IsTurnBy net.now (word_of tokens.now) (state_at net.now r.state) r self.new result }
+            → IsTurnBy net.now (P.values predicates.now) (word_of tokens.now) (state_at net.now r.state) r self.new result }
         ensures kept { HasKept pass.old pass.new }
         ensures taught { HadMemory result → (r : Run) → StandsFor self.old r
-            → IsTaught B.plan (IsPassedAt B.plan.net (word_of tokens.now) r) pass.old pass.new }
+            → IsTaught B.plan (IsPassedAt B.plan.net (P.values predicates.now) (word_of tokens.now) r) pass.old pass.new }
     {
         if let State::Decision(targets) = state_of(net, self.state) {
             let targets = targets.as_slice();
-            return self.choose(rt, alloc, net, store, pass, memory, targets, tokens, steps);
+            return self.choose(
+                rt, alloc, net, store, pass, memory, predicates, targets, tokens, steps,
+            );
         }
-        self.step(net, tokens)
+        self.step(net, predicates, tokens)
     }
 
     /// The tree of a run that has ended.

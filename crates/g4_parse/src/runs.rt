@@ -1,7 +1,7 @@
 // The run of the parser over a token list.
 ghost use Rattle.std.specs.Prelude.{◌≡◌, ◌<◌, ◌^◌, All, List, ℕ, IfOk, length};
 ghost use Rattle.g4_classes.specs.Classes.{IsSymbol};
-ghost use Rattle.g4_grammar.specs.StepRules.{CanBeRewritten, StepRule};
+ghost use Rattle.g4_grammar.specs.StepRules.{AreUnpredicated, CanBeRewritten, StepRule};
 ghost use Rattle.g4_layout.specs.Built.{IsBuilt};
 ghost use Rattle.g4_learned.specs.Stored.{IsPlan};
 ghost use Rattle.g4_leftrec.specs.Rewriting.{numberings, rewritten};
@@ -12,6 +12,7 @@ ghost use Rattle.g4_tokens.specs.TokenList.{word_of, EndsInEnd};
 ghost use Rattle.g4_tree_check.specs.TreesOf.{IsTreeOf};
 
 use crate::parser::{ParseFault, Parser};
+use crate::predicates::Predicates;
 use g4_full::Memory;
 use g4_learned::{DecisionNet, Pass, Store};
 use g4_net::ParserNetwork;
@@ -24,13 +25,14 @@ use std::sync::Wait;
 use std::sync::ledger::Ledger;
 
 /// The tree of a token list, by the network of a store.
-fn run<B: Home<DecisionNet>, R: Wait, L: Ledger>(
+fn run<B: Home<DecisionNet>, R: Wait, L: Ledger, P: Predicates>(
     rt: &R,
     alloc: Global,
     net: &ParserNetwork,
     store: &Store<B>,
     pass: &mut Pass<B>,
     memory: &mut Memory<B>,
+    predicates: &P,
     tokens: &[Token],
     steps: &mut Steps<L>,
 ) -> Result<Tree, ParseFault>
@@ -39,36 +41,41 @@ fn run<B: Home<DecisionNet>, R: Wait, L: Ledger>(
     requires symbols { All IsSymbol (word_of tokens.now) }
     requires ends { EndsInEnd (word_of tokens.now) }
     requires few { length tokens.now < 2 ^ 32 }
-    ensures parse { IsParse B.plan.net.net (word_of tokens.now) result }
+    ensures parse { IsParse B.plan.net.net (P.values predicates.now) (word_of tokens.now) result }
     ensures kept { HasKept pass.old pass.new }
-    ensures taught { HadMemory result → IsTaught B.plan (IsPassed B.plan.net (word_of tokens.now)) pass.old pass.new }
+    ensures taught { HadMemory result → IsTaught B.plan (IsPassed B.plan.net (P.values predicates.now)
+        (word_of tokens.now)) pass.old pass.new }
 {
     let mut parser = Parser::new(alloc);
     'run: while !parser.has_ended(net) {
-        parser.turn(rt, alloc, net, store, pass, memory, tokens, steps)?;
+        parser.turn(
+            rt, alloc, net, store, pass, memory, predicates, tokens, steps,
+        )?;
     }
     Ok(parser.finish(alloc)?)
 }
 
-/// The tree of a token list. One that rules derive, as they are run, has a tree, unless too many rules are open, and no other has.
-/// All tokens are in it but those that end the list. What the store's threads have learned makes no difference to it; what SLL looks at in
-/// the run is learned then, as far as the store has room.
+/// The tree of a token list, with these values of its grammar's predicates. Only a list that the rules derive, as they are run, has one,
+/// and where they have no predicate each such list has, unless too many rules are open. All tokens are in it but those that end the
+/// list. What the store's threads have learned makes no difference to it; what SLL looks at in the run is learned then, as far as the
+/// store has room.
 ///
 /// # Errors
 /// The fault at which the run stops, or no memory.
-pub fn parse<B: Home<DecisionNet>, R: Wait, L: Ledger>(
+pub fn parse<B: Home<DecisionNet>, R: Wait, L: Ledger, P: Predicates>(
     rt: &R,
     alloc: Global,
     store: &Store<B>,
     pass: &mut Pass<B>,
     memory: &mut Memory<B>,
+    predicates: &P,
     tokens: &[Token],
     steps: &mut Steps<L>,
 ) -> Result<Tree, ParseFault>
     requires symbols { All IsSymbol (word_of tokens.now) }
     requires ends { EndsInEnd (word_of tokens.now) }
     requires few { length tokens.now < 2 ^ 32 }
-    ensures parse { IsParse B.plan.net.net (word_of tokens.now) result }
+    ensures parse { IsParse B.plan.net.net (P.values predicates.now) (word_of tokens.now) result }
     ensures tree { (set : List ℕ) (rules : List StepRule) (start : List ℕ) → CanBeRewritten rules →
         IsBuilt set (rewritten rules) (numberings rules) start B.plan.net.net
         → IfOk result (IsTreeOf rules (word_of tokens.now)) }
@@ -77,10 +84,13 @@ pub fn parse<B: Home<DecisionNet>, R: Wait, L: Ledger>(
         → IfOk result (LeavesClosing set (word_of tokens.now)) }
     ensures accepts { (set : List ℕ) (rules : List StepRule) (start : List ℕ) → CanBeRewritten rules →
         IsBuilt set (rewritten rules) (numberings rules) start B.plan.net.net
-        → IsAcceptance (DerivesFrom set (rewritten rules) start (word_of tokens.now)) result }
+        → IsAcceptance (AreUnpredicated rules) (DerivesFrom set (rewritten rules) start (word_of tokens.now)) result }
     ensures kept { HasKept pass.old pass.new }
-    ensures taught { HadMemory result → IsTaught B.plan (IsPassed B.plan.net (word_of tokens.now)) pass.old pass.new }
+    ensures taught { HadMemory result → IsTaught B.plan (IsPassed B.plan.net (P.values predicates.now)
+        (word_of tokens.now)) pass.old pass.new }
 {
     let net = store.net().net();
-    run(rt, alloc, net, store, pass, memory, tokens, steps)
+    run(
+        rt, alloc, net, store, pass, memory, predicates, tokens, steps,
+    )
 }

@@ -13,7 +13,7 @@ use g4_grammar::ParserRules;
 use g4_learned::{DecisionNet, Learnings, Opened, Pass, Store, open};
 use g4_lexer::{Lexer, tokens};
 use g4_load::{Interpreter, build_interpreter};
-use g4_parse::{ParseFault, parse};
+use g4_parse::{NoPredicates, ParseFault, parse};
 use g4_ports::{MemFile, MemShelf};
 use g4_store::steps::Steps;
 use g4_store::view::Home;
@@ -99,6 +99,7 @@ fn push_parsed<B: Home<DecisionNet>, R: Wait, L: Ledger>(
         store,
         pass,
         memory,
+        &NoPredicates,
         tokens.list.as_slice(),
         steps,
     ) {

@@ -4,7 +4,7 @@ use Rattle.std.proofs.lemmas.List.Elements.{Contains-append_cases, Contains-appe
 use Rattle.g4_decide.specs.Asked.{Told}
 use Rattle.g4_learned.specs.Tables.{Tables}
 use Rattle.g4_net.specs.Configurations.{Config}
-use Rattle.g4_outcome.specs.Taught.{HasTaught, IsPassedIn, IsWordOf}
+use Rattle.g4_outcome.specs.Taught.{HasTaught, IsPassedIn, IsRunOf}
 use Rattle.g4_outcome.specs.declared.input.Input.{Input}
 use Rattle.g4_store.specs.declared.automaton.Fact.{Fact}
 use Rattle.g4_store.specs.declared.automaton.Plan.{Plan}
@@ -121,8 +121,8 @@ module _ (p : Plan Tables) (files : Files) (jobs : ℕ) where
     };
     symbols = λ k among. elim (Contains-append_cases done (number ∷ []) k among) [
       | inl before ↦ h.symbols k before
-      | inr now ↦ λ other is word of. taught.symbols word
-          (subst (λ (i : Input). IsWordOf files.interpreter i word) (one_input k other now is) of)
+      | inr now ↦ λ other is over of. taught.symbols over
+          (subst (λ (i : Input). IsRunOf files.interpreter i over) (one_input k other now is) of)
     ];
   }
     where

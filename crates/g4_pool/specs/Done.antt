@@ -4,9 +4,10 @@ use Rattle.g4_classes.specs.Classes.{IsSymbol}
 use Rattle.g4_decide.specs.Asked.{Told}
 use Rattle.g4_learned.specs.Tables.{Tables}
 use Rattle.g4_net.specs.Configurations.{Config}
-use Rattle.g4_outcome.specs.Taught.{IsPassedIn, IsWordOf}
+use Rattle.g4_outcome.specs.Taught.{IsPassedIn, IsRunOf}
 use Rattle.g4_outcome.specs.declared.input.Input.{Input}
 use Rattle.g4_parse.specs.Teaching.{HasPassedRow}
+use Rattle.g4_run.specs.Running.{RunOver}
 use Rattle.g4_store.specs.declared.automaton.Fact.{Fact}
 use Rattle.g4_store.specs.declared.automaton.Plan.{Plan}
 use Rattle.g4_store.specs.Known.{HasAllRows}
@@ -44,4 +45,4 @@ pub record HasDone (p : Plan Tables) (files : Files) (jobs : ℕ) (numbers done 
   pub count : has 0 pass.0.holds ≡ true → pass.0.count ≡ jobs + 1
   pub passed : HasPassed p (IsPassedAt p.net files done) pass
   pub symbols : (number : ℕ) → Contains done number → (input : Input) → slice_get files.inputs number ≡ Some input
-      → (word : List ℕ) → IsWordOf files.interpreter input word → All IsSymbol word
+      → (over : RunOver) → IsRunOf files.interpreter input over → All IsSymbol over.word

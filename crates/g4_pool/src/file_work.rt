@@ -43,12 +43,13 @@ impl<'a, B: Home<DecisionNet> + LexerHome, R, G> Model for FileWork<'a, B, R, G>
     ghost use Rattle.g4_outcome.specs.Grammars.{with_net};
     ghost use Rattle.g4_outcome.specs.Inputs.{IsSmall};
     ghost use Rattle.g4_pool.specs.Files.{Pooled, files_of, pooled};
+    ghost use Rattle.g4_preds.specs.contracts.predicate.Predicate as predicate;
     ghost use Rattle.g4_source.specs.Marks.{elements_code};
     ghost use Rattle.std.specs.Coded.{codes};
 
     ghost Value = { Pooled };
 
-    ghost coded = { Prim.hlevel (codes, elements_code) };
+    ghost coded = { Prim.hlevel (codes, elements_code, predicate.the_row.coded) };
 
     ghost view = { λ w. pooled (files_of w.output (with_net w.grammar.now B.plan.net.net) w.names.now w.inputs.now) w.jobs };
 

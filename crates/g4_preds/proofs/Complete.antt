@@ -1,5 +1,5 @@
 -- The parser reads what the grammar gives.
-use Rattle.std.proofs.Common.{◌≡◌, ℕ, zero, suc, Bool, true, false, List, [], ◌∷◌, ◌++◌, Option, Some, None, drop, refl, ap, sym, ◌∙◌, append_assoc, subst}
+use Rattle.std.proofs.Common.{◌≡◌, true, false, List, [], ◌∷◌, ◌++◌, Some, None, refl, ap, sym, ◌∙◌, append_assoc}
 use Rattle.std.proofs.lemmas.List.{append-nil}
 use Rattle.g4_preds.specs.declared.node.Test.{Test}
 use Rattle.g4_preds.specs.declared.node.Node.{Node}
@@ -7,11 +7,11 @@ use Rattle.g4_preds.specs.declared.node.Node.TheVariants.{Operand, Not, And, Or}
 use Rattle.g4_preds.specs.declared.operators.Operator.{Operator}
 use Rattle.g4_preds.specs.declared.operators.Operator.TheVariants.{Negation, Conjunction, Disjunction, Parenthesis}
 use Rattle.g4_preds.specs.declared.token.Token.{Token}
-use Rattle.g4_preds.specs.declared.token.Token.TheVariants.{Name, Digit, Literal, LeftParenthesis, RightParenthesis, Exclamation, DoubleAmpersand, DoubleBar, DoubleEquals}
+use Rattle.g4_preds.specs.declared.token.Token.TheVariants.{RightParenthesis, DoubleAmpersand, DoubleBar}
 use Rattle.g4_preds.specs.Grammar.{IsTest, always, never, flag, inside, text_is, IsOr, one_and, or_more, IsAnd, one_not, and_more, IsNot, denied, as_is, IsPrimary, one_test, enclosed}
 use Rattle.g4_preds.specs.Postfix.{postfix, tree_of}
-use Rattle.g4_preds.specs.Steps.{State, start, completed, joined_nodes, joined_pending, past_right, closed, next_step, one_token, finished, nodes_if_none, nodes_from}
-use Rattle.g4_preds.specs.Trees.{Tree, test, negation, conjunction, disjunction}
+use Rattle.g4_preds.specs.Steps.{State, start, completed, joined_nodes, joined_pending, past_right, closed, nodes_if_none, nodes_from}
+use Rattle.g4_preds.specs.Trees.{Tree}
 use Rattle.g4_preds.specs.TreeCode.{tree_of-postfix}
 
 -- where an operand comes next, and where one has been read

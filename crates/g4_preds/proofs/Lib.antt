@@ -9,3 +9,5 @@ pub mod Predicates
 pub mod Scanned
 pub mod Sound
 pub mod TestLemmas
+pub mod Waiting
+pub mod Walked

@@ -2,7 +2,7 @@
 use Rattle.std.proofs.Common.{◌≡◌, ℕ, ◌+◌, ◌<◌, ◌≤◌, List, [], ◌∷◌, ◌++◌, length, take, get_or, refl, ap, sym, ◌∙◌, append_assoc}
 use Rattle.std.proofs.lemmas.List.{append-nil, take_all, take_more}
 use Rattle.g4_preds.specs.declared.node.Node.{Node}
-use Rattle.g4_preds.specs.declared.node.Node.TheVariants.{Operand, Not, And, Or}
+use Rattle.g4_preds.specs.declared.node.Node.TheVariants.{Not, And, Or}
 use Rattle.g4_preds.specs.Postfix.{postfix, rule_in}
 use Rattle.g4_preds.specs.Trees.{Tree, test, negation, conjunction, disjunction, rule_of, rules_of}
 

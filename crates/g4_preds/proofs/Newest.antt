@@ -1,5 +1,5 @@
 -- Lists that are seen newest first.
-use Rattle.std.proofs.Common.{◌≡◌, ℕ, zero, suc, ◌-◌, ◌<◌, List, [], ◌∷◌, ◌++◌, Option, Some, None, length, drop, take, slice_get, refl, ap, sym, ◌∙◌, arith}
+use Rattle.std.proofs.Common.{◌≡◌, ℕ, suc, ◌-◌, List, [], ◌∷◌, ◌++◌, length, drop, take, slice_get, refl, ap, sym, ◌∙◌, arith}
 use Rattle.g4_preds.specs.Newest.{newest_first, newest}
 
 -- what is added comes first

@@ -1,6 +1,5 @@
 -- A text is at most one predicate.
 use Rattle.std.proofs.Common.{◌≡◌, ℕ, List, [], ◌∷◌, drop, refl, ap, ◌∙◌, subst, sym}
-use Rattle.g4_preds.specs.declared.piece.Piece.TheVariants.{Blank, Formed}
 use Rattle.g4_preds.specs.declared.token.Token.{Token}
 use Rattle.g4_preds.specs.Grammar.{IsOr}
 use Rattle.g4_preds.specs.Readings.{IsPredicate}

@@ -1,5 +1,5 @@
 -- A text begins with at most one piece.
-use Rattle.std.proofs.Common.{◌≡◌, ℕ, suc, ◌+◌, ◌-◌, ◌<◌, ◌≤◌, List, [], ◌∷◌, Option, Some, None, Result, Ok, Err, length, take, drop, get_or, refl, ap, sym, ◌∙◌, subst, arith}
+use Rattle.std.proofs.Common.{◌≡◌, ℕ, suc, ◌+◌, ◌-◌, ◌<◌, ◌≤◌, List, [], ◌∷◌, Some, None, Result, length, take, drop, get_or, encode_utf8_all, refl, ap, sym, ◌∙◌, subst, arith}
 use Rattle.g4_chars.specs.declared.escape.Context.TheVariants as contexts
 use Rattle.g4_grammar_tokens.specs.Enclosed.{Encloses}
 use Rattle.g4_grammar_tokens.specs.Spelling.{literal_spelling}
@@ -7,15 +7,14 @@ use Rattle.g4_grammar_tokens.proofs.Ends.{one_enclosed}
 use Rattle.std.proofs.lemmas.List.{take_rest}
 use Rattle.g4_preds.specs.declared.fault.Fault.{Fault}
 use Rattle.g4_preds.specs.declared.piece.Piece.{Piece}
-use Rattle.g4_preds.specs.declared.piece.Piece.TheVariants.{Blank, Formed}
-use Rattle.g4_preds.specs.declared.token.Token.{Token}
+use Rattle.g4_preds.specs.declared.piece.Piece.TheVariants.{Formed}
 use Rattle.g4_preds.specs.declared.token.Token.TheVariants.{Literal}
 use Rattle.g4_preds.specs.Answers.{Answers}
 use Rattle.g4_preds.specs.Tokens.{Opening, known, a_literal, opening, IsOpened, at_once, with_end, IsPiece, IsLiteralPiece}
 
 -- the literal piece with this many characters after its first
 abbrev literal_piece : ℕ → List ℕ → ℕ → Piece
-literal_piece c after more = Formed (Literal (literal_spelling (c ∷ take more after))) more
+literal_piece c after more = Formed (Literal (encode_utf8_all (literal_spelling (c ∷ take more after)))) more
 
 -- a piece that is known at once
 known_piece : (c : ℕ) (after : List ℕ) (o : Opening) (p q : Piece) → IsOpened c after o q → o ≡ known (Some p) → p ≡ q
@@ -54,13 +53,14 @@ too_short (c ∷ cs) after more p after_is ends short is =
     one_enclosed contexts.Literal 39 more other cs ends_here also in omega arith)
 
 -- the literal that the text begins with
-pub literal_at : (text after characters : List ℕ) (more : ℕ) → 1 ≤ length text → after ≡ drop 1 text
-    → Encloses contexts.Literal 39 after more → 2 ≤ more → characters ≡ literal_spelling (take (more + 1) text)
-    → IsLiteralPiece text (Formed (Literal characters) more)
-literal_at [] after characters more within after_is ends few spelled = absurd (omega arith)
-literal_at (c ∷ cs) after characters more within after_is ends few spelled =
+pub literal_at : (text after meant : List ℕ) (more : ℕ) → 1 ≤ length text → after ≡ drop 1 text
+    → Encloses contexts.Literal 39 after more → 2 ≤ more → meant ≡ encode_utf8_all (literal_spelling (take (more + 1) text))
+    → IsLiteralPiece text (Formed (Literal meant) more)
+literal_at [] after meant more within after_is ends few spelled = absurd (omega arith)
+literal_at (c ∷ cs) after meant more within after_is ends few spelled =
     let count : more + 1 ≡ suc more = omega arith in
-    let same : characters ≡ literal_spelling (c ∷ take more cs) = spelled ∙ ap (λ n. literal_spelling (take n (c ∷ cs))) count in
+    let same : meant ≡ encode_utf8_all (literal_spelling (c ∷ take more cs)) =
+    spelled ∙ ap (λ n. encode_utf8_all (literal_spelling (take n (c ∷ cs)))) count in
     let P : List ℕ → Type 0 = λ ls. IsOpened c cs a_literal (Formed (Literal ls) more) in
     subst P (sym same) (with_end more (subst (λ (b : List ℕ). Encloses contexts.Literal 39 b more) after_is ends) (omega arith))
 

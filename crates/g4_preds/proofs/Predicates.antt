@@ -1,6 +1,5 @@
 -- From tokens and nodes to the predicate of a text.
-use Rattle.std.proofs.Common.{◌≡◌, ℕ, List, Result, Ok, Err, refl, ap, sym, ◌∙◌, subst}
-use Rattle.g4_base.specs.declared.place.Place.{Place}
+use Rattle.std.proofs.Common.{◌≡◌, ℕ, List, Err, refl, ap, sym, ◌∙◌, subst}
 use Rattle.g4_preds.specs.declared.fault.Fault.{Fault}
 use Rattle.g4_preds.specs.declared.fault.Fault.TheVariants.{Unknown, NoMemory}
 use Rattle.g4_preds.specs.declared.node.Node.{Node}
@@ -11,7 +10,6 @@ use Rattle.g4_preds.specs.Parsing.{AreNodesOf}
 use Rattle.g4_preds.specs.Postfix.{postfix, tree_of}
 use Rattle.g4_preds.specs.Readings.{IsPredicate}
 use Rattle.g4_preds.specs.Tokens.{AreTokens}
-use Rattle.g4_preds.specs.Trees.{Tree}
 use Rattle.g4_preds.proofs.OneReading.{one_cut}
 use Rattle.g4_preds.specs.TreeCode.{tree_of-postfix}
 

@@ -1,5 +1,5 @@
 -- The tokens so far are those of the text up to an index.
-use Rattle.std.proofs.Common.{◌≡◌, ℕ, suc, ◌+◌, ◌<◌, ◌≤◌, List, [], ◌∷◌, ◌++◌, Result, Ok, Err, drop, take, length, get_or, refl, ap, sym, ◌∙◌, subst, append_assoc, arith}
+use Rattle.std.proofs.Common.{◌≡◌, ℕ, ◌+◌, ◌<◌, ◌≤◌, List, [], ◌∷◌, ◌++◌, Err, drop, length, get_or, refl, ap, sym, ◌∙◌, subst, append_assoc, arith}
 use Rattle.std.proofs.lemmas.List.{append-nil, drop_all, drop_more, drop-drop}
 use Rattle.g4_preds.specs.declared.fault.Fault.{Fault}
 use Rattle.g4_preds.specs.declared.fault.Fault.TheVariants.{Unknown, NoMemory}

@@ -1,22 +1,21 @@
 -- What the parser reads, the grammar gives.
-use Rattle.std.proofs.Common.{◌≡◌, ℕ, zero, suc, ◌+◌, Bool, true, false, List, [], ◌∷◌, ◌++◌, Option, Some, None, drop, refl, ap, sym, ◌∙◌, append_assoc, subst}
+use Rattle.std.proofs.Common.{◌≡◌, ℕ, zero, suc, Bool, true, false, List, [], ◌∷◌, ◌++◌, Option, Some, None, drop, refl, ap, sym, ◌∙◌, append_assoc, subst}
 use Rattle.std.proofs.lemmas.List.{append-nil}
-use Rattle.g4_preds.specs.declared.node.Test.{Test}
 use Rattle.g4_preds.specs.declared.node.Node.{Node}
-use Rattle.g4_preds.specs.declared.node.Node.TheVariants.{Operand, Not, And, Or}
+use Rattle.g4_preds.specs.declared.node.Node.TheVariants.{Not, And, Or}
 use Rattle.g4_preds.specs.declared.operators.Operator.{Operator}
 use Rattle.g4_preds.specs.declared.operators.Operator.TheVariants.{Negation, Conjunction, Disjunction, Parenthesis}
 use Rattle.g4_preds.specs.declared.test_reader.Found.{Found}
 use Rattle.g4_preds.specs.declared.token.Token.{Token}
-use Rattle.g4_preds.specs.declared.token.Token.TheVariants.{Name, Digit, Literal, LeftParenthesis, RightParenthesis, Exclamation, DoubleAmpersand, DoubleBar, DoubleEquals}
-use Rattle.g4_preds.specs.Grammar.{IsTest, IsOr, one_and, or_more, IsAnd, one_not, and_more, IsNot, denied, as_is, IsPrimary, one_test, enclosed}
+use Rattle.g4_preds.specs.declared.token.Token.TheVariants.{Name, LeftParenthesis, RightParenthesis, Exclamation, DoubleAmpersand, DoubleBar}
+use Rattle.g4_preds.specs.Grammar.{IsOr, one_and, or_more, IsAnd, one_not, and_more, IsNot, denied, as_is, one_test, enclosed}
 use Rattle.g4_preds.specs.Parsing.{AreNodesOf}
 use Rattle.g4_preds.specs.Postfix.{postfix}
-use Rattle.g4_preds.specs.Steps.{State, Step, start, waiting, completed, joined_nodes, joined_pending, past_right, closed, past_test, test_step, operand_step, operator_step, one_token, next_step, finished, nodes_if_none, nodes_from}
+use Rattle.g4_preds.specs.Steps.{State, Step, start, completed, joined_nodes, joined_pending, closed, past_test, test_step, operand_step, operator_step, one_token, next_step, finished, nodes_if_none, nodes_from}
 use Rattle.g4_preds.specs.Tests.{test_at}
 use Rattle.g4_preds.specs.Trees.{Tree, test, negation, conjunction, disjunction}
-use Rattle.g4_preds.proofs.Complete.{want, have, IsOuter, IsBase, base_of_outer, completed-base}
-use Rattle.g4_preds.proofs.TestLemmas.{Tested, test_found}
+use Rattle.g4_preds.proofs.Complete.{want, have, IsOuter, IsBase, completed-base}
+use Rattle.g4_preds.proofs.TestLemmas.{test_found}
 
 some_is : {A : Type 0} (x y : A) → Some x ≡ Some y → x ≡ y
 some_is x y is = cc

@@ -8,7 +8,7 @@ use Rattle.g4_preds.specs.declared.test_reader.Keyword.{Keyword}
 use Rattle.g4_preds.specs.declared.test_reader.Keyword.TheVariants as keywords
 use Rattle.g4_preds.specs.declared.test_reader.Found.{Found}
 use Rattle.g4_preds.specs.declared.token.Token.{Token}
-use Rattle.g4_preds.specs.declared.token.Token.TheVariants.{Name, Digit, Literal, LeftParenthesis, RightParenthesis, Exclamation, DoubleAmpersand, DoubleBar, DoubleEquals}
+use Rattle.g4_preds.specs.declared.token.Token.TheVariants.{Name, Digit, Literal, LeftParenthesis, RightParenthesis, DoubleEquals}
 use Rattle.g4_preds.specs.Grammar.{IsTest, always, never, flag, inside, text_is}
 use Rattle.g4_preds.specs.Tests.{keyword, argument, comparison, test_after, test_at}
 

@@ -1,6 +1,7 @@
--- Other crates cite Readings, Trees; only this crate cites Answers, Grammar, Newest, Parsing, Postfix, Steps, Tests, Tokens,
--- TreeCode.
+-- Other crates cite Readings, Trees, Values; only this crate cites Answers, Branches, Grammar, Newest, Parsing, Postfix, Steps, Tests,
+-- Tokens, TreeCode.
 pub mod Answers
+pub mod Branches
 pub mod Grammar
 pub mod Newest
 pub mod Parsing
@@ -11,3 +12,4 @@ pub mod Tests
 pub mod Tokens
 pub mod TreeCode
 pub mod Trees
+pub mod Values

@@ -1,5 +1,5 @@
 -- Reading the test that tokens begin with, for the contracts of the functions that do.
-use Rattle.std.specs.Prelude.{◌≡◌, ℕ, Bool, true, false, List, [], ◌∷◌, Option, Some, None, Result, Ok, Err, codes, option_map, if◌then◌else◌}
+use Rattle.std.specs.Prelude.{◌≡◌, ℕ, true, false, List, [], ◌∷◌, Option, Some, None, Result, Ok, Err, codes, option_map, if◌then◌else◌}
 use Rattle.std.specs.Str.{bytes_eq}
 use Rattle.g4_preds.specs.declared.fault.Fault.{Fault}
 use Rattle.g4_preds.specs.declared.fault.Fault.TheVariants.{Unknown, NoMemory}
@@ -9,7 +9,7 @@ use Rattle.g4_preds.specs.declared.test_reader.Keyword.{Keyword}
 use Rattle.g4_preds.specs.declared.test_reader.Keyword.TheVariants as keywords
 use Rattle.g4_preds.specs.declared.test_reader.Found.{Found}
 use Rattle.g4_preds.specs.declared.token.Token.{Token}
-use Rattle.g4_preds.specs.declared.token.Token.TheVariants.{Name, Digit, Literal, LeftParenthesis, RightParenthesis, Exclamation, DoubleAmpersand, DoubleBar, DoubleEquals}
+use Rattle.g4_preds.specs.declared.token.Token.TheVariants.{Name, Digit, Literal, LeftParenthesis, RightParenthesis, DoubleEquals}
 
 -- the call answers with this value, or that there is none, unless memory runs out
 abbrev pub Gives : {T : Type 0} → Option T → Result T Fault → Type 0

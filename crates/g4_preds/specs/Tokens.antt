@@ -1,5 +1,5 @@
 -- The tokens of a predicate's text.
-use Rattle.std.specs.Prelude.{◌≡◌, ℕ, ◌+◌, ◌-◌, ◌<◌, ◌≤◌, Bool, List, [], ◌∷◌, Option, Some, None, take, drop, ◌&&◌, ◌||◌, ◌==◌, nat_le, if◌then◌else◌, encode_utf8_all}
+use Rattle.std.specs.Prelude.{ℕ, ◌+◌, ◌-◌, ◌<◌, ◌≤◌, Bool, List, [], ◌∷◌, Option, Some, None, take, drop, ◌&&◌, ◌||◌, ◌==◌, nat_le, if◌then◌else◌, encode_utf8_all}
 use Rattle.std.specs.List.{prefix_len}
 use Rattle.unicode.specs.Binary.{is_alphabetic}
 use Rattle.g4_chars.specs.declared.escape.Context.TheVariants as contexts
@@ -57,7 +57,7 @@ opening c after =
 pub data IsOpened (c : ℕ) (after : List ℕ) : Opening → Piece → Type 0 where
   at_once : (piece : Piece) → IsOpened c after (known (Some piece)) piece
   with_end : (more : ℕ) → Encloses contexts.Literal 39 after more → 1 < more
-      → IsOpened c after a_literal (Formed (Literal (literal_spelling (c ∷ take more after))) more)
+      → IsOpened c after a_literal (Formed (Literal (encode_utf8_all (literal_spelling (c ∷ take more after)))) more)
 
 -- the text begins with this piece
 abbrev pub IsPiece : List ℕ → Piece → Type 0

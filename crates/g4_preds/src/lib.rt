@@ -1,6 +1,7 @@
-// The text of a semantic predicate, and the tree that the grammar of predicates gives it.
+// The text of a semantic predicate, the tree that the grammar of predicates gives it, and its value.
 #![tactic(auto)]
 
+mod branching;
 mod character;
 mod fault;
 mod law;
@@ -11,9 +12,11 @@ mod parser;
 mod piece;
 mod predicate;
 mod scanner;
+mod surroundings;
 mod test_reader;
 mod token;
 
 pub use law::one_reading;
 pub use node::{Node, Test};
 pub use predicate::{Predicate, PredicateFault};
+pub use surroundings::Surroundings;

@@ -1,5 +1,5 @@
 // The parts of a predicate.
-use g4_base::{Sequence, Text};
+use g4_base::Text;
 
 /// What a predicate tests.
 #[derive(Drop)]
@@ -11,7 +11,7 @@ pub enum Test {
     /// `inside(r)`: the rule r is open.
     Inside(Text),
     /// `text(k) == '..'`: the k-th token from here has this text. The first of them has the number 1.
-    TextIs { nth: u32, text: Sequence<char> },
+    TextIs { nth: u32, text: Text },
 }
 
 /// A node of a predicate in postfix order: an operator takes the one or two predicates directly before it.

@@ -42,6 +42,17 @@ fn name_piece(alloc: Global, letter: char, after: &[char]) -> Result<Piece, Allo
     Ok(Piece::Formed(Token::Name(name), more))
 }
 
+/// The text of these characters.
+fn text_of(alloc: Global, characters: &[char]) -> Result<Text, AllocError>
+    ensures { IfOk result (λ t. t ≡ encode_utf8_all characters.now) }
+{
+    let mut text = String::new(alloc);
+    for c in characters {
+        text.push(*c)?;
+    }
+    Ok(Text::new(text))
+}
+
 /// The literal that the text begins with.
 fn literal_piece(alloc: Global, text: &[char]) -> Result<Piece, Fault>
     ensures value { Answers (IsLiteralPiece text.now) result }
@@ -57,7 +68,8 @@ fn literal_piece(alloc: Global, text: &[char]) -> Result<Piece, Fault>
         return Err(Fault::Unknown);
     }
     let characters = literal_characters(alloc, &text[..more + 1])?;
-    Ok(Piece::Formed(Token::Literal(characters), more))
+    let meant = text_of(alloc, characters.as_slice())?;
+    Ok(Piece::Formed(Token::Literal(meant), more))
 }
 
 fn double_sign(c: char) -> Option<Piece>

@@ -5,11 +5,14 @@ ghost use Rattle.g4_preds.specs.Answers.{Answers};
 ghost use Rattle.g4_preds.specs.Readings.{IsPredicate, IsReading};
 ghost use Rattle.g4_preds.specs.Postfix.{postfix, rule_in};
 ghost use Rattle.g4_preds.specs.Trees.{rules_of};
+ghost use Rattle.g4_preds.specs.Values.{value};
 
+use crate::branching::{Branch, branches};
 use crate::fault::Fault;
 use crate::node::{Node, Test};
 use crate::parser::parse;
 use crate::scanner::scan;
+use crate::surroundings::{Surroundings, holds};
 use g4_base::{Place, Sequence, Text};
 use std::alloc::{AllocError, Global};
 use std::marker::Model;
@@ -34,15 +37,18 @@ impl From<AllocError> for PredicateFault {
 }
 
 /// A semantic predicate, which contracts see as its tree. It is kept in postfix order, so no call on it is as deep as the
-/// text that it was read from.
+/// text that it was read from, and with the branches of its evaluation.
 #[derive(Drop)]
 pub struct Predicate {
     nodes: Sequence<Node>,
+    /// Where evaluation goes on after each node.
+    branches: Sequence<Branch>,
 }
 
 impl Model for Predicate {
     ghost use Rattle.std.specs.Prelude.{◌≡◌};
     ghost use Rattle.g4_preds.specs.contracts.node.Node as node;
+    ghost use Rattle.g4_preds.specs.Branches.{branches_of};
     ghost use Rattle.g4_preds.specs.Postfix.{postfix, tree_of};
     ghost use Rattle.g4_preds.specs.TreeCode.{tree_code};
     ghost use Rattle.g4_preds.specs.Trees.{Tree};
@@ -53,7 +59,7 @@ impl Model for Predicate {
 
     ghost view = { λ p. tree_of p.nodes };
 
-    ghost invariant = { λ p. p.nodes ≡ postfix (tree_of p.nodes) };
+    ghost invariant = { λ p. (p.nodes ≡ postfix (tree_of p.nodes)) × (p.branches ≡ branches_of (tree_of p.nodes)) };
 }
 
 /// The predicate that the characters are.
@@ -62,7 +68,8 @@ fn read_characters(alloc: Global, text: &[char]) -> Result<Predicate, Fault>
 {
     let tokens = scan(alloc, text)?;
     let nodes = parse(alloc, tokens.as_slice())?;
-    Ok(Predicate { nodes })
+    let branches = branches(alloc, nodes.as_slice())?;
+    Ok(Predicate { nodes, branches })
 }
 
 impl Predicate {
@@ -87,6 +94,22 @@ impl Predicate {
         ensures { result.now ≡ postfix self.now }
     {
         self.nodes.as_slice()
+    }
+
+    /// Whether the predicate holds in these surroundings. It takes no memory, and looks at each test once at most.
+    pub fn eval<S: Surroundings>(&self, surroundings: &S) -> bool
+        ensures { result ≡ value (S.moment surroundings.now) self.now }
+    {
+        let nodes = self.nodes.as_slice();
+        let branches = self.branches.as_slice();
+        let mut at = 0;
+        while at < nodes.len() {
+            let Node::Operand(test) = &nodes[at] else {
+                return false;
+            };
+            at = branches[at].target(holds(surroundings, test));
+        }
+        at == nodes.len()
     }
 
     /// The names of the rules in `inside(..)`, in the order of the text.

@@ -5,7 +5,7 @@ ghost use Rattle.g4_preds.specs.Tests.{Gives, keyword, argument, comparison, tes
 use crate::fault::Fault;
 use crate::node::Test;
 use crate::token::Token;
-use g4_base::{Sequence, Text};
+use g4_base::Text;
 use std::alloc::Global;
 
 /// A name that begins a test.
@@ -76,11 +76,8 @@ fn comparison(alloc: Global, tokens: &[Token]) -> Result<Test, Fault>
             Token::Literal(text),
             ..
         ] => {
-            let text = text.as_slice().to_vec(alloc)?;
-            Ok(Test::TextIs {
-                nth: *nth,
-                text: Sequence::new(text),
-            })
+            let text = Text::copy_of(alloc, text.as_str())?;
+            Ok(Test::TextIs { nth: *nth, text })
         }
         _ => Err(Fault::Unknown),
     }

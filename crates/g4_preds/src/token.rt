@@ -1,5 +1,5 @@
 // A token of a predicate.
-use g4_base::{Sequence, Text};
+use g4_base::Text;
 
 /// A token of a predicate.
 #[derive(Drop)]
@@ -8,8 +8,8 @@ pub enum Token {
     Name(Text),
     /// One digit from 1 to 8.
     Digit(u32),
-    /// The characters that a literal represents.
-    Literal(Sequence<char>),
+    /// The text that a literal represents.
+    Literal(Text),
     /// `(`.
     LeftParenthesis,
     /// `)`.

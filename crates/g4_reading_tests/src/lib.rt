@@ -1,4 +1,4 @@
-// Grammar texts as they are read, large ones and cut ones among them, and what they name.
+// Grammar texts as they are read, large ones and cut ones among them, what they name, and their predicates.
 #![tactic(auto)]
 
 #[cfg(test)]
@@ -9,3 +9,5 @@ mod cut_grammars;
 mod named;
 #[cfg(test)]
 mod readings;
+#[cfg(test)]
+mod rule_predicates;

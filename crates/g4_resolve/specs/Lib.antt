@@ -1,2 +1,3 @@
--- Other crates cite it.
+-- Other crates cite Resolving; only this crate cites Texts.
 pub mod Resolving
+pub mod Texts

@@ -1,4 +1,4 @@
--- Where levels are only at loops to which calls at a level return, what is left goes on to fit.
+-- Where levels are only at loops to which calls at a level return, and there are no predicates, what is left goes on to fit.
 use Rattle.std.proofs.Common.{◌≡◌, ◌≤◌, ◌<◌, ◌⊎◌, ◌↔◌, inl, inr, ℕ, ◌+◌, List, [], ◌∷◌, drop, length, Option, Some, None, Contains, refl, sym, ◌∙◌, ap, subst, arith}
 use Rattle.g4_fits.specs.Fitting.{FitsFrom, SomeFits, IsLeastThatFits}
 use Rattle.g4_net.specs.Spelling.{SpellsWord}
@@ -6,9 +6,8 @@ use Rattle.g4_fits.proofs.Arriving.{called_are_own, last_is_own}
 use Rattle.g4_fits.proofs.Leaving.{leave_fits}
 use Rattle.g4_net.specs.Loops.{HasLoops}
 use Rattle.g4_guards.proofs.Choosing.{chooses_least}
-use Rattle.g4_guards.specs.Levels.{AllowedAt, MeetsBy}
 use Rattle.g4_lookahead.proofs.OneChoice.{one_first}
-use Rattle.g4_net.specs.AddedRule.{IsReady}
+use Rattle.g4_net.specs.AddedRule.{IsReady, IsUnpredicated}
 use Rattle.g4_net.specs.Leads.{IsTarget}
 use Rattle.g4_net.specs.Network.{ParserNetwork, state_at, start_of, IsFirst}
 use Rattle.g4_net.specs.Prediction.{Choice, chosen, no_viable, IsTestBy}
@@ -61,7 +60,8 @@ level_alt : (i : ℕ) (fs : List Frame) → level_of (with_alt i fs) ≡ level_o
 level_alt i [] = refl
 level_alt i (f ∷ fs) = refl
 
-module _ (net : ParserNetwork) (ready : IsReady net) (levels : HasLoops net) (values : Values) (word : List ℕ) where
+module _ (net : ParserNetwork) (ready : IsReady net) (levels : HasLoops net) (none : IsUnpredicated net) (values : Values)
+    (word : List ℕ) where
   -- the newest rule's number is that of a rule
   known : (p : ℕ) (fs : List Frame) → AreOpened net p fs → (k : ℕ) × (k < length net.callers) × IsOf net k p
   known p [] of = let first = ready.3.well_formed.calls 0 ready.0 0 ready.1 ready.3.apart.added.call in (0, omega (arith, first), of)
@@ -92,7 +92,7 @@ module _ (net : ParserNetwork) (ready : IsReady net) (levels : HasLoops net) (va
 
   -- no state is a predicate
   no_predicate : (p k t : ℕ) → state_at net p ≡ Some (Predicate k t) → ⊥
-  no_predicate p k t is = ready.3.unpredicated p (Predicate k t) is
+  no_predicate p k t is = none p (Predicate k t) is
 
   -- a state is a level or no test
   data IsTested (p : ℕ) : Type 0 where
@@ -127,29 +127,6 @@ module _ (net : ParserNetwork) (ready : IsReady net) (levels : HasLoops net) (va
   passes_level r p q v is (no_test _ none) = absurd (none (subst IsTestBy (sym is) tt))
   passes_level r p q v is (predicate_holds _ k t at holds more) = absurd (no_predicate p k t at)
   passes_level r p q v is (level_holds _ n t at low more) = let same : n ≡ q = cc in subst (λ (x : ℕ). level_of r.frames ≤ x) same low
-
-  -- so the alternatives that a moment allows are those that the level of the open rule allows
-  pub allowed_same : (r : Run) (i : ℕ) → AllowedAt net r.state (level_of r.frames) i ↔ AllowsAt net values word r i
-  allowed_same r i = (
-    (λ (t, first, meets). (t, first, to t (tested_by t (state_at net t) refl) meets)),
-    (λ (t, first, passes). (t, first, from t passes (state_at net t) refl)),
-  )
-    where
-      to : (t : ℕ) → IsTested t → MeetsBy (level_of r.frames) (state_at net t) → Passes net values word r t
-      to t (untested none) meets = no_test t none
-      to t (at_level q v at) meets = level_passes r t q v at (subst (MeetsBy (level_of r.frames)) at meets)
-
-      from : (t : ℕ) → Passes net values word r t → (o : Option (State (List ℕ))) → state_at net t ≡ o
-          → MeetsBy (level_of r.frames) (state_at net t)
-      from t passes (Some (Level q v)) is = subst (MeetsBy (level_of r.frames)) (sym is) (passes_level r t q v is passes)
-      from t passes (Some (Decision ts)) is = subst (MeetsBy (level_of r.frames)) (sym is) tt
-      from t passes (Some (End rule)) is = subst (MeetsBy (level_of r.frames)) (sym is) tt
-      from t passes (Some (Edge set u)) is = subst (MeetsBy (level_of r.frames)) (sym is) tt
-      from t passes (Some (Call rule level back)) is = subst (MeetsBy (level_of r.frames)) (sym is) tt
-      from t passes (Some (Predicate k u)) is = subst (MeetsBy (level_of r.frames)) (sym is) tt
-      from t passes (Some (Action u)) is = subst (MeetsBy (level_of r.frames)) (sym is) tt
-      from t passes (Some (Empty u)) is = subst (MeetsBy (level_of r.frames)) (sym is) tt
-      from t passes None is = subst (MeetsBy (level_of r.frames)) (sym is) tt
 
   -- where the level of the open rule is above 0, what it returns to leads to the loop, so leaving the loop fits
   leaving : (r : Run) (p t q v i : ℕ) (targets : List ℕ) (fs : List Frame) → state_at net p ≡ Some (Decision targets) → Contains targets t →

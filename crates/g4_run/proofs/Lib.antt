@@ -4,5 +4,6 @@ mod Unfolding
 mod LastSymbol
 mod Spelled
 pub mod Closing
+pub mod Allowing
 pub mod Levelled
 pub mod Derived

@@ -41,9 +41,10 @@ deepest = 10000
 abbrev pub Values : Type 0
 Values = ℕ → List ℕ → ℕ → Bool
 
--- a grammar without predicates has no use for their values
-abbrev pub no_predicates : Values
-no_predicates k rules place = true
+-- What a run goes over: the symbols of a token list, and the values of the predicates over it.
+pub record RunOver : Type 0 where
+  pub word : List ℕ
+  pub values : Values
 
 -- the run's beginning
 abbrev pub beginning : Run
@@ -185,9 +186,9 @@ module _ (net : ParserNetwork) (values : Values) (word : List ℕ) where
       goes : (r s : Run) (e : Ending) → Goes r s → Runs s e → Runs r e
 
 -- the run over the whole word has this ending
-abbrev pub Ends : ParserNetwork → List ℕ → Ending → Type 0
-Ends net word e = Runs net no_predicates word deepest beginning e
+abbrev pub Ends : ParserNetwork → Values → List ℕ → Ending → Type 0
+Ends net values word e = Runs net values word deepest beginning e
 
 -- the run over the whole word comes to this moment
-abbrev pub Reaches : ParserNetwork → List ℕ → Run → Type 0
-Reaches net word r = Comes net no_predicates word deepest beginning r
+abbrev pub Reaches : ParserNetwork → Values → List ℕ → Run → Type 0
+Reaches net values word r = Comes net values word deepest beginning r

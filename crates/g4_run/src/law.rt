@@ -1,30 +1,32 @@
 // What holds of every run.
 ghost use Rattle.std.specs.Prelude.{◌≡◌, ◌⊎◌, ℕ, List};
 ghost use Rattle.g4_derivation.specs.Spelling.{DerivesFrom};
-ghost use Rattle.g4_grammar.specs.StepRules.{CanBeRewritten, StepRule};
+ghost use Rattle.g4_grammar.specs.StepRules.{AreUnpredicated, CanBeRewritten, StepRule};
 ghost use Rattle.g4_grammar.specs.declared.step.Numbering.{Numbering};
 ghost use Rattle.g4_layout.specs.Built.{IsBuilt};
 ghost use Rattle.g4_leftrec.specs.Rewriting.{numberings, rewritten};
 ghost use Rattle.g4_net.specs.Network.{ParserNetwork};
-ghost use Rattle.g4_run.specs.Running.{Ending, Ends, parsed, too_deep};
+ghost use Rattle.g4_run.specs.Running.{Ending, Ends, Values, parsed, too_deep};
 ghost use Rattle.g4_tokens.specs.TokenList.{EndsInEnd};
 ghost use Rattle.g4_trees.specs.Trees.{Tree};
 
 /// A run over a word has at most one ending.
 pub fn one_ending()
-    ensures { (net : ParserNetwork) (word : List ℕ) (a b : Ending) → Ends net word a → Ends net word b → a ≡ b }
+    ensures { (net : ParserNetwork) (values : Values) (word : List ℕ) (a b : Ending) → Ends net values word a → Ends net values word b
+        → a ≡ b }
 {}
 
 /// A token list that has a tree is derived by the rules of the network, whatever they are.
 pub fn trees_are_derived()
-    ensures { (set : List ℕ) (rules : List StepRule) (numberings : List Numbering) (start : List ℕ) (net : ParserNetwork) (word : List ℕ)
-        (tree : Tree) → IsBuilt set rules numberings start net → EndsInEnd word → Ends net word (parsed tree) →
+    ensures { (set : List ℕ) (rules : List StepRule) (numberings : List Numbering) (start : List ℕ) (net : ParserNetwork) (values : Values)
+        (word : List ℕ) (tree : Tree) → IsBuilt set rules numberings start net → EndsInEnd word → Ends net values word (parsed tree) →
         DerivesFrom set rules start word }
 {}
 
-/// A token list that rules derive, as they are run, has a tree, unless too many rules are open.
+/// A token list that rules without predicates derive, as they are run, has a tree, unless too many rules are open.
 pub fn derived_words_have_trees()
-    ensures { (set : List ℕ) (rules : List StepRule) (start : List ℕ) (net : ParserNetwork) (word : List ℕ) (ending : Ending) →
-        CanBeRewritten rules → IsBuilt set (rewritten rules) (numberings rules) start net → DerivesFrom set (rewritten rules) start word →
-        Ends net word ending → ((tree : Tree) × (ending ≡ parsed tree)) ⊎ ((at : ℕ) × (ending ≡ too_deep at)) }
+    ensures { (set : List ℕ) (rules : List StepRule) (start : List ℕ) (net : ParserNetwork) (values : Values) (word : List ℕ)
+        (ending : Ending) → CanBeRewritten rules → AreUnpredicated rules → IsBuilt set (rewritten rules) (numberings rules) start net →
+        DerivesFrom set (rewritten rules) start word → Ends net values word ending → ((tree : Tree) × (ending ≡ parsed tree)) ⊎
+        ((at : ℕ) × (ending ≡ too_deep at)) }
 {}

@@ -1,8 +1,9 @@
--- The runs over the same words have one tally.
+-- The same runs have one tally.
 use Rattle.std.proofs.Common.{◌≡◌, ◌↔◌, ℕ, List, Contains, ap, refl, sym, ◌∙◌}
 use Rattle.g4_net.specs.Configurations.{Config}
 use Rattle.g4_net.specs.Network.{ParserNetwork}
 use Rattle.g4_net.specs.Prediction.{Path}
+use Rattle.g4_run.specs.Running.{RunOver}
 use Rattle.g4_tally.specs.declared.counts.Counts.{Counts}
 use Rattle.g4_tally.specs.declared.tally.Tally.{Tally}
 use Rattle.g4_tally.specs.declared.tally.Tally.TheVariants.{Full, Learned}
@@ -10,20 +11,20 @@ use Rattle.g4_tally.specs.Passing.{AreOneEdge, IsPassedEdge, IsPassedPath, IsPas
 use Rattle.g4_tally.specs.Tallies.{AreCounts, IsTally}
 use Rattle.g4_tally.proofs.Sizes.{never_more, one_classes, one_size, same_size}
 
-module _ (net : ParserNetwork) (words others : List (List ℕ)) (all : (word : List ℕ) → Contains words word → Contains others word) where
-  path_too : (path : Path) → IsPassedPath net words path → IsPassedPath net others path
+module _ (net : ParserNetwork) (runs others : List RunOver) (all : (over : RunOver) → Contains runs over → Contains others over) where
+  path_too : (path : Path) → IsPassedPath net runs path → IsPassedPath net others path
   path_too path is = record {
-    word = is.word;
-    among = all is.word is.among;
+    over = is.over;
+    among = all is.over is.among;
     moment = is.moment;
     reached = is.reached;
     is = is.is;
   }
 
-  row_too : (y : List Config) → IsPassedRow net words y → IsPassedRow net others y
+  row_too : (y : List Config) → IsPassedRow net runs y → IsPassedRow net others y
   row_too y (path, passed, at) = (path, path_too path passed, at)
 
-  edge_too : (edge : List Config × ℕ) → IsPassedEdge net words edge → IsPassedEdge net others edge
+  edge_too : (edge : List Config × ℕ) → IsPassedEdge net runs edge → IsPassedEdge net others edge
   edge_too edge (path, passed, at) = (path, path_too path passed, at)
 
 -- edges that count as one
@@ -37,26 +38,26 @@ one_on net x y z one other = (
       let a = one.1 p t set at in let b = other.1 p t set at in (λ h. b.0 (a.0 h), λ h. a.1 (b.1 h)),
 )
 
-module _ (rows : ℕ) (net : ParserNetwork) (words others : List (List ℕ))
-    (same : (word : List ℕ) → Contains words word ↔ Contains others word) where
-  same_rows : (y : List Config) → IsPassedRow net words y ↔ IsPassedRow net others y
-  same_rows y = (row_too net words others (λ word. (same word).0) y, row_too net others words (λ word. (same word).1) y)
+module _ (rows : ℕ) (net : ParserNetwork) (runs others : List RunOver)
+    (same : (over : RunOver) → Contains runs over ↔ Contains others over) where
+  same_rows : (y : List Config) → IsPassedRow net runs y ↔ IsPassedRow net others y
+  same_rows y = (row_too net runs others (λ over. (same over).0) y, row_too net others runs (λ over. (same over).1) y)
 
-  same_edges : (edge : List Config × ℕ) → IsPassedEdge net words edge ↔ IsPassedEdge net others edge
-  same_edges edge = (edge_too net words others (λ word. (same word).0) edge, edge_too net others words (λ word. (same word).1) edge)
+  same_edges : (edge : List Config × ℕ) → IsPassedEdge net runs edge ↔ IsPassedEdge net others edge
+  same_edges edge = (edge_too net runs others (λ over. (same over).0) edge, edge_too net others runs (λ over. (same over).1) edge)
 
-  one_counts : (a b : Counts) → AreCounts rows net words a → AreCounts rows net others b → a ≡ b
+  one_counts : (a b : Counts) → AreCounts rows net runs a → AreCounts rows net others b → a ≡ b
   one_counts a b one other =
       let sets = one_size (IsPassedRow net others) a.rows b.rows
-      (same_size (IsPassedRow net words) (IsPassedRow net others) a.rows same_rows one.sets) other.sets in
-      let edges = one_classes (IsPassedEdge net words) (IsPassedEdge net others) (AreOneEdge net) (one_back net) (one_on net) a.edges
+      (same_size (IsPassedRow net runs) (IsPassedRow net others) a.rows same_rows one.sets) other.sets in
+      let edges = one_classes (IsPassedEdge net runs) (IsPassedEdge net others) (AreOneEdge net) (one_back net) (one_on net) a.edges
       b.edges same_edges one.edges other.edges in
       λ i. record { rows = sets i; edges = edges i }
 
-  pub one_of_both : (a b : Tally) → IsTally rows net words a → IsTally rows net others b → a ≡ b
+  pub one_of_both : (a b : Tally) → IsTally rows net runs a → IsTally rows net others b → a ≡ b
   one_of_both (Learned a) (Learned b) one other = ap Learned (one_counts a b one other)
-  one_of_both (Learned a) Full one other = absurd (never_more (IsPassedRow net others) (IsPassedRow net words) rows a.rows
+  one_of_both (Learned a) Full one other = absurd (never_more (IsPassedRow net others) (IsPassedRow net runs) rows a.rows
       (λ y. (same_rows y).1) other one.sets one.fits)
-  one_of_both Full (Learned b) one other = absurd (never_more (IsPassedRow net words) (IsPassedRow net others) rows b.rows
+  one_of_both Full (Learned b) one other = absurd (never_more (IsPassedRow net runs) (IsPassedRow net others) rows b.rows
       (λ y. (same_rows y).0) one other.sets other.fits)
   one_of_both Full Full one other = refl

@@ -1,16 +1,18 @@
 -- The words of the table that runs pass are those of the rows and edges that they pass.
-use Rattle.std.proofs.Common.{◌≡◌, ◌⊎◌, ◌↔◌, ◌<◌, ◌^◌, ℕ, suc, inl, inr, List, [], ◌∷◌, All, drop, map, ap, arith, refl, subst, sym, ◌∙◌}
+use Rattle.std.proofs.Common.{◌≡◌, ◌⊎◌, ◌↔◌, ◌<◌, ◌≤◌, ◌^◌, ℕ, suc, inl, inr, List, [], ◌∷◌, All, drop, map, ap, arith, refl, subst, sym, ◌∙◌}
 use Rattle.std.proofs.lemmas.List.Elements.{All-contains, All-drop}
 use mathlib.Core.Option.{some}
 use lib.ListN.{get_elem?}
 use Rattle.g4_net.specs.Configurations.{Config, wildcard}
 use Rattle.g4_net.specs.Lookahead.{Next, Start}
 use Rattle.g4_net.specs.Network.{ParserNetwork}
-use Rattle.g4_net.specs.Prediction.{Judges, Path, SllFrom, Verdict, ended, led_to}
+use Rattle.g4_net.specs.Prediction.{Judges, Path, Sll, SllFrom, Verdict, ended, led_to}
 use Rattle.g4_net.specs.Prediction as prediction
 use Rattle.g4_classes.specs.Classes.{IsSymbol}
-use Rattle.g4_guards.specs.Levels.{AllowSame, AllowedAt, IsDecision}
-use Rattle.g4_run.specs.Running.{level_of}
+use Rattle.g4_guards.proofs.Same.{sll_over}
+use Rattle.g4_guards.specs.Levels.{AllowedAt, IsCondition, IsDecision, IsGuard, any_level, few_digits}
+use Rattle.g4_parse.specs.Teaching.{IsConditionAt}
+use Rattle.g4_run.specs.Running.{AllowsAt, Run, RunOver}
 use Rattle.g4_store.specs.declared.automaton.Fact.{Fact}
 use Rattle.g4_store.specs.declared.automaton.Fact.TheVariants.{Cell}
 use Rattle.g4_store.specs.declared.automaton.Fact.TheVariants as fact
@@ -142,93 +144,116 @@ module _ (t : Tables) where
 module _ (t : Tables) (are : AreTables t) where
   -- ---- a word that is passed is one of a path, and back
 
-  -- the start of a decision at a level that allows the same as one of 32 bits
-  start_at : (d level low : ℕ) → IsDecision t.net d → low < 2 ^ 32 → AllowSame t.net d low level → (start : ℕ) × IsStartOf t d level start
-  start_at d level low decides fits same =
-      let there = are.starts.there d low decides fits in
-      let is = there.3 in (
-        there.0,
-        (
-          there.1,
-          there.2,
-          record {
-            same = λ i. (λ h. (same i).0 ((is.same i).0 h), λ h. (is.same i).1 ((same i).1 h));
-            least = λ n others. is.least n (λ i. (λ h. (same i).1 ((others i).0 h), λ h. (others i).1 ((same i).0 h)));
-          },
-        ),
-      )
+  -- a lower number is a condition too
+  lower : (d m n : ℕ) → IsCondition t.net d n → m ≤ n → IsCondition t.net d m
+  lower d m n (any_level untested) less = any_level untested
+  lower d m n (few_digits targets tested few small) less = few_digits targets tested few (omega (arith, small, less))
+
+  -- the guard of a condition is one, too
+  guard_under : (over : RunOver) (r : Run) (n guard : ℕ) → IsGuard t.net r.state n guard → IsConditionAt t.net over.values over.word r n
+      → IsConditionAt t.net over.values over.word r guard
+  guard_under over r n guard is under = record {
+    is = lower r.state guard n under.is (is.least n (λ i. (λ h. h, λ h. h)));
+    allows = λ i. (λ h. (under.allows i).0 ((is.same i).0 h), λ h. (is.same i).1 ((under.allows i).1 h));
+  }
+
+  -- the path over what the condition allows is that over what the moment allows
+  over_moment : (over : RunOver) (r : Run) (n : ℕ) → IsConditionAt t.net over.values over.word r n → (w : List ℕ) (v : Verdict)
+      (path : Path)
+      → Sll t.net r.state (AllowedAt t.net r.state n) w v path → Sll t.net r.state (AllowsAt t.net over.values over.word r) w v path
+  over_moment over r n under w v path =
+      sll_over t.net r.state (AllowedAt t.net r.state n) (AllowsAt t.net over.values over.word r) (λ i u first. (under.allows i).0)
+      (λ i u first. (under.allows i).1) w v path
+
+  over_condition : (over : RunOver) (r : Run) (n : ℕ) → IsConditionAt t.net over.values over.word r n → (w : List ℕ) (v : Verdict)
+      (path : Path) → Sll t.net r.state (AllowsAt t.net over.values over.word r) w v path → Sll t.net r.state
+      (AllowedAt t.net r.state n) w v path
+  over_condition over r n under w v path =
+      sll_over t.net r.state (AllowsAt t.net over.values over.word r) (AllowedAt t.net r.state n) (λ i u first. (under.allows i).1)
+      (λ i u first. (under.allows i).0) w v path
 
   -- The word is one of a path that is passed, from this start.
-  record IsOnPath (words : List (List ℕ)) (f : Fact (List Config)) : Type 0 where
+  record IsOnPath (runs : List RunOver) (f : Fact (List Config)) : Type 0 where
     path : Path
-    passed : IsPassedPath t.net words path
+    passed : IsPassedPath t.net runs path
     start : ℕ
     among : Among f (facts_from t start path)
 
-  on_path : (words : List (List ℕ)) (f : Fact (List Config)) → IsPassedBy t words f → IsOnPath words f
-  on_path words f (word, among, (r, reached, at)) =
+  on_path : (runs : List RunOver) (f : Fact (List Config)) → IsPassedBy t runs f → IsOnPath runs f
+  on_path runs f (over, among, (r, reached, at)) =
       let p = at.passed in
       let start = p.is_start in
       record {
         path = p.path;
         passed = record {
-          word = word;
+          over = over;
           among = among;
           moment = r;
           reached = reached;
           is = record {
             decides = (are.starts.guards p.start r.state start.0 start.1).0;
-            fits = (start.0, are.starts.fits p.start r.state start.0 start.1, start.2.same);
+            guarded = (start.0, are.starts.fits p.start r.state start.0 start.1, guard_under over r at.condition start.0 start.2 at.under);
             verdict = at.verdict;
-            sll = p.sll;
+            sll = over_moment over r at.condition at.under (drop r.place over.word) at.verdict p.path p.sll;
           };
         };
         start = p.start;
         among = subst (Among f) p.are at.among;
       }
 
-  from_path : (words : List (List ℕ)) (path : Path) → IsPassedPath t.net words path
-      → (start : ℕ) × ((f : Fact (List Config)) → Among f (facts_from t start path) → IsPassedBy t words f)
-  from_path words path passed =
+  from_path : (runs : List RunOver) (path : Path) → IsPassedPath t.net runs path
+      → (start : ℕ) × ((f : Fact (List Config)) → Among f (facts_from t start path) → IsPassedBy t runs f)
+  from_path runs path passed =
       let r = passed.moment in
+      let over = passed.over in
       let at = passed.is in
-      let start = start_at r.state (level_of r.frames) at.fits.0 at.decides at.fits.1 at.fits.2 in (
-        start.0,
+      let under = at.guarded.2 in
+      let there = are.starts.there r.state at.guarded.0 at.decides under.is at.guarded.1 in (
+        there.0,
         λ f among. (
-          passed.word,
+          over,
           passed.among,
           (
             r,
             passed.reached,
             record {
+              condition = at.guarded.0;
+              under = under;
               verdict = at.verdict;
-              facts = facts_from t start.0 path;
-              passed = record { path = path; sll = at.sll; start = start.0; is_start = start.1; are = refl };
+              facts = facts_from t there.0 path;
+              passed = record {
+                path = path;
+                sll = over_condition over r at.guarded.0 under (drop r.place over.word) at.verdict path at.sll;
+                start = there.0;
+                is_start = (there.1, there.2, there.3);
+                are = refl;
+              };
               among = among;
             },
           ),
         ),
       )
 
-  module _ (words : List (List ℕ)) (symbols : HaveSymbols words) where
+  module _ (runs : List RunOver) (symbols : HaveSymbols runs) where
     abbrev Passed : Fact (List Config) → Type 0
-    Passed = IsPassedBy t words
+    Passed = IsPassedBy t runs
 
-    path_looks : (path : Path) → IsPassedPath t.net words path → AreLooks path.looked
+    path_looks : (path : Path) → IsPassedPath t.net runs path → AreLooks path.looked
     path_looks path passed =
         let r = passed.moment in
-        sll_looks t.net (Start t.net r.state (AllowedAt t.net r.state (level_of r.frames)) wildcard) (drop r.place passed.word) 0
+        let over = passed.over in
+        sll_looks t.net (Start t.net r.state (AllowsAt t.net over.values over.word r) wildcard) (drop r.place over.word) 0
         passed.is.verdict path.looked
-        (All-drop IsSymbol r.place passed.word
-        (All-contains (λ (word : List ℕ). All IsSymbol word) words passed.word symbols passed.among)) passed.is.sll.1
+        (All-drop IsSymbol r.place over.word
+        (All-contains (λ (o : RunOver). All IsSymbol o.word) runs over symbols passed.among)) passed.is.sll.1
 
     -- ---- rows
 
     -- the contents of a word that is passed are rows that are passed
-    pub row_in : (y : List Config) (f : Fact (List Config)) → Passed f → IsIn y f → IsPassedRow t.net words y
-    row_in y f passed is = let on = on_path words f passed in (on.path, on.passed, by on on.among)
+    pub row_in : (y : List Config) (f : Fact (List Config)) → Passed f → IsIn y f → IsPassedRow t.net runs y
+    row_in y f passed is = let on = on_path runs f passed in (on.path, on.passed, by on on.among)
       where
-        by : (on : IsOnPath words f) → Among f (facts_from t on.start on.path) → (on.path.start ≡ y) ⊎ ComesTo y on.path.looked
+        by : (on : IsOnPath runs f) → Among f (facts_from t on.start on.path) → (on.path.start ≡ y) ⊎ ComesTo y on.path.looked
         by on (inl same) = inl (subst (IsIn y) same is)
         by on (inr among) = in_cells t y on.path.start f on.path.looked among is
 
@@ -237,9 +262,9 @@ module _ (t : Tables) (are : AreTables t) where
     of_is_in y (Cell x s (Row z mark)) of = inr of
     of_is_in y (Cell x s (End code)) of = absurd of
 
-    row_of : (y : List Config) → IsPassedRow t.net words y → IsRowOf Passed y
+    row_of : (y : List Config) → IsPassedRow t.net runs y → IsRowOf Passed y
     row_of y (path, passed, at) =
-        let from = from_path words path passed in
+        let from = from_path runs path passed in
         elim at [
           | inl is ↦ (fact.Start from.0 path.start, from.1 (fact.Start from.0 path.start) (inl refl), is)
           | inr comes ↦
@@ -248,20 +273,20 @@ module _ (t : Tables) (are : AreTables t) where
         ]
 
     -- the rows to which words that are passed lead are those that are passed
-    pub rows_are : (y : List Config) → IsRowOf Passed y ↔ IsPassedRow t.net words y
+    pub rows_are : (y : List Config) → IsRowOf Passed y ↔ IsPassedRow t.net runs y
     rows_are y = (λ row. row_in y row.0 row.1 (of_is_in y row.0 row.2), row_of y)
 
     -- ---- edges
 
     -- the edge is one of the cell: of its row, and of a symbol of its column
     abbrev IsOfCell : List Config × ℕ → List Config × ℕ → Type 0
-    IsOfCell cell edge = IsPassedEdge t.net words edge × (edge.0 ≡ cell.0) × (column_of t edge.1 ≡ cell.1) × IsSymbol edge.1
+    IsOfCell cell edge = IsPassedEdge t.net runs edge × (edge.0 ≡ cell.0) × (column_of t edge.1 ≡ cell.1) × IsSymbol edge.1
 
     -- a cell that is passed has such an edge
     edge_of : (cell : List Config × ℕ) → IsEdgeOf Passed cell → (edge : List Config × ℕ) × IsOfCell cell edge
-    edge_of (x, s) (to, passed) = let on = on_path words (Cell x s to) passed in by on on.among
+    edge_of (x, s) (to, passed) = let on = on_path runs (Cell x s to) passed in by on on.among
       where
-        by : (on : IsOnPath words (Cell x s to)) → Among (Cell x s to) (facts_from t on.start on.path)
+        by : (on : IsOnPath runs (Cell x s to)) → Among (Cell x s to) (facts_from t on.start on.path)
             → (edge : List Config × ℕ) × IsOfCell (x, s) edge
         by on (inl same) = absurd (cc)
         by on (inr among) =
@@ -269,16 +294,16 @@ module _ (t : Tables) (are : AreTables t) where
             ((x, found.0), ((on.path, on.passed, found.1), refl, found.2, found.3))
 
     -- an edge that is passed is of a symbol, and its cell is passed
-    cell_of : (x : List Config) (a : ℕ) → IsPassedEdge t.net words (x, a) → IsEdgeOf Passed (x, column_of t a) × IsSymbol a
+    cell_of : (x : List Config) (a : ℕ) → IsPassedEdge t.net runs (x, a) → IsEdgeOf Passed (x, column_of t a) × IsSymbol a
     cell_of x a (path, passed, at) =
-        let from = from_path words path passed in
+        let from = from_path runs path passed in
         let found = cell_at t x path.start a path.looked at in (
           (found.0, from.1 (Cell x (column_of t a) found.0) (inr found.1)),
           looks_symbol x a path.start path.looked (path_looks path passed) at,
         )
 
     -- there are as many edges, where those count as one whose symbols are alike, as cells
-    pub edges_are : (size : ℕ) → HasSize (IsEdgeOf Passed) size → HasClasses (IsPassedEdge t.net words) (AreOneEdge t.net) size
+    pub edges_are : (size : ℕ) → HasSize (IsEdgeOf Passed) size → HasClasses (IsPassedEdge t.net runs) (AreOneEdge t.net) size
     edges_are size of = record {
       items = picks.0;
       only = λ edge among. (pick_from IsOfCell of.items picks.0 edge picks.1 among).2.0;
@@ -290,7 +315,7 @@ module _ (t : Tables) (are : AreTables t) where
         picks : (edges : List (List Config × ℕ)) × ArePicks IsOfCell of.items edges
         picks = pick IsOfCell of.items (λ cell among. edge_of cell ((of.all cell).1 among))
 
-        each : (edge : List Config × ℕ) → IsPassedEdge t.net words edge
+        each : (edge : List Config × ℕ) → IsPassedEdge t.net runs edge
             → (other : List Config × ℕ) × Among other picks.0 × AreOneEdge t.net edge other
         each (x, a) passed =
             let cell = cell_of x a passed in

@@ -3,6 +3,7 @@ use Rattle.std.proofs.Common.{◌≡◌, ◌↔◌, ℕ, zero, suc, inl, inr, Li
 use mathlib.Core.Option.{some}
 use lib.ListN.{get_elem?}
 use Rattle.g4_net.specs.Configurations.{Config}
+use Rattle.g4_run.specs.Running.{RunOver}
 use Rattle.g4_store.specs.declared.automaton.Fact.{Fact}
 use Rattle.g4_store.specs.declared.automaton.Plan.{Plan}
 use Rattle.g4_store.specs.Closing.{Closes}
@@ -31,24 +32,24 @@ module _ {C : Type 0} (One Other : Fact C → Type 0) (same : (f : Fact C) → O
   same_edges edge = (λ h. (h.0, (same _).0 h.1), λ h. (h.0, (same _).1 h.1))
 
 module _ (p : Plan Tables) (plan : IsPlan p) (pass : Told) (whole : IsWhole pass.0) (words : List ℕ) (rows : List (List Config))
-    (closes : Closes StartsAt LeadsTo p pass.0 words rows) (inputs : List (List ℕ)) (symbols : HaveSymbols inputs)
-    (passed : HasPassed p inputs pass) where
+    (closes : Closes StartsAt LeadsTo p pass.0 words rows) (runs : List RunOver) (symbols : HaveSymbols runs)
+    (passed : HasPassed p runs pass) where
   abbrev Filled : Fact (List Config) → Type 0
   Filled = Stands p words rows
 
   abbrev Passed : Fact (List Config) → Type 0
-  Passed = IsPassedBy p.net inputs
+  Passed = IsPassedBy p.net runs
 
   filled_is_passed : (f : Fact (List Config)) → Filled f → Passed f
   filled_is_passed f stands = passed.teaches f (closes.whole whole f stands)
 
   -- ---- with room
 
-  pub counts_are : pass.1 ≡ false → (counts : Counts) → AreFilled Filled counts → AreCounts p.rows p.net.net inputs counts
+  pub counts_are : pass.1 ≡ false → (counts : Counts) → AreFilled Filled counts → AreCounts p.rows p.net.net runs counts
   counts_are room counts are = record {
-    sets = same_size (IsRowOf Passed) (IsPassedRow p.net.net inputs) counts.rows (rows_are p.net plan.tables inputs symbols)
+    sets = same_size (IsRowOf Passed) (IsPassedRow p.net.net runs) counts.rows (rows_are p.net plan.tables runs symbols)
         (same_size (IsRowOf Filled) (IsRowOf Passed) counts.rows (same_rows Filled Passed same) are.rows);
-    edges = edges_are p.net plan.tables inputs symbols counts.edges
+    edges = edges_are p.net plan.tables runs symbols counts.edges
         (same_size (IsEdgeOf Filled) (IsEdgeOf Passed) counts.edges (same_edges Filled Passed same) are.edges);
     fits =
         let count = one_size (IsRowOf Filled) counts.rows (length rows) are.rows (rows_size StartsAt LeadsTo p pass.0 words rows closes) in
@@ -62,12 +63,12 @@ module _ (p : Plan Tables) (plan : IsPlan p) (pass : Told) (whole : IsWhole pass
   -- ---- without room
 
   -- each row that is known is passed
-  known_is_passed : (t : ℕ) (y : List Config) → Among (t, y) pass.0.known → IsPassedRow p.net.net inputs y
+  known_is_passed : (t : ℕ) (y : List Config) → Among (t, y) pass.0.known → IsPassedRow p.net.net runs y
   known_is_passed t y known =
       let named = closes.named t y (closes.known t y known) in
-      (rows_are p.net plan.tables inputs symbols y).0 (named.by, filled_is_passed named.by named.stands, named.of)
+      (rows_are p.net plan.tables runs symbols y).0 (named.by, filled_is_passed named.by named.stands, named.of)
 
-  pub has_more : IsShort p inputs pass → HasMore (IsPassedRow p.net.net inputs) p.rows
+  pub has_more : IsShort p runs pass → HasMore (IsPassedRow p.net.net runs) p.rows
   has_more short = record {
     items = short.row ∷ all;
     only = only;
@@ -78,9 +79,9 @@ module _ (p : Plan Tables) (plan : IsPlan p) (pass : Told) (whole : IsWhole pass
       all : List (List Config)
       all = short.all.rows
 
-      only : (y : List Config) → Among y (short.row ∷ all) → IsPassedRow p.net.net inputs y
-      only y (inl is) = subst (IsPassedRow p.net.net inputs) (sym is)
-          (row_in p.net plan.tables inputs symbols short.row short.passed.0 short.passed.1 short.passed.2)
+      only : (y : List Config) → Among y (short.row ∷ all) → IsPassedRow p.net.net runs y
+      only y (inl is) = subst (IsPassedRow p.net.net runs) (sym is)
+          (row_in p.net plan.tables runs symbols short.row short.passed.0 short.passed.1 short.passed.2)
       only y (inr among) =
           let at = among_is_at all y among in
           known_is_passed at.0 y (short.known at.0 y (short.all.are_known at.0 y at.1))

@@ -1,5 +1,6 @@
 // The tally of a store that all threads have left.
 ghost use Rattle.std.specs.Prelude.{◌≡◌, ℕ, IfOk, List, string_bytes};
+ghost use Rattle.g4_run.specs.Running.{RunOver};
 ghost use Rattle.g4_store.specs.Views.{IsWhole};
 ghost use Rattle.g4_tally.specs.Passed.{HasPassed, HaveSymbols};
 ghost use Rattle.g4_tally.specs.Tallies.{IsTally, tally_line as line_of};
@@ -18,7 +19,7 @@ pub enum Tally {
     Full,
 }
 
-/// What was learned in a store by the runs over some words, with a pass that all others were met into. The store is closed.
+/// What was learned in a store by some runs, with a pass that all others were met into. The store is closed.
 ///
 /// # Errors
 /// No memory for a copy of the store's words.
@@ -28,8 +29,8 @@ pub fn tally_of<B: Home<DecisionNet>>(
     pass: Pass<B>,
 ) -> Result<Tally, AllocError>
     requires whole { IsWhole pass.0 }
-    ensures { (words : List (List ℕ)) → HaveSymbols words → HasPassed B.plan words pass
-        → IfOk result (IsTally B.plan.rows B.plan.net.net words) }
+    ensures { (runs : List RunOver) → HaveSymbols runs → HasPassed B.plan runs pass
+        → IfOk result (IsTally B.plan.rows B.plan.net.net runs) }
 {
     let full = pass.was_full();
     match store.close(alloc, pass) {

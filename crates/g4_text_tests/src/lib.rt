@@ -8,6 +8,10 @@ mod predicates;
 #[cfg(test)]
 mod rows;
 #[cfg(test)]
+mod surroundings;
+#[cfg(test)]
 mod token_files;
 #[cfg(test)]
 mod tokens;
+#[cfg(test)]
+mod values;

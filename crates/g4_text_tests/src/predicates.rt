@@ -14,13 +14,7 @@ fn push_test(out: &mut String, test: &Test) -> Result<(), AllocError> {
         Test::Constant(false) => out.push_str("false"),
         Test::Flag(name) => write!(out, "flag:{}", name.as_str()),
         Test::Inside(rule) => write!(out, "inside:{}", rule.as_str()),
-        Test::TextIs { nth, text } => {
-            write!(out, "text{nth}:")?;
-            for c in text.as_slice() {
-                out.push(*c)?;
-            }
-            Ok(())
-        }
+        Test::TextIs { nth, text } => { write!(out, "text{nth}:{}", text.as_str()) }
     }
 }
 

@@ -1,6 +1,7 @@
 mod Fetched
 mod Gathered
 mod Meant
+mod Counted
 mod Missed
 mod OneByOne
 mod OneEnd

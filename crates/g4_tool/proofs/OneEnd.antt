@@ -6,12 +6,14 @@ use Rattle.g4_words.specs.declared.command.Command.{Command}
 use Rattle.g4_words.specs.declared.command.Command.TheVariants as commands
 use Rattle.g4_words.specs.declared.command.Parse.{Parse}
 use Rattle.g4_words.proofs.OneCommand.{one_command}
+use Rattle.g4_run.specs.Running.{RunOver}
 use Rattle.g4_load.proofs.OneBuilt.{one_built, one_listed, one_loaded}
 use Rattle.g4_load.specs.declared.interpreter.Interpreter.{Interpreter}
 use Rattle.g4_load.specs.declared.stop.Stop.{Stop}
 use Rattle.g4_load.specs.declared.stop.Stop.TheVariants as stops
 use Rattle.g4_fetch.specs.Files.{Files}
 use Rattle.g4_load.specs.Building.{Builds}
+use Rattle.g4_load.specs.Usable.{with_flags}
 use Rattle.g4_outcome.specs.declared.input.Input.{Input}
 use Rattle.g4_outcome.specs.declared.outcome.Outcome.{Outcome}
 use Rattle.g4_tool.specs.Cells.{HasManyCells}
@@ -30,8 +32,8 @@ one_told asked rows i is None None h k = refl
 one_told asked rows i is None (Some t) h k = absurd (true≢false (sym k.0 ∙ h))
 one_told asked rows i is (Some s) None h k = absurd (true≢false (sym h.0 ∙ k))
 one_told asked rows i is (Some s) (Some t) h k =
-    let same : (word : List ℕ) → Contains h.1.0 word ↔ Contains k.1.0 word =
-    λ word. (λ one. (k.1.1 word).1 ((h.1.1 word).0 one), λ other. (h.1.1 word).1 ((k.1.1 word).0 other)) in
+    let same : (over : RunOver) → Contains h.1.0 over ↔ Contains k.1.0 over =
+    λ over. (λ one. (k.1.1 over).1 ((h.1.1 over).0 one), λ other. (h.1.1 over).1 ((k.1.1 over).0 other)) in
     ap Some (one_of_both rows i.net h.1.0 k.1.0 same s t h.1.2 k.1.2)
 
 module _ (files : Files) where
@@ -70,15 +72,21 @@ module _ (files : Files) where
 
     -- files that are all parsed
     one_parsed : (i j : Interpreter) (is js : List Input) (os ps : List Outcome) (s t : Option Tally) → j ≡ i → js ≡ is
-        → AreOutcomes i is os → AreOutcomes j js ps → IsTold parse.learned parse.rows i is s → IsTold parse.learned parse.rows j js t
-        → all_parsed parse.output i parse.files os s ≡ all_parsed parse.output j parse.files ps t
+        → AreOutcomes (with_flags parse.flags i) is os → AreOutcomes (with_flags parse.flags j) js ps
+        → IsTold parse.learned parse.rows (with_flags parse.flags i) is s → IsTold parse.learned parse.rows (with_flags parse.flags j) js t
+        → all_parsed parse.output (with_flags parse.flags i) parse.files os s
+        ≡ all_parsed parse.output (with_flags parse.flags j) parse.files ps t
     one_parsed i j is js os ps s t interpreter inputs h k x y =
-        let also : AreOutcomes i is ps = subst (λ xs. AreOutcomes i xs ps) inputs (subst (λ x. AreOutcomes x js ps) interpreter k) in
-        let told : IsTold parse.learned parse.rows i is t =
-        subst (λ xs. IsTold parse.learned parse.rows i xs t) inputs (subst (λ x. IsTold parse.learned parse.rows x js t) interpreter y) in
-        ap (λ x. all_parsed parse.output x parse.files os s) (sym interpreter)
-        ∙ (ap (λ xs. all_parsed parse.output j parse.files xs s) (one_outcome_each i is os ps h also)
-        ∙ ap (λ x. all_parsed parse.output j parse.files ps x) (one_told parse.learned parse.rows i is s t x told))
+        let f = parse.flags in
+        let also : AreOutcomes (with_flags f i) is ps =
+        subst (λ xs. AreOutcomes (with_flags f i) xs ps) inputs (subst (λ x. AreOutcomes (with_flags f x) js ps) interpreter k) in
+        let told : IsTold parse.learned parse.rows (with_flags f i) is t =
+        subst (λ xs. IsTold parse.learned parse.rows (with_flags f i) xs t) inputs
+        (subst (λ x. IsTold parse.learned parse.rows (with_flags f x) js t) interpreter y) in
+        ap (λ x. all_parsed parse.output (with_flags f x) parse.files os s) (sym interpreter)
+        ∙ (ap (λ xs. all_parsed parse.output (with_flags f j) parse.files xs s) (one_outcome_each (with_flags f i) is os ps h also)
+        ∙ ap (λ x. all_parsed parse.output (with_flags f j) parse.files ps x)
+        (one_told parse.learned parse.rows (with_flags f i) is s t x told))
 
     -- the same cells
     pub same_many : (f g : List (List ℕ)) (i j : Interpreter) → Builds files parse.library parse.grammar parse.start f (Ok i)

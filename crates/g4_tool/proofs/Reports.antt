@@ -30,6 +30,7 @@ use Rattle.g4_tally.specs.declared.tally.Tally.{Tally}
 use Rattle.g4_load.specs.Listing.{Lists}
 use Rattle.g4_load.specs.Loading.{Loads}
 use Rattle.g4_load.specs.Building.{Builds}
+use Rattle.g4_load.specs.Usable.{with_flags}
 use Rattle.g4_load.specs.Stages.{AfterFetches, IsHaltOf}
 use Rattle.g4_outcome.specs.Outcomes.{is_accepted, lines_of_files}
 use Rattle.g4_tool.specs.Cells.{HasManyCells, Refuses}
@@ -129,21 +130,24 @@ module _ (files : Files) (words : List (List ℕ)) (parse : Parse)
     stops_absent view halts.Failed h = tt
     stops_absent view halts.NoMemory h = tt
 
+    abbrev flagged : Interpreter
+    flagged = with_flags parse.flags interpreter
+
     -- a command whose files are parsed
     pub reports_files : (inputs : List Input) (made : Parsed) (learned : Option Tally) (count : ℕ) (report : Report)
         → inputs_of files parse.files ≡ Ok inputs → length parse.files ≡ length inputs → count ≡ length parse.files
-        → AreParsed parse.output interpreter parse.files inputs made → IsTold parse.learned parse.rows interpreter inputs learned
+        → AreParsed parse.output flagged parse.files inputs made → IsTold parse.learned parse.rows flagged inputs learned
         → IsReportOfFiles made learned count report → IsReport files words report
     reports_files inputs made learned count report there paired counted are told is =
-        let all : count ≡ length are.outcomes = counted ∙ paired ∙ sym (as_many interpreter inputs are.outcomes are.are) in record {
-          end = all_parsed parse.output interpreter parse.files are.outcomes learned;
-          has = of_command (commands.Parse parse) (all_parsed parse.output interpreter parse.files are.outcomes learned) command
+        let all : count ≡ length are.outcomes = counted ∙ paired ∙ sym (as_many flagged inputs are.outcomes are.are) in record {
+          end = all_parsed parse.output flagged parse.files are.outcomes learned;
+          has = of_command (commands.Parse parse) (all_parsed parse.output flagged parse.files are.outcomes learned) command
               (files_parsed built.0 interpreter inputs are.outcomes learned built.1 fits there are.are told);
           is = record {
             lines = is.lines ∙ ap (λ ls. ls ++ closing_line count made.accepted ∷ learned_lines learned) are.lines
-                ∙ ap (λ n. lines_of_files parse.output interpreter parse.files are.outcomes ++ closing_line n made.accepted
+                ∙ ap (λ n. lines_of_files parse.output flagged parse.files are.outcomes ++ closing_line n made.accepted
                 ∷ learned_lines learned) all
-                ∙ ap (λ n. lines_of_files parse.output interpreter parse.files are.outcomes ++ closing_line (length are.outcomes) n
+                ∙ ap (λ n. lines_of_files parse.output flagged parse.files are.outcomes ++ closing_line (length are.outcomes) n
                 ∷ learned_lines learned) are.accepted;
             status = is.status ∙ ap (λ (n : ℕ). if made.accepted == n then Done else Refused) all
                 ∙ ap (λ (n : ℕ). if n == length are.outcomes then Done else Refused) are.accepted
@@ -153,7 +157,7 @@ module _ (files : Files) (words : List (List ℕ)) (parse : Parse)
               let one : commands.Parse parse ≡ commands.Parse other =
               one_command words (commands.Parse parse) (commands.Parse other) command is_other in
               let same : parse ≡ other = cc in
-              meant_from interpreter other.start are.outcomes
+              meant_from flagged other.start are.outcomes
               (subst (λ (q : Parse). IsNetworkFrom interpreter q.start) same
               (network_from files parse.library parse.grammar parse.start built.0 interpreter built.1)) are.meant);
         }

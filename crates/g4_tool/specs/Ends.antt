@@ -13,6 +13,7 @@ use Rattle.g4_tool.specs.Texts.{usage_line, absent_line, syntax_line, bad_set_li
 use Rattle.g4_load.specs.Listing.{Lists}
 use Rattle.g4_load.specs.Loading.{Loads}
 use Rattle.g4_load.specs.Building.{Builds}
+use Rattle.g4_load.specs.Usable.{with_flags}
 use Rattle.g4_fetch.specs.Files.{Files}
 use Rattle.g4_tool.specs.Cells.{HasManyCells}
 use Rattle.g4_tool.specs.Inputs.{inputs_of}
@@ -60,7 +61,7 @@ pub data EndsAtn (files : Files) (atn : Atn) : End → Type 0 where
       → EndsAtn files atn (listed listing)
 
 -- The end of `parse`: its grammar is not built, or has too many cells with the rows that are asked for, or one of its files is absent,
--- or each has an outcome, and it is told how much was learned.
+-- or each has an outcome, with the flags that are given, and it is told how much was learned.
 pub data EndsParse (files : Files) (parse : Parse) : End → Type 0 where
   not_built : (fetched : List (List ℕ)) (stop : Stop) → Builds files parse.library parse.grammar parse.start fetched (Err stop)
       → EndsParse files parse (stopped stop)
@@ -75,8 +76,9 @@ pub data EndsParse (files : Files) (parse : Parse) : End → Type 0 where
       (learned : Option Tally)
       → Builds files parse.library parse.grammar parse.start fetched (Ok interpreter) → ¬ (HasManyCells parse.rows interpreter)
       → inputs_of files parse.files ≡ Ok inputs
-      → AreOutcomes interpreter inputs outcomes → IsTold parse.learned parse.rows interpreter inputs learned
-      → EndsParse files parse (all_parsed parse.output interpreter parse.files outcomes learned)
+      → AreOutcomes (with_flags parse.flags interpreter) inputs outcomes
+      → IsTold parse.learned parse.rows (with_flags parse.flags interpreter) inputs learned
+      → EndsParse files parse (all_parsed parse.output (with_flags parse.flags interpreter) parse.files outcomes learned)
 
 -- the end of a command
 abbrev pub Ends : Files → Command → End → Type 0

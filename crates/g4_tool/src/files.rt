@@ -187,6 +187,8 @@ pub fn parse_files<R: Threads + Wait + Sync, G: Gate>(
     let Interpreter {
         names: rule_names,
         rules,
+        predicates,
+        flags,
         shown,
         lexer,
         net,
@@ -194,6 +196,8 @@ pub fn parse_files<R: Threads + Wait + Sync, G: Gate>(
     let grammar = Grammar {
         names: rule_names,
         rules,
+        predicates,
+        flags,
         shown,
         lexer,
     };

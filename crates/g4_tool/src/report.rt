@@ -170,6 +170,17 @@ fn run_atn<S: Shelf>(alloc: Global, shelf: &mut S, atn: &Atn) -> Result<Report, 
     Ok(report)
 }
 
+/// The same names.
+fn copied(alloc: Global, names: &[Text]) -> Result<Sequence<Text>, AllocError>
+    ensures { IfOk result (λ made. made ≡ names.now) }
+{
+    let mut made = Vec::new(alloc);
+    for name in names {
+        made.push(Text::copy_of(alloc, name.as_str())?)?;
+    }
+    Ok(Sequence::new(made))
+}
+
 /// The report of `parse`, or why there is none.
 fn run_parse<R: Threads + Wait + Sync, S: Shelf, G: Gate>(
     rt: &R,
@@ -194,6 +205,8 @@ fn run_parse<R: Threads + Wait + Sync, S: Shelf, G: Gate>(
     check_cells(alloc, grammar, parse.rows, &interpreter)?;
     let names = parse.files.as_slice();
     let inputs = fetch_all(alloc, shelf, names)?;
+    let flags = copied(alloc, parse.flags.as_slice())?;
+    let flagged = interpreter.with_flags(flags);
     let parsed = parse_files(
         rt,
         alloc,
@@ -201,7 +214,7 @@ fn run_parse<R: Threads + Wait + Sync, S: Shelf, G: Gate>(
         parse.jobs,
         parse.rows,
         parse.learned,
-        interpreter,
+        flagged,
         names,
         inputs.as_slice(),
         gate,

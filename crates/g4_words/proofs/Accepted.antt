@@ -14,7 +14,7 @@ use Rattle.clap.specs.Kinds.{or_else}
 use Rattle.clap.specs.Faults.{check_fault, defaults_fault, entered_fault, fault_of, level_fault, other_fault, settle_fault, step_fault, turn_fault, walk_fault, word_fault}
 use Rattle.clap.specs.declared.error.kind.ErrorKind.TheVariants.{DisplayHelp, InvalidSubcommand, MissingRequiredArgument, MissingSubcommand}
 use Rattle.g4_words.specs.App.{g4_app}
-use Rattle.g4_words.specs.Commands.{HasFewFiles, HasNumbers, HasOneOutput, IsCommand}
+use Rattle.g4_words.specs.Commands.{HasFewFiles, HasFlagNames, HasNumbers, HasOneOutput, IsCommand}
 use Rattle.g4_words.specs.declared.command.Command.{Command}
 use Rattle.g4_words.specs.declared.command.Command.TheVariants as commands
 use Rattle.g4_words.proofs.Outputs.{some_learned, some_output}
@@ -159,12 +159,15 @@ parse_fills = (
         (
           fills_by_values (rule_of 0 4) refl,
           (
-            fills_by_flag (rule_of 0 5) (omega arith),
+            fills_by_values (rule_of 0 5) refl,
             (
               fills_by_flag (rule_of 0 6) (omega arith),
               (
                 fills_by_flag (rule_of 0 7) (omega arith),
-                (fills_by_values (rule_of 0 8) refl, (fills_by_help (rule_of 0 9) refl, tt)),
+                (
+                  fills_by_flag (rule_of 0 8) (omega arith),
+                  (fills_by_values (rule_of 0 9) refl, (fills_by_help (rule_of 0 10) refl, tt)),
+                ),
               ),
             ),
           ),
@@ -198,7 +201,7 @@ entered_one rows true none = refl
 entered_one rows false none = absurd (some_fault MissingSubcommand [] none)
 
 module _ (words : List Text) (accepted : fault_of g4_app words ≡ []) (few : HasFewFiles words)
-    (numbers : HasNumbers words) (one : HasOneOutput words) where
+    (numbers : HasNumbers words) (names_of_flags : HasFlagNames words) (one : HasOneOutput words) where
   parse_of : (rest : List Text) → subcommand_of g4_app words ≡ Some (codes "parse", rows_after (command_at 0).rules [] rest)
       → level_fault (command_at 0) [] nothing_held rest false [] ≡ [] → IsSomeCommand words
   parse_of rest given none =
@@ -209,6 +212,7 @@ module _ (words : List Text) (accepted : fault_of g4_app words ≡ []) (few : Ha
       let start = given_has_value (codes "start") rows level.0 there.1 in
       let files = given_has_value (codes "files") rows level.0 there.2 in
       let counts = numbers (codes "parse") rows given in
+      let flags = names_of_flags (codes "parse") rows given in
       let output = some_output rows (λ a b. one (codes "parse") rows a b given) in
       let learned = some_learned rows output.0 (λ a b. one (codes "parse") rows a b given) output.1 in (
         commands.Parse (record {
@@ -217,6 +221,7 @@ module _ (words : List Text) (accepted : fault_of g4_app words ≡ []) (few : Ha
           library = first_of (codes "library") rows;
           jobs = counts.0.0;
           rows = counts.1.0;
+          flags = flags.0;
           output = output.0;
           learned = learned.0;
           files = files.first ∷ files.others;
@@ -234,6 +239,7 @@ module _ (words : List Text) (accepted : fault_of g4_app words ≡ []) (few : Ha
               library = refl;
               jobs = counts.0.1;
               rows = counts.1.1;
+              flags = flags.1;
               output = output.1;
               learned = learned.1;
               files = files.all;

@@ -1,10 +1,10 @@
 -- Words are at most one command.
-use Rattle.std.proofs.Common.{◌≡◌, List, Option, Some, ap, arith, ◌∙◌, refl, subst, sym, true≢false}
+use Rattle.std.proofs.Common.{◌≡◌, List, Option, Some, None, ap, arith, ◌∙◌, refl, subst, sym, true≢false}
 use Rattle.std.specs.Prelude.{codes, true, false}
 use Rattle.std.specs.Str.{bytes_eq}
 use Rattle.clap.specs.Words.{Row, Text, all_of, first_of, subcommand_of}
 use Rattle.g4_words.specs.App.{g4_app}
-use Rattle.g4_words.specs.Commands.{IsAtn, IsCheck, IsCommand, IsNamed, IsParse}
+use Rattle.g4_words.specs.Commands.{AreGiven, IsAtn, IsCheck, IsCommand, IsNamed, IsParse}
 use Rattle.g4_words.specs.declared.command.Atn.{Atn}
 use Rattle.g4_words.specs.declared.command.Check.{Check}
 use Rattle.g4_words.specs.declared.command.Command.{Command}
@@ -18,16 +18,22 @@ use Rattle.g4_words.proofs.Outputs.{one_learned, one_output}
 one_value : {X : Type 0} (given : Option X) (a b : X) → given ≡ Some a → given ≡ Some b → a ≡ b
 one_value given a b p q = cc
 
+-- the flags that an option gives are one list
+one_given : (given : Option Text) (a b : List Text) → AreGiven given a → AreGiven given b → a ≡ b
+one_given None a b p q = p ∙ sym q
+one_given (Some text) a b p q = p.0 ∙ sym q.0
+
 -- parses with the same fields are the same
 same_parse : (a b : Parse) → a.grammar ≡ b.grammar → a.start ≡ b.start → a.library ≡ b.library → a.jobs ≡ b.jobs
-    → a.rows ≡ b.rows → a.output ≡ b.output
+    → a.rows ≡ b.rows → a.flags ≡ b.flags → a.output ≡ b.output
     → a.learned ≡ b.learned → a.files ≡ b.files → a ≡ b
-same_parse a b grammar start library jobs rows output learned files = λ i. record {
+same_parse a b grammar start library jobs rows flags output learned files = λ i. record {
   grammar = grammar i;
   start = start i;
   library = library i;
   jobs = jobs i;
   rows = rows i;
+  flags = flags i;
   output = output i;
   learned = learned i;
   files = files i;
@@ -40,7 +46,8 @@ one_parse values a b p q =
     same_parse a b (one_value (first_of (codes "grammar") values) a.grammar b.grammar p.grammar q.grammar)
     (one_value (first_of (codes "start") values) a.start b.start p.start q.start) (p.library ∙ sym q.library)
     (one_number (first_of (codes "jobs") values) DEFAULT_JOBS MOST_JOBS a.jobs b.jobs (omega arith) p.jobs q.jobs)
-    (one_number (first_of (codes "rows") values) DEFAULT_ROWS MOST_ROWS a.rows b.rows (omega arith) p.rows q.rows) output
+    (one_number (first_of (codes "rows") values) DEFAULT_ROWS MOST_ROWS a.rows b.rows (omega arith) p.rows q.rows)
+    (one_given (first_of (codes "flags") values) a.flags b.flags p.flags q.flags) output
     (one_learned values a.output b.output a.learned b.learned p.learned q.learned)
     (one_value (all_of (codes "files") values) a.files b.files p.files q.files)
 

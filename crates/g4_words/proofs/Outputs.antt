@@ -4,7 +4,7 @@ use Rattle.std.specs.Prelude.{Err, codes}
 use Rattle.std.specs.Str.{bytes_eq}
 use Rattle.std.proofs.lemmas.Slice.Eq.{bytes_eq-Decides}
 use Rattle.clap.specs.Words.{Row, Text, first_of, one_of}
-use Rattle.g4_words.specs.Commands.{Finds, HasFlag, IsAskedFor, IsLearned, IsNumber, IsOutput, IsOutputFlag, IsParse}
+use Rattle.g4_words.specs.Commands.{AreGiven, Finds, HasFlag, IsAskedFor, IsLearned, IsNumber, IsOutput, IsOutputFlag, IsParse}
 use Rattle.g4_words.specs.declared.command.Output.{Output}
 use Rattle.g4_words.specs.declared.command.Output.TheVariants as outputs
 use Rattle.g4_words.specs.declared.command.TheConstants.{DEFAULT_JOBS, DEFAULT_ROWS, MOST_JOBS, MOST_ROWS}
@@ -98,6 +98,13 @@ module _ (rows : List Row) where
   no_rows Usage text same none = λ parse is.
       none parse.rows (subst (λ (t : Option Text). IsNumber t DEFAULT_ROWS MOST_ROWS parse.rows) (sym same) is.rows)
   no_rows NoMemory text same none = tt
+
+  -- values with a name of a flag that is none are those of no `parse`
+  pub no_flags : (fault : WordsFault) (text : Option Text) → text ≡ first_of (codes "flags") rows
+      → Finds (AreGiven text) (Err fault) → Finds (IsParse rows) (Err fault)
+  no_flags Usage text same none = λ parse is.
+      none parse.flags (subst (λ (t : Option Text). AreGiven t parse.flags) (sym same) is.flags)
+  no_flags NoMemory text same none = tt
 
   -- a flag is given or not
   has_or_not : (name : Text) → HasFlag name rows ⊎ (HasFlag name rows → ⊥)

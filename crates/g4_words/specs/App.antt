@@ -39,6 +39,9 @@ letter_r = 114
 abbrev pub letter_l : ℕ
 letter_l = 108
 
+abbrev pub letter_f : ℕ
+letter_f = 102
+
 -- `parse` with the two options that are needed, and with the two that give a number
 abbrev pub named_app : App
 named_app = with_rule (with_rule (new_app (codes "parse")) (needed_rule (option_rule (codes "grammar") letter_g)))
@@ -51,9 +54,13 @@ numbered_app = with_rule (with_rule named_app (option_rule (codes "jobs") letter
 abbrev pub with_library : App → App
 with_library app = with_rule app (option_rule (codes "library") letter_l)
 
--- `parse -g GRAMMAR -s RULE [-j JOBS] [-r ROWS] [-l LIB] [--events] [--tokens] [--learned] FILE..`
+-- with an option that gives flags
+abbrev pub with_flags : App → App
+with_flags app = with_rule app (option_rule (codes "flags") letter_f)
+
+-- `parse -g GRAMMAR -s RULE [-j JOBS] [-r ROWS] [-l LIB] [-f FLAGS] [--events] [--tokens] [--learned] FILE..`
 abbrev pub parse_app : App
-parse_app = with_rule (with_rule (with_rule (with_rule (with_library numbered_app) (flag_rule (codes "events")))
+parse_app = with_rule (with_rule (with_rule (with_rule (with_flags (with_library numbered_app)) (flag_rule (codes "events")))
     (flag_rule (codes "tokens"))) (flag_rule (codes "learned"))) (needed_rule (words_rule (codes "files")))
 
 -- `check [-l LIB] GRAMMAR`

@@ -1,5 +1,7 @@
 -- Which words are a command.
-use Rattle.std.specs.Prelude.{◌≡◌, ◌≢◌, ◌≤◌, ◌<◌, ◌^◌, ◌⊎◌, ◌↔◌, ℕ, Bool, true, List, [], Option, Result, Ok, Err, Some, None, codes, decimal, length}
+use Rattle.std.specs.Prelude.{◌≡◌, ◌≢◌, ◌≤◌, ◌<◌, ◌^◌, ◌⊎◌, ◌↔◌, ◌==◌, ◌&&◌, ◌||◌, ℕ, Bool, true, not, List, [], Option, Result, Ok, Err, Some, None, codes, decimal, length}
+use Rattle.std.specs.Char.{is_ascii_alphanumeric}
+use Rattle.std.specs.List.{list_all, slice_split}
 use Rattle.clap.specs.Words.{Row, Text, all_of, fault_of, first_of, one_of, subcommand_of, subcommand_rows_of}
 use Rattle.clap.specs.declared.parser.matches.ArgMatches.{ArgMatches}
 use Rattle.g4_words.specs.App.{g4_app}
@@ -52,6 +54,22 @@ IsJobs rows = IsNumber (first_of (codes "jobs") rows) DEFAULT_JOBS MOST_JOBS
 abbrev pub IsRows : List Row → ℕ → Type 0
 IsRows rows = IsNumber (first_of (codes "rows") rows) DEFAULT_ROWS MOST_ROWS
 
+-- the byte is an ASCII letter, a digit or `_`
+abbrev pub is_flag_byte : ℕ → Bool
+is_flag_byte b = is_ascii_alphanumeric b || b == 95
+
+-- the name of a flag has one of these bytes or more, and no others
+abbrev pub is_flag_name : Text → Bool
+is_flag_name name = not (length name == 0) && list_all is_flag_byte name
+
+-- the flags that an option with this text gives: the parts between its commas, which are names of flags; without a text there is none
+abbrev pub AreGiven : Option Text → List Text → Type 0
+AreGiven None flags = flags ≡ []
+AreGiven (Some text) flags = (flags ≡ slice_split (λ b. b == 44) text) × (list_all is_flag_name flags ≡ true)
+
+abbrev pub AreFlags : List Row → List Text → Type 0
+AreFlags rows flags = AreGiven (first_of (codes "flags") rows) flags
+
 -- the library that an option gives, if it is given
 abbrev pub IsLibrary : List Row → Option Text → Type 0
 IsLibrary rows library = library ≡ first_of (codes "library") rows
@@ -63,6 +81,7 @@ pub record IsParse (values : List Row) (parse : Parse) : Type 0 where
   pub library : IsLibrary values parse.library
   pub jobs : IsJobs values parse.jobs
   pub rows : IsRows values parse.rows
+  pub flags : AreFlags values parse.flags
   pub output : IsOutput values parse.output
   pub learned : IsLearned values parse.output parse.learned
   pub files : all_of (codes "files") values ≡ Some parse.files
@@ -111,6 +130,11 @@ HasOneOutput words = (name : Text) (rows : List Row) (a b : Text) → subcommand
 abbrev pub HasNumbers : List Text → Type 0
 HasNumbers words = (name : Text) (rows : List Row) → subcommand_of g4_app words ≡ Some (name, rows)
     → ((jobs : ℕ) × IsJobs rows jobs) × ((room : ℕ) × IsRows rows room)
+
+-- what an option gives as flags are names of flags
+abbrev pub HasFlagNames : List Text → Type 0
+HasFlagNames words = (name : Text) (rows : List Row) → subcommand_of g4_app words ≡ Some (name, rows)
+    → (flags : List Text) × AreFlags rows flags
 
 -- the answer is a thing of this kind, or Usage where there is none, unless memory runs out
 abbrev pub Finds : {T : Type 0} → (T → Type 0) → Result T WordsFault → Type 0

@@ -2,7 +2,7 @@
 ghost use Rattle.std.specs.Prelude.{◌≡◌, IfOk, false};
 ghost use Rattle.clap.specs.Words.{app_of, rule_of, with_rule, with_subcommand};
 ghost use Rattle.clap.specs.declared.Command.TheViews.{out-Command as fields_of};
-ghost use Rattle.g4_words.specs.App.{atn_app, base_app, check_app, flag_rule, g4_app, needed_rule, option_rule, parse_app, with_library, word_rule, words_rule};
+ghost use Rattle.g4_words.specs.App.{atn_app, base_app, check_app, flag_rule, g4_app, needed_rule, option_rule, parse_app, with_flags, with_library, word_rule, words_rule};
 
 use clap::{Arg, ArgAction, Command};
 use std::alloc::{AllocError, Global};
@@ -65,7 +65,15 @@ fn with_library<'a>(alloc: Global, command: Command<'a>) -> Result<Command<'a>, 
     with_arg(command, option(alloc, "library", 'l'))
 }
 
-/// `parse -g GRAMMAR -s RULE [-j JOBS] [-r ROWS] [-l LIB] [--events] [--tokens] [--learned] FILE..`
+/// The command with an option that gives flags.
+fn with_flags<'a>(alloc: Global, command: Command<'a>) -> Result<Command<'a>, AllocError>
+    ensures app { IfOk result (λ c. app_of c ≡ with_flags (app_of command.entry)) }
+    ensures local { IfOk result (λ c. (fields_of c).has_globals ≡ (fields_of command.entry).has_globals) }
+{
+    with_arg(command, option(alloc, "flags", 'f'))
+}
+
+/// `parse -g GRAMMAR -s RULE [-j JOBS] [-r ROWS] [-l LIB] [-f FLAGS] [--events] [--tokens] [--learned] FILE..`
 fn parse_command<'a>(alloc: Global) -> Result<Command<'a>, AllocError>
     ensures app { IfOk result (λ c. app_of c ≡ parse_app) }
     ensures local { IfOk result (λ c. (fields_of c).has_globals ≡ false) }
@@ -76,6 +84,7 @@ fn parse_command<'a>(alloc: Global) -> Result<Command<'a>, AllocError>
     let command = with_arg(command, option(alloc, "jobs", 'j'))?;
     let command = with_arg(command, option(alloc, "rows", 'r'))?;
     let command = with_library(alloc, command)?;
+    let command = with_flags(alloc, command)?;
     let command = with_arg(command, flag(alloc, "events"))?;
     let command = with_arg(command, flag(alloc, "tokens"))?;
     let command = with_arg(command, flag(alloc, "learned"))?;

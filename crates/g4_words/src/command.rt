@@ -27,7 +27,8 @@ pub enum Output {
     Tokens,
 }
 
-/// `parse -g GRAMMAR -s RULE [-j JOBS] [-r ROWS] [-l LIB] [--events | --tokens | --learned] FILE..`: parse files by a rule of a grammar.
+/// `parse -g GRAMMAR -s RULE [-j JOBS] [-r ROWS] [-l LIB] [-f FLAGS] [--events | --tokens | --learned] FILE..`: parse files by a rule of
+/// a grammar.
 #[derive(Drop)]
 pub struct Parse {
     /// The name of the grammar's file.
@@ -40,6 +41,8 @@ pub struct Parse {
     pub jobs: u32,
     /// How many rows the store has room for, from 1 to `MOST_ROWS`.
     pub rows: u32,
+    /// The flags that predicates test, in the order of the words. Each is one or more ASCII letters, digits and `_`.
+    pub flags: Sequence<Text>,
     /// What is written of each file.
     pub output: Output,
     /// Whether it is also written, after the trees, how much was learned.

@@ -1,7 +1,8 @@
 // The command that words are.
-ghost use Rattle.std.specs.Prelude.{◌≡◌, ◌↔◌, ◌≤◌, IfOk, true, map, option_map, string_bytes};
+ghost use Rattle.std.specs.Prelude.{◌≡◌, ◌↔◌, ◌≤◌, ◌==◌, IfOk, true, map, option_map, string_bytes};
+ghost use Rattle.std.specs.List.{list_all, slice_split};
 ghost use Rattle.clap.specs.Words.{all_of, first_of, found_of, rows_of};
-ghost use Rattle.g4_words.specs.Commands.{Accepts, Finds, FindsNumber, HasFlag, IsAtn, IsCheck, IsCommand, IsLearned, IsLibrary, IsNamed, IsNumber, IsOutput, IsParse};
+ghost use Rattle.g4_words.specs.Commands.{Accepts, AreGiven, Finds, FindsNumber, HasFlag, IsAtn, IsCheck, IsCommand, IsLearned, IsLibrary, IsNamed, IsNumber, IsOutput, IsParse, is_flag_byte, is_flag_name};
 
 use crate::app::g4_command;
 use crate::command::{
@@ -141,6 +142,55 @@ fn copies_of(alloc: Global, texts: &[&str]) -> Result<Sequence<Text>, AllocError
     Ok(Sequence::new(copies))
 }
 
+fn is_flag_byte(b: u8) -> bool
+    ensures { result ≡ is_flag_byte b }
+{
+    b.is_ascii_alphanumeric() || b == b'_'
+}
+
+fn are_flag_bytes(bytes: &[u8]) -> bool
+    ensures { result ≡ list_all is_flag_byte bytes.now }
+{
+    bytes.iter().all(|b| is_flag_byte(*b))
+}
+
+/// Whether the text may be the name of a flag.
+fn is_flag_name(name: &str) -> bool
+    ensures { result ≡ is_flag_name name.now }
+{
+    !name.is_empty() && are_flag_bytes(name.as_bytes())
+}
+
+/// The parts between the commas of a text.
+fn parts_of(alloc: Global, text: &str) -> Result<Sequence<Text>, AllocError>
+    ensures { IfOk result (λ parts. parts ≡ slice_split (λ b. b == 44) text.now) }
+{
+    let parts: Vec<&str> = text.split(',').collect(alloc)?;
+    let copies = copies_of(alloc, &parts)?;
+    Ok(copies)
+}
+
+/// Whether all of these may be names of flags.
+fn are_flag_names(names: &[Text]) -> bool
+    ensures { result ≡ list_all is_flag_name names.now }
+{
+    names.iter().all(|name| is_flag_name(name.as_str()))
+}
+
+/// The flags that an option with this text gives; without the option there is none. Other names than those of flags are Usage.
+fn flags_of(alloc: Global, text: Option<&str>) -> Result<Sequence<Text>, WordsFault>
+    ensures { Finds (AreGiven (option_map (λ s. s.now) text.entry)) result }
+{
+    let Some(text) = text else {
+        return Ok(Sequence::new(Vec::new(alloc)));
+    };
+    let flags = parts_of(alloc, text)?;
+    if !are_flag_names(flags.as_slice()) {
+        return Err(WordsFault::Usage);
+    }
+    Ok(flags)
+}
+
 fn read_parse(alloc: Global, values: &ArgMatches<'_>) -> Result<Parse, WordsFault>
     ensures { Finds (IsParse (rows_of (found_of values.now))) result }
 {
@@ -158,6 +208,7 @@ fn read_parse(alloc: Global, values: &ArgMatches<'_>) -> Result<Parse, WordsFaul
     }
     let jobs = number_of(value_of(values, "jobs"), DEFAULT_JOBS, MOST_JOBS)?;
     let rows = number_of(value_of(values, "rows"), DEFAULT_ROWS, MOST_ROWS)?;
+    let flags = flags_of(alloc, value_of(values, "flags"))?;
     let output = output_of(values)?;
     let learned = learned_of(values, output)?;
     Ok(Parse {
@@ -166,6 +217,7 @@ fn read_parse(alloc: Global, values: &ArgMatches<'_>) -> Result<Parse, WordsFaul
         library: library_of(alloc, values)?,
         jobs,
         rows,
+        flags,
         output,
         learned,
         files: copies_of(alloc, files)?,
@@ -216,7 +268,8 @@ fn read_named(alloc: Global, name: &str, values: &ArgMatches<'_>) -> Result<Comm
 ///
 /// # Errors
 /// `Usage` where they are no command, as where they ask for help, have more than `MOST_FILES` files, a number that is not within its limit
-/// or two flags that say what is written; `NoMemory` where memory runs out.
+/// or two flags that say what is written, or a name
+/// after `-f` that is none of a flag; `NoMemory` where memory runs out.
 pub fn read_words(alloc: Global, words: &[String]) -> Result<Command, WordsFault>
     ensures { Finds (IsCommand (map string_bytes words.now)) result }
 {

@@ -1,8 +1,8 @@
+use Rattle.std.proofs.Common.{Contains}
 use Rattle.g4_fits.proofs.Arriving.{called_are_own, last_is_own}
-use Rattle.g4_guards.specs.Levels.{AllowedAt}
 use Rattle.g4_guards.proofs.Choosing.{chooses_least}
 use Rattle.g4_guards.proofs.law.chooses_what_fits.Goals as goal
 
 pub returns : goal.returns
-returns c = λ net d level returns w choice ready proper some chooses.
-    chooses_least net (last_is_own net ready) (called_are_own net ready) d (AllowedAt net d level) returns w proper choice some chooses
+returns c = λ net d list returns w choice ready proper some chooses.
+    chooses_least net (last_is_own net ready) (called_are_own net ready) d (Contains list) returns w proper choice some chooses

@@ -1,4 +1,4 @@
-use Rattle.std.proofs.Common.{◌≡◌, ◌∙◌, List, map, ap}
+use Rattle.std.proofs.Common.{◌∙◌, List, map, ap}
 use Rattle.g4_predict.specs.declared.path.Looked.{Looked}
 use Rattle.g4_predict.specs.Paths.{looked_of}
 use Rattle.g4_learned.specs.Stored.{stored_entry}

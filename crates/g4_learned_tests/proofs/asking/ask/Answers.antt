@@ -4,7 +4,7 @@ use Rattle.g4_net.specs.Allowed.{Allows}
 use Rattle.g4_net.specs.Prediction.{Sll}
 use Rattle.g4_predict.specs.Paths.{path_of, verdict_of}
 use Rattle.g4_tokens.specs.TokenList.{word_of}
-use Rattle.g4_guards.specs.Levels.{AllowedAt, IsDecision}
+use Rattle.g4_guards.specs.Levels.{AllowedAt, IsCondition, IsDecision}
 use Rattle.g4_guards.proofs.Same.{sll_over}
 use Rattle.g4_learned_tests.proofs.asking.ask.Goals as goal
 
@@ -19,6 +19,8 @@ returns c =
     let symbols : All IsSymbol (word_of c.as_slice-list.result.now) = c.can_be_asked.ensures.symbols yes in
     let some : 0 < length c.as_slice-list.result.now = c.can_be_asked.ensures.some yes in
     record {
+      condition = subst (λ (d : ℕ). IsCondition c.args.net.now d 0) (sym c.in_ok-path.ensures.decision)
+          (c.has_conditions.ensures (search rules));
       decision = subst (IsDecision c.args.net.now) (sym c.in_ok-path.ensures.decision) here;
       sll = (
         verdict_of c.in_ok-path.field-0-0,

@@ -1,4 +1,4 @@
-use Rattle.std.proofs.Common.{ℕ, List, [], ◌∷◌, Ok, ap, ◌∙◌}
+use Rattle.std.proofs.Common.{ℕ, List, [], ◌∷◌, Ok, ap, ◌∙◌, ◌≡◌}
 use Rattle.std.proofs.lemmas.Result.{err_from_is_err_and}
 use Rattle.g4_derivation.proofs.Returning.{has_loops}
 use Rattle.g4_tokens.specs.Symbols.{eof}
@@ -24,11 +24,23 @@ returns-clause-interpreting c =
     let grammar = c.args.grammar in
     let net = c.in_ok-net.net in
     let lexer = c.in_ok-lexer.lexer in
-    let made : List (List ℕ) → Interpreter =
-    λ names. record { names = names; rules = grammar.rules; shown = grammar.shown; lexer = lexer; net = net } in
+    let made : List (List ℕ) → List (List ℕ) → Interpreter =
+    λ names flags. record {
+      names = names;
+      rules = grammar.rules;
+      predicates = grammar.predicates;
+      flags = flags;
+      shown = grammar.shown;
+      lexer = lexer;
+      net = net;
+    } in
+    let flags = c.new-2.result in
+    let no_flags : flags ≡ [] = c.new-2.ensures ∙ c.new.ensures.items in
     let named = c.in_ok-names.ensures ∙ ap names_of c.as_slice.ensures.rules in
-    goes_on net (Ok (made c.in_ok-names.names)) c.in_ok-net.ensures.laid
-    (goes_on lexer (Ok (made c.in_ok-names.names)) c.in_ok-lexer.ensures.lexer (ap (λ (names : List (List ℕ)). Ok (made names)) named))
+    goes_on net (Ok (made c.in_ok-names.names flags)) c.in_ok-net.ensures.laid
+    (goes_on lexer (Ok (made c.in_ok-names.names flags)) c.in_ok-lexer.ensures.lexer
+    (ap (λ (names : List (List ℕ)). Ok (made names flags)) named ∙ ap (λ (given : List (List ℕ)). Ok (made
+    (names_of grammar.rules) given)) no_flags))
 
 pub returns-clause-usable : goal.returns-clause-usable
 returns-clause-usable c =

@@ -3,7 +3,7 @@ use Rattle.std.proofs.lemmas.Result.{err_from_is_err_and}
 use Rattle.g4_load.specs.Loading.{Merges}
 use Rattle.g4_load.specs.declared.stop.Stop.{Stop}
 use Rattle.g4_load.proofs.Composed.{composes_halts, unites_all, unites_not}
-use Rattle.g4_load.proofs.Kept.{united_full, united_untested}
+use Rattle.g4_load.proofs.Kept.{united_full}
 use Rattle.g4_load.proofs.loading.merge.Goals as goal
 
 pub returns-in_err-composites-clause-merges : goal.returns-in_err-composites-clause-merges
@@ -19,10 +19,6 @@ returns-in-Ok-clause-merges c = unites_all c.args.name.now c.args.fetched c.in_o
 pub returns-in-Ok-clause-full : goal.returns-in-Ok-clause-full
 returns-in-Ok-clause-full c =
     united_full c.args.fetched.table c.in_ok-composites.composites _ c.in-Ok.united c.in-Ok.ensures c.in_ok-composites.ensures.full
-
-pub returns-in-Ok-clause-untested : goal.returns-in-Ok-clause-untested
-returns-in-Ok-clause-untested c =
-    united_untested c.args.fetched.table c.in_ok-composites.composites _ c.in-Ok.united c.in-Ok.ensures c.in_ok-composites.ensures.untested
 
 pub returns-in_ok-fault_of-in-Err-Fault-clause-merges : goal.returns-in_ok-fault_of-in-Err-Fault-clause-merges
 returns-in_ok-fault_of-in-Err-Fault-clause-merges c =

@@ -27,8 +27,10 @@ resolve-requires-clause-checked c = record {
   full = c.requires.full;
   defined = c.in_ok-check.ensures.defined;
   run = c.in_ok-check.ensures.run;
-  untested = c.requires.untested;
 }
+
+pub predicates_of-requires : goal.predicates_of-requires
+predicates_of-requires c = c.in_ok-check.ensures.checked.0.0
 
 pub returns-clause-numbered : goal.returns-clause-numbered
 returns-clause-numbered c =
@@ -39,6 +41,7 @@ returns-clause-numbered c =
       fits = fits_limits table source c.in_ok-vocabulary.vocabulary numbered;
       checked = c.in_ok-check.ensures.checked;
       rules = c.in_ok-rules.ensures ∙ ap (λ (ts : List TokenEntry). resolved ts source) numbered.types;
+      predicates = c.in_ok-predicates.ensures;
       types = c.in_ok-types.ensures.types ∙ types_are table source c.in_ok-vocabulary.vocabulary numbered;
     }
 

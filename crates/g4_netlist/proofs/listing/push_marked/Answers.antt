@@ -1,6 +1,5 @@
 use Rattle.std.proofs.Common.{◌≡◌, ◌++◌, ℕ, List, true, false, slice_index_or, sym, ◌∙◌, ap, append_assoc, rules}
-use Rattle.g4_net.specs.Network.{state_at}
-use Rattle.g4_netlist.specs.Listing.{line_by, lines_of}
+use Rattle.g4_netlist.specs.Listing.{line_of, lines_of}
 use Rattle.g4_netlist.specs.Searching.{marked}
 use Rattle.g4_netlist.proofs.Marked.{lines_more, lines_same}
 use Rattle.g4_netlist.proofs.listing.push_marked.Goals as goal
@@ -16,7 +15,7 @@ pub loop-number-preserved : goal.loop-number-preserved
 loop-number-preserved c =
     let i = c.loop-number.number in
     let is_set : slice_index_or c.args.found.now i false ≡ true = search rules in
-    let line = line_by c.args.names.now c.args.shown.now i (state_at c.args.net.now i) in
+    let line = line_of c.args.names.now c.args.shown.now c.args.net.now i in
     c.in_ok-push_state.ensures ∙ ap (λ (xs : List ℕ). xs ++ line) c.loop-number.invariant
     ∙ append_assoc c.args.out.now.items (lines_of c.args.names.now c.args.shown.now c.args.net.now (marked c.args.found.now i)) line
     ∙ ap (λ (xs : List ℕ). c.args.out.now.items ++ xs)

@@ -5,6 +5,7 @@ use Rattle.g4_tokens.specs.TokenList.{word_of}
 use Rattle.g4_parse.specs.Parsing.{IsParse}
 use Rattle.g4_outcome.specs.Grammars.{with_net}
 use Rattle.g4_outcome.specs.Outcomes.{not_lexed, not_parsed, parsed}
+use Rattle.g4_outcome.specs.Predicates.{values_of}
 use Rattle.g4_parse.specs.Teaching.{IsPassed, IsTaught}
 use Rattle.g4_outcome.proofs.Taught.{had_memory, lexed_taught, unlexed_taught}
 use Rattle.g4_outcome.proofs.Meant.{fault_meant, tree_meant}
@@ -21,14 +22,18 @@ pub returns-in-Ok-parse-clause-outcome : goal.returns-in-Ok-parse-clause-outcome
 returns-in-Ok-parse-clause-outcome g c =
     parsed c.args.bytes c.in-Ok.tokens c.in-Ok-parse.tree refl
     c.in-Ok.ensures.lexing
-    (subst (λ (ts : List Token). IsParse g.B.Home.plan.net.net (word_of ts) (Ok c.in-Ok-parse.tree)) c.as_slice.ensures
+    (subst (λ (ts : List Token). IsParse g.B.Home.plan.net.net (values_of
+    (with_net c.args.grammar.now g.B.Home.plan.net.net) c.in-Ok.tokens)
+    (word_of ts) (Ok c.in-Ok-parse.tree)) c.as_slice.ensures
     c.in-Ok-parse.ensures.parse)
 
 pub returns-else-parsing_refused-clause-outcome : goal.returns-else-parsing_refused-clause-outcome
 returns-else-parsing_refused-clause-outcome g c =
     not_parsed c.args.bytes c.in-Ok.tokens c.in-Err-parse.fault refl
     c.in-Ok.ensures.lexing
-    (subst (λ (ts : List Token). IsParse g.B.Home.plan.net.net (word_of ts) (Err c.in-Err-parse.fault)) c.as_slice.ensures
+    (subst (λ (ts : List Token). IsParse g.B.Home.plan.net.net (values_of
+    (with_net c.args.grammar.now g.B.Home.plan.net.net) c.in-Ok.tokens)
+    (word_of ts) (Err c.in-Err-parse.fault)) c.as_slice.ensures
     c.in-Err-parse.ensures.parse)
     (parsed_apart _ (sym c.parsing_refused.ensures ∙ c.if-parsing_refused.false))
 
@@ -61,7 +66,8 @@ returns-in-Ok-parse-clause-taught g c =
     let p = g.B.Home.plan in
     lexed_taught p (with_net c.args.grammar.now p.net.net) c.args.bytes c.in-Ok.tokens _ _ c.in-Ok.ensures.lexing
     (c.in-Ok.ensures.symbols c.requires.usable.types) c.parse.ensures.kept
-    (subst (λ (ts : List Token). IsTaught p (IsPassed p.net (word_of ts)) c.args.pass.now c.parse.new.pass) c.as_slice.ensures
+    (subst (λ (ts : List Token). IsTaught p (IsPassed p.net (values_of (with_net c.args.grammar.now p.net.net) c.in-Ok.tokens)
+    (word_of ts)) c.args.pass.now c.parse.new.pass) c.as_slice.ensures
     (c.in-Ok-parse.ensures.taught tt))
 
 pub returns-else-parsing_refused-clause-taught : goal.returns-else-parsing_refused-clause-taught
@@ -69,6 +75,7 @@ returns-else-parsing_refused-clause-taught g c =
     let p = g.B.Home.plan in
     lexed_taught p (with_net c.args.grammar.now p.net.net) c.args.bytes c.in-Ok.tokens _ _ c.in-Ok.ensures.lexing
     (c.in-Ok.ensures.symbols c.requires.usable.types) c.parse.ensures.kept
-    (subst (λ (ts : List Token). IsTaught p (IsPassed p.net (word_of ts)) c.args.pass.now c.parse.new.pass) c.as_slice.ensures
+    (subst (λ (ts : List Token). IsTaught p (IsPassed p.net (values_of (with_net c.args.grammar.now p.net.net) c.in-Ok.tokens)
+    (word_of ts)) c.args.pass.now c.parse.new.pass) c.as_slice.ensures
     (c.in-Err-parse.ensures.taught
     (had_memory c.in-Err-parse.fault (parsed_apart _ (sym c.parsing_refused.ensures ∙ c.if-parsing_refused.false)))))

@@ -6,12 +6,15 @@ use Rattle.g4_parse.proofs.runs.parse.Goals as goal
 
 pub returns-clause-tree : goal.returns-clause-tree
 returns-clause-tree g c =
-    answer_fits g.B.Home.plan.net.net (word_of c.args.tokens.now) c.run.result c.requires.ends c.run.ensures.parse
+    answer_fits g.B.Home.plan.net.net (g.P.Predicates.values c.args.predicates.now)
+    (word_of c.args.tokens.now) c.run.result c.requires.ends c.run.ensures.parse
 
 pub returns-clause-whole : goal.returns-clause-whole
 returns-clause-whole g c =
-    answer_closes g.B.Home.plan.net.net (word_of c.args.tokens.now) c.run.result c.requires.ends c.run.ensures.parse
+    answer_closes g.B.Home.plan.net.net (g.P.Predicates.values c.args.predicates.now)
+    (word_of c.args.tokens.now) c.run.result c.requires.ends c.run.ensures.parse
 
 pub returns-clause-accepts : goal.returns-clause-accepts
 returns-clause-accepts g c = λ set rules start can built.
-    accepts set rules start g.B.Home.plan.net.net (word_of c.args.tokens.now) can built c.requires.ends c.run.result c.run.ensures.parse
+    accepts set rules start g.B.Home.plan.net.net (g.P.Predicates.values c.args.predicates.now)
+    (word_of c.args.tokens.now) can built c.requires.ends c.run.result c.run.ensures.parse

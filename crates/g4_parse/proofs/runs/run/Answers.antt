@@ -7,36 +7,43 @@ use Rattle.g4_parse.proofs.Teaching.{kept_then}
 use Rattle.g4_parse.proofs.runs.run.Goals as goal
 
 pub run-init : goal.run-init
-run-init g c = begun_onward g.B.Home.plan c.requires.plan (word_of c.args.tokens.now) c.args.pass.now c.new-parser.result c.requires.ends
+run-init g c = begun_onward g.B.Home.plan c.requires.plan (g.P.Predicates.values c.args.predicates.now)
+    (word_of c.args.tokens.now) c.args.pass.now c.new-parser.result c.requires.ends
     c.new-parser.ensures
 
 pub turn-requires-clause-underway : goal.turn-requires-clause-underway
 turn-requires-clause-underway g c =
     subst (λ (n : ParserNetwork). IsUnderway n (length c.args.tokens.now) c.run.parser) (sym c.requires.own)
-    (underway g.B.Home.plan c.requires.plan c.args.tokens.now c.args.pass.now c.run.pass c.run.parser c.run.invariant)
+    (underway g.B.Home.plan c.requires.plan
+    (g.P.Predicates.values c.args.predicates.now) c.args.tokens.now c.args.pass.now c.run.pass c.run.parser c.run.invariant)
 
 pub run-preserved : goal.run-preserved
 run-preserved g c =
     let own = g.B.Home.plan.net.net in
+    let values = g.P.Predicates.values c.args.predicates.now in
     let word = word_of c.args.tokens.now in
-    turn_onward g.B.Home.plan c.requires.plan word c.args.pass.now c.run.pass c.turn.new.pass c.run.parser c.turn.new.self c.run.invariant
-    (own_turn c.args.net.now own word c.run.parser c.turn.new.self (Ok tt) c.requires.own c.in_ok-turn.ensures.turns)
+    turn_onward g.B.Home.plan c.requires.plan values word c.args.pass.now c.run.pass c.turn.new.pass c.run.parser c.turn.new.self
+    c.run.invariant
+    (own_turn c.args.net.now own values word c.run.parser c.turn.new.self (Ok tt) c.requires.own c.in_ok-turn.ensures.turns)
     c.in_ok-turn.ensures.kept (c.in_ok-turn.ensures.taught tt)
 
 pub run-smaller : goal.run-smaller
 run-smaller g c =
     let own = g.B.Home.plan.net.net in
+    let values = g.P.Predicates.values c.args.predicates.now in
     let word = word_of c.args.tokens.now in
-    turn_falls g.B.Home.plan c.requires.plan c.args.tokens.now c.args.pass.now c.run.pass c.run.parser c.turn.new.self c.run.invariant
-    (own_turn c.args.net.now own word c.run.parser c.turn.new.self (Ok tt) c.requires.own c.in_ok-turn.ensures.turns)
+    turn_falls g.B.Home.plan c.requires.plan values c.args.tokens.now c.args.pass.now c.run.pass c.run.parser c.turn.new.self
+    c.run.invariant
+    (own_turn c.args.net.now own values word c.run.parser c.turn.new.self (Ok tt) c.requires.own c.in_ok-turn.ensures.turns)
 
 pub returns-in_err-turn-clause-parse : goal.returns-in_err-turn-clause-parse
 returns-in_err-turn-clause-parse g c =
     let own = g.B.Home.plan.net.net in
+    let values = g.P.Predicates.values c.args.predicates.now in
     let word = word_of c.args.tokens.now in
-    parse_fails own word c.from_residual.result c.in_err-turn.field-0.0 c.from_residual.ensures.1
-    (turn_fails g.B.Home.plan c.requires.plan word c.args.pass.now c.run.pass c.run.parser c.turn.new.self c.in_err-turn.field-0.0
-    c.run.invariant (own_turn c.args.net.now own word c.run.parser c.turn.new.self (Err c.in_err-turn.field-0.0) c.requires.own
+    parse_fails own values word c.from_residual.result c.in_err-turn.field-0.0 c.from_residual.ensures.1
+    (turn_fails g.B.Home.plan c.requires.plan values word c.args.pass.now c.run.pass c.run.parser c.turn.new.self c.in_err-turn.field-0.0
+    c.run.invariant (own_turn c.args.net.now own values word c.run.parser c.turn.new.self (Err c.in_err-turn.field-0.0) c.requires.own
     c.in_err-turn.ensures.turns))
 
 pub returns-in_err-turn-clause-kept : goal.returns-in_err-turn-clause-kept
@@ -46,21 +53,24 @@ returns-in_err-turn-clause-kept g c =
 pub returns-in_err-turn-clause-taught : goal.returns-in_err-turn-clause-taught
 returns-in_err-turn-clause-taught g c = λ had.
     let own = g.B.Home.plan.net.net in
+    let values = g.P.Predicates.values c.args.predicates.now in
     let word = word_of c.args.tokens.now in
     let fault = c.in_err-turn.field-0.0 in
     let some = had_fault c.from_residual.result fault c.from_residual.ensures.1 had in
-    fails_taught g.B.Home.plan c.requires.plan word c.args.pass.now c.run.pass c.turn.new.pass c.run.parser c.turn.new.self fault
-    c.run.invariant (own_turn c.args.net.now own word c.run.parser c.turn.new.self (Err c.in_err-turn.field-0.0) c.requires.own
+    fails_taught g.B.Home.plan c.requires.plan values word c.args.pass.now c.run.pass c.turn.new.pass c.run.parser c.turn.new.self fault
+    c.run.invariant (own_turn c.args.net.now own values word c.run.parser c.turn.new.self (Err c.in_err-turn.field-0.0) c.requires.own
     c.in_err-turn.ensures.turns)
     c.in_err-turn.ensures.kept some (c.in_err-turn.ensures.taught some)
 
 pub returns-clause-parse : goal.returns-clause-parse
 returns-clause-parse g c =
     let ended = subst (λ (n : ParserNetwork). HasEnded n c.run.parser) c.requires.own (c.run-test.ensures.0 refl) in
-    run_ends g.B.Home.plan c.requires.plan (word_of c.args.tokens.now) c.args.pass.now c.run.pass c.run.parser c.in_ok-finish.field-0
+    run_ends g.B.Home.plan c.requires.plan (g.P.Predicates.values c.args.predicates.now)
+    (word_of c.args.tokens.now) c.args.pass.now c.run.pass c.run.parser c.in_ok-finish.field-0
     c.run.invariant ended c.in_ok-finish.ensures
 
 pub returns-clause-taught : goal.returns-clause-taught
 returns-clause-taught g c = λ had.
     let ended = subst (λ (n : ParserNetwork). HasEnded n c.run.parser) c.requires.own (c.run-test.ensures.0 refl) in
-    ends_taught g.B.Home.plan c.requires.plan (word_of c.args.tokens.now) c.args.pass.now c.run.pass c.run.parser c.run.invariant ended
+    ends_taught g.B.Home.plan c.requires.plan (g.P.Predicates.values c.args.predicates.now)
+    (word_of c.args.tokens.now) c.args.pass.now c.run.pass c.run.parser c.run.invariant ended

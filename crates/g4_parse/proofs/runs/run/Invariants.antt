@@ -5,7 +5,7 @@ use Rattle.g4_parse.proofs.Onward.{Onward}
 use Rattle.g4_parse.proofs.runs.run.Given as goal
 
 abbrev pub invariant-run : goal.invariant-run
-invariant-run g l = Onward g.B.Home.plan (word_of l.tokens) l.initial.pass l.pass l.parser
+invariant-run g l = Onward g.B.Home.plan (g.P.Predicates.values l.predicates) (word_of l.tokens) l.initial.pass l.pass l.parser
 
 abbrev pub decreases-run : goal.decreases-run
 decreases-run g l = measure_at g.B.Home.plan.net.net (length l.tokens) l.parser.place l.parser.state (reverse l.parser.returns.items)

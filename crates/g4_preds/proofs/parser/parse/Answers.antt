@@ -1,4 +1,4 @@
-use Rattle.std.proofs.Common.{ℕ, ◌∙◌, arith, length-take, length-drop}
+use Rattle.std.proofs.Common.{◌∙◌, arith, length-take, length-drop}
 use Rattle.std.proofs.lemmas.List.{take_rest}
 use Rattle.std.proofs.lemmas.Result.{err_from_is_err_and}
 use Rattle.g4_preds.specs.declared.token.Token.{Token}

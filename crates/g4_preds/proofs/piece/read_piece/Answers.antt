@@ -1,7 +1,5 @@
-use Rattle.std.proofs.Common.{◌≡◌, List, ℕ, Some, None, ap, ◌∙◌, rules}
-use Rattle.g4_preds.specs.declared.piece.Piece.{Piece}
-use Rattle.g4_preds.specs.declared.piece.Piece.TheVariants.{Blank, Formed}
-use Rattle.g4_preds.specs.Tokens.{Opening, known, a_literal, opening, sign, name_piece}
+use Rattle.std.proofs.Common.{rules}
+use Rattle.g4_preds.specs.declared.piece.Piece.TheVariants.{Blank}
 use Rattle.g4_preds.proofs.Pieces.{begun, piece_at, nothing_at, literal_answers}
 use Rattle.g4_preds.proofs.piece.read_piece.Goals as goal
 

@@ -1,6 +1,6 @@
-use Rattle.std.proofs.Common.{◌≡◌, ◌≤◌, ℕ, List, [], length, map, sym, ap, ◌∙◌, subst, arith}
+use Rattle.std.proofs.Common.{◌≡◌, ℕ, List, length, map, sym, ap, ◌∙◌, subst, arith}
+use Rattle.std.specs.List.{flat_map}
 use Rattle.std.proofs.lemmas.List.{length-map}
-use Rattle.g4_names.specs.Places.{first_place}
 use Rattle.g4_source.specs.Rules.{parser_rules}
 use Rattle.g4_source.specs.Views.{rule_view}
 use Rattle.g4_source.specs.declared.atom.Atom.{Atom}
@@ -8,6 +8,7 @@ use Rattle.g4_source.specs.declared.rule.LexerRule.{LexerRule}
 use Rattle.g4_source.specs.declared.rule.ParserRule.{ParserRule}
 use Rattle.g4_source.specs.declared.source.Source.{Source}
 use Rattle.g4_grammar.specs.StepRules.{CanBeRewritten, StepRule}
+use Rattle.g4_grammar.specs.Written.{predicate_texts, rule_predicates}
 use Rattle.g4_vocab.specs.Numbering.{token_lexers}
 use Rattle.g4_vocab.specs.Vocabularies.{lexers_in, types_in}
 use Rattle.g4_token_file.specs.declared.entry.TokenEntry.{TokenEntry}
@@ -16,17 +17,19 @@ use Rattle.g4_resolve.proofs.Carrying.{can_be_rewritten}
 use Rattle.g4_resolve.proofs.Parsers.{parsers_few}
 use Rattle.g4_resolve.proofs.resolving.resolve.Goals as goal
 
--- the rules over steps, of the names of the parser rules
-steps_are : (source : Source) (parsers others : List (ParserRule Atom)) (names : List (List ℕ)) (lexers : List LexerRule)
+-- the rules over steps, of the names of the parser rules and the texts of their predicates
+steps_are : (source : Source) (parsers others : List (ParserRule Atom)) (names texts : List (List ℕ)) (lexers : List LexerRule)
     (types : List TokenEntry) (made : List StepRule) → parsers ≡ parser_rules source.rules → others ≡ parsers
-    → names ≡ map (λ rule. rule.name) parsers → lexers ≡ token_lexers source.rules
-    → made ≡ map (resolved_rule names lexers types) others → made ≡ resolved types source
-steps_are source parsers others names lexers types made parsed same named tokens is =
+    → names ≡ map (λ rule. rule.name) parsers → texts ≡ flat_map rule_predicates parsers → lexers ≡ token_lexers source.rules
+    → made ≡ map (resolved_rule names texts lexers types) others → made ≡ resolved types source
+steps_are source parsers others names texts lexers types made parsed same named predicated tokens is =
     let rules = source.rules in
     is
-    ∙ (ap (λ (ns : List (List ℕ)). map (resolved_rule ns lexers types) others) (named ∙ ap (map (λ rule. rule.name)) parsed)
-    ∙ (ap (λ (ls : List LexerRule). map (resolved_rule (parser_names rules) ls types) others) tokens
-    ∙ ap (map (resolved_rule (parser_names rules) (token_lexers rules) types)) (same ∙ parsed)))
+    ∙ (ap (λ (ns : List (List ℕ)). map (resolved_rule ns texts lexers types) others) (named ∙ ap (map (λ rule. rule.name)) parsed)
+    ∙ (ap (λ (ts : List (List ℕ)). map (resolved_rule (parser_names rules) ts lexers types) others)
+    (predicated ∙ ap (flat_map rule_predicates) parsed)
+    ∙ (ap (λ (ls : List LexerRule). map (resolved_rule (parser_names rules) (predicate_texts rules) ls types) others) tokens
+    ∙ ap (map (resolved_rule (parser_names rules) (predicate_texts rules) (token_lexers rules) types)) (same ∙ parsed))))
 
 pub invariant_of-stage : goal.invariant_of-stage
 invariant_of-stage c =
@@ -34,9 +37,9 @@ invariant_of-stage c =
     let parsers : map (λ r. r.now) c.in_ok-parsers.parsers.items ≡ parser_rules rules =
     c.in_ok-parsers.ensures ∙ ap parser_rules (ap (map rule_view) c.as_slice-2.ensures.value ∙ (c.in_ok-views.ensures
     ∙ c.as_slice.ensures)) in
-    let names : c.as_slice-5.result.now ≡ parser_names rules =
-    c.as_slice-5.ensures.value ∙ (c.in_ok-names.ensures
-    ∙ ap (map (λ rule. rule.name)) (ap (map (λ r. r.now)) c.as_slice-3.ensures.value ∙ parsers)) in
+    let names : c.in_ok-named.named.texts.now ≡ parser_names rules =
+    c.in_ok-named.ensures ∙ (c.as_slice-5.ensures.value ∙ (c.in_ok-names.ensures
+    ∙ ap (map (λ rule. rule.name)) (ap (map (λ r. r.now)) c.as_slice-3.ensures.value ∙ parsers))) in
     record {
       few = omega (
         arith,
@@ -45,8 +48,6 @@ invariant_of-stage c =
         parsers_few rules,
         c.requires.numbered.few_rules,
       );
-      named = λ name. c.in_ok-places.ensures.places name
-          ∙ ap (λ (ns : List (List ℕ)). first_place ns name) (c.as_slice-4.ensures.value ∙ sym c.as_slice-5.ensures.value);
     }
 
 pub returns : goal.returns
@@ -56,11 +57,14 @@ returns c =
     c.in_ok-parsers.ensures ∙ ap parser_rules (ap (map rule_view) c.as_slice-2.ensures.value ∙ (c.in_ok-views.ensures
     ∙ c.as_slice.ensures)) in
     c.new.ensures ∙ steps_are c.args.source.now (map (λ r. r.now) c.in_ok-parsers.parsers.items)
-    (map (λ r. r.now) c.as_slice-6.result.now)
-    c.as_slice-5.result.now (lexers_in c.args.vocabulary.now) (types_in c.args.vocabulary.now) c.in_ok-made.made parsers
-    (ap (map (λ r. r.now)) c.as_slice-6.ensures.value)
-    (c.as_slice-5.ensures.value ∙ (c.in_ok-names.ensures
-    ∙ ap (map (λ rule. rule.name)) (ap (map (λ r. r.now)) c.as_slice-3.ensures.value)))
+    (map (λ r. r.now) c.as_slice-7.result.now)
+    c.in_ok-named.named.texts.now c.in_ok-predicates.predicates.texts.now
+    (lexers_in c.args.vocabulary.now) (types_in c.args.vocabulary.now) c.in_ok-made.made parsers
+    (ap (map (λ r. r.now)) c.as_slice-7.ensures.value)
+    (c.in_ok-named.ensures ∙ (c.as_slice-5.ensures.value ∙ (c.in_ok-names.ensures
+    ∙ ap (map (λ rule. rule.name)) (ap (map (λ r. r.now)) c.as_slice-3.ensures.value))))
+    (c.in_ok-predicates.ensures ∙ (c.as_slice-6.ensures.value ∙ (c.in_ok-texts.ensures
+    ∙ ap (flat_map rule_predicates) (ap (map (λ r. r.now)) c.as_slice-4.ensures.value))))
     c.requires.numbered.lexers c.in_ok-made.ensures
 
 pub new-requires : goal.new-requires
@@ -70,11 +74,14 @@ new-requires c =
     c.in_ok-parsers.ensures ∙ ap parser_rules (ap (map rule_view) c.as_slice-2.ensures.value ∙ (c.in_ok-views.ensures
     ∙ c.as_slice.ensures)) in
     subst (λ (made : List StepRule). CanBeRewritten made)
-    (sym (steps_are source (map (λ r. r.now) c.in_ok-parsers.parsers.items) (map (λ r. r.now) c.as_slice-6.result.now)
-    c.as_slice-5.result.now (lexers_in c.args.vocabulary.now) (types_in c.args.vocabulary.now) c.in_ok-made.made parsers
-    (ap (map (λ r. r.now)) c.as_slice-6.ensures.value)
-    (c.as_slice-5.ensures.value ∙ (c.in_ok-names.ensures
-    ∙ ap (map (λ rule. rule.name)) (ap (map (λ r. r.now)) c.as_slice-3.ensures.value)))
+    (sym (steps_are source (map (λ r. r.now) c.in_ok-parsers.parsers.items) (map (λ r. r.now) c.as_slice-7.result.now)
+    c.in_ok-named.named.texts.now c.in_ok-predicates.predicates.texts.now
+    (lexers_in c.args.vocabulary.now) (types_in c.args.vocabulary.now) c.in_ok-made.made parsers
+    (ap (map (λ r. r.now)) c.as_slice-7.ensures.value)
+    (c.in_ok-named.ensures ∙ (c.as_slice-5.ensures.value ∙ (c.in_ok-names.ensures
+    ∙ ap (map (λ rule. rule.name)) (ap (map (λ r. r.now)) c.as_slice-3.ensures.value))))
+    (c.in_ok-predicates.ensures ∙ (c.as_slice-6.ensures.value ∙ (c.in_ok-texts.ensures
+    ∙ ap (flat_map rule_predicates) (ap (map (λ r. r.now)) c.as_slice-4.ensures.value))))
     c.requires.numbered.lexers c.in_ok-made.ensures))
     (can_be_rewritten source.rules (token_lexers source.rules) (types_in c.args.vocabulary.now) c.requires.numbered.few_types
     c.requires.checked)

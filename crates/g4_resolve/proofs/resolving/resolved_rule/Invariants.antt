@@ -5,5 +5,6 @@ use Rattle.g4_resolve.proofs.resolving.resolved_rule.Given as goal
 
 abbrev pub invariant-loop-alternative : goal.invariant-loop-alternative
 invariant-loop-alternative l = l.all.items ≡ map
-    (resolved_alternative l.stage.names.now (lexers_in l.stage.vocabulary.now) (types_in l.stage.vocabulary.now))
+    (resolved_alternative l.stage.names.texts.now l.stage.predicates.texts.now
+    (lexers_in l.stage.vocabulary.now) (types_in l.stage.vocabulary.now))
     (take l.alternative-index l.alternative-items)

@@ -11,9 +11,9 @@ returns g c = λ files same learned.
     let h = learned c.if-not-complete.false in (
       c.if-not-asked.false,
       (
-        h.words,
+        h.runs,
         h.are,
-        subst (λ (net : ParserNetwork). IsTally g.B.Home.plan.rows net h.words c.in_ok-tally.tally) (sym same)
-            (c.in_ok-tally.ensures h.words h.symbols h.passed),
+        subst (λ (net : ParserNetwork). IsTally g.B.Home.plan.rows net h.runs c.in_ok-tally.tally) (sym same)
+            (c.in_ok-tally.ensures h.runs h.symbols h.passed),
       ),
     )

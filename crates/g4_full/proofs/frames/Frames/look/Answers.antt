@@ -10,7 +10,7 @@ use Rattle.g4_full.proofs.Walking.{kept_down, next_is, set_shows, start_is}
 use Rattle.g4_full.proofs.frames.Frames.look.Goals as goal
 
 pub go_down-requires-clause-number : goal.go_down-requires-clause-number
-go_down-requires-clause-number g c = (c.requires.sound.starts c.args.decision c.args.level c.in_ok-start.start c.in_ok-start.ensures).0
+go_down-requires-clause-number g c = (c.requires.sound.starts c.args.decision c.args.condition c.in_ok-start.start c.in_ok-start.ensures).0
 
 pub go_down-requires-clause-states : goal.go_down-requires-clause-states
 go_down-requires-clause-states g c = turned_within g.B.Home.plan.net.net c.args.decision c.args.returns.now
@@ -20,10 +20,10 @@ pub loop-k-init : goal.loop-k-init
 loop-k-init g c =
     let net = g.B.Home.plan.net.net in
     let m = c.args.self.now in (
-      placed_start net c.args.decision (AllowedAt net c.args.decision c.args.level) (reverse c.args.returns.now)
+      placed_start net c.args.decision (AllowedAt net c.args.decision c.args.condition) (reverse c.args.returns.now)
           c.in_ok-spot.spot.below.now c.args.tokens.now (SetOf m c.in_ok-start.start) (Kept net (SetOf m c.in_ok-spot.spot.set))
           c.requires.ready c.requires.proper c.requires.ends
-          (start_is net m c.requires.sound c.args.decision c.args.level c.in_ok-start.start c.in_ok-start.ensures)
+          (start_is net m c.requires.sound c.args.decision c.args.condition c.in_ok-start.start c.in_ok-start.ensures)
           (kept_down net (SetOf m c.in_ok-start.start) (SetOf m c.in_ok-spot.spot.set) (reverse c.args.returns.now)
           c.in_ok-spot.spot.below.now c.in_ok-spot.ensures.lowered),
       c.in_ok-spot.ensures.number,
@@ -39,7 +39,7 @@ pub loop-k-preserved : goal.loop-k-preserved
 loop-k-preserved g c =
     let net = g.B.Home.plan.net.net in
     let m = c.args.self.now in (
-      placed_next net c.args.decision (AllowedAt net c.args.decision c.args.level) (above_bottom (reverse c.args.returns.now))
+      placed_next net c.args.decision (AllowedAt net c.args.decision c.args.condition) (above_bottom (reverse c.args.returns.now))
           c.args.tokens.now c.loop-k.k _ c.loop-k-test.true (Kept net (SetOf m c.loop-k.spot.set)) (SetOf m c.in_ok-next.next)
           (Kept net (SetOf m c.in_ok-spot-2.spot.set)) c.loop-k.spot.below.now c.in_ok-spot-2.spot.below.now c.loop-k.invariant.0
           (next_is net m c.requires.sound c.loop-k.spot.set _ c.in_ok-next.next c.in_ok-next.ensures)
@@ -55,7 +55,7 @@ pub returns-in-Some-clause-settled : goal.returns-in-Some-clause-settled
 returns-in-Some-clause-settled g c =
     let net = g.B.Home.plan.net.net in
     let m = c.args.self.now in
-    placed_settled net c.args.decision (AllowedAt net c.args.decision c.args.level) (above_bottom (reverse c.args.returns.now))
+    placed_settled net c.args.decision (AllowedAt net c.args.decision c.args.condition) (above_bottom (reverse c.args.returns.now))
     c.args.tokens.now c.loop-k.k _ c.loop-k-test.true (Kept net (SetOf m c.loop-k.spot.set)) (SetOf m c.in_ok-next.next)
     (Kept net (SetOf m c.in_ok-spot-2.spot.set)) c.loop-k.spot.below.now c.in_ok-spot-2.spot.below.now c.loop-k.invariant.0
     (next_is net m c.requires.sound c.loop-k.spot.set _ c.in_ok-next.next c.in_ok-next.ensures)

@@ -8,6 +8,6 @@ use Rattle.g4_full.proofs.frames.Frames.look.Given as goal
 
 abbrev pub invariant-loop-k : goal.invariant-loop-k
 invariant-loop-k g l =
-    IsPlaced g.B.Home.plan.net.net l.decision (AllowedAt g.B.Home.plan.net.net l.decision l.level) (above_bottom (reverse l.returns))
+    IsPlaced g.B.Home.plan.net.net l.decision (AllowedAt g.B.Home.plan.net.net l.decision l.condition) (above_bottom (reverse l.returns))
     l.tokens l.k (Kept g.B.Home.plan.net.net (SetOf l.self l.spot.set)) l.spot.below.now
     × IsNumber l.self l.spot.set

@@ -23,12 +23,12 @@ returns c =
     record {
       sound = record {
         sets = sound.sets;
-        starts = noted_more (IsStart c.args.net.now mid) mid.starts.entries c.insert.new.self.entries c.args.decision c.args.level
+        starts = noted_more (IsStart c.args.net.now mid) mid.starts.entries c.insert.new.self.entries c.args.decision c.args.condition
             c.in_ok-made.made.number sound.starts (
               number.0,
               same_then (SetOf mid c.in_ok-made.made.number) (Holds c.in_ok-start.start)
-                  (FramedStart c.args.net.now c.args.decision (AllowedAt c.args.net.now c.args.decision c.args.level)) number.1
-                  (start_at c.args.net.now c.args.decision c.args.level c.in_ok-allowed.allowed (Holds c.in_ok-start.start)
+                  (FramedStart c.args.net.now c.args.decision (AllowedAt c.args.net.now c.args.decision c.args.condition)) number.1
+                  (start_at c.args.net.now c.args.decision c.args.condition c.in_ok-allowed.allowed (Holds c.in_ok-start.start)
                   c.in_ok-allowed.ensures c.in_ok-start.ensures.members),
             )
             c.in_ok-insert.ensures.updates.0;

@@ -21,15 +21,15 @@ stored_path-requires-clause-few g c =
 pub learn-learned-requires : goal.learn-learned-requires
 learn-learned-requires g c =
     let (word, verdict, symbols, sll) = c.requires.sll in
-    stored_is_path g.B.Home.plan c.self.invariant c.args.path.decision c.args.level word verdict (path_of c.args.path)
+    stored_is_path g.B.Home.plan c.self.invariant c.args.path.decision c.args.condition word verdict (path_of c.args.path)
     c.in_ok-stored.stored symbols sll
-    (subst (λ (t : Tables). IsStored t c.args.path.decision c.args.level (path_of c.args.path) c.in_ok-stored.stored) c.net.ensures
+    (subst (λ (t : Tables). IsStored t c.args.path.decision c.args.condition (path_of c.args.path) c.in_ok-stored.stored) c.net.ensures
     c.in_ok-stored.ensures)
 
 pub returns-clause-learned : goal.returns-clause-learned
 returns-clause-learned g c = (
   c.in_ok-stored.stored,
-  subst (λ (t : Tables). IsStored t c.args.path.decision c.args.level (path_of c.args.path) c.in_ok-stored.stored) c.net.ensures
+  subst (λ (t : Tables). IsStored t c.args.path.decision c.args.condition (path_of c.args.path) c.in_ok-stored.stored) c.net.ensures
       c.in_ok-stored.ensures,
   c.learn-learned.ensures.learned,
 )

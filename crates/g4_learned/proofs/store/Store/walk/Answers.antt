@@ -2,12 +2,8 @@ use Rattle.std.proofs.Common.{◌≡◌, ℕ, suc, ◌-◌, drop, sym, subst, �
 use Rattle.std.proofs.lemmas.List.Elements.{All-drop}
 use Rattle.g4_classes.specs.Classes.{IsSymbol}
 use Rattle.g4_tokens.specs.TokenList.{word_of}
-use Rattle.g4_store.specs.declared.walk.Walk as way
-use Rattle.g4_store.specs.declared.walk.Walk.TheVariants.{End, NotLearned, Open}
-use Rattle.g4_store.specs.Walks.{SeenTo}
-use Rattle.g4_guards.specs.Levels.{IsDecision}
-use Rattle.g4_learned.specs.Automata.{LeadsTo, StartsAt}
-use Rattle.g4_learned.specs.Stored.{columns_of}
+use Rattle.g4_store.specs.declared.walk.Walk.TheVariants.{End, NotLearned}
+use Rattle.g4_guards.specs.Levels.{IsCondition, IsDecision}
 use Rattle.g4_learned.specs.Tables.{IsStartOf, Tables}
 use Rattle.g4_learned.specs.Walks.{StopsAt, WalkedAlong}
 use Rattle.g4_learned.proofs.Answering.{ended, learned_from, no_edge, no_start, not_past_end, small_code, stops_from, walked_from}
@@ -16,27 +12,30 @@ use Rattle.g4_learned.proofs.Walking.{start_within}
 use Rattle.g4_learned.proofs.store.Store.walk.Goals as goal
 
 pub start_of-start-requires : goal.start_of-start-requires
-start_of-start-requires g c = subst (λ (t : Tables). IsDecision t.net c.args.decision) (sym c.net.ensures) c.requires.decision
+start_of-start-requires g c = record {
+  decision = subst (λ (t : Tables). IsDecision t.net c.args.decision) (sym c.net.ensures) c.requires.decision;
+  condition = subst (λ (t : Tables). IsCondition t.net c.args.decision c.args.condition) (sym c.net.ensures) c.requires.condition;
+}
 
 pub walk_along-walk-requires : goal.walk_along-walk-requires
 walk_along-walk-requires g c =
-    start_within g.B.Home.plan c.args.decision c.args.level c.start_of-start.result c.self.invariant
-    (subst (λ (t : Tables). IsStartOf t c.args.decision c.args.level c.start_of-start.result) c.net.ensures c.start_of-start.ensures)
+    start_within g.B.Home.plan c.args.decision c.args.condition c.start_of-start.result c.self.invariant
+    (subst (λ (t : Tables). IsStartOf t c.args.decision c.args.condition c.start_of-start.result) c.net.ensures c.start_of-start.ensures)
 
 pub verdict_at-requires : goal.verdict_at-requires
 verdict_at-requires g c =
-    small_code g.B.Home.plan c.args.decision c.args.level c.start_of-start.result c.args.from c.in-End.code c.in-End.k c.args.tokens.now
+    small_code g.B.Home.plan c.args.decision c.args.condition c.start_of-start.result c.args.from c.in-End.code c.in-End.k c.args.tokens.now
     c.args.pass.now.0 c.walk_along-walk.new.pass.0
-    (subst (λ (t : Tables). IsStartOf t c.args.decision c.args.level c.start_of-start.result) c.net.ensures c.start_of-start.ensures)
+    (subst (λ (t : Tables). IsStartOf t c.args.decision c.args.condition c.start_of-start.result) c.net.ensures c.start_of-start.ensures)
     c.requires.symbols
     (subst (WalkedAlong g.B.Home.plan c.start_of-start.result (word_of (from_on c.args.from c.args.tokens.now)) c.args.pass.now.0
     c.walk_along-walk.new.pass.0) c.in-End.is c.walk_along-walk.ensures.walked)
 
 pub unreachable-requires : goal.unreachable-requires
 unreachable-requires g c =
-    not_past_end g.B.Home.plan c.args.decision c.args.level c.start_of-start.result c.args.from c.args.tokens.now c.args.pass.now.0
+    not_past_end g.B.Home.plan c.args.decision c.args.condition c.start_of-start.result c.args.from c.args.tokens.now c.args.pass.now.0
     c.walk_along-walk.new.pass.0 c.self.invariant
-    (subst (λ (t : Tables). IsStartOf t c.args.decision c.args.level c.start_of-start.result) c.net.ensures c.start_of-start.ensures)
+    (subst (λ (t : Tables). IsStartOf t c.args.decision c.args.condition c.start_of-start.result) c.net.ensures c.start_of-start.ensures)
     c.requires.symbols c.requires.ends c.requires.more
     (subst (WalkedAlong g.B.Home.plan c.start_of-start.result (word_of (from_on c.args.from c.args.tokens.now)) c.args.pass.now.0
     c.walk_along-walk.new.pass.0) c.in-Open.is c.walk_along-walk.ensures.walked)
@@ -49,8 +48,8 @@ returns-in-End-clause-walks g c =
     let new = c.walk_along-walk.new.pass.0 in
     let ts = c.args.tokens.now in
     let is = c.in-End.is in
-    ended p c.args.decision c.args.level i (drop c.args.from (word_of ts)) old new
-    (subst (λ (t : Tables). IsStartOf t c.args.decision c.args.level i) c.net.ensures c.start_of-start.ensures)
+    ended p c.args.decision c.args.condition i (drop c.args.from (word_of ts)) old new
+    (subst (λ (t : Tables). IsStartOf t c.args.decision c.args.condition i) c.net.ensures c.start_of-start.ensures)
     c.in-End.code c.in-End.k c.verdict_at.result c.self.invariant (All-drop IsSymbol c.args.from (word_of ts) c.requires.symbols)
     (walked_from p i c.args.from ts old new (End c.in-End.code c.in-End.k)
     (subst (WalkedAlong p i (word_of (from_on c.args.from ts)) old new) is c.walk_along-walk.ensures.walked)) c.verdict_at.ensures
@@ -67,8 +66,8 @@ returns-then-k-eq0-clause-walks g c =
     let k : ℕ = c.in-NotLearned.k in
     let none : k ≡ 0 = omega (arith, c.if-k-eq0.true) in
     let is : c.walk_along-walk.result.walk ≡ NotLearned 0 = c.in-NotLearned.is ∙ ap NotLearned none in
-    no_start p c.args.decision c.args.level i (drop c.args.from (word_of ts)) old new
-    (subst (λ (t : Tables). IsStartOf t c.args.decision c.args.level i) c.net.ensures c.start_of-start.ensures)
+    no_start p c.args.decision c.args.condition i (drop c.args.from (word_of ts)) old new
+    (subst (λ (t : Tables). IsStartOf t c.args.decision c.args.condition i) c.net.ensures c.start_of-start.ensures)
     c.self.invariant (All-drop IsSymbol c.args.from (word_of ts) c.requires.symbols)
     (walked_from p i c.args.from ts old new (NotLearned 0)
     (subst (WalkedAlong p i (word_of (from_on c.args.from ts)) old new) is c.walk_along-walk.ensures.walked))
@@ -85,8 +84,8 @@ returns-else-k-eq0-clause-walks g c =
     let k : ℕ = c.in-NotLearned.k in
     let some : k ≡ suc (k - 1) = omega (arith, c.if-k-eq0.false) in
     let is : c.walk_along-walk.result.walk ≡ NotLearned (suc (k - 1)) = c.in-NotLearned.is ∙ ap NotLearned some in
-    no_edge p c.args.decision c.args.level i (drop c.args.from (word_of ts)) old new
-    (subst (λ (t : Tables). IsStartOf t c.args.decision c.args.level i) c.net.ensures c.start_of-start.ensures)
+    no_edge p c.args.decision c.args.condition i (drop c.args.from (word_of ts)) old new
+    (subst (λ (t : Tables). IsStartOf t c.args.decision c.args.condition i) c.net.ensures c.start_of-start.ensures)
     c.walk_along-walk.result.row (k - 1) c.self.invariant (All-drop IsSymbol c.args.from (word_of ts) c.requires.symbols)
     (walked_from p i c.args.from ts old new (NotLearned (suc (k - 1)))
     (subst (WalkedAlong p i (word_of (from_on c.args.from ts)) old new) is c.walk_along-walk.ensures.walked))

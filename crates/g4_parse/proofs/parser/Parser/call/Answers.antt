@@ -7,10 +7,10 @@ use Rattle.g4_parse.proofs.Grown.{length_returns}
 use Rattle.g4_parse.proofs.parser.Parser.call.Goals as goal
 
 pub returns-then-len-ge-DEEPEST : goal.returns-then-len-ge-DEEPEST
-returns-then-len-ge-DEEPEST c = λ word r h. (omega (arith, length_returns r.frames, ap length h.returns), cc)
+returns-then-len-ge-DEEPEST c = λ values word r h. (omega (arith, length_returns r.frames, ap length h.returns), cc)
 
 pub returns : goal.returns
-returns c = λ word r h.
+returns c = λ values word r h.
     let deep : length r.frames < deepest = omega (arith, length_returns r.frames, ap length h.returns) in (
       record {
         state = start_of c.args.opened.rule;

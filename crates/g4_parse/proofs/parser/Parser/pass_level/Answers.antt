@@ -5,7 +5,7 @@ use Rattle.g4_parse.proofs.Turns.{passes_level}
 use Rattle.g4_parse.proofs.parser.Parser.pass_level.Goals as goal
 
 pub returns : goal.returns
-returns c = λ word r h.
+returns c = λ values word r h.
     let alternative = written_at c.args.net.now r.state in (
       record { state = c.args.target; place = r.place; frames = wrapped alternative r.frames; tree = r.tree },
       (omega (arith, (c.newest-newest.ensures r h).1), refl),
@@ -14,7 +14,7 @@ returns c = λ word r h.
     )
 
 pub returns-then-newest-most : goal.returns-then-newest-most
-returns-then-newest-most c = λ word r h.
+returns-then-newest-most c = λ values word r h.
     let newest = c.newest-newest.ensures r h in (
       omega (arith, newest.1),
       ap (λ (at : ℕ). failed_predicate at c.newest-newest.result.rule) h.place

@@ -7,7 +7,7 @@ use Rattle.g4_parse.proofs.Words.{word_get}
 use Rattle.g4_parse.proofs.parser.Parser.take.Goals as goal
 
 pub returns-then-not-contains : goal.returns-then-not-contains
-returns-then-not-contains c = λ net r h.
+returns-then-not-contains c = λ net values r h.
     let blank : Token = record { symbol = 0; channel = 0; place = record { line = 0; column = 0 }; start = 0; end = 0 } in
     let next : slice_get (word_of c.args.tokens.now) r.place ≡ Some (get_or c.args.tokens.now c.args.self.now.place blank).symbol =
     rw (← h.place) (word_get c.args.tokens.now c.args.self.now.place blank c.requires.more) in (
@@ -18,7 +18,7 @@ returns-then-not-contains c = λ net r h.
     )
 
 pub returns : goal.returns
-returns c = λ net r h.
+returns c = λ net values r h.
     let blank : Token = record { symbol = 0; channel = 0; place = record { line = 0; column = 0 }; start = 0; end = 0 } in
     let next : slice_get (word_of c.args.tokens.now) r.place ≡ Some (get_or c.args.tokens.now c.args.self.now.place blank).symbol =
     rw (← h.place) (word_get c.args.tokens.now c.args.self.now.place blank c.requires.more) in

@@ -1,4 +1,0 @@
-mod Firsts
-mod Nodes
-pub mod OneAnswer
-mod Untested

@@ -1,3 +1,0 @@
--- Other crates cite each of these.
-pub mod Answers
-pub mod Forms
