@@ -53,8 +53,8 @@ faults() {
         END { printf "%s", said }' "$1" >&2
 }
 
-# Proves the crates on a copy, those that do not use each other side by side on all processors, and builds the program there. What is
-# proved is kept for later builds on this machine, here or elsewhere, of the same files.
+# Proves the crates on a copy, those that do not use each other side by side on all processors, and builds the program there. Where the kit
+# keeps what it has proved, a later build of the same files takes that.
 build() (
     if ! command -v rt > /dev/null; then
         echo 'g4: the program is to be built, and the command rt of the Rattle kit is not on the PATH' >&2
@@ -67,7 +67,7 @@ build() (
     copy "$work/copy" || exit 1
     total=$(grep -c : "$work/copy/crates.txt")
     if [ -x "$program" ]; then
-        echo 'g4: the sources have changed: the crates that changed and those above them are proved again' >&2
+        echo "g4: the sources have changed: the program is proved and built again ($first_time at most)" >&2
     else
         echo "g4: building for the first time: each of $total crates is proved once ($first_time)" >&2
     fi
