@@ -1,0 +1,3 @@
+-- Only this crate cites these.
+pub mod Nests
+pub mod Written
