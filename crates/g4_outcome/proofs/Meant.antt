@@ -22,7 +22,7 @@ use Rattle.g4_trees.specs.declared.tree.Item.{Item}
 abbrev pub SaysAcceptance : ParserNetwork → List Token → Result (List Item) ParseFault → Type 0
 SaysAcceptance net tokens result = (set : List ℕ) (rules : List StepRule) (start : List ℕ) → CanBeRewritten rules →
     IsBuilt set (rewritten rules) (numberings rules) start net →
-    IsAcceptance (AreUnpredicated rules) (DerivesFrom set (rewritten rules) start (word_of tokens)) result
+    IsAcceptance (AreUnpredicated rules) (DerivesFrom set rules start (word_of tokens)) result
 
 abbrev pub SaysTree : ParserNetwork → List Token → Result (List Item) ParseFault → Type 0
 SaysTree net tokens result = (set : List ℕ) (rules : List StepRule) (start : List ℕ) → CanBeRewritten rules →
@@ -39,7 +39,7 @@ module _ (interpreter : Interpreter) (usable : IsUsable interpreter) (tokens : T
   pub tree_meant : (tree : List Item) → SaysAcceptance interpreter.net lent (Ok tree) → SaysTree interpreter.net lent (Ok tree) →
       SaysWhole interpreter.net lent (Ok tree) → IsMeantAnywhere interpreter (outcomes.Tree tokens tree)
   tree_meant tree accepts fits whole start network = (
-    subst (λ (ts : List Token). DerivesFrom (eof ∷ []) (rewritten interpreter.rules) start (word_of ts)) same
+    subst (λ (ts : List Token). DerivesFrom (eof ∷ []) interpreter.rules start (word_of ts)) same
         (accepts (eof ∷ []) interpreter.rules start usable.rewritable network),
     subst (λ (ts : List Token). IsTreeOf interpreter.rules (word_of ts) tree) same
         (fits (eof ∷ []) interpreter.rules start usable.rewritable network),
@@ -52,5 +52,5 @@ module _ (interpreter : Interpreter) (usable : IsUsable interpreter) (tokens : T
       IsMeantAnywhere interpreter (outcomes.Parse tokens fault)
   fault_meant fault accepts start network =
       subst (λ (ts : List Token). IsAcceptance (AreUnpredicated interpreter.rules)
-      (DerivesFrom (eof ∷ []) (rewritten interpreter.rules) start (word_of ts)) (Err fault)) same
+      (DerivesFrom (eof ∷ []) interpreter.rules start (word_of ts)) (Err fault)) same
       (accepts (eof ∷ []) interpreter.rules start usable.rewritable network)

@@ -3,7 +3,6 @@ use Rattle.std.specs.Prelude.{ℕ, List, [], ◌∷◌, Err}
 use Rattle.g4_tokens.specs.Symbols.{eof}
 use Rattle.g4_derivation.specs.Spelling.{DerivesFrom}
 use Rattle.g4_grammar.specs.StepRules.{AreUnpredicated}
-use Rattle.g4_leftrec.specs.Rewriting.{rewritten}
 use Rattle.g4_load.specs.Usable.{IsNetworkFrom}
 use Rattle.g4_load.specs.declared.interpreter.Interpreter.{Interpreter}
 use Rattle.g4_parse.specs.Parsing.{IsAcceptance, LeavesClosing}
@@ -13,9 +12,9 @@ use Rattle.g4_outcome.specs.declared.outcome.Outcome.{Outcome}
 use Rattle.g4_outcome.specs.declared.outcome.Outcome.TheVariants as outcomes
 use Rattle.g4_tree_check.specs.TreesOf.{IsTreeOf}
 
--- the rules of the grammar, as they are run, derive the tokens from this start rule, with what ends their list
+-- the rules of the grammar, as they are written, derive the tokens from this start rule, with what ends their list
 abbrev pub DerivesTokens : Interpreter → List ℕ → Tokens → Type 0
-DerivesTokens interpreter start tokens = DerivesFrom (eof ∷ []) (rewritten interpreter.rules) start (word_of tokens.list)
+DerivesTokens interpreter start tokens = DerivesFrom (eof ∷ []) interpreter.rules start (word_of tokens.list)
 
 -- A file with a tree: its tokens are derived, the tree is one of the rules, as they are written, over these tokens, and all tokens
 -- but EOFs at their end, and END, are in it. A file with a fault of the parser: where no rule has a predicate, its tokens are not derived,

@@ -55,8 +55,8 @@ fn run<B: Home<DecisionNet>, R: Wait, L: Ledger, P: Predicates>(
     Ok(parser.finish(alloc)?)
 }
 
-/// The tree of a token list, with these values of its grammar's predicates. Only a list that the rules derive, as they are run, has one,
-/// and where they have no predicate each such list has, unless too many rules are open. All tokens are in it but those that end the
+/// The tree of a token list, with these values of its grammar's predicates. Only a list that the rules derive, as they are written, has
+/// one, and where they have no predicate each such list has, unless too many rules are open. All tokens are in it but those that end the
 /// list. What the store's threads have learned makes no difference to it; what SLL looks at in the run is learned then, as far as the
 /// store has room.
 ///
@@ -84,7 +84,7 @@ pub fn parse<B: Home<DecisionNet>, R: Wait, L: Ledger, P: Predicates>(
         → IfOk result (LeavesClosing set (word_of tokens.now)) }
     ensures accepts { (set : List ℕ) (rules : List StepRule) (start : List ℕ) → CanBeRewritten rules →
         IsBuilt set (rewritten rules) (numberings rules) start B.plan.net.net
-        → IsAcceptance (AreUnpredicated rules) (DerivesFrom set (rewritten rules) start (word_of tokens.now)) result }
+        → IsAcceptance (AreUnpredicated rules) (DerivesFrom set rules start (word_of tokens.now)) result }
     ensures kept { HasKept pass.old pass.new }
     ensures taught { HadMemory result → IsTaught B.plan (IsPassed B.plan.net (P.values predicates.now)
         (word_of tokens.now)) pass.old pass.new }
