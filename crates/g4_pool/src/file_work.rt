@@ -6,7 +6,7 @@ ghost use Rattle.g4_outcome.specs.Inputs.{IsSmall};
 ghost use Rattle.g4_outcome.specs.Reported.{IsFileReport};
 ghost use Rattle.g4_outcome.specs.Taught.{HasTaught};
 
-use crate::copies::copy_input;
+use crate::inputs_left::{InputsHome, InputsLeft, copy_left, give_back};
 use crate::lexer_home::LexerHome;
 use crate::worker_state::WorkerState;
 use g4_base::Text;
@@ -19,25 +19,26 @@ use g4_words::Output;
 use g4_workers::Work;
 use std::alloc::{AllocError, Global};
 use std::marker::{Brand, Model};
-use std::sync::Wait;
 use std::sync::ledger::{Blank, Ledger};
+use std::sync::{Mutex, Wait};
 
 /// What all workers share: the grammar and the store of its learned automata, the files, and the gate.
 #[derive(Drop)]
-pub struct FileWork<'a, B: Home<DecisionNet> + LexerHome, R, G> {
+pub struct FileWork<'a, B: Home<DecisionNet> + InputsHome + LexerHome, R, G> {
     pub rt: &'a R,
     pub alloc: Global,
     pub output: Output,
     pub grammar: &'a Grammar,
     pub store: &'a Store<B>,
     pub names: &'a [Text],
-    pub inputs: &'a [Input],
+    /// What is left of the content of the files.
+    pub inputs: &'a Mutex<InputsLeft<B>>,
     pub gate: &'a G,
     /// How many workers there are beside the caller.
     pub jobs: u32,
 }
 
-impl<'a, B: Home<DecisionNet> + LexerHome, R, G> Model for FileWork<'a, B, R, G> {
+impl<'a, B: Home<DecisionNet> + InputsHome + LexerHome, R, G> Model for FileWork<'a, B, R, G> {
     ghost use Rattle.std.specs.Prelude.{◌≡◌, All, length};
     ghost use Rattle.g4_load.specs.Usable.{IsUsable};
     ghost use Rattle.g4_outcome.specs.Grammars.{with_net};
@@ -51,10 +52,10 @@ impl<'a, B: Home<DecisionNet> + LexerHome, R, G> Model for FileWork<'a, B, R, G>
 
     ghost coded = { Prim.hlevel (codes, elements_code, predicate.the_row.coded) };
 
-    ghost view = { λ w. pooled (files_of w.output (with_net w.grammar.now B.plan.net.net) w.names.now w.inputs.now) w.jobs };
+    ghost view = { λ w. pooled (files_of w.output (with_net w.grammar.now B.plan.net.net) w.names.now B.inputs) w.jobs };
 
-    ghost invariant = { λ w. IsUsable (with_net w.grammar.now B.plan.net.net) × All IsSmall w.inputs.now
-        × (length w.names.now ≡ length w.inputs.now) × (w.grammar.now.lexer ≡ B.lexer) };
+    ghost invariant = { λ w. IsUsable (with_net w.grammar.now B.plan.net.net) × All IsSmall B.inputs
+        × (length w.names.now ≡ length B.inputs) × (w.grammar.now.lexer ≡ B.lexer) };
 }
 
 /// What is reported of a file of this name, with a count of loads.
@@ -122,10 +123,13 @@ fn report_one<B: Home<DecisionNet> + LexerHome, R: Wait>(
     )
 }
 
-impl<'a, 'm, B: Home<DecisionNet> + LexerHome + Send + Sync, R: Wait + Sync, G: Gate> Work<
-    WorkerState<'m, B>,
-    FileReport,
-> for FileWork<'a, B, R, G> {
+impl<
+    'a,
+    'm,
+    B: Home<DecisionNet> + InputsHome + LexerHome + Send + Sync,
+    R: Wait + Sync,
+    G: Gate,
+> Work<WorkerState<'m, B>, FileReport> for FileWork<'a, B, R, G> {
     ghost use Rattle.std.specs.Prelude.{length};
     ghost use Rattle.g4_pool.specs.Done.{HasDone};
     ghost use Rattle.g4_pool.specs.Files.{IsReportAt};
@@ -143,7 +147,7 @@ impl<'a, 'm, B: Home<DecisionNet> + LexerHome + Send + Sync, R: Wait + Sync, G: 
         file: u32,
     ) -> Result<FileReport, AllocError> {
         let name = &self.names[file as usize];
-        let input = copy_input(self.alloc, &self.inputs[file as usize])?;
+        let input = copy_left(self.rt, self.alloc, self.inputs, file)?;
         self.gate.enter(worker, file);
         let report = report_one(
             self.rt,
@@ -156,6 +160,7 @@ impl<'a, 'm, B: Home<DecisionNet> + LexerHome + Send + Sync, R: Wait + Sync, G: 
             input,
         );
         self.gate.leave(worker, file);
+        give_back(self.rt, self.inputs, file, report.is_ok());
         report
     }
 

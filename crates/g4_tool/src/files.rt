@@ -19,7 +19,7 @@ use g4_learned::{DecisionNet, OpenFault, Opened, Store, open};
 use g4_load::Interpreter;
 use g4_net::ParserNetwork;
 use g4_outcome::{FileReport, Grammar, Input, Line};
-use g4_pool::{LexerHome, OwnMatcher, WorkerState, parse_all};
+use g4_pool::{InputsHome, LexerHome, OwnMatcher, WorkerState, parse_all};
 use g4_ports::Gate;
 use g4_store::view::Home;
 use g4_tally::{Tally, tally_of};
@@ -107,7 +107,11 @@ fn learned_of<B: Home<DecisionNet> + LexerHome>(
 }
 
 /// The lines of the files by a store that was opened.
-fn parse_opened<B: Home<DecisionNet> + LexerHome + Send + Sync, R: Threads + Wait + Sync, G: Gate>(
+fn parse_opened<
+    B: Home<DecisionNet> + InputsHome + LexerHome + Send + Sync,
+    R: Threads + Wait + Sync,
+    G: Gate,
+>(
     rt: &R,
     alloc: Global,
     output: Output,
@@ -116,19 +120,19 @@ fn parse_opened<B: Home<DecisionNet> + LexerHome + Send + Sync, R: Threads + Wai
     grammar: &Grammar,
     opened: Opened,
     names: &[Text],
-    inputs: &[Input],
+    inputs: Vec<Input>,
     gate: &G,
 ) -> Result<ParsedRun, AllocError>
     requires plan { IsPlan opened.plan }
     requires home { (opened.table.shared.table_id ≡ B.table) × (opened.plan ≡ B.plan) }
-    requires own { grammar.now.lexer ≡ B.lexer }
+    requires own { (grammar.now.lexer ≡ B.lexer) × (inputs.items ≡ B.inputs) }
     requires usable { IsUsable (with_net grammar.now B.plan.net.net) }
-    requires small { All IsSmall inputs.now }
-    requires paired { length names.now ≡ length inputs.now }
+    requires small { All IsSmall inputs.items }
+    requires paired { length names.now ≡ length inputs.items }
     requires few { length names.now ≤ MOST_FILES }
     requires jobs { (0 < jobs) × (jobs ≤ MOST_JOBS) }
-    ensures parsed { IfOk result (λ run. AreParsed output (with_net grammar.now B.plan.net.net) names.now inputs.now run.parsed) }
-    ensures told { IfOk result (λ run. IsTold asked B.plan.rows (with_net grammar.now B.plan.net.net) inputs.now run.learned) }
+    ensures parsed { IfOk result (λ run. AreParsed output (with_net grammar.now B.plan.net.net) names.now inputs.items run.parsed) }
+    ensures told { IfOk result (λ run. IsTold asked B.plan.rows (with_net grammar.now B.plan.net.net) inputs.items run.learned) }
 {
     let (store, pass) = Store::<B>::named(opened);
     let memory = Memory::new(alloc);
@@ -172,17 +176,17 @@ pub fn parse_files<R: Threads + Wait + Sync, G: Gate>(
     asked: bool,
     interpreter: Interpreter,
     names: &[Text],
-    inputs: &[Input],
+    inputs: Vec<Input>,
     gate: &G,
 ) -> Result<ParsedRun, AllocError>
     requires usable { IsUsable interpreter }
-    requires small { All IsSmall inputs.now }
-    requires paired { length names.now ≡ length inputs.now }
+    requires small { All IsSmall inputs.items }
+    requires paired { length names.now ≡ length inputs.items }
     requires few { length names.now ≤ MOST_FILES }
     requires jobs { (0 < jobs) × (jobs ≤ MOST_JOBS) }
     requires rows { (0 < rows) × (rows ≤ MOST_ROWS) }
-    ensures parsed { IfOk result (λ run. AreParsed output interpreter names.now inputs.now run.parsed) }
-    ensures told { IfOk result (λ run. IsTold asked rows interpreter inputs.now run.learned) }
+    ensures parsed { IfOk result (λ run. AreParsed output interpreter names.now inputs.items run.parsed) }
+    ensures told { IfOk result (λ run. IsTold asked rows interpreter inputs.items run.learned) }
 {
     let Interpreter {
         names: rule_names,

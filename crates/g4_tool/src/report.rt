@@ -216,7 +216,7 @@ fn run_parse<R: Threads + Wait + Sync, S: Shelf, G: Gate>(
         parse.learned,
         flagged,
         names,
-        inputs.as_slice(),
+        inputs,
         gate,
     )?;
     let report = report_files(alloc, parsed, names.len())?;

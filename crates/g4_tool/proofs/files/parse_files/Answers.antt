@@ -31,16 +31,16 @@ returns-clause-parsed g c =
     let grammar = grammar_of c.args.interpreter in
     subst (λ (n : ParserNetwork).
     IfOk c.parse_opened.result (λ (run : ParsedRun).
-    AreParsed c.args.output (with_net grammar n) c.args.names.now c.args.inputs.now run.parsed))
+    AreParsed c.args.output (with_net grammar n) c.args.names.now c.args.inputs.items run.parsed))
     c.in_ok-opened.ensures.parts.0 c.parse_opened.ensures.parsed
 
 pub returns-clause-told : goal.returns-clause-told
 returns-clause-told g c =
     let grammar = grammar_of c.args.interpreter in
     subst (λ (n : ParserNetwork).
-    IfOk c.parse_opened.result (λ (run : ParsedRun). IsTold c.args.asked c.args.rows (with_net grammar n) c.args.inputs.now run.learned))
+    IfOk c.parse_opened.result (λ (run : ParsedRun). IsTold c.args.asked c.args.rows (with_net grammar n) c.args.inputs.items run.learned))
     c.in_ok-opened.ensures.parts.0
     (subst (λ (rows : ℕ).
     IfOk c.parse_opened.result (λ (run : ParsedRun).
-    IsTold c.args.asked rows (with_net grammar c.in_ok-opened.opened.plan.net.net) c.args.inputs.now run.learned))
+    IsTold c.args.asked rows (with_net grammar c.in_ok-opened.opened.plan.net.net) c.args.inputs.items run.learned))
     c.in_ok-opened.ensures.parts.1 c.parse_opened.ensures.told)

@@ -5,3 +5,6 @@ ghosts-parse_opened-B-Home g a = record { table = a.opened.table.shared.table_id
 
 abbrev pub ghosts-parse_opened-B-LexerHome : goal.ghosts-parse_opened-B-LexerHome
 ghosts-parse_opened-B-LexerHome g a = record { lexer = a.grammar.now.lexer }
+
+abbrev pub ghosts-parse_opened-B-InputsHome : goal.ghosts-parse_opened-B-InputsHome
+ghosts-parse_opened-B-InputsHome g a = record { inputs = a.inputs.items }

@@ -9,9 +9,9 @@ learned_of-requires g c = record { whole = λ complete. (c.in_ok-finished.ensure
 pub returns-clause-parsed : goal.returns-clause-parsed
 returns-clause-parsed g c =
     c.in_ok-parsed.ensures (files_of c.args.output (with_net c.args.grammar.now g.B.Home.plan.net.net) c.args.names.now
-    c.args.inputs.now) c.requires.paired c.in_ok-finished.ensures.reports
+    c.args.inputs.items) c.requires.paired c.in_ok-finished.ensures.reports
 
 pub returns-clause-told : goal.returns-clause-told
 returns-clause-told g c =
     c.in_ok-learned.ensures (files_of c.args.output (with_net c.args.grammar.now g.B.Home.plan.net.net) c.args.names.now
-    c.args.inputs.now) refl c.in_ok-finished.ensures.learned
+    c.args.inputs.items) refl c.in_ok-finished.ensures.learned

@@ -47,10 +47,10 @@ returns-clause-content g c = λ files words told command.
     let flagged : c.with_flags-flagged.result ≡ with_flags parse.flags interpreter =
     c.with_flags-flagged.ensures.same ∙ ap (λ (flags : List (List ℕ)). with_flags flags interpreter) given in
     let parsed =
-    subst (λ (i : Interpreter). AreParsed parse.output i parse.files c.as_slice-2.result.now c.in_ok-parsed.parsed.parsed) flagged
+    subst (λ (i : Interpreter). AreParsed parse.output i parse.files c.in_ok-inputs.inputs.items c.in_ok-parsed.parsed.parsed) flagged
     (rw c.as_slice-names.ensures at c.in_ok-parsed.ensures.parsed) in
     let learned =
-    subst (λ (i : Interpreter). IsTold parse.learned parse.rows i c.as_slice-2.result.now c.in_ok-parsed.parsed.learned) flagged
+    subst (λ (i : Interpreter). IsTold parse.learned parse.rows i c.in_ok-inputs.inputs.items c.in_ok-parsed.parsed.learned) flagged
     c.in_ok-parsed.ensures.told in
     reports_files files words _ command interpreter
     (rw (c.as_str-grammar.ensures, c.as_str-start.ensures, c.named-library.ensures) at (c.in_ok-interpreter.ensures.content files told))
@@ -59,11 +59,8 @@ returns-clause-content g c = λ files words told command.
     (rw c.as_slice-names.ensures at (c.in_ok-inputs.ensures.content files (c.in_ok-interpreter.ensures.keeps ∙ told)))
     (rw c.as_slice-names.ensures at c.in_ok-inputs.ensures.paired)
     (ap length c.as_slice-names.ensures)
-    (subst (λ (is : List Input). AreParsed parse.output (with_flags parse.flags interpreter) parse.files is c.in_ok-parsed.parsed.parsed)
-    c.as_slice-2.ensures.value parsed)
-    (subst (λ (is : List Input).
-    IsTold parse.learned parse.rows (with_flags parse.flags interpreter) is c.in_ok-parsed.parsed.learned)
-    c.as_slice-2.ensures.value learned)
+    parsed
+    learned
     c.in_ok-report.ensures.report
 
 pub returns-in_err-check_cells-clause-counts : goal.returns-in_err-check_cells-clause-counts
