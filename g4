@@ -2,7 +2,7 @@
 # Builds the program where it is missing or older than its sources, and runs it in this folder with these words.
 top=$(CDPATH= cd -- "$(dirname -- "$0")" && pwd) || exit 1
 program=$top/crates/g4/out/g4
-first_time='20 to 40 minutes'
+first_time='30 to 60 minutes'
 
 is_old() {
     [ ! -x "$program" ] || [ -n "$(find "$top"/crates.txt "$top"/crates/*/src "$top"/crates/*/specs "$top"/crates/*/proofs \
