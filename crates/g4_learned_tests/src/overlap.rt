@@ -18,8 +18,8 @@ use std::sync::ledger::{Blank, Ledger};
 use std::test::Fail;
 use std::thread::{Threads, join};
 
-/// How often a thread looks for the other's flag.
-const MOST_TURNS: u32 = 10_000_000;
+/// How often a thread looks for the other's flag: for about a second, since on a loaded machine the other may be kept waiting.
+const MOST_TURNS: u32 = 1_000_000_000;
 
 /// Its decision looks at all brackets of `x` and at one symbol more.
 const GRAMMAR: &str = "grammar X; s : e 'b' | e 'c' ; e : '(' e ')' | 'x' ;";
