@@ -132,10 +132,10 @@ fn wrong_rows(alloc: Global, rows: &str) -> Result<String, AllocError> {
 
 #[test]
 fn small_networks(rt: HostRuntime) -> Result<(), Fail> {
-    let numbers = wrong_rows(rt.alloc(), NUMBERS)?;
-    assert_eq!(rt; numbers.as_str(), "");
-    let cycles = wrong_rows(rt.alloc(), CYCLES)?;
-    assert_eq!(rt; cycles.as_str(), "");
+    for rows in [NUMBERS, CYCLES] {
+        let wrong = wrong_rows(rt.alloc(), rows)?;
+        assert_eq!(rt; wrong.as_str(), "");
+    }
     Ok(())
 }
 

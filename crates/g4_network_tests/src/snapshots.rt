@@ -71,15 +71,9 @@ fn a_high_stack(rt: HostRuntime) -> Result<(), Fail> {
 }
 
 #[test]
-fn an_empty_set(rt: HostRuntime) -> Result<(), Fail> {
-    let set = Configs::new(rt.alloc())?;
-    assert!(rt; comes_again(rt.alloc(), &set)?);
-    Ok(())
-}
-
-#[test]
-fn a_set_of_few_configurations(rt: HostRuntime) -> Result<(), Fail> {
+fn an_empty_set_and_one_of_few_configurations(rt: HostRuntime) -> Result<(), Fail> {
     let mut set = Configs::new(rt.alloc())?;
+    assert!(rt; comes_again(rt.alloc(), &set)?, "empty");
     for (state, alternative, back) in [(4, 1, 7), (4, 2, 8), (4, 2, 9), (3, 2, 7)] {
         put(&mut set, state, alternative, back)?;
     }

@@ -1,4 +1,5 @@
 // Trees of small rules, worked out by hand, and large trees.
+use crate::rows::{answered, cut, push_row};
 use g4_base::{Place, Sequence, Text};
 use g4_grammar::{Step, StepRule};
 use g4_source::{Alternative, Element, Elements, Repeat, RuleAlternative, Suffix};
@@ -227,16 +228,6 @@ a+b?@+ | abbaab => no
 a?a?a?aaa | aaa => yes
 a?a?a?aaa | aaaaaaa => no";
 
-/// The first field of a row, and the fields after it.
-fn cut(fields: &str) -> (&str, &str) {
-    fields.split_once(" | ").unwrap_or((fields, ""))
-}
-
-fn push_row(wrong: &mut String, row: &str) -> Result<(), AllocError> {
-    wrong.push_str(row)?;
-    wrong.push('\n')
-}
-
 /// Whether the tree is one of the rules over the tokens, where a case is all three.
 fn answer(alloc: Global, case: &str) -> Result<bool, AllocError> {
     let (grammar, rest) = cut(case);
@@ -252,23 +243,18 @@ fn wrong_rows(alloc: Global, rows: &str, wanted: bool) -> Result<String, AllocEr
     let mut wrong = String::new(alloc);
     for row in rows.lines() {
         if answer(alloc, cut(row).1)? != wanted {
-            push_row(&mut wrong, row)?;
+            push_row(&mut wrong, row, "another answer")?;
         }
     }
     Ok(wrong)
 }
 
 #[test]
-fn right_trees(rt: HostRuntime) -> Result<(), Fail> {
-    let wrong = wrong_rows(rt.alloc(), RIGHT, true)?;
-    assert_eq!(rt; wrong.as_str(), "");
-    Ok(())
-}
-
-#[test]
-fn wrong_trees(rt: HostRuntime) -> Result<(), Fail> {
-    let wrong = wrong_rows(rt.alloc(), WRONG, false)?;
-    assert_eq!(rt; wrong.as_str(), "");
+fn small_trees(rt: HostRuntime) -> Result<(), Fail> {
+    for (rows, wanted) in [(RIGHT, true), (WRONG, false)] {
+        let wrong = wrong_rows(rt.alloc(), rows, wanted)?;
+        assert_eq!(rt; wrong.as_str(), "");
+    }
     Ok(())
 }
 
@@ -309,10 +295,10 @@ fn words_of_one_node(rt: HostRuntime) -> Result<(), Fail> {
     let alloc = rt.alloc();
     let mut wrong = String::new(alloc);
     for row in WORDS.lines() {
-        let (asked, wanted) = row.split_once(" => ").unwrap_or((row, ""));
+        let (asked, wanted) = answered(row);
         let (grammar, word) = cut(asked);
         if is_word(alloc, grammar, word)? != (wanted == "yes") {
-            push_row(&mut wrong, row)?;
+            push_row(&mut wrong, row, "another answer")?;
         }
     }
     assert_eq!(rt; wrong.as_str(), "");
@@ -359,13 +345,6 @@ fn large_trees(rt: HostRuntime) -> Result<(), Fail> {
         let broad = wide(rt.alloc(), count)?;
         let found = is_large_tree(rt.alloc(), "a*a?@+", &broad)?;
         assert!(rt; found == wanted, "a node of {count} tokens");
-    }
-    Ok(())
-}
-
-#[test]
-fn high_trees(rt: HostRuntime) -> Result<(), Fail> {
-    for (count, wanted) in [(20_000, true), (20_001, false)] {
         let high = deep(rt.alloc(), count)?;
         let found = is_large_tree(rt.alloc(), "a1?", &high)?;
         assert!(rt; found == wanted, "{count} nodes, one in the other");

@@ -1,11 +1,10 @@
-// Many files by many workers: what is written, and what is learned, is the same for every number of workers.
+// Many files in memory, and whether a run over them writes what it is to write.
 use g4_base::{Sequence, Text};
-use g4_ports::{Gate, MemFile, MemShelf, MemSink, Open};
+use g4_ports::{Gate, MemFile, MemShelf, MemSink};
 use g4_tool::{Status, run};
 use std::alloc::{AllocError, Global};
 use std::fmt::Write;
 use std::sync::Wait;
-use std::test::*;
 use std::thread::Threads;
 
 /// A grammar of any number of letters.
@@ -42,9 +41,9 @@ fn shelf_of(alloc: Global, lengths: &[usize]) -> Result<MemShelf, AllocError> {
     Ok(MemShelf::new(all, Vec::new(alloc)))
 }
 
-/// The words that parse so many files by so many workers with so many rows, and tell how much was learned.
-fn words_of(alloc: Global, files: usize, jobs: u32, rows: u32) -> Result<Vec<String>, AllocError> {
-    let options = format!(in alloc; "parse -g R.g4 -s r --learned -j {jobs} -r {rows}")?;
+/// The words that parse so many files by so many workers, and tell how much was learned.
+fn words_of(alloc: Global, files: usize, jobs: u32) -> Result<Vec<String>, AllocError> {
+    let options = format!(in alloc; "parse -g R.g4 -s r --learned -j {jobs}")?;
     let mut words = Vec::new(alloc);
     for word in options.as_str().split_whitespace() {
         words.push(String::from_str(alloc, word)?)?;
@@ -63,8 +62,8 @@ fn push_letters(text: &mut String, count: usize) -> Result<(), AllocError> {
     Ok(())
 }
 
-/// What out is to have then, with this line at the end.
-fn wanted(alloc: Global, lengths: &[usize], learned: &str) -> Result<String, AllocError> {
+/// What out is to have then.
+fn wanted(alloc: Global, lengths: &[usize]) -> Result<String, AllocError> {
     let mut text = String::new(alloc);
     for (file, length) in lengths.iter().enumerate() {
         if *length == 0 {
@@ -76,7 +75,7 @@ fn wanted(alloc: Global, lengths: &[usize], learned: &str) -> Result<String, All
         }
     }
     let files = lengths.len();
-    write!(text, "files {files} accepted {files}\n{learned}\n")?;
+    write!(text, "files {files} accepted {files}\nlearned 2 rows 4 edges\n")?;
     Ok(text)
 }
 
@@ -86,14 +85,12 @@ pub fn writes_all<R: Threads + Wait + Sync, G: Gate>(
     alloc: Global,
     lengths: &[usize],
     jobs: u32,
-    rows: u32,
-    learned: &str,
     gate: &G,
 ) -> Result<bool, AllocError> {
     let mut shelf = shelf_of(alloc, lengths)?;
     let mut out = MemSink::new(alloc, ROOM, Vec::new(alloc), ROOM)?;
     let mut err = MemSink::new(alloc, 200, Vec::new(alloc), 200)?;
-    let words = words_of(alloc, lengths.len(), jobs, rows)?;
+    let words = words_of(alloc, lengths.len(), jobs)?;
     let status = run(
         rt,
         alloc,
@@ -103,55 +100,6 @@ pub fn writes_all<R: Threads + Wait + Sync, G: Gate>(
         &mut err,
         gate,
     );
-    let wanted = wanted(alloc, lengths, learned)?;
+    let wanted = wanted(alloc, lengths)?;
     Ok(status == Status::Done && out.bytes() == wanted.as_bytes() && err.bytes().is_empty())
-}
-
-/// So many files, of fewer than 97 letters each.
-fn small_files(alloc: Global, files: usize) -> Result<Vec<usize>, AllocError> {
-    let mut lengths = Vec::new(alloc);
-    for file in 0..files {
-        lengths.push(file % 97)?;
-    }
-    Ok(lengths)
-}
-
-#[test]
-fn all_numbers_of_workers_write_the_same(rt: HostRuntime) -> Result<(), Fail> {
-    let alloc = rt.alloc();
-    let lengths = small_files(alloc, 300)?;
-    for jobs in [1u32, 2, 8, 64] {
-        assert!(rt;
-            writes_all(
-                &rt,
-                alloc,
-                lengths.as_slice(),
-                jobs,
-                1_024,
-                "learned 2 rows 4 edges",
-                &Open
-            )?
-        );
-    }
-    assert!(rt; writes_all(&rt, alloc, lengths.as_slice(), 8, 1, "learned full", &Open)?);
-    Ok(())
-}
-
-#[test]
-fn one_file_may_be_most_of_all(rt: HostRuntime) -> Result<(), Fail> {
-    let alloc = rt.alloc();
-    let mut lengths = Vec::from_elem(alloc, 1usize, 39)?;
-    lengths.push(50_000)?;
-    assert!(rt;
-        writes_all(
-            &rt,
-            alloc,
-            lengths.as_slice(),
-            4,
-            1_024,
-            "learned 2 rows 4 edges",
-            &Open
-        )?
-    );
-    Ok(())
 }

@@ -53,15 +53,7 @@ fn left_meanwhile<R: Threads + Wait + Sync>(
         seen: AtomicU32::new(0),
     };
     let lengths: Vec<usize> = (0..files).collect(alloc)?;
-    let written = writes_all(
-        rt,
-        alloc,
-        lengths.as_slice(),
-        jobs,
-        1_024,
-        "learned 2 rows 4 edges",
-        &gate,
-    )?;
+    let written = writes_all(rt, alloc, lengths.as_slice(), jobs, &gate)?;
     let seen = gate.seen.load(Ordering::SeqCst);
     Ok(if written { Some(seen) } else { None })
 }
