@@ -9,9 +9,10 @@ use std::sync::atomic::{AtomicU32, Ordering};
 use std::test::Fail;
 use std::thread::Threads;
 
-/// The files that there are: two grammars, of which the second has a fault, and a text.
+/// The files that there are: two grammars, of which the second has a fault, one that imports the first twice and itself, and a text.
 const FILES: &str = "X.g4 = grammar X; r : 'hello' ID ; ID : [a-z]+ ; WS : [ ] -> skip ;
 Z.g4 = grammar Z; r : ;;
+M.g4 = grammar M; import X, X; import M; s : r ;
 f = hello x";
 
 /// Adds the file of a line.
@@ -148,8 +149,8 @@ fn found<R: Threads + Wait + Sync>(
 }
 
 /// Words, the number of the fetch that fails, and that of the put on out; and what comes: how many files were begun and ended, the
-/// status, the fetches, the puts on out and on err, and what out has. The grammar is fetched first, and nothing is written before all
-/// files are fetched; after a failure nothing more is fetched or written.
+/// status, the fetches, the puts on out and on err, and what out has. The grammar is fetched first, each of its files once, and nothing is
+/// written before all files are fetched; after a failure nothing more is fetched or written.
 const RUNS: &str =
     "parse -g X.g4 -s r f f f | - | - => 3 begun 3 ended: Done 4 4 0 f: (r hello x)%f: (r hello x)%f: (r hello x)%files 3 accepted 3%
 parse -g X.g4 -s r f f | 0 | - => 0 begun 0 ended: Unread 1 0 0
@@ -163,6 +164,8 @@ parse -g Y.g4 -s r f f | - | - => 0 begun 0 ended: Unread 1 0 1
 parse -g Z.g4 -s r f f | - | - => 0 begun 0 ended: GrammarRefused 1 0 1
 parse -g X.g4 -s r f g f | - | - => 0 begun 0 ended: Unread 3 0 1
 check X.g4 | - | - => 0 begun 0 ended: Done 1 1 0 rules 1 tokens 3%
+check M.g4 | - | - => 0 begun 0 ended: Done 2 1 0 rules 2 tokens 3%
+check M.g4 | 1 | - => 0 begun 0 ended: Unread 2 0 0
 check X.g4 f | - | - => 0 begun 0 ended: Usage 0 0 1
 atn X.g4 r | - | 0 => 0 begun 0 ended: Unwritten 1 1 0";
 
