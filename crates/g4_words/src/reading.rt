@@ -267,9 +267,8 @@ fn read_named(alloc: Global, name: &str, values: &ArgMatches<'_>) -> Result<Comm
 /// The command that the words are. The program's own name is not among them.
 ///
 /// # Errors
-/// `Usage` where they are no command, as where they ask for help, have more than `MOST_FILES` files, a number that is not within its limit
-/// or two flags that say what is written, or a name
-/// after `-f` that is none of a flag; `NoMemory` where memory runs out.
+/// `Usage` where they are no command, as where they ask for help, or have more than `MOST_FILES` files, a number that is not within its
+/// limit, two flags that say what is written, or after `-f` a name that is none of a flag; `NoMemory` where memory runs out.
 pub fn read_words(alloc: Global, words: &[String]) -> Result<Command, WordsFault>
     ensures { Finds (IsCommand (map string_bytes words.now)) result }
 {
