@@ -17,9 +17,9 @@ pub const MOST_TESTED: usize = 6;
 pub enum Tests {
     /// No tests but levels.
     Levels,
-    /// Predicates are among their tests, and no more than six of them begin with one.
+    /// Predicates are among their tests, and no more than six of the alternatives begin with a predicate or a level.
     Few,
-    /// Predicates are among their tests, and more of them begin with one.
+    /// Predicates are among their tests, and more than six of the alternatives begin with a predicate or a level.
     Many,
 }
 

@@ -1,4 +1,4 @@
--- Other crates cite Automata, Guards, Levels, Stored, Tables, Walks; only this crate cites Unique.
+-- Other crates cite Automata, Stored, Tables, Walks; only this crate cites Guards, Levels, Unique.
 pub mod Automata
 pub mod Guards
 pub mod Levels

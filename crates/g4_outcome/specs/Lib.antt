@@ -1,4 +1,4 @@
--- Other crates cite these.
+-- Other crates cite these, but for Predicates.
 pub mod Grammars
 pub mod Inputs
 pub mod Meaning

@@ -1,4 +1,4 @@
--- Other crates cite NoPredicates, Parsing, Teaching; only this crate cites Deciding, Standing, Tested.
+-- Other crates cite Parsing, Teaching; only this crate cites Deciding, NoPredicates, Standing, Tested.
 pub mod Deciding
 pub mod NoPredicates
 pub mod Parsing

@@ -1,4 +1,4 @@
--- Other crates cite Passed, Passing, Tallies.
+-- Other crates cite Passed, Tallies; only this crate cites Counts, Passing, Sizes.
 pub mod Counts
 pub mod Passed
 pub mod Passing
