@@ -7,7 +7,7 @@ use Rattle.g4_lookahead.proofs.OneChoice.{one_full, one_sll}
 use Rattle.g4_net.specs.Configurations.{Stack, above_bottom}
 use Rattle.g4_net.specs.Lookahead.{Start}
 use Rattle.g4_net.specs.Network.{ParserNetwork}
-use Rattle.g4_net.specs.Prediction.{Choice, Full, Path, Verdict, answer, chosen, error_at, sensitive}
+use Rattle.g4_net.specs.Prediction.{Choice, Full, answer, chosen, error_at, sensitive}
 use Rattle.g4_net.specs.Proper.{IsProper}
 use Rattle.g4_guards.specs.Choosing.{Chooses, IsGuarded, by_answer, by_error, by_full, unguarded}
 use Rattle.g4_guards.specs.Levels.{IsCondition, any_level, few_digits}

@@ -1,12 +1,11 @@
 -- The digits of conditions: a number with no more digits than there are tests is determined by what it allows.
-use Rattle.std.proofs.Common.{◌≡◌, ◌≤◌, ◌<◌, ◌↔◌, ◌⊎◌, inl, inr, ℕ, zero, suc, ◌+◌, ◌*◌, ◌/◌, ◌%◌, ◌^◌, List, [], ◌∷◌, ◌++◌, Bool, true, false, Option, Some, None, length, slice_get, if◌then◌else◌, refl, sym, ◌∙◌, ap, subst, arith}
+use Rattle.std.proofs.Common.{◌≡◌, ◌≤◌, ◌<◌, ◌↔◌, ◌⊎◌, inl, inr, ℕ, zero, suc, ◌+◌, ◌*◌, ◌/◌, ◌%◌, ◌^◌, List, [], ◌∷◌, Bool, true, false, Some, slice_get, if◌then◌else◌, refl, sym, ◌∙◌, ap, subst, arith}
 use Rattle.std.proofs.Math.Nat.{div-add-mod, pow-suc}
 use Rattle.std.proofs.lemmas.Bool.{cases_Bool}
-use Rattle.g4_net.specs.declared.network.State.{State}
 use Rattle.g4_net.specs.declared.network.State.TheVariants.{Decision}
 use Rattle.g4_net.specs.Network.{ParserNetwork, state_at, IsFirst}
-use Rattle.g4_guards.specs.Levels.{AllowSame, AllowedAt, HasDigit, IsCondition, IsGuard, LetsBy, MayBegin, MeetsBy, after_digit, any_level, at_level, by_digit, few_digits}
-use Rattle.g4_guards.specs.Tests.{HasFewTests, HasNoPredicate, is_test, tests_among}
+use Rattle.g4_guards.specs.Levels.{AllowSame, AllowedAt, HasDigit, IsGuard, MayBegin, MeetsBy, after_digit, at_level, by_digit}
+use Rattle.g4_guards.specs.Tests.{HasNoPredicate, is_test, tests_among}
 
 -- the digit of a first state that is a test, and those after it
 module _ (net : ParserNetwork) (t : ℕ) (ts : List ℕ) (n m b : ℕ) where

@@ -1,7 +1,7 @@
 -- What prediction chooses among the alternatives that are allowed.
 use Rattle.std.specs.Prelude.{◌↔◌, ℕ, List}
 use Rattle.g4_net.specs.Configurations.{Stack}
-use Rattle.g4_net.specs.Network.{ParserNetwork}
+use Rattle.g4_net.specs.Network.{ParserNetwork, IsFirst}
 use Rattle.g4_net.specs.Prediction.{Choice, Full, Path, Sll, answer, chosen, error_at, no_viable, sensitive}
 use Rattle.g4_guards.specs.Levels.{AllowedAt, IsCondition}
 
@@ -18,3 +18,11 @@ pub data Chooses (net : ParserNetwork) (d : ℕ) (A : ℕ → Type 0) (z : Stack
   by_full : (k : ℕ) (path : Path) (c : Choice) → IsGuarded net d A → Sll net d A w (sensitive k) path → Full net d A z w c
       → Chooses net d A z w c
   unguarded : (c : Choice) → (IsGuarded net d A → ⊥) → Full net d A z w c → Chooses net d A z w c
+
+-- alternative i of the decision, which begins at t, is allowed
+abbrev pub BeginsAllowed : ParserNetwork → ℕ → (ℕ → Type 0) → ℕ → ℕ → Type 0
+BeginsAllowed net d A i t = A i × IsFirst net d i t
+
+-- the allowed alternatives of the one decision begin where those of the other do
+abbrev pub AllowAlike : ParserNetwork → ℕ → (ℕ → Type 0) → ℕ → (ℕ → Type 0) → Type 0
+AllowAlike net d A e B = (i t : ℕ) → BeginsAllowed net d A i t ↔ BeginsAllowed net e B i t

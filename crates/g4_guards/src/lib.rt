@@ -7,5 +7,8 @@ mod law;
 mod tests;
 
 pub use allowed::allowed_at;
-pub use law::{chooses_what_fits, one_choice};
+pub use law::{
+    Alternatives, choice_over_the_same, chooses_what_fits, chooses_what_is_allowed, one_choice,
+    verdict_of_the_allowed,
+};
 pub use tests::{MOST_TESTED, Tests, count_tests, is_test_at, tests_of};

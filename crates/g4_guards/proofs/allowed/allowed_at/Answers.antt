@@ -1,4 +1,4 @@
-use Rattle.std.proofs.Common.{rules, ◌≡◌, Bool, true, false, IsTrue, List, ℕ, Contains, sym, subst}
+use Rattle.std.proofs.Common.{rules, IsTrue, List, ℕ, Contains, sym, subst}
 use Rattle.g4_guards.specs.Levels.{AreAllowedAt}
 use Rattle.g4_guards.specs.Tests.{HasNoPredicate}
 use Rattle.g4_guards.proofs.Meeting.{digits_allowed, every_allowed, listed_allowed}

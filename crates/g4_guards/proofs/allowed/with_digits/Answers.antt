@@ -1,6 +1,5 @@
-use Rattle.std.proofs.Common.{rules, ◌≡◌, ℕ, ◌+◌, ◌∷◌, [], ◌++◌, ◌∙◌, List, Contains, get_or, sym, ap, IsTrue, subst, take}
-use Rattle.std.proofs.lemmas.List.{take_all}
-use Rattle.g4_guards.proofs.Meeting.{AreDigits, IsDigitsTo, digits_push, digits_skip}
+use Rattle.std.proofs.Common.{rules, ◌≡◌, ℕ, ◌+◌, ◌∷◌, [], ◌++◌, ◌∙◌, List, get_or, sym, ap, IsTrue, subst, take}
+use Rattle.g4_guards.proofs.Meeting.{IsDigitsTo, digits_push, digits_skip}
 use Rattle.g4_guards.proofs.allowed.with_digits.Goals as goal
 
 pub loop-before-preserved-then-not-may : goal.loop-before-preserved-then-not-may

@@ -1,5 +1,4 @@
-use Rattle.std.proofs.Common.{rules, ◌≡◌, ℕ, List, Bool, true, false, ap, arith}
-use Rattle.g4_guards.specs.Tests.{tests_among}
+use Rattle.std.proofs.Common.{rules}
 use Rattle.g4_guards.proofs.Testing.{none_begins, some_begins}
 use Rattle.g4_guards.proofs.tests.tests_of.Goals as goal
 
