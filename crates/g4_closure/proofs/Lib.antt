@@ -11,6 +11,7 @@ mod Ways
 mod Following
 mod Remaining
 mod Firsts
+mod Marking
 mod Keeping
 pub mod Reversed
 pub mod RowOf

@@ -8,6 +8,7 @@ mod filling;
 mod framed;
 mod left;
 mod lookahead;
+mod marks;
 mod returns;
 
 pub use framed::{framed_advance, framed_start, lower};

@@ -11,6 +11,7 @@ ghost use Rattle.g4_net.specs.Lookahead.{Next, Rest, Start};
 ghost use Rattle.g4_net.specs.Network.{state_at};
 
 use crate::closure::reach;
+use crate::marks::{is_marked, marks_of_allowed};
 use g4_configs::{Configs, Group};
 use g4_net::{Allowed, ParserNetwork, State};
 use g4_tokens::Symbols;
@@ -58,12 +59,13 @@ pub(crate) fn first_groups(
 ) -> Result<Vec<Group>, AllocError>
     ensures { IfOk result (λ found. AreExactly found.items (FirstsBelow (Allows allowed.now) stacks targets.now (length targets.now))) }
 {
+    let marks = marks_of_allowed(alloc, allowed, targets.len() + 1)?;
     let mut found = Vec::new(alloc);
     for (before, target) in targets.iter().enumerate() {
         let Ok(alternative) = u32::try_from(before + 1) else {
             return Err(AllocError);
         };
-        if !allowed.has(alternative) {
+        if !is_marked(marks.as_slice(), alternative) {
             continue;
         }
         found.push(Group {
