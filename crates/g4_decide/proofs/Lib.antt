@@ -1,3 +1,5 @@
 mod Telling
 pub mod Choosing
-mod Onward
+mod Going
+mod Starting
+mod Steps

@@ -1,28 +1,25 @@
 // SLL's verdict at a decision, by the store.
-ghost use Rattle.std.specs.Prelude.{◌≡◌, ◌+◌, ◌<◌, ◌^◌, ℕ, All, Contains, IfOk, IsOk, List, OnErr, drop, length, map};
+ghost use Rattle.std.specs.Prelude.{◌≡◌, ◌+◌, ◌<◌, ◌^◌, All, Contains, IfOk, IsOk, List, drop, length};
 ghost use Rattle.g4_classes.specs.Classes.{IsSymbol};
-ghost use Rattle.g4_decide.specs.Asked.{Asked, HasSeen, HaveCodes, KeepsToPath};
+ghost use Rattle.g4_decide.specs.Asked.{Asked, HasSeen, KeepsToPath};
 ghost use Rattle.g4_guards.specs.Levels.{AllowedAt, IsCondition, IsDecision};
 ghost use Rattle.g4_net.specs.AddedRule.{IsReady};
-ghost use Rattle.g4_net.specs.Configurations.{Config, IsRow};
-ghost use Rattle.g4_learned.specs.Stored.{stored_entry};
+ghost use Rattle.g4_net.specs.Configurations.{Config, IsRow, wildcard};
+ghost use Rattle.g4_net.specs.Lookahead.{Start};
 ghost use Rattle.g4_net.specs.Loops.{HasLoops};
-ghost use Rattle.g4_net.specs.Prediction.{Looked, Sll, SllFrom, Verdict as Said};
+ghost use Rattle.g4_net.specs.Prediction.{Sll, Verdict as Said};
 ghost use Rattle.g4_predict.specs.Paths.{path_of, verdict_of};
-ghost use Rattle.g4_predict.specs.Reached.{IsReached};
-ghost use Rattle.g4_store.specs.declared.book.Learned.{Learned};
-ghost use Rattle.g4_store.specs.Known.{KnowsRows};
-ghost use Rattle.g4_store.specs.Learned.{IsLearned};
-ghost use Rattle.g4_store.specs.Numbers.{Among};
-ghost use Rattle.g4_store.specs.Paths.{cells_of};
 ghost use Rattle.g4_store.specs.declared.automaton.Fact.{Fact};
 ghost use Rattle.g4_tokens.specs.Symbols.{end_of_list};
 ghost use Rattle.g4_tokens.specs.TokenList.{EndsInEnd, word_of};
 
+use crate::onward::go_on;
+use g4_configs::Snapshot;
 use g4_guards::allowed_at;
 use g4_learned::{DecisionNet, Pass, Store, Walk};
 use g4_net::ParserNetwork;
-use g4_predict::{Path, Verdict, simulate, simulate_from};
+use g4_predict::{Path, Verdict, simulate, start_set};
+use g4_store::book::Learned;
 use g4_store::steps::Steps;
 use g4_store::view::Home;
 use g4_tokens::Token;
@@ -51,37 +48,123 @@ fn simulate_at(
     Ok(simulated)
 }
 
-/// SLL's verdict from a row on that the pass knows, to which the symbols before this place lead, on the tokens from there on; what it looks
-/// at is learned.
-fn go_on<B: Home<DecisionNet>, R: Wait>(
+/// The row of the start set of a decision under this condition.
+fn start_at(
+    alloc: Global,
+    net: &ParserNetwork,
+    decision: u32,
+    condition: u32,
+) -> Result<Snapshot, AllocError>
+    requires ready { IsReady net.now }
+    requires loops { HasLoops net.now }
+    ensures { IfOk result (λ row. IsRow row (Start net.now decision (AllowedAt net.now decision condition) wildcard)) }
+{
+    let allowed = allowed_at(alloc, net, decision, condition)?;
+    let set = start_set(alloc, net, decision, &allowed)?;
+    let row = set.snapshot(alloc)?;
+    Ok(row)
+}
+
+/// SLL's verdict at a decision under this condition, on the tokens from a place on, by one simulation; its path is learned.
+fn simulate_all<B: Home<DecisionNet>, R: Wait>(
     rt: &R,
     alloc: Global,
     store: &Store<B>,
     pass: &mut Pass<B>,
-    row: usize,
+    decision: u32,
+    condition: u32,
     tokens: &[Token],
-    at: u32,
+    from: u32,
 ) -> Result<Verdict, AllocError>
-    requires row { (y : List Config) × Among (row, y) pass.old.0.known × IsRow y (Contains y)
-        × ((c : Config) → Contains y c → IsReached B.plan.net.net c) × HaveCodes B.plan.net.net y (word_of tokens.now) at }
+    requires decision { IsDecision B.plan.net.net decision }
+    requires condition { IsCondition B.plan.net.net decision condition }
     requires symbols { All IsSymbol (word_of tokens.now) }
-    requires ends { Contains (word_of tokens.now) end_of_list }
-    requires few { at + length tokens.now < 2 ^ 32 }
-    ensures unchanged { OnErr result (pass.new ≡ pass.old) }
-    ensures learned { (y : List Config) → Among (row, y) pass.old.0.known → IfOk result (λ v. (looked : List Looked)
-        × SllFrom B.plan.net.net (Contains y) (word_of tokens.now) at (verdict_of v) looked
-        × ((learned : Learned) × IsLearned B.plan.rows (cells_of y (map (stored_entry B.plan.net) looked)) pass.old pass.new learned)) }
-    ensures rows { IfOk result (λ v. KnowsRows B.plan.rows pass.new) }
+    requires ends { EndsInEnd (word_of tokens.now) }
+    requires more { from < length tokens.now }
+    requires few { length tokens.now < 2 ^ 32 }
+    ensures keeps { KeepsToPath B.plan decision condition (drop from (word_of tokens.now)) pass.old pass.new }
+    ensures asked { IfOk result (λ v. Asked B.plan decision condition (drop from (word_of tokens.now)) (verdict_of v) pass.old pass.new) }
+{
+    let rest = &tokens[from as usize..];
+    let net = store.net().net();
+    let (verdict, path) = simulate_at(alloc, net, decision, condition, rest)?;
+    store.learn(rt, alloc, pass, condition, path)?;
+    Ok(verdict)
+}
+
+/// SLL's verdict at a decision under this condition, whose start is not learned: it is learned first, and then each step from there.
+fn start_and_go_on<B: Home<DecisionNet>, R: Wait>(
+    rt: &R,
+    alloc: Global,
+    store: &Store<B>,
+    pass: &mut Pass<B>,
+    decision: u32,
+    condition: u32,
+    tokens: &[Token],
+    from: u32,
+) -> Result<Verdict, AllocError>
+    requires decision { IsDecision B.plan.net.net decision }
+    requires condition { IsCondition B.plan.net.net decision condition }
+    requires symbols { All IsSymbol (word_of tokens.now) }
+    requires ends { EndsInEnd (word_of tokens.now) }
+    requires more { from < length tokens.now }
+    requires few { length tokens.now < 2 ^ 32 }
+    ensures keeps { KeepsToPath B.plan decision condition (drop from (word_of tokens.now)) pass.old pass.new }
+    ensures asked { IfOk result (λ v. Asked B.plan decision condition (drop from (word_of tokens.now)) (verdict_of v) pass.old pass.new) }
 {
     let net = store.net().net();
-    let kept = store.row(rt, alloc, pass, row)?;
-    let (verdict, looked) = simulate_from(alloc, net, kept.snapshot(), tokens, at)?;
-    store.learn_on(rt, alloc, pass, row, looked)?;
+    let start = start_at(alloc, net, decision, condition)?;
+    let learned = store.learn_start(rt, alloc, pass, decision, condition, start)?;
+    match learned {
+        Learned::All => {
+            let first = store.start_row(pass, decision, condition);
+            match first {
+                Some(row) => {
+                    let rest = &tokens[from as usize..];
+                    let verdict = go_on(rt, alloc, store, pass, row, rest, 0)?;
+                    Ok(verdict)
+                }
+                None => unreachable!(),
+            }
+        }
+        Learned::Full => {
+            let verdict = simulate_all(rt, alloc, store, pass, decision, condition, tokens, from)?;
+            Ok(verdict)
+        }
+    }
+}
+
+/// SLL's verdict at a decision under this condition, whose start is not learned. A pass that has met with a want of room looks ahead once
+/// and learns what it has room for; any other learns a step at a time.
+fn begin<B: Home<DecisionNet>, R: Wait>(
+    rt: &R,
+    alloc: Global,
+    store: &Store<B>,
+    pass: &mut Pass<B>,
+    decision: u32,
+    condition: u32,
+    tokens: &[Token],
+    from: u32,
+) -> Result<Verdict, AllocError>
+    requires decision { IsDecision B.plan.net.net decision }
+    requires condition { IsCondition B.plan.net.net decision condition }
+    requires symbols { All IsSymbol (word_of tokens.now) }
+    requires ends { EndsInEnd (word_of tokens.now) }
+    requires more { from < length tokens.now }
+    requires few { length tokens.now < 2 ^ 32 }
+    ensures keeps { KeepsToPath B.plan decision condition (drop from (word_of tokens.now)) pass.old pass.new }
+    ensures asked { IfOk result (λ v. Asked B.plan decision condition (drop from (word_of tokens.now)) (verdict_of v) pass.old pass.new) }
+{
+    if pass.was_full() {
+        let verdict = simulate_all(rt, alloc, store, pass, decision, condition, tokens, from)?;
+        return Ok(verdict);
+    }
+    let verdict = start_and_go_on(rt, alloc, store, pass, decision, condition, tokens, from)?;
     Ok(verdict)
 }
 
 /// SLL's verdict at a decision under this condition, on the tokens from a place on: that of a walk along what is
-/// learned, or else of a simulation from the row on to which the walk came, which is learned.
+/// learned, and from where it stops of SLL's steps, each of which is learned.
 ///
 /// # Errors
 /// No memory. Where the pass has seen the words of SLL's path it takes none, and makes one step for the decision and one for each token
@@ -109,13 +192,10 @@ pub fn ask<B: Home<DecisionNet>, R: Wait, L: Ledger>(
         → HasSeen B.plan decision condition (drop from (word_of tokens.now)) pass.old v facts
         → IsOk result × (steps.new ≡ steps.old + length facts) }
 {
-    let net = store.net();
     match store.walk(pass, decision, condition, tokens, from, steps) {
         Walk::Ended(verdict, _) => Ok(verdict),
         Walk::NoStart => {
-            let rest = &tokens[from as usize..];
-            let (verdict, path) = simulate_at(alloc, net.net(), decision, condition, rest)?;
-            store.learn(rt, alloc, pass, condition, path)?;
+            let verdict = begin(rt, alloc, store, pass, decision, condition, tokens, from)?;
             Ok(verdict)
         }
         Walk::NoEdge { row, at } => {

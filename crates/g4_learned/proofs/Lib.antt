@@ -1,4 +1,4 @@
-mod Alike
+pub mod Alike
 mod Answering
 mod Guarding
 pub mod Paths
@@ -8,5 +8,6 @@ mod Rising
 pub mod Seeing
 mod Starting
 mod Storing
+mod Targets
 pub mod Telling
 mod Walking

@@ -41,7 +41,7 @@ module _ (p : Plan Tables) (plan : IsPlan p) where
         l leads;
   }
 
-  column_within : (a : ℕ) → IsSymbol a → column_of p.net a < p.columns
+  pub column_within : (a : ℕ) → IsSymbol a → column_of p.net a < p.columns
   column_within a symbol = subst (λ n. column_of p.net a < n) (sym plan.columns) (plan.tables.columns.within a symbol)
 
   -- what SLL looks at leads on

@@ -16,7 +16,7 @@ word_from from ts = ap (λ (xs : List tokens.Token). word_of xs) (take_rest ts f
     ∙ sym (drop-map (λ (t : tokens.Token). t.symbol) from ts)
 
 -- END is ahead from each place before the end
-ahead : (from : ℕ) (w : List ℕ) → EndsInEnd w → from < length w → Contains (drop from w) end_of_list
+pub ahead : (from : ℕ) (w : List ℕ) → EndsInEnd w → from < length w → Contains (drop from w) end_of_list
 ahead from w (front, is, once) less =
     let long : length w ≡ length front + 1 = ap length is ∙ length-append front (end_of_list ∷ []) in
     let below : from ≤ length front = omega arith in

@@ -127,7 +127,7 @@ module _ (t : Tables) where
       )
 
   -- what SLL says where it ends, with one cell
-  ends_says : (x : List Config) (C : Config → Type 0) (a code k : ℕ) (rest : List ℕ) → EndsAs (Next t.net C a) code
+  pub ends_says : (x : List Config) (C : Config → Type 0) (a code k : ℕ) (rest : List ℕ) → EndsAs (Next t.net C a) code
       → (looked : List Looked) × SllFrom t.net C (a ∷ rest) k (verdict_at code k) looked
       × (cells_of x (map (stored_entry t) looked) ≡ Cell x (column_of t a) (End code) ∷ [])
   ends_says x C a zero k rest e = (_, prediction.nothing_left e, refl)

@@ -1,18 +1,25 @@
 -- What a walk answers.
-use Rattle.std.specs.Prelude.{◌≡◌, ◌⊎◌, ◌<◌, ℕ, zero, suc, ◌+◌, List, length}
+use Rattle.std.specs.Prelude.{◌≡◌, ◌⊎◌, ◌<◌, ℕ, zero, suc, ◌+◌, List, [], ◌∷◌, Option, Some, None, length}
 use Rattle.g4_net.specs.Configurations.{Config}
 use Rattle.g4_net.specs.Prediction as said
 use Rattle.g4_predict.specs.Paths.{verdict_of}
 use Rattle.g4_store.specs.declared.automaton.Fact.{Fact}
+use Rattle.g4_store.specs.declared.automaton.Fact.TheVariants.{Cell, Start}
+use Rattle.g4_store.specs.declared.automaton.Led.TheVariants as to
 use Rattle.g4_store.specs.declared.automaton.Plan.{Plan}
 use Rattle.g4_store.specs.declared.view.View.{View}
 use Rattle.g4_store.specs.declared.walk.Walk as way
 use Rattle.g4_store.specs.declared.walk.Walk.TheVariants as along
 use Rattle.g4_store.specs.Numbers.{Among}
+use Rattle.g4_store.specs.Views.{NoCell}
+use Rattle.g4_store.specs.Views.{NoStart as NoStartSeen}
 use Rattle.g4_store.specs.Walks.{Came, SawAlso, Walked}
 use Rattle.g4_learned.specs.Automata.{LeadsTo, StartsAt, verdict_at}
 use Rattle.g4_learned.specs.Stored.{ArePassed, columns_of}
-use Rattle.g4_learned.specs.Tables.{IsStartOf, Tables}
+use Rattle.g4_learned.specs.Tables.{IsStartOf, Tables, column_of}
+use Rattle.g4_learned.specs.declared.target.Target.{Target}
+use Rattle.g4_learned.specs.declared.target.Target.TheVariants.{NotLearned, Row}
+use Rattle.g4_learned.specs.declared.target.Target.TheVariants as stopped
 use Rattle.g4_learned.specs.declared.walk.Walk.{Walk}
 use Rattle.g4_learned.specs.declared.walk.Walk.TheVariants.{Ended, NoEdge, NoStart}
 
@@ -70,3 +77,23 @@ abbrev pub Loads : ℕ → ℕ → Walk → Type 0
 Loads old new (Ended v k) = new ≡ old + (2 + k)
 Loads old new NoStart = new ≡ old + 1
 Loads old new (NoEdge row at) = new ≡ old + (2 + at)
+
+-- What is learned of the decision's start set under a condition: nothing, or a row that the pass then knows. The word that was read is
+-- seen, and no other that had not been seen.
+abbrev pub Begins : Tables → ℕ → ℕ → View (List Config) → View (List Config) → Option ℕ → Type 0
+Begins t d condition old new None =
+    ((i : ℕ) → IsStartOf t d condition i → NoStartSeen i old.seen) × SawAlso [] old new
+Begins t d condition old new (Some row) =
+    (i : ℕ) × IsStartOf t d condition i × ((y : List Config) × StartsAt t i y × Among (row, y) new.known
+    × SawAlso (Start i y ∷ []) old new)
+
+-- What is learned of a row and the symbol at place k: nothing, a row that the pass then knows, or SLL's verdict. The word that was read is
+-- seen, and no other that had not been seen.
+abbrev pub Finds : Tables → List Config → ℕ → ℕ → View (List Config) → View (List Config) → Target → Type 0
+Finds t y a k old new NotLearned = NoCell y (column_of t a) old.seen × SawAlso [] old new
+Finds t y a k old new (Row row) =
+    (z : List Config) × (mark : ℕ) × LeadsTo t y (column_of t a) (to.Row z mark) × Among (row, z) new.known
+    × SawAlso (Cell y (column_of t a) (to.Row z mark) ∷ []) old new
+Finds t y a k old new (stopped.Ended v) =
+    (code : ℕ) × (verdict_of v ≡ verdict_at code k) × LeadsTo t y (column_of t a) (to.End code)
+    × SawAlso (Cell y (column_of t a) (to.End code) ∷ []) old new

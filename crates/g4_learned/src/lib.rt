@@ -10,6 +10,7 @@ mod path;
 mod row;
 mod starts;
 mod store;
+mod target;
 mod tests;
 mod walk;
 
@@ -18,4 +19,5 @@ pub use guards::MOST_ALTERNATIVES;
 pub use parsing::Parsing;
 pub use row::Row;
 pub use store::{Learnings, MOST_CELLS, MOST_ROWS, OpenFault, Opened, Pass, Store, open};
+pub use target::Target;
 pub use walk::Walk;

@@ -53,7 +53,10 @@ fn stored_led(alloc: Global, led: Led) -> Result<automaton::Led<Row>, AllocError
 }
 
 /// A symbol that was looked at, as it is stored.
-fn stored_entry(
+///
+/// # Errors
+/// No memory.
+pub(crate) fn stored_entry(
     alloc: Global,
     net: &DecisionNet,
     entry: Looked,

@@ -1,10 +1,11 @@
 // The parser's store of learned automata.
-ghost use Rattle.std.specs.Prelude.{◌≡◌, ◌≤◌, ◌<◌, ℕ, true, false, List, [], ◌∷◌, All, IfOk, IfErr, OnErr, map, ◌||◌};
+ghost use Rattle.std.specs.Prelude.{◌≡◌, ◌≤◌, ◌<◌, ℕ, true, false, List, [], ◌∷◌, All, Contains, IfOk, IfErr, OnErr, map, ◌||◌};
 ghost use Rattle.g4_classes.specs.Classes.{IsSymbol};
-ghost use Rattle.g4_net.specs.Configurations.{Config};
+ghost use Rattle.g4_net.specs.Configurations.{Config, IsRow, wildcard};
+ghost use Rattle.g4_net.specs.Lookahead.{Next, Start};
 ghost use Rattle.g4_net.specs.Loops.{HasLoops};
 ghost use Rattle.g4_net.specs.Prediction.{Sll, Verdict};
-ghost use Rattle.g4_predict.specs.Paths.{looked_of, path_of};
+ghost use Rattle.g4_predict.specs.Paths.{led_of, looked_of, path_of};
 ghost use Rattle.g4_store.specs.declared.path.Path.{Path as StoredPath};
 ghost use Rattle.g4_store.specs.Known.{KnowsRows};
 ghost use Rattle.g4_store.specs.Learned.{IsLearned};
@@ -14,17 +15,20 @@ ghost use Rattle.g4_store.specs.Numbers.{Among, has};
 ghost use Rattle.g4_store.specs.Closing.{Closes};
 ghost use Rattle.g4_store.specs.Views.{copied, leading, met, no_looks, pass_view};
 ghost use Rattle.g4_net.specs.AddedRule.{IsReady};
-ghost use Rattle.g4_learned.specs.Automata.{LeadsTo, StartsAt};
+ghost use Rattle.g4_learned.specs.Automata.{IsLed, LeadsTo, StartsAt};
 ghost use Rattle.g4_guards.specs.Levels.{AllowedAt, IsCondition, IsDecision};
-ghost use Rattle.g4_learned.specs.Stored.{IsPlan, IsStored, IsTooLarge, SaysFrom, stored_entry};
+ghost use Rattle.g4_learned.specs.Stored.{IsPlan, IsStored, IsTooLarge, SaysFrom, stored_entry as stored_entry_of, stored_led};
 ghost use Rattle.g4_learned.specs.declared.store.OpenFault.TheVariants.{TooLarge};
-ghost use Rattle.g4_learned.specs.Tables.{AreTables};
+ghost use Rattle.g4_learned.specs.Tables.{AreTables, IsStartOf, column_of};
+ghost use Rattle.g4_store.specs.declared.automaton.Fact.TheVariants.{Cell};
+ghost use Rattle.g4_store.specs.declared.automaton.Fact.TheVariants as Fact;
 
 use crate::decision_net::DecisionNet;
 use crate::parsing::Parsing;
-use crate::path::{stored_entries, stored_path};
+use crate::path::{stored_entries, stored_entry, stored_path};
 use crate::row::Row;
 use g4_base::Sequence;
+use g4_configs::Snapshot;
 use g4_net::ParserNetwork;
 use g4_predict::{Looked, Path};
 use g4_store::automaton::Plan;
@@ -33,6 +37,7 @@ use g4_store::listing::Listing;
 use g4_store::view::Home;
 use g4_store::{pass, store};
 use std::alloc::{AllocError, Global};
+use std::collections::VecDeque;
 use std::marker::{Brand, Model};
 use std::sync::Wait;
 
@@ -215,6 +220,65 @@ impl<B: Home<DecisionNet>> Store<B> {
         Ok(learned)
     }
 
+    /// Learns the row of a decision's start set under a condition, under the lock.
+    ///
+    /// # Errors
+    /// No memory. Then nothing was learned.
+    pub fn learn_start<R: Wait>(
+        &self,
+        rt: &R,
+        alloc: Global,
+        pass: &mut Pass<B>,
+        decision: u32,
+        condition: u32,
+        start: Snapshot,
+    ) -> Result<Learned, AllocError>
+        requires decision { IsDecision B.plan.net.net decision }
+        requires condition { IsCondition B.plan.net.net decision condition }
+        requires start { IsRow start (Start B.plan.net.net decision (AllowedAt B.plan.net.net decision condition) wildcard) }
+        ensures learned { IfOk result (λ learned. (i : ℕ) × IsStartOf B.plan.net decision condition i
+            × IsLearned B.plan.rows (Fact.Start i start ∷ []) pass.old pass.new learned) }
+        ensures rows { IfOk result (λ learned. KnowsRows B.plan.rows pass.new) }
+        ensures unchanged { OnErr result (pass.new ≡ pass.old) }
+    {
+        let looked = Sequence::new(Vec::new(alloc));
+        let path = Path {
+            decision,
+            start,
+            looked,
+        };
+        let stored = stored_path(alloc, self.store.net(), condition, path)?;
+        let learned = self.store.learn(rt, pass, stored);
+        Ok(learned)
+    }
+
+    /// Learns what one symbol leads to from a row that the pass knows, under the lock.
+    ///
+    /// # Errors
+    /// No memory. Then nothing was learned.
+    pub fn learn_step<R: Wait>(
+        &self,
+        rt: &R,
+        alloc: Global,
+        pass: &mut Pass<B>,
+        number: usize,
+        looked: Looked,
+    ) -> Result<Learned, AllocError>
+        requires { (row : List Config) × Among (number, row) pass.old.0.known × IsRow row (Contains row)
+            × IsSymbol looked.symbol × IsLed (Next B.plan.net.net (Contains row) looked.symbol) (stored_led (led_of looked.led)) }
+        ensures learned { (row : List Config) → Among (number, row) pass.old.0.known → IfOk result (λ learned.
+            IsLearned B.plan.rows (Cell row (column_of B.plan.net looked.symbol) (stored_led (led_of looked.led)) ∷ []) pass.old pass.new
+            learned) }
+        ensures rows { IfOk result (λ learned. KnowsRows B.plan.rows pass.new) }
+        ensures unchanged { OnErr result (pass.new ≡ pass.old) }
+    {
+        let entry = stored_entry(alloc, self.store.net(), looked)?;
+        let mut entries = VecDeque::new(alloc);
+        entries.push_back(entry)?;
+        let learned = self.store.learn_on(rt, pass, number, entries);
+        Ok(learned)
+    }
+
     /// The row of a number that the pass knows. It takes the lock.
     ///
     /// # Errors
@@ -249,7 +313,7 @@ impl<B: Home<DecisionNet>> Store<B> {
         requires { (row : List Config) × Among (number, row) pass.old.0.known
             × SaysFrom B.plan.net.net row (map looked_of looked) }
         ensures learned { (row : List Config) → Among (number, row) pass.old.0.known → IfOk result (λ learned.
-            IsLearned B.plan.rows (cells_of row (map (stored_entry B.plan.net) (map looked_of looked))) pass.old pass.new learned) }
+            IsLearned B.plan.rows (cells_of row (map (stored_entry_of B.plan.net) (map looked_of looked))) pass.old pass.new learned) }
         ensures rows { IfOk result (λ learned. KnowsRows B.plan.rows pass.new) }
         ensures unchanged { OnErr result (pass.new ≡ pass.old) }
     {

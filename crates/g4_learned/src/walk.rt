@@ -7,7 +7,7 @@ ghost use Rattle.g4_tokens.specs.Symbols.{end_of_list};
 ghost use Rattle.g4_tokens.specs.TokenList.{EndsInEnd, word_of};
 ghost use Rattle.g4_learned.specs.Automata.{LeadsTo, StartsAt};
 ghost use Rattle.g4_guards.specs.Levels.{IsCondition, IsDecision};
-ghost use Rattle.g4_learned.specs.Stored.{columns_of};
+ghost use Rattle.g4_learned.specs.Stored.{IsPlan, columns_of};
 ghost use Rattle.g4_learned.specs.Walks.{Loads, StopsAt, WalkedAlong, Walks};
 ghost use Rattle.g4_store.specs.Known.{KnowsRows};
 
@@ -108,6 +108,7 @@ impl<B: Home<DecisionNet>> Store<B> {
         requires ends { EndsInEnd (word_of tokens.now) }
         requires more { from < length tokens.now }
         requires few { length tokens.now < 2 ^ 32 }
+        ensures plan { IsPlan B.plan }
         ensures walks { Walks B.plan decision condition (drop from (word_of tokens.now)) pass.old.0 pass.new.0 result }
         ensures loads { Loads pass.old.0.looks.count pass.new.0.looks.count result }
         ensures same { Keeps pass.old.0 pass.new.0 }

@@ -288,6 +288,46 @@ fn a_long_way_on_from_a_row(rt: HostRuntime) -> Result<(), Fail> {
     Ok(())
 }
 
+/// A grammar whose first decision looks to the end, and in which a text begins with one of so many words.
+fn push_first_words(grammar: &mut String, words: usize) -> Result<(), Fail> {
+    grammar.push_str("grammar X; s : t 'a'* 'y' | t 'a'* 'z' ; t : 'w'")?;
+    for word in 0..words {
+        write!(grammar, " | 'w{word}'")?;
+    }
+    grammar.push_str(" ;")?;
+    Ok(())
+}
+
+/// Such a text, with so many letters after its first word.
+fn push_far(texts: &mut String, word: usize, letters: usize) -> Result<(), Fail> {
+    write!(texts, "w{word}")?;
+    for _ in 0..letters {
+        texts.push('a')?;
+    }
+    texts.push('z')?;
+    Ok(())
+}
+
+/// Each text takes another step first, and then comes back to rows that are learned: a lookahead costs what is new of it, and the rest is
+/// walked.
+#[test]
+fn far_looks_come_back(rt: HostRuntime) -> Result<(), Fail> {
+    let alloc = rt.alloc();
+    let (words, letters) = (40, 10_000);
+    let mut grammar = String::new(alloc);
+    push_first_words(&mut grammar, words)?;
+    let mut texts = String::new(alloc);
+    for word in 0..words {
+        if word > 0 {
+            texts.push('|')?;
+        }
+        push_far(&mut texts, word, letters)?;
+    }
+    let found = parsed_with(&rt, alloc, grammar.as_str(), 1_024, texts.as_str())?;
+    assert!(rt; found.as_str().ends_with(" a z); 5 rows 86 edges"));
+    Ok(())
+}
+
 /// A grammar that needs the parser's stack. After `x` or `y`, so many letters are looked at before it is known which alternative fits.
 fn push_late(grammar: &mut String, letters: usize) -> Result<(), Fail> {
     grammar.push_str(

@@ -1,4 +1,4 @@
-mod Ending
+pub mod Ending
 mod Looking
 pub mod Onward
 pub mod Reached

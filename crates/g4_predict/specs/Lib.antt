@@ -1,4 +1,4 @@
--- Other crates cite Paths, Reached; only this crate cites Verdicts.
+-- Other crates cite each of these.
 pub mod Paths
 pub mod Reached
 pub mod Verdicts

@@ -6,5 +6,5 @@ mod sll;
 mod verdict;
 
 pub use path::{Led, Looked, Path};
-pub use sll::{simulate, simulate_from};
+pub use sll::{Seen, look, simulate, simulate_from, start_set};
 pub use verdict::Verdict;

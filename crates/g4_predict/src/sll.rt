@@ -35,7 +35,10 @@ fn stack_matters(alloc: Global, set: &Configs) -> Result<bool, AllocError>
 }
 
 /// The start set of a decision, over the allowed alternatives and above the wildcard.
-fn start_set(
+///
+/// # Errors
+/// No memory.
+pub fn start_set(
     alloc: Global,
     net: &ParserNetwork,
     decision: u32,
@@ -50,7 +53,8 @@ fn start_set(
 }
 
 /// Where looking at a symbol leads.
-enum Seen {
+#[derive(Drop)]
+pub enum Seen {
     /// SLL ends at the next set.
     Ended(Verdict),
     /// Another symbol is looked at after the next set.
@@ -58,7 +62,10 @@ enum Seen {
 }
 
 /// What SLL sees on symbol k after a set.
-fn look(
+///
+/// # Errors
+/// No memory.
+pub fn look(
     alloc: Global,
     net: &ParserNetwork,
     set: Configs,

@@ -5,4 +5,4 @@ pub returns-clause-sll : goal.returns-clause-sll
 returns-clause-sll g c = λ net d e w v path alike h. sll_alike net d e g.A.Alternatives.include g.B.Alternatives.include alike w v path h
 
 pub returns-clause-full : goal.returns-clause-full
-returns-clause-full g c = λ net d e z w choice alike h. full_alike net d e g.A.Alternatives.include g.B.Alternatives.include alike z w choice h
+returns-clause-full g c = λ net d e z w b alike h. full_alike net d e g.A.Alternatives.include g.B.Alternatives.include alike z w b h

@@ -11,7 +11,7 @@ use Rattle.g4_store.specs.Learned.{IsLearned}
 use Rattle.g4_store.specs.Numbers.{Among}
 use Rattle.g4_store.specs.Paths.{cells_of}
 use Rattle.g4_tokens.specs.TokenList.{word_of}
-use Rattle.g4_decide.proofs.asking.go_on.Goals as goal
+use Rattle.g4_decide.proofs.onward.finish.Goals as goal
 
 pub simulate_from-requires-clause-reached : goal.simulate_from-requires-clause-reached
 simulate_from-requires-clause-reached g c = λ d member.
