@@ -3,7 +3,6 @@
 use Rattle.std.proofs.Common.{◌≡◌, ◌≤◌, ◌↔◌, ℕ, List, Option, Some, None, sym, subst, refl}
 use Rattle.g4_guards.specs.Levels.{AllowedAt, MayBegin, MeetsBy, at_level, by_digit}
 use Rattle.g4_guards.specs.Tests.{BeginsTesting, HasNoPredicate, after_level, by_predicate}
-use Rattle.g4_net.specs.Leads.{IsTarget}
 use Rattle.g4_net.specs.Loops.{HasLoops}
 use Rattle.g4_net.specs.Network.{ParserNetwork, state_at, IsFirst}
 use Rattle.g4_net.specs.Prediction.{IsTestBy}

@@ -1,5 +1,5 @@
 -- Where levels are only at loops to which calls at a level return, and there are no predicates, what is left goes on to fit.
-use Rattle.std.proofs.Common.{◌≡◌, ◌≤◌, ◌<◌, ◌⊎◌, ◌↔◌, inl, inr, ℕ, ◌+◌, List, [], ◌∷◌, drop, length, Option, Some, None, Contains, refl, sym, ◌∙◌, ap, subst, arith}
+use Rattle.std.proofs.Common.{◌≡◌, ◌≤◌, ◌<◌, ◌⊎◌, inl, inr, ℕ, ◌+◌, List, [], ◌∷◌, drop, length, Option, Some, None, Contains, refl, sym, ◌∙◌, ap, subst, arith}
 use Rattle.g4_fits.specs.Fitting.{FitsFrom, SomeFits, IsLeastThatFits}
 use Rattle.g4_net.specs.Spelling.{SpellsWord}
 use Rattle.g4_fits.proofs.Arriving.{called_are_own, last_is_own}
@@ -56,7 +56,7 @@ opened_token : (net : ParserNetwork) (p : ℕ) (r : Run) (fs : List Frame) → r
 opened_token net p r [] e h = subst (AreOpened net p) (sym e) h
 opened_token net p r (f ∷ fs) e h = h
 
-level_alt : (i : ℕ) (fs : List Frame) → level_of (with_alt i fs) ≡ level_of fs
+pub level_alt : (i : ℕ) (fs : List Frame) → level_of (with_alt i fs) ≡ level_of fs
 level_alt i [] = refl
 level_alt i (f ∷ fs) = refl
 

@@ -7,3 +7,4 @@ pub mod Closing
 pub mod Allowing
 pub mod Levelled
 pub mod Derived
+mod Failing

@@ -1,2 +1,3 @@
--- Other crates cite it.
+-- Other crates cite Running; only this crate's laws cite Failing.
+pub mod Failing
 pub mod Running

@@ -5,8 +5,11 @@ ghost use Rattle.g4_grammar.specs.StepRules.{AreUnpredicated, CanBeRewritten, St
 ghost use Rattle.g4_grammar.specs.declared.step.Numbering.{Numbering};
 ghost use Rattle.g4_layout.specs.Built.{IsBuilt};
 ghost use Rattle.g4_leftrec.specs.Rewriting.{numberings, rewritten};
+ghost use Rattle.g4_net.specs.AddedRule.{IsReady};
+ghost use Rattle.g4_net.specs.Loops.{HasLoops};
 ghost use Rattle.g4_net.specs.Network.{ParserNetwork};
-ghost use Rattle.g4_run.specs.Running.{Ending, Ends, Values, parsed, too_deep};
+ghost use Rattle.g4_run.specs.Failing.{FailsAtPredicate};
+ghost use Rattle.g4_run.specs.Running.{Ending, Ends, Values, failed_predicate, parsed, too_deep};
 ghost use Rattle.g4_tokens.specs.TokenList.{EndsInEnd};
 ghost use Rattle.g4_trees.specs.Trees.{Tree};
 
@@ -14,6 +17,12 @@ ghost use Rattle.g4_trees.specs.Trees.{Tree};
 pub fn one_ending()
     ensures { (net : ParserNetwork) (values : Values) (word : List ℕ) (a b : Ending) → Ends net values word a → Ends net values word b
         → a ≡ b }
+{}
+
+/// A run that ends with a failed predicate ends at a predicate of the network that is false there, never at a level.
+pub fn predicates_alone_fail()
+    ensures { (net : ParserNetwork) (values : Values) (word : List ℕ) (at rule : ℕ) → IsReady net → HasLoops net →
+        Ends net values word (failed_predicate at rule) → FailsAtPredicate net values word at rule }
 {}
 
 /// A token list that has a tree is derived by the rules of the network, whatever they are.
