@@ -67,7 +67,7 @@ abbrev pub no_viable_line : List ℕ → Tokens → ℕ → Line
 no_viable_line name tokens at = ToErr (((at_place name (place_of_token tokens.list at) ++ codes "no viable alternative at input '")
     ++ text_at tokens at) ++ codes "'\n")
 
--- the line of a predicate or level that is false in an open rule
+-- the line of a predicate that is false in an open rule
 abbrev pub failed_predicate_line : List (List ℕ) → List ℕ → Tokens → ℕ → ℕ → Line
 failed_predicate_line names name tokens at rule =
     ToErr (((at_place name (place_of_token tokens.list at) ++ codes "rule ") ++ name_of names rule) ++ codes " failed predicate\n")

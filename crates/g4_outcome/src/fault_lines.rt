@@ -89,7 +89,7 @@ pub fn no_viable(alloc: Global, name: &str, tokens: &Tokens, at: u32) -> Result<
     Ok(Line::ToErr(Sequence::new(line)))
 }
 
-/// A predicate or level that is false in the open rule of this number, where the rules have these names.
+/// A predicate that is false in the open rule of this number, where the rules have these names.
 pub fn failed_predicate(
     alloc: Global,
     names: &[Text],

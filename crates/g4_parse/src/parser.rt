@@ -31,8 +31,7 @@ pub enum ParseFault {
     NoViable { at: u32 },
     /// The edge of this state does not take the token at this place.
     Mismatch { at: u32, state: u32 },
-    /// A predicate or a level that is false where it is passed, at this place, in the open rule of this number, which is 0 in
-    /// the added rule.
+    /// A predicate that is false where it is passed, at this place, in the open rule of this number, which is 0 in the added rule.
     FailedPredicate { at: u32, rule: u32 },
     /// A call with 10,000 rules open, at this place.
     TooDeep { at: u32 },
