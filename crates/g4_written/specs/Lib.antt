@@ -1,3 +1,4 @@
--- Only this crate cites these.
+-- Only this crate cites Nests and Written; the law of precedence is said by Precedence.
 pub mod Nests
+pub mod Precedence
 pub mod Written

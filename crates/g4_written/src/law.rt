@@ -1,4 +1,4 @@
-// Rewriting keeps what rules derive, and so a run accepts what they derive as they are written.
+// Rewriting keeps what rules derive, and so a run accepts what they derive as they are written, and its trees keep precedence.
 ghost use Rattle.std.specs.Prelude.{◌≡◌, ◌↔◌, ℕ, List};
 ghost use Rattle.g4_derivation.specs.Spelling.{DerivesFrom};
 ghost use Rattle.g4_grammar.specs.StepRules.{AreUnpredicated, CanBeRewritten, StepRule};
@@ -9,6 +9,7 @@ ghost use Rattle.g4_run.specs.Running.{Ending, Ends, Values, parsed, too_deep};
 ghost use Rattle.g4_tokens.specs.TokenList.{EndsInEnd};
 ghost use Rattle.g4_trees.specs.Trees.{Tree};
 ghost use Rattle.g4_written.specs.Nests.{HasNest};
+ghost use Rattle.g4_written.specs.Precedence.{KeepsPrecedence};
 ghost use Rattle.g4_written.specs.Written.{RuleDerives};
 
 /// Each rule derives as it is written exactly the words that it derives as it is laid, left-recursive or not. Levels, actions and
@@ -43,4 +44,14 @@ pub fn trees_where_derived_as_written()
         (ending : Ending) → CanBeRewritten rules → AreUnpredicated rules → IsBuilt set (rewritten rules) (numberings rules) start net →
         EndsInEnd word → Ends net values word ending → ((at : ℕ) → ending ≡ too_deep at → ⊥) →
         ((tree : Tree) × (ending ≡ parsed tree)) ↔ DerivesFrom set rules start word }
+{}
+
+/// A tree keeps precedence. Where an alternative of a left-recursive rule ends with the rule itself, the operators of this right operand,
+/// its own node and then first child after first child down to a primary, have at least the precedence that the alternative asks for.
+/// Nothing is said of left operands, nor that no operator further to the right in an operand binds less closely: where `-` is a prefix
+/// operator that binds less closely than `+`, the tree of `1 * - 2 + 3` has a `+` in the right operand of `*`, below the one of `-`.
+pub fn trees_keep_precedence()
+    ensures { (set : List ℕ) (rules : List StepRule) (start : List ℕ) (net : ParserNetwork) (values : Values) (word : List ℕ)
+        (tree : Tree) → CanBeRewritten rules → IsBuilt set (rewritten rules) (numberings rules) start net →
+        Ends net values word (parsed tree) → KeepsPrecedence rules tree }
 {}
